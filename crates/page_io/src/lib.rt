@@ -1,0 +1,33 @@
+// What every crate shares of the outside: texts, bytes and lists, the traits of devices, their versions over memory,
+// and the adapters over the real ones.
+#![tactic(auto)]
+
+mod bytes;
+mod calls;
+mod directory;
+mod files;
+mod folder;
+mod list;
+mod mem_folder;
+mod mem_sink;
+mod mem_source;
+mod sink;
+mod source;
+mod stop;
+mod streams;
+mod sure;
+mod text;
+
+pub use bytes::Bytes;
+pub use directory::Directory;
+pub use folder::Folder;
+pub use list::{List, Names};
+pub use mem_folder::{MemFile, MemFolder};
+pub use mem_sink::MemSink;
+pub use mem_source::MemSource;
+pub use sink::{Sink, write_all};
+pub use source::{Source, read_up_to};
+pub use stop::{Failed, IoStop, Memory};
+pub use streams::{ReadSource, WriteSink};
+pub use sure::{SureFolder, SureSink, SureSource};
+pub use text::Text;
