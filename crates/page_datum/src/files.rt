@@ -1,0 +1,15 @@
+use page_io::{Bytes, List, Text};
+
+/// A file: its name in its directory, and its bytes.
+#[derive(Debug, Drop)]
+pub struct NamedFile {
+    pub name: Text,
+    pub bytes: Bytes,
+}
+
+/// The template files of a directory, in byte order of their names.
+#[derive(Debug, Drop)]
+pub struct Files {
+    pub dir: Text,
+    pub list: List<NamedFile>,
+}
