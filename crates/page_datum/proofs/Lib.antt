@@ -1,3 +1,4 @@
 pub mod Left
+pub mod Lookup
+pub mod Smaller
 pub mod Texts
-pub mod Views

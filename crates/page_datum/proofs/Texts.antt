@@ -1,5 +1,5 @@
 -- The entries of an object, one after another, and their order.
-use Rattle.std.proofs.Common.{◌≡◌, ℕ, List, [], ◌∷◌, ◌++◌, Option, Some, None, option_map, String, Global, string_bytes, string_cmp, Vec, Ordering, Less, refl, sym, ap, ◌∙◌, subst, rules}
+use Rattle.std.proofs.Common.{◌≡◌, ℕ, List, [], ◌∷◌, ◌++◌, Option, Some, None, option_map, String, Global, string_bytes, string_cmp, Vec, Less, refl, sym, ap, ◌∙◌, subst, rules}
 use Rattle.std.specs.Cmp.Lexicographic.{slice_cmp}
 use Rattle.std.specs.List.{AllByRecursion}
 use Rattle.std.specs.List.Sorted.{IsStrictlySortedBy}
@@ -8,10 +8,9 @@ use Rattle.std.specs.Ordering.{nat_cmp}
 use Rattle.serde_json.specs.Data as json
 use Rattle.serde_json.specs.View as json_view
 use Rattle.serde_json.specs.declared.value.Value as value
-use Rattle.page_datum.specs.Data.{Data, DataList, text, DataDict, no_entries, entry, keys}
+use Rattle.page_datum.specs.Data.{text, DataDict, no_entries, entry, keys}
 use Rattle.page_datum.specs.Reading.{texts_of}
-use Rattle.page_datum.specs.View.{view, entries_view, dict_view, datum_step, entries_step, items_step}
-use Rattle.page_datum.specs.declared.datum.Entries.{roll-Entries, fold-roll-Entries}
+use Rattle.page_datum.specs.View.{view, entries_view}
 use Rattle.page_datum.specs.declared.datum.Datum.{Datum}
 
 -- a dictionary and then another
@@ -78,9 +77,7 @@ keys_ascend es d e h = subst (λ (ks : List (List ℕ)). IsStrictlySortedBy (sli
 -- at the end the entries are those of the object
 pub at_end : (entries : Vec (List ℕ × Datum) Global) (left : List (String Global × value.Value)) (all : Option DataDict) → left ≡ []
     → option_map (followed (entries_view entries.items)) (texts_of (json_view.members_view left)) ≡ all
-    → all ≡ Some (dict_view (roll-Entries (record { entries = entries })))
+    → all ≡ Some (entries_view entries.items)
 at_end entries left all none h =
     let met : option_map (followed (entries_view entries.items)) (texts_of (json_view.members_view left)) ≡ Some (followed (entries_view entries.items) no_entries) = rw none refl in
-    let made : dict_view (roll-Entries (record { entries = entries })) ≡ entries_view entries.items =
-    fold-roll-Entries Data DataDict DataList datum_step entries_step items_step (record { entries = entries }) in
-    sym h ∙ met ∙ ap Some (followed-nothing (entries_view entries.items) ∙ sym made)
+    sym h ∙ met ∙ ap Some (followed-nothing (entries_view entries.items))

@@ -1,5 +1,8 @@
 -- The values of data: null, truth values, whole numbers, texts, lists, and dictionaries.
-use Rattle.std.specs.Prelude.{ℕ, ℤ, Bool, List, [], ◌∷◌}
+use Rattle.std.specs.Prelude.{ℕ, ℤ, Bool, List, [], ◌∷◌, Option, Some, None, if◌then◌else◌, bytes_eq}
+use Rattle.std.specs.List.Sorted.{IsStrictlySortedBy}
+use Rattle.std.specs.Cmp.Lexicographic.{slice_cmp}
+use Rattle.std.specs.Ordering.{nat_cmp}
 
 mutual
   pub data Data : Type 0 where
@@ -22,3 +25,12 @@ mutual
 abbrev pub keys : DataDict → List (List ℕ)
 keys no_entries = []
 keys (entry key value rest) = key ∷ keys rest
+
+-- the keys ascend in byte order, each once
+abbrev pub HasAscendingKeys : DataDict → Type 0
+HasAscendingKeys entries = IsStrictlySortedBy (slice_cmp nat_cmp) (keys entries)
+
+-- the value of the first entry with this key
+abbrev pub value_at : List ℕ → DataDict → Option Data
+value_at key no_entries = None
+value_at key (entry other value rest) = if bytes_eq other key then Some value else value_at key rest

@@ -1,5 +1,5 @@
 -- What executing a root of a set of pages with a datum gives, and how `page` answers by it.
-use Rattle.std.specs.Prelude.{◌≡◌, ℕ, List, length, Option, Result, Ok, Err}
+use Rattle.std.specs.Prelude.{◌≡◌, ◌≢◌, ℕ, List, length, Option, Result, Ok, Err}
 use Rattle.std.specs.Io.KnownBytes.{Appends}
 use Rattle.page_io.specs.Whole.{AppendsPart}
 use Rattle.page_datum.specs.declared.fault.ExecFault.{ExecFault}
@@ -24,5 +24,5 @@ abbrev pub PageAnswers : Execution → Option (List ℕ) → Option (List ℕ) �
 PageAnswers e old new (Ok end) = (e.ending ≡ done) × Appends old new e.bytes × (end.bytes ≡ length e.bytes) × (end.steps ≡ e.steps)
 PageAnswers e old new (Err NoTemplate) = (e.ending ≡ no_root) × (new ≡ old)
 PageAnswers e old new (Err (Fault fault)) = (e.ending ≡ faulted fault) × AppendsPart old new e.bytes
-PageAnswers e old new (Err SinkStop) = AppendsPart old new e.bytes
+PageAnswers e old new (Err SinkStop) = (e.ending ≢ no_root) × AppendsPart old new e.bytes
 PageAnswers e old new (Err Memory) = AppendsPart old new e.bytes

@@ -1,7 +1,10 @@
+pub mod Code
 pub mod Data
 pub mod Entries
 pub mod Execution
+pub mod Falls
 pub mod Lines
 pub mod Printed
 pub mod Reading
+pub mod Sizes
 pub mod View

@@ -1,5 +1,5 @@
 -- Data as text.
-use Rattle.std.specs.Prelude.{ℕ, List, [], ◌∷◌, ◌++◌, codes, if◌then◌else◌, true, false}
+use Rattle.std.specs.Prelude.{ℕ, List, [], ◌++◌, codes, true, false}
 use Rattle.std.specs.Fmt.{signed_decimal}
 use Rattle.page_datum.specs.Data.{Data, null, truth, int, text, list, dict, DataList, no_items, item, DataDict, no_entries, entry}
 

@@ -1,19 +1,19 @@
 -- The data that a JSON text stands for, and how reading it answers.
 use Rattle.std.specs.Prelude.{◌≡◌, ℕ, ◌<◌, ◌≤◌, List, length, Option, Some, None, option_map, Result, Ok, Err, ⊤}
 use Rattle.std.specs.Str.{IsUtf8}
-use Rattle.std.specs.List.Sorted.{IsStrictlySortedBy}
-use Rattle.std.specs.Cmp.Lexicographic.{slice_cmp}
-use Rattle.std.specs.Ordering.{nat_cmp}
 use Rattle.serde_json.specs.Data as json
 use Rattle.serde_json.specs.Read.{read}
-use Rattle.page_datum.specs.Data.{Data, text, dict, DataDict, no_entries, entry, keys}
+use Rattle.page_datum.specs.Data.{Data, text, dict, DataDict, no_entries, entry}
 use Rattle.page_datum.specs.View.{view}
 use Rattle.page_datum.specs.declared.datum.Datum.{Datum}
 use Rattle.page_datum.specs.declared.read.DataRefused.{DataRefused}
 use Rattle.page_datum.specs.declared.read.DataRefused.TheVariants.{TooLong, NotJson, NotBuilt, Memory}
-use Rattle.page_datum.specs.declared.read.TheConstants.{MAX_LENGTH}
 
--- the bytes are JSON text of this value
+-- the most bytes that data may have
+abbrev pub max_length : ℕ
+max_length = 8388608
+
+-- the bytes are JSON text (RFC 8259) of this value, as the JSON reader's own definition has it
 pub record IsJson (bytes : List ℕ) (value : json.Data) : Type 0 where
   pub utf8 : IsUtf8 bytes
   pub reads : read bytes ≡ Some value
@@ -33,15 +33,10 @@ data_of _ = None
 abbrev pub IsDatum : List ℕ → Data → Type 0
 IsDatum bytes d = (value : json.Data) × IsJson bytes value × (data_of value ≡ Some d)
 
--- the keys of a dictionary ascend in byte order, each once
-abbrev pub HasAscendingKeys : Data → Type 0
-HasAscendingKeys (dict entries) = IsStrictlySortedBy (slice_cmp nat_cmp) (keys entries)
-HasAscendingKeys _ = ⊤
-
 -- what reading answers, and why
 abbrev pub ReadAnswers : List ℕ → Result Datum DataRefused → Type 0
-ReadAnswers bytes (Ok datum) = (length bytes ≤ MAX_LENGTH) × IsDatum bytes (view datum) × HasAscendingKeys (view datum)
-ReadAnswers bytes (Err (TooLong len)) = (len ≡ length bytes) × (MAX_LENGTH < length bytes)
-ReadAnswers bytes (Err NotJson) = (length bytes ≤ MAX_LENGTH) × ((value : json.Data) → IsJson bytes value → ⊥)
-ReadAnswers bytes (Err NotBuilt) = (length bytes ≤ MAX_LENGTH) × (value : json.Data) × IsJson bytes value × (data_of value ≡ None)
+ReadAnswers bytes (Ok datum) = (length bytes ≤ max_length) × IsDatum bytes (view datum)
+ReadAnswers bytes (Err (TooLong len)) = (len ≡ length bytes) × (max_length < length bytes)
+ReadAnswers bytes (Err NotJson) = (length bytes ≤ max_length) × ((value : json.Data) → IsJson bytes value → ⊥)
+ReadAnswers bytes (Err NotBuilt) = (length bytes ≤ max_length) × (value : json.Data) × IsJson bytes value × (data_of value ≡ None)
 ReadAnswers bytes (Err Memory) = ⊤

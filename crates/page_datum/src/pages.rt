@@ -49,7 +49,7 @@ pub trait Pages: Sized {
     ghost is_execution: { Files → List ℕ → Data → Execution → Type 0 };
 
     // What holds of files, root, datum and page where a page is written to its end.
-    ghost is_sound: { Files → List ℕ → Data → List ℕ → Type 0 };
+    ghost page_fact: { Files → List ℕ → Data → List ℕ → Type 0 };
 
     /// The set of these files. A refusal other than want of memory comes exactly where the files are refused.
     fn make(alloc: Global, files: Files) -> Result<Self, Self::Refused>
@@ -70,6 +70,6 @@ pub trait Pages: Sized {
         ensures meant { is_execution (made_of self.now) root.now (view datum.now) (execution self.now root.now (view datum.now)) }
         ensures later { K.faults out.old ≤ K.faults out.new }
         ensures sink { result ≡ Err PageStop.SinkStop → Rose (K.faults out.old) (K.faults out.new) }
-        ensures sound { OnOk result (is_sound (made_of self.now) root.now (view datum.now)
+        ensures fact { OnOk result (page_fact (made_of self.now) root.now (view datum.now)
             (execution self.now root.now (view datum.now)).bytes) };
 }

@@ -1,7 +1,7 @@
 ghost use Rattle.std.specs.Prelude.{◌≡◌, ◌++◌, IfOk, OnOk};
 ghost use Rattle.page_datum.specs.Printed.{printed, shown, shown_items, shown_entries};
 ghost use Rattle.std.specs.Fmt.{signed_decimal};
-ghost use Rattle.page_datum.specs.View.{view, list_view, dict_view};
+ghost use Rattle.page_datum.specs.View.{view};
 
 use crate::datum::{Datum, Entries, Items};
 use page_io::{Memory, Text};
@@ -53,10 +53,10 @@ fn show_number(alloc: Global, number: i64, out: &mut Text) -> Result<(), Memory>
 
 #[cycle(show)]
 fn show_items(alloc: Global, items: &Items, out: &mut Text) -> Result<(), Memory>
-    ensures { OnOk result (out.new ≡ out.old ++ shown_items (list_view items.now)) }
+    ensures { OnOk result (out.new ≡ out.old ++ shown_items items.now) }
 {
     let mut first = true;
-    for item in &items.items {
+    for item in items.as_slice() {
         if !first {
             out.push_str(" ")?;
         }
@@ -68,10 +68,10 @@ fn show_items(alloc: Global, items: &Items, out: &mut Text) -> Result<(), Memory
 
 #[cycle(show)]
 fn show_entries(alloc: Global, entries: &Entries, out: &mut Text) -> Result<(), Memory>
-    ensures { OnOk result (out.new ≡ out.old ++ shown_entries (dict_view entries.now)) }
+    ensures { OnOk result (out.new ≡ out.old ++ shown_entries entries.now) }
 {
     let mut first = true;
-    for (key, value) in &entries.entries {
+    for (key, value) in entries.as_slice() {
         if !first {
             out.push_str(" ")?;
         }

@@ -69,5 +69,5 @@ fn entries_of(alloc: Global, members: Map<String, Value>) -> Result<Entries, Dat
             _ => return Err(DataRefused::NotBuilt),
         }
     }
-    Ok(Entries { entries })
+    Ok(Entries::from_ascending(entries))
 }

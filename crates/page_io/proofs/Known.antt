@@ -1,5 +1,5 @@
 -- Known bytes, in two steps.
-use Rattle.std.proofs.Common.{◌≡◌, ℕ, List, ◌++◌, Option, None, Some, append_assoc, sym, ap, ◌∙◌}
+use Rattle.std.proofs.Common.{ℕ, List, ◌++◌, Option, None, Some, append_assoc, sym, ap, ◌∙◌}
 use Rattle.std.specs.Io.KnownBytes.{Appends, Consumes}
 
 pub Appends-twice : (a b c : Option (List ℕ)) (xs ys : List ℕ) → Appends a b xs → Appends b c ys → Appends a c (xs ++ ys)

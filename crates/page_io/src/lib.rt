@@ -16,6 +16,8 @@ mod source;
 mod stop;
 mod streams;
 mod sure;
+#[cfg(test)]
+mod tests;
 mod text;
 
 pub use bytes::Bytes;

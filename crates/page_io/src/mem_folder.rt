@@ -1,4 +1,9 @@
-ghost use Rattle.std.specs.Prelude.{◌≡◌, Some};
+ghost use Rattle.std.specs.Prelude.{◌≡◌, ◌+◌, ◌-◌, ◌^◌, ◌⊎◌, [], take, min, IfOk, IsErrOf, IsSomeAnd, Contains, Some, None};
+ghost use Rattle.std.specs.Cmp.Lexicographic.{slice_cmp};
+ghost use Rattle.std.specs.Ordering.{nat_cmp};
+ghost use Rattle.std.specs.List.Sorted.{IsStrictlySortedBy};
+ghost use Rattle.page_io.specs.Causes.{HasStop};
+ghost use Rattle.page_io.specs.Held.{names_in as names_of, content_in as content_of};
 
 use crate::bytes::Bytes;
 use crate::calls::Calls;
@@ -31,6 +36,7 @@ impl MemFolder {
     pub fn new(files: List<MemFile>, fail: List<u64>) -> MemFolder
         ensures held { ⟦<MemFolder as Folder>⟧.held result ≡ Some (held_of files) }
         ensures faults { ⟦<MemFolder as Folder>⟧.faults result ≡ 0 }
+        ensures calls { result.calls ≡ record { fail = fail; made = 0; faults = 0 } }
     {
         MemFolder {
             files,
@@ -47,12 +53,33 @@ impl Folder for MemFolder {
 
     ghost faults = { λ f. f.calls.faults };
 
-    fn list(&mut self, alloc: Global, dir: &str) -> Result<Names, IoStop> {
+    /// Fails exactly at the stated calls.
+    fn list(&mut self, alloc: Global, dir: &str) -> Result<Names, IoStop>
+        ensures names { IfOk result (λ names. names ≡ names_of self.old.files dir.now []) }
+        ensures order { IfOk result (IsStrictlySortedBy (slice_cmp nat_cmp)) }
+        ensures kept { self.new.files ≡ self.old.files }
+        ensures cause { HasStop self.old.calls.faults self.new.calls.faults result }
+        ensures made { self.new.calls.made ≡ min (self.old.calls.made + 1) (2 ^ 64 - 1) }
+        ensures fail { self.new.calls.fail ≡ self.old.calls.fail }
+        ensures failed { IsErrOf result IoStop.Failed → Contains self.old.calls.fail self.new.calls.made }
+        ensures told { Contains self.old.calls.fail self.new.calls.made → IsErrOf result IoStop.Failed }
+    {
         self.calls.begin()?;
         Ok(names_in(alloc, self.files.as_slice(), dir)?)
     }
 
-    fn read(&mut self, alloc: Global, dir: &str, name: &str, max: u64) -> Result<Bytes, IoStop> {
+    /// Fails exactly at the stated calls, and where the file is not there.
+    fn read(&mut self, alloc: Global, dir: &str, name: &str, max: u64) -> Result<Bytes, IoStop>
+        ensures bytes { IfOk result (λ bytes.
+            IsSomeAnd (content_of self.old.files dir.now name.now) (λ all. bytes ≡ take (max + 1) all)) }
+        ensures kept { self.new.files ≡ self.old.files }
+        ensures cause { HasStop self.old.calls.faults self.new.calls.faults result }
+        ensures made { self.new.calls.made ≡ min (self.old.calls.made + 1) (2 ^ 64 - 1) }
+        ensures fail { self.new.calls.fail ≡ self.old.calls.fail }
+        ensures failed { IsErrOf result IoStop.Failed →
+            Contains self.old.calls.fail self.new.calls.made ⊎ (content_of self.old.files dir.now name.now ≡ None) }
+        ensures told { Contains self.old.calls.fail self.new.calls.made → IsErrOf result IoStop.Failed }
+    {
         self.calls.begin()?;
         match content_in(self.files.as_slice(), dir, name) {
             Some(bytes) => Ok(front_of(alloc, bytes, max)?),

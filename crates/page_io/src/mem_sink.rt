@@ -1,4 +1,7 @@
-ghost use Rattle.std.specs.Prelude.{◌≡◌, ◌+◌, ◌<◌, ◌≤◌, [], IfOk, Some, vec_len, vec_capacity};
+ghost use Rattle.std.specs.Prelude.{◌≡◌, ◌+◌, ◌-◌, ◌^◌, ◌<◌, ◌≤◌, ◌⊎◌, [], length, min, IfOk, OnErr, Contains, Some, vec_len, vec_capacity};
+ghost use Rattle.std.specs.Io.{WritesAtMost};
+ghost use Rattle.std.specs.Io.KnownBytes.{WriteAppends};
+ghost use Rattle.page_io.specs.Causes.{HasCause};
 
 use crate::calls::Calls;
 use crate::list::List;
@@ -25,6 +28,9 @@ impl MemSink {
         requires { 0 < step }
         ensures taken { IfOk result (λ sink. ⟦<MemSink as Sink>⟧.taken sink ≡ Some []) }
         ensures faults { IfOk result (λ sink. ⟦<MemSink as Sink>⟧.faults sink ≡ 0) }
+        ensures room { IfOk result (λ sink. sink.room ≡ room) }
+        ensures step { IfOk result (λ sink. sink.step ≡ step) }
+        ensures calls { IfOk result (λ sink. sink.calls ≡ record { fail = fail; made = 0; faults = 0 }) }
     {
         let room = room as usize;
         let taken = Vec::with_capacity(alloc, room)?;
@@ -51,7 +57,22 @@ impl Sink for MemSink {
 
     ghost faults = { λ s. s.calls.faults };
 
-    fn write(&mut self, bytes: &[u8]) -> Result<usize, Failed> {
+    /// Fails exactly at the stated calls, and where there are bytes and no room.
+    fn write(&mut self, bytes: &[u8]) -> Result<usize, Failed>
+        ensures bound { WritesAtMost result bytes.now }
+        ensures progress { IfOk result (λ n. 0 < length bytes.now → 0 < n) }
+        ensures bytes { WriteAppends (Some self.old.taken.items) (Some self.new.taken.items) result bytes.now }
+        ensures kept { OnErr result (Some self.new.taken.items ≡ Some self.old.taken.items) }
+        ensures cause { HasCause self.old.calls.faults self.new.calls.faults result }
+        ensures made { self.new.calls.made ≡ min (self.old.calls.made + 1) (2 ^ 64 - 1) }
+        ensures fail { self.new.calls.fail ≡ self.old.calls.fail }
+        ensures told { OnErr result (Contains self.old.calls.fail self.new.calls.made ⊎ ((self.old.room ≡ 0) × (0 < length bytes.now))) }
+        ensures fine { IfOk result (λ n. Contains self.old.calls.fail self.new.calls.made → ⊥) }
+        ensures count { IfOk result (λ n. n ≡ min (min (length bytes.now) self.old.room) self.old.step) }
+        ensures room { IfOk result (λ n. self.new.room ≡ self.old.room - n) }
+        ensures same { OnErr result (self.new.room ≡ self.old.room) }
+        ensures step { self.new.step ≡ self.old.step }
+    {
         self.calls.begin()?;
         let count = bytes.len().min(self.room).min(self.step as usize);
         if count == 0 && !bytes.is_empty() {

@@ -1,4 +1,7 @@
-ghost use Rattle.std.specs.Prelude.{◌≡◌, ◌<◌, ◌≤◌, [], length, take, Some};
+ghost use Rattle.std.specs.Prelude.{◌≡◌, ◌+◌, ◌-◌, ◌^◌, ◌↔◌, ◌<◌, ◌≤◌, [], length, take, drop, min, IfOk, IsErr, OnErr, Contains, Some};
+ghost use Rattle.std.specs.Io.{ReadsAtMost};
+ghost use Rattle.std.specs.Io.KnownBytes.{ReadConsumes};
+ghost use Rattle.page_io.specs.Causes.{HasCause};
 
 use crate::bytes::Bytes;
 use crate::calls::Calls;
@@ -24,6 +27,8 @@ impl MemSource {
         requires { 0 < step }
         ensures left { ⟦<MemSource as Source>⟧.left result ≡ Some bytes }
         ensures faults { ⟦<MemSource as Source>⟧.faults result ≡ 0 }
+        ensures step { result.step ≡ step }
+        ensures calls { result.calls ≡ record { fail = fail; made = 0; faults = 0 } }
     {
         MemSource {
             bytes,
@@ -41,7 +46,18 @@ impl Source for MemSource {
 
     ghost faults = { λ s. s.calls.faults };
 
-    fn read(&mut self, buf: &mut [u8]) -> Result<usize, Failed> {
+    /// Fails exactly at the stated calls.
+    fn read(&mut self, buf: &mut [u8]) -> Result<usize, Failed>
+        ensures bound { ReadsAtMost result buf.new }
+        ensures bytes { ReadConsumes (Some (drop self.old.at self.old.bytes)) (Some (drop self.new.at self.new.bytes)) result buf.new }
+        ensures kept { OnErr result (Some (drop self.new.at self.new.bytes) ≡ Some (drop self.old.at self.old.bytes)) }
+        ensures cause { HasCause self.old.calls.faults self.new.calls.faults result }
+        ensures made { self.new.calls.made ≡ min (self.old.calls.made + 1) (2 ^ 64 - 1) }
+        ensures fail { self.new.calls.fail ≡ self.old.calls.fail }
+        ensures told { IsErr result ↔ Contains self.old.calls.fail self.new.calls.made }
+        ensures step { self.new.step ≡ self.old.step }
+        ensures count { IfOk result (λ n. n ≡ min (min (length self.old.bytes - self.old.at) (length buf.new)) self.old.step) }
+    {
         self.calls.begin()?;
         let (_, rest) = self.bytes.as_slice().split_at(self.at);
         let count = copy_front(rest, buf, self.step);
@@ -53,6 +69,7 @@ impl Source for MemSource {
 /// Copies a front of the bytes that are left, at most `step`, and says how many they are.
 pub(crate) fn copy_front(rest: &[u8], buf: &mut [u8], step: u64) -> usize
     requires { 0 < step }
+    ensures count { result ≡ min (min (length rest.now) (length buf.new)) step }
     ensures within { result ≤ length rest.now }
     ensures bound { result ≤ length buf.new }
     ensures bytes { take result buf.new ≡ take result rest.now }

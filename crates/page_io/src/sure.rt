@@ -26,7 +26,8 @@ impl SureSource {
     /// A source of these bytes that gives at most `step` at a time.
     pub fn new(bytes: Bytes, step: u64) -> SureSource
         requires { 0 < step }
-        ensures { ⟦<SureSource as Source>⟧.left result ≡ Some bytes }
+        ensures left { ⟦<SureSource as Source>⟧.left result ≡ Some bytes }
+        ensures step { result.step ≡ step }
     {
         SureSource { bytes, at: 0, step }
     }
@@ -58,7 +59,8 @@ impl SureSink {
     /// A sink that takes at most `step` bytes at a time.
     pub fn new(step: u64) -> SureSink
         requires { 0 < step }
-        ensures { ⟦<SureSink as Sink>⟧.faults result ≡ 0 }
+        ensures faults { ⟦<SureSink as Sink>⟧.faults result ≡ 0 }
+        ensures step { result.step ≡ step }
     {
         SureSink { step }
     }

@@ -1,12 +1,7 @@
-use Rattle.std.proofs.Common.{◌≡◌, Some, ap, sym, ◌∙◌}
+use Rattle.std.proofs.Common.{ap}
 use Rattle.page_datum.specs.Data.{text}
-use Rattle.page_datum.specs.Reading.{texts_of}
-use Rattle.page_datum.specs.View.{dict_view, entries_view}
 use Rattle.page_datum.specs.declared.datum.Datum.TheVariants.{Text}
-use Rattle.page_datum.specs.declared.datum.Entries.{roll-Entries, out-roll-Entries}
-use Rattle.serde_json.specs.View.{members_view}
-use Rattle.page_datum.proofs.Texts.{followed-nothing, texts_of-push, keys_ascend, at_end}
-use Rattle.page_datum.proofs.Views.{view-Text, dict_view-entries}
+use Rattle.page_datum.proofs.Texts.{texts_of-push, keys_ascend, at_end}
 use Rattle.page_datum.proofs.read.entries_of.Goals as goal
 
 pub loop-key-preserved : goal.loop-key-preserved
@@ -16,12 +11,14 @@ loop-key-preserved c = record {
   rest =
       let key = c.from.result in
       let value = c.from-in-String.result in
-      rw c.in_ok-push-in-String.ensures.items (texts_of-push c.loop-key.entries.items (key, Text value) c.loop-key.key-iterator c.next.new.self c.in-Some.key c.in-String.text c.in-Some.value _ c.in-String.is c.in-Some.ensures.steps c.from.ensures (view-Text value ∙ ap text c.from-in-String.ensures) c.loop-key.invariant.rest);
+      rw c.in_ok-push-in-String.ensures.items (texts_of-push c.loop-key.entries.items (key, Text value) c.loop-key.key-iterator c.next.new.self c.in-Some.key c.in-String.text c.in-Some.value _ c.in-String.is c.in-Some.ensures.steps c.from.ensures (ap text c.from-in-String.ensures) c.loop-key.invariant.rest);
 }
+
+pub from_ascending-requires : goal.from_ascending-requires
+from_ascending-requires c =
+    let all = at_end c.loop-key.entries c.loop-key.key-iterator _ c.in-None.ensures.steps.0 c.loop-key.invariant.rest in
+    keys_ascend c.args.members.entries _ all c.into_iter-key-iterator.ensures.into_iter_gives.5
 
 pub returns : goal.returns
 returns c =
-    let entries = c.loop-key.entries in
-    let all : texts_of (members_view c.args.members.entries) ≡ Some (dict_view (roll-Entries (record { entries = entries }))) =
-    at_end entries c.loop-key.key-iterator _ c.in-None.ensures.steps.0 c.loop-key.invariant.rest in
-    (all, keys_ascend c.args.members.entries _ all c.into_iter-key-iterator.ensures.into_iter_gives.5)
+    rw c.from_ascending.ensures (at_end c.loop-key.entries c.loop-key.key-iterator _ c.in-None.ensures.steps.0 c.loop-key.invariant.rest)

@@ -1,4 +1,4 @@
-use Rattle.std.proofs.Common.{◌≤◌, length, arith}
+use Rattle.std.proofs.Common.{arith}
 use Rattle.std.proofs.Math.Seq.{take-add}
 use Rattle.page_io.proofs.Known.{Appends-twice}
 use Rattle.page_io.proofs.sink.write_all.Goals as goal

@@ -1,0 +1,13 @@
+pub mod Forms
+pub mod Found
+pub mod Gathering
+pub mod Html
+pub mod Made
+pub mod Making
+pub mod Names
+pub mod Nodes
+pub mod Picked
+pub mod Refusals
+pub mod Running
+pub mod Scanned
+pub mod SetValue

@@ -1,0 +1,20 @@
+-- How making the template of a set answers.
+use Rattle.std.specs.Prelude.{◌≡◌, ℕ, List, Result, Ok, Err, Vec, ⊤}
+use Rattle.std.specs.declared.alloc.Global.{Global}
+use Rattle.page_datum.specs.declared.files.NamedFile.{NamedFile}
+use Rattle.page_set.specs.Making.{IsMade, IsRefused}
+use Rattle.page_set.specs.declared.node.Node.{Node}
+use Rattle.page_set.specs.declared.refused.MakeRefused.{MakeRefused}
+use Rattle.page_set.specs.declared.refused.MakeRefused.TheVariants.{TooLarge, NotUtf8, NoTemplates, NotBuilt, Memory}
+
+abbrev pub Makes : List NamedFile → Result (Vec Node Global) MakeRefused → Type 0
+Makes files (Ok nodes) = IsMade files nodes.items
+Makes files (Err refused) = IsRefused refused files
+
+-- the name and the line of what is not built, or want of memory
+abbrev pub IsNotBuilt : List ℕ → ℕ → MakeRefused → Type 0
+IsNotBuilt name line (NotBuilt n l) = (n ≡ name) × (l ≡ line)
+IsNotBuilt name line Memory = ⊤
+IsNotBuilt name line (TooLarge n) = ⊥
+IsNotBuilt name line (NotUtf8 n) = ⊥
+IsNotBuilt name line NoTemplates = ⊥

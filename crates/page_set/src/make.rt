@@ -1,0 +1,70 @@
+ghost use Rattle.std.specs.Prelude.{◌≡◌, [], ◌∷◌};
+ghost use Rattle.page_set.specs.Made.{Makes, IsNotBuilt};
+ghost use Rattle.page_set.specs.Running.{is_partial as is_partial_of};
+
+use crate::node::Node;
+use crate::refused::{MAX_FILE, MakeRefused};
+use crate::template::{ScanStop, scan};
+use page_datum::NamedFile;
+use page_io::{Memory, Text};
+use std::alloc::Global;
+
+/// The nodes of the template of a set of files, or why the files are no set.
+pub fn nodes_of(alloc: Global, files: &[NamedFile]) -> Result<Vec<Node>, MakeRefused>
+    ensures { Makes files.now result }
+{
+    match files {
+        [] => Err(MakeRefused::NoTemplates),
+        [file] => template_of(alloc, file),
+        [_, second, ..] => Err(not_built(alloc, &second.name, 1)),
+    }
+}
+
+// The nodes of the one file of a set.
+fn template_of(alloc: Global, file: &NamedFile) -> Result<Vec<Node>, MakeRefused>
+    ensures { Makes (file.now ∷ []) result }
+{
+    if file.bytes.len() > MAX_FILE {
+        return match Text::copy_of(alloc, file.name.as_str()) {
+            Ok(name) => Err(MakeRefused::TooLarge(name)),
+            Err(Memory) => Err(MakeRefused::Memory),
+        };
+    }
+    let text = match std::str::from_utf8(file.bytes.as_slice()) {
+        Ok(text) => text,
+        Err(_) => {
+            return match Text::copy_of(alloc, file.name.as_str()) {
+                Ok(name) => Err(MakeRefused::NotUtf8(name)),
+                Err(Memory) => Err(MakeRefused::Memory),
+            };
+        }
+    };
+    if is_partial(file.name.as_str()) {
+        return Err(MakeRefused::NoTemplates);
+    }
+    match scan(alloc, text) {
+        Ok(nodes) => Ok(nodes),
+        Err(ScanStop::Stuck(line)) => Err(not_built(alloc, &file.name, line)),
+        Err(ScanStop::Memory) => Err(MakeRefused::Memory),
+    }
+}
+
+// What stands on a line of a file is not built.
+fn not_built(alloc: Global, name: &Text, line: u32) -> MakeRefused
+    ensures { IsNotBuilt name.now line result }
+{
+    match Text::copy_of(alloc, name.as_str()) {
+        Ok(name) => MakeRefused::NotBuilt(name, line),
+        Err(Memory) => MakeRefused::Memory,
+    }
+}
+
+/// Whether a name is of a file that is no root, since it begins with `_`.
+pub fn is_partial(name: &str) -> bool
+    ensures { result ≡ is_partial_of name.now }
+{
+    match name.as_bytes().first() {
+        Some(byte) => *byte == b'_',
+        None => false,
+    }
+}
