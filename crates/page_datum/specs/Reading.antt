@@ -33,10 +33,17 @@ data_of _ = None
 abbrev pub IsDatum : List ℕ → Data → Type 0
 IsDatum bytes d = (value : json.Data) × IsJson bytes value × (data_of value ≡ Some d)
 
+-- why bytes are no datum
+abbrev pub IsNoDatum : DataRefused → List ℕ → Type 0
+IsNoDatum (TooLong len) bytes = max_length < length bytes
+IsNoDatum NotJson bytes = (length bytes ≤ max_length) × ((value : json.Data) → IsJson bytes value → ⊥)
+IsNoDatum NotBuilt bytes = (length bytes ≤ max_length) × (value : json.Data) × IsJson bytes value × (data_of value ≡ None)
+IsNoDatum Memory bytes = ⊥
+
 -- what reading answers, and why
 abbrev pub ReadAnswers : List ℕ → Result Datum DataRefused → Type 0
 ReadAnswers bytes (Ok datum) = (length bytes ≤ max_length) × IsDatum bytes (view datum)
 ReadAnswers bytes (Err (TooLong len)) = (len ≡ length bytes) × (max_length < length bytes)
-ReadAnswers bytes (Err NotJson) = (length bytes ≤ max_length) × ((value : json.Data) → IsJson bytes value → ⊥)
-ReadAnswers bytes (Err NotBuilt) = (length bytes ≤ max_length) × (value : json.Data) × IsJson bytes value × (data_of value ≡ None)
+ReadAnswers bytes (Err NotJson) = IsNoDatum NotJson bytes
+ReadAnswers bytes (Err NotBuilt) = IsNoDatum NotBuilt bytes
 ReadAnswers bytes (Err Memory) = ⊤

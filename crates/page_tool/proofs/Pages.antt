@@ -1,0 +1,61 @@
+-- What was written, where the folder and the input tell what they hold.
+use Rattle.std.proofs.Common.{◌≡◌, ◌≢◌, ℕ, Bool, true, false, List, [], ◌∷◌, Option, None, Some, Result, Ok, Err, inr, subst, sym, ap, ◌∙◌, true≢false}
+use Rattle.std.specs.Prelude.{IfSome, ⊤}
+use Rattle.std.specs.Io.KnownBytes.{Appends}
+use Rattle.page_io.specs.Held.{Held}
+use Rattle.page_io.specs.Whole.{AppendsPart}
+use Rattle.page_datum.specs.Data.{Data}
+use Rattle.page_datum.specs.Execution.{Execution, Ending, done, no_root, faulted}
+use Rattle.page_datum.specs.Reading.{IsDatum}
+use Rattle.page_datum.specs.declared.fault.FaultKind.{FaultKind}
+use Rattle.page_datum.specs.declared.files.Files.{Files}
+use Rattle.page_datum.specs.declared.files.NamedFile.{NamedFile}
+use Rattle.page_set.specs.Making.{IsExecution, Refuses}
+use Rattle.page_set.specs.Running.{Run, hole_run, field_of, run, is_root, execution_of}
+use Rattle.page_set.specs.declared.node.Node.{Node}
+use Rattle.page_set.specs.declared.node.Node.TheVariants as node
+use Rattle.page_tool.specs.Files.{files_of}
+use Rattle.page_tool.specs.Output.{WritesPage, WritesPart, WritesAll, RenderOutput}
+use Rattle.page_tool.specs.declared.stop.Stop.{Stop}
+use Rattle.page_tool.specs.declared.stop.Stop.TheVariants as stop
+
+-- the files are those of the directory, which make a set
+abbrev pub IsLoaded : Option Held → List ℕ → Files → Type 0
+IsLoaded held dir files = IfSome held (λ h. (files ≡ files_of h dir) × (Refuses (files_of h dir).list → ⊥))
+
+told_part : (held : Option Held) (input : Option (List ℕ)) (dir root : List ℕ) (files : Files) (d : Data) (e : Execution) (old new : Option (List ℕ))
+    → IsLoaded held dir files → IfSome input (λ i. IsDatum i d) → IsExecution files root d e → AppendsPart old new e.bytes → WritesPart held input dir root old new
+told_part None input dir root files d e old new s r x w = tt
+told_part (Some h) None dir root files d e old new s r x w = tt
+told_part (Some h) (Some i) dir root files d e old new s r x w = (e, record { datum = d; read = r; execution = subst (λ (f : Files). IsExecution f root d e) s.0 x }, w)
+
+told_all : (held : Option Held) (input : Option (List ℕ)) (dir root : List ℕ) (files : Files) (d : Data) (e : Execution) (old new : Option (List ℕ))
+    → IsLoaded held dir files → IfSome input (λ i. IsDatum i d) → IsExecution files root d e → e.ending ≡ done → Appends old new e.bytes → WritesAll held input dir root old new
+told_all None input dir root files d e old new s r x is w = tt
+told_all (Some h) None dir root files d e old new s r x is w = tt
+told_all (Some h) (Some i) dir root files d e old new s r x is w = (e, record { datum = d; read = r; execution = subst (λ (f : Files). IsExecution f root d e) s.0 x }, is, w)
+
+-- what was written of an execution was written of the page
+pub output : (held : Option Held) (input : Option (List ℕ)) (dir root : List ℕ) (files : Files) (d : Data) (e : Execution) (old new : Option (List ℕ)) (r : Result ⊤ Stop)
+    → IsLoaded held dir files → IfSome input (λ i. IsDatum i d) → IsExecution files root d e → WritesPage e old new r → RenderOutput held input dir root old new r
+output held input dir root files d e old new (Ok _) s r x w = told_all held input dir root files d e old new s r x w.0 w.1
+output held input dir root files d e old new (Err (stop.Fault fault)) s r x w = told_part held input dir root files d e old new s r x w.1
+output held input dir root files d e old new (Err stop.Write) s r x w = told_part held input dir root files d e old new s r x w
+output held input dir root files d e old new (Err stop.Memory) s r x w = inr (told_part held input dir root files d e old new s r x w)
+output held input dir root files d e old new (Err (stop.Set why)) s r x w = absurd w
+output held input dir root files d e old new (Err (stop.Data why)) s r x w = absurd w
+output held input dir root files d e old new (Err stop.Read) s r x w = absurd w
+output held input dir root files d e old new (Err stop.NoTemplate) s r x w = absurd w
+
+hole_has_root : (template : List ℕ) (line : ℕ) (r : Result Data FaultKind) (rest : Run) → (rest.ending ≡ no_root → ⊥) → (hole_run template line r rest).ending ≡ no_root → ⊥
+hole_has_root template line (Ok value) rest h e = h e
+hole_has_root template line (Err kind) rest h e = cc
+
+-- a template that runs is a root
+run_has_root : (template : List ℕ) (nodes : List Node) (d : Data) → (run template nodes d).ending ≡ no_root → ⊥
+run_has_root template [] d e = cc
+run_has_root template (node.Text text ∷ nodes) d e = run_has_root template nodes d e
+run_has_root template (node.Hole name line ∷ nodes) d e = hole_has_root template line (field_of name d) (run template nodes d) (run_has_root template nodes d) e
+
+pub has_root : (files : List NamedFile) (nodes : List Node) (root : List ℕ) (d : Data) → is_root files root ≡ true → (execution_of files nodes root d).ending ≡ no_root → ⊥
+has_root files nodes root d is e = run_has_root root nodes d (rw is at e)

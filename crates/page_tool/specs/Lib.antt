@@ -1,0 +1,7 @@
+pub mod Codes
+pub mod Files
+pub mod Input
+pub mod Lines
+pub mod Output
+pub mod Sets
+pub mod Words

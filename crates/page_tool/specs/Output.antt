@@ -1,0 +1,76 @@
+-- What `render DIR NAME` writes, and why it stops.
+use Rattle.std.specs.Prelude.{◌≡◌, ◌≢◌, ℕ, ◌<◌, true, false, List, length, Option, Some, None, IfSome, Result, Ok, Err, ⊤, ◌⊎◌}
+use Rattle.std.specs.Io.KnownBytes.{Appends}
+use Rattle.page_io.specs.Held.{Held}
+use Rattle.page_io.specs.Whole.{AppendsPart}
+use Rattle.page_datum.specs.Data.{Data}
+use Rattle.page_datum.specs.Execution.{Execution, done, no_root, faulted}
+use Rattle.page_datum.specs.Reading.{IsDatum, IsNoDatum}
+use Rattle.page_set.specs.Making.{IsExecution, IsRefused, Refuses}
+use Rattle.page_set.specs.Running.{is_root}
+use Rattle.page_set.specs.declared.refused.MakeRefused.{MakeRefused}
+use Rattle.page_set.specs.declared.refused.MakeRefused.TheVariants as make
+use Rattle.page_datum.specs.declared.read.DataRefused.{DataRefused}
+use Rattle.page_tool.specs.declared.status.Status.{Status}
+use Rattle.page_tool.specs.declared.status.Status.TheVariants as status
+use Rattle.page_tool.specs.Files.{files_of}
+use Rattle.page_tool.specs.declared.stop.Stop.{Stop}
+use Rattle.page_tool.specs.declared.stop.Stop.TheVariants as stop
+
+-- executing the root of a directory's files with the datum that the input is gives this
+pub record IsRendering (held : Held) (dir root input : List ℕ) (e : Execution) : Type 0 where
+  pub datum : Data
+  pub read : IsDatum input datum
+  pub execution : IsExecution (files_of held dir) root datum e
+
+-- a fact on what the folder holds and the input has, where both tell it
+abbrev pub Told : Option Held → Option (List ℕ) → (Held → List ℕ → Type 0) → Type 0
+Told None input P = ⊤
+Told (Some held) None P = ⊤
+Told (Some held) (Some input) P = P held input
+
+-- a front of the page was written
+abbrev pub WritesPart : Option Held → Option (List ℕ) → List ℕ → List ℕ → Option (List ℕ) → Option (List ℕ) → Type 0
+WritesPart held input dir root old new = Told held input (λ h i. (e : Execution) × IsRendering h dir root i e × AppendsPart old new e.bytes)
+
+-- all of the page was written
+abbrev pub WritesAll : Option Held → Option (List ℕ) → List ℕ → List ℕ → Option (List ℕ) → Option (List ℕ) → Type 0
+WritesAll held input dir root old new = Told held input (λ h i. (e : Execution) × IsRendering h dir root i e × (e.ending ≡ done) × Appends old new e.bytes)
+
+-- what a sink has got of an execution
+abbrev pub WritesPage : Execution → Option (List ℕ) → Option (List ℕ) → Result ⊤ Stop → Type 0
+WritesPage e old new (Ok _) = (e.ending ≡ done) × Appends old new e.bytes
+WritesPage e old new (Err (stop.Fault fault)) = (e.ending ≡ faulted fault) × AppendsPart old new e.bytes
+WritesPage e old new (Err stop.Write) = AppendsPart old new e.bytes
+WritesPage e old new (Err stop.Memory) = AppendsPart old new e.bytes
+WritesPage e old new (Err _) = ⊥
+
+-- what a sink has got where rendering stopped
+abbrev pub RenderOutput : Option Held → Option (List ℕ) → List ℕ → List ℕ → Option (List ℕ) → Option (List ℕ) → Result ⊤ Stop → Type 0
+RenderOutput held input dir root old new (Ok _) = WritesAll held input dir root old new
+RenderOutput held input dir root old new (Err stop.Write) = WritesPart held input dir root old new
+RenderOutput held input dir root old new (Err (stop.Fault fault)) = WritesPart held input dir root old new
+RenderOutput held input dir root old new (Err stop.Memory) = (new ≡ old) ⊎ WritesPart held input dir root old new
+RenderOutput held input dir root old new (Err _) = new ≡ old
+
+-- why rendering stopped
+abbrev pub RenderCause : Option Held → Option (List ℕ) → List ℕ → List ℕ → Result ⊤ Stop → Type 0
+RenderCause held input dir root (Err (stop.Set why)) = IfSome held (λ h. (why ≢ make.Memory) × IsRefused why (files_of h dir).list)
+RenderCause held input dir root (Err stop.NoTemplate) = IfSome held (λ h. (Refuses (files_of h dir).list → ⊥) × (is_root (files_of h dir).list root ≡ false))
+RenderCause held input dir root (Err (stop.Data why)) = IfSome held (λ h. (Refuses (files_of h dir).list → ⊥) × (is_root (files_of h dir).list root ≡ true)) × IfSome input (IsNoDatum why)
+RenderCause held input dir root _ = ⊤
+
+-- what a sink has got at each status of a command
+abbrev pub StatusOutput : Option Held → Option (List ℕ) → List ℕ → List ℕ → Option (List ℕ) → Option (List ℕ) → Status → Type 0
+StatusOutput held input dir root old new status.Ok = WritesAll held input dir root old new
+StatusOutput held input dir root old new status.WriteFault = WritesPart held input dir root old new
+StatusOutput held input dir root old new status.ExecFault = WritesPart held input dir root old new
+StatusOutput held input dir root old new status.Memory = (new ≡ old) ⊎ WritesPart held input dir root old new
+StatusOutput held input dir root old new _ = new ≡ old
+
+-- why a command ends in each status
+abbrev pub StatusCause : Option Held → Option (List ℕ) → List ℕ → List ℕ → Status → Type 0
+StatusCause held input dir root status.SetRefused = IfSome held (λ h. (why : MakeRefused) × (why ≢ make.Memory) × IsRefused why (files_of h dir).list)
+StatusCause held input dir root status.NoTemplate = IfSome held (λ h. (Refuses (files_of h dir).list → ⊥) × (is_root (files_of h dir).list root ≡ false))
+StatusCause held input dir root status.DataRefused = IfSome held (λ h. (Refuses (files_of h dir).list → ⊥) × (is_root (files_of h dir).list root ≡ true)) × IfSome input (λ i. (why : DataRefused) × IsNoDatum why i)
+StatusCause held input dir root _ = ⊤

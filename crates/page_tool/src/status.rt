@@ -1,0 +1,61 @@
+ghost use Rattle.std.specs.Prelude.{◌≡◌};
+ghost use Rattle.page_tool.specs.Codes.{code_of, status_for};
+
+use crate::stop::Stop;
+
+/// How a command ended.
+#[derive(Clone, Copy, Debug, PartialEq, Eq)]
+pub enum Status {
+    /// The command did all of its work.
+    Ok,
+    /// The files of the directory are no set of pages.
+    SetRefused,
+    /// The words are those of no command.
+    Usage,
+    /// The execution met a fault.
+    ExecFault,
+    /// The input is no data.
+    DataRefused,
+    /// The folder or the input failed.
+    ReadFault,
+    /// The output failed.
+    WriteFault,
+    /// No root has the name.
+    NoTemplate,
+    /// Want of memory.
+    Memory,
+}
+
+impl Status {
+    /// The number that a program ends with.
+    pub fn code(self) -> u8
+        ensures { result ≡ code_of self }
+    {
+        match self {
+            Status::Ok => 0,
+            Status::SetRefused => 1,
+            Status::Usage => 2,
+            Status::ExecFault => 3,
+            Status::DataRefused => 4,
+            Status::ReadFault => 5,
+            Status::WriteFault => 6,
+            Status::NoTemplate => 10,
+            Status::Memory => 11,
+        }
+    }
+}
+
+/// The status of a command that stopped.
+pub fn status_of(stop: &Stop) -> Status
+    ensures { result ≡ status_for stop.now }
+{
+    match stop {
+        Stop::Set(_) => Status::SetRefused,
+        Stop::Fault(_) => Status::ExecFault,
+        Stop::Data(_) => Status::DataRefused,
+        Stop::Read => Status::ReadFault,
+        Stop::Write => Status::WriteFault,
+        Stop::NoTemplate => Status::NoTemplate,
+        Stop::Memory => Status::Memory,
+    }
+}

@@ -1,0 +1,21 @@
+use page_datum::{DataRefused, ExecFault};
+use page_set::MakeRefused;
+
+/// Why a command stopped.
+#[derive(Debug, Drop)]
+pub enum Stop {
+    /// The files are no set of pages, for another cause than memory.
+    Set(MakeRefused),
+    /// The execution met a fault.
+    Fault(ExecFault),
+    /// The input is no data, for another cause than memory.
+    Data(DataRefused),
+    /// The folder or the input failed.
+    Read,
+    /// The output failed.
+    Write,
+    /// No root has the name.
+    NoTemplate,
+    /// Want of memory.
+    Memory,
+}
