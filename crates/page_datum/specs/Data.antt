@@ -1,5 +1,5 @@
 -- The values of data: null, truth values, whole numbers, texts, lists, and dictionaries.
-use Rattle.std.specs.Prelude.{ℕ, ℤ, Bool, List, [], ◌∷◌, Option, Some, None, if◌then◌else◌, bytes_eq}
+use Rattle.std.specs.Prelude.{◌≡◌, ℕ, ℤ, Bool, List, [], ◌∷◌, Option, Some, None, if◌then◌else◌, bytes_eq}
 use Rattle.std.specs.List.Sorted.{IsStrictlySortedBy}
 use Rattle.std.specs.Cmp.Lexicographic.{slice_cmp}
 use Rattle.std.specs.Ordering.{nat_cmp}
@@ -20,6 +20,10 @@ mutual
   pub data DataDict : Type 0 where
     no_entries : DataDict
     entry : List ℕ → Data → DataDict → DataDict
+
+-- a dictionary
+abbrev pub IsDict : Data → Type 0
+IsDict datum = (entries : DataDict) × (datum ≡ dict entries)
 
 -- the keys of a dictionary, in order
 abbrev pub keys : DataDict → List (List ℕ)

@@ -10,6 +10,8 @@ mod print;
 mod read;
 mod shared;
 mod shown;
+#[cfg(test)]
+mod tests;
 
 pub use datum::{Datum, Entries, Items};
 pub use fault::{ExecFault, FaultKind};

@@ -11,6 +11,8 @@ mod node;
 mod refused;
 mod set;
 mod template;
+#[cfg(test)]
+mod tests;
 
 pub use node::Node;
 pub use refused::{MAX_FILE, MakeRefused};

@@ -1,1 +1,3 @@
+pub mod Exacts
 pub mod Pages
+pub mod Statuses

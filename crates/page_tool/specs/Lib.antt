@@ -1,4 +1,5 @@
 pub mod Codes
+pub mod Exact
 pub mod Files
 pub mod Input
 pub mod Lines

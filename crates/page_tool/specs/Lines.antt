@@ -1,5 +1,13 @@
 -- The lines for people.
-use Rattle.std.specs.Prelude.{ℕ, codes, List, [], ◌∷◌, ◌++◌}
+use Rattle.std.specs.Prelude.{◌≡◌, ℕ, codes, List, [], ◌∷◌, ◌++◌, Option, IfSome, ◌⊎◌, ⊤}
+use Rattle.std.specs.Io.KnownBytes.{Appends}
+use Rattle.page_io.specs.Held.{Held}
+use Rattle.page_datum.specs.Reading.{IsNoDatum}
+use Rattle.page_set.specs.declared.refused.MakeRefused.{MakeRefused}
+use Rattle.page_tool.specs.Codes.{status_for}
+use Rattle.page_tool.specs.Output.{IsRefusedSet}
+use Rattle.page_tool.specs.declared.status.Status.{Status}
+use Rattle.page_tool.specs.declared.status.Status.TheVariants as status
 use Rattle.std.specs.Fmt.{decimal}
 use Rattle.page_datum.specs.declared.fault.FaultKind.{FaultKind}
 use Rattle.page_datum.specs.declared.fault.FaultKind.TheVariants as kind
@@ -44,3 +52,23 @@ stop_text stop.Read name = codes "read fault" ++ 10 ∷ []
 stop_text stop.Write name = codes "write fault" ++ 10 ∷ []
 stop_text stop.NoTemplate name = codes "no template " ++ (name ++ 10 ∷ [])
 stop_text stop.Memory name = codes "memory" ++ 10 ∷ []
+
+-- a stop was reported with this status, and its lines were written
+abbrev pub Says : Stop → List ℕ → Status → Option (List ℕ) → Option (List ℕ) → Type 0
+Says why name s old new = ((s ≡ status_for why) × Appends old new (stop_text why name)) ⊎ ((s ≡ status.Memory) × Appends old new (stop_text stop.Memory name))
+
+-- the lines of a command's status, for what the folder holds and the input has, where they are told
+abbrev pub StatusText : Option Held → Option (List ℕ) → List ℕ → List ℕ → Status → List ℕ → Type 0
+StatusText held input dir name status.Ok text = text ≡ []
+StatusText held input dir name status.Usage text = ⊥
+StatusText held input dir name status.ExecFault text = ⊤
+StatusText held input dir name status.SetRefused text = IfSome held (λ h. (why : MakeRefused) × IsRefusedSet h dir why × (text ≡ refusal_text why))
+StatusText held input dir name status.DataRefused text = IfSome input (λ i. (why : DataRefused) × IsNoDatum why i × (text ≡ stop_text (stop.Data why) name))
+StatusText held input dir name status.ReadFault text = text ≡ stop_text stop.Read name
+StatusText held input dir name status.WriteFault text = text ≡ stop_text stop.Write name
+StatusText held input dir name status.NoTemplate text = text ≡ stop_text stop.NoTemplate name
+StatusText held input dir name status.Memory text = text ≡ stop_text stop.Memory name
+
+-- the lines of a command's status were written
+abbrev pub SaysStatus : Option Held → Option (List ℕ) → List ℕ → List ℕ → Status → Option (List ℕ) → Option (List ℕ) → Type 0
+SaysStatus held input dir name s old new = (text : List ℕ) × StatusText held input dir name s text × Appends old new text

@@ -1,15 +1,16 @@
 -- What `render DIR NAME` writes, and why it stops.
-use Rattle.std.specs.Prelude.{◌≡◌, ◌≢◌, ℕ, ◌<◌, true, false, List, length, Option, Some, None, IfSome, Result, Ok, Err, ⊤, ◌⊎◌}
+use Rattle.std.specs.Prelude.{◌≡◌, ◌≢◌, ℕ, ◌≤◌, true, false, List, length, Option, Some, None, IfSome, Result, Ok, Err, ⊤, ◌⊎◌}
 use Rattle.std.specs.Io.KnownBytes.{Appends}
 use Rattle.page_io.specs.Held.{Held}
 use Rattle.page_io.specs.Whole.{AppendsPart}
 use Rattle.page_datum.specs.Data.{Data}
 use Rattle.page_datum.specs.Execution.{Execution, done, no_root, faulted}
-use Rattle.page_datum.specs.Reading.{IsDatum, IsNoDatum}
+use Rattle.page_datum.specs.Reading.{IsDatum, IsNoDatum, max_length}
 use Rattle.page_set.specs.Making.{IsExecution, IsRefused, Refuses}
 use Rattle.page_set.specs.Running.{is_root}
 use Rattle.page_set.specs.declared.refused.MakeRefused.{MakeRefused}
 use Rattle.page_set.specs.declared.refused.MakeRefused.TheVariants as make
+use Rattle.page_datum.specs.declared.fault.ExecFault.{ExecFault}
 use Rattle.page_datum.specs.declared.read.DataRefused.{DataRefused}
 use Rattle.page_tool.specs.declared.status.Status.{Status}
 use Rattle.page_tool.specs.declared.status.Status.TheVariants as status
@@ -37,6 +38,10 @@ WritesPart held input dir root old new = Told held input (λ h i. (e : Execution
 abbrev pub WritesAll : Option Held → Option (List ℕ) → List ℕ → List ℕ → Option (List ℕ) → Option (List ℕ) → Type 0
 WritesAll held input dir root old new = Told held input (λ h i. (e : Execution) × IsRendering h dir root i e × (e.ending ≡ done) × Appends old new e.bytes)
 
+-- a front of the page was written, up to a fault that the execution met
+abbrev pub WritesToFault : Option Held → Option (List ℕ) → List ℕ → List ℕ → Option (List ℕ) → Option (List ℕ) → Type 0
+WritesToFault held input dir root old new = Told held input (λ h i. (e : Execution) × (fault : ExecFault) × IsRendering h dir root i e × (e.ending ≡ faulted fault) × AppendsPart old new e.bytes)
+
 -- what a sink has got of an execution
 abbrev pub WritesPage : Execution → Option (List ℕ) → Option (List ℕ) → Result ⊤ Stop → Type 0
 WritesPage e old new (Ok _) = (e.ending ≡ done) × Appends old new e.bytes
@@ -49,28 +54,52 @@ WritesPage e old new (Err _) = ⊥
 abbrev pub RenderOutput : Option Held → Option (List ℕ) → List ℕ → List ℕ → Option (List ℕ) → Option (List ℕ) → Result ⊤ Stop → Type 0
 RenderOutput held input dir root old new (Ok _) = WritesAll held input dir root old new
 RenderOutput held input dir root old new (Err stop.Write) = WritesPart held input dir root old new
-RenderOutput held input dir root old new (Err (stop.Fault fault)) = WritesPart held input dir root old new
+RenderOutput held input dir root old new (Err (stop.Fault fault)) = WritesToFault held input dir root old new
 RenderOutput held input dir root old new (Err stop.Memory) = (new ≡ old) ⊎ WritesPart held input dir root old new
 RenderOutput held input dir root old new (Err _) = new ≡ old
 
--- why rendering stopped
+-- the files of a directory are a set, and this is one of its roots
+pub record HasRoot (held : Held) (dir root : List ℕ) : Type 0 where
+  pub set : Refuses (files_of held dir).list → ⊥
+  pub known : is_root (files_of held dir).list root ≡ true
+
+-- the files of a directory are a set, and this is none of its roots
+pub record LacksRoot (held : Held) (dir root : List ℕ) : Type 0 where
+  pub set : Refuses (files_of held dir).list → ⊥
+  pub unknown : is_root (files_of held dir).list root ≡ false
+
+-- the files of a directory are refused so
+pub record IsRefusedSet (held : Held) (dir : List ℕ) (why : MakeRefused) : Type 0 where
+  pub known : why ≢ make.Memory
+  pub cause : IsRefused why (files_of held dir).list
+
+-- an input within the limit stands for a datum
+abbrev pub HasDatum : List ℕ → Type 0
+HasDatum input = (length input ≤ max_length) × (datum : Data) × IsDatum input datum
+
+-- why rendering ended so
 abbrev pub RenderCause : Option Held → Option (List ℕ) → List ℕ → List ℕ → Result ⊤ Stop → Type 0
-RenderCause held input dir root (Err (stop.Set why)) = IfSome held (λ h. (why ≢ make.Memory) × IsRefused why (files_of h dir).list)
-RenderCause held input dir root (Err stop.NoTemplate) = IfSome held (λ h. (Refuses (files_of h dir).list → ⊥) × (is_root (files_of h dir).list root ≡ false))
-RenderCause held input dir root (Err (stop.Data why)) = IfSome held (λ h. (Refuses (files_of h dir).list → ⊥) × (is_root (files_of h dir).list root ≡ true)) × IfSome input (IsNoDatum why)
-RenderCause held input dir root _ = ⊤
+RenderCause held input dir root (Err (stop.Set why)) = IfSome held (λ h. IsRefusedSet h dir why)
+RenderCause held input dir root (Err stop.NoTemplate) = IfSome held (λ h. LacksRoot h dir root)
+RenderCause held input dir root (Err (stop.Data why)) = IfSome held (λ h. HasRoot h dir root) × IfSome input (IsNoDatum why)
+RenderCause held input dir root (Err stop.Read) = ⊤
+RenderCause held input dir root (Err stop.Memory) = ⊤
+RenderCause held input dir root _ = IfSome held (λ h. HasRoot h dir root) × IfSome input HasDatum
 
 -- what a sink has got at each status of a command
 abbrev pub StatusOutput : Option Held → Option (List ℕ) → List ℕ → List ℕ → Option (List ℕ) → Option (List ℕ) → Status → Type 0
 StatusOutput held input dir root old new status.Ok = WritesAll held input dir root old new
 StatusOutput held input dir root old new status.WriteFault = WritesPart held input dir root old new
-StatusOutput held input dir root old new status.ExecFault = WritesPart held input dir root old new
+StatusOutput held input dir root old new status.ExecFault = WritesToFault held input dir root old new
 StatusOutput held input dir root old new status.Memory = (new ≡ old) ⊎ WritesPart held input dir root old new
 StatusOutput held input dir root old new _ = new ≡ old
 
 -- why a command ends in each status
 abbrev pub StatusCause : Option Held → Option (List ℕ) → List ℕ → List ℕ → Status → Type 0
-StatusCause held input dir root status.SetRefused = IfSome held (λ h. (why : MakeRefused) × (why ≢ make.Memory) × IsRefused why (files_of h dir).list)
-StatusCause held input dir root status.NoTemplate = IfSome held (λ h. (Refuses (files_of h dir).list → ⊥) × (is_root (files_of h dir).list root ≡ false))
-StatusCause held input dir root status.DataRefused = IfSome held (λ h. (Refuses (files_of h dir).list → ⊥) × (is_root (files_of h dir).list root ≡ true)) × IfSome input (λ i. (why : DataRefused) × IsNoDatum why i)
-StatusCause held input dir root _ = ⊤
+StatusCause held input dir root status.SetRefused = IfSome held (λ h. (why : MakeRefused) × IsRefusedSet h dir why)
+StatusCause held input dir root status.NoTemplate = IfSome held (λ h. LacksRoot h dir root)
+StatusCause held input dir root status.DataRefused = IfSome held (λ h. HasRoot h dir root) × IfSome input (λ i. (why : DataRefused) × IsNoDatum why i)
+StatusCause held input dir root status.Usage = ⊥
+StatusCause held input dir root status.ReadFault = ⊤
+StatusCause held input dir root status.Memory = ⊤
+StatusCause held input dir root _ = IfSome held (λ h. HasRoot h dir root) × IfSome input HasDatum

@@ -1,6 +1,8 @@
-ghost use Rattle.std.specs.Prelude.{◌≡◌, ◌≤◌, OnOk, IsErrOf};
+ghost use Rattle.std.specs.Prelude.{◌≡◌, ◌≤◌, IfOk, OnOk, IsErrOf};
 ghost use Rattle.std.specs.Io.KnownBytes.{IsAtEnd};
 ghost use Rattle.page_io.specs.Causes.{Rose};
+ghost use Rattle.page_datum.specs.Data.{IsDict};
+ghost use Rattle.page_datum.specs.View.{view};
 ghost use Rattle.page_tool.specs.Input.{ReadsData};
 
 use crate::stop::Stop;
@@ -11,6 +13,7 @@ use std::alloc::Global;
 /// The datum that an input is, read to its end.
 pub fn read_data<I: Source>(alloc: Global, input: &mut I) -> Result<Datum, Stop>
     ensures data { ReadsData (I.left input.old) result }
+    ensures dict { IfOk result (λ datum. IsDict (view datum)) }
     ensures end { OnOk result (IsAtEnd (I.left input.new)) }
     ensures later { I.faults input.old ≤ I.faults input.new }
     ensures read { IsErrOf result Stop.Read → Rose (I.faults input.old) (I.faults input.new) }

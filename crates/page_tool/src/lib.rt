@@ -7,6 +7,8 @@ mod render;
 mod report;
 mod status;
 mod stop;
+#[cfg(test)]
+mod tests;
 mod top;
 mod words;
 

@@ -1,10 +1,12 @@
-ghost use Rattle.std.specs.Prelude.{◌≡◌, ◌≤◌, ◌⊎◌, true, OnOk, IsErrOf};
+ghost use Rattle.std.specs.Prelude.{◌≡◌, ◌≤◌, ◌⊎◌, true, IfSome, OnOk, IsErrOf};
 ghost use Rattle.std.specs.Io.KnownBytes.{IsAtEnd};
 ghost use Rattle.page_io.specs.Causes.{Rose};
+ghost use Rattle.page_datum.specs.Data.{IsDict};
 ghost use Rattle.page_datum.specs.View.{view};
 ghost use Rattle.page_set.specs.Making.{IsExecution};
 ghost use Rattle.page_set.specs.Running.{is_root, execution_of};
-ghost use Rattle.page_tool.specs.Output.{RenderOutput, RenderCause, WritesPage};
+ghost use Rattle.page_tool.specs.Output.{RenderOutput, RenderCause, WritesPage, HasRoot};
+ghost use Rattle.page_datum.specs.declared.fault.ExecFault.{ExecFault};
 ghost use Rattle.page_tool.specs.Sets.{MakesSet};
 
 use crate::input::read_data;
@@ -31,8 +33,10 @@ pub fn render<F: Folder, I: Source, O: Sink>(
     ensures folder_later { F.faults folder.old ≤ F.faults folder.new }
     ensures input_later { I.faults input.old ≤ I.faults input.new }
     ensures out_later { O.faults out.old ≤ O.faults out.new }
-    ensures read { IsErrOf result Stop.Read → Rose (F.faults folder.old) (F.faults folder.new) ⊎ Rose (I.faults input.old) (I.faults input.new) }
+    ensures read { IsErrOf result Stop.Read → Rose (F.faults folder.old) (F.faults folder.new)
+        ⊎ (Rose (I.faults input.old) (I.faults input.new) × IfSome (F.held folder.old) (λ h. HasRoot h dir.now root.now)) }
     ensures write { IsErrOf result Stop.Write → Rose (O.faults out.old) (O.faults out.new) }
+    ensures faultless { (fault : ExecFault) → IsErrOf result (Stop.Fault fault) → ⊥ }
 {
     let set = match make_set(alloc, folder, dir) {
         Ok(set) => set,
@@ -56,11 +60,13 @@ fn write_page<O: Sink>(
     datum: &Datum,
     out: &mut O,
 ) -> Result<(), Stop>
-    requires { is_root set.now.files.list root.now ≡ true }
+    requires root { is_root set.now.files.list root.now ≡ true }
+    requires dict { IsDict (view datum.now) }
     ensures page { WritesPage (execution_of set.now.files.list set.now.nodes root.now (view datum.now)) (O.taken out.old) (O.taken out.new) result }
     ensures meant { IsExecution set.now.files root.now (view datum.now) (execution_of set.now.files.list set.now.nodes root.now (view datum.now)) }
     ensures later { O.faults out.old ≤ O.faults out.new }
     ensures write { IsErrOf result Stop.Write → Rose (O.faults out.old) (O.faults out.new) }
+    ensures faultless { (fault : ExecFault) → IsErrOf result (Stop.Fault fault) → ⊥ }
 {
     match set.page(alloc, root, datum, out) {
         Ok(_) => Ok(()),
