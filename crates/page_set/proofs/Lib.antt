@@ -4,3 +4,7 @@ pub mod FormLaws
 pub mod Fronts
 pub mod HoleLaws
 pub mod NameLaws
+pub mod ReadingExamples
+pub mod Readings
+pub mod Sound
+pub mod Wholes

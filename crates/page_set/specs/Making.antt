@@ -2,7 +2,7 @@
 use Rattle.std.specs.Prelude.{◌≡◌, ◌≢◌, ℕ, ◌<◌, ◌≤◌, true, false, List, [], ◌∷◌, length, ⊤}
 use Rattle.std.specs.Str.{IsUtf8}
 use Rattle.page_datum.specs.Data.{Data}
-use Rattle.page_datum.specs.Execution.{Execution, done}
+use Rattle.page_datum.specs.Execution.{Execution}
 use Rattle.page_datum.specs.declared.files.Files.{Files}
 use Rattle.page_datum.specs.declared.files.NamedFile.{NamedFile}
 use Rattle.page_set.specs.Nodes.{IsTemplate, IsStuckAt}
@@ -54,7 +54,3 @@ pub record IsMade (files : List NamedFile) (nodes : List Node) : Type 0 where
 -- what a root with a datum gives for a set of files
 abbrev pub IsExecution : Files → List ℕ → Data → Execution → Type 0
 IsExecution files root datum e = (nodes : List Node) × IsSet files.list nodes × (e ≡ execution_of files.list nodes root datum)
-
--- the page of a root with a datum, whose execution is done
-abbrev pub IsPage : Files → List ℕ → Data → List ℕ → Type 0
-IsPage files root datum page = (e : Execution) × IsExecution files root datum e × (e.ending ≡ done) × (page ≡ e.bytes)

@@ -49,8 +49,9 @@ impl PageSet {
 impl Pages for PageSet {
     type Refused = MakeRefused;
 
-    ghost use Rattle.page_set.specs.Making.{Refuses, IsRefused, IsExecution, IsPage};
+    ghost use Rattle.page_set.specs.Making.{Refuses, IsRefused, IsExecution};
     ghost use Rattle.page_set.specs.Running.{execution_of};
+    ghost use Rattle.page_set.specs.Soundness.{IsSound};
 
     ghost made_of = { λ s. s.files };
 
@@ -60,7 +61,7 @@ impl Pages for PageSet {
 
     ghost is_execution = { IsExecution };
 
-    ghost page_fact = { IsPage };
+    ghost page_fact = { IsSound };
 
     /// The set of these files. Each refusal comes exactly where `MakeRefused` says.
     fn make(alloc: Global, files: Files) -> Result<PageSet, MakeRefused>
@@ -77,6 +78,7 @@ impl Pages for PageSet {
         }
     }
 
+    #[tactic(auto, using(crate::proofs::Sound::sound))]
     fn page<K: Sink>(
         &self,
         alloc: Global,

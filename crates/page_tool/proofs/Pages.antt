@@ -15,6 +15,7 @@ use Rattle.page_set.specs.Making.{IsExecution, Refuses}
 use Rattle.page_set.specs.Running.{Run, hole_run, field_of, run, is_root, execution_of}
 use Rattle.page_set.specs.declared.node.Node.{Node}
 use Rattle.page_set.specs.declared.node.Node.TheVariants as node
+use Rattle.page_set.proofs.Sound.{sound}
 use Rattle.page_tool.specs.Files.{files_of}
 use Rattle.page_tool.specs.Output.{WritesPage, WritesPart, WritesAll, WritesToFault, RenderOutput, RenderCause, HasRoot, HasDatum}
 use Rattle.page_tool.specs.declared.stop.Stop.{Stop}
@@ -34,7 +35,9 @@ told_all : (held : Option Held) (input : Option (List ℕ)) (dir root : List ℕ
     → IsLoaded held dir files → IfSome input (λ i. (length i ≤ max_length) × IsDatum i d) → IsExecution files root d e → e.ending ≡ done → Appends old new e.bytes → WritesAll held input dir root old new
 told_all None input dir root files d e old new s r x is w = tt
 told_all (Some h) None dir root files d e old new s r x is w = tt
-told_all (Some h) (Some i) dir root files d e old new s r x is w = (e, record { datum = d; read = r.1; execution = subst (λ (f : Files). IsExecution f root d e) s.0 x }, is, w)
+told_all (Some h) (Some i) dir root files d e old new s r x is w =
+    let of : IsExecution (files_of h dir) root d e = subst (λ (f : Files). IsExecution f root d e) s.0 x in
+    (e, record { datum = d; read = r.1; execution = of }, is, w, sound (files_of h dir) root d e of is)
 
 told_fault : (held : Option Held) (input : Option (List ℕ)) (dir root : List ℕ) (files : Files) (d : Data) (e : Execution) (fault : ExecFault) (old new : Option (List ℕ))
     → IsLoaded held dir files → IfSome input (λ i. (length i ≤ max_length) × IsDatum i d) → IsExecution files root d e → e.ending ≡ faulted fault → AppendsPart old new e.bytes → WritesToFault held input dir root old new

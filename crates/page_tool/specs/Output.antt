@@ -8,6 +8,7 @@ use Rattle.page_datum.specs.Execution.{Execution, done, no_root, faulted}
 use Rattle.page_datum.specs.Reading.{IsDatum, IsNoDatum, max_length}
 use Rattle.page_set.specs.Making.{IsExecution, IsRefused, Refuses}
 use Rattle.page_set.specs.Running.{is_root}
+use Rattle.page_set.specs.Soundness.{IsSound}
 use Rattle.page_set.specs.declared.refused.MakeRefused.{MakeRefused}
 use Rattle.page_set.specs.declared.refused.MakeRefused.TheVariants as make
 use Rattle.page_datum.specs.declared.fault.ExecFault.{ExecFault}
@@ -34,9 +35,9 @@ Told (Some held) (Some input) P = P held input
 abbrev pub WritesPart : Option Held → Option (List ℕ) → List ℕ → List ℕ → Option (List ℕ) → Option (List ℕ) → Type 0
 WritesPart held input dir root old new = Told held input (λ h i. (e : Execution) × IsRendering h dir root i e × AppendsPart old new e.bytes)
 
--- all of the page was written
+-- all of the page was written, which has the shape of its template's path, and in which each value reads back
 abbrev pub WritesAll : Option Held → Option (List ℕ) → List ℕ → List ℕ → Option (List ℕ) → Option (List ℕ) → Type 0
-WritesAll held input dir root old new = Told held input (λ h i. (e : Execution) × IsRendering h dir root i e × (e.ending ≡ done) × Appends old new e.bytes)
+WritesAll held input dir root old new = Told held input (λ h i. (e : Execution) × (of : IsRendering h dir root i e) × (e.ending ≡ done) × Appends old new e.bytes × IsSound (files_of h dir) root of.datum e.bytes)
 
 -- a front of the page was written, up to a fault that the execution met
 abbrev pub WritesToFault : Option Held → Option (List ℕ) → List ℕ → List ℕ → Option (List ℕ) → Option (List ℕ) → Type 0
