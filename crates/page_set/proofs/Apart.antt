@@ -4,9 +4,8 @@ use Rattle.std.proofs.lemmas.List.{drop_at}
 use Rattle.std.specs.Char.{is_ascii_alphanumeric}
 use Rattle.std.specs.List.{list_all, prefix_len}
 use Rattle.page_datum.specs.declared.files.NamedFile.{NamedFile}
-use Rattle.page_set.specs.Forms.{Form, start_tag, end_tag, hole, character, spelling, is_word_byte, Begins, IsFront, IsStuck}
+use Rattle.page_set.specs.Forms.{Form, start_tag, end_tag, hole, character, is_word_byte, Begins, IsFront, IsStuck}
 use Rattle.page_set.specs.Making.{IsMade, IsRefused, Refuses}
-use Rattle.page_set.specs.Nodes.{IsTemplate, IsStuckAt}
 use Rattle.page_set.specs.declared.node.Node.{Node}
 use Rattle.page_set.specs.declared.refused.MakeRefused.{MakeRefused}
 use Rattle.page_set.specs.declared.refused.MakeRefused.TheVariants.{TooLarge, NotUtf8, NoTemplates, NotBuilt, Memory}

@@ -1,12 +1,9 @@
 -- Worked examples of the definitions, by computing.
-use Rattle.std.proofs.Common.{◌≡◌, ℕ, List, [], ◌∷◌, codes, refl, true, false}
-use Rattle.page_datum.specs.Data.{null, text, dict, no_entries, entry}
+use Rattle.std.proofs.Common.{◌≡◌, List, [], ◌∷◌, codes, refl, true, false}
+use Rattle.page_datum.specs.Data.{text, dict, no_entries, entry}
 use Rattle.page_set.specs.Forms.{Form, start_tag, end_tag, hole, character, spelled, is_tag_name, is_field_name}
 use Rattle.page_set.specs.Nodes.{nodes_from}
 use Rattle.page_set.specs.Running.{run, page_of}
-use Rattle.page_set.specs.Making.{Refuses}
-use Rattle.page_set.specs.Refusals.{refusal_text}
-use Rattle.page_set.specs.SetValue.{SetValue}
 use Rattle.page_set.specs.declared.node.Node.{Node}
 use Rattle.page_set.specs.declared.node.Node.TheVariants.{Text, Hole}
 

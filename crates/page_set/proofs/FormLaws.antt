@@ -1,9 +1,10 @@
 -- The form that a text begins with, if any.
-use Rattle.std.proofs.Common.{◌≡◌, ◌≢◌, ℕ, ◌+◌, ◌<◌, ◌≤◌, Bool, true, false, ◌&&◌, List, [], ◌∷◌, ◌++◌, length, take, drop, get_or, IsTrue, refl, sym, ap, ◌∙◌, arith, true≢false, append_assoc}
+use Rattle.std.proofs.Common.{◌≡◌, ◌≢◌, ℕ, ◌+◌, Bool, true, List, [], ◌∷◌, ◌++◌, length, take, drop, refl, sym, ap, ◌∙◌, arith, append_assoc}
+use Rattle.std.proofs.lemmas.Bool.{false≢true}
 use Rattle.std.proofs.lemmas.List.{drop-drop, length-drop}
 use Rattle.std.specs.List.{list_all}
 use Rattle.std.specs.Char.{is_ascii_alphabetic, is_ascii_alphanumeric}
-use Rattle.page_set.specs.Forms.{Form, start_tag, end_tag, hole, character, is_tag_name, is_field_name, is_word_byte, is_special, begins_with, Begins, IsStuck}
+use Rattle.page_set.specs.Forms.{Form, start_tag, end_tag, hole, character, is_tag_name, is_field_name, is_word_byte, begins_with, Begins, IsStuck}
 use Rattle.page_set.specs.Found.{IsFound}
 use Rattle.page_set.specs.Names.{EndsName, LacksName}
 use Rattle.page_set.specs.declared.form.Found.TheVariants.{StartTag, EndTag, Hole, Character}
@@ -21,16 +22,13 @@ heads a b xs ys e = cc
 pub tails : (a b : ℕ) (xs ys : List ℕ) → a ∷ xs ≡ b ∷ ys → xs ≡ ys
 tails a b xs ys e = cc
 
-not_true : false ≡ true → ⊥
-not_true e = true≢false (sym e)
-
 -- no name of a tag begins with a slash
 pub slash_first : (name more rest : List ℕ) → is_tag_name name ≡ true → 47 ∷ rest ≡ (name ++ 62 ∷ []) ++ more → ⊥
-slash_first [] more rest named is = not_true named
+slash_first [] more rest named is = false≢true named
 slash_first (b ∷ name) more rest named is =
     let slash : 47 ≡ b = heads 47 b rest ((name ++ 62 ∷ []) ++ more) is in
     let letter : is_ascii_alphabetic b ≡ true = (both (is_ascii_alphabetic b) _ named).0 in
-    not_true (ap is_ascii_alphabetic slash ∙ letter)
+    false≢true (ap is_ascii_alphabetic slash ∙ letter)
 
 -- the text goes on with a name that is not there
 unnamed : (is_name : List ℕ → Bool) (end name more rest : List ℕ) → LacksName is_name end rest → is_name name ≡ true → rest ≡ (name ++ end) ++ more → ⊥

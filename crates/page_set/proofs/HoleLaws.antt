@@ -4,7 +4,7 @@ use Rattle.std.proofs.Math.Seq.{take-add}
 use Rattle.std.proofs.lemmas.List.{drop-drop, length-drop, length-append, length-take-le, get_or-drop, get_or-append_right, take_at}
 use Rattle.std.proofs.lemmas.Str.{IsCharBoundary-after_ascii}
 use Rattle.std.specs.Str.{IsUtf8, IsCharBoundary}
-use Rattle.page_set.specs.Forms.{Form, start_tag, end_tag, hole, character, spelling, Begins}
+use Rattle.page_set.specs.Forms.{Form, hole, spelling}
 use Rattle.page_set.specs.Found.{IsFound, found_len, form_of}
 use Rattle.page_set.specs.Nodes.{line_feeds, text_node, nodes_from}
 use Rattle.page_set.specs.Scanned.{AddsForm}

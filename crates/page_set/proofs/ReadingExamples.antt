@@ -1,9 +1,9 @@
 -- Worked examples of how pages are read, by computing.
-use Rattle.std.proofs.Common.{◌≡◌, ℕ, List, [], ◌∷◌, codes, refl}
-use Rattle.page_set.specs.PageLexer.{Page, Template, Text, TagOpen, Beyond, Event, Character, Mark, StartTag, EndTag, Other, Config, config, characters, read, start}
-use Rattle.page_set.specs.Path.{Symbol, Written, Hole, read_path}
+use Rattle.std.proofs.Common.{◌≡◌, [], ◌∷◌, codes, refl}
+use Rattle.page_set.specs.PageLexer.{Page, Template, Text, TagOpen, Beyond, Character, Mark, StartTag, EndTag, Other, config, characters, read, start}
+use Rattle.page_set.specs.Path.{Written, Hole, read_path}
 use Rattle.page_set.specs.References.{meaning, flushed}
-use Rattle.page_set.specs.Shape.{TextPart, HolePart, bytes_of, marked, TextToken, OtherToken, tokens_from}
+use Rattle.page_set.specs.Shape.{marked, TextToken, OtherToken, tokens_from}
 
 -- a tag, a text with a reference, and a tag in upper case
 paragraph : read Page (codes "<p>a&lt;b</P>") start ≡ config Text (EndTag (codes "p") ∷ characters (codes "a<b") (StartTag (codes "p") ∷ []))
@@ -75,7 +75,7 @@ unfolding meaning flushed lib.Utf8.encode
 script = refl
 
 -- in a template these are text, and what is only begun at the end of a node is text too
-template_text : read Template (codes "<!<?</1") start ≡ config Text (characters (codes "<!<?</1") [])
+template_text : read Template (codes "<?</1") start ≡ config Text (characters (codes "<?</1") [])
 unfolding meaning flushed lib.Utf8.encode
 template_text = refl
 

@@ -1,21 +1,17 @@
 -- What escaped values and the built forms read as.
-use Rattle.std.proofs.Common.{◌≡◌, ◌≢◌, ℕ, Bool, true, false, ◌||◌, ◌==◌, List, [], ◌∷◌, ◌++◌, refl, sym, ap, ◌∙◌, subst, ◌⊎◌, inl, inr, append_assoc, append-nil, true≢false}
+use Rattle.std.proofs.Common.{◌≡◌, ◌≢◌, ℕ, Bool, true, false, ◌==◌, List, [], ◌∷◌, ◌++◌, refl, sym, ap, ◌∙◌, subst, ◌⊎◌, inl, inr, append_assoc, append-nil, true≢false}
 use Rattle.std.proofs.lemmas.Bool.{ne_eqb}
 use Rattle.std.proofs.lemmas.Bool.Decides.{eqb_tells}
-use Rattle.std.specs.Char.{is_ascii_alphabetic, is_ascii_alphanumeric, to_ascii_lowercase}
+use Rattle.std.specs.Char.{is_ascii_alphanumeric, to_ascii_lowercase}
 use Rattle.std.specs.List.{list_all}
 use Rattle.std.specs.Str.{str_to_ascii_lowercase}
 use Rattle.std.specs.Prelude.{if◌then◌else◌}
-use Rattle.page_set.specs.Forms.{Form, start_tag, end_tag, hole, character, spelling, is_special, is_tag_name, MayStand, begins_with}
 use Rattle.page_set.specs.Html.{html_row, html}
-use Rattle.page_set.specs.PageLexer.{Mode, Page, State, Text, TagOpen, TagName, Beyond, Event, Character, Mark, StartTag, EndTag, Config, config, characters, is_space, is_special_name, on_text, on_tag_end, on_tag_name, step, read, start}
+use Rattle.page_set.specs.PageLexer.{Mode, Page, Text, TagName, Event, Character, Mark, Config, config, characters, on_text, on_tag_end, on_tag_name, step, read}
 use Rattle.page_set.specs.References.{replacement, meaning}
 use Rattle.page_set.specs.Shape.{only_characters, IsPlain, marked}
 use Rattle.page_set.specs.Soundness.{as_text}
 use Rattle.page_set.proofs.NameLaws.{both}
-
-not_true : false ≡ true → ⊥
-not_true e = true≢false (sym e)
 
 pub read-append : (m : Mode) (xs ys : List ℕ) (c : Config) → read m (xs ++ ys) c ≡ read m ys (read m xs c)
 read-append m [] ys c = refl

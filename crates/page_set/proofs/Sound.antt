@@ -1,8 +1,8 @@
 -- A page has the shape of its template's path, and its values read back.
-use Rattle.std.proofs.Common.{◌≡◌, ℕ, Bool, true, false, List, [], ◌∷◌, ◌++◌, refl, sym, ap, ◌∙◌, subst, ◌⊎◌, inl, inr, Result, Ok, Err}
-use Rattle.std.specs.Prelude.{if◌then◌else◌, ⊤}
+use Rattle.std.proofs.Common.{◌≡◌, ℕ, Bool, true, false, List, [], ◌∷◌, ◌++◌, refl, sym, ap, ◌∙◌, subst, inl, inr, Result, Ok, Err}
+use Rattle.std.specs.Prelude.{if◌then◌else◌}
 use Rattle.page_datum.specs.Data.{Data}
-use Rattle.page_datum.specs.Execution.{Ending, done, no_root, faulted, Execution}
+use Rattle.page_datum.specs.Execution.{done, no_root, faulted, Execution}
 use Rattle.page_datum.specs.Printed.{printed}
 use Rattle.page_datum.specs.declared.fault.ExecFault.{ExecFault}
 use Rattle.page_datum.specs.declared.fault.FaultKind.{FaultKind}
@@ -12,9 +12,9 @@ use Rattle.page_set.specs.Html.{html}
 use Rattle.page_set.specs.Making.{IsSet, IsExecution}
 use Rattle.page_set.specs.PageLexer.{Page, Template, Text, Event, Mark, Config, config, characters, read, start}
 use Rattle.page_set.specs.Path.{Symbol, Hole, read_path, read_written, read_filled, at_cut}
-use Rattle.page_set.specs.Running.{Piece, text_piece, hole_piece, Run, hole_run, field_of, run, page_of, is_root, execution_of}
+use Rattle.page_set.specs.Running.{Piece, text_piece, hole_piece, Run, hole_run, field_of, run, page_of, is_root}
 use Rattle.page_set.specs.Shape.{Part, TextPart, HolePart, bytes_of, marked, Reads, shape_of}
-use Rattle.page_set.specs.Soundness.{path_of, parts_of, texts_of, as_text, ReadsBack, IsSoundFor, IsSound}
+use Rattle.page_set.specs.Soundness.{path_of, parts_of, text_of, texts_of, as_text, ReadsBack, IsSoundFor, IsSound}
 use Rattle.page_set.specs.declared.node.Node.{Node}
 use Rattle.page_set.specs.declared.node.Node.TheVariants as node
 use Rattle.page_set.proofs.Readings.{read-append, html_reads, html_plain, html_marked}
@@ -80,19 +80,19 @@ values template (node.Text text ∷ nodes) datum t w =
     subst (ReadsBack (run template nodes datum).pieces) (sym (u.1 Page)) (values template nodes datum u.0 w.1)
 values template (node.Hole name line ∷ nodes) datum t w = hole_values template line (field_of name datum) (run template nodes datum) t (values template nodes datum (Mark ∷ t) w)
 
--- the whole page reads as the path with the values' texts in its holes
-hole_whole : (template : List ℕ) (line : ℕ) (r : Result Data FaultKind) (rest : Run) (symbols : List Symbol) (t : List Event)
-    → ((u : List Event) → rest.ending ≡ done → read Page (page_of rest.pieces) (config Text u) ≡ read_filled symbols (texts_of rest.pieces) (config Text u))
+-- the whole page reads as the path with the fields' texts in its holes
+hole_whole : (template : List ℕ) (line : ℕ) (r : Result Data FaultKind) (rest : Run) (symbols : List Symbol) (texts : List (List ℕ)) (t : List Event)
+    → ((u : List Event) → rest.ending ≡ done → read Page (page_of rest.pieces) (config Text u) ≡ read_filled symbols texts (config Text u))
     → (hole_run template line r rest).ending ≡ done
-    → read Page (page_of (hole_run template line r rest).pieces) (config Text t) ≡ read_filled (Hole ∷ symbols) (texts_of (hole_run template line r rest).pieces) (config Text t)
-hole_whole template line (Err kind) rest symbols t behind e = absurd (not_faulted _ e)
-hole_whole template line (Ok value) rest symbols t behind e =
+    → read Page (page_of (hole_run template line r rest).pieces) (config Text t) ≡ read_filled (Hole ∷ symbols) (text_of r ∷ texts) (config Text t)
+hole_whole template line (Err kind) rest symbols texts t behind e = absurd (not_faulted _ e)
+hole_whole template line (Ok value) rest symbols texts t behind e =
     read-append Page (html (printed value)) (page_of rest.pieces) (config Text t)
     ∙ ap (read Page (page_of rest.pieces)) (html_reads (printed value) t)
     ∙ behind (characters (as_text (printed value)) t) e
 
 whole : (template : List ℕ) (nodes : List Node) (datum : Data) (t : List Event) → Wholes nodes → (run template nodes datum).ending ≡ done
-    → read Page (page_of (run template nodes datum).pieces) (config Text t) ≡ read_filled (path_of nodes) (texts_of (run template nodes datum).pieces) (config Text t)
+    → read Page (page_of (run template nodes datum).pieces) (config Text t) ≡ read_filled (path_of nodes) (texts_of nodes datum) (config Text t)
 whole template [] datum t w e = refl
 whole template (node.Text text ∷ nodes) datum t w e =
     let u = w.0 t in
@@ -100,9 +100,9 @@ whole template (node.Text text ∷ nodes) datum t w e =
     read-append Page text page (config Text t)
     ∙ ap (read Page page) (u.1 Page)
     ∙ whole template nodes datum u.0 w.1 e
-    ∙ ap (λ (c : Config). read_filled (path_of nodes) (texts_of (run template nodes datum).pieces) (at_cut c.at c.told)) (sym (u.1 Template))
+    ∙ ap (λ (c : Config). read_filled (path_of nodes) (texts_of nodes datum) (at_cut c.at c.told)) (sym (u.1 Template))
 whole template (node.Hole name line ∷ nodes) datum t w e =
-    hole_whole template line (field_of name datum) (run template nodes datum) (path_of nodes) t (λ u. whole template nodes datum u w) e
+    hole_whole template line (field_of name datum) (run template nodes datum) (path_of nodes) (texts_of nodes datum) t (λ u. whole template nodes datum u w) e
 
 set_whole : (files : List NamedFile) (nodes : List Node) → IsSet files nodes → Wholes nodes
 set_whole [] nodes set = absurd set

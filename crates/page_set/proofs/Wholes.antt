@@ -1,20 +1,17 @@
 -- Each text of a template is read from text to text.
-use Rattle.std.proofs.Common.{◌≡◌, ◌≢◌, ℕ, ◌+◌, Bool, true, false, not, ◌&&◌, ◌==◌, List, [], ◌∷◌, ◌++◌, refl, sym, ap, ◌∙◌, subst, true≢false}
+use Rattle.std.proofs.Common.{◌≡◌, ◌≢◌, ℕ, ◌+◌, true, false, List, [], ◌∷◌, ◌++◌, refl, sym, ap, ◌∙◌, subst}
 use Rattle.std.specs.Prelude.{⊤}
-use Rattle.std.proofs.lemmas.Bool.{ne_eqb, not-true}
+use Rattle.std.proofs.lemmas.Bool.{ne_eqb, not-true, false≢true}
 use Rattle.std.specs.Char.{is_ascii_alphabetic, is_ascii_alphanumeric, to_ascii_lowercase}
 use Rattle.std.specs.List.{list_all}
 use Rattle.std.specs.Str.{str_to_ascii_lowercase}
-use Rattle.page_set.specs.Forms.{Form, start_tag, end_tag, hole, character, spelling, is_special, is_tag_name, MayStand, IsFront}
+use Rattle.page_set.specs.Forms.{Form, start_tag, end_tag, hole, character, spelling, is_special, is_tag_name, IsFront}
 use Rattle.page_set.specs.Nodes.{text_node, nodes_from, line_feeds, IsTemplate}
-use Rattle.page_set.specs.PageLexer.{Mode, Text, TagOpen, EndTagOpen, TagName, Event, Character, StartTag, EndTag, Config, config, is_special_name, on_text, on_tag_end, step, read}
+use Rattle.page_set.specs.PageLexer.{Mode, Text, TagOpen, EndTagOpen, TagName, Event, Character, StartTag, EndTag, config, is_special_name, on_tag_end, step, read}
 use Rattle.page_set.specs.declared.node.Node.{Node}
 use Rattle.page_set.specs.declared.node.Node.TheVariants as node
 use Rattle.page_set.proofs.NameLaws.{both}
 use Rattle.page_set.proofs.Readings.{read-append, plain_byte, name_reads}
-
-not_true : false ≡ true → ⊥
-not_true e = true≢false (sym e)
 
 -- reading it in a text ends in a text, as a page and as a template
 abbrev pub Whole : List ℕ → Type 0
@@ -30,7 +27,7 @@ ends_start : (name : List ℕ) (t : List Event) → is_special_name name ≡ fal
 ends_start name t plain = rw plain refl
 
 start_whole : (name : List ℕ) → is_tag_name name ≡ true → Whole (spelling (start_tag name))
-start_whole [] h = absurd (not_true h)
+start_whole [] h = absurd (false≢true h)
 start_whole (b ∷ name) h =
     let first = both (is_ascii_alphabetic b) _ h in
     let more = both (list_all is_ascii_alphanumeric (b ∷ name)) _ first.1 in
@@ -43,7 +40,7 @@ start_whole (b ∷ name) h =
     )
 
 end_whole : (name : List ℕ) → is_tag_name name ≡ true → Whole (spelling (end_tag name))
-end_whole [] h = absurd (not_true h)
+end_whole [] h = absurd (false≢true h)
 end_whole (b ∷ name) h =
     let first = both (is_ascii_alphabetic b) _ h in
     let more = both (list_all is_ascii_alphanumeric (b ∷ name)) _ first.1 in

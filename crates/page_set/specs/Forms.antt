@@ -1,10 +1,10 @@
 -- What the text of a template is built of: plain tags (a part of the tags of the HTML Standard, section 13.1.2), holes, and
 -- characters that stand for themselves, byte by byte.
-use Rattle.std.specs.Prelude.{◌≡◌, ◌≢◌, ℕ, Bool, true, false, not, ◌&&◌, ◌||◌, ◌==◌, nat_eq, IsTrue, codes, List, [], ◌∷◌, ◌++◌}
+use Rattle.std.specs.Prelude.{◌≡◌, ◌≢◌, ℕ, Bool, false, not, ◌&&◌, ◌||◌, ◌==◌, IsTrue, List, [], ◌∷◌, ◌++◌}
 use Rattle.std.specs.Char.{is_ascii_alphabetic, is_ascii_alphanumeric}
-use Rattle.std.specs.Cmp.Lexicographic.{pointwise}
-use Rattle.std.specs.List.{list_any, list_all}
+use Rattle.std.specs.List.{list_all}
 use Rattle.std.specs.Str.{str_to_ascii_lowercase}
+use Rattle.page_set.specs.PageLexer.{is_special_name}
 
 pub data Form : Type 0 where
   start_tag : List ℕ → Form
@@ -24,13 +24,9 @@ abbrev pub begins_with : (ℕ → Bool) → List ℕ → Bool
 begins_with p [] = false
 begins_with p (b ∷ bs) = p b
 
--- the elements whose content is no ordinary text
-abbrev pub special_names : List (List ℕ)
-special_names = codes "script" ∷ codes "style" ∷ codes "title" ∷ codes "textarea" ∷ []
-
--- one of these names, in any case
+-- one of the special names, in any case
 abbrev pub is_special : List ℕ → Bool
-is_special name = list_any (pointwise nat_eq (str_to_ascii_lowercase name)) special_names
+is_special name = is_special_name (str_to_ascii_lowercase name)
 
 -- a letter, then letters and digits, and no special name
 abbrev pub is_tag_name : List ℕ → Bool

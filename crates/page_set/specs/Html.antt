@@ -1,11 +1,12 @@
 -- A text as HTML text: each character that could be read as markup is a character reference (HTML Standard, section
 -- 13.1.4), and NUL is U+FFFD.
 use Rattle.std.specs.Prelude.{ℕ, ◌==◌, codes, List, [], ◌∷◌, ◌++◌, if◌then◌else◌}
+use Rattle.page_set.specs.References.{replacement}
 
 -- what is written for a byte
 abbrev pub html_row : ℕ → List ℕ
 html_row b =
-    if b == 0 then 239 ∷ 191 ∷ 189 ∷ []
+    if b == 0 then replacement
     else (if b == 34 then codes "&#34;"
     else (if b == 38 then codes "&amp;"
     else (if b == 39 then codes "&#39;"

@@ -1,6 +1,6 @@
 -- The nodes of a template: texts, which are longest stretches without holes, and holes with their lines.
 use Rattle.std.specs.Prelude.{◌≡◌, ℕ, ◌+◌, ◌==◌, List, [], ◌∷◌, ◌++◌, count_by}
-use Rattle.page_set.specs.Forms.{Form, start_tag, end_tag, hole, character, spelling, spelled, IsFront, IsStuck}
+use Rattle.page_set.specs.Forms.{Form, hole, spelling, spelled, IsFront, IsStuck}
 use Rattle.page_set.specs.declared.node.Node.{Node}
 use Rattle.page_set.specs.declared.node.Node.TheVariants.{Text, Hole}
 

@@ -1,13 +1,13 @@
 -- How the bytes of a page are read, and the texts of a template (HTML Standard, section 13.2.5): text with its references,
 -- start tags and end tags. What goes beyond them (attributes, comments, declarations, the content of the special elements) is
--- one state of its own, in which nothing is said of what is read.
+-- one state of its own, Beyond, out of which nothing leads. There bytes are only told, and a hole is never plain.
 use Rattle.std.specs.Prelude.{ℕ, ◌==◌, ◌||◌, codes, nat_eq, List, [], ◌∷◌, ◌++◌, if◌then◌else◌, Bool, true, false}
 use Rattle.std.specs.Char.{is_ascii_alphabetic, to_ascii_lowercase}
 use Rattle.std.specs.Cmp.Lexicographic.{pointwise}
 use Rattle.std.specs.List.{list_any}
 use Rattle.page_set.specs.References.{Form, begun, Turn, grows, closes, breaks, turn, meaning, flushed}
 
--- what is read: a page, or a text of a template, in which `<!`, `<?`, and a `</` before no letter are text
+-- what is read: a page, or a text of a template, in which `<?`, and a `</` before no letter, are text
 pub data Mode : Type 0 where
   Page : Mode
   Template : Mode
@@ -31,7 +31,7 @@ pub data Event : Type 0 where
   EndTag : List ℕ → Event
   Other : ℕ → Event
 
--- where the reading stands, and what it told, the last first
+-- where the reading stands, and the events so far, the last first
 pub record Config : Type 0 where
   pub at : State
   pub told : List Event
@@ -44,13 +44,17 @@ abbrev pub characters : List ℕ → List Event → List Event
 characters [] t = t
 characters (b ∷ bs) t = characters bs (Character b ∷ t)
 
--- tab, line feed, form feed, carriage return, space
+-- tab, line feed, form feed, carriage return (of which the Standard has made a line feed before), space
 abbrev pub is_space : ℕ → Bool
 is_space b = b == 9 || (b == 10 || (b == 12 || (b == 13 || b == 32)))
 
--- the elements to whose content the profile gives states of its own
+-- the elements whose content is not read as text (13.2.5.2 to 13.2.5.4). The Standard has more of them (xmp, iframe, noembed,
+-- noframes, noscript, plaintext); the profile reads their content as text.
+abbrev pub special_names : List (List ℕ)
+special_names = codes "script" ∷ codes "style" ∷ codes "title" ∷ codes "textarea" ∷ []
+
 abbrev pub is_special_name : List ℕ → Bool
-is_special_name name = list_any (pointwise nat_eq name) (codes "script" ∷ codes "style" ∷ codes "title" ∷ codes "textarea" ∷ [])
+is_special_name name = list_any (pointwise nat_eq name) special_names
 
 abbrev pub on_text : ℕ → List Event → Config
 on_text b t = if b == 60 then config TagOpen t else (if b == 38 then config (Reference begun []) t else config Text (Character b ∷ t))
@@ -68,7 +72,8 @@ on_tag_end false name t = config (if is_special_name name then Beyond else Text)
 abbrev pub on_tag_name : Bool → List ℕ → ℕ → List Event → Config
 on_tag_name ends name b t = if b == 62 then on_tag_end ends name t else (if is_space b || b == 47 then config Beyond (Other b ∷ t) else config (TagName ends (name ++ to_ascii_lowercase b ∷ [])) t)
 
--- `<!`, `<?`, and a `</` before no letter, whose bytes were these, the last first
+-- Behind `<` a `?`, or behind `</` no letter: in a page what begins here is beyond; in a template what was held back, `front`,
+-- the last first, is text, and the byte is read as text.
 abbrev pub on_markup : Mode → List Event → ℕ → List Event → Config
 on_markup Page front b t = config Beyond (Other b ∷ t)
 on_markup Template front b t = on_text b (front ++ t)
@@ -79,8 +84,9 @@ step m (Reference f bytes) b t = on_reference (turn f b) f bytes b t
 step m TagOpen b t =
     if is_ascii_alphabetic b then config (TagName false (to_ascii_lowercase b ∷ [])) t
     else (if b == 47 then config EndTagOpen t
-    else (if b == 33 || b == 63 then on_markup m (Character 60 ∷ []) b t
-    else on_text b (Character 60 ∷ t)))
+    else (if b == 33 then config Beyond (Other b ∷ t)
+    else (if b == 63 then on_markup m (Character 60 ∷ []) b t
+    else on_text b (Character 60 ∷ t))))
 step m EndTagOpen b t = if is_ascii_alphabetic b then config (TagName true (to_ascii_lowercase b ∷ [])) t else on_markup m (Character 47 ∷ Character 60 ∷ []) b t
 step m (TagName ends name) b t = on_tag_name ends name b t
 step m Beyond b t = config Beyond (Other b ∷ t)

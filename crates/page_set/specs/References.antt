@@ -1,9 +1,9 @@
 -- Character references in text (HTML Standard, sections 13.2.5.72 to 13.2.5.80 and 13.5), for the names of a profile.
-use Rattle.std.specs.Prelude.{ℕ, ◌+◌, ◌-◌, ◌*◌, ◌==◌, ◌||◌, ◌&&◌, nat_le, nat_eq, Bool, codes, bytes_eq, encode_utf8, List, [], ◌∷◌, ◌++◌, length, drop, if◌then◌else◌}
+use Rattle.std.specs.Prelude.{ℕ, ◌+◌, ◌-◌, ◌*◌, ◌==◌, ◌||◌, ◌&&◌, nat_le, nat_eq, codes, bytes_eq, encode_utf8, List, [], ◌∷◌, ◌++◌, length, drop, if◌then◌else◌}
 use Rattle.std.specs.List.{starts_with}
 use Rattle.std.specs.Char.{is_ascii_alphanumeric, is_ascii_digit, is_ascii_hexdigit}
 
--- how far a reference has come: an ampersand (character reference state), a name (named), a number sign (numeric), decimal
+-- how far a reference has come: an ampersand (character reference state), a name (named), a number sign (numeric, and decimal start), decimal
 -- digits (decimal), an x (hexadecimal start), hexadecimal digits (hexadecimal)
 pub data Form : Type 0 where
   begun : Form
@@ -39,7 +39,7 @@ pub record Row (A : Type 0) : Type 0 where
 abbrev pub row : {A : Type 0} → A → ℕ → Row A
 row k c = record { key = k; code = c }
 
--- the characters of the names
+-- the names of the profile, each with the code of its character
 abbrev pub names : List (Row (List ℕ))
 names =
     row (codes "Tab") 9 ∷ row (codes "NewLine") 10 ∷ row (codes "excl") 33 ∷ row (codes "quot") 34 ∷ row (codes "QUOT") 34 ∷ row (codes "num") 35 ∷ row (codes "dollar") 36 ∷ row (codes "percnt") 37 ∷ row (codes "amp") 38 ∷ row (codes "AMP") 38 ∷ row (codes "apos") 39 ∷ row (codes "lpar") 40 ∷ row (codes "rpar") 41 ∷ row (codes "ast") 42 ∷ row (codes "midast") 42 ∷ row (codes "plus") 43 ∷ row (codes "comma") 44 ∷ row (codes "period") 46 ∷ row (codes "sol") 47 ∷ row (codes "colon") 58 ∷ row (codes "semi") 59 ∷ row (codes "lt") 60 ∷ row (codes "LT") 60 ∷ row (codes "equals") 61 ∷ row (codes "gt") 62 ∷ row (codes "GT") 62 ∷ row (codes "quest") 63 ∷ row (codes "commat") 64 ∷ row (codes "lsqb") 91 ∷ row (codes "lbrack") 91 ∷ row (codes "bsol") 92 ∷ row (codes "rsqb") 93 ∷ row (codes "rbrack") 93 ∷ row (codes "Hat") 94 ∷ row (codes "lowbar") 95 ∷ row (codes "UnderBar") 95 ∷ row (codes "grave") 96 ∷ row (codes "DiacriticalGrave") 96 ∷ row (codes "lcub") 123 ∷ row (codes "lbrace") 123 ∷ row (codes "verbar") 124 ∷ row (codes "vert") 124 ∷ row (codes "VerticalLine") 124 ∷ row (codes "rcub") 125 ∷ row (codes "rbrace") 125 ∷ row (codes "nbsp") 160 ∷ []
@@ -49,7 +49,7 @@ abbrev pub short_names : List (Row (List ℕ))
 short_names =
     row (codes "amp") 38 ∷ row (codes "lt") 60 ∷ row (codes "gt") 62 ∷ row (codes "quot") 34 ∷ row (codes "AMP") 38 ∷ row (codes "LT") 60 ∷ row (codes "GT") 62 ∷ row (codes "QUOT") 34 ∷ row (codes "nbsp") 160 ∷ []
 
--- the numbers that stand for another character than their own
+-- the numbers that stand for another character than their own (the table of 13.2.5.80)
 abbrev pub numbers : List (Row ℕ)
 numbers =
     row 128 8364 ∷ row 130 8218 ∷ row 131 402 ∷ row 132 8222 ∷ row 133 8230 ∷ row 134 8224 ∷ row 135 8225 ∷ row 136 710 ∷ row 137 8240 ∷ row 138 352 ∷ row 139 8249 ∷ row 140 338 ∷ row 142 381 ∷ row 145 8216 ∷ row 146 8217 ∷ row 147 8220 ∷ row 148 8221 ∷ row 149 8226 ∷ row 150 8211 ∷ row 151 8212 ∷ row 152 732 ∷ row 153 8482 ∷ row 154 353 ∷ row 155 8250 ∷ row 156 339 ∷ row 158 382 ∷ row 159 376 ∷ []
@@ -80,7 +80,7 @@ abbrev pub number_in : ℕ → ℕ → List ℕ → ℕ
 number_in base n [] = n
 number_in base n (b ∷ bs) = number_in base (n * base + digit_of b) bs
 
--- the text of a reference with its semicolon, from the bytes between `&` and `;`; no semicolon ends the other forms
+-- the text of a reference with its semicolon, from the bytes between `&` and `;`; the other forms never end by a semicolon
 unfoldable pub meaning : Form → List ℕ → List ℕ
 meaning named bytes = named_in names bytes
 meaning digits bytes = numbered (number_in 10 0 (drop 1 bytes))

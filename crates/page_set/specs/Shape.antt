@@ -19,12 +19,13 @@ only_characters [] = true
 only_characters (Character b ∷ t) = only_characters t
 only_characters (_ ∷ t) = false
 
--- Where a hole begins, what the lexer holds back is told. In the states that are built it holds back nothing.
+-- Where a hole begins, what the lexer of a script or a style still holds back is told first. The states that are built need no
+-- such telling: in text nothing is held back, and in the others no hole is plain.
 abbrev pub settled : Config → Config
 settled c = c
 
--- What is plain in a place: bytes that from there read to this. In a text they are bytes of that very text, and no reference
--- is left open in them.
+-- Bytes that read from this state to `d` are plain there. In text: they told nothing but bytes of that very text, and they end
+-- in it, with no reference and no `<` left open. In the other states none are plain.
 abbrev pub IsPlainFrom : State → Config → Type 0
 IsPlainFrom Text d = (d.at ≡ Text) × IsTrue (only_characters d.told)
 IsPlainFrom _ d = ⊥
@@ -33,11 +34,12 @@ IsPlainFrom _ d = ⊥
 abbrev pub IsPlain : List ℕ → Config → Type 0
 IsPlain bytes c = (read Page bytes c ≡ read Page bytes (settled c)) × IsPlainFrom (settled c).at (read Page bytes (config (settled c).at []))
 
--- the bytes of a hole are read as its mark
+-- the bytes of a hole are passed over: the reading goes on where they end, and has told the mark instead of them
 abbrev pub marked : List ℕ → Config → Config
 marked bytes c = config (read Page bytes (config (settled c).at [])).at (mark_in (settled c).at (settled c).told)
 
--- the parts of a page are read from one place to another: a hole that is plain in its place as its mark, any other as it is
+-- reading the parts leads from one config to another: a hole that is plain in its place tells its mark, any other is read as
+-- its bytes
 abbrev pub Reads : List Part → Config → Config → Type 0
 Reads [] from to = to ≡ from
 Reads (TextPart bytes ∷ parts) from to = Reads parts (read Page bytes from) to

@@ -1,14 +1,15 @@
 -- What is promised of a page: its shape is its template's own, and each value reads back in its place.
-use Rattle.std.specs.Prelude.{◌≡◌, ℕ, true, ◌==◌, List, [], ◌∷◌, ◌++◌, if◌then◌else◌, ⊤}
+use Rattle.std.specs.Prelude.{◌≡◌, ℕ, true, ◌==◌, List, [], ◌∷◌, ◌++◌, if◌then◌else◌, Result, Ok, Err, ⊤}
 use Rattle.page_datum.specs.Data.{Data}
 use Rattle.page_datum.specs.Execution.{done}
 use Rattle.page_datum.specs.Printed.{printed}
+use Rattle.page_datum.specs.declared.fault.FaultKind.{FaultKind}
 use Rattle.page_datum.specs.declared.files.Files.{Files}
 use Rattle.page_set.specs.Making.{IsSet}
 use Rattle.page_set.specs.PageLexer.{Page, State, Text, Config, config, characters, read, start}
 use Rattle.page_set.specs.Path.{Symbol, Written, Hole, read_path, read_filled}
 use Rattle.page_set.specs.References.{replacement}
-use Rattle.page_set.specs.Running.{Piece, text_piece, hole_piece, run, written, is_root}
+use Rattle.page_set.specs.Running.{Piece, text_piece, hole_piece, field_of, run, written, is_root}
 use Rattle.page_set.specs.Shape.{Part, TextPart, HolePart, bytes_of, settled, IsPlain, marked, Reads, shape_of}
 use Rattle.page_set.specs.declared.node.Node.{Node}
 use Rattle.page_set.specs.declared.node.Node.TheVariants as node
@@ -25,16 +26,21 @@ parts_of [] = []
 parts_of (text_piece bytes ∷ pieces) = TextPart (written (text_piece bytes)) ∷ parts_of pieces
 parts_of (hole_piece value ∷ pieces) = HolePart (written (hole_piece value)) ∷ parts_of pieces
 
--- a text as a reader of the page gets it: NUL is U+FFFD
+-- a text as it is read back: NUL is U+FFFD, and every other byte is as it was
 abbrev pub as_text : List ℕ → List ℕ
 as_text [] = []
 as_text (b ∷ bs) = (if b == 0 then replacement else b ∷ []) ++ as_text bs
 
--- the texts of the holes
-abbrev pub texts_of : List Piece → List (List ℕ)
-texts_of [] = []
-texts_of (text_piece bytes ∷ pieces) = texts_of pieces
-texts_of (hole_piece value ∷ pieces) = as_text (printed value) ∷ texts_of pieces
+-- the text of a hole; a fault has none
+abbrev pub text_of : Result Data FaultKind → List ℕ
+text_of (Ok value) = as_text (printed value)
+text_of (Err kind) = []
+
+-- the texts of a template's holes with a datum
+abbrev pub texts_of : List Node → Data → List (List ℕ)
+texts_of [] datum = []
+texts_of (node.Text bytes ∷ nodes) datum = texts_of nodes datum
+texts_of (node.Hole name line ∷ nodes) datum = text_of (field_of name datum) ∷ texts_of nodes datum
 
 -- bytes read in their place, with references undone, are the value as it is printed
 abbrev pub IsBack : State → Data → List ℕ → Type 0
@@ -47,9 +53,9 @@ ReadsBack [] c = ⊤
 ReadsBack (text_piece bytes ∷ pieces) c = ReadsBack pieces (read Page (written (text_piece bytes)) c)
 ReadsBack (hole_piece value ∷ pieces) c = IsPlain (written (hole_piece value)) c × IsBack (settled c).at value (written (hole_piece value)) × ReadsBack pieces (marked (written (hole_piece value)) c)
 
--- A page of nodes with a datum reads to where their path does and nowhere else, so that its shape is the path's own. It ends
--- in text, each value is plain in its place and reads back there, and the whole page reads as the path with the values' texts
--- in its holes.
+-- The execution is done, and the page is the bytes of its pieces. Its reading, each plain hole as its mark, comes to where the
+-- template's path comes, and to nothing else, so its shape is the path's own. It ends in text, each value is plain in its place
+-- and reads back there, and the whole page reads as the path with the fields' texts in its holes.
 pub record IsSoundFor (root : List ℕ) (nodes : List Node) (datum : Data) (page : List ℕ) : Type 0 where
   pub finished : (run root nodes datum).ending ≡ done
   pub bytes : page ≡ bytes_of (parts_of (run root nodes datum).pieces)
@@ -58,8 +64,8 @@ pub record IsSoundFor (root : List ℕ) (nodes : List Node) (datum : Data) (page
   pub shape : (end : Config) → Reads (parts_of (run root nodes datum).pieces) start end → shape_of end ≡ shape_of (read_path (path_of nodes) start)
   pub in_text : (read_path (path_of nodes) start).at ≡ Text
   pub values : ReadsBack (run root nodes datum).pieces start
-  pub whole : read Page page start ≡ read_filled (path_of nodes) (texts_of (run root nodes datum).pieces) start
+  pub whole : read Page page start ≡ read_filled (path_of nodes) (texts_of nodes datum) start
 
--- a page of a root of a set of files with a datum
+-- the files are a set with these nodes, the root is one of its roots, and the page is sound for them and the datum
 abbrev pub IsSound : Files → List ℕ → Data → List ℕ → Type 0
 IsSound files root datum page = (nodes : List Node) × IsSet files.list nodes × (is_root files.list root ≡ true) × IsSoundFor root nodes datum page

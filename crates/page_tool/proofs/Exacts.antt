@@ -1,5 +1,5 @@
 -- A status that has its cause excludes each other cause.
-use Rattle.std.proofs.Common.{◌≡◌, ℕ, ◌≤◌, List, length, Option, None, Some, false, true, true≢false, sym, ◌∙◌, inl, inr, refl}
+use Rattle.std.proofs.Common.{◌≡◌, ℕ, ◌≤◌, List, length, Option, None, Some, true≢false, sym, ◌∙◌, inl, inr, refl}
 use Rattle.std.specs.Prelude.{IfSome, ◌⊎◌}
 use Rattle.page_io.specs.Held.{Held}
 use Rattle.page_datum.specs.Data.{Data}
@@ -9,7 +9,7 @@ use Rattle.page_datum.proofs.Dicts.{no_cause}
 use Rattle.page_set.specs.Making.{Refuses}
 use Rattle.page_tool.specs.Exact.{Ends, IsExact}
 use Rattle.page_tool.specs.Files.{files_of}
-use Rattle.page_tool.specs.Output.{HasRoot, LacksRoot, IsRefusedSet, Told, StatusCause}
+use Rattle.page_tool.specs.Output.{HasRoot, LacksRoot, Told, StatusCause}
 use Rattle.page_tool.specs.declared.status.Status.{Status}
 use Rattle.page_tool.specs.declared.status.Status.TheVariants as status
 

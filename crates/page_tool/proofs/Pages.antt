@@ -1,11 +1,11 @@
 -- What was written, where the folder and the input tell what they hold.
-use Rattle.std.proofs.Common.{◌≡◌, ℕ, ◌≤◌, Bool, true, false, List, length, [], ◌∷◌, Option, None, Some, Result, Ok, Err, refl, inr, subst, sym, ap, ◌∙◌, true≢false}
+use Rattle.std.proofs.Common.{◌≡◌, ℕ, ◌≤◌, true, List, length, [], ◌∷◌, Option, None, Some, Result, Ok, Err, refl, inr, subst, sym, ap, ◌∙◌}
 use Rattle.std.specs.Prelude.{IfSome, ⊤}
 use Rattle.std.specs.Io.KnownBytes.{Appends}
 use Rattle.page_io.specs.Held.{Held}
 use Rattle.page_io.specs.Whole.{AppendsPart}
 use Rattle.page_datum.specs.Data.{Data, dict, DataDict, IsDict}
-use Rattle.page_datum.specs.Execution.{Execution, Ending, done, no_root, faulted}
+use Rattle.page_datum.specs.Execution.{Execution, done, no_root, faulted}
 use Rattle.page_datum.specs.Reading.{IsDatum, max_length}
 use Rattle.page_datum.specs.declared.fault.ExecFault.{ExecFault}
 use Rattle.page_datum.specs.declared.fault.FaultKind.{FaultKind}

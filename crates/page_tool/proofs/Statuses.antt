@@ -1,7 +1,6 @@
 -- The status of a stop that was reported.
-use Rattle.std.proofs.Common.{◌≡◌, ℕ, List, Option, None, Some, Result, Err, refl, sym, ap, ◌∙◌, inl, inr, subst}
-use Rattle.std.specs.Prelude.{IfSome, ◌⊎◌, ⊤}
-use Rattle.std.specs.Io.KnownBytes.{Appends}
+use Rattle.std.proofs.Common.{◌≡◌, ℕ, List, Option, None, Some, Err, refl, sym, ◌∙◌, inl, inr, subst}
+use Rattle.std.specs.Prelude.{IfSome, ◌⊎◌}
 use Rattle.page_io.specs.Held.{Held}
 use Rattle.page_datum.specs.declared.fault.ExecFault.{ExecFault}
 use Rattle.page_set.specs.declared.refused.MakeRefused.{MakeRefused}

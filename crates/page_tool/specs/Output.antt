@@ -4,7 +4,7 @@ use Rattle.std.specs.Io.KnownBytes.{Appends}
 use Rattle.page_io.specs.Held.{Held}
 use Rattle.page_io.specs.Whole.{AppendsPart}
 use Rattle.page_datum.specs.Data.{Data}
-use Rattle.page_datum.specs.Execution.{Execution, done, no_root, faulted}
+use Rattle.page_datum.specs.Execution.{Execution, done, faulted}
 use Rattle.page_datum.specs.Reading.{IsDatum, IsNoDatum, max_length}
 use Rattle.page_set.specs.Making.{IsExecution, IsRefused, Refuses}
 use Rattle.page_set.specs.Running.{is_root}

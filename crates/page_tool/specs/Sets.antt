@@ -2,7 +2,6 @@
 use Rattle.std.specs.Prelude.{◌≡◌, ℕ, List, Option, IfSome, Result, Ok, Err, ⊤}
 use Rattle.page_io.specs.Held.{Held}
 use Rattle.page_set.specs.Making.{Refuses}
-use Rattle.page_set.specs.SetValue.{SetValue}
 use Rattle.page_set.specs.declared.set.PageSet.{PageSet}
 use Rattle.page_tool.specs.Files.{files_of}
 use Rattle.page_tool.specs.Output.{IsRefusedSet}

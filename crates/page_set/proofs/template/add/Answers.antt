@@ -1,6 +1,5 @@
-use Rattle.std.proofs.Common.{◌≡◌, ℕ, ◌+◌, sym, ap, subst}
+use Rattle.std.proofs.Common.{ℕ, ◌+◌, sym, subst}
 use Rattle.std.specs.Str.{IsCharBoundary}
-use Rattle.page_set.specs.Scanned.{AddsForm}
 use Rattle.page_set.proofs.HoleLaws.{hole_bytes, cut_at_name, cut_behind_name, cut_behind_hole, adds_start_tag, adds_end_tag, adds_character, adds_hole}
 use Rattle.page_set.proofs.template.add.Goals as goal
 

@@ -1,10 +1,10 @@
-use Rattle.std.proofs.Common.{◌≡◌, ℕ, ◌+◌, ◌≤◌, List, refl, length, take, drop, sym, ap, ◌∙◌, subst, vec_len, arith}
+use Rattle.std.proofs.Common.{◌≡◌, ℕ, ◌+◌, ◌≤◌, List, refl, length, take, drop, ap, ◌∙◌, subst, vec_len, arith}
 use Rattle.std.proofs.lemmas.List.{length-drop}
 use Rattle.std.proofs.lemmas.Str.{IsCharBoundary-start}
 use Rattle.page_set.specs.Found.{IsFound, found_len, form_of}
 use Rattle.page_set.specs.Forms.{spelling}
 use Rattle.page_set.specs.Nodes.{line_feeds}
-use Rattle.page_set.proofs.Fronts.{IsScannedTo, scanned_none, scanned_more, scanned_all, spelling-found, line_more, stuck_here}
+use Rattle.page_set.proofs.Fronts.{scanned_none, scanned_more, scanned_all, spelling-found, line_more, stuck_here}
 use Rattle.page_set.proofs.template.scan.Goals as goal
 
 pub loop-at-init : goal.loop-at-init

@@ -1,7 +1,6 @@
-use Rattle.std.proofs.Common.{◌≡◌, ℕ, ◌+◌, ◌-◌, ◌≤◌, List, [], ◌++◌, length, take, drop, vec_len}
+use Rattle.std.proofs.Common.{◌≡◌, ◌+◌, ◌-◌, ◌≤◌, length, take, vec_len}
 use Rattle.std.specs.Str.{IsCharBoundary}
-use Rattle.page_set.specs.Forms.{Form, IsFront}
-use Rattle.page_set.specs.Nodes.{line_feeds, nodes_from}
+use Rattle.page_set.specs.Nodes.{line_feeds}
 use Rattle.page_set.proofs.Fronts.{IsScannedTo}
 use Rattle.page_set.proofs.template.scan.Given as goal
 
