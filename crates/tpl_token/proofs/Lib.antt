@@ -1,0 +1,16 @@
+pub mod Chains
+pub mod Cuts
+pub mod Digits
+pub mod OneAnswer
+pub mod Examples
+pub mod LexemesFound
+pub mod LexemesStand
+pub mod Marks
+pub mod Missed
+pub mod NextFound
+pub mod NextStands
+pub mod NumberLaws
+pub mod Quotes
+pub mod Raws
+pub mod StringLaws
+pub mod TokenCuts

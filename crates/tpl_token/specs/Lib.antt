@@ -1,0 +1,10 @@
+pub mod Answers
+pub mod Characters
+pub mod Grammar
+pub mod Lexemes
+pub mod Numbers
+pub mod Refusals
+pub mod Scanning
+pub mod Spans
+pub mod Strings
+pub mod Texts

@@ -1,0 +1,76 @@
+ghost use Rattle.std.specs.Prelude.{◌≡◌, ◌≤◌, ◌↔◌, IsTrue, Ok, Err, IfErr, IfOk, List, length};
+ghost use Rattle.tpl_token.specs.Answers.{Answers, Gives, max_text};
+ghost use Rattle.tpl_token.specs.Grammar.{AreTokens};
+ghost use Rattle.tpl_token.specs.Refusals.{IsRefused};
+ghost use Rattle.tpl_token.specs.Scanning.{advance as advance_of};
+ghost use Rattle.tpl_token.specs.Spans.{AreCuts, Ascend, IsCutAt};
+
+use crate::action::{commented_at, inside_at, opened_at};
+use crate::cursor::{Cursor, Mode};
+use crate::refused::TokenRefused;
+use crate::text::text_at;
+use crate::token::Token;
+use page_io::List;
+use std::alloc::Global;
+
+/// The most bytes that a text may have.
+pub const MAX_TEXT: usize = 1_048_576;
+
+/// Whether a text has at most `MAX_TEXT` bytes, which `tokens` asks for.
+pub fn fits(text: &str) -> bool
+    ensures { IsTrue result ↔ (length text.now ≤ max_text) }
+{
+    text.len() <= MAX_TEXT
+}
+
+/// The tokens of the text of a template file, in order. The error names the first thing from the left that is no token
+/// where it stands, or is `Memory`. The text has at most `MAX_TEXT` bytes.
+pub fn tokens(alloc: Global, text: &str) -> Result<List<Token>, TokenRefused>
+    requires limit { length text.now ≤ max_text }
+    // The answer is the text's.
+    ensures answers { Answers text.now result }
+    // A text that has tokens is not refused, and these are the tokens.
+    ensures accepted { (list : List Token) → AreTokens text.now list → Gives result (Ok list) }
+    // A text that is refused is refused for this cause.
+    ensures refused { (why : TokenRefused) → IsRefused text.now why → Gives result (Err why) }
+    // The tokens stand one after another.
+    ensures spans { IfOk result (Ascend 0 (length text.now)) }
+    // The text may be cut at their ends, and where it is refused.
+    ensures cuts { IfOk result (AreCuts text.now) }
+    ensures place { IfErr result (IsCutAt text.now) }
+{
+    let mut tokens = List::new(alloc);
+    let mut cursor = Cursor {
+        mode: Mode::Text { trims: false },
+        at: 0,
+    };
+    loop {
+        match advance(alloc, text, cursor) {
+            Ok(Some((token, next))) => {
+                tokens.push(token)?;
+                cursor = next;
+            }
+            Ok(None) => return Ok(tokens),
+            Err(refused) => return Err(refused),
+        }
+    }
+}
+
+// The next token, and how far the text is read with it; nothing at the end.
+fn advance(
+    alloc: Global,
+    text: &str,
+    cursor: Cursor,
+) -> Result<Option<(Token, Cursor)>, TokenRefused>
+    requires limit { length text.now ≤ max_text }
+    requires within { cursor.at ≤ length text.now }
+    ensures { Gives result (advance_of text.now cursor) }
+{
+    let (_, rest) = text.as_bytes().split_at(cursor.at);
+    match cursor.mode {
+        Mode::Text { trims } => Ok(text_at(trims, cursor.at, rest)),
+        Mode::Opened { trims, place } => opened_at(alloc, text, trims, place, cursor.at).map(Some),
+        Mode::Action { place } => inside_at(alloc, text, place, cursor.at).map(Some),
+        Mode::Commented => commented_at(cursor.at, rest).map(Some),
+    }
+}

@@ -1,0 +1,131 @@
+ghost use Rattle.std.specs.Prelude.{◌≡◌, ◌+◌, ◌<◌, ◌≤◌, false, drop, take, not, ◌==◌, length, slice_index, string_bytes, IfOk};
+ghost use Rattle.std.specs.List.{prefix_len};
+ghost use Rattle.std.specs.Str.{IsCharBoundary};
+ghost use Rattle.tpl_token.specs.Characters.{first_is};
+ghost use Rattle.tpl_token.specs.Strings.{is_kept, is_plain as is_plain_of};
+ghost use Rattle.tpl_token.specs.Scanning.{ReadsOn, quoted, raw_found, raw_len as raw_len_of, string_found, without_returns as without_returns_of};
+ghost use Rattle.tpl_token.specs.Answers.{Gives, max_text};
+
+use crate::bytes::begins;
+use crate::escape::escape_at;
+use crate::refused::TokenRefused;
+use crate::token::TokenKind;
+use page_io::{Memory, Text};
+use std::alloc::Global;
+
+/// The string in double quotes at a place where a quote stands, and its length. `UnclosedString` comes where its line or the text
+/// ends first, `BadEscape` where a backslash in it begins no escape.
+pub fn quoted_at(
+    alloc: Global,
+    text: &str,
+    start: usize,
+) -> Result<(TokenKind, usize), TokenRefused>
+    requires limit { length text.now ≤ max_text }
+    requires within { start < length text.now }
+    requires quote { slice_index text.now start ≡ 34 }
+    ensures found { Gives result (string_found start (quoted 0 (drop (start + 1) text.now))) }
+    ensures bound { IfOk result (λ found. start + found.1 ≤ length text.now) }
+{
+    let mut value = String::new(alloc);
+    let mut at = start + 1;
+    while at < text.len() {
+        at = push_plain(&mut value, text, at)?;
+        let (_, rest) = text.as_bytes().split_at(at);
+        if begins(b"\"", rest) {
+            return Ok((TokenKind::Str(Text::from(value)), at + 1 - start));
+        }
+        if !begins(b"\\", rest) {
+            return Err(TokenRefused::UnclosedString(start as u32));
+        }
+        let (_, escape) = rest.split_at(1);
+        match escape_at(escape) {
+            Some((character, len)) => {
+                value.push(character)?;
+                at += 1 + len;
+            }
+            None => return Err(TokenRefused::BadEscape(at as u32)),
+        }
+    }
+    Err(TokenRefused::UnclosedString(start as u32))
+}
+
+// Copies the bytes from a place on that stand for themselves, and says where they end.
+fn push_plain(value: &mut String, text: &str, at: usize) -> Result<usize, Memory>
+    requires within { at ≤ length text.now }
+    requires cut { IsCharBoundary text.now at }
+    ensures from { IfOk result (λ next. at ≤ next) }
+    ensures to { IfOk result (λ next. next ≤ length text.now) }
+    ensures cut { IfOk result (IsCharBoundary text.now) }
+    ensures stops { IfOk result (λ next. first_is is_plain_of (drop next text.now) ≡ false) }
+    ensures copied { IfOk result (λ next. ReadsOn text.now (string_bytes value.old) at (string_bytes value.new) next) }
+{
+    let (_, rest) = text.as_bytes().split_at(at);
+    let run = plain_len(rest);
+    value.push_str(&text[at..at + run])?;
+    Ok(at + run)
+}
+
+// How many bytes stand for themselves.
+fn plain_len(bytes: &[u8]) -> usize
+    ensures len { result ≡ prefix_len is_plain_of bytes.now }
+    ensures bound { result ≤ length bytes.now }
+{
+    bytes.iter().take_while(|byte| is_plain(**byte)).count()
+}
+
+fn is_plain(byte: u8) -> bool
+    ensures { result ≡ is_plain_of byte }
+{
+    !(byte == b'"' || byte == b'\\' || byte == b'\n')
+}
+
+/// The string between backquotes at a place where one stands, and its length. `UnclosedString` comes where the text ends first.
+pub fn raw_at(alloc: Global, text: &str, start: usize) -> Result<(TokenKind, usize), TokenRefused>
+    requires limit { length text.now ≤ max_text }
+    requires within { start < length text.now }
+    requires quote { slice_index text.now start ≡ 96 }
+    ensures found { Gives result (raw_found start (drop (start + 1) text.now)) }
+    ensures bound { IfOk result (λ found. start + found.1 ≤ length text.now) }
+{
+    let (_, body) = text.as_bytes().split_at(start + 1);
+    let len = raw_len(body);
+    if len < body.len() {
+        let value = without_returns(alloc, &text[start + 1..start + 1 + len])?;
+        return Ok((TokenKind::Str(Text::from(value)), len + 2));
+    }
+    Err(TokenRefused::UnclosedString(start as u32))
+}
+
+// How many bytes stand before a backquote.
+fn raw_len(bytes: &[u8]) -> usize
+    ensures len { result ≡ raw_len_of bytes.now }
+    ensures bound { result ≤ length bytes.now }
+{
+    bytes.iter().take_while(|byte| **byte != b'`').count()
+}
+
+// A copy without carriage returns.
+fn without_returns(alloc: Global, text: &str) -> Result<String, Memory>
+    ensures { IfOk result (λ copy. string_bytes copy ≡ without_returns_of text.now) }
+{
+    let mut copy = String::new(alloc);
+    let mut at = 0;
+    while at < text.len() {
+        let (_, rest) = text.as_bytes().split_at(at);
+        let run = line_len(rest);
+        copy.push_str(&text[at..at + run])?;
+        at += run;
+        if at < text.len() {
+            at += 1;
+        }
+    }
+    Ok(copy)
+}
+
+// How many bytes stand before a carriage return.
+fn line_len(bytes: &[u8]) -> usize
+    ensures len { result ≡ prefix_len is_kept bytes.now }
+    ensures bound { result ≤ length bytes.now }
+{
+    bytes.iter().take_while(|byte| **byte != b'\r').count()
+}

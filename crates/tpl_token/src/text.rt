@@ -1,0 +1,70 @@
+ghost use Rattle.std.specs.Prelude.{◌≡◌, ◌+◌, ◌<◌, ◌≤◌, Ok, length, take, drop};
+ghost use Rattle.std.specs.List.{prefix_len, suffix_len};
+ghost use Rattle.tpl_token.specs.Answers.{max_text};
+ghost use Rattle.tpl_token.specs.Characters.{is_white};
+ghost use Rattle.tpl_token.specs.Scanning.{open_at as open_at_of, text_at as text_at_of};
+ghost use Rattle.tpl_token.specs.Texts.{kept_end, kept_start, text_len, trims_before as trims_before_of};
+
+use crate::bytes::{begins, begins_white, bytes_before, white_end_len, white_len};
+use crate::cursor::{Cursor, Mode};
+use crate::token::{Token, TokenKind};
+
+/// The next token where text stands: the text, or the next action's `{{`. There is none at the end.
+pub fn text_at(trims: bool, at: usize, rest: &[u8]) -> Option<(Token, Cursor)>
+    requires limit { at + length rest.now ≤ max_text }
+    ensures { result ≡ text_at_of trims at rest.now }
+{
+    let len = bytes_before(b"{{", rest);
+    let (text, behind) = rest.split_at(len);
+    let start = if trims { white_len(text) } else { 0 };
+    let end = if trims_before(behind) {
+        len - white_end_len(text)
+    } else {
+        len
+    };
+    if start < end {
+        let token = Token {
+            kind: TokenKind::Text,
+            start: (at + start) as u32,
+            end: (at + end) as u32,
+        };
+        let cursor = Cursor {
+            mode: Mode::Text { trims: false },
+            at: at + len,
+        };
+        return Some((token, cursor));
+    }
+    open_at(at + len, behind)
+}
+
+// Whether `{{-` stands at the front, and white space after it.
+fn trims_before(rest: &[u8]) -> bool
+    ensures { result ≡ trims_before_of rest.now }
+{
+    if !begins(b"{{-", rest) {
+        return false;
+    }
+    let (_, behind) = rest.split_at(3);
+    begins_white(behind)
+}
+
+// The `{{` of an action at the front, unless there is nothing.
+fn open_at(at: usize, rest: &[u8]) -> Option<(Token, Cursor)>
+    requires limit { at + length rest.now ≤ max_text }
+    ensures { result ≡ open_at_of at rest.now }
+{
+    if rest.is_empty() {
+        return None;
+    }
+    let trims = trims_before(rest);
+    let len = if trims { 3 } else { 2 };
+    Some(Cursor::step(
+        TokenKind::Open,
+        at,
+        len,
+        Mode::Opened {
+            trims,
+            place: at as u32,
+        },
+    ))
+}
