@@ -8,7 +8,7 @@ use tpl_token::MAX_TEXT;
 pub enum Input {
     /// `tokens-text`: text without actions.
     Text,
-    /// `tokens-open`: `{{` and nothing else, which is refused at its third byte.
+    /// `tokens-open`: `{{` and nothing else, which is refused, from 4 bytes on at the third one.
     Open,
     /// `tokens-string`: one action with one long string.
     String,

@@ -10,7 +10,8 @@ use crate::string::{quoted_at, raw_at};
 use crate::token::TokenKind;
 use std::alloc::Global;
 
-/// The token of an action at a place where no white space stands, and its length. Each error is the one that `tokens` names.
+/// The token of an action at a place where no white space stands, and its length. Where none stands there, the error says
+/// what does.
 pub fn lexeme_at(alloc: Global, text: &str, at: usize) -> Result<(TokenKind, usize), TokenRefused>
     requires limit { length text.now ≤ max_text }
     requires within { at < length text.now }

@@ -13,8 +13,8 @@ use crate::token::TokenKind;
 use page_io::{Memory, Text};
 use std::alloc::Global;
 
-/// The string in double quotes at a place where a quote stands, and its length. `UnclosedString` comes where its line or the text
-/// ends first, `BadEscape` where a backslash in it begins no escape.
+/// The string in double quotes at a place where a quote stands, and its length. `UnclosedString` comes where its line or
+/// the text ends first, `BadEscape` where a backslash in it begins no escape.
 pub fn quoted_at(
     alloc: Global,
     text: &str,
@@ -79,7 +79,8 @@ fn is_plain(byte: u8) -> bool
     !(byte == b'"' || byte == b'\\' || byte == b'\n')
 }
 
-/// The string between backquotes at a place where one stands, and its length. `UnclosedString` comes where the text ends first.
+/// The string between backquotes at a place where one stands, and its length. `UnclosedString` comes where the text ends
+/// first.
 pub fn raw_at(alloc: Global, text: &str, start: usize) -> Result<(TokenKind, usize), TokenRefused>
     requires limit { length text.now ≤ max_text }
     requires within { start < length text.now }

@@ -1,0 +1,5 @@
+pub mod Code
+pub mod Falls
+pub mod Pipes
+pub mod Sizes
+pub mod View
