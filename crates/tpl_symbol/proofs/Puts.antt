@@ -1,0 +1,20 @@
+-- A symbol is put behind others by what the last of them is.
+use Rattle.std.proofs.Common.{◌≡◌, ◌≢◌, ℕ, List, [], ◌∷◌, ◌++◌, refl, ap}
+use Rattle.tpl_symbol.specs.Joins.{joined, joined_kinds, put}
+use Rattle.tpl_symbol.specs.declared.symbol.Seam.{Seam}
+use Rattle.tpl_symbol.specs.declared.symbol.Symbol.{Symbol}
+use Rattle.tpl_symbol.specs.declared.symbol.SymbolKind.{SymbolKind}
+use Rattle.tpl_symbol.specs.declared.symbol.SymbolKind.TheVariants as symbol
+
+pub put-last : (symbols : List Symbol) (last new : Symbol) → put (symbols ++ last ∷ []) new ≡ symbols ++ joined last new
+put-last [] last new = refl
+put-last (s ∷ []) last new = refl
+put-last (s ∷ t ∷ symbols) last new = ap (λ (xs : List Symbol). s ∷ xs) (put-last (t ∷ symbols) last new)
+
+apart : (kind other : SymbolKind) (last new : Symbol) → ((bytes : List ℕ) (seams : List Seam) → kind ≢ symbol.Text bytes seams) → joined_kinds kind other last new ≡ last ∷ new ∷ []
+apart (symbol.Text bytes seams) other last new differs = absurd (differs bytes seams refl)
+apart kind other last new differs = refl
+
+-- what is no text stays as it is
+pub joined-apart : (last new : Symbol) → ((bytes : List ℕ) (seams : List Seam) → last.kind ≢ symbol.Text bytes seams) → joined last new ≡ last ∷ new ∷ []
+joined-apart last new differs = apart last.kind new.kind last new differs

@@ -1,0 +1,5 @@
+pub mod Joins
+pub mod Kinds
+pub mod Lines
+pub mod Names
+pub mod Symbols

@@ -1,0 +1,15 @@
+-- The lines of a text, counted from 1. A line feed ends its line.
+use Rattle.std.specs.Prelude.{ℕ, ◌+◌, ◌-◌, ◌==◌, List, take, if◌then◌else◌}
+use Rattle.std.specs.List.{count_by}
+
+-- how many line feeds
+abbrev pub line_feeds : List ℕ → ℕ
+line_feeds bytes = count_by (λ b. b == 10) bytes
+
+-- the line on which the byte at this place stands
+abbrev pub line_of : List ℕ → ℕ → ℕ
+line_of text place = line_feeds (take place text) + 1
+
+-- the line of the last byte of a stretch, and 1 where it is empty
+abbrev pub last_line : List ℕ → ℕ → ℕ → ℕ
+last_line text begins ends = if begins == ends then 1 else line_of text (ends - 1)

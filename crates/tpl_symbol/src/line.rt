@@ -1,0 +1,77 @@
+ghost use Rattle.std.specs.Prelude.{◌≡◌, ◌≤◌, ◌-◌, length};
+ghost use Rattle.tpl_symbol.specs.Lines.{line_feeds as line_feeds_of, line_of as line_at};
+ghost use Rattle.tpl_token.specs.Answers.{max_text};
+
+/// The line of a text on which the byte at a place stands, counted from 1. The place is at most the text's length, and the
+/// text has at most `tpl_token::MAX_TEXT` bytes.
+pub fn line_of(text: &str, place: u32) -> u32
+    requires limit { length text.now ≤ max_text }
+    requires within { place ≤ length text.now }
+    ensures { result ≡ line_at text.now place }
+{
+    let counter = LineCounter { at: 0, line: 1 };
+    counter.up_to(text, place).line
+}
+
+/// Where a text ends.
+#[derive(Clone, Copy, Debug, PartialEq, Eq)]
+pub struct TextEnd {
+    /// The length of the text in bytes.
+    pub at: u32,
+    /// The line of its last byte, 1 where it has none.
+    pub before: u32,
+    /// The line behind its last byte.
+    pub line: u32,
+}
+
+/// The end of a text of at most `tpl_token::MAX_TEXT` bytes, with its lines.
+pub fn text_end(text: &str) -> TextEnd
+    requires limit { length text.now ≤ max_text }
+    ensures at { result.at ≡ length text.now }
+    ensures before { result.before ≡ line_at text.now (length text.now - 1) }
+    ensures line { result.line ≡ line_at text.now (length text.now) }
+{
+    let at = text.len() as u32;
+    let start = LineCounter { at: 0, line: 1 };
+    let before = start.up_to(text, at.saturating_sub(1));
+    let end = before.up_to(text, at);
+    TextEnd {
+        at,
+        before: before.line,
+        line: end.line,
+    }
+}
+
+/// A place of a text, and its line.
+#[derive(Clone, Copy)]
+pub struct LineCounter {
+    pub at: u32,
+    pub line: u32,
+}
+
+impl LineCounter {
+    /// Counts on to a later place of the same text.
+    pub fn up_to(self, text: &str, place: u32) -> LineCounter
+        requires limit { length text.now ≤ max_text }
+        requires counted { self.line ≡ line_at text.now self.at }
+        requires later { self.at ≤ place }
+        requires within { place ≤ length text.now }
+        ensures at { result.at ≡ place }
+        ensures line { result.line ≡ line_at text.now place }
+    {
+        let (_, rest) = text.as_bytes().split_at(self.at as usize);
+        let (between, _) = rest.split_at((place - self.at) as usize);
+        LineCounter {
+            at: place,
+            line: self.line + line_feeds(between),
+        }
+    }
+}
+
+// How many line feeds.
+fn line_feeds(bytes: &[u8]) -> u32
+    requires { length bytes.now ≤ max_text }
+    ensures { result ≡ line_feeds_of bytes.now }
+{
+    bytes.iter().filter(|byte| **byte == b'\n').count() as u32
+}
