@@ -1,1 +1,5 @@
+pub mod Listings
+pub mod Named
+pub mod Numbers
+pub mod Seams
 pub mod Smaller

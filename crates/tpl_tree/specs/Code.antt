@@ -2,8 +2,8 @@
 use Rattle.std.specs.Prelude.{◌≡◌, refl, ℕ, zero, suc, pos, negsuc, true, false, List, [], ◌∷◌}
 use Rattle.std.specs.Coded.{Coded, code_by}
 use Rattle.tpl_tree.specs.Pipes.{PipeData, no_commands, command, CommandData, single, call, OperandsData, no_operands, operand, OperandData, with_fields, BaseData, str, number, truth, nil, dot, variable, paren}
-use Rattle.tpl_tree.specs.declared.func.Func.{Func}
-use Rattle.tpl_tree.specs.declared.func.Func.TheVariants as func
+use Rattle.tpl_symbol.specs.declared.func.Func.{Func}
+use Rattle.tpl_symbol.specs.declared.func.Func.TheVariants as func
 use base.Stored.{Gv, gnil, gnum, gcons}
 use denote.Struct.Codes.{itself}
 
@@ -15,7 +15,7 @@ abbrev pub bytes_from : Gv → List ℕ
 bytes_from (gcons (gnum b) bs) = b ∷ bytes_from bs
 bytes_from _ = []
 
-bytes_from-bytes_tree : (bs : List ℕ) → bytes_from (bytes_tree bs) ≡ bs
+pub bytes_from-bytes_tree : (bs : List ℕ) → bytes_from (bytes_tree bs) ≡ bs
 bytes_from-bytes_tree [] = refl
 bytes_from-bytes_tree (b ∷ bs) = λ i. b ∷ bytes_from-bytes_tree bs i
 

@@ -1,5 +1,9 @@
 pub mod Code
 pub mod Falls
+pub mod Forests
+pub mod Listing
+pub mod NodesCode
 pub mod Pipes
 pub mod Sizes
+pub mod Trees
 pub mod View

@@ -1,6 +1,6 @@
 -- Pipes: what an action computes.
 use Rattle.std.specs.Prelude.{ℕ, ℤ, Bool, List}
-use Rattle.tpl_tree.specs.declared.func.Func.{Func}
+use Rattle.tpl_symbol.specs.declared.func.Func.{Func}
 
 mutual
   -- commands, of which each gives its value to the next one

@@ -1,13 +1,24 @@
-// The trees of templates. So far: what their nodes are, and the pipes of these.
+// The trees of templates: what their nodes are, the pipes of these, and how a tree is built and read.
 #![tactic(auto)]
 
+mod body;
 mod copy;
-mod func;
+mod entry;
+mod forest;
+#[cfg(test)]
+mod forest_tests;
+mod lines;
 mod node_kind;
 mod pipe;
 #[cfg(test)]
 mod tests;
+mod tree;
+#[cfg(test)]
+mod tree_tests;
 
-pub use func::Func;
+pub use body::Body;
+pub use forest::Forest;
 pub use node_kind::NodeKind;
 pub use pipe::{Base, Command, Commands, Operand, Operands, Pipe};
+pub use tpl_symbol::Func;
+pub use tree::Tree;

@@ -1,8 +1,8 @@
 use crate::copy::copy_pipe;
-use crate::func::Func;
 use page_io::{Memory, Names, Text};
 use std::alloc::Global;
 use std::marker::Model;
+use tpl_symbol::Func;
 
 /// A pipe: commands of which each gives its value to the next one.
 #[cycle(pipe)]

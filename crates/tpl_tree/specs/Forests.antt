@@ -1,0 +1,33 @@
+-- The forests of templates: trees with names, in byte order of the names, each name once.
+use Rattle.std.specs.Prelude.{ℕ, suc, List, [], ◌∷◌, Option, Some, None, if◌then◌else◌, bytes_eq, option_map, slice_get}
+use Rattle.std.specs.Cmp.Lexicographic.{slice_cmp}
+use Rattle.std.specs.List.Sorted.{IsStrictlySortedBy}
+use Rattle.std.specs.Map.{keys_of}
+use Rattle.std.specs.Ordering.{nat_cmp}
+use Rattle.tpl_tree.specs.Trees.{TreeData}
+
+-- trees with their names
+abbrev pub ForestData : Type 0
+ForestData = List (List ℕ × TreeData)
+
+-- the names ascend in byte order, each once
+abbrev pub HasAscendingNames : ForestData → Type 0
+HasAscendingNames trees = IsStrictlySortedBy (slice_cmp nat_cmp) (keys_of trees)
+
+-- the tree with a name
+abbrev pub tree_named : List ℕ → ForestData → Option TreeData
+tree_named name [] = None
+tree_named name (t ∷ trees) = if bytes_eq t.0 name then Some t.1 else tree_named name trees
+
+-- the number of the tree with a name: its place, from 0
+abbrev pub number_named : List ℕ → ForestData → Option ℕ
+number_named name [] = None
+number_named name (t ∷ trees) = if bytes_eq t.0 name then Some 0 else option_map suc (number_named name trees)
+
+-- the name of the tree with a number
+abbrev pub name_at : ForestData → ℕ → Option (List ℕ)
+name_at trees n = option_map (λ t. t.0) (slice_get trees n)
+
+-- the tree with a number
+abbrev pub tree_at : ForestData → ℕ → Option TreeData
+tree_at trees n = option_map (λ t. t.1) (slice_get trees n)
