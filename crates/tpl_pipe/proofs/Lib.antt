@@ -1,0 +1,3 @@
+pub mod Onto
+pub mod PipeLeads
+pub mod PipeSays

@@ -1,0 +1,128 @@
+-- Where in a pipe each symbol leads.
+use Rattle.std.specs.Prelude.{◌≡◌, ℕ, nat_eq, zero, suc, Bool, true, false, ◌&&◌, ◌||◌, if◌then◌else◌, List, [], ◌∷◌, Option, Some, None, Result, Ok, Err, ⊤}
+use Rattle.std.specs.Cmp.Lexicographic.{pointwise}
+use Rattle.page_io.specs.declared.stop.Memory.{Memory}
+use Rattle.tpl_pipe.specs.Levels.{level, fresh, operand_of, ended, ended_pipe, takes_operand, with_operand, last_takes, with_field}
+use Rattle.tpl_pipe.specs.declared.place.Current.{Current}
+use Rattle.tpl_pipe.specs.declared.place.Current.TheVariants as current
+use Rattle.tpl_pipe.specs.declared.place.Level.{Level}
+use Rattle.tpl_pipe.specs.declared.place.Place.{Place}
+use Rattle.tpl_pipe.specs.declared.refused.ParseRefused.{ParseRefused}
+use Rattle.tpl_pipe.specs.declared.refused.ParseRefused.TheVariants as refused
+use Rattle.tpl_pipe.specs.declared.refused.PipeStop.{PipeStop}
+use Rattle.tpl_pipe.specs.declared.refused.PipeStop.TheVariants as stop
+use Rattle.tpl_symbol.specs.declared.func.Func.{Func}
+use Rattle.tpl_symbol.specs.declared.symbol.Symbol.{Symbol}
+use Rattle.tpl_symbol.specs.declared.symbol.SymbolKind.{SymbolKind}
+use Rattle.tpl_symbol.specs.declared.symbol.SymbolKind.TheVariants as kind
+use Rattle.tpl_symbol.specs.declared.word.Word.{Word}
+use Rattle.tpl_symbol.specs.declared.word.Word.TheVariants as word
+use Rattle.tpl_tree.specs.Pipes.{PipeData}
+use Rattle.tpl_tree.specs.declared.pipe.Base.TheVariants as base
+use Rattle.tpl_tree.specs.declared.pipe.Command.{Command}
+use Rattle.tpl_tree.specs.declared.pipe.Operand.{Operand}
+
+abbrev pub place : List Level → Level → Place
+place outer l = record { outer = outer; level = l }
+
+-- the variable is declared; `$` always is
+abbrev pub declared : List (List ℕ) → List ℕ → Bool
+declared [] [] = true
+declared [] (_ ∷ _) = false
+declared (x ∷ xs) name = pointwise nat_eq x name || declared xs name
+
+abbrev pub Step : Type 0
+Step = Result Place ParseRefused
+
+-- an operand
+abbrev pub read_operand : Operand → List Level → Level → Step
+read_operand o outer l = if takes_operand l then Ok (place outer (with_operand o l)) else Err refused.UnexpectedToken
+
+-- `nil`, which is no whole command
+abbrev pub read_nil : List Level → Current → Level → Step
+read_nil outer current.Nothing l = Err refused.UnexpectedToken
+read_nil outer (current.Alone _) l = Err refused.UnexpectedToken
+read_nil outer (current.Calls _ _) l = read_operand (operand_of base.Nil []) outer l
+
+abbrev pub read_variable : List (List ℕ) → List ℕ → List Level → Level → Step
+read_variable variables name outer l =
+    if takes_operand l then (if declared variables name then Ok (place outer (with_operand (operand_of (base.Variable name) []) l)) else Err refused.UndefinedVariable)
+    else Err refused.UnexpectedToken
+
+-- a field of the operand that it touches, or an operand of its own
+abbrev pub read_field : List ℕ → Bool → List Level → Level → Step
+read_field name touches outer l =
+    if touches && last_takes l.current then Ok (place outer (with_field name l))
+    else read_operand (operand_of base.Dot (name ∷ [])) outer l
+
+abbrev pub read_left : ℕ → List Level → Level → Step
+read_left zero outer l = if takes_operand l then Err refused.TooNested else Err refused.UnexpectedToken
+read_left (suc room) outer l = if takes_operand l then Ok (place (l ∷ outer) (fresh room)) else Err refused.UnexpectedToken
+
+abbrev pub closed : Result PipeData ParseRefused → List Level → Level → Step
+closed (Ok p) outer l = Ok (place outer (with_operand (operand_of (base.Paren (record { commands = p })) []) l))
+closed (Err why) outer l = Err why
+
+abbrev pub read_right : List Level → Level → Step
+read_right [] l = Err refused.UnexpectedToken
+read_right (o ∷ outer) l = closed (ended_pipe l) outer o
+
+abbrev pub next_command : Option Command → List Level → Level → Step
+next_command (Some c) outer l = Ok (place outer (level l.room (c ∷ l.commands) current.Nothing))
+next_command None outer l = Err refused.UnexpectedToken
+
+abbrev pub read_bar : List Level → Level → Step
+read_bar outer l = next_command (ended l.current) outer l
+
+abbrev pub read_function : Func → List Level → Current → Level → Step
+read_function f outer current.Nothing l = Ok (place outer (level l.room l.commands (current.Calls f [])))
+read_function f outer (current.Alone _) l = Err refused.UnexpectedToken
+read_function f outer (current.Calls _ _) l = Err refused.UnexpectedToken
+
+abbrev pub read_unknown : Current → Step
+read_unknown current.Nothing = Err refused.UnknownFunction
+read_unknown (current.Alone _) = Err refused.UnexpectedToken
+read_unknown (current.Calls _ _) = Err refused.UnexpectedToken
+
+abbrev pub read_word : Word → List Level → Level → Step
+read_word word.True outer l = read_operand (operand_of (base.Bool true) []) outer l
+read_word word.False outer l = read_operand (operand_of (base.Bool false) []) outer l
+read_word word.Nil outer l = read_nil outer l.current l
+read_word _ outer l = Err refused.UnexpectedToken
+
+-- where a symbol leads in a pipe with these variables
+abbrev pub read_kind : SymbolKind → Bool → List (List ℕ) → List Level → Level → Step
+read_kind (kind.Str value) touches variables outer l = read_operand (operand_of (base.Str value) []) outer l
+read_kind (kind.Number n) touches variables outer l = read_operand (operand_of (base.Number n) []) outer l
+read_kind kind.Dot touches variables outer l = read_operand (operand_of base.Dot []) outer l
+read_kind (kind.Word w) touches variables outer l = read_word w outer l
+read_kind (kind.Variable name) touches variables outer l = read_variable variables name outer l
+read_kind (kind.Field name) touches variables outer l = read_field name touches outer l
+read_kind kind.Left touches variables outer l = read_left l.room outer l
+read_kind kind.Right touches variables outer l = read_right outer l
+read_kind kind.Bar touches variables outer l = read_bar outer l
+read_kind (kind.Function f) touches variables outer l = read_function f outer l.current l
+read_kind kind.Unknown touches variables outer l = read_unknown l.current
+read_kind _ touches variables outer l = Err refused.UnexpectedToken
+
+abbrev pub read : List (List ℕ) → Place → Symbol → Step
+read variables at symbol = read_kind symbol.kind symbol.touches variables at.outer at.level
+
+-- the pipe that the end of its action ends
+abbrev pub finished : List Level → Level → Result PipeData ParseRefused
+finished [] l = ended_pipe l
+finished (_ ∷ _) l = Err refused.UnexpectedToken
+
+abbrev pub finish : Place → Result PipeData ParseRefused
+finish at = finished at.outer at.level
+
+-- what was returned is this, or memory ran out
+abbrev pub Gives : {X Y : Type 0} → (X → Y) → Result X PipeStop → Result Y ParseRefused → Type 0
+Gives view (Ok x) wanted = wanted ≡ Ok (view x)
+Gives view (Err (stop.Refused why)) wanted = wanted ≡ Err why
+Gives view (Err stop.Memory) wanted = ⊤
+
+-- what was returned is this, or memory ran out
+abbrev pub Keeps : {X : Type 0} → X → Result X Memory → Type 0
+Keeps wanted (Ok x) = x ≡ wanted
+Keeps wanted (Err _) = ⊤

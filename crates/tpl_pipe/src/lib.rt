@@ -1,0 +1,13 @@
+// The pipes of template files: their grammar, and reading one a symbol at a time.
+#![tactic(auto)]
+
+mod level;
+mod place;
+mod reading;
+mod refused;
+mod stack;
+
+pub use place::{Current, Level, Place};
+pub use reading::{declared, finish, pipe_start, read};
+pub use refused::{ParseRefused, PipeStop};
+pub use stack::Stack;
