@@ -1,0 +1,13 @@
+pub mod ActionsLead
+pub mod ActionsSay
+pub mod ElseWords
+pub mod FileLaws
+pub mod FilesSay
+pub mod Filling
+pub mod Fitting
+pub mod FormsLead
+pub mod FormsSay
+pub mod OneFile
+pub mod PipeEnds
+pub mod SeenNames
+pub mod Standing

@@ -1,0 +1,5 @@
+use Rattle.tpl_parse.proofs.OneFile.{has_file_answer, one_of, one_stop, file_not_refused, one_tree, none_goes_on}
+use Rattle.tpl_parse.proofs.laws.one_file.Goals as goal
+
+pub returns : goal.returns
+returns c = record { some = has_file_answer; file = one_of; refusal = one_stop; not_both = file_not_refused; tree = one_tree; none = none_goes_on }

@@ -1,0 +1,43 @@
+-- What the end of a file makes of what was read.
+use Rattle.std.specs.Prelude.{ℕ, nat_eq, Bool, if◌then◌else◌, List, [], ◌∷◌, ◌++◌, map, Option, Some, None, Result, Ok, Err}
+use Rattle.std.specs.Cmp.Lexicographic.{pointwise}
+use Rattle.std.specs.List.{list_any}
+use Rattle.tpl_parse.specs.Nests.{def_of, found_of}
+use Rattle.tpl_parse.specs.Turns.{Refusal}
+use Rattle.tpl_parse.specs.declared.definition.Def.{Def}
+use Rattle.tpl_parse.specs.declared.definition.Found.{Found}
+use Rattle.tpl_parse.specs.declared.frame.Frame.{Frame}
+use Rattle.tpl_parse.specs.declared.nest.Nest.{Nest}
+use Rattle.tpl_pipe.specs.declared.refused.ParseRefused.TheVariants as refused
+use Rattle.tpl_symbol.specs.declared.line.TextEnd.{TextEnd}
+
+-- whether a name is among these
+abbrev pub among : List (List ℕ) → List ℕ → Bool
+among names name = list_any (pointwise nat_eq name) names
+
+-- where definitions of these names that are not blank came before, the line of the first that is the second such of its name
+abbrev pub second_line : List (List ℕ) → List Found → Option ℕ
+second_line seen [] = None
+second_line seen (f ∷ found) =
+    if f.def.blank then second_line seen found else if among seen f.def.name then Some f.line else second_line (f.def.name ∷ seen) found
+
+-- the definitions, and behind them the file's own body, by the file's name
+abbrev pub with_own : List ℕ → TextEnd → Nest → List Found
+with_own name end n = n.found ++ found_of (def_of name n.blank n.body end.before) 1 ∷ []
+
+-- the definitions without the lines of their words
+abbrev pub defs_of : List Found → List Def
+defs_of = map (λ f. f.def)
+
+abbrev pub checked : Option ℕ → List Found → Result (List Def) Refusal
+checked (Some line) found = Err (refused.MultipleDefinition, line)
+checked None found = Ok (defs_of found)
+
+-- at the end of a file, where these are open
+abbrev pub finished_in : List Frame → List ℕ → TextEnd → Nest → Result (List Def) Refusal
+finished_in [] name end n = checked (second_line [] (with_own name end n)) (with_own name end n)
+finished_in (_ ∷ _) name end n = Err (refused.UnclosedBlock, end.line)
+
+-- the definitions of a file of this name that ends here
+abbrev pub finished : List ℕ → TextEnd → Nest → Result (List Def) Refusal
+finished name end n = finished_in n.frames name end n

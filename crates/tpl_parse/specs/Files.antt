@@ -1,0 +1,105 @@
+-- What a template file is: its definitions, or why it has none.
+use Rattle.std.specs.Prelude.{◌≡◌, ◌≢◌, ◌⊎◌, ℕ, ◌-◌, List, [], ◌∷◌, ◌++◌, length, Option, Some, None, Result, Ok, Err, ⊤}
+use Rattle.tpl_parse.specs.Endings.{second_line, defs_of}
+use Rattle.tpl_parse.specs.Forms.{Forms, nodes_of, is_blank, found_in}
+use Rattle.tpl_parse.specs.Grammar.{IsFileBody}
+use Rattle.tpl_parse.specs.Nests.{def_of, found_of}
+use Rattle.tpl_parse.specs.Steps.{step, run, beginning}
+use Rattle.tpl_parse.specs.declared.definition.Def.{Def}
+use Rattle.tpl_parse.specs.declared.definition.File.{File}
+use Rattle.tpl_parse.specs.declared.definition.Found.{Found}
+use Rattle.tpl_parse.specs.declared.head.Mode.TheVariants as mode
+use Rattle.tpl_parse.specs.declared.head.State.{State}
+use Rattle.tpl_parse.specs.declared.refused.FileRefused.{FileRefused}
+use Rattle.tpl_parse.specs.declared.refused.FileRefused.TheVariants as file_refused
+use Rattle.tpl_pipe.specs.declared.refused.ParseRefused.{ParseRefused}
+use Rattle.tpl_pipe.specs.declared.refused.ParseRefused.TheVariants as refused
+use Rattle.tpl_symbol.specs.Lines.{line_of}
+use Rattle.tpl_symbol.specs.Symbols.{symbols_of}
+use Rattle.tpl_symbol.specs.declared.symbol.Symbol.{Symbol}
+use Rattle.tpl_token.specs.Grammar.{AreTokens}
+use Rattle.tpl_token.specs.Refusals as tokens
+use Rattle.tpl_token.specs.declared.refused.TokenRefused.{TokenRefused}
+use Rattle.tpl_token.specs.declared.refused.TokenRefused.TheVariants as token_refused
+use Rattle.tpl_token.specs.declared.token.Token.{Token}
+
+-- The definitions of a file of this name whose body ends on a line, and whose forms are these: those of each `define` and
+-- `block`, in the order of these words, and last the file's own body.
+abbrev pub all_found : List ℕ → ℕ → Forms → List Found
+all_found name end forms = found_in forms ++ found_of (def_of name (is_blank forms) (nodes_of forms) end) 1 ∷ []
+
+-- the line of a text's last byte
+abbrev pub last_line : List ℕ → ℕ
+last_line text = line_of text (length text - 1)
+
+-- A file of this name and text has these definitions: its tokens, as symbols, are forms, and of no name are two definitions
+-- not blank.
+pub record IsFile (name text : List ℕ) (defs : List Def) : Type 0 where
+  pub tokens : List Token
+  pub are_tokens : AreTokens text tokens
+  pub forms : Forms
+  pub body : IsFileBody forms (symbols_of text tokens)
+  pub single : second_line [] (all_found name (last_line text) forms) ≡ None
+  pub all : defs_of (all_found name (last_line text) forms) ≡ defs
+
+-- A symbol is refused: those before it lead to a place where it may not stand.
+pub record IsRefusedAt (symbols : List Symbol) (why : ParseRefused) (line : ℕ) : Type 0 where
+  pub before : List Symbol
+  pub symbol : Symbol
+  pub behind : List Symbol
+  pub split : symbols ≡ before ++ symbol ∷ behind
+  pub at : State
+  pub leads : run beginning before ≡ Ok at
+  pub refused : step at symbol ≡ Err (why, line)
+
+-- something is open: a control, a `define`, a `block`, or an action
+abbrev pub IsOpen : State → Type 0
+IsOpen at = (at.mode ≢ mode.Outside) ⊎ (at.nest.frames ≢ [])
+
+-- The symbols end, and something is open.
+pub record IsUnclosed (symbols : List Symbol) : Type 0 where
+  pub at : State
+  pub leads : run beginning symbols ≡ Ok at
+  pub still : IsOpen at
+
+-- On this line is the first definition that is the second of its name that is not blank.
+pub record IsTwice (name text : List ℕ) (symbols : List Symbol) (line : ℕ) : Type 0 where
+  pub forms : Forms
+  pub body : IsFileBody forms symbols
+  pub second : second_line [] (all_found name (last_line text) forms) ≡ Some line
+
+-- why the symbols of a file are refused, and the line
+abbrev pub IsStopped : List ℕ → List ℕ → List Symbol → ParseRefused → ℕ → Type 0
+IsStopped name text symbols why line =
+    IsRefusedAt symbols why line
+    ⊎ (((why ≡ refused.UnclosedBlock) × (line ≡ line_of text (length text)) × IsUnclosed symbols)
+    ⊎ ((why ≡ refused.MultipleDefinition) × IsTwice name text symbols line))
+
+-- the place that a refusal of tokens names
+abbrev pub place_of : TokenRefused → Option ℕ
+place_of (token_refused.UnclosedAction place) = Some place
+place_of (token_refused.BadCharacter place) = Some place
+place_of (token_refused.UnclosedString place) = Some place
+place_of (token_refused.UnclosedComment place) = Some place
+place_of (token_refused.BadNumber place) = Some place
+place_of (token_refused.BadDelimiter place) = Some place
+place_of (token_refused.BadEscape place) = Some place
+place_of token_refused.Memory = None
+
+-- A file of this name and text is refused for this cause.
+abbrev pub IsRefused : List ℕ → List ℕ → FileRefused → Type 0
+IsRefused name text (file_refused.Token why line) = (place : ℕ) × tokens.IsRefused text why × (place_of why ≡ Some place) × (line ≡ line_of text place)
+IsRefused name text (file_refused.Parse why line) = (list : List Token) × AreTokens text list × IsStopped name text (symbols_of text list) why line
+IsRefused name text file_refused.Memory = ⊥
+
+-- The definitions of the file, or why it has none. Want of memory may come instead.
+abbrev pub Answers : List ℕ → List ℕ → Result File FileRefused → Type 0
+Answers name text (Ok file) = IsFile name text file.defs
+Answers name text (Err file_refused.Memory) = ⊤
+Answers name text (Err why) = IsRefused name text why
+
+-- what was returned is this, or memory ran out
+abbrev pub GivesFile : Result File FileRefused → Result (List Def) FileRefused → Type 0
+GivesFile (Ok file) wanted = wanted ≡ Ok file.defs
+GivesFile (Err file_refused.Memory) wanted = ⊤
+GivesFile (Err why) wanted = wanted ≡ Err why

@@ -1,0 +1,10 @@
+pub mod Endings
+pub mod Files
+pub mod Forms
+pub mod Gathering
+pub mod Grammar
+pub mod Laws
+pub mod Nests
+pub mod Parsing
+pub mod Steps
+pub mod Turns

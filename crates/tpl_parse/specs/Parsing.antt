@@ -1,0 +1,52 @@
+-- The definitions of a file by computing, from its symbols.
+use Rattle.std.specs.Prelude.{◌≡◌, ℕ, List, length, Option, Some, None, Result, Ok, Err, ⊤}
+use Rattle.tpl_parse.specs.Endings.{finished}
+use Rattle.tpl_parse.specs.Files.{last_line, place_of}
+use Rattle.tpl_parse.specs.Steps.{Stepped, run, beginning}
+use Rattle.tpl_parse.specs.Turns.{Refusal}
+use Rattle.tpl_parse.specs.declared.definition.Def.{Def}
+use Rattle.tpl_parse.specs.declared.definition.File.{File}
+use Rattle.tpl_parse.specs.declared.head.Mode.{Mode}
+use Rattle.tpl_parse.specs.declared.head.Mode.TheVariants as mode
+use Rattle.tpl_parse.specs.declared.nest.Nest.{Nest}
+use Rattle.tpl_parse.specs.declared.refused.FileRefused.{FileRefused}
+use Rattle.tpl_parse.specs.declared.refused.FileRefused.TheVariants as file_refused
+use Rattle.tpl_pipe.specs.declared.refused.ParseRefused.TheVariants as refused
+use Rattle.tpl_symbol.specs.Lines.{line_of}
+use Rattle.tpl_symbol.specs.declared.line.TextEnd.{TextEnd}
+use Rattle.tpl_symbol.specs.declared.symbol.Symbol.{Symbol}
+use Rattle.tpl_token.specs.declared.refused.TokenRefused.{TokenRefused}
+
+abbrev pub Parsed : Type 0
+Parsed = Result (List Def) Refusal
+
+-- the end of a text
+abbrev pub end_of : List ℕ → TextEnd
+end_of text = record { at = length text; before = last_line text; line = line_of text (length text) }
+
+-- no action is open at the end, since tokens end each
+abbrev pub ended_in : Mode → List ℕ → TextEnd → Nest → Parsed
+ended_in mode.Outside name end n = finished name end n
+ended_in (mode.Inside o h) name end n = Err (refused.UnclosedBlock, end.line)
+
+abbrev pub ended : List ℕ → TextEnd → Stepped → Parsed
+ended name end (Ok at) = ended_in at.mode name end at.nest
+ended name end (Err why) = Err why
+
+abbrev pub parsed : List ℕ → TextEnd → List Symbol → Parsed
+parsed name end symbols = ended name end (run beginning symbols)
+
+-- what was returned is this, or memory ran out
+abbrev pub GivesParsed : Result File FileRefused → Parsed → Type 0
+GivesParsed (Ok file) wanted = wanted ≡ Ok file.defs
+GivesParsed (Err (file_refused.Parse why line)) wanted = wanted ≡ Err (why, line)
+GivesParsed (Err (file_refused.Token why line)) wanted = ⊥
+GivesParsed (Err file_refused.Memory) wanted = ⊤
+
+-- a refusal of tokens, as one of the file
+abbrev pub refusal_at : Option ℕ → List ℕ → TokenRefused → FileRefused
+refusal_at (Some place) text why = file_refused.Token why (line_of text place)
+refusal_at None text why = file_refused.Memory
+
+abbrev pub token_refusal : List ℕ → TokenRefused → FileRefused
+token_refusal text why = refusal_at (place_of why) text why

@@ -1,0 +1,26 @@
+// The parser of template files.
+#![tactic(auto)]
+
+mod deed;
+mod definition;
+mod finish;
+mod frame;
+mod gathering;
+#[cfg(test)]
+mod gathering_tests;
+mod head;
+mod laws;
+mod nest;
+mod parse;
+mod refused;
+mod step;
+#[cfg(test)]
+mod tests;
+mod turn;
+
+pub use definition::{Def, File};
+pub use gathering::gather;
+pub use laws::one_file;
+pub use parse::parse_file;
+pub use refused::FileRefused;
+pub use tpl_pipe::ParseRefused;
