@@ -1,0 +1,71 @@
+-- Where delimiters stand in what is printed.
+use Rattle.std.proofs.Common.{◌≡◌, ℕ, ◌+◌, ◌-◌, ◌<◌, ◌≤◌, Bool, true, false, List, [], ◌∷◌, ◌++◌, length, take, drop, ◌==◌, not, codes, refl, sym, ap, ◌∙◌, arith, append_assoc, true≢false}
+use Rattle.std.proofs.lemmas.List.{take_at, drop_at, drop-drop, length-append, length-drop, reverse-append}
+use Rattle.std.specs.List.{list_all, prefix_len, suffix_len}
+use Rattle.tpl_token.specs.Characters.{begins, is_white}
+use Rattle.tpl_token.specs.Texts.{text_len, trims_before, kept_end}
+use Rattle.tpl_token.proofs.Marks.{begins-is, either, both, heads}
+
+-- a byte that is no brace
+abbrev pub is_free : ℕ → Bool
+is_free b = not (b == 123)
+
+-- what stands behind what stands here
+pub behind : (text : List ℕ) (at : ℕ) (a b : List ℕ) → drop at text ≡ a ++ b → drop (at + length a) text ≡ b
+behind text at a b e = sym (drop-drop (length a) at text) ∙ ap (drop (length a)) e ∙ drop_at a b (length a) refl
+
+-- the text has what stands here
+pub within : (text : List ℕ) (at : ℕ) (a b : List ℕ) → drop at text ≡ a ++ b → 0 < length a → at + length a ≤ length text
+within text at a b e some = omega (arith, length-drop at text, ap length e, length-append a b)
+
+-- the bytes that stand here
+pub here : (text : List ℕ) (at end : ℕ) (a b : List ℕ) → end ≡ at + length a → drop at text ≡ a ++ b → take (end - at) (drop at text) ≡ a
+here text at end a b is e = ap (λ (n : ℕ). take n (drop at text)) (let n : end - at ≡ length a = omega (arith, is) in n) ∙ ap (take (length a)) e ∙ take_at a b (length a) refl
+
+free_begins : (b : ℕ) (bs : List ℕ) → is_free b ≡ true → begins (codes "{{") (b ∷ bs) ≡ false
+free_begins b bs free = either (begins (codes "{{") (b ∷ bs))
+    (λ t. let same : b ≡ 123 = heads (begins-is (codes "{{") (b ∷ bs) t) in absurd (true≢false (sym free ∙ ap is_free same)))
+    (λ f. f)
+
+pub before_front : (front more : List ℕ) → list_all is_free front ≡ true → text_len (front ++ more) ≡ length front + text_len more
+before_front [] more all = omega arith
+before_front (b ∷ front) more all =
+    let h = both (is_free b) (list_all is_free front) all in
+    let no = free_begins b (front ++ more) h.0 in
+    rw no (omega (arith, before_front front more h.1))
+
+pub list_all-append : (p : ℕ → Bool) (a b : List ℕ) → list_all p a ≡ true → list_all p b ≡ true → list_all p (a ++ b) ≡ true
+list_all-append p [] b e f = f
+list_all-append p (x ∷ a) b e f =
+    let h = both (p x) (list_all p a) e in
+    rw h.0 (list_all-append p a b h.1 f)
+
+-- the guard behind a brace, and what is behind that
+abbrev pub guard : List ℕ → List ℕ
+guard more = codes "{{- /**/}}" ++ more
+
+pub at_guard : (front more : List ℕ) → list_all is_free front ≡ true → text_len ((front ++ codes "{ ") ++ guard more) ≡ length front + 2
+at_guard front more all = ap text_len (append_assoc front (codes "{ ") (guard more)) ∙ before_front front (codes "{ " ++ guard more) all
+
+-- one white byte at the end
+pub one_white : (front : List ℕ) → suffix_len is_white (front ++ codes "{ ") ≡ 1
+one_white front = ap (prefix_len is_white) (reverse-append front (codes "{ "))
+
+-- a text before an action that trims nothing, or before the end
+pub len_plain : (front tail : List ℕ) → list_all is_free front ≡ true → text_len tail ≡ 0 → text_len (front ++ tail) ≡ length front
+len_plain front tail all none = omega (arith, before_front front tail all, none)
+
+pub kept_plain : (front tail : List ℕ) → list_all is_free front ≡ true → text_len tail ≡ 0 → trims_before tail ≡ false → kept_end (front ++ tail) ≡ length front
+kept_plain front tail all none keeps =
+    let len = len_plain front tail all none in
+    let trims : trims_before (drop (length front) (front ++ tail)) ≡ false = ap trims_before (drop_at front tail (length front) refl) ∙ keeps in
+    rw (len, trims) refl
+
+-- a text before a guard ends with its brace
+pub kept_guard : (front more : List ℕ) → list_all is_free front ≡ true → kept_end ((front ++ codes "{ ") ++ guard more) ≡ length front + 1
+kept_guard front more all =
+    let len = at_guard front more all in
+    let n : length (front ++ codes "{ ") ≡ length front + 2 = length-append front (codes "{ ") in
+    let trims : trims_before (drop (length front + 2) ((front ++ codes "{ ") ++ guard more)) ≡ true = ap trims_before (drop_at (front ++ codes "{ ") (guard more) (length front + 2) n) in
+    let white : suffix_len is_white (take (length front + 2) ((front ++ codes "{ ") ++ guard more)) ≡ 1 = ap (suffix_len is_white) (take_at (front ++ codes "{ ") (guard more) (length front + 2) n) ∙ one_white front in
+    rw (len, trims, white) (omega arith)

@@ -1,0 +1,69 @@
+-- How pipes are printed: a space before each token, except for fields behind an operand.
+use Rattle.std.specs.Prelude.{ℕ, Bool, true, false, codes, List, [], ◌∷◌, ◌++◌}
+use Rattle.std.specs.Fmt.{signed_decimal}
+use Rattle.tpl_print.specs.Replaced.{escaped}
+use Rattle.tpl_symbol.specs.declared.func.Func.{Func}
+use Rattle.tpl_symbol.specs.declared.func.Func.TheVariants as func
+use Rattle.tpl_tree.specs.Pipes.{PipeData, no_commands, command, CommandData, single, call, OperandsData, no_operands, operand, OperandData, with_fields, BaseData, str, number, truth, nil, dot, variable, paren}
+
+-- the name of a function
+abbrev pub func_text : Func → List ℕ
+func_text func.And = codes "and"
+func_text func.Or = codes "or"
+func_text func.Not = codes "not"
+func_text func.Eq = codes "eq"
+func_text func.Ne = codes "ne"
+func_text func.Lt = codes "lt"
+func_text func.Le = codes "le"
+func_text func.Gt = codes "gt"
+func_text func.Ge = codes "ge"
+func_text func.Index = codes "index"
+func_text func.Slice = codes "slice"
+func_text func.Len = codes "len"
+func_text func.Print = codes "print"
+func_text func.Println = codes "println"
+func_text func.Printf = codes "printf"
+func_text func.Html = codes "html"
+func_text func.Urlquery = codes "urlquery"
+
+-- fields, each behind its dot
+abbrev pub fields_text : List (List ℕ) → List ℕ
+fields_text [] = []
+fields_text (name ∷ names) = codes "." ++ (name ++ fields_text names)
+
+abbrev pub is_none : {A : Type 0} → List A → Bool
+is_none [] = true
+is_none (x ∷ xs) = false
+
+abbrev mutual
+  -- the commands of a pipe, with a bar between two
+  pub pipe_text : PipeData → List ℕ
+  pipe_text no_commands = []
+  pipe_text (command c more) = command_text c ++ calls_text more
+
+  pub calls_text : PipeData → List ℕ
+  calls_text no_commands = []
+  calls_text (command c more) = codes " |" ++ (command_text c ++ calls_text more)
+
+  pub command_text : CommandData → List ℕ
+  command_text (single o) = operand_text o
+  command_text (call f os) = codes " " ++ (func_text f ++ operands_text os)
+
+  pub operands_text : OperandsData → List ℕ
+  operands_text no_operands = []
+  operands_text (operand o os) = operand_text o ++ operands_text os
+
+  pub operand_text : OperandData → List ℕ
+  operand_text (with_fields b fields) = codes " " ++ (base_text b (is_none fields) ++ fields_text fields)
+
+  -- a base, behind which fields stand or not: of `.a` the dot is the field's
+  pub base_text : BaseData → Bool → List ℕ
+  base_text (str value) alone = codes "\"" ++ (escaped value ++ codes "\"")
+  base_text (number n) alone = signed_decimal n
+  base_text (truth true) alone = codes "true"
+  base_text (truth false) alone = codes "false"
+  base_text nil alone = codes "nil"
+  base_text dot true = codes "."
+  base_text dot false = []
+  base_text (variable name) alone = codes "$" ++ name
+  base_text (paren p) alone = codes "(" ++ (pipe_text p ++ codes " )")

@@ -1,0 +1,89 @@
+-- How the nodes of a tree are printed.
+use Rattle.std.specs.Prelude.{ℕ, Bool, true, false, codes, List, [], ◌++◌, Option, Some, None}
+use Rattle.tpl_print.specs.Pipes.{pipe_text}
+use Rattle.tpl_print.specs.Replaced.{escaped, guarded}
+use Rattle.tpl_tree.specs.Listing.{has_nodes}
+use Rattle.tpl_tree.specs.Trees.{NodesData, no_nodes, node, nodes_from, is_text}
+use Rattle.tpl_tree.specs.declared.node_kind.NodeKind.{NodeKind}
+use Rattle.tpl_tree.specs.declared.node_kind.NodeKind.TheVariants as kind
+use Rattle.tpl_tree.specs.declared.pipe.Pipe.{Pipe}
+
+-- `$x :=`
+abbrev pub named_text : Option (List ℕ) → List ℕ
+named_text None = []
+named_text (Some x) = codes " $" ++ (x ++ codes " :=")
+
+-- `$i, $x :=`
+abbrev pub index_text : Option (List ℕ) → List ℕ
+index_text None = []
+index_text (Some i) = codes " $" ++ (i ++ codes " ,")
+
+-- the pipe of a `template`, where there is one
+abbrev pub argument_text : Option Pipe → List ℕ
+argument_text None = []
+argument_text (Some p) = pipe_text p.commands
+
+-- a text; of any other node what stands between its first `{{` and `}}`
+abbrev pub inner_text : NodeKind → List ℕ
+inner_text (kind.Text text) = guarded text
+inner_text (kind.Action p) = pipe_text p.commands
+inner_text (kind.Declare x p) = named_text (Some x) ++ pipe_text p.commands
+inner_text (kind.Assign x p) = codes " $" ++ (x ++ (codes " =" ++ pipe_text p.commands))
+inner_text (kind.If x p) = codes " if" ++ (named_text x ++ pipe_text p.commands)
+inner_text (kind.With x p) = codes " with" ++ (named_text x ++ pipe_text p.commands)
+inner_text (kind.Range i e p) = codes " range" ++ (index_text i ++ (named_text e ++ pipe_text p.commands))
+inner_text kind.Break = codes " break"
+inner_text kind.Continue = codes " continue"
+inner_text (kind.Template name p) = codes " template \"" ++ (escaped name ++ (codes "\"" ++ argument_text p))
+
+-- a text, or an action
+abbrev pub head_text : Bool → List ℕ → List ℕ
+head_text true inner = inner
+head_text false inner = codes "{{" ++ (inner ++ codes " }}")
+
+-- whether a node has parts
+abbrev pub is_control : NodeKind → Bool
+is_control (kind.If x p) = true
+is_control (kind.With x p) = true
+is_control (kind.Range i e p) = true
+is_control _ = false
+
+-- what stands before an `else` part, where it has nodes
+abbrev pub else_mark : Bool → List ℕ
+else_mark true = codes "{{ else }}"
+else_mark false = []
+
+-- the parts of a control, up to and with its end
+abbrev pub parts_text : Bool → List ℕ → List ℕ → List ℕ → List ℕ
+parts_text true first mark other = first ++ (mark ++ (other ++ codes "{{ end }}"))
+parts_text false first mark other = []
+
+-- whether the first of some nodes is a text
+abbrev pub begins_text : NodesData → Bool
+begins_text no_nodes = false
+begins_text (node kind line seams first other rest) = is_text kind
+
+-- what parts two texts: a definition, which is no node
+abbrev pub parting : Bool → Bool → List ℕ
+parting true true = codes "{{ define \"\" }}{{ end }}"
+parting true false = []
+parting false after = []
+
+-- the nodes of a part, one behind the other
+abbrev pub nodes_text : NodesData → List ℕ
+nodes_text no_nodes = []
+nodes_text (node kind line seams first other rest) =
+    head_text (is_text kind) (inner_text kind)
+    ++ (parts_text (is_control kind) (nodes_text first) (else_mark (has_nodes other)) (nodes_text other)
+    ++ (parting (is_text kind) (begins_text rest) ++ nodes_text rest))
+
+-- the first node with its parts
+abbrev pub node_text : NodesData → List ℕ
+node_text no_nodes = []
+node_text (node kind line seams first other rest) =
+    head_text (is_text kind) (inner_text kind) ++ parts_text (is_control kind) (nodes_text first) (else_mark (has_nodes other)) (nodes_text other)
+
+-- the nodes from a number on, within their part, and none where there is no number
+abbrev pub part_at : NodesData → Option ℕ → NodesData
+part_at nodes None = no_nodes
+part_at nodes (Some n) = nodes_from nodes n

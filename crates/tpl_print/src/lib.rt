@@ -1,0 +1,13 @@
+// Trees of templates, printed as one text that reads as the same tree.
+#![tactic(auto)]
+
+mod laws;
+mod node;
+mod pipe;
+#[cfg(test)]
+mod tests;
+mod text;
+mod tree;
+
+pub use laws::parsed_bodies;
+pub use tree::print_tree;
