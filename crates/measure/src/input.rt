@@ -14,7 +14,24 @@ pub fn input_of(alloc: Global, input: Input, size: usize) -> Result<String, Allo
         Input::Open => repeated(alloc, "", "{{", "", size),
         Input::String => repeated(alloc, "{{\"", "a", "\"}}", size),
         Input::Actions => repeated(alloc, "", "{{.}}", "", size),
+        Input::Definitions => definitions(alloc, size),
     }
+}
+
+// As many definitions as fit, each with a name and a body of its own.
+fn definitions(alloc: Global, size: usize) -> Result<String, AllocError>
+    requires { size ≤ max_text }
+    ensures { IfOk result (λ text. length (string_bytes text) ≤ size) }
+{
+    let mut text = String::new(alloc);
+    for number in 0..size {
+        let one = format!(in alloc; "{{{{define \"n{number}\"}}}}{number}{{{{end}}}}\n")?;
+        if text.len() + one.len() > size {
+            return Ok(text);
+        }
+        text.push_str(one.as_str())?;
+    }
+    Ok(text)
 }
 
 // A front, as many units as fit, and an end; nothing where these two do not fit.

@@ -2,31 +2,33 @@
 // call and which input, and a number how many bytes the input has at most. What is printed are counts alone.
 #![tactic(auto)]
 
-ghost use Rattle.std.specs.Prelude.{◌≤◌, IfOk, IfSome};
+ghost use Rattle.std.specs.Prelude.{◌≤◌, IfOk, IfSome, length};
 ghost use Rattle.tpl_token.specs.Answers.{max_text};
 
 mod input;
 mod request;
 
 use crate::input::input_of;
-use crate::request::{Input, input_named, size_named};
+use crate::request::{Call, Input, Request, size_named, words_named};
 use std::alloc::{AllocError, Global};
 use std::env;
 use std::io::ErrorKind;
 use std::process::ExitCode;
+use tpl_parse::{FileRefused, parse_file};
 use tpl_token::{TokenRefused, tokens};
 
 fn main(rt: HostRuntime) -> ExitCode {
     let request = match requested(&rt) {
         Ok(Some(request)) => request,
         Ok(None) => {
-            let usage = "usage: measure tokens-text|tokens-open|tokens-string|tokens-actions BYTES";
-            let _ = eprintln!(&rt; "{usage}");
+            let _ = eprintln!(&rt; "usage: measure WORD BYTES");
+            let _ = eprintln!(&rt; "WORD: tokens-text tokens-open tokens-string tokens-actions");
+            let _ = eprintln!(&rt; "      parse-text parse-actions parse-definitions");
             return ExitCode::from(2);
         }
         Err(_) => return ExitCode::from(11),
     };
-    match counted(rt.alloc(), request.0, request.1) {
+    match counted(rt.alloc(), request.call, request.input, request.size) {
         Ok(line) => match println!(&rt; "{line}") {
             Ok(()) => ExitCode::SUCCESS,
             Err(_) => ExitCode::from(6),
@@ -35,9 +37,9 @@ fn main(rt: HostRuntime) -> ExitCode {
     }
 }
 
-// The input and its size, or nothing where the words are others.
-fn requested<R: env::Env + AllocGlobal>(rt: &R) -> Result<Option<(Input, usize)>, AllocError>
-    ensures { IfOk result (λ request. IfSome request (λ words. words.1 ≤ max_text)) }
+// What the words ask for, or nothing where they are others.
+fn requested<R: env::Env + AllocGlobal>(rt: &R) -> Result<Option<Request>, AllocError>
+    ensures { IfOk result (λ request. IfSome request (λ words. words.size ≤ max_text)) }
 {
     let mut args = match env::args(rt) {
         Ok(args) => args.skip(1),
@@ -48,24 +50,47 @@ fn requested<R: env::Env + AllocGlobal>(rt: &R) -> Result<Option<(Input, usize)>
         (Some(word), Some(size), None) => (word, size),
         _ => return Ok(None),
     };
-    match (input_named(word.as_str()), size_named(size.as_str())) {
-        (Some(input), Some(size)) => Ok(Some((input, size))),
+    match (words_named(word.as_str()), size_named(size.as_str())) {
+        (Some((call, input)), Some(size)) => Ok(Some(Request { call, input, size })),
         _ => Ok(None),
     }
 }
 
 // The counts of a call on an input.
-fn counted(alloc: Global, input: Input, size: usize) -> Result<String, AllocError>
+fn counted(alloc: Global, call: Call, input: Input, size: usize) -> Result<String, AllocError>
     requires { size ≤ max_text }
 {
     let text = input_of(alloc, input, size)?;
+    match call {
+        Call::Tokens => tokens_counted(alloc, text.as_str()),
+        Call::Parse => definitions_counted(alloc, text.as_str()),
+    }
+}
+
+fn tokens_counted(alloc: Global, text: &str) -> Result<String, AllocError>
+    requires { length text.now ≤ max_text }
+{
     let bytes = text.len();
-    match tokens(alloc, text.as_str()) {
+    match tokens(alloc, text) {
         Ok(tokens) => {
             let count = tokens.as_slice().len();
             format!(in alloc; "{bytes} bytes, {count} tokens")
         }
         Err(TokenRefused::Memory) => Err(AllocError),
+        Err(_) => format!(in alloc; "{bytes} bytes, refused"),
+    }
+}
+
+fn definitions_counted(alloc: Global, text: &str) -> Result<String, AllocError>
+    requires { length text.now ≤ max_text }
+{
+    let bytes = text.len();
+    match parse_file(alloc, "file", text) {
+        Ok(file) => {
+            let count = file.defs.as_slice().len();
+            format!(in alloc; "{bytes} bytes, {count} definitions")
+        }
+        Err(FileRefused::Memory) => Err(AllocError),
         Err(_) => format!(in alloc; "{bytes} bytes, refused"),
     }
 }

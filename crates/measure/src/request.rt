@@ -3,26 +3,49 @@ ghost use Rattle.tpl_token.specs.Answers.{max_text};
 
 use tpl_token::MAX_TEXT;
 
+/// What is done with an input.
+#[derive(Clone, Copy, Debug, PartialEq, Eq)]
+pub enum Call {
+    /// Its tokens are read.
+    Tokens,
+    /// It is parsed, as a template file.
+    Parse,
+}
+
 /// What an input is made of.
 #[derive(Clone, Copy, Debug, PartialEq, Eq)]
 pub enum Input {
-    /// `tokens-text`: text without actions.
+    /// Text without actions.
     Text,
-    /// `tokens-open`: `{{` and nothing else, which is refused, from 4 bytes on at the third one.
+    /// `{{` and nothing else, which is refused, from 4 bytes on at the third one.
     Open,
-    /// `tokens-string`: one action with one long string.
+    /// One action with one long string.
     String,
-    /// `tokens-actions`: the action `{{.}}`, again and again.
+    /// The action `{{.}}`, again and again.
     Actions,
+    /// Definitions, each with a name of its own.
+    Definitions,
 }
 
-/// What a word asks for.
-pub fn input_named(word: &str) -> Option<Input> {
+/// What the words ask for.
+#[derive(Clone, Copy, Debug, PartialEq, Eq)]
+pub struct Request {
+    pub call: Call,
+    pub input: Input,
+    /// The most bytes that the input may have.
+    pub size: usize,
+}
+
+/// What a word asks for: a call, and an input.
+pub fn words_named(word: &str) -> Option<(Call, Input)> {
     match word {
-        "tokens-text" => Some(Input::Text),
-        "tokens-open" => Some(Input::Open),
-        "tokens-string" => Some(Input::String),
-        "tokens-actions" => Some(Input::Actions),
+        "tokens-text" => Some((Call::Tokens, Input::Text)),
+        "tokens-open" => Some((Call::Tokens, Input::Open)),
+        "tokens-string" => Some((Call::Tokens, Input::String)),
+        "tokens-actions" => Some((Call::Tokens, Input::Actions)),
+        "parse-text" => Some((Call::Parse, Input::Text)),
+        "parse-actions" => Some((Call::Parse, Input::Actions)),
+        "parse-definitions" => Some((Call::Parse, Input::Definitions)),
         _ => None,
     }
 }
