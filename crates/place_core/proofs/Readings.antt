@@ -1,0 +1,172 @@
+-- How bytes are read one after the other, and how a byte that begins and ends nothing is told.
+use Rattle.std.proofs.Common.{◌≡◌, ℕ, Bool, true, false, List, [], ◌∷◌, ◌++◌, refl, ap}
+use Rattle.std.specs.Char.{to_ascii_lowercase}
+use Rattle.place_core.specs.Classes.{Class, White, QuotationMark, Ampersand, Apostrophe, Digit, LessThan, GreaterThan, Letter, class_of}
+use Rattle.place_core.specs.Events.{Event, TextByte, BlockByte, ValueByte, text_bytes, block_bytes, value_bytes, AttributeNameByte, AttributeBegins}
+use Rattle.place_core.specs.Html.{Mode, Page, Text, Rcdata, Block, AttributeValue, BeforeAttributeValue, BeforeAttributeName, AttributeName, AfterAttributeName, SelfClosingStartTag, Config, config, read, read_byte}
+use Rattle.place_core.specs.References.{Closed, undone}
+use Rattle.place_core.specs.Tags.{Tag, ValueOf, value_of, without_value, DoubleQuoted, SingleQuoted, Unquoted}
+use Rattle.place_core.specs.declared.element.Element.{Element}
+use Rattle.place_core.specs.declared.kind.Kind.{Kind}
+
+pub read-append : (m : Mode) (xs ys : List ℕ) (c : Config) → read m (xs ++ ys) c ≡ read m ys (read m xs c)
+read-append m [] ys c = refl
+read-append m (x ∷ xs) ys c = read-append m xs ys (read_byte m x c)
+
+pub text_bytes-append : (xs ys : List ℕ) (t : List Event) → text_bytes (xs ++ ys) t ≡ text_bytes ys (text_bytes xs t)
+text_bytes-append [] ys t = refl
+text_bytes-append (x ∷ xs) ys t = text_bytes-append xs ys (TextByte x ∷ t)
+
+pub block_bytes-append : (xs ys : List ℕ) (t : List Event) → block_bytes (xs ++ ys) t ≡ block_bytes ys (block_bytes xs t)
+block_bytes-append [] ys t = refl
+block_bytes-append (x ∷ xs) ys t = block_bytes-append xs ys (BlockByte x ∷ t)
+
+pub value_bytes-append : (xs ys : List ℕ) (t : List Event) → value_bytes (xs ++ ys) t ≡ value_bytes ys (value_bytes xs t)
+value_bytes-append [] ys t = refl
+value_bytes-append (x ∷ xs) ys t = value_bytes-append xs ys (ValueByte x ∷ t)
+
+-- the classes of bytes that stand for themselves in text, in data blocks, in quoted values and in unquoted ones
+
+abbrev pub is_own_in_text : Class → Bool
+is_own_in_text Ampersand = false
+is_own_in_text LessThan = false
+is_own_in_text _ = true
+
+abbrev pub is_own_in_block : Class → Bool
+is_own_in_block LessThan = false
+is_own_in_block _ = true
+
+abbrev pub is_own_in_quoted : Class → Bool
+is_own_in_quoted QuotationMark = false
+is_own_in_quoted Ampersand = false
+is_own_in_quoted Apostrophe = false
+is_own_in_quoted _ = true
+
+abbrev pub is_own_in_unquoted : Class → Bool
+is_own_in_unquoted White = false
+is_own_in_unquoted QuotationMark = false
+is_own_in_unquoted Ampersand = false
+is_own_in_unquoted Apostrophe = false
+is_own_in_unquoted GreaterThan = false
+is_own_in_unquoted _ = true
+
+no : false ≡ true → ⊥
+no e = cc
+
+text-class : (c : Class) (b : ℕ) (t : List Event) → class_of b ≡ c → is_own_in_text c ≡ true → read Page (b ∷ []) (config (Text Closed) t) ≡ config (Text Closed) (TextByte b ∷ t)
+text-class Ampersand b t e h = absurd (no h)
+text-class LessThan b t e h = absurd (no h)
+text-class _ b t e h = rw e refl
+
+rcdata-class : (c : Class) (b : ℕ) (x : Element) (t : List Event) → class_of b ≡ c → is_own_in_text c ≡ true → read Page (b ∷ []) (config (Rcdata x Closed) t) ≡ config (Rcdata x Closed) (TextByte b ∷ t)
+rcdata-class Ampersand b x t e h = absurd (no h)
+rcdata-class LessThan b x t e h = absurd (no h)
+rcdata-class _ b x t e h = rw e refl
+
+block-class : (c : Class) (b : ℕ) (t : List Event) → class_of b ≡ c → is_own_in_block c ≡ true → read Page (b ∷ []) (config Block t) ≡ config Block (BlockByte b ∷ t)
+block-class LessThan b t e h = absurd (no h)
+block-class _ b t e h = rw e refl
+
+double-class : (c : Class) (b : ℕ) (tag : Tag) (k : Kind) (t : List Event) → class_of b ≡ c → is_own_in_quoted c ≡ true → read Page (b ∷ []) (config (AttributeValue DoubleQuoted tag (ValueOf k) Closed) t) ≡ config (AttributeValue DoubleQuoted tag (ValueOf k) Closed) (ValueByte b ∷ t)
+double-class QuotationMark b tag k t e h = absurd (no h)
+double-class Ampersand b tag k t e h = absurd (no h)
+double-class Apostrophe b tag k t e h = absurd (no h)
+double-class _ b tag k t e h = rw e refl
+
+single-class : (c : Class) (b : ℕ) (tag : Tag) (k : Kind) (t : List Event) → class_of b ≡ c → is_own_in_quoted c ≡ true → read Page (b ∷ []) (config (AttributeValue SingleQuoted tag (ValueOf k) Closed) t) ≡ config (AttributeValue SingleQuoted tag (ValueOf k) Closed) (ValueByte b ∷ t)
+single-class QuotationMark b tag k t e h = absurd (no h)
+single-class Ampersand b tag k t e h = absurd (no h)
+single-class Apostrophe b tag k t e h = absurd (no h)
+single-class _ b tag k t e h = rw e refl
+
+unquoted-class : (c : Class) (b : ℕ) (tag : Tag) (k : Kind) (t : List Event) → class_of b ≡ c → is_own_in_unquoted c ≡ true → read Page (b ∷ []) (config (AttributeValue Unquoted tag (ValueOf k) Closed) t) ≡ config (AttributeValue Unquoted tag (ValueOf k) Closed) (ValueByte b ∷ t)
+unquoted-class White b tag k t e h = absurd (no h)
+unquoted-class QuotationMark b tag k t e h = absurd (no h)
+unquoted-class Ampersand b tag k t e h = absurd (no h)
+unquoted-class Apostrophe b tag k t e h = absurd (no h)
+unquoted-class GreaterThan b tag k t e h = absurd (no h)
+unquoted-class _ b tag k t e h = rw e refl
+
+-- where an unquoted value is to begin, a byte that begins one is read as its first byte
+abbrev pub begins_unquoted : Class → Bool
+begins_unquoted White = false
+begins_unquoted QuotationMark = false
+begins_unquoted Apostrophe = false
+begins_unquoted GreaterThan = false
+begins_unquoted _ = true
+
+unbegun-class : (c : Class) (b : ℕ) (tag : Tag) (k : Kind) (t : List Event) → class_of b ≡ c → begins_unquoted c ≡ true → read Page (b ∷ []) (config (BeforeAttributeValue tag k) t) ≡ read Page (b ∷ []) (config (AttributeValue Unquoted tag (value_of k) Closed) t)
+unbegun-class White b tag k t e h = absurd (no h)
+unbegun-class QuotationMark b tag k t e h = absurd (no h)
+unbegun-class Apostrophe b tag k t e h = absurd (no h)
+unbegun-class GreaterThan b tag k t e h = absurd (no h)
+unbegun-class _ b tag k t e h = rw e refl
+
+pub unbegun-byte : (b : ℕ) (bs : List ℕ) (tag : Tag) (k : Kind) (t : List Event) → begins_unquoted (class_of b) ≡ true → read Page (b ∷ bs) (config (BeforeAttributeValue tag k) t) ≡ read Page (b ∷ bs) (config (AttributeValue Unquoted tag (value_of k) Closed) t)
+unbegun-byte b bs tag k t h = ap (read Page bs) (unbegun-class (class_of b) b tag k t refl h)
+
+-- letters and digits, of which names of attributes are made here
+abbrev pub is_name_class : Class → Bool
+is_name_class (Letter l) = true
+is_name_class Digit = true
+is_name_class _ = false
+
+first-name-class : (c : Class) (b : ℕ) (tag : Tag) (t : List Event) → class_of b ≡ c → is_name_class c ≡ true → read Page (b ∷ []) (config (BeforeAttributeName tag) t) ≡ config (AttributeName tag (to_ascii_lowercase b ∷ [])) (AttributeNameByte (to_ascii_lowercase b) ∷ AttributeBegins ∷ t)
+first-name-class (Letter l) b tag t e h = rw e refl
+first-name-class Digit b tag t e h = rw e refl
+first-name-class _ b tag t e h = absurd (no h)
+
+name-class : (c : Class) (b : ℕ) (tag : Tag) (name : List ℕ) (t : List Event) → class_of b ≡ c → is_name_class c ≡ true → read Page (b ∷ []) (config (AttributeName tag name) t) ≡ config (AttributeName tag (name ++ to_ascii_lowercase b ∷ [])) (AttributeNameByte (to_ascii_lowercase b) ∷ t)
+name-class (Letter l) b tag name t e h = rw e refl
+name-class Digit b tag name t e h = rw e refl
+name-class _ b tag name t e h = absurd (no h)
+
+-- behind the name of an attribute, behind a quoted value and behind a solidus a letter or a digit begins a name as before one
+after-name-class : (c : Class) (b : ℕ) (tag : Tag) (k : Kind) (t : List Event) → class_of b ≡ c → is_name_class c ≡ true → read Page (b ∷ []) (config (AfterAttributeName tag k) t) ≡ read Page (b ∷ []) (config (BeforeAttributeName (without_value tag k)) t)
+after-name-class (Letter l) b tag k t e h = rw e refl
+after-name-class Digit b tag k t e h = rw e refl
+after-name-class _ b tag k t e h = absurd (no h)
+
+solidus-class : (c : Class) (b : ℕ) (tag : Tag) (t : List Event) → class_of b ≡ c → is_name_class c ≡ true → read Page (b ∷ []) (config (SelfClosingStartTag tag) t) ≡ read Page (b ∷ []) (config (BeforeAttributeName tag) t)
+solidus-class (Letter l) b tag t e h = rw e refl
+solidus-class Digit b tag t e h = rw e refl
+solidus-class _ b tag t e h = absurd (no h)
+
+pub text-byte : (b : ℕ) (t : List Event) → is_own_in_text (class_of b) ≡ true → read Page (b ∷ []) (config (Text Closed) t) ≡ config (Text Closed) (TextByte b ∷ t)
+text-byte b t h = text-class (class_of b) b t refl h
+
+pub rcdata-byte : (b : ℕ) (x : Element) (t : List Event) → is_own_in_text (class_of b) ≡ true → read Page (b ∷ []) (config (Rcdata x Closed) t) ≡ config (Rcdata x Closed) (TextByte b ∷ t)
+rcdata-byte b x t h = rcdata-class (class_of b) b x t refl h
+
+pub block-byte : (b : ℕ) (t : List Event) → is_own_in_block (class_of b) ≡ true → read Page (b ∷ []) (config Block t) ≡ config Block (BlockByte b ∷ t)
+block-byte b t h = block-class (class_of b) b t refl h
+
+pub double-byte : (b : ℕ) (tag : Tag) (k : Kind) (t : List Event) → is_own_in_quoted (class_of b) ≡ true → read Page (b ∷ []) (config (AttributeValue DoubleQuoted tag (ValueOf k) Closed) t) ≡ config (AttributeValue DoubleQuoted tag (ValueOf k) Closed) (ValueByte b ∷ t)
+double-byte b tag k t h = double-class (class_of b) b tag k t refl h
+
+pub single-byte : (b : ℕ) (tag : Tag) (k : Kind) (t : List Event) → is_own_in_quoted (class_of b) ≡ true → read Page (b ∷ []) (config (AttributeValue SingleQuoted tag (ValueOf k) Closed) t) ≡ config (AttributeValue SingleQuoted tag (ValueOf k) Closed) (ValueByte b ∷ t)
+single-byte b tag k t h = single-class (class_of b) b tag k t refl h
+
+pub unquoted-byte : (b : ℕ) (tag : Tag) (k : Kind) (t : List Event) → is_own_in_unquoted (class_of b) ≡ true → read Page (b ∷ []) (config (AttributeValue Unquoted tag (ValueOf k) Closed) t) ≡ config (AttributeValue Unquoted tag (ValueOf k) Closed) (ValueByte b ∷ t)
+unquoted-byte b tag k t h = unquoted-class (class_of b) b tag k t refl h
+
+pub first-name-byte : (b : ℕ) (tag : Tag) (t : List Event) → is_name_class (class_of b) ≡ true → read Page (b ∷ []) (config (BeforeAttributeName tag) t) ≡ config (AttributeName tag (to_ascii_lowercase b ∷ [])) (AttributeNameByte (to_ascii_lowercase b) ∷ AttributeBegins ∷ t)
+first-name-byte b tag t h = first-name-class (class_of b) b tag t refl h
+
+pub name-byte : (b : ℕ) (tag : Tag) (name : List ℕ) (t : List Event) → is_name_class (class_of b) ≡ true → read Page (b ∷ []) (config (AttributeName tag name) t) ≡ config (AttributeName tag (name ++ to_ascii_lowercase b ∷ [])) (AttributeNameByte (to_ascii_lowercase b) ∷ t)
+name-byte b tag name t h = name-class (class_of b) b tag name t refl h
+
+pub after-name-byte : (b : ℕ) (bs : List ℕ) (tag : Tag) (k : Kind) (t : List Event) → is_name_class (class_of b) ≡ true → read Page (b ∷ bs) (config (AfterAttributeName tag k) t) ≡ read Page (b ∷ bs) (config (BeforeAttributeName (without_value tag k)) t)
+after-name-byte b bs tag k t h = ap (read Page bs) (after-name-class (class_of b) b tag k t refl h)
+
+pub solidus-byte : (b : ℕ) (bs : List ℕ) (tag : Tag) (t : List Event) → is_name_class (class_of b) ≡ true → read Page (b ∷ bs) (config (SelfClosingStartTag tag) t) ≡ read Page (b ∷ bs) (config (BeforeAttributeName tag) t)
+solidus-byte b bs tag t h = ap (read Page bs) (solidus-class (class_of b) b tag t refl h)
+
+-- a byte that stands for itself in text is told as it is where references are undone
+undone-class : (attribute : Bool) (c : Class) (b : ℕ) (ys : List ℕ) → class_of b ≡ c → is_own_in_text c ≡ true → undone attribute Closed (b ∷ ys) ≡ b ∷ undone attribute Closed ys
+undone-class attribute Ampersand b ys e h = absurd (no h)
+undone-class attribute LessThan b ys e h = absurd (no h)
+undone-class attribute _ b ys e h = rw e refl
+
+pub undone-byte : (attribute : Bool) (b : ℕ) (ys : List ℕ) → is_own_in_text (class_of b) ≡ true → undone attribute Closed (b ∷ ys) ≡ b ∷ undone attribute Closed ys
+undone-byte attribute b ys h = undone-class attribute (class_of b) b ys refl h

@@ -1,0 +1,10 @@
+pub mod Characters
+pub mod Classes
+pub mod Events
+pub mod Html
+pub mod Placed
+pub mod Plain
+pub mod References
+pub mod Tags
+pub mod Utf8
+pub mod Words
