@@ -1,0 +1,10 @@
+mod Bytes
+mod Cases
+mod Codes
+mod Decoding
+mod Encodings
+mod Followed
+mod Lengths
+mod Machine
+mod Numbers
+mod OneByOne

@@ -1,0 +1,115 @@
+ghost use Rattle.std.specs.Prelude.{◌≡◌, ◌≤◌, length, drop};
+ghost use Rattle.std.specs.Str.{str_to_ascii_lowercase};
+ghost use Rattle.place_core.specs.Words.{is_script as is_script_of, kind_behind_prefix as kind_behind_prefix_length, is_among as is_among_of, kind_of, kind_of_name as kind_of_name_of, kind_with_front as kind_with_front_of, no_hole_names, prefix_length, url_names};
+
+use crate::words::{begins, has_part, is_among, same};
+use place_core::{Element, Kind};
+
+/// How the value of an attribute is read: by its name, in any case, and the element on which it stands. (HTML Standard, sections
+/// 3.2.6, 4.12.1 and 8.1.8.1; Go's `html/template` for the kinds.) Takes no memory.
+pub fn attr_kind(name: &str, element: Element) -> Kind
+    ensures { result ≡ kind_of element name.now }
+{
+    let name = name.as_bytes();
+    if is_script(element) && same(name, b"type") {
+        return Kind::ScriptType;
+    }
+    kind_with_front(name)
+}
+
+// A data block is a script element too.
+fn is_script(element: Element) -> bool
+    ensures { result ≡ is_script_of element }
+{
+    matches!(element, Element::Script | Element::DataBlock)
+}
+
+// The kind of a name with its front; `data-` does not matter.
+fn kind_with_front(name: &[u8]) -> Kind
+    ensures { result ≡ kind_with_front_of (str_to_ascii_lowercase name.now) }
+{
+    if begins(name, b"data-") {
+        let (_, rest) = name.split_at(5);
+        return kind_of_name(rest);
+    }
+    kind_behind_prefix(name)
+}
+
+// A declaration of a namespace is a URL's; any other front up to a colon does not matter.
+fn kind_behind_prefix(name: &[u8]) -> Kind
+    ensures { result ≡ kind_behind_prefix_length (str_to_ascii_lowercase name.now) (drop (prefix_length (str_to_ascii_lowercase name.now)) (str_to_ascii_lowercase name.now)) }
+{
+    let (front, rest) = name.split_at(prefix_len(name));
+    match rest.split_first() {
+        None => kind_of_name(name),
+        Some((_, rest)) => {
+            if same(front, b"xmlns") {
+                Kind::Url
+            } else {
+                kind_of_name(rest)
+            }
+        }
+    }
+}
+
+// How many bytes stand before the first colon.
+fn prefix_len(name: &[u8]) -> usize
+    ensures len { result ≡ prefix_length name.now }
+    ensures bound { result ≤ length name.now }
+{
+    name.iter().take_while(|byte| **byte != b':').count()
+}
+
+// The kind of a name without a front.
+fn kind_of_name(name: &[u8]) -> Kind
+    ensures { result ≡ kind_of_name_of (str_to_ascii_lowercase name.now) }
+{
+    if same(name, b"style") {
+        return Kind::Style;
+    }
+    if is_no_hole_name(name) {
+        return Kind::NoHole;
+    }
+    if is_url_name(name) {
+        return Kind::Url;
+    }
+    if begins(name, b"on") {
+        return Kind::Script;
+    }
+    if has_part(name, b"src") || has_part(name, b"uri") || has_part(name, b"url") {
+        return Kind::Url;
+    }
+    Kind::Plain
+}
+
+fn is_no_hole_name(name: &[u8]) -> bool
+    ensures { result ≡ is_among_of no_hole_names (str_to_ascii_lowercase name.now) }
+{
+    is_among(name, &[b"srcdoc", b"srcset", b"imagesrcset"])
+}
+
+fn is_url_name(name: &[u8]) -> bool
+    ensures { result ≡ is_among_of url_names (str_to_ascii_lowercase name.now) }
+{
+    is_among(
+        name,
+        &[
+            b"action",
+            b"archive",
+            b"background",
+            b"cite",
+            b"classid",
+            b"codebase",
+            b"data",
+            b"formaction",
+            b"href",
+            b"icon",
+            b"longdesc",
+            b"manifest",
+            b"poster",
+            b"profile",
+            b"src",
+            b"usemap",
+        ],
+    )
+}

@@ -1,0 +1,179 @@
+// Character references (HTML Standard, sections 13.2.5.72 to 13.2.5.80 and 13.5), by looking ahead.
+ghost use Rattle.std.specs.Prelude.{◌≡◌, ◌≤◌, length};
+ghost use Rattle.std.specs.Char.{is_ascii_alphanumeric, is_ascii_digit, is_ascii_hexdigit};
+ghost use Rattle.std.specs.List.{list_all, prefix_len};
+ghost use Rattle.place_core.specs.Characters.{hashed_at as hashed_at_of, is_broken_number as is_broken_number_of, is_broken_off as is_broken_off_of, name_at as name_at_of, number_from as number_from_of, reference_at as reference_at_of, semicolon_len as semicolon_len_of, short_at as short_at_of};
+
+use crate::names::{named, short_at_front, short_whole};
+use crate::number::numbered_in;
+
+/// An ampersand that begins no reference: itself, one byte.
+pub const ITSELF: (u32, usize) = ('&' as u32, 1);
+
+/// The character of the reference in front of whose bytes an ampersand stands, in the value of an attribute or in text, and how
+/// many bytes it takes with the ampersand.
+pub fn reference_at(attribute: bool, bytes: &[u8]) -> (u32, usize)
+    ensures { result ≡ reference_at_of attribute bytes.now }
+{
+    match bytes.split_first() {
+        None => ITSELF,
+        Some((byte, rest)) => {
+            if *byte == b'#' {
+                return hashed_at(rest);
+            }
+            if byte.is_ascii_alphanumeric() {
+                let (name, behind) = bytes.split_at(name_len(bytes));
+                return name_at(attribute, name, behind);
+            }
+            ITSELF
+        }
+    }
+}
+
+/// Whether all that stands behind an ampersand is a reference that only the end of the bytes breaks off.
+pub fn is_broken_off(bytes: &[u8]) -> bool
+    ensures { result ≡ is_broken_off_of bytes.now }
+{
+    match bytes.split_first() {
+        None => true,
+        Some((byte, rest)) => {
+            if *byte == b'#' {
+                return is_broken_number(rest);
+            }
+            are_letters_or_digits(bytes)
+        }
+    }
+}
+
+fn is_broken_number(bytes: &[u8]) -> bool
+    ensures { result ≡ is_broken_number_of bytes.now }
+{
+    match bytes.split_first() {
+        None => true,
+        Some((byte, rest)) => {
+            if *byte == b'X' || *byte == b'x' {
+                return are_hexadecimal(rest);
+            }
+            are_decimal(bytes)
+        }
+    }
+}
+
+// A name, and what stands behind it.
+fn name_at(attribute: bool, name: &[u8], behind: &[u8]) -> (u32, usize)
+    ensures { result ≡ name_at_of attribute name.now behind.now }
+{
+    match behind.split_first() {
+        None => short_at(attribute, false, name),
+        Some((byte, _)) => {
+            if *byte == b';' {
+                return (named(name), name.len() + 2);
+            }
+            short_at(attribute, *byte == b'=', name)
+        }
+    }
+}
+
+// A name that no semicolon ends, before an equals sign or not.
+fn short_at(attribute: bool, equals: bool, name: &[u8]) -> (u32, usize)
+    ensures { result ≡ short_at_of attribute equals name.now }
+{
+    if !attribute {
+        return short_at_front(name);
+    }
+    if equals {
+        return ITSELF;
+    }
+    short_whole(name)
+}
+
+// What stands behind `&#`.
+fn hashed_at(bytes: &[u8]) -> (u32, usize)
+    ensures { result ≡ hashed_at_of bytes.now }
+{
+    match bytes.split_first() {
+        None => ITSELF,
+        Some((byte, rest)) => {
+            if *byte == b'X' || *byte == b'x' {
+                let (digits, behind) = rest.split_at(hexadecimal_len(rest));
+                return number_from(16, 3, digits, behind);
+            }
+            let (digits, behind) = bytes.split_at(decimal_len(bytes));
+            number_from(10, 2, digits, behind)
+        }
+    }
+}
+
+// A number in a base, with how many bytes stand before its digits, and what stands behind them.
+fn number_from(base: u32, front: usize, digits: &[u8], behind: &[u8]) -> (u32, usize)
+    requires base { 1 ≤ base }
+    requires most { base ≤ 16 }
+    requires front { front ≤ 3 }
+    ensures { result ≡ number_from_of base front digits.now behind.now }
+{
+    match digits.split_first() {
+        None => ITSELF,
+        Some(_) => {
+            let len = front + (digits.len() + semicolon_len(behind));
+            (numbered_in(base, digits), len)
+        }
+    }
+}
+
+fn semicolon_len(bytes: &[u8]) -> usize
+    ensures len { result ≡ semicolon_len_of bytes.now }
+    ensures bound { result ≤ 1 }
+{
+    match bytes.split_first() {
+        None => 0,
+        Some((byte, _)) => { if *byte == b';' { 1 } else { 0 } }
+    }
+}
+
+fn name_len(bytes: &[u8]) -> usize
+    ensures len { result ≡ prefix_len is_ascii_alphanumeric bytes.now }
+    ensures bound { result ≤ length bytes.now }
+{
+    bytes
+        .iter()
+        .take_while(|byte| byte.is_ascii_alphanumeric())
+        .count()
+}
+
+fn decimal_len(bytes: &[u8]) -> usize
+    ensures len { result ≡ prefix_len is_ascii_digit bytes.now }
+    ensures bound { result ≤ length bytes.now }
+{
+    bytes
+        .iter()
+        .take_while(|byte| byte.is_ascii_digit())
+        .count()
+}
+
+fn hexadecimal_len(bytes: &[u8]) -> usize
+    ensures len { result ≡ prefix_len is_ascii_hexdigit bytes.now }
+    ensures bound { result ≤ length bytes.now }
+{
+    bytes
+        .iter()
+        .take_while(|byte| byte.is_ascii_hexdigit())
+        .count()
+}
+
+fn are_letters_or_digits(bytes: &[u8]) -> bool
+    ensures { result ≡ list_all is_ascii_alphanumeric bytes.now }
+{
+    bytes.iter().all(|byte| byte.is_ascii_alphanumeric())
+}
+
+fn are_decimal(bytes: &[u8]) -> bool
+    ensures { result ≡ list_all is_ascii_digit bytes.now }
+{
+    bytes.iter().all(|byte| byte.is_ascii_digit())
+}
+
+fn are_hexadecimal(bytes: &[u8]) -> bool
+    ensures { result ≡ list_all is_ascii_hexdigit bytes.now }
+{
+    bytes.iter().all(|byte| byte.is_ascii_hexdigit())
+}
