@@ -1,0 +1,15 @@
+-- A text with its characters replaced by a table.
+use Rattle.std.specs.Prelude.{ℕ, List, flat_map, chars, encode_utf8, unwrap_or}
+use Rattle.esc_table.specs.Rows.{Row, found}
+
+-- what is written for a character: the replacement of its row, or itself if it has none
+abbrev pub written : List Row → ℕ → List ℕ
+written rows character = unwrap_or (found rows character) (encode_utf8 character)
+
+-- what is written for each of some characters, one after the other
+abbrev pub replaced_all : List Row → List ℕ → List ℕ
+replaced_all rows characters = flat_map (written rows) characters
+
+-- what is written for the characters of a text
+abbrev pub replaced : List Row → List ℕ → List ℕ
+replaced rows bytes = replaced_all rows (chars bytes)

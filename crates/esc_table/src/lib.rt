@@ -1,0 +1,10 @@
+// Tables of replacements of characters, and the call that applies one to each character of a text.
+#![tactic(auto)]
+
+mod replacing;
+mod table;
+#[cfg(test)]
+mod tests;
+
+pub use replacing::replace;
+pub use table::Table;
