@@ -1,0 +1,201 @@
+-- Text that `html` writes, in text, in title and textarea, in data blocks and in quoted values.
+use Rattle.std.proofs.Common.{◌≡◌, ℕ, ◌≤◌, ◌<◌, ◌==◌, ◌&&◌, not, Bool, true, false, List, [], ◌∷◌, ◌++◌, refl, sym, ap, ◌∙◌, encode_utf8, inl, inr}
+use Rattle.std.specs.List.{list_all}
+use Rattle.std.specs.Str.{encode_utf8_all}
+use Rattle.std.proofs.lemmas.Bool.{cases_lt, and_parts, and_from, agree_below, not-true}
+use Rattle.std.proofs.lemmas.Str.{encode_ascii}
+use Rattle.esc_table.specs.Replaced.{written, replaced_all}
+use Rattle.place_core.specs.Classes.{class_of}
+use Rattle.place_core.specs.Events.{Event, TextByte, BlockByte, ValueByte, text_bytes, block_bytes, value_bytes}
+use Rattle.place_core.specs.Html.{Page, Text, Rcdata, Block, AttributeValue, config, read}
+use Rattle.place_core.specs.Plain.{only_text, only_block, only_value, IsPlain}
+use Rattle.place_core.specs.References.{Closed, meaning, flushed, undone}
+use Rattle.place_core.specs.Tags.{Tag, ValueOf, Quotes, DoubleQuoted, SingleQuoted, Unquoted}
+use Rattle.place_core.specs.declared.element.Element.{Element}
+use Rattle.place_core.specs.declared.kind.Kind.{Kind}
+use Rattle.place_core.specs.declared.kind.Kind.TheVariants as kind
+use Rattle.place_core.proofs.Bytes.{class-high}
+use Rattle.place_core.proofs.Readings.{is_own_in_text, is_own_in_block, is_own_in_quoted, text-byte, rcdata-byte, block-byte, double-byte, single-byte, undone-byte, text_bytes-append, value_bytes-append}
+use Rattle.san_html.specs.ReadBack.{as_text, is_quoted, IsBackInText, IsBackInRcdata, IsBackInBlock, IsBackInQuoted}
+use Rattle.san_html.specs.Sanitizers.{html_rows}
+use Rattle.san_html.proofs.Rows.{AllRows, written-has}
+use Rattle.san_html.proofs.Takes.{AllHigh, encode-high, as_text-append, Place, Takes, is_covered, all_true, covered, takes-text, high-text}
+
+-- bytes that stand for themselves
+text-place : Place (Text Closed) text_bytes is_own_in_text
+text-place = record { byte = text-byte; none = λ t. refl; more = text_bytes-append; high = refl }
+
+rcdata-place : (e : Element) → Place (Rcdata e Closed) text_bytes is_own_in_text
+rcdata-place e = record { byte = λ b t h. rcdata-byte b e t h; none = λ t. refl; more = text_bytes-append; high = refl }
+
+double-place : (tag : Tag) (k : Kind) → Place (AttributeValue DoubleQuoted tag (ValueOf k) Closed) value_bytes is_own_in_quoted
+double-place tag k = record { byte = λ b t h. double-byte b tag k t h; none = λ t. refl; more = value_bytes-append; high = refl }
+
+single-place : (tag : Tag) (k : Kind) → Place (AttributeValue SingleQuoted tag (ValueOf k) Closed) value_bytes is_own_in_quoted
+single-place tag k = record { byte = λ b t h. single-byte b tag k t h; none = λ t. refl; more = value_bytes-append; high = refl }
+
+-- the rows are read as their characters
+text-rows : AllRows (Takes (Text Closed) text_bytes) html_rows
+unfolding class_of meaning flushed lib.Utf8.encode
+text-rows = (λ t. refl, (λ t. refl, (λ t. refl, (λ t. refl, (λ t. refl, (λ t. refl, (λ t. refl, tt)))))))
+
+rcdata-rows : (e : Element) → AllRows (Takes (Rcdata e Closed) text_bytes) html_rows
+unfolding class_of meaning flushed lib.Utf8.encode
+rcdata-rows e = (λ t. refl, (λ t. refl, (λ t. refl, (λ t. refl, (λ t. refl, (λ t. refl, (λ t. refl, tt)))))))
+
+double-rows : (tag : Tag) (k : Kind) → AllRows (Takes (AttributeValue DoubleQuoted tag (ValueOf k) Closed) value_bytes) html_rows
+unfolding class_of meaning flushed lib.Utf8.encode
+double-rows tag k = (λ t. refl, (λ t. refl, (λ t. refl, (λ t. refl, (λ t. refl, (λ t. refl, (λ t. refl, tt)))))))
+
+single-rows : (tag : Tag) (k : Kind) → AllRows (Takes (AttributeValue SingleQuoted tag (ValueOf k) Closed) value_bytes) html_rows
+unfolding class_of meaning flushed lib.Utf8.encode
+single-rows tag k = (λ t. refl, (λ t. refl, (λ t. refl, (λ t. refl, (λ t. refl, (λ t. refl, (λ t. refl, tt)))))))
+
+-- every other byte of ASCII stands for itself
+text-covered : agree_below (is_covered html_rows is_own_in_text) all_true 128 ≡ true
+unfolding class_of
+text-covered = refl
+
+quoted-covered : agree_below (is_covered html_rows is_own_in_quoted) all_true 128 ≡ true
+unfolding class_of
+quoted-covered = refl
+
+-- what is told is bytes of that place alone
+only-text : (bs : List ℕ) (t : List Event) → only_text t ≡ true → only_text (text_bytes bs t) ≡ true
+only-text [] t e = e
+only-text (b ∷ bs) t e = only-text bs (TextByte b ∷ t) e
+
+only-block : (bs : List ℕ) (t : List Event) → only_block t ≡ true → only_block (block_bytes bs t) ≡ true
+only-block [] t e = e
+only-block (b ∷ bs) t e = only-block bs (BlockByte b ∷ t) e
+
+pub only-value : (bs : List ℕ) (t : List Event) → only_value t ≡ true → only_value (value_bytes bs t) ≡ true
+only-value [] t e = e
+only-value (b ∷ bs) t e = only-value bs (ValueByte b ∷ t) e
+
+-- bytes that tell nothing but a text are plain
+text-plain : (text bytes : List ℕ) (t : List Event) → read Page bytes (config (Text Closed) []) ≡ config (Text Closed) (text_bytes text []) → IsPlain bytes (config (Text Closed) t)
+text-plain text bytes t e = (refl, rw e (refl, only-text text [] refl))
+
+rcdata-plain : (x : Element) (text bytes : List ℕ) (t : List Event) → read Page bytes (config (Rcdata x Closed) []) ≡ config (Rcdata x Closed) (text_bytes text []) → IsPlain bytes (config (Rcdata x Closed) t)
+rcdata-plain x text bytes t e = (refl, rw e (refl, only-text text [] refl))
+
+block-plain : (text bytes : List ℕ) (t : List Event) → read Page bytes (config Block []) ≡ config Block (block_bytes text []) → IsPlain bytes (config Block t)
+block-plain text bytes t e = (refl, rw e (refl, only-block text [] refl))
+
+quoted-plain : (q : Quotes) (tag : Tag) (text bytes : List ℕ) (t : List Event) → is_quoted q ≡ true → read Page bytes (config (AttributeValue q tag (ValueOf kind.Plain) Closed) []) ≡ config (AttributeValue q tag (ValueOf kind.Plain) Closed) (value_bytes text []) → IsPlain bytes (config (AttributeValue q tag (ValueOf kind.Plain) Closed) t)
+quoted-plain DoubleQuoted tag text bytes t q e = (refl, rw e (refl, only-value text [] refl))
+quoted-plain SingleQuoted tag text bytes t q e = (refl, rw e (refl, only-value text [] refl))
+quoted-plain Unquoted tag text bytes t q e = cc
+
+text-reads : (cs : List ℕ) (t : List Event) → read Page (replaced_all html_rows cs) (config (Text Closed) t) ≡ config (Text Closed) (text_bytes (as_text (encode_utf8_all cs)) t)
+text-reads cs t = takes-text (Text Closed) text_bytes is_own_in_text html_rows text-place text-rows text-covered cs t
+
+rcdata-reads : (e : Element) (cs : List ℕ) (t : List Event) → read Page (replaced_all html_rows cs) (config (Rcdata e Closed) t) ≡ config (Rcdata e Closed) (text_bytes (as_text (encode_utf8_all cs)) t)
+rcdata-reads e cs t = takes-text (Rcdata e Closed) text_bytes is_own_in_text html_rows (rcdata-place e) (rcdata-rows e) text-covered cs t
+
+quoted-reads : (q : Quotes) (tag : Tag) (k : Kind) (cs : List ℕ) (t : List Event) → is_quoted q ≡ true → read Page (replaced_all html_rows cs) (config (AttributeValue q tag (ValueOf k) Closed) t) ≡ config (AttributeValue q tag (ValueOf k) Closed) (value_bytes (as_text (encode_utf8_all cs)) t)
+quoted-reads DoubleQuoted tag k cs t q = takes-text (AttributeValue DoubleQuoted tag (ValueOf k) Closed) value_bytes is_own_in_quoted html_rows (double-place tag k) (double-rows tag k) quoted-covered cs t
+quoted-reads SingleQuoted tag k cs t q = takes-text (AttributeValue SingleQuoted tag (ValueOf k) Closed) value_bytes is_own_in_quoted html_rows (single-place tag k) (single-rows tag k) quoted-covered cs t
+quoted-reads Unquoted tag k cs t q = cc
+
+pub back-in-text : (cs : List ℕ) → IsBackInText (encode_utf8_all cs) (replaced_all html_rows cs)
+back-in-text cs = record {
+  plain = λ t. text-plain (as_text (encode_utf8_all cs)) (replaced_all html_rows cs) t (text-reads cs []);
+  reads = text-reads cs;
+}
+
+pub back-in-rcdata : (cs : List ℕ) → IsBackInRcdata (encode_utf8_all cs) (replaced_all html_rows cs)
+back-in-rcdata cs = record {
+  plain = λ e t. rcdata-plain e (as_text (encode_utf8_all cs)) (replaced_all html_rows cs) t (rcdata-reads e cs []);
+  reads = λ e t. rcdata-reads e cs t;
+}
+
+pub back-in-quoted : (cs : List ℕ) → IsBackInQuoted (encode_utf8_all cs) (replaced_all html_rows cs)
+back-in-quoted cs = record {
+  plain = λ q tag t h. quoted-plain q tag (as_text (encode_utf8_all cs)) (replaced_all html_rows cs) t h (quoted-reads q tag kind.Plain cs [] h);
+  reads = λ q tag k t h. quoted-reads q tag k cs t h;
+}
+
+-- in a data block: none of the bytes is a `<`
+abbrev IsOwn : ℕ → List ℕ → Type 0
+IsOwn c bytes = list_all (λ b. is_own_in_block (class_of b)) bytes ≡ true
+
+own-rows : AllRows IsOwn html_rows
+unfolding class_of
+own-rows = (refl, (refl, (refl, (refl, (refl, (refl, (refl, tt)))))))
+
+own-covered : agree_below (is_covered html_rows is_own_in_block) all_true 128 ≡ true
+unfolding class_of
+own-covered = refl
+
+own-high : (bs : List ℕ) → AllHigh bs → list_all (λ b. is_own_in_block (class_of b)) bs ≡ true
+own-high [] h = refl
+own-high (b ∷ bs) h = rw (class-high b h.0) (own-high bs h.1)
+
+own-low : (c : ℕ) → c < 128 → (is_own_in_block (class_of c) && not (c == 0)) ≡ true → IsOwn c (encode_utf8 c)
+own-low c h e = rw (encode_ascii c h, (and_parts (is_own_in_block (class_of c)) (not (c == 0)) e).0) refl
+
+own-written : (c : ℕ) → IsOwn c (written html_rows c)
+own-written c = written-has IsOwn html_rows c own-rows (λ none. elim (cases_lt c 128) [
+  | inl low ↦ own-low c low (covered html_rows is_own_in_block c own-covered low none)
+  | inr high ↦ own-high (encode_utf8 c) (encode-high c high)
+])
+
+block-bytes-read : (bs : List ℕ) (t : List Event) → list_all (λ b. is_own_in_block (class_of b)) bs ≡ true → read Page bs (config Block t) ≡ config Block (block_bytes bs t)
+block-bytes-read [] t h = refl
+block-bytes-read (b ∷ bs) t h =
+    let parts = and_parts (is_own_in_block (class_of b)) (list_all (λ b. is_own_in_block (class_of b)) bs) h in
+    ap (read Page bs) (block-byte b t parts.0) ∙ block-bytes-read bs (BlockByte b ∷ t) parts.1
+
+all-append : (p : ℕ → Bool) (xs ys : List ℕ) → list_all p xs ≡ true → list_all p ys ≡ true → list_all p (xs ++ ys) ≡ true
+all-append p [] ys h k = k
+all-append p (x ∷ xs) ys h k = and_from (p x) (list_all p (xs ++ ys)) (and_parts (p x) (list_all p xs) h).0 (all-append p xs ys (and_parts (p x) (list_all p xs) h).1 k)
+
+replaced-own : (cs : List ℕ) → list_all (λ b. is_own_in_block (class_of b)) (replaced_all html_rows cs) ≡ true
+replaced-own [] = refl
+replaced-own (c ∷ cs) = all-append (λ b. is_own_in_block (class_of b)) (written html_rows c) (replaced_all html_rows cs) (own-written c) (replaced-own cs)
+
+block-reads : (cs : List ℕ) (t : List Event) → read Page (replaced_all html_rows cs) (config Block t) ≡ config Block (block_bytes (replaced_all html_rows cs) t)
+block-reads cs t = block-bytes-read (replaced_all html_rows cs) t (replaced-own cs)
+
+-- with references undone the bytes of a character are the character
+abbrev Undoes : ℕ → List ℕ → Type 0
+Undoes c bytes = (ys : List ℕ) → undone false Closed (bytes ++ ys) ≡ as_text (encode_utf8 c) ++ undone false Closed ys
+
+undoes-rows : AllRows Undoes html_rows
+unfolding class_of meaning flushed lib.Utf8.encode
+undoes-rows = (λ ys. refl, (λ ys. refl, (λ ys. refl, (λ ys. refl, (λ ys. refl, (λ ys. refl, (λ ys. refl, tt)))))))
+
+undone-high : (bs : List ℕ) → AllHigh bs → (ys : List ℕ) → undone false Closed (bs ++ ys) ≡ bs ++ undone false Closed ys
+undone-high [] h ys = refl
+undone-high (b ∷ bs) h ys = undone-byte false b (bs ++ ys) (ap is_own_in_text (class-high b h.0)) ∙ ap (λ (xs : List ℕ). b ∷ xs) (undone-high bs h.1 ys)
+
+undoes-low : (c : ℕ) → c < 128 → (is_own_in_text (class_of c) && not (c == 0)) ≡ true → Undoes c (encode_utf8 c)
+undoes-low c h e ys =
+    let parts = and_parts (is_own_in_text (class_of c)) (not (c == 0)) e in
+    let kept : as_text (c ∷ []) ≡ c ∷ [] = rw (not-true (c == 0) parts.1) refl in
+    rw (encode_ascii c h) (undone-byte false c ys parts.0 ∙ ap (λ (xs : List ℕ). xs ++ undone false Closed ys) (sym kept))
+
+undoes-high : (c : ℕ) → 128 ≤ c → Undoes c (encode_utf8 c)
+undoes-high c h ys = undone-high (encode_utf8 c) (encode-high c h) ys ∙ ap (λ (xs : List ℕ). xs ++ undone false Closed ys) (sym (high-text (encode_utf8 c) (encode-high c h)))
+
+undoes-written : (c : ℕ) → Undoes c (written html_rows c)
+undoes-written c = written-has Undoes html_rows c undoes-rows (λ none. elim (cases_lt c 128) [
+  | inl low ↦ undoes-low c low (covered html_rows is_own_in_text c text-covered low none)
+  | inr high ↦ undoes-high c high
+])
+
+undoes-all : (cs : List ℕ) → undone false Closed (replaced_all html_rows cs) ≡ as_text (encode_utf8_all cs)
+undoes-all [] = refl
+undoes-all (c ∷ cs) =
+    undoes-written c (replaced_all html_rows cs)
+    ∙ ap (λ (xs : List ℕ). as_text (encode_utf8 c) ++ xs) (undoes-all cs)
+    ∙ sym (as_text-append (encode_utf8 c) (encode_utf8_all cs))
+
+pub back-in-block : (cs : List ℕ) → IsBackInBlock (encode_utf8_all cs) (replaced_all html_rows cs)
+back-in-block cs = record {
+  plain = λ t. block-plain (replaced_all html_rows cs) (replaced_all html_rows cs) t (block-reads cs []);
+  reads = block-reads cs;
+  undoes = undoes-all cs;
+}

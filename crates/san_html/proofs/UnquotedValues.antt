@@ -1,0 +1,154 @@
+-- Text that `attr_nospace` writes, in unquoted values and where one is to begin.
+use Rattle.std.proofs.Common.{◌≡◌, ◌≢◌, ℕ, ◌<◌, ◌==◌, ◌&&◌, not, Bool, true, false, List, [], ◌∷◌, ◌++◌, Result, Ok, Err, IfOk, IsUtf8, refl, sym, ap, ◌∙◌, subst, encode_utf8, inl, inr, length, arith}
+use Rattle.std.specs.Char.{is_ascii_whitespace}
+use Rattle.std.specs.Str.{encode_utf8_all}
+use Rattle.std.proofs.lemmas.Bool.{cases_lt, cases_Bool, and_parts, agree_below, eqb-true, eqb-false, true≢false}
+use Rattle.std.proofs.lemmas.Str.{encode_ascii, length-encode, len_utf8_bounds}
+use Rattle.esc_table.specs.Replaced.{written, replaced, replaced_all}
+use Rattle.place_core.specs.Classes.{Class, White, QuotationMark, Ampersand, Apostrophe, GreaterThan, class_of}
+use Rattle.place_core.specs.Events.{Event, ValueByte, value_bytes}
+use Rattle.place_core.specs.Html.{Page, BeforeAttributeValue, AttributeValue, config, read}
+use Rattle.place_core.specs.Plain.{IsPlainUnquoted, begins_at_once}
+use Rattle.place_core.specs.References.{Closed, meaning, flushed}
+use Rattle.place_core.specs.Tags.{Tag, ValueOf, value_of, Unquoted}
+use Rattle.place_core.specs.declared.kind.Kind.{Kind}
+use Rattle.place_core.specs.declared.kind.Kind.TheVariants as kind
+use Rattle.place_core.proofs.Bytes.{class-high, class-white}
+use Rattle.place_core.proofs.Readings.{is_own_in_unquoted, begins_unquoted, unquoted-byte, unbegun-byte, value_bytes-append}
+use Rattle.san_html.specs.ReadBack.{as_byte, as_text, as_unquoted, IsBackInUnquoted}
+use Rattle.san_html.specs.Sanitizers.{attr_nospace_rows, failsafe}
+use Rattle.san_html.proofs.EscapedText.{only-value}
+use Rattle.san_html.proofs.Results.{for-text}
+use Rattle.san_html.proofs.Rows.{AllRows, written-has}
+use Rattle.san_html.proofs.Takes.{AllHigh, encode-high, Place, Takes, is_covered, all_true, covered, takes-text}
+
+unquoted-place : (tag : Tag) (k : Kind) → Place (AttributeValue Unquoted tag (ValueOf k) Closed) value_bytes is_own_in_unquoted
+unquoted-place tag k = record { byte = λ b t h. unquoted-byte b tag k t h; none = λ t. refl; more = value_bytes-append; high = refl }
+
+unquoted-rows : (tag : Tag) (k : Kind) → AllRows (Takes (AttributeValue Unquoted tag (ValueOf k) Closed) value_bytes) attr_nospace_rows
+unfolding class_of meaning flushed lib.Utf8.encode
+unquoted-rows tag k = (λ t. refl, (λ t. refl, (λ t. refl, (λ t. refl, (λ t. refl, (λ t. refl, (λ t. refl, (λ t. refl, (λ t. refl, (λ t. refl, (λ t. refl, (λ t. refl, (λ t. refl, (λ t. refl, (λ t. refl, tt)))))))))))))))
+
+unquoted-covered : agree_below (is_covered attr_nospace_rows is_own_in_unquoted) all_true 128 ≡ true
+unfolding class_of
+unquoted-covered = refl
+
+unquoted-reads : (tag : Tag) (k : Kind) (cs : List ℕ) (t : List Event) → read Page (replaced_all attr_nospace_rows cs) (config (AttributeValue Unquoted tag (ValueOf k) Closed) t) ≡ config (AttributeValue Unquoted tag (ValueOf k) Closed) (value_bytes (as_text (encode_utf8_all cs)) t)
+unquoted-reads tag k cs t = takes-text (AttributeValue Unquoted tag (ValueOf k) Closed) value_bytes is_own_in_unquoted attr_nospace_rows (unquoted-place tag k) (unquoted-rows tag k) unquoted-covered cs t
+
+-- what is written for a character begins with a byte that begins an unquoted value
+abbrev begins : List ℕ → Bool
+begins [] = false
+begins (b ∷ bs) = begins_unquoted (class_of b)
+
+abbrev Begins : ℕ → List ℕ → Type 0
+Begins c bytes = begins bytes ≡ true
+
+begins-rows : AllRows Begins attr_nospace_rows
+unfolding class_of
+begins-rows = (refl, (refl, (refl, (refl, (refl, (refl, (refl, (refl, (refl, (refl, (refl, (refl, (refl, (refl, (refl, tt)))))))))))))))
+
+own-begins : (c : Class) → is_own_in_unquoted c ≡ true → begins_unquoted c ≡ true
+own-begins White h = h
+own-begins QuotationMark h = h
+own-begins Ampersand h = refl
+own-begins Apostrophe h = h
+own-begins GreaterThan h = h
+own-begins _ h = refl
+
+low-begins : (c : ℕ) → c < 128 → (is_own_in_unquoted (class_of c) && not (c == 0)) ≡ true → Begins c (encode_utf8 c)
+low-begins c h e = rw (encode_ascii c h) (own-begins (class_of c) (and_parts (is_own_in_unquoted (class_of c)) (not (c == 0)) e).0)
+
+bytes-begin : (bs : List ℕ) → AllHigh bs → bs ≢ [] → begins bs ≡ true
+bytes-begin [] h n = absurd (n refl)
+bytes-begin (b ∷ bs) h n = ap begins_unquoted (class-high b h.0)
+
+encode-some : (c : ℕ) → encode_utf8 c ≢ []
+encode-some c e = omega (arith, ap length e, length-encode c, (len_utf8_bounds c).0)
+
+written-begins : (c : ℕ) → begins (written attr_nospace_rows c) ≡ true
+written-begins c = written-has Begins attr_nospace_rows c begins-rows (λ none. elim (cases_lt c 128) [
+  | inl low ↦ low-begins c low (covered attr_nospace_rows is_own_in_unquoted c unquoted-covered low none)
+  | inr high ↦ bytes-begin (encode_utf8 c) (encode-high c high) (encode-some c)
+])
+
+begins-append : (xs ys : List ℕ) → begins xs ≡ true → begins (xs ++ ys) ≡ true
+begins-append [] ys h = cc
+begins-append (x ∷ xs) ys h = h
+
+unbegun : (bytes : List ℕ) (tag : Tag) (k : Kind) (t : List Event) → begins bytes ≡ true → value_of k ≡ ValueOf k → read Page bytes (config (BeforeAttributeValue tag k) t) ≡ read Page bytes (config (AttributeValue Unquoted tag (ValueOf k) Closed) t)
+unbegun [] tag k t h e = cc
+unbegun (b ∷ bs) tag k t h e = rw (sym e) (unbegun-byte b bs tag k t h)
+
+-- .. and is no white space
+no-white : (b : ℕ) → begins_unquoted (class_of b) ≡ true → not (is_ascii_whitespace b) ≡ true
+no-white b h = elim (cases_Bool (is_ascii_whitespace b)) [
+  | inl e ↦ absurd (true≢false (sym h ∙ ap begins_unquoted (class-white b e)))
+  | inr e ↦ rw e refl
+]
+
+at-once : (bytes : List ℕ) → begins bytes ≡ true → begins_at_once bytes ≡ true
+at-once [] h = h
+at-once (b ∷ bs) h = no-white b h
+
+-- a text that is not empty
+unquoted-some : (text : List ℕ) → text ≢ [] → as_unquoted text ≡ as_text text
+unquoted-some [] n = absurd (n refl)
+unquoted-some (b ∷ bs) n = refl
+
+told-some : (bs : List ℕ) (e : Event) (t : List Event) → value_bytes bs (e ∷ t) ≢ []
+told-some [] e t h = cc
+told-some (b ∷ bs) e t h = told-some bs (ValueByte b) (e ∷ t) h
+
+byte-some : (b : ℕ) (bs : List ℕ) → value_bytes (as_byte b ++ bs) [] ≢ []
+byte-some b bs = elim (cases_Bool (b == 0)) [
+  | inl e ↦ rw e (told-some (191 ∷ 189 ∷ bs) (ValueByte 239) [])
+  | inr e ↦ rw e (told-some bs (ValueByte b) [])
+]
+
+text-some : (text : List ℕ) → text ≢ [] → value_bytes (as_text text) [] ≢ []
+text-some [] n = absurd (n refl)
+text-some (b ∷ bs) n = byte-some b (as_text bs)
+
+unquoted-plain : (tag : Tag) (text bytes : List ℕ) → text ≢ [] → read Page bytes (config (AttributeValue Unquoted tag (ValueOf kind.Plain) Closed) []) ≡ config (AttributeValue Unquoted tag (ValueOf kind.Plain) Closed) (value_bytes (as_text text) []) → IsPlainUnquoted tag (read Page bytes (config (AttributeValue Unquoted tag (ValueOf kind.Plain) Closed) []))
+unquoted-plain tag text bytes n e = rw e (record { within = refl; told = only-value (as_text text) [] refl; some = text-some text n })
+
+back : (text bytes : List ℕ) → text ≢ [] → begins bytes ≡ true → ((tag : Tag) (k : Kind) (t : List Event) → read Page bytes (config (AttributeValue Unquoted tag (ValueOf k) Closed) t) ≡ config (AttributeValue Unquoted tag (ValueOf k) Closed) (value_bytes (as_text text) t)) → IsBackInUnquoted text bytes
+back text bytes n h reads = record {
+  plain = λ tag t. (refl, unquoted-plain tag text bytes n (reads tag kind.Plain []));
+  reads = λ tag k t. rw (unquoted-some text n) (reads tag k t);
+  plain_unbegun = λ tag t. (refl, (at-once bytes h, subst (IsPlainUnquoted tag) (sym (unbegun bytes tag kind.Plain [] h refl)) (unquoted-plain tag text bytes n (reads tag kind.Plain []))));
+  reads_unbegun = λ tag k t e. unbegun bytes tag k t h e ∙ rw (unquoted-some text n) (reads tag k t);
+}
+
+abbrev BackSome : List ℕ → List ℕ → Type 0
+BackSome text bytes = text ≢ [] → IsBackInUnquoted text bytes
+
+back-some : (cs : List ℕ) → BackSome (encode_utf8_all cs) (replaced_all attr_nospace_rows cs)
+back-some [] n = absurd (n refl)
+back-some (c ∷ cs) n = back (encode_utf8_all (c ∷ cs)) (replaced_all attr_nospace_rows (c ∷ cs)) n (begins-append (written attr_nospace_rows c) (replaced_all attr_nospace_rows cs) (written-begins c)) (λ tag k t. unquoted-reads tag k (c ∷ cs) t)
+
+pub some-result : {E : Type 0} (text : List ℕ) → IsUtf8 text → text ≢ [] → (result : Result (List ℕ) E) → IfOk result (λ bytes. bytes ≡ replaced attr_nospace_rows text) → IfOk result (IsBackInUnquoted text)
+some-result text u n (Ok bytes) e = subst (IsBackInUnquoted text) (sym e) (for-text BackSome attr_nospace_rows back-some text u n)
+some-result text u n (Err r) e = tt
+
+-- the empty text
+back-failsafe : IsBackInUnquoted [] failsafe
+unfolding class_of
+back-failsafe = record {
+  plain = λ tag t. (refl, record { within = refl; told = refl; some = λ e. cc });
+  reads = λ tag k t. refl;
+  plain_unbegun = λ tag t. (refl, (refl, record { within = refl; told = refl; some = λ e. cc }));
+  reads_unbegun = λ tag k t e. rw e refl;
+}
+
+pub none-result : {E : Type 0} (text : List ℕ) → text ≡ [] → (result : Result (List ℕ) E) → IfOk result (λ bytes. bytes ≡ failsafe) → IfOk result (IsBackInUnquoted text)
+none-result text n (Ok bytes) e = rw (e, n) back-failsafe
+none-result text n (Err r) e = tt
+
+pub is-empty : (text : List ℕ) → (length text == 0) ≡ true → text ≡ []
+is-empty [] e = refl
+is-empty (b ∷ bs) e = absurd (omega (arith, eqb-true (length (b ∷ bs)) 0 e))
+
+pub not-empty : (text : List ℕ) → (length text == 0) ≡ false → text ≢ []
+not-empty text e n = eqb-false (length text) 0 e (ap length n)

@@ -1,0 +1,76 @@
+-- What each sanitizer promises of its bytes in their place: they are plain there, and are read back as the text. A place is a state in which the
+-- lexer holds nothing back: no reference is open, and no `<`. Whoever writes a text before a value has to see to that.
+use Rattle.std.specs.Prelude.{◌≡◌, ℕ, Bool, true, false, ◌==◌, List, [], ◌∷◌, ◌++◌, if◌then◌else◌}
+use Rattle.std.specs.Str.{str_to_ascii_lowercase}
+use Rattle.place_core.specs.Events.{Event, AttributeBegins, text_bytes, block_bytes, value_bytes, attribute_name_bytes}
+use Rattle.place_core.specs.Html.{Page, State, Text, Rcdata, Block, BeforeAttributeName, AfterAttributeName, AfterAttributeValue, SelfClosingStartTag, AttributeName, BeforeAttributeValue, AttributeValue, config, read}
+use Rattle.place_core.specs.Plain.{IsPlain}
+use Rattle.place_core.specs.References.{Closed, undone}
+use Rattle.place_core.specs.Tags.{Tag, ValueOf, value_of, Quotes, Unquoted, without_value}
+use Rattle.place_core.specs.declared.element.Element.{Element}
+use Rattle.place_core.specs.declared.kind.Kind.{Kind}
+use Rattle.place_core.specs.declared.kind.Kind.TheVariants as kind
+use Rattle.san_html.specs.Sanitizers.{as_replacement, failsafe, is_name}
+
+-- a text as it is read back: NUL is U+FFFD, and every other byte is as it was
+abbrev pub as_byte : ℕ → List ℕ
+as_byte b = if b == 0 then as_replacement else b ∷ []
+
+abbrev pub as_text : List ℕ → List ℕ
+as_text [] = []
+as_text (b ∷ bs) = as_byte b ++ as_text bs
+
+-- an unquoted value is never empty
+abbrev pub as_unquoted : List ℕ → List ℕ
+as_unquoted [] = failsafe
+as_unquoted (b ∷ bs) = as_text (b ∷ bs)
+
+-- in text, and in title and textarea: bytes of that very text, which are the text with its references undone
+pub record IsBackInText (text bytes : List ℕ) : Type 0 where
+  pub plain : (t : List Event) → IsPlain bytes (config (Text Closed) t)
+  pub reads : (t : List Event) → read Page bytes (config (Text Closed) t) ≡ config (Text Closed) (text_bytes (as_text text) t)
+
+pub record IsBackInRcdata (text bytes : List ℕ) : Type 0 where
+  pub plain : (e : Element) (t : List Event) → IsPlain bytes (config (Rcdata e Closed) t)
+  pub reads : (e : Element) (t : List Event) → read Page bytes (config (Rcdata e Closed) t) ≡ config (Rcdata e Closed) (text_bytes (as_text text) t)
+
+-- in a data block: bytes of that very block, as they are; with their references undone by themselves they are the text
+pub record IsBackInBlock (text bytes : List ℕ) : Type 0 where
+  pub plain : (t : List Event) → IsPlain bytes (config Block t)
+  pub reads : (t : List Event) → read Page bytes (config Block t) ≡ config Block (block_bytes bytes t)
+  pub undoes : undone false Closed bytes ≡ as_text text
+
+-- in a quoted value: plain where the attribute is of kind Plain; and for each kind but the type of a script, whose bytes decide more and in which no
+-- data may stand, the text with its references undone
+abbrev pub is_quoted : Quotes → Bool
+is_quoted Unquoted = false
+is_quoted _ = true
+
+pub record IsBackInQuoted (text bytes : List ℕ) : Type 0 where
+  pub plain : (q : Quotes) (tag : Tag) (t : List Event) → is_quoted q ≡ true → IsPlain bytes (config (AttributeValue q tag (ValueOf kind.Plain) Closed) t)
+  pub reads : (q : Quotes) (tag : Tag) (k : Kind) (t : List Event) → is_quoted q ≡ true → read Page bytes (config (AttributeValue q tag (ValueOf k) Closed) t) ≡ config (AttributeValue q tag (ValueOf k) Closed) (value_bytes (as_text text) t)
+
+-- in an unquoted value that has begun, and where one is to begin
+pub record IsBackInUnquoted (text bytes : List ℕ) : Type 0 where
+  pub plain : (tag : Tag) (t : List Event) → IsPlain bytes (config (AttributeValue Unquoted tag (ValueOf kind.Plain) Closed) t)
+  pub reads : (tag : Tag) (k : Kind) (t : List Event) → read Page bytes (config (AttributeValue Unquoted tag (ValueOf k) Closed) t) ≡ config (AttributeValue Unquoted tag (ValueOf k) Closed) (value_bytes (as_unquoted text) t)
+  pub plain_unbegun : (tag : Tag) (t : List Event) → IsPlain bytes (config (BeforeAttributeValue tag kind.Plain) t)
+  pub reads_unbegun : (tag : Tag) (k : Kind) (t : List Event) → value_of k ≡ ValueOf k → read Page bytes (config (BeforeAttributeValue tag k) t) ≡ config (AttributeValue Unquoted tag (ValueOf k) Closed) (value_bytes (as_unquoted text) t)
+
+-- a name as it is read back: in lower case
+abbrev pub as_name : List ℕ → List ℕ
+as_name text = str_to_ascii_lowercase (if is_name text then text else failsafe)
+
+-- where the name of an attribute may begin: before names, behind one, behind a quoted value and behind a solidus; and the tag, as it is behind
+-- what stands there
+abbrev pub BeginsName : State → Tag → Type 0
+BeginsName (BeforeAttributeName tag) after = after ≡ tag
+BeginsName (AfterAttributeName tag k) after = after ≡ without_value tag k
+BeginsName (AfterAttributeValue tag) after = after ≡ tag
+BeginsName (SelfClosingStartTag tag) after = after ≡ tag
+BeginsName _ after = ⊥
+
+-- in a tag: the bytes are one whole name there
+pub record IsBackInTag (text bytes : List ℕ) : Type 0 where
+  pub plain : (s : State) (tag : Tag) (t : List Event) → BeginsName s tag → IsPlain bytes (config s t)
+  pub reads : (s : State) (tag : Tag) (t : List Event) → BeginsName s tag → read Page bytes (config s t) ≡ config (AttributeName tag (as_name text)) (attribute_name_bytes (as_name text) (AttributeBegins ∷ t))

@@ -1,0 +1,45 @@
+ghost use Rattle.std.specs.Prelude.{◌≡◌, IfOk};
+ghost use Rattle.san_html.specs.ReadBack.{IsBackInText, IsBackInRcdata, IsBackInBlock, IsBackInQuoted};
+ghost use Rattle.san_html.specs.Sanitizers.{html as html_of};
+
+use esc_table::{replace, table};
+use page_io::{Memory, Text};
+use std::alloc::Global;
+
+/// What is written for a text in a text, a title, a textarea or a data block: NUL becomes U+FFFD, each of `"&'+<>` a
+/// character reference, and every other character stays. There it is plain, whatever the text, where no reference and
+/// no `<` is open before it, and is read back as the text, NUL as U+FFFD; in a data block once references are undone.
+/// The error is want of memory. (HTML Standard, section 13.1.4.)
+pub fn html(alloc: Global, text: &str) -> Result<Text, Memory>
+    ensures written { IfOk result (λ bytes. bytes ≡ html_of text.now) }
+    ensures in_text { IfOk result (λ bytes. IsBackInText text.now bytes) }
+    ensures in_rcdata { IfOk result (λ bytes. IsBackInRcdata text.now bytes) }
+    ensures in_block { IfOk result (λ bytes. IsBackInBlock text.now bytes) }
+{
+    escape(alloc, text)
+}
+
+/// What is written for a text in a quoted value of an attribute: the same as `html` writes. There it is plain if the
+/// attribute is of kind Plain, where no reference is open before it, and is read back as the text, NUL as U+FFFD. The
+/// error is want of memory. (HTML Standard, section 13.1.2.3.)
+pub fn attr(alloc: Global, text: &str) -> Result<Text, Memory>
+    ensures written { IfOk result (λ bytes. bytes ≡ html_of text.now) }
+    ensures in_quoted { IfOk result (λ bytes. IsBackInQuoted text.now bytes) }
+{
+    escape(alloc, text)
+}
+
+fn escape(alloc: Global, text: &str) -> Result<Text, Memory>
+    ensures { IfOk result (λ bytes. bytes ≡ html_of text.now) }
+{
+    let table = table! {
+        '\0' => "\u{FFFD}",
+        '"' => "&#34;",
+        '&' => "&amp;",
+        '\'' => "&#39;",
+        '+' => "&#43;",
+        '<' => "&lt;",
+        '>' => "&gt;",
+    };
+    replace(alloc, &table, text)
+}

@@ -1,0 +1,14 @@
+// The sanitizers of HTML: each makes of any text bytes that are plain in their place of a page and are read back there.
+#![tactic(auto)]
+
+mod escape;
+mod failsafe;
+mod name;
+#[cfg(test)]
+mod tests;
+mod unquoted;
+
+pub use escape::{attr, html};
+pub use failsafe::FAILSAFE;
+pub use name::attr_name;
+pub use unquoted::attr_nospace;

@@ -1,0 +1,45 @@
+ghost use Rattle.std.specs.Prelude.{◌≡◌, ◌↔◌, false, IfOk};
+ghost use Rattle.std.specs.Char.{is_ascii_alphanumeric};
+ghost use Rattle.std.specs.List.{list_all};
+ghost use Rattle.std.specs.Str.{str_to_ascii_lowercase};
+ghost use Rattle.san_html.specs.ReadBack.{IsBackInTag};
+ghost use Rattle.san_html.specs.Sanitizers.{attr_name as attr_name_of, failsafe, is_name as is_name_of};
+
+use crate::failsafe::FAILSAFE;
+use html_words::special;
+use page_io::{Memory, Text};
+use std::alloc::Global;
+
+/// What is written for a text where the name of an attribute is to stand: the text in lower case if it is letters and
+/// digits of ASCII, one at least, and no special name (one whose value is a URL, a script or a style, or that decides
+/// what the page does), and `ZgotmplZ` exactly for every other text. There it begins a name and is all of it, whatever
+/// the text, if what ends a name stands behind it. The error is want of memory. (HTML Standard, section 13.1.2.3.)
+pub fn attr_name(alloc: Global, text: &str) -> Result<Text, Memory>
+    ensures written { IfOk result (λ bytes. bytes ≡ attr_name_of text.now) }
+    ensures failsafe { IfOk result (λ bytes. (bytes ≡ failsafe) ↔ (is_name_of text.now ≡ false)) }
+    ensures in_tag { IfOk result (λ bytes. IsBackInTag text.now bytes) }
+{
+    if !is_name(text) {
+        return Text::copy_of(alloc, FAILSAFE);
+    }
+    lower_case(alloc, text)
+}
+
+// Whether a text is the name of an attribute that data may make.
+fn is_name(text: &str) -> bool
+    ensures { result ≡ is_name_of text.now }
+{
+    !text.is_empty() && is_alphanumeric(text.as_bytes()) && !special(text)
+}
+
+fn is_alphanumeric(bytes: &[u8]) -> bool
+    ensures { result ≡ list_all is_ascii_alphanumeric bytes.now }
+{
+    bytes.iter().all(|byte| byte.is_ascii_alphanumeric())
+}
+
+fn lower_case(alloc: Global, text: &str) -> Result<Text, Memory>
+    ensures { IfOk result (λ bytes. bytes ≡ str_to_ascii_lowercase text.now) }
+{
+    Ok(Text::from(text.to_ascii_lowercase(alloc)?))
+}

@@ -1,0 +1,47 @@
+ghost use Rattle.std.specs.Prelude.{◌≡◌, IfOk};
+ghost use Rattle.esc_table.specs.Replaced.{replaced};
+ghost use Rattle.san_html.specs.ReadBack.{IsBackInUnquoted};
+ghost use Rattle.san_html.specs.Sanitizers.{attr_nospace as attr_nospace_of, attr_nospace_rows};
+
+use crate::failsafe::FAILSAFE;
+use esc_table::{replace, table};
+use page_io::{Memory, Text};
+use std::alloc::Global;
+
+/// What is written for a text in an unquoted value of an attribute, or where one is to begin: besides what `attr`
+/// escapes, white space, `=` and backquotes are character references too, and for the empty text `ZgotmplZ` is written,
+/// since there the value would be whatever comes next. There it is plain if the attribute is of kind Plain, where no
+/// reference is open before it, and is read back as the text, NUL as U+FFFD, or as that word. The error is want of
+/// memory. (HTML Standard, section 13.1.2.3.)
+pub fn attr_nospace(alloc: Global, text: &str) -> Result<Text, Memory>
+    ensures written { IfOk result (λ bytes. bytes ≡ attr_nospace_of text.now) }
+    ensures in_unquoted { IfOk result (λ bytes. IsBackInUnquoted text.now bytes) }
+{
+    if text.is_empty() {
+        return Text::copy_of(alloc, FAILSAFE);
+    }
+    escape_all(alloc, text)
+}
+
+fn escape_all(alloc: Global, text: &str) -> Result<Text, Memory>
+    ensures { IfOk result (λ bytes. bytes ≡ replaced attr_nospace_rows text.now) }
+{
+    let table = table! {
+        '\0' => "&#xfffd;",
+        '\t' => "&#9;",
+        '\n' => "&#10;",
+        '\u{B}' => "&#11;",
+        '\u{C}' => "&#12;",
+        '\r' => "&#13;",
+        ' ' => "&#32;",
+        '=' => "&#61;",
+        '`' => "&#96;",
+        '"' => "&#34;",
+        '&' => "&amp;",
+        '\'' => "&#39;",
+        '+' => "&#43;",
+        '<' => "&lt;",
+        '>' => "&gt;",
+    };
+    replace(alloc, &table, text)
+}
