@@ -15,6 +15,8 @@ pub fn input_of(alloc: Global, input: Input, size: usize) -> Result<String, Allo
         Input::String => repeated(alloc, "{{\"", "a", "\"}}", size),
         Input::Actions => repeated(alloc, "", "{{.}}", "", size),
         Input::Definitions => definitions(alloc, size),
+        Input::Markup => repeated(alloc, "", "<\"&", "", size),
+        Input::References => repeated(alloc, "", "&lt;&#9;", "", size),
     }
 }
 

@@ -10,6 +10,10 @@ mod request;
 
 use crate::input::input_of;
 use crate::request::{Call, Input, Request, size_named, words_named};
+use html_words::RefChars;
+use page_io::{Memory, Text};
+use place_core::Chars;
+use san_html::{attr_nospace, html};
 use std::alloc::{AllocError, Global};
 use std::env;
 use std::io::ErrorKind;
@@ -24,6 +28,8 @@ fn main(rt: HostRuntime) -> ExitCode {
             let _ = eprintln!(&rt; "usage: measure WORD BYTES");
             let _ = eprintln!(&rt; "WORD: tokens-text tokens-open tokens-string tokens-actions");
             let _ = eprintln!(&rt; "      parse-text parse-actions parse-definitions");
+            let _ = eprintln!(&rt; "      html-text html-markup nospace-text nospace-markup");
+            let _ = eprintln!(&rt; "      characters-text characters-references");
             return ExitCode::from(2);
         }
         Err(_) => return ExitCode::from(11),
@@ -64,6 +70,13 @@ fn counted(alloc: Global, call: Call, input: Input, size: usize) -> Result<Strin
     match call {
         Call::Tokens => tokens_counted(alloc, text.as_str()),
         Call::Parse => definitions_counted(alloc, text.as_str()),
+        Call::Html => written_counted(alloc, text.as_str(), html(alloc, text.as_str())),
+        Call::AttrNospace => written_counted(
+            alloc,
+            text.as_str(),
+            attr_nospace(alloc, text.as_str()),
+        ),
+        Call::Characters => characters_counted(alloc, text.as_str()),
     }
 }
 
@@ -93,4 +106,33 @@ fn definitions_counted(alloc: Global, text: &str) -> Result<String, AllocError>
         Err(FileRefused::Memory) => Err(AllocError),
         Err(_) => format!(in alloc; "{bytes} bytes, refused"),
     }
+}
+
+// What a sanitizer made of a text.
+fn written_counted(
+    alloc: Global,
+    text: &str,
+    written: Result<Text, Memory>,
+) -> Result<String, AllocError> {
+    let bytes = text.len();
+    match written {
+        Ok(written) => {
+            let count = written.as_str().len();
+            format!(in alloc; "{bytes} bytes, {count} bytes written")
+        }
+        Err(Memory) => Err(AllocError),
+    }
+}
+
+fn characters_counted(alloc: Global, text: &str) -> Result<String, AllocError>
+    requires { length text.now ≤ max_text }
+{
+    let bytes = text.len();
+    let mut characters = RefChars::new(text, 0, false);
+    for count in 0..bytes {
+        if characters.next().is_none() {
+            return format!(in alloc; "{bytes} bytes, {count} characters");
+        }
+    }
+    format!(in alloc; "{bytes} bytes, {bytes} characters")
 }

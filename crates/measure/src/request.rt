@@ -10,6 +10,12 @@ pub enum Call {
     Tokens,
     /// It is parsed, as a template file.
     Parse,
+    /// It is sanitized for text.
+    Html,
+    /// It is sanitized for an unquoted value.
+    AttrNospace,
+    /// Its characters are read with references undone, as the value of an attribute.
+    Characters,
 }
 
 /// What an input is made of.
@@ -25,6 +31,10 @@ pub enum Input {
     Actions,
     /// Definitions, each with a name of its own.
     Definitions,
+    /// Characters that a sanitizer writes as references, again and again.
+    Markup,
+    /// References, again and again.
+    References,
 }
 
 /// What the words ask for.
@@ -46,6 +56,12 @@ pub fn words_named(word: &str) -> Option<(Call, Input)> {
         "parse-text" => Some((Call::Parse, Input::Text)),
         "parse-actions" => Some((Call::Parse, Input::Actions)),
         "parse-definitions" => Some((Call::Parse, Input::Definitions)),
+        "html-text" => Some((Call::Html, Input::Text)),
+        "html-markup" => Some((Call::Html, Input::Markup)),
+        "nospace-text" => Some((Call::AttrNospace, Input::Text)),
+        "nospace-markup" => Some((Call::AttrNospace, Input::Markup)),
+        "characters-text" => Some((Call::Characters, Input::Text)),
+        "characters-references" => Some((Call::Characters, Input::References)),
         _ => None,
     }
 }
