@@ -1,4 +1,5 @@
 pub mod Apart
+pub mod Bytes
 pub mod Examples
 pub mod FormLaws
 pub mod Fronts

@@ -8,16 +8,19 @@ use Rattle.page_datum.specs.declared.fault.ExecFault.{ExecFault}
 use Rattle.page_datum.specs.declared.fault.FaultKind.{FaultKind}
 use Rattle.page_datum.specs.declared.files.Files.{Files}
 use Rattle.page_datum.specs.declared.files.NamedFile.{NamedFile}
+use Rattle.place_core.specs.Events.{Event, Mark, text_bytes}
+use Rattle.place_core.specs.Html.{Page, Template, Text, Config, config, read, start}
+use Rattle.place_core.specs.References.{Closed}
+use Rattle.place_core.proofs.Readings.{read-append}
 use Rattle.page_set.specs.Html.{html}
 use Rattle.page_set.specs.Making.{IsSet, IsExecution}
-use Rattle.page_set.specs.PageLexer.{Page, Template, Text, Event, Mark, Config, config, characters, read, start}
 use Rattle.page_set.specs.Path.{Symbol, Hole, read_path, read_written, read_filled, at_cut}
 use Rattle.page_set.specs.Running.{Piece, text_piece, hole_piece, Run, hole_run, field_of, run, page_of, is_root}
 use Rattle.page_set.specs.Shape.{Part, TextPart, HolePart, bytes_of, marked, Reads, shape_of}
 use Rattle.page_set.specs.Soundness.{path_of, parts_of, text_of, texts_of, as_text, ReadsBack, IsSoundFor, IsSound}
 use Rattle.page_set.specs.declared.node.Node.{Node}
 use Rattle.page_set.specs.declared.node.Node.TheVariants as node
-use Rattle.page_set.proofs.Readings.{read-append, html_reads, html_plain, html_marked}
+use Rattle.page_set.proofs.Readings.{html_reads, html_plain, html_marked}
 use Rattle.page_set.proofs.Wholes.{Wholes, template_whole}
 
 -- a page reads to one place at most
@@ -39,24 +42,24 @@ not_faulted fault e = cc
 
 -- where a run is done, its page reads to the end of its path
 hole_reads : (template : List ℕ) (line : ℕ) (r : Result Data FaultKind) (rest : Run) (t : List Event) (end : Config)
-    → (rest.ending ≡ done → Reads (parts_of rest.pieces) (config Text (Mark ∷ t)) end)
-    → (hole_run template line r rest).ending ≡ done → Reads (parts_of (hole_run template line r rest).pieces) (config Text t) end
+    → (rest.ending ≡ done → Reads (parts_of rest.pieces) (config (Text Closed) (Mark ∷ t)) end)
+    → (hole_run template line r rest).ending ≡ done → Reads (parts_of (hole_run template line r rest).pieces) (config (Text Closed) t) end
 hole_reads template line (Err kind) rest t end behind e = absurd (not_faulted _ e)
 hole_reads template line (Ok value) rest t end behind e =
     inl (html_plain (printed value) t, subst (λ (c : Config). Reads (parts_of rest.pieces) c end) (sym (html_marked (printed value) t)) (behind e))
 
 reads : (template : List ℕ) (nodes : List Node) (datum : Data) (t : List Event) → Wholes nodes → (run template nodes datum).ending ≡ done
-    → Reads (parts_of (run template nodes datum).pieces) (config Text t) (read_path (path_of nodes) (config Text t))
+    → Reads (parts_of (run template nodes datum).pieces) (config (Text Closed) t) (read_path (path_of nodes) (config (Text Closed) t))
 reads template [] datum t w e = refl
 reads template (node.Text text ∷ nodes) datum t w e =
     let u = w.0 t in
     let parts = parts_of (run template nodes datum).pieces in
-    subst (λ (c : Config). Reads parts c (read_path (path_of nodes) (read_written text (config Text t)))) (sym (u.1 Page))
-    (subst (λ (c : Config). Reads parts (config Text u.0) (read_path (path_of nodes) (at_cut c.at c.told))) (sym (u.1 Template)) (reads template nodes datum u.0 w.1 e))
+    subst (λ (c : Config). Reads parts c (read_path (path_of nodes) (read_written text (config (Text Closed) t)))) (sym (u.1 Page))
+    (subst (λ (c : Config). Reads parts (config (Text Closed) u.0) (read_path (path_of nodes) (at_cut c.at c.told))) (sym (u.1 Template)) (reads template nodes datum u.0 w.1 e))
 reads template (node.Hole name line ∷ nodes) datum t w e =
-    hole_reads template line (field_of name datum) (run template nodes datum) t (read_path (path_of nodes) (config Text (Mark ∷ t))) (reads template nodes datum (Mark ∷ t) w) e
+    hole_reads template line (field_of name datum) (run template nodes datum) t (read_path (path_of nodes) (config (Text Closed) (Mark ∷ t))) (reads template nodes datum (Mark ∷ t) w) e
 
-in_text : (nodes : List Node) (t : List Event) → Wholes nodes → (read_path (path_of nodes) (config Text t)).at ≡ Text
+in_text : (nodes : List Node) (t : List Event) → Wholes nodes → (read_path (path_of nodes) (config (Text Closed) t)).at ≡ Text Closed
 in_text [] t w = refl
 in_text (node.Text text ∷ nodes) t w =
     let u = w.0 t in
@@ -65,7 +68,7 @@ in_text (node.Hole name line ∷ nodes) t w = in_text nodes (Mark ∷ t) w
 
 -- each value reads back in its place
 hole_values : (template : List ℕ) (line : ℕ) (r : Result Data FaultKind) (rest : Run) (t : List Event)
-    → ReadsBack rest.pieces (config Text (Mark ∷ t)) → ReadsBack (hole_run template line r rest).pieces (config Text t)
+    → ReadsBack rest.pieces (config (Text Closed) (Mark ∷ t)) → ReadsBack (hole_run template line r rest).pieces (config (Text Closed) t)
 hole_values template line (Err kind) rest t behind = tt
 hole_values template line (Ok value) rest t behind = (
   html_plain (printed value) t,
@@ -73,7 +76,7 @@ hole_values template line (Ok value) rest t behind = (
   subst (ReadsBack rest.pieces) (sym (html_marked (printed value) t)) behind,
 )
 
-values : (template : List ℕ) (nodes : List Node) (datum : Data) (t : List Event) → Wholes nodes → ReadsBack (run template nodes datum).pieces (config Text t)
+values : (template : List ℕ) (nodes : List Node) (datum : Data) (t : List Event) → Wholes nodes → ReadsBack (run template nodes datum).pieces (config (Text Closed) t)
 values template [] datum t w = tt
 values template (node.Text text ∷ nodes) datum t w =
     let u = w.0 t in
@@ -82,22 +85,22 @@ values template (node.Hole name line ∷ nodes) datum t w = hole_values template
 
 -- the whole page reads as the path with the fields' texts in its holes
 hole_whole : (template : List ℕ) (line : ℕ) (r : Result Data FaultKind) (rest : Run) (symbols : List Symbol) (texts : List (List ℕ)) (t : List Event)
-    → ((u : List Event) → rest.ending ≡ done → read Page (page_of rest.pieces) (config Text u) ≡ read_filled symbols texts (config Text u))
+    → ((u : List Event) → rest.ending ≡ done → read Page (page_of rest.pieces) (config (Text Closed) u) ≡ read_filled symbols texts (config (Text Closed) u))
     → (hole_run template line r rest).ending ≡ done
-    → read Page (page_of (hole_run template line r rest).pieces) (config Text t) ≡ read_filled (Hole ∷ symbols) (text_of r ∷ texts) (config Text t)
+    → read Page (page_of (hole_run template line r rest).pieces) (config (Text Closed) t) ≡ read_filled (Hole ∷ symbols) (text_of r ∷ texts) (config (Text Closed) t)
 hole_whole template line (Err kind) rest symbols texts t behind e = absurd (not_faulted _ e)
 hole_whole template line (Ok value) rest symbols texts t behind e =
-    read-append Page (html (printed value)) (page_of rest.pieces) (config Text t)
+    read-append Page (html (printed value)) (page_of rest.pieces) (config (Text Closed) t)
     ∙ ap (read Page (page_of rest.pieces)) (html_reads (printed value) t)
-    ∙ behind (characters (as_text (printed value)) t) e
+    ∙ behind (text_bytes (as_text (printed value)) t) e
 
 whole : (template : List ℕ) (nodes : List Node) (datum : Data) (t : List Event) → Wholes nodes → (run template nodes datum).ending ≡ done
-    → read Page (page_of (run template nodes datum).pieces) (config Text t) ≡ read_filled (path_of nodes) (texts_of nodes datum) (config Text t)
+    → read Page (page_of (run template nodes datum).pieces) (config (Text Closed) t) ≡ read_filled (path_of nodes) (texts_of nodes datum) (config (Text Closed) t)
 whole template [] datum t w e = refl
 whole template (node.Text text ∷ nodes) datum t w e =
     let u = w.0 t in
     let page = page_of (run template nodes datum).pieces in
-    read-append Page text page (config Text t)
+    read-append Page text page (config (Text Closed) t)
     ∙ ap (read Page page) (u.1 Page)
     ∙ whole template nodes datum u.0 w.1 e
     ∙ ap (λ (c : Config). read_filled (path_of nodes) (texts_of nodes datum) (at_cut c.at c.told)) (sym (u.1 Template))

@@ -1,10 +1,10 @@
 -- What the text of a template is built of: plain tags (a part of the tags of the HTML Standard, section 13.1.2), holes, and
 -- characters that stand for themselves, byte by byte.
-use Rattle.std.specs.Prelude.{◌≡◌, ◌≢◌, ℕ, Bool, false, not, ◌&&◌, ◌||◌, ◌==◌, IsTrue, List, [], ◌∷◌, ◌++◌}
+use Rattle.std.specs.Prelude.{◌≡◌, ◌≢◌, ℕ, Bool, false, not, ◌&&◌, ◌||◌, ◌==◌, IsTrue, codes, nat_eq, List, [], ◌∷◌, ◌++◌}
 use Rattle.std.specs.Char.{is_ascii_alphabetic, is_ascii_alphanumeric}
-use Rattle.std.specs.List.{list_all}
+use Rattle.std.specs.Cmp.Lexicographic.{pointwise}
+use Rattle.std.specs.List.{list_all, list_any}
 use Rattle.std.specs.Str.{str_to_ascii_lowercase}
-use Rattle.page_set.specs.PageLexer.{is_special_name}
 
 pub data Form : Type 0 where
   start_tag : List ℕ → Form
@@ -23,6 +23,14 @@ spelling (character byte) = byte ∷ []
 abbrev pub begins_with : (ℕ → Bool) → List ℕ → Bool
 begins_with p [] = false
 begins_with p (b ∷ bs) = p b
+
+-- The elements whose content is not read as text (HTML Standard, sections 13.2.5.2 to 13.2.5.4). The Standard has more of them (xmp, iframe,
+-- noembed, noframes, noscript, plaintext); the profile reads their content as text.
+abbrev pub special_names : List (List ℕ)
+special_names = codes "script" ∷ codes "style" ∷ codes "title" ∷ codes "textarea" ∷ []
+
+abbrev pub is_special_name : List ℕ → Bool
+is_special_name name = list_any (pointwise nat_eq name) special_names
 
 -- one of the special names, in any case
 abbrev pub is_special : List ℕ → Bool

@@ -1,12 +1,15 @@
 -- A text as HTML text: each character that could be read as markup is a character reference (HTML Standard, section
 -- 13.1.4), and NUL is U+FFFD.
 use Rattle.std.specs.Prelude.{ℕ, ◌==◌, codes, List, [], ◌∷◌, ◌++◌, if◌then◌else◌}
-use Rattle.page_set.specs.References.{replacement}
+
+-- U+FFFD in UTF-8
+abbrev pub replacement_bytes : List ℕ
+replacement_bytes = 239 ∷ 191 ∷ 189 ∷ []
 
 -- what is written for a byte
 abbrev pub html_row : ℕ → List ℕ
 html_row b =
-    if b == 0 then replacement
+    if b == 0 then replacement_bytes
     else (if b == 34 then codes "&#34;"
     else (if b == 38 then codes "&amp;"
     else (if b == 39 then codes "&#39;"

@@ -6,10 +6,8 @@ pub mod Made
 pub mod Making
 pub mod Names
 pub mod Nodes
-pub mod PageLexer
 pub mod Path
 pub mod Picked
-pub mod References
 pub mod Refusals
 pub mod Running
 pub mod Scanned

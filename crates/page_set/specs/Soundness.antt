@@ -5,12 +5,15 @@ use Rattle.page_datum.specs.Execution.{done}
 use Rattle.page_datum.specs.Printed.{printed}
 use Rattle.page_datum.specs.declared.fault.FaultKind.{FaultKind}
 use Rattle.page_datum.specs.declared.files.Files.{Files}
+use Rattle.place_core.specs.Events.{text_bytes}
+use Rattle.place_core.specs.Html.{Page, State, Text, Config, config, read, start}
+use Rattle.place_core.specs.Plain.{settled_config, IsPlain}
+use Rattle.place_core.specs.References.{Closed}
+use Rattle.page_set.specs.Html.{replacement_bytes}
 use Rattle.page_set.specs.Making.{IsSet}
-use Rattle.page_set.specs.PageLexer.{Page, State, Text, Config, config, characters, read, start}
 use Rattle.page_set.specs.Path.{Symbol, Written, Hole, read_path, read_filled}
-use Rattle.page_set.specs.References.{replacement}
 use Rattle.page_set.specs.Running.{Piece, text_piece, hole_piece, field_of, run, written, is_root}
-use Rattle.page_set.specs.Shape.{Part, TextPart, HolePart, bytes_of, settled, IsPlain, marked, Reads, shape_of}
+use Rattle.page_set.specs.Shape.{Part, TextPart, HolePart, bytes_of, marked, Reads, shape_of}
 use Rattle.page_set.specs.declared.node.Node.{Node}
 use Rattle.page_set.specs.declared.node.Node.TheVariants as node
 
@@ -29,7 +32,7 @@ parts_of (hole_piece value ∷ pieces) = HolePart (written (hole_piece value)) �
 -- a text as it is read back: NUL is U+FFFD, and every other byte is as it was
 abbrev pub as_text : List ℕ → List ℕ
 as_text [] = []
-as_text (b ∷ bs) = (if b == 0 then replacement else b ∷ []) ++ as_text bs
+as_text (b ∷ bs) = (if b == 0 then replacement_bytes else b ∷ []) ++ as_text bs
 
 -- the text of a hole; a fault has none
 abbrev pub text_of : Result Data FaultKind → List ℕ
@@ -44,14 +47,14 @@ texts_of (node.Hole name line ∷ nodes) datum = text_of (field_of name datum) �
 
 -- bytes read in their place, with references undone, are the value as it is printed
 abbrev pub IsBack : State → Data → List ℕ → Type 0
-IsBack Text value bytes = (read Page bytes (config Text [])).told ≡ characters (as_text (printed value)) []
-IsBack _ value bytes = ⊥
+IsBack (Text Closed) value bytes = (read Page bytes (config (Text Closed) [])).told ≡ text_bytes (as_text (printed value)) []
+IsBack s value bytes = ⊥
 
 -- from a place on, each value is plain in its place and reads back there
 abbrev pub ReadsBack : List Piece → Config → Type 0
 ReadsBack [] c = ⊤
 ReadsBack (text_piece bytes ∷ pieces) c = ReadsBack pieces (read Page (written (text_piece bytes)) c)
-ReadsBack (hole_piece value ∷ pieces) c = IsPlain (written (hole_piece value)) c × IsBack (settled c).at value (written (hole_piece value)) × ReadsBack pieces (marked (written (hole_piece value)) c)
+ReadsBack (hole_piece value ∷ pieces) c = IsPlain (written (hole_piece value)) c × IsBack (settled_config c).at value (written (hole_piece value)) × ReadsBack pieces (marked (written (hole_piece value)) c)
 
 -- The execution is done, and the page is the bytes of its pieces. Its reading, each plain hole as its mark, comes to where the
 -- template's path comes, and to nothing else, so its shape is the path's own. It ends in text, each value is plain in its place
@@ -62,7 +65,7 @@ pub record IsSoundFor (root : List ℕ) (nodes : List Node) (datum : Data) (page
   pub reads : Reads (parts_of (run root nodes datum).pieces) start (read_path (path_of nodes) start)
   pub no_other : (end : Config) → Reads (parts_of (run root nodes datum).pieces) start end → end ≡ read_path (path_of nodes) start
   pub shape : (end : Config) → Reads (parts_of (run root nodes datum).pieces) start end → shape_of end ≡ shape_of (read_path (path_of nodes) start)
-  pub in_text : (read_path (path_of nodes) start).at ≡ Text
+  pub in_text : (read_path (path_of nodes) start).at ≡ Text Closed
   pub values : ReadsBack (run root nodes datum).pieces start
   pub whole : read Page page start ≡ read_filled (path_of nodes) (texts_of nodes datum) start
 
