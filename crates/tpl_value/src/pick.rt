@@ -1,0 +1,65 @@
+ghost use Rattle.std.specs.Prelude.{Ok, option_map};
+ghost use Rattle.page_datum.specs.View.{view, items_view};
+ghost use Rattle.tpl_value.specs.Picking.{Picks, field_of, index_of, item_at as item_at_of, item_of};
+
+use page_datum::{Datum, FaultKind};
+
+/// A value that was found in another, or nothing, which stands for null.
+#[derive(Clone, Copy, Debug, Drop)]
+pub enum Picked<'a> {
+    Value(&'a Datum),
+    Nothing,
+}
+
+/// The value of a field: that of its key in a dictionary, and nothing where the dictionary lacks it. The errors are NilField, a
+/// field of null, and NoField, a field of anything else. Takes no memory.
+pub fn field<'a>(datum: &'a Datum, name: &str) -> Result<Picked<'a>, FaultKind>
+    ensures { Picks (field_of name.now (view datum.now)) result }
+{
+    match datum {
+        Datum::Dict(entries) => Ok(found(entries.get(name))),
+        Datum::Null => Err(FaultKind::NilField),
+        _ => Err(FaultKind::NoField),
+    }
+}
+
+/// The part of a value at a key: an item of a list at a whole number, counted from 0, or the value of a dictionary at a text,
+/// and nothing where the dictionary lacks it. The errors are IndexRange, no such item, KeyKind, another kind of key, and
+/// NotIndexable, any other value. Takes no memory.
+pub fn index<'a>(datum: &'a Datum, key: &Datum) -> Result<Picked<'a>, FaultKind>
+    ensures { Picks (index_of (view datum.now) (view key.now)) result }
+{
+    match (datum, key) {
+        (Datum::List(items), Datum::Int(at)) => item_at(items.as_slice(), *at),
+        (Datum::Dict(entries), Datum::Text(name)) => Ok(found(entries.get(name.as_str()))),
+        (Datum::List(_) | Datum::Dict(_), _) => Err(FaultKind::KeyKind),
+        (_, _) => Err(FaultKind::NotIndexable),
+    }
+}
+
+fn found(value: Option<&Datum>) -> Picked<'_>
+    ensures { Picks (Ok (option_map (λ d. view d.now) value.entry)) (Ok result) }
+{
+    match value {
+        Some(value) => Picked::Value(value),
+        None => Picked::Nothing,
+    }
+}
+
+fn item_at(items: &[Datum], at: i64) -> Result<Picked<'_>, FaultKind>
+    ensures { Picks (item_of at (items_view items.now)) result }
+{
+    if at < 0 {
+        return Err(FaultKind::IndexRange);
+    }
+    numbered_item(items, at.unsigned_abs() as usize)
+}
+
+fn numbered_item(items: &[Datum], number: usize) -> Result<Picked<'_>, FaultKind>
+    ensures { Picks (item_at_of number (items_view items.now)) result }
+{
+    match items.get(number) {
+        Some(item) => Ok(Picked::Value(item)),
+        None => Err(FaultKind::IndexRange),
+    }
+}
