@@ -1,6 +1,6 @@
 ghost use Rattle.std.specs.Prelude.{◌≡◌, ◌≤◌, length, drop};
 ghost use Rattle.std.specs.Str.{str_to_ascii_lowercase};
-ghost use Rattle.place_core.specs.Words.{is_script as is_script_of, kind_behind_prefix as kind_behind_prefix_length, is_among as is_among_of, kind_of, kind_of_name as kind_of_name_of, kind_with_front as kind_with_front_of, no_hole_names, prefix_length, url_names};
+ghost use Rattle.place_core.specs.Words.{is_script as is_script_of, kind_behind_prefix as kind_behind_prefix_of, is_among as is_among_of, kind_of, kind_of_name as kind_of_name_of, kind_with_front as kind_with_front_of, no_hole_names, prefix_length, url_names};
 
 use crate::words::{begins, has_part, is_among, same};
 use place_core::{Element, Kind};
@@ -37,7 +37,7 @@ fn kind_with_front(name: &[u8]) -> Kind
 
 // A declaration of a namespace is a URL's; any other front up to a colon does not matter.
 fn kind_behind_prefix(name: &[u8]) -> Kind
-    ensures { result ≡ kind_behind_prefix_length (str_to_ascii_lowercase name.now) (drop (prefix_length (str_to_ascii_lowercase name.now)) (str_to_ascii_lowercase name.now)) }
+    ensures { result ≡ kind_behind_prefix_of (str_to_ascii_lowercase name.now) (drop (prefix_length (str_to_ascii_lowercase name.now)) (str_to_ascii_lowercase name.now)) }
 {
     let (front, rest) = name.split_at(prefix_len(name));
     match rest.split_first() {
