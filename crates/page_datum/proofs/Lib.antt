@@ -1,5 +1,7 @@
+pub mod Copies
+pub mod Counts
 pub mod Left
 pub mod Lookup
+pub mod OneDatum
 pub mod Smaller
-pub mod Texts
-pub mod Dicts
+pub mod Takes

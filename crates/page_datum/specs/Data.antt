@@ -1,5 +1,5 @@
 -- The values of data: null, truth values, whole numbers, texts, lists, and dictionaries.
-use Rattle.std.specs.Prelude.{◌≡◌, ℕ, ℤ, Bool, List, [], ◌∷◌, Option, Some, None, if◌then◌else◌, bytes_eq}
+use Rattle.std.specs.Prelude.{◌≡◌, ℕ, suc, ℤ, Bool, List, [], ◌∷◌, Option, Some, None, if◌then◌else◌, bytes_eq}
 use Rattle.std.specs.List.Sorted.{IsStrictlySortedBy}
 use Rattle.std.specs.Cmp.Lexicographic.{slice_cmp}
 use Rattle.std.specs.Ordering.{nat_cmp}
@@ -20,6 +20,15 @@ mutual
   pub data DataDict : Type 0 where
     no_entries : DataDict
     entry : List ℕ → Data → DataDict → DataDict
+
+-- how many values a list has, and how many entries a dictionary
+abbrev pub item_count : DataList → ℕ
+item_count no_items = 0
+item_count (item value rest) = suc (item_count rest)
+
+abbrev pub entry_count : DataDict → ℕ
+entry_count no_entries = 0
+entry_count (entry key value rest) = suc (entry_count rest)
 
 -- a dictionary
 abbrev pub IsDict : Data → Type 0

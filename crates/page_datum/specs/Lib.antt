@@ -1,10 +1,11 @@
 pub mod Code
 pub mod Data
-pub mod Entries
+pub mod Depth
 pub mod Execution
 pub mod Falls
 pub mod Lines
 pub mod Printed
 pub mod Reading
 pub mod Sizes
+pub mod Taking
 pub mod View

@@ -73,8 +73,9 @@ impl Model for Entries {
 }
 
 impl Items {
-    ghost use Rattle.std.specs.Prelude.{◌≡◌, ◌<◌};
+    ghost use Rattle.std.specs.Prelude.{◌≡◌, ◌<◌, ◌^◌};
     ghost use Rattle.std.specs.List.{All};
+    ghost use Rattle.page_datum.specs.Data.{item_count};
     ghost use Rattle.page_datum.specs.Sizes.{data_size, list_size};
     ghost use Rattle.page_datum.specs.View.{view, items_view};
 
@@ -85,13 +86,21 @@ impl Items {
     {
         self.items.as_slice()
     }
+
+    /// The number of values.
+    pub fn len(&self) -> usize
+        ensures count { result ≡ item_count self.now }
+        ensures bound { result < 2 ^ 63 }
+    {
+        self.items.len()
+    }
 }
 
 impl Entries {
-    ghost use Rattle.std.specs.Prelude.{◌≡◌, ◌<◌, option_map};
+    ghost use Rattle.std.specs.Prelude.{◌≡◌, ◌<◌, ◌^◌, option_map};
     ghost use Rattle.std.specs.List.{All};
     ghost use Rattle.page_datum.specs.Sizes.{data_size, dict_size};
-    ghost use Rattle.page_datum.specs.Data.{HasAscendingKeys, value_at};
+    ghost use Rattle.page_datum.specs.Data.{HasAscendingKeys, value_at, entry_count};
     ghost use Rattle.page_datum.specs.View.{view, entries_view};
 
     // Entries whose keys ascend.
@@ -111,7 +120,15 @@ impl Entries {
         self.entries.as_slice()
     }
 
-    /// The value at a key, which takes no memory and a number of steps like the logarithm of the number of entries.
+    /// The number of entries.
+    pub fn len(&self) -> usize
+        ensures count { result ≡ entry_count self.now }
+        ensures bound { result < 2 ^ 63 }
+    {
+        self.entries.len()
+    }
+
+    /// The value at a key. It takes no memory, and time like the logarithm of the number of entries, which no clause says.
     pub fn get(&self, key: &str) -> Option<&Datum>
         ensures { option_map (λ d. view d.now) result ≡ value_at key.now self.now }
     {

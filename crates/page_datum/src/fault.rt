@@ -1,6 +1,6 @@
 use page_io::Text;
 
-/// What an execution met that it has no meaning for.
+/// What stops an execution: it has no meaning, or passes a limit.
 #[derive(Clone, Copy, Debug, PartialEq, Eq)]
 pub enum FaultKind {
     /// A field of what is neither a dictionary nor null.
@@ -13,7 +13,7 @@ pub enum FaultKind {
     IndexRange,
     /// A key of the wrong kind.
     KeyKind,
-    /// Values that have no order or equality.
+    /// Values that cannot be compared with each other.
     NotComparable,
     /// A call with a wrong number of arguments.
     WrongCount,
@@ -21,13 +21,13 @@ pub enum FaultKind {
     NotRangeable,
     /// A length of what has none.
     NoLength,
-    /// A format that does not fit its operands.
+    /// No format, one that is malformed, or one that does not fit its operands.
     BadFormat,
     /// Too many open calls of templates.
     Depth,
     /// Too many steps.
     Budget,
-    /// A slice outside of its list or text.
+    /// A slice outside of its list or text, or in the middle of a character.
     SliceRange,
     /// A text or a page that is too long.
     TooLong,

@@ -2,22 +2,30 @@
 // faults, and the trait of a set of pages.
 #![tactic(auto)]
 
+mod copy;
 mod datum;
+mod depth;
 mod fault;
 mod files;
 mod pages;
 mod print;
 mod read;
+mod refused;
 mod shared;
 mod shown;
+mod stop;
+mod take;
 #[cfg(test)]
 mod tests;
 
 pub use datum::{Datum, Entries, Items};
+pub use depth::MAX_DEPTH;
 pub use fault::{ExecFault, FaultKind};
 pub use files::{Files, NamedFile};
 pub use pages::{PageEnd, PageStop, Pages};
-pub use print::print_datum;
-pub use read::{DataRefused, MAX_LENGTH, read_datum};
+pub use print::{print_datum, show_datum};
+pub use read::{MAX_LENGTH, read_datum};
+pub use refused::DataRefused;
 pub use shared::Shared;
 pub use shown::Shown;
+pub use stop::ValueStop;

@@ -15,12 +15,18 @@ pub fn print_datum(alloc: Global, datum: &Datum) -> Result<Text, Memory>
     let mut text = Text::new(alloc);
     match datum {
         Datum::Null => {}
-        _ => show(alloc, datum, &mut text)?,
+        _ => show_datum(alloc, datum, &mut text)?,
     }
     Ok(text)
 }
 
-// Appends a datum as it stands inside others.
+/// Appends a datum as it stands inside others, where null is `<nil>`. The error is want of memory.
+pub fn show_datum(alloc: Global, datum: &Datum, out: &mut Text) -> Result<(), Memory>
+    ensures { OnOk result (out.new ≡ out.old ++ shown (view datum.now)) }
+{
+    show(alloc, datum, out)
+}
+
 #[cycle(show)]
 fn show(alloc: Global, datum: &Datum, out: &mut Text) -> Result<(), Memory>
     ensures { OnOk result (out.new ≡ out.old ++ shown (view datum.now)) }

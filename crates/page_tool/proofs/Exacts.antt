@@ -1,14 +1,14 @@
 -- A status that has its cause excludes each other cause.
-use Rattle.std.proofs.Common.{◌≡◌, ℕ, ◌≤◌, List, length, Option, None, Some, true≢false, sym, ◌∙◌, inl, inr, refl}
+use Rattle.std.proofs.Common.{◌≡◌, ℕ, List, Option, None, Some, true≢false, sym, ◌∙◌, inl, inr, refl}
 use Rattle.std.specs.Prelude.{IfSome, ◌⊎◌}
 use Rattle.page_io.specs.Held.{Held}
 use Rattle.page_datum.specs.Data.{Data}
-use Rattle.page_datum.specs.Reading.{IsDatum, IsNoDatum, max_length}
-use Rattle.page_datum.specs.declared.read.DataRefused.{DataRefused}
-use Rattle.page_datum.proofs.Dicts.{no_cause}
+use Rattle.page_tool.specs.declared.input.InputRefused.{InputRefused}
+use Rattle.page_tool.proofs.Inputs.{no_cause}
 use Rattle.page_set.specs.Making.{Refuses}
 use Rattle.page_tool.specs.Exact.{Ends, IsExact}
 use Rattle.page_tool.specs.Files.{files_of}
+use Rattle.page_tool.specs.Input.{IsInput, IsNoInput}
 use Rattle.page_tool.specs.Output.{HasRoot, LacksRoot, Told, StatusCause}
 use Rattle.page_tool.specs.declared.status.Status.{Status}
 use Rattle.page_tool.specs.declared.status.Status.TheVariants as status
@@ -44,39 +44,39 @@ unknown (Some h) input dir root f status.WriteFault c r = λ why. apart h dir ro
 unknown (Some h) input dir root f status.NoTemplate c r = λ why. inl refl
 unknown (Some h) input dir root f status.Memory c r = λ why. inr (inr refl)
 
-no_datum : (held : Option Held) (input : Option (List ℕ)) (dir root : List ℕ) (f i : Type 0) (s : Status) → StatusCause held input dir root s → (s ≡ status.ReadFault → f ⊎ i)
-    → Told held input (λ h x. HasRoot h dir root → (why : DataRefused) → IsNoDatum why x → Ends status.DataRefused (f ⊎ i) s)
-no_datum None input dir root f i s c r = tt
-no_datum (Some h) None dir root f i s c r = tt
-no_datum (Some h) (Some x) dir root f i status.Ok c r = λ has why w. absurd (no_cause why x c.1.1 c.1.0 c.1.2 w)
-no_datum (Some h) (Some x) dir root f i status.SetRefused c r = λ has why w. absurd (has.set (record { refused = c.0; known = c.1.known; cause = c.1.cause }))
-no_datum (Some h) (Some x) dir root f i status.Usage c r = absurd c
-no_datum (Some h) (Some x) dir root f i status.ExecFault c r = λ has why w. absurd (no_cause why x c.1.1 c.1.0 c.1.2 w)
-no_datum (Some h) (Some x) dir root f i status.DataRefused c r = λ has why w. inl refl
-no_datum (Some h) (Some x) dir root f i status.ReadFault c r = λ has why w. inr (inl (refl, r refl))
-no_datum (Some h) (Some x) dir root f i status.WriteFault c r = λ has why w. absurd (no_cause why x c.1.1 c.1.0 c.1.2 w)
-no_datum (Some h) (Some x) dir root f i status.NoTemplate c r = λ has why w. apart h dir root has c
-no_datum (Some h) (Some x) dir root f i status.Memory c r = λ has why w. inr (inr refl)
+no_input : (held : Option Held) (input : Option (List ℕ)) (dir root : List ℕ) (f i : Type 0) (s : Status) → StatusCause held input dir root s → (s ≡ status.ReadFault → f ⊎ i)
+    → Told held input (λ h x. HasRoot h dir root → (why : InputRefused) → IsNoInput why x → Ends status.DataRefused (f ⊎ i) s)
+no_input None input dir root f i s c r = tt
+no_input (Some h) None dir root f i s c r = tt
+no_input (Some h) (Some x) dir root f i status.Ok c r = λ has why w. absurd (no_cause why x c.1.0 c.1.1 w)
+no_input (Some h) (Some x) dir root f i status.SetRefused c r = λ has why w. absurd (has.set (record { refused = c.0; known = c.1.known; cause = c.1.cause }))
+no_input (Some h) (Some x) dir root f i status.Usage c r = absurd c
+no_input (Some h) (Some x) dir root f i status.ExecFault c r = λ has why w. absurd (no_cause why x c.1.0 c.1.1 w)
+no_input (Some h) (Some x) dir root f i status.DataRefused c r = λ has why w. inl refl
+no_input (Some h) (Some x) dir root f i status.ReadFault c r = λ has why w. inr (inl (refl, r refl))
+no_input (Some h) (Some x) dir root f i status.WriteFault c r = λ has why w. absurd (no_cause why x c.1.0 c.1.1 w)
+no_input (Some h) (Some x) dir root f i status.NoTemplate c r = λ has why w. apart h dir root has c
+no_input (Some h) (Some x) dir root f i status.Memory c r = λ has why w. inr (inr refl)
 
 complete : (held : Option Held) (input : Option (List ℕ)) (dir root : List ℕ) (f i o : Type 0) (s : Status) → StatusCause held input dir root s → (s ≡ status.ReadFault → f ⊎ i) → (s ≡ status.WriteFault → o) → (s ≡ status.ExecFault → ⊥)
-    → Told held input (λ h x. HasRoot h dir root → length x ≤ max_length → (datum : Data) → IsDatum x datum → Ends status.Ok (f ⊎ i) s ⊎ ((s ≡ status.WriteFault) × o))
+    → Told held input (λ h x. HasRoot h dir root → (datum : Data) → IsInput x datum → Ends status.Ok (f ⊎ i) s ⊎ ((s ≡ status.WriteFault) × o))
 complete None input dir root f i o s c r w n = tt
 complete (Some h) None dir root f i o s c r w n = tt
-complete (Some h) (Some x) dir root f i o status.Ok c r w n = λ has fits d is. inl (inl refl)
-complete (Some h) (Some x) dir root f i o status.SetRefused c r w n = λ has fits d is. absurd (has.set (record { refused = c.0; known = c.1.known; cause = c.1.cause }))
+complete (Some h) (Some x) dir root f i o status.Ok c r w n = λ has d is. inl (inl refl)
+complete (Some h) (Some x) dir root f i o status.SetRefused c r w n = λ has d is. absurd (has.set (record { refused = c.0; known = c.1.known; cause = c.1.cause }))
 complete (Some h) (Some x) dir root f i o status.Usage c r w n = absurd c
 complete (Some h) (Some x) dir root f i o status.ExecFault c r w n = absurd (n refl)
-complete (Some h) (Some x) dir root f i o status.DataRefused c r w n = λ has fits d is. absurd (no_cause c.1.0 x d fits is c.1.1)
-complete (Some h) (Some x) dir root f i o status.ReadFault c r w n = λ has fits d is. inl (inr (inl (refl, r refl)))
-complete (Some h) (Some x) dir root f i o status.WriteFault c r w n = λ has fits d is. inr (refl, w refl)
-complete (Some h) (Some x) dir root f i o status.NoTemplate c r w n = λ has fits d is. apart h dir root has c
-complete (Some h) (Some x) dir root f i o status.Memory c r w n = λ has fits d is. inl (inr (inr refl))
+complete (Some h) (Some x) dir root f i o status.DataRefused c r w n = λ has d is. absurd (no_cause c.1.0 x d is c.1.1)
+complete (Some h) (Some x) dir root f i o status.ReadFault c r w n = λ has d is. inl (inr (inl (refl, r refl)))
+complete (Some h) (Some x) dir root f i o status.WriteFault c r w n = λ has d is. inr (refl, w refl)
+complete (Some h) (Some x) dir root f i o status.NoTemplate c r w n = λ has d is. apart h dir root has c
+complete (Some h) (Some x) dir root f i o status.Memory c r w n = λ has d is. inl (inr (inr refl))
 
 pub exact : (held : Option Held) (input : Option (List ℕ)) (dir root : List ℕ) (f i o : Type 0) (s : Status) → StatusCause held input dir root s → (s ≡ status.ReadFault → f ⊎ i) → ReadInOrder held dir root f s → (s ≡ status.WriteFault → o) → (s ≡ status.ExecFault → ⊥)
     → IsExact held input dir root f i o s
 exact held input dir root f i o s c r q w n = record {
   refused = refused held input dir root f s c q;
   unknown = unknown held input dir root f s c q;
-  no_datum = no_datum held input dir root f i s c r;
+  no_input = no_input held input dir root f i s c r;
   complete = complete held input dir root f i o s c r w n;
 }

@@ -1,3 +1,4 @@
 pub mod Exacts
+pub mod Inputs
 pub mod Pages
 pub mod Statuses

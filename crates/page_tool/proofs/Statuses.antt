@@ -4,9 +4,9 @@ use Rattle.std.specs.Prelude.{IfSome, ◌⊎◌}
 use Rattle.page_io.specs.Held.{Held}
 use Rattle.page_datum.specs.declared.fault.ExecFault.{ExecFault}
 use Rattle.page_set.specs.declared.refused.MakeRefused.{MakeRefused}
-use Rattle.page_datum.specs.declared.read.DataRefused.{DataRefused}
-use Rattle.page_datum.specs.Reading.{IsNoDatum}
+use Rattle.page_tool.specs.declared.input.InputRefused.{InputRefused}
 use Rattle.page_tool.specs.Codes.{status_for}
+use Rattle.page_tool.specs.Input.{IsNoInput}
 use Rattle.page_tool.specs.Lines.{Says, SaysStatus, StatusText, stop_text}
 use Rattle.page_tool.specs.Output.{HasRoot, IsRefusedSet, RenderCause, StatusCause}
 use Rattle.page_tool.specs.declared.status.Status.{Status}
@@ -22,7 +22,7 @@ refused_set : (held : Option Held) (dir : List ℕ) (why : MakeRefused) → IfSo
 refused_set None dir why c = tt
 refused_set (Some h) dir why c = (why, c)
 
-no_data : (input : Option (List ℕ)) (why : DataRefused) → IfSome input (IsNoDatum why) → IfSome input (λ i. (w : DataRefused) × IsNoDatum w i)
+no_data : (input : Option (List ℕ)) (why : InputRefused) → IfSome input (IsNoInput why) → IfSome input (λ i. (w : InputRefused) × IsNoInput w i)
 no_data None why c = tt
 no_data (Some i) why c = (why, c)
 
@@ -82,7 +82,7 @@ text_set : (held : Option Held) (dir name : List ℕ) (why : MakeRefused) → If
 text_set None dir name why c = tt
 text_set (Some h) dir name why c = (why, c, refl)
 
-text_data : (input : Option (List ℕ)) (name : List ℕ) (why : DataRefused) → IfSome input (IsNoDatum why) → IfSome input (λ i. (w : DataRefused) × IsNoDatum w i × (stop_text (stop.Data why) name ≡ stop_text (stop.Data w) name))
+text_data : (input : Option (List ℕ)) (name : List ℕ) (why : InputRefused) → IfSome input (IsNoInput why) → IfSome input (λ i. (w : InputRefused) × IsNoInput w i × (stop_text (stop.Data why) name ≡ stop_text (stop.Data w) name))
 text_data None name why c = tt
 text_data (Some i) name why c = (why, c, refl)
 

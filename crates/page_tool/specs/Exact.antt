@@ -1,11 +1,11 @@
 -- When a command has to end in a status, unless a device failed or memory was wanting.
-use Rattle.std.specs.Prelude.{◌≡◌, ℕ, ◌≤◌, List, length, Option, IfSome, ◌⊎◌}
+use Rattle.std.specs.Prelude.{◌≡◌, ℕ, List, Option, IfSome, ◌⊎◌}
 use Rattle.page_io.specs.Held.{Held}
 use Rattle.page_datum.specs.Data.{Data}
-use Rattle.page_datum.specs.Reading.{IsDatum, IsNoDatum, max_length}
-use Rattle.page_datum.specs.declared.read.DataRefused.{DataRefused}
+use Rattle.page_tool.specs.declared.input.InputRefused.{InputRefused}
 use Rattle.page_set.specs.Making.{Refuses}
 use Rattle.page_tool.specs.Files.{files_of}
+use Rattle.page_tool.specs.Input.{IsInput, IsNoInput}
 use Rattle.page_tool.specs.Output.{HasRoot, LacksRoot, Told}
 use Rattle.page_tool.specs.declared.status.Status.{Status}
 use Rattle.page_tool.specs.declared.status.Status.TheVariants as status
@@ -14,9 +14,9 @@ use Rattle.page_tool.specs.declared.status.Status.TheVariants as status
 abbrev pub Ends : Status → Type 0 → Status → Type 0
 Ends expected read_rose s = (s ≡ expected) ⊎ ((s ≡ status.ReadFault) × read_rose) ⊎ (s ≡ status.Memory)
 
--- refused files, an unknown root, an input that is no datum, and else the whole page
+-- refused files, an unknown root, an input that pages are not made with, and else the whole page
 pub record IsExact (held : Option Held) (input : Option (List ℕ)) (dir root : List ℕ) (folder_rose input_rose out_rose : Type 0) (s : Status) : Type 0 where
   pub refused : IfSome held (λ h. Refuses (files_of h dir).list → Ends status.SetRefused folder_rose s)
   pub unknown : IfSome held (λ h. LacksRoot h dir root → Ends status.NoTemplate folder_rose s)
-  pub no_datum : Told held input (λ h i. HasRoot h dir root → (why : DataRefused) → IsNoDatum why i → Ends status.DataRefused (folder_rose ⊎ input_rose) s)
-  pub complete : Told held input (λ h i. HasRoot h dir root → length i ≤ max_length → (datum : Data) → IsDatum i datum → Ends status.Ok (folder_rose ⊎ input_rose) s ⊎ ((s ≡ status.WriteFault) × out_rose))
+  pub no_input : Told held input (λ h i. HasRoot h dir root → (why : InputRefused) → IsNoInput why i → Ends status.DataRefused (folder_rose ⊎ input_rose) s)
+  pub complete : Told held input (λ h i. HasRoot h dir root → (datum : Data) → IsInput i datum → Ends status.Ok (folder_rose ⊎ input_rose) s ⊎ ((s ≡ status.WriteFault) × out_rose))

@@ -2,7 +2,6 @@
 use Rattle.std.specs.Prelude.{◌≡◌, ℕ, codes, List, [], ◌∷◌, ◌++◌, Option, IfSome, ◌⊎◌, ⊤}
 use Rattle.std.specs.Io.KnownBytes.{Appends}
 use Rattle.page_io.specs.Held.{Held}
-use Rattle.page_datum.specs.Reading.{IsNoDatum}
 use Rattle.page_set.specs.declared.refused.MakeRefused.{MakeRefused}
 use Rattle.page_tool.specs.Codes.{status_for}
 use Rattle.page_tool.specs.Output.{IsRefusedSet}
@@ -11,8 +10,10 @@ use Rattle.page_tool.specs.declared.status.Status.TheVariants as status
 use Rattle.std.specs.Fmt.{decimal}
 use Rattle.page_datum.specs.declared.fault.FaultKind.{FaultKind}
 use Rattle.page_datum.specs.declared.fault.FaultKind.TheVariants as kind
-use Rattle.page_datum.specs.declared.read.DataRefused.{DataRefused}
-use Rattle.page_datum.specs.declared.read.DataRefused.TheVariants as refused
+use Rattle.page_datum.specs.declared.refused.DataRefused.TheVariants as refused
+use Rattle.page_tool.specs.Input.{IsNoInput}
+use Rattle.page_tool.specs.declared.input.InputRefused.{InputRefused}
+use Rattle.page_tool.specs.declared.input.InputRefused.TheVariants as input_refused
 use Rattle.page_set.specs.Refusals.{refusal_text}
 use Rattle.page_tool.specs.declared.stop.Stop.{Stop}
 use Rattle.page_tool.specs.declared.stop.Stop.TheVariants as stop
@@ -21,11 +22,18 @@ use Rattle.page_tool.specs.declared.stop.Stop.TheVariants as stop
 abbrev pub usage_text : List ℕ
 usage_text = codes "usage: render DIR NAME" ++ 10 ∷ []
 
-abbrev pub data_kind : DataRefused → List ℕ
-data_kind (refused.TooLong len) = codes "TooLong"
-data_kind refused.NotJson = codes "NotJson"
-data_kind refused.NotBuilt = codes "NotBuilt"
-data_kind refused.Memory = codes "Memory"
+-- the line of a number that is not whole, at this path
+abbrev pub not_whole_text : List ℕ → List ℕ
+not_whole_text path = codes "data NotWhole " ++ (path ++ 10 ∷ [])
+
+-- the line of an input that is refused
+abbrev pub data_text : InputRefused → List ℕ
+data_text (input_refused.Data (refused.TooLong len)) = codes "data TooLong" ++ 10 ∷ []
+data_text (input_refused.Data refused.TooDeep) = codes "data TooDeep" ++ 10 ∷ []
+data_text (input_refused.Data refused.NotJson) = codes "data NotJson" ++ 10 ∷ []
+data_text (input_refused.Data (refused.NotWhole path)) = not_whole_text path
+data_text (input_refused.Data refused.Memory) = codes "data Memory" ++ 10 ∷ []
+data_text input_refused.NotBuilt = codes "data NotBuilt" ++ 10 ∷ []
 
 abbrev pub fault_kind : FaultKind → List ℕ
 fault_kind kind.NoField = codes "NoField"
@@ -47,13 +55,13 @@ fault_kind kind.TooLong = codes "TooLong"
 abbrev pub stop_text : Stop → List ℕ → List ℕ
 stop_text (stop.Set why) name = refusal_text why
 stop_text (stop.Fault fault) name = codes "fault " ++ (fault_kind fault.kind ++ 32 ∷ (fault.template ++ 58 ∷ (decimal fault.line ++ 10 ∷ [])))
-stop_text (stop.Data why) name = codes "data " ++ (data_kind why ++ 10 ∷ [])
+stop_text (stop.Data why) name = data_text why
 stop_text stop.Read name = codes "read fault" ++ 10 ∷ []
 stop_text stop.Write name = codes "write fault" ++ 10 ∷ []
 stop_text stop.NoTemplate name = codes "no template " ++ (name ++ 10 ∷ [])
 stop_text stop.Memory name = codes "memory" ++ 10 ∷ []
 
--- a stop was reported with this status, and its lines were written
+-- a stop was reported with this status, and its lines were written, or want of memory was
 abbrev pub Says : Stop → List ℕ → Status → Option (List ℕ) → Option (List ℕ) → Type 0
 Says why name s old new = ((s ≡ status_for why) × Appends old new (stop_text why name)) ⊎ ((s ≡ status.Memory) × Appends old new (stop_text stop.Memory name))
 
@@ -63,7 +71,7 @@ StatusText held input dir name status.Ok text = text ≡ []
 StatusText held input dir name status.Usage text = ⊥
 StatusText held input dir name status.ExecFault text = ⊤
 StatusText held input dir name status.SetRefused text = IfSome held (λ h. (why : MakeRefused) × IsRefusedSet h dir why × (text ≡ refusal_text why))
-StatusText held input dir name status.DataRefused text = IfSome input (λ i. (why : DataRefused) × IsNoDatum why i × (text ≡ stop_text (stop.Data why) name))
+StatusText held input dir name status.DataRefused text = IfSome input (λ i. (why : InputRefused) × IsNoInput why i × (text ≡ stop_text (stop.Data why) name))
 StatusText held input dir name status.ReadFault text = text ≡ stop_text stop.Read name
 StatusText held input dir name status.WriteFault text = text ≡ stop_text stop.Write name
 StatusText held input dir name status.NoTemplate text = text ≡ stop_text stop.NoTemplate name

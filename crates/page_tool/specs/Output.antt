@@ -1,28 +1,28 @@
 -- What `render DIR NAME` writes, and why it stops.
-use Rattle.std.specs.Prelude.{◌≡◌, ◌≢◌, ℕ, ◌≤◌, true, false, List, length, Option, Some, None, IfSome, Result, Ok, Err, ⊤, ◌⊎◌}
+use Rattle.std.specs.Prelude.{◌≡◌, ◌≢◌, ℕ, true, false, List, Option, Some, None, IfSome, Result, Ok, Err, ⊤, ◌⊎◌}
 use Rattle.std.specs.Io.KnownBytes.{Appends}
 use Rattle.page_io.specs.Held.{Held}
 use Rattle.page_io.specs.Whole.{AppendsPart}
 use Rattle.page_datum.specs.Data.{Data}
 use Rattle.page_datum.specs.Execution.{Execution, done, faulted}
-use Rattle.page_datum.specs.Reading.{IsDatum, IsNoDatum, max_length}
 use Rattle.page_set.specs.Making.{IsExecution, IsRefused, Refuses}
 use Rattle.page_set.specs.Running.{is_root}
 use Rattle.page_set.specs.Soundness.{IsSound}
 use Rattle.page_set.specs.declared.refused.MakeRefused.{MakeRefused}
 use Rattle.page_set.specs.declared.refused.MakeRefused.TheVariants as make
 use Rattle.page_datum.specs.declared.fault.ExecFault.{ExecFault}
-use Rattle.page_datum.specs.declared.read.DataRefused.{DataRefused}
+use Rattle.page_tool.specs.declared.input.InputRefused.{InputRefused}
 use Rattle.page_tool.specs.declared.status.Status.{Status}
 use Rattle.page_tool.specs.declared.status.Status.TheVariants as status
 use Rattle.page_tool.specs.Files.{files_of}
+use Rattle.page_tool.specs.Input.{IsInput, IsNoInput}
 use Rattle.page_tool.specs.declared.stop.Stop.{Stop}
 use Rattle.page_tool.specs.declared.stop.Stop.TheVariants as stop
 
 -- executing the root of a directory's files with the datum that the input is gives this
 pub record IsRendering (held : Held) (dir root input : List ℕ) (e : Execution) : Type 0 where
   pub datum : Data
-  pub read : IsDatum input datum
+  pub read : IsInput input datum
   pub execution : IsExecution (files_of held dir) root datum e
 
 -- a fact on what the folder holds and the input has, where both tell it
@@ -74,18 +74,18 @@ pub record IsRefusedSet (held : Held) (dir : List ℕ) (why : MakeRefused) : Typ
   pub known : why ≢ make.Memory
   pub cause : IsRefused why (files_of held dir).list
 
--- an input within the limit stands for a datum
-abbrev pub HasDatum : List ℕ → Type 0
-HasDatum input = (length input ≤ max_length) × (datum : Data) × IsDatum input datum
+-- an input is a datum that pages are made with
+abbrev pub HasInput : List ℕ → Type 0
+HasInput input = (datum : Data) × IsInput input datum
 
 -- why rendering ended so
 abbrev pub RenderCause : Option Held → Option (List ℕ) → List ℕ → List ℕ → Result ⊤ Stop → Type 0
 RenderCause held input dir root (Err (stop.Set why)) = IfSome held (λ h. IsRefusedSet h dir why)
 RenderCause held input dir root (Err stop.NoTemplate) = IfSome held (λ h. LacksRoot h dir root)
-RenderCause held input dir root (Err (stop.Data why)) = IfSome held (λ h. HasRoot h dir root) × IfSome input (IsNoDatum why)
+RenderCause held input dir root (Err (stop.Data why)) = IfSome held (λ h. HasRoot h dir root) × IfSome input (IsNoInput why)
 RenderCause held input dir root (Err stop.Read) = ⊤
 RenderCause held input dir root (Err stop.Memory) = ⊤
-RenderCause held input dir root _ = IfSome held (λ h. HasRoot h dir root) × IfSome input HasDatum
+RenderCause held input dir root _ = IfSome held (λ h. HasRoot h dir root) × IfSome input HasInput
 
 -- what a sink has got at each status of a command
 abbrev pub StatusOutput : Option Held → Option (List ℕ) → List ℕ → List ℕ → Option (List ℕ) → Option (List ℕ) → Status → Type 0
@@ -99,8 +99,8 @@ StatusOutput held input dir root old new _ = new ≡ old
 abbrev pub StatusCause : Option Held → Option (List ℕ) → List ℕ → List ℕ → Status → Type 0
 StatusCause held input dir root status.SetRefused = IfSome held (λ h. (why : MakeRefused) × IsRefusedSet h dir why)
 StatusCause held input dir root status.NoTemplate = IfSome held (λ h. LacksRoot h dir root)
-StatusCause held input dir root status.DataRefused = IfSome held (λ h. HasRoot h dir root) × IfSome input (λ i. (why : DataRefused) × IsNoDatum why i)
+StatusCause held input dir root status.DataRefused = IfSome held (λ h. HasRoot h dir root) × IfSome input (λ i. (why : InputRefused) × IsNoInput why i)
 StatusCause held input dir root status.Usage = ⊥
 StatusCause held input dir root status.ReadFault = ⊤
 StatusCause held input dir root status.Memory = ⊤
-StatusCause held input dir root _ = IfSome held (λ h. HasRoot h dir root) × IfSome input HasDatum
+StatusCause held input dir root _ = IfSome held (λ h. HasRoot h dir root) × IfSome input HasInput

@@ -1,10 +1,10 @@
 ghost use Rattle.std.specs.Prelude.{◌≡◌, ◌≤◌, ◌⊎◌, true, IfSome, OnOk, IsErrOf};
 ghost use Rattle.std.specs.Io.KnownBytes.{IsAtEnd};
 ghost use Rattle.page_io.specs.Causes.{Rose};
-ghost use Rattle.page_datum.specs.Data.{IsDict};
 ghost use Rattle.page_datum.specs.View.{view};
 ghost use Rattle.page_set.specs.Making.{IsExecution};
 ghost use Rattle.page_set.specs.Running.{is_root, execution_of};
+ghost use Rattle.page_tool.specs.Input.{is_built};
 ghost use Rattle.page_tool.specs.Output.{RenderOutput, RenderCause, WritesPage, HasRoot};
 ghost use Rattle.page_datum.specs.declared.fault.ExecFault.{ExecFault};
 ghost use Rattle.page_tool.specs.Sets.{MakesSet};
@@ -61,7 +61,7 @@ fn write_page<O: Sink>(
     out: &mut O,
 ) -> Result<(), Stop>
     requires root { is_root set.now.files.list root.now ≡ true }
-    requires dict { IsDict (view datum.now) }
+    requires built { is_built (view datum.now) ≡ true }
     ensures page { WritesPage (execution_of set.now.files.list set.now.nodes root.now (view datum.now)) (O.taken out.old) (O.taken out.new) result }
     ensures meant { IsExecution set.now.files root.now (view datum.now) (execution_of set.now.files.list set.now.nodes root.now (view datum.now)) }
     ensures later { O.faults out.old ≤ O.faults out.new }

@@ -1,8 +1,9 @@
 ghost use Rattle.std.specs.Prelude.{◌≡◌, ◌≤◌, ◌⊎◌, IfOk};
 ghost use Rattle.std.specs.Io.KnownBytes.{Appends};
 ghost use Rattle.page_io.specs.Causes.{Rose};
-ghost use Rattle.page_tool.specs.Lines.{stop_text, data_kind as kind_of, fault_kind as fault_of};
+ghost use Rattle.page_tool.specs.Lines.{stop_text, data_text, not_whole_text, fault_kind as fault_of};
 
+use crate::input::InputRefused;
 use crate::stop::Stop;
 use page_datum::{DataRefused, FaultKind, Shown};
 use page_io::{Memory, Sink, Text, write_all};
@@ -34,10 +35,7 @@ pub fn lines_of(alloc: Global, stop: &Stop, name: &str) -> Result<Text, Memory>
             let line = fault.line;
             Ok(Text::from(format!(in alloc; "fault {kind} {template}:{line}\n")?))
         }
-        Stop::Data(why) => {
-            let kind = data_kind(why);
-            Ok(Text::from(format!(in alloc; "data {kind}\n")?))
-        }
+        Stop::Data(why) => data_line(alloc, why),
         Stop::Read => Text::copy_of(alloc, "read fault\n"),
         Stop::Write => Text::copy_of(alloc, "write fault\n"),
         Stop::NoTemplate => Ok(Text::from(format!(in alloc; "no template {name}\n")?)),
@@ -45,15 +43,23 @@ pub fn lines_of(alloc: Global, stop: &Stop, name: &str) -> Result<Text, Memory>
     }
 }
 
-fn data_kind(why: &DataRefused) -> &'static str
-    ensures { result.now ≡ kind_of why.now }
+fn data_line(alloc: Global, why: &InputRefused) -> Result<Text, Memory>
+    ensures { IfOk result (λ line. line ≡ data_text why.now) }
 {
     match why {
-        DataRefused::TooLong(_) => "TooLong",
-        DataRefused::NotJson => "NotJson",
-        DataRefused::NotBuilt => "NotBuilt",
-        DataRefused::Memory => "Memory",
+        InputRefused::Data(DataRefused::TooLong(_)) => Text::copy_of(alloc, "data TooLong\n"),
+        InputRefused::Data(DataRefused::TooDeep) => Text::copy_of(alloc, "data TooDeep\n"),
+        InputRefused::Data(DataRefused::NotJson) => Text::copy_of(alloc, "data NotJson\n"),
+        InputRefused::Data(DataRefused::NotWhole(path)) => not_whole_line(alloc, path.as_str()),
+        InputRefused::Data(DataRefused::Memory) => Text::copy_of(alloc, "data Memory\n"),
+        InputRefused::NotBuilt => Text::copy_of(alloc, "data NotBuilt\n"),
     }
+}
+
+fn not_whole_line(alloc: Global, path: &str) -> Result<Text, Memory>
+    ensures { IfOk result (λ line. line ≡ not_whole_text path.now) }
+{
+    Ok(Text::from(format!(in alloc; "data NotWhole {path}\n")?))
 }
 
 fn fault_kind(kind: FaultKind) -> &'static str

@@ -1,4 +1,5 @@
-use page_datum::{DataRefused, ExecFault};
+use crate::input::InputRefused;
+use page_datum::ExecFault;
 use page_set::MakeRefused;
 
 /// Why a command stopped.
@@ -8,8 +9,8 @@ pub enum Stop {
     Set(MakeRefused),
     /// The execution met a fault.
     Fault(ExecFault),
-    /// The input is no data, for another cause than memory.
-    Data(DataRefused),
+    /// The input is no data that pages are made with, for another cause than memory.
+    Data(InputRefused),
     /// The folder or the input failed.
     Read,
     /// The output failed.

@@ -76,6 +76,10 @@ const CASE: Case<'static> = Case {
     out_fails: &[],
 };
 
+// 101 brackets that open.
+const BRACKETS: &str =
+    "[[[[[[[[[[[[[[[[[[[[[[[[[[[[[[[[[[[[[[[[[[[[[[[[[[[[[[[[[[[[[[[[[[[[[[[[[[[[[[[[[[[[[[[[[[[[[[[[[[[[[";
+
 const SPECIAL: &str = "{\"a\":\"<b>&'\\\"+\"}";
 
 const ESCAPED: &str = "<p>&lt;b&gt;&amp;&#39;&#34;&#43;</p>";
@@ -130,6 +134,27 @@ fn templates_and_data_end_as_they_should(rt: HostRuntime) -> Result<(), Fail> {
             Status::DataRefused,
             "",
             "data NotBuilt\n",
+        ),
+        (
+            "<p>{{.a}}</p>",
+            "{\"a\":1.5}",
+            Status::DataRefused,
+            "",
+            "data NotWhole .a\n",
+        ),
+        (
+            "<p>{{.a}}</p>",
+            "-0",
+            Status::DataRefused,
+            "",
+            "data NotWhole .\n",
+        ),
+        (
+            "<p>{{.a}}</p>",
+            BRACKETS,
+            Status::DataRefused,
+            "",
+            "data TooDeep\n",
         ),
     ] {
         let case = Case {

@@ -25,7 +25,7 @@ pub fn run<F: Folder, I: Source, O: Sink, E: Sink>(
     out: &mut O,
     err: &mut E,
 ) -> (Status, F)
-    // The words are those of no command exactly at status 2, and then nothing is written.
+    // The words are those of no command exactly at status 2, and then nothing is written to `out`.
     ensures usage { (result.0 ≡ Status.Usage) ↔ (render_of (texts words.now) ≡ None) }
     ensures usage_output { result.0 ≡ Status.Usage → O.taken out.new ≡ O.taken out.old }
 

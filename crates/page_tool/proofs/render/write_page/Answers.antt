@@ -10,4 +10,4 @@ unreachable-requires g c =
 pub returns-in-Err-Fault-clause-faultless : goal.returns-in-Err-Fault-clause-faultless
 returns-in-Err-Fault-clause-faultless g c fault is =
     let answers = rw c.in-Err-Fault.field-0-is at c.in-Err-Fault.ensures.answers in
-    no_fault c.args.set.now.files.list c.args.set.now.nodes c.args.root.now (view c.args.datum.now) c.in-Err-Fault.fault c.requires.root c.requires.dict answers.0
+    no_fault c.args.set.now.files.list c.args.set.now.nodes c.args.root.now (view c.args.datum.now) c.in-Err-Fault.fault c.requires.root c.requires.built answers.0

@@ -1,0 +1,80 @@
+ghost use Rattle.std.specs.Prelude.{◌≡◌, ◌<◌};
+ghost use Rattle.page_datum.specs.Depth.{place_after as place_after_of, opens as opens_of, closes as closes_of, open_after as open_after_of, is_too_deep as is_too_deep_of};
+
+/// The most brackets and braces that may be open at once in data.
+pub const MAX_DEPTH: usize = 100;
+
+/// Where a byte of a text stands.
+#[derive(Clone, Copy, Debug, PartialEq, Eq, Drop)]
+pub(crate) enum Place {
+    /// Outside of strings.
+    Outside,
+    /// In a string.
+    Inside,
+    /// In a string, behind a backslash that takes it.
+    Escaped,
+}
+
+// Whether more than `MAX_DEPTH` brackets and braces are open at once somewhere, outside of strings.
+pub(crate) fn is_too_deep(bytes: &[u8]) -> bool
+    ensures { result ≡ is_too_deep_of bytes.now }
+{
+    let mut place = Place::Outside;
+    let mut opened = 0;
+    for byte in bytes {
+        opened = open_after(place, opened, *byte);
+        if opened > MAX_DEPTH {
+            return true;
+        }
+        place = place_after(place, *byte);
+    }
+    false
+}
+
+fn place_after(place: Place, byte: u8) -> Place
+    ensures { result ≡ place_after_of place byte }
+{
+    match place {
+        Place::Outside => if byte == b'"' {
+            Place::Inside
+        } else {
+            Place::Outside
+        },
+        Place::Inside => if byte == b'"' {
+            Place::Outside
+        } else if byte == b'\\' {
+            Place::Escaped
+        } else {
+            Place::Inside
+        },
+        Place::Escaped => Place::Inside,
+    }
+}
+
+fn open_after(place: Place, opened: usize, byte: u8) -> usize
+    requires { opened < 101 }
+    ensures { result ≡ open_after_of place opened byte }
+{
+    match place {
+        Place::Outside => if opens(byte) {
+            opened + 1
+        } else if closes(byte) {
+            opened.saturating_sub(1)
+        } else {
+            opened
+        },
+        Place::Inside | Place::Escaped => opened,
+    }
+}
+
+fn opens(byte: u8) -> bool
+    ensures { result ≡ opens_of byte }
+{
+    byte == b'[' || byte == b'{'
+}
+
+fn closes(byte: u8) -> bool
+    ensures { result ≡ closes_of byte }
+{
+    byte == b']' || byte == b'}'
+}
