@@ -7,7 +7,7 @@ use Rattle.page_datum.specs.Data.{Data, null, truth, int, text, list, dict}
 use Rattle.page_datum.specs.declared.fault.FaultKind.{FaultKind}
 use Rattle.page_datum.specs.declared.fault.FaultKind.TheVariants.{NotComparable}
 
--- Null equals null alone. A list or a dictionary with anything is not comparable, and so are two kinds of which none is null.
+-- Null equals null alone. A list or a dictionary with anything is not comparable, and so are two kinds of which neither is null.
 abbrev pub equals : Data → Data → Result Bool FaultKind
 equals (list a) b = Err NotComparable
 equals (dict a) b = Err NotComparable

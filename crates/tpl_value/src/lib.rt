@@ -1,12 +1,17 @@
-// What the functions of templates say of data: which are true, equal or less, their fields, and their parts at a key.
+// What the functions of templates say of data: which are true, equal or less, how long they are, their fields, their parts at a
+// key, and their parts between two places.
 #![tactic(auto)]
 
 mod compare;
+mod count;
+mod cut;
 mod pick;
 mod test;
 #[cfg(test)]
 mod tests;
 
 pub use compare::{equal, less};
+pub use count::length;
+pub use cut::slice;
 pub use pick::{Picked, field, index};
 pub use test::truth;

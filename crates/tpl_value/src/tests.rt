@@ -1,5 +1,8 @@
+mod slices;
+mod tables;
+
 use crate::*;
-use page_datum::{Datum, FaultKind, Items, read_datum};
+use page_datum::{Datum, FaultKind, Items, ValueStop, print_datum, read_datum};
 use page_io::{Memory, Text};
 use std::alloc::Global;
 use std::test::Fail;
@@ -28,6 +31,17 @@ fn told<'a>(picked: Result<Picked<'a>, FaultKind>) -> &'a str {
         Err(FaultKind::IndexRange) => "IndexRange",
         Err(FaultKind::KeyKind) => "KeyKind",
         Err(_) => "another fault",
+    }
+}
+
+// A slice that was made, as it is printed, or the fault.
+fn cut(alloc: Global, datum: &Datum, from: i64, to: i64) -> Result<Text, Memory> {
+    match slice(alloc, datum, from, to) {
+        Ok(part) => print_datum(alloc, &part),
+        Err(ValueStop::Fault(FaultKind::SliceRange)) => Text::copy_of(alloc, "SliceRange"),
+        Err(ValueStop::Fault(FaultKind::NotIndexable)) => Text::copy_of(alloc, "NotIndexable"),
+        Err(ValueStop::Fault(_)) => Text::copy_of(alloc, "another fault"),
+        Err(ValueStop::Memory) => Err(Memory),
     }
 }
 
@@ -92,6 +106,94 @@ fn a_part_stands_at_its_key(rt: HostRuntime) -> Result<(), Fail> {
         assert_eq!(rt; told(index(&dict, &text(alloc, "a")?)), "x");
         assert_eq!(rt; told(index(&dict, &text(alloc, "")?)), "nothing");
         assert_eq!(rt; told(index(&dict, &Datum::Int(0))), "KeyKind");
+        return Ok(());
+    }
+    assert!(rt; false);
+    Ok(())
+}
+
+#[test]
+fn a_length_counts_bytes_values_or_entries(rt: HostRuntime) -> Result<(), Fail> {
+    let alloc = rt.alloc();
+    let none = Err(FaultKind::NoLength);
+    assert_eq!(rt; length(&text(alloc, "")?), Ok(0));
+    assert_eq!(rt; length(&text(alloc, "äb")?), Ok(3));
+    assert_eq!(rt; length(&list(alloc)?), Ok(2));
+    assert_eq!(rt; length(&Datum::Null), none);
+    assert_eq!(rt; length(&Datum::Bool(true)), none);
+    assert_eq!(rt; length(&Datum::Int(3)), none);
+    if let Ok(dict) = read_datum(alloc, b"{\"a\":\"x\",\"b\":\"y\"}") {
+        assert_eq!(rt; length(&dict), Ok(2));
+        return Ok(());
+    }
+    assert!(rt; false);
+    Ok(())
+}
+
+#[test]
+fn a_text_is_cut_between_characters(rt: HostRuntime) -> Result<(), Fail> {
+    let alloc = rt.alloc();
+    let text = text(alloc, "äb")?;
+    for (from, to, want) in [
+        (0, 3, "äb"),
+        (0, 2, "ä"),
+        (2, 3, "b"),
+        (0, 0, ""),
+        (3, 3, ""),
+        (1, 3, "SliceRange"),
+        (0, 1, "SliceRange"),
+        (1, 1, "SliceRange"),
+        (2, 4, "SliceRange"),
+        (4, 4, "SliceRange"),
+        (3, 2, "SliceRange"),
+        (-1, 2, "SliceRange"),
+        (0, -1, "SliceRange"),
+        (0, i64::MAX, "SliceRange"),
+    ] {
+        assert_eq!(rt;
+            cut(alloc, &text, from, to)?.as_str(),
+            want,
+            "from {from} to {to}"
+        );
+    }
+    Ok(())
+}
+
+#[test]
+fn a_list_is_cut_between_values(rt: HostRuntime) -> Result<(), Fail> {
+    let alloc = rt.alloc();
+    let list = list(alloc)?;
+    for (from, to, want) in [
+        (0, 2, "[a b]"),
+        (0, 1, "[a]"),
+        (1, 2, "[b]"),
+        (2, 2, "[]"),
+        (0, 3, "SliceRange"),
+        (3, 3, "SliceRange"),
+        (2, 1, "SliceRange"),
+        (-1, 1, "SliceRange"),
+        (i64::MIN, i64::MIN, "SliceRange"),
+    ] {
+        assert_eq!(rt;
+            cut(alloc, &list, from, to)?.as_str(),
+            want,
+            "from {from} to {to}"
+        );
+    }
+    Ok(())
+}
+
+#[test]
+fn other_values_have_no_slice(rt: HostRuntime) -> Result<(), Fail> {
+    let alloc = rt.alloc();
+    assert_eq!(rt; cut(alloc, &Datum::Null, 0, 0)?.as_str(), "NotIndexable");
+    assert_eq!(rt;
+        cut(alloc, &Datum::Bool(true), 0, 0)?.as_str(),
+        "NotIndexable"
+    );
+    assert_eq!(rt; cut(alloc, &Datum::Int(12), 0, 1)?.as_str(), "NotIndexable");
+    if let Ok(dict) = read_datum(alloc, b"{\"a\":\"x\"}") {
+        assert_eq!(rt; cut(alloc, &dict, 0, 1)?.as_str(), "NotIndexable");
         return Ok(());
     }
     assert!(rt; false);
