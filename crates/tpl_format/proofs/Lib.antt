@@ -1,0 +1,5 @@
+pub mod Digits
+pub mod Examples
+pub mod SpellingReads
+pub mod SpellingStands
+pub mod Steps

@@ -1,0 +1,33 @@
+-- How `print`, `println` and `printf` answer: with the text, or why there is none.
+use Rattle.std.specs.Prelude.{◌≡◌, ℕ, ◌<◌, ◌≤◌, List, [], ◌∷◌, length, Some, None, Result, Ok, Err, ⊤}
+use Rattle.page_datum.specs.Data.{Data}
+use Rattle.page_datum.specs.View.{view}
+use Rattle.page_datum.specs.declared.datum.Datum.{Datum}
+use Rattle.page_datum.specs.declared.fault.FaultKind.TheVariants.{BadFormat, TooLong}
+use Rattle.tpl_format.specs.Formats.{formatted_args}
+use Rattle.page_datum.specs.declared.stop.ValueStop.{ValueStop}
+use Rattle.page_datum.specs.declared.stop.ValueStop.TheVariants.{Fault, Memory}
+
+-- the most bytes that a text may have
+abbrev pub max_text : ℕ
+max_text = 16777216
+
+-- the data that arguments stand for
+abbrev pub datas : List Datum → List Data
+datas [] = []
+datas (d ∷ ds) = view d ∷ datas ds
+
+-- the text, where it is not too long
+abbrev pub PrintAnswers : List ℕ → Result (List ℕ) ValueStop → Type 0
+PrintAnswers text (Ok made) = (made ≡ text) × (length text ≤ max_text)
+PrintAnswers text (Err (Fault TooLong)) = max_text < length text
+PrintAnswers text (Err Memory) = ⊤
+PrintAnswers text (Err stop) = ⊥
+
+-- the text, where the format fits its operands and the text is not too long
+abbrev pub PrintfAnswers : List Data → Result (List ℕ) ValueStop → Type 0
+PrintfAnswers args (Ok made) = (formatted_args args ≡ Some made) × (length made ≤ max_text)
+PrintfAnswers args (Err (Fault BadFormat)) = formatted_args args ≡ None
+PrintfAnswers args (Err (Fault TooLong)) = (text : List ℕ) × (formatted_args args ≡ Some text) × (max_text < length text)
+PrintfAnswers args (Err Memory) = ⊤
+PrintfAnswers args (Err stop) = ⊥

@@ -1,0 +1,33 @@
+-- The texts that `print` and `println` make of operands (Go's `text/template`, "Functions", in a profile).
+use Rattle.std.specs.Prelude.{ℕ, Bool, true, false, not, ◌&&◌, if◌then◌else◌, List, [], ◌∷◌, ◌++◌, codes}
+use Rattle.page_datum.specs.Data.{Data, text}
+use Rattle.page_datum.specs.Printed.{shown}
+
+abbrev pub is_text : Data → Bool
+is_text (text bytes) = true
+is_text datum = false
+
+-- a space, where it is wanted
+abbrev pub space : Bool → List ℕ
+space wanted = if wanted then codes " " else []
+
+-- operands behind one that is no text, or behind a text or nothing
+abbrev pub args_from : Bool → List Data → List ℕ
+args_from apart [] = []
+args_from apart (datum ∷ rest) = space (apart && not (is_text datum)) ++ (shown datum ++ args_from (not (is_text datum)) rest)
+
+-- a space stands between two operands of which neither is a text
+abbrev pub printed_args : List Data → List ℕ
+printed_args args = args_from false args
+
+-- operands behind another, or the first ones
+abbrev pub line_from : Bool → List Data → List ℕ
+line_from later [] = 10 ∷ []
+line_from later (datum ∷ rest) = space later ++ (shown datum ++ line_from true rest)
+
+-- a space stands between two operands, and LF behind them
+abbrev pub printed_line : List Data → List ℕ
+printed_line args = line_from false args
+
+abbrev pub printed_text : Bool → List Data → List ℕ
+printed_text line args = if line then printed_line args else printed_args args

@@ -1,0 +1,43 @@
+ghost use Rattle.std.specs.Prelude.{◌<◌, IfSome, length};
+ghost use Rattle.tpl_format.specs.Making.{SplitsAtVerb, ReadsVerb};
+
+use crate::verb::{Conversion, Reading, Verb, bare, read};
+
+/// A whole verb: `%%`, or one that takes an operand.
+#[derive(Clone, Copy, Debug, PartialEq, Eq)]
+pub(crate) enum Directive {
+    Sign,
+    Operand(Verb, Conversion),
+}
+
+/// The front of a format up to its first `%`, and what stands behind that.
+pub(crate) fn split_at_verb(format: &str) -> Option<(&str, &str)>
+    ensures parts { SplitsAtVerb format.now result }
+    ensures shorter { IfSome result (λ parts. length parts.1.now < length format.now) }
+{
+    format.split_once('%')
+}
+
+/// The verb behind a `%`, and what stands behind the verb.
+pub(crate) fn read_verb(text: &str) -> Option<(Directive, &str)>
+    ensures found { ReadsVerb text.now result }
+    ensures shorter { IfSome result (λ found. length found.1.now < length text.now) }
+{
+    let bytes = text.as_bytes();
+    let mut verb = bare();
+    for at in 0..bytes.len() {
+        match read(verb, bytes[at]) {
+            Reading::More(longer) => verb = longer,
+            Reading::Percent => {
+                let (_, behind) = text.split_at(at + 1);
+                return Some((Directive::Sign, behind));
+            }
+            Reading::Takes(conversion) => {
+                let (_, behind) = text.split_at(at + 1);
+                return Some((Directive::Operand(verb, conversion), behind));
+            }
+            Reading::Bad => return None,
+        }
+    }
+    None
+}

@@ -1,0 +1,68 @@
+ghost use Rattle.std.specs.Prelude.{[]};
+ghost use Rattle.tpl_format.specs.Answers.{PrintfAnswers, datas};
+ghost use Rattle.tpl_format.specs.Formats.{formatted};
+ghost use Rattle.tpl_format.specs.Making.{Gives, outcome};
+
+use crate::directive::{read_verb, split_at_verb};
+use crate::limit::{add, is_long};
+use crate::operand::direct;
+use page_datum::{Datum, FaultKind, ValueStop};
+use page_io::{Memory, Text};
+use std::alloc::Global;
+
+/// What `printf` makes of its arguments: the first is a text, the format, and each verb of it prints the next one of the operands
+/// behind it. (Go's `text/template`, "Functions", and package `fmt`, "Printing", in a profile.) A verb is `%`, flags, a width and
+/// a letter:
+///
+/// - `%d` prints a whole number in decimal.
+/// - `%x` prints a whole number in lower hex digits, or a text with two for each byte.
+/// - `%s` prints a text.
+/// - `%t` prints a truth value.
+/// - `%v` prints anything as `print` does.
+/// - `%%` prints `%`, and has no flags and no width.
+///
+/// A width is at most 1,000, and counts characters: spaces stand before what is shorter, or behind it with the flag `-`. The flags
+/// `0`, zeros behind the sign in place of spaces, unless `-` stands too, and `+`, a sign before numbers that are not negative, fit
+/// whole numbers under `d` and `x` alone. Flags stand in any order, each at most once.
+///
+/// The errors are BadFormat, where there is no format, it has what is no verb, or its verbs do not fit the operands in kind or in
+/// number; TooLong, where the text would have more than 16,777,216 bytes; and want of memory. BadFormat comes before TooLong.
+pub fn printf(alloc: Global, args: &[Datum]) -> Result<Text, ValueStop>
+    ensures { PrintfAnswers (datas args.now) result }
+{
+    match args {
+        [Datum::Text(format), operands @ ..] => write(alloc, format.as_str(), operands),
+        _ => Err(ValueStop::Fault(FaultKind::BadFormat)),
+    }
+}
+
+// The text that a format makes of operands.
+fn write(alloc: Global, format: &str, operands: &[Datum]) -> Result<Text, ValueStop>
+    ensures { Gives (outcome [] (formatted format.now (datas operands.now))) result }
+{
+    let mut out = Text::new(alloc);
+    let mut rest = format;
+    let mut left = operands;
+    while let Some((plain, behind)) = split_at_verb(rest) {
+        add(&mut out, plain)?;
+        let Some((directive, after)) = read_verb(behind) else {
+            return Err(ValueStop::Fault(FaultKind::BadFormat));
+        };
+        match direct(alloc, directive, left) {
+            Ok((text, others)) => {
+                add(&mut out, text.as_str())?;
+                left = others;
+            }
+            Err(stop) => return Err(stop),
+        }
+        rest = after;
+    }
+    add(&mut out, rest)?;
+    if !left.is_empty() {
+        return Err(ValueStop::Fault(FaultKind::BadFormat));
+    }
+    if is_long(&out) {
+        return Err(ValueStop::Fault(FaultKind::TooLong));
+    }
+    Ok(out)
+}

@@ -1,0 +1,93 @@
+ghost use Rattle.std.specs.Prelude.{◌≡◌, IfOk};
+ghost use Rattle.page_datum.specs.View.{view};
+ghost use Rattle.page_datum.specs.Printed.{shown as shown_of};
+ghost use Rattle.tpl_format.specs.Answers.{datas};
+ghost use Rattle.tpl_format.specs.Making.{Directs, directed};
+ghost use Rattle.tpl_format.specs.Operands.{operand_text as operand_text_of, filled_text as filled_text_of, plain_text as plain_text_of};
+
+use crate::directive::Directive;
+use crate::fill::fill;
+use crate::hex::hex_text;
+use crate::number::{decimal_text, hex_number};
+use crate::verb::{Conversion, Verb};
+use page_datum::{Datum, FaultKind, ValueStop, show_datum};
+use page_io::{Memory, Text};
+use std::alloc::Global;
+
+/// What a verb prints of the first operand, and the operands behind it. The errors are BadFormat, an operand that is missing or
+/// does not fit, and want of memory.
+pub(crate) fn direct<'a>(
+    alloc: Global,
+    directive: Directive,
+    operands: &'a [Datum],
+) -> Result<(Text, &'a [Datum]), ValueStop>
+    ensures { Directs (directed directive (datas operands.now)) result }
+{
+    match directive {
+        Directive::Sign => Ok((Text::copy_of(alloc, "%")?, operands)),
+        Directive::Operand(verb, conversion) => match operands {
+            [] => Err(ValueStop::Fault(FaultKind::BadFormat)),
+            [operand, left @ ..] => match operand_text(alloc, verb, conversion, operand) {
+                Ok(Some(text)) => Ok((text, left)),
+                Ok(None) => Err(ValueStop::Fault(FaultKind::BadFormat)),
+                Err(Memory) => Err(ValueStop::Memory),
+            },
+        },
+    }
+}
+
+// What a verb prints of an operand, and nothing where the operand does not fit.
+fn operand_text(
+    alloc: Global,
+    verb: Verb,
+    conversion: Conversion,
+    datum: &Datum,
+) -> Result<Option<Text>, Memory>
+    ensures { IfOk result (λ text. text ≡ operand_text_of verb conversion (view datum.now)) }
+{
+    match (conversion, datum) {
+        (Conversion::Decimal, Datum::Int(number)) => {
+            Ok(Some(decimal_text(alloc, verb, *number)?))
+        }
+        (Conversion::Hex, Datum::Int(number)) => Ok(Some(hex_number(alloc, verb, *number)?)),
+        (_, _) => {
+            let plain = plain_text(alloc, conversion, datum)?;
+            filled_text(alloc, verb, plain)
+        }
+    }
+}
+
+// A text with spaces, where the verb asks for neither zeros nor `+`.
+fn filled_text(alloc: Global, verb: Verb, plain: Option<Text>) -> Result<Option<Text>, Memory>
+    ensures { IfOk result (λ text. text ≡ filled_text_of verb plain) }
+{
+    if verb.zeros || verb.plus {
+        return Ok(None);
+    }
+    match plain {
+        Some(plain) => Ok(Some(fill(alloc, verb, plain.as_str())?)),
+        None => Ok(None),
+    }
+}
+
+// An operand that is no whole number, or is printed as `print` does.
+fn plain_text(alloc: Global, conversion: Conversion, datum: &Datum) -> Result<Option<Text>, Memory>
+    ensures { IfOk result (λ text. text ≡ plain_text_of conversion (view datum.now)) }
+{
+    match (conversion, datum) {
+        (Conversion::Hex, Datum::Text(text)) => Ok(Some(hex_text(alloc, text.as_str())?)),
+        (Conversion::Itself, Datum::Text(text)) => Ok(Some(Text::copy_of(alloc, text.as_str())?)),
+        (Conversion::Truth, Datum::Bool(true)) => Ok(Some(Text::copy_of(alloc, "true")?)),
+        (Conversion::Truth, Datum::Bool(false)) => Ok(Some(Text::copy_of(alloc, "false")?)),
+        (Conversion::Any, _) => Ok(Some(shown(alloc, datum)?)),
+        (_, _) => Ok(None),
+    }
+}
+
+fn shown(alloc: Global, datum: &Datum) -> Result<Text, Memory>
+    ensures { IfOk result (λ text. text ≡ shown_of (view datum.now)) }
+{
+    let mut text = Text::new(alloc);
+    show_datum(alloc, datum, &mut text)?;
+    Ok(text)
+}
