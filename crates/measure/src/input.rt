@@ -1,12 +1,12 @@
 ghost use Rattle.std.specs.Prelude.{◌≤◌, ◌+◌, ◌<◌, IfOk, length, string_bytes};
-ghost use Rattle.tpl_token.specs.Answers.{max_text};
+ghost use Rattle.page_datum.specs.Reading.{max_length};
 
 use crate::request::Input;
 use std::alloc::{AllocError, Global};
 
 /// An input of at most so many bytes.
 pub fn input_of(alloc: Global, input: Input, size: usize) -> Result<String, AllocError>
-    requires { size ≤ max_text }
+    requires { size ≤ max_length }
     ensures { IfOk result (λ text. length (string_bytes text) ≤ size) }
 {
     match input {
@@ -17,12 +17,16 @@ pub fn input_of(alloc: Global, input: Input, size: usize) -> Result<String, Allo
         Input::Definitions => definitions(alloc, size),
         Input::Markup => repeated(alloc, "", "<\"&", "", size),
         Input::References => repeated(alloc, "", "&lt;&#9;", "", size),
+        Input::Numbers => repeated(alloc, "[", "1,", "1]", size),
+        Input::Texts => repeated(alloc, "[\"", "a", "\"]", size),
+        Input::Lists => repeated(alloc, "[", "[],", "[]]", size),
+        Input::Objects => objects(alloc, size),
     }
 }
 
 // As many definitions as fit, each with a name and a body of its own.
 fn definitions(alloc: Global, size: usize) -> Result<String, AllocError>
-    requires { size ≤ max_text }
+    requires { size ≤ max_length }
     ensures { IfOk result (λ text. length (string_bytes text) ≤ size) }
 {
     let mut text = String::new(alloc);
@@ -33,6 +37,29 @@ fn definitions(alloc: Global, size: usize) -> Result<String, AllocError>
         }
         text.push_str(one.as_str())?;
     }
+    Ok(text)
+}
+
+// An object with as many members as fit, whose keys differ; nothing where none fits.
+fn objects(alloc: Global, size: usize) -> Result<String, AllocError>
+    requires { size ≤ max_length }
+    ensures { IfOk result (λ text. length (string_bytes text) ≤ size) }
+{
+    let end = "\"\":0}";
+    let mut text = String::new(alloc);
+    if end.len() + 1 > size {
+        return Ok(text);
+    }
+    text.push_str("{")?;
+    let room = size - end.len();
+    for number in 0..size {
+        let one = format!(in alloc; "\"k{number}\":{number},")?;
+        if text.len() + one.len() > room {
+            break;
+        }
+        text.push_str(one.as_str())?;
+    }
+    text.push_str(end)?;
     Ok(text)
 }
 
@@ -48,7 +75,7 @@ fn repeated(
     requires unit_short { length unit.now ≤ 8 }
     requires front { length front.now ≤ 8 }
     requires end { length end.now ≤ 8 }
-    requires size { size ≤ max_text }
+    requires size { size ≤ max_length }
     ensures { IfOk result (λ text. length (string_bytes text) ≤ size) }
 {
     let mut text = String::new(alloc);

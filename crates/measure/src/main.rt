@@ -4,13 +4,15 @@
 
 ghost use Rattle.std.specs.Prelude.{◌≤◌, IfOk, IfSome, length};
 ghost use Rattle.tpl_token.specs.Answers.{max_text};
+ghost use Rattle.measure.specs.Limits.{most_of};
 
 mod input;
 mod request;
 
 use crate::input::input_of;
-use crate::request::{Call, Input, Request, size_named, words_named};
+use crate::request::{Call, Input, Request, most, size_named, words_named};
 use html_words::RefChars;
+use page_datum::{DataRefused, print_datum, read_datum};
 use page_io::{Memory, Text};
 use place_core::Chars;
 use san_html::{attr_nospace, html};
@@ -30,6 +32,7 @@ fn main(rt: HostRuntime) -> ExitCode {
             let _ = eprintln!(&rt; "      parse-text parse-actions parse-definitions");
             let _ = eprintln!(&rt; "      html-text html-markup nospace-text nospace-markup");
             let _ = eprintln!(&rt; "      characters-text characters-references");
+            let _ = eprintln!(&rt; "      data-numbers data-text data-lists data-objects");
             return ExitCode::from(2);
         }
         Err(_) => return ExitCode::from(11),
@@ -45,7 +48,7 @@ fn main(rt: HostRuntime) -> ExitCode {
 
 // What the words ask for, or nothing where they are others.
 fn requested<R: env::Env + AllocGlobal>(rt: &R) -> Result<Option<Request>, AllocError>
-    ensures { IfOk result (λ request. IfSome request (λ words. words.size ≤ max_text)) }
+    ensures { IfOk result (λ request. IfSome request (λ words. words.size ≤ most_of words.call)) }
 {
     let mut args = match env::args(rt) {
         Ok(args) => args.skip(1),
@@ -57,14 +60,16 @@ fn requested<R: env::Env + AllocGlobal>(rt: &R) -> Result<Option<Request>, Alloc
         _ => return Ok(None),
     };
     match (words_named(word.as_str()), size_named(size.as_str())) {
-        (Some((call, input)), Some(size)) => Ok(Some(Request { call, input, size })),
+        (Some((call, input)), Some(size)) if size <= most(call) => {
+            Ok(Some(Request { call, input, size }))
+        }
         _ => Ok(None),
     }
 }
 
 // The counts of a call on an input.
 fn counted(alloc: Global, call: Call, input: Input, size: usize) -> Result<String, AllocError>
-    requires { size ≤ max_text }
+    requires { size ≤ most_of call }
 {
     let text = input_of(alloc, input, size)?;
     match call {
@@ -77,6 +82,7 @@ fn counted(alloc: Global, call: Call, input: Input, size: usize) -> Result<Strin
             attr_nospace(alloc, text.as_str()),
         ),
         Call::Characters => characters_counted(alloc, text.as_str()),
+        Call::Data => printed_counted(alloc, text.as_str()),
     }
 }
 
@@ -135,4 +141,20 @@ fn characters_counted(alloc: Global, text: &str) -> Result<String, AllocError>
         }
     }
     format!(in alloc; "{bytes} bytes, {bytes} characters")
+}
+
+// What is printed of data.
+fn printed_counted(alloc: Global, text: &str) -> Result<String, AllocError> {
+    let bytes = text.len();
+    match read_datum(alloc, text.as_bytes()) {
+        Ok(datum) => match print_datum(alloc, &datum) {
+            Ok(printed) => {
+                let count = printed.as_str().len();
+                format!(in alloc; "{bytes} bytes, {count} bytes printed")
+            }
+            Err(Memory) => Err(AllocError),
+        },
+        Err(DataRefused::Memory) => Err(AllocError),
+        Err(_) => format!(in alloc; "{bytes} bytes, refused"),
+    }
 }

@@ -1,6 +1,7 @@
-ghost use Rattle.std.specs.Prelude.{◌≤◌, IfSome};
-ghost use Rattle.tpl_token.specs.Answers.{max_text};
+ghost use Rattle.std.specs.Prelude.{◌≡◌};
+ghost use Rattle.measure.specs.Limits.{most_of};
 
+use page_datum::MAX_LENGTH;
 use tpl_token::MAX_TEXT;
 
 /// What is done with an input.
@@ -16,6 +17,8 @@ pub enum Call {
     AttrNospace,
     /// Its characters are read with references undone, as the value of an attribute.
     Characters,
+    /// It is read as data, which are printed.
+    Data,
 }
 
 /// What an input is made of.
@@ -35,6 +38,14 @@ pub enum Input {
     Markup,
     /// References, again and again.
     References,
+    /// A list of numbers.
+    Numbers,
+    /// A list with one long string.
+    Texts,
+    /// A list of empty lists.
+    Lists,
+    /// An object, whose keys differ.
+    Objects,
 }
 
 /// What the words ask for.
@@ -62,19 +73,31 @@ pub fn words_named(word: &str) -> Option<(Call, Input)> {
         "nospace-markup" => Some((Call::AttrNospace, Input::Markup)),
         "characters-text" => Some((Call::Characters, Input::Text)),
         "characters-references" => Some((Call::Characters, Input::References)),
+        "data-numbers" => Some((Call::Data, Input::Numbers)),
+        "data-text" => Some((Call::Data, Input::Texts)),
+        "data-lists" => Some((Call::Data, Input::Lists)),
+        "data-objects" => Some((Call::Data, Input::Objects)),
         _ => None,
     }
 }
 
-/// The size that a word asks for: decimal digits, at most `MAX_TEXT` bytes.
-pub fn size_named(word: &str) -> Option<usize>
-    ensures { IfSome result (λ size. size ≤ max_text) }
+/// The most bytes that an input of a call may have.
+pub fn most(call: Call) -> usize
+    ensures { result ≡ most_of call }
 {
+    match call {
+        Call::Data => MAX_LENGTH,
+        Call::Tokens | Call::Parse | Call::Html | Call::AttrNospace | Call::Characters => MAX_TEXT,
+    }
+}
+
+/// The size that a word asks for: decimal digits.
+pub fn size_named(word: &str) -> Option<usize> {
     if !word.bytes().all(|byte| byte.is_ascii_digit()) {
         return None;
     }
     match word.parse::<usize>() {
-        Ok(size) if size <= MAX_TEXT => Some(size),
-        _ => None,
+        Ok(size) => Some(size),
+        Err(_) => None,
     }
 }

@@ -1,0 +1,14 @@
+-- The most bytes that an input of each call may have.
+use Rattle.std.specs.Prelude.{ℕ}
+use Rattle.tpl_token.specs.Answers.{max_text}
+use Rattle.page_datum.specs.Reading.{max_length}
+use Rattle.measure.specs.declared.request.Call.{Call}
+use Rattle.measure.specs.declared.request.Call.TheVariants.{Tokens, Parse, Html, AttrNospace, Characters, Data}
+
+abbrev pub most_of : Call → ℕ
+most_of Data = max_length
+most_of Tokens = max_text
+most_of Parse = max_text
+most_of Html = max_text
+most_of AttrNospace = max_text
+most_of Characters = max_text
