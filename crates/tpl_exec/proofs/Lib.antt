@@ -1,0 +1,17 @@
+pub mod Arguments
+pub mod Copies
+pub mod Elements
+pub mod Examples
+pub mod Executions
+pub mod Indexing
+pub mod Keeping
+pub mod Leaving
+pub mod MachineFollows
+pub mod MachineShrinks
+pub mod Operands
+pub mod Piped
+pub mod Reaching
+pub mod Scopes
+pub mod Spots
+pub mod StepsGrow
+pub mod Variables

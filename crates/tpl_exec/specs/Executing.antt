@@ -1,0 +1,62 @@
+-- What a sink may be given and how it then stands, and how an execution answers.
+use Rattle.std.specs.Prelude.{◌≡◌, ℕ, Bool, true, false, List, [], ◌∷◌, ◌++◌, ◌⊎◌, Result, Ok, Err, ⊤}
+use Rattle.page_datum.specs.declared.fault.ExecFault.{ExecFault}
+use Rattle.page_datum.specs.declared.fault.FaultKind.TheVariants.{TooLong as TooLongKind}
+use Rattle.tpl_exec.specs.Machine.{Advance, Machine, fails, halts, moves, tells}
+use Rattle.tpl_exec.specs.Meaning.{finish_of, finished}
+use Rattle.tpl_exec.specs.Runs.{Event, Given, Run, faulted}
+use Rattle.tpl_exec.specs.declared.sink.HoleStop.{HoleStop}
+use Rattle.tpl_exec.specs.declared.sink.HoleStop.TheVariants as stop
+use Rattle.tpl_exec.specs.declared.stop.ExecStop.{ExecStop}
+use Rattle.tpl_exec.specs.declared.stop.ExecStop.TheVariants.{Fault, SinkStop, Memory}
+
+-- A sink has states. Where an event may be given, it is taken, which leads to some state, or refused.
+
+-- from one state to another by events that are all taken
+abbrev pub Leads : {S : Type 0} → (S → Event → S → Type 0) → S → List Given → S → Type 0
+Leads takes s [] t = t ≡ s
+Leads {S} takes s (g ∷ gs) t = (u : S) × takes s g.event u × Leads takes u gs t
+
+-- each event may be given in each state to which those before it may lead
+abbrev pub Allows : {S : Type 0} → (S → Event → Type 0) → (S → Event → S → Type 0) → S → List Given → Type 0
+Allows may takes s [] = ⊤
+Allows {S} may takes s (g ∷ gs) = may s g.event × ((u : S) → takes s g.event u → Allows may takes u gs)
+
+-- of all events some were taken, and the next one was refused so
+abbrev pub Refuses : {S : Type 0} → (S → Event → S → Type 0) → (S → Event → HoleStop → S → Type 0) → List Given → Given → HoleStop → S → S → Type 0
+Refuses {S} takes refuses all g why s t = (front : List Given) × (rest : List Given) × (u : S) × (all ≡ front ++ g ∷ rest) × Leads takes s front u × refuses u g.event why t
+
+-- a text or a hole with which the page would be too long
+abbrev pub too_long : Given → ExecFault
+too_long g = record { kind = TooLongKind; template = g.template; line = g.line }
+
+-- how an execution answers, from one state of its sink to another
+abbrev pub Executes : {S : Type 0} → (S → Event → S → Type 0) → (S → Event → HoleStop → S → Type 0) → Run → S → S → Result ℕ ExecStop → Type 0
+Executes takes refuses run s t (Ok steps) = Leads takes s run.events t × (finish_of run.end ≡ finished steps)
+Executes takes refuses run s t (Err (Fault why)) = (Leads takes s run.events t × (run.end ≡ faulted why))
+    ⊎ ((g : Given) × Refuses takes refuses run.events g stop.TooLong s t × (why ≡ too_long g))
+Executes takes refuses run s t (Err SinkStop) = (g : Given) × Refuses takes refuses run.events g stop.SinkStop s t
+Executes takes refuses run s t (Err Memory) = ((front : List Given) × (rest : List Given) × (run.events ≡ front ++ rest) × Leads takes s front t)
+    ⊎ ((g : Given) × (why : HoleStop) × Refuses takes refuses run.events g why s t)
+
+-- why an execution stops where an event is refused so
+abbrev pub RefusedAs : Given → HoleStop → ExecStop → Type 0
+RefusedAs g stop.TooLong (Fault why) = why ≡ too_long g
+RefusedAs g stop.SinkStop SinkStop = ⊤
+RefusedAs g why Memory = ⊤
+RefusedAs g why result = ⊥
+
+-- how telling an event answers
+abbrev pub IsTold : {S : Type 0} → (S → Event → S → Type 0) → (S → Event → HoleStop → S → Type 0) → Given → S → Result ⊤ ExecStop → S → Type 0
+IsTold takes refuses g s (Ok _) t = takes s g.event t
+IsTold takes refuses g s (Err (Fault why)) t = refuses s g.event stop.TooLong t × (why ≡ too_long g)
+IsTold takes refuses g s (Err SinkStop) t = refuses s g.event stop.SinkStop t
+IsTold takes refuses g s (Err Memory) t = (why : HoleStop) × refuses s g.event why t
+
+-- how one advance with its event answers, and the machine and the sink behind it
+abbrev pub Steps : {S : Type 0} → (S → Event → S → Type 0) → (S → Event → HoleStop → S → Type 0) → Advance → S → Result Bool ExecStop → Machine → S → Type 0
+Steps takes refuses a s (Ok true) m t = ((a ≡ moves m) × (t ≡ s)) ⊎ ((g : Given) × (a ≡ tells g m) × takes s g.event t)
+Steps takes refuses a s (Ok false) m t = (a ≡ halts m.state.steps) × (t ≡ s)
+Steps takes refuses a s (Err (Fault why)) m t = ((a ≡ fails why) × (t ≡ s)) ⊎ ((g : Given) × (n : Machine) × (a ≡ tells g n) × refuses s g.event stop.TooLong t × (why ≡ too_long g))
+Steps takes refuses a s (Err SinkStop) m t = (g : Given) × (n : Machine) × (a ≡ tells g n) × refuses s g.event stop.SinkStop t
+Steps takes refuses a s (Err Memory) m t = (t ≡ s) ⊎ ((g : Given) × (n : Machine) × (why : HoleStop) × (a ≡ tells g n) × refuses s g.event why t)

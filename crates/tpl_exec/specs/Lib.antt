@@ -1,0 +1,13 @@
+pub mod Elements
+pub mod Evaluating
+pub mod Executing
+pub mod Functions
+pub mod Lists
+pub mod Machine
+pub mod MachineView
+pub mod Meaning
+pub mod OpenCalls
+pub mod Runs
+pub mod Sights
+pub mod Stacks
+pub mod Values

@@ -1,0 +1,219 @@
+-- Executing one node at a time: what is open stands in a list, in the place of the recursion of the meaning.
+use Rattle.std.specs.Prelude.{ℕ, zero, suc, ◌+◌, List, [], ◌∷◌, length, Bool, true, false, Option, Some, None, Result, Ok, Err}
+use Rattle.page_datum.specs.Data.{Data}
+use Rattle.page_datum.specs.declared.fault.ExecFault.{ExecFault}
+use Rattle.page_datum.specs.declared.fault.FaultKind.{FaultKind}
+use Rattle.page_datum.specs.declared.fault.FaultKind.TheVariants.{NotRangeable, Depth}
+use Rattle.tpl_exec.specs.Evaluating.{Variables}
+use Rattle.tpl_exec.specs.Functions.{Outcome, counted}
+use Rattle.tpl_exec.specs.Meaning.{argument, assigned, at_dot, calls_within, declared, elements, evaluated, nodes_of_tree, nodes_run, returned, turn_variables, turned, turns}
+use Rattle.tpl_exec.specs.Runs.{End, Given, Run, Site, State, and_then, cut_end, cut_state, ends, enters, fault_at, given, gives_hole, gives_text, go_on, if_next, leaves}
+use Rattle.tpl_tree.specs.Forests.{ForestData, tree_named}
+use Rattle.tpl_tree.specs.Trees.{NodesData, no_nodes, node, nodes_size}
+use Rattle.tpl_tree.specs.declared.node_kind.NodeKind.{NodeKind}
+use Rattle.tpl_tree.specs.declared.node_kind.NodeKind.TheVariants as kind
+use Rattle.tpl_value.specs.Truth.{truth_of}
+
+-- nodes of a part, with the number of the first one, which is 0 where there are none
+pub record Spot : Type 0 where
+  pub number : ℕ
+  pub nodes : NodesData
+
+abbrev pub spot : ℕ → NodesData → Spot
+spot n no_nodes = record { number = 0; nodes = no_nodes }
+spot n (node kind line seams first other rest) = record { number = n; nodes = node kind line seams first other rest }
+
+abbrev pub nowhere : Spot
+nowhere = record { number = 0; nodes = no_nodes }
+
+-- a range whose turns go on: its line, the names of its variables, the nodes of a turn, and the elements that are left
+pub record Loop : Type 0 where
+  pub line : ℕ
+  pub index : Option (List ℕ)
+  pub element : Option (List ℕ)
+  pub first : Spot
+  pub left : List (Data × Data)
+
+-- What is open. A part has what follows its control, how many variables remain then, and the dot that holds then, where it is another one. A
+-- loop has the dot of its range and what follows that. A call has where and on which line it stands, what follows it, and the caller's variables.
+pub data Frame : Type 0 where
+  part : Option Data → Spot → ℕ → Frame
+  loop : Data → Loop → Spot → ℕ → Frame
+  call : Site → ℕ → Spot → Variables → Frame
+
+-- where it stands, the nodes that are next, the state, what is open with the innermost first, and how many more calls may be open
+pub record Machine : Type 0 where
+  pub site : Site
+  pub at : Spot
+  pub state : State
+  pub frames : List Frame
+  pub calls : ℕ
+
+-- what one advance does: it goes on, or gives an event and goes on, or all is done, or it meets a fault
+pub data Advance : Type 0 where
+  moves : Machine → Advance
+  tells : Given → Machine → Advance
+  halts : ℕ → Advance
+  fails : ExecFault → Advance
+
+-- the place with the dot that holds behind a part
+abbrev pub back : Option Data → Site → Site
+back (Some dot) at = at_dot at dot
+back None at = at
+
+-- What the nodes that are next do, and then all that is open.
+
+abbrev pub spot_run : ForestData → ℕ → Site → Spot → State → Run
+spot_run forest more at s state = nodes_run (calls_within forest more) at s.number s.nodes state
+
+-- a turn of a loop, at the place of its range
+abbrev pub turn_run : ForestData → ℕ → Site → Loop → Data × Data → State → Run
+turn_run forest more at l e now = spot_run forest more (at_dot at e.1) l.first (record { variables = turn_variables l.index l.element e now.variables; steps = now.steps })
+
+abbrev pub frames_run : ForestData → ℕ → Site → List Frame → End → Run
+frames_run forest more at [] end = ends end
+frames_run forest more at (part dot rest count ∷ fs) end =
+    go_on (frames_run forest more (back dot at) fs) (if_next (spot_run forest more (back dot at) rest) (cut_end count end))
+frames_run forest more at (loop dot l rest count ∷ fs) end =
+    go_on (frames_run forest more (at_dot at dot) fs) (and_then (turned count (turns (at_dot at dot) l.line count (turn_run forest more (at_dot at dot) l) l.left) end)
+    (spot_run forest more (at_dot at dot) rest))
+frames_run forest more at (call caller line rest variables ∷ fs) end =
+    go_on (frames_run forest (suc more) caller fs) (and_then (returned caller line variables end) (spot_run forest (suc more) caller rest))
+
+abbrev pub machine_run : ForestData → Machine → Run
+machine_run forest m = go_on (frames_run forest m.calls m.site m.frames) (spot_run forest m.calls m.site m.at m.state)
+
+-- One advance.
+
+-- more steps, or a value, and then an advance
+abbrev pub on_steps : Site → ℕ → Result ℕ FaultKind → (ℕ → Advance) → Advance
+on_steps at line (Ok steps) advance = advance steps
+on_steps at line (Err kind) advance = fails (fault_at at line kind)
+
+abbrev pub on_value : Site → ℕ → Outcome Data → (Data → ℕ → Advance) → Advance
+on_value at line (Ok v) advance = advance v.0 v.1
+on_value at line (Err kind) advance = fails (fault_at at line kind)
+
+-- the machine behind a control, or behind a call
+abbrev pub behind_control : Machine → Option Data → Spot → ℕ → List Frame → Machine
+behind_control m dot rest count fs = record { site = back dot m.site; at = rest; state = cut_state count m.state; frames = fs; calls = m.calls }
+
+abbrev pub behind_call : Machine → Site → Spot → Variables → List Frame → Machine
+behind_call m caller rest variables fs = record { site = caller; at = rest; state = record { variables = variables; steps = m.state.steps }; frames = fs; calls = suc m.calls }
+
+-- one more turn of a loop
+abbrev pub turning : Machine → Data → Loop → Data × Data → List (Data × Data) → Spot → ℕ → List Frame → ℕ → Machine
+turning m dot l e es rest count fs steps = record {
+  site = at_dot m.site e.1;
+  at = l.first;
+  state = record { variables = turn_variables l.index l.element e (cut_state count m.state).variables; steps = steps };
+  frames = loop dot (record { line = l.line; index = l.index; element = l.element; first = l.first; left = es }) rest count ∷ fs;
+  calls = m.calls;
+}
+
+-- no node is next: the innermost open thing ends, or a loop has its next turn
+abbrev pub next_turn : Machine → Data → Loop → List (Data × Data) → Spot → ℕ → List Frame → Advance
+next_turn m dot l [] rest count fs = moves (behind_control m (Some dot) rest count fs)
+next_turn m dot l (e ∷ es) rest count fs = on_steps (at_dot m.site dot) l.line (counted 1 m.state.steps) (λ steps. moves (turning m dot l e es rest count fs steps))
+
+abbrev pub fallen : Machine → List Frame → Advance
+fallen m [] = halts m.state.steps
+fallen m (part dot rest count ∷ fs) = moves (behind_control m dot rest count fs)
+fallen m (loop dot l rest count ∷ fs) = next_turn m dot l l.left rest count fs
+fallen m (call caller line rest variables ∷ fs) = tells (given caller line leaves) (behind_call m caller rest variables fs)
+
+-- the machine behind a part that a `break` or a `continue` leaves
+abbrev pub leaving : Machine → Option Data → ℕ → Machine
+leaving m dot count = record { site = back dot m.site; at = nowhere; state = cut_state count m.state; frames = []; calls = m.calls }
+
+-- a `break` ends the innermost loop of this call
+abbrev pub broken_out : Machine → List Frame → Advance
+broken_out m [] = halts m.state.steps
+broken_out m (part dot rest count ∷ fs) = broken_out (leaving m dot count) fs
+broken_out m (loop dot l rest count ∷ fs) = moves (behind_control m (Some dot) rest count fs)
+broken_out m (call caller line rest variables ∷ fs) = tells (given caller line leaves) (behind_call m caller rest variables fs)
+
+-- a `continue` ends the turn of the innermost loop of this call
+abbrev pub continued_out : Machine → List Frame → Advance
+continued_out m [] = halts m.state.steps
+continued_out m (part dot rest count ∷ fs) = continued_out (leaving m dot count) fs
+continued_out m (loop dot l rest count ∷ fs) = moves (record { site = m.site; at = nowhere; state = m.state; frames = loop dot l rest count ∷ fs; calls = m.calls })
+continued_out m (call caller line rest variables ∷ fs) = tells (given caller line leaves) (behind_call m caller rest variables fs)
+
+-- the machine with other nodes next, and another state
+abbrev pub moved : Machine → Spot → State → Machine
+moved m at state = record { site = m.site; at = at; state = state; frames = m.frames; calls = m.calls }
+
+-- the machine in a part of a control, with a dot
+abbrev pub opened : Machine → Data → Option Data → Spot → Spot → ℕ → State → Machine
+opened m dot outer at rest count state = record { site = at_dot m.site dot; at = at; state = state; frames = part outer rest count ∷ m.frames; calls = m.calls }
+
+abbrev pub if_advance : Machine → Bool → Spot → Spot → Spot → State → Machine
+if_advance m true first other rest state = opened m m.site.dot None first rest (length m.state.variables) state
+if_advance m false first other rest state = opened m m.site.dot None other rest (length m.state.variables) state
+
+abbrev pub with_advance : Machine → Bool → Data → Spot → Spot → Spot → State → Machine
+with_advance m true value first other rest state = opened m value (Some m.site.dot) first rest (length m.state.variables) state
+with_advance m false value first other rest state = opened m m.site.dot None other rest (length m.state.variables) state
+
+-- a range: to its loop, whose first turn is next, or to its `else` part
+abbrev pub range_advance : Machine → Loop → Option (List (Data × Data)) → Spot → Spot → State → Advance
+range_advance m l None other rest state = fails (fault_at m.site l.line NotRangeable)
+range_advance m l (Some []) other rest state = moves (opened m m.site.dot None other rest (length m.state.variables) state)
+range_advance m l (Some (e ∷ es)) other rest state = moves (record {
+  site = m.site;
+  at = nowhere;
+  state = state;
+  frames = loop m.site.dot (record { line = l.line; index = l.index; element = l.element; first = l.first; left = e ∷ es }) rest (length m.state.variables) ∷ m.frames;
+  calls = m.calls;
+})
+
+-- a call, where one more may be open
+abbrev pub call_advance : ForestData → Machine → ℕ → ℕ → ℕ → List ℕ → Data → Spot → ℕ → Advance
+call_advance forest m zero n line name value rest steps = fails (fault_at m.site line Depth)
+call_advance forest m (suc more) n line name value rest steps = tells (given m.site line (enters n)) (record {
+  site = record { template = name; dot = value };
+  at = spot 0 (nodes_of_tree (tree_named name forest));
+  state = record { variables = ([], value) ∷ []; steps = steps };
+  frames = call m.site line rest m.state.variables ∷ m.frames;
+  calls = more;
+})
+
+-- a node with its number and line, its two parts, what follows it, and the steps with its own
+abbrev pub node_advance : ForestData → Machine → ℕ → ℕ → NodeKind → Spot → Spot → Spot → State → Advance
+node_advance forest m n line (kind.Text bytes) first other rest state = tells (given m.site line (gives_text n)) (moved m rest state)
+node_advance forest m n line (kind.Action pipe) first other rest state = on_value m.site line (evaluated m.site pipe state) (λ value steps.
+    tells (given m.site line (gives_hole n value)) (moved m rest (record { variables = state.variables; steps = steps })))
+node_advance forest m n line (kind.Declare name pipe) first other rest state = on_value m.site line (evaluated m.site pipe state) (λ value steps.
+    moves (moved m rest (record { variables = (name, value) ∷ state.variables; steps = steps })))
+node_advance forest m n line (kind.Assign name pipe) first other rest state = on_value m.site line (evaluated m.site pipe state) (λ value steps.
+    moves (moved m rest (record { variables = assigned name value state.variables; steps = steps })))
+node_advance forest m n line (kind.If name pipe) first other rest state = on_value m.site line (evaluated m.site pipe state) (λ value steps.
+    moves (if_advance m (truth_of value) first other rest (record { variables = declared name value state.variables; steps = steps })))
+node_advance forest m n line (kind.With name pipe) first other rest state = on_value m.site line (evaluated m.site pipe state) (λ value steps.
+    moves (with_advance m (truth_of value) value first other rest (record { variables = declared name value state.variables; steps = steps })))
+node_advance forest m n line (kind.Range index element pipe) first other rest state = on_value m.site line (evaluated m.site pipe state) (λ value steps.
+    range_advance m (record { line = line; index = index; element = element; first = first; left = [] }) (elements value) other rest (record { variables = state.variables; steps = steps }))
+node_advance forest m n line kind.Break first other rest state = broken_out (moved m nowhere state) m.frames
+node_advance forest m n line kind.Continue first other rest state = continued_out (moved m nowhere state) m.frames
+node_advance forest m n line (kind.Template name pipe) first other rest state = on_value m.site line (argument m.site pipe state) (λ value steps.
+    call_advance forest m m.calls n line name value rest steps)
+
+abbrev pub advanced : ForestData → Machine → ℕ → NodesData → Advance
+advanced forest m n no_nodes = fallen m m.frames
+advanced forest m n (node kind line seams first other rest) = on_steps m.site line (counted 1 m.state.steps) (λ steps.
+    node_advance forest m n line kind (spot (n + 1) first) (spot (n + 1 + nodes_size first) other) (spot (n + 1 + nodes_size first + nodes_size other) rest)
+    (record { variables = m.state.variables; steps = steps }))
+
+abbrev pub advance : ForestData → Machine → Advance
+advance forest m = advanced forest m m.at.number m.at.nodes
+
+-- before anything: the template with the datum
+abbrev pub started : ForestData → ℕ → List ℕ → Data → Machine
+started forest more root datum = record {
+  site = record { template = root; dot = datum };
+  at = spot 0 (nodes_of_tree (tree_named root forest));
+  state = record { variables = ([], datum) ∷ []; steps = 0 };
+  frames = [];
+  calls = more;
+}

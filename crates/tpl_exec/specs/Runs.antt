@@ -1,0 +1,109 @@
+-- What happens when nodes are executed: events, choices, and how they end.
+use Rattle.std.specs.Prelude.{ℕ, ◌-◌, List, [], ◌∷◌, ◌++◌, length, drop}
+use Rattle.page_datum.specs.Data.{Data}
+use Rattle.page_datum.specs.declared.fault.ExecFault.{ExecFault}
+use Rattle.page_datum.specs.declared.fault.FaultKind.{FaultKind}
+use Rattle.tpl_exec.specs.Evaluating.{Variables}
+
+-- What is given to the page: a text by its node, a hole by its node and its value, a call by its node, and the end of a call. Nodes
+-- have the numbers that they have in their own tree.
+pub data Event : Type 0 where
+  gives_text : ℕ → Event
+  gives_hole : ℕ → Data → Event
+  enters : ℕ → Event
+  leaves : Event
+
+-- an event, and the template and the line of its node, which for the end of a call is the call
+pub record Given : Type 0 where
+  pub event : Event
+  pub template : List ℕ
+  pub line : ℕ
+
+-- What is chosen: the first part of an `if` or `with`, or its `else` part, also where none is written; one more turn of a range, or
+-- that it is done, also where there is nothing to go over.
+pub data Choice : Type 0 where
+  then_part : Choice
+  else_part : Choice
+  turn : Choice
+  done : Choice
+
+-- the variables and the steps up to here
+pub record State : Type 0 where
+  pub variables : Variables
+  pub steps : ℕ
+
+-- how nodes of a part end: what follows them is next, or a `break` or a `continue` was met, or a fault
+pub data End : Type 0 where
+  next : State → End
+  broken : State → End
+  continued : State → End
+  faulted : ExecFault → End
+
+-- the events and the choices in their order, and the end
+pub record Run : Type 0 where
+  pub events : List Given
+  pub choices : List Choice
+  pub end : End
+
+-- where nodes stand: their template, by its name, and dot
+pub record Site : Type 0 where
+  pub template : List ℕ
+  pub dot : Data
+
+-- a run without events
+abbrev pub ends : End → Run
+ends end = record { events = []; choices = []; end = end }
+
+-- a run with one more event before it, or one more choice
+abbrev pub giving : Given → Run → Run
+giving event run = record { events = event ∷ run.events; choices = run.choices; end = run.end }
+
+abbrev pub choosing : Choice → Run → Run
+choosing choice run = record { events = run.events; choices = choice ∷ run.choices; end = run.end }
+
+-- an event of a node of this line
+abbrev pub given : Site → ℕ → Event → Given
+given at line event = record { event = event; template = at.template; line = line }
+
+-- a fault of a node of this line
+abbrev pub fault_at : Site → ℕ → FaultKind → ExecFault
+fault_at at line kind = record { kind = kind; template = at.template; line = line }
+
+abbrev pub fault : Site → ℕ → FaultKind → Run
+fault at line kind = ends (faulted (fault_at at line kind))
+
+-- a run behind these events and choices
+abbrev pub behind : List Given → List Choice → Run → Run
+behind events choices run = record { events = events ++ run.events; choices = choices ++ run.choices; end = run.end }
+
+-- a run, and what its end leads to
+abbrev pub go_on : (End → Run) → Run → Run
+go_on more run = behind run.events run.choices (more run.end)
+
+-- what follows where nothing broke off
+abbrev pub if_next : (State → Run) → End → Run
+if_next more (next state) = more state
+if_next more (broken state) = ends (broken state)
+if_next more (continued state) = ends (continued state)
+if_next more (faulted why) = ends (faulted why)
+
+-- a run, and then another where nothing broke off
+abbrev pub and_then : Run → (State → Run) → Run
+and_then run more = go_on (if_next more) run
+
+-- Behind a part only so many variables remain, the oldest ones, with the values that they have by then.
+abbrev pub cut : ℕ → Variables → Variables
+cut count variables = drop (length variables - count) variables
+
+abbrev pub cut_state : ℕ → State → State
+cut_state count state = record { variables = cut count state.variables; steps = state.steps }
+
+abbrev pub cut_end : ℕ → End → End
+cut_end count (next state) = next (cut_state count state)
+cut_end count (broken state) = broken (cut_state count state)
+cut_end count (continued state) = continued (cut_state count state)
+cut_end count (faulted why) = faulted why
+
+-- a part
+abbrev pub scoped : ℕ → Run → Run
+scoped count run = record { events = run.events; choices = run.choices; end = cut_end count run.end }

@@ -1,0 +1,100 @@
+ghost use Rattle.std.specs.Prelude.{◌≡◌, ◌<◌, ◌^◌, IfOk, IfSome};
+ghost use Rattle.page_datum.specs.View.{view};
+ghost use Rattle.tpl_exec.specs.Elements.{all_elements, index_view, some_elements, IsElement, IsPart};
+ghost use Rattle.tpl_exec.specs.Meaning.{elements};
+ghost use Rattle.tpl_exec.specs.Sights.{stored_view};
+
+use crate::sight::Stored;
+use page_datum::Datum;
+use page_io::{Memory, Text};
+use std::alloc::Global;
+
+/// An element of what a range goes over, with its index.
+#[derive(Debug, Drop)]
+pub(crate) struct Element<'d> {
+    pub(crate) index: Stored<'d>,
+    pub(crate) value: Stored<'d>,
+}
+
+// The index of an element: its number in a list, or its key in a dictionary.
+#[derive(Clone, Copy, Debug, Drop)]
+enum Index<'a> {
+    Number(i64),
+    Key(&'a Text),
+}
+
+/// The element with a number, or none where there are no more.
+pub(crate) fn element_at<'d>(
+    alloc: Global,
+    source: &Stored<'d>,
+    at: usize,
+) -> Result<Option<Element<'d>>, Memory>
+    ensures element { IfOk result (λ found. IsElement found at (all_elements (elements (stored_view source.now)))) }
+    ensures bound { IfOk result (λ found. IfSome found (λ _. at < 2 ^ 63)) }
+{
+    match source {
+        Stored::Data(datum) => match part_at(datum, at) {
+            Some((index, value)) => Ok(Some(Element {
+                index: Stored::Made(index_datum(alloc, index)?),
+                value: Stored::Data(value),
+            })),
+            None => Ok(None),
+        },
+        Stored::Made(datum) => match part_at(datum, at) {
+            Some((index, value)) => Ok(Some(Element {
+                index: Stored::Made(index_datum(alloc, index)?),
+                value: Stored::Made(value.copy(alloc)?),
+            })),
+            None => Ok(None),
+        },
+    }
+}
+
+fn index_datum(alloc: Global, index: Index<'_>) -> Result<Datum, Memory>
+    ensures { IfOk result (λ datum. view datum ≡ index_view index.entry) }
+{
+    match index {
+        Index::Number(number) => Ok(Datum::Int(number)),
+        Index::Key(key) => Ok(Datum::Text(Text::copy_of(alloc, key.as_str())?)),
+    }
+}
+
+// The index and the value of the element with a number.
+fn part_at<'a>(datum: &'a Datum, at: usize) -> Option<(Index<'a>, &'a Datum)>
+    ensures part { IsPart result at (all_elements (elements (view datum.now))) }
+    ensures bound { IfSome result (λ _. at < 2 ^ 63) }
+{
+    match datum {
+        Datum::List(items) => {
+            if at >= items.len() {
+                return None;
+            }
+            match items.as_slice().get(at) {
+                Some(value) => Some((Index::Number(at as i64), value)),
+                None => None,
+            }
+        }
+        Datum::Dict(entries) => {
+            if at >= entries.len() {
+                return None;
+            }
+            match entries.as_slice().get(at) {
+                Some((key, value)) => Some((Index::Key(key), value)),
+                None => None,
+            }
+        }
+        _ => None,
+    }
+}
+
+/// Whether a range has a meaning for a value, and whether there are elements.
+pub(crate) fn has_elements(datum: &Datum) -> Option<bool>
+    ensures { result ≡ some_elements (elements (view datum.now)) }
+{
+    match datum {
+        Datum::Null => Some(false),
+        Datum::List(items) => Some(items.len() > 0),
+        Datum::Dict(entries) => Some(entries.len() > 0),
+        _ => None,
+    }
+}

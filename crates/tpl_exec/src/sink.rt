@@ -1,0 +1,52 @@
+ghost use Rattle.std.specs.Prelude.{OnOk, IfErr};
+ghost use Rattle.page_datum.specs.View.{view};
+ghost use Rattle.tpl_exec.specs.Runs.{Event, gives_text, gives_hole, enters, leaves};
+ghost use Rattle.tpl_exec.specs.declared.sink.HoleStop.{HoleStop};
+
+use page_datum::Datum;
+
+/// Why a sink refused an event.
+#[derive(Clone, Copy, Debug, PartialEq, Eq)]
+pub enum HoleStop {
+    /// The sink failed.
+    SinkStop,
+    /// The page would be too long.
+    TooLong,
+    /// Want of memory.
+    Memory,
+}
+
+/// What an execution gives its events to. Its states, for contracts, are the values of the sink itself.
+pub trait HoleSink {
+    // Which events may be given in a state.
+    ghost may: { Self → Event → Type 0 };
+
+    // To which states an event may lead from a state where it is taken.
+    ghost takes: { Self → Event → Self → Type 0 };
+
+    // To which states it may lead where it is refused so.
+    ghost refuses: { Self → Event → HoleStop → Self → Type 0 };
+
+    /// A text, by its node.
+    fn text(&mut self, node: u32) -> Result<(), HoleStop>
+        requires { may self.old (gives_text node) }
+        ensures ok { OnOk result (takes self.old (gives_text node) self.new) }
+        ensures err { IfErr result (λ why. refuses self.old (gives_text node) why self.new) };
+
+    /// A hole, by its node and its value.
+    fn hole(&mut self, node: u32, datum: &Datum) -> Result<(), HoleStop>
+        requires { may self.old (gives_hole node (view datum.now)) }
+        ensures ok { OnOk result (takes self.old (gives_hole node (view datum.now)) self.new) }
+        ensures err { IfErr result (λ why. refuses self.old (gives_hole node (view datum.now)) why self.new) };
+
+    /// A call of a template, by its node, whose events follow.
+    fn call(&mut self, node: u32) -> Result<(), HoleStop>
+        requires { may self.old (enters node) }
+        ensures ok { OnOk result (takes self.old (enters node) self.new) }
+        ensures err { IfErr result (λ why. refuses self.old (enters node) why self.new) };
+
+    /// The end of the innermost call.
+    fn leave(&mut self)
+        requires { may self.old leaves }
+        ensures { takes self.old leaves self.new };
+}
