@@ -3,10 +3,13 @@ use Rattle.std.specs.Prelude.{ℕ}
 use Rattle.tpl_token.specs.Answers.{max_text}
 use Rattle.page_datum.specs.Reading.{max_length}
 use Rattle.measure.specs.declared.request.Call.{Call}
-use Rattle.measure.specs.declared.request.Call.TheVariants.{Tokens, Parse, Html, AttrNospace, Characters, Data}
+use Rattle.measure.specs.declared.request.Call.TheVariants.{Tokens, Parse, Html, AttrNospace, Characters, Data, Turns, Calls, Keys}
 
 abbrev pub most_of : Call → ℕ
 most_of Data = max_length
+most_of Turns = max_length
+most_of Calls = max_length
+most_of Keys = max_length
 most_of Tokens = max_text
 most_of Parse = max_text
 most_of Html = max_text

@@ -6,9 +6,11 @@ ghost use Rattle.std.specs.Prelude.{◌≤◌, IfOk, IfSome, length};
 ghost use Rattle.tpl_token.specs.Answers.{max_text};
 ghost use Rattle.measure.specs.Limits.{most_of};
 
+mod counter;
 mod input;
 mod request;
 
+use crate::counter::executed_counted;
 use crate::input::input_of;
 use crate::request::{Call, Input, Request, most, size_named, words_named};
 use html_words::RefChars;
@@ -33,6 +35,7 @@ fn main(rt: HostRuntime) -> ExitCode {
             let _ = eprintln!(&rt; "      html-text html-markup nospace-text nospace-markup");
             let _ = eprintln!(&rt; "      characters-text characters-references");
             let _ = eprintln!(&rt; "      data-numbers data-text data-lists data-objects");
+            let _ = eprintln!(&rt; "      execute-turns execute-calls execute-keys");
             return ExitCode::from(2);
         }
         Err(_) => return ExitCode::from(11),
@@ -83,6 +86,17 @@ fn counted(alloc: Global, call: Call, input: Input, size: usize) -> Result<Strin
         ),
         Call::Characters => characters_counted(alloc, text.as_str()),
         Call::Data => printed_counted(alloc, text.as_str()),
+        Call::Turns => executed_counted(alloc, "{{range .}}{{.}}{{end}}", text.as_str()),
+        Call::Calls => executed_counted(
+            alloc,
+            "{{define \"t\"}}{{template \"t\"}}{{end}}{{template \"t\"}}",
+            text.as_str(),
+        ),
+        Call::Keys => executed_counted(
+            alloc,
+            "{{range $key, $value := .}}{{index $ $key}}{{end}}",
+            text.as_str(),
+        ),
     }
 }
 

@@ -19,6 +19,12 @@ pub enum Call {
     Characters,
     /// It is read as data, which are printed.
     Data,
+    /// A template with a hole for each item of it is executed.
+    Turns,
+    /// A template that calls itself is executed.
+    Calls,
+    /// A template that looks up each key of it is executed.
+    Keys,
 }
 
 /// What an input is made of.
@@ -77,6 +83,9 @@ pub fn words_named(word: &str) -> Option<(Call, Input)> {
         "data-text" => Some((Call::Data, Input::Texts)),
         "data-lists" => Some((Call::Data, Input::Lists)),
         "data-objects" => Some((Call::Data, Input::Objects)),
+        "execute-turns" => Some((Call::Turns, Input::Numbers)),
+        "execute-calls" => Some((Call::Calls, Input::Numbers)),
+        "execute-keys" => Some((Call::Keys, Input::Objects)),
         _ => None,
     }
 }
@@ -86,7 +95,7 @@ pub fn most(call: Call) -> usize
     ensures { result ≡ most_of call }
 {
     match call {
-        Call::Data => MAX_LENGTH,
+        Call::Data | Call::Turns | Call::Calls | Call::Keys => MAX_LENGTH,
         Call::Tokens | Call::Parse | Call::Html | Call::AttrNospace | Call::Characters => MAX_TEXT,
     }
 }
