@@ -1,6 +1,7 @@
 -- One advance after another: what each does to how far an execution has come.
 use Rattle.std.proofs.Common.{◌≡◌, ◌<◌, ◌≤◌, true, false, Ok, Err, sym, ap, ◌∙◌, subst, inl, inr}
-use Rattle.tpl_exec.specs.Executing.{Executes, Leads, Steps}
+use Rattle.tpl_exec.specs.Executing.{Executes, Leads}
+use Rattle.tpl_exec.specs.Steps.{Steps}
 use Rattle.tpl_exec.specs.Functions.{max_steps}
 use Rattle.tpl_exec.specs.Machine.{Advance, Machine, advance, fails, halts, machine_run, moves, tells}
 use Rattle.tpl_exec.specs.Meaning.{finish_of}

@@ -1,8 +1,7 @@
 -- What a sink may be given and how it then stands, and how an execution answers.
-use Rattle.std.specs.Prelude.{◌≡◌, ℕ, Bool, true, false, List, [], ◌∷◌, ◌++◌, ◌⊎◌, Result, Ok, Err, ⊤}
+use Rattle.std.specs.Prelude.{◌≡◌, ℕ, List, [], ◌∷◌, ◌++◌, ◌⊎◌, Result, Ok, Err, ⊤}
 use Rattle.page_datum.specs.declared.fault.ExecFault.{ExecFault}
 use Rattle.page_datum.specs.declared.fault.FaultKind.TheVariants.{TooLong as TooLongKind}
-use Rattle.tpl_exec.specs.Machine.{Advance, Machine, fails, halts, moves, tells}
 use Rattle.tpl_exec.specs.Meaning.{finish_of, finished}
 use Rattle.tpl_exec.specs.Runs.{Event, Given, Run, faulted}
 use Rattle.tpl_exec.specs.declared.sink.HoleStop.{HoleStop}
@@ -26,7 +25,7 @@ Allows {S} may takes s (g ∷ gs) = may s g.event × ((u : S) → takes s g.even
 abbrev pub Refuses : {S : Type 0} → (S → Event → S → Type 0) → (S → Event → HoleStop → S → Type 0) → List Given → Given → HoleStop → S → S → Type 0
 Refuses {S} takes refuses all g why s t = (front : List Given) × (rest : List Given) × (u : S) × (all ≡ front ++ g ∷ rest) × Leads takes s front u × refuses u g.event why t
 
--- a text or a hole with which the page would be too long
+-- the fault of an event that is refused as too long
 abbrev pub too_long : Given → ExecFault
 too_long g = record { kind = TooLongKind; template = g.template; line = g.line }
 
@@ -38,25 +37,3 @@ Executes takes refuses run s t (Err (Fault why)) = (Leads takes s run.events t �
 Executes takes refuses run s t (Err SinkStop) = (g : Given) × Refuses takes refuses run.events g stop.SinkStop s t
 Executes takes refuses run s t (Err Memory) = ((front : List Given) × (rest : List Given) × (run.events ≡ front ++ rest) × Leads takes s front t)
     ⊎ ((g : Given) × (why : HoleStop) × Refuses takes refuses run.events g why s t)
-
--- why an execution stops where an event is refused so
-abbrev pub RefusedAs : Given → HoleStop → ExecStop → Type 0
-RefusedAs g stop.TooLong (Fault why) = why ≡ too_long g
-RefusedAs g stop.SinkStop SinkStop = ⊤
-RefusedAs g why Memory = ⊤
-RefusedAs g why result = ⊥
-
--- how telling an event answers
-abbrev pub IsTold : {S : Type 0} → (S → Event → S → Type 0) → (S → Event → HoleStop → S → Type 0) → Given → S → Result ⊤ ExecStop → S → Type 0
-IsTold takes refuses g s (Ok _) t = takes s g.event t
-IsTold takes refuses g s (Err (Fault why)) t = refuses s g.event stop.TooLong t × (why ≡ too_long g)
-IsTold takes refuses g s (Err SinkStop) t = refuses s g.event stop.SinkStop t
-IsTold takes refuses g s (Err Memory) t = (why : HoleStop) × refuses s g.event why t
-
--- how one advance with its event answers, and the machine and the sink behind it
-abbrev pub Steps : {S : Type 0} → (S → Event → S → Type 0) → (S → Event → HoleStop → S → Type 0) → Advance → S → Result Bool ExecStop → Machine → S → Type 0
-Steps takes refuses a s (Ok true) m t = ((a ≡ moves m) × (t ≡ s)) ⊎ ((g : Given) × (a ≡ tells g m) × takes s g.event t)
-Steps takes refuses a s (Ok false) m t = (a ≡ halts m.state.steps) × (t ≡ s)
-Steps takes refuses a s (Err (Fault why)) m t = ((a ≡ fails why) × (t ≡ s)) ⊎ ((g : Given) × (n : Machine) × (a ≡ tells g n) × refuses s g.event stop.TooLong t × (why ≡ too_long g))
-Steps takes refuses a s (Err SinkStop) m t = (g : Given) × (n : Machine) × (a ≡ tells g n) × refuses s g.event stop.SinkStop t
-Steps takes refuses a s (Err Memory) m t = (t ≡ s) ⊎ ((g : Given) × (n : Machine) × (why : HoleStop) × (a ≡ tells g n) × refuses s g.event why t)

@@ -10,4 +10,5 @@ pub mod OpenCalls
 pub mod Runs
 pub mod Sights
 pub mod Stacks
+pub mod Steps
 pub mod Values

@@ -23,3 +23,7 @@ listed s = kept_events s.kept.items
 -- one more event was kept, and none was lost before
 abbrev pub Keeps : ListSink → Event → ListSink → Type 0
 Keeps s e t = t.whole ≡ true → (s.whole ≡ true) × (listed t ≡ listed s ++ e ∷ [])
+
+-- nothing was kept, and nothing more was lost
+abbrev pub Stays : ListSink → ListSink → Type 0
+Stays s t = (listed t ≡ listed s) × (t.whole ≡ s.whole)

@@ -47,7 +47,7 @@ pub(crate) fn called<'d, 'v>(
     }
 }
 
-// A value that no text was made for.
+// A value that costs no step more.
 fn free<'d, 'v>(
     answer: Result<Datum, FaultKind>,
     steps: u64,

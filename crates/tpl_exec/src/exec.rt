@@ -1,7 +1,8 @@
 ghost use Rattle.std.specs.Prelude.{◌≡◌, ◌<◌, length, unwrap_or, [], OnOk, IfErr, IfOk};
 ghost use Rattle.page_datum.specs.View.{view};
 ghost use Rattle.tpl_tree.specs.Forests.{name_at};
-ghost use Rattle.tpl_exec.specs.Executing.{Allows, Executes, IsTold, RefusedAs, Steps};
+ghost use Rattle.tpl_exec.specs.Executing.{Allows, Executes};
+ghost use Rattle.tpl_exec.specs.Steps.{IsTold, RefusedAs, Steps};
 ghost use Rattle.tpl_exec.specs.Machine.{Machine as SpecMachine, advance as advance_of, tells};
 ghost use Rattle.tpl_exec.specs.Runs.{Given};
 ghost use Rattle.tpl_exec.specs.MachineView.{event_view, machine_view, told_view};
@@ -16,7 +17,9 @@ use page_io::{Memory, Text};
 use std::alloc::Global;
 use tpl_tree::Forest;
 
-/// Executes a template of a forest, by its number, with a datum, and answers the steps.
+/// Executes a template of a forest, by its number, with a datum, and answers the steps. Its events are given to the sink in their order, up to
+/// the first that it refuses. The errors are the fault of the template, TooLong at the node whose event the sink refused so, SinkStop where it
+/// refused one so, and want of memory. (Go's `text/template`, "Actions", in a profile.)
 pub fn execute<'d, K: HoleSink>(
     alloc: Global,
     forest: &'d Forest,

@@ -1,7 +1,7 @@
 ghost use Rattle.std.specs.Prelude.{◌≡◌, ◌++◌, ◌∷◌, [], true, OnOk, OnErr, ◌<◌, length, unwrap_or};
 ghost use Rattle.page_datum.specs.View.{view};
 ghost use Rattle.tpl_exec.specs.Executing.{Executes};
-ghost use Rattle.tpl_exec.specs.Lists.{Keeps, kept_event, kept_events, listed};
+ghost use Rattle.tpl_exec.specs.Lists.{Keeps, Stays, kept_event, kept_events, listed};
 ghost use Rattle.tpl_exec.specs.Meaning.{meaning};
 ghost use Rattle.tpl_exec.specs.Runs.{gives_hole, gives_text, enters, leaves};
 ghost use Rattle.tpl_tree.specs.Forests.{name_at};
@@ -76,7 +76,7 @@ impl ListSink {
         datum: &Datum,
     ) -> Result<u64, ExecStop>
         requires { root < length forest.now }
-        ensures { Executes Keeps (λ s _ _ t. listed t ≡ listed s) (meaning forest.now (unwrap_or (name_at forest.now root) []) (view datum.now)) self.old self.new result }
+        ensures { Executes Keeps (λ s _ _ t. Stays s t) (meaning forest.now (unwrap_or (name_at forest.now root) []) (view datum.now)) self.old self.new result }
     {
         execute(alloc, forest, root, datum, self)
     }
@@ -84,7 +84,7 @@ impl ListSink {
     // Keeps one more event, unless it is the one to refuse.
     fn keep(&mut self, event: Kept) -> Result<(), HoleStop>
         ensures ok { OnOk result (Keeps self.old (kept_event event) self.new) }
-        ensures err { OnErr result (listed self.new ≡ listed self.old) }
+        ensures err { OnErr result (Stays self.old self.new) }
     {
         self.given = self.given.saturating_add(1);
         if self.given == self.stop_at {
@@ -99,13 +99,13 @@ impl ListSink {
 
 impl HoleSink for ListSink {
     ghost use Rattle.std.specs.Prelude.{⊤};
-    ghost use Rattle.tpl_exec.specs.Lists.{Keeps, listed};
+    ghost use Rattle.tpl_exec.specs.Lists.{Keeps, Stays};
 
     ghost may = { λ _ _. ⊤ };
 
     ghost takes = { Keeps };
 
-    ghost refuses = { λ s _ _ t. listed t ≡ listed s };
+    ghost refuses = { λ s _ _ t. Stays s t };
 
     fn text(&mut self, node: u32) -> Result<(), HoleStop> {
         self.keep(Kept::Text(node))
@@ -114,7 +114,10 @@ impl HoleSink for ListSink {
     fn hole(&mut self, node: u32, datum: &Datum) -> Result<(), HoleStop> {
         match datum.copy(*self.kept.allocator()) {
             Ok(copy) => self.keep(Kept::Hole(node, copy)),
-            Err(Memory) => Err(HoleStop::Memory),
+            Err(Memory) => {
+                self.given = self.given.saturating_add(1);
+                Err(HoleStop::Memory)
+            }
         }
     }
 

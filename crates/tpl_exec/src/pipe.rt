@@ -16,7 +16,8 @@ use tpl_symbol::Func;
 use tpl_tree::{Base, Command, Operand, Operands, Pipe};
 use tpl_value::truth;
 
-/// What a pipe gives, and the steps up to there: one for each command, and one for each byte of a text that a function makes. The errors
+/// What a pipe gives, and the steps up to there: one for each command but a `html` or `urlquery` with one argument, and one for each byte of a
+/// text that a function makes. The errors
 /// are the faults of its functions and fields, Budget, more than `MAX_STEPS` steps, and want of memory. (Go's `text/template`,
 /// "Pipelines", in a profile.)
 pub fn evaluate<'d, 'v>(

@@ -16,7 +16,7 @@ pub enum Stored<'d> {
     Made(Datum),
 }
 
-/// A variable, by its name without `$`.
+/// A variable, by its name without `$`, so that `$` itself has the empty name.
 #[derive(Debug, Drop)]
 pub struct Variable<'d> {
     pub name: &'d str,

@@ -16,7 +16,8 @@ pub enum HoleStop {
     Memory,
 }
 
-/// What an execution gives its events to. Its states, for contracts, are the values of the sink itself.
+/// What an execution gives its events to. Nodes are numbered in the tree of the template that was entered last and is not left; where an
+/// execution stops, open calls are not left. The states of a sink, for contracts, are the values of the sink itself.
 pub trait HoleSink {
     // Which events may be given in a state.
     ghost may: { Self → Event → Type 0 };
