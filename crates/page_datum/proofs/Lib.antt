@@ -1,7 +1,9 @@
+pub mod Boundaries
 pub mod Copies
 pub mod Counts
 pub mod Left
 pub mod Lookup
 pub mod OneDatum
+pub mod Puts
 pub mod Smaller
 pub mod Takes

@@ -1,7 +1,8 @@
 -- Data as trees of numbers, and back.
 use Rattle.std.specs.Prelude.{◌≡◌, refl, ℕ, zero, suc, pos, negsuc, true, false, List, [], ◌∷◌}
 use Rattle.std.specs.Coded.{Coded, code_by}
-use Rattle.page_datum.specs.Data.{Data, null, truth, int, text, list, dict, DataList, no_items, item, DataDict, no_entries, entry}
+use Rattle.page_datum.specs.Data.{Data, null, truth, int, text, list, dict, DataList, no_items}
+use Rattle.page_datum.specs.Data.{item, DataDict, no_entries, entry}
 use base.Stored.{Gv, gnil, gnum, gcons}
 use denote.Struct.Codes.{itself}
 
@@ -44,7 +45,8 @@ abbrev mutual
   data_from (gcons (gnum (suc (suc (suc zero)))) (gnum n)) = int (negsuc n)
   data_from (gcons (gnum (suc (suc (suc (suc zero))))) t) = text (bytes_from t)
   data_from (gcons (gnum (suc (suc (suc (suc (suc zero)))))) items) = list (list_from items)
-  data_from (gcons (gnum (suc (suc (suc (suc (suc (suc zero))))))) entries) = dict (dict_from entries)
+  data_from (gcons (gnum (suc (suc (suc (suc (suc (suc zero))))))) entries) =
+      dict (dict_from entries)
   data_from _ = null
 
   pub list_from : Gv → DataList
@@ -68,11 +70,14 @@ mutual
 
   pub list_from-list_tree : (items : DataList) → list_from (list_tree items) ≡ items
   list_from-list_tree no_items = refl
-  list_from-list_tree (item d rest) = λ i. item (data_from-data_tree d i) (list_from-list_tree rest i)
+  list_from-list_tree (item d rest) =
+      λ i. item (data_from-data_tree d i) (list_from-list_tree rest i)
 
   pub dict_from-dict_tree : (entries : DataDict) → dict_from (dict_tree entries) ≡ entries
   dict_from-dict_tree no_entries = refl
-  dict_from-dict_tree (entry key d rest) = λ i. entry (bytes_from-bytes_tree key i) (data_from-data_tree d i) (dict_from-dict_tree rest i)
+  dict_from-dict_tree (entry key d rest) =
+      λ i. entry
+      (bytes_from-bytes_tree key i) (data_from-data_tree d i) (dict_from-dict_tree rest i)
 
 abbrev pub list_code : Coded DataList
 list_code = code_by Gv itself list_tree list_from list_from-list_tree

@@ -1,5 +1,6 @@
 -- How deep the brackets of a text nest, counted over its bytes before anything is read.
-use Rattle.std.specs.Prelude.{ℕ, ◌+◌, ◌-◌, ◌==◌, Bool, true, false, ◌||◌, nat_lt, List, [], ◌∷◌, if◌then◌else◌}
+use Rattle.std.specs.Prelude.{ℕ, ◌+◌, ◌-◌, ◌==◌, Bool, true, false, ◌||◌, nat_lt, List, [], ◌∷◌}
+use Rattle.std.specs.Prelude.{if◌then◌else◌}
 use Rattle.page_datum.specs.declared.depth.Place.{Place}
 use Rattle.page_datum.specs.declared.depth.Place.TheVariants.{Outside, Inside, Escaped}
 
@@ -7,7 +8,8 @@ use Rattle.page_datum.specs.declared.depth.Place.TheVariants.{Outside, Inside, E
 abbrev pub max_depth : ℕ
 max_depth = 100
 
--- where the byte behind this one stands: a string goes from a quote to the next quote that no backslash takes
+-- where the byte after this one stands: a string goes from a quote to the next quote that no
+-- backslash takes
 abbrev pub place_after : Place → ℕ → Place
 place_after Outside b = if b == 34 then Inside else Outside
 place_after Inside b = if b == 34 then Outside else if b == 92 then Escaped else Inside
@@ -20,16 +22,19 @@ opens b = (b == 91) || (b == 123)
 abbrev pub closes : ℕ → Bool
 closes b = (b == 93) || (b == 125)
 
--- how many are open behind a byte; one that closes with none open counts nothing
+-- how many are open after a byte; one that closes with none open counts nothing
 abbrev pub open_after : Place → ℕ → ℕ → ℕ
-open_after Outside opened b = if opens b then opened + 1 else if closes b then opened - 1 else opened
+open_after Outside opened b =
+    if opens b then opened + 1 else if closes b then opened - 1 else opened
 open_after Inside opened b = opened
 open_after Escaped opened b = opened
 
 -- somewhere more are open than may be
 abbrev pub deepens : Place → ℕ → List ℕ → Bool
 deepens place opened [] = false
-deepens place opened (b ∷ bs) = if nat_lt max_depth (open_after place opened b) then true else deepens (place_after place b) (open_after place opened b) bs
+deepens place opened (b ∷ bs) =
+    if nat_lt max_depth (open_after place opened b) then true
+    else deepens (place_after place b) (open_after place opened b) bs
 
 abbrev pub is_too_deep : List ℕ → Bool
 is_too_deep bytes = deepens Outside 0 bytes

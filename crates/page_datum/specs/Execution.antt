@@ -5,7 +5,8 @@ use Rattle.page_io.specs.Whole.{AppendsPart}
 use Rattle.page_datum.specs.declared.fault.ExecFault.{ExecFault}
 use Rattle.page_datum.specs.declared.pages.PageEnd.{PageEnd}
 use Rattle.page_datum.specs.declared.pages.PageStop.{PageStop}
-use Rattle.page_datum.specs.declared.pages.PageStop.TheVariants.{NoTemplate, Fault, SinkStop, Memory}
+use Rattle.page_datum.specs.declared.pages.PageStop.TheVariants.{NoTemplate, Fault, SinkStop}
+use Rattle.page_datum.specs.declared.pages.PageStop.TheVariants.{Memory}
 
 -- how an execution ends: it is done, there is no such root, or it meets a fault
 pub data Ending : Type 0 where
@@ -20,8 +21,11 @@ pub record Execution : Type 0 where
   pub ending : Ending
 
 -- what a sink has got, before and after, with this answer
-abbrev pub PageAnswers : Execution → Option (List ℕ) → Option (List ℕ) → Result PageEnd PageStop → Type 0
-PageAnswers e old new (Ok end) = (e.ending ≡ done) × Appends old new e.bytes × (end.bytes ≡ length e.bytes) × (end.steps ≡ e.steps)
+abbrev pub PageAnswers : Execution → Option (List ℕ) → Option (List ℕ) → Result PageEnd PageStop
+    → Type 0
+PageAnswers e old new (Ok end) =
+    (e.ending ≡ done) × Appends old new e.bytes × (end.bytes ≡ length e.bytes)
+    × (end.steps ≡ e.steps)
 PageAnswers e old new (Err NoTemplate) = (e.ending ≡ no_root) × (new ≡ old)
 PageAnswers e old new (Err (Fault fault)) = (e.ending ≡ faulted fault) × AppendsPart old new e.bytes
 PageAnswers e old new (Err SinkStop) = (e.ending ≢ no_root) × AppendsPart old new e.bytes

@@ -4,7 +4,8 @@ use Rattle.std.proofs.Common.{arith}
 use Rattle.page_datum.specs.Sizes.{data_size, list_size, dict_size}
 use Rattle.page_datum.specs.View.{view, items_view, entries_view}
 use Rattle.page_datum.specs.declared.datum.Datum.{Datum}
-use Rattle.page_datum.specs.declared.datum.Datum.TheVariants.{Null, Bool, Int, Text, List as Items, Dict}
+use Rattle.page_datum.specs.declared.datum.Datum.TheVariants.{Null, Bool, Int, Text, List as Items}
+use Rattle.page_datum.specs.declared.datum.Datum.TheVariants.{Dict}
 use Rattle.page_datum.specs.declared.datum.Entries.TheDeep.{deep-Datum}
 use denote.Param.Weighed.{most}
 
@@ -20,6 +21,7 @@ pub most_le-list_size : (ds : List Datum) → most deep-Datum ds ≤ list_size (
 most_le-list_size [] = omega arith
 most_le-list_size (d ∷ ds) = omega (arith, deep_le-data_size d, most_le-list_size ds)
 
-pub most_le-dict_size : (es : List (List ℕ × Datum)) → most (λ e. max 0 (max (deep-Datum e.1) 0)) es ≤ dict_size (entries_view es)
+pub most_le-dict_size : (es : List (List ℕ × Datum))
+    → most (λ e. max 0 (max (deep-Datum e.1) 0)) es ≤ dict_size (entries_view es)
 most_le-dict_size [] = omega arith
 most_le-dict_size (e ∷ es) = omega (arith, deep_le-data_size e.1, most_le-dict_size es)

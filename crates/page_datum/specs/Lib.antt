@@ -3,8 +3,11 @@ pub mod Data
 pub mod Depth
 pub mod Execution
 pub mod Falls
+pub mod Kinds
+pub mod Legible
 pub mod Lines
 pub mod Printed
+pub mod Putting
 pub mod Reading
 pub mod Sizes
 pub mod Taking

@@ -1,7 +1,8 @@
 -- Data as text.
 use Rattle.std.specs.Prelude.{ℕ, List, [], ◌++◌, codes, true, false}
 use Rattle.std.specs.Fmt.{signed_decimal}
-use Rattle.page_datum.specs.Data.{Data, null, truth, int, text, list, dict, DataList, no_items, item, DataDict, no_entries, entry}
+use Rattle.page_datum.specs.Data.{Data, null, truth, int, text, list, dict, DataList, no_items}
+use Rattle.page_datum.specs.Data.{item, DataDict, no_entries, entry}
 
 abbrev mutual
   -- data inside other data
@@ -30,7 +31,8 @@ abbrev mutual
 
   pub spaced_entries : DataDict → List ℕ
   spaced_entries no_entries = []
-  spaced_entries (entry key d rest) = codes " " ++ (key ++ (codes ":" ++ (shown d ++ spaced_entries rest)))
+  spaced_entries (entry key d rest) =
+      codes " " ++ (key ++ (codes ":" ++ (shown d ++ spaced_entries rest)))
 
 -- data by itself: null is the empty text
 abbrev pub printed : Data → List ℕ

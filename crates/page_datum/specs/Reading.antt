@@ -1,16 +1,19 @@
 -- The datum that a JSON text (RFC 8259) stands for, and how reading it answers.
-use Rattle.std.specs.Prelude.{◌≡◌, ℕ, ℤ, suc, ◌<◌, ◌≤◌, List, [], ◌∷◌, ◌++◌, length, true, false, Option, Some, None, Result, Ok, Err, ⊤}
+use Rattle.std.specs.Prelude.{◌≡◌, ℕ, ℤ, suc, ◌<◌, ◌≤◌, List, [], ◌∷◌, ◌++◌, length, true, false}
+use Rattle.std.specs.Prelude.{Option, Some, None, Result, Ok, Err, ⊤}
 use Rattle.std.specs.Str.{IsUtf8}
 use Rattle.std.specs.Fmt.{decimal}
 use Rattle.serde_json.specs.Data as json
 use Rattle.serde_json.specs.Find.{as_i64}
 use Rattle.serde_json.specs.Read.{read}
-use Rattle.page_datum.specs.Data.{Data, null, truth, int, text, list, dict, DataList, no_items, item, DataDict, no_entries, entry}
+use Rattle.page_datum.specs.Data.{Data, null, truth, int, text, list, dict, DataList, no_items}
+use Rattle.page_datum.specs.Data.{item, DataDict, no_entries, entry}
 use Rattle.page_datum.specs.Depth.{is_too_deep}
 use Rattle.page_datum.specs.View.{view}
 use Rattle.page_datum.specs.declared.datum.Datum.{Datum}
 use Rattle.page_datum.specs.declared.refused.DataRefused.{DataRefused}
-use Rattle.page_datum.specs.declared.refused.DataRefused.TheVariants.{TooLong, TooDeep, NotJson, NotWhole, Memory}
+use Rattle.page_datum.specs.declared.refused.DataRefused.TheVariants.{TooLong, TooDeep, NotJson}
+use Rattle.page_datum.specs.declared.refused.DataRefused.TheVariants.{NotWhole, Memory}
 
 -- the most bytes that data may have
 abbrev pub max_length : ℕ
@@ -21,12 +24,14 @@ pub record IsJson (bytes : List ℕ) (value : json.Data) : Type 0 where
   pub utf8 : IsUtf8 bytes
   pub reads : read bytes ≡ Some value
 
--- What a JSON value stands for is a value, or, where a number in it is none of `i64`, the path of the first such number, depth first
--- and with keys in order: the keys and numbers of items that lead to it.
+-- What a JSON value stands for is a value, or, where a number in it is none of `i64`, the path of
+-- the first such number, depth first and with keys in order: the keys and numbers of items that
+-- lead to it.
 abbrev pub Path : Type 0
 Path = List ℕ
 
--- a path within the value of a key or an item: a dot, the key or the number of the item, and the path there
+-- a path within the value of a key or an item: a dot, the key or the number of the item, and the
+-- path there
 abbrev pub within : List ℕ → Path → Path
 within step path = 46 ∷ (step ++ path)
 
@@ -87,12 +92,15 @@ pub record Fits (bytes : List ℕ) : Type 0 where
 abbrev pub IsDatum : List ℕ → Data → Type 0
 IsDatum bytes d = Fits bytes × (value : json.Data) × IsJson bytes value × (data_of value ≡ Ok d)
 
--- why bytes are no datum; the number of `TooLong` is left open, since who reads up to the limit does not know it
+-- why bytes are no datum; the number of `TooLong` is left open, since who reads up to the limit
+-- does not know it
 abbrev pub IsNoDatum : DataRefused → List ℕ → Type 0
 IsNoDatum (TooLong len) bytes = max_length < length bytes
 IsNoDatum TooDeep bytes = (length bytes ≤ max_length) × (is_too_deep bytes ≡ true)
 IsNoDatum NotJson bytes = Fits bytes × ((value : json.Data) → IsJson bytes value → ⊥)
-IsNoDatum (NotWhole shown) bytes = Fits bytes × (value : json.Data) × (path : Path) × IsJson bytes value × (data_of value ≡ Err path) × (shown ≡ shown_path path)
+IsNoDatum (NotWhole shown) bytes =
+    Fits bytes × (value : json.Data) × (path : Path) × IsJson bytes value
+    × (data_of value ≡ Err path) × (shown ≡ shown_path path)
 IsNoDatum Memory bytes = ⊥
 
 -- what reading answers, and why

@@ -1,6 +1,8 @@
--- A size of data, which is larger than that of each of its parts: what a recursion over data goes down by.
+-- A size of data, which is larger than that of each of its parts: what a recursion over data goes
+-- down by.
 use Rattle.std.specs.Prelude.{ℕ, ◌+◌}
-use Rattle.page_datum.specs.Data.{Data, null, truth, int, text, list, dict, DataList, no_items, item, DataDict, no_entries, entry}
+use Rattle.page_datum.specs.Data.{Data, null, truth, int, text, list, dict, DataList, no_items}
+use Rattle.page_datum.specs.Data.{item, DataDict, no_entries, entry}
 
 abbrev mutual
   pub data_size : Data → ℕ

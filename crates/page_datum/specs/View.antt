@@ -1,8 +1,10 @@
 -- The data that a `Datum` stands for.
 use Rattle.std.specs.Prelude.{ℕ, List, [], ◌∷◌}
-use Rattle.page_datum.specs.Data.{Data, null, truth, int, text, list, dict, DataList, no_items, item, DataDict, no_entries, entry}
+use Rattle.page_datum.specs.Data.{Data, null, truth, int, text, list, dict, DataList, no_items}
+use Rattle.page_datum.specs.Data.{item, DataDict, no_entries, entry}
 use Rattle.page_datum.specs.declared.datum.Datum.{Datum}
-use Rattle.page_datum.specs.declared.datum.Datum.TheVariants.{Null, Bool, Int, Text, List as Items, Dict}
+use Rattle.page_datum.specs.declared.datum.Datum.TheVariants.{Null, Bool, Int, Text, List as Items}
+use Rattle.page_datum.specs.declared.datum.Datum.TheVariants.{Dict}
 
 abbrev pub view : Datum → Data
 view Null = null

@@ -20,8 +20,8 @@ pub struct Items {
     items: Vec<Datum>,
 }
 
-/// The entries of a dictionary: keys with their values, in byte order of distinct keys. Contracts see them as a
-/// `DataDict` of `specs/Data.antt`.
+/// The entries of a dictionary: keys with their values, in byte order of distinct keys. Contracts
+/// see them as a `DataDict` of `specs/Data.antt`.
 #[cycle(datum)]
 #[derive(Debug, Drop)]
 pub struct Entries {
@@ -128,7 +128,8 @@ impl Entries {
         self.entries.len()
     }
 
-    /// The value at a key. It takes no memory, and time like the logarithm of the number of entries, which no clause says.
+    /// The value at a key. It takes no memory, and time like the logarithm of the number of
+    /// entries, which no clause says.
     pub fn get(&self, key: &str) -> Option<&Datum>
         ensures { option_map (λ d. view d.now) result ≡ value_at key.now self.now }
     {

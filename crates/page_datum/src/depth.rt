@@ -1,5 +1,7 @@
 ghost use Rattle.std.specs.Prelude.{◌≡◌, ◌<◌};
-ghost use Rattle.page_datum.specs.Depth.{place_after as place_after_of, opens as opens_of, closes as closes_of, open_after as open_after_of, is_too_deep as is_too_deep_of};
+ghost use Rattle.page_datum.specs.Depth.{place_after as place_after_of, opens as opens_of};
+ghost use Rattle.page_datum.specs.Depth.{closes as closes_of, open_after as open_after_of};
+ghost use Rattle.page_datum.specs.Depth.{is_too_deep as is_too_deep_of};
 
 /// The most brackets and braces that may be open at once in data.
 pub const MAX_DEPTH: usize = 100;
@@ -11,7 +13,7 @@ pub(crate) enum Place {
     Outside,
     /// In a string.
     Inside,
-    /// In a string, behind a backslash that takes it.
+    /// In a string, after a backslash that takes it.
     Escaped,
 }
 

@@ -1,4 +1,5 @@
 use page_io::Text;
+use std::fmt;
 
 /// What stops an execution: it has no meaning, or passes a limit.
 #[derive(Clone, Copy, Debug, PartialEq, Eq)]
@@ -33,8 +34,35 @@ pub enum FaultKind {
     TooLong,
 }
 
+/// The name of the kind, as it is printed.
+impl fmt::Display for FaultKind {
+    ghost use Rattle.std.specs.Prelude.{Some};
+    ghost use Rattle.page_datum.specs.Kinds.{fault_kind};
+
+    ghost output = { λ kind. Some (fault_kind kind) };
+
+    fn fmt<W: fmt::Write>(&self, f: &mut fmt::Formatter<W>) -> fmt::Result {
+        f.write_str(match self {
+            FaultKind::NoField => "NoField",
+            FaultKind::NilField => "NilField",
+            FaultKind::NotIndexable => "NotIndexable",
+            FaultKind::IndexRange => "IndexRange",
+            FaultKind::KeyKind => "KeyKind",
+            FaultKind::NotComparable => "NotComparable",
+            FaultKind::WrongCount => "WrongCount",
+            FaultKind::NotRangeable => "NotRangeable",
+            FaultKind::NoLength => "NoLength",
+            FaultKind::BadFormat => "BadFormat",
+            FaultKind::Depth => "Depth",
+            FaultKind::Budget => "Budget",
+            FaultKind::SliceRange => "SliceRange",
+            FaultKind::TooLong => "TooLong",
+        })
+    }
+}
+
 /// A fault of an execution: its kind, and the template and the line of the action that met it.
-#[derive(Debug, Drop)]
+#[derive(Debug, PartialEq, Eq, Drop)]
 pub struct ExecFault {
     pub kind: FaultKind,
     pub template: Text,

@@ -1,5 +1,5 @@
-// Data for pages: reading it from JSON and printing it, and what several crates share about pages: their files, their
-// faults, and the trait of a set of pages.
+// Data for pages: reading it from JSON and printing it, and what several crates share about pages:
+// their files, their faults, and the trait of a set of pages.
 #![tactic(auto)]
 
 mod copy;
@@ -7,7 +7,9 @@ mod datum;
 mod depth;
 mod fault;
 mod files;
+mod legible_text;
 mod pages;
+mod pairs;
 mod print;
 mod read;
 mod refused;
@@ -15,13 +17,12 @@ mod shared;
 mod shown;
 mod stop;
 mod take;
-#[cfg(test)]
-mod tests;
 
 pub use datum::{Datum, Entries, Items};
 pub use depth::MAX_DEPTH;
 pub use fault::{ExecFault, FaultKind};
 pub use files::{Files, NamedFile};
+pub use legible_text::{legible, legible_path};
 pub use pages::{PageEnd, PageStop, Pages};
 pub use print::{print_datum, show_datum};
 pub use read::{MAX_LENGTH, read_datum};

@@ -13,7 +13,7 @@ use page_io::Sink;
 use std::alloc::Global;
 
 /// Why a page stopped.
-#[derive(Debug, Drop)]
+#[derive(Debug, PartialEq, Eq, Drop)]
 pub enum PageStop {
     /// No root has the name.
     NoTemplate,
@@ -21,7 +21,7 @@ pub enum PageStop {
     Fault(ExecFault),
     /// The sink failed, and has counted it.
     SinkStop,
-    /// Want of memory.
+    /// Out of memory.
     Memory,
 }
 
@@ -49,16 +49,18 @@ pub trait Pages: Sized {
     ghost is_execution: { Files → List ℕ → Data → Execution → Type 0 };
 
     // What holds of files, root, datum and page where a page is written to its end.
-    ghost page_fact: { Files → List ℕ → Data → List ℕ → Type 0 };
+    ghost is_sound: { Files → List ℕ → Data → List ℕ → Type 0 };
 
-    /// The set of these files. A refusal other than want of memory comes exactly where the files are refused.
+    /// The set of these files. A refusal, but for being out of memory, comes exactly where the files
+    /// are refused.
     fn make(alloc: Global, files: Files) -> Result<Self, Self::Refused>
         ensures made { IfOk result (λ set. made_of set ≡ files) }
         ensures accepted { IfOk result (λ _. refuses files → ⊥) }
         ensures refused { IfErr result (λ e. ¬ IsTrue (Self.Refused.is_memory e) → refuses files) };
 
-    /// Writes the page of a root with a datum. Whatever the answer, the sink has got a front of the execution's bytes,
-    /// and all of them at Ok. `SinkStop` comes only where the sink's count of faults rose in this call.
+    /// Writes the page of a root with a datum. Whatever the answer, the sink has got a prefix of the
+    /// execution's bytes, and all of them at Ok. `SinkStop` comes only where the sink's count of
+    /// faults rose in this call.
     fn page<K: Sink>(
         &self,
         alloc: Global,
@@ -66,10 +68,12 @@ pub trait Pages: Sized {
         datum: &Datum,
         out: &mut K,
     ) -> Result<PageEnd, PageStop>
-        ensures answers { PageAnswers (execution self.now root.now (view datum.now)) (K.taken out.old) (K.taken out.new) result }
-        ensures meant { is_execution (made_of self.now) root.now (view datum.now) (execution self.now root.now (view datum.now)) }
+        ensures answers { PageAnswers (execution self.now root.now (view datum.now))
+            (K.taken out.old) (K.taken out.new) result }
+        ensures meant { is_execution (made_of self.now) root.now (view datum.now)
+            (execution self.now root.now (view datum.now)) }
         ensures later { K.faults out.old ≤ K.faults out.new }
         ensures sink { result ≡ Err PageStop.SinkStop → Rose (K.faults out.old) (K.faults out.new) }
-        ensures fact { OnOk result (page_fact (made_of self.now) root.now (view datum.now)
+        ensures sound { OnOk result (is_sound (made_of self.now) root.now (view datum.now)
             (execution self.now root.now (view datum.now)).bytes) };
 }

@@ -12,9 +12,9 @@ use std::alloc::Global;
 /// The most bytes that data may have.
 pub const MAX_LENGTH: usize = 8_388_608;
 
-/// The datum that a JSON text (RFC 8259) stands for. Its numbers have to be whole numbers of `i64`, written without a point and without an
-/// exponent. Of repeated keys the last one stands. Each refusal but want of memory comes exactly where it says, in the order of
-/// `DataRefused`.
+/// The datum that a JSON text (RFC 8259) stands for. Its numbers have to be whole numbers of `i64`,
+/// written without a point and without an exponent. Of repeated keys the last one stands. Each
+/// refusal but out of memory comes exactly where it says, in the order of `DataRefused`.
 pub fn read_datum(alloc: Global, bytes: &[u8]) -> Result<Datum, DataRefused>
     ensures { ReadAnswers bytes.now result }
 {

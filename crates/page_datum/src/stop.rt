@@ -3,11 +3,11 @@ use page_io::Memory;
 use std::alloc::{AllocError, AllocFailed};
 
 /// Why a function of templates gives no value.
-#[derive(Debug, Drop)]
+#[derive(Debug, PartialEq, Eq, Drop)]
 pub enum ValueStop {
     /// The function has no meaning for what it was called with, or its value is too long.
     Fault(FaultKind),
-    /// Want of memory.
+    /// Out of memory.
     Memory,
 }
 

@@ -1,6 +1,7 @@
 ghost use Rattle.std.specs.Prelude.{◌≡◌, IfOk};
 ghost use Rattle.std.specs.Fmt.{decimal};
-ghost use Rattle.serde_json.specs.View.{view as json_view, items_view as json_items, members_view as json_members};
+ghost use Rattle.serde_json.specs.View.{view as json_view, items_view as json_items};
+ghost use Rattle.serde_json.specs.View.{members_view as json_members};
 ghost use Rattle.page_datum.specs.Reading.{data_of, items_of, entries_of, within as within_path};
 ghost use Rattle.page_datum.specs.Taking.{Takes, TakesDatum};
 
@@ -15,7 +16,7 @@ use std::alloc::{AllocFailed, Global};
 pub(crate) enum Untaken {
     /// The path of the first number that is not whole.
     NotWhole(Text),
-    /// Want of memory.
+    /// Out of memory.
     Memory,
 }
 

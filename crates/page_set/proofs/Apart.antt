@@ -12,7 +12,7 @@ use Rattle.page_set.specs.declared.refused.MakeRefused.TheVariants.{TooLarge, No
 use Rattle.page_set.proofs.FormLaws.{heads, tails, slash_first, tag_name_bytes, field_name_bytes}
 use Rattle.page_set.proofs.NameLaws.{prefix_len-run}
 
--- two runs of bytes that pass, with the same end behind them, have the same rest
+-- two runs of bytes that pass, with the same end after them, have the same rest
 same_rest : (p : ℕ → Bool) (e : ℕ) (n m a b : List ℕ) → list_all p n ≡ true → list_all p m ≡ true → p e ≡ false → n ++ e ∷ a ≡ m ++ e ∷ b → a ≡ b
 same_rest p e n m a b all every stops is =
     let long : length n ≡ length m = sym (prefix_len-run p e n a all stops) ∙ ap (prefix_len p) is ∙ prefix_len-run p e m b every stops in

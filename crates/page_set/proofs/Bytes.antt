@@ -45,7 +45,7 @@ by_true x y e h = ap (λ (z : Bool). not z || y) (sym e) ∙ h
 pub plain_byte : (m : Mode) (b : ℕ) (t : List Event) → (b == 60) ≡ false → (b == 38) ≡ false → read m (b ∷ []) (config (Text Closed) t) ≡ config (Text Closed) (TextByte b ∷ t)
 plain_byte m b t n60 n38 = text-byte b t (by_false _ _ n38 (by_false _ _ n60 (both _ _ (known b)).0))
 
--- a start tag, or an end tag: what stands behind its `<`, the state there, and what is told
+-- a start tag, or an end tag: what stands after its `<`, the state there, and what is told
 abbrev pub solidus : Bool → List ℕ
 solidus false = []
 solidus true = 47 ∷ []

@@ -37,7 +37,7 @@ no_script = refl
 heading : is_tag_name (codes "h1") ≡ true
 heading = refl
 
--- a hole behind a line feed is on the second line
+-- a hole after a line feed is on the second line
 second_line : nodes_from 1 [] (character 10 ∷ hole (codes "_x1") ∷ []) ≡ Text (10 ∷ []) ∷ Hole (codes "_x1") 2 ∷ []
 second_line = refl
 

@@ -1,4 +1,4 @@
--- Forms at the front of a text, and the nodes that they make.
+-- Forms at the beginning of a text, and the nodes that they make.
 use Rattle.std.proofs.Common.{◌≡◌, ℕ, ◌+◌, ◌-◌, ◌≤◌, List, [], ◌∷◌, ◌++◌, length, take, drop, refl, sym, ap, ◌∙◌, subst, arith, cond, ◌==◌, append_assoc, append-nil}
 use Rattle.std.proofs.Math.Seq.{take-add}
 use Rattle.std.proofs.lemmas.List.{drop-drop, drop_all, take_at, length-append, length-drop}
@@ -17,12 +17,12 @@ pub record IsScannedTo (text : List ℕ) (start at line : ℕ) (nodes : List Nod
   pub built : IsFront text front (drop at text)
   pub made : (forms : List Form) → nodes ++ nodes_from line (take (at - start) (drop start text)) forms ≡ nodes_from 1 [] (front ++ forms)
 
--- one more form at the end of a front
+-- one more form at the end of a prefix
 pub front_more : (text : List ℕ) (front : List Form) (rest : List ℕ) (form : Form) (more : List ℕ) → IsFront text front rest → Begins rest form more → IsFront text (front ++ form ∷ []) more
 front_more text [] rest form more h b = (more, (record { spelled = h ∙ b.spelled; stands = b.stands }, refl))
 front_more text (f ∷ front) rest form more h b = (h.0, (h.1.0, front_more h.0 front rest form more h.1.1 b))
 
--- a text is its front and the rest
+-- a text is its prefix and the rest
 pub spelled-front : (text : List ℕ) (front : List Form) (rest : List ℕ) → IsFront text front rest → text ≡ spelled front ++ rest
 spelled-front text [] rest h = h
 spelled-front text (f ∷ front) rest h = h.1.0.spelled ∙ ap (λ (xs : List ℕ). spelling f ++ xs) (spelled-front h.0 front rest h.1.1) ∙ sym (append_assoc (spelling f) (spelled front) rest)
@@ -53,7 +53,7 @@ line_feeds-append xs ys = sum_by-append (λ x. cond (x == 10) 1 0) xs ys
 pub spelling-found : (rest : List ℕ) (found : Found) → IsFound rest found → take (found_len found) rest ≡ spelling (form_of found rest)
 spelling-found rest found f = ap (take (found_len found)) f.begins.spelled ∙ take_at (spelling (form_of found rest)) (drop (found_len found) rest) (found_len found) (length-spelling rest found f.within)
 
--- the line of the place behind it
+-- the line of the place after it
 pub line_more : (text : List ℕ) (at line to : ℕ) (found : Found) → line ≡ 1 + line_feeds (take at text) → IsFound (drop at text) found → to ≡ at + found_len found
     → line + line_feeds (spelling (form_of found (drop at text))) ≡ 1 + line_feeds (take to text)
 line_more text at line to found h f is =

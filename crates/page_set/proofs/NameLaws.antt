@@ -35,7 +35,7 @@ lacks_name is_name p e end bytes len all stops run unnamed name more is named =
     let same : take len bytes ≡ name = ap (take len) is ∙ take_at name (e ∷ (end ++ more)) len long in
     true≢false (sym named ∙ ap is_name (sym same) ∙ unnamed)
 
--- behind that run this end does not stand, so no name is before it
+-- after that run this end does not stand, so no name is before it
 pub lacks_end : (is_name : List ℕ → Bool) (p : ℕ → Bool) (e : ℕ) (end bytes rest : List ℕ) (len : ℕ) → ((n : List ℕ) → is_name n ≡ true → list_all p n ≡ true) → p e ≡ false
     → len ≡ prefix_len p bytes → rest ≡ drop len bytes → (rest ≡ (e ∷ end) ++ drop (length (e ∷ end)) rest → ⊥) → LacksName is_name (e ∷ end) bytes
 lacks_end is_name p e end bytes rest len all stops run after unended name more is named =

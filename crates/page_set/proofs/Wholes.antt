@@ -24,7 +24,7 @@ use Rattle.page_set.proofs.Readings.{name_reads}
 abbrev pub Whole : List ℕ → Type 0
 Whole bytes = (t : List Event) → (u : List Event) × ((m : Mode) → read m bytes (config (Text Closed) t) ≡ config (Text Closed) u)
 
--- behind a tag with no special name there is text
+-- after a tag with no special name there is text
 other_element : (script style title textarea : Bool) → (script || (style || (title || (textarea || false)))) ≡ false
     → (if title then element.Title else (if textarea then element.Textarea else (if style then element.Style else (if script then element.Script else element.Other)))) ≡ element.Other
 other_element true style title textarea e = absurd (true≢false e)

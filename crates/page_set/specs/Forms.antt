@@ -1,6 +1,7 @@
--- What the text of a template is built of: plain tags (a part of the tags of the HTML Standard, section 13.1.2), holes, and
--- characters that stand for themselves, byte by byte.
-use Rattle.std.specs.Prelude.{◌≡◌, ◌≢◌, ℕ, Bool, false, not, ◌&&◌, ◌||◌, ◌==◌, IsTrue, codes, nat_eq, List, [], ◌∷◌, ◌++◌}
+-- What the text of a template is built of: plain tags (a part of the tags of the HTML Standard,
+-- section 13.1.2), holes, and characters that stand for themselves, byte by byte.
+use Rattle.std.specs.Prelude.{◌≡◌, ◌≢◌, ℕ, Bool, false, not, ◌&&◌, ◌||◌, ◌==◌, IsTrue, codes}
+use Rattle.std.specs.Prelude.{nat_eq, List, [], ◌∷◌, ◌++◌}
 use Rattle.std.specs.Char.{is_ascii_alphabetic, is_ascii_alphanumeric}
 use Rattle.std.specs.Cmp.Lexicographic.{pointwise}
 use Rattle.std.specs.List.{list_all, list_any}
@@ -24,8 +25,9 @@ abbrev pub begins_with : (ℕ → Bool) → List ℕ → Bool
 begins_with p [] = false
 begins_with p (b ∷ bs) = p b
 
--- The elements whose content is not read as text (HTML Standard, sections 13.2.5.2 to 13.2.5.4). The Standard has more of them (xmp, iframe,
--- noembed, noframes, noscript, plaintext); the profile reads their content as text.
+-- The elements whose content is not read as text (HTML Standard, sections 13.2.5.2 to 13.2.5.4).
+-- The Standard has more of them (xmp, iframe, noembed, noframes, noscript, plaintext); the profile
+-- reads their content as text.
 abbrev pub special_names : List (List ℕ)
 special_names = codes "script" ∷ codes "style" ∷ codes "title" ∷ codes "textarea" ∷ []
 
@@ -38,7 +40,9 @@ is_special name = is_special_name (str_to_ascii_lowercase name)
 
 -- a letter, then letters and digits, and no special name
 abbrev pub is_tag_name : List ℕ → Bool
-is_tag_name name = begins_with is_ascii_alphabetic name && (list_all is_ascii_alphanumeric name && not (is_special name))
+is_tag_name name =
+    begins_with is_ascii_alphabetic name
+    && (list_all is_ascii_alphanumeric name && not (is_special name))
 
 -- a letter, a digit, or `_`
 abbrev pub is_word_byte : ℕ → Bool
@@ -52,12 +56,14 @@ is_word_start b = is_ascii_alphabetic b || (b == 95)
 abbrev pub is_field_name : List ℕ → Bool
 is_field_name name = begins_with is_word_start name && list_all is_word_byte name
 
--- a form may stand before this rest of the text: `<` and `&` do not stand for themselves, and neither does a `{` before another
+-- a form may stand before this rest of the text: `<` and `&` do not stand for themselves, and
+-- neither does a `{` before another
 abbrev pub MayStand : Form → List ℕ → Type 0
 MayStand (start_tag name) rest = IsTrue (is_tag_name name)
 MayStand (end_tag name) rest = IsTrue (is_tag_name name)
 MayStand (hole name) rest = IsTrue (is_field_name name)
-MayStand (character byte) rest = (byte ≢ 60) × (byte ≢ 38) × (byte ≡ 123 → (more : List ℕ) → rest ≢ 123 ∷ more)
+MayStand (character byte) rest =
+    (byte ≢ 60) × (byte ≢ 38) × (byte ≡ 123 → (more : List ℕ) → rest ≢ 123 ∷ more)
 
 -- the text is this form and then the rest
 pub record Begins (text : List ℕ) (form : Form) (rest : List ℕ) : Type 0 where
@@ -67,7 +73,8 @@ pub record Begins (text : List ℕ) (form : Form) (rest : List ℕ) : Type 0 whe
 -- the text is these forms, one after another, and then the rest
 abbrev pub IsFront : List ℕ → List Form → List ℕ → Type 0
 IsFront text [] rest = text ≡ rest
-IsFront text (form ∷ forms) rest = (more : List ℕ) × (Begins text form more × IsFront more forms rest)
+IsFront text (form ∷ forms) rest =
+    (more : List ℕ) × (Begins text form more × IsFront more forms rest)
 
 -- the bytes of forms
 abbrev pub spelled : List Form → List ℕ

@@ -1,5 +1,5 @@
--- A text as HTML text: each character that could be read as markup is a character reference (HTML Standard, section
--- 13.1.4), and NUL is U+FFFD.
+-- A text as HTML text: each character that could be read as markup is a character reference (HTML
+-- Standard, section 13.1.4), and NUL is U+FFFD.
 use Rattle.std.specs.Prelude.{ℕ, ◌==◌, codes, List, [], ◌∷◌, ◌++◌, if◌then◌else◌}
 
 -- U+FFFD in UTF-8

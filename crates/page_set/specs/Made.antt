@@ -5,13 +5,14 @@ use Rattle.page_datum.specs.declared.files.NamedFile.{NamedFile}
 use Rattle.page_set.specs.Making.{IsMade, IsRefused}
 use Rattle.page_set.specs.declared.node.Node.{Node}
 use Rattle.page_set.specs.declared.refused.MakeRefused.{MakeRefused}
-use Rattle.page_set.specs.declared.refused.MakeRefused.TheVariants.{TooLarge, NotUtf8, NoTemplates, NotBuilt, Memory}
+use Rattle.page_set.specs.declared.refused.MakeRefused.TheVariants.{TooLarge, NotUtf8, NoTemplates}
+use Rattle.page_set.specs.declared.refused.MakeRefused.TheVariants.{NotBuilt, Memory}
 
 abbrev pub Makes : List NamedFile → Result (Vec Node Global) MakeRefused → Type 0
 Makes files (Ok nodes) = IsMade files nodes.items
 Makes files (Err refused) = IsRefused refused files
 
--- the name and the line of what is not built, or want of memory
+-- the name and the line of what is not built, or out of memory
 abbrev pub IsNotBuilt : List ℕ → ℕ → MakeRefused → Type 0
 IsNotBuilt name line (NotBuilt n l) = (n ≡ name) × (l ≡ line)
 IsNotBuilt name line Memory = ⊤

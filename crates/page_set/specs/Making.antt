@@ -9,7 +9,8 @@ use Rattle.page_set.specs.Nodes.{IsTemplate, IsStuckAt}
 use Rattle.page_set.specs.Running.{is_partial, execution_of}
 use Rattle.page_set.specs.declared.node.Node.{Node}
 use Rattle.page_set.specs.declared.refused.MakeRefused.{MakeRefused}
-use Rattle.page_set.specs.declared.refused.MakeRefused.TheVariants.{TooLarge, NotUtf8, NoTemplates, NotBuilt, Memory}
+use Rattle.page_set.specs.declared.refused.MakeRefused.TheVariants.{TooLarge, NotUtf8, NoTemplates}
+use Rattle.page_set.specs.declared.refused.MakeRefused.TheVariants.{NotBuilt, Memory}
 
 -- the most bytes that a file may have
 abbrev pub max_file : ℕ
@@ -34,10 +35,12 @@ IsRefused NoTemplates (file ∷ []) = IsText file × (is_partial file.name ≡ t
 IsRefused NoTemplates (file ∷ second ∷ files) = ⊥
 IsRefused (TooLarge name) (file ∷ []) = (name ≡ file.name) × (max_file < length file.bytes)
 IsRefused (TooLarge name) _ = ⊥
-IsRefused (NotUtf8 name) (file ∷ []) = (name ≡ file.name) × (length file.bytes ≤ max_file) × (IsUtf8 file.bytes → ⊥)
+IsRefused (NotUtf8 name) (file ∷ []) =
+    (name ≡ file.name) × (length file.bytes ≤ max_file) × (IsUtf8 file.bytes → ⊥)
 IsRefused (NotUtf8 name) _ = ⊥
 IsRefused (NotBuilt name line) [] = ⊥
-IsRefused (NotBuilt name line) (file ∷ []) = (name ≡ file.name) × IsText file × (is_partial file.name ≡ false) × IsStuckAt file.bytes line
+IsRefused (NotBuilt name line) (file ∷ []) =
+    (name ≡ file.name) × IsText file × (is_partial file.name ≡ false) × IsStuckAt file.bytes line
 IsRefused (NotBuilt name line) (file ∷ second ∷ files) = (name ≡ second.name) × (line ≡ 1)
 
 -- refused for another cause than memory
@@ -53,4 +56,5 @@ pub record IsMade (files : List NamedFile) (nodes : List Node) : Type 0 where
 
 -- what a root with a datum gives for a set of files
 abbrev pub IsExecution : Files → List ℕ → Data → Execution → Type 0
-IsExecution files root datum e = (nodes : List Node) × IsSet files.list nodes × (e ≡ execution_of files.list nodes root datum)
+IsExecution files root datum e =
+    (nodes : List Node) × IsSet files.list nodes × (e ≡ execution_of files.list nodes root datum)

@@ -1,4 +1,4 @@
--- A name at the beginning of bytes, with an end behind it.
+-- A name at the beginning of bytes, with an end after it.
 use Rattle.std.specs.Prelude.{◌≡◌, ℕ, ◌+◌, ◌≤◌, Bool, IsTrue, List, ◌++◌, length, take, drop}
 
 -- the bytes begin with a name of so many bytes, and this end
@@ -9,4 +9,5 @@ pub record EndsName (is_name : List ℕ → Bool) (end bytes : List ℕ) (len : 
 
 -- the bytes begin with no name before this end
 abbrev pub LacksName : (List ℕ → Bool) → List ℕ → List ℕ → Type 0
-LacksName is_name end bytes = (name more : List ℕ) → bytes ≡ name ++ (end ++ more) → IsTrue (is_name name) → ⊥
+LacksName is_name end bytes =
+    (name more : List ℕ) → bytes ≡ name ++ (end ++ more) → IsTrue (is_name name) → ⊥

@@ -1,4 +1,5 @@
--- The nodes of a template: texts, which are longest stretches without holes, and holes with their lines.
+-- The nodes of a template: texts, which are longest stretches without holes, and holes with their
+-- lines.
 use Rattle.std.specs.Prelude.{◌≡◌, ℕ, ◌+◌, ◌==◌, List, [], ◌∷◌, ◌++◌, count_by}
 use Rattle.page_set.specs.Forms.{Form, hole, spelling, spelled, IsFront, IsStuck}
 use Rattle.page_set.specs.declared.node.Node.{Node}
@@ -13,11 +14,14 @@ abbrev pub text_node : List ℕ → List Node
 text_node [] = []
 text_node (b ∷ bs) = Text (b ∷ bs) ∷ []
 
--- the nodes of forms that begin on this line, behind a text without holes
+-- the nodes of forms that begin on this line, after a text without holes
 abbrev pub nodes_from : ℕ → List ℕ → List Form → List Node
 nodes_from line before [] = text_node before
-nodes_from line before (hole name ∷ forms) = text_node before ++ Hole name line ∷ nodes_from (line + line_feeds (spelling (hole name))) [] forms
-nodes_from line before (form ∷ forms) = nodes_from (line + line_feeds (spelling form)) (before ++ spelling form) forms
+nodes_from line before (hole name ∷ forms) =
+    text_node before ++ Hole name line
+    ∷ nodes_from (line + line_feeds (spelling (hole name))) [] forms
+nodes_from line before (form ∷ forms) =
+    nodes_from (line + line_feeds (spelling form)) (before ++ spelling form) forms
 
 -- the text is a template of these nodes
 pub record IsTemplate (text : List ℕ) (nodes : List Node) : Type 0 where

@@ -9,12 +9,15 @@ pub data Symbol : Type 0 where
   Written : List ℕ → Symbol
   Hole : Symbol
 
--- The end of a node: a reference that has not ended is text as it is written, and a `<` or a `</` that was held back is text behind the character
--- of a reference before it. Every other state stays as it is, such as a tag whose name has begun.
+-- The end of a node: a reference that has not ended is text as it is written, and a `<` or a `</`
+-- that was held back is text after the character of a reference before it. Every other state stays
+-- as it is, such as a tag whose name has begun.
 abbrev pub at_cut : State → List Event → Config
 at_cut (Text (Open f bytes)) t = config (Text Closed) (text_bytes (38 ∷ bytes) t)
-at_cut (TagOpen r) t = config (Text Closed) (text_bytes (codes "<") (text_bytes (settled false r) t))
-at_cut (EndTagOpen r) t = config (Text Closed) (text_bytes (codes "</") (text_bytes (settled false r) t))
+at_cut (TagOpen r) t =
+    config (Text Closed) (text_bytes (codes "<") (text_bytes (settled false r) t))
+at_cut (EndTagOpen r) t =
+    config (Text Closed) (text_bytes (codes "</") (text_bytes (settled false r) t))
 at_cut s t = config s t
 
 -- the text of a node
@@ -34,9 +37,11 @@ abbrev pub read_path : List Symbol → Config → Config
 read_path [] c = c
 read_path (symbol ∷ symbols) c = read_path symbols (read_symbol symbol c)
 
--- the same reading with a text in each hole; where the texts run out it stops, and spare texts are not read
+-- the same reading with a text in each hole; where the texts run out it stops, and spare texts are
+-- not read
 abbrev pub read_filled : List Symbol → List (List ℕ) → Config → Config
 read_filled [] texts c = c
 read_filled (Written bytes ∷ symbols) texts c = read_filled symbols texts (read_written bytes c)
 read_filled (Hole ∷ symbols) [] c = c
-read_filled (Hole ∷ symbols) (text ∷ texts) c = read_filled symbols texts (config c.at (text_bytes text c.told))
+read_filled (Hole ∷ symbols) (text ∷ texts) c =
+    read_filled symbols texts (config c.at (text_bytes text c.told))

@@ -1,5 +1,6 @@
 -- What executing a template with a datum gives: its pieces, its steps, and its end.
-use Rattle.std.specs.Prelude.{ℕ, ◌+◌, Bool, false, not, ◌&&◌, ◌||◌, ◌==◌, nat_eq, if◌then◌else◌, List, [], ◌∷◌, ◌++◌, Result, Ok, Err, unwrap_or}
+use Rattle.std.specs.Prelude.{ℕ, ◌+◌, Bool, false, not, ◌&&◌, ◌||◌, ◌==◌, nat_eq, if◌then◌else◌}
+use Rattle.std.specs.Prelude.{List, [], ◌∷◌, ◌++◌, Result, Ok, Err, unwrap_or}
 use Rattle.std.specs.Cmp.Lexicographic.{pointwise}
 use Rattle.page_datum.specs.Data.{Data, null, dict, value_at}
 use Rattle.page_datum.specs.Execution.{Ending, done, no_root, faulted, Execution}
@@ -29,14 +30,22 @@ pub record Run : Type 0 where
   pub steps : ℕ
   pub ending : Ending
 
--- a hole on a line of a template, and then the run of what follows: one step for its node and one for its command
+-- a hole on a line of a template, and then the run of what follows: one step for its node and one
+-- for its command
 abbrev pub hole_run : List ℕ → ℕ → Result Data FaultKind → Run → Run
-hole_run template line (Ok value) rest = record { pieces = hole_piece value ∷ rest.pieces; steps = 2 + rest.steps; ending = rest.ending }
-hole_run template line (Err kind) rest = record { pieces = []; steps = 2; ending = faulted (record { kind = kind; template = template; line = line }) }
+hole_run template line (Ok value) rest =
+    record { pieces = hole_piece value ∷ rest.pieces; steps = 2 + rest.steps; ending = rest.ending }
+hole_run template line (Err kind) rest =
+    record {
+      pieces = [];
+      steps = 2;
+      ending = faulted (record { kind = kind; template = template; line = line });
+    }
 
 -- a node, and then the run of what follows: one step for a text
 abbrev pub node_run : List ℕ → Node → Data → Run → Run
-node_run template (Text text) datum rest = record { pieces = text_piece text ∷ rest.pieces; steps = 1 + rest.steps; ending = rest.ending }
+node_run template (Text text) datum rest =
+    record { pieces = text_piece text ∷ rest.pieces; steps = 1 + rest.steps; ending = rest.ending }
 node_run template (Hole name line) datum rest = hole_run template line (field_of name datum) rest
 
 -- the run of a template's nodes with a datum
@@ -61,11 +70,13 @@ is_partial name = begins_with (λ b. b == 95) name
 -- a root of files: the name of a file that is not partial
 abbrev pub is_root : List NamedFile → List ℕ → Bool
 is_root [] root = false
-is_root (file ∷ files) root = (pointwise nat_eq file.name root && not (is_partial file.name)) || is_root files root
+is_root (file ∷ files) root =
+    (pointwise nat_eq file.name root && not (is_partial file.name)) || is_root files root
 
 -- what executing a root with a datum gives, for files with one template of these nodes
 abbrev pub execution_of : List NamedFile → List Node → List ℕ → Data → Execution
 execution_of files nodes root datum =
     if is_root files root
-    then (let whole = run root nodes datum in record { bytes = page_of whole.pieces; steps = whole.steps; ending = whole.ending })
+    then (let whole = run root nodes datum in
+    record { bytes = page_of whole.pieces; steps = whole.steps; ending = whole.ending })
     else record { bytes = []; steps = 0; ending = no_root }

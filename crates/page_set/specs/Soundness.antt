@@ -1,5 +1,7 @@
--- What is promised of a page: its shape is its template's own, and each value reads back in its place.
-use Rattle.std.specs.Prelude.{◌≡◌, ℕ, true, ◌==◌, List, [], ◌∷◌, ◌++◌, if◌then◌else◌, Result, Ok, Err, ⊤}
+-- What is promised of a page: its shape is its template's own, and each value reads back in its
+-- place.
+use Rattle.std.specs.Prelude.{◌≡◌, ℕ, true, ◌==◌, List, [], ◌∷◌, ◌++◌, if◌then◌else◌, Result, Ok}
+use Rattle.std.specs.Prelude.{Err, ⊤}
 use Rattle.page_datum.specs.Data.{Data}
 use Rattle.page_datum.specs.Execution.{done}
 use Rattle.page_datum.specs.Printed.{printed}
@@ -47,28 +49,40 @@ texts_of (node.Hole name line ∷ nodes) datum = text_of (field_of name datum) �
 
 -- bytes read in their place, with references undone, are the value as it is printed
 abbrev pub IsBack : State → Data → List ℕ → Type 0
-IsBack (Text Closed) value bytes = (read Page bytes (config (Text Closed) [])).told ≡ text_bytes (as_text (printed value)) []
+IsBack (Text Closed) value bytes =
+    (read Page bytes (config (Text Closed) [])).told ≡ text_bytes (as_text (printed value)) []
 IsBack s value bytes = ⊥
 
 -- from a place on, each value is plain in its place and reads back there
 abbrev pub ReadsBack : List Piece → Config → Type 0
 ReadsBack [] c = ⊤
-ReadsBack (text_piece bytes ∷ pieces) c = ReadsBack pieces (read Page (written (text_piece bytes)) c)
-ReadsBack (hole_piece value ∷ pieces) c = IsPlain (written (hole_piece value)) c × IsBack (settled_config c).at value (written (hole_piece value)) × ReadsBack pieces (marked (written (hole_piece value)) c)
+ReadsBack (text_piece bytes ∷ pieces) c =
+    ReadsBack pieces (read Page (written (text_piece bytes)) c)
+ReadsBack (hole_piece value ∷ pieces) c =
+    IsPlain (written (hole_piece value)) c
+    × IsBack (settled_config c).at value (written (hole_piece value))
+    × ReadsBack pieces (marked (written (hole_piece value)) c)
 
--- The execution is done, and the page is the bytes of its pieces. Its reading, each plain hole as its mark, comes to where the
--- template's path comes, and to nothing else, so its shape is the path's own. It ends in text, each value is plain in its place
--- and reads back there, and the whole page reads as the path with the fields' texts in its holes.
-pub record IsSoundFor (root : List ℕ) (nodes : List Node) (datum : Data) (page : List ℕ) : Type 0 where
+-- The execution is done, and the page is the bytes of its pieces. Its reading, each plain hole as
+-- its mark, comes to where the template's path comes, and to nothing else, so its shape is the
+-- path's own. It ends in text, each value is plain in its place and reads back there, and the whole
+-- page reads as the path with the fields' texts in its holes.
+pub record IsSoundFor
+    (root : List ℕ) (nodes : List Node) (datum : Data) (page : List ℕ) : Type 0 where
   pub finished : (run root nodes datum).ending ≡ done
   pub bytes : page ≡ bytes_of (parts_of (run root nodes datum).pieces)
   pub reads : Reads (parts_of (run root nodes datum).pieces) start (read_path (path_of nodes) start)
-  pub no_other : (end : Config) → Reads (parts_of (run root nodes datum).pieces) start end → end ≡ read_path (path_of nodes) start
-  pub shape : (end : Config) → Reads (parts_of (run root nodes datum).pieces) start end → shape_of end ≡ shape_of (read_path (path_of nodes) start)
+  pub no_other : (end : Config) → Reads (parts_of (run root nodes datum).pieces) start end
+      → end ≡ read_path (path_of nodes) start
+  pub shape : (end : Config) → Reads (parts_of (run root nodes datum).pieces) start end
+      → shape_of end ≡ shape_of (read_path (path_of nodes) start)
   pub in_text : (read_path (path_of nodes) start).at ≡ Text Closed
   pub values : ReadsBack (run root nodes datum).pieces start
   pub whole : read Page page start ≡ read_filled (path_of nodes) (texts_of nodes datum) start
 
--- the files are a set with these nodes, the root is one of its roots, and the page is sound for them and the datum
+-- the files are a set with these nodes, the root is one of its roots, and the page is sound for
+-- them and the datum
 abbrev pub IsSound : Files → List ℕ → Data → List ℕ → Type 0
-IsSound files root datum page = (nodes : List Node) × IsSet files.list nodes × (is_root files.list root ≡ true) × IsSoundFor root nodes datum page
+IsSound files root datum page =
+    (nodes : List Node) × IsSet files.list nodes × (is_root files.list root ≡ true)
+    × IsSoundFor root nodes datum page

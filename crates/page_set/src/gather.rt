@@ -48,7 +48,8 @@ fn push_node(
     datum: &Datum,
     page: &mut Vec<u8>,
 ) -> Result<u64, PageStop>
-    ensures adds { AddsNode template.now node.now (view datum.now) page.old.items page.new.items result }
+    ensures adds { AddsNode template.now node.now (view datum.now)
+        page.old.items page.new.items result }
     ensures bound { IfOk result (λ n. n ≤ 2) }
 {
     match node {

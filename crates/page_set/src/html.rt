@@ -3,7 +3,8 @@ ghost use Rattle.page_set.specs.Html.{html_row, html};
 
 use std::alloc::AllocError;
 
-/// Appends a text as HTML text: each character that could be read as markup becomes a reference, and NUL U+FFFD.
+/// Appends a text as HTML text: each character that could be read as markup becomes a reference,
+/// and NUL U+FFFD.
 pub fn push_html(out: &mut Vec<u8>, text: &[u8]) -> Result<(), AllocError>
     ensures { OnOk result (out.new.items ≡ out.old.items ++ html text.now) }
 {

@@ -11,8 +11,6 @@ mod node;
 mod refused;
 mod set;
 mod template;
-#[cfg(test)]
-mod tests;
 
 pub use node::Node;
 pub use refused::{MAX_FILE, MakeRefused};

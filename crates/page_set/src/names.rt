@@ -1,13 +1,18 @@
 // The names of tags and of holes.
-ghost use Rattle.std.specs.Prelude.{◌≡◌, ◌↔◌, ◌≤◌, length, drop, IsTrue, MatchOption, [], ◌∷◌, ◌++◌};
+ghost use Rattle.std.specs.Prelude.{◌≡◌, ◌↔◌, ◌≤◌, length, drop, IsTrue, MatchOption, [], ◌∷◌};
+ghost use Rattle.std.specs.Prelude.{◌++◌};
 ghost use Rattle.std.specs.Char.{is_ascii_alphabetic, is_ascii_alphanumeric};
 ghost use Rattle.std.specs.List.{prefix_len, list_all};
-ghost use Rattle.page_set.specs.Forms.{begins_with, is_word_byte, is_word_start, is_tag_name as is_tag_name_of, is_field_name as is_field_name_of, is_special as is_special_of};
+ghost use Rattle.page_set.specs.Forms.{begins_with, is_word_byte, is_word_start};
+ghost use Rattle.page_set.specs.Forms.{is_tag_name as is_tag_name_of};
+ghost use Rattle.page_set.specs.Forms.{is_field_name as is_field_name_of};
+ghost use Rattle.page_set.specs.Forms.{is_special as is_special_of};
 ghost use Rattle.page_set.specs.Names.{EndsName, LacksName};
 
 // The length of the name of a tag that a text begins with, where `>` follows.
 pub fn tag_name_len(body: &[u8]) -> Option<usize>
-    ensures { MatchOption result (LacksName is_tag_name_of (62 ∷ []) body.now) (EndsName is_tag_name_of (62 ∷ []) body.now) }
+    ensures { MatchOption result (LacksName is_tag_name_of (62 ∷ []) body.now)
+        (EndsName is_tag_name_of (62 ∷ []) body.now) }
 {
     let len = alphanumeric_len(body);
     let (name, rest) = body.split_at(len);
@@ -22,7 +27,8 @@ pub fn tag_name_len(body: &[u8]) -> Option<usize>
 
 // The length of the name of a field that a text begins with, where `}}` follows.
 pub fn field_name_len(body: &[u8]) -> Option<usize>
-    ensures { MatchOption result (LacksName is_field_name_of (125 ∷ 125 ∷ []) body.now) (EndsName is_field_name_of (125 ∷ 125 ∷ []) body.now) }
+    ensures { MatchOption result (LacksName is_field_name_of (125 ∷ 125 ∷ []) body.now)
+        (EndsName is_field_name_of (125 ∷ 125 ∷ []) body.now) }
 {
     let len = word_len(body);
     let (name, rest) = body.split_at(len);

@@ -61,7 +61,7 @@ impl Pages for PageSet {
 
     ghost is_execution = { IsExecution };
 
-    ghost page_fact = { IsSound };
+    ghost is_sound = { IsSound };
 
     /// The set of these files. Each refusal comes exactly where `MakeRefused` says.
     fn make(alloc: Global, files: Files) -> Result<PageSet, MakeRefused>

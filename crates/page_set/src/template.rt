@@ -1,4 +1,5 @@
-ghost use Rattle.std.specs.Prelude.{◌≡◌, ◌+◌, ◌-◌, ◌<◌, ◌≤◌, ◌++◌, ◌∷◌, [], length, take, drop, vec_len, IfOk, OnOk};
+ghost use Rattle.std.specs.Prelude.{◌≡◌, ◌+◌, ◌-◌, ◌<◌, ◌≤◌, ◌++◌, ◌∷◌, [], length, take, drop};
+ghost use Rattle.std.specs.Prelude.{vec_len, IfOk, OnOk};
 ghost use Rattle.page_set.specs.Found.{IsFound, found_len};
 ghost use Rattle.page_set.specs.Scanned.{Scanned, AddsForm};
 ghost use Rattle.page_set.specs.Nodes.{line_feeds, text_node};
@@ -15,7 +16,7 @@ use std::alloc::Global;
 pub enum ScanStop {
     /// On this line stands something that begins no form.
     Stuck(u32),
-    /// Want of memory.
+    /// Out of memory.
     Memory,
 }
 
@@ -30,7 +31,8 @@ impl From<Memory> for ScanStop {
     }
 }
 
-/// The nodes of a template's text. `Stuck` comes exactly where a place of it begins no form, with the line of the first.
+/// The nodes of a template's text. `Stuck` comes exactly where a place of it begins no form, with
+/// the line of the first.
 pub fn scan(alloc: Global, text: &str) -> Result<Vec<Node>, ScanStop>
     requires { length text.now ≤ max_file }
     ensures { Scanned text.now result }
@@ -54,7 +56,8 @@ pub fn scan(alloc: Global, text: &str) -> Result<Vec<Node>, ScanStop>
     Ok(nodes)
 }
 
-// Adds the form at a place, where the text from `start` on has no hole, and says where such a text starts behind it.
+// Adds the form at a place, where the text from `start` on has no hole, and says where such a text
+// starts after it.
 fn add(
     alloc: Global,
     nodes: &mut Vec<Node>,
@@ -71,7 +74,8 @@ fn add(
     ensures order { IfOk result (λ next. next ≤ at + found_len found) }
     ensures from { IfOk result (IsCharBoundary text.now) }
     ensures count { IfOk result (λ next. vec_len nodes.old ≤ start → vec_len nodes.new ≤ next) }
-    ensures nodes { IfOk result (λ next. AddsForm text.now start at line found nodes.old.items nodes.new.items next) }
+    ensures nodes { IfOk result (λ next.
+        AddsForm text.now start at line found nodes.old.items nodes.new.items next) }
 {
     match found {
         Found::Hole(name) => {
@@ -111,7 +115,8 @@ fn push_text(
     requires order { start ≤ end }
     requires from { IsCharBoundary text.now start }
     requires to { IsCharBoundary text.now end }
-    ensures nodes { OnOk result (nodes.new.items ≡ nodes.old.items ++ text_node (take (end - start) (drop start text.now))) }
+    ensures nodes { OnOk result (nodes.new.items
+        ≡ nodes.old.items ++ text_node (take (end - start) (drop start text.now))) }
     ensures count { OnOk result (vec_len nodes.new + start ≤ vec_len nodes.old + end) }
 {
     if start < end {
@@ -132,7 +137,8 @@ fn push_hole(
 ) -> Result<(), Memory>
     requires at { IsCharBoundary text.now (at + 3) }
     requires end { IsCharBoundary text.now (at + 3 + name) }
-    ensures nodes { OnOk result (nodes.new.items ≡ nodes.old.items ++ Node.Hole (take name (drop (at + 3) text.now)) line ∷ []) }
+    ensures nodes { OnOk result (nodes.new.items
+        ≡ nodes.old.items ++ Node.Hole (take name (drop (at + 3) text.now)) line ∷ []) }
     ensures count { OnOk result (vec_len nodes.new ≡ vec_len nodes.old + 1) }
 {
     let name = Text::copy_of(alloc, &text[at + 3..at + 3 + name])?;

@@ -16,7 +16,7 @@ use Rattle.page_tool.specs.declared.status.Status.TheVariants as status
 apart : {A : Type 0} (h : Held) (dir root : List ℕ) → HasRoot h dir root → LacksRoot h dir root → A
 apart h dir root has lacks = absurd (true≢false (sym has.known ∙ lacks.unknown))
 
--- a read fault, in order: the folder failed, or the input did behind a set with the root
+-- a read fault, in order: the folder failed, or the input did after a set with the root
 abbrev ReadInOrder : Option Held → List ℕ → List ℕ → Type 0 → Status → Type 0
 ReadInOrder held dir root folder_rose s = s ≡ status.ReadFault → IfSome held (λ h. folder_rose ⊎ HasRoot h dir root)
 
@@ -79,4 +79,6 @@ exact held input dir root f i o s c r q w n = record {
   unknown = unknown held input dir root f s c q;
   no_input = no_input held input dir root f i s c r;
   complete = complete held input dir root f i o s c r w n;
+  in_order = q;
+  faultless = n;
 }

@@ -1,6 +1,6 @@
 -- What was written, where the folder and the input tell what they hold.
 use Rattle.std.proofs.Common.{◌≡◌, ℕ, true, List, [], ◌∷◌, Option, None, Some, Result, Ok, Err, refl, inr, subst, sym, ap, ◌∙◌}
-use Rattle.std.specs.Prelude.{IfSome, ⊤}
+use Rattle.std.specs.Prelude.{IfSome, OnOk, ⊤}
 use Rattle.std.specs.Io.KnownBytes.{Appends}
 use Rattle.page_io.specs.Held.{Held}
 use Rattle.page_io.specs.Whole.{AppendsPart}
@@ -18,7 +18,7 @@ use Rattle.page_set.proofs.Sound.{sound}
 use Rattle.page_tool.proofs.Inputs.{built_dict}
 use Rattle.page_tool.specs.Files.{files_of}
 use Rattle.page_tool.specs.Input.{IsInput, is_built}
-use Rattle.page_tool.specs.Output.{WritesPage, WritesPart, WritesAll, WritesToFault, RenderOutput, RenderCause, HasRoot, HasInput}
+use Rattle.page_tool.specs.Output.{WritesPage, WritesPart, WritesAll, WritesSound, WritesToFault, RenderOutput, RenderCause, HasRoot, HasInput}
 use Rattle.page_tool.specs.declared.stop.Stop.{Stop}
 use Rattle.page_tool.specs.declared.stop.Stop.TheVariants as stop
 
@@ -37,8 +37,21 @@ told_all : (held : Option Held) (input : Option (List ℕ)) (dir root : List ℕ
 told_all None input dir root files d e old new s r x is w = tt
 told_all (Some h) None dir root files d e old new s r x is w = tt
 told_all (Some h) (Some i) dir root files d e old new s r x is w =
+    (e, record { datum = d; read = r; execution = subst (λ (f : Files). IsExecution f root d e) s.0 x }, is, w)
+
+told_sound : (held : Option Held) (input : Option (List ℕ)) (dir root : List ℕ) (files : Files) (d : Data) (e : Execution) (old new : Option (List ℕ))
+    → IsLoaded held dir files → IfSome input (λ i. IsInput i d) → IsExecution files root d e → e.ending ≡ done → Appends old new e.bytes → WritesSound held input dir root old new
+told_sound None input dir root files d e old new s r x is w = tt
+told_sound (Some h) None dir root files d e old new s r x is w = tt
+told_sound (Some h) (Some i) dir root files d e old new s r x is w =
     let of : IsExecution (files_of h dir) root d e = subst (λ (f : Files). IsExecution f root d e) s.0 x in
-    (e, record { datum = d; read = r; execution = of }, is, w, sound (files_of h dir) root d e of is)
+    (e.bytes, record { datum = d; read = r; sound = sound (files_of h dir) root d e of is }, w)
+
+-- what was written of an execution that is done is sound
+pub sound_output : (held : Option Held) (input : Option (List ℕ)) (dir root : List ℕ) (files : Files) (d : Data) (e : Execution) (old new : Option (List ℕ)) (r : Result ⊤ Stop)
+    → IsLoaded held dir files → IfSome input (λ i. IsInput i d) → IsExecution files root d e → WritesPage e old new r → OnOk r (WritesSound held input dir root old new)
+sound_output held input dir root files d e old new (Ok _) s r x w = told_sound held input dir root files d e old new s r x w.0 w.1
+sound_output held input dir root files d e old new (Err _) s r x w = tt
 
 told_fault : (held : Option Held) (input : Option (List ℕ)) (dir root : List ℕ) (files : Files) (d : Data) (e : Execution) (fault : ExecFault) (old new : Option (List ℕ))
     → IsLoaded held dir files → IfSome input (λ i. IsInput i d) → IsExecution files root d e → e.ending ≡ faulted fault → AppendsPart old new e.bytes → WritesToFault held input dir root old new

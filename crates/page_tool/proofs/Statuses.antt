@@ -14,7 +14,7 @@ use Rattle.page_tool.specs.declared.status.Status.TheVariants as status
 use Rattle.page_tool.specs.declared.stop.Stop.{Stop}
 use Rattle.page_tool.specs.declared.stop.Stop.TheVariants as stop
 
--- a stop's own status, or want of memory
+-- a stop's own status, or out of memory
 abbrev pub IsReported : Stop → Status → Type 0
 IsReported why s = (s ≡ status_for why) ⊎ (s ≡ status.Memory)
 
@@ -123,7 +123,7 @@ pub read_of_two : (f i x : Type 0) → f ⊎ (i × x) → f ⊎ i
 read_of_two f i x (inl r) = inl r
 read_of_two f i x (inr r) = inr r.0
 
--- the folder failed, or the input did behind a set with the root
+-- the folder failed, or the input did after a set with the root
 pub read_in_order : (held : Option Held) (dir root : List ℕ) (f i : Type 0) → f ⊎ (i × IfSome held (λ h. HasRoot h dir root)) → IfSome held (λ h. f ⊎ HasRoot h dir root)
 read_in_order None dir root f i r = tt
 read_in_order (Some h) dir root f i (inl r) = inl r

@@ -1,4 +1,4 @@
--- When a command has to end in a status, unless a device failed or memory was wanting.
+-- When a command has to end in a status, unless a device failed or memory ran out.
 use Rattle.std.specs.Prelude.{◌≡◌, ℕ, List, Option, IfSome, ◌⊎◌}
 use Rattle.page_io.specs.Held.{Held}
 use Rattle.page_datum.specs.Data.{Data}
@@ -10,13 +10,25 @@ use Rattle.page_tool.specs.Output.{HasRoot, LacksRoot, Told}
 use Rattle.page_tool.specs.declared.status.Status.{Status}
 use Rattle.page_tool.specs.declared.status.Status.TheVariants as status
 
--- this status, or a read fault where these counts rose, or want of memory
+-- this status, or a read fault where these counts rose, or out of memory
 abbrev pub Ends : Status → Type 0 → Status → Type 0
-Ends expected read_rose s = (s ≡ expected) ⊎ ((s ≡ status.ReadFault) × read_rose) ⊎ (s ≡ status.Memory)
+Ends expected read_rose s =
+    (s ≡ expected) ⊎ ((s ≡ status.ReadFault) × read_rose) ⊎ (s ≡ status.Memory)
 
--- refused files, an unknown root, an input that pages are not made with, and else the whole page
-pub record IsExact (held : Option Held) (input : Option (List ℕ)) (dir root : List ℕ) (folder_rose input_rose out_rose : Type 0) (s : Status) : Type 0 where
-  pub refused : IfSome held (λ h. Refuses (files_of h dir).list → Ends status.SetRefused folder_rose s)
+-- refused files, an unknown root, an input that pages are not made with, and else the whole page;
+-- the input is read only once the files are a set that has the root; and no execution meets a fault
+-- yet
+pub record IsExact
+    (held : Option Held) (input : Option (List ℕ)) (dir root : List ℕ)
+    (folder_rose input_rose out_rose : Type 0) (s : Status) : Type 0 where
+  pub refused : IfSome held (λ h.
+      Refuses (files_of h dir).list → Ends status.SetRefused folder_rose s)
   pub unknown : IfSome held (λ h. LacksRoot h dir root → Ends status.NoTemplate folder_rose s)
-  pub no_input : Told held input (λ h i. HasRoot h dir root → (why : InputRefused) → IsNoInput why i → Ends status.DataRefused (folder_rose ⊎ input_rose) s)
-  pub complete : Told held input (λ h i. HasRoot h dir root → (datum : Data) → IsInput i datum → Ends status.Ok (folder_rose ⊎ input_rose) s ⊎ ((s ≡ status.WriteFault) × out_rose))
+  pub no_input : Told held input (λ h i.
+      HasRoot h dir root → (why : InputRefused) → IsNoInput why i
+      → Ends status.DataRefused (folder_rose ⊎ input_rose) s)
+  pub complete : Told held input (λ h i.
+      HasRoot h dir root → (datum : Data) → IsInput i datum
+      → Ends status.Ok (folder_rose ⊎ input_rose) s ⊎ ((s ≡ status.WriteFault) × out_rose))
+  pub in_order : s ≡ status.ReadFault → IfSome held (λ h. folder_rose ⊎ HasRoot h dir root)
+  pub faultless : s ≡ status.ExecFault → ⊥

@@ -1,8 +1,11 @@
 pub mod Codes
+pub mod Command
+pub mod Devices
 pub mod Exact
 pub mod Files
 pub mod Input
 pub mod Lines
 pub mod Output
+pub mod Runs
 pub mod Sets
 pub mod Words

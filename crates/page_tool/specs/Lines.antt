@@ -8,9 +8,9 @@ use Rattle.page_tool.specs.Output.{IsRefusedSet}
 use Rattle.page_tool.specs.declared.status.Status.{Status}
 use Rattle.page_tool.specs.declared.status.Status.TheVariants as status
 use Rattle.std.specs.Fmt.{decimal}
-use Rattle.page_datum.specs.declared.fault.FaultKind.{FaultKind}
-use Rattle.page_datum.specs.declared.fault.FaultKind.TheVariants as kind
-use Rattle.page_datum.specs.declared.refused.DataRefused.TheVariants as refused
+use Rattle.page_datum.specs.declared.fault.ExecFault.{ExecFault}
+use Rattle.page_datum.specs.Kinds.{fault_kind, data_refusal}
+use Rattle.page_datum.specs.Legible.{legible}
 use Rattle.page_tool.specs.Input.{IsNoInput}
 use Rattle.page_tool.specs.declared.input.InputRefused.{InputRefused}
 use Rattle.page_tool.specs.declared.input.InputRefused.TheVariants as input_refused
@@ -22,61 +22,49 @@ use Rattle.page_tool.specs.declared.stop.Stop.TheVariants as stop
 abbrev pub usage_text : List ℕ
 usage_text = codes "usage: render DIR NAME" ++ 10 ∷ []
 
--- the line of a number that is not whole, at this path
-abbrev pub not_whole_text : List ℕ → List ℕ
-not_whole_text path = codes "data NotWhole " ++ (path ++ 10 ∷ [])
-
 -- the line of an input that is refused
 abbrev pub data_text : InputRefused → List ℕ
-data_text (input_refused.Data (refused.TooLong len)) = codes "data TooLong" ++ 10 ∷ []
-data_text (input_refused.Data refused.TooDeep) = codes "data TooDeep" ++ 10 ∷ []
-data_text (input_refused.Data refused.NotJson) = codes "data NotJson" ++ 10 ∷ []
-data_text (input_refused.Data (refused.NotWhole path)) = not_whole_text path
-data_text (input_refused.Data refused.Memory) = codes "data Memory" ++ 10 ∷ []
+data_text (input_refused.Data why) = codes "data " ++ (data_refusal why ++ 10 ∷ [])
 data_text input_refused.NotBuilt = codes "data NotBuilt" ++ 10 ∷ []
 
-abbrev pub fault_kind : FaultKind → List ℕ
-fault_kind kind.NoField = codes "NoField"
-fault_kind kind.NilField = codes "NilField"
-fault_kind kind.NotIndexable = codes "NotIndexable"
-fault_kind kind.IndexRange = codes "IndexRange"
-fault_kind kind.KeyKind = codes "KeyKind"
-fault_kind kind.NotComparable = codes "NotComparable"
-fault_kind kind.WrongCount = codes "WrongCount"
-fault_kind kind.NotRangeable = codes "NotRangeable"
-fault_kind kind.NoLength = codes "NoLength"
-fault_kind kind.BadFormat = codes "BadFormat"
-fault_kind kind.Depth = codes "Depth"
-fault_kind kind.Budget = codes "Budget"
-fault_kind kind.SliceRange = codes "SliceRange"
-fault_kind kind.TooLong = codes "TooLong"
+-- the place of a fault, at the end of its line
+abbrev pub place_text : ExecFault → List ℕ
+place_text fault = legible fault.template ++ 58 ∷ (decimal fault.line ++ 10 ∷ [])
 
 -- the lines of a stop, for a root of this name
 abbrev pub stop_text : Stop → List ℕ → List ℕ
 stop_text (stop.Set why) name = refusal_text why
-stop_text (stop.Fault fault) name = codes "fault " ++ (fault_kind fault.kind ++ 32 ∷ (fault.template ++ 58 ∷ (decimal fault.line ++ 10 ∷ [])))
+stop_text (stop.Fault fault) name =
+    codes "fault " ++ (fault_kind fault.kind ++ 32 ∷ place_text fault)
 stop_text (stop.Data why) name = data_text why
 stop_text stop.Read name = codes "read fault" ++ 10 ∷ []
 stop_text stop.Write name = codes "write fault" ++ 10 ∷ []
-stop_text stop.NoTemplate name = codes "no template " ++ (name ++ 10 ∷ [])
+stop_text stop.NoTemplate name = codes "no template " ++ (legible name ++ 10 ∷ [])
 stop_text stop.Memory name = codes "memory" ++ 10 ∷ []
 
--- a stop was reported with this status, and its lines were written, or want of memory was
+-- a stop was reported with this status, and its lines were written, or that of out of memory was
 abbrev pub Says : Stop → List ℕ → Status → Option (List ℕ) → Option (List ℕ) → Type 0
-Says why name s old new = ((s ≡ status_for why) × Appends old new (stop_text why name)) ⊎ ((s ≡ status.Memory) × Appends old new (stop_text stop.Memory name))
+Says why name s old new =
+    ((s ≡ status_for why) × Appends old new (stop_text why name))
+    ⊎ ((s ≡ status.Memory) × Appends old new (stop_text stop.Memory name))
 
 -- the lines of a command's status, for what the folder holds and the input has, where they are told
 abbrev pub StatusText : Option Held → Option (List ℕ) → List ℕ → List ℕ → Status → List ℕ → Type 0
 StatusText held input dir name status.Ok text = text ≡ []
 StatusText held input dir name status.Usage text = ⊥
 StatusText held input dir name status.ExecFault text = ⊤
-StatusText held input dir name status.SetRefused text = IfSome held (λ h. (why : MakeRefused) × IsRefusedSet h dir why × (text ≡ refusal_text why))
-StatusText held input dir name status.DataRefused text = IfSome input (λ i. (why : InputRefused) × IsNoInput why i × (text ≡ stop_text (stop.Data why) name))
+StatusText held input dir name status.SetRefused text =
+    IfSome held (λ h. (why : MakeRefused) × IsRefusedSet h dir why × (text ≡ refusal_text why))
+StatusText held input dir name status.DataRefused text =
+    IfSome input (λ i. (why : InputRefused) × IsNoInput why i
+    × (text ≡ stop_text (stop.Data why) name))
 StatusText held input dir name status.ReadFault text = text ≡ stop_text stop.Read name
 StatusText held input dir name status.WriteFault text = text ≡ stop_text stop.Write name
 StatusText held input dir name status.NoTemplate text = text ≡ stop_text stop.NoTemplate name
 StatusText held input dir name status.Memory text = text ≡ stop_text stop.Memory name
 
 -- the lines of a command's status were written
-abbrev pub SaysStatus : Option Held → Option (List ℕ) → List ℕ → List ℕ → Status → Option (List ℕ) → Option (List ℕ) → Type 0
-SaysStatus held input dir name s old new = (text : List ℕ) × StatusText held input dir name s text × Appends old new text
+abbrev pub SaysStatus : Option Held → Option (List ℕ) → List ℕ → List ℕ → Status → Option (List ℕ)
+    → Option (List ℕ) → Type 0
+SaysStatus held input dir name s old new =
+    (text : List ℕ) × StatusText held input dir name s text × Appends old new text

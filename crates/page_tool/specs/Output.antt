@@ -1,5 +1,6 @@
 -- What `render DIR NAME` writes, and why it stops.
-use Rattle.std.specs.Prelude.{◌≡◌, ◌≢◌, ℕ, true, false, List, Option, Some, None, IfSome, Result, Ok, Err, ⊤, ◌⊎◌}
+use Rattle.std.specs.Prelude.{◌≡◌, ◌≢◌, ℕ, true, false, List, Option, Some, None, IfSome, Result}
+use Rattle.std.specs.Prelude.{Ok, Err, ⊤, ◌⊎◌}
 use Rattle.std.specs.Io.KnownBytes.{Appends}
 use Rattle.page_io.specs.Held.{Held}
 use Rattle.page_io.specs.Whole.{AppendsPart}
@@ -31,32 +32,58 @@ Told None input P = ⊤
 Told (Some held) None P = ⊤
 Told (Some held) (Some input) P = P held input
 
--- a front of the page was written
-abbrev pub WritesPart : Option Held → Option (List ℕ) → List ℕ → List ℕ → Option (List ℕ) → Option (List ℕ) → Type 0
-WritesPart held input dir root old new = Told held input (λ h i. (e : Execution) × IsRendering h dir root i e × AppendsPart old new e.bytes)
+-- a prefix of the page was written
+abbrev pub WritesPart : Option Held → Option (List ℕ) → List ℕ → List ℕ → Option (List ℕ)
+    → Option (List ℕ) → Type 0
+WritesPart held input dir root old new =
+    Told held input (λ h i. (e : Execution) × IsRendering h dir root i e
+    × AppendsPart old new e.bytes)
 
--- all of the page was written, which has the shape of its template's path, and in which each value reads back
-abbrev pub WritesAll : Option Held → Option (List ℕ) → List ℕ → List ℕ → Option (List ℕ) → Option (List ℕ) → Type 0
-WritesAll held input dir root old new = Told held input (λ h i. (e : Execution) × (of : IsRendering h dir root i e) × (e.ending ≡ done) × Appends old new e.bytes × IsSound (files_of h dir) root of.datum e.bytes)
+-- all of the page was written
+abbrev pub WritesAll : Option Held → Option (List ℕ) → List ℕ → List ℕ → Option (List ℕ)
+    → Option (List ℕ) → Type 0
+WritesAll held input dir root old new =
+    Told held input (λ h i. (e : Execution) × IsRendering h dir root i e × (e.ending ≡ done)
+    × Appends old new e.bytes)
 
--- a front of the page was written, up to a fault that the execution met
-abbrev pub WritesToFault : Option Held → Option (List ℕ) → List ℕ → List ℕ → Option (List ℕ) → Option (List ℕ) → Type 0
-WritesToFault held input dir root old new = Told held input (λ h i. (e : Execution) × (fault : ExecFault) × IsRendering h dir root i e × (e.ending ≡ faulted fault) × AppendsPart old new e.bytes)
+-- the page that was written, of the datum that the input is, has the shape of its template's path,
+-- and each value reads back in its place
+pub record IsSoundPage (held : Held) (dir root input : List ℕ) (page : List ℕ) : Type 0 where
+  pub datum : Data
+  pub read : IsInput input datum
+  pub sound : IsSound (files_of held dir) root datum page
+
+-- such a page was written
+abbrev pub WritesSound : Option Held → Option (List ℕ) → List ℕ → List ℕ → Option (List ℕ)
+    → Option (List ℕ) → Type 0
+WritesSound held input dir root old new =
+    Told held input (λ h i. (page : List ℕ) × IsSoundPage h dir root i page × Appends old new page)
+
+-- a prefix of the page was written, up to a fault that the execution met
+abbrev pub WritesToFault : Option Held → Option (List ℕ) → List ℕ → List ℕ → Option (List ℕ)
+    → Option (List ℕ) → Type 0
+WritesToFault held input dir root old new =
+    Told held input (λ h i. (e : Execution) × (fault : ExecFault) × IsRendering h dir root i e
+    × (e.ending ≡ faulted fault) × AppendsPart old new e.bytes)
 
 -- what a sink has got of an execution
 abbrev pub WritesPage : Execution → Option (List ℕ) → Option (List ℕ) → Result ⊤ Stop → Type 0
 WritesPage e old new (Ok _) = (e.ending ≡ done) × Appends old new e.bytes
-WritesPage e old new (Err (stop.Fault fault)) = (e.ending ≡ faulted fault) × AppendsPart old new e.bytes
+WritesPage e old new (Err (stop.Fault fault)) =
+    (e.ending ≡ faulted fault) × AppendsPart old new e.bytes
 WritesPage e old new (Err stop.Write) = AppendsPart old new e.bytes
 WritesPage e old new (Err stop.Memory) = AppendsPart old new e.bytes
 WritesPage e old new (Err _) = ⊥
 
 -- what a sink has got where rendering stopped
-abbrev pub RenderOutput : Option Held → Option (List ℕ) → List ℕ → List ℕ → Option (List ℕ) → Option (List ℕ) → Result ⊤ Stop → Type 0
+abbrev pub RenderOutput : Option Held → Option (List ℕ) → List ℕ → List ℕ → Option (List ℕ)
+    → Option (List ℕ) → Result ⊤ Stop → Type 0
 RenderOutput held input dir root old new (Ok _) = WritesAll held input dir root old new
 RenderOutput held input dir root old new (Err stop.Write) = WritesPart held input dir root old new
-RenderOutput held input dir root old new (Err (stop.Fault fault)) = WritesToFault held input dir root old new
-RenderOutput held input dir root old new (Err stop.Memory) = (new ≡ old) ⊎ WritesPart held input dir root old new
+RenderOutput held input dir root old new (Err (stop.Fault fault)) =
+    WritesToFault held input dir root old new
+RenderOutput held input dir root old new (Err stop.Memory) =
+    (new ≡ old) ⊎ WritesPart held input dir root old new
 RenderOutput held input dir root old new (Err _) = new ≡ old
 
 -- the files of a directory are a set, and this is one of its roots
@@ -82,24 +109,31 @@ HasInput input = (datum : Data) × IsInput input datum
 abbrev pub RenderCause : Option Held → Option (List ℕ) → List ℕ → List ℕ → Result ⊤ Stop → Type 0
 RenderCause held input dir root (Err (stop.Set why)) = IfSome held (λ h. IsRefusedSet h dir why)
 RenderCause held input dir root (Err stop.NoTemplate) = IfSome held (λ h. LacksRoot h dir root)
-RenderCause held input dir root (Err (stop.Data why)) = IfSome held (λ h. HasRoot h dir root) × IfSome input (IsNoInput why)
+RenderCause held input dir root (Err (stop.Data why)) =
+    IfSome held (λ h. HasRoot h dir root) × IfSome input (IsNoInput why)
 RenderCause held input dir root (Err stop.Read) = ⊤
 RenderCause held input dir root (Err stop.Memory) = ⊤
 RenderCause held input dir root _ = IfSome held (λ h. HasRoot h dir root) × IfSome input HasInput
 
 -- what a sink has got at each status of a command
-abbrev pub StatusOutput : Option Held → Option (List ℕ) → List ℕ → List ℕ → Option (List ℕ) → Option (List ℕ) → Status → Type 0
+abbrev pub StatusOutput : Option Held → Option (List ℕ) → List ℕ → List ℕ → Option (List ℕ)
+    → Option (List ℕ) → Status → Type 0
 StatusOutput held input dir root old new status.Ok = WritesAll held input dir root old new
 StatusOutput held input dir root old new status.WriteFault = WritesPart held input dir root old new
-StatusOutput held input dir root old new status.ExecFault = WritesToFault held input dir root old new
-StatusOutput held input dir root old new status.Memory = (new ≡ old) ⊎ WritesPart held input dir root old new
+StatusOutput held input dir root old new status.ExecFault =
+    WritesToFault held input dir root old new
+StatusOutput held input dir root old new status.Memory =
+    (new ≡ old) ⊎ WritesPart held input dir root old new
 StatusOutput held input dir root old new _ = new ≡ old
 
 -- why a command ends in each status
 abbrev pub StatusCause : Option Held → Option (List ℕ) → List ℕ → List ℕ → Status → Type 0
-StatusCause held input dir root status.SetRefused = IfSome held (λ h. (why : MakeRefused) × IsRefusedSet h dir why)
+StatusCause held input dir root status.SetRefused =
+    IfSome held (λ h. (why : MakeRefused) × IsRefusedSet h dir why)
 StatusCause held input dir root status.NoTemplate = IfSome held (λ h. LacksRoot h dir root)
-StatusCause held input dir root status.DataRefused = IfSome held (λ h. HasRoot h dir root) × IfSome input (λ i. (why : InputRefused) × IsNoInput why i)
+StatusCause held input dir root status.DataRefused =
+    IfSome held (λ h. HasRoot h dir root)
+    × IfSome input (λ i. (why : InputRefused) × IsNoInput why i)
 StatusCause held input dir root status.Usage = ⊥
 StatusCause held input dir root status.ReadFault = ⊤
 StatusCause held input dir root status.Memory = ⊤

@@ -1,5 +1,6 @@
 -- The words of a command line.
-use Rattle.std.specs.Prelude.{ℕ, ◌==◌, ◌&&◌, not, codes, bytes_eq, List, [], ◌∷◌, map, Option, Some, None, String, string_bytes, Bool, if◌then◌else◌}
+use Rattle.std.specs.Prelude.{ℕ, ◌==◌, ◌&&◌, not, codes, bytes_eq, List, [], ◌∷◌, map, Option, Some}
+use Rattle.std.specs.Prelude.{None, String, string_bytes, Bool, if◌then◌else◌}
 use Rattle.std.specs.declared.alloc.Global.{Global}
 use Rattle.page_set.specs.Forms.{begins_with}
 
@@ -13,5 +14,7 @@ is_option word = begins_with (λ b. b == 45) word
 
 -- the directory and the name of `render DIR NAME`
 abbrev pub render_of : List (List ℕ) → Option (List ℕ × List ℕ)
-render_of (command ∷ dir ∷ name ∷ []) = if bytes_eq command (codes "render") && (not (is_option dir) && not (is_option name)) then Some (dir, name) else None
+render_of (command ∷ dir ∷ name ∷ []) =
+    if bytes_eq command (codes "render") && (not (is_option dir) && not (is_option name))
+    then Some (dir, name) else None
 render_of _ = None

@@ -2,7 +2,8 @@ ghost use Rattle.std.specs.Prelude.{◌≡◌, ◌≤◌, true, IfOk, OnOk, IsEr
 ghost use Rattle.std.specs.Io.KnownBytes.{IsAtEnd};
 ghost use Rattle.page_io.specs.Causes.{Rose};
 ghost use Rattle.page_datum.specs.View.{view};
-ghost use Rattle.page_tool.specs.Input.{ReadsData, is_built as is_built_of, has_texts as has_texts_of};
+ghost use Rattle.page_tool.specs.Input.{ReadsData, is_built as is_built_of};
+ghost use Rattle.page_tool.specs.Input.{has_texts as has_texts_of};
 
 use crate::stop::Stop;
 use page_datum::{DataRefused, Datum, Entries, MAX_LENGTH, read_datum};

@@ -7,8 +7,6 @@ mod render;
 mod report;
 mod status;
 mod stop;
-#[cfg(test)]
-mod tests;
 mod top;
 mod words;
 

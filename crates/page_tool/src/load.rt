@@ -9,7 +9,8 @@ use std::alloc::Global;
 
 /// The template files of a directory: those whose names end in `.html`.
 pub fn load<F: Folder>(alloc: Global, folder: &mut F, dir: &str) -> Result<Files, IoStop>
-    ensures files { IfOk result (λ files. IfSome (F.held folder.old) (λ held. files ≡ files_of held dir.now)) }
+    ensures files { IfOk result (λ files.
+        IfSome (F.held folder.old) (λ held. files ≡ files_of held dir.now)) }
     ensures kept { F.held folder.new ≡ F.held folder.old }
     ensures cause { HasStop (F.faults folder.old) (F.faults folder.new) result }
 {
@@ -35,7 +36,8 @@ fn push_file<F: Folder>(
     name: &Text,
     list: &mut List<NamedFile>,
 ) -> Result<(), IoStop>
-    ensures files { OnOk result (IfSome (F.held folder.old) (λ held. list.new ≡ list.old ++ files_in held dir.now (name.now ∷ []))) }
+    ensures files { OnOk result (IfSome (F.held folder.old)
+        (λ held. list.new ≡ list.old ++ files_in held dir.now (name.now ∷ []))) }
     ensures kept { F.held folder.new ≡ F.held folder.old }
     ensures cause { HasStop (F.faults folder.old) (F.faults folder.new) result }
 {

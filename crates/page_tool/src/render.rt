@@ -5,7 +5,8 @@ ghost use Rattle.page_datum.specs.View.{view};
 ghost use Rattle.page_set.specs.Making.{IsExecution};
 ghost use Rattle.page_set.specs.Running.{is_root, execution_of};
 ghost use Rattle.page_tool.specs.Input.{is_built};
-ghost use Rattle.page_tool.specs.Output.{RenderOutput, RenderCause, WritesPage, HasRoot};
+ghost use Rattle.page_tool.specs.Output.{RenderOutput, RenderCause, WritesPage, WritesSound};
+ghost use Rattle.page_tool.specs.Output.{HasRoot};
 ghost use Rattle.page_datum.specs.declared.fault.ExecFault.{ExecFault};
 ghost use Rattle.page_tool.specs.Sets.{MakesSet};
 
@@ -26,7 +27,10 @@ pub fn render<F: Folder, I: Source, O: Sink>(
     dir: &str,
     root: &str,
 ) -> Result<(), Stop>
-    ensures output { RenderOutput (F.held folder.old) (I.left input.old) dir.now root.now (O.taken out.old) (O.taken out.new) result }
+    ensures output { RenderOutput (F.held folder.old) (I.left input.old) dir.now root.now
+        (O.taken out.old) (O.taken out.new) result }
+    ensures sound { OnOk result (WritesSound (F.held folder.old) (I.left input.old) dir.now root.now
+        (O.taken out.old) (O.taken out.new)) }
     ensures cause { RenderCause (F.held folder.old) (I.left input.old) dir.now root.now result }
     ensures end { OnOk result (IsAtEnd (I.left input.new)) }
     ensures kept { F.held folder.new ≡ F.held folder.old }
@@ -34,7 +38,8 @@ pub fn render<F: Folder, I: Source, O: Sink>(
     ensures input_later { I.faults input.old ≤ I.faults input.new }
     ensures out_later { O.faults out.old ≤ O.faults out.new }
     ensures read { IsErrOf result Stop.Read → Rose (F.faults folder.old) (F.faults folder.new)
-        ⊎ (Rose (I.faults input.old) (I.faults input.new) × IfSome (F.held folder.old) (λ h. HasRoot h dir.now root.now)) }
+        ⊎ (Rose (I.faults input.old) (I.faults input.new)
+        × IfSome (F.held folder.old) (λ h. HasRoot h dir.now root.now)) }
     ensures write { IsErrOf result Stop.Write → Rose (O.faults out.old) (O.faults out.new) }
     ensures faultless { (fault : ExecFault) → IsErrOf result (Stop.Fault fault) → ⊥ }
 {
@@ -62,8 +67,11 @@ fn write_page<O: Sink>(
 ) -> Result<(), Stop>
     requires root { is_root set.now.files.list root.now ≡ true }
     requires built { is_built (view datum.now) ≡ true }
-    ensures page { WritesPage (execution_of set.now.files.list set.now.nodes root.now (view datum.now)) (O.taken out.old) (O.taken out.new) result }
-    ensures meant { IsExecution set.now.files root.now (view datum.now) (execution_of set.now.files.list set.now.nodes root.now (view datum.now)) }
+    ensures page { WritesPage
+        (execution_of set.now.files.list set.now.nodes root.now (view datum.now))
+        (O.taken out.old) (O.taken out.new) result }
+    ensures meant { IsExecution set.now.files root.now (view datum.now)
+        (execution_of set.now.files.list set.now.nodes root.now (view datum.now)) }
     ensures later { O.faults out.old ≤ O.faults out.new }
     ensures write { IsErrOf result Stop.Write → Rose (O.faults out.old) (O.faults out.new) }
     ensures faultless { (fault : ExecFault) → IsErrOf result (Stop.Fault fault) → ⊥ }

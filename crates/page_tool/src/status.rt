@@ -22,7 +22,7 @@ pub enum Status {
     WriteFault,
     /// No root has the name.
     NoTemplate,
-    /// Want of memory.
+    /// Out of memory.
     Memory,
 }
 

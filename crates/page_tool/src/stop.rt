@@ -17,6 +17,6 @@ pub enum Stop {
     Write,
     /// No root has the name.
     NoTemplate,
-    /// Want of memory.
+    /// Out of memory.
     Memory,
 }
