@@ -50,7 +50,7 @@ digit_read verb b m p z d f g = either (nat_lt 1000 (verb.width * 10 + (b - 48))
     (λ t. f (rw (m, p, z, d, t) refl))
     (λ n. g (grind (arith, nat_tests)) (rw (m, p, z, d, n) refl))
 
--- what a byte is behind a digit
+-- what a byte is after a digit
 read_wide : {P : Type 0} (verb : Verb) (b : ℕ) → 0 < verb.width → (read verb b ≡ Bad → P) → ((nat_le 48 b && nat_le b 57) ≡ true → verb.width * 10 + (b - 48) ≤ 1000 → read verb b ≡ More (wide verb (verb.width * 10 + (b - 48))) → P) → ((c : Conversion) → b ≡ letter_of c → read verb b ≡ Takes c → P) → P
 read_wide verb b some f g h =
     let has : nat_lt 0 verb.width ≡ true = grind (arith, nat_tests) in
@@ -78,7 +78,7 @@ nothing : (verb : Verb) (b : ℕ) (bytes : List ℕ) (left : List Data) (made : 
 nothing verb b bytes left made bad e =
     let none : None ≡ Some made = sym (ap (λ r. followed (formatted_from bytes) (verb_step verb r left)) bad) ∙ e in cc
 
--- digits behind others, and the letter
+-- digits after others, and the letter
 record Digits (width : ℕ) (bytes : List ℕ) : Type 0 where
   pub digits : List ℕ
   pub conversion : Conversion
@@ -108,7 +108,7 @@ record Flags (so_far : Verb) (bytes : List ℕ) : Type 0 where
   pub width : HasWidth verb digits
   pub spelled : bytes ≡ flags ++ (digits ++ (letter_of conversion ∷ rest))
 
--- `%` behind a `%`
+-- `%` after a `%`
 record Sign (so_far : Verb) (bytes : List ℕ) : Type 0 where
   pub bare : is_bare so_far ≡ true
   pub rest : List ℕ
@@ -163,7 +163,7 @@ flags_stand (b ∷ bytes) verb left made none e = read_open verb b none
     inl (widened verb b bytes none d first h))
     (λ c is reads. inl (record { verb = wide verb 0; flags = []; digits = []; conversion = c; rest = bytes; counts = no_flags verb 0; width = record { only = refl; first = λ x. x; is = refl; most = omega arith }; spelled = ap (λ x. x ∷ bytes) is }))
 
--- behind a `%` of a format that makes a text stands a verb that is spelled, or one more `%`
+-- after a `%` of a format that makes a text stands a verb that is spelled, or one more `%`
 pub verb_stands : (bytes : List ℕ) (left : List Data) (made : List ℕ) → formatted_from bytes (Some bare) left ≡ Some made → ((verb : Verb) × (c : Conversion) × (rest : List ℕ) × IsVerb verb c bytes rest) ⊎ ((rest : List ℕ) × (bytes ≡ 37 ∷ rest))
 verb_stands bytes left made e = ⊎_elim
     (λ h. inl (h.verb, h.conversion, h.rest, record { flags = h.flags; digits = h.digits; has_flags = record { only = h.counts.only; left = omega (arith, h.counts.left); plus = omega (arith, h.counts.plus); zeros = omega (arith, h.counts.zeros) }; has_width = h.width; spelled = h.spelled }))

@@ -70,7 +70,7 @@ reads_on text at verb r inside e left =
     ∙ ap (λ r. followed (formatted_from (drop (suc at) text)) (verb_step verb r left)) e
     ∙ ap (λ n. followed (formatted_from (drop n text)) (verb_step verb r left)) (sym (add-one at))
 
--- a format may be cut behind a verb
+-- a format may be cut after a verb
 pub cuts : (text bytes : List ℕ) (verb : Verb) (at : ℕ) (r : Reading) → bytes ≡ text → IsUtf8 text → at < length bytes → r ≡ read verb (get_or bytes at 0) → (r ≡ Bad → ⊥) → IsCharBoundary text (at + 1)
 cuts text bytes verb at r same utf8 inside e some =
     let ascii : get_or bytes at 0 < 128 = reads_ascii verb (get_or bytes at 0) (λ h. some (e ∙ h)) in

@@ -5,6 +5,7 @@ use Rattle.page_datum.specs.View.{view}
 use Rattle.page_datum.specs.declared.datum.Datum.{Datum}
 use Rattle.page_datum.specs.declared.fault.FaultKind.TheVariants.{BadFormat, TooLong}
 use Rattle.tpl_format.specs.Formats.{formatted_args}
+use Rattle.tpl_format.specs.Grammar.{Makes}
 use Rattle.page_datum.specs.declared.stop.ValueStop.{ValueStop}
 use Rattle.page_datum.specs.declared.stop.ValueStop.TheVariants.{Fault, Memory}
 
@@ -24,10 +25,19 @@ PrintAnswers text (Err (Fault TooLong)) = max_text < length text
 PrintAnswers text (Err Memory) = ⊤
 PrintAnswers text (Err stop) = ⊥
 
--- the text, where the format fits its operands and the text is not too long
+-- the text that the format's pieces make of the operands, where it is not too long; and BadFormat where they make none, since the
+-- format is no pieces, or an operand does not fit, is missing or is left over
 abbrev pub PrintfAnswers : List Data → Result (List ℕ) ValueStop → Type 0
-PrintfAnswers args (Ok made) = (formatted_args args ≡ Some made) × (length made ≤ max_text)
-PrintfAnswers args (Err (Fault BadFormat)) = formatted_args args ≡ None
-PrintfAnswers args (Err (Fault TooLong)) = (text : List ℕ) × (formatted_args args ≡ Some text) × (max_text < length text)
+PrintfAnswers args (Ok made) = Makes args made × (length made ≤ max_text)
+PrintfAnswers args (Err (Fault BadFormat)) = (made : List ℕ) → Makes args made → ⊥
+PrintfAnswers args (Err (Fault TooLong)) = (made : List ℕ) × Makes args made × (max_text < length made)
 PrintfAnswers args (Err Memory) = ⊤
 PrintfAnswers args (Err stop) = ⊥
+
+-- the same by computing, byte by byte
+abbrev pub ComputesFormat : List Data → Result (List ℕ) ValueStop → Type 0
+ComputesFormat args (Ok made) = (formatted_args args ≡ Some made) × (length made ≤ max_text)
+ComputesFormat args (Err (Fault BadFormat)) = formatted_args args ≡ None
+ComputesFormat args (Err (Fault TooLong)) = (text : List ℕ) × (formatted_args args ≡ Some text) × (max_text < length text)
+ComputesFormat args (Err Memory) = ⊤
+ComputesFormat args (Err stop) = ⊥

@@ -1,4 +1,5 @@
--- The text that a format makes of operands (Go's package `fmt`, "Printing", in a profile).
+-- The text that a format makes of operands, by computing (Go's package `fmt`, "Printing", in a profile). `Grammar` says what a
+-- format is, and the law of `Laws` that both are the same.
 use Rattle.std.specs.Prelude.{ℕ, ◌==◌, if◌then◌else◌, List, [], ◌∷◌, ◌++◌, Option, Some, None, option_map}
 use Rattle.page_datum.specs.Data.{Data, text}
 use Rattle.tpl_format.specs.Operands.{operand_text}
@@ -35,7 +36,7 @@ abbrev pub ended : Place → List Data → Option (List ℕ)
 ended None [] = Some []
 ended place left = None
 
--- what a step writes, and then what is made behind it
+-- what a step writes, and then what is made after it
 abbrev pub followed : (Place → List Data → Option (List ℕ)) → Option Step → Option (List ℕ)
 followed behind None = None
 followed behind (Some s) = option_map (λ more. s.written ++ more) (behind s.place s.left)

@@ -1,5 +1,7 @@
 pub mod Answers
 pub mod Formats
+pub mod Grammar
+pub mod Laws
 pub mod Making
 pub mod Operands
 pub mod Prints

@@ -28,12 +28,12 @@ abbrev pub directed : Directive → List Data → Option Step
 directed Sign left = verb_step bare reading.Percent left
 directed (Operand verb conversion) left = verb_step verb (reading.Takes conversion) left
 
--- the front of a format up to its first `%`, and what stands behind that
+-- the prefix of a format up to its first `%`, and what stands after that
 abbrev pub SplitsAtVerb : List ℕ → Option (Bor (List ℕ) × Bor (List ℕ)) → Type 0
 SplitsAtVerb format None = (left : List Data) → formatted_from format None left ≡ option_map (λ more. format ++ more) (ended None left)
 SplitsAtVerb format (Some p) = (left : List Data) → formatted_from format None left ≡ option_map (λ more. p.0.now ++ more) (formatted_from p.1.now (Some bare) left)
 
--- the verb behind a `%`, and what stands behind the verb
+-- the verb after a `%`, and what stands after the verb
 abbrev pub ReadsVerb : List ℕ → Option (Directive × Bor (List ℕ)) → Type 0
 ReadsVerb bytes None = (left : List Data) → formatted_from bytes (Some bare) left ≡ None
 ReadsVerb bytes (Some p) = (left : List Data) → formatted_from bytes (Some bare) left ≡ followed (formatted_from p.1.now) (directed p.0 left)

@@ -13,11 +13,13 @@ abbrev pub characters : List ℕ → ℕ
 characters [] = 0
 characters (b ∷ bytes) = (if is_char_start b then 1 else 0) + characters bytes
 
--- spaces up to the width, behind the text with `-` and else before it
+-- so many spaces, after the text with `-` and else before it
+abbrev pub padded : Verb → List ℕ → ℕ → List ℕ
+padded verb bytes spaces = if verb.left then bytes ++ replicate spaces 32 else replicate spaces 32 ++ bytes
+
+-- spaces up to the width
 abbrev pub filled : Verb → List ℕ → List ℕ
-filled verb bytes =
-    let gap = replicate (verb.width - characters bytes) 32 in
-    if verb.left then bytes ++ gap else gap ++ bytes
+filled verb bytes = padded verb bytes (verb.width - characters bytes)
 
 -- a whole number: its sign and its digits, with zeros between them up to the width under `0`, unless `-` stands too
 abbrev pub filled_number : Verb → List ℕ → List ℕ → List ℕ
@@ -30,14 +32,20 @@ filled_number verb sign digits =
 abbrev pub sign_of : Verb → ℤ → List ℕ
 sign_of verb n = if is_negative n then codes "-" else (if verb.plus then codes "+" else [])
 
+-- a whole number in decimal, and in lower hex digits
+abbrev pub decimal_number : Verb → ℤ → List ℕ
+decimal_number verb n = filled_number verb (sign_of verb n) (decimal (unsigned_abs n))
+
+abbrev pub hex_number : Verb → ℤ → List ℕ
+hex_number verb n = filled_number verb (sign_of verb n) (digits 16 false (unsigned_abs n))
+
 -- two lower hex digits for each byte
 abbrev pub hex_bytes : List ℕ → List ℕ
 hex_bytes [] = []
 hex_bytes (b ∷ bytes) = digit_glyph false (b / 16) ∷ digit_glyph false (b % 16) ∷ hex_bytes bytes
 
--- an operand that is no whole number, or is printed as `print` does
+-- an operand that is printed without digits, or as `print` does
 abbrev pub plain_text : Conversion → Data → Option (List ℕ)
-plain_text Hex (text bytes) = Some (hex_bytes bytes)
 plain_text Itself (text bytes) = Some bytes
 plain_text Truth (truth true) = Some (codes "true")
 plain_text Truth (truth false) = Some (codes "false")
@@ -50,6 +58,7 @@ filled_text verb plain = if verb.zeros || verb.plus then None else option_map (f
 
 -- what a verb prints of an operand, and nothing where the operand does not fit
 abbrev pub operand_text : Verb → Conversion → Data → Option (List ℕ)
-operand_text verb Decimal (int n) = Some (filled_number verb (sign_of verb n) (decimal (unsigned_abs n)))
-operand_text verb Hex (int n) = Some (filled_number verb (sign_of verb n) (digits 16 false (unsigned_abs n)))
+operand_text verb Decimal (int n) = Some (decimal_number verb n)
+operand_text verb Hex (int n) = Some (hex_number verb n)
+operand_text verb Hex (text bytes) = filled_text verb (Some (hex_bytes bytes))
 operand_text verb conversion datum = filled_text verb (plain_text conversion datum)

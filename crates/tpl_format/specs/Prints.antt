@@ -11,7 +11,7 @@ is_text datum = false
 abbrev pub space : Bool → List ℕ
 space wanted = if wanted then codes " " else []
 
--- operands behind one that is no text, or behind a text or nothing
+-- operands after one that is no text, or after a text or nothing
 abbrev pub args_from : Bool → List Data → List ℕ
 args_from apart [] = []
 args_from apart (datum ∷ rest) = space (apart && not (is_text datum)) ++ (shown datum ++ args_from (not (is_text datum)) rest)
@@ -20,12 +20,12 @@ args_from apart (datum ∷ rest) = space (apart && not (is_text datum)) ++ (show
 abbrev pub printed_args : List Data → List ℕ
 printed_args args = args_from false args
 
--- operands behind another, or the first ones
+-- operands after another, or the first ones
 abbrev pub line_from : Bool → List Data → List ℕ
 line_from later [] = 10 ∷ []
 line_from later (datum ∷ rest) = space later ++ (shown datum ++ line_from true rest)
 
--- a space stands between two operands, and LF behind them
+-- a space stands between two operands, and LF after them
 abbrev pub printed_line : List Data → List ℕ
 printed_line args = line_from false args
 

@@ -1,4 +1,4 @@
--- How a verb is spelled behind its `%`: flags, a width and a letter (Go's package `fmt`, "Printing", in a profile). What is
+-- How a verb is spelled after its `%`: flags, a width and a letter (Go's package `fmt`, "Printing", in a profile). What is
 -- read is proved to be what is spelled so.
 use Rattle.std.specs.Prelude.{◌≡◌, ℕ, ◌+◌, ◌*◌, ◌-◌, ◌≤◌, Bool, true, ◌&&◌, ◌||◌, ◌==◌, if◌then◌else◌, nat_le, List, [], ◌∷◌, ◌++◌}
 use Rattle.tpl_format.specs.declared.verb.Verb.{Verb}
@@ -22,7 +22,7 @@ abbrev pub are_digits : List ℕ → Bool
 are_digits [] = true
 are_digits (b ∷ bytes) = (nat_le 48 b && nat_le b 57) && are_digits bytes
 
--- the number that digits spell behind one that was read
+-- the number that digits spell after one that was read
 abbrev pub value : ℕ → List ℕ → ℕ
 value before [] = before
 value before (b ∷ bytes) = value (before * 10 + (b - 48)) bytes

@@ -5,7 +5,7 @@ use Rattle.tpl_format.specs.declared.verb.Reading.{Reading}
 use Rattle.tpl_format.specs.declared.verb.Reading.TheVariants.{More, Percent, Takes, Bad}
 use Rattle.tpl_format.specs.declared.verb.Conversion.TheVariants.{Decimal, Hex, Itself, Truth, Any}
 
--- A verb is read byte by byte behind its `%`. A width of 0 stands for none, since no width begins with 0.
+-- A verb is read byte by byte after its `%`. A width of 0 stands for none, since no width begins with 0.
 
 -- no flags and no width
 abbrev pub bare : Verb

@@ -10,7 +10,7 @@ pub(crate) enum Directive {
     Operand(Verb, Conversion),
 }
 
-/// The front of a format up to its first `%`, and what stands behind that.
+/// The prefix of a format up to its first `%`, and what stands after that.
 pub(crate) fn split_at_verb(format: &str) -> Option<(&str, &str)>
     ensures parts { SplitsAtVerb format.now result }
     ensures shorter { IfSome result (λ parts. length parts.1.now < length format.now) }
@@ -18,7 +18,7 @@ pub(crate) fn split_at_verb(format: &str) -> Option<(&str, &str)>
     format.split_once('%')
 }
 
-/// The verb behind a `%`, and what stands behind the verb.
+/// The verb after a `%`, and what stands after the verb.
 pub(crate) fn read_verb(text: &str) -> Option<(Directive, &str)>
     ensures found { ReadsVerb text.now result }
     ensures shorter { IfSome result (λ found. length found.1.now < length text.now) }

@@ -1,28 +1,42 @@
-ghost use Rattle.std.specs.Prelude.{ℕ, [], ◌∷◌, ◌≡◌, ◌++◌, ◌-◌, IfOk, OnOk, replicate};
-ghost use Rattle.tpl_format.specs.Operands.{characters as characters_of, filled, filled_number as filled_number_of};
+ghost use Rattle.std.specs.Prelude.{ℕ, [], ◌∷◌, ◌≡◌, ◌++◌, ◌-◌, IfOk, OnOk, length, replicate};
+ghost use Rattle.tpl_format.specs.Operands.{characters as characters_of, filled, filled_number as filled_number_of, padded};
 ghost use Rattle.std.specs.Fmt.{is_char_start};
 
 use crate::verb::Verb;
 use page_io::{Memory, Text};
 use std::alloc::Global;
 
-/// A text with spaces up to the width of a verb. The error is want of memory.
+/// A text with spaces up to the width of a verb. The error is out of memory.
 pub(crate) fn fill(alloc: Global, verb: Verb, text: &str) -> Result<Text, Memory>
     ensures { IfOk result (λ whole. whole ≡ filled verb text.now) }
 {
-    let gap = gap(verb, text);
+    pad(alloc, verb, text, gap(verb, characters(text)))
+}
+
+/// The same of a text that has as many characters as bytes, which are not counted one by one.
+pub(crate) fn fill_ascii(alloc: Global, verb: Verb, text: &str) -> Result<Text, Memory>
+    requires { characters_of text.now ≡ length text.now }
+    ensures { IfOk result (λ whole. whole ≡ filled verb text.now) }
+{
+    pad(alloc, verb, text, gap(verb, text.len()))
+}
+
+// A text with so many spaces, after it where the verb says so, and else before it.
+fn pad(alloc: Global, verb: Verb, text: &str, spaces: usize) -> Result<Text, Memory>
+    ensures { IfOk result (λ whole. whole ≡ padded verb text.now spaces) }
+{
     let mut whole = Text::new(alloc);
     if verb.left {
         whole.push_str(text)?;
-        push_times(&mut whole, " ", gap)?;
+        push_times(&mut whole, " ", spaces)?;
         return Ok(whole);
     }
-    push_times(&mut whole, " ", gap)?;
+    push_times(&mut whole, " ", spaces)?;
     whole.push_str(text)?;
     Ok(whole)
 }
 
-/// A sign and digits with zeros or spaces up to the width of a verb. The error is want of memory.
+/// A sign and digits with zeros or spaces up to the width of a verb. The error is out of memory.
 pub(crate) fn fill_number(
     alloc: Global,
     verb: Verb,
@@ -35,18 +49,18 @@ pub(crate) fn fill_number(
     number.push_str(digits)?;
     if verb.zeros && !verb.left {
         let mut whole = Text::copy_of(alloc, sign)?;
-        push_times(&mut whole, "0", gap(verb, number.as_str()))?;
+        push_times(&mut whole, "0", gap(verb, characters(number.as_str())))?;
         whole.push_str(digits)?;
         return Ok(whole);
     }
     fill(alloc, verb, number.as_str())
 }
 
-// How many characters a text has too few for the width of a verb.
-fn gap(verb: Verb, text: &str) -> usize
-    ensures { result ≡ verb.width - characters_of text.now }
+// How many characters are too few for the width of a verb.
+fn gap(verb: Verb, count: usize) -> usize
+    ensures { result ≡ verb.width - count }
 {
-    usize::from(verb.width).saturating_sub(characters(text))
+    usize::from(verb.width).saturating_sub(count)
 }
 
 // How many characters a text has.

@@ -1,5 +1,5 @@
 ghost use Rattle.std.specs.Prelude.{[]};
-ghost use Rattle.tpl_format.specs.Answers.{PrintfAnswers, datas};
+ghost use Rattle.tpl_format.specs.Answers.{ComputesFormat, PrintfAnswers, datas};
 ghost use Rattle.tpl_format.specs.Formats.{formatted};
 ghost use Rattle.tpl_format.specs.Making.{Gives, outcome};
 
@@ -11,7 +11,7 @@ use page_io::{Memory, Text};
 use std::alloc::Global;
 
 /// What `printf` makes of its arguments: the first is a text, the format, and each verb of it prints the next one of the operands
-/// behind it. (Go's `text/template`, "Functions", and package `fmt`, "Printing", in a profile.) A verb is `%`, flags, a width and
+/// after it. (Go's `text/template`, "Functions", and package `fmt`, "Printing", in a profile.) A verb is `%`, flags, a width and
 /// a letter:
 ///
 /// - `%d` prints a whole number in decimal.
@@ -21,14 +21,22 @@ use std::alloc::Global;
 /// - `%v` prints anything as `print` does.
 /// - `%%` prints `%`, and has no flags and no width.
 ///
-/// A width is at most 1,000, and counts characters: spaces stand before what is shorter, or behind it with the flag `-`. The flags
-/// `0`, zeros behind the sign in place of spaces, unless `-` stands too, and `+`, a sign before numbers that are not negative, fit
+/// A width is at most 1,000, and counts characters: spaces stand before what is shorter, or after it with the flag `-`. The flags
+/// `0`, zeros after the sign in place of spaces, unless `-` stands too, and `+`, a sign before numbers that are not negative, fit
 /// whole numbers under `d` and `x` alone. Flags stand in any order, each at most once.
 ///
 /// The errors are BadFormat, where there is no format, it has what is no verb, or its verbs do not fit the operands in kind or in
-/// number; TooLong, where the text would have more than 16,777,216 bytes; and want of memory. BadFormat comes before TooLong.
+/// number; TooLong, where the text would have more than 16,777,216 bytes; and out of memory. BadFormat comes before TooLong.
 pub fn printf(alloc: Global, args: &[Datum]) -> Result<Text, ValueStop>
-    ensures { PrintfAnswers (datas args.now) result }
+    ensures answers { PrintfAnswers (datas args.now) result }
+    ensures computed { ComputesFormat (datas args.now) result }
+{
+    formatted_args(alloc, args)
+}
+
+// The text of a format and its operands.
+fn formatted_args(alloc: Global, args: &[Datum]) -> Result<Text, ValueStop>
+    ensures { ComputesFormat (datas args.now) result }
 {
     match args {
         [Datum::Text(format), operands @ ..] => write(alloc, format.as_str(), operands),

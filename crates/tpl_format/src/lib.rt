@@ -4,14 +4,13 @@
 mod directive;
 mod fill;
 mod format;
-mod hex;
+mod laws;
 mod limit;
 mod number;
 mod operand;
 mod printing;
-#[cfg(test)]
-mod tests;
 mod verb;
 
 pub use format::printf;
+pub use laws::formats_are_pieces;
 pub use printing::print;

@@ -14,7 +14,7 @@ pub(crate) fn is_long(text: &Text) -> bool
     text.as_str().len() > MAX_TEXT
 }
 
-/// Appends a text, unless there are too many bytes already. The error is want of memory.
+/// Appends a text, unless there are too many bytes already. The error is out of memory.
 pub(crate) fn add(out: &mut Text, more: &str) -> Result<(), Memory>
     ensures { OnOk result (out.new ≡ added out.old more.now) }
 {

@@ -1,24 +1,23 @@
-ghost use Rattle.std.specs.Prelude.{◌≡◌, IfOk, unsigned_abs, false};
-ghost use Rattle.std.specs.Fmt.{decimal, digits as digits_of};
-ghost use Rattle.tpl_format.specs.Operands.{filled_number, sign_of};
+ghost use Rattle.std.specs.Prelude.{◌≡◌, IfOk};
+ghost use Rattle.tpl_format.specs.Operands.{decimal_number, hex_number as hex_number_of, sign_of};
 
 use crate::fill::fill_number;
 use crate::verb::Verb;
 use page_io::{Memory, Text};
 use std::alloc::Global;
 
-/// A whole number in decimal, as a verb prints it. The error is want of memory.
+/// A whole number in decimal, as a verb prints it. The error is out of memory.
 pub(crate) fn decimal_text(alloc: Global, verb: Verb, number: i64) -> Result<Text, Memory>
-    ensures { IfOk result (λ text. text ≡ filled_number verb (sign_of verb number) (decimal (unsigned_abs number))) }
+    ensures { IfOk result (λ text. text ≡ decimal_number verb number) }
 {
     let size = number.unsigned_abs();
     let digits = format!(in alloc; "{size}")?;
     fill_number(alloc, verb, sign(verb, number), digits.as_str())
 }
 
-/// A whole number in lower hex digits, as a verb prints it. The error is want of memory.
+/// A whole number in lower hex digits, as a verb prints it. The error is out of memory.
 pub(crate) fn hex_number(alloc: Global, verb: Verb, number: i64) -> Result<Text, Memory>
-    ensures { IfOk result (λ text. text ≡ filled_number verb (sign_of verb number) (digits_of 16 false (unsigned_abs number))) }
+    ensures { IfOk result (λ text. text ≡ hex_number_of verb number) }
 {
     let size = number.unsigned_abs();
     let digits = format!(in alloc; "{size:x}")?;

@@ -1,21 +1,20 @@
-ghost use Rattle.std.specs.Prelude.{◌≡◌, IfOk};
+ghost use Rattle.std.specs.Prelude.{◌≡◌, IfOk, Some};
 ghost use Rattle.page_datum.specs.View.{view};
 ghost use Rattle.page_datum.specs.Printed.{shown as shown_of};
 ghost use Rattle.tpl_format.specs.Answers.{datas};
 ghost use Rattle.tpl_format.specs.Making.{Directs, directed};
-ghost use Rattle.tpl_format.specs.Operands.{operand_text as operand_text_of, filled_text as filled_text_of, plain_text as plain_text_of};
+ghost use Rattle.tpl_format.specs.Operands.{operand_text as operand_text_of, filled_text as filled_text_of, plain_text as plain_text_of, hex_bytes};
 
 use crate::directive::Directive;
-use crate::fill::fill;
-use crate::hex::hex_text;
+use crate::fill::{fill, fill_ascii};
 use crate::number::{decimal_text, hex_number};
 use crate::verb::{Conversion, Verb};
 use page_datum::{Datum, FaultKind, ValueStop, show_datum};
 use page_io::{Memory, Text};
 use std::alloc::Global;
 
-/// What a verb prints of the first operand, and the operands behind it. The errors are BadFormat, an operand that is missing or
-/// does not fit, and want of memory.
+/// What a verb prints of the first operand, and the operands after it. The errors are BadFormat, an operand that is missing or
+/// does not fit, and out of memory.
 pub(crate) fn direct<'a>(
     alloc: Global,
     directive: Directive,
@@ -50,6 +49,7 @@ fn operand_text(
             Ok(Some(decimal_text(alloc, verb, *number)?))
         }
         (Conversion::Hex, Datum::Int(number)) => Ok(Some(hex_number(alloc, verb, *number)?)),
+        (Conversion::Hex, Datum::Text(text)) => hex_filled(alloc, verb, text.as_str()),
         (_, _) => {
             let plain = plain_text(alloc, conversion, datum)?;
             filled_text(alloc, verb, plain)
@@ -70,12 +70,11 @@ fn filled_text(alloc: Global, verb: Verb, plain: Option<Text>) -> Result<Option<
     }
 }
 
-// An operand that is no whole number, or is printed as `print` does.
+// An operand that is printed without digits, or as `print` does.
 fn plain_text(alloc: Global, conversion: Conversion, datum: &Datum) -> Result<Option<Text>, Memory>
     ensures { IfOk result (λ text. text ≡ plain_text_of conversion (view datum.now)) }
 {
     match (conversion, datum) {
-        (Conversion::Hex, Datum::Text(text)) => Ok(Some(hex_text(alloc, text.as_str())?)),
         (Conversion::Itself, Datum::Text(text)) => Ok(Some(Text::copy_of(alloc, text.as_str())?)),
         (Conversion::Truth, Datum::Bool(true)) => Ok(Some(Text::copy_of(alloc, "true")?)),
         (Conversion::Truth, Datum::Bool(false)) => Ok(Some(Text::copy_of(alloc, "false")?)),
@@ -90,4 +89,22 @@ fn shown(alloc: Global, datum: &Datum) -> Result<Text, Memory>
     let mut text = Text::new(alloc);
     show_datum(alloc, datum, &mut text)?;
     Ok(text)
+}
+
+// A text in hex digits with spaces, where the verb asks for neither zeros nor `+`.
+fn hex_filled(alloc: Global, verb: Verb, text: &str) -> Result<Option<Text>, Memory>
+    ensures { IfOk result (λ made. made ≡ filled_text_of verb (Some (hex_bytes text.now))) }
+{
+    if verb.zeros || verb.plus {
+        return Ok(None);
+    }
+    let digits = hex_text(alloc, text)?;
+    Ok(Some(fill_ascii(alloc, verb, digits.as_str())?))
+}
+
+// Two lower hex digits for each byte.
+fn hex_text(alloc: Global, text: &str) -> Result<Text, Memory>
+    ensures { IfOk result (λ digits. digits ≡ hex_bytes text.now) }
+{
+    Ok(Text::from(hex::encode(alloc, text.as_bytes())?))
 }

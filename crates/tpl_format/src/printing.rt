@@ -12,7 +12,7 @@ use std::alloc::Global;
 /// `print` puts a space between two of which neither is a text, `println` between any two, and LF at the end. (Go's
 /// `text/template`, "Functions", in a profile.)
 ///
-/// The errors are TooLong, where the text would have more than 16,777,216 bytes, and want of memory.
+/// The errors are TooLong, where the text would have more than 16,777,216 bytes, and out of memory.
 pub fn print(alloc: Global, args: &[Datum], line: bool) -> Result<Text, ValueStop>
     ensures { PrintAnswers (printed_text line (datas args.now)) result }
 {

@@ -38,7 +38,7 @@ pub(crate) enum Reading {
     Bad,
 }
 
-/// What stands behind `%`: no flags and no width.
+/// What stands after `%`: no flags and no width.
 pub(crate) fn bare() -> Verb
     ensures { result ≡ bare_of }
 {
