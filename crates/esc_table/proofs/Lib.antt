@@ -1,2 +1,3 @@
+mod KeptRuns
 mod Looking
 pub mod Runs

@@ -5,11 +5,11 @@ use Rattle.std.proofs.Math.Seq.{drop-cons}
 use Rattle.std.proofs.lemmas.Bool.Decides.{nat_tests}
 use Rattle.esc_table.specs.Rows.{rows_of, found}
 
--- what stands at a place behind the last one
+-- what stands at a place after the last one
 abbrev nothing : Bor (List ℕ)
 nothing = record { ref_ptr = (0, 0); now = [] }
 
--- the row at a place is looked at, and then those behind it
+-- the row at a place is looked at, and then those after it
 found_from : (characters : List ℕ) (replacements : List (Bor (List ℕ))) (i character : ℕ) → i < length characters → i < length replacements → found (rows_of (drop i characters) (drop i replacements)) character ≡ cond (eqb (get_or characters i 0) character) (Some (get_or replacements i nothing).now) (found (rows_of (drop (i + 1) characters) (drop (i + 1) replacements)) character)
 found_from characters replacements i character h k = rw (drop-cons characters i 0, drop-cons replacements i nothing, add-one) refl
 

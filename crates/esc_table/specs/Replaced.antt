@@ -1,5 +1,5 @@
 -- A text with its characters replaced by a table.
-use Rattle.std.specs.Prelude.{ℕ, List, flat_map, chars, encode_utf8, unwrap_or}
+use Rattle.std.specs.Prelude.{◌≡◌, ◌++◌, ℕ, List, flat_map, chars, encode_utf8, unwrap_or}
 use Rattle.esc_table.specs.Rows.{Row, found}
 
 -- what is written for a character: the replacement of its row, or itself if it has none
@@ -13,3 +13,7 @@ replaced_all rows characters = flat_map (written rows) characters
 -- what is written for the characters of a text
 abbrev pub replaced : List Row → List ℕ → List ℕ
 replaced rows bytes = replaced_all rows (chars bytes)
+
+-- what was written before a text is read and what is written after its prefix, before the rest that is left, come to the same
+abbrev pub Writes : List Row → List ℕ → List ℕ → List ℕ → List ℕ → Type 0
+Writes rows text rest before after = after ++ replaced rows rest ≡ before ++ replaced rows text

@@ -2,6 +2,7 @@
 #![tactic(auto)]
 
 mod replacing;
+mod run;
 mod table;
 #[cfg(test)]
 mod tests;

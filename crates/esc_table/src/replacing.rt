@@ -1,20 +1,63 @@
-ghost use Rattle.std.specs.Prelude.{◌≡◌, ◌++◌, IfOk, OnOk, string_bytes};
-ghost use Rattle.esc_table.specs.Replaced.{written, replaced};
+ghost use Rattle.std.specs.Prelude.{◌≡◌, ◌<◌, ◌≤◌, ◌-◌, ◌++◌, IfOk, OnOk, length, string_bytes};
+ghost use Rattle.esc_table.specs.Kept.{kept_by};
+ghost use Rattle.esc_table.specs.Replaced.{written, replaced, Writes};
 
 use crate::Table;
+use crate::run::run_len;
 use page_io::{Memory, Text};
 use std::alloc::Global;
 
 /// The text with each character that has a row in the table replaced by what the row says. Every other character stays
-/// as it is, and what was written for one character is not looked at again. The error is want of memory.
+/// as it is, and what was written for one character is not looked at again. The error is out of memory.
 pub fn replace<const N: usize>(alloc: Global, table: &Table<N>, text: &str) -> Result<Text, Memory>
     ensures { IfOk result (λ written. written ≡ replaced table.now text.now) }
 {
+    let kept = table.kept();
     let mut out = String::new(alloc);
-    for character in text.chars() {
-        push_written(&mut out, table, character)?;
+    let mut rest = text;
+    while !rest.is_empty() {
+        rest = push_run(&mut out, table, &kept, rest)?;
     }
     Ok(Text::from(out))
+}
+
+// Appends the run of bytes at the beginning of a text that stand for themselves, and what is written for the character
+// after it. What is after that is left.
+fn push_run<'a, const N: usize>(
+    out: &mut String,
+    table: &Table<N>,
+    kept: &[bool; 256],
+    text: &'a str,
+) -> Result<&'a str, Memory>
+    requires some { 0 < length text.now }
+    requires kept { kept.now ≡ kept_by table.now }
+    ensures written { IfOk result (λ rest.
+        Writes table.now text.now rest.now (string_bytes out.old) (string_bytes out.new)) }
+    ensures shorter { IfOk result (λ rest. length rest.now < length text.now) }
+{
+    let (run, behind) = text.split_at(run_len(kept, text.as_bytes()));
+    out.push_str(run)?;
+    push_first(out, table, behind)
+}
+
+// Appends what is written for the first character of a text, if it has one. What is after it is left.
+fn push_first<'a, const N: usize>(
+    out: &mut String,
+    table: &Table<N>,
+    text: &'a str,
+) -> Result<&'a str, Memory>
+    ensures written { IfOk result (λ rest.
+        Writes table.now text.now rest.now (string_bytes out.old) (string_bytes out.new)) }
+    ensures shorter { IfOk result (λ rest. length rest.now ≤ length text.now - 1) }
+{
+    let mut characters = text.chars();
+    match characters.next() {
+        None => Ok(text),
+        Some(character) => {
+            push_written(out, table, character)?;
+            Ok(characters.as_str())
+        }
+    }
 }
 
 // Appends what is written for a character.

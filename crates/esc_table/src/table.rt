@@ -1,6 +1,8 @@
 ghost use Rattle.std.specs.Prelude.{◌≡◌, None, Some, length, IsTrue, MatchOption};
+ghost use Rattle.esc_table.specs.Kept.{kept_by};
 ghost use Rattle.esc_table.specs.Rows.{rows_of, found, is_distinct};
 
+use crate::run::bytes_kept;
 use std::marker::Model;
 
 /// A table of `N` rows, each a character and what is written for it. Contracts see the list of the rows, in which no
@@ -34,6 +36,14 @@ impl<const N: usize> Table<N> {
             characters,
             replacements,
         }
+    }
+
+    // The bytes with which no character of the table begins.
+    pub(crate) fn kept(&self) -> [bool; 256]
+        ensures { result ≡ kept_by self.now }
+    {
+        let characters = self.characters;
+        bytes_kept(characters)
     }
 
     // The replacement of a character, or nothing if no row has it.

@@ -1,6 +1,14 @@
-use Rattle.std.proofs.Common.{◌≡◌, string_bytes}
-use Rattle.esc_table.specs.Replaced.{replaced_all}
+use Rattle.std.proofs.Common.{length, string_bytes, []}
+use Rattle.esc_table.specs.Replaced.{Writes}
 use Rattle.esc_table.proofs.replacing.replace.Given as goal
+use denote.Shadow.{shadow}
+use denote.Text.{Utf8}
 
-abbrev pub invariant-loop-character : goal.invariant-loop-character
-invariant-loop-character g l = string_bytes l.out ≡ replaced_all l.table l.yielded
+abbrev pub invariant-loop-rest : goal.invariant-loop-rest
+invariant-loop-rest g l = record {
+  written : Writes l.table l.text l.rest [] (string_bytes l.out);
+  utf8 : shadow (Utf8 l.rest);
+}
+
+abbrev pub decreases-loop-rest : goal.decreases-loop-rest
+decreases-loop-rest g l = length l.rest
