@@ -9,7 +9,7 @@ use Rattle.tpl_exec.specs.Values.{Finds, value_view, values_view}
 use Rattle.tpl_exec.specs.declared.value.Value.{Value}
 use Rattle.tpl_value.specs.Picking.{index_of}
 
--- what the arguments that are left give behind a part, and all of them before there is one
+-- what the arguments that are left give after a part, and all of them before there is one
 abbrev pub parts_from : Option Value → List Value → Result Data FaultKind
 parts_from None args = index_all (values_view args)
 parts_from (Some value) keys = indexed (value_view value) (values_view keys)

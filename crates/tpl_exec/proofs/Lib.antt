@@ -6,6 +6,7 @@ pub mod Executions
 pub mod Indexing
 pub mod Keeping
 pub mod Leaving
+pub mod Lists
 pub mod MachineFollows
 pub mod MachineShrinks
 pub mod Operands

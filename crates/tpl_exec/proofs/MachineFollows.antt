@@ -7,7 +7,7 @@ use Rattle.page_datum.specs.declared.fault.FaultKind.{FaultKind}
 use Rattle.page_datum.specs.declared.fault.FaultKind.TheVariants.{NotRangeable, Depth}
 use Rattle.tpl_exec.specs.Evaluating.{Variables}
 use Rattle.tpl_exec.specs.Functions.{Outcome, counted}
-use Rattle.tpl_exec.specs.Machine.{Spot, spot, nowhere, Loop, Frame, part, loop, call, Machine, Advance, moves, tells, halts, fails, back, spot_run, turn_run, frames_run, machine_run, on_steps, on_value, turning, next_turn, fallen, leaving, broken_out, continued_out, moved, if_advance, with_advance, range_advance, call_advance, node_advance, advanced, advance, started}
+use Rattle.tpl_exec.specs.Machine.{Spot, spot, nowhere, Loop, Frame, part, loop, call, Machine, Advance, moves, tells, halts, fails, back, spot_run, turn_run, frames_run, machine_run, on_steps, on_value, turning, next_turn, ended, leaving, broken_out, continued_out, moved, if_advance, with_advance, range_advance, call_advance, node_advance, advanced, advance, started}
 use Rattle.tpl_exec.specs.Meaning.{finished, finish_of, argument, at_dot, calls_within, declared, elements, entered, evaluated, nodes_of_tree, nodes_run, node_run, parted, ranged, returned, template_run, turn_variables, turned, turns, with_steps, with_value, meaning, max_calls}
 use Rattle.tpl_exec.specs.Runs.{End, Given, Run, Site, State, next, broken, continued, faulted, and_then, choosing, turn, cut, cut_end, ends, enters, fault, fault_at, given, go_on, if_next, scoped}
 use Rattle.tpl_tree.specs.Forests.{ForestData, tree_named}
@@ -196,16 +196,16 @@ turn_follows forest m dot l (e ∷ es) rest count fs =
     (λ steps. same_thrice (frames_run forest m.calls at fs) (if_next (spot_run forest m.calls at rest)) (turned count (turns at l.line count each es)) (part steps))
 
 -- no node is next
-fallen_follows : (forest : ForestData) (m : Machine) (fs : List Frame) → Follows forest (frames_run forest m.calls m.site fs (next m.state)) (fallen m fs)
-fallen_follows forest m [] = (refl, refl)
-fallen_follows forest m (part dot rest count ∷ fs) = (refl, refl)
-fallen_follows forest m (loop dot l rest count ∷ fs) = turn_follows forest m dot l l.left rest count fs
-fallen_follows forest m (call caller line rest variables ∷ fs) = (refl, refl)
+ended_follows : (forest : ForestData) (m : Machine) (fs : List Frame) → Follows forest (frames_run forest m.calls m.site fs (next m.state)) (ended m fs)
+ended_follows forest m [] = (refl, refl)
+ended_follows forest m (part dot rest count ∷ fs) = (refl, refl)
+ended_follows forest m (loop dot l rest count ∷ fs) = turn_follows forest m dot l l.left rest count fs
+ended_follows forest m (call caller line rest variables ∷ fs) = (refl, refl)
 
 -- the nodes that are next
 advanced_follows : (forest : ForestData) (m : Machine) (n : ℕ) (nodes : NodesData)
     → Follows forest (go_on (frames_run forest m.calls m.site m.frames) (nodes_run (calls_within forest m.calls) m.site n nodes m.state)) (advanced forest m n nodes)
-advanced_follows forest m n no_nodes = fallen_follows forest m m.frames
+advanced_follows forest m n no_nodes = ended_follows forest m m.frames
 advanced_follows forest m n (node what line seams first other rest) =
     let calls = calls_within forest m.calls in
     let behind_first = n + 1 + nodes_size first in

@@ -3,7 +3,7 @@ use Rattle.std.proofs.Common.{ℕ, zero, suc, ◌+◌, ◌-◌, ◌*◌, ◌≤�
 use Rattle.page_datum.specs.Data.{Data}
 use Rattle.page_datum.specs.declared.fault.FaultKind.{FaultKind}
 use Rattle.tpl_exec.specs.Functions.{Outcome, counted, max_steps}
-use Rattle.tpl_exec.specs.Machine.{Spot, spot, nowhere, Loop, Frame, part, loop, call, Machine, Advance, moves, tells, halts, fails, on_steps, on_value, next_turn, fallen, leaving, broken_out, continued_out, moved, if_advance, with_advance, range_advance, call_advance, node_advance, advanced, advance, turning, started}
+use Rattle.tpl_exec.specs.Machine.{Spot, spot, nowhere, Loop, Frame, part, loop, call, Machine, Advance, moves, tells, halts, fails, on_steps, on_value, next_turn, ended, leaving, broken_out, continued_out, moved, if_advance, with_advance, range_advance, call_advance, node_advance, advanced, advance, turning, started}
 use Rattle.tpl_exec.specs.Meaning.{argument, at_dot, assigned, declared, elements, evaluated}
 use Rattle.tpl_exec.specs.Runs.{Site, State}
 use Rattle.tpl_exec.proofs.StepsGrow.{Counts, Grows, Within, counts, grows_from, pipe_grows}
@@ -137,15 +137,15 @@ turn_falls m dot l (e ∷ es) rest count fs w b h = steps_fall w (m.state.steps 
     (λ steps k. (omega (arith, h, lighter max_steps m.state.steps steps (suc (length fs)) (suc (length fs)) k.0 k.1 (omega arith)), k.1))
 
 -- no node is next
-fallen_falls : (m : Machine) (fs : List Frame) (w : ℕ) → m.state.steps ≤ max_steps → 2 * (max_steps - m.state.steps) + length fs ≤ w → Falls w (fallen m fs)
-fallen_falls m [] w b h = b
-fallen_falls m (part dot rest count ∷ fs) w b h = (omega (arith, h), b)
-fallen_falls m (loop dot l rest count ∷ fs) w b h = turn_falls m dot l l.left rest count fs w b h
-fallen_falls m (call caller line rest variables ∷ fs) w b h = (omega (arith, h), b)
+ended_falls : (m : Machine) (fs : List Frame) (w : ℕ) → m.state.steps ≤ max_steps → 2 * (max_steps - m.state.steps) + length fs ≤ w → Falls w (ended m fs)
+ended_falls m [] w b h = b
+ended_falls m (part dot rest count ∷ fs) w b h = (omega (arith, h), b)
+ended_falls m (loop dot l rest count ∷ fs) w b h = turn_falls m dot l l.left rest count fs w b h
+ended_falls m (call caller line rest variables ∷ fs) w b h = (omega (arith, h), b)
 
 -- the nodes that are next
 advanced_falls : (forest : ForestData) (m : Machine) (n : ℕ) (nodes : NodesData) → m.state.steps ≤ max_steps → Falls (weight m) (advanced forest m n nodes)
-advanced_falls forest m n no_nodes b = fallen_falls m m.frames (weight m) b (omega arith)
+advanced_falls forest m n no_nodes b = ended_falls m m.frames (weight m) b (omega arith)
 advanced_falls forest m n (node what line seams first other rest) b = steps_fall (weight m) (m.state.steps + 1) m.site line (counted 1 m.state.steps) _ (counts 1 m.state.steps)
     (λ steps k. node_falls forest m n line what (spot (n + 1) first) (spot (n + 1 + nodes_size first) other) (spot (n + 1 + nodes_size first + nodes_size other) rest) (record { variables = m.state.variables; steps = steps }) k)
 

@@ -45,7 +45,7 @@ set_view (x ∷ vs) (suc n) m w next inside =
     ∙ append_assoc (variables_view (drop (n + 1) vs)) (variable_view w ∷ variables_view (take n vs)) (variable_view x ∷ [])
     ∙ sym (ap (λ (k : ℕ). variables_view (drop k (x ∷ vs)) ++ (variable_view w ∷ variables_view (take (suc n) (x ∷ vs)))) step)
 
--- the newest variable of a front has the name
+-- the newest variable of a prefix has the name
 pub assigned_at : (name : List ℕ) (vs : List Variable) (n m : ℕ) (v w : Variable) (all : Variables) → m ≡ n + 1 → n < length vs → v ≡ get_or vs n v → bytes_eq v.name.now name ≡ true → w.name.now ≡ name
     → variables_view (drop m vs) ++ assigned name (stored_view w.value) (variables_view (take m vs)) ≡ all → variables_view (slice_set vs n w) ≡ all
 assigned_at name vs n m v w all next inside here same named h =

@@ -6,7 +6,7 @@ use Rattle.tpl_tree.specs.Trees.{NodesData, no_nodes, node, head_kind, head_line
 use Rattle.tpl_exec.specs.Machine.{nowhere, spot}
 use Rattle.tpl_exec.specs.MachineView.{spot_at}
 
--- behind all nodes there are none
+-- after all nodes there are none
 nodes_from-behind : (nodes : NodesData) (n : ℕ) → nodes_size nodes ≤ n → nodes_from nodes n ≡ no_nodes
 nodes_from-behind no_nodes n l = refl
 nodes_from-behind (node k line s first other rest) zero l = absurd (omega (arith, l))

@@ -1,18 +1,28 @@
 -- The elements of a range, one at a time.
-use Rattle.std.specs.Prelude.{◌≡◌, ℕ, ◌+◌, Bool, true, false, List, [], ◌∷◌, drop, Option, Some, None}
+use Rattle.std.specs.Prelude.{◌≡◌, ℕ, ◌+◌, Bool, true, false, List, [], ◌∷◌, drop, Option, Some, None, Vec}
+use Rattle.std.specs.declared.alloc.Global.{Global}
 use Rattle.std.specs.Borrow.{Bor}
 use Rattle.page_datum.specs.Data.{Data, int, text}
 use Rattle.page_datum.specs.View.{view}
 use Rattle.page_datum.specs.declared.datum.Datum.{Datum}
-use Rattle.tpl_exec.specs.Sights.{stored_view}
+use Rattle.tpl_exec.specs.Meaning.{declared, elements}
+use Rattle.tpl_exec.specs.Sights.{all_variables, stored_view}
 use Rattle.tpl_exec.specs.declared.element.Element.{Element}
 use Rattle.tpl_exec.specs.declared.element.Index.{Index}
 use Rattle.tpl_exec.specs.declared.element.Index.TheVariants.{Number, Key}
+use Rattle.tpl_exec.specs.declared.sight.Stored.{Stored}
+use Rattle.tpl_exec.specs.declared.sight.Variable.{Variable}
 
 -- the elements, none where a range has no meaning
 abbrev pub all_elements : Option (List (Data × Data)) → List (Data × Data)
 all_elements (Some es) = es
 all_elements None = []
+
+abbrev pub elements_of : Data → List (Data × Data)
+elements_of value = all_elements (elements value)
+
+abbrev pub elements_in : Stored → List (Data × Data)
+elements_in source = elements_of (stored_view source)
 
 -- whether there are elements, where a range has a meaning
 abbrev pub is_some : List (Data × Data) → Bool
@@ -28,7 +38,11 @@ index_view (Number n) = int n
 index_view (Key key) = text key.now
 
 abbrev pub element_view : Element → Data × Data
-element_view e = (stored_view e.index, stored_view e.value)
+element_view e = (index_view e.index, stored_view e.value)
+
+-- one variable more, where a range declares one for the index
+abbrev pub IsIndexed : Option (List ℕ) → Index → Vec Variable Global → Vec Variable Global → Type 0
+IsIndexed name index old new = all_variables new ≡ declared name (index_view index) (all_variables old)
 
 -- the element with a number among all, or that there are no more
 abbrev pub IsElement : Option Element → ℕ → List (Data × Data) → Type 0

@@ -1,5 +1,5 @@
 -- What pipes give (Go's `text/template`, "Arguments" and "Pipelines", in a profile).
-use Rattle.std.specs.Prelude.{ℕ, Bool, true, false, not, ◌&&◌, List, [], ◌∷◌, ◌++◌, Option, Some, None, Result, Ok, Err, if◌then◌else◌, bytes_eq}
+use Rattle.std.specs.Prelude.{◌≡◌, ℕ, Bool, true, false, not, ◌&&◌, List, [], ◌∷◌, ◌++◌, Option, Some, None, Result, Ok, Err, if◌then◌else◌, bytes_eq}
 use Rattle.page_datum.specs.Data.{Data, null, int, text}
 use Rattle.page_datum.specs.Data as datum
 use Rattle.page_datum.specs.declared.fault.FaultKind.{FaultKind}
@@ -59,6 +59,13 @@ has_one no_operands None = false
 has_one (operand o no_operands) None = true
 has_one (operand o no_operands) (Some x) = false
 has_one (operand o (operand p rest)) piped = false
+
+-- a pipe of one operand, and the operand that is dot itself
+abbrev pub IsAlone : OperandData → PipeData → Type 0
+IsAlone o pipe = pipe ≡ command (single o) no_commands
+
+abbrev pub dot_alone : OperandData
+dot_alone = with_fields dot []
 
 -- where no argument decides: the piped value, or the last operand
 abbrev pub undecided : Option Data → Option Data → ℕ → Outcome Data

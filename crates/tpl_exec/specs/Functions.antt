@@ -89,6 +89,9 @@ abbrev pub or_null : Option Data → Data
 or_null (Some x) = x
 or_null None = null
 
+abbrev pub found_or_null : Result (Option Data) FaultKind → Result Data FaultKind
+found_or_null found = on_ok found (λ part. Ok (or_null part))
+
 -- `index x k ..`: the part at the first key, of that the part at the second one, and so on
 abbrev pub indexed : Data → List Data → Result Data FaultKind
 indexed x [] = Ok x

@@ -56,7 +56,11 @@ pub data Advance : Type 0 where
   halts : ℕ → Advance
   fails : ExecFault → Advance
 
--- the place with the dot that holds behind a part
+-- a fault of a template, on a line
+abbrev pub fails_so : List ℕ → ℕ → FaultKind → Advance
+fails_so template line kind = fails (record { kind = kind; template = template; line = line })
+
+-- the place with the dot that holds after a part
 abbrev pub back : Option Data → Site → Site
 back (Some dot) at = at_dot at dot
 back None at = at
@@ -94,7 +98,7 @@ abbrev pub on_value : Site → ℕ → Outcome Data → (Data → ℕ → Advanc
 on_value at line (Ok v) advance = advance v.0 v.1
 on_value at line (Err kind) advance = fails (fault_at at line kind)
 
--- the machine behind a control, or behind a call
+-- the machine after a control, or after a call
 abbrev pub behind_control : Machine → Option Data → Spot → ℕ → List Frame → Machine
 behind_control m dot rest count fs = record { site = back dot m.site; at = rest; state = cut_state count m.state; frames = fs; calls = m.calls }
 
@@ -116,13 +120,13 @@ abbrev pub next_turn : Machine → Data → Loop → List (Data × Data) → Spo
 next_turn m dot l [] rest count fs = moves (behind_control m (Some dot) rest count fs)
 next_turn m dot l (e ∷ es) rest count fs = on_steps (at_dot m.site dot) l.line (counted 1 m.state.steps) (λ steps. moves (turning m dot l e es rest count fs steps))
 
-abbrev pub fallen : Machine → List Frame → Advance
-fallen m [] = halts m.state.steps
-fallen m (part dot rest count ∷ fs) = moves (behind_control m dot rest count fs)
-fallen m (loop dot l rest count ∷ fs) = next_turn m dot l l.left rest count fs
-fallen m (call caller line rest variables ∷ fs) = tells (given caller line leaves) (behind_call m caller rest variables fs)
+abbrev pub ended : Machine → List Frame → Advance
+ended m [] = halts m.state.steps
+ended m (part dot rest count ∷ fs) = moves (behind_control m dot rest count fs)
+ended m (loop dot l rest count ∷ fs) = next_turn m dot l l.left rest count fs
+ended m (call caller line rest variables ∷ fs) = tells (given caller line leaves) (behind_call m caller rest variables fs)
 
--- the machine behind a part that a `break` or a `continue` leaves
+-- the machine after a part that a `break` or a `continue` leaves
 abbrev pub leaving : Machine → Option Data → ℕ → Machine
 leaving m dot count = record { site = back dot m.site; at = nowhere; state = cut_state count m.state; frames = []; calls = m.calls }
 
@@ -200,7 +204,7 @@ node_advance forest m n line (kind.Template name pipe) first other rest state = 
     call_advance forest m m.calls n line name value rest steps)
 
 abbrev pub advanced : ForestData → Machine → ℕ → NodesData → Advance
-advanced forest m n no_nodes = fallen m m.frames
+advanced forest m n no_nodes = ended m m.frames
 advanced forest m n (node kind line seams first other rest) = on_steps m.site line (counted 1 m.state.steps) (λ steps.
     node_advance forest m n line kind (spot (n + 1) first) (spot (n + 1 + nodes_size first) other) (spot (n + 1 + nodes_size first + nodes_size other) rest)
     (record { variables = m.state.variables; steps = steps }))

@@ -4,10 +4,10 @@ use Rattle.std.specs.Borrow.{Bor}
 use Rattle.page_datum.specs.Data.{Data}
 use Rattle.tpl_exec.specs.Elements.{all_elements}
 use Rattle.tpl_exec.specs.Functions.{Outcome}
-use Rattle.tpl_exec.specs.Machine.{Advance, Frame, Loop, Machine, Spot, call, fails, halts, loop, moves, nowhere, on_value, part, spot, tells}
+use Rattle.tpl_exec.specs.Machine.{Advance, Frame, Loop, Machine, Spot, advance, call, fails, halts, loop, moves, nowhere, on_value, part, spot, tells}
 use Rattle.tpl_exec.specs.Meaning.{elements, nodes_of_tree}
-use Rattle.tpl_exec.specs.Runs.{Event, Given, Site, enters, gives_hole, gives_text, leaves}
-use Rattle.tpl_exec.specs.Sights.{stored_view, variables_view}
+use Rattle.tpl_exec.specs.Runs.{Event, Given, Site, State, enters, gives_hole, gives_text, leaves}
+use Rattle.tpl_exec.specs.Sights.{outer_view, stored_view, variables_view}
 use Rattle.tpl_exec.specs.declared.frame.Frame.{Frame as OpenFrame}
 use Rattle.tpl_exec.specs.declared.frame.Frame.TheVariants as frame
 use Rattle.tpl_exec.specs.declared.frame.OpenCall.{OpenCall}
@@ -23,6 +23,7 @@ use Rattle.tpl_exec.specs.declared.told.Advance.TheVariants as code
 use Rattle.tpl_exec.specs.declared.told.Event.{Event as CodeEvent}
 use Rattle.tpl_exec.specs.declared.told.Event.TheVariants as event
 use Rattle.tpl_exec.specs.declared.told.Told.{Told}
+use Rattle.tpl_tree.specs.Forests.{ForestData}
 use Rattle.tpl_tree.specs.Trees.{NodesData, TreeData, head_seams, node, nodes_from, nodes_size, part_of, rest_of}
 
 abbrev pub tree_view : Option (Bor TreeData) → Option TreeData
@@ -53,11 +54,6 @@ IsNode None nodes number = spot_at nodes number ≡ nowhere
 abbrev pub site_view : Body → Stored → Site
 site_view body dot = record { template = body.name.now; dot = stored_view dot }
 
--- a dot that holds behind a control
-abbrev pub dot_view : Option Stored → Option Data
-dot_view (Some dot) = Some (stored_view dot)
-dot_view None = None
-
 -- the elements that are left of a loop
 abbrev pub loop_left : OpenLoop → List (Data × Data)
 loop_left l = drop l.at (all_elements (elements (stored_view l.source)))
@@ -65,17 +61,22 @@ loop_left l = drop l.at (all_elements (elements (stored_view l.source)))
 abbrev pub loop_view : NodesData → OpenLoop → Loop
 loop_view nodes l = record { line = l.turn.line; index = l.turn.index.now; element = l.turn.element.now; first = spot_at nodes l.turn.first; left = loop_left l }
 
+abbrev pub loop_frame : NodesData → OpenLoop → Frame
+loop_frame nodes l = loop (stored_view l.dot) (loop_view nodes l) (spot_at nodes l.next) l.count
+
+abbrev pub call_frame : OpenCall → Frame
+call_frame c = call (site_view c.body c.dot) c.line (spot_at (body_nodes c.body) c.next) (variables_view c.variables.items)
+
 -- What is open, the innermost first. Parts and loops belong to the body of the call around them, and calls to that of their caller.
 abbrev pub frames_view : NodesData → List OpenFrame → List Frame
 frames_view nodes [] = []
-frames_view nodes (frame.Part p ∷ fs) = part (dot_view p.dot) (spot_at nodes p.next) p.count ∷ frames_view nodes fs
-frames_view nodes (frame.Loop l ∷ fs) = loop (stored_view l.dot) (loop_view nodes l) (spot_at nodes l.next) l.count ∷ frames_view nodes fs
-frames_view nodes (frame.Call c ∷ fs) =
-    call (site_view c.body c.dot) c.line (spot_at (body_nodes c.body) c.next) (variables_view c.variables.items) ∷ frames_view (body_nodes c.body) fs
+frames_view nodes (frame.Part p ∷ fs) = part (outer_view p.dot) (spot_at nodes p.next) p.count ∷ frames_view nodes fs
+frames_view nodes (frame.Loop l ∷ fs) = loop_frame nodes l.value ∷ frames_view nodes fs
+frames_view nodes (frame.Call c ∷ fs) = call_frame c.value ∷ frames_view (body_nodes c.value.body) fs
 
 -- a call, and what is open around it
 abbrev pub call_view : OpenCall → List OpenFrame → List Frame
-call_view c fs = frames_view (body_nodes c.body) (frame.Call c ∷ fs)
+call_view c fs = call_frame c ∷ frames_view (body_nodes c.body) fs
 
 abbrev pub machine_view : CodeMachine → Machine
 machine_view m = record {
@@ -86,6 +87,20 @@ machine_view m = record {
   calls = m.calls;
 }
 
+-- a place in the body of a machine, its variables with other steps, and what is open
+abbrev pub place : CodeMachine → Option ℕ → Spot
+place m number = spot_at (body_nodes m.body) number
+
+abbrev pub stepped : CodeMachine → ℕ → State
+stepped m steps = record { variables = variables_view m.variables.items; steps = steps }
+
+abbrev pub open_frames : CodeMachine → List Frame
+open_frames m = frames_view (body_nodes m.body) m.frames
+
+-- one advance
+abbrev pub next_advance : ForestData → CodeMachine → Advance
+next_advance forest m = advance forest (machine_view m)
+
 abbrev pub event_view : CodeEvent → Event
 event_view (event.Text n) = gives_text n
 event_view (event.Hole n value) = gives_hole n (stored_view value)
@@ -95,20 +110,23 @@ event_view event.Leave = leaves
 abbrev pub told_view : Told → Given
 told_view t = record { event = event_view t.event; template = t.template.now; line = t.line }
 
--- an advance that fails, or want of memory
+-- an advance that fails, or out of memory
 abbrev pub FailsWith : Advance → ExecStop → Type 0
 FailsWith advance (stop.Fault why) = advance ≡ fails why
 FailsWith advance stop.SinkStop = ⊥
 FailsWith advance stop.Memory = ⊤
 
--- what an advance gives, and the machine behind it
+-- what an advance gives, and the machine after it
 abbrev pub Advances : Advance → Result CodeAdvance ExecStop → Machine → Type 0
 Advances advance (Ok code.Moves) m = advance ≡ moves m
 Advances advance (Ok (code.Tells t)) m = advance ≡ tells (told_view t) m
 Advances advance (Ok code.Halts) m = advance ≡ halts m.state.steps
 Advances advance (Err why) m = FailsWith advance why
 
--- a value and the steps up to there, or that the node of this line fails, whatever was to follow; or want of memory
+abbrev pub IsAdvance : Advance → Result CodeAdvance ExecStop → CodeMachine → Type 0
+IsAdvance advance result m = Advances advance result (machine_view m)
+
+-- a value and the steps up to there, or that the node of this line fails, whatever was to follow; or out of memory
 abbrev pub Evaluates : Site → ℕ → Outcome Data → Result (Stored × ℕ) ExecStop → Type 0
 Evaluates at line outcome (Ok v) = outcome ≡ Ok (stored_view v.0, v.1)
 Evaluates at line outcome (Err why) = (more : Data → ℕ → Advance) → FailsWith (on_value at line outcome more) why

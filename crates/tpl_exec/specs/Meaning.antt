@@ -64,7 +64,7 @@ elements value = None
 abbrev pub turn_variables : Option (List ℕ) → Option (List ℕ) → Data × Data → Variables → Variables
 turn_variables index element e variables = declared element e.1 (declared index e.0 variables)
 
--- where a turn's end leads: to the other turns, or after a `break` to what stands behind the range
+-- where a turn's end leads: to the other turns, or after a `break` to what stands after the range
 abbrev pub turned : ℕ → (State → Run) → End → Run
 turned count others (next state) = others (cut_state count state)
 turned count others (continued state) = others (cut_state count state)

@@ -1,6 +1,8 @@
 -- What happens when nodes are executed: events, choices, and how they end.
 use Rattle.std.specs.Prelude.{ℕ, ◌-◌, List, [], ◌∷◌, ◌++◌, length, drop}
 use Rattle.page_datum.specs.Data.{Data}
+use Rattle.page_datum.specs.View.{view}
+use Rattle.page_datum.specs.declared.datum.Datum.{Datum}
 use Rattle.page_datum.specs.declared.fault.ExecFault.{ExecFault}
 use Rattle.page_datum.specs.declared.fault.FaultKind.{FaultKind}
 use Rattle.tpl_exec.specs.Evaluating.{Variables}
@@ -12,6 +14,9 @@ pub data Event : Type 0 where
   gives_hole : ℕ → Data → Event
   enters : ℕ → Event
   leaves : Event
+
+abbrev pub fills : ℕ → Datum → Event
+fills n datum = gives_hole n (view datum)
 
 -- an event, and the template and the line of its node, which for the end of a call is the call
 pub record Given : Type 0 where
@@ -45,6 +50,11 @@ pub record Run : Type 0 where
   pub choices : List Choice
   pub end : End
 
+-- the events alone
+abbrev pub events_of : List Given → List Event
+events_of [] = []
+events_of (g ∷ gs) = g.event ∷ events_of gs
+
 -- where nodes stand: their template, by its name, and dot
 pub record Site : Type 0 where
   pub template : List ℕ
@@ -72,7 +82,7 @@ fault_at at line kind = record { kind = kind; template = at.template; line = lin
 abbrev pub fault : Site → ℕ → FaultKind → Run
 fault at line kind = ends (faulted (fault_at at line kind))
 
--- a run behind these events and choices
+-- a run after these events and choices
 abbrev pub behind : List Given → List Choice → Run → Run
 behind events choices run = record { events = events ++ run.events; choices = choices ++ run.choices; end = run.end }
 

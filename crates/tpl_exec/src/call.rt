@@ -1,9 +1,7 @@
-ghost use Rattle.tpl_exec.specs.Functions.{called as called_of, free as free_of, paid as paid_of, bytes_made as bytes_made_of};
-ghost use Rattle.std.specs.Prelude.{◌≡◌, Result};
-ghost use Rattle.page_datum.specs.Data.{Data};
+ghost use Rattle.tpl_exec.specs.Functions.{bytes_made as bytes_made_of, called as called_of};
+ghost use Rattle.std.specs.Prelude.{◌≡◌};
 ghost use Rattle.page_datum.specs.View.{view};
-ghost use Rattle.tpl_exec.specs.Values.{Gives, Tells, values_view};
-ghost use Rattle.tpl_value.specs.Slicing.{Makes};
+ghost use Rattle.tpl_exec.specs.Values.{Gives, GivesFree, GivesPaid, values_view};
 
 use crate::compare::{eq, ge, gt, le, len, lt, ne, not};
 use crate::make::{index_all, print_all, printf_all, slice_all};
@@ -52,7 +50,7 @@ fn free<'d, 'v>(
     answer: Result<Datum, FaultKind>,
     steps: u64,
 ) -> Result<(Value<'d, 'v>, u64), ValueStop>
-    ensures { (outcome : Result Data FaultKind) → Tells outcome answer → Gives (free_of steps outcome) result }
+    ensures { GivesFree answer steps result }
 {
     match answer {
         Ok(datum) => Ok((Value::Made(datum), steps)),
@@ -65,7 +63,7 @@ fn paid<'d, 'v>(
     answer: Result<Datum, ValueStop>,
     steps: u64,
 ) -> Result<(Value<'d, 'v>, u64), ValueStop>
-    ensures { (outcome : Result Data FaultKind) → Makes outcome answer → Gives (paid_of steps outcome) result }
+    ensures { GivesPaid answer steps result }
 {
     match answer {
         Ok(datum) => {

@@ -1,6 +1,9 @@
 ghost use Rattle.std.specs.Prelude.{◌≡◌};
 ghost use Rattle.page_datum.specs.View.{view};
-ghost use Rattle.tpl_exec.specs.Functions.{not_of, len_of, eq_of, ne_of, lt_of, le_of, gt_of, ge_of, equals_one as equals_one_of, as_truth as as_truth_of, as_opposite as as_opposite_of, one_of, two_of};
+ghost use Rattle.tpl_exec.specs.Functions.{not_of, len_of, eq_of, ne_of, lt_of, le_of, gt_of};
+ghost use Rattle.tpl_exec.specs.Functions.{ge_of, equals_one as equals_one_of};
+ghost use Rattle.tpl_exec.specs.Functions.{as_truth as as_truth_of, as_opposite as as_opposite_of};
+ghost use Rattle.tpl_exec.specs.Functions.{one_of, two_of};
 ghost use Rattle.tpl_exec.specs.Values.{FindsOne, FindsTwo, Tells, values_view};
 
 use crate::value::Value;

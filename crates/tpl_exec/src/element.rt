@@ -1,8 +1,8 @@
 ghost use Rattle.std.specs.Prelude.{◌≡◌, ◌<◌, ◌^◌, IfOk, IfSome};
 ghost use Rattle.page_datum.specs.View.{view};
-ghost use Rattle.tpl_exec.specs.Elements.{all_elements, index_view, some_elements, IsElement, IsPart};
+ghost use Rattle.tpl_exec.specs.Elements.{elements_in, elements_of, index_view};
+ghost use Rattle.tpl_exec.specs.Elements.{some_elements, IsElement, IsPart};
 ghost use Rattle.tpl_exec.specs.Meaning.{elements};
-ghost use Rattle.tpl_exec.specs.Sights.{stored_view};
 
 use crate::sight::Stored;
 use page_datum::Datum;
@@ -11,38 +11,38 @@ use std::alloc::Global;
 
 /// An element of what a range goes over, with its index.
 #[derive(Debug, Drop)]
-pub(crate) struct Element<'d> {
-    pub(crate) index: Stored<'d>,
+pub(crate) struct Element<'d, 'a> {
+    pub(crate) index: Index<'a>,
     pub(crate) value: Stored<'d>,
 }
 
-// The index of an element: its number in a list, or its key in a dictionary.
+/// The index of an element: its number in a list, or its key in a dictionary.
 #[derive(Clone, Copy, Debug, Drop)]
-enum Index<'a> {
+pub(crate) enum Index<'a> {
     Number(i64),
     Key(&'a Text),
 }
 
 /// The element with a number, or none where there are no more.
-pub(crate) fn element_at<'d>(
+pub(crate) fn element_at<'d, 'a>(
     alloc: Global,
-    source: &Stored<'d>,
+    source: &'a Stored<'d>,
     at: usize,
-) -> Result<Option<Element<'d>>, Memory>
-    ensures element { IfOk result (λ found. IsElement found at (all_elements (elements (stored_view source.now)))) }
+) -> Result<Option<Element<'d, 'a>>, Memory>
+    ensures element { IfOk result (λ found. IsElement found at (elements_in source.now)) }
     ensures bound { IfOk result (λ found. IfSome found (λ _. at < 2 ^ 63)) }
 {
     match source {
         Stored::Data(datum) => match part_at(datum, at) {
             Some((index, value)) => Ok(Some(Element {
-                index: Stored::Made(index_datum(alloc, index)?),
+                index,
                 value: Stored::Data(value),
             })),
             None => Ok(None),
         },
         Stored::Made(datum) => match part_at(datum, at) {
             Some((index, value)) => Ok(Some(Element {
-                index: Stored::Made(index_datum(alloc, index)?),
+                index,
                 value: Stored::Made(value.copy(alloc)?),
             })),
             None => Ok(None),
@@ -50,7 +50,8 @@ pub(crate) fn element_at<'d>(
     }
 }
 
-fn index_datum(alloc: Global, index: Index<'_>) -> Result<Datum, Memory>
+/// An index as a datum.
+pub(crate) fn index_datum(alloc: Global, index: Index<'_>) -> Result<Datum, Memory>
     ensures { IfOk result (λ datum. view datum ≡ index_view index.entry) }
 {
     match index {
@@ -61,7 +62,7 @@ fn index_datum(alloc: Global, index: Index<'_>) -> Result<Datum, Memory>
 
 // The index and the value of the element with a number.
 fn part_at<'a>(datum: &'a Datum, at: usize) -> Option<(Index<'a>, &'a Datum)>
-    ensures part { IsPart result at (all_elements (elements (view datum.now))) }
+    ensures part { IsPart result at (elements_of (view datum.now)) }
     ensures bound { IfSome result (λ _. at < 2 ^ 63) }
 {
     match datum {

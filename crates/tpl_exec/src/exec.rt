@@ -1,12 +1,8 @@
-ghost use Rattle.std.specs.Prelude.{◌≡◌, ◌<◌, length, unwrap_or, [], OnOk, IfErr, IfOk};
+ghost use Rattle.std.specs.Prelude.{◌≡◌, ◌<◌, length, OnOk, IfErr, IfOk};
 ghost use Rattle.page_datum.specs.View.{view};
-ghost use Rattle.tpl_tree.specs.Forests.{name_at};
-ghost use Rattle.tpl_exec.specs.Executing.{Allows, Executes};
-ghost use Rattle.tpl_exec.specs.Steps.{IsTold, RefusedAs, Steps};
-ghost use Rattle.tpl_exec.specs.Machine.{Machine as SpecMachine, advance as advance_of, tells};
-ghost use Rattle.tpl_exec.specs.Runs.{Given};
-ghost use Rattle.tpl_exec.specs.MachineView.{event_view, machine_view, told_view};
-ghost use Rattle.tpl_exec.specs.Meaning.{meaning};
+ghost use Rattle.tpl_exec.specs.Executing.{Allows, ExecutesRoot, run_of};
+ghost use Rattle.tpl_exec.specs.MachineView.{event_view, next_advance, told_view};
+ghost use Rattle.tpl_exec.specs.Steps.{IsStep, IsTold, MayTell, RefusedAs};
 
 use crate::machine::Machine;
 use crate::sink::{HoleSink, HoleStop};
@@ -17,9 +13,14 @@ use page_io::{Memory, Text};
 use std::alloc::Global;
 use tpl_tree::Forest;
 
-/// Executes a template of a forest, by its number, with a datum, and answers the steps. Its events are given to the sink in their order, up to
-/// the first that it refuses. The errors are the fault of the template, TooLong at the node whose event the sink refused so, SinkStop where it
-/// refused one so, and want of memory. (Go's `text/template`, "Actions", in a profile.)
+/// Executes a template of a forest, by its number, with a datum, and answers the steps. Its events are given to the sink
+/// in their order, up to the first that it refuses. The errors are the fault of the template, TooLong at the node whose
+/// event the sink refused so, SinkStop where it refused one so, and out of memory. (Go's `text/template`, "Actions", in
+/// a profile.)
+///
+/// A call of a template that the forest lacks is as a call of one without nodes: the sink is given the call and its end
+/// and nothing between them, its argument is evaluated, and it counts among the calls that are open. Whoever wants such
+/// a call refused does so before.
 pub fn execute<'d, K: HoleSink>(
     alloc: Global,
     forest: &'d Forest,
@@ -28,8 +29,8 @@ pub fn execute<'d, K: HoleSink>(
     sink: &mut K,
 ) -> Result<u64, ExecStop>
     requires root { root < length forest.now }
-    requires may { Allows K.may K.takes sink.old (meaning forest.now (unwrap_or (name_at forest.now root) []) (view datum.now)).events }
-    ensures { Executes K.takes K.refuses (meaning forest.now (unwrap_or (name_at forest.now root) []) (view datum.now)) sink.old sink.new result }
+    requires may { Allows K.may K.takes sink.old (run_of forest.now root datum.now).events }
+    ensures { ExecutesRoot K.takes K.refuses forest.now root datum.now sink.old sink.new result }
 {
     let mut machine = match Machine::start(alloc, forest, forest.name(root), datum) {
         Ok(machine) => machine,
@@ -51,8 +52,8 @@ fn step<'d, K: HoleSink>(
     forest: &'d Forest,
     sink: &mut K,
 ) -> Result<bool, ExecStop>
-    requires { (g : Given) → (m : SpecMachine) → advance_of forest.now (machine_view machine.old) ≡ tells g m → K.may sink.old g.event }
-    ensures { Steps K.takes K.refuses (advance_of forest.now (machine_view machine.old)) sink.old result (machine_view machine.new) sink.new }
+    requires { MayTell K.may (next_advance forest.now machine.old) sink.old }
+    ensures { IsStep K.takes K.refuses forest.now machine.old sink.old result machine.new sink.new }
 {
     match machine.advance(alloc, forest) {
         Ok(Advance::Moves) => Ok(true),

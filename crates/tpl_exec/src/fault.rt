@@ -1,4 +1,4 @@
-ghost use Rattle.tpl_exec.specs.Machine.{fails};
+ghost use Rattle.tpl_exec.specs.Machine.{fails_so};
 ghost use Rattle.tpl_exec.specs.MachineView.{FailsWith};
 
 use crate::stop::ExecStop;
@@ -6,9 +6,11 @@ use page_datum::{ExecFault, FaultKind};
 use page_io::{Memory, Text};
 use std::alloc::Global;
 
-/// A fault of an action on a line, or want of memory.
+/// A fault of an action on a line, or out of memory.
+#[cold]
+#[inline(never)]
 pub(crate) fn fault(alloc: Global, template: &str, line: u32, kind: FaultKind) -> ExecStop
-    ensures { FailsWith (fails (record { kind = kind; template = template.now; line = line })) result }
+    ensures { FailsWith (fails_so template.now line kind) result }
 {
     match Text::copy_of(alloc, template) {
         Ok(template) => ExecStop::Fault(ExecFault {

@@ -1,15 +1,19 @@
+ghost use Rattle.std.specs.Prelude.{◌≡◌, IfOk};
+ghost use Rattle.tpl_exec.specs.Sights.{dot_view, outer_view};
+
 use crate::node::Body;
 use crate::sight::{Stored, Variable};
-use page_io::Text;
+use page_io::{Memory, Text};
+use std::alloc::Global;
 
 /// A control whose part is executed.
 #[derive(Debug, Drop)]
 pub(crate) struct OpenPart<'d> {
-    /// The dot that holds behind it, where it is another one.
-    pub(crate) dot: Option<Stored<'d>>,
+    /// The dot that holds after it, where it is another one.
+    pub(crate) dot: Option<Box<Stored<'d>>>,
     /// What follows it.
     pub(crate) next: Option<u32>,
-    /// How many variables remain behind it.
+    /// How many variables remain after it.
     pub(crate) count: usize,
 }
 
@@ -28,7 +32,7 @@ pub(crate) struct Turn<'d> {
 /// A range whose turns go on.
 #[derive(Debug, Drop)]
 pub(crate) struct OpenLoop<'d> {
-    /// The dot that holds behind it.
+    /// The dot that holds after it.
     pub(crate) dot: Stored<'d>,
     pub(crate) turn: Turn<'d>,
     /// What is gone over.
@@ -37,7 +41,7 @@ pub(crate) struct OpenLoop<'d> {
     pub(crate) at: usize,
     /// What follows it.
     pub(crate) next: Option<u32>,
-    /// How many variables remain behind it.
+    /// How many variables remain after it.
     pub(crate) count: usize,
 }
 
@@ -53,10 +57,27 @@ pub(crate) struct OpenCall<'d> {
     pub(crate) variables: Vec<Variable<'d>>,
 }
 
-/// What is open.
+/// What is open. It is small, since it is moved when it is put on a stack and when it is taken off.
 #[derive(Debug, Drop)]
 pub(crate) enum Frame<'d> {
     Part(OpenPart<'d>),
-    Loop(OpenLoop<'d>),
-    Call(OpenCall<'d>),
+    Loop(Box<OpenLoop<'d>>),
+    Call(Box<OpenCall<'d>>),
+}
+
+/// A value in a place of its own. The error is out of memory.
+pub(crate) fn boxed<T: Drop>(alloc: Global, value: T) -> Result<Box<T>, Memory>
+    ensures { IfOk result (λ place. place.value ≡ value) }
+{
+    Ok(Box::new(alloc, value)?)
+}
+
+/// A dot out of the place that it has, where there is one.
+pub(crate) fn unboxed<'d>(dot: Option<Box<Stored<'d>>>) -> Option<Stored<'d>>
+    ensures { dot_view result ≡ outer_view dot.entry }
+{
+    match dot {
+        Some(dot) => Some(Box::into_inner(dot)),
+        None => None,
+    }
 }

@@ -19,8 +19,6 @@ mod stack;
 mod steps;
 mod stop;
 mod stored;
-#[cfg(test)]
-mod tests;
 mod told;
 mod value;
 

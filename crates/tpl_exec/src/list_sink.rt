@@ -1,10 +1,8 @@
-ghost use Rattle.std.specs.Prelude.{◌≡◌, ◌++◌, ◌∷◌, [], true, OnOk, OnErr, ◌<◌, length, unwrap_or};
-ghost use Rattle.page_datum.specs.View.{view};
-ghost use Rattle.tpl_exec.specs.Executing.{Executes};
-ghost use Rattle.tpl_exec.specs.Lists.{Keeps, Stays, kept_event, kept_events, listed};
-ghost use Rattle.tpl_exec.specs.Meaning.{meaning};
-ghost use Rattle.tpl_exec.specs.Runs.{gives_hole, gives_text, enters, leaves};
-ghost use Rattle.tpl_tree.specs.Forests.{name_at};
+ghost use Rattle.std.specs.Prelude.{◌≡◌, ◌++◌, ◌∷◌, [], true, OnOk, OnErr, IfErr, ◌<◌, length};
+ghost use Rattle.tpl_exec.specs.Executing.{run_of};
+ghost use Rattle.tpl_exec.specs.Lists.{ExecutesInto, GoesOn, IsAdded, IsStated, IsUnkept};
+ghost use Rattle.tpl_exec.specs.Lists.{Lists, Stays};
+ghost use Rattle.tpl_exec.specs.Lists.{before_number, events_in, kept_event, listed, passed};
 
 use crate::exec::execute;
 use crate::sink::{HoleSink, HoleStop};
@@ -27,27 +25,28 @@ pub enum Kept {
     Leave,
 }
 
-/// A sink that keeps its events, and answers a stated stop at a stated one.
+/// A sink that keeps its events, and refuses a stated one so.
 #[derive(Debug, Drop)]
 pub struct ListSink {
     kept: Vec<Kept>,
-    given: u64,
-    stop_at: u64,
+    /// How many texts, holes and calls come before the one to refuse.
+    before: Option<u64>,
     stop: HoleStop,
     whole: bool,
 }
 
 impl ListSink {
     /// A list without events. Of the texts, holes and calls that it is given, counted from 1, it refuses the one of this number so;
-    /// with 0 it refuses none but for want of memory.
+    /// with 0 it refuses none but when out of memory.
     pub fn new(alloc: Global, stop_at: u64, stop: HoleStop) -> ListSink
         ensures none { listed result ≡ [] }
+        ensures before { result.before ≡ before_number stop_at }
+        ensures so { result.stop ≡ stop }
         ensures whole { result.whole ≡ true }
     {
         ListSink {
             kept: Vec::new(alloc),
-            given: 0,
-            stop_at,
+            before: if stop_at > 0 { Some(stop_at - 1) } else { None },
             stop,
             whole: true,
         }
@@ -60,14 +59,14 @@ impl ListSink {
         self.kept.as_slice()
     }
 
-    /// Whether all events that were taken are there. The end of a call is lost where memory was wanting for it.
+    /// Whether all events that were taken are there. The end of a call is lost where memory ran out for it.
     pub fn is_whole(&self) -> bool
         ensures { result ≡ self.now.whole }
     {
         self.whole
     }
 
-    /// Executes a template of a forest with a datum into this list.
+    /// Executes a template of a forest with a datum into this list, which then has its events up to the one that it refuses.
     pub fn execute(
         &mut self,
         alloc: Global,
@@ -76,20 +75,37 @@ impl ListSink {
         datum: &Datum,
     ) -> Result<u64, ExecStop>
         requires { root < length forest.now }
-        ensures { Executes Keeps (λ s _ _ t. Stays s t) (meaning forest.now (unwrap_or (name_at forest.now root) []) (view datum.now)) self.old self.new result }
+        ensures answers { ExecutesInto forest.now root datum.now self.old self.new result }
+        ensures events { Lists (run_of forest.now root datum.now) self.old result self.new }
     {
         execute(alloc, forest, root, datum, self)
     }
 
-    // Keeps one more event, unless it is the one to refuse.
-    fn keep(&mut self, event: Kept) -> Result<(), HoleStop>
-        ensures ok { OnOk result (Keeps self.old (kept_event event) self.new) }
-        ensures err { OnErr result (Stays self.old self.new) }
+    // Counts one more text, hole or call, unless it is the one to refuse.
+    fn admit(&mut self) -> Result<(), HoleStop>
+        ensures taken { OnOk result (passed self.old.before ≡ Some self.new.before) }
+        ensures refused { IfErr result (λ why. IsStated self.old why self.new) }
+        ensures stays { Stays self.old self.new }
     {
-        self.given = self.given.saturating_add(1);
-        if self.given == self.stop_at {
-            return Err(self.stop);
+        match self.before {
+            None => Ok(()),
+            Some(left) => {
+                if left == 0 {
+                    self.before = None;
+                    return Err(self.stop);
+                }
+                self.before = Some(left - 1);
+                Ok(())
+            }
         }
+    }
+
+    // Keeps one more event. The error is out of memory.
+    fn keep(&mut self, event: Kept) -> Result<(), HoleStop>
+        ensures ok { OnOk result (IsAdded self.old (kept_event event) self.new) }
+        ensures err { IfErr result (λ why. IsUnkept self.old why self.new) }
+        ensures goes_on { GoesOn self.old self.new }
+    {
         match push(&mut self.kept, event) {
             Ok(()) => Ok(()),
             Err(Memory) => Err(HoleStop::Memory),
@@ -99,30 +115,36 @@ impl ListSink {
 
 impl HoleSink for ListSink {
     ghost use Rattle.std.specs.Prelude.{⊤};
-    ghost use Rattle.tpl_exec.specs.Lists.{Keeps, Stays};
+    ghost use Rattle.tpl_exec.specs.Lists.{Declines, Keeps};
 
     ghost may = { λ _ _. ⊤ };
 
     ghost takes = { Keeps };
 
-    ghost refuses = { λ s _ _ t. Stays s t };
+    ghost refuses = { Declines };
 
     fn text(&mut self, node: u32) -> Result<(), HoleStop> {
-        self.keep(Kept::Text(node))
+        match self.admit() {
+            Ok(()) => self.keep(Kept::Text(node)),
+            Err(stop) => Err(stop),
+        }
     }
 
     fn hole(&mut self, node: u32, datum: &Datum) -> Result<(), HoleStop> {
-        match datum.copy(*self.kept.allocator()) {
-            Ok(copy) => self.keep(Kept::Hole(node, copy)),
-            Err(Memory) => {
-                self.given = self.given.saturating_add(1);
-                Err(HoleStop::Memory)
-            }
+        match self.admit() {
+            Ok(()) => match datum.copy(*self.kept.allocator()) {
+                Ok(copy) => self.keep(Kept::Hole(node, copy)),
+                Err(Memory) => Err(HoleStop::Memory),
+            },
+            Err(stop) => Err(stop),
         }
     }
 
     fn call(&mut self, node: u32) -> Result<(), HoleStop> {
-        self.keep(Kept::Call(node))
+        match self.admit() {
+            Ok(()) => self.keep(Kept::Call(node)),
+            Err(stop) => Err(stop),
+        }
     }
 
     fn leave(&mut self) {
@@ -133,10 +155,10 @@ impl HoleSink for ListSink {
     }
 }
 
-// Appends an event, or leaves the others as they are for want of memory.
+// Appends an event, or leaves the others as they are when memory runs out.
 fn push(kept: &mut Vec<Kept>, event: Kept) -> Result<(), Memory>
-    ensures ok { OnOk result (kept_events kept.new.items ≡ kept_events kept.old.items ++ kept_event event ∷ []) }
-    ensures err { OnErr result (kept_events kept.new.items ≡ kept_events kept.old.items) }
+    ensures ok { OnOk result (events_in kept.new ≡ events_in kept.old ++ kept_event event ∷ []) }
+    ensures err { OnErr result (events_in kept.new ≡ events_in kept.old) }
 {
     kept.push(event)?;
     Ok(())

@@ -4,13 +4,13 @@ ghost use Rattle.tpl_exec.specs.OpenCalls.{open_calls};
 
 use crate::element::{element_at, has_elements};
 use crate::fault::fault;
-use crate::frame::{Frame, OpenCall, OpenLoop, OpenPart, Turn};
+use crate::frame::{Frame, OpenCall, OpenLoop, OpenPart, Turn, boxed, unboxed};
 use crate::node::{Body, Node, body_named, first_of, node_at};
-use crate::pipe::evaluate;
-use crate::scope::{assign, count, cut, declare, push, root_variable};
+use crate::pipe::{evaluate, is_dot};
+use crate::scope::{assign, count, cut, declare, declare_index, push, root_variable};
 use crate::sight::{Sight, Stored, Variable};
 use crate::stack::Stack;
-use crate::steps::counted;
+use crate::steps::{MAX_STEPS, counted};
 use crate::stop::ExecStop;
 use crate::stored::{copy_of, datum_of, stored};
 use crate::told::{Advance, Event, Told};
@@ -42,18 +42,17 @@ pub(crate) struct Machine<'d> {
 }
 
 impl<'d> Machine<'d> {
-    ghost use Rattle.std.specs.Prelude.{◌≡◌, ◌<◌, [], IfOk, Ok};
-    ghost use Rattle.page_datum.specs.View.{view};
-    ghost use Rattle.tpl_exec.specs.Machine.{advance as advance_of, behind_control as behind_control_of, broken_out as broken_out_of, call_advance as call_advance_of, continued_out as continued_out_of, fallen as fallen_of, if_advance as if_advance_of, moves, next_turn as next_turn_of, node_advance as node_advance_of, opened as opened_of, range_advance as range_advance_of, started, tells, with_advance as with_advance_of};
-    ghost use Rattle.tpl_exec.specs.MachineView.{Advances, Evaluates, body_nodes, call_view, dot_view, event_view, loop_left, loop_view, machine_view, spot_at};
-    ghost use Rattle.tpl_exec.specs.Meaning.{argument as argument_of, declared, elements, evaluated as evaluated_of};
-    ghost use Rattle.tpl_exec.specs.Runs.{given};
-    ghost use Rattle.tpl_exec.specs.Sights.{stored_view};
-    ghost use Rattle.tpl_value.specs.Truth.{truth_of};
+    ghost use Rattle.std.specs.Prelude.{◌≡◌, ◌<◌, IfOk, Ok};
+    ghost use Rattle.tpl_exec.specs.MachineCalls.{break_of, call_left, continue_of, control_left};
+    ghost use Rattle.tpl_exec.specs.MachineCalls.{end_of, if_of, loop_left_by, node_of};
+    ghost use Rattle.tpl_exec.specs.MachineCalls.{part_left, part_of, start_of};
+    ghost use Rattle.tpl_exec.specs.MachineCalls.{told_of, turn_of, GivesArgument, GivesPipe};
+    ghost use Rattle.tpl_exec.specs.MachineCalls.{IsCall, IsRange, IsWith};
+    ghost use Rattle.tpl_exec.specs.MachineView.{IsAdvance, machine_view, next_advance};
 
     // Behind a control.
     fn behind_control(&mut self, dot: Option<Stored<'d>>, next: Option<u32>, count: usize)
-        ensures { machine_view self.new ≡ behind_control_of (machine_view self.old) (dot_view dot.entry) (spot_at (body_nodes self.old.body) next) count (machine_view self.old).frames }
+        ensures { machine_view self.new ≡ control_left self.old dot.entry next count }
     {
         if let Some(dot) = dot {
             self.dot = dot;
@@ -62,10 +61,32 @@ impl<'d> Machine<'d> {
         cut(&mut self.variables, count);
     }
 
+    // Behind a part of a control, with what is next there.
+    fn behind_part(&mut self, part: OpenPart<'d>, next: Option<u32>)
+        ensures { machine_view self.new ≡ part_left self.old part.entry next }
+    {
+        let OpenPart { dot, count, .. } = part;
+        let dot = unboxed(dot);
+        self.behind_control(dot, next, count);
+    }
+
+    // Behind a loop.
+    fn behind_loop(&mut self, inner: Box<OpenLoop<'d>>)
+        ensures { machine_view self.new ≡ loop_left_by self.old inner.entry.value }
+    {
+        let OpenLoop {
+            dot,
+            next,
+            count,
+            ..
+        } = Box::into_inner(inner);
+        self.behind_control(Some(dot), next, count);
+    }
+
     // Behind a call that was taken off what is open.
     fn behind_call(&mut self, call: OpenCall<'d>) -> Advance<'d>
         requires { self.now.calls + open_calls self.now.frames < max_calls }
-        ensures { Advances (fallen_of (machine_view self.old) (call_view call.entry self.old.frames)) (Ok result) (machine_view self.new) }
+        ensures { IsAdvance (call_left self.old call.entry) (Ok result) self.new }
     {
         self.body = call.body;
         self.node = call.next;
@@ -80,96 +101,96 @@ impl<'d> Machine<'d> {
     }
 
     // One more turn of a loop that was taken off what is open, or what follows it.
-    fn next_turn(&mut self, alloc: Global, inner: OpenLoop<'d>) -> Result<Advance<'d>, ExecStop>
-        ensures { Advances (next_turn_of (machine_view self.old) (stored_view inner.entry.dot) (loop_view (body_nodes self.old.body) inner.entry) (loop_left inner.entry) (spot_at (body_nodes self.old.body) inner.entry.next) inner.entry.count (machine_view self.old).frames) result (machine_view self.new) }
+    #[inline(always)]
+    fn next_turn(
+        &mut self,
+        alloc: Global,
+        inner: Box<OpenLoop<'d>>,
+    ) -> Result<Advance<'d>, ExecStop>
+        ensures { IsAdvance (turn_of self.old inner.entry.value) result self.new }
     {
-        let OpenLoop {
-            dot,
-            turn,
-            source,
-            at,
-            next,
-            count,
-        } = inner;
-        let element = match element_at(alloc, &source, at)? {
+        let mut inner = inner;
+        let element = match element_at(alloc, &inner.source, inner.at)? {
             Some(element) => element,
             None => {
-                self.behind_control(Some(dot), next, count);
+                self.behind_loop(inner);
                 return Ok(Advance::Moves);
             }
         };
         let steps = match counted(1, self.steps) {
             Ok(steps) => steps,
-            Err(kind) => return Err(fault(alloc, self.body.name, turn.line, kind)),
+            Err(kind) => return Err(fault(alloc, self.body.name, inner.turn.line, kind)),
         };
-        cut(&mut self.variables, count);
-        declare(alloc, &mut self.variables, turn.index, &element.index)?;
-        declare(alloc, &mut self.variables, turn.element, &element.value)?;
-        self.node = turn.first;
+        cut(&mut self.variables, inner.count);
+        declare_index(alloc, &mut self.variables, inner.turn.index, element.index)?;
+        declare(
+            alloc,
+            &mut self.variables,
+            inner.turn.element,
+            &element.value,
+        )?;
+        self.node = inner.turn.first;
         self.dot = element.value;
         self.steps = steps;
-        self.frames.push(Frame::Loop(OpenLoop {
-            dot,
-            turn,
-            source,
-            at: at + 1,
-            next,
-            count,
-        }))?;
+        inner.at += 1;
+        self.frames.push(Frame::Loop(inner))?;
         Ok(Advance::Moves)
     }
 
     // No node is next: the innermost open thing ends, or a loop has its next turn.
-    fn fallen(&mut self, alloc: Global) -> Result<Advance<'d>, ExecStop>
-        ensures { Advances (fallen_of (machine_view self.old) (machine_view self.old).frames) result (machine_view self.new) }
+    #[inline(always)]
+    fn ended(&mut self, alloc: Global) -> Result<Advance<'d>, ExecStop>
+        ensures { IsAdvance (end_of self.old) result self.new }
     {
         match self.frames.pop() {
             None => Ok(Advance::Halts),
             Some(Frame::Part(part)) => {
-                self.behind_control(part.dot, part.next, part.count);
+                let next = part.next;
+                self.behind_part(part, next);
                 Ok(Advance::Moves)
             }
             Some(Frame::Loop(inner)) => self.next_turn(alloc, inner),
-            Some(Frame::Call(call)) => Ok(self.behind_call(call)),
+            Some(Frame::Call(call)) => Ok(self.behind_call(Box::into_inner(call))),
         }
     }
 
     // A `break` ends the innermost loop of this call.
     fn broken_out(&mut self) -> Result<Advance<'d>, ExecStop>
-        ensures { Advances (broken_out_of (machine_view self.old) (machine_view self.old).frames) result (machine_view self.new) }
+        ensures { IsAdvance (break_of self.old) result self.new }
     {
         loop {
             match self.frames.pop() {
                 None => return Ok(Advance::Halts),
-                Some(Frame::Part(part)) => self.behind_control(part.dot, None, part.count),
+                Some(Frame::Part(part)) => self.behind_part(part, None),
                 Some(Frame::Loop(inner)) => {
-                    self.behind_control(Some(inner.dot), inner.next, inner.count);
+                    self.behind_loop(inner);
                     return Ok(Advance::Moves);
                 }
-                Some(Frame::Call(call)) => return Ok(self.behind_call(call)),
+                Some(Frame::Call(call)) => return Ok(self.behind_call(Box::into_inner(call))),
             }
         }
     }
 
     // A `continue` ends the turn of the innermost loop of this call.
     fn continued_out(&mut self) -> Result<Advance<'d>, ExecStop>
-        ensures { Advances (continued_out_of (machine_view self.old) (machine_view self.old).frames) result (machine_view self.new) }
+        ensures { IsAdvance (continue_of self.old) result self.new }
     {
         loop {
             match self.frames.pop() {
                 None => return Ok(Advance::Halts),
-                Some(Frame::Part(part)) => self.behind_control(part.dot, None, part.count),
+                Some(Frame::Part(part)) => self.behind_part(part, None),
                 Some(Frame::Loop(inner)) => {
                     self.node = None;
                     self.frames.push(Frame::Loop(inner))?;
                     return Ok(Advance::Moves);
                 }
-                Some(Frame::Call(call)) => return Ok(self.behind_call(call)),
+                Some(Frame::Call(call)) => return Ok(self.behind_call(Box::into_inner(call))),
             }
         }
     }
 
-    // The value of a pipe of a node on a line, and the steps up to there.
+    // The value of a pipe of a node on a line, and the steps up to there. Dot alone is given without evaluating anything.
+    #[inline(always)]
     fn evaluated(
         &self,
         alloc: Global,
@@ -177,7 +198,26 @@ impl<'d> Machine<'d> {
         pipe: &Pipe,
         steps: u64,
     ) -> Result<(Stored<'d>, u64), ExecStop>
-        ensures { Evaluates (machine_view self.now).site line (evaluated_of (machine_view self.now).site pipe.now (record { variables = (machine_view self.now).state.variables; steps = steps })) result }
+        ensures { GivesPipe self.now line pipe.now steps result }
+    {
+        if steps < MAX_STEPS && is_dot(pipe) {
+            if let Stored::Data(datum) = &self.dot {
+                return Ok((Stored::Data(datum), steps + 1));
+            }
+        }
+        self.pipe_evaluated(alloc, line, pipe, steps)
+    }
+
+    // The same, of any pipe.
+    #[inline(never)]
+    fn pipe_evaluated(
+        &self,
+        alloc: Global,
+        line: u32,
+        pipe: &Pipe,
+        steps: u64,
+    ) -> Result<(Stored<'d>, u64), ExecStop>
+        ensures { GivesPipe self.now line pipe.now steps result }
     {
         let sight = Sight {
             dot: &self.dot,
@@ -198,7 +238,7 @@ impl<'d> Machine<'d> {
         pipe: &Option<Pipe>,
         steps: u64,
     ) -> Result<(Stored<'d>, u64), ExecStop>
-        ensures { Evaluates (machine_view self.now).site line (argument_of (machine_view self.now).site pipe.now (record { variables = (machine_view self.now).state.variables; steps = steps })) result }
+        ensures { GivesArgument self.now line pipe.now steps result }
     {
         match pipe {
             Some(pipe) => self.evaluated(alloc, line, pipe, steps),
@@ -208,7 +248,7 @@ impl<'d> Machine<'d> {
 
     // An event of a node of this body.
     fn told(&self, line: u32, event: Event<'d>) -> Advance<'d>
-        ensures { Advances (tells (given (machine_view self.now).site line (event_view event.entry)) (machine_view self.now)) (Ok result) (machine_view self.now) }
+        ensures { IsAdvance (told_of self.now line event.entry) (Ok result) self.now }
     {
         Advance::Tells(Told {
             event,
@@ -217,15 +257,15 @@ impl<'d> Machine<'d> {
         })
     }
 
-    // In a part of a control, behind which so many variables remain.
+    // In a part of a control, after which so many variables remain.
     fn opened(
         &mut self,
-        outer: Option<Stored<'d>>,
+        outer: Option<Box<Stored<'d>>>,
         part: Option<u32>,
         next: Option<u32>,
         count: usize,
     ) -> Result<Advance<'d>, ExecStop>
-        ensures { Advances (moves (opened_of (machine_view self.old) (machine_view self.old).site.dot (dot_view outer.entry) (spot_at (body_nodes self.old.body) part) (spot_at (body_nodes self.old.body) next) count (machine_view self.old).state)) result (machine_view self.new) }
+        ensures { IsAdvance (part_of self.old outer.entry part next count) result self.new }
     {
         self.node = part;
         self.frames.push(Frame::Part(OpenPart {
@@ -245,7 +285,7 @@ impl<'d> Machine<'d> {
         value: Stored<'d>,
         steps: u64,
     ) -> Result<Advance<'d>, ExecStop>
-        ensures { Advances (moves (if_advance_of (machine_view self.old) (truth_of (stored_view value.entry)) (spot_at (body_nodes self.old.body) node.entry.first) (spot_at (body_nodes self.old.body) node.entry.other) (spot_at (body_nodes self.old.body) node.entry.next) (record { variables = declared name.now (stored_view value.entry) (machine_view self.old).state.variables; steps = steps }))) result (machine_view self.new) }
+        ensures { IsAdvance (if_of self.old node.entry name.now value.entry steps) result self.new }
     {
         self.steps = steps;
         let count = count(self.variables.as_slice());
@@ -265,14 +305,14 @@ impl<'d> Machine<'d> {
         value: Stored<'d>,
         steps: u64,
     ) -> Result<Advance<'d>, ExecStop>
-        ensures { Advances (moves (with_advance_of (machine_view self.old) (truth_of (stored_view value.entry)) (stored_view value.entry) (spot_at (body_nodes self.old.body) node.entry.first) (spot_at (body_nodes self.old.body) node.entry.other) (spot_at (body_nodes self.old.body) node.entry.next) (record { variables = declared name.now (stored_view value.entry) (machine_view self.old).state.variables; steps = steps }))) result (machine_view self.new) }
+        ensures { IsWith self.old node.entry name.now value.entry steps result self.new }
     {
         self.steps = steps;
         let count = count(self.variables.as_slice());
         declare(alloc, &mut self.variables, name, &value)?;
         if truth(datum_of(&value)) {
             let outer = std::mem::replace(&mut self.dot, value);
-            return self.opened(Some(outer), node.first, node.next, count);
+            return self.opened(Some(boxed(alloc, outer)?), node.first, node.next, count);
         }
         self.opened(None, node.other, node.next, count)
     }
@@ -286,7 +326,7 @@ impl<'d> Machine<'d> {
         source: Stored<'d>,
         steps: u64,
     ) -> Result<Advance<'d>, ExecStop>
-        ensures { Advances (range_advance_of (machine_view self.old) (record { line = turn.entry.line; index = turn.entry.index.now; element = turn.entry.element.now; first = spot_at (body_nodes self.old.body) turn.entry.first; left = [] }) (elements (stored_view source.entry)) (spot_at (body_nodes self.old.body) node.entry.other) (spot_at (body_nodes self.old.body) node.entry.next) (record { variables = (machine_view self.old).state.variables; steps = steps })) result (machine_view self.new) }
+        ensures { IsRange self.old node.entry turn.entry source.entry steps result self.new }
     {
         self.steps = steps;
         let count = count(self.variables.as_slice());
@@ -296,14 +336,15 @@ impl<'d> Machine<'d> {
             Some(true) => {
                 let dot = copy_of(alloc, &self.dot)?;
                 self.node = None;
-                self.frames.push(Frame::Loop(OpenLoop {
+                let inner = OpenLoop {
                     dot,
                     turn,
                     source,
                     at: 0,
                     next: node.next,
                     count,
-                }))?;
+                };
+                self.frames.push(Frame::Loop(boxed(alloc, inner)?))?;
                 Ok(Advance::Moves)
             }
         }
@@ -319,7 +360,7 @@ impl<'d> Machine<'d> {
         value: Stored<'d>,
         steps: u64,
     ) -> Result<Advance<'d>, ExecStop>
-        ensures { Advances (call_advance_of forest.now (machine_view self.old) (machine_view self.old).calls node.entry.number node.entry.line name.now (stored_view value.entry) (spot_at (body_nodes self.old.body) node.entry.next) steps) result (machine_view self.new) }
+        ensures { IsCall forest.now self.old node.entry name.now value.entry steps result self.new }
     {
         if self.calls == 0 {
             return Err(fault(alloc, self.body.name, node.line, FaultKind::Depth));
@@ -327,13 +368,14 @@ impl<'d> Machine<'d> {
         let variables = root_variable(alloc, copy_of(alloc, &value)?)?;
         let caller = self.body;
         self.calls -= 1;
-        self.frames.push(Frame::Call(OpenCall {
+        let call = OpenCall {
             body: caller,
             dot: std::mem::replace(&mut self.dot, value),
             line: node.line,
             next: node.next,
             variables: std::mem::replace(&mut self.variables, variables),
-        }))?;
+        };
+        self.frames.push(Frame::Call(boxed(alloc, call)?))?;
         self.body = body_named(forest, name);
         self.node = first_of(self.body);
         self.steps = steps;
@@ -345,6 +387,7 @@ impl<'d> Machine<'d> {
     }
 
     // A node, given the steps with its own.
+    #[inline(always)]
     fn node_advance(
         &mut self,
         alloc: Global,
@@ -352,7 +395,7 @@ impl<'d> Machine<'d> {
         node: Node<'d>,
         steps: u64,
     ) -> Result<Advance<'d>, ExecStop>
-        ensures { Advances (node_advance_of forest.now (machine_view self.old) node.entry.number node.entry.line node.entry.kind.now (spot_at (body_nodes self.old.body) node.entry.first) (spot_at (body_nodes self.old.body) node.entry.other) (spot_at (body_nodes self.old.body) node.entry.next) (record { variables = (machine_view self.old).state.variables; steps = steps })) result (machine_view self.new) }
+        ensures { IsAdvance (node_of forest.now self.old node.entry steps) result self.new }
     {
         match node.kind {
             NodeKind::Text(_) => {
@@ -429,16 +472,17 @@ impl<'d> Machine<'d> {
 
     /// Executes the next node, or ends the innermost open thing where none is next. The errors are the faults of the template, and want
     /// of memory.
+    #[inline(always)]
     pub(crate) fn advance(
         &mut self,
         alloc: Global,
         forest: &'d Forest,
     ) -> Result<Advance<'d>, ExecStop>
-        ensures { Advances (advance_of forest.now (machine_view self.old)) result (machine_view self.new) }
+        ensures { IsAdvance (next_advance forest.now self.old) result self.new }
     {
         let node = match node_at(self.body, self.node) {
             Some(node) => node,
-            None => return self.fallen(alloc),
+            None => return self.ended(alloc),
         };
         match counted(1, self.steps) {
             Ok(steps) => self.node_advance(alloc, forest, node, steps),
@@ -446,14 +490,14 @@ impl<'d> Machine<'d> {
         }
     }
 
-    /// The machine before anything: a template by its name with a datum, which is dot and `$`. The error is want of memory.
+    /// The machine before anything: a template by its name with a datum, which is dot and `$`. The error is out of memory.
     pub(crate) fn start(
         alloc: Global,
         forest: &'d Forest,
         root: &'d str,
         datum: &'d Datum,
     ) -> Result<Machine<'d>, Memory>
-        ensures { IfOk result (λ m. machine_view m ≡ started forest.now max_calls root.now (view datum.now)) }
+        ensures { IfOk result (λ m. machine_view m ≡ start_of forest.now root.now datum.now) }
     {
         let body = body_named(forest, root);
         Ok(Machine {

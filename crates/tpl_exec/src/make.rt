@@ -1,6 +1,7 @@
-ghost use Rattle.std.specs.Prelude.{◌≡◌, Ok, IfOk};
+ghost use Rattle.std.specs.Prelude.{◌≡◌, IfOk};
 ghost use Rattle.tpl_format.specs.Answers.{datas};
-ghost use Rattle.tpl_exec.specs.Functions.{index_all as index_all_of, slice_all as slice_all_of, stretch_of, place_of, made, format_made, on_ok, or_null};
+ghost use Rattle.tpl_exec.specs.Functions.{index_all as index_all_of, slice_all as slice_all_of};
+ghost use Rattle.tpl_exec.specs.Functions.{stretch_of, place_of, made, format_made, found_or_null};
 ghost use Rattle.tpl_format.specs.Formats.{formatted_args};
 ghost use Rattle.tpl_format.specs.Prints.{printed_text};
 ghost use Rattle.tpl_exec.specs.Values.{Finds, values_view, value_view};
@@ -46,7 +47,7 @@ fn part_at<'d, 'v>(
     value: Value<'d, 'v>,
     key: &Datum,
 ) -> Result<Value<'d, 'v>, ValueStop>
-    ensures { Finds (on_ok (index_of (value_view value.entry) (view key.now)) (λ part. Ok (or_null part))) result }
+    ensures { Finds (found_or_null (index_of (value_view value.entry) (view key.now))) result }
 {
     match value {
         Value::Data(datum) => match index(datum, key) {

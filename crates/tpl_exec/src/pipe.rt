@@ -1,9 +1,15 @@
-ghost use Rattle.std.specs.Prelude.{◌≡◌, ◌++◌, None, IfOk};
+ghost use Rattle.std.specs.Prelude.{◌≡◌, None, IfOk, IfSome, IsTrue};
 ghost use Rattle.page_datum.specs.View.{view};
-ghost use Rattle.tpl_tree.specs.View.{base_view, command_view, operand_view, operands_view};
-ghost use Rattle.tpl_exec.specs.Evaluating.{base_value as base_value_of, command_value as command_value_of, deciding_value as deciding_value_of, decides as decides_of, dropped_value as dropped_value_of, function_value, has_one as has_one_of, is_escaper as is_escaper_of, is_lazy as is_lazy_of, operand_value as operand_value_of, operand_values as operand_values_of, pipe_value as pipe_value_of, with_piped as with_piped_of};
+ghost use Rattle.tpl_tree.specs.View.{base_view, operand_view, operands_view};
+ghost use Rattle.tpl_exec.specs.Evaluating.{base_value as base_value_of, decides as decides_of};
+ghost use Rattle.tpl_exec.specs.Evaluating.{has_one as has_one_of, is_escaper as is_escaper_of};
+ghost use Rattle.tpl_exec.specs.Evaluating.{is_lazy as is_lazy_of};
+ghost use Rattle.tpl_exec.specs.Evaluating.{operand_values as operand_values_of};
+ghost use Rattle.tpl_exec.specs.Evaluating.{dot_alone, pipe_value as pipe_value_of, IsAlone};
+ghost use Rattle.tpl_exec.specs.PipeCalls.{GivesCall, GivesCommand, GivesDeciding, GivesDropped};
+ghost use Rattle.tpl_exec.specs.PipeCalls.{GivesOperand, IsPipedTo};
 ghost use Rattle.tpl_exec.specs.Sights.{piped_view, sight_view};
-ghost use Rattle.tpl_exec.specs.Values.{Gives, GivesAll, values_view};
+ghost use Rattle.tpl_exec.specs.Values.{Gives, GivesAll};
 
 use crate::call::called;
 use crate::sight::{Sight, value_of};
@@ -16,10 +22,11 @@ use tpl_symbol::Func;
 use tpl_tree::{Base, Command, Operand, Operands, Pipe};
 use tpl_value::truth;
 
-/// What a pipe gives, and the steps up to there: one for each command but a `html` or `urlquery` with one argument, and one for each byte of a
-/// text that a function makes. The errors
-/// are the faults of its functions and fields, Budget, more than `MAX_STEPS` steps, and want of memory. (Go's `text/template`,
-/// "Pipelines", in a profile.)
+/// What a pipe gives, and the steps up to there: one for each command, and one for each byte of a text that a
+/// function makes. A `html` or `urlquery` with exactly one argument gives that argument: `html .a` is the one step of
+/// `.a`, which stands in its place, and in `.a | html` it costs none. So with the step of its node `{{html .a}}` is two
+/// steps, as `{{.a}}` and `{{.a | html}}` are. The errors are the faults of its functions and fields, Budget, more than
+/// `MAX_STEPS` steps, and out of memory. (Go's `text/template`, "Pipelines", in a profile.)
 pub fn evaluate<'d, 'v>(
     alloc: Global,
     sight: Sight<'d, 'v>,
@@ -28,7 +35,44 @@ pub fn evaluate<'d, 'v>(
 ) -> Result<(Value<'d, 'v>, u64), ValueStop>
     ensures { Gives (pipe_value_of (sight_view sight.entry) pipe.now.commands None steps) result }
 {
-    pipe_value(alloc, sight, pipe, steps)
+    match only_operand(pipe) {
+        Some(operand) => match counted(1, steps) {
+            Ok(steps) => operand_value(alloc, sight, operand, steps),
+            Err(kind) => Err(ValueStop::Fault(kind)),
+        },
+        None => pipe_value(alloc, sight, pipe, steps),
+    }
+}
+
+// The operand of a pipe that is one operand and nothing else.
+fn only_operand(pipe: &Pipe) -> Option<&Operand>
+    ensures { IfSome result (λ operand. IsAlone (operand_view operand.now) pipe.now.commands) }
+{
+    let commands = pipe.commands.as_slice();
+    if commands.len() != 1 {
+        return None;
+    }
+    match &commands[0] {
+        Command::Single(operand) => Some(operand),
+        Command::Call(_, _) => None,
+    }
+}
+
+/// Whether a pipe is dot alone. There may be others that give dot.
+pub(crate) fn is_dot(pipe: &Pipe) -> bool
+    ensures { IsTrue result → IsAlone dot_alone pipe.now.commands }
+{
+    let operand = match only_operand(pipe) {
+        Some(operand) => operand,
+        None => return false,
+    };
+    if operand.fields.as_slice().len() > 0 {
+        return false;
+    }
+    match &operand.base {
+        Base::Dot => true,
+        _ => false,
+    }
 }
 
 #[cycle(evaluate)]
@@ -66,7 +110,7 @@ fn command_value<'d, 'v>(
     piped: Option<Value<'d, 'v>>,
     steps: u64,
 ) -> Result<(Value<'d, 'v>, u64), ValueStop>
-    ensures { Gives (command_value_of (sight_view sight.entry) (command_view command.now) (piped_view piped.entry) steps) result }
+    ensures { GivesCommand sight.entry command.now piped.entry steps result }
 {
     match command {
         Command::Single(operand) => match counted(1, steps) {
@@ -94,7 +138,7 @@ fn dropped_value<'d, 'v>(
     piped: Option<Value<'d, 'v>>,
     steps: u64,
 ) -> Result<(Value<'d, 'v>, u64), ValueStop>
-    ensures { Gives (dropped_value_of (sight_view sight.entry) operands.now (piped_view piped.entry) steps) result }
+    ensures { GivesDropped sight.entry operands.now piped.entry steps result }
 {
     match (operands.as_slice(), piped) {
         ([operand, ..], _) => match counted(1, steps) {
@@ -116,9 +160,7 @@ fn call_value<'d, 'v>(
     piped: Option<Value<'d, 'v>>,
     steps: u64,
 ) -> Result<(Value<'d, 'v>, u64), ValueStop>
-    ensures { Gives (function_value func (piped_view piped.entry)
-        (deciding_value_of (sight_view sight.entry) func None operands.now (piped_view piped.entry) steps)
-        (operand_values_of (sight_view sight.entry) operands.now steps)) result }
+    ensures { GivesCall sight.entry func operands.now piped.entry steps result }
 {
     if is_lazy(func) {
         return deciding_value(alloc, sight, func, operands, piped, steps);
@@ -141,7 +183,7 @@ fn deciding_value<'d, 'v>(
     piped: Option<Value<'d, 'v>>,
     steps: u64,
 ) -> Result<(Value<'d, 'v>, u64), ValueStop>
-    ensures { Gives (deciding_value_of (sight_view sight.entry) func None operands.now (piped_view piped.entry) steps) result }
+    ensures { GivesDeciding sight.entry func operands.now piped.entry steps result }
 {
     let mut last = None;
     let mut steps = steps;
@@ -197,7 +239,7 @@ fn operand_value<'d, 'v>(
     operand: &Operand,
     steps: u64,
 ) -> Result<(Value<'d, 'v>, u64), ValueStop>
-    ensures { Gives (operand_value_of (sight_view sight.entry) (operand_view operand.now) steps) result }
+    ensures { GivesOperand sight.entry operand.now steps result }
 {
     match base_value(alloc, sight, &operand.base, steps) {
         Ok((value, steps)) => match fields_within(alloc, value, &operand.fields) {
@@ -236,7 +278,7 @@ fn with_piped<'d, 'v>(
     args: Vec<Value<'d, 'v>>,
     piped: Option<Value<'d, 'v>>,
 ) -> Result<Vec<Value<'d, 'v>>, Memory>
-    ensures { IfOk result (λ all. values_view all.items ≡ values_view args.entry.items ++ with_piped_of (piped_view piped.entry)) }
+    ensures { IfOk result (λ all. IsPipedTo args.entry piped.entry all) }
 {
     let mut args = args;
     match piped {

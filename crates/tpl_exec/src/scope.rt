@@ -1,8 +1,10 @@
-ghost use Rattle.std.specs.Prelude.{◌≡◌, ◌∷◌, [], length, IfOk, OnOk};
-ghost use Rattle.tpl_exec.specs.Meaning.{assigned, declared};
+ghost use Rattle.std.specs.Prelude.{◌≡◌, length, IfOk, OnOk};
+ghost use Rattle.tpl_exec.specs.Elements.{IsIndexed};
 ghost use Rattle.tpl_exec.specs.Runs.{cut as cut_of};
-ghost use Rattle.tpl_exec.specs.Sights.{stored_view, variables_view};
+ghost use Rattle.tpl_exec.specs.Sights.{all_variables, root_variables, variables_view};
+ghost use Rattle.tpl_exec.specs.Sights.{IsAssigned, IsDeclared, IsPushed};
 
+use crate::element::{Index, index_datum};
 use crate::sight::{Stored, Variable};
 use crate::stored::copy_of;
 use page_io::{Memory, Text};
@@ -22,7 +24,7 @@ pub(crate) fn root_variable<'d>(
     alloc: Global,
     value: Stored<'d>,
 ) -> Result<Vec<Variable<'d>>, Memory>
-    ensures { IfOk result (λ variables. variables_view variables.items ≡ ([], stored_view value.entry) ∷ []) }
+    ensures { IfOk result (λ variables. all_variables variables ≡ root_variables value.entry) }
 {
     let mut variables = Vec::new(alloc);
     variables.push(Variable { name: "", value })?;
@@ -35,7 +37,7 @@ pub(crate) fn push<'d>(
     name: &'d str,
     value: Stored<'d>,
 ) -> Result<(), Memory>
-    ensures { OnOk result (variables_view variables.new.items ≡ (name.now, stored_view value.entry) ∷ variables_view variables.old.items) }
+    ensures { OnOk result (IsPushed name.now value.entry variables.old variables.new) }
 {
     variables.push(Variable { name, value })?;
     Ok(())
@@ -48,7 +50,7 @@ pub(crate) fn declare<'d>(
     name: &'d Option<Text>,
     value: &Stored<'d>,
 ) -> Result<(), Memory>
-    ensures { OnOk result (variables_view variables.new.items ≡ declared name.now (stored_view value.now) (variables_view variables.old.items)) }
+    ensures { OnOk result (IsDeclared name.now value.now variables.old variables.new) }
 {
     match name {
         Some(name) => push(variables, name.as_str(), copy_of(alloc, value)?),
@@ -56,9 +58,28 @@ pub(crate) fn declare<'d>(
     }
 }
 
+/// One variable more, where a range declares one for the index.
+pub(crate) fn declare_index<'d>(
+    alloc: Global,
+    variables: &mut Vec<Variable<'d>>,
+    name: &'d Option<Text>,
+    index: Index<'_>,
+) -> Result<(), Memory>
+    ensures { OnOk result (IsIndexed name.now index.entry variables.old variables.new) }
+{
+    match name {
+        Some(name) => push(
+            variables,
+            name.as_str(),
+            Stored::Made(index_datum(alloc, index)?),
+        ),
+        None => Ok(()),
+    }
+}
+
 /// Another value for the newest variable of a name.
 pub(crate) fn assign<'d>(variables: &mut Vec<Variable<'d>>, name: &'d str, value: Stored<'d>)
-    ensures { variables_view variables.new.items ≡ assigned name.now (stored_view value.entry) (variables_view variables.old.items) }
+    ensures { IsAssigned name.now value.entry variables.old variables.new }
 {
     let mut left = variables.len();
     while left > 0 {
@@ -72,7 +93,7 @@ pub(crate) fn assign<'d>(variables: &mut Vec<Variable<'d>>, name: &'d str, value
 
 /// Only the oldest variables, so many.
 pub(crate) fn cut(variables: &mut Vec<Variable<'_>>, count: usize)
-    ensures { variables_view variables.new.items ≡ cut_of count (variables_view variables.old.items) }
+    ensures { all_variables variables.new ≡ cut_of count (all_variables variables.old) }
 {
     variables.truncate(count);
 }

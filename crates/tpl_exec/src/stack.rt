@@ -29,7 +29,8 @@ impl<T> Stack<T> {
         }
     }
 
-    /// Puts a value on top. The error is want of memory, and then the stack is as it was.
+    /// Puts a value on top. The error is out of memory, and then the stack is as it was.
+    #[inline(always)]
     pub(crate) fn push(&mut self, value: T) -> Result<(), Memory>
     where
         T: Drop,

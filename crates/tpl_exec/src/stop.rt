@@ -8,7 +8,7 @@ pub enum ExecStop {
     Fault(ExecFault),
     /// What takes the page has failed.
     SinkStop,
-    /// Want of memory.
+    /// Out of memory.
     Memory,
 }
 

@@ -1,7 +1,7 @@
-ghost use Rattle.std.specs.Prelude.{◌≡◌, IfOk, Ok};
+ghost use Rattle.std.specs.Prelude.{◌≡◌, IfOk};
 ghost use Rattle.page_datum.specs.View.{view};
 ghost use Rattle.tpl_exec.specs.Values.{Finds, value_view};
-ghost use Rattle.tpl_exec.specs.Functions.{on_ok, or_null};
+ghost use Rattle.tpl_exec.specs.Functions.{found_or_null};
 ghost use Rattle.tpl_exec.specs.Evaluating.{within};
 ghost use Rattle.tpl_value.specs.Picking.{field_of};
 
@@ -45,13 +45,13 @@ impl<'d, 'v> Value<'d, 'v> {
     }
 }
 
-/// The value of a field of a value, null where a dictionary lacks it. The errors are those of `tpl_value::field`, and want of memory.
+/// The value of a field of a value, null where a dictionary lacks it. The errors are those of `tpl_value::field`, and out of memory.
 pub(crate) fn field_within<'d, 'v>(
     alloc: Global,
     value: Value<'d, 'v>,
     name: &str,
 ) -> Result<Value<'d, 'v>, ValueStop>
-    ensures { Finds (on_ok (field_of name.now (value_view value.entry)) (λ part. Ok (or_null part))) result }
+    ensures { Finds (found_or_null (field_of name.now (value_view value.entry))) result }
 {
     match value {
         Value::Data(datum) => match field(datum, name) {

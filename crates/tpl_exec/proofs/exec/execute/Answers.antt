@@ -1,15 +1,12 @@
-use Rattle.std.proofs.Common.{unwrap_or, []}
-use Rattle.page_datum.specs.View.{view}
-use Rattle.tpl_tree.specs.Forests.{name_at}
 use Rattle.tpl_exec.specs.MachineView.{machine_view}
-use Rattle.tpl_exec.specs.Meaning.{meaning}
+use Rattle.tpl_exec.specs.Executing.{run_of}
 use Rattle.tpl_exec.proofs.Executions.{came_nearer, may_step, stays_bounded, was_done, was_stopped, went_on}
 use Rattle.tpl_exec.proofs.exec.execute.Goals as goal
 
 pub step-requires : goal.step-requires
 step-requires g c =
     let forest = c.args.forest.now in
-    may_step g.K.HoleSink.may g.K.HoleSink.takes forest (meaning forest (unwrap_or (name_at forest c.args.root) []) (view c.args.datum.now)) c.args.sink.now c.loop-machine.sink (machine_view c.loop-machine.machine) c.loop-machine.invariant.reaches
+    may_step g.K.HoleSink.may g.K.HoleSink.takes forest (run_of forest c.args.root c.args.datum.now) c.args.sink.now c.loop-machine.sink (machine_view c.loop-machine.machine) c.loop-machine.invariant.reaches
 
 pub loop-machine-smaller : goal.loop-machine-smaller
 loop-machine-smaller g c =
@@ -23,18 +20,18 @@ loop-machine-preserved g c =
     let before = machine_view c.loop-machine.machine in
     let after = machine_view c.step.new.machine in
     record {
-      reaches = went_on g.K.HoleSink.may g.K.HoleSink.takes g.K.HoleSink.refuses forest (meaning forest (unwrap_or (name_at forest c.args.root) []) (view c.args.datum.now)) c.args.sink.now c.loop-machine.sink c.step.new.sink before after c.loop-machine.invariant.reaches stepped;
+      reaches = went_on g.K.HoleSink.may g.K.HoleSink.takes g.K.HoleSink.refuses forest (run_of forest c.args.root c.args.datum.now) c.args.sink.now c.loop-machine.sink c.step.new.sink before after c.loop-machine.invariant.reaches stepped;
       steps = stays_bounded g.K.HoleSink.takes g.K.HoleSink.refuses forest c.loop-machine.sink c.step.new.sink before after c.loop-machine.invariant.steps stepped;
     }
 
 pub returns-in-Ok-false : goal.returns-in-Ok-false
 returns-in-Ok-false g c =
     let forest = c.args.forest.now in
-    rw c.steps.ensures (was_done g.K.HoleSink.may g.K.HoleSink.takes g.K.HoleSink.refuses forest (meaning forest (unwrap_or (name_at forest c.args.root) []) (view c.args.datum.now)) c.args.sink.now c.loop-machine.sink c.step.new.sink
+    rw c.steps.ensures (was_done g.K.HoleSink.may g.K.HoleSink.takes g.K.HoleSink.refuses forest (run_of forest c.args.root c.args.datum.now) c.args.sink.now c.loop-machine.sink c.step.new.sink
     (machine_view c.loop-machine.machine) (machine_view c.step.new.machine) c.loop-machine.invariant.reaches (rw c.in-Ok-false.field-0-test at c.in-Ok-false.ensures))
 
 pub returns-in-Err-step : goal.returns-in-Err-step
 returns-in-Err-step g c =
     let forest = c.args.forest.now in
-    was_stopped g.K.HoleSink.may g.K.HoleSink.takes g.K.HoleSink.refuses forest (meaning forest (unwrap_or (name_at forest c.args.root) []) (view c.args.datum.now)) c.args.sink.now c.loop-machine.sink c.step.new.sink
+    was_stopped g.K.HoleSink.may g.K.HoleSink.takes g.K.HoleSink.refuses forest (run_of forest c.args.root c.args.datum.now) c.args.sink.now c.loop-machine.sink c.step.new.sink
     (machine_view c.loop-machine.machine) (machine_view c.step.new.machine) c.in-Err-step.stop c.loop-machine.invariant.reaches c.in-Err-step.ensures

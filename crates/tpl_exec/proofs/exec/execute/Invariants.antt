@@ -1,17 +1,15 @@
-use Rattle.std.proofs.Common.{◌≤◌, unwrap_or, []}
-use Rattle.page_datum.specs.View.{view}
-use Rattle.tpl_tree.specs.Forests.{name_at}
+use Rattle.std.proofs.Common.{◌≤◌}
 use Rattle.tpl_exec.specs.Functions.{max_steps}
 use Rattle.tpl_exec.specs.Machine.{machine_run}
 use Rattle.tpl_exec.specs.MachineView.{machine_view}
-use Rattle.tpl_exec.specs.Meaning.{meaning}
+use Rattle.tpl_exec.specs.Executing.{run_of}
 use Rattle.tpl_exec.proofs.MachineShrinks.{weight}
 use Rattle.tpl_exec.proofs.Reaching.{Reaches}
 use Rattle.tpl_exec.proofs.exec.execute.Given as goal
 
 abbrev pub invariant-loop-machine : goal.invariant-loop-machine
 invariant-loop-machine g l = record {
-  reaches : Reaches g.K.HoleSink.may g.K.HoleSink.takes (meaning l.forest (unwrap_or (name_at l.forest l.root) []) (view l.datum)) l.fn.sink l.sink (machine_run l.forest (machine_view l.machine));
+  reaches : Reaches g.K.HoleSink.may g.K.HoleSink.takes (run_of l.forest l.root l.datum) l.fn.sink l.sink (machine_run l.forest (machine_view l.machine));
   steps : (machine_view l.machine).state.steps ≤ max_steps;
 }
 

@@ -1,6 +1,7 @@
 use Rattle.std.proofs.Common.{◌≡◌, suc, List, ◌∷◌, length, ap, sym, ◌∙◌, arith}
 use Rattle.tpl_exec.specs.Machine.{Machine, continued_out, leaving}
-use Rattle.tpl_exec.specs.MachineView.{body_nodes, dot_view, frames_view, machine_view}
+use Rattle.tpl_exec.specs.MachineView.{body_nodes, frames_view, machine_view}
+use Rattle.tpl_exec.specs.Sights.{outer_view}
 use Rattle.tpl_exec.specs.declared.frame.Frame.{Frame}
 use Rattle.tpl_exec.specs.declared.frame.Frame.TheVariants as frame
 use Rattle.tpl_exec.proofs.Leaving.{continued_behind}
@@ -11,7 +12,7 @@ loop-part-smaller c =
     let l = c.loop-part in
     let nodes = body_nodes l.self.body in
     let popped : l.self.frames ≡ frame.Part c.in-Some-Part.part ∷ c.pop.new.self = c.in-Some-Part.ensures ∙ ap (λ (f : Frame). f ∷ c.pop.new.self) c.in-Some-Part.field-0-is in
-    let now : length (machine_view c.behind_control.new.self).frames ≡ length (frames_view nodes c.pop.new.self) = ap (λ (v : Machine). length v.frames) c.behind_control.ensures in
+    let now : length (machine_view c.behind_part.new.self).frames ≡ length (frames_view nodes c.pop.new.self) = ap (λ (v : Machine). length v.frames) c.behind_part.ensures in
     let before : length (frames_view nodes l.self.frames) ≡ suc (length (frames_view nodes c.pop.new.self)) = ap (λ (fs : List Frame). length (frames_view nodes fs)) popped in
     omega (arith, now, before)
 
@@ -20,9 +21,9 @@ loop-part-preserved c =
     let l = c.loop-part in
     let nodes = body_nodes l.self.body in
     let popped : l.self.frames ≡ frame.Part c.in-Some-Part.part ∷ c.pop.new.self = c.in-Some-Part.ensures ∙ ap (λ (f : Frame). f ∷ c.pop.new.self) c.in-Some-Part.field-0-is in
-    let step : continued_out (machine_view l.self) (frames_view nodes l.self.frames) ≡ continued_out (leaving (machine_view l.self) (dot_view c.in-Some-Part.part.dot) c.in-Some-Part.part.count) (frames_view nodes c.pop.new.self)
+    let step : continued_out (machine_view l.self) (frames_view nodes l.self.frames) ≡ continued_out (leaving (machine_view l.self) (outer_view c.in-Some-Part.part.dot) c.in-Some-Part.part.count) (frames_view nodes c.pop.new.self)
     = ap (λ (fs : List Frame). continued_out (machine_view l.self) (frames_view nodes fs)) popped in
-    ap (λ (v : Machine). continued_out v v.frames) c.behind_control.ensures
-    ∙ sym (continued_behind (machine_view l.self) (dot_view c.in-Some-Part.part.dot) c.in-Some-Part.part.count (frames_view nodes c.pop.new.self) (frames_view nodes c.pop.new.self))
+    ap (λ (v : Machine). continued_out v v.frames) c.behind_part.ensures
+    ∙ sym (continued_behind (machine_view l.self) (outer_view c.in-Some-Part.part.dot) c.in-Some-Part.part.count (frames_view nodes c.pop.new.self) (frames_view nodes c.pop.new.self))
     ∙ sym step
     ∙ l.invariant
