@@ -68,7 +68,7 @@ write_leads : (n : Nest) (o : Opening) (q : PipeData) (end : ℕ) (symbols ends 
 write_leads n o q end symbols ends rest h c = ended_leads n o purpose.Write q end ends rest (run (state n (mode.Inside o head.Start)) symbols) c
     (λ c more e k. start_out n o symbols q c more (pipe_read n.variables n.room q symbols more c (subst (IsPipe n.variables n.room q symbols) e h) k))
 
--- a pipe behind a control's word
+-- a pipe after a control's word
 behind_leads : (n : Nest) (o : Opening) (b : Before) (q : PipeData) (end : ℕ) (symbols ends rest : List Symbol) → IsPipe n.variables (room_in b n.room) q symbols ends → Stands (kind.Close end) ends rest
     → run (state n (mode.Inside o (head.Behind b))) symbols ≡ run (state (piped_nest (plain b) (record { commands = q }) o.line end n) mode.Outside) rest
 behind_leads n o b q end symbols ends rest h c = ended_leads n o (plain b) q end ends rest (run (state n (mode.Inside o (head.Behind b))) symbols) c
@@ -80,7 +80,7 @@ pub in_pipe_leads : (n : Nest) (o : Opening) (p : Purpose) (room : ℕ) (q : Pip
 in_pipe_leads n o p room q end symbols ends rest h c = ended_leads n o p q end ends rest (run (state n (mode.Inside o (head.Pipe p (start_of room)))) symbols) c
     (λ c more e k. pipe_out n o p symbols (start_of room) q c more (pipe_read n.variables room q symbols more c (subst (IsPipe n.variables room q symbols) e h) k))
 
--- `$x :=` behind a control's word
+-- `$x :=` after a control's word
 declares_lead : (n : Nest) (o : Opening) (b : Before) (x : List ℕ) (symbols rest : List Symbol) → Declares x symbols rest
     → run (state n (mode.Inside o (head.Behind b))) symbols ≡ run (state n (mode.Inside o (head.Pipe (declaring b x) (start_of (room_in b n.room))))) rest
 declares_lead n o b x symbols rest h =
@@ -88,7 +88,7 @@ declares_lead n o b x symbols rest h =
     let marked = turns_to n o (head.Named b x named.0.line) kind.Declare (λ s. head.Pipe (declaring b x) (start_of (room_in b n.room))) h.0 rest h.2 refl (λ s. refl) (λ s k. rw k refl) in
     named.1 ∙ marked.1
 
--- the same behind `{{`
+-- the same after `{{`
 start_declares : (n : Nest) (o : Opening) (x : List ℕ) (symbols rest : List Symbol) → Declares x symbols rest
     → run (state n (mode.Inside o head.Start)) symbols ≡ run (state n (mode.Inside o (head.Pipe (purpose.Declare x) (start_of n.room)))) rest
 start_declares n o x symbols rest h =
@@ -153,7 +153,7 @@ action_leads n o (node_kind.If _ _) end symbols ends rest h c = absurd h
 action_leads n o (node_kind.With _ _) end symbols ends rest h c = absurd h
 action_leads n o (node_kind.Range _ _ _) end symbols ends rest h c = absurd h
 
--- what a pipe is for behind this and a variable, or none
+-- what a pipe is for after this and a variable, or none
 abbrev pub naming : Before → Option (List ℕ) → Purpose
 naming b None = plain b
 naming b (Some x) = declaring b x
@@ -217,7 +217,7 @@ control_leads n o (control.Range i e) q end symbols ends rest room h c =
     let word = turns_to n o head.Start (kind.Word word.Range) (λ s. head.Behind before.Range) symbols h.0 h.2 refl (λ s. refl) (λ s k. rw (k, room) refl) in
     word.1 ∙ are_named_lead n o i e q end h.0 h.1 ends rest h.3 h.4 c
 
--- an `if` behind `else`
+-- an `if` after `else`
 pub else_if_leads : (n : Nest) (o : Opening) (c : Control) (q : PipeData) (end : ℕ) (symbols ends rest : List Symbol) → ends_if n.frames ≡ true → (n.room == 0) ≡ false → IsIf c
     → IsControl n.variables (n.room - 1) c q symbols ends → Stands (kind.Close end) ends rest
     → run (state n (mode.Inside o head.Else)) symbols ≡ run (state (piped_nest (purpose.Control c true) (record { commands = q }) o.line end n) mode.Outside) rest

@@ -45,7 +45,7 @@ PipeSaid n p room d symbols mid = (q : Pipe) × IsPipe n.variables room q.comman
 pipe_said : (n : Nest) (p : Purpose) (room : ℕ) (d : Deed) (symbols mid : List Symbol) → PipeRest n p (start_of room) d symbols mid → PipeSaid n p room d symbols mid
 pipe_said n p room d symbols mid h = (h.0, (pipe_stands n.variables room h.0.commands symbols mid h.1).0, h.2)
 
--- behind `range $i, $e`, and behind `range $i,`
+-- after `range $i, $e`, and after `range $i,`
 abbrev pub LastRest : Nest → List ℕ → List ℕ → Deed → List Symbol → List Symbol → Type 0
 LastRest n i e d symbols mid =
     (pipe : List Symbol) × Stands kind.Declare symbols pipe × PipeSaid n (purpose.Control (control.Range (Some i) (Some e)) false) (n.room - 1) d pipe mid
@@ -53,7 +53,7 @@ LastRest n i e d symbols mid =
 abbrev pub SecondRest : Nest → List ℕ → Deed → List Symbol → List Symbol → Type 0
 SecondRest n i d symbols mid = (e : List ℕ) × (behind : List Symbol) × Stands (kind.Variable e) symbols behind × LastRest n i e d behind mid
 
--- behind a variable that may be declared
+-- after a variable that may be declared
 abbrev pub NamedRest : Nest → Before → List ℕ → Deed → List Symbol → List Symbol → Type 0
 NamedRest n b x d symbols mid =
     ((declared n.variables x ≡ true) × PipeRest n (plain b) (variable_place (room_in b n.room) x) d symbols mid)
@@ -61,20 +61,20 @@ NamedRest n b x d symbols mid =
     ⊎ (((pipe : List Symbol) × (b ≡ before.Action) × (declared n.variables x ≡ true) × Stands kind.Assign symbols pipe × PipeSaid n (purpose.Assign x) n.room d pipe mid)
     ⊎ ((behind : List Symbol) × (b ≡ before.Range) × Stands kind.Comma symbols behind × SecondRest n x d behind mid)))
 
--- behind `{{`, or behind a control's word
+-- after `{{`, or after a control's word
 abbrev pub BehindRest : Nest → Before → Deed → List Symbol → List Symbol → Type 0
 BehindRest n b d symbols mid =
     ((x : List ℕ) × (behind : List Symbol) × Stands (kind.Variable x) symbols behind × NamedRest n b x d behind mid)
     ⊎ PipeSaid n (plain b) (room_in b n.room) d symbols mid
 
--- behind `template "n"`
+-- after `template "n"`
 abbrev pub CallRest : Nest → List ℕ → Deed → List Symbol → List Symbol → Type 0
 CallRest n name d symbols mid = ((d ≡ deed.Call name) × (symbols ≡ mid)) ⊎ PipeSaid n (purpose.Template name) n.room d symbols mid
 
 abbrev pub DefineRest : List ℕ → ℕ → Deed → List Symbol → List Symbol → Type 0
 DefineRest name line d symbols mid = (d ≡ deed.Define name line) × (symbols ≡ mid)
 
--- behind `else`
+-- after `else`
 abbrev pub ElseRest : Nest → Deed → List Symbol → List Symbol → Type 0
 ElseRest n d symbols mid =
     ((d ≡ deed.Else) × (symbols ≡ mid))
@@ -116,7 +116,7 @@ Begun n defines d symbols mid =
 Begun n blocks d symbols mid =
     (name : List ℕ) × (line : ℕ) × (named behind : List Symbol) × StandsOn (kind.Word word.Block) line symbols named × Stands (kind.Str name) named behind × PipeSaid n (purpose.Block name line) n.room d behind mid
 
--- behind `{{`, other than `else`
+-- after `{{`, other than `else`
 abbrev pub StartRest : Nest → Deed → List Symbol → List Symbol → Type 0
 StartRest n d symbols mid = (b : Beginning) × Begun n b d symbols mid
 
@@ -146,7 +146,7 @@ is_else _ = false
 name_behind : (name : List ℕ) (behind symbols mid : List Symbol) → Stands (kind.Str name) symbols behind → behind ≡ mid → Stands (kind.Str name) symbols mid
 name_behind name behind symbols mid h e = subst (Stands (kind.Str name) symbols) e h
 
--- what is left behind a symbol is left before it, if it leads there
+-- what is left after a symbol is left before it, if it leads there
 abbrev pub Turned : Nest → Symbol → List Symbol → Turn → Says → Type 0
 Turned n s symbols (Ok h) R = is_else h ≡ false → (d : Deed) (mid : List Symbol) → Rests n h d symbols mid → R d (s ∷ symbols) mid
 Turned n s symbols (Err why) R = ⊤
@@ -493,7 +493,7 @@ ended_rest n (head.Define line) s symbols now c = tt
 ended_rest n (head.DefineNamed name line) s symbols now c = (refl, refl)
 ended_rest n (head.Block line) s symbols now c = tt
 
--- a pipe behind a word or `{{`, by its variables
+-- a pipe after a word or `{{`, by its variables
 pub data Naming : Type 0 where
   unnamed : Naming
   one : List ℕ → Naming

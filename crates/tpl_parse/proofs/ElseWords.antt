@@ -1,4 +1,4 @@
--- Only the word `else` behind `{{` leads behind `else`.
+-- Only the word `else` after `{{` leads after `else`.
 use Rattle.std.proofs.Common.{◌≡◌, ℕ, ◌==◌, Bool, true, false, ◌||◌, List, [], ◌∷◌, Ok, Err, refl, sym, ◌∙◌, true≢false}
 use Rattle.tpl_token.proofs.Marks.{either}
 use Rattle.tpl_parse.proofs.ActionsSay.{is_else}
@@ -22,7 +22,7 @@ abbrev pub is_start : Head → Bool
 is_start head.Start = true
 is_start _ = false
 
--- behind `else`, or at the beginning of an action
+-- after `else`, or at the beginning of an action
 abbrev pub is_special : Head → Bool
 is_special h = is_else h || is_start h
 

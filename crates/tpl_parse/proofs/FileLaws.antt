@@ -17,7 +17,7 @@ use Rattle.tpl_parse.specs.declared.head.Head.{Head}
 use Rattle.tpl_parse.specs.declared.head.Mode.{Mode}
 use Rattle.tpl_parse.specs.declared.head.Mode.TheVariants as mode
 use Rattle.tpl_parse.specs.declared.head.Opening.{Opening}
-use Rattle.tpl_parse.specs.declared.head.State.{State}
+use Rattle.tpl_parse.specs.State.{State}
 use Rattle.tpl_parse.specs.declared.refused.FileRefused.{FileRefused}
 use Rattle.tpl_parse.specs.declared.refused.FileRefused.TheVariants as file_refused
 use Rattle.tpl_pipe.specs.declared.refused.ParseRefused.{ParseRefused}

@@ -26,7 +26,7 @@ use Rattle.tpl_parse.specs.declared.head.Head.TheVariants as head
 use Rattle.tpl_parse.specs.declared.head.Mode.{Mode}
 use Rattle.tpl_parse.specs.declared.head.Mode.TheVariants as mode
 use Rattle.tpl_parse.specs.declared.head.Opening.{Opening}
-use Rattle.tpl_parse.specs.declared.head.State.{State}
+use Rattle.tpl_parse.specs.State.{State}
 use Rattle.tpl_parse.specs.declared.nest.Nest.{Nest}
 use Rattle.tpl_pipe.specs.Grammar.{Stands}
 use Rattle.tpl_pipe.specs.Runs.{is_close}
@@ -35,7 +35,7 @@ use Rattle.tpl_symbol.specs.declared.symbol.SymbolKind.{SymbolKind}
 use Rattle.tpl_symbol.specs.declared.symbol.SymbolKind.TheVariants as kind
 use Rattle.tpl_symbol.specs.declared.word.Word.TheVariants as word
 
--- behind `{{`, the word `else` and what follows
+-- after `{{`, the word `else` and what follows
 abbrev pub ElseLeft : Nest → Opening → List Symbol → Nest → Type 0
 ElseLeft n o symbols final =
     (behind : List Symbol) × (line : ℕ) × Stands (kind.Word word.Else) symbols behind × (gives_else (else_word n.frames line) ≡ true) × ActionLeft (with_else n) o (ElseRest (with_else n)) behind final
@@ -207,7 +207,7 @@ same_entered (head.Define _) n e = refl
 same_entered (head.DefineNamed _ _) n e = refl
 same_entered (head.Block _) n e = refl
 
--- behind `else`
+-- after `else`
 says_else : (n : Nest) (o : Opening) (h : Head) (s : Symbol) (symbols : List Symbol) → Later symbols → FitsIn n → turn h n s ≡ Ok head.Else
     → Said n (mode.Inside o h) (s ∷ symbols) (run (state (with_else n) (mode.Inside o head.Else)) symbols)
 says_else n o head.Start s symbols later fits e =
@@ -246,7 +246,7 @@ refused_to why = Err why
 refused_turn : {why : Refusal} {next : Head} → refused_to why ≡ Ok next → ⊥
 refused_turn e = cc
 
--- the word `else` leads behind it
+-- the word `else` leads after it
 first_leads : {X : Type 0} (first : Option X) (line : ℕ) (next : Head) → has_first first line ≡ Ok next → next ≡ head.Else
 first_leads None line next e = cc
 first_leads (Some x) line next e = absurd (refused_turn e)

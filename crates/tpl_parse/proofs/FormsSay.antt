@@ -55,7 +55,7 @@ GoesOn None c frames n symbols K =
     × K (nest_of frames (append c.before (one_node (kind_of c.control c.pipe) c.line [] n.body (else_nodes later))) (take c.around.variables n.variables) c.around.in_range c.around.room false (n.found ++ found_else later)) rest
 GoesOn (Some first) c frames n symbols K = (rest : List Symbol) × IsEnd symbols rest × K (closed_control frames c n) rest
 
--- what is left of a file: or, behind an `else if`, what closing the control around it leaves
+-- what is left of a file: or, after an `else if`, what closing the control around it leaves
 abbrev pub Left : List Frame → Bool → Nest → List Symbol → Nest → Type 0
 Left [] true n symbols final = ⊤
 Left (frame.Definition d ∷ frames) true n symbols final = ⊤
@@ -122,7 +122,7 @@ control_left n c p start last line all symbols mid part final room o is closes (
     (subst (λ v. IsElse v (n.room - 1) n.in_range c later else_part rest) names els) h)
     (subst (λ v. Left n.frames false (nest_of n.frames (append n.body (one_node (kind_of c p) line [] (nodes_of first) (else_nodes later))) v n.in_range n.room false ((n.found ++ found_in first) ++ found_else later)) rest final) names left)
 
--- a definition that begins here, up to the end of its body, and what stands behind it
+-- a definition that begins here, up to the end of its body, and what stands after it
 define_then : (n : Nest) (name : List ℕ) (start last line word_line begins : ℕ) (all symbols named mid part : List Symbol) (final : Nest)
     → n.frames ≡ [] → StandsOn (kind.Open start last) line all symbols → StandsOn (kind.Word word.Define) word_line symbols named → Stands (kind.Str name) named mid → Stands (kind.Close begins) mid part
     → LeftOf (with_definition name word_line begins n) part final → LeftOf n all final

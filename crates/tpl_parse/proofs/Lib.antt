@@ -1,5 +1,7 @@
+pub mod ActionsEnd
 pub mod ActionsLead
 pub mod ActionsSay
+pub mod Completions
 pub mod ElseWords
 pub mod FileLaws
 pub mod FilesSay
@@ -9,5 +11,6 @@ pub mod FormsLead
 pub mod FormsSay
 pub mod OneFile
 pub mod PipeEnds
+pub mod RefusedLines
 pub mod SeenNames
 pub mod Standing

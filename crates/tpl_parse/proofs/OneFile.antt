@@ -10,7 +10,7 @@ use Rattle.tpl_parse.specs.Parsing.{Parsed, end_of, parsed}
 use Rattle.tpl_parse.specs.Steps.{Stepped, and_then, run, beginning, most_open}
 use Rattle.tpl_parse.specs.Turns.{Refusal}
 use Rattle.tpl_parse.specs.declared.definition.Def.{Def}
-use Rattle.tpl_parse.specs.declared.head.State.{State}
+use Rattle.tpl_parse.specs.State.{State}
 use Rattle.tpl_parse.specs.declared.nest.Nest.{Nest}
 use Rattle.tpl_parse.specs.declared.refused.FileRefused.{FileRefused}
 use Rattle.tpl_parse.specs.declared.refused.FileRefused.TheVariants as file_refused

@@ -89,7 +89,7 @@ pipe_out n o p (s ∷ symbols) at q c rest e end k = either (is_close s.kind)
     (λ t. ends_out n o p at s symbols (finish at) q c rest refl (rw t at e) end k)
     (λ f. goes_out n o p symbols at s (read n.variables at s) q c rest (pipe_out n o p symbols) f refl (rw f at e) end k)
 
--- behind a variable a pipe goes on, if it is read
+-- after a variable a pipe goes on, if it is read
 same_named : (n : Nest) (o : Opening) (b : Before) (x : List ℕ) (line : ℕ) (k : SymbolKind) (s : Symbol) (symbols : List Symbol) (q : PipeData) (c : Symbol) (rest : List Symbol)
     → s.kind ≡ k → declared n.variables x ≡ true
     → (if is_close k then ends_at (s ∷ symbols) (finish (variable_place (room_in b n.room) x)) else goes_on (s ∷ symbols) (read_kind k s.touches n.variables [] (variable_place (room_in b n.room) x).level) (λ next. read_pipe n.variables next symbols)) ≡ Ok (q, c ∷ rest)
@@ -119,7 +119,7 @@ named_out n o b x line [] q c rest d e end k = no_pipe e
 named_out n o b x line (s ∷ symbols) q c rest d e end k =
     same_named n o b x line s.kind s symbols q c rest refl d e ∙ pipe_out n o (plain b) (s ∷ symbols) (variable_place (room_in b n.room) x) q c rest e end k
 
--- behind `{{`, or behind a control's word, a pipe begins, if it is read
+-- after `{{`, or after a control's word, a pipe begins, if it is read
 begins_out : (n : Nest) (o : Opening) (b : Before) (k : SymbolKind) (s : Symbol) (symbols : List Symbol) (q : PipeData) (c : Symbol) (rest : List Symbol)
     → s.kind ≡ k → read_pipe n.variables (start_of (room_in b n.room)) (s ∷ symbols) ≡ Ok (q, c ∷ rest)
     → (if is_close k then ends_at (s ∷ symbols) (finish (start_of (room_in b n.room))) else goes_on (s ∷ symbols) (read_kind k s.touches n.variables [] (fresh (room_in b n.room))) (λ next. read_pipe n.variables next symbols)) ≡ Ok (q, c ∷ rest)

@@ -29,11 +29,11 @@ last-nothing : (o : Option Def) (xs : List Def) → last_or o (xs ++ []) ≡ las
 last-nothing o [] = refl
 last-nothing o (y ∷ xs) = last-nothing (Some y) xs
 
--- what stands for a name once a definition of it, or of another, comes behind the others
+-- what stands for a name once a definition of it, or of another, comes after the others
 abbrev stands_after : List ℕ → Def → Option TreeData → Option TreeData
 stands_after name def before = cond (has_name name def) (cond def.blank (option_or before (Some def.tree)) (Some def.tree)) before
 
--- the last definition that is not blank, and the first one, once one more comes behind the others
+-- the last definition that is not blank, and the first one, once one more comes after the others
 full-push : (name : List ℕ) (defs : List Def) (d : Def) (b : Bool) → is_full name d ≡ b → last_full name (defs ++ d ∷ []) ≡ cond b (Some d) (last_full name defs)
 full-push name defs d true e = rw (filter-append (is_full name) defs (d ∷ []), e) (last-push None (filter (is_full name) defs) d)
 full-push name defs d false e = rw (filter-append (is_full name) defs (d ∷ []), e) (last-nothing None (filter (is_full name) defs))

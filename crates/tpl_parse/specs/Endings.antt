@@ -21,7 +21,7 @@ second_line seen [] = None
 second_line seen (f ∷ found) =
     if f.def.blank then second_line seen found else if among seen f.def.name then Some f.line else second_line (f.def.name ∷ seen) found
 
--- the definitions, and behind them the file's own body, by the file's name
+-- the definitions, and after them the file's own body, by the file's name
 abbrev pub with_own : List ℕ → TextEnd → Nest → List Found
 with_own name end n = n.found ++ found_of (def_of name n.blank n.body end.before) 1 ∷ []
 

@@ -9,7 +9,7 @@ use Rattle.tpl_parse.specs.declared.definition.Def.{Def}
 use Rattle.tpl_parse.specs.declared.definition.File.{File}
 use Rattle.tpl_parse.specs.declared.definition.Found.{Found}
 use Rattle.tpl_parse.specs.declared.head.Mode.TheVariants as mode
-use Rattle.tpl_parse.specs.declared.head.State.{State}
+use Rattle.tpl_parse.specs.State.{State}
 use Rattle.tpl_parse.specs.declared.refused.FileRefused.{FileRefused}
 use Rattle.tpl_parse.specs.declared.refused.FileRefused.TheVariants as file_refused
 use Rattle.tpl_pipe.specs.declared.refused.ParseRefused.{ParseRefused}
@@ -92,7 +92,7 @@ IsRefused name text (file_refused.Token why line) = (place : ℕ) × tokens.IsRe
 IsRefused name text (file_refused.Parse why line) = (list : List Token) × AreTokens text list × IsStopped name text (symbols_of text list) why line
 IsRefused name text file_refused.Memory = ⊥
 
--- The definitions of the file, or why it has none. Want of memory may come instead.
+-- The definitions of the file, or why it has none. Out of memory may come instead.
 abbrev pub Answers : List ℕ → List ℕ → Result File FileRefused → Type 0
 Answers name text (Ok file) = IsFile name text file.defs
 Answers name text (Err file_refused.Memory) = ⊤

@@ -25,7 +25,7 @@ mutual
     -- a definition's name, the line of its word, its body, and the line on which this ends
     define : List ℕ → ℕ → Forms → ℕ → Forms → Forms
 
-  -- how a control goes on behind its first part
+  -- how a control goes on after its first part
   pub data Else : Type 0 where
     no_else : Else
     otherwise : Forms → Else

@@ -1,5 +1,5 @@
 -- Which of the definitions of all files stand.
-use Rattle.std.specs.Prelude.{◌≡◌, ℕ, Bool, not, ◌&&◌, List, Option, None, option_map, bytes_eq}
+use Rattle.std.specs.Prelude.{◌≡◌, ℕ, Bool, not, ◌&&◌, List, ◌++◌, Option, None, option_map, bytes_eq}
 use Rattle.std.specs.List.{filter, find, flat_map, last_or}
 use Rattle.std.specs.Option.{option_or}
 use Rattle.tpl_parse.specs.declared.definition.Def.{Def}
@@ -34,3 +34,7 @@ standing name defs = option_map (λ d. d.tree) (option_or (last_full name defs) 
 -- for each name a forest has the tree that stands, and no others
 abbrev pub HasStanding : List Def → ForestData → Type 0
 HasStanding defs forest = (name : List ℕ) → tree_named name forest ≡ standing name defs
+
+-- with these definitions more, whichever came before them
+abbrev pub AddsDefs : List Def → ForestData → ForestData → Type 0
+AddsDefs defs old new = (before : List Def) → HasStanding before old → HasStanding (before ++ defs) new

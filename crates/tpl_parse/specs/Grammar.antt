@@ -38,7 +38,7 @@ IsEnd symbols rest =
 abbrev pub body_end : ℕ → ℕ → ℕ → ℕ
 body_end begins ends last = if begins == ends then 1 else last
 
--- `{{end}}`, behind a body that begins at a place and ends on a line
+-- `{{end}}`, after a body that begins at a place and ends on a line
 abbrev pub EndsBody : ℕ → ℕ → List Symbol → List Symbol → Type 0
 EndsBody begins ends symbols rest =
     (start : ℕ) × (before : ℕ) × (line : ℕ) × (inner behind : List Symbol) × StandsOn (kind.Open start before) line symbols inner
@@ -118,7 +118,7 @@ abbrev mutual
       × AreForms [] room false false body part last × EndsBody begins ends last behind
       × AreForms variables room in_range top more behind rest
 
-  -- How a control goes on behind its first part, up to and with its `{{end}}`, where so many controls and parentheses may
+  -- How a control goes on after its first part, up to and with its `{{end}}`, where so many controls and parentheses may
   -- be opened in its parts.
   pub IsElse : List (List ℕ) → ℕ → Bool → Control → Else → List Symbol → List Symbol → Type 0
   IsElse variables room in_range c no_else symbols rest = IsEnd symbols rest

@@ -1,24 +1,80 @@
 -- What holds of every template file.
-use Rattle.std.specs.Prelude.{◌≡◌, ◌⊎◌, ℕ, List, ◌∷◌, ◌++◌, Ok, Err}
-use Rattle.tpl_parse.specs.Files.{IsFile, IsRefused}
+use Rattle.std.specs.Prelude.{◌≡◌, ◌≢◌, ◌⊎◌, ℕ, List, [], ◌∷◌, ◌++◌, Ok, Err}
+use Rattle.tpl_parse.specs.Files.{IsFile, IsRefused, IsRefusedAt, IsUnclosed}
 use Rattle.tpl_parse.specs.Forms.{Forms, nodes_of, is_blank, found_in}
 use Rattle.tpl_parse.specs.Grammar.{IsFileBody}
 use Rattle.tpl_parse.specs.Steps.{step, run, beginning}
 use Rattle.tpl_parse.specs.declared.definition.Def.{Def}
-use Rattle.tpl_parse.specs.declared.head.State.{State}
+use Rattle.tpl_parse.specs.declared.head.Mode.TheVariants as mode
+use Rattle.tpl_parse.specs.State.{State}
 use Rattle.tpl_parse.specs.declared.refused.FileRefused.{FileRefused}
 use Rattle.tpl_pipe.specs.declared.refused.ParseRefused.{ParseRefused}
+use Rattle.tpl_pipe.specs.declared.refused.ParseRefused.TheVariants as refused
+use Rattle.tpl_symbol.specs.Symbols.{symbols_of}
 use Rattle.tpl_symbol.specs.declared.symbol.Symbol.{Symbol}
+use Rattle.tpl_symbol.specs.declared.symbol.SymbolKind.TheVariants as kind
+use Rattle.tpl_token.specs.Grammar.{AreTokens}
+use Rattle.tpl_token.specs.declared.token.Token.{Token}
 
 -- The file has definitions, or it is refused.
 abbrev pub HasAnswer : List ℕ → List ℕ → Type 0
 HasAnswer name text = ((defs : List Def) × IsFile name text defs) ⊎ ((why : FileRefused) × IsRefused name text why)
 
+-- A file has at most one list of definitions.
+abbrev pub HaveOneList : Type 0
+HaveOneList = (name text : List ℕ) (a b : List Def) → IsFile name text a → IsFile name text b → a ≡ b
+
+-- A file has at most one refusal.
+abbrev pub HaveOneRefusal : Type 0
+HaveOneRefusal = (name text : List ℕ) (a b : FileRefused) → IsRefused name text a → IsRefused name text b → a ≡ b
+
+-- A file that has definitions has no refusal.
+abbrev pub HaveNotBoth : Type 0
+HaveNotBoth = (name text : List ℕ) (a : List Def) (b : FileRefused) → IsFile name text a → IsRefused name text b → ⊥
+
 -- Symbols have at most one tree, and the same definitions.
 abbrev pub HaveOneTree : Type 0
 HaveOneTree = (symbols : List Symbol) (a b : Forms) → IsFileBody a symbols → IsFileBody b symbols → (nodes_of a ≡ nodes_of b) × (is_blank a ≡ is_blank b) × (found_in a ≡ found_in b)
+
+-- Some file begins with these symbols.
+abbrev pub IsFront : List Symbol → Type 0
+IsFront front = (more : List Symbol) × (forms : Forms) × IsFileBody forms (front ++ more)
+
+-- Symbols that are read without a refusal are the prefix of a file: others that end the action, and an `end` for each thing
+-- that is open, may come after them.
+abbrev pub AreFronts : Type 0
+AreFronts = (front : List Symbol) (at : State) → run beginning front ≡ Ok at → IsFront front
+
+-- The symbol that is refused is the first with which no file goes on.
+abbrev pub RefusedIsFirst : Type 0
+RefusedIsFirst = (symbols : List Symbol) (why : ParseRefused) (line : ℕ) (r : IsRefusedAt symbols why line) → IsFront r.before × (IsFront (r.before ++ r.symbol ∷ []) → ⊥)
+
+-- a variable on this line
+abbrev pub IsVariableOn : Symbol → ℕ → Type 0
+IsVariableOn s line = (name : List ℕ) × (s.kind ≡ kind.Variable name) × (s.line ≡ line)
+
+-- the last of these symbols is a variable on this line
+abbrev pub EndsInVariable : List Symbol → ℕ → Type 0
+EndsInVariable symbols line = (front : List Symbol) × (variable : Symbol) × (symbols ≡ front ++ variable ∷ []) × IsVariableOn variable line
+
+-- the line of a refusal: that of the refused symbol, or that of a variable right before it
+abbrev pub IsLineOf : Symbol → List Symbol → ParseRefused → ℕ → Type 0
+IsLineOf symbol before why line = (line ≡ symbol.line) ⊎ ((why ≡ refused.UndefinedVariable) × EndsInVariable before line)
+
+-- A refusal names the line of the refused symbol; but where that shows that a variable right before it is not being declared,
+-- and nothing declares it, the line of the variable.
+abbrev pub RefusedHasItsLine : Type 0
+RefusedHasItsLine = (symbols : List Symbol) (why : ParseRefused) (line : ℕ) (r : IsRefusedAt symbols why line) → IsLineOf r.symbol r.before why line
 
 -- Where a symbol is refused, no file goes on with it, whatever follows.
 abbrev pub NoneGoesOn : Type 0
 NoneGoesOn = (before more : List Symbol) (symbol : Symbol) (at : State) (why : ParseRefused) (line : ℕ) (forms : Forms) → run beginning before ≡ Ok at → step at symbol ≡ Err (why, line)
     → IsFileBody forms (before ++ symbol ∷ more) → ⊥
+
+-- The symbols of a text end outside actions.
+abbrev pub ActionsEnd : Type 0
+ActionsEnd = (text : List ℕ) (tokens : List Token) (at : State) → AreTokens text tokens → run beginning (symbols_of text tokens) ≡ Ok at → at.mode ≡ mode.Outside
+
+-- So where they end and something is open, that is a control, a `define` or a `block`.
+abbrev pub UnclosedAreOpen : Type 0
+UnclosedAreOpen = (text : List ℕ) (tokens : List Token) → AreTokens text tokens → (unclosed : IsUnclosed (symbols_of text tokens)) → unclosed.at.nest.frames ≢ []

@@ -6,5 +6,6 @@ pub mod Grammar
 pub mod Laws
 pub mod Nests
 pub mod Parsing
+pub mod State
 pub mod Steps
 pub mod Turns

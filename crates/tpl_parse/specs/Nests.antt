@@ -91,6 +91,10 @@ else_from (frame.Definition d ∷ frames) n = n
 else_from (frame.Control c ∷ frames) n =
     nest_of (open_control c.control c.pipe c.line c.before (Some n.body) c.chained c.around ∷ frames) no_nodes (take c.around.variables n.variables ++ else_names c.control) c.around.in_range n.room false n.found
 
+-- the same, where that control was taken off what is open
+abbrev pub other_begun : OpenControl → Nest → Nest
+other_begun c n = else_from (frame.Control c ∷ n.frames) n
+
 abbrev pub with_else : Nest → Nest
 with_else n = else_from n.frames n
 

@@ -13,9 +13,11 @@ use Rattle.tpl_parse.specs.declared.refused.FileRefused.{FileRefused}
 use Rattle.tpl_parse.specs.declared.refused.FileRefused.TheVariants as file_refused
 use Rattle.tpl_pipe.specs.declared.refused.ParseRefused.TheVariants as refused
 use Rattle.tpl_symbol.specs.Lines.{line_of}
+use Rattle.tpl_symbol.specs.Symbols.{symbols_of}
 use Rattle.tpl_symbol.specs.declared.line.TextEnd.{TextEnd}
 use Rattle.tpl_symbol.specs.declared.symbol.Symbol.{Symbol}
 use Rattle.tpl_token.specs.declared.refused.TokenRefused.{TokenRefused}
+use Rattle.tpl_token.specs.declared.token.Token.{Token}
 
 abbrev pub Parsed : Type 0
 Parsed = Result (List Def) Refusal
@@ -35,6 +37,10 @@ ended name end (Err why) = Err why
 
 abbrev pub parsed : List ℕ → TextEnd → List Symbol → Parsed
 parsed name end symbols = ended name end (run beginning symbols)
+
+-- of a text with these tokens
+abbrev pub parsed_text : List ℕ → List ℕ → List Token → Parsed
+parsed_text name text tokens = parsed name (end_of text) (symbols_of text tokens)
 
 -- what was returned is this, or memory ran out
 abbrev pub GivesParsed : Result File FileRefused → Parsed → Type 0

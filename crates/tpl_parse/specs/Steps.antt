@@ -1,15 +1,20 @@
 -- Reading a file symbol by symbol.
-use Rattle.std.specs.Prelude.{ℕ, List, [], ◌∷◌, Option, Some, None, Result, Ok, Err}
+use Rattle.std.specs.Prelude.{◌≡◌, ℕ, List, [], ◌∷◌, Option, Some, None, Result, Ok, Err, ⊤}
 use Rattle.tpl_parse.specs.Nests.{empty_nest, with_text, with_else, done}
-use Rattle.tpl_parse.specs.Turns.{Refusal, Turn, turn, deed_of}
+use Rattle.tpl_parse.specs.Turns.{Refusal, Turn, turn, piped, deed_of}
 use Rattle.tpl_parse.specs.declared.head.Deed.{Deed}
 use Rattle.tpl_parse.specs.declared.head.Head.{Head}
 use Rattle.tpl_parse.specs.declared.head.Head.TheVariants as head
 use Rattle.tpl_parse.specs.declared.head.Mode.{Mode}
 use Rattle.tpl_parse.specs.declared.head.Mode.TheVariants as mode
 use Rattle.tpl_parse.specs.declared.head.Opening.{Opening}
-use Rattle.tpl_parse.specs.declared.head.State.{State}
+use Rattle.tpl_parse.specs.State.{State}
+use Rattle.tpl_parse.specs.declared.head.Purpose.{Purpose}
 use Rattle.tpl_parse.specs.declared.nest.Nest.{Nest}
+use Rattle.tpl_parse.specs.declared.refused.ParseStop.{ParseStop}
+use Rattle.tpl_parse.specs.declared.refused.ParseStop.TheVariants as stop
+use Rattle.tpl_pipe.specs.Reading.{finish}
+use Rattle.tpl_pipe.specs.declared.place.Place.{Place}
 use Rattle.tpl_pipe.specs.declared.refused.ParseRefused.TheVariants as refused
 use Rattle.tpl_symbol.specs.declared.symbol.Symbol.{Symbol}
 use Rattle.tpl_symbol.specs.declared.symbol.SymbolKind.{SymbolKind}
@@ -29,6 +34,9 @@ abbrev pub outside : SymbolKind → ℕ → Nest → Stepped
 outside (kind.Text bytes seams) line n = Ok (state (with_text bytes line seams n) mode.Outside)
 outside (kind.Open start before) line n = Ok (state n (mode.Inside (opening line start before) head.Start))
 outside _ line n = Err (refused.UnexpectedToken, line)
+
+abbrev pub outside_by : Symbol → Nest → Stepped
+outside_by s n = outside s.kind s.line n
 
 abbrev pub after : Result Deed Refusal → Opening → ℕ → Nest → Stepped
 after (Ok d) o end n = Ok (state (done d o end n) mode.Outside)
@@ -76,3 +84,26 @@ most_open = 100
 -- nothing is read of a file
 abbrev pub beginning : State
 beginning = state (empty_nest most_open) mode.Outside
+
+-- what an action does that is read up to here, and ends on this line before this place
+abbrev pub after_head : Head → Opening → ℕ → ℕ → Nest → Stepped
+after_head h o line end n = after (deed_of h n line) o end n
+
+abbrev pub after_pipe : Purpose → Place → Opening → ℕ → ℕ → Nest → Stepped
+after_pipe p at o line end n = after (piped p line (finish at)) o end n
+
+-- what is new is this, or memory ran out
+abbrev pub GivesState : {U : Type 0} → Result U ParseStop → Nest → Mode → Stepped → Type 0
+GivesState (Ok _) n m wanted = wanted ≡ Ok (state n m)
+GivesState (Err (stop.Refused why line)) n m wanted = wanted ≡ Err (why, line)
+GivesState (Err stop.Memory) n m wanted = ⊤
+
+-- the same outside actions
+abbrev pub Leaves : {U : Type 0} → Result U ParseStop → Nest → Stepped → Type 0
+Leaves result n wanted = GivesState result n mode.Outside wanted
+
+-- the same in an action, which began in this nest
+abbrev pub GivesHead : {U : Type 0} → Result U ParseStop → Nest → Head → Turn → Nest → Type 0
+GivesHead (Ok _) n h wanted old = (wanted ≡ Ok h) × (n ≡ entered h old)
+GivesHead (Err (stop.Refused why line)) n h wanted old = wanted ≡ Err (why, line)
+GivesHead (Err stop.Memory) n h wanted old = ⊤

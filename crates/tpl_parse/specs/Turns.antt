@@ -36,7 +36,7 @@ Refusal = ParseRefused × ℕ
 abbrev pub Turn : Type 0
 Turn = Result Head Refusal
 
--- what a pipe is for behind this
+-- what a pipe is for after this
 abbrev pub plain : Before → Purpose
 plain before.Action = purpose.Write
 plain before.If = purpose.Control (control.If None) false
@@ -44,7 +44,7 @@ plain before.ElseIf = purpose.Control (control.If None) true
 plain before.With = purpose.Control (control.With None) false
 plain before.Range = purpose.Control (control.Range None None) false
 
--- what a pipe is for behind this and `$x :=`
+-- what a pipe is for after this and `$x :=`
 abbrev pub declaring : Before → List ℕ → Purpose
 declaring before.Action x = purpose.Declare x
 declaring before.If x = purpose.Control (control.If (Some x)) false
@@ -72,10 +72,13 @@ abbrev pub pipe_turn : Purpose → ℕ → Step → Turn
 pipe_turn p line (Ok at) = Ok (head.Pipe p at)
 pipe_turn p line (Err why) = Err (why, line)
 
+abbrev pub read_in : Nest → Place → Symbol → Step
+read_in nest at s = read nest.variables at s
+
 abbrev pub in_pipe : Nest → Purpose → Place → Symbol → Turn
 in_pipe nest p at s = pipe_turn p s.line (read nest.variables at s)
 
--- behind `{{`, or behind a control's word
+-- after `{{`, or after a control's word
 abbrev pub behind_kind : SymbolKind → Nest → Before → Symbol → Turn
 behind_kind (kind.Variable x) nest b s = Ok (head.Named b x s.line)
 behind_kind _ nest b s = in_pipe nest (plain b) (start_of (room_in b nest.room)) s
@@ -106,7 +109,7 @@ abbrev pub define_word : List Frame → ℕ → Turn
 define_word [] line = Ok (head.Define line)
 define_word (_ ∷ _) line = Err (refused.DefineNested, line)
 
--- a word behind `{{`
+-- a word after `{{`
 abbrev pub start_word : Word → Nest → Symbol → Turn
 start_word word.If nest s = control_word nest before.If s.line
 start_word word.With nest s = control_word nest before.With s.line
@@ -126,7 +129,7 @@ abbrev pub start_kind : SymbolKind → Nest → Symbol → Turn
 start_kind (kind.Word w) nest s = start_word w nest s
 start_kind _ nest s = behind nest before.Action s
 
--- behind a variable that is not declared here: it has to be declared already, and is judged now, since what comes behind it says whether it
+-- after a variable that is not declared here: it has to be declared already, and is judged now, since what comes after it says whether it
 -- is declared here
 abbrev pub by_variable : Nest → Before → List ℕ → ℕ → Symbol → Turn
 by_variable nest b x line s =
@@ -135,7 +138,7 @@ by_variable nest b x line s =
 abbrev pub assigned : Nest → List ℕ → ℕ → Turn
 assigned nest x line = if declared nest.variables x then Ok (head.Pipe (purpose.Assign x) (start_of nest.room)) else Err (refused.UndefinedVariable, line)
 
--- behind a variable that may be declared: `:=`, in an action `=`, in a `range` a comma, or a pipe goes on
+-- after a variable that may be declared: `:=`, in an action `=`, in a `range` a comma, or a pipe goes on
 abbrev pub named_assign : Before → Nest → List ℕ → ℕ → Symbol → Turn
 named_assign before.Action nest x line s = assigned nest x line
 named_assign b nest x line s = by_variable nest b x line s
@@ -150,22 +153,25 @@ named kind.Assign b nest x line s = named_assign b nest x line s
 named kind.Comma b nest x line s = named_comma b nest x line s
 named _ b nest x line s = by_variable nest b x line s
 
--- behind `range $i,`
+-- after `range $i,`
 abbrev pub second : SymbolKind → List ℕ → ℕ → Turn
 second (kind.Variable e) i line = Ok (head.SecondNamed i e line)
 second _ i line = Err (refused.UnexpectedToken, line)
 
--- behind a second variable stands neither `:=` nor a comma: where nothing declares it, the variable is refused, and else what stands behind it
+-- after a second variable stands neither `:=` nor a comma: where nothing declares it, the variable is refused, and else what stands after it
 abbrev pub undeclared : List (List ℕ) → List ℕ → ℕ → ℕ → Refusal
 undeclared variables e line now = if declared variables e then (refused.UnexpectedToken, now) else (refused.UndefinedVariable, line)
 
--- behind `range $i, $e`
+-- after `range $i, $e`
 abbrev pub second_named : SymbolKind → Nest → List ℕ → List ℕ → ℕ → ℕ → Turn
 second_named kind.Declare nest i e line now = Ok (head.Pipe (purpose.Control (control.Range (Some i) (Some e)) false) (start_of (nest.room - 1)))
 second_named kind.Comma nest i e line now = Err (refused.UnexpectedToken, now)
 second_named _ nest i e line now = Err (undeclared nest.variables e line now)
 
--- behind `else`: an `if`, where the control is one
+abbrev pub behind_second : Nest → List ℕ → List ℕ → ℕ → Symbol → Turn
+behind_second nest i e line s = second_named s.kind nest i e line s.line
+
+-- after `else`: an `if`, where the control is one
 abbrev pub is_if : Control → Bool
 is_if (control.If _) = true
 is_if (control.With _) = false
@@ -180,7 +186,10 @@ abbrev pub else_turn : SymbolKind → Nest → ℕ → Turn
 else_turn (kind.Word word.If) nest line = if ends_if nest.frames then control_word nest before.ElseIf line else Err (refused.UnexpectedToken, line)
 else_turn _ nest line = Err (refused.UnexpectedToken, line)
 
--- behind a word that wants a name
+abbrev pub behind_named : Before → Nest → List ℕ → ℕ → Symbol → Turn
+behind_named b nest x line s = named s.kind b nest x line s
+
+-- after a word that wants a name
 abbrev pub name_in : SymbolKind → ℕ → Result (List ℕ) Refusal
 name_in (kind.Str n) line = Ok n
 name_in _ line = Err (refused.UnexpectedToken, line)
@@ -239,3 +248,15 @@ Gives (Err stop.Memory) wanted = ⊤
 -- a refusal, as why parsing stops
 abbrev pub refusal_stop : Refusal → ParseStop
 refusal_stop why = stop.Refused why.0 why.1
+
+-- what is new is this, or memory ran out
+abbrev pub GivesNew : {U X : Type 0} → Result U ParseStop → X → Result X Refusal → Type 0
+GivesNew (Ok _) new wanted = wanted ≡ Ok new
+GivesNew (Err (stop.Refused why line)) new wanted = wanted ≡ Err (why, line)
+GivesNew (Err stop.Memory) new wanted = ⊤
+
+-- the same of a place in a pipe, whose refusals have no line
+abbrev pub ReadsOn : {U : Type 0} → Result U ParseStop → Place → ℕ → Step → Type 0
+ReadsOn (Ok _) new line wanted = wanted ≡ Ok new
+ReadsOn (Err (stop.Refused why at)) new line wanted = (wanted ≡ Err why) × (at ≡ line)
+ReadsOn (Err stop.Memory) new line wanted = ⊤

@@ -24,7 +24,7 @@ pub fn finish(alloc: Global, nest: Nest, name: &str, end: TextEnd) -> Result<Lis
     }
 }
 
-// The definitions, and behind them the file's own body.
+// The definitions, and after them the file's own body.
 fn with_own(alloc: Global, nest: Nest, name: &str, end: TextEnd) -> Result<List<Found>, Memory>
     ensures { IfOk result (λ found. found ≡ with_own_of name.now end nest) }
 {

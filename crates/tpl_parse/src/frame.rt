@@ -1,4 +1,5 @@
-use page_io::{List, Text};
+use page_io::Text;
+use tpl_pipe::Variables;
 use tpl_tree::{Body, Pipe};
 
 /// A control, without its pipe: its word, and its variables.
@@ -49,7 +50,7 @@ pub struct OpenDefinition {
     /// The nodes before it in the same part.
     pub before: Body,
     /// The variables that are declared there.
-    pub variables: List<Text>,
+    pub variables: Variables,
     /// Whether it stands in the first part of a `range` of the same body.
     pub in_range: bool,
     /// Whether the body around it is blank so far.

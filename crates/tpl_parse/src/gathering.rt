@@ -1,6 +1,5 @@
-ghost use Rattle.std.specs.Prelude.{◌++◌, ◌∷◌, [], List, IfOk, OnOk};
-ghost use Rattle.tpl_parse.specs.Gathering.{all_defs, HasStanding};
-ghost use Rattle.tpl_parse.specs.declared.definition.Def.{Def};
+ghost use Rattle.std.specs.Prelude.{◌∷◌, [], IfOk, OnOk};
+ghost use Rattle.tpl_parse.specs.Gathering.{AddsDefs, all_defs, HasStanding};
 
 use crate::definition::{Def, File};
 use page_io::{List, Memory, Text};
@@ -9,7 +8,7 @@ use std::collections::BTreeMap;
 use tpl_tree::{Forest, Tree};
 
 /// The forest of these files, in their order. Of several definitions of a name the last one stands that is not blank, and
-/// the first one where all are blank. The error is want of memory, or more than `u32::MAX` names.
+/// the first one where all are blank. The error is out of memory, or more than `u32::MAX` names.
 pub fn gather(alloc: Global, files: List<File>) -> Result<Forest, Memory>
     ensures { IfOk result (HasStanding (all_defs files)) }
 {
@@ -22,7 +21,7 @@ pub fn gather(alloc: Global, files: List<File>) -> Result<Forest, Memory>
 
 // Adds the definitions of a file, whichever came before them.
 fn add_file(trees: &mut BTreeMap<Text, Tree>, file: File) -> Result<(), Memory>
-    ensures { OnOk result ((before : List Def) → HasStanding before trees.old.entries → HasStanding (before ++ file.defs) trees.new.entries) }
+    ensures { OnOk result (AddsDefs file.defs trees.old.entries trees.new.entries) }
 {
     for def in file.defs.into_vec() {
         add(trees, def)?;
@@ -32,7 +31,7 @@ fn add_file(trees: &mut BTreeMap<Text, Tree>, file: File) -> Result<(), Memory>
 
 // Adds a definition, whichever came before it.
 fn add(trees: &mut BTreeMap<Text, Tree>, def: Def) -> Result<(), Memory>
-    ensures { OnOk result ((before : List Def) → HasStanding before trees.old.entries → HasStanding (before ++ def ∷ []) trees.new.entries) }
+    ensures { OnOk result (AddsDefs (def ∷ []) trees.old.entries trees.new.entries) }
 {
     let Def { name, blank, tree } = def;
     if blank && trees.contains_key(&name) {

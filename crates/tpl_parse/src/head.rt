@@ -1,5 +1,4 @@
 use crate::frame::Control;
-use crate::nest::Nest;
 use page_io::Text;
 use tpl_pipe::Place;
 
@@ -14,7 +13,7 @@ pub struct Opening {
     pub before: u32,
 }
 
-/// What a pipe or the declaration of a variable stands behind.
+/// What a pipe or the declaration of a variable stands after.
 #[derive(Clone, Copy, Debug, PartialEq, Eq)]
 pub enum Before {
     /// `{{`
@@ -107,11 +106,4 @@ pub enum Mode {
     Outside,
     /// In an action.
     Inside(Opening, Head),
-}
-
-/// What was read of a file, and where reading is.
-#[derive(Debug, Drop)]
-pub struct State {
-    pub nest: Nest,
-    pub mode: Mode,
 }

@@ -6,16 +6,12 @@ mod definition;
 mod finish;
 mod frame;
 mod gathering;
-#[cfg(test)]
-mod gathering_tests;
 mod head;
 mod laws;
 mod nest;
 mod parse;
 mod refused;
 mod step;
-#[cfg(test)]
-mod tests;
 mod turn;
 
 pub use definition::{Def, File};

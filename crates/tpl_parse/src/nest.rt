@@ -1,7 +1,6 @@
-ghost use Rattle.std.specs.Prelude.{◌≡◌, ◌<◌, ◌≤◌, ◌+◌, ◌^◌, ◌++◌, ◌∷◌, IfOk, All, length, take, false, if◌then◌else◌};
+ghost use Rattle.std.specs.Prelude.{◌≡◌, ◌<◌, ◌≤◌, ◌+◌, ◌^◌, ◌++◌, ◌∷◌, OnOk, All, length, false, if◌then◌else◌};
 ghost use Rattle.std.specs.List.{list_all};
-ghost use Rattle.tpl_parse.specs.Nests.{closed_control as closed_control_of, closed_definition as closed_definition_of, closed_from, done as done_of, else_names as else_names_of, else_from, end_line as end_line_of, empty_nest as empty_nest_of, filled as filled_of, filled_one, first_names as first_names_of, is_range as is_range_of, kind_of as kind_in, names_of, opened as opened_of, piped_nest, with_definition as with_definition_of, with_else as with_else_of, with_end as with_end_of, with_node as with_node_of, with_text as with_text_of, with_variable as with_variable_of};
-ghost use Rattle.tpl_parse.specs.declared.frame.Frame.TheVariants as frame;
+ghost use Rattle.tpl_parse.specs.Nests.{closed_control as closed_control_of, closed_definition as closed_definition_of, closed_from, done as done_of, else_names as else_names_of, end_line as end_line_of, empty_nest as empty_nest_of, filled as filled_of, filled_one, first_names as first_names_of, is_range as is_range_of, kind_of as kind_in, names_of, opened as opened_of, other_begun, piped_nest, with_definition as with_definition_of, with_else as with_else_of, with_end as with_end_of, with_node as with_node_of, with_text as with_text_of};
 ghost use Rattle.tpl_token.specs.Characters.{is_white as is_white_byte};
 ghost use Rattle.tpl_tree.specs.Trees.{is_text};
 
@@ -10,7 +9,8 @@ use crate::frame::{Around, Control, Frame, OpenControl, OpenDefinition};
 use crate::head::{Deed, Opening, Purpose};
 use page_io::{List, Memory, Text};
 use std::alloc::Global;
-use tpl_pipe::Stack;
+use std::mem;
+use tpl_pipe::{Stack, Variables};
 use tpl_symbol::Seam;
 use tpl_tree::{Body, NodeKind, Pipe, Tree};
 
@@ -22,7 +22,7 @@ pub struct Nest {
     /// The nodes of the innermost part so far.
     pub body: Body,
     /// The variables that are declared.
-    pub variables: List<Text>,
+    pub variables: Variables,
     /// Whether the innermost part is in the first part of a `range` of the same body.
     pub in_range: bool,
     /// How many more controls and parentheses may be opened.
@@ -40,7 +40,7 @@ pub fn empty_nest(alloc: Global, room: u32) -> Nest
     Nest {
         frames: Stack::new(alloc),
         body: Body::new(alloc),
-        variables: List::new(alloc),
+        variables: Variables::new(alloc),
         in_range: false,
         room,
         blank: true,
@@ -48,18 +48,17 @@ pub fn empty_nest(alloc: Global, room: u32) -> Nest
     }
 }
 
-// With a text more.
-pub fn with_text(nest: Nest, text: Text, line: u32, seams: List<Seam>) -> Result<Nest, Memory>
+// Adds a text.
+pub fn add_text(nest: &mut Nest, text: Text, line: u32, seams: List<Seam>) -> Result<(), Memory>
     requires some { 0 < length text }
     requires bound { length text ≤ 2 ^ 20 }
     requires line { line + length text < 2 ^ 32 }
     requires seams { All (λ s. s.line + length text < 2 ^ 32) seams }
-    ensures { IfOk result (λ new. new ≡ with_text_of text line seams nest) }
+    ensures { OnOk result (nest.new ≡ with_text_of text line seams nest.old) }
 {
-    let mut nest = nest;
     nest.blank = nest.blank && is_white(text.as_str());
     nest.body.push_text(text, line, seams)?;
-    Ok(nest)
+    Ok(())
 }
 
 // Whether a text is white space alone.
@@ -70,72 +69,47 @@ fn is_white(text: &str) -> bool
         .all(|byte| matches!(byte, b' ' | b'\t' | b'\r' | b'\n'))
 }
 
-// With a node more that has no parts.
-fn with_node(alloc: Global, nest: Nest, kind: NodeKind, line: u32) -> Result<Nest, Memory>
+// Adds a node that has no parts.
+fn add_node(nest: &mut Nest, kind: NodeKind, line: u32) -> Result<(), Memory>
     requires { is_text kind ≡ false }
-    ensures { IfOk result (λ new. new ≡ with_node_of kind line nest) }
+    ensures { OnOk result (nest.new ≡ with_node_of kind line nest.old) }
 {
-    let mut nest = nest;
-    nest.body
-        .push(kind, line, Body::new(alloc), Body::new(alloc))?;
+    nest.body.push_alone(kind, line)?;
     nest.blank = false;
-    Ok(nest)
+    Ok(())
 }
 
-// With a variable more.
-fn with_variable(nest: Nest, name: Text) -> Result<Nest, Memory>
-    ensures { IfOk result (λ new. new ≡ with_variable_of name nest) }
-{
-    let mut nest = nest;
-    nest.variables.push(name)?;
-    Ok(nest)
-}
-
-// With a control that is opened on a line.
-fn opened(
+// Opens a control on a line.
+fn open_control(
     alloc: Global,
-    nest: Nest,
+    nest: &mut Nest,
     control: Control,
     pipe: Pipe,
     line: u32,
     chained: bool,
-) -> Result<Nest, Memory>
-    ensures { IfOk result (λ new. new ≡ opened_of control pipe line chained nest) }
+) -> Result<(), Memory>
+    ensures { OnOk result (nest.new ≡ opened_of control pipe line chained nest.old) }
 {
-    let Nest {
-        mut frames,
-        body,
-        variables,
-        in_range,
-        room,
-        blank: _,
-        found,
-    } = nest;
     let around = Around {
-        variables: variables.as_slice().len(),
-        in_range,
-        room,
+        variables: nest.variables.len(),
+        in_range: nest.in_range,
+        room: nest.room,
     };
-    let variables = with_first_names(alloc, variables, &control)?;
-    let in_range = is_range(&control) || in_range;
-    frames.push(Frame::Control(OpenControl {
+    add_first_names(alloc, &mut nest.variables, &control)?;
+    nest.in_range = is_range(&control) || nest.in_range;
+    nest.room = nest.room.saturating_sub(1);
+    nest.blank = false;
+    let before = mem::replace(&mut nest.body, Body::new(alloc));
+    nest.frames.push(Frame::Control(OpenControl {
         control,
         pipe,
         line,
-        before: body,
+        before,
         first: None,
         chained,
         around,
     }))?;
-    Ok(Nest {
-        frames,
-        body: Body::new(alloc),
-        variables,
-        in_range,
-        room: room.saturating_sub(1),
-        blank: false,
-        found,
-    })
+    Ok(())
 }
 
 fn is_range(control: &Control) -> bool
@@ -144,157 +118,122 @@ fn is_range(control: &Control) -> bool
     matches!(control, Control::Range(_, _))
 }
 
-// With the variables of a control that live in its first part.
-fn with_first_names(
+// Adds the variables of a control that live in its first part.
+fn add_first_names(
     alloc: Global,
-    variables: List<Text>,
+    variables: &mut Variables,
     control: &Control,
-) -> Result<List<Text>, Memory>
-    ensures { IfOk result (λ new. new ≡ variables ++ first_names_of control.now) }
+) -> Result<(), Memory>
+    ensures { OnOk result (variables.new ≡ variables.old ++ first_names_of control.now) }
 {
     match control {
-        Control::If(name) => with_name(alloc, variables, name),
-        Control::With(name) => with_name(alloc, variables, name),
+        Control::If(name) => add_name(alloc, variables, name),
+        Control::With(name) => add_name(alloc, variables, name),
         Control::Range(index, element) => {
-            let variables = with_name(alloc, variables, index)?;
-            with_name(alloc, variables, element)
+            add_name(alloc, variables, index)?;
+            add_name(alloc, variables, element)
         }
     }
 }
 
-// With the variables of a control that live in its `else` part.
-fn with_else_names(
-    alloc: Global,
-    variables: List<Text>,
-    control: &Control,
-) -> Result<List<Text>, Memory>
-    ensures { IfOk result (λ new. new ≡ variables ++ else_names_of control.now) }
+// Adds the variables of a control that live in its `else` part.
+fn add_else_names(alloc: Global, variables: &mut Variables, control: &Control) -> Result<(), Memory>
+    ensures { OnOk result (variables.new ≡ variables.old ++ else_names_of control.now) }
 {
     match control {
-        Control::If(name) => with_name(alloc, variables, name),
-        Control::With(name) => with_name(alloc, variables, name),
-        Control::Range(_, _) => Ok(variables),
+        Control::If(name) => add_name(alloc, variables, name),
+        Control::With(name) => add_name(alloc, variables, name),
+        Control::Range(_, _) => Ok(()),
     }
 }
 
-fn with_name(
-    alloc: Global,
-    variables: List<Text>,
-    name: &Option<Text>,
-) -> Result<List<Text>, Memory>
-    ensures { IfOk result (λ new. new ≡ variables ++ names_of name.now) }
+fn add_name(alloc: Global, variables: &mut Variables, name: &Option<Text>) -> Result<(), Memory>
+    ensures { OnOk result (variables.new ≡ variables.old ++ names_of name.now) }
 {
-    let mut variables = variables;
-    if let Some(name) = name {
-        variables.push(Text::copy_of(alloc, name.as_str())?)?;
+    match name {
+        Some(name) => variables.push(Text::copy_of(alloc, name.as_str())?),
+        None => Ok(()),
     }
-    Ok(variables)
 }
 
-// The first variables, so many.
-fn first_of(variables: List<Text>, count: usize) -> List<Text>
-    ensures { result ≡ take count variables }
+// Begins the `else` part of the innermost control.
+#[inline(never)]
+pub fn begin_else(alloc: Global, nest: &mut Nest) -> Result<(), Memory>
+    ensures { OnOk result (nest.new ≡ with_else_of nest.old) }
 {
-    let mut variables = variables.into_vec();
-    variables.truncate(count);
-    List::from(variables)
-}
-
-// With the `else` part of the innermost control begun.
-pub fn with_else(alloc: Global, nest: Nest) -> Result<Nest, Memory>
-    ensures { IfOk result (λ new. new ≡ with_else_of nest) }
-{
-    let mut nest = nest;
     match nest.frames.pop() {
-        Some(Frame::Control(innermost)) => else_begun(alloc, nest, innermost),
+        Some(Frame::Control(innermost)) => begin_other(alloc, nest, innermost),
         Some(frame) => {
             nest.frames.push(frame)?;
-            Ok(nest)
+            Ok(())
         }
-        None => Ok(nest),
+        None => Ok(()),
     }
 }
 
 // The same, where the control was taken off the others that are open.
-fn else_begun(alloc: Global, nest: Nest, innermost: OpenControl) -> Result<Nest, Memory>
-    ensures { IfOk result (λ new. new ≡ else_from (frame.Control innermost ∷ nest.frames) nest) }
+fn begin_other(alloc: Global, nest: &mut Nest, innermost: OpenControl) -> Result<(), Memory>
+    ensures { OnOk result (nest.new ≡ other_begun innermost nest.old) }
 {
-    let Nest {
-        mut frames,
-        body,
-        variables,
-        in_range: _,
-        room,
-        blank: _,
-        found,
-    } = nest;
     let mut innermost = innermost;
-    innermost.first = Some(body);
-    let variables = first_of(variables, innermost.around.variables);
-    let variables = with_else_names(alloc, variables, &innermost.control)?;
-    let in_range = innermost.around.in_range;
-    frames.push(Frame::Control(innermost))?;
-    Ok(Nest {
-        frames,
-        body: Body::new(alloc),
-        variables,
-        in_range,
-        room,
-        blank: false,
-        found,
-    })
+    let first = mem::replace(&mut nest.body, Body::new(alloc));
+    innermost.first = Some(first);
+    nest.variables.truncate(innermost.around.variables);
+    add_else_names(alloc, &mut nest.variables, &innermost.control)?;
+    nest.in_range = innermost.around.in_range;
+    nest.blank = false;
+    nest.frames.push(Frame::Control(innermost))?;
+    Ok(())
 }
 
-// With the innermost control or definition closed by the action that begins there, and with an `else if` the control
-// around it.
-fn with_end(alloc: Global, nest: Nest, opening: Opening) -> Result<Nest, Memory>
-    ensures { IfOk result (λ new. new ≡ with_end_of opening nest) }
+// Closes the innermost control or definition by the action that begins there, and with an `else if` the control around it.
+#[inline(never)]
+fn close(alloc: Global, nest: &mut Nest, opening: Opening) -> Result<(), Memory>
+    ensures { OnOk result (nest.new ≡ with_end_of opening nest.old) }
 {
-    let mut nest = nest;
     loop {
         match nest.frames.pop() {
             Some(Frame::Control(innermost)) => {
                 let chained = innermost.chained;
-                nest = closed_control(alloc, nest, innermost)?;
+                close_control(alloc, nest, innermost)?;
                 if !chained {
-                    return Ok(nest);
+                    return Ok(());
                 }
             }
-            Some(Frame::Definition(innermost)) => return Ok(closed_definition(
-                nest, innermost, opening,
-            )),
-            None => return Ok(nest),
+            Some(Frame::Definition(innermost)) => {
+                close_definition(alloc, nest, innermost, opening);
+                return Ok(());
+            }
+            None => return Ok(()),
         }
     }
 }
 
-// With a control closed that was taken off the others that are open.
-fn closed_control(alloc: Global, nest: Nest, innermost: OpenControl) -> Result<Nest, Memory>
-    ensures { IfOk result (λ new. new ≡ closed_control_of nest.frames innermost nest) }
+// Closes a control that was taken off the others that are open.
+fn close_control(alloc: Global, nest: &mut Nest, innermost: OpenControl) -> Result<(), Memory>
+    ensures { OnOk result (nest.new ≡ closed_control_of nest.old.frames innermost nest.old) }
 {
     let OpenControl {
         control,
         pipe,
         line,
-        before: mut body,
+        before,
         first,
         chained: _,
         around,
     } = innermost;
+    let last = mem::replace(&mut nest.body, before);
     let (first, other) = match first {
-        Some(first) => (first, nest.body),
-        None => (nest.body, Body::new(alloc)),
+        Some(first) => (first, last),
+        None => (last, Body::new(alloc)),
     };
-    body.push(node_kind(control, pipe), line, first, other)?;
-    Ok(Nest {
-        frames: nest.frames,
-        body,
-        variables: first_of(nest.variables, around.variables),
-        in_range: around.in_range,
-        room: around.room,
-        blank: false,
-        found: nest.found,
-    })
+    nest.body
+        .push(node_kind(control, pipe), line, first, other)?;
+    nest.variables.truncate(around.variables);
+    nest.in_range = around.in_range;
+    nest.room = around.room;
+    nest.blank = false;
+    Ok(())
 }
 
 // The node of a control.
@@ -309,67 +248,64 @@ fn node_kind(control: Control, pipe: Pipe) -> NodeKind
     }
 }
 
-// With a definition opened, whose word is on a line, and whose body begins at a place. Until it is closed it stands among
-// the others without a tree.
-fn with_definition(
+// Opens a definition, whose word is on a line, and whose body begins at a place. Until it is closed it stands among the
+// others without a tree.
+#[inline(never)]
+fn open_definition(
     alloc: Global,
-    nest: Nest,
+    nest: &mut Nest,
     name: Text,
     line: u32,
     begins: u32,
-) -> Result<Nest, Memory>
-    ensures { IfOk result (λ new. new ≡ with_definition_of name line begins nest) }
+) -> Result<(), Memory>
+    ensures { OnOk result (nest.new ≡ with_definition_of name line begins nest.old) }
 {
-    let Nest {
-        mut frames,
-        body,
-        variables,
-        in_range,
-        room,
-        blank,
-        mut found,
-    } = nest;
-    let slot = found.as_slice().len();
+    let slot = nest.found.as_slice().len();
     let tree = Body::new(alloc).into_tree(1);
     let def = Def {
         name,
         blank: true,
         tree,
     };
-    found.push(Found { def, line })?;
-    frames.push(Frame::Definition(OpenDefinition {
+    nest.found.push(Found { def, line })?;
+    let before = mem::replace(&mut nest.body, Body::new(alloc));
+    let variables = mem::replace(&mut nest.variables, Variables::new(alloc));
+    nest.frames.push(Frame::Definition(OpenDefinition {
         slot,
         begins,
-        before: body,
+        before,
+        variables,
+        in_range: nest.in_range,
+        blank: nest.blank,
+    }))?;
+    nest.in_range = false;
+    nest.blank = true;
+    Ok(())
+}
+
+// Closes a definition that was taken off the others that are open.
+fn close_definition(alloc: Global, nest: &mut Nest, innermost: OpenDefinition, opening: Opening)
+    ensures { nest.new ≡ closed_definition_of nest.old.frames innermost opening nest.old }
+{
+    let OpenDefinition {
+        slot,
+        begins,
+        before,
         variables,
         in_range,
         blank,
-    }))?;
-    Ok(Nest {
-        frames,
-        body: Body::new(alloc),
-        variables: List::new(alloc),
-        in_range: false,
-        room,
-        blank: true,
+    } = innermost;
+    let body = mem::replace(&mut nest.body, before);
+    let found = mem::replace(&mut nest.found, List::new(alloc));
+    nest.found = filled(
         found,
-    })
-}
-
-// With a definition closed that was taken off the others that are open.
-fn closed_definition(nest: Nest, innermost: OpenDefinition, opening: Opening) -> Nest
-    ensures { result ≡ closed_definition_of nest.frames innermost opening nest }
-{
-    let tree = nest.body.into_tree(end_line(innermost.begins, opening));
-    Nest {
-        frames: nest.frames,
-        body: innermost.before,
-        variables: innermost.variables,
-        in_range: innermost.in_range,
-        room: nest.room,
-        blank: innermost.blank,
-        found: filled(nest.found, innermost.slot, nest.blank, tree),
-    }
+        slot,
+        nest.blank,
+        body.into_tree(end_line(begins, opening)),
+    );
+    nest.variables = variables;
+    nest.in_range = in_range;
+    nest.blank = blank;
 }
 
 // The line of the last byte of a body that begins at a place, and ends where an action begins; 1 where it is empty.
@@ -402,56 +338,77 @@ fn fill(found: &mut Found, blank: bool, tree: Tree)
     found.def.tree = tree;
 }
 
-// With what an action says that begins at the opening and ends before a place.
-pub fn done(
+// Adds what an action says that begins at the opening and ends before a place.
+pub fn add(
     alloc: Global,
-    nest: Nest,
+    nest: &mut Nest,
     deed: Deed,
     opening: Opening,
     end: u32,
-) -> Result<Nest, Memory>
-    ensures { IfOk result (λ new. new ≡ done_of deed opening end nest) }
+) -> Result<(), Memory>
+    ensures { OnOk result (nest.new ≡ done_of deed opening end nest.old) }
 {
     let line = opening.line;
     match deed {
-        Deed::Piped(purpose, pipe) => piped(alloc, nest, purpose, pipe, line, end),
-        Deed::Break => with_node(alloc, nest, NodeKind::Break, line),
-        Deed::Continue => with_node(alloc, nest, NodeKind::Continue, line),
-        Deed::Call(name) => with_node(alloc, nest, NodeKind::Template(name, None), line),
+        Deed::Piped(purpose, pipe) => add_pipe(alloc, nest, purpose, pipe, line, end),
+        Deed::Break => add_node(nest, NodeKind::Break, line),
+        Deed::Continue => add_node(nest, NodeKind::Continue, line),
+        Deed::Call(name) => add_node(nest, NodeKind::Template(name, None), line),
         // It began with its word.
-        Deed::Else => Ok(nest),
-        Deed::End => with_end(alloc, nest, opening),
-        Deed::Define(name, line) => with_definition(alloc, nest, name, line, end),
+        Deed::Else => Ok(()),
+        Deed::End => close(alloc, nest, opening),
+        Deed::Define(name, line) => open_definition(alloc, nest, name, line, end),
     }
 }
 
-// With what a pipe does, in an action on a line that ends before a place.
-fn piped(
+// Adds what a pipe does, whose purpose is taken out of its place.
+pub fn add_taken(
     alloc: Global,
-    nest: Nest,
+    nest: &mut Nest,
+    purpose: &mut Purpose,
+    pipe: Pipe,
+    line: u32,
+    end: u32,
+) -> Result<(), Memory>
+    ensures { OnOk result (nest.new ≡ piped_nest purpose.old pipe line end nest.old) }
+{
+    match purpose {
+        Purpose::Write => add_node(nest, NodeKind::Action(pipe), line),
+        _ => {
+            let purpose = mem::replace(purpose, Purpose::Write);
+            add_pipe(alloc, nest, purpose, pipe, line, end)
+        }
+    }
+}
+
+// Adds what a pipe does, in an action on a line that ends before a place.
+#[inline(never)]
+fn add_pipe(
+    alloc: Global,
+    nest: &mut Nest,
     purpose: Purpose,
     pipe: Pipe,
     line: u32,
     end: u32,
-) -> Result<Nest, Memory>
-    ensures { IfOk result (λ new. new ≡ piped_nest purpose pipe line end nest) }
+) -> Result<(), Memory>
+    ensures { OnOk result (nest.new ≡ piped_nest purpose pipe line end nest.old) }
 {
     match purpose {
-        Purpose::Write => with_node(alloc, nest, NodeKind::Action(pipe), line),
+        Purpose::Write => add_node(nest, NodeKind::Action(pipe), line),
         Purpose::Declare(name) => {
             let copy = Text::copy_of(alloc, name.as_str())?;
-            let nest = with_node(alloc, nest, NodeKind::Declare(name, pipe), line)?;
-            with_variable(nest, copy)
+            add_node(nest, NodeKind::Declare(name, pipe), line)?;
+            nest.variables.push(copy)
         }
-        Purpose::Assign(name) => with_node(alloc, nest, NodeKind::Assign(name, pipe), line),
-        Purpose::Control(control, chained) => { opened(alloc, nest, control, pipe, line, chained) }
-        Purpose::Template(name) => {
-            with_node(alloc, nest, NodeKind::Template(name, Some(pipe)), line)
+        Purpose::Assign(name) => add_node(nest, NodeKind::Assign(name, pipe), line),
+        Purpose::Control(control, chained) => {
+            open_control(alloc, nest, control, pipe, line, chained)
         }
+        Purpose::Template(name) => { add_node(nest, NodeKind::Template(name, Some(pipe)), line) }
         Purpose::Block(name, word) => {
             let copy = Text::copy_of(alloc, name.as_str())?;
-            let nest = with_node(alloc, nest, NodeKind::Template(name, Some(pipe)), line)?;
-            with_definition(alloc, nest, copy, word, end)
+            add_node(nest, NodeKind::Template(name, Some(pipe)), line)?;
+            open_definition(alloc, nest, copy, word, end)
         }
     }
 }

@@ -1,6 +1,6 @@
 ghost use Rattle.std.specs.Prelude.{◌≡◌, ◌≤◌, All, List, Ok, Err, length};
 ghost use Rattle.tpl_parse.specs.Files.{Answers, GivesFile, IsFile, IsRefused, place_of as place_in};
-ghost use Rattle.tpl_parse.specs.Parsing.{GivesParsed, end_of as end_of_text, parsed, token_refusal as token_refusal_of};
+ghost use Rattle.tpl_parse.specs.Parsing.{GivesParsed, end_of as end_of_text, parsed, parsed_text, token_refusal as token_refusal_of};
 ghost use Rattle.tpl_parse.specs.Turns.{Gives};
 ghost use Rattle.tpl_parse.specs.declared.definition.Def.{Def};
 ghost use Rattle.tpl_symbol.specs.Symbols.{IsFine, symbols_of};
@@ -10,8 +10,9 @@ ghost use Rattle.tpl_token.specs.Spans.{AreCuts, Ascend, IsCutAt};
 use crate::definition::{Def, File};
 use crate::finish::finish;
 use crate::head::Mode;
+use crate::nest::empty_nest;
 use crate::refused::{FileRefused, ParseStop};
-use crate::step::run_symbols;
+use crate::step::{ROOM, run_symbols};
 use page_io::{List, Memory};
 use std::alloc::Global;
 use tpl_pipe::ParseRefused;
@@ -20,7 +21,7 @@ use tpl_token::{Token, TokenRefused, tokens};
 
 /// The definitions of the template file with this name and text, of at most `tpl_token::MAX_TEXT` bytes: the grammar of Go's
 /// package text/template in our profile, which `specs/Grammar.antt` defines over the symbols of the text, and
-/// `docs/TEMPLATES.md` says in words. The error names why the text has no tokens, or the first token at which no
+/// `docs/LANGUAGE.md` says in words. The error names why the text has no tokens, or the first token at which no
 /// template goes on, with its line.
 pub fn parse_file(alloc: Global, name: &str, text: &str) -> Result<File, FileRefused>
     requires limit { length text.now ≤ max_text }
@@ -75,7 +76,7 @@ fn parse_tokens(
     requires limit { length text.now ≤ max_text }
     requires spans { Ascend 0 (length text.now) tokens.now }
     requires cuts { AreCuts text.now tokens.now }
-    ensures { GivesParsed result (parsed name.now (end_of_text text.now) (symbols_of text.now tokens.now)) }
+    ensures { GivesParsed result (parsed_text name.now text.now tokens.now) }
 {
     let Ok(symbols) = symbols(alloc, text, tokens) else {
         return Err(FileRefused::Memory);
@@ -105,9 +106,11 @@ fn parse_symbols(
     requires { All IsFine symbols.now }
     ensures { Gives result (parsed name.now end symbols.now) }
 {
-    match run_symbols(alloc, symbols) {
-        Ok(state) => match state.mode {
-            Mode::Outside => finish(alloc, state.nest, name, end),
+    let mut nest = empty_nest(alloc, ROOM);
+    let mut mode = Mode::Outside;
+    match run_symbols(alloc, &mut nest, &mut mode, symbols) {
+        Ok(()) => match mode {
+            Mode::Outside => finish(alloc, nest, name, end),
             Mode::Inside(_, _) => Err(ParseStop::Refused(ParseRefused::UnclosedBlock, end.line)),
         },
         Err(stop) => Err(stop),

@@ -11,7 +11,7 @@ pub enum FileRefused {
     /// `UnclosedBlock`, that of the variable for `UndefinedVariable`, and that of the word `define` or `block` of the second
     /// definition for `MultipleDefinition`, which is 1 for the file's own body.
     Parse(ParseRefused, u32),
-    /// Want of memory.
+    /// Out of memory.
     Memory,
 }
 
@@ -20,7 +20,7 @@ pub enum FileRefused {
 pub enum ParseStop {
     /// A symbol is refused, and its line.
     Refused(ParseRefused, u32),
-    /// Want of memory.
+    /// Out of memory.
     Memory,
 }
 

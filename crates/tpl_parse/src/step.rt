@@ -1,45 +1,62 @@
-ghost use Rattle.std.specs.Prelude.{◌≡◌, IfOk, All};
+ghost use Rattle.std.specs.Prelude.{◌≡◌, IfOk, OnOk, All};
 ghost use Rattle.tpl_parse.specs.Nests.{with_text as with_text_of};
-ghost use Rattle.tpl_parse.specs.Steps.{beginning, close_end as close_end_of, entered as entered_of, inside as inside_of, outside as outside_of, run, step as step_of};
-ghost use Rattle.tpl_parse.specs.Turns.{Gives};
+ghost use Rattle.tpl_parse.specs.Steps.{GivesHead, GivesState, Leaves, after_head, after_pipe, close_end as close_end_of, entered as entered_of, outside_by, run, state, step as step_of};
+ghost use Rattle.tpl_parse.specs.declared.head.Mode.TheVariants as mode_of;
+ghost use Rattle.tpl_parse.specs.Turns.{turn as turn_of};
 ghost use Rattle.tpl_symbol.specs.Symbols.{IsFine, IsFineText};
 
 use crate::deed::deed_of;
-use crate::head::{Head, Mode, Opening, State};
-use crate::nest::{Nest, done, empty_nest, with_else, with_text};
+use crate::head::{Head, Mode, Opening, Purpose};
+use crate::nest::{Nest, add, add_taken, add_text, begin_else};
 use crate::refused::ParseStop;
 use crate::turn::turn;
 use page_io::{List, Memory, Text};
 use std::alloc::Global;
-use tpl_pipe::ParseRefused;
+use tpl_pipe::{ParseRefused, PipeStop, Place, finish};
 use tpl_symbol::{Seam, Symbol, SymbolKind};
 
 /// How many controls and parentheses may be open at once.
-const ROOM: u32 = 100;
+pub const ROOM: u32 = 100;
 
-// Where a symbol leads.
-pub fn step(alloc: Global, state: State, symbol: &Symbol) -> Result<State, ParseStop>
+// Reads one symbol on.
+pub fn step(
+    alloc: Global,
+    nest: &mut Nest,
+    mode: &mut Mode,
+    symbol: &Symbol,
+) -> Result<(), ParseStop>
     requires { IsFine symbol.now }
-    ensures { Gives result (step_of state symbol.now) }
+    ensures { GivesState result nest.new mode.new (step_of (state nest.old mode.old) symbol.now) }
 {
-    let State { nest, mode } = state;
     match mode {
-        Mode::Outside => outside(alloc, nest, symbol),
-        Mode::Inside(opening, head) => inside(alloc, nest, opening, head, symbol),
+        Mode::Outside => outside(alloc, nest, mode, symbol),
+        Mode::Inside(opening, head) => match close_end(&symbol.kind) {
+            Some(end) => match end_action(alloc, nest, *opening, head, symbol.line, end) {
+                Ok(()) => {
+                    *mode = Mode::Outside;
+                    Ok(())
+                }
+                Err(stop) => Err(stop),
+            },
+            None => in_action(alloc, nest, head, symbol),
+        },
     }
 }
 
 // Outside actions stand texts and the beginnings of actions.
-fn outside(alloc: Global, nest: Nest, symbol: &Symbol) -> Result<State, ParseStop>
-    requires { IsFine symbol.now }
-    ensures { Gives result (outside_of symbol.now.kind symbol.now.line nest) }
+fn outside(
+    alloc: Global,
+    nest: &mut Nest,
+    mode: &mut Mode,
+    symbol: &Symbol,
+) -> Result<(), ParseStop>
+    requires kind { IsFine symbol.now }
+    requires mode { mode.old ≡ mode_of.Outside }
+    ensures { GivesState result nest.new mode.new (outside_by symbol.now nest.old) }
 {
     match &symbol.kind {
-        SymbolKind::Text(text, seams) => match texted(alloc, nest, text, symbol.line, seams) {
-            Ok(nest) => Ok(State {
-                nest,
-                mode: Mode::Outside,
-            }),
+        SymbolKind::Text(text, seams) => match add_copy(alloc, nest, text, symbol.line, seams) {
+            Ok(()) => Ok(()),
             Err(Memory) => Err(ParseStop::Memory),
         },
         SymbolKind::Open { start, before } => {
@@ -48,29 +65,28 @@ fn outside(alloc: Global, nest: Nest, symbol: &Symbol) -> Result<State, ParseSto
                 start: *start,
                 before: *before,
             };
-            Ok(State {
-                nest,
-                mode: Mode::Inside(opening, Head::Start),
-            })
+            *mode = Mode::Inside(opening, Head::Start);
+            Ok(())
         }
         _ => Err(ParseStop::Refused(ParseRefused::UnexpectedToken, symbol.line)),
     }
 }
 
-// With a text more, which is copied.
-fn texted(
+// Adds a copy of a text.
+#[inline(never)]
+fn add_copy(
     alloc: Global,
-    nest: Nest,
+    nest: &mut Nest,
     text: &Text,
     line: u32,
     seams: &List<Seam>,
-) -> Result<Nest, Memory>
+) -> Result<(), Memory>
     requires { IsFineText text.now line seams.now }
-    ensures { IfOk result (λ new. new ≡ with_text_of text.now line seams.now nest) }
+    ensures { OnOk result (nest.new ≡ with_text_of text.now line seams.now nest.old) }
 {
     let copy = Text::copy_of(alloc, text.as_str())?;
     let seams = copy_seams(alloc, seams)?;
-    with_text(nest, copy, line, seams)
+    add_text(nest, copy, line, seams)
 }
 
 fn copy_seams(alloc: Global, seams: &List<Seam>) -> Result<List<Seam>, Memory>
@@ -83,46 +99,91 @@ fn copy_seams(alloc: Global, seams: &List<Seam>) -> Result<List<Seam>, Memory>
     Ok(copies)
 }
 
-fn inside(
+// Adds what an action says that ends on a line, before a place.
+fn end_action(
     alloc: Global,
-    nest: Nest,
+    nest: &mut Nest,
     opening: Opening,
-    head: Head,
-    symbol: &Symbol,
-) -> Result<State, ParseStop>
-    ensures { Gives result (inside_of (close_end_of symbol.now.kind) opening head symbol.now nest) }
+    head: &mut Head,
+    line: u32,
+    end: u32,
+) -> Result<(), ParseStop>
+    ensures { Leaves result nest.new (after_head head.old opening line end nest.old) }
 {
-    match close_end(&symbol.kind) {
-        Some(end) => match deed_of(alloc, &nest, head, symbol.line) {
-            Ok(deed) => match done(alloc, nest, deed, opening, end) {
-                Ok(nest) => Ok(State {
-                    nest,
-                    mode: Mode::Outside,
-                }),
-                Err(Memory) => Err(ParseStop::Memory),
-            },
-            Err(stop) => Err(stop),
+    match head {
+        Head::Pipe(purpose, place) => { end_pipe(alloc, nest, opening, purpose, place, line, end) }
+        _ => end_from(alloc, nest, opening, head, line, end),
+    }
+}
+
+// The same in a pipe.
+fn end_pipe(
+    alloc: Global,
+    nest: &mut Nest,
+    opening: Opening,
+    purpose: &mut Purpose,
+    at: &mut Place,
+    line: u32,
+    end: u32,
+) -> Result<(), ParseStop>
+    ensures { Leaves result nest.new (after_pipe purpose.old at.old opening line end nest.old) }
+{
+    match finish(alloc, at) {
+        Ok(pipe) => match add_taken(alloc, nest, purpose, pipe, opening.line, end) {
+            Ok(()) => Ok(()),
+            Err(Memory) => Err(ParseStop::Memory),
         },
-        None => match turn(alloc, &nest, head, symbol) {
-            Ok(head) => match entered(alloc, nest, &head) {
-                Ok(nest) => Ok(State {
-                    nest,
-                    mode: Mode::Inside(opening, head),
-                }),
-                Err(Memory) => Err(ParseStop::Memory),
-            },
-            Err(stop) => Err(stop),
+        Err(PipeStop::Refused(refused)) => Err(ParseStop::Refused(refused, line)),
+        Err(PipeStop::Memory) => Err(ParseStop::Memory),
+    }
+}
+
+// The same from anywhere. It stands apart since most actions need none of its room.
+#[inline(never)]
+fn end_from(
+    alloc: Global,
+    nest: &mut Nest,
+    opening: Opening,
+    head: &mut Head,
+    line: u32,
+    end: u32,
+) -> Result<(), ParseStop>
+    ensures { Leaves result nest.new (after_head head.old opening line end nest.old) }
+{
+    match deed_of(alloc, nest, head, line) {
+        Ok(deed) => match add(alloc, nest, deed, opening, end) {
+            Ok(()) => Ok(()),
+            Err(Memory) => Err(ParseStop::Memory),
         },
+        Err(stop) => Err(stop),
+    }
+}
+
+// Reads a symbol on that does not end its action.
+fn in_action(
+    alloc: Global,
+    nest: &mut Nest,
+    head: &mut Head,
+    symbol: &Symbol,
+) -> Result<(), ParseStop>
+    ensures { GivesHead result nest.new head.new (turn_of head.old nest.old symbol.now) nest.old }
+{
+    match turn(alloc, nest, head, symbol) {
+        Ok(()) => match enter(alloc, nest, head) {
+            Ok(()) => Ok(()),
+            Err(Memory) => Err(ParseStop::Memory),
+        },
+        Err(stop) => Err(stop),
     }
 }
 
 // With the word `else` the `else` part begins.
-fn entered(alloc: Global, nest: Nest, head: &Head) -> Result<Nest, Memory>
-    ensures { IfOk result (λ new. new ≡ entered_of head.now nest) }
+fn enter(alloc: Global, nest: &mut Nest, head: &Head) -> Result<(), Memory>
+    ensures { OnOk result (nest.new ≡ entered_of head.now nest.old) }
 {
     match head {
-        Head::Else => with_else(alloc, nest),
-        _ => Ok(nest),
+        Head::Else => begin_else(alloc, nest),
+        _ => Ok(()),
     }
 }
 
@@ -136,20 +197,21 @@ fn close_end(kind: &SymbolKind) -> Option<u32>
     }
 }
 
-/// Where the symbols of a file lead.
-pub fn run_symbols(alloc: Global, symbols: &[Symbol]) -> Result<State, ParseStop>
+/// Reads the symbols of a file on.
+pub fn run_symbols(
+    alloc: Global,
+    nest: &mut Nest,
+    mode: &mut Mode,
+    symbols: &[Symbol],
+) -> Result<(), ParseStop>
     requires { All IsFine symbols.now }
-    ensures { Gives result (run beginning symbols.now) }
+    ensures { GivesState result nest.new mode.new (run (state nest.old mode.old) symbols.now) }
 {
-    let mut state = State {
-        nest: empty_nest(alloc, ROOM),
-        mode: Mode::Outside,
-    };
     for symbol in symbols {
-        match step(alloc, state, symbol) {
-            Ok(next) => state = next,
+        match step(alloc, nest, mode, symbol) {
+            Ok(()) => {}
             Err(stop) => return Err(stop),
         }
     }
-    Ok(state)
+    Ok(())
 }

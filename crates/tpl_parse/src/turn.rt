@@ -1,5 +1,5 @@
-ghost use Rattle.std.specs.Prelude.{◌≡◌, ◌-◌, IfOk};
-ghost use Rattle.tpl_parse.specs.Turns.{Gives, assigned as assigned_of, behind as behind_of, by_variable as by_variable_of, control_word as control_word_of, declaring as declaring_of, define_word as define_word_of, else_turn as else_turn_of, else_word as else_word_of, end_word as end_word_of, ends_if as ends_if_of, in_pipe as in_pipe_of, jump_word as jump_word_of, named as named_of, named_assign, named_comma, plain as plain_of, room_in as room_in_of, second as second_of, second_named as second_named_of, start_kind, start_of, start_word as start_word_of, turn as turn_of, name_in, refusal_stop, undeclared as undeclared_of, variable_place as variable_place_of};
+ghost use Rattle.std.specs.Prelude.{◌≡◌, ◌-◌, IfOk, Ok};
+ghost use Rattle.tpl_parse.specs.Turns.{Gives, GivesNew, ReadsOn, read_in, assigned as assigned_of, behind as behind_of, by_variable as by_variable_of, control_word as control_word_of, declaring as declaring_of, define_word as define_word_of, else_turn as else_turn_of, else_word as else_word_of, end_word as end_word_of, ends_if as ends_if_of, in_pipe as in_pipe_of, jump_word as jump_word_of, behind_named, named_assign, named_comma, plain as plain_of, room_in as room_in_of, second as second_of, behind_second, start_kind, start_of, start_word as start_word_of, turn as turn_of, name_in, refusal_stop, undeclared as undeclared_of, variable_place as variable_place_of};
 ghost use Rattle.tpl_parse.specs.declared.refused.ParseStop.TheVariants as stop;
 ghost use Rattle.tpl_pipe.specs.declared.refused.ParseRefused.TheVariants as refused;
 
@@ -9,41 +9,95 @@ use crate::nest::Nest;
 use crate::refused::ParseStop;
 use page_io::{List, Memory, Text};
 use std::alloc::Global;
-use tpl_pipe::{Current, Level, ParseRefused, PipeStop, Place, Stack, declared, pipe_start, read};
+use std::mem;
+use tpl_pipe::{Current, Level, ParseRefused, PipeStop, Place, Stack, pipe_start, read};
 use tpl_symbol::{Symbol, SymbolKind, Word};
 use tpl_tree::{Base, Operand};
 
-// Where a symbol leads that does not end the action.
-pub fn turn(alloc: Global, nest: &Nest, head: Head, symbol: &Symbol) -> Result<Head, ParseStop>
-    ensures { Gives result (turn_of head nest.now symbol.now) }
+// Reads a symbol on that does not end the action.
+pub fn turn(alloc: Global, nest: &Nest, head: &mut Head, symbol: &Symbol) -> Result<(), ParseStop>
+    ensures { GivesNew result head.new (turn_of head.old nest.now symbol.now) }
 {
     match head {
-        Head::Start => start(alloc, nest, symbol),
-        Head::Behind(before) => behind(alloc, nest, before, symbol),
-        Head::Named(before, name, line) => named(alloc, nest, before, name, line, symbol),
-        Head::Second(index) => second(alloc, index, symbol),
-        Head::SecondNamed(index, element, line) => {
-            second_named(alloc, nest, index, element, line, symbol)
+        Head::Pipe(_, place) => read_on(alloc, nest, place, symbol),
+        Head::Start => start(alloc, nest, head, symbol),
+        _ => turn_from(alloc, nest, head, symbol),
+    }
+}
+
+// The same from anywhere. It stands apart since most symbols need none of its room.
+#[inline(never)]
+fn turn_from(alloc: Global, nest: &Nest, head: &mut Head, symbol: &Symbol) -> Result<(), ParseStop>
+    ensures { GivesNew result head.new (turn_of head.old nest.now symbol.now) }
+{
+    match head {
+        Head::Pipe(_, place) => read_on(alloc, nest, place, symbol),
+        Head::Start => start(alloc, nest, head, symbol),
+        Head::Behind(before) => {
+            let before = *before;
+            behind(alloc, nest, before, head, symbol)
         }
-        Head::Pipe(purpose, place) => in_pipe(alloc, nest, purpose, place, symbol),
-        Head::Else => else_turn(nest, symbol),
+        Head::Named(before, name, line) => {
+            let before = *before;
+            let line = *line;
+            let name = mem::replace(name, Text::new(alloc));
+            named(alloc, nest, before, name, line, head, symbol)
+        }
+        Head::Second(index) => {
+            let index = mem::replace(index, Text::new(alloc));
+            second(alloc, index, head, symbol)
+        }
+        Head::SecondNamed(index, element, line) => {
+            let line = *line;
+            let index = mem::replace(index, Text::new(alloc));
+            let element = mem::replace(element, Text::new(alloc));
+            second_named(alloc, nest, index, element, line, head, symbol)
+        }
+        Head::Else => else_turn(nest, head, symbol),
         Head::Template => match name_of(alloc, symbol) {
-            Ok(name) => Ok(Head::TemplateNamed(name)),
+            Ok(name) => {
+                *head = Head::TemplateNamed(name);
+                Ok(())
+            }
             Err(stop) => Err(stop),
         },
         Head::TemplateNamed(name) => {
+            let name = mem::replace(name, Text::new(alloc));
             let place = pipe_start(alloc, nest.room);
-            in_pipe(alloc, nest, Purpose::Template(name), place, symbol)
+            in_pipe(alloc, nest, Purpose::Template(name), place, head, symbol)
         }
-        Head::Define(line) => match name_of(alloc, symbol) {
-            Ok(name) => Ok(Head::DefineNamed(name, line)),
-            Err(stop) => Err(stop),
-        },
-        Head::Block(line) => match name_of(alloc, symbol) {
-            Ok(name) => Ok(Head::Pipe(Purpose::Block(name, line), pipe_start(alloc, nest.room))),
-            Err(stop) => Err(stop),
-        },
+        Head::Define(line) => {
+            let line = *line;
+            match name_of(alloc, symbol) {
+                Ok(name) => {
+                    *head = Head::DefineNamed(name, line);
+                    Ok(())
+                }
+                Err(stop) => Err(stop),
+            }
+        }
+        Head::Block(line) => {
+            let line = *line;
+            match name_of(alloc, symbol) {
+                Ok(name) => {
+                    *head = Head::Pipe(Purpose::Block(name, line), pipe_start(alloc, nest.room));
+                    Ok(())
+                }
+                Err(stop) => Err(stop),
+            }
+        }
         _ => Err(unexpected(symbol.line)),
+    }
+}
+
+// The next place of a pipe.
+fn read_on(alloc: Global, nest: &Nest, place: &mut Place, symbol: &Symbol) -> Result<(), ParseStop>
+    ensures { ReadsOn result place.new symbol.now.line (read_in nest.now place.old symbol.now) }
+{
+    match read(alloc, &nest.variables, place, symbol) {
+        Ok(()) => Ok(()),
+        Err(PipeStop::Refused(refused)) => Err(ParseStop::Refused(refused, symbol.line)),
+        Err(PipeStop::Memory) => Err(ParseStop::Memory),
     }
 }
 
@@ -72,18 +126,23 @@ fn name_of(alloc: Global, symbol: &Symbol) -> Result<Text, ParseStop>
     }
 }
 
-// The next place of a pipe.
+// A pipe, from a place in it on.
 fn in_pipe(
     alloc: Global,
     nest: &Nest,
     purpose: Purpose,
     place: Place,
+    head: &mut Head,
     symbol: &Symbol,
-) -> Result<Head, ParseStop>
-    ensures { Gives result (in_pipe_of nest.now purpose place symbol.now) }
+) -> Result<(), ParseStop>
+    ensures { GivesNew result head.new (in_pipe_of nest.now purpose place symbol.now) }
 {
-    match read(alloc, nest.variables.as_slice(), place, symbol) {
-        Ok(place) => Ok(Head::Pipe(purpose, place)),
+    let mut place = place;
+    match read(alloc, &nest.variables, &mut place, symbol) {
+        Ok(()) => {
+            *head = Head::Pipe(purpose, place);
+            Ok(())
+        }
         Err(PipeStop::Refused(refused)) => Err(ParseStop::Refused(refused, symbol.line)),
         Err(PipeStop::Memory) => Err(ParseStop::Memory),
     }
@@ -125,7 +184,7 @@ pub fn room_in(before: Before, room: u32) -> u32
     }
 }
 
-// The place behind a variable that a pipe begins with.
+// The place after a variable that a pipe begins with.
 pub fn variable_place(alloc: Global, room: u32, name: Text) -> Place
     ensures { result ≡ variable_place_of room name }
 {
@@ -143,83 +202,104 @@ pub fn variable_place(alloc: Global, room: u32, name: Text) -> Place
     }
 }
 
-fn start(alloc: Global, nest: &Nest, symbol: &Symbol) -> Result<Head, ParseStop>
-    ensures { Gives result (start_kind symbol.now.kind nest.now symbol.now) }
+fn start(alloc: Global, nest: &Nest, head: &mut Head, symbol: &Symbol) -> Result<(), ParseStop>
+    ensures { GivesNew result head.new (start_kind symbol.now.kind nest.now symbol.now) }
 {
     match &symbol.kind {
-        SymbolKind::Word(word) => start_word(alloc, nest, *word, symbol),
-        _ => behind(alloc, nest, Before::Action, symbol),
+        SymbolKind::Word(word) => start_word(alloc, nest, *word, head, symbol),
+        _ => behind(alloc, nest, Before::Action, head, symbol),
     }
 }
 
-fn start_word(alloc: Global, nest: &Nest, word: Word, symbol: &Symbol) -> Result<Head, ParseStop>
-    ensures { Gives result (start_word_of word nest.now symbol.now) }
+#[inline(never)]
+fn start_word(
+    alloc: Global,
+    nest: &Nest,
+    word: Word,
+    head: &mut Head,
+    symbol: &Symbol,
+) -> Result<(), ParseStop>
+    ensures { GivesNew result head.new (start_word_of word nest.now symbol.now) }
 {
+    let line = symbol.line;
     match word {
-        Word::If => control_word(nest, Before::If, symbol.line),
-        Word::With => control_word(nest, Before::With, symbol.line),
-        Word::Range => control_word(nest, Before::Range, symbol.line),
-        Word::Else => else_word(nest, symbol.line),
+        Word::If => control_word(nest, Before::If, head, line),
+        Word::With => control_word(nest, Before::With, head, line),
+        Word::Range => control_word(nest, Before::Range, head, line),
+        Word::Else => else_word(nest, head, line),
         Word::End if nest.frames.is_empty() => {
-            Err(ParseStop::Refused(ParseRefused::UnexpectedEnd, symbol.line))
+            Err(ParseStop::Refused(ParseRefused::UnexpectedEnd, line))
         }
-        Word::End => Ok(Head::End),
-        Word::Break => jump_word(nest, Head::Break, symbol.line),
-        Word::Continue => jump_word(nest, Head::Continue, symbol.line),
-        Word::Template => Ok(Head::Template),
-        Word::Define if nest.frames.is_empty() => Ok(Head::Define(symbol.line)),
-        Word::Define => Err(ParseStop::Refused(ParseRefused::DefineNested, symbol.line)),
-        Word::Block => Ok(Head::Block(symbol.line)),
-        Word::True => behind(alloc, nest, Before::Action, symbol),
-        Word::False => behind(alloc, nest, Before::Action, symbol),
-        Word::Nil => behind(alloc, nest, Before::Action, symbol),
+        Word::End => becomes(head, Head::End),
+        Word::Break => jump_word(nest, Head::Break, head, line),
+        Word::Continue => jump_word(nest, Head::Continue, head, line),
+        Word::Template => becomes(head, Head::Template),
+        Word::Define if nest.frames.is_empty() => becomes(head, Head::Define(line)),
+        Word::Define => Err(ParseStop::Refused(ParseRefused::DefineNested, line)),
+        Word::Block => becomes(head, Head::Block(line)),
+        Word::True => behind(alloc, nest, Before::Action, head, symbol),
+        Word::False => behind(alloc, nest, Before::Action, head, symbol),
+        Word::Nil => behind(alloc, nest, Before::Action, head, symbol),
     }
 }
 
-fn control_word(nest: &Nest, before: Before, line: u32) -> Result<Head, ParseStop>
-    ensures { Gives result (control_word_of nest.now before line) }
+fn becomes(head: &mut Head, next: Head) -> Result<(), ParseStop>
+    ensures { GivesNew result head.new (Ok next) }
+{
+    *head = next;
+    Ok(())
+}
+
+fn control_word(nest: &Nest, before: Before, head: &mut Head, line: u32) -> Result<(), ParseStop>
+    ensures { GivesNew result head.new (control_word_of nest.now before line) }
 {
     if nest.room == 0 {
         Err(ParseStop::Refused(ParseRefused::TooNested, line))
     } else {
-        Ok(Head::Behind(before))
+        becomes(head, Head::Behind(before))
     }
 }
 
-fn else_word(nest: &Nest, line: u32) -> Result<Head, ParseStop>
-    ensures { Gives result (else_word_of nest.now.frames line) }
+fn else_word(nest: &Nest, head: &mut Head, line: u32) -> Result<(), ParseStop>
+    ensures { GivesNew result head.new (else_word_of nest.now.frames line) }
 {
     match nest.frames.top() {
         Some(Frame::Control(control)) => match &control.first {
             Some(_) => Err(ParseStop::Refused(ParseRefused::ElseTwice, line)),
-            None => Ok(Head::Else),
+            None => becomes(head, Head::Else),
         },
         _ => Err(ParseStop::Refused(ParseRefused::UnexpectedEnd, line)),
     }
 }
 
-fn jump_word(nest: &Nest, head: Head, line: u32) -> Result<Head, ParseStop>
-    ensures { Gives result (jump_word_of nest.now.in_range head line) }
+fn jump_word(nest: &Nest, next: Head, head: &mut Head, line: u32) -> Result<(), ParseStop>
+    ensures { GivesNew result head.new (jump_word_of nest.now.in_range next line) }
 {
     if nest.in_range {
-        Ok(head)
+        becomes(head, next)
     } else {
         Err(ParseStop::Refused(ParseRefused::BreakOutside, line))
     }
 }
 
-// Behind `{{`, or behind a control's word.
-fn behind(alloc: Global, nest: &Nest, before: Before, symbol: &Symbol) -> Result<Head, ParseStop>
-    ensures { Gives result (behind_of nest.now before symbol.now) }
+// Behind `{{`, or after a control's word.
+fn behind(
+    alloc: Global,
+    nest: &Nest,
+    before: Before,
+    head: &mut Head,
+    symbol: &Symbol,
+) -> Result<(), ParseStop>
+    ensures { GivesNew result head.new (behind_of nest.now before symbol.now) }
 {
     match &symbol.kind {
         SymbolKind::Variable(name) => match copy(alloc, name) {
-            Ok(name) => Ok(Head::Named(before, name, symbol.line)),
+            Ok(name) => becomes(head, Head::Named(before, name, symbol.line)),
             Err(Memory) => Err(ParseStop::Memory),
         },
         _ => {
             let place = pipe_start(alloc, room_in(before, nest.room));
-            in_pipe(alloc, nest, plain(before), place, symbol)
+            in_pipe(alloc, nest, plain(before), place, head, symbol)
         }
     }
 }
@@ -231,26 +311,36 @@ fn named(
     before: Before,
     name: Text,
     line: u32,
+    head: &mut Head,
     symbol: &Symbol,
-) -> Result<Head, ParseStop>
-    ensures { Gives result (named_of symbol.now.kind before nest.now name line symbol.now) }
+) -> Result<(), ParseStop>
+    ensures { GivesNew result head.new (behind_named before nest.now name line symbol.now) }
 {
     match (&symbol.kind, before) {
         (SymbolKind::Declare, _) => {
             let place = pipe_start(alloc, room_in(before, nest.room));
-            Ok(Head::Pipe(declaring(before, name), place))
+            becomes(head, Head::Pipe(declaring(before, name), place))
         }
-        (SymbolKind::Assign, Before::Action) => assigned(alloc, nest, name, line),
-        (SymbolKind::Comma, Before::Range) => Ok(Head::Second(name)),
-        _ => by_variable(alloc, nest, before, name, line, symbol),
+        (SymbolKind::Assign, Before::Action) => assigned(alloc, nest, name, line, head),
+        (SymbolKind::Comma, Before::Range) => becomes(head, Head::Second(name)),
+        _ => by_variable(alloc, nest, before, name, line, head, symbol),
     }
 }
 
-fn assigned(alloc: Global, nest: &Nest, name: Text, line: u32) -> Result<Head, ParseStop>
-    ensures { Gives result (assigned_of nest.now name line) }
+fn assigned(
+    alloc: Global,
+    nest: &Nest,
+    name: Text,
+    line: u32,
+    head: &mut Head,
+) -> Result<(), ParseStop>
+    ensures { GivesNew result head.new (assigned_of nest.now name line) }
 {
-    if declared(nest.variables.as_slice(), &name) {
-        Ok(Head::Pipe(Purpose::Assign(name), pipe_start(alloc, nest.room)))
+    if nest.variables.has(&name) {
+        becomes(
+            head,
+            Head::Pipe(Purpose::Assign(name), pipe_start(alloc, nest.room)),
+        )
     } else {
         Err(ParseStop::Refused(ParseRefused::UndefinedVariable, line))
     }
@@ -263,25 +353,26 @@ fn by_variable(
     before: Before,
     name: Text,
     line: u32,
+    head: &mut Head,
     symbol: &Symbol,
-) -> Result<Head, ParseStop>
-    ensures { Gives result (by_variable_of nest.now before name line symbol.now) }
+) -> Result<(), ParseStop>
+    ensures { GivesNew result head.new (by_variable_of nest.now before name line symbol.now) }
 {
-    if declared(nest.variables.as_slice(), &name) {
+    if nest.variables.has(&name) {
         let place = variable_place(alloc, room_in(before, nest.room), name);
-        in_pipe(alloc, nest, plain(before), place, symbol)
+        in_pipe(alloc, nest, plain(before), place, head, symbol)
     } else {
         Err(ParseStop::Refused(ParseRefused::UndefinedVariable, line))
     }
 }
 
 // Behind `range $i,`.
-fn second(alloc: Global, index: Text, symbol: &Symbol) -> Result<Head, ParseStop>
-    ensures { Gives result (second_of symbol.now.kind index symbol.now.line) }
+fn second(alloc: Global, index: Text, head: &mut Head, symbol: &Symbol) -> Result<(), ParseStop>
+    ensures { GivesNew result head.new (second_of symbol.now.kind index symbol.now.line) }
 {
     match &symbol.kind {
         SymbolKind::Variable(element) => match copy(alloc, element) {
-            Ok(element) => Ok(Head::SecondNamed(index, element, symbol.line)),
+            Ok(element) => becomes(head, Head::SecondNamed(index, element, symbol.line)),
             Err(Memory) => Err(ParseStop::Memory),
         },
         _ => Err(unexpected(symbol.line)),
@@ -295,15 +386,16 @@ fn second_named(
     index: Text,
     element: Text,
     line: u32,
+    head: &mut Head,
     symbol: &Symbol,
-) -> Result<Head, ParseStop>
-    ensures { Gives result (second_named_of symbol.now.kind nest.now index element line symbol.now.line) }
+) -> Result<(), ParseStop>
+    ensures { GivesNew result head.new (behind_second nest.now index element line symbol.now) }
 {
     match &symbol.kind {
         SymbolKind::Declare => {
             let place = pipe_start(alloc, nest.room.saturating_sub(1));
             let control = Control::Range(Some(index), Some(element));
-            Ok(Head::Pipe(Purpose::Control(control, false), place))
+            becomes(head, Head::Pipe(Purpose::Control(control, false), place))
         }
         SymbolKind::Comma => Err(unexpected(symbol.line)),
         _ => Err(undeclared(nest, &element, line, symbol.line)),
@@ -314,7 +406,7 @@ fn second_named(
 pub fn undeclared(nest: &Nest, name: &Text, line: u32, now: u32) -> ParseStop
     ensures { result ≡ refusal_stop (undeclared_of nest.now.variables name.now line now) }
 {
-    if declared(nest.variables.as_slice(), name) {
+    if nest.variables.has(name) {
         unexpected(now)
     } else {
         ParseStop::Refused(ParseRefused::UndefinedVariable, line)
@@ -322,12 +414,12 @@ pub fn undeclared(nest: &Nest, name: &Text, line: u32, now: u32) -> ParseStop
 }
 
 // Behind `else`.
-fn else_turn(nest: &Nest, symbol: &Symbol) -> Result<Head, ParseStop>
-    ensures { Gives result (else_turn_of symbol.now.kind nest.now symbol.now.line) }
+fn else_turn(nest: &Nest, head: &mut Head, symbol: &Symbol) -> Result<(), ParseStop>
+    ensures { GivesNew result head.new (else_turn_of symbol.now.kind nest.now symbol.now.line) }
 {
     match &symbol.kind {
         SymbolKind::Word(Word::If) if ends_if(nest) => {
-            control_word(nest, Before::ElseIf, symbol.line)
+            control_word(nest, Before::ElseIf, head, symbol.line)
         }
         _ => Err(unexpected(symbol.line)),
     }

@@ -1,3 +1,4 @@
 pub mod Onto
 pub mod PipeLeads
 pub mod PipeSays
+pub mod VariableNumbers

@@ -7,7 +7,7 @@ use Rattle.tpl_tree.specs.View.{commands_view, operands_view}
 use Rattle.tpl_tree.specs.declared.pipe.Command.{Command}
 use Rattle.tpl_tree.specs.declared.pipe.Operand.{Operand}
 
--- the first of a list is the last behind the others
+-- the first of a list is the last after the others
 front : {X : Type 0} (x : X) (xs ys : List X) → reverse (x ∷ xs) ++ ys ≡ reverse xs ++ (x ∷ ys)
 front x xs ys = ap (λ zs. zs ++ ys) (reverse_onto xs x []) ∙ append_assoc (reverse xs) (x ∷ []) ys
 

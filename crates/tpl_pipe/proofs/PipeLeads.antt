@@ -42,7 +42,7 @@ base_back dot = refl
 base_back (variable name) = refl
 base_back (paren p) = refl
 
--- where an operand stands: alone, or behind a function and others
+-- where an operand stands: alone, or after a function and others
 pub data Slot : Type 0 where
   lone : Slot
   called : Func → List Operand → Slot
@@ -98,7 +98,7 @@ fields_lead variables outer room cs slot b fields (name ∷ names) (s ∷ symbol
     ∙ fields_lead variables outer room cs slot b (fields ++ name ∷ []) names h.0 rest (takes_more b fields name e) h.2
     ∙ ap (λ (fs : List (List ℕ)). read_pipe variables (place outer (level room cs (fill slot (operand_of b fs)))) rest) (append_assoc fields (name ∷ []) names)
 
--- an operand may come where nothing stands, or behind a function, and there it is the last one
+-- an operand may come where nothing stands, or after a function, and there it is the last one
 abbrev pub slot_of : Current → Slot
 slot_of current.Nothing = lone
 slot_of (current.Alone _) = lone

@@ -215,7 +215,7 @@ is_field _ = false
 other : (what : SymbolKind) (s : Symbol) (symbols : List Symbol) → s.kind ≡ what → is_field what ≡ false → Bare (s ∷ symbols)
 other what s symbols k e name more t = true≢false (sym (ap is_field t.0) ∙ ap is_field k ∙ e)
 
--- what is read behind the next symbol
+-- what is read after the next symbol
 abbrev pub Later : List (List ℕ) → List Symbol → Type 0
 Later variables symbols = (outer : List Level) (l : Level) → Says variables outer l symbols (read_pipe variables (place outer l) symbols)
 

@@ -28,7 +28,7 @@ IsNil (with_fields nil fields) = ⊤
 IsNil _ = ⊥
 
 abbrev mutual
-  -- a pipe, where variables of these names are declared, and so many more parentheses may be opened: a command, and calls behind bars
+  -- a pipe, where variables of these names are declared, and so many more parentheses may be opened: a command, and calls after bars
   pub IsPipe : List (List ℕ) → ℕ → PipeData → List Symbol → List Symbol → Type 0
   IsPipe variables room no_commands symbols rest = ⊥
   IsPipe variables room (command c more) symbols rest =

@@ -49,7 +49,7 @@ ended_with None (_ ∷ _) = Err refused.UnexpectedToken
 abbrev pub ended_pipe : Level → Result PipeData ParseRefused
 ended_pipe l = ended_with (ended l.current) l.commands
 
--- an operand may come: first of all, or behind a function
+-- an operand may come: first of all, or after a function
 abbrev pub may_take : Current → List Command → Bool
 may_take current.Nothing [] = true
 may_take current.Nothing (_ ∷ _) = false
@@ -66,6 +66,10 @@ take_into o (current.Calls f os) = current.Calls f (o ∷ os)
 
 abbrev pub with_operand : Operand → Level → Level
 with_operand o l = level l.room l.commands (take_into o l.current)
+
+-- an operand more, which is a field
+abbrev pub with_own_field : List ℕ → Level → Level
+with_own_field name l = with_operand (operand_of base.Dot (name ∷ [])) l
 
 -- fields may follow a variable, fields and a parenthesis
 abbrev pub base_takes : Base → List (List ℕ) → Bool

@@ -3,3 +3,4 @@ pub mod Levels
 pub mod Reading
 pub mod Runs
 pub mod Stacks
+pub mod Variables

@@ -18,6 +18,7 @@ use Rattle.tpl_symbol.specs.declared.symbol.SymbolKind.TheVariants as kind
 use Rattle.tpl_symbol.specs.declared.word.Word.{Word}
 use Rattle.tpl_symbol.specs.declared.word.Word.TheVariants as word
 use Rattle.tpl_tree.specs.Pipes.{PipeData}
+use Rattle.tpl_tree.specs.declared.pipe.Base.{Base}
 use Rattle.tpl_tree.specs.declared.pipe.Base.TheVariants as base
 use Rattle.tpl_tree.specs.declared.pipe.Command.{Command}
 use Rattle.tpl_tree.specs.declared.pipe.Operand.{Operand}
@@ -38,6 +39,9 @@ Step = Result Place ParseRefused
 abbrev pub read_operand : Operand → List Level → Level → Step
 read_operand o outer l = if takes_operand l then Ok (place outer (with_operand o l)) else Err refused.UnexpectedToken
 
+abbrev pub operand_read : Base → Place → Step
+operand_read b at = read_operand (operand_of b []) at.outer at.level
+
 -- `nil`, which is no whole command
 abbrev pub read_nil : List Level → Current → Level → Step
 read_nil outer current.Nothing l = Err refused.UnexpectedToken
@@ -48,6 +52,9 @@ abbrev pub read_variable : List (List ℕ) → List ℕ → List Level → Level
 read_variable variables name outer l =
     if takes_operand l then (if declared variables name then Ok (place outer (with_operand (operand_of (base.Variable name) []) l)) else Err refused.UndefinedVariable)
     else Err refused.UnexpectedToken
+
+abbrev pub variable_read : List (List ℕ) → List ℕ → Place → Step
+variable_read variables name at = read_variable variables name at.outer at.level
 
 -- a field of the operand that it touches, or an operand of its own
 abbrev pub read_field : List ℕ → Bool → List Level → Level → Step
@@ -78,6 +85,9 @@ abbrev pub read_function : Func → List Level → Current → Level → Step
 read_function f outer current.Nothing l = Ok (place outer (level l.room l.commands (current.Calls f [])))
 read_function f outer (current.Alone _) l = Err refused.UnexpectedToken
 read_function f outer (current.Calls _ _) l = Err refused.UnexpectedToken
+
+abbrev pub function_read : Func → Place → Step
+function_read f at = read_function f at.outer at.level.current at.level
 
 abbrev pub read_unknown : Current → Step
 read_unknown current.Nothing = Err refused.UnknownFunction
@@ -121,6 +131,12 @@ abbrev pub Gives : {X Y : Type 0} → (X → Y) → Result X PipeStop → Result
 Gives view (Ok x) wanted = wanted ≡ Ok (view x)
 Gives view (Err (stop.Refused why)) wanted = wanted ≡ Err why
 Gives view (Err stop.Memory) wanted = ⊤
+
+-- what is new is this, or memory ran out
+abbrev pub GivesNew : {U X : Type 0} → Result U PipeStop → X → Result X ParseRefused → Type 0
+GivesNew (Ok _) new wanted = wanted ≡ Ok new
+GivesNew (Err (stop.Refused why)) new wanted = wanted ≡ Err why
+GivesNew (Err stop.Memory) new wanted = ⊤
 
 -- what was returned is this, or memory ran out
 abbrev pub Keeps : {X : Type 0} → X → Result X Memory → Type 0

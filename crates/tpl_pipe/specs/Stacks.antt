@@ -5,3 +5,8 @@ use Rattle.std.specs.Prelude.{◌≡◌, List, [], ◌∷◌, Option, Some, None
 abbrev pub Popped : {X : Type 0} → List X → Option X → List X → Type 0
 Popped old None new = (old ≡ []) × (new ≡ [])
 Popped old (Some top) new = old ≡ top ∷ new
+
+module _ {X : Type 0} where
+  -- this one is on top
+  abbrev pub HasTop : X → List X → Type 0
+  HasTop top all = (below : List X) × (all ≡ top ∷ below)

@@ -1,5 +1,5 @@
-ghost use Rattle.std.specs.Prelude.{◌≡◌, ◌<◌, IfOk};
-ghost use Rattle.tpl_pipe.specs.Levels.{add_field as add_field_of, ended as ended_of, ended_pipe, fresh, last_takes as last_takes_of, takes_field as takes_field_of, takes_operand as takes_operand_of, take_into as take_into_of, field_into as field_into_of, with_field as with_field_of, with_operand as with_operand_of};
+ghost use Rattle.std.specs.Prelude.{◌≡◌, ◌<◌, OnOk};
+ghost use Rattle.tpl_pipe.specs.Levels.{add_field as with_one_field, ended as ended_of, ended_pipe, fresh, last_takes as last_takes_of, takes_field as takes_field_of, takes_operand as takes_operand_of, take_into as take_into_of, field_into as field_into_of, with_field as with_field_of, with_operand as with_operand_of};
 ghost use Rattle.tpl_pipe.specs.Reading.{Gives};
 ghost use Rattle.tpl_tree.specs.View.{pipe_view};
 
@@ -8,6 +8,7 @@ use crate::refused::{ParseRefused, PipeStop};
 use crate::stack::Stack;
 use page_io::{Memory, Text};
 use std::alloc::Global;
+use std::mem;
 use tpl_tree::{Base, Command, Commands, Operand, Operands, Pipe};
 
 // A pipe of which nothing is read, in which so many parentheses may be opened.
@@ -21,7 +22,7 @@ pub fn fresh_level(alloc: Global, room: u32) -> Level
     }
 }
 
-// Whether an operand may come: first of all, or behind a function.
+// Whether an operand may come: first of all, or after a function.
 pub fn takes_operand(level: &Level) -> bool
     ensures { result ≡ takes_operand_of level.now }
 {
@@ -32,32 +33,21 @@ pub fn takes_operand(level: &Level) -> bool
     }
 }
 
-// With an operand more.
-pub fn with_operand(level: Level, operand: Operand) -> Result<Level, Memory>
-    ensures { IfOk result (λ new. new ≡ with_operand_of operand level) }
+// Adds an operand.
+pub fn add_operand(level: &mut Level, operand: Operand) -> Result<(), Memory>
+    ensures { OnOk result (level.new ≡ with_operand_of operand level.old) }
 {
-    let Level {
-        room,
-        commands,
-        current,
-    } = level;
-    let current = take_into(operand, current)?;
-    Ok(Level {
-        room,
-        commands,
-        current,
-    })
+    take_into(operand, &mut level.current)
 }
 
-fn take_into(operand: Operand, current: Current) -> Result<Current, Memory>
-    ensures { IfOk result (λ new. new ≡ take_into_of operand current) }
+fn take_into(operand: Operand, current: &mut Current) -> Result<(), Memory>
+    ensures { OnOk result (current.new ≡ take_into_of operand current.old) }
 {
     match current {
-        Current::Nothing => Ok(Current::Alone(operand)),
-        Current::Alone(_) => Ok(Current::Alone(operand)),
-        Current::Calls(func, mut operands) => {
-            operands.push(operand)?;
-            Ok(Current::Calls(func, operands))
+        Current::Calls(_, operands) => operands.push(operand),
+        _ => {
+            *current = Current::Alone(operand);
+            Ok(())
         }
     }
 }
@@ -88,44 +78,27 @@ pub fn last_takes(current: &Current) -> bool
     }
 }
 
-// With a field more, where the last operand takes one; else the level as it was.
-pub fn with_field(level: Level, name: Text) -> Result<Level, Memory>
-    ensures { IfOk result (λ new. new ≡ with_field_of name level) }
+// Adds a field, where the last operand takes one.
+pub fn add_field(level: &mut Level, name: Text) -> Result<(), Memory>
+    ensures { OnOk result (level.new ≡ with_field_of name level.old) }
 {
-    let Level {
-        room,
-        commands,
-        current,
-    } = level;
-    let current = field_into(name, current)?;
-    Ok(Level {
-        room,
-        commands,
-        current,
-    })
+    field_into(name, &mut level.current)
 }
 
-fn field_into(name: Text, current: Current) -> Result<Current, Memory>
-    ensures { IfOk result (λ new. new ≡ field_into_of name current) }
+fn field_into(name: Text, current: &mut Current) -> Result<(), Memory>
+    ensures { OnOk result (current.new ≡ field_into_of name current.old) }
 {
     match current {
-        Current::Nothing => Ok(Current::Nothing),
-        Current::Alone(operand) => Ok(Current::Alone(add_field(name, operand)?)),
-        Current::Calls(func, mut operands) => {
-            if let Some(last) = operands.pop() {
-                operands.push(add_field(name, last)?)?;
+        Current::Nothing => Ok(()),
+        Current::Alone(operand) => operand.fields.push(name),
+        Current::Calls(_, operands) => match operands.pop() {
+            Some(mut last) => {
+                last.fields.push(name)?;
+                operands.push(last)
             }
-            Ok(Current::Calls(func, operands))
-        }
+            None => Ok(()),
+        },
     }
-}
-
-fn add_field(name: Text, operand: Operand) -> Result<Operand, Memory>
-    ensures { IfOk result (λ new. new ≡ add_field_of name operand) }
-{
-    let Operand { base, mut fields } = operand;
-    fields.push(name)?;
-    Ok(Operand { base, fields })
 }
 
 // The command that was read, as one that ends here.
@@ -142,16 +115,13 @@ pub fn ended(current: Current) -> Option<Command>
     }
 }
 
-// The pipe that was read, as one that ends here.
+// The pipe that was read, as one that ends here, taken out of the level.
 #[tactic(auto, using(crate::proofs::Onto::commands_in_order))]
-pub fn into_pipe(level: Level) -> Result<Pipe, PipeStop>
-    ensures { Gives pipe_view result (ended_pipe level) }
+pub fn take_pipe(alloc: Global, level: &mut Level) -> Result<Pipe, PipeStop>
+    ensures { Gives pipe_view result (ended_pipe level.old) }
 {
-    let Level {
-        room: _,
-        mut commands,
-        current,
-    } = level;
+    let current = mem::replace(&mut level.current, Current::Nothing);
+    let mut commands = mem::replace(&mut level.commands, Stack::new(alloc));
     match ended(current) {
         Some(command) => match commands.push(command) {
             Ok(()) => Ok(Pipe {

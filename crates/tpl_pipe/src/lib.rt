@@ -6,8 +6,10 @@ mod place;
 mod reading;
 mod refused;
 mod stack;
+mod variables;
 
 pub use place::{Current, Level, Place};
-pub use reading::{declared, finish, pipe_start, read};
+pub use reading::{finish, pipe_start, read};
 pub use refused::{ParseRefused, PipeStop};
 pub use stack::Stack;
+pub use variables::Variables;

@@ -32,7 +32,7 @@ pub enum ParseRefused {
 pub enum PipeStop {
     /// The symbol may not stand there.
     Refused(ParseRefused),
-    /// Want of memory.
+    /// Out of memory.
     Memory,
 }
 

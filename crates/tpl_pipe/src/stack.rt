@@ -1,5 +1,5 @@
-ghost use Rattle.std.specs.Prelude.{◌≡◌, ◌∷◌, [], IsTrue, ◌↔◌, OnOk, MatchOption, List, reverse};
-ghost use Rattle.tpl_pipe.specs.Stacks.{Popped};
+ghost use Rattle.std.specs.Prelude.{◌≡◌, ◌∷◌, [], IsTrue, ◌↔◌, OnOk, MatchOption, reverse};
+ghost use Rattle.tpl_pipe.specs.Stacks.{HasTop, Popped};
 
 use page_io::Memory;
 use std::alloc::Global;
@@ -36,7 +36,7 @@ impl<T> Stack<T> {
         self.items.is_empty()
     }
 
-    /// Puts a value on top. The error is want of memory.
+    /// Puts a value on top. The error is out of memory.
     pub fn push(&mut self, value: T) -> Result<(), Memory>
     where
         T: Drop,
@@ -55,7 +55,7 @@ impl<T> Stack<T> {
 
     /// The value on top, where there is one.
     pub fn top(&self) -> Option<&T>
-        ensures { MatchOption result (self.now ≡ []) (λ top. (below : List T) × (self.now ≡ top.now ∷ below)) }
+        ensures { MatchOption result (self.now ≡ []) (λ top. HasTop top.now self.now) }
     {
         self.items.last()
     }

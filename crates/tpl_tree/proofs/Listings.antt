@@ -1,5 +1,5 @@
--- The listing of a tree: its length, that it gives the tree back, and what it is for nodes behind others.
-use Rattle.std.proofs.Common.{◌≡◌, ℕ, zero, suc, ◌+◌, ◌<◌, ◌≤◌, ◌^◌, ◌-◌, true, false, List, [], ◌∷◌, ◌++◌, length, get_or, set, take, drop, take_at, drop_at, append_assoc, append-nil, length-append, refl, sym, ap, ◌∙◌, nat_lt, true≢false, arith}
+-- The listing of a tree: its length, that it gives the tree back, and what it is for nodes after others.
+use Rattle.std.proofs.Common.{◌≡◌, ℕ, zero, suc, ◌+◌, ◌<◌, ◌≤◌, ◌^◌, ◌-◌, true, false, List, [], ◌∷◌, ◌++◌, length, get_or, set, take, drop, take_at, drop_at, append_assoc, append-nil, length-append, refl, sym, ap, subst, ◌∙◌, nat_lt, true≢false, arith}
 use Rattle.std.proofs.lemmas.Bool.Decides.{nat_tests}
 use Rattle.tpl_symbol.specs.declared.symbol.Seam.{Seam}
 use Rattle.tpl_tree.specs.Listing.{has_nodes, listing, nodes_within, nodes_of, last_node, with_more, linked, IsListing, IsBody}
@@ -84,7 +84,7 @@ last_node-fits : (v : NodesData) → last_node v ≤ nodes_size v
 last_node-fits no_nodes = omega arith
 last_node-fits (node k l s first other rest) = omega (arith, last_node-inside (node k l s first other rest) refl)
 
--- nodes behind others: the flag of the last of those is set
+-- nodes after others: the flag of the last of those is set
 listing-append_some : (v w : NodesData) → has_nodes v ≡ true → has_nodes w ≡ true → listing (append v w) ≡ with_more (listing v) (last_node v) ++ listing w
 listing-append_some no_nodes w e d = absurd (true≢false (sym e))
 listing-append_some (node k l s first other no_nodes) w e d =
@@ -179,7 +179,21 @@ joined es fs all made count n m v w b is_v d is_w is_count some bound both e =
       nodes_of-is made (append v w) is,
     )
 
--- no entries behind others
+-- what a node without parts makes of them
+pub alone : (k : NodeKind) (l : ℕ) (s : List Seam) (es all made : List Entry) (count n : ℕ) (v : NodesData) → IsBody es n → nodes_of es ≡ v
+    → count ≡ length es → length es + 1 < 2 ^ 32 → is_text k ≡ false → s ≡ []
+    → all ≡ es ++ record { kind = k; line = l; seams = s; first = 0; other = 0; more = false } ∷ [] → made ≡ linked all count n
+    → IsBody made count × (nodes_of made ≡ append v (node k l [] no_nodes no_nodes no_nodes))
+alone k l s es all made count n v b is_v is_count bound is_k is_s is_all is_made =
+    let w = node k l [] no_nodes no_nodes no_nodes in
+    let fs : List Entry = record { kind = k; line = l; seams = []; first = 0; other = 0; more = false } ∷ [] in
+    let d = is_body fs w 0 refl (fine_node k l is_k, tt, tt, tt) (omega arith) refl in
+    let is : all ≡ es ++ fs = is_all ∙ rw is_s refl in
+    let both = joined es fs all made count n 0 v w b is_v d (nodes_of-is fs w refl) is_count (omega arith) (omega arith) is is_made in
+    let same : count + 0 ≡ count = omega arith in
+    (subst (λ (m : ℕ). IsBody made m) same both.0, both.1)
+
+-- no entries after others
 pub joined-none : (fs : List Entry) (v w : NodesData) → length fs ≡ 0 → nodes_of fs ≡ w → v ≡ append v w
 joined-none [] v w none is_w = sym (append-no_nodes v) ∙ ap (append v) is_w
 joined-none (f ∷ fs) v w none is_w = absurd (omega arith)

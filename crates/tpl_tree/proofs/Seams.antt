@@ -1,4 +1,4 @@
--- The lines behind the seam before a byte fit where those behind all seams do.
+-- The lines after the seam before a byte fit where those after all seams do.
 use Rattle.std.proofs.Common.{ℕ, suc, ◌+◌, ◌<◌, Bool, true, false, nat_le, if◌then◌else◌, List, [], ◌∷◌, All, arith}
 use Rattle.tpl_symbol.specs.declared.symbol.Seam.{Seam}
 use Rattle.tpl_tree.specs.Trees.{seam_before}

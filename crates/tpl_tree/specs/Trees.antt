@@ -20,7 +20,11 @@ abbrev pub nodes_size : NodesData → ℕ
 nodes_size no_nodes = 0
 nodes_size (node kind line seams first other rest) = suc (nodes_size first + (nodes_size other + nodes_size rest))
 
--- the nodes of the second behind those of the first, in one part
+-- a node that has no parts, and none after it
+abbrev pub alone : NodeKind → ℕ → List Seam → NodesData
+alone kind line seams = node kind line seams no_nodes no_nodes no_nodes
+
+-- the nodes of the second after those of the first, in one part
 abbrev pub append : NodesData → NodesData → NodesData
 append no_nodes more = more
 append (node kind line seams first other rest) more = node kind line seams first other (append rest more)
@@ -100,7 +104,7 @@ Stands nodes found number = IfSome number (λ n. (n < nodes_size nodes) × (node
 abbrev pub line_feeds : List ℕ → ℕ
 line_feeds bytes = count_by (λ b. b == 10) bytes
 
--- the last of the seams that is not behind a byte, and another one where there is none
+-- the last of the seams that is not after a byte, and another one where there is none
 abbrev pub seam_before : Seam → List Seam → ℕ → Seam
 seam_before before [] byte = before
 seam_before before (seam ∷ seams) byte = seam_before (if nat_le seam.at byte then seam else before) seams byte
@@ -109,7 +113,7 @@ seam_before before (seam ∷ seams) byte = seam_before (if nat_le seam.at byte t
 abbrev pub line_behind : List ℕ → Seam → ℕ → ℕ
 line_behind text seam byte = seam.line + line_feeds (take (byte - seam.at) (drop seam.at text))
 
--- the line of a byte of a text that begins on a line and has seams; its length stands for the place behind it
+-- the line of a byte of a text that begins on a line and has seams; its length stands for the place after it
 abbrev pub text_line : List ℕ → ℕ → List Seam → ℕ → ℕ
 text_line text line seams byte = line_behind text (seam_before (record { at = 0; line = line }) seams byte) byte
 

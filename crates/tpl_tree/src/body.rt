@@ -1,5 +1,5 @@
 ghost use Rattle.std.specs.Prelude.{◌≡◌, ◌+◌, ◌<◌, ◌≤◌, ◌^◌, [], length, false, All, IfOk, OnOk, OnErr};
-ghost use Rattle.tpl_tree.specs.Trees.{NodesData, no_nodes, node, append, is_text};
+ghost use Rattle.tpl_tree.specs.Trees.{NodesData, no_nodes, node, alone, append, is_text};
 ghost use Rattle.tpl_tree.specs.Listing.{linked};
 ghost use Rattle.tpl_tree.specs.declared.node_kind.NodeKind.TheVariants as kind_of;
 
@@ -46,13 +46,13 @@ impl Body {
         }
     }
 
-    /// Appends a text that begins on a line and has seams, or leaves the nodes as they were for want of memory.
+    /// Appends a text that begins on a line and has seams, or leaves the nodes as they were when memory runs out.
     pub fn push_text(&mut self, text: Text, line: u32, seams: List<Seam>) -> Result<(), Memory>
         requires some { 0 < length text }
         requires bound { length text ≤ 2 ^ 20 }
         requires line { line + length text < 2 ^ 32 }
         requires seams { All (λ s. s.line + length text < 2 ^ 32) seams }
-        ensures ok { OnOk result (self.new ≡ append self.old (node (kind_of.Text text) line seams no_nodes no_nodes no_nodes)) }
+        ensures ok { OnOk result (self.new ≡ append self.old (alone (kind_of.Text text) line seams)) }
         ensures err { OnErr result (self.new ≡ self.old) }
     {
         let alloc = *self.entries.allocator();
@@ -61,7 +61,7 @@ impl Body {
     }
 
     /// Appends a node that is no text, with its first part and its `else` part, which are empty where it has none; or
-    /// leaves the nodes as they were for want of memory.
+    /// leaves the nodes as they were when memory runs out.
     pub fn push(
         &mut self,
         kind: NodeKind,
@@ -78,7 +78,31 @@ impl Body {
         self.join(node)
     }
 
-    // Appends the nodes of another part, or leaves those of this one as they were for want of memory.
+    /// Appends a node that is no text and has no parts, or leaves the nodes as they were when memory runs out.
+    pub fn push_alone(&mut self, kind: NodeKind, line: u32) -> Result<(), Memory>
+        requires { is_text kind ≡ false }
+        ensures ok { OnOk result (self.new ≡ append self.old (alone kind line [])) }
+        ensures err { OnErr result (self.new ≡ self.old) }
+    {
+        let alloc = *self.entries.allocator();
+        let count = self.entries.len();
+        if count >= u32::MAX as usize {
+            return Err(Memory);
+        }
+        self.entries.push(Entry {
+            kind,
+            line,
+            seams: List::new(alloc),
+            first: 0,
+            other: 0,
+            more: false,
+        })?;
+        link(&mut self.entries, count, self.last);
+        self.last = count;
+        Ok(())
+    }
+
+    // Appends the nodes of another part, or leaves those of this one as they were when memory runs out.
     fn join(&mut self, more: Body) -> Result<(), Memory>
         ensures ok { OnOk result (self.new ≡ append self.old more) }
         ensures err { OnErr result (self.new ≡ self.old) }
@@ -118,13 +142,13 @@ fn link(entries: &mut Vec<Entry>, count: usize, last: usize)
     }
 }
 
-// A text alone. The error is want of memory.
+// A text alone. The error is out of memory.
 fn text_node(alloc: Global, text: Text, line: u32, seams: List<Seam>) -> Result<Body, Memory>
     requires some { 0 < length text }
     requires bound { length text ≤ 2 ^ 20 }
     requires line { line + length text < 2 ^ 32 }
     requires seams { All (λ s. s.line + length text < 2 ^ 32) seams }
-    ensures { IfOk result (λ b. b ≡ node (kind_of.Text text) line seams no_nodes no_nodes no_nodes) }
+    ensures { IfOk result (λ b. b ≡ alone (kind_of.Text text) line seams) }
 {
     let mut entries = Vec::new(alloc);
     entries.push(Entry {
@@ -138,7 +162,7 @@ fn text_node(alloc: Global, text: Text, line: u32, seams: List<Seam>) -> Result<
     Ok(Body { entries, last: 0 })
 }
 
-// Another node alone, with its parts. The error is want of memory.
+// Another node alone, with its parts. The error is out of memory.
 fn control_node(
     alloc: Global,
     kind: NodeKind,

@@ -4,7 +4,7 @@ use crate::pipe::{Base, Command, Commands, Operand, Operands, Pipe};
 use page_io::{List, Memory, Names, Text};
 use std::alloc::Global;
 
-/// An equal pipe. The error is want of memory.
+/// An equal pipe. The error is out of memory.
 #[cycle(copy)]
 pub fn copy_pipe(alloc: Global, pipe: &Pipe) -> Result<Pipe, Memory>
     ensures { IfOk result (λ copy. copy ≡ pipe.now) }

@@ -22,7 +22,7 @@ pub(crate) struct Entry {
 }
 
 impl Entry {
-    // An equal entry. The error is want of memory.
+    // An equal entry. The error is out of memory.
     pub(crate) fn copy(&self, alloc: Global) -> Result<Entry, Memory>
         ensures { IfOk result (λ copy. copy ≡ self.now) }
     {

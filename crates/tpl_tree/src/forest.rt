@@ -30,7 +30,7 @@ impl Model for Forest {
 }
 
 impl Forest {
-    /// The forest of these trees. The error is want of memory, or more than `u32::MAX` trees.
+    /// The forest of these trees. The error is out of memory, or more than `u32::MAX` trees.
     pub fn from_map(alloc: Global, map: BTreeMap<Text, Tree>) -> Result<Forest, Memory>
         ensures { IfOk result (λ forest. forest ≡ map.entries) }
     {

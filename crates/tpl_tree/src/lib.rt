@@ -5,16 +5,10 @@ mod body;
 mod copy;
 mod entry;
 mod forest;
-#[cfg(test)]
-mod forest_tests;
 mod lines;
 mod node_kind;
 mod pipe;
-#[cfg(test)]
-mod tests;
 mod tree;
-#[cfg(test)]
-mod tree_tests;
 
 pub use body::Body;
 pub use forest::Forest;

@@ -14,7 +14,7 @@ pub(crate) fn line_in(text: &[u8], line: u32, seams: &[Seam], byte: u32) -> u32
     seam.line + feeds(between)
 }
 
-// The last of the seams that is not behind a byte, and the beginning of the text where there is none.
+// The last of the seams that is not after a byte, and the beginning of the text where there is none.
 fn last_seam(line: u32, seams: &[Seam], byte: u32) -> Seam
     ensures seam { result ≡ seam_before (record { at = 0; line = line }) seams.now byte }
     ensures at { result.at ≤ byte }

@@ -31,7 +31,7 @@ pub enum NodeKind {
 }
 
 impl NodeKind {
-    /// An equal one. The error is want of memory.
+    /// An equal one. The error is out of memory.
     pub fn copy(&self, alloc: Global) -> Result<NodeKind, Memory>
         ensures { IfOk result (λ copy. copy ≡ self.now) }
     {

@@ -177,7 +177,7 @@ impl From<Vec<Operand>> for Operands {
 impl Pipe {
     ghost use Rattle.std.specs.Prelude.{◌≡◌, IfOk};
 
-    /// An equal pipe. The error is want of memory.
+    /// An equal pipe. The error is out of memory.
     pub fn copy(&self, alloc: Global) -> Result<Pipe, Memory>
         ensures { IfOk result (λ copy. copy ≡ self.now) }
     {

@@ -106,7 +106,7 @@ impl Tree {
         None
     }
 
-    /// The line of a byte of a text, its length standing for the place behind it. The time grows with the text and its
+    /// The line of a byte of a text, its length standing for the place after it. The time grows with the text and its
     /// seams. A node that is no text has no bytes, and gives the line on which it begins.
     pub fn line_at(&self, node: u32, byte: u32) -> u32
         requires node { node < nodes_size self.now.nodes }
@@ -132,7 +132,7 @@ impl Tree {
         self.end_line
     }
 
-    /// An equal tree, lines and seams included. The error is want of memory.
+    /// An equal tree, lines and seams included. The error is out of memory.
     pub fn copy(&self, alloc: Global) -> Result<Tree, Memory>
         ensures { IfOk result (λ copy. copy ≡ self.now) }
     {
