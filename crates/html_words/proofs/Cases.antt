@@ -23,7 +23,7 @@ prefix-lower name = rw (prefix_length-lower name) (take-map to_ascii_lowercase (
 pub behind_data-lower : (name : List ℕ) → drop 5 (str_to_ascii_lowercase name) ≡ str_to_ascii_lowercase (drop 5 name)
 behind_data-lower name = drop-map to_ascii_lowercase 5 name
 
--- the kind of a name without a colon, of a declaration of a namespace, and of a name behind another prefix
+-- the kind of a name without a colon, of a declaration of a namespace, and of a name after another prefix
 pub no_prefix : (name rest : List ℕ) → rest ≡ drop (prefix_length name) name → length rest ≡ 0 → kind_behind_prefix (str_to_ascii_lowercase name) (drop (prefix_length (str_to_ascii_lowercase name)) (str_to_ascii_lowercase name)) ≡ kind_of_name (str_to_ascii_lowercase name)
 no_prefix name rest e none = rw (behind_prefix-lower name, ← e, nil_from_length rest none) refl
 

@@ -1,4 +1,4 @@
--- A character is decoded byte by byte as it is found by looking ahead, also where references are undone behind it.
+-- A character is decoded byte by byte as it is found by looking ahead, also where references are undone after it.
 use Rattle.std.proofs.Common.{◌≡◌, ℕ, zero, suc, ◌+◌, ◌-◌, ◌<◌, ◌≤◌, ◌==◌, Bool, true, false, List, [], ◌∷◌, ◌++◌, length, drop, Option, Some, None, encode_utf8, refl, sym, ap, ◌∙◌, subst, arith, inl, inr}
 use Rattle.std.proofs.lemmas.Bool.{and_left, and_right, and_parts, cases_lt, lt-leb, leb-true, le-ltb, lt-ltb, eqb-true, eqb-false, cond-true, cond-false}
 use Rattle.std.proofs.lemmas.Bool.Decides.{nat_tests}
@@ -54,7 +54,7 @@ encoded_stops p c ys h = elim (cases_lt c 128) [
   ]
 ]
 
--- What is decoded within a character, from bytes with references undone, is the character that follows, and then what stands behind it; or where
+-- What is decoded within a character, from bytes with references undone, is the character that follows, and then what stands after it; or where
 -- none follows, U+FFFD for each byte that was read, and then the bytes from there on.
 abbrev pub Follows : Bool → Bool → Partial → List ℕ → Option (ℕ × ℕ) → Type 0
 Follows cut attribute p bs None = decoded (Within p) (undone_at cut attribute Closed bs) ≡ replacements p.seen (decoded Before (undone_at cut attribute Closed bs))

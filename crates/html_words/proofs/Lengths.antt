@@ -22,7 +22,7 @@ either_within : {n : ℕ} (b : Bool) (x y : ℕ × ℕ) → (b ≡ true → IsWi
 either_within true x y f g = f refl
 either_within false x y f g = g refl
 
--- a short name at the front of a name is no longer than it
+-- a short name at the beginning of a name is no longer than it
 pub front_fits : (key name : List ℕ) → bytes_eq key (take (length key) name) ≡ true → length key ≤ length name
 front_fits key name e = omega (arith, ap length ((bytes_eq-Decides key (take (length key) name)).0 e), length-take (length key) name)
 
@@ -75,7 +75,7 @@ reference_within attribute (b ∷ bs) = either_within (b == 35) _ _
     (λ t. wider (name_within attribute (run is_ascii_alphanumeric (b ∷ bs)) (behind_run is_ascii_alphanumeric (b ∷ bs))) (omega (arith, run_rest is_ascii_alphanumeric (b ∷ bs))))
     (λ f. one_of (suc (length bs)) _))
 
--- a character that is followed, behind so many bytes of it
+-- a character that is followed, after so many bytes of it
 abbrev pub Fits : ℕ → ℕ → Option (ℕ × ℕ) → Type 0
 Fits seen n None = Unit {0}
 Fits seen n (Some found) = (seen + 1 ≤ found.1) × (found.1 ≤ seen + n)
@@ -124,7 +124,7 @@ same_within (suc m) (suc n) attribute cut at (b ∷ bs) h k =
     let left : length (drop first.1 (b ∷ bs)) ≡ suc (length bs) - first.1 = length-drop first.1 (b ∷ bs) in
     ap (λ (cs : List (ℕ × ℕ)). (first.0, at) ∷ cs) (same_within m n attribute cut (at + first.1) (drop first.1 (b ∷ bs)) (omega (arith, within.some, left)) (omega (arith, within.some, left)))
 
--- the first character, and those behind it
+-- the first character, and those after it
 pub next_character : (attribute cut : Bool) (at b : ℕ) (bs : List ℕ) → characters_at attribute cut at (b ∷ bs) ≡ ((character_at attribute cut b bs).0, at) ∷ characters_at attribute cut (at + (character_at attribute cut b bs).1) (drop (character_at attribute cut b bs).1 (b ∷ bs))
 next_character attribute cut at b bs =
     let first = character_at attribute cut b bs in

@@ -109,7 +109,7 @@ plain_all cut attribute (b ∷ bs) rest e =
     let h = and_parts (is_ascii_alphanumeric b) (list_all is_ascii_alphanumeric bs) e in
     plain cut attribute b (bs ++ rest) (letter_is_plain b h.0) ∙ ap (λ (xs : List ℕ). b ∷ xs) (plain_all cut attribute bs rest h.1)
 
--- What is told from an ampersand on is the character that was found, and then what stands behind it.
+-- What is told from an ampersand on is the character that was found, and then what stands after it.
 
 abbrev pub Undone : Bool → Bool → List ℕ → List ℕ → ℕ × ℕ → Type 0
 Undone cut attribute out bytes found = out ≡ encode_utf8 found.0 ++ undone_at cut attribute Closed (drop (found.1 - 1) bytes)
@@ -177,7 +177,7 @@ hexadecimal_ends : (cut attribute : Bool) (x : ℕ) (digits rest : List ℕ) →
 unfolding meaning flushed
 hexadecimal_ends cut attribute x digits rest ends whole = number_ends cut attribute Hexadecimal (35 ∷ x ∷ digits) is_ascii_hexdigit rest (numbered (number_in 16 0 digits)) refl (λ e. refl) (λ b e. rw e refl) ends whole
 
--- a number is told, where its digits and what stands behind them are all of the bytes behind what stands before the digits
+-- a number is told, where its digits and what stands after them are all of the bytes after what stands before the digits
 number_told : (cut attribute : Bool) (base front d : ℕ) (ds rest before all out : List ℕ) → front ≡ length before + 1 → before ++ ((d ∷ ds) ++ rest) ≡ all → out ≡ encode_utf8 (numbered (number_in base 0 (d ∷ ds))) ++ undone_at cut attribute Closed (drop (semicolon_len rest) rest) → Undone cut attribute out all (number_from base front (d ∷ ds) rest)
 number_told cut attribute base front d ds rest before all out size e told =
     let len : front + (length (d ∷ ds) + semicolon_len rest) - 1 ≡ length before + (suc (length ds) + semicolon_len rest) = omega arith in
@@ -308,7 +308,7 @@ held_reference attribute (b ∷ bs) broken = either (b == 35)
     (λ f. let all : list_all is_ascii_alphanumeric (b ∷ bs) ≡ true = rw f at broken in
     held_name attribute b bs f all ∙ ap (λ (xs : List ℕ). 38 ∷ xs) (sym (plain_run attribute is_ascii_alphanumeric letter_is_plain (b ∷ bs) all)))
 
--- what is found behind an ampersand
+-- what is found after an ampersand
 abbrev pub ampersand_at : Bool → Bool → List ℕ → ℕ × ℕ
 ampersand_at cut attribute bs = cond (cut && is_broken_off bs) itself (reference_at attribute bs)
 

@@ -16,7 +16,7 @@ use Rattle.html_words.proofs.Lengths.{Fits, IsWithin, character_within, followed
 use Rattle.html_words.proofs.Machine.{either, undone_ampersand, ampersand_at}
 use Rattle.html_words.specs.Laws.{UndoneIsOneByOne, CutIsOneByOne, undone_cut}
 
--- what is decoded is this character, and then what stands behind it
+-- what is decoded is this character, and then what stands after it
 abbrev Tells : Bool → Bool → ℕ → List ℕ → ℕ × ℕ → Type 0
 Tells cut attribute b bs found = decoded Before (undone_at cut attribute Closed (b ∷ bs)) ≡ found.0 ∷ decoded Before (undone_at cut attribute Closed (drop found.1 (b ∷ bs)))
 

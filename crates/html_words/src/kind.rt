@@ -24,7 +24,7 @@ fn is_script(element: Element) -> bool
     matches!(element, Element::Script | Element::DataBlock)
 }
 
-// The kind of a name with its front; `data-` does not matter.
+// The kind of a name with its prefix; `data-` does not matter.
 fn kind_with_front(name: &[u8]) -> Kind
     ensures { result ≡ kind_with_front_of (str_to_ascii_lowercase name.now) }
 {
@@ -35,7 +35,7 @@ fn kind_with_front(name: &[u8]) -> Kind
     kind_behind_prefix(name)
 }
 
-// A declaration of a namespace is a URL's; any other front up to a colon does not matter.
+// A declaration of a namespace is a URL's; any other prefix up to a colon does not matter.
 fn kind_behind_prefix(name: &[u8]) -> Kind
     ensures { result ≡ kind_behind_prefix_of (str_to_ascii_lowercase name.now) (drop (prefix_length (str_to_ascii_lowercase name.now)) (str_to_ascii_lowercase name.now)) }
 {
@@ -60,7 +60,7 @@ fn prefix_len(name: &[u8]) -> usize
     name.iter().take_while(|byte| **byte != b':').count()
 }
 
-// The kind of a name without a front.
+// The kind of a name without a prefix.
 fn kind_of_name(name: &[u8]) -> Kind
     ensures { result ≡ kind_of_name_of (str_to_ascii_lowercase name.now) }
 {

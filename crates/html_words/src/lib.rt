@@ -11,8 +11,6 @@ mod ref_chars;
 mod reference;
 mod script;
 mod special_name;
-#[cfg(test)]
-mod tests;
 mod utf8;
 mod words;
 

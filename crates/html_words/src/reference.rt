@@ -30,7 +30,7 @@ pub fn reference_at(attribute: bool, bytes: &[u8]) -> (u32, usize)
     }
 }
 
-/// Whether all that stands behind an ampersand is a reference that only the end of the bytes breaks off.
+/// Whether all that stands after an ampersand is a reference that only the end of the bytes breaks off.
 pub fn is_broken_off(bytes: &[u8]) -> bool
     ensures { result ≡ is_broken_off_of bytes.now }
 {
@@ -59,7 +59,7 @@ fn is_broken_number(bytes: &[u8]) -> bool
     }
 }
 
-// A name, and what stands behind it.
+// A name, and what stands after it.
 fn name_at(attribute: bool, name: &[u8], behind: &[u8]) -> (u32, usize)
     ensures { result ≡ name_at_of attribute name.now behind.now }
 {
@@ -87,7 +87,7 @@ fn short_at(attribute: bool, equals: bool, name: &[u8]) -> (u32, usize)
     short_whole(name)
 }
 
-// What stands behind `&#`.
+// What stands after `&#`.
 fn hashed_at(bytes: &[u8]) -> (u32, usize)
     ensures { result ≡ hashed_at_of bytes.now }
 {
@@ -104,7 +104,7 @@ fn hashed_at(bytes: &[u8]) -> (u32, usize)
     }
 }
 
-// A number in a base, with how many bytes stand before its digits, and what stands behind them.
+// A number in a base, with how many bytes stand before its digits, and what stands after them.
 fn number_from(base: u32, front: usize, digits: &[u8], behind: &[u8]) -> (u32, usize)
     requires base { 1 ≤ base }
     requires most { base ≤ 16 }

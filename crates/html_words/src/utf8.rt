@@ -31,7 +31,7 @@ fn is_lead(byte: u8) -> bool
     194 <= byte && byte <= 244
 }
 
-// The character that a byte begins with those behind it, where they go on with it.
+// The character that a byte begins with those after it, where they go on with it.
 fn followed(lead: u8, rest: &[u8]) -> Option<(u32, usize)>
     requires { IsTrue (is_lead_of lead) }
     ensures { result ≡ followed_of (begun lead) rest.now }

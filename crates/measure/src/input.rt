@@ -63,7 +63,7 @@ fn objects(alloc: Global, size: usize) -> Result<String, AllocError>
     Ok(text)
 }
 
-// A front, as many units as fit, and an end; nothing where these two do not fit.
+// A prefix, as many units as fit, and an end; nothing where these two do not fit.
 fn repeated(
     alloc: Global,
     front: &str,

@@ -1,4 +1,4 @@
--- What a copy from the front of the bytes that are left takes from them.
+-- What a copy from the prefix of the bytes that are left takes from them.
 use Rattle.std.proofs.Common.{◌≡◌, ℕ, ◌+◌, List, [], ◌++◌, take, drop, sym, add-zero}
 use Rattle.std.proofs.lemmas.List.{take-append-drop, drop-drop}
 

@@ -8,6 +8,6 @@ pub record ReadsUpTo (max : ℕ) (old new : Option (List ℕ)) (bytes : List ℕ
   pub short : length bytes ≤ max → IsAtEnd new
   pub bound : length bytes ≤ max + 1
 
--- the bytes taken grew by a front of these
+-- the bytes taken grew by a prefix of these
 abbrev pub AppendsPart : Option (List ℕ) → Option (List ℕ) → List ℕ → Type 0
 AppendsPart old new bytes = (n : ℕ) × (n ≤ length bytes) × Appends old new (take n bytes)

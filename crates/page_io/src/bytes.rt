@@ -28,7 +28,7 @@ impl Bytes {
         }
     }
 
-    /// A copy of bytes. The error is want of memory.
+    /// A copy of bytes. The error is out of memory.
     pub fn copy_of(alloc: Global, bytes: &[u8]) -> Result<Bytes, Memory>
         ensures { IfOk result (λ copy. copy ≡ bytes.now) }
     {
@@ -58,7 +58,7 @@ impl Bytes {
         self.bytes.as_slice().is_empty()
     }
 
-    /// Appends bytes, or leaves these as they were for want of memory.
+    /// Appends bytes, or leaves these as they were when memory runs out.
     pub fn push_slice(&mut self, more: &[u8]) -> Result<(), Memory>
         ensures ok { OnOk result (self.new ≡ self.old ++ more.now) }
         ensures err { OnErr result (self.new ≡ self.old) }

@@ -39,7 +39,7 @@ impl<T> List<T> {
         self.items.as_slice()
     }
 
-    /// Appends a value, or leaves the list as it was for want of memory.
+    /// Appends a value, or leaves the list as it was when memory runs out.
     pub fn push(&mut self, value: T) -> Result<(), Memory>
     where
         T: Drop,

@@ -66,7 +66,7 @@ impl Source for MemSource {
     }
 }
 
-/// Copies a front of the bytes that are left, at most `step`, and says how many they are.
+/// Copies a prefix of the bytes that are left, at most `step`, and says how many they are.
 pub(crate) fn copy_front(rest: &[u8], buf: &mut [u8], step: u64) -> usize
     requires { 0 < step }
     ensures count { result ≡ min (min (length rest.now) (length buf.new)) step }

@@ -14,7 +14,7 @@ pub trait Sink {
     // How many calls failed.
     ghost faults: { Self → ℕ };
 
-    /// Appends a front of `bytes` and answers its length, which is not 0 unless there are no bytes: a sink that takes
+    /// Appends a prefix of `bytes` and answers its length, which is not 0 unless there are no bytes: a sink that takes
     /// nothing has failed. The error comes only where the count of faults rose in this call, and then nothing was
     /// taken.
     fn write(&mut self, bytes: &[u8]) -> Result<usize, Failed>
@@ -25,7 +25,7 @@ pub trait Sink {
         ensures cause { HasCause (faults self.old) (faults self.new) result };
 }
 
-/// Writes all of the bytes. After the error a front of them was taken.
+/// Writes all of the bytes. After the error a prefix of them was taken.
 pub fn write_all<K: Sink>(sink: &mut K, bytes: &[u8]) -> Result<(), Failed>
     ensures all { OnOk result (Appends (K.taken sink.old) (K.taken sink.new) bytes.now) }
     ensures part { AppendsPart (K.taken sink.old) (K.taken sink.new) bytes.now }

@@ -16,7 +16,7 @@ pub trait Source {
     // How many calls failed.
     ghost faults: { Self → ℕ };
 
-    /// Fills a front of `buf` with the next bytes and answers how many they are. 0 for a `buf` that is not empty is the
+    /// Fills a prefix of `buf` with the next bytes and answers how many they are. 0 for a `buf` that is not empty is the
     /// end of the input. The error comes only where the count of faults rose in this call, and then nothing was read.
     fn read(&mut self, buf: &mut [u8]) -> Result<usize, Failed>
         ensures bound { ReadsAtMost result buf.new }
@@ -28,7 +28,7 @@ pub trait Source {
 // How many bytes are asked for at once.
 const CHUNK: usize = 65536;
 
-/// Reads a source to its end, or `max + 1` bytes of it where it has more than `max`. After an error a front of the
+/// Reads a source to its end, or `max + 1` bytes of it where it has more than `max`. After an error a prefix of the
 /// source's bytes is read and lost.
 pub fn read_up_to<S: Source>(alloc: Global, source: &mut S, max: usize) -> Result<Bytes, IoStop>
     requires { max < 2 ^ 63 }

@@ -1,6 +1,6 @@
 use std::alloc::{AllocError, AllocFailed};
 
-/// Want of memory.
+/// Out of memory.
 #[derive(Clone, Copy, Debug, PartialEq, Eq)]
 pub struct Memory;
 
@@ -25,7 +25,7 @@ pub struct Failed;
 pub enum IoStop {
     /// The device failed, and has counted it.
     Failed,
-    /// Want of memory.
+    /// Out of memory.
     Memory,
 }
 

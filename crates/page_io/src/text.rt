@@ -29,7 +29,7 @@ impl Text {
         }
     }
 
-    /// A copy of a text. The error is want of memory.
+    /// A copy of a text. The error is out of memory.
     pub fn copy_of(alloc: Global, text: &str) -> Result<Text, Memory>
         ensures { IfOk result (λ copy. copy ≡ text.now) }
     {
@@ -52,7 +52,7 @@ impl Text {
         self.text.is_empty()
     }
 
-    /// Appends a text, or leaves this one as it was for want of memory.
+    /// Appends a text, or leaves this one as it was when memory runs out.
     pub fn push_str(&mut self, more: &str) -> Result<(), Memory>
         ensures ok { OnOk result (self.new ≡ self.old ++ more.now) }
         ensures err { OnErr result (self.new ≡ self.old) }

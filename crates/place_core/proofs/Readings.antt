@@ -121,7 +121,7 @@ name-class (Letter l) b tag name t e h = rw e refl
 name-class Digit b tag name t e h = rw e refl
 name-class _ b tag name t e h = absurd (no h)
 
--- behind the name of an attribute, behind a quoted value and behind a solidus a letter or a digit begins a name as before one
+-- after the name of an attribute, after a quoted value and after a solidus a letter or a digit begins a name as before one
 after-name-class : (c : Class) (b : ℕ) (tag : Tag) (k : Kind) (t : List Event) → class_of b ≡ c → is_name_class c ≡ true → read Page (b ∷ []) (config (AfterAttributeName tag k) t) ≡ read Page (b ∷ []) (config (BeforeAttributeName (without_value tag k)) t)
 after-name-class (Letter l) b tag k t e h = rw e refl
 after-name-class Digit b tag k t e h = rw e refl

@@ -22,12 +22,12 @@ whole_at (r ∷ rows) name = if bytes_eq r.key name then (r.code, length name + 
 abbrev pub short_at : Bool → Bool → List ℕ → ℕ × ℕ
 short_at attribute equals name = if attribute then (if equals then itself else whole_at short_names name) else begins_at short_names name
 
--- a name, and what stands behind it
+-- a name, and what stands after it
 abbrev pub name_at : Bool → List ℕ → List ℕ → ℕ × ℕ
 name_at attribute name [] = short_at attribute false name
 name_at attribute name (b ∷ rest) = if b == 59 then (named_in names name, length name + 2) else short_at attribute (b == 61) name
 
--- a number in a base, with how many bytes stand before its digits, its digits, and what stands behind them
+-- a number in a base, with how many bytes stand before its digits, its digits, and what stands after them
 abbrev pub semicolon_len : List ℕ → ℕ
 semicolon_len [] = 0
 semicolon_len (b ∷ rest) = if b == 59 then 1 else 0
@@ -42,14 +42,14 @@ run passes bytes = take (prefix_len passes bytes) bytes
 abbrev pub behind_run : (ℕ → Bool) → List ℕ → List ℕ
 behind_run passes bytes = drop (prefix_len passes bytes) bytes
 
--- behind `&#`
+-- after `&#`
 abbrev pub hashed_at : List ℕ → ℕ × ℕ
 hashed_at [] = itself
 hashed_at (b ∷ bs) =
     if b == 88 || b == 120 then number_from 16 3 (run is_ascii_hexdigit bs) (behind_run is_ascii_hexdigit bs)
     else number_from 10 2 (run is_ascii_digit (b ∷ bs)) (behind_run is_ascii_digit (b ∷ bs))
 
--- behind `&`
+-- after `&`
 abbrev pub reference_at : Bool → List ℕ → ℕ × ℕ
 reference_at attribute [] = itself
 reference_at attribute (b ∷ bs) =

@@ -5,7 +5,7 @@ use Rattle.place_core.specs.declared.kind.Kind.{Kind}
 pub data Event : Type 0 where
   -- a byte of a text, a title or a textarea, with references undone
   TextByte : ℕ → Event
-  -- a byte of a data block, and behind its `<!--`
+  -- a byte of a data block, and after its `<!--`
   BlockByte : ℕ → Event
   Escape : Event
   -- a hole in the text, block, name or value that is open there

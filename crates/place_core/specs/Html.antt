@@ -22,13 +22,13 @@ pub data Mode : Type 0 where
 -- The states of the Standard. Where a `<` follows an open reference in text, the reference stays open until it is known what the `<` begins: a
 -- comment in a template leaves it unfinished, a tag does not.
 pub data State : Type 0 where
-  -- text (data state), behind `<` (tag open state), and behind `</` (end tag open state)
+  -- text (data state), after `<` (tag open state), and after `</` (end tag open state)
   Text : Reference → State
   TagOpen : Reference → State
   EndTagOpen : Reference → State
-  -- in a tag: its name, with whether it is an end tag and the name so far (tag name state); before, in and behind the name of an attribute, with
-  -- the name so far, or its kind (before attribute name, attribute name, after attribute name state); behind the equals sign (before attribute
-  -- value state); in a value (attribute value states); behind the end of a quoted one (after attribute value (quoted) state); behind a
+  -- in a tag: its name, with whether it is an end tag and the name so far (tag name state); before, in and after the name of an attribute, with
+  -- the name so far, or its kind (before attribute name, attribute name, after attribute name state); after the equals sign (before attribute
+  -- value state); in a value (attribute value states); after the end of a quoted one (after attribute value (quoted) state); after a
   -- solidus (self-closing start tag state)
   TagName : Bool → List ℕ → State
   BeforeAttributeName : Tag → State
@@ -38,14 +38,14 @@ pub data State : Type 0 where
   AttributeValue : Quotes → Tag → Value → Reference → State
   AfterAttributeValue : Tag → State
   SelfClosingStartTag : Tag → State
-  -- in a title or a textarea (RCDATA state), and behind its `<`, its `</`, and that and letters (RCDATA less-than sign, end tag open and end
+  -- in a title or a textarea (RCDATA state), and after its `<`, its `</`, and that and letters (RCDATA less-than sign, end tag open and end
   -- tag name state)
   Rcdata : Element → Reference → State
   RcdataLessThan : Element → State
   RcdataEndTagOpen : Element → State
   RcdataEndTagName : Element → List ℕ → State
-  -- in a data block (script data state), behind its `<`, its `</`, and that and letters (script data less-than sign, end tag open and end tag
-  -- name state), and behind its `<!` and `<!-` (script data escape start and escape start dash state)
+  -- in a data block (script data state), after its `<`, its `</`, and that and letters (script data less-than sign, end tag open and end tag
+  -- name state), and after its `<!` and `<!-` (script data escape start and escape start dash state)
   Block : State
   BlockLessThan : State
   BlockEndTagOpen : State
@@ -54,7 +54,7 @@ pub data State : Type 0 where
   BlockEscapeStartDash : State
   Unread : State
 
--- the content of the element behind a tag
+-- the content of the element after a tag
 abbrev pub content_of : Element → State
 content_of element.Title = Rcdata element.Title Closed
 content_of element.Textarea = Rcdata element.Textarea Closed
@@ -77,7 +77,7 @@ abbrev pub tells_text : Class → ℕ → Reference → List Event → List Even
 tells_text LessThan b r t = t
 tells_text c b r t = text_bytes (undone_byte false r c b) t
 
--- behind a `<` or `</` that begins no tag: in a page a bogus comment, which is not read yet; in a template text, with what was held back
+-- after a `<` or `</` that begins no tag: in a page a bogus comment, which is not read yet; in a template text, with what was held back
 abbrev pub next_bogus : Mode → Class → ℕ → State
 next_bogus Page c b = Unread
 next_bogus Template c b = next_text c b Closed
@@ -122,7 +122,7 @@ tells_tag_name Solidus b t = t
 tells_tag_name GreaterThan b t = TagEnds false ∷ t
 tells_tag_name c b t = TagNameByte (to_ascii_lowercase b) ∷ t
 
--- before the name of an attribute, also behind a quoted value
+-- before the name of an attribute, also after a quoted value
 abbrev pub next_before_name : Class → ℕ → Tag → State
 next_before_name White b tag = BeforeAttributeName tag
 next_before_name Solidus b tag = SelfClosingStartTag tag
@@ -158,7 +158,7 @@ abbrev pub tells_after_name : Class → ℕ → List Event → List Event
 tells_after_name EqualsSign b t = t
 tells_after_name c b t = tells_before_name c b t
 
--- behind a solidus, as before a name but for what the end of the tag tells
+-- after a solidus, as before a name but for what the end of the tag tells
 abbrev pub tells_self_closing : Class → ℕ → List Event → List Event
 tells_self_closing GreaterThan b t = TagEnds true ∷ t
 tells_self_closing c b t = tells_before_name c b t
@@ -212,7 +212,7 @@ name_of element.Script = codes "script"
 name_of element.DataBlock = codes "script"
 name_of element.Other = []
 
--- whether letters behind `</` are the name of the element, in any case (an appropriate end tag)
+-- whether letters after `</` are the name of the element, in any case (an appropriate end tag)
 abbrev pub is_name_of : Element → List ℕ → Bool
 is_name_of e letters = bytes_eq (str_to_ascii_lowercase letters) (name_of e)
 
@@ -245,7 +245,7 @@ abbrev pub tells_rcdata_end_tag_open : Class → ℕ → List Event → List Eve
 tells_rcdata_end_tag_open (Letter l) b t = t
 tells_rcdata_end_tag_open c b t = tells_rcdata c b Closed (text_bytes (codes "</") t)
 
--- behind `</` and letters: the first argument says whether they are the name of the element
+-- after `</` and letters: the first argument says whether they are the name of the element
 abbrev pub next_rcdata_end_tag_name : Bool → Class → ℕ → Element → List ℕ → State
 next_rcdata_end_tag_name matches (Letter l) b e letters = RcdataEndTagName e (letters ++ b ∷ [])
 next_rcdata_end_tag_name true White b e letters = BeforeAttributeName EndTag

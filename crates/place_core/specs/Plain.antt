@@ -27,7 +27,7 @@ only_value [] = true
 only_value (ValueByte b ∷ t) = only_value t
 only_value (_ ∷ t) = false
 
--- The bytes are one whole name of an attribute, letters and digits, and no name that data may not make; the lexer is in it. What stands behind
+-- The bytes are one whole name of an attribute, letters and digits, and no name that data may not make; the lexer is in it. What stands after
 -- the hole may still add to the name: that is seen where the name ends.
 pub record IsPlainName (tag : Tag) (bytes : List ℕ) (d : Config) : Type 0 where
   pub within : d.at ≡ AttributeName tag (str_to_ascii_lowercase bytes)

@@ -14,7 +14,7 @@ pub data Form : Type 0 where
   HexMark : Form
   Hexadecimal : Form
 
--- what the next byte does to it: the reference goes on, or ends by its semicolon; or the byte is no part of it, and is read again behind it
+-- what the next byte does to it: the reference goes on, or ends by its semicolon; or the byte is no part of it, and is read again after it
 pub data Turn : Type 0 where
   Grows : Form → Turn
   Closes : Turn
@@ -74,7 +74,7 @@ abbrev pub named_in : List (Row (List ℕ)) → List ℕ → ℕ
 named_in [] name = replacement
 named_in (r ∷ rows) name = if bytes_eq r.key name then r.code else named_in rows name
 
--- In text, a name without a semicolon: the character of a short name at its beginning and what stands behind it, or all as it is.
+-- In text, a name without a semicolon: the character of a short name at its beginning and what stands after it, or all as it is.
 abbrev pub begins_in : List (Row (List ℕ)) → List ℕ → List ℕ
 begins_in [] name = 38 ∷ name
 begins_in (r ∷ rows) name = if starts_with nat_eq name r.key then encode_utf8 r.code ++ drop (length r.key) name else begins_in rows name
@@ -95,7 +95,7 @@ numbered n = if n == 0 || (nat_le 1114112 n || (nat_le 55296 n && nat_le n 57343
 abbrev pub digit_of : ℕ → ℕ
 digit_of b = if nat_le b 57 then b - 48 else (if nat_le b 70 then b - 55 else b - 87)
 
--- a number in a base, behind the number so far
+-- a number in a base, after the number so far
 abbrev pub number_in : ℕ → ℕ → List ℕ → ℕ
 number_in base n [] = n
 number_in base n (b ∷ bs) = number_in base (n * base + digit_of b) bs
@@ -111,14 +111,14 @@ meaning f bytes = replacement
 abbrev pub flushed_name : Bool → Bool → List ℕ → List ℕ
 flushed_name attribute equals name = if attribute then (if equals then 38 ∷ name else whole_in short_names name) else begins_in short_names name
 
--- the text of a reference that no semicolon ends, from the bytes behind `&`, in a value or not, before an equals sign or not
+-- the text of a reference that no semicolon ends, from the bytes after `&`, in a value or not, before an equals sign or not
 unfoldable pub flushed : Bool → Bool → Form → List ℕ → List ℕ
 flushed attribute equals Named bytes = flushed_name attribute equals bytes
 flushed attribute equals Decimal bytes = encode_utf8 (numbered (number_in 10 0 (drop 1 bytes)))
 flushed attribute equals Hexadecimal bytes = encode_utf8 (numbered (number_in 16 0 (drop 2 bytes)))
 flushed attribute equals f bytes = 38 ∷ bytes
 
--- where a text with references stands: no reference is open, or one, with the bytes behind its `&`
+-- where a text with references stands: no reference is open, or one, with the bytes after its `&`
 pub data Reference : Type 0 where
   Closed : Reference
   Open : Form → List ℕ → Reference

@@ -44,7 +44,7 @@ abbrev pub with_bytes : Value → List ℕ → Value
 with_bytes (ValueOf k) bytes = ValueOf k
 with_bytes (TypeSoFar before) bytes = TypeSoFar (before ++ bytes)
 
--- the tag behind a value: the first type of a script decides
+-- the tag after a value: the first type of a script decides
 abbrev pub typed_by : Tag → List ℕ → Tag
 typed_by (StartTag element.Script false) type = StartTag (if is_script_type type then element.Script else element.DataBlock) true
 typed_by tag type = tag
@@ -53,7 +53,7 @@ abbrev pub with_value : Tag → Value → Tag
 with_value tag (ValueOf k) = tag
 with_value tag (TypeSoFar type) = typed_by tag type
 
--- the tag behind an attribute without a value, which is read as the empty one
+-- the tag after an attribute without a value, which is read as the empty one
 abbrev pub without_value : Tag → Kind → Tag
 without_value tag k = with_value tag (value_of k)
 

@@ -30,7 +30,7 @@ url_names =
 abbrev pub url_parts : List (List ℕ)
 url_parts = codes "src" ∷ codes "uri" ∷ codes "url" ∷ []
 
--- the kind of a name without a front
+-- the kind of a name without a prefix
 abbrev pub kind_of_name : List ℕ → Kind
 kind_of_name name =
     if bytes_eq name (codes "style") then kind.Style
@@ -44,12 +44,12 @@ kind_of_name name =
 abbrev pub prefix_length : List ℕ → ℕ
 prefix_length name = prefix_len (λ b. not (b == 58)) name
 
--- a name with a front up to its first colon: a declaration of a namespace is a URL's, any other front does not matter
+-- a name with a prefix up to its first colon: a declaration of a namespace is a URL's, any other prefix does not matter
 abbrev pub kind_behind_prefix : List ℕ → List ℕ → Kind
 kind_behind_prefix name [] = kind_of_name name
 kind_behind_prefix name (colon ∷ rest) = if bytes_eq (take (prefix_length name) name) (codes "xmlns") then kind.Url else kind_of_name rest
 
--- a name with its front: `data-` does not matter either
+-- a name with its prefix: `data-` does not matter either
 abbrev pub kind_with_front : List ℕ → Kind
 kind_with_front name =
     if starts_with nat_eq name (codes "data-") then kind_of_name (drop 5 name)

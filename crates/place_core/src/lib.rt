@@ -6,8 +6,6 @@ mod chars;
 mod element;
 mod kind;
 mod str_chars;
-#[cfg(test)]
-mod tests;
 
 pub use chars::Chars;
 pub use element::Element;

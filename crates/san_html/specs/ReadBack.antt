@@ -61,7 +61,7 @@ pub record IsBackInUnquoted (text bytes : List ℕ) : Type 0 where
 abbrev pub as_name : List ℕ → List ℕ
 as_name text = str_to_ascii_lowercase (if is_name text then text else failsafe)
 
--- where the name of an attribute may begin: before names, behind one, behind a quoted value and behind a solidus; and the tag, as it is behind
+-- where the name of an attribute may begin: before names, after one, after a quoted value and after a solidus; and the tag, as it is after
 -- what stands there
 abbrev pub BeginsName : State → Tag → Type 0
 BeginsName (BeforeAttributeName tag) after = after ≡ tag

@@ -9,7 +9,7 @@ use std::alloc::Global;
 /// What is written for a text in a text, a title, a textarea or a data block: NUL becomes U+FFFD, each of `"&'+<>` a
 /// character reference, and every other character stays. There it is plain, whatever the text, where no reference and
 /// no `<` is open before it, and is read back as the text, NUL as U+FFFD; in a data block once references are undone.
-/// The error is want of memory. (HTML Standard, section 13.1.4.)
+/// The error is out of memory. (HTML Standard, section 13.1.4.)
 pub fn html(alloc: Global, text: &str) -> Result<Text, Memory>
     ensures written { IfOk result (λ bytes. bytes ≡ html_of text.now) }
     ensures in_text { IfOk result (λ bytes. IsBackInText text.now bytes) }
@@ -21,7 +21,7 @@ pub fn html(alloc: Global, text: &str) -> Result<Text, Memory>
 
 /// What is written for a text in a quoted value of an attribute: the same as `html` writes. There it is plain if the
 /// attribute is of kind Plain, where no reference is open before it, and is read back as the text, NUL as U+FFFD. The
-/// error is want of memory. (HTML Standard, section 13.1.2.3.)
+/// error is out of memory. (HTML Standard, section 13.1.2.3.)
 pub fn attr(alloc: Global, text: &str) -> Result<Text, Memory>
     ensures written { IfOk result (λ bytes. bytes ≡ html_of text.now) }
     ensures in_quoted { IfOk result (λ bytes. IsBackInQuoted text.now bytes) }

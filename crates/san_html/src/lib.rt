@@ -4,8 +4,6 @@
 mod escape;
 mod failsafe;
 mod name;
-#[cfg(test)]
-mod tests;
 mod unquoted;
 
 pub use escape::{attr, html};

@@ -13,7 +13,7 @@ use std::alloc::Global;
 /// What is written for a text where the name of an attribute is to stand: the text in lower case if it is letters and
 /// digits of ASCII, one at least, and no special name (one whose value is a URL, a script or a style, or that decides
 /// what the page does), and `ZgotmplZ` exactly for every other text. There it begins a name and is all of it, whatever
-/// the text, if what ends a name stands behind it. The error is want of memory. (HTML Standard, section 13.1.2.3.)
+/// the text, if what ends a name stands after it. The error is out of memory. (HTML Standard, section 13.1.2.3.)
 pub fn attr_name(alloc: Global, text: &str) -> Result<Text, Memory>
     ensures written { IfOk result (λ bytes. bytes ≡ attr_name_of text.now) }
     ensures failsafe { IfOk result (λ bytes. (bytes ≡ failsafe) ↔ (is_name_of text.now ≡ false)) }

@@ -1,4 +1,4 @@
--- What passes from symbols to those behind the first one passes from the symbols of a part to those behind it.
+-- What passes from symbols to those after the first one passes from the symbols of a part to those after it.
 use Rattle.std.proofs.Common.{ℕ, zero, suc, Bool, true, false, List, [], ◌∷◌, Option, Some, None, subst}
 use Rattle.tpl_parse.specs.Grammar.{StandsOn, Opens, Closes, IsEnd, EndsBody, Declares, IsAction, IsNamed, AreNamed, IsControl}
 use Rattle.tpl_parse.specs.declared.frame.Control.{Control}

@@ -25,7 +25,7 @@ use Rattle.tpl_tree.specs.declared.node_kind.NodeKind.{NodeKind}
 use Rattle.tpl_tree.specs.declared.node_kind.NodeKind.TheVariants as node_kind
 use Rattle.tpl_tree.specs.declared.pipe.Pipe.{Pipe}
 
--- What is sound goes on being sound behind what stands.
+-- What is sound goes on being sound after what stands.
 stands_on_sound : (k : SymbolKind) (line : ℕ) (s r : List Symbol) → StandsOn k line s r → Sound s → IsSound k × Sound r
 stands_on_sound k line [] r h sound = absurd h
 stands_on_sound k line (x ∷ s) r h sound = stands_sound k (x ∷ s) r (h.0, h.2) sound
@@ -94,7 +94,7 @@ IsBody v room in_range top nodes s r = (forms : Forms) × AreForms v room in_ran
 abbrev pub Body : List (List ℕ) → ℕ → Bool → Bool → NodesData → Type 0
 Body v room in_range top nodes = Outer (nodes_pieces nodes) (IsBody v room in_range top nodes)
 
--- what comes behind the first part of a control
+-- what comes after the first part of a control
 abbrev pub else_end : NodesData → List Piece
 else_end other = else_pieces (has_nodes other) ++ (nodes_pieces other ++ word_pieces (codes "end"))
 
@@ -270,7 +270,7 @@ text_body v room in_range false bytes line seams rest some allowed body = either
     (λ t. absurd (true≢false (sym (allowed t))))
     (λ f. alone_body v room in_range false bytes line seams rest some f body)
 
--- behind a text there is a text only at the top, where a definition may stand between
+-- after a text there is a text only at the top, where a definition may stand between
 action_no_text : (v : List (List ℕ)) (room : ℕ) (in_range : Bool) (what : NodeKind) (s e : List Symbol) → IsAction v room in_range what s e → is_text what ≡ false
 action_no_text v room in_range (node_kind.Text bytes) s e h = absurd h
 action_no_text v room in_range (node_kind.Action p) s e h = refl
@@ -305,7 +305,7 @@ adjacent v (suc room) in_range top (control c p line first later more) s e k byt
 adjacent v room in_range top (block n p line word_line body ends more) s e k bytes seams is parted h begins = absurd (true≢false (sym begins))
 adjacent v room in_range top (define n word_line body ends more) s e k bytes seams is parted h begins = h.8
 
--- a text that stands here, and what is sound behind it
+-- a text that stands here, and what is sound after it
 record Standing (bytes : List ℕ) (seams : List Seam) (r : List Symbol) : Type 0 where
   some : bytes ≢ []
   what : SymbolKind

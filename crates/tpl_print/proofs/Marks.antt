@@ -10,7 +10,7 @@ use Rattle.tpl_token.proofs.Marks.{begins-is, either, both, heads}
 abbrev pub is_free : ℕ → Bool
 is_free b = not (b == 123)
 
--- what stands behind what stands here
+-- what stands after what stands here
 pub behind : (text : List ℕ) (at : ℕ) (a b : List ℕ) → drop at text ≡ a ++ b → drop (at + length a) text ≡ b
 behind text at a b e = sym (drop-drop (length a) at text) ∙ ap (drop (length a)) e ∙ drop_at a b (length a) refl
 
@@ -40,7 +40,7 @@ list_all-append p (x ∷ a) b e f =
     let h = both (p x) (list_all p a) e in
     rw h.0 (list_all-append p a b h.1 f)
 
--- the guard behind a brace, and what is behind that
+-- the guard after a brace, and what is after that
 abbrev pub guard : List ℕ → List ℕ
 guard more = codes "{{- /**/}}" ++ more
 

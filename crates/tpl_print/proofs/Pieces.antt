@@ -28,7 +28,7 @@ pub data Piece : Type 0 where
   -- `{{` and `}}`
   opens : Piece
   closes : Piece
-  -- a token of an action, behind a space
+  -- a token of an action, after a space
   token : TokenKind → List ℕ → Piece
   -- a field that touches what stands before it
   field : List ℕ → Piece
@@ -187,11 +187,11 @@ abbrev pub is_number : TokenKind → Bool
 is_number (token_kind.Number n) = true
 is_number _ = false
 
--- the bytes are a token of this kind, where no letter or digit follows, and behind a number no dot
+-- the bytes are a token of this kind, where no letter or digit follows, and after a number no dot
 abbrev pub IsToken : TokenKind → List ℕ → Type 0
 IsToken what bytes = (rest : List ℕ) → EndsWord rest → (is_number what ≡ true → first_is (λ b. b == 46) rest ≡ false) → IsLexeme what bytes rest
 
--- pieces may stand behind one another, inside of an action, and outside
+-- pieces may stand after one another, inside of an action, and outside
 abbrev mutual
   pub FitIn : List Piece → Type 0
   FitIn [] = ⊥

@@ -13,7 +13,7 @@ use Rattle.tpl_token.specs.declared.token.TokenKind.{TokenKind}
 abbrev pub Part : Type 1
 Part = List Symbol → List Symbol → Type 0
 
--- one part, and another one behind it
+-- one part, and another one after it
 abbrev pub Then : Part → Part → Part
 Then P Q symbols rest = (behind : List Symbol) × P symbols behind × Q behind rest
 

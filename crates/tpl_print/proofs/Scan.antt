@@ -68,7 +68,7 @@ put_joined (symbol.Text bytes seams) symbol.Left last new plain = refl
 put_joined (symbol.Text bytes seams) symbol.Right last new plain = refl
 put_joined k other last new plain = refl
 
--- what is no text comes behind all others
+-- what is no text comes after all others
 put_behind : (done : List Symbol) (new : Symbol) → NoText new.kind → put done new ≡ done ++ new ∷ []
 put_behind [] new plain = refl
 put_behind (last ∷ []) new plain = put_joined last.kind new.kind last new plain
@@ -139,7 +139,7 @@ is_symbol kind.Comma bytes rest text t b a l e = record { is = symbol.Comma; mea
 is_symbol kind.Left bytes rest text t b a l e = record { is = symbol.Left; means = refl; kind = refl; no_text = λ m s f. cc; no_comment = refl }
 is_symbol kind.Right bytes rest text t b a l e = record { is = symbol.Right; means = refl; kind = refl; no_text = λ m s f. cc; no_comment = refl }
 
--- one more token of an action, behind white space or not
+-- one more token of an action, after white space or not
 one_token : (text : List ℕ) (m : Mode) (at opened start end : ℕ) (what : TokenKind) (between bytes rest : List ℕ) (ps : List Piece) (done : List Symbol) (b : Bool) (p : Piece)
     → IsInAction m opened → list_all is_white between ≡ true → drop at text ≡ between ++ (bytes ++ rest) → IsLexeme what bytes rest → start ≡ at + length between → end ≡ start + length bytes
     → ((s : Symbol) → meaning what bytes ≡ Some s.kind → s.touches ≡ (start == at) → IsOf p s)
@@ -332,7 +332,7 @@ last_text text at place b ps whole acc bs tail base done holds free is here_is n
       says = ((new.1, new.2 ∙ ap (λ (x : List ℕ). symbol.Text x new.1) (sym is)), r.says);
     }
 
--- a token of a text up to a brace, and the comment behind it
+-- a token of a text up to a brace, and the comment after it
 braced_text : (text : List ℕ) (at place : ℕ) (ps : List Piece) (acc front after : List ℕ) (base done : List Symbol) → Holds base acc done → list_all is_free front ≡ true
     → drop at text ≡ (front ++ codes "{ ") ++ guard after
     → ((at place : ℕ) (done : List Symbol) → at ≤ length text → Holds base (acc ++ (front ++ codes "{")) done → drop at text ≡ after → TextScanned text (cursor (mode.Text false) at) ps base done place)
@@ -451,7 +451,7 @@ spaced_is (field n ∷ ps) h = absurd h
 no_dot : (ps : List Piece) → SpacedHead ps → first_is (λ b. b == 46) (spelled ps) ≡ false
 no_dot ps h = let is = spaced_is ps h in ap (first_is (λ b. b == 46)) is.1
 
--- no letter or digit stands at the front of a piece inside an action
+-- no letter or digit stands at the beginning of a piece inside an action
 ends_word : (ps : List Piece) → FitIn ps → EndsWord (spelled ps)
 ends_word [] h = absurd h
 ends_word (words bytes ∷ ps) h = absurd h
@@ -524,7 +524,7 @@ mutual
       (λ s means touches. (field_is n s.kind means, touches ∙ same at))
       (λ done there. scan_in text ps (mode.Action opened) (at + length (46 ∷ n)) opened done refl fits.1 there)
 
-  -- behind a text
+  -- after a text
   scan_open : (text : List ℕ) (ps : List Piece) (at place : ℕ) (done : List Symbol) → at ≤ length text → OpenHead ps → FitOut ps → drop at text ≡ spelled ps → Scanned text (cursor (mode.Text false) at) ps done place false
   scan_open text [] at place done inside open_head fits here_is = scan_end text at place done inside here_is
   scan_open text (words bytes ∷ ps) at place done inside open_head fits here_is = absurd open_head

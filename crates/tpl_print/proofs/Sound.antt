@@ -28,7 +28,7 @@ abbrev pub IsApart : SymbolKind → List Symbol → Type 0
 IsApart k [] = ⊤
 IsApart k (s ∷ symbols) = AreApart k s.kind
 
--- texts are not empty and not behind one another, names are names, and numbers small
+-- texts are not empty and not after one another, names are names, and numbers small
 abbrev pub Sound : List Symbol → Type 0
 Sound [] = ⊤
 Sound (s ∷ symbols) = IsSound s.kind × IsApart s.kind symbols × Sound symbols

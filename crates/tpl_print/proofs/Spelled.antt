@@ -15,7 +15,7 @@ pub spelled-append : (a b : List Piece) → spelled (a ++ b) ≡ spelled a ++ sp
 spelled-append [] b = refl
 spelled-append (p ∷ a) b = ap (λ (xs : List ℕ). spelling p ++ xs) (spelled-append a b) ∙ sym (append_assoc (spelling p) (spelled a) (spelled b))
 
--- two lists of pieces behind one another
+-- two lists of pieces after one another
 both : (a b : List Piece) (x y : List ℕ) → spelled a ≡ x → spelled b ≡ y → spelled (a ++ b) ≡ x ++ y
 both a b x y e f = spelled-append a b ∙ ap (λ (xs : List ℕ). xs ++ spelled b) e ∙ ap (λ (xs : List ℕ). x ++ xs) f
 

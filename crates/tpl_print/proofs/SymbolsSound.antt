@@ -27,7 +27,7 @@ use Rattle.tpl_token.specs.declared.token.Token.{Token}
 use Rattle.tpl_token.specs.declared.token.TokenKind.{TokenKind}
 use Rattle.tpl_token.specs.declared.token.TokenKind.TheVariants as token
 
--- Two symbols behind one another.
+-- Two symbols after one another.
 pair_sound : (k l : SymbolKind) (last new : Symbol) → k ≡ last.kind → l ≡ new.kind → IsSound k → IsSound l → AreApart k l → Sound (last ∷ new ∷ [])
 pair_sound k l last new e f h i parted =
     (subst IsSound e h, subst (λ (x : SymbolKind). AreApart x new.kind) e (subst (λ (x : SymbolKind). AreApart k x) f parted), (subst IsSound f i, tt, tt))

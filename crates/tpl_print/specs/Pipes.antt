@@ -1,4 +1,4 @@
--- How pipes are printed: a space before each token, except for fields behind an operand.
+-- How pipes are printed: a space before each token, except for fields after an operand.
 use Rattle.std.specs.Prelude.{ℕ, Bool, true, false, codes, List, [], ◌∷◌, ◌++◌}
 use Rattle.std.specs.Fmt.{signed_decimal}
 use Rattle.tpl_print.specs.Replaced.{escaped}
@@ -26,7 +26,7 @@ func_text func.Printf = codes "printf"
 func_text func.Html = codes "html"
 func_text func.Urlquery = codes "urlquery"
 
--- fields, each behind its dot
+-- fields, each after its dot
 abbrev pub fields_text : List (List ℕ) → List ℕ
 fields_text [] = []
 fields_text (name ∷ names) = codes "." ++ (name ++ fields_text names)
@@ -56,7 +56,7 @@ abbrev mutual
   pub operand_text : OperandData → List ℕ
   operand_text (with_fields b fields) = codes " " ++ (base_text b (is_none fields) ++ fields_text fields)
 
-  -- a base, behind which fields stand or not: of `.a` the dot is the field's
+  -- a base, after which fields stand or not: of `.a` the dot is the field's
   pub base_text : BaseData → Bool → List ℕ
   base_text (str value) alone = codes "\"" ++ (escaped value ++ codes "\"")
   base_text (number n) alone = signed_decimal n

@@ -6,7 +6,7 @@ abbrev pub replaced : ℕ → List ℕ → List ℕ → List ℕ
 replaced mark by [] = []
 replaced mark by (b ∷ bs) = if b == mark then by ++ replaced mark by bs else b ∷ replaced mark by bs
 
--- a text, with a comment behind each brace, so that no `{{` stands in it; the comment takes the space before it away
+-- a text, with a comment after each brace, so that no `{{` stands in it; the comment takes the space before it away
 abbrev pub guarded : List ℕ → List ℕ
 guarded bytes = replaced 123 (codes "{ {{- /**/}}") bytes
 

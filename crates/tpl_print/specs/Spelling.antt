@@ -69,7 +69,7 @@ parting true true = codes "{{ define \"\" }}{{ end }}"
 parting true false = []
 parting false after = []
 
--- the nodes of a part, one behind the other
+-- the nodes of a part, one after the other
 abbrev pub nodes_text : NodesData → List ℕ
 nodes_text no_nodes = []
 nodes_text (node kind line seams first other rest) =

@@ -4,8 +4,6 @@
 mod laws;
 mod node;
 mod pipe;
-#[cfg(test)]
-mod tests;
 mod text;
 mod tree;
 

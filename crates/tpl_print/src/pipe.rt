@@ -92,7 +92,7 @@ fn push_base(alloc: Global, out: &mut Text, base: &Base, alone: bool) -> Result<
     }
 }
 
-// The dot, which a field behind it has already.
+// The dot, which a field after it has already.
 fn push_dot(out: &mut Text, alone: bool) -> Result<(), Memory>
     ensures { OnOk result (out.new ≡ out.old ++ base_text dot alone) }
 {

@@ -46,7 +46,7 @@ pub(crate) fn push_number(alloc: Global, out: &mut Text, number: i64) -> Result<
     out.push_str(digits.as_str())
 }
 
-/// Appends fields, each behind its dot.
+/// Appends fields, each after its dot.
 pub(crate) fn push_fields(out: &mut Text, fields: &[Text]) -> Result<(), Memory>
     ensures { OnOk result (out.new ≡ out.old ++ fields_text fields.now) }
 {

@@ -9,7 +9,7 @@ use std::alloc::Global;
 use tpl_tree::Tree;
 
 /// The tree as the text of a template file. The text reads as the same tree, lines apart, where the tree is one that parsing
-/// gives: the body of a file, or of a `define` or `block`. The error is want of memory.
+/// gives: the body of a file, or of a `define` or `block`. The error is out of memory.
 #[tactic(auto, using(crate::proofs::ReadsBack::reads_back))]
 pub fn print_tree(alloc: Global, tree: &Tree) -> Result<Text, Memory>
     ensures spelling { IfOk result (λ printed. printed ≡ nodes_text tree.now.nodes) }

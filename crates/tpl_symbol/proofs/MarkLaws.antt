@@ -1,4 +1,4 @@
--- A text without a mark at its front.
+-- A text without a mark at its prefix.
 use Rattle.std.proofs.Common.{codes, ◌++◌, inl, inr, ◌≡◌, ◌≢◌, ℕ, List, [], ◌∷◌, ◌==◌, refl, ap}
 use Rattle.std.proofs.lemmas.Bool.{eqb-true}
 use Rattle.tpl_symbol.specs.Kinds.{unmarked}

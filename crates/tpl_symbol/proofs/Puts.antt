@@ -1,4 +1,4 @@
--- A symbol is put behind others by what the last of them is.
+-- A symbol is put after others by what the last of them is.
 use Rattle.std.proofs.Common.{◌≡◌, ◌≢◌, ℕ, List, [], ◌∷◌, ◌++◌, refl, ap}
 use Rattle.tpl_symbol.specs.Joins.{joined, joined_kinds, put}
 use Rattle.tpl_symbol.specs.declared.symbol.Seam.{Seam}

@@ -1,4 +1,4 @@
--- How symbols stand behind one another: a text that comes behind a text goes on it.
+-- How symbols stand after one another: a text that comes after a text goes on it.
 use Rattle.std.specs.Prelude.{ℕ, Bool, List, [], ◌∷◌, ◌++◌, length, Option, Some, None}
 use Rattle.tpl_symbol.specs.declared.symbol.Symbol.{Symbol}
 use Rattle.tpl_symbol.specs.declared.symbol.SymbolKind.{SymbolKind}
@@ -21,7 +21,7 @@ joined first second = joined_kinds first.kind second.kind first second
 abbrev pub symbol_at : SymbolKind → ℕ → Bool → Symbol
 symbol_at kind line touches = record { kind = kind; line = line; touches = touches }
 
--- symbols with one more behind them
+-- symbols with one more after them
 abbrev pub put : List Symbol → Symbol → List Symbol
 put [] new = new ∷ []
 put (last ∷ []) new = joined last new

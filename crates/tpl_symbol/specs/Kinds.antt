@@ -12,7 +12,7 @@ use Rattle.tpl_token.specs.declared.token.TokenKind.TheVariants as token
 abbrev pub bytes_of : List ℕ → Token → List ℕ
 bytes_of text t = take (t.end - t.start) (drop t.start text)
 
--- bytes without this mark at their front, where they have it
+-- bytes without this mark at their prefix, where they have it
 abbrev pub unmarked : ℕ → List ℕ → List ℕ
 unmarked mark [] = []
 unmarked mark (b ∷ bs) = if b == mark then bs else b ∷ bs

@@ -6,7 +6,7 @@ ghost use Rattle.tpl_symbol.specs.Symbols.{IsFine};
 use crate::symbol::{Seam, Symbol, SymbolKind};
 use page_io::Memory;
 
-/// Puts a symbol of this kind, where there is one, behind the others. A text goes on the text before it.
+/// Puts a symbol of this kind, where there is one, after the others. A text goes on the text before it.
 pub fn put_kind(
     symbols: &mut Vec<Symbol>,
     kind: Option<SymbolKind>,
@@ -29,7 +29,7 @@ pub fn put_kind(
     }
 }
 
-// Puts a symbol behind the others.
+// Puts a symbol after the others.
 fn put(symbols: &mut Vec<Symbol>, symbol: Symbol) -> Result<(), Memory>
     requires { All IsFine symbols.old.items }
     ensures { OnOk result (symbols.new.items ≡ put_of symbols.old.items symbol) }
@@ -43,7 +43,7 @@ fn put(symbols: &mut Vec<Symbol>, symbol: Symbol) -> Result<(), Memory>
     }
 }
 
-// Puts two symbols behind the others, or one where both are texts.
+// Puts two symbols after the others, or one where both are texts.
 fn put_joined(symbols: &mut Vec<Symbol>, last: Symbol, symbol: Symbol) -> Result<(), Memory>
     requires { IsFine last }
     ensures { OnOk result (symbols.new.items ≡ symbols.old.items ++ joined last symbol) }
@@ -73,7 +73,7 @@ fn put_joined(symbols: &mut Vec<Symbol>, last: Symbol, symbol: Symbol) -> Result
     }
 }
 
-// Puts a symbol behind the others as it is.
+// Puts a symbol after the others as it is.
 fn put_one(
     symbols: &mut Vec<Symbol>,
     kind: SymbolKind,

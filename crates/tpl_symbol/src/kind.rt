@@ -78,7 +78,7 @@ fn bytes_of<'a>(text: &'a str, token: &Token) -> &'a str
     &text[token.start as usize..token.end as usize]
 }
 
-// The name behind this mark.
+// The name after this mark.
 fn name_of(alloc: Global, mark: char, bytes: &str) -> Result<Text, Memory>
     requires ascii { mark < 128 }
     ensures { IfOk result (λ name. name ≡ unmarked_of mark bytes.now) }
@@ -86,7 +86,7 @@ fn name_of(alloc: Global, mark: char, bytes: &str) -> Result<Text, Memory>
     Text::copy_of(alloc, unmarked(mark, bytes))
 }
 
-// A text without this mark at its front.
+// A text without this mark at its prefix.
 fn unmarked(mark: char, text: &str) -> &str
     requires ascii { mark < 128 }
     ensures { result.now ≡ unmarked_of mark text.now }

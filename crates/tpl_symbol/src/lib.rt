@@ -8,8 +8,6 @@ mod line;
 mod name;
 mod stream;
 mod symbol;
-#[cfg(test)]
-mod tests;
 mod word;
 
 pub use func::Func;

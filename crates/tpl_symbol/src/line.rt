@@ -20,7 +20,7 @@ pub struct TextEnd {
     pub at: u32,
     /// The line of its last byte, 1 where it has none.
     pub before: u32,
-    /// The line behind its last byte.
+    /// The line after its last byte.
     pub line: u32,
 }
 

@@ -14,7 +14,7 @@ use tpl_token::Token;
 
 /// The symbols of a text with these tokens, as `specs/Symbols.antt` defines them: comments are left out with their
 /// delimiters, names are told apart, and texts with nothing but comments between them are joined. The text and its tokens
-/// are those of `tpl_token::tokens`. The error is want of memory.
+/// are those of `tpl_token::tokens`. The error is out of memory.
 pub fn symbols(alloc: Global, text: &str, tokens: &[Token]) -> Result<List<Symbol>, Memory>
     requires limit { length text.now ≤ max_text }
     requires spans { Ascend 0 (length text.now) tokens.now }

@@ -52,7 +52,7 @@ pub enum SymbolKind {
     Right,
 }
 
-/// Where a text goes on behind a comment: its byte `at` is on the line `line` of the file.
+/// Where a text goes on after a comment: its byte `at` is on the line `line` of the file.
 #[derive(Clone, Copy, Debug, PartialEq, Eq)]
 pub struct Seam {
     pub at: u32,

@@ -17,7 +17,7 @@ use Rattle.tpl_token.proofs.Marks.{split, either, begins-is, begins-length, run_
 use Rattle.tpl_token.proofs.NumberLaws.{number_len-fits, number_ends}
 use Rattle.tpl_token.proofs.StringLaws.{Says, says}
 
--- a token of this kind and length stands at the front
+-- a token of this kind and length stands at the beginning
 pub record IsFound (bytes : List ℕ) (x : TokenKind × ℕ) : Type 0 where
   pub lexeme : IsLexeme x.0 (take x.1 bytes) (drop x.1 bytes)
   pub fits : x.1 ≤ length bytes
@@ -76,7 +76,7 @@ says_string at bytes (ended value n) is h =
 says_string at bytes cut is h = (refl, inl (record { parts = h.0; value = h.1; more = h.2; spelled = is ∙ ap (λ (xs : List ℕ). 34 ∷ xs) h.3; mean = h.4; cut = h.5 }))
 says_string at bytes (bad n) is h = (1 + n, record { parts = h.0; value = h.1; more = h.2; spelled = is ∙ ap (λ (xs : List ℕ). 34 ∷ xs) h.3; mean = h.4; no_escape = h.5; place = omega (arith, h.6) }, omega arith)
 
--- the backquote behind a run
+-- the backquote after a run
 raw_body : (bs : List ℕ) → raw_len bs < length bs → bs ≡ take (raw_len bs) bs ++ 96 ∷ drop (raw_len bs + 1) bs
 raw_body bs inside =
     let n = raw_len bs in
@@ -104,14 +104,14 @@ says_raw at bytes r mark e = split (nat_lt (raw_len (drop 1 bytes)) (length (dro
     (λ t e. subst (SaysLexeme at bytes) e (raw_stands bytes (let h : raw_len (drop 1 bytes) < length (drop 1 bytes) = grind (arith, nat_tests) in h) (begins-is (codes "`") bytes mark)))
     (λ f e. subst (SaysLexeme at bytes) e (refl, inr mark))
 
--- one byte and a run behind it
+-- one byte and a run after it
 front_is : (c n : ℕ) (bytes : List ℕ) → bytes ≡ c ∷ drop 1 bytes → take (n + 1) bytes ≡ c ∷ take n (drop 1 bytes)
 front_is c n bytes is = ap (take (n + 1)) is ∙ ap (λ (i : ℕ). take i (c ∷ drop 1 bytes)) (longer n)
 
 back_is : (n : ℕ) (bytes : List ℕ) → drop (n + 1) bytes ≡ drop n (drop 1 bytes)
 back_is n bytes = ap (λ (i : ℕ). drop i bytes) (let e : n + 1 ≡ 1 + n = omega arith in e) ∙ sym (drop-drop n 1 bytes)
 
--- a name behind one byte
+-- a name after one byte
 named_behind : (c : ℕ) (bytes : List ℕ) → bytes ≡ c ∷ drop 1 bytes → first_is is_word_start (drop 1 bytes) ≡ true → (name_len (drop 1 bytes) ≡ prefix_len is_word_byte (drop 1 bytes)) × (is_name (take (prefix_len is_word_byte (drop 1 bytes)) (drop 1 bytes)) ≡ true)
     × (first_is is_word_byte (drop (prefix_len is_word_byte (drop 1 bytes) + 1) bytes) ≡ false) × (prefix_len is_word_byte (drop 1 bytes) + 1 ≤ length bytes) × (0 < prefix_len is_word_byte (drop 1 bytes))
 named_behind c bytes is t =
@@ -124,7 +124,7 @@ named_behind c bytes is t =
       run_some rest t,
     )
 
--- a `.` with a name behind it, or without
+-- a `.` with a name after it, or without
 says_dot : (at : ℕ) (bytes : List ℕ) → begins (codes ".") bytes ≡ true → begins_number bytes ≡ false → SaysLexeme at bytes (Ok (dot_found (name_len (drop 1 bytes))))
 says_dot at bytes mark number =
     let rest = drop 1 bytes in

@@ -65,7 +65,7 @@ one_more n = omega arith
 pub longer : (n : ℕ) → n + 1 ≡ suc n
 longer n = omega arith
 
--- the byte behind a run does not pass
+-- the byte after a run does not pass
 pub run_stops : (p : ℕ → Bool) (bytes : List ℕ) → first_is p (drop (prefix_len p bytes) bytes) ≡ false
 run_stops p [] = refl
 run_stops p (b ∷ bs) = either (p b) (λ t. rw (t, one_more (prefix_len p bs)) (run_stops p bs)) (λ f. rw f f)

@@ -118,7 +118,7 @@ misses_some why at [] h = absurd (nothing why at h)
     nothing (refused.UnclosedString p) at (e, inl u) = no_cons (sym u.spelled)
     nothing (refused.UnclosedString p) at (e, inr mark) = true≢false (sym mark)
 
--- behind white space
+-- after white space
 behind_missed : (opened spaces at : ℕ) (bytes : List ℕ) (why : TokenRefused) → ((x : Token × Cursor) → inner_at opened spaces at bytes ≡ Ok x → ⊥) → Misses why at bytes → inner_at opened spaces at bytes ≡ Err why
 behind_missed opened spaces at bytes why none h =
     let some = misses_some why at bytes h in

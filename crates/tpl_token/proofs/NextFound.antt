@@ -189,7 +189,7 @@ found_inner what text from start end to h =
     ∙ inner_found what h.opened (length h.between) (from.at + length h.between) h.lexeme h.more h.lexeme_is)
     ∙ rw (h.goes, h.ends, h.starts) refl
 
--- the end of an action, behind white space
+-- the end of an action, after white space
 close_found : (trims : Bool) (opened spaces at : ℕ) (more : List ℕ) → (trims ≡ true → 0 < spaces) → inner_at opened spaces at (close_mark trims ++ more) ≡ Ok (step kind.Close at (length (close_mark trims)) (mode.Text trims))
 close_found true opened spaces at more some =
     let e = not_empty 45 (125 ∷ 125 ∷ more) in

@@ -27,7 +27,7 @@ SaysNext text from (Ok (Some x)) = Next text from x.0 x.1
 SaysNext text from (Ok None) = IsEnd text from
 SaysNext text from (Err why) = Cause why text from
 
--- what stands behind a text is an action, or nothing
+-- what stands after a text is an action, or nothing
 pub before_lands : (mark bytes : List ℕ) → 0 < length (drop (bytes_before mark bytes) bytes) → begins mark (drop (bytes_before mark bytes) bytes) ≡ true
 before_lands mark [] some = absurd (omega arith)
 before_lands mark (b ∷ bs) some = either (begins mark (b ∷ bs))
@@ -80,7 +80,7 @@ says_text text trims at fits o e =
     (record { trims = trims; place = refl; starts = refl; ends = refl; not_empty = omega (arith, lesser (kept_start trims rest) (kept_end rest) t); goes = refl }))
     (λ f e. says_open text trims at fits (no_lesser (kept_start trims rest) (kept_end rest) f) o e)
 
--- an action may end behind white space
+-- an action may end after white space
 may_close : (m : Mode) (opened : ℕ) (between : List ℕ) (trims : Bool) → IsInAction m opened → list_all is_white between ≡ true → (trims ≡ true → between ≢ []) → MayClose m between trims
 may_close (mode.Text _) opened between trims h white some = absurd h
 may_close (mode.Opened _ _) opened between trims h white some = (white, some)
@@ -151,7 +151,7 @@ says_close text m at opened between bytes trims h is white some mark = record {
   goes = refl;
 }
 
--- behind white space
+-- after white space
 says_behind : (text : List ℕ) (m : Mode) (at opened : ℕ) (between bytes : List ℕ) → IsInAction m opened → begins_comment m (drop at text) ≡ false → drop at text ≡ between ++ bytes → list_all is_white between ≡ true → first_is is_white bytes ≡ false
     → (r : Step) → inner_at opened (length between) (at + length between) bytes ≡ r → SaysNext text (cursor m at) (some_next r)
 says_behind text m at opened between bytes h none is white stops r e =

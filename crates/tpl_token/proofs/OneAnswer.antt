@@ -217,7 +217,7 @@ err_answers text tokens last (refused.BadNumber p) fits reads e = refused_here t
 err_answers text tokens last (refused.BadDelimiter p) fits reads e = refused_here text tokens last (refused.BadDelimiter p) fits reads e
 err_answers text tokens last (refused.BadEscape p) fits reads e = refused_here text tokens last (refused.BadEscape p) fits reads e
 
--- A text that has tokens is refused for want of memory alone.
+-- A text that has tokens is refused for being out of memory alone.
 pub err_accepted : (text : List ℕ) (why : TokenRefused) (list : List Token) → Answers text (Err why) → AreTokens text list → Gives (Err why) (Ok list)
 err_accepted text refused.Memory list a h = tt
 err_accepted text (refused.UnclosedAction p) list a h = absurd (not_refused text list (refused.UnclosedAction p) h a)
@@ -228,7 +228,7 @@ err_accepted text (refused.BadNumber p) list a h = absurd (not_refused text list
 err_accepted text (refused.BadDelimiter p) list a h = absurd (not_refused text list (refused.BadDelimiter p) h a)
 err_accepted text (refused.BadEscape p) list a h = absurd (not_refused text list (refused.BadEscape p) h a)
 
--- A text that is refused is refused for its cause, or for want of memory.
+-- A text that is refused is refused for its cause, or when memory runs out.
 pub err_refused : (text : List ℕ) (why wanted : TokenRefused) → Answers text (Err why) → IsRefused text wanted → Gives {X = List Token} (Err why) (Err wanted)
 err_refused text refused.Memory wanted a h = tt
 err_refused text (refused.UnclosedAction p) wanted a h = ap Err (one_refusal text wanted (refused.UnclosedAction p) h a)

@@ -78,7 +78,7 @@ parts_read (escape bytes ∷ parts) value rest h =
     ∙ behind_twice (encode_utf8 c) more (1 + n) k (quoted 0 rest)
     ∙ ap (λ (v : List ℕ). behind v (1 + n + k) (quoted 0 rest)) (sym h.2) ∙ ap (λ (i : ℕ). behind value i (quoted 0 rest)) len
 
--- what a reading says of the bytes behind an opening quote
+-- what a reading says of the bytes after an opening quote
 abbrev pub Says : List ℕ → Quoted → Type 0
 Says bs (ended value n) = (parts : List Part) × (more : List ℕ) × (bs ≡ spelling parts ++ 34 ∷ more) × StandFor parts value × (n ≡ length (spelling parts) + 1)
 Says bs cut = (parts : List Part) × (value more : List ℕ) × (bs ≡ spelling parts ++ more) × StandFor parts value × ((more ≡ []) ⊎ IsTrue (begins (codes "\n") more))

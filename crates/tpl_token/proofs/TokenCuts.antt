@@ -49,7 +49,7 @@ after_byte text at k next utf8 inside ascii is =
     let same : at + k + 1 ≡ next = omega (arith, is) in
     subst (IsCharBoundary text) same (IsCharBoundary-after_ascii text (at + k) utf8 (omega (arith, inside, length-drop at text)) (omega (arith, ascii, get_or-drop at text k 0)))
 
--- a byte of a front
+-- a byte of a prefix
 front_byte : (xs ys : List ℕ) (i : ℕ) → i < length xs → get_or (xs ++ ys) i 0 ≡ get_or xs i 0
 front_byte xs ys i inside = sym (get_or-take (length xs) (xs ++ ys) i 0 inside) ∙ ap (λ (zs : List ℕ). get_or zs i 0) (take_at xs ys (length xs) refl)
 

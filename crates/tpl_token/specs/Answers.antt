@@ -14,7 +14,7 @@ max_text = 2 ^ 20
 abbrev pub HasAnswer : List ℕ → Type 0
 HasAnswer text = ((tokens : List Token) × AreTokens text tokens) ⊎ ((why : TokenRefused) × IsRefused text why)
 
--- The tokens of the text, or why it has none. Want of memory may come instead.
+-- The tokens of the text, or why it has none. Out of memory may come instead.
 abbrev pub Answers : List ℕ → Result (List Token) TokenRefused → Type 0
 Answers text (Ok tokens) = AreTokens text tokens
 Answers text (Err refused.Memory) = ⊤

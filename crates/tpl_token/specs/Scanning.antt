@@ -94,7 +94,7 @@ number_read at len (Some n) = Ok (kind.Number n, len)
 abbrev pub number_found : ℕ → List ℕ → Found
 number_found at bytes = if begins (codes ".") (drop (number_len bytes) bytes) then Err (refused.BadNumber at) else number_read at (number_len bytes) (number (take (number_len bytes) bytes))
 
--- the length of the name at the front, 0 where there is none
+-- the length of the name at the beginning, 0 where there is none
 abbrev pub name_len : List ℕ → ℕ
 name_len bytes = if first_is is_word_start bytes then prefix_len is_word_byte bytes else 0
 
@@ -190,7 +190,7 @@ go_on (Ok (Some found)) done rest = rest found.1 (done ++ found.0 ∷ [])
 go_on (Ok None) done rest = Ok done
 go_on (Err why) done rest = Err why
 
--- all tokens, in fewer than so many steps, where these tokens are before; want of memory where they do not suffice
+-- all tokens, in fewer than so many steps, where these tokens are before; out of memory where they do not suffice
 abbrev pub scan : ℕ → List ℕ → Cursor → List Token → Result (List Token) TokenRefused
 scan zero text from done = Err refused.Memory
 scan (suc n) text from done = go_on (advance text from) done (scan n text)

@@ -1,4 +1,4 @@
-// What stands at the front of bytes.
+// What stands at the beginning of bytes.
 ghost use Rattle.std.specs.Prelude.{◌≡◌, ◌≤◌, length, take};
 ghost use Rattle.std.specs.List.{prefix_len, suffix_len};
 ghost use Rattle.tpl_token.specs.Characters.{begins as begins_of, first_is, is_sign, is_white as is_white_of, is_word_byte, is_word_start};
@@ -28,7 +28,7 @@ pub fn bytes_before(mark: &[u8], bytes: &[u8]) -> usize
     at
 }
 
-/// How many bytes of white space stand at the front.
+/// How many bytes of white space stand at the beginning.
 pub fn white_len(bytes: &[u8]) -> usize
     ensures len { result ≡ prefix_len is_white_of bytes.now }
     ensures bound { result ≤ length bytes.now }
@@ -48,7 +48,7 @@ pub fn white_end_len(bytes: &[u8]) -> usize
         .count()
 }
 
-/// How many letters, digits and `_` stand at the front.
+/// How many letters, digits and `_` stand at the beginning.
 pub fn word_len(bytes: &[u8]) -> usize
     ensures len { result ≡ prefix_len is_word_byte bytes.now }
     ensures bound { result ≤ length bytes.now }
@@ -56,14 +56,14 @@ pub fn word_len(bytes: &[u8]) -> usize
     bytes.iter().take_while(|byte| is_word(**byte)).count()
 }
 
-/// Whether white space stands at the front.
+/// Whether white space stands at the beginning.
 pub fn begins_white(bytes: &[u8]) -> bool
     ensures { result ≡ first_is is_white_of bytes.now }
 {
     bytes.first().is_some_and(|byte| is_white(*byte))
 }
 
-/// Whether a letter or `_` stands at the front.
+/// Whether a letter or `_` stands at the beginning.
 pub fn begins_word(bytes: &[u8]) -> bool
     ensures { result ≡ first_is is_word_start bytes.now }
 {
@@ -72,14 +72,14 @@ pub fn begins_word(bytes: &[u8]) -> bool
         .is_some_and(|byte| byte.is_ascii_alphabetic() || *byte == b'_')
 }
 
-/// Whether a digit stands at the front.
+/// Whether a digit stands at the beginning.
 pub fn begins_digit(bytes: &[u8]) -> bool
     ensures { result ≡ first_is is_ascii_digit bytes.now }
 {
     bytes.first().is_some_and(|byte| byte.is_ascii_digit())
 }
 
-/// Whether `+` or `-` stands at the front.
+/// Whether `+` or `-` stands at the beginning.
 pub fn begins_sign(bytes: &[u8]) -> bool
     ensures { result ≡ first_is is_sign bytes.now }
 {

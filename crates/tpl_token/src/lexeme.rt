@@ -41,7 +41,7 @@ pub fn lexeme_at(alloc: Global, text: &str, at: usize) -> Result<(TokenKind, usi
     mark_at(at as u32, rest)
 }
 
-// Whether a digit, a sign, or `.` and a digit stand at the front.
+// Whether a digit, a sign, or `.` and a digit stand at the beginning.
 fn begins_number(bytes: &[u8]) -> bool
     ensures { result ≡ begins_number_of bytes.now }
 {
@@ -55,7 +55,7 @@ fn begins_number(bytes: &[u8]) -> bool
     begins_digit(behind)
 }
 
-// The length of the name at the front, 0 where there is none.
+// The length of the name at the beginning, 0 where there is none.
 fn name_len(bytes: &[u8]) -> usize
     ensures len { result ≡ name_len_of bytes.now }
     ensures bound { result ≤ length bytes.now }

@@ -24,7 +24,7 @@ pub fn fits(text: &str) -> bool
 }
 
 /// The tokens of the text of a template file, in order: the lexical grammar of Go's package text/template in our profile,
-/// which `specs/Grammar.antt` defines and `docs/TEMPLATES.md` says in words. The error names the first thing from the
+/// which `specs/Grammar.antt` defines and `docs/LANGUAGE.md` says in words. The error names the first thing from the
 /// left that is no token where it stands, or is `Memory`. The text has at most `MAX_TEXT` bytes.
 pub fn tokens(alloc: Global, text: &str) -> Result<List<Token>, TokenRefused>
     requires limit { length text.now ≤ max_text }

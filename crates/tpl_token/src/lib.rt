@@ -11,8 +11,6 @@ mod lexer;
 mod number;
 mod refused;
 mod string;
-#[cfg(test)]
-mod tests;
 mod text;
 mod token;
 

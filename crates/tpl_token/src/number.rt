@@ -10,7 +10,7 @@ use crate::refused::TokenRefused;
 use crate::token::TokenKind;
 use std::str;
 
-/// The number at the front of bytes that stand at a place, and its length. `BadNumber` comes where what begins as a number
+/// The number at the beginning of bytes that stand at a place, and its length. `BadNumber` comes where what begins as a number
 /// is not one.
 pub fn number_at(at: u32, bytes: &[u8]) -> Result<(TokenKind, usize), TokenRefused>
     ensures found { Gives result (number_found at bytes.now) }

@@ -22,7 +22,7 @@ pub enum TokenRefused {
     BadDelimiter(u32),
     /// A backslash in a string in double quotes begins no whole escape. The place of the backslash.
     BadEscape(u32),
-    /// Want of memory.
+    /// Out of memory.
     Memory,
 }
 

@@ -37,7 +37,7 @@ pub fn text_at(trims: bool, at: usize, rest: &[u8]) -> Option<(Token, Cursor)>
     open_at(at + len, behind)
 }
 
-// Whether `{{-` stands at the front, and white space after it.
+// Whether `{{-` stands at the beginning, and white space after it.
 fn trims_before(rest: &[u8]) -> bool
     ensures { result ≡ trims_before_of rest.now }
 {
@@ -48,7 +48,7 @@ fn trims_before(rest: &[u8]) -> bool
     begins_white(behind)
 }
 
-// The `{{` of an action at the front, unless there is nothing.
+// The `{{` of an action at the beginning, unless there is nothing.
 fn open_at(at: usize, rest: &[u8]) -> Option<(Token, Cursor)>
     requires limit { at + length rest.now ≤ max_text }
     ensures { result ≡ open_at_of at rest.now }

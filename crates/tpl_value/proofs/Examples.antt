@@ -31,7 +31,7 @@ ends_inside = refl
 empty_inside : slice_of (text (195 ∷ 164 ∷ 98 ∷ [])) (pos 1) (pos 1) ≡ Err SliceRange
 empty_inside = refl
 
--- nothing at the end, and nothing behind it
+-- nothing at the end, and nothing after it
 at_end : slice_of (text (195 ∷ 164 ∷ 98 ∷ [])) (pos 3) (pos 3) ≡ Ok (text [])
 at_end = refl
 

@@ -22,7 +22,7 @@ abbrev pub text_part : List ℕ → Option (ℕ × ℕ) → Result Data FaultKin
 text_part bytes (Some bounds) = if is_inside bytes bounds.0 || is_inside bytes bounds.1 then Err SliceRange else Ok (text (take (bounds.1 - bounds.0) (drop bounds.0 bytes)))
 text_part bytes None = Err SliceRange
 
--- the first values of a list, and the values behind them
+-- the first values of a list, and the values after them
 abbrev pub first_items : ℕ → DataList → DataList
 first_items n no_items = no_items
 first_items zero (item value rest) = no_items
@@ -44,7 +44,7 @@ slice_of (text bytes) from to = text_part bytes (bounds_of from to (length bytes
 slice_of (list items) from to = items_part items (bounds_of from to (item_count items))
 slice_of datum from to = Err NotIndexable
 
--- how a call answers with a value that it made, a fault, or want of memory
+-- how a call answers with a value that it made, a fault, or out of memory
 abbrev pub Makes : Result Data FaultKind → Result Datum ValueStop → Type 0
 Makes outcome (Ok datum) = outcome ≡ Ok (view datum)
 Makes outcome (Err (Fault kind)) = outcome ≡ Err kind

@@ -8,7 +8,7 @@ use std::alloc::Global;
 
 /// The part of a value from one place to before another: values of a list, which are copied, or bytes of a text. The errors are
 /// SliceRange, two places that are not in order from 0 to the length, or one that is in the middle of a character of the text,
-/// NotIndexable, any other value, and want of memory. (Go's `text/template`, "Functions", in a profile.)
+/// NotIndexable, any other value, and out of memory. (Go's `text/template`, "Functions", in a profile.)
 pub fn slice(alloc: Global, datum: &Datum, from: i64, to: i64) -> Result<Datum, ValueStop>
     ensures { SliceAnswers (view datum.now) from to result }
 {

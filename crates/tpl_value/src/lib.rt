@@ -7,8 +7,6 @@ mod count;
 mod cut;
 mod pick;
 mod test;
-#[cfg(test)]
-mod tests;
 
 pub use compare::{equal, less};
 pub use count::length;
