@@ -72,3 +72,34 @@ impl<T: Drop> From<AllocFailed<T>> for IoStop {
         IoStop::Memory
     }
 }
+
+/// Why a call stopped: a cause of its own, or out of memory.
+#[derive(Clone, Copy, Debug, PartialEq, Eq, Drop)]
+pub enum Stop<W> {
+    /// The call's own cause.
+    Cause(W),
+    /// Out of memory.
+    Memory,
+}
+
+impl<W> From<Memory> for Stop<W> {
+    ghost use Rattle.std.specs.Prelude.{◌≡◌};
+    ghost use Rattle.page_io.specs.declared.stop.Stop.TheVariants as stop;
+
+    ghost from_gives = { λ _ e. e ≡ stop.Memory };
+
+    fn from(_memory: Memory) -> Stop<W> {
+        Stop::Memory
+    }
+}
+
+impl<W, T: Drop> From<AllocFailed<T>> for Stop<W> {
+    ghost use Rattle.std.specs.Prelude.{◌≡◌};
+    ghost use Rattle.page_io.specs.declared.stop.Stop.TheVariants as stop;
+
+    ghost from_gives = { λ _ e. e ≡ stop.Memory };
+
+    fn from(_error: AllocFailed<T>) -> Stop<W> {
+        Stop::Memory
+    }
+}
