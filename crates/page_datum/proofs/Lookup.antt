@@ -1,74 +1,35 @@
--- What a binary search finds among entries whose keys ascend.
-use Rattle.std.proofs.Common.{◌≡◌, ℕ, zero, suc, ◌<◌, ◌≤◌, List, [], ◌∷◌, length, get_or, true, false, bytes_eq, Some, None, Ordering, Less, Equal, Greater, refl, sym, ap, ◌∙◌, ⊎_elim, arith}
-use Rattle.std.proofs.Math.Nat.{eq-or-lt_of_le}
-use Rattle.std.proofs.lemmas.Bool.{cases_lt}
-use Rattle.std.proofs.lemmas.Cmp.{nat_list_cmp_total, alike_right}
-use Rattle.std.specs.Cmp.Lexicographic.{slice_cmp, texts_ties}
-use Rattle.std.specs.List.{AllByRecursion}
-use Rattle.std.specs.List.Sorted.{IsStrictlySortedBy, IsNonDecreasingBy, IsPartitionPoint}
-use Rattle.std.specs.Ordering.{nat_cmp, ordering_index, is_eq}
-use Rattle.page_datum.specs.Data.{keys, HasAscendingKeys, value_at}
+-- The value at a key is the value of the entry with the key's number.
+use Rattle.std.proofs.Common.{◌≡◌, ℕ, Bool, zero, suc, ◌<◌, List, [], ◌∷◌, length, get_or, true, false, bytes_eq, Option, Some, None, option_map, refl, sym, ap, ◌∙◌, arith}
+use Rattle.std.specs.Map.{keys_of}
+use Rattle.page_io.specs.Keys.{HaveAscendingKeys, key_number}
+use Rattle.page_datum.specs.Data.{Data, keys, HasAscendingKeys, value_at}
 use Rattle.page_datum.specs.View.{view, entries_view}
 use Rattle.page_datum.specs.declared.datum.Datum.{Datum}
-
-abbrev pub cmp : List ℕ → List ℕ → Ordering
-cmp = slice_cmp nat_cmp
 
 abbrev pub Pair : Type 0
 Pair = List ℕ × Datum
 
-first_above : (key : List ℕ) (es : List Pair) (i : ℕ) (d : Pair) → AllByRecursion (λ y. cmp key y ≡ Less) (keys (entries_view es)) → i < length es → cmp key (get_or es i d).0 ≡ Less
-first_above key [] i d up lt = absurd (omega arith)
-first_above key (e ∷ es) zero d up lt = up.0
-first_above key (e ∷ es) (suc i) d up lt = first_above key es i d up.1 (omega arith)
+same_keys : (es : List Pair) → keys (entries_view es) ≡ keys_of es
+same_keys [] = refl
+same_keys (e ∷ es) = ap (λ (ks : List (List ℕ)). e.0 ∷ ks) (same_keys es)
 
--- of two entries the earlier has the smaller key
-ascend : (es : List Pair) (i j : ℕ) (d : Pair) → HasAscendingKeys (entries_view es) → i < j → j < length es → cmp (get_or es i d).0 (get_or es j d).0 ≡ Less
-unfolding IsStrictlySortedBy
-ascend [] i j d up lt inside = absurd (omega arith)
-ascend (e ∷ es) i zero d up lt inside = absurd (omega arith)
-ascend (e ∷ es) zero (suc j) d up lt inside = first_above e.0 es j d up.0 (omega arith)
-ascend (e ∷ es) (suc i) (suc j) d up lt inside = ascend es i j d up.1 (omega arith) (omega arith)
+-- the keys ascend before and after values are seen as data
+pub have_ascending : (es : List Pair) → HasAscendingKeys (entries_view es) → HaveAscendingKeys es
+have_ascending es up = rw (← same_keys es) up
 
--- a smaller key compares no higher
-rise : (a b key : List ℕ) (o : Ordering) → cmp a b ≡ Less → cmp b key ≡ o → ordering_index (cmp a key) ≤ ordering_index o
-rise a b key Less below is = rw (nat_list_cmp_total.trans a b key below is) (omega arith)
-rise a b key Equal below is = rw (sym (alike_right nat_list_cmp_total b key a is) ∙ below) (omega arith)
-rise a b key Greater below is = most (cmp a key)
-  where
-    most : (o : Ordering) → ordering_index o ≤ 2
-    most Less = omega arith
-    most Equal = omega arith
-    most Greater = omega arith
+-- a value by the number of its entry, if there is one
+abbrev numbered : List Pair → Pair → Option ℕ → Option Data
+numbered es d at = option_map (λ (i : ℕ). view (get_or es i d).1) at
 
--- so the comparisons with a key rise, as a binary search asks
-pub comparisons_rise : (key : List ℕ) (es : List Pair) → HasAscendingKeys (entries_view es) → IsNonDecreasingBy (λ e. ordering_index (cmp e.0 key)) es
-comparisons_rise key es up i j d le inside = ⊎_elim
-    (λ (same : i ≡ j). rw same (omega arith))
-    (λ (lt : i < j). rise (get_or es i d).0 (get_or es j d).0 key (cmp (get_or es j d).0 key) (ascend es i j d up lt inside) refl)
-    (eq-or-lt_of_le le)
+later : (e d : Pair) (es : List Pair) (at : Option ℕ) → numbered (e ∷ es) d (option_map suc at) ≡ numbered es d at
+later e d es None = refl
+later e d es (Some i) = refl
 
--- the entry at a place with the key is the first one with it
-pub value_at-found : (key : List ℕ) (es : List Pair) (i : ℕ) (d : Pair) → HasAscendingKeys (entries_view es) → i < length es → cmp (get_or es i d).0 key ≡ Equal → value_at key (entries_view es) ≡ Some (view (get_or es i d).1)
-unfolding IsStrictlySortedBy
-value_at-found key [] i d up lt is = absurd (omega arith)
-value_at-found key (e ∷ es) zero d up lt is =
-    let same : bytes_eq e.0 key ≡ true = texts_ties e.0 key ∙ ap is_eq is in
-    rw same refl
-value_at-found key (e ∷ es) (suc i) d up lt is =
-    let less : cmp e.0 key ≡ Less = sym (alike_right nat_list_cmp_total (get_or es i d).0 key e.0 is) ∙ first_above e.0 es i d up.0 (omega arith) in
-    let other : bytes_eq e.0 key ≡ false = texts_ties e.0 key ∙ ap is_eq less in
-    rw other (value_at-found key es i d up.1 (omega arith) is)
+at_head : (key : List ℕ) (e d : Pair) (es : List Pair) (b : Bool) → bytes_eq e.0 key ≡ b → numbered es d (key_number key es) ≡ value_at key (entries_view es)
+    → numbered (e ∷ es) d (key_number key (e ∷ es)) ≡ value_at key (entries_view (e ∷ es))
+at_head key e d es true is h = rw is refl
+at_head key e d es false is h = rw is (later e d es (key_number key es) ∙ h)
 
-none_at : (key : List ℕ) (es : List Pair) → ((k : ℕ) (d : Pair) → k < length es → is_eq (cmp (get_or es k d).0 key) ≡ false) → value_at key (entries_view es) ≡ None
-none_at key [] h = refl
-none_at key (e ∷ es) h =
-    let other : bytes_eq e.0 key ≡ false = texts_ties e.0 key ∙ h 0 e (omega arith) in
-    rw other (none_at key es (λ k d lt. h (suc k) d (omega arith)))
-
--- between the smaller and the greater keys there is none
-pub value_at-absent : (key : List ℕ) (es : List Pair) (i : ℕ) → IsPartitionPoint (λ e. cmp e.0 key ≡ Less) (λ e. cmp e.0 key ≡ Greater) es i → value_at key (entries_view es) ≡ None
-value_at-absent key es i parted = none_at key es (λ k d lt. ⊎_elim
-    (λ (below : k < i). ap is_eq (parted.0 k d (omega arith) below))
-    (λ (above : i ≤ k). ap is_eq (parted.1 k d above lt))
-    (cases_lt k i))
+pub value_at-numbered : (key : List ℕ) (es : List Pair) (d : Pair) → option_map (λ (i : ℕ). view (get_or es i d).1) (key_number key es) ≡ value_at key (entries_view es)
+value_at-numbered key [] d = refl
+value_at-numbered key (e ∷ es) d = at_head key e d es (bytes_eq e.0 key) refl (value_at-numbered key es d)

@@ -10,5 +10,4 @@ pub mod Printed
 pub mod Putting
 pub mod Reading
 pub mod Sizes
-pub mod Taking
 pub mod View

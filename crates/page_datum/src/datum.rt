@@ -1,4 +1,4 @@
-use page_io::Text;
+use page_io::{Text, number_of_key};
 use std::marker::Model;
 
 /// A value that a page is made with. Its meaning for contracts is `view` of `specs/View.antt`.
@@ -134,9 +134,9 @@ impl Entries {
         ensures { option_map (λ d. view d.now) result ≡ value_at key.now self.now }
     {
         let entries = self.entries.as_slice();
-        match entries.binary_search_by(|entry| entry.0.as_str().cmp(key)) {
-            Ok(at) => Some(&entries[at].1),
-            Err(_) => None,
+        match number_of_key(entries, key) {
+            Some(at) => Some(&entries[at].1),
+            None => None,
         }
     }
 }

@@ -4,8 +4,8 @@ ghost use Rattle.page_datum.specs.Reading.{ReadAnswers, shown_path as shown_path
 use crate::datum::Datum;
 use crate::depth::is_too_deep;
 use crate::refused::DataRefused;
-use crate::take::{Untaken, take};
-use page_io::{Memory, Text};
+use crate::take::take;
+use page_io::{Memory, Stop, Text};
 use serde_json::Value;
 use std::alloc::Global;
 
@@ -31,11 +31,11 @@ pub fn read_datum(alloc: Global, bytes: &[u8]) -> Result<Datum, DataRefused>
     };
     match take(alloc, value) {
         Ok(datum) => Ok(datum),
-        Err(Untaken::NotWhole(path)) => match shown_path(alloc, path) {
+        Err(Stop::Cause(path)) => match shown_path(alloc, path) {
             Ok(shown) => Err(DataRefused::NotWhole(shown)),
             Err(Memory) => Err(DataRefused::Memory),
         },
-        Err(Untaken::Memory) => Err(DataRefused::Memory),
+        Err(Stop::Memory) => Err(DataRefused::Memory),
     }
 }
 
