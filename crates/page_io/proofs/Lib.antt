@@ -1,3 +1,4 @@
 pub mod Ascending
+pub mod Feeds
 pub mod Known
 pub mod Taken

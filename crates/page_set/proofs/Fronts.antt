@@ -1,11 +1,12 @@
 -- Forms at the beginning of a text, and the nodes that they make.
-use Rattle.std.proofs.Common.{◌≡◌, ℕ, ◌+◌, ◌-◌, ◌≤◌, List, [], ◌∷◌, ◌++◌, length, take, drop, refl, sym, ap, ◌∙◌, subst, arith, cond, ◌==◌, append_assoc, append-nil}
+use Rattle.std.proofs.Common.{◌≡◌, ℕ, ◌+◌, ◌-◌, ◌≤◌, List, [], ◌∷◌, ◌++◌, length, take, drop, refl, sym, ap, ◌∙◌, subst, arith, append_assoc, append-nil}
 use Rattle.std.proofs.Math.Seq.{take-add}
 use Rattle.std.proofs.lemmas.List.{drop-drop, drop_all, take_at, length-append, length-drop}
-use Rattle.std.proofs.lemmas.List.Sums.{sum_by-append}
 use Rattle.page_set.specs.Forms.{Form, spelling, spelled, Begins, IsFront, IsStuck}
 use Rattle.page_set.specs.Found.{IsFound, found_len, form_of}
-use Rattle.page_set.specs.Nodes.{line_feeds, text_node, nodes_from, IsTemplate, IsStuckAt}
+use Rattle.page_io.proofs.Feeds.{line_feeds-append}
+use Rattle.page_io.specs.Lines.{line_feeds}
+use Rattle.page_set.specs.Nodes.{text_node, nodes_from, IsTemplate, IsStuckAt}
 use Rattle.page_set.specs.Scanned.{AddsForm}
 use Rattle.page_set.specs.declared.form.Found.{Found}
 use Rattle.page_set.specs.declared.node.Node.{Node}
@@ -45,9 +46,6 @@ scanned_more text start at line next to found old new s f adds is =
           ap (λ (i : ℕ). new ++ nodes_from (line + line_feeds (spelling form)) (take (i - next) (drop next text)) forms) is ∙ adds forms ∙ s.made (form ∷ forms)
           ∙ ap (nodes_from 1 []) (sym (append_assoc s.front (form ∷ []) forms));
     }
-
-line_feeds-append : (xs ys : List ℕ) → line_feeds (xs ++ ys) ≡ line_feeds xs + line_feeds ys
-line_feeds-append xs ys = sum_by-append (λ x. cond (x == 10) 1 0) xs ys
 
 -- the bytes of the form that was found
 pub spelling-found : (rest : List ℕ) (found : Found) → IsFound rest found → take (found_len found) rest ≡ spelling (form_of found rest)

@@ -6,7 +6,8 @@ use Rattle.std.proofs.lemmas.Str.{IsCharBoundary-after_ascii}
 use Rattle.std.specs.Str.{IsUtf8, IsCharBoundary}
 use Rattle.page_set.specs.Forms.{Form, hole, spelling}
 use Rattle.page_set.specs.Found.{IsFound, found_len, form_of}
-use Rattle.page_set.specs.Nodes.{line_feeds, text_node, nodes_from}
+use Rattle.page_io.specs.Lines.{line_feeds}
+use Rattle.page_set.specs.Nodes.{text_node, nodes_from}
 use Rattle.page_set.specs.Scanned.{AddsForm}
 use Rattle.page_set.specs.declared.form.Found.{Found}
 use Rattle.page_set.specs.declared.form.Found.TheVariants.{StartTag, EndTag, Hole, Character}

@@ -13,7 +13,8 @@ use Rattle.place_core.specs.declared.element.Element.{Element}
 use Rattle.place_core.specs.declared.element.Element.TheVariants as element
 use Rattle.place_core.proofs.Readings.{read-append}
 use Rattle.page_set.specs.Forms.{Form, start_tag, end_tag, hole, character, spelling, is_special_name, is_special, is_tag_name, IsFront}
-use Rattle.page_set.specs.Nodes.{text_node, nodes_from, line_feeds, IsTemplate}
+use Rattle.page_io.specs.Lines.{line_feeds}
+use Rattle.page_set.specs.Nodes.{text_node, nodes_from, IsTemplate}
 use Rattle.page_set.specs.declared.node.Node.{Node}
 use Rattle.page_set.specs.declared.node.Node.TheVariants as node
 use Rattle.page_set.proofs.NameLaws.{both}

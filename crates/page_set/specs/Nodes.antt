@@ -1,13 +1,10 @@
 -- The nodes of a template: texts, which are longest stretches without holes, and holes with their
 -- lines.
-use Rattle.std.specs.Prelude.{◌≡◌, ℕ, ◌+◌, ◌==◌, List, [], ◌∷◌, ◌++◌, count_by}
+use Rattle.std.specs.Prelude.{◌≡◌, ℕ, ◌+◌, List, [], ◌∷◌, ◌++◌}
+use Rattle.page_io.specs.Lines.{line_feeds}
 use Rattle.page_set.specs.Forms.{Form, hole, spelling, spelled, IsFront, IsStuck}
 use Rattle.page_set.specs.declared.node.Node.{Node}
 use Rattle.page_set.specs.declared.node.Node.TheVariants.{Text, Hole}
-
--- how many line feeds
-abbrev pub line_feeds : List ℕ → ℕ
-line_feeds bytes = count_by (λ b. b == 10) bytes
 
 -- no node for an empty text
 abbrev pub text_node : List ℕ → List Node

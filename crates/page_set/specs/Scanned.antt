@@ -4,15 +4,16 @@ use Rattle.std.specs.Prelude.{Ok, Err, Vec, ⊤}
 use Rattle.std.specs.declared.alloc.Global.{Global}
 use Rattle.page_set.specs.Forms.{Form, spelling}
 use Rattle.page_set.specs.Found.{found_len, form_of}
-use Rattle.page_set.specs.Nodes.{line_feeds, nodes_from, IsTemplate, IsStuckAt}
+use Rattle.page_io.specs.Lines.{line_feeds}
+use Rattle.page_set.specs.Nodes.{nodes_from, IsTemplate, IsStuckAt}
 use Rattle.page_set.specs.declared.form.Found.{Found}
 use Rattle.page_set.specs.declared.node.Node.{Node}
-use Rattle.page_set.specs.declared.template.ScanStop.{ScanStop}
-use Rattle.page_set.specs.declared.template.ScanStop.TheVariants.{Stuck, Memory}
+use Rattle.page_io.specs.declared.stop.Stop.{Stop}
+use Rattle.page_io.specs.declared.stop.Stop.TheVariants.{Cause, Memory}
 
-abbrev pub Scanned : List ℕ → Result (Vec Node Global) ScanStop → Type 0
+abbrev pub Scanned : List ℕ → Result (Vec Node Global) (Stop ℕ) → Type 0
 Scanned text (Ok nodes) = IsTemplate text nodes.items × (length nodes.items ≤ length text)
-Scanned text (Err (Stuck line)) = IsStuckAt text line
+Scanned text (Err (Cause line)) = IsStuckAt text line
 Scanned text (Err Memory) = ⊤
 
 -- the nodes and the text from `start` to `at` become nodes and the text from `next` on, by the form

@@ -4,9 +4,9 @@ ghost use Rattle.page_set.specs.Running.{is_partial as is_partial_of};
 
 use crate::node::Node;
 use crate::refused::{MAX_FILE, MakeRefused};
-use crate::template::{ScanStop, scan};
+use crate::template::scan;
 use page_datum::NamedFile;
-use page_io::{Memory, Text};
+use page_io::{Memory, Stop, Text};
 use std::alloc::Global;
 
 /// The nodes of the template of a set of files, or why the files are no set.
@@ -44,8 +44,8 @@ fn template_of(alloc: Global, file: &NamedFile) -> Result<Vec<Node>, MakeRefused
     }
     match scan(alloc, text) {
         Ok(nodes) => Ok(nodes),
-        Err(ScanStop::Stuck(line)) => Err(not_built(alloc, &file.name, line)),
-        Err(ScanStop::Memory) => Err(MakeRefused::Memory),
+        Err(Stop::Cause(line)) => Err(not_built(alloc, &file.name, line)),
+        Err(Stop::Memory) => Err(MakeRefused::Memory),
     }
 }
 

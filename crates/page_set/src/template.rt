@@ -2,38 +2,18 @@ ghost use Rattle.std.specs.Prelude.{◌≡◌, ◌+◌, ◌-◌, ◌<◌, ◌≤
 ghost use Rattle.std.specs.Prelude.{vec_len, IfOk, OnOk};
 ghost use Rattle.page_set.specs.Found.{IsFound, found_len};
 ghost use Rattle.page_set.specs.Scanned.{Scanned, AddsForm};
-ghost use Rattle.page_set.specs.Nodes.{line_feeds, text_node};
+ghost use Rattle.page_set.specs.Nodes.{text_node};
 ghost use Rattle.page_set.specs.Making.{max_file};
 ghost use Rattle.std.specs.Str.{IsCharBoundary};
 
 use crate::form::{Found, form_at};
 use crate::node::Node;
-use page_io::{Memory, Text};
+use page_io::{Memory, Stop, Text, line_feeds};
 use std::alloc::Global;
 
-/// Why a text is no template.
-#[derive(Clone, Copy, Debug, PartialEq, Eq)]
-pub enum ScanStop {
-    /// On this line stands something that begins no form.
-    Stuck(u32),
-    /// Out of memory.
-    Memory,
-}
-
-impl From<Memory> for ScanStop {
-    ghost use Rattle.std.specs.Prelude.{◌≡◌};
-    ghost use Rattle.page_set.specs.declared.template.ScanStop.TheVariants as stop;
-
-    ghost from_gives = { λ _ e. e ≡ stop.Memory };
-
-    fn from(_memory: Memory) -> ScanStop {
-        ScanStop::Memory
-    }
-}
-
-/// The nodes of a template's text. `Stuck` comes exactly where a place of it begins no form, with
-/// the line of the first.
-pub fn scan(alloc: Global, text: &str) -> Result<Vec<Node>, ScanStop>
+/// The nodes of a template's text. The cause is the line of the first place of it that begins no
+/// form, and comes exactly where there is one.
+pub fn scan(alloc: Global, text: &str) -> Result<Vec<Node>, Stop<u32>>
     requires { length text.now ≤ max_file }
     ensures { Scanned text.now result }
 {
@@ -45,11 +25,11 @@ pub fn scan(alloc: Global, text: &str) -> Result<Vec<Node>, ScanStop>
         let (_, rest) = text.as_bytes().split_at(at);
         let found = match form_at(rest) {
             Some(found) => found,
-            None => return Err(ScanStop::Stuck(line)),
+            None => return Err(Stop::Cause(line)),
         };
         start = add(alloc, &mut nodes, text, start, at, line, found)?;
         let (form, _) = rest.split_at(found.len());
-        line += feeds(form);
+        line += line_feeds(form);
         at += found.len();
     }
     push_text(alloc, &mut nodes, text, start, at)?;
@@ -87,21 +67,6 @@ fn add(
         Found::EndTag(_) => Ok(start),
         Found::Character => Ok(start),
     }
-}
-
-// How many line feeds.
-fn feeds(bytes: &[u8]) -> u32
-    requires { length bytes.now ≤ max_file }
-    ensures count { result ≡ line_feeds bytes.now }
-    ensures bound { result ≤ length bytes.now }
-{
-    let mut count = 0;
-    for byte in bytes {
-        if *byte == b'\n' {
-            count += 1;
-        }
-    }
-    count
 }
 
 // Appends the text from `start` to `end` as a node, unless it is empty.

@@ -1,10 +1,6 @@
 -- The lines of a text, counted from 1. A line feed ends its line.
 use Rattle.std.specs.Prelude.{ℕ, ◌+◌, ◌-◌, ◌==◌, List, take, if◌then◌else◌}
-use Rattle.std.specs.List.{count_by}
-
--- how many line feeds
-abbrev pub line_feeds : List ℕ → ℕ
-line_feeds bytes = count_by (λ b. b == 10) bytes
+use Rattle.page_io.specs.Lines.{line_feeds}
 
 -- the line on which the byte at this place stands
 abbrev pub line_of : List ℕ → ℕ → ℕ

@@ -1,6 +1,8 @@
 ghost use Rattle.std.specs.Prelude.{◌≡◌, ◌≤◌, ◌-◌, length};
-ghost use Rattle.tpl_symbol.specs.Lines.{line_feeds as line_feeds_of, line_of as line_at};
+ghost use Rattle.tpl_symbol.specs.Lines.{line_of as line_at};
 ghost use Rattle.tpl_token.specs.Answers.{max_text};
+
+use page_io::line_feeds;
 
 /// The line of a text on which the byte at a place stands, counted from 1. The place is at most the text's length, and the
 /// text has at most `tpl_token::MAX_TEXT` bytes.
@@ -66,12 +68,4 @@ impl LineCounter {
             line: self.line + line_feeds(between),
         }
     }
-}
-
-// How many line feeds.
-fn line_feeds(bytes: &[u8]) -> u32
-    requires { length bytes.now ≤ max_text }
-    ensures { result ≡ line_feeds_of bytes.now }
-{
-    bytes.iter().filter(|byte| **byte == b'\n').count() as u32
 }

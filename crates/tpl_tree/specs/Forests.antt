@@ -1,9 +1,6 @@
 -- The forests of templates: trees with names, in byte order of the names, each name once.
-use Rattle.std.specs.Prelude.{ℕ, suc, List, [], ◌∷◌, Option, Some, None, if◌then◌else◌, bytes_eq, option_map, slice_get}
-use Rattle.std.specs.Cmp.Lexicographic.{slice_cmp}
-use Rattle.std.specs.List.Sorted.{IsStrictlySortedBy}
-use Rattle.std.specs.Map.{keys_of}
-use Rattle.std.specs.Ordering.{nat_cmp}
+use Rattle.std.specs.Prelude.{ℕ, List, [], ◌∷◌, Option, Some, None, if◌then◌else◌, bytes_eq, option_map, slice_get}
+use Rattle.page_io.specs.Keys.{HaveAscendingKeys, key_number}
 use Rattle.tpl_tree.specs.Trees.{TreeData}
 
 -- trees with their names
@@ -12,7 +9,7 @@ ForestData = List (List ℕ × TreeData)
 
 -- the names ascend in byte order, each once
 abbrev pub HasAscendingNames : ForestData → Type 0
-HasAscendingNames trees = IsStrictlySortedBy (slice_cmp nat_cmp) (keys_of trees)
+HasAscendingNames trees = HaveAscendingKeys trees
 
 -- the tree with a name
 abbrev pub tree_named : List ℕ → ForestData → Option TreeData
@@ -21,8 +18,7 @@ tree_named name (t ∷ trees) = if bytes_eq t.0 name then Some t.1 else tree_nam
 
 -- the number of the tree with a name: its place, from 0
 abbrev pub number_named : List ℕ → ForestData → Option ℕ
-number_named name [] = None
-number_named name (t ∷ trees) = if bytes_eq t.0 name then Some 0 else option_map suc (number_named name trees)
+number_named name trees = key_number name trees
 
 -- the name of the tree with a number
 abbrev pub name_at : ForestData → ℕ → Option (List ℕ)

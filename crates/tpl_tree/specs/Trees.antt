@@ -1,5 +1,6 @@
 -- The trees of templates: what a tree is, how its nodes are numbered, and the lines of its texts.
-use Rattle.std.specs.Prelude.{◌≡◌, ℕ, zero, suc, ◌+◌, ◌-◌, ◌<◌, ◌≤◌, ◌^◌, ◌==◌, nat_lt, nat_le, Bool, true, false, if◌then◌else◌, List, [], ◌∷◌, length, take, drop, count_by, All, Option, Some, None, IfSome}
+use Rattle.std.specs.Prelude.{◌≡◌, ℕ, zero, suc, ◌+◌, ◌-◌, ◌<◌, ◌≤◌, ◌^◌, nat_lt, nat_le, Bool, true, false, if◌then◌else◌, List, [], ◌∷◌, length, take, drop, All, Option, Some, None, IfSome}
+use Rattle.page_io.specs.Lines.{line_feeds}
 use Rattle.tpl_symbol.specs.declared.symbol.Seam.{Seam}
 use Rattle.tpl_tree.specs.declared.node_kind.NodeKind.{NodeKind}
 use Rattle.tpl_tree.specs.declared.node_kind.NodeKind.TheVariants as kind
@@ -99,10 +100,6 @@ next_number nodes n =
 -- a number is that of the first of some nodes of a part
 abbrev pub Stands : NodesData → NodesData → Option ℕ → Type 0
 Stands nodes found number = IfSome number (λ n. (n < nodes_size nodes) × (nodes_from nodes n ≡ found))
-
--- how many line feeds
-abbrev pub line_feeds : List ℕ → ℕ
-line_feeds bytes = count_by (λ b. b == 10) bytes
 
 -- the last of the seams that is not after a byte, and another one where there is none
 abbrev pub seam_before : Seam → List Seam → ℕ → Seam

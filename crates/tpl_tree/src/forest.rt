@@ -2,7 +2,7 @@ ghost use Rattle.std.specs.Prelude.{◌≡◌, ◌<◌, ◌^◌, length, Some, I
 ghost use Rattle.tpl_tree.specs.Forests.{HasAscendingNames, name_at, number_named, tree_at, tree_named};
 
 use crate::tree::Tree;
-use page_io::{Memory, Text};
+use page_io::{Memory, Text, number_of_key};
 use std::alloc::Global;
 use std::collections::BTreeMap;
 use std::marker::Model;
@@ -60,10 +60,9 @@ impl Forest {
         ensures within { IfSome result (λ n. n < length self.now) }
         ensures tree { option_and_then (tree_at self.now) result ≡ tree_named name.now self.now }
     {
-        let trees = self.trees.as_slice();
-        match trees.binary_search_by(|tree| tree.0.as_str().cmp(name)) {
-            Ok(at) => Some(at as u32),
-            Err(_) => None,
+        match number_of_key(self.trees.as_slice(), name) {
+            Some(at) => Some(at as u32),
+            None => None,
         }
     }
 

@@ -1,6 +1,7 @@
-ghost use Rattle.std.specs.Prelude.{◌≡◌, ◌≤◌, length, ◌^◌};
-ghost use Rattle.tpl_tree.specs.Trees.{line_feeds, seam_before, text_line, IsFineText};
+ghost use Rattle.std.specs.Prelude.{◌≡◌, ◌≤◌, length};
+ghost use Rattle.tpl_tree.specs.Trees.{seam_before, text_line, IsFineText};
 
+use page_io::line_feeds;
 use tpl_symbol::Seam;
 
 // The line of a byte of a text that begins on a line and has seams.
@@ -11,7 +12,7 @@ pub(crate) fn line_in(text: &[u8], line: u32, seams: &[Seam], byte: u32) -> u32
 {
     let seam = last_seam(line, seams, byte);
     let between = &text[seam.at as usize..byte as usize];
-    seam.line + feeds(between)
+    seam.line + line_feeds(between)
 }
 
 // The last of the seams that is not after a byte, and the beginning of the text where there is none.
@@ -26,19 +27,4 @@ fn last_seam(line: u32, seams: &[Seam], byte: u32) -> Seam
         }
     }
     before
-}
-
-// How many line feeds.
-fn feeds(bytes: &[u8]) -> u32
-    requires { length bytes.now ≤ 2 ^ 20 }
-    ensures count { result ≡ line_feeds bytes.now }
-    ensures bound { result ≤ length bytes.now }
-{
-    let mut count = 0;
-    for byte in bytes {
-        if *byte == b'\n' {
-            count += 1;
-        }
-    }
-    count
 }

@@ -3,7 +3,7 @@ use Rattle.std.proofs.lemmas.List.{length-drop}
 use Rattle.std.proofs.lemmas.Str.{IsCharBoundary-start}
 use Rattle.page_set.specs.Found.{IsFound, found_len, form_of}
 use Rattle.page_set.specs.Forms.{spelling}
-use Rattle.page_set.specs.Nodes.{line_feeds}
+use Rattle.page_io.specs.Lines.{line_feeds}
 use Rattle.page_set.proofs.Fronts.{scanned_none, scanned_more, scanned_all, spelling-found, line_more, stuck_here}
 use Rattle.page_set.proofs.template.scan.Goals as goal
 
@@ -31,7 +31,7 @@ loop-at-preserved c =
     let f : IsFound (drop at text) found = subst (λ (xs : List ℕ). IsFound xs found) rest c.in-Some.ensures in
     let form : c.split_at-in-loop-at.result.0.now ≡ spelling (form_of found (drop at text)) =
     c.split_at-in-loop-at.ensures.front ∙ ap (λ (n : ℕ). take n c.split_at.result.1.now) c.len.ensures ∙ ap (take (found_len found)) rest ∙ spelling-found (drop at text) found f in
-    let feeds : c.feeds-line.result ≡ line_feeds (spelling (form_of found (drop at text))) = c.feeds-line.ensures.count ∙ ap line_feeds form in
+    let feeds : c.line_feeds-line.result ≡ line_feeds (spelling (form_of found (drop at text))) = c.line_feeds-line.ensures.count ∙ ap line_feeds form in
     let to : at + c.len-at.result ≡ at + found_len found = ap (λ (n : ℕ). at + n) c.len-at.ensures in
     record {
       order = omega (arith, c.in_ok-start.ensures.order, c.len-at.ensures);

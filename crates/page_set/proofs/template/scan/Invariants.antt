@@ -1,6 +1,6 @@
 use Rattle.std.proofs.Common.{◌≡◌, ◌+◌, ◌-◌, ◌≤◌, length, take, vec_len}
 use Rattle.std.specs.Str.{IsCharBoundary}
-use Rattle.page_set.specs.Nodes.{line_feeds}
+use Rattle.page_io.specs.Lines.{line_feeds}
 use Rattle.page_set.proofs.Fronts.{IsScannedTo}
 use Rattle.page_set.proofs.template.scan.Given as goal
 

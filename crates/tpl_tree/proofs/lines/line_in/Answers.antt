@@ -10,4 +10,4 @@ overflow_add-result c =
     let all : (seam_before begins c.args.seams.now c.args.byte).line + length c.args.text.now < 2 ^ 32
     = seam_before-line begins c.args.seams.now c.args.byte (length c.args.text.now) (2 ^ 32) c.requires.fine.line c.requires.fine.seams in
     let line : c.last_seam-seam.result.line + length c.args.text.now < 2 ^ 32 = rw (← c.last_seam-seam.ensures.seam) at all in
-    omega (arith, c.feeds.ensures.bound, length-take {A = ℕ}, length-drop {A = ℕ})
+    omega (arith, c.line_feeds.ensures.bound, length-take {A = ℕ}, length-drop {A = ℕ})
