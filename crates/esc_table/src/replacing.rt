@@ -66,7 +66,8 @@ fn push_written<const N: usize>(
     table: &Table<N>,
     character: char,
 ) -> Result<(), Memory>
-    ensures { OnOk result (string_bytes out.new ≡ string_bytes out.old ++ written table.now character) }
+    ensures { OnOk result (string_bytes out.new
+        ≡ string_bytes out.old ++ written table.now character) }
 {
     match table.find(character) {
         Some(replacement) => out.push_str(replacement)?,

@@ -20,7 +20,8 @@ pub trait Folder {
 
     /// The names of the files of `dir`, in byte order, each once.
     fn list(&mut self, alloc: Global, dir: &str) -> Result<Names, IoStop>
-        ensures names { IfOk result (λ names. IfSome (held self.old) (λ held. names ≡ held.names dir.now)) }
+        ensures names { IfOk result (λ names.
+            IfSome (held self.old) (λ held. names ≡ held.names dir.now)) }
         ensures order { IfOk result (IsStrictlySortedBy (slice_cmp nat_cmp)) }
         ensures kept { held self.new ≡ held self.old }
         ensures cause { HasStop (faults self.old) (faults self.new) result };
@@ -29,7 +30,8 @@ pub trait Folder {
     /// failure.
     fn read(&mut self, alloc: Global, dir: &str, name: &str, max: u64) -> Result<Bytes, IoStop>
         ensures bytes { IfOk result (λ bytes. IfSome (held self.old)
-            (λ held. IsSomeAnd (held.content dir.now name.now) (λ all. bytes ≡ take (max + 1) all))) }
+            (λ held. IsSomeAnd (held.content dir.now name.now)
+            (λ all. bytes ≡ take (max + 1) all))) }
         ensures kept { held self.new ≡ held self.old }
         ensures cause { HasStop (faults self.old) (faults self.new) result };
 }

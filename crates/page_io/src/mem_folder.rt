@@ -61,8 +61,10 @@ impl Folder for MemFolder {
         ensures cause { HasStop self.old.calls.faults self.new.calls.faults result }
         ensures made { self.new.calls.made ≡ min (self.old.calls.made + 1) (2 ^ 64 - 1) }
         ensures fail { self.new.calls.fail ≡ self.old.calls.fail }
-        ensures failed { IsErrOf result IoStop.Failed → Contains self.old.calls.fail self.new.calls.made }
-        ensures told { Contains self.old.calls.fail self.new.calls.made → IsErrOf result IoStop.Failed }
+        ensures failed { IsErrOf result IoStop.Failed
+            → Contains self.old.calls.fail self.new.calls.made }
+        ensures told { Contains self.old.calls.fail self.new.calls.made
+            → IsErrOf result IoStop.Failed }
     {
         self.calls.begin()?;
         Ok(names_in(alloc, self.files.as_slice(), dir)?)
@@ -71,14 +73,17 @@ impl Folder for MemFolder {
     /// Fails exactly at the stated calls, and where the file is not there.
     fn read(&mut self, alloc: Global, dir: &str, name: &str, max: u64) -> Result<Bytes, IoStop>
         ensures bytes { IfOk result (λ bytes.
-            IsSomeAnd (content_of self.old.files dir.now name.now) (λ all. bytes ≡ take (max + 1) all)) }
+            IsSomeAnd (content_of self.old.files dir.now name.now)
+            (λ all. bytes ≡ take (max + 1) all)) }
         ensures kept { self.new.files ≡ self.old.files }
         ensures cause { HasStop self.old.calls.faults self.new.calls.faults result }
         ensures made { self.new.calls.made ≡ min (self.old.calls.made + 1) (2 ^ 64 - 1) }
         ensures fail { self.new.calls.fail ≡ self.old.calls.fail }
         ensures failed { IsErrOf result IoStop.Failed →
-            Contains self.old.calls.fail self.new.calls.made ⊎ (content_of self.old.files dir.now name.now ≡ None) }
-        ensures told { Contains self.old.calls.fail self.new.calls.made → IsErrOf result IoStop.Failed }
+            Contains self.old.calls.fail self.new.calls.made
+            ⊎ (content_of self.old.files dir.now name.now ≡ None) }
+        ensures told { Contains self.old.calls.fail self.new.calls.made
+            → IsErrOf result IoStop.Failed }
     {
         self.calls.begin()?;
         match content_in(self.files.as_slice(), dir, name) {

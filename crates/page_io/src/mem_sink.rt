@@ -30,7 +30,8 @@ impl MemSink {
         ensures faults { IfOk result (λ sink. ⟦<MemSink as Sink>⟧.faults sink ≡ 0) }
         ensures room { IfOk result (λ sink. sink.room ≡ room) }
         ensures step { IfOk result (λ sink. sink.step ≡ step) }
-        ensures calls { IfOk result (λ sink. sink.calls ≡ record { fail = fail; made = 0; faults = 0 }) }
+        ensures calls { IfOk result (λ sink.
+            sink.calls ≡ record { fail = fail; made = 0; faults = 0 }) }
     {
         let room = room as usize;
         let taken = Vec::with_capacity(alloc, room)?;
@@ -61,14 +62,17 @@ impl Sink for MemSink {
     fn write(&mut self, bytes: &[u8]) -> Result<usize, Failed>
         ensures bound { WritesAtMost result bytes.now }
         ensures progress { IfOk result (λ n. 0 < length bytes.now → 0 < n) }
-        ensures bytes { WriteAppends (Some self.old.taken.items) (Some self.new.taken.items) result bytes.now }
+        ensures bytes { WriteAppends (Some self.old.taken.items) (Some self.new.taken.items)
+            result bytes.now }
         ensures kept { OnErr result (Some self.new.taken.items ≡ Some self.old.taken.items) }
         ensures cause { HasCause self.old.calls.faults self.new.calls.faults result }
         ensures made { self.new.calls.made ≡ min (self.old.calls.made + 1) (2 ^ 64 - 1) }
         ensures fail { self.new.calls.fail ≡ self.old.calls.fail }
-        ensures told { OnErr result (Contains self.old.calls.fail self.new.calls.made ⊎ ((self.old.room ≡ 0) × (0 < length bytes.now))) }
+        ensures told { OnErr result (Contains self.old.calls.fail self.new.calls.made
+            ⊎ ((self.old.room ≡ 0) × (0 < length bytes.now))) }
         ensures fine { IfOk result (λ n. Contains self.old.calls.fail self.new.calls.made → ⊥) }
-        ensures count { IfOk result (λ n. n ≡ min (min (length bytes.now) self.old.room) self.old.step) }
+        ensures count { IfOk result (λ n.
+            n ≡ min (min (length bytes.now) self.old.room) self.old.step) }
         ensures room { IfOk result (λ n. self.new.room ≡ self.old.room - n) }
         ensures same { OnErr result (self.new.room ≡ self.old.room) }
         ensures step { self.new.step ≡ self.old.step }

@@ -49,14 +49,17 @@ impl Source for MemSource {
     /// Fails exactly at the stated calls.
     fn read(&mut self, buf: &mut [u8]) -> Result<usize, Failed>
         ensures bound { ReadsAtMost result buf.new }
-        ensures bytes { ReadConsumes (Some (drop self.old.at self.old.bytes)) (Some (drop self.new.at self.new.bytes)) result buf.new }
-        ensures kept { OnErr result (Some (drop self.new.at self.new.bytes) ≡ Some (drop self.old.at self.old.bytes)) }
+        ensures bytes { ReadConsumes (Some (drop self.old.at self.old.bytes))
+            (Some (drop self.new.at self.new.bytes)) result buf.new }
+        ensures kept { OnErr result (Some (drop self.new.at self.new.bytes)
+            ≡ Some (drop self.old.at self.old.bytes)) }
         ensures cause { HasCause self.old.calls.faults self.new.calls.faults result }
         ensures made { self.new.calls.made ≡ min (self.old.calls.made + 1) (2 ^ 64 - 1) }
         ensures fail { self.new.calls.fail ≡ self.old.calls.fail }
         ensures told { IsErr result ↔ Contains self.old.calls.fail self.new.calls.made }
         ensures step { self.new.step ≡ self.old.step }
-        ensures count { IfOk result (λ n. n ≡ min (min (length self.old.bytes - self.old.at) (length buf.new)) self.old.step) }
+        ensures count { IfOk result (λ n. n
+            ≡ min (min (length self.old.bytes - self.old.at) (length buf.new)) self.old.step) }
     {
         self.calls.begin()?;
         let (_, rest) = self.bytes.as_slice().split_at(self.at);

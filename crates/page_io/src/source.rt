@@ -69,7 +69,8 @@ fn read_more<S: Source>(
     ensures within { IfOk result (λ n. n ≤ length buffer.new) }
     ensures appended { IfOk result (λ n. bytes.new.items ≡ bytes.old.items ++ take n buffer.new) }
     ensures len { IfOk result (λ n. vec_len bytes.new ≡ vec_len bytes.old + n) }
-    ensures read { IfOk result (λ n. Consumes (S.left source.old) (S.left source.new) (take n buffer.new)) }
+    ensures read { IfOk result (λ n.
+        Consumes (S.left source.old) (S.left source.new) (take n buffer.new)) }
     ensures end { IfOk result (λ n. n ≡ 0 → IsAtEnd (S.left source.new)) }
     ensures cause { HasStop (S.faults source.old) (S.faults source.new) result }
 {

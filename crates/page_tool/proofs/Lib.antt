@@ -1,4 +1,5 @@
 pub mod Exacts
+pub mod FirstFiles
 pub mod Inputs
 pub mod Pages
 pub mod Statuses

@@ -8,6 +8,7 @@ pub trait Chars: Copy {
     /// The next character as its code point, and the place of its first byte in the node, in bytes from the node's
     /// start. None at the end. Takes no memory.
     fn next(&mut self) -> Option<(u32, u32)>
-        ensures next { MatchOption result (left self.old ≡ []) (λ character. left self.old ≡ character ∷ left self.new) }
+        ensures next { MatchOption result (left self.old ≡ [])
+            (λ character. left self.old ≡ character ∷ left self.new) }
         ensures end { MatchOption result (left self.new ≡ []) (λ character. Unit {0}) };
 }

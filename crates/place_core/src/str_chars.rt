@@ -43,8 +43,10 @@ impl<'a> Chars for StrChars<'a> {
 
 // The first character of a text, and the text after it.
 fn split_first(text: &str) -> Option<(char, &str)>
-    ensures first { MatchOption result (chars text.now ≡ []) (λ first. chars text.now ≡ first.0 ∷ chars first.1.now) }
-    ensures len { MatchOption result (length text.now ≡ 0) (λ first. length text.now ≡ len_utf8 first.0 + length first.1.now) }
+    ensures first { MatchOption result (chars text.now ≡ [])
+        (λ first. chars text.now ≡ first.0 ∷ chars first.1.now) }
+    ensures len { MatchOption result (length text.now ≡ 0)
+        (λ first. length text.now ≡ len_utf8 first.0 + length first.1.now) }
 {
     let mut characters = text.chars();
     match characters.next() {

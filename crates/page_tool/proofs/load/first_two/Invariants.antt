@@ -1,11 +1,12 @@
-use Rattle.std.proofs.Common.{◌≡◌, ◌≤◌, ◌++◌, drop}
+use Rattle.std.proofs.Common.{◌≡◌, ◌≤◌, ◌++◌, drop, length}
 use Rattle.std.specs.Prelude.{IfSome}
 use Rattle.page_tool.specs.Files.{files_in}
-use Rattle.page_tool.proofs.load.load.Given as goal
+use Rattle.page_tool.proofs.load.first_two.Given as goal
 
 abbrev pub invariant-loop-name : goal.invariant-loop-name
 invariant-loop-name g l = record {
-  files : IfSome (g.F.Folder.held l.fn.folder) (λ held. l.list ++ files_in held l.dir (drop l.name-index l.name-items) ≡ files_in held l.dir l.name-items);
+  files : IfSome (g.F.Folder.held l.fn.folder) (λ held. l.list ++ files_in held l.dir (drop l.name-index l.names) ≡ files_in held l.dir l.names);
+  few : length l.list ≤ 2;
   kept : g.F.Folder.held l.folder ≡ g.F.Folder.held l.fn.folder;
   later : g.F.Folder.faults l.fn.folder ≤ g.F.Folder.faults l.folder;
 }
