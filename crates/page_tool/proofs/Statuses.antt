@@ -78,6 +78,10 @@ pub was_fault : (why : Stop) (s : Status) → IsReported why s → s ≡ status.
 was_fault why s (inl e) is = own_fault why (sym e ∙ is)
 was_fault why s (inr e) is = absurd (let h : status.Memory ≡ status.ExecFault = sym e ∙ is in cc)
 
+-- no execution meets a fault yet
+abbrev pub IsNoFault : Stop → Type 0
+IsNoFault why = (fault : ExecFault) → why ≡ stop.Fault fault → ⊥
+
 text_set : (held : Option Held) (dir name : List ℕ) (why : MakeRefused) → IfSome held (λ h. IsRefusedSet h dir why) → IfSome held (λ h. (w : MakeRefused) × IsRefusedSet h dir w × (stop_text (stop.Set why) name ≡ stop_text (stop.Set w) name))
 text_set None dir name why c = tt
 text_set (Some h) dir name why c = (why, c, refl)
@@ -86,22 +90,22 @@ text_data : (input : Option (List ℕ)) (name : List ℕ) (why : InputRefused) �
 text_data None name why c = tt
 text_data (Some i) name why c = (why, c, refl)
 
-own_text : (held : Option Held) (input : Option (List ℕ)) (dir name : List ℕ) (why : Stop) → RenderCause held input dir name (Err why) → StatusText held input dir name (status_for why) (stop_text why name)
-own_text held input dir name (stop.Set why) c = text_set held dir name why c
-own_text held input dir name (stop.Fault fault) c = tt
-own_text held input dir name (stop.Data why) c = text_data input name why c.1
-own_text held input dir name stop.Read c = refl
-own_text held input dir name stop.Write c = refl
-own_text held input dir name stop.NoTemplate c = refl
-own_text held input dir name stop.Memory c = refl
+own_text : (held : Option Held) (input : Option (List ℕ)) (dir name : List ℕ) (why : Stop) → RenderCause held input dir name (Err why) → IsNoFault why → StatusText held input dir name (status_for why) (stop_text why name)
+own_text held input dir name (stop.Set why) c n = text_set held dir name why c
+own_text held input dir name (stop.Fault fault) c n = absurd (n fault refl)
+own_text held input dir name (stop.Data why) c n = text_data input name why c.1
+own_text held input dir name stop.Read c n = refl
+own_text held input dir name stop.Write c n = refl
+own_text held input dir name stop.NoTemplate c n = refl
+own_text held input dir name stop.Memory c n = refl
 
-says : (held : Option Held) (input : Option (List ℕ)) (dir name : List ℕ) (why : Stop) (s : Status) (old new : Option (List ℕ)) → RenderCause held input dir name (Err why) → Says why name s old new → SaysStatus held input dir name s old new
-says held input dir name why s old new c (inl e) = (stop_text why name, subst (λ (x : Status). StatusText held input dir name x (stop_text why name)) (sym e.0) (own_text held input dir name why c), e.1)
-says held input dir name why s old new c (inr e) = (stop_text stop.Memory name, subst (λ (x : Status). StatusText held input dir name x (stop_text stop.Memory name)) (sym e.0) refl, e.1)
+says : (held : Option Held) (input : Option (List ℕ)) (dir name : List ℕ) (why : Stop) (s : Status) (old new : Option (List ℕ)) → RenderCause held input dir name (Err why) → IsNoFault why → Says why name s old new → SaysStatus held input dir name s old new
+says held input dir name why s old new c n (inl e) = (stop_text why name, subst (λ (x : Status). StatusText held input dir name x (stop_text why name)) (sym e.0) (own_text held input dir name why c n), e.1)
+says held input dir name why s old new c n (inr e) = (stop_text stop.Memory name, subst (λ (x : Status). StatusText held input dir name x (stop_text stop.Memory name)) (sym e.0) refl, e.1)
 
-pub says_or : (held : Option Held) (input : Option (List ℕ)) (dir name : List ℕ) (why : Stop) (s : Status) (old new : Option (List ℕ)) (rose : Type 0) → RenderCause held input dir name (Err why) → rose ⊎ Says why name s old new → rose ⊎ SaysStatus held input dir name s old new
-says_or held input dir name why s old new rose c (inl r) = inl r
-says_or held input dir name why s old new rose c (inr e) = inr (says held input dir name why s old new c e)
+pub says_or : (held : Option Held) (input : Option (List ℕ)) (dir name : List ℕ) (why : Stop) (s : Status) (old new : Option (List ℕ)) (rose : Type 0) → RenderCause held input dir name (Err why) → IsNoFault why → rose ⊎ Says why name s old new → rose ⊎ SaysStatus held input dir name s old new
+says_or held input dir name why s old new rose c n (inl r) = inl r
+says_or held input dir name why s old new rose c n (inr e) = inr (says held input dir name why s old new c n e)
 
 pub ok_read : {A : Type 0} → status.Ok ≡ status.ReadFault → A
 ok_read e = absurd (parted e)

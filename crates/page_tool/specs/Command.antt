@@ -1,10 +1,10 @@
 -- What a command line asks for, and what each command promises of the status that it ends in.
-use Rattle.std.specs.Prelude.{◌≡◌, ℕ, List, Option, Some, None, ⊤}
+use Rattle.std.specs.Prelude.{◌≡◌, ◌⊎◌, ℕ, List, Option, Some, None, IfSome, ⊤}
 use Rattle.std.specs.Io.KnownBytes.{IsAtEnd}
-use Rattle.page_tool.specs.Devices.{Devices}
+use Rattle.page_tool.specs.Devices.{Devices, IsUnread}
 use Rattle.page_tool.specs.Exact.{IsExact}
 use Rattle.page_tool.specs.Lines.{usage_text, StatusText}
-use Rattle.page_tool.specs.Output.{StatusOutput, StatusCause}
+use Rattle.page_tool.specs.Output.{HasRoot, StatusOutput, StatusCause}
 use Rattle.page_tool.specs.Words.{render_of}
 use Rattle.page_tool.specs.declared.status.Status.{Status}
 use Rattle.page_tool.specs.declared.status.Status.TheVariants as status
@@ -32,6 +32,16 @@ Writes (render dir root) before s taken =
 abbrev pub Reads : Command → Status → Option (List ℕ) → Type 0
 Reads no_command s left = ⊤
 Reads (render dir root) s left = s ≡ status.Ok → IsAtEnd left
+
+-- that no device is asked too early: words that are no command ask neither the folder nor the input,
+-- and of the input nothing is read before the files are a set that has the root
+abbrev pub IsInOrder : Command → Devices → Devices → Type 0
+IsInOrder no_command before after =
+    (after.folder_faults ≡ before.folder_faults)
+    × IsUnread before.left before.input_faults after.left after.input_faults
+IsInOrder (render dir root) before after =
+    IsUnread before.left before.input_faults after.left after.input_faults
+    ⊎ IfSome before.held (λ h. HasRoot h dir root)
 
 -- why a command ends in this status
 abbrev pub IsCaused : Command → Devices → Status → Type 0

@@ -1,5 +1,5 @@
 -- What the devices of a command tell at one moment.
-use Rattle.std.specs.Prelude.{ℕ, List, Option}
+use Rattle.std.specs.Prelude.{◌≡◌, ℕ, List, Option}
 use Rattle.page_io.specs.Held.{Held}
 
 pub record Devices : Type 0 where
@@ -28,3 +28,7 @@ devices held folder_faults left input_faults taken output_faults said people_fau
   said = said;
   people_faults = people_faults;
 }
+
+-- nothing was read of an input with these bytes left and this count of faults, and no call on it failed
+abbrev pub IsUnread : Option (List ℕ) → ℕ → Option (List ℕ) → ℕ → Type 0
+IsUnread left faults left_after faults_after = (left_after ≡ left) × (faults_after ≡ faults)

@@ -15,9 +15,9 @@ abbrev pub Ends : Status → Type 0 → Status → Type 0
 Ends expected read_rose s =
     (s ≡ expected) ⊎ ((s ≡ status.ReadFault) × read_rose) ⊎ (s ≡ status.Memory)
 
--- refused files, an unknown root, an input that pages are not made with, and else the whole page;
--- the input is read only once the files are a set that has the root; and no execution meets a fault
--- yet
+-- refused files, an unknown root, an input that pages are not made with, and else the whole page; a
+-- read fault is the input's only where the files are a set that has the root; and no execution meets
+-- a fault yet
 pub record IsExact
     (held : Option Held) (input : Option (List ℕ)) (dir root : List ℕ)
     (folder_rose input_rose out_rose : Type 0) (s : Status) : Type 0 where

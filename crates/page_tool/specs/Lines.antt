@@ -1,13 +1,14 @@
 -- The lines for people.
-use Rattle.std.specs.Prelude.{◌≡◌, ℕ, codes, List, [], ◌∷◌, ◌++◌, Option, IfSome, ◌⊎◌, ⊤}
+use Rattle.std.specs.Prelude.{◌≡◌, ℕ, codes, List, [], ◌∷◌, ◌++◌, Option, IfSome, ◌⊎◌}
 use Rattle.std.specs.Io.KnownBytes.{Appends}
 use Rattle.page_io.specs.Held.{Held}
 use Rattle.page_set.specs.declared.refused.MakeRefused.{MakeRefused}
 use Rattle.page_tool.specs.Codes.{status_for}
-use Rattle.page_tool.specs.Output.{IsRefusedSet}
+use Rattle.page_tool.specs.Output.{IsRefusedSet, IsRendering, Told}
 use Rattle.page_tool.specs.declared.status.Status.{Status}
 use Rattle.page_tool.specs.declared.status.Status.TheVariants as status
 use Rattle.std.specs.Fmt.{decimal}
+use Rattle.page_datum.specs.Execution.{Execution, faulted}
 use Rattle.page_datum.specs.declared.fault.ExecFault.{ExecFault}
 use Rattle.page_datum.specs.Kinds.{fault_kind, data_refusal}
 use Rattle.page_datum.specs.Legible.{legible}
@@ -52,7 +53,9 @@ Says why name s old new =
 abbrev pub StatusText : Option Held → Option (List ℕ) → List ℕ → List ℕ → Status → List ℕ → Type 0
 StatusText held input dir name status.Ok text = text ≡ []
 StatusText held input dir name status.Usage text = ⊥
-StatusText held input dir name status.ExecFault text = ⊤
+StatusText held input dir name status.ExecFault text =
+    Told held input (λ h i. (e : Execution) × (fault : ExecFault) × IsRendering h dir name i e
+    × (e.ending ≡ faulted fault) × (text ≡ stop_text (stop.Fault fault) name))
 StatusText held input dir name status.SetRefused text =
     IfSome held (λ h. (why : MakeRefused) × IsRefusedSet h dir why × (text ≡ refusal_text why))
 StatusText held input dir name status.DataRefused text =

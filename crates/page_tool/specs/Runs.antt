@@ -2,7 +2,7 @@
 use Rattle.std.specs.Prelude.{◌≡◌, ◌≤◌, ◌⊎◌, ℕ, List}
 use Rattle.std.specs.Io.KnownBytes.{Appends}
 use Rattle.page_io.specs.Causes.{Rose}
-use Rattle.page_tool.specs.Command.{Command, Writes, Reads, IsCaused, IsDecided, Lines}
+use Rattle.page_tool.specs.Command.{Command, Writes, Reads, IsInOrder, IsCaused, IsDecided, Lines}
 use Rattle.page_tool.specs.Devices.{Devices}
 use Rattle.page_tool.specs.declared.status.Status.{Status}
 use Rattle.page_tool.specs.declared.status.Status.TheVariants as status
@@ -17,6 +17,7 @@ pub record Runs (command : Command) (before after : Devices) (s : Status) : Type
   -- the output has got what the status says, and the input was read as far as it says
   pub output : Writes command before s after.taken
   pub end : Reads command s after.left
+  pub in_order : IsInOrder command before after
   -- each status has its cause
   pub cause : IsCaused command before s
   pub read : s ≡ status.ReadFault

@@ -4,6 +4,7 @@ ghost use Rattle.page_io.specs.Causes.{Rose};
 ghost use Rattle.page_datum.specs.View.{view};
 ghost use Rattle.page_set.specs.Making.{IsExecution};
 ghost use Rattle.page_set.specs.Running.{is_root, execution_of};
+ghost use Rattle.page_tool.specs.Devices.{IsUnread};
 ghost use Rattle.page_tool.specs.Input.{is_built};
 ghost use Rattle.page_tool.specs.Output.{RenderOutput, RenderCause, WritesPage, WritesSound};
 ghost use Rattle.page_tool.specs.Output.{HasRoot};
@@ -33,6 +34,9 @@ pub fn render<F: Folder, I: Source, O: Sink>(
         (O.taken out.old) (O.taken out.new)) }
     ensures cause { RenderCause (F.held folder.old) (I.left input.old) dir.now root.now result }
     ensures end { OnOk result (IsAtEnd (I.left input.new)) }
+    ensures in_order { IsUnread (I.left input.old) (I.faults input.old)
+        (I.left input.new) (I.faults input.new)
+        ⊎ IfSome (F.held folder.old) (λ h. HasRoot h dir.now root.now) }
     ensures kept { F.held folder.new ≡ F.held folder.old }
     ensures folder_later { F.faults folder.old ≤ F.faults folder.new }
     ensures input_later { I.faults input.old ≤ I.faults input.new }

@@ -3,10 +3,10 @@ ghost use Rattle.std.specs.Io.KnownBytes.{IsAtEnd};
 ghost use Rattle.page_io.specs.Causes.{Rose};
 ghost use Rattle.page_tool.specs.Codes.{status_for};
 ghost use Rattle.page_tool.specs.Command.{command_of};
-ghost use Rattle.page_tool.specs.Devices.{devices};
+ghost use Rattle.page_tool.specs.Devices.{IsUnread, devices};
 ghost use Rattle.page_tool.specs.Exact.{IsExact};
 ghost use Rattle.page_tool.specs.Lines.{Says, SaysStatus};
-ghost use Rattle.page_tool.specs.Output.{StatusOutput, StatusCause, WritesSound};
+ghost use Rattle.page_tool.specs.Output.{HasRoot, StatusOutput, StatusCause, WritesSound};
 ghost use Rattle.page_tool.specs.Runs.{Runs};
 ghost use Rattle.page_tool.specs.Words.{texts, render_of};
 
@@ -91,6 +91,9 @@ fn render_and_report<F: Folder, I: Source, O: Sink, E: Sink>(
         ⊎ SaysStatus (F.held folder.old) (I.left input.old) dir.now name.now result
         (E.taken err.old) (E.taken err.new) }
     ensures end { result ≡ Status.Ok → IsAtEnd (I.left input.new) }
+    ensures in_order { IsUnread (I.left input.old) (I.faults input.old)
+        (I.left input.new) (I.faults input.new)
+        ⊎ IfSome (F.held folder.old) (λ h. HasRoot h dir.now name.now) }
     ensures read { result ≡ Status.ReadFault
         → Rose (F.faults folder.old) (F.faults folder.new)
         ⊎ Rose (I.faults input.old) (I.faults input.new) }

@@ -18,4 +18,4 @@ returns-in-Err-clause-exact g c =
     (λ e. let f = was_fault why s was e in c.in-Err.ensures.faultless f.0 (ap Err f.1))
 
 pub returns-in-Err-clause-lines : goal.returns-in-Err-clause-lines
-returns-in-Err-clause-lines g c = says_or _ _ _ _ _ _ _ _ _ c.in-Err.ensures.cause c.report.ensures.said
+returns-in-Err-clause-lines g c = says_or _ _ _ _ _ _ _ _ _ c.in-Err.ensures.cause (λ fault e. c.in-Err.ensures.faultless fault (ap Err e)) c.report.ensures.said
