@@ -4,7 +4,7 @@ use crate::stop::Stop;
 use page_datum::{Datum, ExecFault, print_datum};
 use page_io::{Memory, Text};
 use std::alloc::Global;
-use tpl_exec::{ExecStop, HoleStop, Kept, ListSink};
+use tpl_exec::{ExecStop, HoleStop, Kept, ListSink, execute_into};
 
 /// What is told of a call of `tpl_exec`: an execution of the template `a.html` of files, each a list of a name and a text.
 /// `execute` has the datum as JSON, `execute_with` as a part of the row, `execute_until` has the number of the event that is
@@ -73,7 +73,7 @@ fn told_execution(
         None => return Ok(Text::copy_of(alloc, "a file is refused")?),
     };
     match forest.find("a.html") {
-        Some(root) => told_end(alloc, &list.execute(alloc, &forest, root, datum)),
+        Some(root) => told_end(alloc, &execute_into(alloc, &forest, root, datum, list)),
         None => Ok(Text::copy_of(alloc, "no template a.html")?),
     }
 }

@@ -40,15 +40,15 @@ item_here ds items at v all inside here = subst (λ (w : DataList). drop at (num
     ∙ ap (λ (e : Data × Data). e ∷ drop (at + 1) (numbered 0 (items_view ds))) (numbered-get ds 0 at at v (int (pos at), view v) inside here (omega arith)))
 
 pub item_nowhere : (ds : List Datum) (items : DataList) (at : ℕ) → items_view ds ≡ items → length ds ≤ at → drop at (numbered 0 items) ≡ []
-item_nowhere ds items at all behind = subst (λ (w : DataList). drop at (numbered 0 w) ≡ []) all
-    (drop_of_length-le (numbered 0 (items_view ds)) (omega (arith, behind, numbered-length ds 0)))
+item_nowhere ds items at all after = subst (λ (w : DataList). drop at (numbered 0 w) ≡ []) all
+    (drop_of_length-le (numbered 0 (items_view ds)) (omega (arith, after, numbered-length ds 0)))
 
 count_numbered : (items : DataList) (n : ℕ) → length (numbered n items) ≡ item_count items
 count_numbered no_items n = refl
 count_numbered (item value rest) n = ap suc (count_numbered rest (suc n))
 
-pub item_behind : (items : DataList) (at : ℕ) → item_count items ≤ at → drop at (numbered 0 items) ≡ []
-item_behind items at behind = drop_of_length-le (numbered 0 items) (omega (arith, behind, count_numbered items 0))
+pub item_past : (items : DataList) (at : ℕ) → item_count items ≤ at → drop at (numbered 0 items) ≡ []
+item_past items at after = drop_of_length-le (numbered 0 items) (omega (arith, after, count_numbered items 0))
 
 -- the entry with a number, and none
 pub entry_here : (es : List (List ℕ × Datum)) (keys : DataDict) (at : ℕ) (v : List ℕ × Datum) → entries_view es ≡ keys → at < length es → ((e : List ℕ × Datum) → v ≡ get_or es at e)
@@ -59,15 +59,15 @@ entry_here es keys at v all inside here = subst (λ (w : DataDict). drop at (key
     ∙ ap (λ (e : Data × Data). e ∷ drop (at + 1) (keyed (entries_view es))) (keyed-get es at v (text v.0, view v.1) inside here))
 
 pub entry_nowhere : (es : List (List ℕ × Datum)) (keys : DataDict) (at : ℕ) → entries_view es ≡ keys → length es ≤ at → drop at (keyed keys) ≡ []
-entry_nowhere es keys at all behind = subst (λ (w : DataDict). drop at (keyed w) ≡ []) all
-    (drop_of_length-le (keyed (entries_view es)) (omega (arith, behind, keyed-length es)))
+entry_nowhere es keys at all after = subst (λ (w : DataDict). drop at (keyed w) ≡ []) all
+    (drop_of_length-le (keyed (entries_view es)) (omega (arith, after, keyed-length es)))
 
 count_keyed : (keys : DataDict) → length (keyed keys) ≡ entry_count keys
 count_keyed no_entries = refl
 count_keyed (entry key value rest) = ap suc (count_keyed rest)
 
-pub entry_behind : (keys : DataDict) (at : ℕ) → entry_count keys ≤ at → drop at (keyed keys) ≡ []
-entry_behind keys at behind = drop_of_length-le (keyed keys) (omega (arith, behind, count_keyed keys))
+pub entry_past : (keys : DataDict) (at : ℕ) → entry_count keys ≤ at → drop at (keyed keys) ≡ []
+entry_past keys at after = drop_of_length-le (keyed keys) (omega (arith, after, count_keyed keys))
 
 -- whether there are some
 pub some_items : (items : DataList) (n : ℕ) → n ≡ item_count items → nat_lt 0 n ≡ is_some (numbered 0 items)

@@ -4,7 +4,8 @@ use Rattle.std.specs.Prelude.{refl}
 use Rattle.page_datum.specs.Data.{Data, null, text, list, dict, DataList, no_items, item, no_entries}
 use Rattle.page_datum.specs.declared.fault.FaultKind.TheVariants as fault_kind
 use Rattle.tpl_exec.specs.Meaning.{meaning}
-use Rattle.tpl_exec.specs.Runs.{End, Event, Given, Run, done, else_part, faulted, gives_hole, gives_text, next, then_part, turn}
+use Rattle.tpl_events.specs.Events.{Event, Emission, gives_hole, gives_text}
+use Rattle.tpl_exec.specs.Runs.{End, Run, done, else_part, faulted, next, then_part, turn}
 use Rattle.tpl_symbol.specs.declared.func.Func.TheVariants as func
 use Rattle.tpl_tree.specs.Forests.{ForestData}
 use Rattle.tpl_tree.specs.Pipes.{no_commands, command, CommandData, single, call, no_operands, operand, OperandData, with_fields, BaseData, str, number, dot, variable}
@@ -41,8 +42,8 @@ one_template nodes = (name, record { nodes = nodes; end_line = 1 }) ∷ []
 abbrev run_of : NodesData → Data → Run
 run_of nodes datum = meaning (one_template nodes) name datum
 
-abbrev told : Event → Given
-told event = record { event = event; template = name; line = 1 }
+abbrev emitted : Event → Emission
+emitted event = record { event = event; template = name; line = 1 }
 
 abbrev end_of : Run → End
 end_of run = run.end
@@ -77,14 +78,14 @@ abbrev texts : DataList
 texts = item (text (codes "a")) (item (text (codes "b")) no_items)
 
 two_turns : run_of joined (list texts) ≡ record {
-  events = told (gives_hole 3 (text (codes "a"))) ∷ told (gives_text 2) ∷ told (gives_hole 3 (text (codes "b"))) ∷ [];
+  events = emitted (gives_hole 3 (text (codes "a"))) ∷ emitted (gives_text 2) ∷ emitted (gives_hole 3 (text (codes "b"))) ∷ [];
   choices = turn ∷ else_part ∷ turn ∷ then_part ∷ done ∷ [];
   end = next (record { variables = ([], list texts) ∷ []; steps = 13 });
 }
 two_turns = refl
 
 no_turn : run_of joined null ≡ record {
-  events = told (gives_text 4) ∷ [];
+  events = emitted (gives_text 4) ∷ [];
   choices = done ∷ [];
   end = next (record { variables = ([], null) ∷ []; steps = 3 });
 }

@@ -5,11 +5,12 @@ use Rattle.page_datum.specs.Data.{Data}
 use Rattle.page_datum.specs.declared.fault.ExecFault.{ExecFault}
 use Rattle.page_datum.specs.declared.fault.FaultKind.{FaultKind}
 use Rattle.page_datum.specs.declared.fault.FaultKind.TheVariants.{NotRangeable, Depth}
-use Rattle.tpl_exec.specs.Evaluating.{Variables}
-use Rattle.tpl_exec.specs.Functions.{Outcome, counted}
-use Rattle.tpl_exec.specs.Machine.{Spot, spot, nowhere, Loop, Frame, part, loop, call, Machine, Advance, moves, tells, halts, fails, back, spot_run, turn_run, frames_run, machine_run, on_steps, on_value, turning, next_turn, ended, leaving, broken_out, continued_out, moved, if_advance, with_advance, range_advance, call_advance, node_advance, advanced, advance, started}
+use Rattle.tpl_eval.specs.Evaluating.{Variables}
+use Rattle.tpl_eval.specs.Functions.{Outcome, counted}
+use Rattle.tpl_exec.specs.Machine.{Spot, spot, nowhere, Loop, Frame, part, loop, call, Machine, Progress, continues, emits, finishes, fails, back, spot_run, turn_run, frames_run, machine_run, on_steps, on_value, turning, next_turn, ended, leaving, broken_off, moved, if_advance, with_advance, range_advance, call_advance, node_advance, advanced, advance, started}
 use Rattle.tpl_exec.specs.Meaning.{finished, finish_of, argument, at_dot, calls_within, declared, elements, entered, evaluated, nodes_of_tree, nodes_run, node_run, parted, ranged, returned, template_run, turn_variables, turned, turns, with_steps, with_value, meaning, max_calls}
-use Rattle.tpl_exec.specs.Runs.{End, Given, Run, Site, State, next, broken, continued, faulted, and_then, choosing, turn, cut, cut_end, ends, enters, fault, fault_at, given, go_on, if_next, scoped}
+use Rattle.tpl_events.specs.Events.{Emission, enters}
+use Rattle.tpl_exec.specs.Runs.{End, Run, Site, State, next, broken, continued, faulted, and_then, choosing, turn, cut, cut_end, ends, fault, fault_at, emission, go_on, if_next, scoped}
 use Rattle.tpl_tree.specs.Forests.{ForestData, tree_named}
 use Rattle.tpl_tree.specs.Trees.{NodesData, no_nodes, node, nodes_size}
 use Rattle.tpl_tree.specs.declared.node_kind.NodeKind.{NodeKind}
@@ -21,10 +22,10 @@ abbrev pub Same : Run → Run → Type 0
 Same a b = (a.events ≡ b.events) × (a.end ≡ b.end)
 
 -- how a run stands to an advance
-abbrev pub Follows : ForestData → Run → Advance → Type 0
-Follows forest run (moves m) = Same run (machine_run forest m)
-Follows forest run (tells g m) = (run.events ≡ g ∷ (machine_run forest m).events) × (run.end ≡ (machine_run forest m).end)
-Follows forest run (halts steps) = (run.events ≡ []) × (finish_of run.end ≡ finished steps)
+abbrev pub Follows : ForestData → Run → Progress → Type 0
+Follows forest run (continues m) = Same run (machine_run forest m)
+Follows forest run (emits g m) = (run.events ≡ g ∷ (machine_run forest m).events) × (run.end ≡ (machine_run forest m).end)
+Follows forest run (finishes steps) = (run.events ≡ []) × (finish_of run.end ≡ finished steps)
 Follows forest run (fails why) = (run.events ≡ []) × (run.end ≡ faulted why)
 
 pub same_then : (a b c : Run) → Same a b → Same b c → Same a c
@@ -37,7 +38,7 @@ same_assoc g f r = (append_assoc r.events (f r.end).events (g (f r.end).end).eve
 -- the same before what goes on
 same_before : (g : End → Run) (a b : Run) → Same a b → Same (go_on g a) (go_on g b)
 same_before g a b h = (
-  ap (λ (es : List Given). es ++ (g a.end).events) h.0 ∙ ap (λ (e : End). b.events ++ (g e).events) h.1,
+  ap (λ (es : List Emission). es ++ (g a.end).events) h.0 ∙ ap (λ (e : End). b.events ++ (g e).events) h.1,
   ap (λ (e : End). (g e).end) h.1,
 )
 
@@ -54,13 +55,13 @@ fault_passes forest more at (loop dot l rest count ∷ fs) why = fault_passes fo
 fault_passes forest more at (call caller line rest variables ∷ fs) why = fault_passes forest (suc more) caller fs why
 
 -- a `break` or a `continue` goes to the innermost loop
-broken_follows : (forest : ForestData) (m : Machine) (fs : List Frame) → Follows forest (frames_run forest m.calls m.site fs (broken m.state)) (broken_out m fs)
+broken_follows : (forest : ForestData) (m : Machine) (fs : List Frame) → Follows forest (frames_run forest m.calls m.site fs (broken m.state)) (broken_off true m fs)
 broken_follows forest m [] = (refl, refl)
 broken_follows forest m (part dot rest count ∷ fs) = broken_follows forest (leaving m dot count) fs
 broken_follows forest m (loop dot l rest count ∷ fs) = (refl, refl)
 broken_follows forest m (call caller line rest variables ∷ fs) = (refl, refl)
 
-continued_follows : (forest : ForestData) (m : Machine) (fs : List Frame) → Follows forest (frames_run forest m.calls m.site fs (continued m.state)) (continued_out m fs)
+continued_follows : (forest : ForestData) (m : Machine) (fs : List Frame) → Follows forest (frames_run forest m.calls m.site fs (continued m.state)) (broken_off false m fs)
 continued_follows forest m [] = (refl, refl)
 continued_follows forest m (part dot rest count ∷ fs) = continued_follows forest (leaving m dot count) fs
 continued_follows forest m (loop dot l rest count ∷ fs) = (refl, refl)
@@ -94,7 +95,7 @@ fault_follows : (forest : ForestData) (m : Machine) (rest : Spot) (line : ℕ) (
 fault_follows forest m rest line kind = fault_passes forest m.calls m.site m.frames (fault_at m.site line kind)
 
 -- the value of a pipe
-value_follows : (forest : ForestData) (m : Machine) (rest : Spot) (line : ℕ) (out : Outcome Data) (run : Data → ℕ → Run) (adv : Data → ℕ → Advance)
+value_follows : (forest : ForestData) (m : Machine) (rest : Spot) (line : ℕ) (out : Outcome Data) (run : Data → ℕ → Run) (adv : Data → ℕ → Progress)
     → ((value : Data) (steps : ℕ) → Follows forest (from_node forest m rest (run value steps)) (adv value steps))
     → Follows forest (from_node forest m rest (with_value m.site line out run)) (on_value m.site line out adv)
 value_follows forest m rest line (Ok v) run adv h = h v.0 v.1
@@ -110,12 +111,12 @@ abbrev part_run : ForestData → Machine → Spot → Data → State → Run
 part_run forest m s dot state = spot_run forest m.calls (at_dot m.site dot) s state
 
 if_follows : (forest : ForestData) (m : Machine) (b : Bool) (first other rest : Spot) (state : State)
-    → Follows forest (from_node forest m rest (scoped (length m.state.variables) (parted b (part_run forest m first m.site.dot) (part_run forest m other m.site.dot) state))) (moves (if_advance m b first other rest state))
+    → Follows forest (from_node forest m rest (scoped (length m.state.variables) (parted b (part_run forest m first m.site.dot) (part_run forest m other m.site.dot) state))) (continues (if_advance m b first other rest state))
 if_follows forest m true first other rest state = opened_follows forest m rest (length m.state.variables) (part_run forest m first m.site.dot state)
 if_follows forest m false first other rest state = opened_follows forest m rest (length m.state.variables) (part_run forest m other m.site.dot state)
 
 with_follows : (forest : ForestData) (m : Machine) (b : Bool) (value : Data) (first other rest : Spot) (state : State)
-    → Follows forest (from_node forest m rest (scoped (length m.state.variables) (parted b (part_run forest m first value) (part_run forest m other m.site.dot) state))) (moves (with_advance m b value first other rest state))
+    → Follows forest (from_node forest m rest (scoped (length m.state.variables) (parted b (part_run forest m first value) (part_run forest m other m.site.dot) state))) (continues (with_advance m b value first other rest state))
 with_follows forest m true value first other rest state = opened_follows forest m rest (length m.state.variables) (part_run forest m first value state)
 with_follows forest m false value first other rest state = opened_follows forest m rest (length m.state.variables) (part_run forest m other m.site.dot state)
 
@@ -147,11 +148,11 @@ call_follows forest site at state frames (suc more) n line name value rest steps
     let now : State = record { variables = ([], value) ∷ []; steps = steps } in
     spot_stands forest more 0 inside (nodes_of_tree (tree_named name forest))
     (λ (run : State → Run). (((from_node forest m rest (entered site n line state.variables (Ok (run now)))).events
-    ≡ given site line (enters n) ∷ (go_on (frames_run forest more inside (call site line rest state.variables ∷ frames)) (spot_run forest more inside (spot 0 (nodes_of_tree (tree_named name forest))) now)).events)
+    ≡ emission site line (enters n) ∷ (go_on (frames_run forest more inside (call site line rest state.variables ∷ frames)) (spot_run forest more inside (spot 0 (nodes_of_tree (tree_named name forest))) now)).events)
     × ((from_node forest m rest (entered site n line state.variables (Ok (run now)))).end
     ≡ (go_on (frames_run forest more inside (call site line rest state.variables ∷ frames)) (spot_run forest more inside (spot 0 (nodes_of_tree (tree_named name forest))) now)).end)))
     (let same = same_thrice (frames_run forest m.calls site frames) (if_next (spot_run forest m.calls site rest)) (returned site line state.variables) (spot_run forest more inside (spot 0 (nodes_of_tree (tree_named name forest))) now) in
-    (ap (λ (es : List Given). given site line (enters n) ∷ es) same.0, same.1))
+    (ap (λ (es : List Emission). emission site line (enters n) ∷ es) same.0, same.1))
 
 -- a node, and all that follows it
 node_follows : (forest : ForestData) (m : Machine) (n line : ℕ) (what : NodeKind) (first other rest : Spot) (steps : ℕ)
@@ -173,7 +174,7 @@ node_follows forest m n line (kind.Template name pipe) first other rest steps = 
     (λ value now. call_follows forest m.site m.at m.state m.frames m.calls n line name value rest now)
 
 -- steps, and then a run and an advance
-steps_follow : (forest : ForestData) (at : Site) (line : ℕ) (found : Result ℕ FaultKind) (around : Run → Run) (run : ℕ → Run) (adv : ℕ → Advance)
+steps_follow : (forest : ForestData) (at : Site) (line : ℕ) (found : Result ℕ FaultKind) (around : Run → Run) (run : ℕ → Run) (adv : ℕ → Progress)
     → ((kind : FaultKind) → Follows forest (around (fault at line kind)) (fails (fault_at at line kind)))
     → ((steps : ℕ) → Follows forest (around (run steps)) (adv steps))
     → Follows forest (around (with_steps at line found run)) (on_steps at line found adv)
@@ -191,7 +192,7 @@ turn_follows forest m dot l (e ∷ es) rest count fs =
     steps_follow forest at l.line (counted 1 m.state.steps)
     (λ run. go_on (frames_run forest m.calls at fs) (and_then run (spot_run forest m.calls at rest)))
     (λ steps. choosing turn (go_on (turned count (turns at l.line count each es)) (part steps)))
-    (λ steps. moves (turning m dot l e es rest count fs steps))
+    (λ steps. continues (turning m dot l e es rest count fs steps))
     (λ kind. fault_passes forest m.calls at fs (fault_at at l.line kind))
     (λ steps. same_thrice (frames_run forest m.calls at fs) (if_next (spot_run forest m.calls at rest)) (turned count (turns at l.line count each es)) (part steps))
 
@@ -209,22 +210,22 @@ advanced_follows forest m n no_nodes = ended_follows forest m m.frames
 advanced_follows forest m n (node what line seams first other rest) =
     let calls = calls_within forest m.calls in
     let behind_first = n + 1 + nodes_size first in
-    let behind = behind_first + nodes_size other in
+    let after = behind_first + nodes_size other in
     let whole : (Data → State → Run) → (Data → State → Run) → (State → Run) → ℕ → Run = λ one two more steps.
     go_on (frames_run forest m.calls m.site m.frames) (and_then (node_run calls m.site n line what one two (record { variables = m.state.variables; steps = steps })) more) in
-    let then : ℕ → Advance = λ steps.
-    node_advance forest m n line what (spot (n + 1) first) (spot behind_first other) (spot behind rest) (record { variables = m.state.variables; steps = steps }) in
+    let then : ℕ → Progress = λ steps.
+    node_advance forest m n line what (spot (n + 1) first) (spot behind_first other) (spot after rest) (record { variables = m.state.variables; steps = steps }) in
     let part = λ (k : ℕ) (nodes : NodesData) (dot : Data) (s : State). nodes_run calls (at_dot m.site dot) k nodes s in
     steps_follow forest m.site line (counted 1 m.state.steps)
-    (λ run. go_on (frames_run forest m.calls m.site m.frames) (and_then run (nodes_run calls m.site behind rest)))
+    (λ run. go_on (frames_run forest m.calls m.site m.frames) (and_then run (nodes_run calls m.site after rest)))
     (λ steps. node_run calls m.site n line what (part (n + 1) first) (part behind_first other) (record { variables = m.state.variables; steps = steps }))
     then
     (λ kind. fault_passes forest m.calls m.site m.frames (fault_at m.site line kind))
     (λ steps.
-    part_stands forest m.calls (n + 1) m.site first (λ (one : Data → State → Run). Follows forest (whole one (part behind_first other) (nodes_run calls m.site behind rest) steps) (then steps))
-    (part_stands forest m.calls behind_first m.site other (λ (two : Data → State → Run). Follows forest (whole (part_run forest m (spot (n + 1) first)) two (nodes_run calls m.site behind rest) steps) (then steps))
-    (spot_stands forest m.calls behind m.site rest (λ (more : State → Run). Follows forest (whole (part_run forest m (spot (n + 1) first)) (part_run forest m (spot behind_first other)) more steps) (then steps))
-    (node_follows forest m n line what (spot (n + 1) first) (spot behind_first other) (spot behind rest) steps))))
+    part_stands forest m.calls (n + 1) m.site first (λ (one : Data → State → Run). Follows forest (whole one (part behind_first other) (nodes_run calls m.site after rest) steps) (then steps))
+    (part_stands forest m.calls behind_first m.site other (λ (two : Data → State → Run). Follows forest (whole (part_run forest m (spot (n + 1) first)) two (nodes_run calls m.site after rest) steps) (then steps))
+    (spot_stands forest m.calls after m.site rest (λ (more : State → Run). Follows forest (whole (part_run forest m (spot (n + 1) first)) (part_run forest m (spot behind_first other)) more steps) (then steps))
+    (node_follows forest m n line what (spot (n + 1) first) (spot behind_first other) (spot after rest) steps))))
 
 -- the machine after one advance does what the machine before it does
 pub follows : (forest : ForestData) (m : Machine) → Follows forest (machine_run forest m) (advance forest m)

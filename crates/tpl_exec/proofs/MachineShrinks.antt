@@ -2,11 +2,11 @@
 use Rattle.std.proofs.Common.{ℕ, zero, suc, ◌+◌, ◌-◌, ◌*◌, ◌≤◌, ◌<◌, List, [], ◌∷◌, length, Bool, true, false, Option, Some, None, Result, Ok, Err, arith}
 use Rattle.page_datum.specs.Data.{Data}
 use Rattle.page_datum.specs.declared.fault.FaultKind.{FaultKind}
-use Rattle.tpl_exec.specs.Functions.{Outcome, counted, max_steps}
-use Rattle.tpl_exec.specs.Machine.{Spot, spot, nowhere, Loop, Frame, part, loop, call, Machine, Advance, moves, tells, halts, fails, on_steps, on_value, next_turn, ended, leaving, broken_out, continued_out, moved, if_advance, with_advance, range_advance, call_advance, node_advance, advanced, advance, turning, started}
+use Rattle.tpl_eval.specs.Functions.{Outcome, counted, max_steps}
+use Rattle.tpl_exec.specs.Machine.{Spot, spot, nowhere, Loop, Frame, part, loop, call, Machine, Progress, continues, emits, finishes, fails, on_steps, on_value, next_turn, ended, leaving, broken_off, moved, if_advance, with_advance, range_advance, call_advance, node_advance, advanced, advance, turning, started}
 use Rattle.tpl_exec.specs.Meaning.{argument, at_dot, assigned, declared, elements, evaluated}
 use Rattle.tpl_exec.specs.Runs.{Site, State}
-use Rattle.tpl_exec.proofs.StepsGrow.{Counts, Grows, Within, counts, grows_from, pipe_grows}
+use Rattle.tpl_eval.proofs.StepsGrow.{Counts, Grows, Within, counts, grows_from, pipe_grows}
 use Rattle.tpl_tree.specs.Forests.{ForestData}
 use Rattle.tpl_tree.specs.Trees.{NodesData, no_nodes, node, nodes_size}
 use Rattle.tpl_tree.specs.declared.node_kind.NodeKind.{NodeKind}
@@ -18,36 +18,36 @@ use Rattle.tpl_value.specs.Truth.{truth_of}
 abbrev pub weight : Machine → ℕ
 weight m = 2 * (max_steps - m.state.steps) + length m.frames
 
-abbrev pub Shrinks : ℕ → Advance → Type 0
-Shrinks w (moves m) = weight m < w
-Shrinks w (tells g m) = weight m < w
-Shrinks w (halts steps) = Unit {0}
+abbrev pub Shrinks : ℕ → Progress → Type 0
+Shrinks w (continues m) = weight m < w
+Shrinks w (emits g m) = weight m < w
+Shrinks w (finishes steps) = Unit {0}
 Shrinks w (fails why) = Unit {0}
 
 -- no more steps than an execution may have
-abbrev pub Bounded : Advance → Type 0
-Bounded (moves m) = m.state.steps ≤ max_steps
-Bounded (tells g m) = m.state.steps ≤ max_steps
-Bounded (halts steps) = steps ≤ max_steps
+abbrev pub Bounded : Progress → Type 0
+Bounded (continues m) = m.state.steps ≤ max_steps
+Bounded (emits g m) = m.state.steps ≤ max_steps
+Bounded (finishes steps) = steps ≤ max_steps
 Bounded (fails why) = Unit {0}
 
 -- both
-abbrev Falls : ℕ → Advance → Type 0
-Falls w (moves m) = (weight m < w) × (m.state.steps ≤ max_steps)
-Falls w (tells g m) = (weight m < w) × (m.state.steps ≤ max_steps)
-Falls w (halts steps) = steps ≤ max_steps
+abbrev Falls : ℕ → Progress → Type 0
+Falls w (continues m) = (weight m < w) × (m.state.steps ≤ max_steps)
+Falls w (emits g m) = (weight m < w) × (m.state.steps ≤ max_steps)
+Falls w (finishes steps) = steps ≤ max_steps
 Falls w (fails why) = Unit {0}
 
-shrinks_of : (w : ℕ) (a : Advance) → Falls w a → Shrinks w a
-shrinks_of w (moves m) h = h.0
-shrinks_of w (tells g m) h = h.0
-shrinks_of w (halts steps) h = tt
+shrinks_of : (w : ℕ) (a : Progress) → Falls w a → Shrinks w a
+shrinks_of w (continues m) h = h.0
+shrinks_of w (emits g m) h = h.0
+shrinks_of w (finishes steps) h = tt
 shrinks_of w (fails why) h = tt
 
-bounded_of : (w : ℕ) (a : Advance) → Falls w a → Bounded a
-bounded_of w (moves m) h = h.1
-bounded_of w (tells g m) h = h.1
-bounded_of w (halts steps) h = h
+bounded_of : (w : ℕ) (a : Progress) → Falls w a → Bounded a
+bounded_of w (continues m) h = h.1
+bounded_of w (emits g m) h = h.1
+bounded_of w (finishes steps) h = h
 bounded_of w (fails why) h = tt
 
 -- a step at least, and at most one thing more that is open
@@ -55,22 +55,22 @@ lighter : (most steps now frames more : ℕ) → steps + 1 ≤ now → now ≤ m
 lighter most steps now frames more a b c = omega (arith, a, b, c)
 
 -- a value, or steps, and then an advance
-value_falls : (w least : ℕ) (at : Site) (line : ℕ) (out : Outcome Data) (adv : Data → ℕ → Advance) → Grows least out → ((value : Data) (steps : ℕ) → Within least steps → Falls w (adv value steps)) → Falls w (on_value at line out adv)
+value_falls : (w least : ℕ) (at : Site) (line : ℕ) (out : Outcome Data) (adv : Data → ℕ → Progress) → Grows least out → ((value : Data) (steps : ℕ) → Within least steps → Falls w (adv value steps)) → Falls w (on_value at line out adv)
 value_falls w least at line (Ok v) adv g h = h v.0 v.1 g
 value_falls w least at line (Err kind) adv g h = tt
 
-steps_fall : (w least : ℕ) (at : Site) (line : ℕ) (found : Result ℕ FaultKind) (adv : ℕ → Advance) → Counts least found → ((steps : ℕ) → Within least steps → Falls w (adv steps)) → Falls w (on_steps at line found adv)
+steps_fall : (w least : ℕ) (at : Site) (line : ℕ) (found : Result ℕ FaultKind) (adv : ℕ → Progress) → Counts least found → ((steps : ℕ) → Within least steps → Falls w (adv steps)) → Falls w (on_steps at line found adv)
 steps_fall w least at line (Ok steps) adv g h = h steps g
 steps_fall w least at line (Err kind) adv g h = tt
 
 -- a `break` and a `continue`
-broken_falls : (w : ℕ) (m : Machine) (fs : List Frame) → m.state.steps ≤ max_steps → 2 * (max_steps - m.state.steps) + length fs < w → Falls w (broken_out m fs)
+broken_falls : (w : ℕ) (m : Machine) (fs : List Frame) → m.state.steps ≤ max_steps → 2 * (max_steps - m.state.steps) + length fs < w → Falls w (broken_off true m fs)
 broken_falls w m [] l h = l
 broken_falls w m (part dot rest count ∷ fs) l h = broken_falls w (leaving m dot count) fs l (omega (arith, h))
 broken_falls w m (loop dot it rest count ∷ fs) l h = (omega (arith, h), l)
 broken_falls w m (call caller line rest variables ∷ fs) l h = (omega (arith, h), l)
 
-continued_falls : (w : ℕ) (m : Machine) (fs : List Frame) → m.state.steps ≤ max_steps → 2 * (max_steps - m.state.steps) + length fs < w → Falls w (continued_out m fs)
+continued_falls : (w : ℕ) (m : Machine) (fs : List Frame) → m.state.steps ≤ max_steps → 2 * (max_steps - m.state.steps) + length fs < w → Falls w (broken_off false m fs)
 continued_falls w m [] l h = l
 continued_falls w m (part dot rest count ∷ fs) l h = continued_falls w (leaving m dot count) fs l (omega (arith, h))
 continued_falls w m (loop dot it rest count ∷ fs) l h = (h, l)
@@ -81,11 +81,11 @@ abbrev Next : Machine → ℕ → Type 0
 Next m steps = Within (m.state.steps + 1) steps
 
 -- a part, a loop or a call is open then
-if_falls : (m : Machine) (b : Bool) (first other rest : Spot) (state : State) → Next m state.steps → Falls (weight m) (moves (if_advance m b first other rest state))
+if_falls : (m : Machine) (b : Bool) (first other rest : Spot) (state : State) → Next m state.steps → Falls (weight m) (continues (if_advance m b first other rest state))
 if_falls m true first other rest state h = (lighter max_steps m.state.steps state.steps (length m.frames) (suc (length m.frames)) h.0 h.1 (omega arith), h.1)
 if_falls m false first other rest state h = (lighter max_steps m.state.steps state.steps (length m.frames) (suc (length m.frames)) h.0 h.1 (omega arith), h.1)
 
-with_falls : (m : Machine) (b : Bool) (value : Data) (first other rest : Spot) (state : State) → Next m state.steps → Falls (weight m) (moves (with_advance m b value first other rest state))
+with_falls : (m : Machine) (b : Bool) (value : Data) (first other rest : Spot) (state : State) → Next m state.steps → Falls (weight m) (continues (with_advance m b value first other rest state))
 with_falls m true value first other rest state h = (lighter max_steps m.state.steps state.steps (length m.frames) (suc (length m.frames)) h.0 h.1 (omega arith), h.1)
 with_falls m false value first other rest state h = (lighter max_steps m.state.steps state.steps (length m.frames) (suc (length m.frames)) h.0 h.1 (omega arith), h.1)
 
@@ -99,7 +99,7 @@ call_falls forest m zero n line name value rest steps h = tt
 call_falls forest m (suc more) n line name value rest steps h = (lighter max_steps m.state.steps steps (length m.frames) (suc (length m.frames)) h.0 h.1 (omega arith), h.1)
 
 -- nothing more is open
-moved_falls : (m : Machine) (at : Spot) (state : State) → Next m state.steps → Falls (weight m) (moves (moved m at state))
+moved_falls : (m : Machine) (at : Spot) (state : State) → Next m state.steps → Falls (weight m) (continues (moved m at state))
 moved_falls m at state h = (lighter max_steps m.state.steps state.steps (length m.frames) (length m.frames) h.0 h.1 (omega arith), h.1)
 
 -- the value of a pipe of a node
@@ -133,7 +133,7 @@ node_falls forest m n line (kind.Template name pipe) first other rest state h = 
 -- a turn of a loop, or its end
 turn_falls : (m : Machine) (dot : Data) (l : Loop) (left : List (Data × Data)) (rest : Spot) (count : ℕ) (fs : List Frame) (w : ℕ) → m.state.steps ≤ max_steps → 2 * (max_steps - m.state.steps) + suc (length fs) ≤ w → Falls w (next_turn m dot l left rest count fs)
 turn_falls m dot l [] rest count fs w b h = (omega (arith, h), b)
-turn_falls m dot l (e ∷ es) rest count fs w b h = steps_fall w (m.state.steps + 1) (at_dot m.site dot) l.line (counted 1 m.state.steps) (λ steps. moves (turning m dot l e es rest count fs steps)) (counts 1 m.state.steps)
+turn_falls m dot l (e ∷ es) rest count fs w b h = steps_fall w (m.state.steps + 1) (at_dot m.site dot) l.line (counted 1 m.state.steps) (λ steps. continues (turning m dot l e es rest count fs steps)) (counts 1 m.state.steps)
     (λ steps k. (omega (arith, h, lighter max_steps m.state.steps steps (suc (length fs)) (suc (length fs)) k.0 k.1 (omega arith)), k.1))
 
 -- no node is next

@@ -1,56 +1,57 @@
 -- How far an execution has come: the events that were taken so far, and the run that is left.
 use Rattle.std.proofs.Common.{◌≡◌, List, [], ◌∷◌, ◌++◌, append_assoc, append-nil, refl, sym, ap, ◌∙◌, subst}
-use Rattle.tpl_exec.specs.Executing.{Allows, Leads, Refuses}
-use Rattle.tpl_exec.specs.Runs.{Event, Given, Run}
-use Rattle.tpl_exec.specs.declared.sink.HoleStop.{HoleStop}
+use Rattle.tpl_events.specs.Sinks.{Allows, Leads, Refuses}
+use Rattle.tpl_events.specs.Events.{Event, Emission}
+use Rattle.tpl_exec.specs.Runs.{Run}
+use Rattle.tpl_events.specs.declared.sink.HoleStop.{HoleStop}
 
 pub record Reaches {S : Type 0} (may : S → Event → Type 0) (takes : S → Event → S → Type 0) (run : Run) (s t : S) (left : Run) : Type 0 where
-  pub front : List Given
-  pub events : run.events ≡ front ++ left.events
+  pub prefix : List Emission
+  pub events : run.events ≡ prefix ++ left.events
   pub end : run.end ≡ left.end
-  pub led : Leads takes s front t
+  pub led : Leads takes s prefix t
   pub allowed : Allows may takes t left.events
 
-Leads-push : {S : Type 0} (takes : S → Event → S → Type 0) (s u t : S) (front : List Given) (g : Given) → Leads takes s front u → takes u g.event t → Leads takes s (front ++ g ∷ []) t
+Leads-push : {S : Type 0} (takes : S → Event → S → Type 0) (s u t : S) (prefix : List Emission) (g : Emission) → Leads takes s prefix u → takes u g.event t → Leads takes s (prefix ++ g ∷ []) t
 Leads-push {S = S} takes s u t [] g is e = (t, subst (λ (x : S). takes x g.event t) is e, refl)
-Leads-push takes s u t (f ∷ front) g led e = (led.0, led.1, Leads-push takes led.0 u t front g led.2 e)
+Leads-push takes s u t (f ∷ prefix) g led e = (led.0, led.1, Leads-push takes led.0 u t prefix g led.2 e)
 
--- nothing is given yet
+-- nothing is emission yet
 pub from_start : {S : Type 0} (may : S → Event → Type 0) (takes : S → Event → S → Type 0) (run left : Run) (s : S) → run.events ≡ left.events → run.end ≡ left.end → Allows may takes s run.events → Reaches may takes run s s left
-from_start may takes run left s events end allowed = record { front = []; events = events; end = end; led = refl; allowed = subst (λ (gs : List Given). Allows may takes s gs) events allowed }
+from_start may takes run left s events end allowed = record { prefix = []; events = events; end = end; led = refl; allowed = subst (λ (gs : List Emission). Allows may takes s gs) events allowed }
 
--- nothing was given, and the same is left
+-- nothing was emission, and the same is left
 pub goes_on : {S : Type 0} (may : S → Event → Type 0) (takes : S → Event → S → Type 0) (run left later : Run) (s t : S) → Reaches may takes run s t left → left.events ≡ later.events → left.end ≡ later.end → Reaches may takes run s t later
 goes_on may takes run left later s t r events end = record {
-  front = r.front;
-  events = r.events ∙ ap (λ (gs : List Given). r.front ++ gs) events;
+  prefix = r.prefix;
+  events = r.events ∙ ap (λ (gs : List Emission). r.prefix ++ gs) events;
   end = r.end ∙ end;
   led = r.led;
-  allowed = subst (λ (gs : List Given). Allows may takes t gs) events r.allowed;
+  allowed = subst (λ (gs : List Emission). Allows may takes t gs) events r.allowed;
 }
 
-allowed_next : {S : Type 0} (may : S → Event → Type 0) (takes : S → Event → S → Type 0) (left : List Given) (t : S) (g : Given) (rest : List Given) → left ≡ g ∷ rest → Allows may takes t left → Allows may takes t (g ∷ rest)
-allowed_next may takes left t g rest is a = subst (λ (gs : List Given). Allows may takes t gs) is a
+allowed_next : {S : Type 0} (may : S → Event → Type 0) (takes : S → Event → S → Type 0) (left : List Emission) (t : S) (g : Emission) (rest : List Emission) → left ≡ g ∷ rest → Allows may takes t left → Allows may takes t (g ∷ rest)
+allowed_next may takes left t g rest is a = subst (λ (gs : List Emission). Allows may takes t gs) is a
 
 -- the next event may be given
-pub may_now : {S : Type 0} (may : S → Event → Type 0) (takes : S → Event → S → Type 0) (run left : Run) (s t : S) (g : Given) (rest : List Given) → Reaches may takes run s t left → left.events ≡ g ∷ rest → may t g.event
+pub may_now : {S : Type 0} (may : S → Event → Type 0) (takes : S → Event → S → Type 0) (run left : Run) (s t : S) (g : Emission) (rest : List Emission) → Reaches may takes run s t left → left.events ≡ g ∷ rest → may t g.event
 may_now may takes run left s t g rest r is = (allowed_next may takes left.events t g rest is r.allowed).0
 
 -- it was taken
-pub takes_one : {S : Type 0} (may : S → Event → Type 0) (takes : S → Event → S → Type 0) (run left later : Run) (s t u : S) (g : Given) → Reaches may takes run s t left → left.events ≡ g ∷ later.events → left.end ≡ later.end → takes t g.event u → Reaches may takes run s u later
+pub takes_one : {S : Type 0} (may : S → Event → Type 0) (takes : S → Event → S → Type 0) (run left later : Run) (s t u : S) (g : Emission) → Reaches may takes run s t left → left.events ≡ g ∷ later.events → left.end ≡ later.end → takes t g.event u → Reaches may takes run s u later
 takes_one may takes run left later s t u g r is end e = record {
-  front = r.front ++ g ∷ [];
-  events = r.events ∙ ap (λ (gs : List Given). r.front ++ gs) is ∙ sym (append_assoc r.front (g ∷ []) later.events);
+  prefix = r.prefix ++ g ∷ [];
+  events = r.events ∙ ap (λ (gs : List Emission). r.prefix ++ gs) is ∙ sym (append_assoc r.prefix (g ∷ []) later.events);
   end = r.end ∙ end;
-  led = Leads-push takes s t u r.front g r.led e;
+  led = Leads-push takes s t u r.prefix g r.led e;
   allowed = (allowed_next may takes left.events t g later.events is r.allowed).1 u e;
 }
 
 -- it was refused
-pub refused_one : {S : Type 0} (may : S → Event → Type 0) (takes : S → Event → S → Type 0) (refuses : S → Event → HoleStop → S → Type 0) (run left : Run) (s t u : S) (g : Given) (rest : List Given) (why : HoleStop)
+pub refused_one : {S : Type 0} (may : S → Event → Type 0) (takes : S → Event → S → Type 0) (refuses : S → Event → HoleStop → S → Type 0) (run left : Run) (s t u : S) (g : Emission) (rest : List Emission) (why : HoleStop)
     → Reaches may takes run s t left → left.events ≡ g ∷ rest → refuses t g.event why u → Refuses takes refuses run.events g why s u
-refused_one may takes refuses run left s t u g rest why r is e = (r.front, rest, t, r.events ∙ ap (λ (gs : List Given). r.front ++ gs) is, r.led, e)
+refused_one may takes refuses run left s t u g rest why r is e = (r.prefix, rest, t, r.events ∙ ap (λ (gs : List Emission). r.prefix ++ gs) is, r.led, e)
 
 -- all events were taken
 pub led_all : {S : Type 0} (may : S → Event → Type 0) (takes : S → Event → S → Type 0) (run left : Run) (s t : S) → Reaches may takes run s t left → left.events ≡ [] → Leads takes s run.events t
-led_all may takes run left s t r none = subst (λ (gs : List Given). Leads takes s gs t) (sym (r.events ∙ ap (λ (gs : List Given). r.front ++ gs) none ∙ append-nil r.front)) r.led
+led_all may takes run left s t r none = subst (λ (gs : List Emission). Leads takes s gs t) (sym (r.events ∙ ap (λ (gs : List Emission). r.prefix ++ gs) none ∙ append-nil r.prefix)) r.led

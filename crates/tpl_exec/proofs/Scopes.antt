@@ -2,12 +2,12 @@
 use Rattle.std.proofs.Common.{◌≡◌, ℕ, zero, suc, ◌+◌, ◌-◌, ◌<◌, List, [], ◌∷◌, ◌++◌, append_assoc, append-nil, length, get_or, slice_set, take, drop, refl, sym, ap, ◌∙◌, arith, true, false, bytes_eq}
 use Rattle.std.proofs.lemmas.List.{drop_more, length-append, length-drop, take-append-drop}
 use Rattle.page_datum.specs.Data.{Data}
-use Rattle.tpl_exec.specs.Evaluating.{Variables}
+use Rattle.tpl_eval.specs.Evaluating.{Variables}
 use Rattle.tpl_exec.specs.Meaning.{assigned}
 use Rattle.tpl_exec.specs.Runs.{cut}
-use Rattle.tpl_exec.specs.Sights.{stored_view, variables_view}
-use Rattle.tpl_exec.specs.declared.sight.Variable.{Variable}
-use Rattle.tpl_exec.proofs.Variables.{variables_view-at}
+use Rattle.tpl_eval.specs.Scopes.{stored_view, variables_view}
+use Rattle.tpl_eval.specs.declared.scope.Variable.{Variable}
+use Rattle.tpl_eval.proofs.Variables.{variables_view-at}
 
 -- one variable
 abbrev pub variable_view : Variable → List ℕ × Data
@@ -23,16 +23,16 @@ variables_view-length (v ∷ vs) =
     let more : length (variables_view vs ++ variable_view v ∷ []) ≡ length (variables_view vs) + 1 = length-append (variables_view vs) (variable_view v ∷ []) in
     more ∙ omega (arith, variables_view-length vs)
 
-drop_front : (xs ys : Variables) (n : ℕ) → n ≡ length xs → drop n (xs ++ ys) ≡ ys
-drop_front [] ys n is = ap (λ (k : ℕ). drop k ys) is
-drop_front (x ∷ xs) ys n is = ap (λ (k : ℕ). drop k (x ∷ (xs ++ ys))) is ∙ drop_front xs ys (length xs) refl
+drop_prefix : (xs ys : Variables) (n : ℕ) → n ≡ length xs → drop n (xs ++ ys) ≡ ys
+drop_prefix [] ys n is = ap (λ (k : ℕ). drop k ys) is
+drop_prefix (x ∷ xs) ys n is = ap (λ (k : ℕ). drop k (x ∷ (xs ++ ys))) is ∙ drop_prefix xs ys (length xs) refl
 
 -- the oldest ones
-pub cut_front : (vs : List Variable) (n : ℕ) → variables_view (take n vs) ≡ cut n (variables_view vs)
-cut_front vs n =
+pub cut_prefix : (vs : List Variable) (n : ℕ) → variables_view (take n vs) ≡ cut n (variables_view vs)
+cut_prefix vs n =
     let parts : variables_view vs ≡ variables_view (drop n vs) ++ variables_view (take n vs) = ap variables_view (sym (take-append-drop n vs)) ∙ variables_view-append (take n vs) (drop n vs) in
     let count : length (variables_view vs) - n ≡ length (variables_view (drop n vs)) = omega (arith, variables_view-length vs, variables_view-length (drop n vs), length-drop n vs) in
-    sym (drop_front (variables_view (drop n vs)) (variables_view (take n vs)) (length (variables_view vs) - n) count)
+    sym (drop_prefix (variables_view (drop n vs)) (variables_view (take n vs)) (length (variables_view vs) - n) count)
     ∙ ap (drop (length (variables_view vs) - n)) (sym parts)
 
 -- another variable in the place of one

@@ -7,16 +7,16 @@ use Rattle.tpl_exec.specs.Machine.{nowhere, spot}
 use Rattle.tpl_exec.specs.MachineView.{spot_at}
 
 -- after all nodes there are none
-nodes_from-behind : (nodes : NodesData) (n : ℕ) → nodes_size nodes ≤ n → nodes_from nodes n ≡ no_nodes
-nodes_from-behind no_nodes n l = refl
-nodes_from-behind (node k line s first other rest) zero l = absurd (omega (arith, l))
-nodes_from-behind (node k line s first other rest) (suc n) l =
+nodes_from-past : (nodes : NodesData) (n : ℕ) → nodes_size nodes ≤ n → nodes_from nodes n ≡ no_nodes
+nodes_from-past no_nodes n l = refl
+nodes_from-past (node k line s first other rest) zero l = absurd (omega (arith, l))
+nodes_from-past (node k line s first other rest) (suc n) l =
     let past_first : nat_lt n (nodes_size first) ≡ false = grind (arith, nat_tests) in
     let past_other : nat_lt (n - nodes_size first) (nodes_size other) ≡ false = grind (arith, nat_tests) in
-    rw (past_first, past_other) (nodes_from-behind rest (n - nodes_size first - nodes_size other) (omega (arith, l)))
+    rw (past_first, past_other) (nodes_from-past rest (n - nodes_size first - nodes_size other) (omega (arith, l)))
 
-pub nowhere_behind : (nodes : NodesData) (n : ℕ) → nodes_size nodes ≤ n → spot_at nodes (Some n) ≡ nowhere
-nowhere_behind nodes n l = ap (spot n) (nodes_from-behind nodes n l)
+pub nowhere_past : (nodes : NodesData) (n : ℕ) → nodes_size nodes ≤ n → spot_at nodes (Some n) ≡ nowhere
+nowhere_past nodes n l = ap (spot n) (nodes_from-past nodes n l)
 
 -- nodes by what the first one is
 node_is : (w : NodesData) (k : NodeKind) (line : ℕ) → Some k ≡ head_kind w → line ≡ head_line w → w ≡ node k line (head_seams w) (part_of 0 w) (part_of 1 w) (rest_of w)

@@ -6,12 +6,13 @@ use Rattle.page_datum.specs.Data.{Data, int, text}
 use Rattle.page_datum.specs.View.{view}
 use Rattle.page_datum.specs.declared.datum.Datum.{Datum}
 use Rattle.tpl_exec.specs.Meaning.{declared, elements}
-use Rattle.tpl_exec.specs.Sights.{all_variables, stored_view}
+use Rattle.tpl_eval.specs.Scopes.{stored_view}
+use Rattle.tpl_exec.specs.Variables.{all_variables}
 use Rattle.tpl_exec.specs.declared.element.Element.{Element}
 use Rattle.tpl_exec.specs.declared.element.Index.{Index}
 use Rattle.tpl_exec.specs.declared.element.Index.TheVariants.{Number, Key}
-use Rattle.tpl_exec.specs.declared.sight.Stored.{Stored}
-use Rattle.tpl_exec.specs.declared.sight.Variable.{Variable}
+use Rattle.tpl_eval.specs.declared.stored.Stored.{Stored}
+use Rattle.tpl_eval.specs.declared.scope.Variable.{Variable}
 
 -- the elements, none where a range has no meaning
 abbrev pub all_elements : Option (List (Data × Data)) → List (Data × Data)

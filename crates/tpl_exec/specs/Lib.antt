@@ -1,16 +1,11 @@
 pub mod Elements
-pub mod Evaluating
 pub mod Executing
-pub mod Functions
 pub mod Lists
 pub mod Machine
 pub mod MachineCalls
 pub mod MachineView
 pub mod Meaning
 pub mod OpenCalls
-pub mod PipeCalls
 pub mod Runs
-pub mod Sights
-pub mod Stacks
 pub mod Steps
-pub mod Values
+pub mod Variables

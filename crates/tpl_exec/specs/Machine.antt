@@ -4,10 +4,11 @@ use Rattle.page_datum.specs.Data.{Data}
 use Rattle.page_datum.specs.declared.fault.ExecFault.{ExecFault}
 use Rattle.page_datum.specs.declared.fault.FaultKind.{FaultKind}
 use Rattle.page_datum.specs.declared.fault.FaultKind.TheVariants.{NotRangeable, Depth}
-use Rattle.tpl_exec.specs.Evaluating.{Variables}
-use Rattle.tpl_exec.specs.Functions.{Outcome, counted}
+use Rattle.tpl_eval.specs.Evaluating.{Variables}
+use Rattle.tpl_eval.specs.Functions.{Outcome, counted}
 use Rattle.tpl_exec.specs.Meaning.{argument, assigned, at_dot, calls_within, declared, elements, evaluated, nodes_of_tree, nodes_run, returned, turn_variables, turned, turns}
-use Rattle.tpl_exec.specs.Runs.{End, Given, Run, Site, State, and_then, cut_end, cut_state, ends, enters, fault_at, given, gives_hole, gives_text, go_on, if_next, leaves}
+use Rattle.tpl_events.specs.Events.{Emission, enters, gives_hole, gives_text, leaves}
+use Rattle.tpl_exec.specs.Runs.{End, Run, Site, State, and_then, cut_end, cut_state, ends, fault_at, emission, go_on, if_next}
 use Rattle.tpl_tree.specs.Forests.{ForestData, tree_named}
 use Rattle.tpl_tree.specs.Trees.{NodesData, no_nodes, node, nodes_size}
 use Rattle.tpl_tree.specs.declared.node_kind.NodeKind.{NodeKind}
@@ -50,17 +51,17 @@ pub record Machine : Type 0 where
   pub calls : ℕ
 
 -- what one advance does: it goes on, or gives an event and goes on, or all is done, or it meets a fault
-pub data Advance : Type 0 where
-  moves : Machine → Advance
-  tells : Given → Machine → Advance
-  halts : ℕ → Advance
-  fails : ExecFault → Advance
+pub data Progress : Type 0 where
+  continues : Machine → Progress
+  emits : Emission → Machine → Progress
+  finishes : ℕ → Progress
+  fails : ExecFault → Progress
 
 -- a fault of a template, on a line
-abbrev pub fails_so : List ℕ → ℕ → FaultKind → Advance
+abbrev pub fails_so : List ℕ → ℕ → FaultKind → Progress
 fails_so template line kind = fails (record { kind = kind; template = template; line = line })
 
--- the place with the dot that holds after a part
+-- the site with the dot that holds after a part
 abbrev pub back : Option Data → Site → Site
 back (Some dot) at = at_dot at dot
 back None at = at
@@ -70,7 +71,7 @@ back None at = at
 abbrev pub spot_run : ForestData → ℕ → Site → Spot → State → Run
 spot_run forest more at s state = nodes_run (calls_within forest more) at s.number s.nodes state
 
--- a turn of a loop, at the place of its range
+-- a turn of a loop, at the site of its range
 abbrev pub turn_run : ForestData → ℕ → Site → Loop → Data × Data → State → Run
 turn_run forest more at l e now = spot_run forest more (at_dot at e.1) l.first (record { variables = turn_variables l.index l.element e now.variables; steps = now.steps })
 
@@ -90,20 +91,20 @@ machine_run forest m = go_on (frames_run forest m.calls m.site m.frames) (spot_r
 -- One advance.
 
 -- more steps, or a value, and then an advance
-abbrev pub on_steps : Site → ℕ → Result ℕ FaultKind → (ℕ → Advance) → Advance
+abbrev pub on_steps : Site → ℕ → Result ℕ FaultKind → (ℕ → Progress) → Progress
 on_steps at line (Ok steps) advance = advance steps
 on_steps at line (Err kind) advance = fails (fault_at at line kind)
 
-abbrev pub on_value : Site → ℕ → Outcome Data → (Data → ℕ → Advance) → Advance
+abbrev pub on_value : Site → ℕ → Outcome Data → (Data → ℕ → Progress) → Progress
 on_value at line (Ok v) advance = advance v.0 v.1
 on_value at line (Err kind) advance = fails (fault_at at line kind)
 
 -- the machine after a control, or after a call
-abbrev pub behind_control : Machine → Option Data → Spot → ℕ → List Frame → Machine
-behind_control m dot rest count fs = record { site = back dot m.site; at = rest; state = cut_state count m.state; frames = fs; calls = m.calls }
+abbrev pub after_control : Machine → Option Data → Spot → ℕ → List Frame → Machine
+after_control m dot rest count fs = record { site = back dot m.site; at = rest; state = cut_state count m.state; frames = fs; calls = m.calls }
 
-abbrev pub behind_call : Machine → Site → Spot → Variables → List Frame → Machine
-behind_call m caller rest variables fs = record { site = caller; at = rest; state = record { variables = variables; steps = m.state.steps }; frames = fs; calls = suc m.calls }
+abbrev pub after_call : Machine → Site → Spot → Variables → List Frame → Machine
+after_call m caller rest variables fs = record { site = caller; at = rest; state = record { variables = variables; steps = m.state.steps }; frames = fs; calls = suc m.calls }
 
 -- one more turn of a loop
 abbrev pub turning : Machine → Data → Loop → Data × Data → List (Data × Data) → Spot → ℕ → List Frame → ℕ → Machine
@@ -116,33 +117,31 @@ turning m dot l e es rest count fs steps = record {
 }
 
 -- no node is next: the innermost open thing ends, or a loop has its next turn
-abbrev pub next_turn : Machine → Data → Loop → List (Data × Data) → Spot → ℕ → List Frame → Advance
-next_turn m dot l [] rest count fs = moves (behind_control m (Some dot) rest count fs)
-next_turn m dot l (e ∷ es) rest count fs = on_steps (at_dot m.site dot) l.line (counted 1 m.state.steps) (λ steps. moves (turning m dot l e es rest count fs steps))
+abbrev pub next_turn : Machine → Data → Loop → List (Data × Data) → Spot → ℕ → List Frame → Progress
+next_turn m dot l [] rest count fs = continues (after_control m (Some dot) rest count fs)
+next_turn m dot l (e ∷ es) rest count fs = on_steps (at_dot m.site dot) l.line (counted 1 m.state.steps) (λ steps. continues (turning m dot l e es rest count fs steps))
 
-abbrev pub ended : Machine → List Frame → Advance
-ended m [] = halts m.state.steps
-ended m (part dot rest count ∷ fs) = moves (behind_control m dot rest count fs)
+abbrev pub ended : Machine → List Frame → Progress
+ended m [] = finishes m.state.steps
+ended m (part dot rest count ∷ fs) = continues (after_control m dot rest count fs)
 ended m (loop dot l rest count ∷ fs) = next_turn m dot l l.left rest count fs
-ended m (call caller line rest variables ∷ fs) = tells (given caller line leaves) (behind_call m caller rest variables fs)
+ended m (call caller line rest variables ∷ fs) = emits (emission caller line leaves) (after_call m caller rest variables fs)
 
 -- the machine after a part that a `break` or a `continue` leaves
 abbrev pub leaving : Machine → Option Data → ℕ → Machine
 leaving m dot count = record { site = back dot m.site; at = nowhere; state = cut_state count m.state; frames = []; calls = m.calls }
 
--- a `break` ends the innermost loop of this call
-abbrev pub broken_out : Machine → List Frame → Advance
-broken_out m [] = halts m.state.steps
-broken_out m (part dot rest count ∷ fs) = broken_out (leaving m dot count) fs
-broken_out m (loop dot l rest count ∷ fs) = moves (behind_control m (Some dot) rest count fs)
-broken_out m (call caller line rest variables ∷ fs) = tells (given caller line leaves) (behind_call m caller rest variables fs)
+-- the innermost loop of this call: it ends, or its turn does
+abbrev pub loop_left : Bool → Machine → Data → Loop → Spot → ℕ → List Frame → Progress
+loop_left true m dot l rest count fs = continues (after_control m (Some dot) rest count fs)
+loop_left false m dot l rest count fs = continues (record { site = m.site; at = nowhere; state = m.state; frames = loop dot l rest count ∷ fs; calls = m.calls })
 
--- a `continue` ends the turn of the innermost loop of this call
-abbrev pub continued_out : Machine → List Frame → Advance
-continued_out m [] = halts m.state.steps
-continued_out m (part dot rest count ∷ fs) = continued_out (leaving m dot count) fs
-continued_out m (loop dot l rest count ∷ fs) = moves (record { site = m.site; at = nowhere; state = m.state; frames = loop dot l rest count ∷ fs; calls = m.calls })
-continued_out m (call caller line rest variables ∷ fs) = tells (given caller line leaves) (behind_call m caller rest variables fs)
+-- a `break`, which ends the innermost loop of this call, or a `continue`, which ends its turn
+abbrev pub broken_off : Bool → Machine → List Frame → Progress
+broken_off ends m [] = finishes m.state.steps
+broken_off ends m (part dot rest count ∷ fs) = broken_off ends (leaving m dot count) fs
+broken_off ends m (loop dot l rest count ∷ fs) = loop_left ends m dot l rest count fs
+broken_off ends m (call caller line rest variables ∷ fs) = emits (emission caller line leaves) (after_call m caller rest variables fs)
 
 -- the machine with other nodes next, and another state
 abbrev pub moved : Machine → Spot → State → Machine
@@ -161,10 +160,10 @@ with_advance m true value first other rest state = opened m value (Some m.site.d
 with_advance m false value first other rest state = opened m m.site.dot None other rest (length m.state.variables) state
 
 -- a range: to its loop, whose first turn is next, or to its `else` part
-abbrev pub range_advance : Machine → Loop → Option (List (Data × Data)) → Spot → Spot → State → Advance
+abbrev pub range_advance : Machine → Loop → Option (List (Data × Data)) → Spot → Spot → State → Progress
 range_advance m l None other rest state = fails (fault_at m.site l.line NotRangeable)
-range_advance m l (Some []) other rest state = moves (opened m m.site.dot None other rest (length m.state.variables) state)
-range_advance m l (Some (e ∷ es)) other rest state = moves (record {
+range_advance m l (Some []) other rest state = continues (opened m m.site.dot None other rest (length m.state.variables) state)
+range_advance m l (Some (e ∷ es)) other rest state = continues (record {
   site = m.site;
   at = nowhere;
   state = state;
@@ -173,9 +172,9 @@ range_advance m l (Some (e ∷ es)) other rest state = moves (record {
 })
 
 -- a call, where one more may be open
-abbrev pub call_advance : ForestData → Machine → ℕ → ℕ → ℕ → List ℕ → Data → Spot → ℕ → Advance
+abbrev pub call_advance : ForestData → Machine → ℕ → ℕ → ℕ → List ℕ → Data → Spot → ℕ → Progress
 call_advance forest m zero n line name value rest steps = fails (fault_at m.site line Depth)
-call_advance forest m (suc more) n line name value rest steps = tells (given m.site line (enters n)) (record {
+call_advance forest m (suc more) n line name value rest steps = emits (emission m.site line (enters n)) (record {
   site = record { template = name; dot = value };
   at = spot 0 (nodes_of_tree (tree_named name forest));
   state = record { variables = ([], value) ∷ []; steps = steps };
@@ -184,32 +183,32 @@ call_advance forest m (suc more) n line name value rest steps = tells (given m.s
 })
 
 -- a node with its number and line, its two parts, what follows it, and the steps with its own
-abbrev pub node_advance : ForestData → Machine → ℕ → ℕ → NodeKind → Spot → Spot → Spot → State → Advance
-node_advance forest m n line (kind.Text bytes) first other rest state = tells (given m.site line (gives_text n)) (moved m rest state)
+abbrev pub node_advance : ForestData → Machine → ℕ → ℕ → NodeKind → Spot → Spot → Spot → State → Progress
+node_advance forest m n line (kind.Text bytes) first other rest state = emits (emission m.site line (gives_text n)) (moved m rest state)
 node_advance forest m n line (kind.Action pipe) first other rest state = on_value m.site line (evaluated m.site pipe state) (λ value steps.
-    tells (given m.site line (gives_hole n value)) (moved m rest (record { variables = state.variables; steps = steps })))
+    emits (emission m.site line (gives_hole n value)) (moved m rest (record { variables = state.variables; steps = steps })))
 node_advance forest m n line (kind.Declare name pipe) first other rest state = on_value m.site line (evaluated m.site pipe state) (λ value steps.
-    moves (moved m rest (record { variables = (name, value) ∷ state.variables; steps = steps })))
+    continues (moved m rest (record { variables = (name, value) ∷ state.variables; steps = steps })))
 node_advance forest m n line (kind.Assign name pipe) first other rest state = on_value m.site line (evaluated m.site pipe state) (λ value steps.
-    moves (moved m rest (record { variables = assigned name value state.variables; steps = steps })))
+    continues (moved m rest (record { variables = assigned name value state.variables; steps = steps })))
 node_advance forest m n line (kind.If name pipe) first other rest state = on_value m.site line (evaluated m.site pipe state) (λ value steps.
-    moves (if_advance m (truth_of value) first other rest (record { variables = declared name value state.variables; steps = steps })))
+    continues (if_advance m (truth_of value) first other rest (record { variables = declared name value state.variables; steps = steps })))
 node_advance forest m n line (kind.With name pipe) first other rest state = on_value m.site line (evaluated m.site pipe state) (λ value steps.
-    moves (with_advance m (truth_of value) value first other rest (record { variables = declared name value state.variables; steps = steps })))
+    continues (with_advance m (truth_of value) value first other rest (record { variables = declared name value state.variables; steps = steps })))
 node_advance forest m n line (kind.Range index element pipe) first other rest state = on_value m.site line (evaluated m.site pipe state) (λ value steps.
     range_advance m (record { line = line; index = index; element = element; first = first; left = [] }) (elements value) other rest (record { variables = state.variables; steps = steps }))
-node_advance forest m n line kind.Break first other rest state = broken_out (moved m nowhere state) m.frames
-node_advance forest m n line kind.Continue first other rest state = continued_out (moved m nowhere state) m.frames
+node_advance forest m n line kind.Break first other rest state = broken_off true (moved m nowhere state) m.frames
+node_advance forest m n line kind.Continue first other rest state = broken_off false (moved m nowhere state) m.frames
 node_advance forest m n line (kind.Template name pipe) first other rest state = on_value m.site line (argument m.site pipe state) (λ value steps.
     call_advance forest m m.calls n line name value rest steps)
 
-abbrev pub advanced : ForestData → Machine → ℕ → NodesData → Advance
+abbrev pub advanced : ForestData → Machine → ℕ → NodesData → Progress
 advanced forest m n no_nodes = ended m m.frames
 advanced forest m n (node kind line seams first other rest) = on_steps m.site line (counted 1 m.state.steps) (λ steps.
     node_advance forest m n line kind (spot (n + 1) first) (spot (n + 1 + nodes_size first) other) (spot (n + 1 + nodes_size first + nodes_size other) rest)
     (record { variables = m.state.variables; steps = steps }))
 
-abbrev pub advance : ForestData → Machine → Advance
+abbrev pub advance : ForestData → Machine → Progress
 advance forest m = advanced forest m m.at.number m.at.nodes
 
 -- before anything: the template with the datum

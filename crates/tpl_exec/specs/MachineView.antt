@@ -3,11 +3,13 @@ use Rattle.std.specs.Prelude.{◌≡◌, ℕ, ◌+◌, List, [], ◌∷◌, drop
 use Rattle.std.specs.Borrow.{Bor}
 use Rattle.page_datum.specs.Data.{Data}
 use Rattle.tpl_exec.specs.Elements.{all_elements}
-use Rattle.tpl_exec.specs.Functions.{Outcome}
-use Rattle.tpl_exec.specs.Machine.{Advance, Frame, Loop, Machine, Spot, advance, call, fails, halts, loop, moves, nowhere, on_value, part, spot, tells}
+use Rattle.tpl_eval.specs.Functions.{Outcome}
+use Rattle.tpl_exec.specs.Machine.{Progress, Frame, Loop, Machine, Spot, advance, call, fails, finishes, loop, continues, nowhere, on_value, part, spot, emits}
 use Rattle.tpl_exec.specs.Meaning.{elements, nodes_of_tree}
-use Rattle.tpl_exec.specs.Runs.{Event, Given, Site, State, enters, gives_hole, gives_text, leaves}
-use Rattle.tpl_exec.specs.Sights.{outer_view, stored_view, variables_view}
+use Rattle.tpl_events.specs.Events.{Event, Emission, enters, gives_hole, gives_text, leaves}
+use Rattle.tpl_exec.specs.Runs.{Site, State}
+use Rattle.tpl_eval.specs.Scopes.{stored_view, variables_view}
+use Rattle.tpl_exec.specs.Variables.{outer_view}
 use Rattle.tpl_exec.specs.declared.frame.Frame.{Frame as OpenFrame}
 use Rattle.tpl_exec.specs.declared.frame.Frame.TheVariants as frame
 use Rattle.tpl_exec.specs.declared.frame.OpenCall.{OpenCall}
@@ -15,14 +17,14 @@ use Rattle.tpl_exec.specs.declared.frame.OpenLoop.{OpenLoop}
 use Rattle.tpl_exec.specs.declared.machine.Machine.{Machine as CodeMachine}
 use Rattle.tpl_exec.specs.declared.node.Body.{Body}
 use Rattle.tpl_exec.specs.declared.node.Node.{Node}
-use Rattle.tpl_exec.specs.declared.sight.Stored.{Stored}
+use Rattle.tpl_eval.specs.declared.stored.Stored.{Stored}
 use Rattle.tpl_exec.specs.declared.stop.ExecStop.{ExecStop}
 use Rattle.tpl_exec.specs.declared.stop.ExecStop.TheVariants as stop
-use Rattle.tpl_exec.specs.declared.told.Advance.{Advance as CodeAdvance}
-use Rattle.tpl_exec.specs.declared.told.Advance.TheVariants as code
-use Rattle.tpl_exec.specs.declared.told.Event.{Event as CodeEvent}
-use Rattle.tpl_exec.specs.declared.told.Event.TheVariants as event
-use Rattle.tpl_exec.specs.declared.told.Told.{Told}
+use Rattle.tpl_exec.specs.declared.progress.Progress.{Progress as CodeProgress}
+use Rattle.tpl_exec.specs.declared.progress.Progress.TheVariants as code
+use Rattle.tpl_exec.specs.declared.progress.Event.{Event as CodeEvent}
+use Rattle.tpl_exec.specs.declared.progress.Event.TheVariants as event
+use Rattle.tpl_exec.specs.declared.progress.Emission.{Emission as CodeEmission}
 use Rattle.tpl_tree.specs.Forests.{ForestData}
 use Rattle.tpl_tree.specs.Trees.{NodesData, TreeData, head_seams, node, nodes_from, nodes_size, part_of, rest_of}
 
@@ -55,11 +57,11 @@ abbrev pub site_view : Body → Stored → Site
 site_view body dot = record { template = body.name.now; dot = stored_view dot }
 
 -- the elements that are left of a loop
-abbrev pub loop_left : OpenLoop → List (Data × Data)
-loop_left l = drop l.at (all_elements (elements (stored_view l.source)))
+abbrev pub elements_left : OpenLoop → List (Data × Data)
+elements_left l = drop l.at (all_elements (elements (stored_view l.source)))
 
 abbrev pub loop_view : NodesData → OpenLoop → Loop
-loop_view nodes l = record { line = l.turn.line; index = l.turn.index.now; element = l.turn.element.now; first = spot_at nodes l.turn.first; left = loop_left l }
+loop_view nodes l = record { line = l.header.line; index = l.header.index.now; element = l.header.element.now; first = spot_at nodes l.header.first; left = elements_left l }
 
 abbrev pub loop_frame : NodesData → OpenLoop → Frame
 loop_frame nodes l = loop (stored_view l.dot) (loop_view nodes l) (spot_at nodes l.next) l.count
@@ -87,9 +89,9 @@ machine_view m = record {
   calls = m.calls;
 }
 
--- a place in the body of a machine, its variables with other steps, and what is open
-abbrev pub place : CodeMachine → Option ℕ → Spot
-place m number = spot_at (body_nodes m.body) number
+-- a part in the body of a machine by its first node, its variables with other steps, and what is open
+abbrev pub spot_in : CodeMachine → Option ℕ → Spot
+spot_in m number = spot_at (body_nodes m.body) number
 
 abbrev pub stepped : CodeMachine → ℕ → State
 stepped m steps = record { variables = variables_view m.variables.items; steps = steps }
@@ -98,8 +100,8 @@ abbrev pub open_frames : CodeMachine → List Frame
 open_frames m = frames_view (body_nodes m.body) m.frames
 
 -- one advance
-abbrev pub next_advance : ForestData → CodeMachine → Advance
-next_advance forest m = advance forest (machine_view m)
+abbrev pub next_progress : ForestData → CodeMachine → Progress
+next_progress forest m = advance forest (machine_view m)
 
 abbrev pub event_view : CodeEvent → Event
 event_view (event.Text n) = gives_text n
@@ -107,26 +109,26 @@ event_view (event.Hole n value) = gives_hole n (stored_view value)
 event_view (event.Enter n) = enters n
 event_view event.Leave = leaves
 
-abbrev pub told_view : Told → Given
-told_view t = record { event = event_view t.event; template = t.template.now; line = t.line }
+abbrev pub emission_view : CodeEmission → Emission
+emission_view t = record { event = event_view t.event; template = t.template.now; line = t.line }
 
 -- an advance that fails, or out of memory
-abbrev pub FailsWith : Advance → ExecStop → Type 0
-FailsWith advance (stop.Fault why) = advance ≡ fails why
-FailsWith advance stop.SinkStop = ⊥
-FailsWith advance stop.Memory = ⊤
+abbrev pub FaultAnswers : Progress → ExecStop → Type 0
+FaultAnswers advance (stop.Fault why) = advance ≡ fails why
+FaultAnswers advance stop.SinkStop = ⊥
+FaultAnswers advance stop.Memory = ⊤
 
 -- what an advance gives, and the machine after it
-abbrev pub Advances : Advance → Result CodeAdvance ExecStop → Machine → Type 0
-Advances advance (Ok code.Moves) m = advance ≡ moves m
-Advances advance (Ok (code.Tells t)) m = advance ≡ tells (told_view t) m
-Advances advance (Ok code.Halts) m = advance ≡ halts m.state.steps
-Advances advance (Err why) m = FailsWith advance why
+abbrev pub ProgressAnswers : Progress → Result CodeProgress ExecStop → Machine → Type 0
+ProgressAnswers advance (Ok code.Continues) m = advance ≡ continues m
+ProgressAnswers advance (Ok (code.Emits t)) m = advance ≡ emits (emission_view t) m
+ProgressAnswers advance (Ok code.Finishes) m = advance ≡ finishes m.state.steps
+ProgressAnswers advance (Err why) m = FaultAnswers advance why
 
-abbrev pub IsAdvance : Advance → Result CodeAdvance ExecStop → CodeMachine → Type 0
-IsAdvance advance result m = Advances advance result (machine_view m)
+abbrev pub AdvanceAnswers : Progress → Result CodeProgress ExecStop → CodeMachine → Type 0
+AdvanceAnswers advance result m = ProgressAnswers advance result (machine_view m)
 
 -- a value and the steps up to there, or that the node of this line fails, whatever was to follow; or out of memory
-abbrev pub Evaluates : Site → ℕ → Outcome Data → Result (Stored × ℕ) ExecStop → Type 0
-Evaluates at line outcome (Ok v) = outcome ≡ Ok (stored_view v.0, v.1)
-Evaluates at line outcome (Err why) = (more : Data → ℕ → Advance) → FailsWith (on_value at line outcome more) why
+abbrev pub EvaluatedAnswers : Site → ℕ → Outcome Data → Result (Stored × ℕ) ExecStop → Type 0
+EvaluatedAnswers at line outcome (Ok v) = outcome ≡ Ok (stored_view v.0, v.1)
+EvaluatedAnswers at line outcome (Err why) = (more : Data → ℕ → Progress) → FaultAnswers (on_value at line outcome more) why

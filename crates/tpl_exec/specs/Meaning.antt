@@ -5,9 +5,10 @@ use Rattle.page_datum.specs.Data.{Data, null, int, text, list, dict, DataList, n
 use Rattle.page_datum.specs.declared.fault.ExecFault.{ExecFault}
 use Rattle.page_datum.specs.declared.fault.FaultKind.{FaultKind}
 use Rattle.page_datum.specs.declared.fault.FaultKind.TheVariants.{NotRangeable, Depth}
-use Rattle.tpl_exec.specs.Evaluating.{Variables, pipe_value}
-use Rattle.tpl_exec.specs.Functions.{Outcome, counted}
-use Rattle.tpl_exec.specs.Runs.{End, Run, Site, State, and_then, broken, choosing, continued, cut_state, done, else_part, ends, enters, fault, faulted, given, gives_hole, gives_text, giving, go_on, leaves, next, scoped, then_part, turn}
+use Rattle.tpl_eval.specs.Evaluating.{Variables, pipe_value}
+use Rattle.tpl_eval.specs.Functions.{Outcome, counted}
+use Rattle.tpl_events.specs.Events.{enters, gives_hole, gives_text, leaves}
+use Rattle.tpl_exec.specs.Runs.{End, Run, Site, State, and_then, broken, choosing, continued, cut_state, done, else_part, ends, fault, faulted, emission, emitting, go_on, next, scoped, then_part, turn}
 use Rattle.tpl_tree.specs.Forests.{ForestData, tree_named}
 use Rattle.tpl_tree.specs.Trees.{NodesData, no_nodes, node, TreeData, nodes_size}
 use Rattle.tpl_tree.specs.declared.node_kind.NodeKind.{NodeKind}
@@ -88,27 +89,27 @@ abbrev pub parted : Bool → (State → Run) → (State → Run) → State → R
 parted true first other state = choosing then_part (first state)
 parted false first other state = choosing else_part (other state)
 
--- what a template by a name does with a datum, given the steps up to there; none where no more calls may be open
+-- what a template by a name does with a datum, emission the steps up to there; none where no more calls may be open
 abbrev pub Calls : Type 0
 Calls = List ℕ → Data → ℕ → Result Run FaultKind
 
 -- the end of a call: it is left, and the caller has its own variables again; a fault does not leave it
 abbrev pub returned : Site → ℕ → Variables → End → Run
-returned at line outer (next state) = giving (given at line leaves) (ends (next (record { variables = outer; steps = state.steps })))
-returned at line outer (broken state) = giving (given at line leaves) (ends (next (record { variables = outer; steps = state.steps })))
-returned at line outer (continued state) = giving (given at line leaves) (ends (next (record { variables = outer; steps = state.steps })))
+returned at line outer (next state) = emitting (emission at line leaves) (ends (next (record { variables = outer; steps = state.steps })))
+returned at line outer (broken state) = emitting (emission at line leaves) (ends (next (record { variables = outer; steps = state.steps })))
+returned at line outer (continued state) = emitting (emission at line leaves) (ends (next (record { variables = outer; steps = state.steps })))
 returned at line outer (faulted why) = ends (faulted why)
 
 -- a call: its events stand between that it is entered and that it is left
 abbrev pub entered : Site → ℕ → ℕ → Variables → Result Run FaultKind → Run
-entered at n line outer (Ok run) = giving (given at line (enters n)) (go_on (returned at line outer) run)
+entered at n line outer (Ok run) = emitting (emission at line (enters n)) (go_on (returned at line outer) run)
 entered at n line outer (Err kind) = fault at line kind
 
 -- a node with its number and line, and what its two parts do at a dot
 abbrev pub node_run : Calls → Site → ℕ → ℕ → NodeKind → (Data → State → Run) → (Data → State → Run) → State → Run
-node_run calls at n line (kind.Text bytes) first other state = giving (given at line (gives_text n)) (ends (next state))
+node_run calls at n line (kind.Text bytes) first other state = emitting (emission at line (gives_text n)) (ends (next state))
 node_run calls at n line (kind.Action pipe) first other state = with_value at line (evaluated at pipe state) (λ value steps.
-    giving (given at line (gives_hole n value)) (ends (next (record { variables = state.variables; steps = steps }))))
+    emitting (emission at line (gives_hole n value)) (ends (next (record { variables = state.variables; steps = steps }))))
 node_run calls at n line (kind.Declare name pipe) first other state = with_value at line (evaluated at pipe state) (λ value steps.
     ends (next (record { variables = (name, value) ∷ state.variables; steps = steps })))
 node_run calls at n line (kind.Assign name pipe) first other state = with_value at line (evaluated at pipe state) (λ value steps.
@@ -125,7 +126,7 @@ node_run calls at n line kind.Continue first other state = ends (continued state
 node_run calls at n line (kind.Template name pipe) first other state = with_value at line (argument at pipe state) (λ value steps.
     entered at n line state.variables (calls name value steps))
 
--- the same place with another dot
+-- the same site with another dot
 abbrev pub at_dot : Site → Data → Site
 at_dot at dot = record { template = at.template; dot = dot }
 

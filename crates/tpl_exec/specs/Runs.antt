@@ -1,28 +1,10 @@
 -- What happens when nodes are executed: events, choices, and how they end.
 use Rattle.std.specs.Prelude.{ℕ, ◌-◌, List, [], ◌∷◌, ◌++◌, length, drop}
 use Rattle.page_datum.specs.Data.{Data}
-use Rattle.page_datum.specs.View.{view}
-use Rattle.page_datum.specs.declared.datum.Datum.{Datum}
 use Rattle.page_datum.specs.declared.fault.ExecFault.{ExecFault}
 use Rattle.page_datum.specs.declared.fault.FaultKind.{FaultKind}
-use Rattle.tpl_exec.specs.Evaluating.{Variables}
-
--- What is given to the page: a text by its node, a hole by its node and its value, a call by its node, and the end of a call. Nodes
--- have the numbers that they have in their own tree.
-pub data Event : Type 0 where
-  gives_text : ℕ → Event
-  gives_hole : ℕ → Data → Event
-  enters : ℕ → Event
-  leaves : Event
-
-abbrev pub fills : ℕ → Datum → Event
-fills n datum = gives_hole n (view datum)
-
--- an event, and the template and the line of its node, which for the end of a call is the call
-pub record Given : Type 0 where
-  pub event : Event
-  pub template : List ℕ
-  pub line : ℕ
+use Rattle.tpl_eval.specs.Evaluating.{Variables}
+use Rattle.tpl_events.specs.Events.{Event, Emission}
 
 -- What is chosen: the first part of an `if` or `with`, or its `else` part, also where none is written; one more turn of a range, or
 -- that it is done, also where there is nothing to go over.
@@ -46,14 +28,9 @@ pub data End : Type 0 where
 
 -- the events and the choices in their order, and the end
 pub record Run : Type 0 where
-  pub events : List Given
+  pub events : List Emission
   pub choices : List Choice
   pub end : End
-
--- the events alone
-abbrev pub events_of : List Given → List Event
-events_of [] = []
-events_of (g ∷ gs) = g.event ∷ events_of gs
 
 -- where nodes stand: their template, by its name, and dot
 pub record Site : Type 0 where
@@ -65,15 +42,15 @@ abbrev pub ends : End → Run
 ends end = record { events = []; choices = []; end = end }
 
 -- a run with one more event before it, or one more choice
-abbrev pub giving : Given → Run → Run
-giving event run = record { events = event ∷ run.events; choices = run.choices; end = run.end }
+abbrev pub emitting : Emission → Run → Run
+emitting event run = record { events = event ∷ run.events; choices = run.choices; end = run.end }
 
 abbrev pub choosing : Choice → Run → Run
 choosing choice run = record { events = run.events; choices = choice ∷ run.choices; end = run.end }
 
 -- an event of a node of this line
-abbrev pub given : Site → ℕ → Event → Given
-given at line event = record { event = event; template = at.template; line = line }
+abbrev pub emission : Site → ℕ → Event → Emission
+emission at line event = record { event = event; template = at.template; line = line }
 
 -- a fault of a node of this line
 abbrev pub fault_at : Site → ℕ → FaultKind → ExecFault
@@ -83,12 +60,12 @@ abbrev pub fault : Site → ℕ → FaultKind → Run
 fault at line kind = ends (faulted (fault_at at line kind))
 
 -- a run after these events and choices
-abbrev pub behind : List Given → List Choice → Run → Run
-behind events choices run = record { events = events ++ run.events; choices = choices ++ run.choices; end = run.end }
+abbrev pub after : List Emission → List Choice → Run → Run
+after events choices run = record { events = events ++ run.events; choices = choices ++ run.choices; end = run.end }
 
 -- a run, and what its end leads to
 abbrev pub go_on : (End → Run) → Run → Run
-go_on more run = behind run.events run.choices (more run.end)
+go_on more run = after run.events run.choices (more run.end)
 
 -- what follows where nothing broke off
 abbrev pub if_next : (State → Run) → End → Run
@@ -101,7 +78,7 @@ if_next more (faulted why) = ends (faulted why)
 abbrev pub and_then : Run → (State → Run) → Run
 and_then run more = go_on (if_next more) run
 
--- Behind a part only so many variables remain, the oldest ones, with the values that they have by then.
+-- After a part only so many variables remain, the oldest ones, with the values that they have by then.
 abbrev pub cut : ℕ → Variables → Variables
 cut count variables = drop (length variables - count) variables
 

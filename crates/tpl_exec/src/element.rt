@@ -4,20 +4,20 @@ ghost use Rattle.tpl_exec.specs.Elements.{elements_in, elements_of, index_view};
 ghost use Rattle.tpl_exec.specs.Elements.{some_elements, IsElement, IsPart};
 ghost use Rattle.tpl_exec.specs.Meaning.{elements};
 
-use crate::sight::Stored;
 use page_datum::Datum;
 use page_io::{Memory, Text};
 use std::alloc::Global;
+use tpl_eval::Stored;
 
 /// An element of what a range goes over, with its index.
-#[derive(Debug, Drop)]
+#[derive(Drop)]
 pub(crate) struct Element<'d, 'a> {
     pub(crate) index: Index<'a>,
     pub(crate) value: Stored<'d>,
 }
 
 /// The index of an element: its number in a list, or its key in a dictionary.
-#[derive(Clone, Copy, Debug, Drop)]
+#[derive(Clone, Copy, Drop)]
 pub(crate) enum Index<'a> {
     Number(i64),
     Key(&'a Text),
@@ -43,7 +43,7 @@ pub(crate) fn element_at<'d, 'a>(
         Stored::Made(datum) => match part_at(datum, at) {
             Some((index, value)) => Ok(Some(Element {
                 index,
-                value: Stored::Made(value.copy(alloc)?),
+                value: Stored::made(alloc, value.copy(alloc)?)?,
             })),
             None => Ok(None),
         },

@@ -1,16 +1,17 @@
 ghost use Rattle.std.specs.Prelude.{◌≡◌, ◌<◌, length, OnOk, IfErr, IfOk};
 ghost use Rattle.page_datum.specs.View.{view};
-ghost use Rattle.tpl_exec.specs.Executing.{Allows, ExecutesRoot, run_of};
-ghost use Rattle.tpl_exec.specs.MachineView.{event_view, next_advance, told_view};
-ghost use Rattle.tpl_exec.specs.Steps.{IsStep, IsTold, MayTell, RefusedAs};
+ghost use Rattle.tpl_events.specs.Sinks.{Allows};
+ghost use Rattle.tpl_exec.specs.Executing.{ExecuteAnswers, run_of};
+ghost use Rattle.tpl_exec.specs.MachineView.{event_view, next_progress, emission_view};
+ghost use Rattle.tpl_exec.specs.Steps.{StepAnswers, EmitAnswers, MayEmit, RefusedAnswers};
 
 use crate::machine::Machine;
-use crate::sink::{HoleSink, HoleStop};
+use crate::progress::{Emission, Event, Progress};
 use crate::stop::ExecStop;
-use crate::told::{Advance, Event, Told};
 use page_datum::{Datum, ExecFault, FaultKind};
 use page_io::{Memory, Text};
 use std::alloc::Global;
+use tpl_events::{HoleSink, HoleStop};
 use tpl_tree::Forest;
 
 /// Executes a template of a forest, by its number, with a datum, and answers the steps. Its events are given to the sink
@@ -30,7 +31,7 @@ pub fn execute<'d, K: HoleSink>(
 ) -> Result<u64, ExecStop>
     requires root { root < length forest.now }
     requires may { Allows K.may K.takes sink.old (run_of forest.now root datum.now).events }
-    ensures { ExecutesRoot K.takes K.refuses forest.now root datum.now sink.old sink.new result }
+    ensures { ExecuteAnswers K.takes K.refuses forest.now root datum.now sink.old sink.new result }
 {
     let mut machine = match Machine::start(alloc, forest, forest.name(root), datum) {
         Ok(machine) => machine,
@@ -48,17 +49,17 @@ pub fn execute<'d, K: HoleSink>(
 // One advance of the machine, whose event the sink is given. Whether it goes on.
 fn step<'d, K: HoleSink>(
     alloc: Global,
-    machine: &mut Machine<'d>,
+    run: &mut Machine<'d>,
     forest: &'d Forest,
     sink: &mut K,
 ) -> Result<bool, ExecStop>
-    requires { MayTell K.may (next_advance forest.now machine.old) sink.old }
-    ensures { IsStep K.takes K.refuses forest.now machine.old sink.old result machine.new sink.new }
+    requires { MayEmit K.may (next_progress forest.now run.old) sink.old }
+    ensures { StepAnswers K.takes K.refuses forest.now run.old sink.old result run.new sink.new }
 {
-    match machine.advance(alloc, forest) {
-        Ok(Advance::Moves) => Ok(true),
-        Ok(Advance::Halts) => Ok(false),
-        Ok(Advance::Tells(told)) => match tell(alloc, sink, &told) {
+    match run.advance(alloc, forest) {
+        Ok(Progress::Continues) => Ok(true),
+        Ok(Progress::Finishes) => Ok(false),
+        Ok(Progress::Emits(emission)) => match emit(alloc, sink, &emission) {
             Ok(()) => Ok(true),
             Err(stop) => Err(stop),
         },
@@ -66,14 +67,14 @@ fn step<'d, K: HoleSink>(
     }
 }
 
-// Tells a sink an event.
-fn tell<K: HoleSink>(alloc: Global, sink: &mut K, told: &Told<'_>) -> Result<(), ExecStop>
-    requires { K.may sink.old (told_view told.now).event }
-    ensures { IsTold K.takes K.refuses (told_view told.now) sink.old result sink.new }
+// Gives a sink an event, and says why the execution stops where it refuses it.
+fn emit<K: HoleSink>(alloc: Global, sink: &mut K, emission: &Emission<'_>) -> Result<(), ExecStop>
+    requires { K.may sink.old (emission_view emission.now).event }
+    ensures { EmitAnswers K.takes K.refuses (emission_view emission.now) sink.old result sink.new }
 {
-    match give(sink, &told.event) {
+    match give(sink, &emission.event) {
         Ok(()) => Ok(()),
-        Err(stop) => Err(refused(alloc, told, stop)),
+        Err(stop) => Err(refused(alloc, emission, stop)),
     }
 }
 
@@ -95,16 +96,16 @@ fn give<K: HoleSink>(sink: &mut K, event: &Event<'_>) -> Result<(), HoleStop>
 }
 
 // Why an execution stopped where its sink refused an event.
-fn refused(alloc: Global, told: &Told<'_>, stop: HoleStop) -> ExecStop
-    ensures { RefusedAs (told_view told.now) stop result }
+fn refused(alloc: Global, emission: &Emission<'_>, stop: HoleStop) -> ExecStop
+    ensures { RefusedAnswers (emission_view emission.now) stop result }
 {
     match stop {
         HoleStop::SinkStop => ExecStop::SinkStop,
-        HoleStop::TooLong => match Text::copy_of(alloc, told.template) {
+        HoleStop::TooLong => match Text::copy_of(alloc, emission.template) {
             Ok(template) => ExecStop::Fault(ExecFault {
                 kind: FaultKind::TooLong,
                 template,
-                line: told.line,
+                line: emission.line,
             }),
             Err(Memory) => ExecStop::Memory,
         },

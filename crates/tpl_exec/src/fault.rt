@@ -1,5 +1,5 @@
 ghost use Rattle.tpl_exec.specs.Machine.{fails_so};
-ghost use Rattle.tpl_exec.specs.MachineView.{FailsWith};
+ghost use Rattle.tpl_exec.specs.MachineView.{FaultAnswers};
 
 use crate::stop::ExecStop;
 use page_datum::{ExecFault, FaultKind};
@@ -10,7 +10,7 @@ use std::alloc::Global;
 #[cold]
 #[inline(never)]
 pub(crate) fn fault(alloc: Global, template: &str, line: u32, kind: FaultKind) -> ExecStop
-    ensures { FailsWith (fails_so template.now line kind) result }
+    ensures { FaultAnswers (fails_so template.now line kind) result }
 {
     match Text::copy_of(alloc, template) {
         Ok(template) => ExecStop::Fault(ExecFault {

@@ -1,13 +1,13 @@
 ghost use Rattle.std.specs.Prelude.{◌≡◌, IfOk};
-ghost use Rattle.tpl_exec.specs.Sights.{dot_view, outer_view};
+ghost use Rattle.tpl_exec.specs.Variables.{dot_view, outer_view};
 
 use crate::node::Body;
-use crate::sight::{Stored, Variable};
 use page_io::{Memory, Text};
 use std::alloc::Global;
+use tpl_eval::{Stored, Variable};
 
 /// A control whose part is executed.
-#[derive(Debug, Drop)]
+#[derive(Drop)]
 pub(crate) struct OpenPart<'d> {
     /// The dot that holds after it, where it is another one.
     pub(crate) dot: Option<Box<Stored<'d>>>,
@@ -17,9 +17,9 @@ pub(crate) struct OpenPart<'d> {
     pub(crate) count: usize,
 }
 
-/// What a turn of a range is.
-#[derive(Clone, Copy, Debug, Drop)]
-pub(crate) struct Turn<'d> {
+/// What all turns of a range have alike.
+#[derive(Clone, Copy, Drop)]
+pub(crate) struct LoopHeader<'d> {
     /// The line of the range.
     pub(crate) line: u32,
     /// The names of its variables.
@@ -30,11 +30,11 @@ pub(crate) struct Turn<'d> {
 }
 
 /// A range whose turns go on.
-#[derive(Debug, Drop)]
+#[derive(Drop)]
 pub(crate) struct OpenLoop<'d> {
     /// The dot that holds after it.
     pub(crate) dot: Stored<'d>,
-    pub(crate) turn: Turn<'d>,
+    pub(crate) header: LoopHeader<'d>,
     /// What is gone over.
     pub(crate) source: Stored<'d>,
     /// How many of its elements are gone.
@@ -46,7 +46,7 @@ pub(crate) struct OpenLoop<'d> {
 }
 
 /// The caller of a template that is executed.
-#[derive(Debug, Drop)]
+#[derive(Drop)]
 pub(crate) struct OpenCall<'d> {
     pub(crate) body: Body<'d>,
     pub(crate) dot: Stored<'d>,
@@ -58,21 +58,21 @@ pub(crate) struct OpenCall<'d> {
 }
 
 /// What is open. It is small, since it is moved when it is put on a stack and when it is taken off.
-#[derive(Debug, Drop)]
+#[derive(Drop)]
 pub(crate) enum Frame<'d> {
     Part(OpenPart<'d>),
     Loop(Box<OpenLoop<'d>>),
     Call(Box<OpenCall<'d>>),
 }
 
-/// A value in a place of its own. The error is out of memory.
+/// A value in a box of its own. The error is out of memory.
 pub(crate) fn boxed<T: Drop>(alloc: Global, value: T) -> Result<Box<T>, Memory>
-    ensures { IfOk result (λ place. place.value ≡ value) }
+    ensures { IfOk result (λ box. box.value ≡ value) }
 {
     Ok(Box::new(alloc, value)?)
 }
 
-/// A dot out of the place that it has, where there is one.
+/// A dot out of its box, where there is one.
 pub(crate) fn unboxed<'d>(dot: Option<Box<Stored<'d>>>) -> Option<Stored<'d>>
     ensures { dot_view result ≡ outer_view dot.entry }
 {

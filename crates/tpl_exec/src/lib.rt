@@ -1,32 +1,19 @@
-// The execution of templates: what pipes give, and what templates do with data.
+// The execution of templates: the events that a template gives with data, to a sink.
 #![tactic(auto)]
 
-mod call;
-mod compare;
 mod element;
 mod exec;
 mod fault;
 mod frame;
-mod list_sink;
+mod into_list;
 mod machine;
-mod make;
 mod node;
-mod pipe;
-mod scope;
-mod sight;
-mod sink;
-mod stack;
-mod steps;
+mod progress;
 mod stop;
-mod stored;
-mod told;
-mod value;
+mod variables;
 
 pub use exec::execute;
-pub use list_sink::{Kept, ListSink};
-pub use pipe::evaluate;
-pub use sight::{Sight, Stored, Variable};
-pub use sink::{HoleSink, HoleStop};
-pub use steps::MAX_STEPS;
+pub use into_list::execute_into;
 pub use stop::ExecStop;
-pub use value::Value;
+pub use tpl_eval::{MAX_STEPS, Scope, Stored, Value, Variable, evaluate};
+pub use tpl_events::{HoleSink, HoleStop, Kept, ListSink};

@@ -4,19 +4,15 @@ ghost use Rattle.tpl_exec.specs.OpenCalls.{open_calls};
 
 use crate::element::{element_at, has_elements};
 use crate::fault::fault;
-use crate::frame::{Frame, OpenCall, OpenLoop, OpenPart, Turn, boxed, unboxed};
+use crate::frame::{Frame, LoopHeader, OpenCall, OpenLoop, OpenPart, boxed, unboxed};
 use crate::node::{Body, Node, body_named, first_of, node_at};
-use crate::pipe::{evaluate, is_dot};
-use crate::scope::{assign, count, cut, declare, declare_index, push, root_variable};
-use crate::sight::{Sight, Stored, Variable};
-use crate::stack::Stack;
-use crate::steps::{MAX_STEPS, counted};
+use crate::progress::{Emission, Event, Progress};
 use crate::stop::ExecStop;
-use crate::stored::{copy_of, datum_of, stored};
-use crate::told::{Advance, Event, Told};
+use crate::variables::{assign, count, cut, declare, declare_index, push, root_variable};
 use page_datum::{Datum, FaultKind, ValueStop};
-use page_io::{Memory, Text};
+use page_io::{Memory, Stack, Text};
 use std::alloc::Global;
+use tpl_eval::{MAX_STEPS, Scope, Stored, Variable, counted, evaluate, is_dot};
 use tpl_tree::{Forest, NodeKind, Pipe};
 use tpl_value::truth;
 
@@ -24,7 +20,7 @@ use tpl_value::truth;
 pub const MAX_CALLS: u32 = 256;
 
 /// The execution of a template, one node at a time: what is open stands in a stack.
-#[derive(Debug, Drop)]
+#[derive(Drop)]
 pub(crate) struct Machine<'d> {
     /// The body that is executed.
     body: Body<'d>,
@@ -43,15 +39,16 @@ pub(crate) struct Machine<'d> {
 
 impl<'d> Machine<'d> {
     ghost use Rattle.std.specs.Prelude.{◌≡◌, ◌<◌, IfOk, Ok};
-    ghost use Rattle.tpl_exec.specs.MachineCalls.{break_of, call_left, continue_of, control_left};
-    ghost use Rattle.tpl_exec.specs.MachineCalls.{end_of, if_of, loop_left_by, node_of};
-    ghost use Rattle.tpl_exec.specs.MachineCalls.{part_left, part_of, start_of};
-    ghost use Rattle.tpl_exec.specs.MachineCalls.{told_of, turn_of, GivesArgument, GivesPipe};
-    ghost use Rattle.tpl_exec.specs.MachineCalls.{IsCall, IsRange, IsWith};
-    ghost use Rattle.tpl_exec.specs.MachineView.{IsAdvance, machine_view, next_advance};
+    ghost use Rattle.tpl_exec.specs.MachineCalls.{after_loop_of, broken_off_of, call_left};
+    ghost use Rattle.tpl_exec.specs.MachineCalls.{control_left, emitted_of, end_of, if_of};
+    ghost use Rattle.tpl_exec.specs.MachineCalls.{loop_left_of, node_of, part_left, part_of};
+    ghost use Rattle.tpl_exec.specs.MachineCalls.{start_of, turn_of};
+    ghost use Rattle.tpl_exec.specs.MachineCalls.{ArgumentAnswers, CallAnswers, PipeAnswers};
+    ghost use Rattle.tpl_exec.specs.MachineCalls.{RangeAnswers, WithAnswers};
+    ghost use Rattle.tpl_exec.specs.MachineView.{AdvanceAnswers, machine_view, next_progress};
 
-    // Behind a control.
-    fn behind_control(&mut self, dot: Option<Stored<'d>>, next: Option<u32>, count: usize)
+    // After a control.
+    fn after_control(&mut self, dot: Option<Stored<'d>>, next: Option<u32>, count: usize)
         ensures { machine_view self.new ≡ control_left self.old dot.entry next count }
     {
         if let Some(dot) = dot {
@@ -61,18 +58,18 @@ impl<'d> Machine<'d> {
         cut(&mut self.variables, count);
     }
 
-    // Behind a part of a control, with what is next there.
-    fn behind_part(&mut self, part: OpenPart<'d>, next: Option<u32>)
+    // After a part of a control, with what is next there.
+    fn after_part(&mut self, part: OpenPart<'d>, next: Option<u32>)
         ensures { machine_view self.new ≡ part_left self.old part.entry next }
     {
         let OpenPart { dot, count, .. } = part;
         let dot = unboxed(dot);
-        self.behind_control(dot, next, count);
+        self.after_control(dot, next, count);
     }
 
-    // Behind a loop.
-    fn behind_loop(&mut self, inner: Box<OpenLoop<'d>>)
-        ensures { machine_view self.new ≡ loop_left_by self.old inner.entry.value }
+    // After a loop.
+    fn after_loop(&mut self, inner: Box<OpenLoop<'d>>)
+        ensures { machine_view self.new ≡ after_loop_of self.old inner.entry.value }
     {
         let OpenLoop {
             dot,
@@ -80,20 +77,20 @@ impl<'d> Machine<'d> {
             count,
             ..
         } = Box::into_inner(inner);
-        self.behind_control(Some(dot), next, count);
+        self.after_control(Some(dot), next, count);
     }
 
-    // Behind a call that was taken off what is open.
-    fn behind_call(&mut self, call: OpenCall<'d>) -> Advance<'d>
+    // After a call that was taken off what is open.
+    fn after_call(&mut self, call: OpenCall<'d>) -> Progress<'d>
         requires { self.now.calls + open_calls self.now.frames < max_calls }
-        ensures { IsAdvance (call_left self.old call.entry) (Ok result) self.new }
+        ensures { AdvanceAnswers (call_left self.old call.entry) (Ok result) self.new }
     {
         self.body = call.body;
         self.node = call.next;
         self.dot = call.dot;
         self.variables = call.variables;
         self.calls += 1;
-        Advance::Tells(Told {
+        Progress::Emits(Emission {
             event: Event::Leave,
             template: call.body.name,
             line: call.line,
@@ -106,85 +103,82 @@ impl<'d> Machine<'d> {
         &mut self,
         alloc: Global,
         inner: Box<OpenLoop<'d>>,
-    ) -> Result<Advance<'d>, ExecStop>
-        ensures { IsAdvance (turn_of self.old inner.entry.value) result self.new }
+    ) -> Result<Progress<'d>, ExecStop>
+        ensures { AdvanceAnswers (turn_of self.old inner.entry.value) result self.new }
     {
         let mut inner = inner;
         let element = match element_at(alloc, &inner.source, inner.at)? {
             Some(element) => element,
             None => {
-                self.behind_loop(inner);
-                return Ok(Advance::Moves);
+                self.after_loop(inner);
+                return Ok(Progress::Continues);
             }
         };
         let steps = match counted(1, self.steps) {
             Ok(steps) => steps,
-            Err(kind) => return Err(fault(alloc, self.body.name, inner.turn.line, kind)),
+            Err(kind) => return Err(fault(alloc, self.body.name, inner.header.line, kind)),
         };
         cut(&mut self.variables, inner.count);
-        declare_index(alloc, &mut self.variables, inner.turn.index, element.index)?;
+        declare_index(
+            alloc,
+            &mut self.variables,
+            inner.header.index,
+            element.index,
+        )?;
         declare(
             alloc,
             &mut self.variables,
-            inner.turn.element,
+            inner.header.element,
             &element.value,
         )?;
-        self.node = inner.turn.first;
+        self.node = inner.header.first;
         self.dot = element.value;
         self.steps = steps;
         inner.at += 1;
         self.frames.push(Frame::Loop(inner))?;
-        Ok(Advance::Moves)
+        Ok(Progress::Continues)
     }
 
     // No node is next: the innermost open thing ends, or a loop has its next turn.
     #[inline(always)]
-    fn ended(&mut self, alloc: Global) -> Result<Advance<'d>, ExecStop>
-        ensures { IsAdvance (end_of self.old) result self.new }
+    fn ended(&mut self, alloc: Global) -> Result<Progress<'d>, ExecStop>
+        ensures { AdvanceAnswers (end_of self.old) result self.new }
     {
         match self.frames.pop() {
-            None => Ok(Advance::Halts),
+            None => Ok(Progress::Finishes),
             Some(Frame::Part(part)) => {
                 let next = part.next;
-                self.behind_part(part, next);
-                Ok(Advance::Moves)
+                self.after_part(part, next);
+                Ok(Progress::Continues)
             }
             Some(Frame::Loop(inner)) => self.next_turn(alloc, inner),
-            Some(Frame::Call(call)) => Ok(self.behind_call(Box::into_inner(call))),
+            Some(Frame::Call(call)) => Ok(self.after_call(Box::into_inner(call))),
         }
     }
 
-    // A `break` ends the innermost loop of this call.
-    fn broken_out(&mut self) -> Result<Advance<'d>, ExecStop>
-        ensures { IsAdvance (break_of self.old) result self.new }
+    // The innermost loop, which was taken off what is open, ends, or its turn does.
+    fn loop_left(&mut self, ends: bool, inner: Box<OpenLoop<'d>>) -> Result<Progress<'d>, ExecStop>
+        ensures { AdvanceAnswers (loop_left_of ends self.old inner.entry.value) result self.new }
     {
-        loop {
-            match self.frames.pop() {
-                None => return Ok(Advance::Halts),
-                Some(Frame::Part(part)) => self.behind_part(part, None),
-                Some(Frame::Loop(inner)) => {
-                    self.behind_loop(inner);
-                    return Ok(Advance::Moves);
-                }
-                Some(Frame::Call(call)) => return Ok(self.behind_call(Box::into_inner(call))),
-            }
+        if ends {
+            self.after_loop(inner);
+            return Ok(Progress::Continues);
         }
+        self.node = None;
+        self.frames.push(Frame::Loop(inner))?;
+        Ok(Progress::Continues)
     }
 
-    // A `continue` ends the turn of the innermost loop of this call.
-    fn continued_out(&mut self) -> Result<Advance<'d>, ExecStop>
-        ensures { IsAdvance (continue_of self.old) result self.new }
+    // A `break` ends the innermost loop of this call, a `continue` its turn.
+    fn broken_off(&mut self, ends: bool) -> Result<Progress<'d>, ExecStop>
+        ensures { AdvanceAnswers (broken_off_of ends self.old) result self.new }
     {
         loop {
             match self.frames.pop() {
-                None => return Ok(Advance::Halts),
-                Some(Frame::Part(part)) => self.behind_part(part, None),
-                Some(Frame::Loop(inner)) => {
-                    self.node = None;
-                    self.frames.push(Frame::Loop(inner))?;
-                    return Ok(Advance::Moves);
-                }
-                Some(Frame::Call(call)) => return Ok(self.behind_call(Box::into_inner(call))),
+                None => return Ok(Progress::Finishes),
+                Some(Frame::Part(part)) => self.after_part(part, None),
+                Some(Frame::Loop(inner)) => return self.loop_left(ends, inner),
+                Some(Frame::Call(call)) => return Ok(self.after_call(Box::into_inner(call))),
             }
         }
     }
@@ -198,7 +192,7 @@ impl<'d> Machine<'d> {
         pipe: &Pipe,
         steps: u64,
     ) -> Result<(Stored<'d>, u64), ExecStop>
-        ensures { GivesPipe self.now line pipe.now steps result }
+        ensures { PipeAnswers self.now line pipe.now steps result }
     {
         if steps < MAX_STEPS && is_dot(pipe) {
             if let Stored::Data(datum) = &self.dot {
@@ -217,14 +211,14 @@ impl<'d> Machine<'d> {
         pipe: &Pipe,
         steps: u64,
     ) -> Result<(Stored<'d>, u64), ExecStop>
-        ensures { GivesPipe self.now line pipe.now steps result }
+        ensures { PipeAnswers self.now line pipe.now steps result }
     {
-        let sight = Sight {
+        let scope = Scope {
             dot: &self.dot,
             variables: self.variables.as_slice(),
         };
-        match evaluate(alloc, sight, pipe, steps) {
-            Ok((value, steps)) => Ok((stored(alloc, value)?, steps)),
+        match evaluate(alloc, scope, pipe, steps) {
+            Ok((value, steps)) => Ok((value.into_stored(alloc)?, steps)),
             Err(ValueStop::Fault(kind)) => Err(fault(alloc, self.body.name, line, kind)),
             Err(ValueStop::Memory) => Err(ExecStop::Memory),
         }
@@ -238,19 +232,19 @@ impl<'d> Machine<'d> {
         pipe: &Option<Pipe>,
         steps: u64,
     ) -> Result<(Stored<'d>, u64), ExecStop>
-        ensures { GivesArgument self.now line pipe.now steps result }
+        ensures { ArgumentAnswers self.now line pipe.now steps result }
     {
         match pipe {
             Some(pipe) => self.evaluated(alloc, line, pipe, steps),
-            None => Ok((Stored::Made(Datum::Null), steps)),
+            None => Ok((Stored::made(alloc, Datum::Null)?, steps)),
         }
     }
 
     // An event of a node of this body.
-    fn told(&self, line: u32, event: Event<'d>) -> Advance<'d>
-        ensures { IsAdvance (told_of self.now line event.entry) (Ok result) self.now }
+    fn emitted(&self, line: u32, event: Event<'d>) -> Progress<'d>
+        ensures { AdvanceAnswers (emitted_of self.now line event.entry) (Ok result) self.now }
     {
-        Advance::Tells(Told {
+        Progress::Emits(Emission {
             event,
             template: self.body.name,
             line,
@@ -264,8 +258,8 @@ impl<'d> Machine<'d> {
         part: Option<u32>,
         next: Option<u32>,
         count: usize,
-    ) -> Result<Advance<'d>, ExecStop>
-        ensures { IsAdvance (part_of self.old outer.entry part next count) result self.new }
+    ) -> Result<Progress<'d>, ExecStop>
+        ensures { AdvanceAnswers (part_of self.old outer.entry part next count) result self.new }
     {
         self.node = part;
         self.frames.push(Frame::Part(OpenPart {
@@ -273,7 +267,7 @@ impl<'d> Machine<'d> {
             next,
             count,
         }))?;
-        Ok(Advance::Moves)
+        Ok(Progress::Continues)
     }
 
     // An `if` with its value.
@@ -283,14 +277,12 @@ impl<'d> Machine<'d> {
         node: Node<'d>,
         name: &'d Option<Text>,
         value: Stored<'d>,
-        steps: u64,
-    ) -> Result<Advance<'d>, ExecStop>
-        ensures { IsAdvance (if_of self.old node.entry name.now value.entry steps) result self.new }
+    ) -> Result<Progress<'d>, ExecStop>
+        ensures { AdvanceAnswers (if_of self.old node.entry name.now value.entry) result self.new }
     {
-        self.steps = steps;
         let count = count(self.variables.as_slice());
         declare(alloc, &mut self.variables, name, &value)?;
-        if truth(datum_of(&value)) {
+        if truth(value.datum()) {
             return self.opened(None, node.first, node.next, count);
         }
         self.opened(None, node.other, node.next, count)
@@ -303,14 +295,12 @@ impl<'d> Machine<'d> {
         node: Node<'d>,
         name: &'d Option<Text>,
         value: Stored<'d>,
-        steps: u64,
-    ) -> Result<Advance<'d>, ExecStop>
-        ensures { IsWith self.old node.entry name.now value.entry steps result self.new }
+    ) -> Result<Progress<'d>, ExecStop>
+        ensures { WithAnswers self.old node.entry name.now value.entry result self.new }
     {
-        self.steps = steps;
         let count = count(self.variables.as_slice());
         declare(alloc, &mut self.variables, name, &value)?;
-        if truth(datum_of(&value)) {
+        if truth(value.datum()) {
             let outer = std::mem::replace(&mut self.dot, value);
             return self.opened(Some(boxed(alloc, outer)?), node.first, node.next, count);
         }
@@ -322,30 +312,28 @@ impl<'d> Machine<'d> {
         &mut self,
         alloc: Global,
         node: Node<'d>,
-        turn: Turn<'d>,
+        header: LoopHeader<'d>,
         source: Stored<'d>,
-        steps: u64,
-    ) -> Result<Advance<'d>, ExecStop>
-        ensures { IsRange self.old node.entry turn.entry source.entry steps result self.new }
+    ) -> Result<Progress<'d>, ExecStop>
+        ensures { RangeAnswers self.old node.entry header.entry source.entry result self.new }
     {
-        self.steps = steps;
         let count = count(self.variables.as_slice());
-        match has_elements(datum_of(&source)) {
-            None => Err(fault(alloc, self.body.name, turn.line, FaultKind::NotRangeable)),
+        match has_elements(source.datum()) {
+            None => Err(fault(alloc, self.body.name, header.line, FaultKind::NotRangeable)),
             Some(false) => self.opened(None, node.other, node.next, count),
             Some(true) => {
-                let dot = copy_of(alloc, &self.dot)?;
+                let dot = self.dot.copy(alloc)?;
                 self.node = None;
                 let inner = OpenLoop {
                     dot,
-                    turn,
+                    header,
                     source,
                     at: 0,
                     next: node.next,
                     count,
                 };
                 self.frames.push(Frame::Loop(boxed(alloc, inner)?))?;
-                Ok(Advance::Moves)
+                Ok(Progress::Continues)
             }
         }
     }
@@ -358,14 +346,13 @@ impl<'d> Machine<'d> {
         node: Node<'d>,
         name: &'d str,
         value: Stored<'d>,
-        steps: u64,
-    ) -> Result<Advance<'d>, ExecStop>
-        ensures { IsCall forest.now self.old node.entry name.now value.entry steps result self.new }
+    ) -> Result<Progress<'d>, ExecStop>
+        ensures { CallAnswers forest.now self.old node.entry name.now value.entry result self.new }
     {
         if self.calls == 0 {
             return Err(fault(alloc, self.body.name, node.line, FaultKind::Depth));
         }
-        let variables = root_variable(alloc, copy_of(alloc, &value)?)?;
+        let variables = root_variable(alloc, value.copy(alloc)?)?;
         let caller = self.body;
         self.calls -= 1;
         let call = OpenCall {
@@ -378,8 +365,7 @@ impl<'d> Machine<'d> {
         self.frames.push(Frame::Call(boxed(alloc, call)?))?;
         self.body = body_named(forest, name);
         self.node = first_of(self.body);
-        self.steps = steps;
-        Ok(Advance::Tells(Told {
+        Ok(Progress::Emits(Emission {
             event: Event::Enter(node.number),
             template: caller.name,
             line: node.line,
@@ -394,20 +380,20 @@ impl<'d> Machine<'d> {
         forest: &'d Forest,
         node: Node<'d>,
         steps: u64,
-    ) -> Result<Advance<'d>, ExecStop>
-        ensures { IsAdvance (node_of forest.now self.old node.entry steps) result self.new }
+    ) -> Result<Progress<'d>, ExecStop>
+        ensures { AdvanceAnswers (node_of forest.now self.old node.entry steps) result self.new }
     {
         match node.kind {
             NodeKind::Text(_) => {
                 self.node = node.next;
                 self.steps = steps;
-                Ok(self.told(node.line, Event::Text(node.number)))
+                Ok(self.emitted(node.line, Event::Text(node.number)))
             }
             NodeKind::Action(pipe) => match self.evaluated(alloc, node.line, pipe, steps) {
                 Ok((value, steps)) => {
                     self.node = node.next;
                     self.steps = steps;
-                    Ok(self.told(node.line, Event::Hole(node.number, value)))
+                    Ok(self.emitted(node.line, Event::Hole(node.number, value)))
                 }
                 Err(stop) => Err(stop),
             },
@@ -416,7 +402,7 @@ impl<'d> Machine<'d> {
                     push(&mut self.variables, name.as_str(), value)?;
                     self.node = node.next;
                     self.steps = steps;
-                    Ok(Advance::Moves)
+                    Ok(Progress::Continues)
                 }
                 Err(stop) => Err(stop),
             },
@@ -425,28 +411,35 @@ impl<'d> Machine<'d> {
                     assign(&mut self.variables, name.as_str(), value);
                     self.node = node.next;
                     self.steps = steps;
-                    Ok(Advance::Moves)
+                    Ok(Progress::Continues)
                 }
                 Err(stop) => Err(stop),
             },
             NodeKind::If(name, pipe) => match self.evaluated(alloc, node.line, pipe, steps) {
-                Ok((value, steps)) => self.if_advance(alloc, node, name, value, steps),
+                Ok((value, steps)) => {
+                    self.steps = steps;
+                    self.if_advance(alloc, node, name, value)
+                }
                 Err(stop) => Err(stop),
             },
             NodeKind::With(name, pipe) => match self.evaluated(alloc, node.line, pipe, steps) {
-                Ok((value, steps)) => self.with_advance(alloc, node, name, value, steps),
+                Ok((value, steps)) => {
+                    self.steps = steps;
+                    self.with_advance(alloc, node, name, value)
+                }
                 Err(stop) => Err(stop),
             },
             NodeKind::Range(index, element, pipe) => {
                 match self.evaluated(alloc, node.line, pipe, steps) {
                     Ok((source, steps)) => {
-                        let turn = Turn {
+                        let header = LoopHeader {
                             line: node.line,
                             index,
                             element,
                             first: node.first,
                         };
-                        self.range_advance(alloc, node, turn, source, steps)
+                        self.steps = steps;
+                        self.range_advance(alloc, node, header, source)
                     }
                     Err(stop) => Err(stop),
                 }
@@ -454,31 +447,32 @@ impl<'d> Machine<'d> {
             NodeKind::Break => {
                 self.node = None;
                 self.steps = steps;
-                self.broken_out()
+                self.broken_off(true)
             }
             NodeKind::Continue => {
                 self.node = None;
                 self.steps = steps;
-                self.continued_out()
+                self.broken_off(false)
             }
             NodeKind::Template(name, pipe) => match self.argument(alloc, node.line, pipe, steps) {
                 Ok((value, steps)) => {
-                    self.call_advance(alloc, forest, node, name.as_str(), value, steps)
+                    self.steps = steps;
+                    self.call_advance(alloc, forest, node, name.as_str(), value)
                 }
                 Err(stop) => Err(stop),
             },
         }
     }
 
-    /// Executes the next node, or ends the innermost open thing where none is next. The errors are the faults of the template, and want
+    /// Executes the next node, or ends the innermost open thing where none is next. The errors are the faults of the template, and out
     /// of memory.
     #[inline(always)]
     pub(crate) fn advance(
         &mut self,
         alloc: Global,
         forest: &'d Forest,
-    ) -> Result<Advance<'d>, ExecStop>
-        ensures { IsAdvance (next_advance forest.now self.old) result self.new }
+    ) -> Result<Progress<'d>, ExecStop>
+        ensures { AdvanceAnswers (next_progress forest.now self.old) result self.new }
     {
         let node = match node_at(self.body, self.node) {
             Some(node) => node,

@@ -7,14 +7,14 @@ ghost use Rattle.tpl_tree.specs.Forests.{tree_named};
 use tpl_tree::{Forest, NodeKind, Tree};
 
 /// The body of a template: its name and its tree, which a forest may lack.
-#[derive(Clone, Copy, Debug, Drop)]
+#[derive(Clone, Copy, Drop)]
 pub(crate) struct Body<'d> {
     pub(crate) name: &'d str,
     pub(crate) tree: Option<&'d Tree>,
 }
 
 /// A node of a body, with the numbers of its first part, of its `else` part, and of what follows it.
-#[derive(Clone, Copy, Debug, Drop)]
+#[derive(Clone, Copy, Drop)]
 pub(crate) struct Node<'d> {
     pub(crate) number: u32,
     pub(crate) line: u32,

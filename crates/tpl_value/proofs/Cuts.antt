@@ -5,15 +5,15 @@ use Rattle.page_datum.specs.Data.{Data, list, DataList, no_items, item, item_cou
 use Rattle.page_datum.specs.View.{view, items_view}
 use Rattle.page_datum.specs.declared.datum.Datum.{Datum}
 use Rattle.page_datum.specs.declared.fault.FaultKind.{FaultKind}
-use Rattle.tpl_value.specs.Slicing.{first_items, later_items, bounds_of, items_part, Makes, SliceAnswers}
+use Rattle.tpl_value.specs.Slicing.{first_items, later_items, bounds_of, items_part, MadeAnswers, SliceAnswers}
 use Rattle.page_datum.specs.declared.stop.ValueStop.{ValueStop}
 
 -- a list with one more value at its end
-abbrev behind : DataList → Data → DataList
-behind no_items d = item d no_items
-behind (item x rest) d = item x (behind rest d)
+abbrev followed_by : DataList → Data → DataList
+followed_by no_items d = item d no_items
+followed_by (item x rest) d = item x (followed_by rest d)
 
-items_view-push : (ds : List Datum) (d : Datum) → items_view (ds ++ d ∷ []) ≡ behind (items_view ds) (view d)
+items_view-push : (ds : List Datum) (d : Datum) → items_view (ds ++ d ∷ []) ≡ followed_by (items_view ds) (view d)
 items_view-push [] d = refl
 items_view-push (x ∷ ds) d = ap (item (view x)) (items_view-push ds d)
 
@@ -22,8 +22,8 @@ pub copied : (copies values : List Datum) (n : ℕ) (value copy : Datum) → n <
     → items_view copies ≡ items_view (take n values) → items_view (copies ++ copy ∷ []) ≡ items_view (take (n + 1) values)
 copied copies values n value copy inside here same h =
     items_view-push copies copy
-    ∙ ap (λ (ds : DataList). behind ds (view copy)) h
-    ∙ ap (behind (items_view (take n values))) (same ∙ ap view here)
+    ∙ ap (λ (ds : DataList). followed_by ds (view copy)) h
+    ∙ ap (followed_by (items_view (take n values))) (same ∙ ap view here)
     ∙ sym (items_view-push (take n values) (get_or values n value))
     ∙ ap items_view (sym (take_at_read values n value inside).1)
 
@@ -52,9 +52,9 @@ part items = Ok (list items)
 
 -- the part of a list, by the values and the places that the code sees
 pub slice_list : (items : DataList) (ds : List Datum) (from to first last : ℤ) (result : Result Datum ValueStop) → items_view ds ≡ items → first ≡ from → last ≡ to
-    → Makes (items_part (items_view ds) (bounds_of first last (length ds))) result → SliceAnswers (list items) from to result
+    → MadeAnswers (items_part (items_view ds) (bounds_of first last (length ds))) result → SliceAnswers (list items) from to result
 slice_list items ds from to first last result all e f h =
     subst (λ (xs : DataList). SliceAnswers (list xs) from to result) all
-    (subst (λ (z : ℤ). Makes (items_part (items_view ds) (bounds_of from z (item_count (items_view ds)))) result) f
-    (subst (λ (z : ℤ). Makes (items_part (items_view ds) (bounds_of z last (item_count (items_view ds)))) result) e
-    (subst (λ (n : ℕ). Makes (items_part (items_view ds) (bounds_of first last n)) result) (sym (counted ds)) h)))
+    (subst (λ (z : ℤ). MadeAnswers (items_part (items_view ds) (bounds_of from z (item_count (items_view ds)))) result) f
+    (subst (λ (z : ℤ). MadeAnswers (items_part (items_view ds) (bounds_of z last (item_count (items_view ds)))) result) e
+    (subst (λ (n : ℕ). MadeAnswers (items_part (items_view ds) (bounds_of first last n)) result) (sym (counted ds)) h)))

@@ -1,7 +1,7 @@
 -- The part of a value from one place to before another (Go's `text/template`, "Functions", in a profile).
 use Rattle.std.specs.Prelude.{◌≡◌, ℕ, zero, suc, ◌-◌, ℤ, pos, Bool, ◌&&◌, ◌||◌, if◌then◌else◌, nat_le, List, length, take, drop, get_or, Result, Ok, Err, Option, Some, None, ⊤}
 use Rattle.page_datum.specs.Data.{Data, text, list, DataList, no_items, item, item_count}
-use Rattle.page_datum.specs.View.{view}
+use Rattle.page_datum.specs.View.{items_view, view}
 use Rattle.page_datum.specs.declared.datum.Datum.{Datum}
 use Rattle.page_datum.specs.declared.fault.FaultKind.{FaultKind}
 use Rattle.page_datum.specs.declared.fault.FaultKind.TheVariants.{NotIndexable, SliceRange}
@@ -45,10 +45,14 @@ slice_of (list items) from to = items_part items (bounds_of from to (item_count 
 slice_of datum from to = Err NotIndexable
 
 -- how a call answers with a value that it made, a fault, or out of memory
-abbrev pub Makes : Result Data FaultKind → Result Datum ValueStop → Type 0
-Makes outcome (Ok datum) = outcome ≡ Ok (view datum)
-Makes outcome (Err (Fault kind)) = outcome ≡ Err kind
-Makes outcome (Err Memory) = ⊤
+abbrev pub MadeAnswers : Result Data FaultKind → Result Datum ValueStop → Type 0
+MadeAnswers outcome (Ok datum) = outcome ≡ Ok (view datum)
+MadeAnswers outcome (Err (Fault kind)) = outcome ≡ Err kind
+MadeAnswers outcome (Err Memory) = ⊤
+
+-- the values of a list from one place to before another
+abbrev pub CutAnswers : List Datum → ℤ → ℤ → Result Datum ValueStop → Type 0
+CutAnswers values from to result = MadeAnswers (items_part (items_view values) (bounds_of from to (length values))) result
 
 abbrev pub SliceAnswers : Data → ℤ → ℤ → Result Datum ValueStop → Type 0
-SliceAnswers datum from to result = Makes (slice_of datum from to) result
+SliceAnswers datum from to result = MadeAnswers (slice_of datum from to) result

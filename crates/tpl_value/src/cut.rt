@@ -1,6 +1,7 @@
 ghost use Rattle.std.specs.Prelude.{◌≡◌, ◌≤◌, IfOk, pos, length, Some};
 ghost use Rattle.page_datum.specs.View.{view, items_view};
-ghost use Rattle.tpl_value.specs.Slicing.{SliceAnswers, Makes, bounds_of, text_part, items_part};
+ghost use Rattle.tpl_value.specs.Slicing.{CutAnswers, MadeAnswers, SliceAnswers};
+ghost use Rattle.tpl_value.specs.Slicing.{bounds_of, items_part, text_part};
 
 use page_datum::{Datum, FaultKind, Items, ValueStop};
 use page_io::{Memory, Text};
@@ -20,7 +21,7 @@ pub fn slice(alloc: Global, datum: &Datum, from: i64, to: i64) -> Result<Datum, 
 }
 
 fn slice_text(alloc: Global, text: &str, from: i64, to: i64) -> Result<Datum, ValueStop>
-    ensures { Makes (text_part text.now (bounds_of from to (length text.now))) result }
+    ensures { MadeAnswers (text_part text.now (bounds_of from to (length text.now))) result }
 {
     match bounds(from, to, text.len()) {
         Some((from, to)) => cut_text(alloc, text, from, to),
@@ -31,7 +32,7 @@ fn slice_text(alloc: Global, text: &str, from: i64, to: i64) -> Result<Datum, Va
 // The part of a text between two places that are in order within it.
 fn cut_text(alloc: Global, text: &str, from: usize, to: usize) -> Result<Datum, ValueStop>
     requires { (from ≤ to) × (to ≤ length text.now) }
-    ensures { Makes (text_part text.now (Some (from, to))) result }
+    ensures { MadeAnswers (text_part text.now (Some (from, to))) result }
 {
     if text.is_char_boundary(from) && text.is_char_boundary(to) {
         let part = Text::copy_of(alloc, &text[from..to])?;
@@ -41,7 +42,7 @@ fn cut_text(alloc: Global, text: &str, from: usize, to: usize) -> Result<Datum, 
 }
 
 fn slice_items(alloc: Global, values: &[Datum], from: i64, to: i64) -> Result<Datum, ValueStop>
-    ensures { Makes (items_part (items_view values.now) (bounds_of from to (length values.now))) result }
+    ensures { CutAnswers values.now from to result }
 {
     match bounds(from, to, values.len()) {
         Some((from, to)) => cut_items(alloc, values, from, to),
@@ -52,7 +53,7 @@ fn slice_items(alloc: Global, values: &[Datum], from: i64, to: i64) -> Result<Da
 // The part of a list between two places that are in order within it.
 fn cut_items(alloc: Global, values: &[Datum], from: usize, to: usize) -> Result<Datum, ValueStop>
     requires { (from ≤ to) × (to ≤ length values.now) }
-    ensures { Makes (items_part (items_view values.now) (Some (from, to))) result }
+    ensures { MadeAnswers (items_part (items_view values.now) (Some (from, to))) result }
 {
     let part = copies(alloc, &values[from..to])?;
     Ok(Datum::List(part))

@@ -3,13 +3,13 @@
 #![tactic(auto)]
 
 mod compare;
+mod condition;
 mod count;
 mod cut;
 mod pick;
-mod test;
 
 pub use compare::{equal, less};
+pub use condition::truth;
 pub use count::length;
 pub use cut::slice;
 pub use pick::{Picked, field, index};
-pub use test::truth;

@@ -1,6 +1,7 @@
 ghost use Rattle.std.specs.Prelude.{Ok, option_map};
 ghost use Rattle.page_datum.specs.View.{view, items_view};
-ghost use Rattle.tpl_value.specs.Picking.{Picks, field_of, index_of, item_at as item_at_of, item_of};
+ghost use Rattle.tpl_value.specs.Picking.{Picks, field_of, index_of};
+ghost use Rattle.tpl_value.specs.Picking.{item_at as item_at_of, item_of};
 
 use page_datum::{Datum, FaultKind};
 

@@ -1,4 +1,4 @@
-use Rattle.tpl_exec.proofs.Keeping.{allows_all}
+use Rattle.tpl_events.proofs.Keeping.{allows_all}
 use Rattle.measure.proofs.counter.run.Goals as goal
 
 pub execute-requires-clause-may : goal.execute-requires-clause-may

@@ -1,10 +1,10 @@
 use Rattle.std.proofs.Common.{◌<◌, ◌^◌, w64, arith}
 use Rattle.std.proofs.lemmas.Int.{to_z_pos}
-use Rattle.tpl_exec.proofs.Elements.{entry_behind, entry_here, entry_nowhere, item_behind, item_here, item_nowhere}
+use Rattle.tpl_exec.proofs.Elements.{entry_past, entry_here, entry_nowhere, item_past, item_here, item_nowhere}
 use Rattle.tpl_exec.proofs.element.part_at.Goals as goal
 
 pub returns-then-at-len-clause-part : goal.returns-then-at-len-clause-part
-returns-then-at-len-clause-part c = rw c.in-List.is (item_behind c.in-List.items c.args.at (omega (arith, c.if-at-len.true, c.len.ensures.count)))
+returns-then-at-len-clause-part c = rw c.in-List.is (item_past c.in-List.items c.args.at (omega (arith, c.if-at-len.true, c.len.ensures.count)))
 
 pub returns-in-Some-clause-part : goal.returns-in-Some-clause-part
 returns-in-Some-clause-part c =
@@ -24,4 +24,4 @@ pub returns-in-None-get-clause-part : goal.returns-in-None-get-clause-part
 returns-in-None-get-clause-part c = rw c.in-Dict.is (entry_nowhere c.as_slice-in-Dict.result.now c.in-Dict.entries c.args.at c.as_slice-in-Dict.ensures.all c.in-None-get.ensures.lookup.3)
 
 pub returns-then-at-len-2-clause-part : goal.returns-then-at-len-2-clause-part
-returns-then-at-len-2-clause-part c = rw c.in-Dict.is (entry_behind c.in-Dict.entries c.args.at (omega (arith, c.if-at-len-2.true, c.len-in-Dict.ensures.count)))
+returns-then-at-len-2-clause-part c = rw c.in-Dict.is (entry_past c.in-Dict.entries c.args.at (omega (arith, c.if-at-len-2.true, c.len-in-Dict.ensures.count)))

@@ -10,7 +10,7 @@ step-requires g c =
 
 pub loop-machine-smaller : goal.loop-machine-smaller
 loop-machine-smaller g c =
-    came_nearer g.K.HoleSink.takes g.K.HoleSink.refuses c.args.forest.now c.loop-machine.sink c.step.new.sink (machine_view c.loop-machine.machine) (machine_view c.step.new.machine)
+    came_nearer g.K.HoleSink.takes g.K.HoleSink.refuses c.args.forest.now c.loop-machine.sink c.step.new.sink (machine_view c.loop-machine.machine) (machine_view c.step.new.run)
     c.loop-machine.invariant.steps (rw c.in-Ok-true.field-0-test at c.in-Ok-true.ensures)
 
 pub loop-machine-preserved : goal.loop-machine-preserved
@@ -18,7 +18,7 @@ loop-machine-preserved g c =
     let forest = c.args.forest.now in
     let stepped = rw c.in-Ok-true.field-0-test at c.in-Ok-true.ensures in
     let before = machine_view c.loop-machine.machine in
-    let after = machine_view c.step.new.machine in
+    let after = machine_view c.step.new.run in
     record {
       reaches = went_on g.K.HoleSink.may g.K.HoleSink.takes g.K.HoleSink.refuses forest (run_of forest c.args.root c.args.datum.now) c.args.sink.now c.loop-machine.sink c.step.new.sink before after c.loop-machine.invariant.reaches stepped;
       steps = stays_bounded g.K.HoleSink.takes g.K.HoleSink.refuses forest c.loop-machine.sink c.step.new.sink before after c.loop-machine.invariant.steps stepped;
@@ -28,10 +28,10 @@ pub returns-in-Ok-false : goal.returns-in-Ok-false
 returns-in-Ok-false g c =
     let forest = c.args.forest.now in
     rw c.steps.ensures (was_done g.K.HoleSink.may g.K.HoleSink.takes g.K.HoleSink.refuses forest (run_of forest c.args.root c.args.datum.now) c.args.sink.now c.loop-machine.sink c.step.new.sink
-    (machine_view c.loop-machine.machine) (machine_view c.step.new.machine) c.loop-machine.invariant.reaches (rw c.in-Ok-false.field-0-test at c.in-Ok-false.ensures))
+    (machine_view c.loop-machine.machine) (machine_view c.step.new.run) c.loop-machine.invariant.reaches (rw c.in-Ok-false.field-0-test at c.in-Ok-false.ensures))
 
 pub returns-in-Err-step : goal.returns-in-Err-step
 returns-in-Err-step g c =
     let forest = c.args.forest.now in
     was_stopped g.K.HoleSink.may g.K.HoleSink.takes g.K.HoleSink.refuses forest (run_of forest c.args.root c.args.datum.now) c.args.sink.now c.loop-machine.sink c.step.new.sink
-    (machine_view c.loop-machine.machine) (machine_view c.step.new.machine) c.in-Err-step.stop c.loop-machine.invariant.reaches c.in-Err-step.ensures
+    (machine_view c.loop-machine.machine) (machine_view c.step.new.run) c.in-Err-step.stop c.loop-machine.invariant.reaches c.in-Err-step.ensures

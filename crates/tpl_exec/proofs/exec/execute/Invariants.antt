@@ -1,5 +1,5 @@
 use Rattle.std.proofs.Common.{◌≤◌}
-use Rattle.tpl_exec.specs.Functions.{max_steps}
+use Rattle.tpl_eval.specs.Functions.{max_steps}
 use Rattle.tpl_exec.specs.Machine.{machine_run}
 use Rattle.tpl_exec.specs.MachineView.{machine_view}
 use Rattle.tpl_exec.specs.Executing.{run_of}

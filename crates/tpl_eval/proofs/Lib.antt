@@ -1,0 +1,7 @@
+pub mod Arguments
+pub mod Copies
+pub mod Indexing
+pub mod Operands
+pub mod Piped
+pub mod StepsGrow
+pub mod Variables

@@ -1,0 +1,88 @@
+ghost use Rattle.tpl_eval.specs.Functions.{bytes_made as bytes_made_of, called as called_of};
+ghost use Rattle.std.specs.Prelude.{◌≡◌};
+ghost use Rattle.page_datum.specs.View.{view};
+ghost use Rattle.tpl_eval.specs.Values.{OutcomeAnswers, FreeAnswers, PaidAnswers, values_view};
+
+use crate::compare::{eq, ge, gt, le, len, lt, ne, not};
+use crate::make::{index_all, print_all, printf_all, slice_all};
+use crate::steps::counted;
+use crate::value::Value;
+use page_datum::{Datum, FaultKind, ValueStop};
+use std::alloc::Global;
+use tpl_symbol::Func;
+
+/// What a function gives for its arguments, and the steps up to there: one for each byte of a text that is made. `and` and `or` are
+/// not called so, since they do not evaluate all of their arguments, and `html` and `urlquery` have another number of arguments than one
+/// where they are.
+pub(crate) fn called<'d, 'v>(
+    alloc: Global,
+    func: Func,
+    args: Vec<Value<'d, 'v>>,
+    steps: u64,
+) -> Result<(Value<'d, 'v>, u64), ValueStop>
+    ensures { OutcomeAnswers (called_of func (values_view args.entry.items) steps) result }
+{
+    match func {
+        Func::Not => free(not(args.as_slice()), steps),
+        Func::Eq => free(eq(args.as_slice()), steps),
+        Func::Ne => free(ne(args.as_slice()), steps),
+        Func::Lt => free(lt(args.as_slice()), steps),
+        Func::Le => free(le(args.as_slice()), steps),
+        Func::Gt => free(gt(args.as_slice()), steps),
+        Func::Ge => free(ge(args.as_slice()), steps),
+        Func::Len => free(len(args.as_slice()), steps),
+        Func::Index => match index_all(alloc, args) {
+            Ok(value) => Ok((value, steps)),
+            Err(stop) => Err(stop),
+        },
+        Func::Slice => paid(slice_all(alloc, args.as_slice()), steps),
+        Func::Print => paid(print_all(alloc, args, false), steps),
+        Func::Println => paid(print_all(alloc, args, true), steps),
+        Func::Printf => paid(printf_all(alloc, args), steps),
+        Func::And | Func::Or | Func::Html | Func::Urlquery => {
+            Err(ValueStop::Fault(FaultKind::WrongCount))
+        }
+    }
+}
+
+// A value that costs no step more.
+fn free<'d, 'v>(
+    answer: Result<Datum, FaultKind>,
+    steps: u64,
+) -> Result<(Value<'d, 'v>, u64), ValueStop>
+    ensures { FreeAnswers answer steps result }
+{
+    match answer {
+        Ok(datum) => Ok((Value::Made(datum), steps)),
+        Err(kind) => Err(ValueStop::Fault(kind)),
+    }
+}
+
+// A value with a step for each byte of a text that was made.
+fn paid<'d, 'v>(
+    answer: Result<Datum, ValueStop>,
+    steps: u64,
+) -> Result<(Value<'d, 'v>, u64), ValueStop>
+    ensures { PaidAnswers answer steps result }
+{
+    match answer {
+        Ok(datum) => {
+            let more = bytes_made(&datum);
+            match counted(more, steps) {
+                Ok(steps) => Ok((Value::Made(datum), steps)),
+                Err(kind) => Err(ValueStop::Fault(kind)),
+            }
+        }
+        Err(stop) => Err(stop),
+    }
+}
+
+// The bytes of a text that was made.
+fn bytes_made(datum: &Datum) -> u64
+    ensures { result ≡ bytes_made_of (view datum.now) }
+{
+    match datum {
+        Datum::Text(text) => text.as_str().len() as u64,
+        _ => 0,
+    }
+}

@@ -1,0 +1,149 @@
+ghost use Rattle.std.specs.Prelude.{◌≡◌};
+ghost use Rattle.page_datum.specs.View.{view};
+ghost use Rattle.tpl_eval.specs.Functions.{not_of, len_of, eq_of, ne_of, lt_of, le_of, gt_of};
+ghost use Rattle.tpl_eval.specs.Functions.{ge_of, equals_one as equals_one_of};
+ghost use Rattle.tpl_eval.specs.Functions.{as_truth as as_truth_of, as_opposite as as_opposite_of};
+ghost use Rattle.tpl_eval.specs.Functions.{one_of, two_of};
+ghost use Rattle.tpl_eval.specs.Values.{OneAnswers, TwoAnswers, FunctionAnswers, values_view};
+
+use crate::value::Value;
+use page_datum::{Datum, FaultKind};
+use tpl_value::{equal, length, less, truth};
+
+// Functions that give a truth value or a number for their arguments. Each answers WrongCount for another number of them, and none
+// takes memory.
+
+// `not x`
+pub(crate) fn not(args: &[Value<'_, '_>]) -> Result<Datum, FaultKind>
+    ensures { FunctionAnswers (not_of (values_view args.now)) result }
+{
+    match one(args) {
+        Ok(x) => Ok(Datum::Bool(!truth(x))),
+        Err(kind) => Err(kind),
+    }
+}
+
+// `len x`
+pub(crate) fn len(args: &[Value<'_, '_>]) -> Result<Datum, FaultKind>
+    ensures { FunctionAnswers (len_of (values_view args.now)) result }
+{
+    match one(args) {
+        Ok(x) => match length(x) {
+            Ok(length) => Ok(Datum::Int(length)),
+            Err(kind) => Err(kind),
+        },
+        Err(kind) => Err(kind),
+    }
+}
+
+// `eq x y ..`
+pub(crate) fn eq(args: &[Value<'_, '_>]) -> Result<Datum, FaultKind>
+    ensures { FunctionAnswers (eq_of (values_view args.now)) result }
+{
+    if args.len() < 2 {
+        return Err(FaultKind::WrongCount);
+    }
+    as_truth(equals_one(args[0].datum(), &args[1..]))
+}
+
+// `ne x y`
+pub(crate) fn ne(args: &[Value<'_, '_>]) -> Result<Datum, FaultKind>
+    ensures { FunctionAnswers (ne_of (values_view args.now)) result }
+{
+    match two(args) {
+        Ok((x, y)) => as_opposite(equal(x, y)),
+        Err(kind) => Err(kind),
+    }
+}
+
+// `lt x y`
+pub(crate) fn lt(args: &[Value<'_, '_>]) -> Result<Datum, FaultKind>
+    ensures { FunctionAnswers (lt_of (values_view args.now)) result }
+{
+    match two(args) {
+        Ok((x, y)) => as_truth(less(x, y)),
+        Err(kind) => Err(kind),
+    }
+}
+
+// `le x y`
+pub(crate) fn le(args: &[Value<'_, '_>]) -> Result<Datum, FaultKind>
+    ensures { FunctionAnswers (le_of (values_view args.now)) result }
+{
+    match two(args) {
+        Ok((x, y)) => as_opposite(less(y, x)),
+        Err(kind) => Err(kind),
+    }
+}
+
+// `gt x y`
+pub(crate) fn gt(args: &[Value<'_, '_>]) -> Result<Datum, FaultKind>
+    ensures { FunctionAnswers (gt_of (values_view args.now)) result }
+{
+    match two(args) {
+        Ok((x, y)) => as_truth(less(y, x)),
+        Err(kind) => Err(kind),
+    }
+}
+
+// `ge x y`
+pub(crate) fn ge(args: &[Value<'_, '_>]) -> Result<Datum, FaultKind>
+    ensures { FunctionAnswers (ge_of (values_view args.now)) result }
+{
+    match two(args) {
+        Ok((x, y)) => as_opposite(less(x, y)),
+        Err(kind) => Err(kind),
+    }
+}
+
+// Exactly one argument.
+fn one<'a>(args: &'a [Value<'_, '_>]) -> Result<&'a Datum, FaultKind>
+    ensures { OneAnswers (one_of (values_view args.now)) result }
+{
+    if args.len() != 1 {
+        return Err(FaultKind::WrongCount);
+    }
+    Ok(args[0].datum())
+}
+
+// Exactly two arguments.
+fn two<'a>(args: &'a [Value<'_, '_>]) -> Result<(&'a Datum, &'a Datum), FaultKind>
+    ensures { TwoAnswers (two_of (values_view args.now)) result }
+{
+    if args.len() != 2 {
+        return Err(FaultKind::WrongCount);
+    }
+    Ok((args[0].datum(), args[1].datum()))
+}
+
+// Whether a value equals one of others, which are compared in their order up to the first that is equal.
+fn equals_one(x: &Datum, others: &[Value<'_, '_>]) -> Result<bool, FaultKind>
+    ensures { result ≡ equals_one_of (view x.now) (values_view others.now) }
+{
+    for other in others {
+        match equal(x, other.datum()) {
+            Ok(true) => return Ok(true),
+            Ok(false) => {}
+            Err(kind) => return Err(kind),
+        }
+    }
+    Ok(false)
+}
+
+fn as_truth(answer: Result<bool, FaultKind>) -> Result<Datum, FaultKind>
+    ensures { FunctionAnswers (as_truth_of answer) result }
+{
+    match answer {
+        Ok(truth) => Ok(Datum::Bool(truth)),
+        Err(kind) => Err(kind),
+    }
+}
+
+fn as_opposite(answer: Result<bool, FaultKind>) -> Result<Datum, FaultKind>
+    ensures { FunctionAnswers (as_opposite_of answer) result }
+{
+    match answer {
+        Ok(truth) => Ok(Datum::Bool(!truth)),
+        Err(kind) => Err(kind),
+    }
+}

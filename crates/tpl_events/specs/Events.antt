@@ -1,0 +1,27 @@
+-- What an execution gives, one event after another.
+use Rattle.std.specs.Prelude.{ℕ, List, [], ◌∷◌}
+use Rattle.page_datum.specs.Data.{Data}
+use Rattle.page_datum.specs.View.{view}
+use Rattle.page_datum.specs.declared.datum.Datum.{Datum}
+
+-- What is given to the page: a text by its node, a hole by its node and its value, a call by its node, and the end of a call. Nodes
+-- have the numbers that they have in their own tree.
+pub data Event : Type 0 where
+  gives_text : ℕ → Event
+  gives_hole : ℕ → Data → Event
+  enters : ℕ → Event
+  leaves : Event
+
+abbrev pub fills : ℕ → Datum → Event
+fills n datum = gives_hole n (view datum)
+
+-- an event, and the template and the line of its node, which for the end of a call is the call
+pub record Emission : Type 0 where
+  pub event : Event
+  pub template : List ℕ
+  pub line : ℕ
+
+-- the events alone
+abbrev pub events_of : List Emission → List Event
+events_of [] = []
+events_of (g ∷ gs) = g.event ∷ events_of gs

@@ -1,0 +1,7 @@
+use Rattle.std.proofs.Common.{◌∙◌, ap, not}
+use Rattle.tpl_value.specs.Truth.{has_entries}
+use Rattle.tpl_value.proofs.Parts.{some-entries}
+use Rattle.tpl_value.proofs.condition.truth.Goals as goal
+
+pub returns-in-Dict : goal.returns-in-Dict
+returns-in-Dict c = rw c.in-Dict.is (ap not c.is_empty-in-Dict.ensures ∙ some-entries c.as_slice-in-Dict.result.now ∙ ap has_entries c.as_slice-in-Dict.ensures.all)
