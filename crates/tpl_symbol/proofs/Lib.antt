@@ -1,6 +1,6 @@
 pub mod Examples
+pub mod FunctionNames
 pub mod Lengths
-pub mod Letters
 pub mod LineLaws
 pub mod LowLines
 pub mod MarkLaws

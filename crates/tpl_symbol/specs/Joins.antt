@@ -21,6 +21,10 @@ joined first second = joined_kinds first.kind second.kind first second
 abbrev pub symbol_at : SymbolKind → ℕ → Bool → Symbol
 symbol_at kind line touches = record { kind = kind; line = line; touches = touches }
 
+-- symbols and then one of this kind, as it is
+abbrev pub put_apart : List Symbol → SymbolKind → ℕ → Bool → List Symbol
+put_apart symbols kind line touches = symbols ++ symbol_at kind line touches ∷ []
+
 -- symbols with one more after them
 abbrev pub put : List Symbol → Symbol → List Symbol
 put [] new = new ∷ []

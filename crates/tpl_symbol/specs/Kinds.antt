@@ -48,3 +48,7 @@ kind_of token.Bar text t before after = Some symbol.Bar
 kind_of token.Comma text t before after = Some symbol.Comma
 kind_of token.Left text t before after = Some symbol.Left
 kind_of token.Right text t before after = Some symbol.Right
+
+-- the same of a token
+abbrev pub kind_at : List ℕ → Token → Bool → Bool → Option SymbolKind
+kind_at text t before after = kind_of t.kind text t before after

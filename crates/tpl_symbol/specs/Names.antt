@@ -26,26 +26,46 @@ word_of name =
     else if bytes_eq name (codes "nil") then Some word.Nil
     else None
 
+-- the name of a function
+abbrev pub function_name : Func → List ℕ
+function_name func.And = codes "and"
+function_name func.Or = codes "or"
+function_name func.Not = codes "not"
+function_name func.Eq = codes "eq"
+function_name func.Ne = codes "ne"
+function_name func.Lt = codes "lt"
+function_name func.Le = codes "le"
+function_name func.Gt = codes "gt"
+function_name func.Ge = codes "ge"
+function_name func.Index = codes "index"
+function_name func.Slice = codes "slice"
+function_name func.Len = codes "len"
+function_name func.Print = codes "print"
+function_name func.Println = codes "println"
+function_name func.Printf = codes "printf"
+function_name func.Html = codes "html"
+function_name func.Urlquery = codes "urlquery"
+
 -- the function with this name
 abbrev pub function_of : List ℕ → Option Func
 function_of name =
-    if bytes_eq name (codes "and") then Some func.And
-    else if bytes_eq name (codes "or") then Some func.Or
-    else if bytes_eq name (codes "not") then Some func.Not
-    else if bytes_eq name (codes "eq") then Some func.Eq
-    else if bytes_eq name (codes "ne") then Some func.Ne
-    else if bytes_eq name (codes "lt") then Some func.Lt
-    else if bytes_eq name (codes "le") then Some func.Le
-    else if bytes_eq name (codes "gt") then Some func.Gt
-    else if bytes_eq name (codes "ge") then Some func.Ge
-    else if bytes_eq name (codes "index") then Some func.Index
-    else if bytes_eq name (codes "slice") then Some func.Slice
-    else if bytes_eq name (codes "len") then Some func.Len
-    else if bytes_eq name (codes "print") then Some func.Print
-    else if bytes_eq name (codes "println") then Some func.Println
-    else if bytes_eq name (codes "printf") then Some func.Printf
-    else if bytes_eq name (codes "html") then Some func.Html
-    else if bytes_eq name (codes "urlquery") then Some func.Urlquery
+    if bytes_eq name (function_name func.And) then Some func.And
+    else if bytes_eq name (function_name func.Or) then Some func.Or
+    else if bytes_eq name (function_name func.Not) then Some func.Not
+    else if bytes_eq name (function_name func.Eq) then Some func.Eq
+    else if bytes_eq name (function_name func.Ne) then Some func.Ne
+    else if bytes_eq name (function_name func.Lt) then Some func.Lt
+    else if bytes_eq name (function_name func.Le) then Some func.Le
+    else if bytes_eq name (function_name func.Gt) then Some func.Gt
+    else if bytes_eq name (function_name func.Ge) then Some func.Ge
+    else if bytes_eq name (function_name func.Index) then Some func.Index
+    else if bytes_eq name (function_name func.Slice) then Some func.Slice
+    else if bytes_eq name (function_name func.Len) then Some func.Len
+    else if bytes_eq name (function_name func.Print) then Some func.Print
+    else if bytes_eq name (function_name func.Println) then Some func.Println
+    else if bytes_eq name (function_name func.Printf) then Some func.Printf
+    else if bytes_eq name (function_name func.Html) then Some func.Html
+    else if bytes_eq name (function_name func.Urlquery) then Some func.Urlquery
     else None
 
 -- a function, or else an unknown name

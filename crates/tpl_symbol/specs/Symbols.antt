@@ -2,7 +2,7 @@
 use Rattle.std.specs.Prelude.{ℕ, ◌+◌, ◌^◌, ◌<◌, ◌≤◌, ◌==◌, Bool, false, List, [], ◌∷◌, length, ⊤}
 use Rattle.std.specs.List.{All}
 use Rattle.tpl_symbol.specs.Joins.{put_kind}
-use Rattle.tpl_symbol.specs.Kinds.{begins_comment, is_comment, kind_of}
+use Rattle.tpl_symbol.specs.Kinds.{begins_comment, is_comment, kind_at}
 use Rattle.tpl_symbol.specs.Lines.{line_of}
 use Rattle.tpl_symbol.specs.declared.symbol.Seam.{Seam}
 use Rattle.tpl_symbol.specs.declared.symbol.Symbol.{Symbol}
@@ -13,7 +13,7 @@ use Rattle.tpl_token.specs.declared.token.Token.{Token}
 -- Symbols with that of one more token, where the token before it ends at `end`, and a comment comes right before or right
 -- after it, or not.
 abbrev pub add : List ℕ → List Symbol → ℕ → Bool → Bool → Token → List Symbol
-add text symbols end before after t = put_kind symbols (kind_of t.kind text t before after) (line_of text t.start) (t.start == end)
+add text symbols end before after t = put_kind symbols (kind_at text t before after) (line_of text t.start) (t.start == end)
 
 -- symbols with those of all these tokens
 abbrev pub symbols_from : List ℕ → List Symbol → ℕ → Bool → List Token → List Symbol

@@ -1,6 +1,6 @@
-ghost use Rattle.std.specs.Prelude.{◌≡◌, ◌++◌, ◌∷◌, [], OnOk};
+ghost use Rattle.std.specs.Prelude.{◌≡◌, ◌++◌, OnOk};
 ghost use Rattle.std.specs.List.{All};
-ghost use Rattle.tpl_symbol.specs.Joins.{joined, put as put_of, put_kind as put_kind_of, symbol_at};
+ghost use Rattle.tpl_symbol.specs.Joins.{joined, put as put_of, put_apart, put_kind as put_kind_of};
 ghost use Rattle.tpl_symbol.specs.Symbols.{IsFine};
 
 use crate::symbol::{Seam, Symbol, SymbolKind};
@@ -80,7 +80,7 @@ fn put_one(
     line: u32,
     touches: bool,
 ) -> Result<(), Memory>
-    ensures { OnOk result (symbols.new.items ≡ symbols.old.items ++ symbol_at kind line touches ∷ []) }
+    ensures { OnOk result (symbols.new.items ≡ put_apart symbols.old.items kind line touches) }
 {
     symbols.push(Symbol {
         kind,

@@ -1,7 +1,7 @@
 ghost use Rattle.std.specs.Prelude.{◌≡◌, ◌-◌, ◌<◌, ◌≤◌, IfOk, length};
 ghost use Rattle.std.specs.Str.{IsCharBoundary};
 ghost use Rattle.tpl_symbol.specs.Lines.{line_of as line_at};
-ghost use Rattle.tpl_symbol.specs.Kinds.{begins_comment as begins_comment_of, bytes_of as bytes_at, is_comment as is_comment_of, kind_of as kind_at, unmarked as unmarked_of};
+ghost use Rattle.tpl_symbol.specs.Kinds.{begins_comment as begins_comment_of, bytes_of as bytes_at, is_comment as is_comment_of, kind_at, unmarked as unmarked_of};
 
 use crate::name::name_kind;
 use crate::symbol::SymbolKind;
@@ -41,7 +41,7 @@ pub fn kind_of(
     requires start { IsCharBoundary text.now token.now.start }
     requires end { IsCharBoundary text.now token.now.end }
     requires line { before ≡ line_at text.now (token.now.start - 1) }
-    ensures { IfOk result (λ kind. kind ≡ kind_at token.now.kind text.now token.now comment_before comment_after) }
+    ensures { IfOk result (λ kind. kind ≡ kind_at text.now token.now comment_before comment_after) }
 {
     let bytes = bytes_of(text, token);
     let (start, end) = (token.start, token.end);
@@ -52,7 +52,7 @@ pub fn kind_of(
         TokenKind::Close if comment_before => None,
         TokenKind::Close => Some(SymbolKind::Close { end }),
         TokenKind::Comment => None,
-        TokenKind::Name => Some(name_kind(bytes.as_bytes())),
+        TokenKind::Name => Some(name_kind(bytes)),
         TokenKind::Field => Some(SymbolKind::Field(name_of(alloc, '.', bytes)?)),
         TokenKind::Dot => Some(SymbolKind::Dot),
         TokenKind::Variable => Some(SymbolKind::Variable(name_of(alloc, '$', bytes)?)),

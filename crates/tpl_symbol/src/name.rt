@@ -6,7 +6,7 @@ use crate::symbol::SymbolKind;
 use crate::word::Word;
 
 /// What a name is: a word of the language, a function, or neither.
-pub fn name_kind(name: &[u8]) -> SymbolKind
+pub fn name_kind(name: &str) -> SymbolKind
     ensures { result ≡ name_kind_of name.now }
 {
     if let Some(word) = word_of(name) {
@@ -19,49 +19,49 @@ pub fn name_kind(name: &[u8]) -> SymbolKind
 }
 
 // The word with this name.
-fn word_of(name: &[u8]) -> Option<Word>
+fn word_of(name: &str) -> Option<Word>
     ensures { result ≡ word_by name.now }
 {
     match name {
-        b"if" => Some(Word::If),
-        b"with" => Some(Word::With),
-        b"range" => Some(Word::Range),
-        b"else" => Some(Word::Else),
-        b"end" => Some(Word::End),
-        b"break" => Some(Word::Break),
-        b"continue" => Some(Word::Continue),
-        b"template" => Some(Word::Template),
-        b"define" => Some(Word::Define),
-        b"block" => Some(Word::Block),
-        b"true" => Some(Word::True),
-        b"false" => Some(Word::False),
-        b"nil" => Some(Word::Nil),
+        "if" => Some(Word::If),
+        "with" => Some(Word::With),
+        "range" => Some(Word::Range),
+        "else" => Some(Word::Else),
+        "end" => Some(Word::End),
+        "break" => Some(Word::Break),
+        "continue" => Some(Word::Continue),
+        "template" => Some(Word::Template),
+        "define" => Some(Word::Define),
+        "block" => Some(Word::Block),
+        "true" => Some(Word::True),
+        "false" => Some(Word::False),
+        "nil" => Some(Word::Nil),
         _ => None,
     }
 }
 
 // The function with this name.
-fn function_of(name: &[u8]) -> Option<Func>
+fn function_of(name: &str) -> Option<Func>
     ensures { result ≡ function_by name.now }
 {
     match name {
-        b"and" => Some(Func::And),
-        b"or" => Some(Func::Or),
-        b"not" => Some(Func::Not),
-        b"eq" => Some(Func::Eq),
-        b"ne" => Some(Func::Ne),
-        b"lt" => Some(Func::Lt),
-        b"le" => Some(Func::Le),
-        b"gt" => Some(Func::Gt),
-        b"ge" => Some(Func::Ge),
-        b"index" => Some(Func::Index),
-        b"slice" => Some(Func::Slice),
-        b"len" => Some(Func::Len),
-        b"print" => Some(Func::Print),
-        b"println" => Some(Func::Println),
-        b"printf" => Some(Func::Printf),
-        b"html" => Some(Func::Html),
-        b"urlquery" => Some(Func::Urlquery),
+        "and" => Some(Func::And),
+        "or" => Some(Func::Or),
+        "not" => Some(Func::Not),
+        "eq" => Some(Func::Eq),
+        "ne" => Some(Func::Ne),
+        "lt" => Some(Func::Lt),
+        "le" => Some(Func::Le),
+        "gt" => Some(Func::Gt),
+        "ge" => Some(Func::Ge),
+        "index" => Some(Func::Index),
+        "slice" => Some(Func::Slice),
+        "len" => Some(Func::Len),
+        "print" => Some(Func::Print),
+        "println" => Some(Func::Println),
+        "printf" => Some(Func::Printf),
+        "html" => Some(Func::Html),
+        "urlquery" => Some(Func::Urlquery),
         _ => None,
     }
 }
