@@ -24,8 +24,8 @@ use Rattle.tpl_symbol.specs.declared.word.Word.{Word}
 use Rattle.tpl_token.specs.Grammar.{IsInAction, IsInner, Stands, Next, Reads, AreTokens}
 use Rattle.tpl_token.specs.Grammar as tokens
 use Rattle.tpl_token.specs.declared.cursor.Cursor.{Cursor}
-use Rattle.tpl_token.specs.declared.cursor.Mode.{Mode as Place}
-use Rattle.tpl_token.specs.declared.cursor.Mode.TheVariants as place
+use Rattle.tpl_token.specs.declared.cursor.State.{State as Place}
+use Rattle.tpl_token.specs.declared.cursor.State.TheVariants as place
 use Rattle.tpl_token.specs.declared.token.Token.{Token}
 use Rattle.tpl_token.specs.declared.token.TokenKind.{TokenKind}
 use Rattle.tpl_token.specs.declared.token.TokenKind.TheVariants as token
@@ -141,10 +141,10 @@ in_action (place.Opened _ _) opened t more before b h a e = a.1 ∙ ap not e
 in_action (place.Action _) opened t more before b h a e = a.1
 in_action place.Commented opened t more before b h a e = absurd h
 
-inner : (what : TokenKind) (text : List ℕ) (t : Token) (more : List Token) (from to : Cursor) (before b : Bool) → IsInner what text from t.start t.end to → Agrees from.mode (t ∷ more) before b → is_comment t ≡ false
-    → (c : Bool) → c ≡ b → Agrees to.mode more false c
+inner : (what : TokenKind) (text : List ℕ) (t : Token) (more : List Token) (from to : Cursor) (before b : Bool) → IsInner what text from t.start t.end to → Agrees from.state (t ∷ more) before b → is_comment t ≡ false
+    → (c : Bool) → c ≡ b → Agrees to.state more false c
 inner what text t more from to before b h a e c same =
-    subst (λ (next : Cursor). Agrees next.mode more false c) (sym h.goes) (refl, same ∙ in_action from.mode h.opened t more before b h.place a e)
+    subst (λ (next : Cursor). Agrees next.state more false c) (sym h.goes) (refl, same ∙ in_action from.state h.opened t more before b h.place a e)
 
 named : (w : Option Word) (f : Option Func) (b : Bool) → open_behind (word_kind w (function_kind f)) b ≡ b
 named (Some w) f b = refl
@@ -152,19 +152,19 @@ named None (Some f) b = refl
 named None None b = refl
 
 -- one more token
-agrees : (k : TokenKind) (text : List ℕ) (t : Token) (more : List Token) (from to : Cursor) (before b : Bool) → t.kind ≡ k → Stands k text from t.start t.end to → Agrees from.mode (t ∷ more) before b
-    → Agrees to.mode more (is_comment_kind k) (open_with (kind_of k text t before (begins_comment more)) b)
+agrees : (k : TokenKind) (text : List ℕ) (t : Token) (more : List Token) (from to : Cursor) (before b : Bool) → t.kind ≡ k → Stands k text from t.start t.end to → Agrees from.state (t ∷ more) before b
+    → Agrees to.state more (is_comment_kind k) (open_with (kind_of k text t before (begins_comment more)) b)
 agrees token.Text text t more from to before b k h a =
-    subst (λ (next : Cursor). Agrees next.mode more false b) (sym h.goes) (subst (λ m. Agrees m (t ∷ more) before b) h.place a)
+    subst (λ (next : Cursor). Agrees next.state more false b) (sym h.goes) (subst (λ m. Agrees m (t ∷ more) before b) h.place a)
 agrees token.Open text t more from to before b k h a =
-    subst (λ (next : Cursor). Agrees next.mode more false (open_with (kind_of token.Open text t before (begins_comment more)) b)) (sym h.goes)
+    subst (λ (next : Cursor). Agrees next.state more false (open_with (kind_of token.Open text t before (begins_comment more)) b)) (sym h.goes)
     (refl, opened (begins_comment more) b t.start _ (subst (λ m. Agrees m (t ∷ more) before b) h.no_text.place a))
 agrees token.Close text t more from to before b k h a =
-    subst (λ (next : Cursor). Agrees next.mode more false (open_with (kind_of token.Close text t before (begins_comment more)) b)) (sym h.goes)
-    (closed before b t.end (commented from.mode (t ∷ more) before b a))
+    subst (λ (next : Cursor). Agrees next.state more false (open_with (kind_of token.Close text t before (begins_comment more)) b)) (sym h.goes)
+    (closed before b t.end (commented from.state (t ∷ more) before b a))
 agrees token.Comment text t more from to before b k h a =
     let at_opened = subst (λ m. Agrees m (t ∷ more) before b) h.place a in
-    subst (λ (next : Cursor). Agrees next.mode more true b) (sym h.goes) (refl, at_opened.1 ∙ ap (λ k. not (is_comment_kind k)) k)
+    subst (λ (next : Cursor). Agrees next.state more true b) (sym h.goes) (refl, at_opened.1 ∙ ap (λ k. not (is_comment_kind k)) k)
 agrees token.Name text t more from to before b k h a =
     inner token.Name text t more from to before b h a (ap is_comment_kind k) (open_behind (word_kind (word_of (bytes_of text t)) (function_kind (function_of (bytes_of text t)))) b) (named (word_of (bytes_of text t)) (function_of (bytes_of text t)) b)
 agrees token.Field text t more from to before b k h a = inner token.Field text t more from to before b h a (ap is_comment_kind k) b refl
@@ -180,15 +180,15 @@ agrees token.Left text t more from to before b k h a = inner token.Left text t m
 agrees token.Right text t more from to before b k h a = inner token.Right text t more from to before b h a (ap is_comment_kind k) b refl
 
 -- all tokens
-reads : (text : List ℕ) (list : List Token) (from to : Cursor) (symbols : List Symbol) (end : ℕ) (before : Bool) → Reads text from list to → Agrees from.mode list before (is_open false symbols)
-    → (last : Bool) × Agrees to.mode [] last (is_open false (symbols_from text symbols end before list))
-reads text [] from to symbols end before h a = (before, subst (λ (c : Cursor). Agrees c.mode [] before (is_open false symbols)) h a)
+reads : (text : List ℕ) (list : List Token) (from to : Cursor) (symbols : List Symbol) (end : ℕ) (before : Bool) → Reads text from list to → Agrees from.state list before (is_open false symbols)
+    → (last : Bool) × Agrees to.state [] last (is_open false (symbols_from text symbols end before list))
+reads text [] from to symbols end before h a = (before, subst (λ (c : Cursor). Agrees c.state [] before (is_open false symbols)) h a)
 reads text (t ∷ list) from to symbols end before h a =
     let with_it = add text symbols end before (begins_comment list) t in
     let o = kind_of t.kind text t before (begins_comment list) in
     let next = agrees t.kind text t list from h.0 before (is_open false symbols) refl h.1 a in
     let same : open_with o (is_open false symbols) ≡ is_open false with_it = sym (puts_kind symbols o _ _) in
-    reads text list h.0 to with_it t.end (is_comment t) h.2 (subst (λ b. Agrees h.0.mode list (is_comment t) b) same next)
+    reads text list h.0 to with_it t.end (is_comment t) h.2 (subst (λ b. Agrees h.0.state list (is_comment t) b) same next)
 
 outside_is : (m : Mode) → is_inside m ≡ false → m ≡ mode.Outside
 outside_is mode.Outside e = refl

@@ -155,7 +155,7 @@ ok_answers name text list (Err file_refused.Memory) are h = tt
 
 -- no other tokens, and no refusal of tokens
 abbrev pub AreAll : List ℕ → List Token → Type 0
-AreAll text list = ((other : List Token) → AreTokens text other → token_answers.Gives (Ok list) (Ok other)) × ((why : TokenRefused) → tokens.IsRefused text why → token_answers.Gives (Ok list) (Err why))
+AreAll text list = ((other : List Token) → AreTokens text other → token_answers.IsOrOutOfMemory (Ok list) (Ok other)) × ((why : TokenRefused) → tokens.IsRefused text why → token_answers.IsOrOutOfMemory (Ok list) (Err why))
 
 abbrev tokens_as : List Token → Result (List Token) TokenRefused
 tokens_as list = Ok list
@@ -222,7 +222,7 @@ ok_refused name text list r all h (file_refused.Parse why line) is =
 ok_refused name text list r all h file_refused.Memory is = absurd is
 
 -- what was returned, where the text has no tokens
-pub err_answers : (name text : List ℕ) (why : TokenRefused) → token_answers.Answers text (Err why) → Answers name text (Err (token_refusal text why))
+pub err_answers : (name text : List ℕ) (why : TokenRefused) → token_answers.TokensAnswers text (Err why) → Answers name text (Err (token_refusal text why))
 err_answers name text (token_refused.UnclosedAction place) h = (place, h, refl, refl)
 err_answers name text (token_refused.BadCharacter place) h = (place, h, refl, refl)
 err_answers name text (token_refused.UnclosedString place) h = (place, h, refl, refl)
@@ -234,7 +234,7 @@ err_answers name text token_refused.Memory h = tt
 
 -- no tokens
 abbrev pub HasNone : List ℕ → TokenRefused → Type 0
-HasNone text why = ((list : List Token) → AreTokens text list → token_answers.Gives {X = List Token} (Err why) (Ok list)) × ((other : TokenRefused) → tokens.IsRefused text other → token_answers.Gives {X = List Token} (Err why) (Err other))
+HasNone text why = ((list : List Token) → AreTokens text list → token_answers.IsOrOutOfMemory {X = List Token} (Err why) (Ok list)) × ((other : TokenRefused) → tokens.IsRefused text other → token_answers.IsOrOutOfMemory {X = List Token} (Err why) (Err other))
 
 tokens_refused : {list : List Token} {why : TokenRefused} → tokens_as list ≡ Err why → ⊥
 tokens_refused e = cc

@@ -24,8 +24,8 @@ use Rattle.tpl_token.specs.Grammar.{cursor, MayClose, IsInAction, IsInner, Stand
 use Rattle.tpl_token.specs.Lexemes.{EndsWord, IsLexeme}
 use Rattle.tpl_token.specs.Texts.{text_len, trims_before, kept_end}
 use Rattle.tpl_token.specs.declared.cursor.Cursor.{Cursor}
-use Rattle.tpl_token.specs.declared.cursor.Mode.{Mode}
-use Rattle.tpl_token.specs.declared.cursor.Mode.TheVariants as mode
+use Rattle.tpl_token.specs.declared.cursor.State.{State}
+use Rattle.tpl_token.specs.declared.cursor.State.TheVariants as state
 use Rattle.tpl_token.specs.declared.token.Token.{Token}
 use Rattle.tpl_token.specs.declared.token.TokenKind.{TokenKind}
 use Rattle.tpl_token.specs.declared.token.TokenKind.TheVariants as kind
@@ -140,10 +140,10 @@ is_symbol kind.Left bytes rest text t b a l e = record { is = symbol.Left; means
 is_symbol kind.Right bytes rest text t b a l e = record { is = symbol.Right; means = refl; kind = refl; no_text = λ m s f. cc; no_comment = refl }
 
 -- one more token of an action, after white space or not
-one_token : (text : List ℕ) (m : Mode) (at opened start end : ℕ) (what : TokenKind) (between bytes rest : List ℕ) (ps : List Piece) (done : List Symbol) (b : Bool) (p : Piece)
+one_token : (text : List ℕ) (m : State) (at opened start end : ℕ) (what : TokenKind) (between bytes rest : List ℕ) (ps : List Piece) (done : List Symbol) (b : Bool) (p : Piece)
     → IsInAction m opened → list_all is_white between ≡ true → drop at text ≡ between ++ (bytes ++ rest) → IsLexeme what bytes rest → start ≡ at + length between → end ≡ start + length bytes
     → ((s : Symbol) → meaning what bytes ≡ Some s.kind → s.touches ≡ (start == at) → IsOf p s)
-    → ((done : List Symbol) → drop end text ≡ rest → Scanned text (cursor (mode.Action opened) end) ps done end false)
+    → ((done : List Symbol) → drop end text ≡ rest → Scanned text (cursor (state.Action opened) end) ps done end false)
     → Scanned text (cursor m at) (p ∷ ps) done at b
 one_token text m at opened start end what between bytes rest ps done b p inside white here_is lexeme starts ends is_of more =
     let t = token_at what start end in
@@ -152,15 +152,15 @@ one_token text m at opened start end what between bytes rest ps done b p inside 
     let its : bytes_of text t ≡ bytes = here text start end bytes rest ends there in
     let sym_is : (after : Bool) → IsSymbol what bytes text t b after = λ after. is_symbol what bytes rest text t b after lexeme its in
     let s : Symbol = symbol_at (sym_is false).is (line_of text start) (start == at) in
-    let r : Scanned text (cursor (mode.Action opened) end) ps (done ++ s ∷ []) end false = more (done ++ s ∷ []) later in
+    let r : Scanned text (cursor (state.Action opened) end) ps (done ++ s ∷ []) end false = more (done ++ s ∷ []) later in
     let put_is : put_kind done (kind_of what text t b (begins_comment r.tokens)) (line_of text start) (start == at) ≡ done ++ s ∷ []
     = ap (λ (k : Option SymbolKind). put_kind done k (line_of text start) (start == at)) (ap (λ (a : Bool). kind_of what text t b a) r.no_comment ∙ (sym_is false).kind) ∙ put_behind done s (sym_is false).no_text in
     record {
       tokens = t ∷ r.tokens;
       last = r.last;
       reads = (
-        cursor (mode.Action opened) end,
-        inner_stands what bytes rest text (cursor m at) start end (cursor (mode.Action opened) end) lexeme
+        cursor (state.Action opened) end,
+        inner_stands what bytes rest text (cursor m at) start end (cursor (state.Action opened) end) lexeme
             (record { opened = opened; place = inside; between = between; lexeme = bytes; more = rest; spelled = here_is; white = white; lexeme_is = lexeme; starts = starts; ends = ends; goes = refl }),
         r.reads,
       );
@@ -171,26 +171,26 @@ one_token text m at opened start end what between bytes rest ps done b p inside 
       says = (is_of s (sym_is false).means refl, r.says);
     }
 
-may_close : (m : Mode) (opened : ℕ) → IsInAction m opened → MayClose m (32 ∷ []) false
-may_close (mode.Text trims) opened h = absurd h
-may_close (mode.Opened trims place) opened h = (refl, λ e. cc)
-may_close (mode.Action place) opened h = (refl, λ e. cc)
-may_close mode.Commented opened h = absurd h
+may_close : (m : State) (opened : ℕ) → IsInAction m opened → MayClose m (32 ∷ []) false
+may_close (state.Text trims) opened h = absurd h
+may_close (state.Opened trims place) opened h = (refl, λ e. cc)
+may_close (state.Action place) opened h = (refl, λ e. cc)
+may_close state.Commented opened h = absurd h
 
 -- the end of an action
-one_close : (text : List ℕ) (m : Mode) (at opened : ℕ) (rest : List ℕ) (ps : List Piece) (done : List Symbol) → IsInAction m opened → drop at text ≡ codes " }}" ++ rest
-    → ((done : List Symbol) → Closed done → drop (at + 3) text ≡ rest → Scanned text (cursor (mode.Text false) (at + 3)) ps done (at + 3) false)
+one_close : (text : List ℕ) (m : State) (at opened : ℕ) (rest : List ℕ) (ps : List Piece) (done : List Symbol) → IsInAction m opened → drop at text ≡ codes " }}" ++ rest
+    → ((done : List Symbol) → Closed done → drop (at + 3) text ≡ rest → Scanned text (cursor (state.Text false) (at + 3)) ps done (at + 3) false)
     → Scanned text (cursor m at) (closes ∷ ps) done at false
 one_close text m at opened rest ps done inside here_is more =
     let end = at + 3 in
     let t = token_at kind.Close (at + 1) end in
     let s : Symbol = symbol_at (symbol.Close end) (line_of text (at + 1)) (at + 1 == at) in
-    let r : Scanned text (cursor (mode.Text false) end) ps (done ++ s ∷ []) end false = more (done ++ s ∷ []) (closed_behind done s (λ m f e. cc)) (behind text at (codes " }}") rest here_is) in
+    let r : Scanned text (cursor (state.Text false) end) ps (done ++ s ∷ []) end false = more (done ++ s ∷ []) (closed_behind done s (λ m f e. cc)) (behind text at (codes " }}") rest here_is) in
     record {
       tokens = t ∷ r.tokens;
       last = r.last;
       reads = (
-        cursor (mode.Text false) end,
+        cursor (state.Text false) end,
         record { trims = false; between = codes " "; more = rest; spelled = here_is; allowed = may_close m opened inside; starts = refl; ends = omega arith; goes = refl },
         r.reads,
       );
@@ -203,13 +203,13 @@ one_close text m at opened rest ps done inside here_is more =
 
 -- the beginning of an action that no comment begins
 one_open : (text : List ℕ) (at : ℕ) (rest : List ℕ) (ps : List Piece) (done : List Symbol) (place : ℕ) → drop at text ≡ codes "{{ " ++ rest
-    → ((done : List Symbol) → drop (at + 2) text ≡ 32 ∷ rest → Scanned text (cursor (mode.Opened false at) (at + 2)) ps done (at + 2) false)
-    → Scanned text (cursor (mode.Text false) at) (opens ∷ ps) done place false
+    → ((done : List Symbol) → drop (at + 2) text ≡ 32 ∷ rest → Scanned text (cursor (state.Opened false at) (at + 2)) ps done (at + 2) false)
+    → Scanned text (cursor (state.Text false) at) (opens ∷ ps) done place false
 one_open text at rest ps done place here_is more =
     let end = at + 2 in
     let t = token_at kind.Open at end in
     let s : Symbol = symbol_at (symbol.Open at (line_of text (at - 1))) (line_of text at) (at == place) in
-    let r : Scanned text (cursor (mode.Opened false at) end) ps (done ++ s ∷ []) end false = more (done ++ s ∷ []) (behind text at (codes "{{") (32 ∷ rest) here_is) in
+    let r : Scanned text (cursor (state.Opened false at) end) ps (done ++ s ∷ []) end false = more (done ++ s ∷ []) (behind text at (codes "{{") (32 ∷ rest) here_is) in
     let kind_is : kind_of kind.Open text t false (begins_comment r.tokens) ≡ Some (symbol.Open at (line_of text (at - 1))) = ap (λ (a : Bool). kind_of kind.Open text t false a) r.no_comment in
     let len : text_len (drop at text) ≡ 0 = ap text_len here_is in
     let kept : kept_end (drop at text) ≡ 0 = ap kept_end here_is in
@@ -217,7 +217,7 @@ one_open text at rest ps done place here_is more =
       tokens = t ∷ r.tokens;
       last = r.last;
       reads = (
-        cursor (mode.Opened false at) end,
+        cursor (state.Opened false at) end,
         record {
           trims = false;
           no_text = record { trims = false; place = refl; nothing_left = omega (arith, kept); up_to = omega (arith, len) };
@@ -279,7 +279,7 @@ append_nil (x ∷ xs) = ap (λ (ys : List ℕ). x ∷ ys) (append_nil xs)
 
 -- nothing is left of the text, and no token ends it
 no_more_text : (text : List ℕ) (at place : ℕ) (ps : List Piece) (whole acc : List ℕ) (base done : List Symbol) → Holds base acc done → whole ≢ [] → whole ≡ acc ++ []
-    → Scanned text (cursor (mode.Text false) at) ps done place false → TextScanned text (cursor (mode.Text false) at) (words whole ∷ ps) base done place
+    → Scanned text (cursor (state.Text false) at) ps done place false → TextScanned text (cursor (state.Text false) at) (words whole ∷ ps) base done place
 no_more_text text at place ps whole acc base done (inl h) some is r = absurd (some (is ∙ ap (λ (xs : List ℕ). xs ++ []) h.0))
 no_more_text text at place ps whole acc base done (inr h) some is r = record {
   tokens = r.tokens;
@@ -295,8 +295,8 @@ no_more_text text at place ps whole acc base done (inr h) some is r = record {
 -- the last token of a text
 last_text : (text : List ℕ) (at place b : ℕ) (ps : List Piece) (whole acc bs tail : List ℕ) (base done : List Symbol) → Holds base acc done → list_all is_free (b ∷ bs) ≡ true
     → whole ≡ acc ++ (b ∷ bs) → drop at text ≡ (b ∷ bs) ++ tail → text_len tail ≡ 0 → trims_before tail ≡ false
-    → ((at place : ℕ) (done : List Symbol) → at ≤ length text → drop at text ≡ tail → Scanned text (cursor (mode.Text false) at) ps done place false)
-    → TextScanned text (cursor (mode.Text false) at) (words whole ∷ ps) base done place
+    → ((at place : ℕ) (done : List Symbol) → at ≤ length text → drop at text ≡ tail → Scanned text (cursor (state.Text false) at) ps done place false)
+    → TextScanned text (cursor (state.Text false) at) (words whole ∷ ps) base done place
 last_text text at place b ps whole acc bs tail base done holds free is here_is none keeps more =
     let front = b ∷ bs in
     let end = at + length front in
@@ -307,21 +307,21 @@ last_text text at place b ps whole acc bs tail base done holds free is here_is n
     let new = put_text base done acc front line touches holds in
     let s = new.0 in
     let put_is : put done (symbol_at (symbol.Text (bytes_of text t) []) line touches) ≡ base ++ s ∷ [] = ap (λ (x : List ℕ). put done (symbol_at (symbol.Text x []) line touches)) its ∙ new.3 in
-    let r : Scanned text (cursor (mode.Text false) end) ps (base ++ s ∷ []) end false = more end end (base ++ s ∷ []) (within text at front tail here_is (omega arith)) (behind text at front tail here_is) in
+    let r : Scanned text (cursor (state.Text false) end) ps (base ++ s ∷ []) end false = more end end (base ++ s ∷ []) (within text at front tail here_is (omega arith)) (behind text at front tail here_is) in
     let len : text_len (drop at text) ≡ length front = ap text_len here_is ∙ len_plain front tail free none in
     let kept : kept_end (drop at text) ≡ length front = ap kept_end here_is ∙ kept_plain front tail free none keeps in
     record {
       tokens = t ∷ r.tokens;
       last = r.last;
       reads = (
-        cursor (mode.Text false) end,
+        cursor (state.Text false) end,
         record {
           trims = false;
           place = refl;
           starts = omega arith;
           ends = omega (arith, kept);
           not_empty = omega arith;
-          goes = ap (λ (n : ℕ). cursor (mode.Text false) (at + n)) (sym len);
+          goes = ap (λ (n : ℕ). cursor (state.Text false) (at + n)) (sym len);
         },
         r.reads,
       );
@@ -335,8 +335,8 @@ last_text text at place b ps whole acc bs tail base done holds free is here_is n
 -- a token of a text up to a brace, and the comment after it
 braced_text : (text : List ℕ) (at place : ℕ) (ps : List Piece) (acc front after : List ℕ) (base done : List Symbol) → Holds base acc done → list_all is_free front ≡ true
     → drop at text ≡ (front ++ codes "{ ") ++ guard after
-    → ((at place : ℕ) (done : List Symbol) → at ≤ length text → Holds base (acc ++ (front ++ codes "{")) done → drop at text ≡ after → TextScanned text (cursor (mode.Text false) at) ps base done place)
-    → TextScanned text (cursor (mode.Text false) at) ps base done place
+    → ((at place : ℕ) (done : List Symbol) → at ≤ length text → Holds base (acc ++ (front ++ codes "{")) done → drop at text ≡ after → TextScanned text (cursor (state.Text false) at) ps base done place)
+    → TextScanned text (cursor (state.Text false) at) ps base done place
 braced_text text at place ps acc front after base done holds free here_is more =
     let n = length front in
     let end = at + (n + 1) in
@@ -352,7 +352,7 @@ braced_text text at place ps acc front after base done holds free here_is more =
     let opening : drop mark text ≡ guard after = ap (λ (k : ℕ). drop k text) (omega (arith, length-append front (codes "{ "))) ∙ behind text at (front ++ codes "{ ") (guard after) here_is in
     let commenting : drop (mark + 3) text ≡ codes " /**/}}" ++ after = behind text mark (codes "{{-") (codes " /**/}}" ++ after) opening in
     let closing : drop (mark + 8) text ≡ codes "}}" ++ after = behind text mark (codes "{{- /**/") (codes "}}" ++ after) opening in
-    let r : TextScanned text (cursor (mode.Text false) close) ps base (base ++ new.0 ∷ []) close
+    let r : TextScanned text (cursor (state.Text false) close) ps base (base ++ new.0 ∷ []) close
     = more close close (base ++ new.0 ∷ []) (within text mark (codes "{{- /**/}}") after opening (omega arith)) (inr (new.0, new.1, new.2, refl)) (behind text mark (codes "{{- /**/}}") after opening) in
     let len : text_len (drop at text) ≡ n + 2 = ap text_len here_is ∙ at_guard front after free in
     let kept : kept_end (drop at text) ≡ n + 1 = ap kept_end here_is ∙ kept_guard front after free in
@@ -362,17 +362,17 @@ braced_text text at place ps acc front after base done holds free here_is more =
       tokens = t ∷ token_at kind.Open mark (mark + 3) ∷ token_at kind.Comment (mark + 4) (mark + 8) ∷ token_at kind.Close (mark + 8) close ∷ r.tokens;
       last = r.last;
       reads = (
-        cursor (mode.Text false) mark,
+        cursor (state.Text false) mark,
         record {
           trims = false;
           place = refl;
           starts = omega arith;
           ends = omega (arith, kept);
           not_empty = omega arith;
-          goes = ap (λ (n : ℕ). cursor (mode.Text false) (at + n)) (sym len);
+          goes = ap (λ (n : ℕ). cursor (state.Text false) (at + n)) (sym len);
         },
         (
-          cursor (mode.Opened true mark) (mark + 3),
+          cursor (state.Opened true mark) (mark + 3),
           record {
             trims = true;
             no_text = record { trims = false; place = refl; nothing_left = omega (arith, no_kept); up_to = omega (arith, no_len) };
@@ -382,7 +382,7 @@ braced_text text at place ps acc front after base done holds free here_is more =
             goes = refl;
           },
           (
-            cursor mode.Commented (mark + 8),
+            cursor state.Commented (mark + 8),
             record {
               trims = true;
               opened = mark;
@@ -396,7 +396,7 @@ braced_text text at place ps acc front after base done holds free here_is more =
               goes = refl;
             },
             (
-              cursor (mode.Text false) close,
+              cursor (state.Text false) close,
               record {
                 trims = false;
                 between = [];
@@ -421,9 +421,9 @@ braced_text text at place ps acc front after base done holds free here_is more =
 
 -- a text, of which `acc` is read, and `front` is known to have no brace
 scan_text : (text : List ℕ) (ps : List Piece) (tail whole : List ℕ) → whole ≢ [] → text_len tail ≡ 0 → trims_before tail ≡ false
-    → ((at place : ℕ) (done : List Symbol) → at ≤ length text → drop at text ≡ tail → Scanned text (cursor (mode.Text false) at) ps done place false)
+    → ((at place : ℕ) (done : List Symbol) → at ≤ length text → drop at text ≡ tail → Scanned text (cursor (state.Text false) at) ps done place false)
     → (bytes front acc : List ℕ) (at place : ℕ) (base done : List Symbol) → at ≤ length text → Holds base acc done → list_all is_free front ≡ true → whole ≡ acc ++ (front ++ bytes)
-    → drop at text ≡ front ++ (guarded bytes ++ tail) → TextScanned text (cursor (mode.Text false) at) (words whole ∷ ps) base done place
+    → drop at text ≡ front ++ (guarded bytes ++ tail) → TextScanned text (cursor (state.Text false) at) (words whole ∷ ps) base done place
 scan_text text ps tail whole some none keeps more [] [] acc at place base done inside holds free is here_is = no_more_text text at place ps whole acc base done holds some is (more at place done inside here_is)
 scan_text text ps tail whole some none keeps more [] (b ∷ bs) acc at place base done inside holds free is here_is =
     last_text text at place b ps whole acc bs tail base done holds free (is ∙ ap (λ (xs : List ℕ). acc ++ xs) (append_nil (b ∷ bs))) here_is none keeps more
@@ -485,17 +485,17 @@ same at = grind (arith, nat_tests)
 field_is : (n : List ℕ) (k : SymbolKind) → meaning kind.Field (46 ∷ n) ≡ Some k → k ≡ symbol.Field n
 field_is n k e = cc
 
-whole_text : (text : List ℕ) (at place : ℕ) (ps : List Piece) (done : List Symbol) → TextScanned text (cursor (mode.Text false) at) ps done done place → Scanned text (cursor (mode.Text false) at) ps done place false
+whole_text : (text : List ℕ) (at place : ℕ) (ps : List Piece) (done : List Symbol) → TextScanned text (cursor (state.Text false) at) ps done done place → Scanned text (cursor (state.Text false) at) ps done place false
 whole_text text at place ps done r = record { tokens = r.tokens; last = r.last; reads = r.reads; ends = r.ends; no_comment = r.no_comment; added = r.added; all = r.all; says = r.says }
 
 -- at the end
-scan_end : (text : List ℕ) (at place : ℕ) (done : List Symbol) → at ≤ length text → drop at text ≡ [] → Scanned text (cursor (mode.Text false) at) [] done place false
+scan_end : (text : List ℕ) (at place : ℕ) (done : List Symbol) → at ≤ length text → drop at text ≡ [] → Scanned text (cursor (state.Text false) at) [] done place false
 scan_end text at place done inside here_is =
     let len : text_len (drop at text) ≡ 0 = ap text_len here_is in
     let kept : kept_end (drop at text) ≡ 0 = ap kept_end here_is in
     record {
       tokens = [];
-      last = cursor (mode.Text false) at;
+      last = cursor (state.Text false) at;
       reads = refl;
       ends = record { trims = false; place = refl; nothing_left = omega (arith, kept); up_to = omega (arith, len, length-drop at text, ap length here_is, inside) };
       no_comment = refl;
@@ -506,7 +506,7 @@ scan_end text at place done inside here_is =
 
 mutual
   -- inside an action
-  scan_in : (text : List ℕ) (ps : List Piece) (m : Mode) (at opened : ℕ) (done : List Symbol) → IsInAction m opened → FitIn ps → drop at text ≡ spelled ps → Scanned text (cursor m at) ps done at false
+  scan_in : (text : List ℕ) (ps : List Piece) (m : State) (at opened : ℕ) (done : List Symbol) → IsInAction m opened → FitIn ps → drop at text ≡ spelled ps → Scanned text (cursor m at) ps done at false
   scan_in text [] m at opened done inside fits here_is = absurd fits
   scan_in text (words bytes ∷ ps) m at opened done inside fits here_is = absurd fits
   scan_in text (opens ∷ ps) m at opened done inside fits here_is = absurd fits
@@ -517,27 +517,27 @@ mutual
       one_token text m at opened (at + 1) (at + 1 + length bytes) what (codes " ") bytes (spelled ps) ps done false (token what bytes) inside refl here_is
       (fits.0 (spelled ps) (ends_word ps fits.2) (λ number. no_dot ps (fits.1 number))) (omega arith) (omega arith)
       (λ s means touches. (means, touches ∙ later at))
-      (λ done there. scan_in text ps (mode.Action opened) (at + 1 + length bytes) opened done refl fits.2 there)
+      (λ done there. scan_in text ps (state.Action opened) (at + 1 + length bytes) opened done refl fits.2 there)
   scan_in text (field n ∷ ps) m at opened done inside fits here_is =
       one_token text m at opened at (at + length (46 ∷ n)) kind.Field [] (46 ∷ n) (spelled ps) ps done false (field n) inside refl here_is
       (n, refl, fits.0, ends_word ps fits.1) (omega arith) (omega arith)
       (λ s means touches. (field_is n s.kind means, touches ∙ same at))
-      (λ done there. scan_in text ps (mode.Action opened) (at + length (46 ∷ n)) opened done refl fits.1 there)
+      (λ done there. scan_in text ps (state.Action opened) (at + length (46 ∷ n)) opened done refl fits.1 there)
 
   -- after a text
-  scan_open : (text : List ℕ) (ps : List Piece) (at place : ℕ) (done : List Symbol) → at ≤ length text → OpenHead ps → FitOut ps → drop at text ≡ spelled ps → Scanned text (cursor (mode.Text false) at) ps done place false
+  scan_open : (text : List ℕ) (ps : List Piece) (at place : ℕ) (done : List Symbol) → at ≤ length text → OpenHead ps → FitOut ps → drop at text ≡ spelled ps → Scanned text (cursor (state.Text false) at) ps done place false
   scan_open text [] at place done inside open_head fits here_is = scan_end text at place done inside here_is
   scan_open text (words bytes ∷ ps) at place done inside open_head fits here_is = absurd open_head
   scan_open text (opens ∷ ps) at place done inside open_head fits here_is =
       let is = spaced_is ps fits.0 in
       one_open text at is.0 ps done place (here_is ∙ ap (λ (xs : List ℕ). codes "{{" ++ xs) is.1)
-      (λ done there. scan_in text ps (mode.Opened false at) (at + 2) at done refl fits.1 (there ∙ sym is.1))
+      (λ done there. scan_in text ps (state.Opened false at) (at + 2) at done refl fits.1 (there ∙ sym is.1))
   scan_open text (closes ∷ ps) at place done inside open_head fits here_is = absurd open_head
   scan_open text (token what bytes ∷ ps) at place done inside open_head fits here_is = absurd open_head
   scan_open text (field n ∷ ps) at place done inside open_head fits here_is = absurd open_head
 
   -- outside of actions, where no text is before
-  scan_out : (text : List ℕ) (ps : List Piece) (at place : ℕ) (done : List Symbol) → at ≤ length text → Closed done → FitOut ps → drop at text ≡ spelled ps → Scanned text (cursor (mode.Text false) at) ps done place false
+  scan_out : (text : List ℕ) (ps : List Piece) (at place : ℕ) (done : List Symbol) → at ≤ length text → Closed done → FitOut ps → drop at text ≡ spelled ps → Scanned text (cursor (state.Text false) at) ps done place false
   scan_out text [] at place done inside closed fits here_is = scan_end text at place done inside here_is
   scan_out text (words bytes ∷ ps) at place done inside closed fits here_is =
       let ends = ends_text ps fits.1 fits.2 in
@@ -547,7 +547,7 @@ mutual
   scan_out text (opens ∷ ps) at place done inside closed fits here_is =
       let is = spaced_is ps fits.0 in
       one_open text at is.0 ps done place (here_is ∙ ap (λ (xs : List ℕ). codes "{{" ++ xs) is.1)
-      (λ done there. scan_in text ps (mode.Opened false at) (at + 2) at done refl fits.1 (there ∙ sym is.1))
+      (λ done there. scan_in text ps (state.Opened false at) (at + 2) at done refl fits.1 (there ∙ sym is.1))
   scan_out text (closes ∷ ps) at place done inside closed fits here_is = absurd fits
   scan_out text (token what bytes ∷ ps) at place done inside closed fits here_is = absurd fits
   scan_out text (field n ∷ ps) at place done inside closed fits here_is = absurd fits

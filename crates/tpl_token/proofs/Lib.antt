@@ -12,5 +12,6 @@ pub mod NextStands
 pub mod NumberLaws
 pub mod Quotes
 pub mod Raws
+pub mod Runs
 pub mod StringLaws
 pub mod TokenCuts

@@ -1,10 +1,10 @@
 -- What it says that bytes begin with a mark, and that a run of bytes ends.
-use Rattle.std.proofs.Common.{◌≡◌, ℕ, suc, ◌+◌, ◌<◌, ◌≤◌, Bool, true, false, cond, ◌&&◌, List, [], ◌∷◌, ◌++◌, length, take, drop, nat_eq, codes, ◌==◌, refl, sym, ap, ◌∙◌, arith, true≢false}
+use Rattle.std.proofs.Common.{◌≡◌, ℕ, suc, ◌+◌, ◌<◌, ◌≤◌, Bool, true, false, cond, ◌&&◌, List, [], ◌∷◌, ◌++◌, length, get_or, take, drop, nat_eq, codes, ◌==◌, refl, sym, ap, ◌∙◌, arith, true≢false}
 use Rattle.std.proofs.lemmas.List.{take_at, drop-drop, take-append-drop, length-append}
 use Rattle.std.proofs.lemmas.Slice.Eq.{bytes_eq-Decides}
 use Rattle.std.proofs.lemmas.Bool.Decides.{nat_tests}
 use Rattle.std.specs.List.{list_all, prefix_len}
-use Rattle.tpl_token.specs.Characters.{begins, first_is}
+use Rattle.tpl_token.specs.Characters.{begins, first_is, is_other}
 use Rattle.tpl_token.specs.Texts.{bytes_before}
 
 -- how a choice came out
@@ -93,3 +93,25 @@ before_here mark (b ∷ bs) e = rw e refl
 pub before_next : (mark bytes : List ℕ) → 0 < length bytes → begins mark bytes ≡ false → bytes_before mark bytes ≡ 1 + bytes_before mark (drop 1 bytes)
 before_next mark [] some e = absurd (omega arith)
 before_next mark (b ∷ bs) some e = rw e refl
+
+other_first : (first : ℕ) (mark : List ℕ) (b : ℕ) (bs : List ℕ) → nat_eq b first ≡ false → begins (first ∷ mark) (b ∷ bs) ≡ false
+other_first first mark b bs f = either (begins (first ∷ mark) (b ∷ bs))
+    (λ t. let same : b ≡ first = heads (begins-is (first ∷ mark) (b ∷ bs) t) in let e : nat_eq b first ≡ true = grind (arith, nat_tests) in absurd (true≢false (sym e ∙ f)))
+    (λ f. f)
+
+-- what is no mark's first byte is before it
+pub before_run : (first : ℕ) (mark bytes : List ℕ) (run : ℕ) → run ≡ prefix_len (is_other first) bytes → bytes_before (first ∷ mark) bytes ≡ run + bytes_before (first ∷ mark) (drop run bytes)
+before_run first mark [] run is = rw is refl
+before_run first mark (b ∷ bs) run is = either (b == first)
+    (λ t. let none : run ≡ 0 = is ∙ rw t refl in rw none (omega arith))
+    (λ f. let next : run ≡ suc (prefix_len (is_other first) bs) = is ∙ rw f (one_more (prefix_len (is_other first) bs)) in
+    let no : begins (first ∷ mark) (b ∷ bs) ≡ false = other_first first mark b bs f in
+    rw (next, no) (omega (arith, before_run first mark bs (prefix_len (is_other first) bs) refl)))
+
+pub before_from : (mark bytes : List ℕ) (run : ℕ) → 0 < length mark → run ≡ prefix_len (is_other (get_or mark 0 0)) bytes → bytes_before mark bytes ≡ run + bytes_before mark (drop run bytes)
+before_from [] bytes run some is = absurd (omega (arith, some))
+before_from (first ∷ mark) bytes run some is = before_run first mark bytes run is
+
+pub before_nothing : (mark bytes : List ℕ) → length bytes ≡ 0 → bytes_before mark bytes ≡ 0
+before_nothing mark [] e = refl
+before_nothing mark (b ∷ bs) e = absurd (omega (arith, e))

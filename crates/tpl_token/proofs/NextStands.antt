@@ -11,8 +11,8 @@ use Rattle.tpl_token.specs.Refusals.{begins_comment, IsAt, Misses, Cause}
 use Rattle.tpl_token.specs.Scanning.{Advance, Found, Step, some_next, step, inner_step, lexeme_at, inner_at, inside_at, opened_at, comment_at, commented_at, open_at, text_at, advance}
 use Rattle.tpl_token.specs.Texts.{bytes_before, text_len, trims_before, kept_start, kept_end}
 use Rattle.tpl_token.specs.declared.cursor.Cursor.{Cursor}
-use Rattle.tpl_token.specs.declared.cursor.Mode.{Mode}
-use Rattle.tpl_token.specs.declared.cursor.Mode.TheVariants as mode
+use Rattle.tpl_token.specs.declared.cursor.State.{State}
+use Rattle.tpl_token.specs.declared.cursor.State.TheVariants as state
 use Rattle.tpl_token.specs.declared.refused.TokenRefused.{TokenRefused}
 use Rattle.tpl_token.specs.declared.refused.TokenRefused.TheVariants as refused
 use Rattle.tpl_token.specs.declared.token.Token.{Token}
@@ -52,17 +52,17 @@ some_left : (n : ℕ) → nat_eq n 0 ≡ false → 0 < n
 some_left n e = grind (arith, nat_tests)
 
 says_open : (text : List ℕ) (trims : Bool) (at : ℕ) → at ≤ length text → kept_end (drop at text) ≤ kept_start trims (drop at text) → (o : Option (Token × Cursor))
-    → open_at (at + text_len (drop at text)) (drop (text_len (drop at text)) (drop at text)) ≡ o → SaysNext text (cursor (mode.Text trims) at) (Ok o)
+    → open_at (at + text_len (drop at text)) (drop (text_len (drop at text)) (drop at text)) ≡ o → SaysNext text (cursor (state.Text trims) at) (Ok o)
 says_open text trims at fits none o e =
     let rest = drop at text in
     let n = text_len rest in
     let there : drop n rest ≡ drop (at + n) text = drop-drop n at text in
     split (nat_eq (length (drop n rest)) 0) e
     (λ t e. let empty = none_left (length (drop n rest)) t in
-    subst (λ o. SaysNext text (cursor (mode.Text trims) at) (Ok o)) e
+    subst (λ o. SaysNext text (cursor (state.Text trims) at) (Ok o)) e
     (record { trims = trims; place = refl; nothing_left = none; up_to = omega (arith, empty, length-drop n rest, length-drop at text, before_fits (codes "{{") rest, fits) }))
     (λ f e. let some = some_left (length (drop n rest)) f in
-    subst (λ o. SaysNext text (cursor (mode.Text trims) at) (Ok o)) e
+    subst (λ o. SaysNext text (cursor (state.Text trims) at) (Ok o)) e
     (record {
       trims = trims_before (drop n rest);
       no_text = record { trims = trims; place = refl; nothing_left = none; up_to = refl };
@@ -72,20 +72,20 @@ says_open text trims at fits none o e =
       goes = refl;
     }))
 
-says_text : (text : List ℕ) (trims : Bool) (at : ℕ) → at ≤ length text → (o : Option (Token × Cursor)) → text_at trims at (drop at text) ≡ o → SaysNext text (cursor (mode.Text trims) at) (Ok o)
+says_text : (text : List ℕ) (trims : Bool) (at : ℕ) → at ≤ length text → (o : Option (Token × Cursor)) → text_at trims at (drop at text) ≡ o → SaysNext text (cursor (state.Text trims) at) (Ok o)
 says_text text trims at fits o e =
     let rest = drop at text in
     split (nat_lt (kept_start trims rest) (kept_end rest)) e
-    (λ t e. subst (λ o. SaysNext text (cursor (mode.Text trims) at) (Ok o)) e
+    (λ t e. subst (λ o. SaysNext text (cursor (state.Text trims) at) (Ok o)) e
     (record { trims = trims; place = refl; starts = refl; ends = refl; not_empty = omega (arith, lesser (kept_start trims rest) (kept_end rest) t); goes = refl }))
     (λ f e. says_open text trims at fits (no_lesser (kept_start trims rest) (kept_end rest) f) o e)
 
 -- an action may end after white space
-may_close : (m : Mode) (opened : ℕ) (between : List ℕ) (trims : Bool) → IsInAction m opened → list_all is_white between ≡ true → (trims ≡ true → between ≢ []) → MayClose m between trims
-may_close (mode.Text _) opened between trims h white some = absurd h
-may_close (mode.Opened _ _) opened between trims h white some = (white, some)
-may_close (mode.Action _) opened between trims h white some = (white, some)
-may_close mode.Commented opened between trims h white some = absurd h
+may_close : (m : State) (opened : ℕ) (between : List ℕ) (trims : Bool) → IsInAction m opened → list_all is_white between ≡ true → (trims ≡ true → between ≢ []) → MayClose m between trims
+may_close (state.Text _) opened between trims h white some = absurd h
+may_close (state.Opened _ _) opened between trims h white some = (white, some)
+may_close (state.Action _) opened between trims h white some = (white, some)
+may_close state.Commented opened between trims h white some = absurd h
 
 -- a token of an action
 inner_stands : (what : TokenKind) (bytes rest text : List ℕ) (from : Cursor) (start end : ℕ) (to : Cursor) → IsLexeme what bytes rest → IsInner what text from start end to → Stands what text from start end to
@@ -117,11 +117,11 @@ caused (refused.UnclosedString p) text from at bytes a h = (at, bytes, a, h)
 caused (refused.BadNumber p) text from at bytes a h = (at, bytes, a, h)
 caused (refused.BadEscape p) text from at bytes a h = (at, bytes, a, h)
 
-says_inner : (text : List ℕ) (m : Mode) (at opened : ℕ) (between bytes : List ℕ) → IsInAction m opened → begins_comment m (drop at text) ≡ false → drop at text ≡ between ++ bytes → list_all is_white between ≡ true → first_is is_white bytes ≡ false
+says_inner : (text : List ℕ) (m : State) (at opened : ℕ) (between bytes : List ℕ) → IsInAction m opened → begins_comment m (drop at text) ≡ false → drop at text ≡ between ++ bytes → list_all is_white between ≡ true → first_is is_white bytes ≡ false
     → (r : Found) → SaysLexeme (at + length between) bytes r → SaysNext text (cursor m at) (some_next (inner_step opened (at + length between) r))
 says_inner text m at opened between bytes h none is white stops (Ok x) f =
     let long : length (take x.1 bytes) ≡ x.1 = length-take-le x.1 bytes f.fits in
-    inner_stands x.0 (take x.1 bytes) (drop x.1 bytes) text (cursor m at) (at + length between) (at + length between + x.1) (cursor (mode.Action opened) (at + length between + x.1)) f.lexeme
+    inner_stands x.0 (take x.1 bytes) (drop x.1 bytes) text (cursor m at) (at + length between) (at + length between + x.1) (cursor (state.Action opened) (at + length between + x.1)) f.lexeme
     (record {
       opened = opened;
       place = h;
@@ -138,8 +138,8 @@ says_inner text m at opened between bytes h none is white stops (Ok x) f =
 says_inner text m at opened between bytes h none is white stops (Err why) f =
     caused why text (cursor m at) (at + length between) bytes (record { opened = opened; inside = h; no_comment = none; between = between; spelled = is; white = white; stops = stops; stands = refl }) f
 
-says_close : (text : List ℕ) (m : Mode) (at opened : ℕ) (between bytes : List ℕ) (trims : Bool) → IsInAction m opened → drop at text ≡ between ++ bytes → list_all is_white between ≡ true → (trims ≡ true → between ≢ []) → begins (close_mark trims) bytes ≡ true
-    → SaysNext text (cursor m at) (Ok (Some (step kind.Close (at + length between) (length (close_mark trims)) (mode.Text trims))))
+says_close : (text : List ℕ) (m : State) (at opened : ℕ) (between bytes : List ℕ) (trims : Bool) → IsInAction m opened → drop at text ≡ between ++ bytes → list_all is_white between ≡ true → (trims ≡ true → between ≢ []) → begins (close_mark trims) bytes ≡ true
+    → SaysNext text (cursor m at) (Ok (Some (step kind.Close (at + length between) (length (close_mark trims)) (state.Text trims))))
 says_close text m at opened between bytes trims h is white some mark = record {
   trims = trims;
   between = between;
@@ -152,7 +152,7 @@ says_close text m at opened between bytes trims h is white some mark = record {
 }
 
 -- after white space
-says_behind : (text : List ℕ) (m : Mode) (at opened : ℕ) (between bytes : List ℕ) → IsInAction m opened → begins_comment m (drop at text) ≡ false → drop at text ≡ between ++ bytes → list_all is_white between ≡ true → first_is is_white bytes ≡ false
+says_behind : (text : List ℕ) (m : State) (at opened : ℕ) (between bytes : List ℕ) → IsInAction m opened → begins_comment m (drop at text) ≡ false → drop at text ≡ between ++ bytes → list_all is_white between ≡ true → first_is is_white bytes ≡ false
     → (r : Step) → inner_at opened (length between) (at + length between) bytes ≡ r → SaysNext text (cursor m at) (some_next r)
 says_behind text m at opened between bytes h none is white stops r e =
     split (nat_eq (length bytes) 0) e
@@ -171,7 +171,7 @@ says_behind text m at opened between bytes h none is white stops r e =
     no_length : (bytes : List ℕ) → 0 < length bytes → bytes ≢ []
     no_length bytes some none = omega (arith, some, ap length none)
 
-says_inside : (text : List ℕ) (m : Mode) (at opened : ℕ) → IsInAction m opened → begins_comment m (drop at text) ≡ false → (r : Step) → inside_at opened at (drop at text) ≡ r → SaysNext text (cursor m at) (some_next r)
+says_inside : (text : List ℕ) (m : State) (at opened : ℕ) → IsInAction m opened → begins_comment m (drop at text) ≡ false → (r : Step) → inside_at opened at (drop at text) ≡ r → SaysNext text (cursor m at) (some_next r)
 says_inside text m at opened h none r e =
     let rest = drop at text in
     let n = prefix_len is_white rest in
@@ -184,15 +184,15 @@ body_is body inside =
     let n = bytes_before (codes "*/") body in
     sym (take-append-drop n body) ∙ ap (λ (xs : List ℕ). take n body ++ xs) (begins-is (codes "*/") (drop n body) (before_lands (codes "*/") body (omega (arith, length-drop n body, inside))))
 
-says_comment : (text : List ℕ) (trims : Bool) (at opened : ℕ) (body : List ℕ) → drop at text ≡ gap trims ++ (codes "/*" ++ body) → begins_comment (mode.Opened trims opened) (drop at text) ≡ true
-    → (r : Step) → comment_at opened (at + length (gap trims)) body ≡ r → SaysNext text (cursor (mode.Opened trims opened) at) (some_next r)
+says_comment : (text : List ℕ) (trims : Bool) (at opened : ℕ) (body : List ℕ) → drop at text ≡ gap trims ++ (codes "/*" ++ body) → begins_comment (state.Opened trims opened) (drop at text) ≡ true
+    → (r : Step) → comment_at opened (at + length (gap trims)) body ≡ r → SaysNext text (cursor (state.Opened trims opened) at) (some_next r)
 says_comment text trims at opened body is begun r e =
     let n = bytes_before (codes "*/") body in
     split (nat_lt n (length body)) e
     (λ t e. let inside = lesser n (length body) t in
     let long : length (take n body) ≡ n = length-take-le n body (before_fits (codes "*/") body) in
     let whole = body_is body inside in
-    subst (λ r. SaysNext text (cursor (mode.Opened trims opened) at) (some_next r)) e
+    subst (λ r. SaysNext text (cursor (state.Opened trims opened) at) (some_next r)) e
     (record {
       trims = trims;
       opened = opened;
@@ -205,28 +205,28 @@ says_comment text trims at opened body is begun r e =
       ends = omega (arith, long);
       goes = refl;
     }))
-    (λ f e. subst (λ r. SaysNext text (cursor (mode.Opened trims opened) at) (some_next r)) e (refl, begun))
+    (λ f e. subst (λ r. SaysNext text (cursor (state.Opened trims opened) at) (some_next r)) e (refl, begun))
 
-says_opened : (text : List ℕ) (trims : Bool) (at opened : ℕ) (r : Step) → opened_at trims opened at (drop at text) ≡ r → SaysNext text (cursor (mode.Opened trims opened) at) (some_next r)
+says_opened : (text : List ℕ) (trims : Bool) (at opened : ℕ) (r : Step) → opened_at trims opened at (drop at text) ≡ r → SaysNext text (cursor (state.Opened trims opened) at) (some_next r)
 says_opened text true at opened r e = split (begins (codes " /*") (drop at text)) e
     (λ t e. says_comment text true at opened (drop 3 (drop at text)) (begins-is (codes " /*") (drop at text) t) t r e)
-    (λ f e. says_inside text (mode.Opened true opened) at opened refl f r e)
+    (λ f e. says_inside text (state.Opened true opened) at opened refl f r e)
 says_opened text false at opened r e = split (begins (codes "/*") (drop at text)) e
     (λ t e. says_comment text false at opened (drop 2 (drop at text)) (begins-is (codes "/*") (drop at text) t) t r e)
-    (λ f e. says_inside text (mode.Opened false opened) at opened refl f r e)
+    (λ f e. says_inside text (state.Opened false opened) at opened refl f r e)
 
-says_commented : (text : List ℕ) (at : ℕ) (r : Step) → commented_at at (drop at text) ≡ r → SaysNext text (cursor mode.Commented at) (some_next r)
+says_commented : (text : List ℕ) (at : ℕ) (r : Step) → commented_at at (drop at text) ≡ r → SaysNext text (cursor state.Commented at) (some_next r)
 says_commented text at r e =
     let rest = drop at text in
     split (begins (codes "}}") rest) e
-    (λ t e. subst (λ r. SaysNext text (cursor mode.Commented at) (some_next r)) e (record { trims = false; between = []; more = drop 2 rest; spelled = begins-is (codes "}}") rest t; allowed = refl; starts = omega arith; ends = refl; goes = refl }))
+    (λ t e. subst (λ r. SaysNext text (cursor state.Commented at) (some_next r)) e (record { trims = false; between = []; more = drop 2 rest; spelled = begins-is (codes "}}") rest t; allowed = refl; starts = omega arith; ends = refl; goes = refl }))
     (λ _ e. split (begins (codes " -}}") rest) e
-    (λ t e. subst (λ r. SaysNext text (cursor mode.Commented at) (some_next r)) e (record { trims = true; between = codes " "; more = drop 4 rest; spelled = begins-is (codes " -}}") rest t; allowed = refl; starts = refl; ends = refl; goes = refl }))
-    (λ _ e. subst (λ r. SaysNext text (cursor mode.Commented at) (some_next r)) e (refl, refl)))
+    (λ t e. subst (λ r. SaysNext text (cursor state.Commented at) (some_next r)) e (record { trims = true; between = codes " "; more = drop 4 rest; spelled = begins-is (codes " -}}") rest t; allowed = refl; starts = refl; ends = refl; goes = refl }))
+    (λ _ e. subst (λ r. SaysNext text (cursor state.Commented at) (some_next r)) e (refl, refl)))
 
 -- What is found next stands there, and where nothing is found, it is said why.
-pub says_next : (text : List ℕ) (m : Mode) (at : ℕ) → at ≤ length text → (r : Advance) → advance text (cursor m at) ≡ r → SaysNext text (cursor m at) r
-says_next text (mode.Text trims) at fits r e = subst (SaysNext text (cursor (mode.Text trims) at)) e (says_text text trims at fits (text_at trims at (drop at text)) refl)
-says_next text (mode.Opened trims opened) at fits r e = subst (SaysNext text (cursor (mode.Opened trims opened) at)) e (says_opened text trims at opened (opened_at trims opened at (drop at text)) refl)
-says_next text (mode.Action opened) at fits r e = subst (SaysNext text (cursor (mode.Action opened) at)) e (says_inside text (mode.Action opened) at opened refl refl (inside_at opened at (drop at text)) refl)
-says_next text mode.Commented at fits r e = subst (SaysNext text (cursor mode.Commented at)) e (says_commented text at (commented_at at (drop at text)) refl)
+pub says_next : (text : List ℕ) (m : State) (at : ℕ) → at ≤ length text → (r : Advance) → advance text (cursor m at) ≡ r → SaysNext text (cursor m at) r
+says_next text (state.Text trims) at fits r e = subst (SaysNext text (cursor (state.Text trims) at)) e (says_text text trims at fits (text_at trims at (drop at text)) refl)
+says_next text (state.Opened trims opened) at fits r e = subst (SaysNext text (cursor (state.Opened trims opened) at)) e (says_opened text trims at opened (opened_at trims opened at (drop at text)) refl)
+says_next text (state.Action opened) at fits r e = subst (SaysNext text (cursor (state.Action opened) at)) e (says_inside text (state.Action opened) at opened refl refl (inside_at opened at (drop at text)) refl)
+says_next text state.Commented at fits r e = subst (SaysNext text (cursor state.Commented at)) e (says_commented text at (commented_at at (drop at text)) refl)

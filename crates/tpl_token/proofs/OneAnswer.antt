@@ -1,7 +1,7 @@
 -- A text has one answer, and its tokens stand one after another.
 use Rattle.std.proofs.Common.{◌≡◌, ℕ, zero, suc, ◌-◌, ◌+◌, ◌<◌, ◌≤◌, Bool, true, false, inl, inr, List, [], ◌∷◌, ◌++◌, length, drop, Some, Result, None, Ok, Err, refl, sym, ap, ◌∙◌, subst, arith, true≢false, codes}
 use Rattle.std.proofs.lemmas.List.{length-append, length-drop}
-use Rattle.tpl_token.specs.Answers.{Answers, Gives, HasAnswer}
+use Rattle.tpl_token.specs.Answers.{TokensAnswers, IsOrOutOfMemory, HasAnswer}
 use Rattle.tpl_token.specs.Characters.{begins}
 use Rattle.tpl_token.specs.Grammar.{beginning, gap, open_len, close_mark, rest_at, IsText, IsOpen, IsComment, IsClose, IsInner, Stands, Next, Reads, IsEnd, AreTokens}
 use Rattle.tpl_token.specs.Lexemes.{IsLexeme}
@@ -162,7 +162,7 @@ ok_token : (x y : Token) (n m : Cursor) → ◌≡◌ {A = Advance} (Ok (Some (x
 ok_token x y n m e = let p : ◌≡◌ {A = Token × Cursor} (x, n) (y, m) = cc in (ap (λ (z : Token × Cursor). z.0) p, ap (λ (z : Token × Cursor). z.1) p)
 
 -- two readings that end are one
-one_reading : (text : List ℕ) (from : Cursor) (a : List Token) (s : Cursor) (b : List Token) (t : Cursor) → NoNext text s.mode s.at → NoNext text t.mode t.at → Reads text from a s → Reads text from b t → (a ≡ b) × (s ≡ t)
+one_reading : (text : List ℕ) (from : Cursor) (a : List Token) (s : Cursor) (b : List Token) (t : Cursor) → NoNext text s.state s.at → NoNext text t.state t.at → Reads text from a s → Reads text from b t → (a ≡ b) × (s ≡ t)
 one_reading text from [] s [] t ends ends' h k = (refl, sym h ∙ k)
 one_reading text from [] s (y ∷ b) t ends ends' h k = absurd (ends (y, k.0) (next_found text s y k.0 (subst (λ (c : Cursor). Next text c y k.0) h k.1)))
 one_reading text from (x ∷ a) s [] t ends ends' h k = absurd (ends' (x, h.0) (next_found text t x h.0 (subst (λ (c : Cursor). Next text c x h.0) k h.1)))
@@ -172,11 +172,11 @@ one_reading text from (x ∷ a) s (y ∷ b) t ends ends' h k =
     (ap (λ (z : Token). z ∷ a) same.0 ∙ ap (λ (zs : List Token). y ∷ zs) more.0, more.1)
 
 -- at the end there is no next token
-end_no_next : (text : List ℕ) (s : Cursor) → IsEnd text s → NoNext text s.mode s.at
+end_no_next : (text : List ℕ) (s : Cursor) → IsEnd text s → NoNext text s.state s.at
 end_no_next text s h x e = let none : ◌≡◌ {A = Advance} (Ok None) (Ok (Some x)) = sym (found_end text s h) ∙ e in cc
 
-refused_no_next : (text : List ℕ) (why : TokenRefused) (h : IsRefused text why) → NoNext text h.last.mode h.last.at
-refused_no_next text why h x e = h.no_next x.0 x.1 (says_next text h.last.mode h.last.at (reads_within text beginning h.tokens h.last (omega arith) h.reads) (Ok (Some x)) e)
+refused_no_next : (text : List ℕ) (why : TokenRefused) (h : IsRefused text why) → NoNext text h.last.state h.last.at
+refused_no_next text why h x e = h.no_next x.0 x.1 (says_next text h.last.state h.last.at (reads_within text beginning h.tokens h.last (omega arith) h.reads) (Ok (Some x)) e)
 
 -- A text has at most one list of tokens.
 pub one_list : (text : List ℕ) (a b : List Token) → AreTokens text a → AreTokens text b → a ≡ b
@@ -203,11 +203,11 @@ refused_here text tokens last why fits reads e = record {
   last = last;
   reads = reads;
   no_next = λ t to n. (let found : ◌≡◌ {A = Advance} (Err why) (Ok (Some (t, to))) = sym e ∙ next_found text last t to n in cc);
-  cause = says_next text last.mode last.at fits (Err why) e;
+  cause = says_next text last.state last.at fits (Err why) e;
 }
 
 -- and is the answer, unless memory ran out
-pub err_answers : (text : List ℕ) (tokens : List Token) (last : Cursor) (why : TokenRefused) → last.at ≤ length text → Reads text beginning tokens last → Gives (Err why) (advance text last) → Answers text (Err why)
+pub err_answers : (text : List ℕ) (tokens : List Token) (last : Cursor) (why : TokenRefused) → last.at ≤ length text → Reads text beginning tokens last → IsOrOutOfMemory (Err why) (advance text last) → TokensAnswers text (Err why)
 err_answers text tokens last refused.Memory fits reads e = tt
 err_answers text tokens last (refused.UnclosedAction p) fits reads e = refused_here text tokens last (refused.UnclosedAction p) fits reads e
 err_answers text tokens last (refused.BadCharacter p) fits reads e = refused_here text tokens last (refused.BadCharacter p) fits reads e
@@ -218,7 +218,7 @@ err_answers text tokens last (refused.BadDelimiter p) fits reads e = refused_her
 err_answers text tokens last (refused.BadEscape p) fits reads e = refused_here text tokens last (refused.BadEscape p) fits reads e
 
 -- A text that has tokens is refused for being out of memory alone.
-pub err_accepted : (text : List ℕ) (why : TokenRefused) (list : List Token) → Answers text (Err why) → AreTokens text list → Gives (Err why) (Ok list)
+pub err_accepted : (text : List ℕ) (why : TokenRefused) (list : List Token) → TokensAnswers text (Err why) → AreTokens text list → IsOrOutOfMemory (Err why) (Ok list)
 err_accepted text refused.Memory list a h = tt
 err_accepted text (refused.UnclosedAction p) list a h = absurd (not_refused text list (refused.UnclosedAction p) h a)
 err_accepted text (refused.BadCharacter p) list a h = absurd (not_refused text list (refused.BadCharacter p) h a)
@@ -229,7 +229,7 @@ err_accepted text (refused.BadDelimiter p) list a h = absurd (not_refused text l
 err_accepted text (refused.BadEscape p) list a h = absurd (not_refused text list (refused.BadEscape p) h a)
 
 -- A text that is refused is refused for its cause, or when memory runs out.
-pub err_refused : (text : List ℕ) (why wanted : TokenRefused) → Answers text (Err why) → IsRefused text wanted → Gives {X = List Token} (Err why) (Err wanted)
+pub err_refused : (text : List ℕ) (why wanted : TokenRefused) → TokensAnswers text (Err why) → IsRefused text wanted → IsOrOutOfMemory {X = List Token} (Err why) (Err wanted)
 err_refused text refused.Memory wanted a h = tt
 err_refused text (refused.UnclosedAction p) wanted a h = ap Err (one_refusal text wanted (refused.UnclosedAction p) h a)
 err_refused text (refused.BadCharacter p) wanted a h = ap Err (one_refusal text wanted (refused.BadCharacter p) h a)
@@ -241,17 +241,17 @@ err_refused text (refused.BadEscape p) wanted a h = ap Err (one_refusal text wan
 
 -- the text is read to its end
 pub tokens_here : (text : List ℕ) (tokens : List Token) (last : Cursor) → last.at ≤ length text → Reads text beginning tokens last → advance text last ≡ Ok None → AreTokens text tokens
-tokens_here text tokens last fits reads e = record { last = last; reads = reads; end = says_next text last.mode last.at fits (Ok None) e }
+tokens_here text tokens last fits reads e = record { last = last; reads = reads; end = says_next text last.state last.at fits (Ok None) e }
 
 -- reading goes on until there is an answer
 answered : (m : ℕ) (text : List ℕ) (tokens : List Token) (last : Cursor) → last.at ≤ length text → length text - last.at ≤ m → Reads text beginning tokens last → (r : Advance) → advance text last ≡ r → HasAnswer text
 answered m text tokens last fits left reads (Ok None) e = inl (tokens, tokens_here text tokens last fits reads e)
 answered m text tokens last fits left reads (Err why) e = inr (why, refused_here text tokens last why fits reads e)
 answered zero text tokens last fits left reads (Ok (Some x)) e =
-    let o = onward text last x.0 x.1 fits (says_next text last.mode last.at fits (Ok (Some x)) e) in
+    let o = onward text last x.0 x.1 fits (says_next text last.state last.at fits (Ok (Some x)) e) in
     absurd (omega (arith, left, o.from_here, o.some, o.whole, o.within))
 answered (suc m) text tokens last fits left reads (Ok (Some x)) e =
-    let next = says_next text last.mode last.at fits (Ok (Some x)) e in
+    let next = says_next text last.state last.at fits (Ok (Some x)) e in
     let o = onward text last x.0 x.1 fits next in
     answered m text (tokens ++ x.0 ∷ []) x.1 o.within (omega (arith, left, o.from_here, o.some, o.whole, o.within)) (reads_more text beginning tokens last x.0 x.1 reads next) (advance text x.1) refl
 
@@ -259,7 +259,7 @@ answered (suc m) text tokens last fits left reads (Ok (Some x)) e =
 pub has_answer : (text : List ℕ) → HasAnswer text
 has_answer text = answered (length text) text [] beginning (omega arith) (omega arith) refl (advance text beginning) refl
 
-gives : (why : TokenRefused) (text : List ℕ) (last : Cursor) → advance text last ≡ Err why → Gives (Err why) (advance text last)
+gives : (why : TokenRefused) (text : List ℕ) (last : Cursor) → advance text last ≡ Err why → IsOrOutOfMemory (Err why) (advance text last)
 gives refused.Memory text last e = tt
 gives (refused.UnclosedAction p) text last e = e
 gives (refused.BadCharacter p) text last e = e
@@ -271,15 +271,15 @@ gives (refused.BadEscape p) text last e = e
 
 -- what computing gives is the answer
 scan_answers : (n : ℕ) (text : List ℕ) (last : Cursor) (done : List Token) → last.at ≤ length text → Reads text beginning done last → (a : Advance) → advance text last ≡ a → (r : Result (List Token) TokenRefused)
-    → go_on a done (scan n text) ≡ r → Answers text r
-scan_answers n text last done fits reads (Ok None) e r is = subst (Answers text) is (tokens_here text done last fits reads e)
-scan_answers n text last done fits reads (Err why) e r is = subst (Answers text) is (err_answers text done last why fits reads (gives why text last e))
-scan_answers zero text last done fits reads (Ok (Some x)) e r is = subst (Answers text) is tt
+    → go_on a done (scan n text) ≡ r → TokensAnswers text r
+scan_answers n text last done fits reads (Ok None) e r is = subst (TokensAnswers text) is (tokens_here text done last fits reads e)
+scan_answers n text last done fits reads (Err why) e r is = subst (TokensAnswers text) is (err_answers text done last why fits reads (gives why text last e))
+scan_answers zero text last done fits reads (Ok (Some x)) e r is = subst (TokensAnswers text) is tt
 scan_answers (suc n) text last done fits reads (Ok (Some x)) e r is =
-    let next = says_next text last.mode last.at fits (Ok (Some x)) e in
+    let next = says_next text last.state last.at fits (Ok (Some x)) e in
     let o = onward text last x.0 x.1 fits next in
     scan_answers n text x.1 (done ++ x.0 ∷ []) o.within (reads_more text beginning done last x.0 x.1 reads next) (advance text x.1) refl r is
 
 -- What computing gives on a text is its answer.
-pub computed : (n : ℕ) (text : List ℕ) (r : Result (List Token) TokenRefused) → scan (suc n) text beginning [] ≡ r → Answers text r
+pub computed : (n : ℕ) (text : List ℕ) (r : Result (List Token) TokenRefused) → scan (suc n) text beginning [] ≡ r → TokensAnswers text r
 computed n text r is = scan_answers n text beginning [] (omega arith) refl (advance text beginning) refl r is

@@ -7,10 +7,10 @@ use Rattle.tpl_token.specs.Characters.{begins}
 use Rattle.tpl_token.specs.Strings.{Part, plain, escape, is_plain, spelling, StandFor, escaped, short_escape}
 use Rattle.std.proofs.lemmas.Slice.Eq.{bytes_eq-Decides}
 use Rattle.std.specs.Str.{bytes_eq}
-use Rattle.tpl_token.specs.Scanning.{Quoted, ended, cut, bad, behind, quoted, escape_at, escape_len}
+use Rattle.tpl_token.specs.Scanning.{Quoted, ended, cut, bad, after, quoted, escape_at, escape_len}
 use Rattle.tpl_token.proofs.Cuts.{escape_is}
 use Rattle.tpl_token.proofs.Marks.{split, either, one_more}
-use Rattle.tpl_token.proofs.Quotes.{behind_nothing, behind_twice, plain_step, quoted_escape, quoted_no_escape}
+use Rattle.tpl_token.proofs.Quotes.{after_nothing, after_twice, plain_step, quoted_escape, quoted_no_escape}
 
 -- an escape that begins bytes ends where these say
 escape_at_first : (b n : ℕ) (bs : List ℕ) → 0 < n → escape_len (b ∷ bs) ≡ n → escape_len (take n (b ∷ bs)) ≡ n
@@ -57,12 +57,12 @@ escape_fits (b ∷ bs) c n e =
     omega (arith, len, length-take n (b ∷ bs))
 
 -- parts are read as their value
-pub parts_read : (parts : List Part) (value rest : List ℕ) → StandFor parts value → quoted 0 (spelling parts ++ rest) ≡ behind value (length (spelling parts)) (quoted 0 rest)
-parts_read [] value rest h = sym (ap (λ (v : List ℕ). behind v 0 (quoted 0 rest)) h ∙ behind_nothing (quoted 0 rest))
+pub parts_read : (parts : List Part) (value rest : List ℕ) → StandFor parts value → quoted 0 (spelling parts ++ rest) ≡ after value (length (spelling parts)) (quoted 0 rest)
+parts_read [] value rest h = sym (ap (λ (v : List ℕ). after v 0 (quoted 0 rest)) h ∙ after_nothing (quoted 0 rest))
 parts_read (plain b ∷ parts) value rest h =
     let more = h.0 in
-    plain_step b (spelling parts ++ rest) h.2 ∙ ap (behind (b ∷ []) 1) (parts_read parts more rest h.3) ∙ behind_twice (b ∷ []) more 1 (length (spelling parts)) (quoted 0 rest)
-    ∙ ap (λ (v : List ℕ). behind v (1 + length (spelling parts)) (quoted 0 rest)) (sym h.1) ∙ ap (λ (n : ℕ). behind value n (quoted 0 rest)) (one_more (length (spelling parts)))
+    plain_step b (spelling parts ++ rest) h.2 ∙ ap (after (b ∷ []) 1) (parts_read parts more rest h.3) ∙ after_twice (b ∷ []) more 1 (length (spelling parts)) (quoted 0 rest)
+    ∙ ap (λ (v : List ℕ). after v (1 + length (spelling parts)) (quoted 0 rest)) (sym h.1) ∙ ap (λ (n : ℕ). after value n (quoted 0 rest)) (one_more (length (spelling parts)))
 parts_read (escape bytes ∷ parts) value rest h =
     let c = h.0 in
     let more = h.1 in
@@ -73,10 +73,10 @@ parts_read (escape bytes ∷ parts) value rest h =
     let len : 1 + n + k ≡ length (spelling (escape bytes ∷ parts)) = omega (arith, length-append bytes (spelling parts)) in
     ap (λ (xs : List ℕ). quoted 0 (92 ∷ xs)) (append_assoc bytes (spelling parts) rest)
     ∙ quoted_escape c n (bytes ++ tail) (escape_whole bytes tail c h.3) fits
-    ∙ ap (λ (xs : List ℕ). behind (encode_utf8 c) (1 + n) (quoted 0 xs)) (drop_at bytes tail n refl)
-    ∙ ap (behind (encode_utf8 c) (1 + n)) (parts_read parts more rest h.4)
-    ∙ behind_twice (encode_utf8 c) more (1 + n) k (quoted 0 rest)
-    ∙ ap (λ (v : List ℕ). behind v (1 + n + k) (quoted 0 rest)) (sym h.2) ∙ ap (λ (i : ℕ). behind value i (quoted 0 rest)) len
+    ∙ ap (λ (xs : List ℕ). after (encode_utf8 c) (1 + n) (quoted 0 xs)) (drop_at bytes tail n refl)
+    ∙ ap (after (encode_utf8 c) (1 + n)) (parts_read parts more rest h.4)
+    ∙ after_twice (encode_utf8 c) more (1 + n) k (quoted 0 rest)
+    ∙ ap (λ (v : List ℕ). after v (1 + n + k) (quoted 0 rest)) (sym h.2) ∙ ap (λ (i : ℕ). after value i (quoted 0 rest)) len
 
 -- what a reading says of the bytes after an opening quote
 abbrev pub Says : List ℕ → Quoted → Type 0
@@ -84,7 +84,7 @@ Says bs (ended value n) = (parts : List Part) × (more : List ℕ) × (bs ≡ sp
 Says bs cut = (parts : List Part) × (value more : List ℕ) × (bs ≡ spelling parts ++ more) × StandFor parts value × ((more ≡ []) ⊎ IsTrue (begins (codes "\n") more))
 Says bs (bad n) = (parts : List Part) × (value more : List ℕ) × (bs ≡ spelling parts ++ 92 ∷ more) × StandFor parts value × ((bytes rest : List ℕ) → more ≡ bytes ++ rest → escaped bytes ≡ None) × (n ≡ length (spelling parts))
 
-says_plain : (b : ℕ) (bs : List ℕ) (q : Quoted) → is_plain b ≡ true → Says bs q → Says (b ∷ bs) (behind (b ∷ []) 1 q)
+says_plain : (b : ℕ) (bs : List ℕ) (q : Quoted) → is_plain b ≡ true → Says bs q → Says (b ∷ bs) (after (b ∷ []) 1 q)
 says_plain b bs (ended value n) p h = (plain b ∷ h.0, h.1, ap (λ (xs : List ℕ). b ∷ xs) h.2, (value, refl, p, h.3), omega (arith, h.4))
 says_plain b bs cut p h = (plain b ∷ h.0, b ∷ h.1, h.2, ap (λ (xs : List ℕ). b ∷ xs) h.3, (h.1, refl, p, h.4), h.5)
 says_plain b bs (bad n) p h = (plain b ∷ h.0, b ∷ h.1, h.2, ap (λ (xs : List ℕ). b ∷ xs) h.3, (h.1, refl, p, h.4), h.5, omega (arith, h.6))
@@ -96,7 +96,7 @@ escaped_front bytes bs parts tail e = ap (λ (xs : List ℕ). 92 ∷ (bytes ++ x
 escaped_length : (bytes : List ℕ) (parts : List Part) (n m : ℕ) → n ≡ length (spelling parts) + m → 1 + length bytes + n ≡ length (spelling (escape bytes ∷ parts)) + m
 escaped_length bytes parts n m e = omega (arith, length-append bytes (spelling parts), e)
 
-says_escape : (bytes bs : List ℕ) (c : ℕ) (q : Quoted) → escaped bytes ≡ Some c → Says bs q → Says (92 ∷ (bytes ++ bs)) (behind (encode_utf8 c) (1 + length bytes) q)
+says_escape : (bytes bs : List ℕ) (c : ℕ) (q : Quoted) → escaped bytes ≡ Some c → Says bs q → Says (92 ∷ (bytes ++ bs)) (after (encode_utf8 c) (1 + length bytes) q)
 says_escape bytes bs c (ended value n) e h = (escape bytes ∷ h.0, h.1, escaped_front bytes bs h.0 (34 ∷ h.1) h.2, (c, value, refl, e, h.3), escaped_length bytes h.0 n 1 h.4)
 says_escape bytes bs c cut e h = (escape bytes ∷ h.0, encode_utf8 c ++ h.1, h.2, escaped_front bytes bs h.0 h.2 h.3, (c, h.1, refl, e, h.4), h.5)
 says_escape bytes bs c (bad n) e h = (escape bytes ∷ h.0, encode_utf8 c ++ h.1, h.2, escaped_front bytes bs h.0 (92 ∷ h.2) h.3, (c, h.1, refl, e, h.4), h.5, omega (arith, length-append bytes (spelling h.0), h.6))
@@ -120,8 +120,8 @@ says_found bs c n found h =
     let fits = escape_fits bs c n found in
     let len : length (take n bs) ≡ n = length-take-le n bs fits in
     let said = says_escape (take n bs) (drop n bs) c (quoted 0 (drop n bs)) (escape_is bs c n found).1 h in
-    let there = subst (λ (xs : List ℕ). Says (92 ∷ xs) (behind (encode_utf8 c) (1 + length (take n bs)) (quoted 0 (drop n bs)))) (take-append-drop n bs) said in
-    subst (Says (92 ∷ bs)) (ap (λ (i : ℕ). behind (encode_utf8 c) (1 + i) (quoted 0 (drop n bs))) len ∙ sym (quoted_escape c n bs found fits)) there
+    let there = subst (λ (xs : List ℕ). Says (92 ∷ xs) (after (encode_utf8 c) (1 + length (take n bs)) (quoted 0 (drop n bs)))) (take-append-drop n bs) said in
+    subst (Says (92 ∷ bs)) (ap (λ (i : ℕ). after (encode_utf8 c) (1 + i) (quoted 0 (drop n bs))) len ∙ sym (quoted_escape c n bs found fits)) there
 
 says_backslash : (m : ℕ) (bs : List ℕ) → ((xs : List ℕ) → length xs ≤ m → Says xs (quoted 0 xs)) → length bs ≤ m → (o : Option (ℕ × ℕ)) → escape_at bs ≡ o → Says (92 ∷ bs) (quoted 0 (92 ∷ bs))
 says_backslash m bs shorter fits None e = says_bad bs e

@@ -7,7 +7,7 @@ use Rattle.std.proofs.lemmas.Str.{IsCharBoundary-after_ascii, IsCharBoundary-sta
 use Rattle.std.proofs.lemmas.Str.Ascii.{IsAscii-nil, IsAscii-cons}
 use Rattle.std.specs.List.{list_all, prefix_len, suffix_len}
 use Rattle.std.specs.Str.{IsAscii, IsCharBoundary, IsUtf8}
-use Rattle.tpl_token.specs.Answers.{Answers}
+use Rattle.tpl_token.specs.Answers.{TokensAnswers}
 use Rattle.tpl_token.specs.Characters.{begins, first_is, is_name, is_sign, is_white, is_word_byte, is_word_start}
 use Rattle.tpl_token.specs.Grammar.{beginning, cursor, gap, open_len, close_mark, rest_at, IsText, IsOpen, IsComment, IsClose, MayClose, IsInAction, IsInner, Stands, Reads, AreTokens}
 use Rattle.tpl_token.specs.Lexemes.{IsLexeme}
@@ -17,8 +17,8 @@ use Rattle.tpl_token.specs.Spans.{AreCuts, IsCutAt}
 use Rattle.tpl_token.specs.Strings.{spelling}
 use Rattle.tpl_token.specs.Texts.{text_len, trims_before, kept_start, kept_end}
 use Rattle.tpl_token.specs.declared.cursor.Cursor.{Cursor}
-use Rattle.tpl_token.specs.declared.cursor.Mode.{Mode}
-use Rattle.tpl_token.specs.declared.cursor.Mode.TheVariants as mode
+use Rattle.tpl_token.specs.declared.cursor.State.{State}
+use Rattle.tpl_token.specs.declared.cursor.State.TheVariants as state
 use Rattle.tpl_token.specs.declared.refused.TokenRefused.{TokenRefused}
 use Rattle.tpl_token.specs.declared.refused.TokenRefused.TheVariants as refused
 use Rattle.tpl_token.specs.declared.token.Token.{Token}
@@ -126,7 +126,7 @@ lexeme_plain kind.Comment bytes rest h = absurd h
 -- the text may be cut where it is read, and at the `{{` of the action there
 pub record IsCutCursor (text : List ℕ) (c : Cursor) : Type 0 where
   pub here : IsCharBoundary text c.at
-  pub opened : (place : ℕ) → IsInAction c.mode place → IsCharBoundary text place
+  pub opened : (place : ℕ) → IsInAction c.state place → IsCharBoundary text place
 
 -- a token's two cuts, and the cursor after it
 pub record NextCuts (text : List ℕ) (start end : ℕ) (to : Cursor) : Type 0 where
@@ -135,7 +135,7 @@ pub record NextCuts (text : List ℕ) (start end : ℕ) (to : Cursor) : Type 0 w
   pub then : IsCutCursor text to
 
 -- a new action, or the same one
-action_cursor : (text : List ℕ) (opened at : ℕ) (to : Cursor) → to ≡ cursor (mode.Action opened) at → IsCharBoundary text at → IsCharBoundary text opened → IsCutCursor text to
+action_cursor : (text : List ℕ) (opened at : ℕ) (to : Cursor) → to ≡ cursor (state.Action opened) at → IsCharBoundary text at → IsCharBoundary text opened → IsCutCursor text to
 action_cursor text opened at to is cut place = subst (IsCutCursor text) (sym is) (record { here = cut; opened = λ p e. subst (IsCharBoundary text) e place })
 
 cuts_inner : (what : TokenKind) (text : List ℕ) (from : Cursor) (start end : ℕ) (to : Cursor) → IsUtf8 text → IsCutCursor text from → IsInner what text from start end to → NextCuts text start end to
@@ -148,12 +148,12 @@ cuts_inner what text from start end to utf8 c h =
     dropped : (text : List ℕ) (at next : ℕ) (front more : List ℕ) → drop at text ≡ front ++ more → next ≡ at + length front → drop next text ≡ more
     dropped text at next front more is len = ap (λ (i : ℕ). drop i text) len ∙ sym (drop-drop (length front) at text) ∙ ap (drop (length front)) is ∙ drop_at front more (length front) refl
 
-may_ascii : (m : Mode) (between : List ℕ) (trims : Bool) → MayClose m between trims → IsAscii between
-may_ascii (mode.Text _) between trims h = absurd h
-may_ascii (mode.Opened _ _) between trims h = white_ascii between h.0
-may_ascii (mode.Action _) between trims h = white_ascii between h.0
-may_ascii mode.Commented between true h = known_ascii between (codes " ") h (one_ascii 32 [] (omega arith) IsAscii-nil)
-may_ascii mode.Commented between false h = known_ascii between [] h IsAscii-nil
+may_ascii : (m : State) (between : List ℕ) (trims : Bool) → MayClose m between trims → IsAscii between
+may_ascii (state.Text _) between trims h = absurd h
+may_ascii (state.Opened _ _) between trims h = white_ascii between h.0
+may_ascii (state.Action _) between trims h = white_ascii between h.0
+may_ascii state.Commented between true h = known_ascii between (codes " ") h (one_ascii 32 [] (omega arith) IsAscii-nil)
+may_ascii state.Commented between false h = known_ascii between [] h IsAscii-nil
 
 close_ascii : (trims : Bool) → IsAscii (close_mark trims)
 close_ascii true = one_ascii 45 (125 ∷ 125 ∷ []) (omega arith) (one_ascii 125 (125 ∷ []) (omega arith) (one_ascii 125 [] (omega arith) IsAscii-nil))
@@ -168,13 +168,13 @@ open_mark true = codes "{{-"
 open_mark false = codes "{{"
 
 -- a cursor in text, and one after a comment
-text_cursor : (text : List ℕ) (trims : Bool) (at : ℕ) (to : Cursor) → to ≡ cursor (mode.Text trims) at → IsCharBoundary text at → IsCutCursor text to
+text_cursor : (text : List ℕ) (trims : Bool) (at : ℕ) (to : Cursor) → to ≡ cursor (state.Text trims) at → IsCharBoundary text at → IsCutCursor text to
 text_cursor text trims at to is cut = subst (IsCutCursor text) (sym is) (record { here = cut; opened = λ p e. absurd e })
 
-commented_cursor : (text : List ℕ) (at : ℕ) (to : Cursor) → to ≡ cursor mode.Commented at → IsCharBoundary text at → IsCutCursor text to
+commented_cursor : (text : List ℕ) (at : ℕ) (to : Cursor) → to ≡ cursor state.Commented at → IsCharBoundary text at → IsCutCursor text to
 commented_cursor text at to is cut = subst (IsCutCursor text) (sym is) (record { here = cut; opened = λ p e. absurd e })
 
-opened_cursor : (text : List ℕ) (trims : Bool) (start at : ℕ) (to : Cursor) → to ≡ cursor (mode.Opened trims start) at → IsCharBoundary text at → IsCharBoundary text start → IsCutCursor text to
+opened_cursor : (text : List ℕ) (trims : Bool) (start at : ℕ) (to : Cursor) → to ≡ cursor (state.Opened trims start) at → IsCharBoundary text at → IsCharBoundary text start → IsCutCursor text to
 opened_cursor text trims start at to is cut place = subst (IsCutCursor text) (sym is) (record { here = cut; opened = λ p e. subst (IsCharBoundary text) e place })
 
 dropped : (text : List ℕ) (at next : ℕ) (front more : List ℕ) → drop at text ≡ front ++ more → next ≡ at + length front → drop next text ≡ more
@@ -182,7 +182,7 @@ dropped text at next front more is len = ap (λ (i : ℕ). drop i text) len ∙ 
 
 cuts_close : (text : List ℕ) (from : Cursor) (start end : ℕ) (to : Cursor) → IsUtf8 text → IsCutCursor text from → IsClose text from start end to → NextCuts text start end to
 cuts_close text from start end to utf8 c h =
-    let begun = after_run text from.at start h.between (close_mark h.trims ++ h.more) utf8 c.here h.spelled (may_ascii from.mode h.between h.trims h.allowed) h.starts in
+    let begun = after_run text from.at start h.between (close_mark h.trims ++ h.more) utf8 c.here h.spelled (may_ascii from.state h.between h.trims h.allowed) h.starts in
     let rest = dropped text from.at start h.between (close_mark h.trims ++ h.more) h.spelled h.starts in
     let ended = after_run text start end (close_mark h.trims) h.more utf8 begun rest (close_ascii h.trims) h.ends in
     record { begins_at = begun; ends_at = ended; then = text_cursor text h.trims end to h.goes ended }
@@ -349,7 +349,7 @@ cause_cut refused.Memory text from utf8 c h = tt
 pub refused_cut : (text : List ℕ) (why : TokenRefused) → IsUtf8 text → IsRefused text why → IsCutAt text why
 refused_cut text why utf8 h = cause_cut why text h.last utf8 (reads_cuts text beginning h.tokens h.last utf8 (begun_cuts text utf8) (omega arith) h.reads).1 h.cause
 
-pub answer_cut : (text : List ℕ) (why : TokenRefused) → IsUtf8 text → Answers text (Err why) → IsCutAt text why
+pub answer_cut : (text : List ℕ) (why : TokenRefused) → IsUtf8 text → TokensAnswers text (Err why) → IsCutAt text why
 answer_cut text refused.Memory utf8 a = tt
 answer_cut text (refused.UnclosedAction p) utf8 a = refused_cut text (refused.UnclosedAction p) utf8 a
 answer_cut text (refused.BadCharacter p) utf8 a = refused_cut text (refused.BadCharacter p) utf8 a

@@ -14,14 +14,22 @@ max_text = 2 ^ 20
 abbrev pub HasAnswer : List ℕ → Type 0
 HasAnswer text = ((tokens : List Token) × AreTokens text tokens) ⊎ ((why : TokenRefused) × IsRefused text why)
 
+-- at most one value is such
+abbrev pub AtMostOne : {A : Type 0} → (A → Type 0) → Type 0
+AtMostOne {A} P = (a b : A) → P a → P b → a ≡ b
+
+-- no value is such while another one is so
+abbrev pub Exclude : {A B : Type 0} → (A → Type 0) → (B → Type 0) → Type 0
+Exclude {A} {B} P Q = (a : A) (b : B) → P a → Q b → ⊥
+
 -- The tokens of the text, or why it has none. Out of memory may come instead.
-abbrev pub Answers : List ℕ → Result (List Token) TokenRefused → Type 0
-Answers text (Ok tokens) = AreTokens text tokens
-Answers text (Err refused.Memory) = ⊤
-Answers text (Err why) = IsRefused text why
+abbrev pub TokensAnswers : List ℕ → Result (List Token) TokenRefused → Type 0
+TokensAnswers text (Ok tokens) = AreTokens text tokens
+TokensAnswers text (Err refused.Memory) = ⊤
+TokensAnswers text (Err why) = IsRefused text why
 
 -- What was returned is this, or memory ran out.
-abbrev pub Gives : {X : Type 0} → Result X TokenRefused → Result X TokenRefused → Type 0
-Gives (Err refused.Memory) wanted = Unit {0}
-Gives (Err why) wanted = wanted ≡ Err why
-Gives (Ok x) wanted = wanted ≡ Ok x
+abbrev pub IsOrOutOfMemory : {X : Type 0} → Result X TokenRefused → Result X TokenRefused → Type 0
+IsOrOutOfMemory (Err refused.Memory) wanted = Unit {0}
+IsOrOutOfMemory (Err why) wanted = wanted ≡ Err why
+IsOrOutOfMemory (Ok x) wanted = wanted ≡ Ok x

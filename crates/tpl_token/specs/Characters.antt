@@ -1,5 +1,5 @@
 -- The characters of actions. Letters and digits are ASCII's.
-use Rattle.std.specs.Prelude.{ℕ, Bool, false, ◌||◌, ◌&&◌, ◌==◌, nat_eq, List, [], ◌∷◌}
+use Rattle.std.specs.Prelude.{ℕ, Bool, false, not, ◌||◌, ◌&&◌, ◌==◌, nat_eq, List, [], ◌∷◌}
 use Rattle.std.specs.Char.{is_ascii_alphabetic, is_ascii_alphanumeric}
 use Rattle.std.specs.List.{list_all, starts_with}
 
@@ -11,6 +11,10 @@ begins mark bytes = starts_with nat_eq bytes mark
 abbrev pub first_is : (ℕ → Bool) → List ℕ → Bool
 first_is p [] = false
 first_is p (b ∷ bs) = p b
+
+-- any byte but this one
+abbrev pub is_other : ℕ → ℕ → Bool
+is_other byte b = not (b == byte)
 
 -- white space: space, tab, carriage return, line feed
 abbrev pub is_white : ℕ → Bool

@@ -5,18 +5,18 @@ use Rattle.tpl_token.specs.Characters.{begins, is_white}
 use Rattle.tpl_token.specs.Lexemes.{IsLexeme}
 use Rattle.tpl_token.specs.Texts.{bytes_before, text_len, trims_before, kept_start, kept_end}
 use Rattle.tpl_token.specs.declared.cursor.Cursor.{Cursor}
-use Rattle.tpl_token.specs.declared.cursor.Mode.{Mode}
-use Rattle.tpl_token.specs.declared.cursor.Mode.TheVariants as mode
+use Rattle.tpl_token.specs.declared.cursor.State.{State}
+use Rattle.tpl_token.specs.declared.cursor.State.TheVariants as state
 use Rattle.tpl_token.specs.declared.token.Token.{Token}
 use Rattle.tpl_token.specs.declared.token.TokenKind.{TokenKind}
 use Rattle.tpl_token.specs.declared.token.TokenKind.TheVariants as kind
 
-abbrev pub cursor : Mode → ℕ → Cursor
-cursor m at = record { mode = m; at = at }
+abbrev pub cursor : State → ℕ → Cursor
+cursor m at = record { state = m; at = at }
 
 -- the whole text is still to be read
 abbrev pub beginning : Cursor
-beginning = cursor (mode.Text false) 0
+beginning = cursor (state.Text false) 0
 
 -- what is still to be read
 abbrev pub rest_at : List ℕ → Cursor → List ℕ
@@ -25,16 +25,16 @@ rest_at text from = drop from.at text
 -- Text: what trimming leaves before the next action or the end, where that is not empty.
 pub record IsText (text : List ℕ) (from : Cursor) (start end : ℕ) (to : Cursor) : Type 0 where
   pub trims : Bool
-  pub place : from.mode ≡ mode.Text trims
+  pub place : from.state ≡ state.Text trims
   pub starts : start ≡ from.at + kept_start trims (rest_at text from)
   pub ends : end ≡ from.at + kept_end (rest_at text from)
   pub not_empty : start < end
-  pub goes : to ≡ cursor (mode.Text false) (from.at + text_len (rest_at text from))
+  pub goes : to ≡ cursor (state.Text false) (from.at + text_len (rest_at text from))
 
 -- Nothing is left of the text up to a place: the next action's, or the end.
 pub record HasNoText (text : List ℕ) (from : Cursor) (at : ℕ) : Type 0 where
   pub trims : Bool
-  pub place : from.mode ≡ mode.Text trims
+  pub place : from.state ≡ state.Text trims
   pub nothing_left : kept_end (rest_at text from) ≤ kept_start trims (rest_at text from)
   pub up_to : at ≡ from.at + text_len (rest_at text from)
 
@@ -50,7 +50,7 @@ pub record IsOpen (text : List ℕ) (from : Cursor) (start end : ℕ) (to : Curs
   pub mark : IsTrue (begins (codes "{{") (drop start text))
   pub trimming : trims_before (drop start text) ≡ trims
   pub ends : end ≡ start + open_len trims
-  pub goes : to ≡ cursor (mode.Opened trims start) end
+  pub goes : to ≡ cursor (state.Opened trims start) end
 
 -- the white space that a trimming delimiter has between itself and a comment
 abbrev pub gap : Bool → List ℕ
@@ -61,14 +61,14 @@ gap false = []
 pub record IsComment (text : List ℕ) (from : Cursor) (start end : ℕ) (to : Cursor) : Type 0 where
   pub trims : Bool
   pub opened : ℕ
-  pub place : from.mode ≡ mode.Opened trims opened
+  pub place : from.state ≡ state.Opened trims opened
   pub body : List ℕ
   pub more : List ℕ
   pub spelled : rest_at text from ≡ gap trims ++ (codes "/*" ++ (body ++ (codes "*/" ++ more)))
   pub first : bytes_before (codes "*/") (body ++ (codes "*/" ++ more)) ≡ length body
   pub starts : start ≡ from.at + length (gap trims)
   pub ends : end ≡ start + length body + 4
-  pub goes : to ≡ cursor mode.Commented end
+  pub goes : to ≡ cursor state.Commented end
 
 -- `-}}` where it trims, and else `}}`
 abbrev pub close_mark : Bool → List ℕ
@@ -76,11 +76,11 @@ close_mark true = codes "-}}"
 close_mark false = codes "}}"
 
 -- what may stand before it: white space, and before `-}}` at least one; after a comment nothing, and before `-}}` one space
-abbrev pub MayClose : Mode → List ℕ → Bool → Type 0
-MayClose (mode.Text _) between trims = ⊥
-MayClose (mode.Opened _ _) between trims = IsTrue (list_all is_white between) × (trims ≡ true → between ≢ [])
-MayClose (mode.Action _) between trims = IsTrue (list_all is_white between) × (trims ≡ true → between ≢ [])
-MayClose mode.Commented between trims = between ≡ gap trims
+abbrev pub MayClose : State → List ℕ → Bool → Type 0
+MayClose (state.Text _) between trims = ⊥
+MayClose (state.Opened _ _) between trims = IsTrue (list_all is_white between) × (trims ≡ true → between ≢ [])
+MayClose (state.Action _) between trims = IsTrue (list_all is_white between) × (trims ≡ true → between ≢ [])
+MayClose state.Commented between trims = between ≡ gap trims
 
 -- The end of an action.
 pub record IsClose (text : List ℕ) (from : Cursor) (start end : ℕ) (to : Cursor) : Type 0 where
@@ -88,22 +88,22 @@ pub record IsClose (text : List ℕ) (from : Cursor) (start end : ℕ) (to : Cur
   pub between : List ℕ
   pub more : List ℕ
   pub spelled : rest_at text from ≡ between ++ (close_mark trims ++ more)
-  pub allowed : MayClose from.mode between trims
+  pub allowed : MayClose from.state between trims
   pub starts : start ≡ from.at + length between
   pub ends : end ≡ start + length (close_mark trims)
-  pub goes : to ≡ cursor (mode.Text trims) end
+  pub goes : to ≡ cursor (state.Text trims) end
 
 -- inside the action whose `{{` is at this place
-abbrev pub IsInAction : Mode → ℕ → Type 0
-IsInAction (mode.Text _) opened = ⊥
-IsInAction (mode.Opened _ place) opened = place ≡ opened
-IsInAction (mode.Action place) opened = place ≡ opened
-IsInAction mode.Commented opened = ⊥
+abbrev pub IsInAction : State → ℕ → Type 0
+IsInAction (state.Text _) opened = ⊥
+IsInAction (state.Opened _ place) opened = place ≡ opened
+IsInAction (state.Action place) opened = place ≡ opened
+IsInAction state.Commented opened = ⊥
 
 -- A token inside an action, after white space or none.
 pub record IsInner (what : TokenKind) (text : List ℕ) (from : Cursor) (start end : ℕ) (to : Cursor) : Type 0 where
   pub opened : ℕ
-  pub place : IsInAction from.mode opened
+  pub place : IsInAction from.state opened
   pub between : List ℕ
   pub lexeme : List ℕ
   pub more : List ℕ
@@ -112,7 +112,7 @@ pub record IsInner (what : TokenKind) (text : List ℕ) (from : Cursor) (start e
   pub lexeme_is : IsLexeme what lexeme more
   pub starts : start ≡ from.at + length between
   pub ends : end ≡ start + length lexeme
-  pub goes : to ≡ cursor (mode.Action opened) end
+  pub goes : to ≡ cursor (state.Action opened) end
 
 -- A token of this kind, from its start to its end, is the next one.
 abbrev pub Stands : TokenKind → List ℕ → Cursor → ℕ → ℕ → Cursor → Type 0

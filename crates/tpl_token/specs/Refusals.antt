@@ -6,24 +6,24 @@ use Rattle.tpl_token.specs.Characters.{begins, first_is, is_white, is_sign}
 use Rattle.tpl_token.specs.Grammar.{gap, rest_at, beginning, IsInAction, Next, Reads}
 use Rattle.tpl_token.specs.Strings.{Part, spelling, escaped, StandFor}
 use Rattle.tpl_token.specs.declared.cursor.Cursor.{Cursor}
-use Rattle.tpl_token.specs.declared.cursor.Mode.{Mode}
-use Rattle.tpl_token.specs.declared.cursor.Mode.TheVariants as mode
+use Rattle.tpl_token.specs.declared.cursor.State.{State}
+use Rattle.tpl_token.specs.declared.cursor.State.TheVariants as state
 use Rattle.tpl_token.specs.declared.refused.TokenRefused.{TokenRefused}
 use Rattle.tpl_token.specs.declared.refused.TokenRefused.TheVariants as refused
 use Rattle.tpl_token.specs.declared.token.Token.{Token}
 
 -- a comment begins here
-abbrev pub begins_comment : Mode → List ℕ → Bool
-begins_comment (mode.Text _) rest = false
-begins_comment (mode.Opened trims _) rest = begins (gap trims ++ codes "/*") rest
-begins_comment (mode.Action _) rest = false
-begins_comment mode.Commented rest = false
+abbrev pub begins_comment : State → List ℕ → Bool
+begins_comment (state.Text _) rest = false
+begins_comment (state.Opened trims _) rest = begins (gap trims ++ codes "/*") rest
+begins_comment (state.Action _) rest = false
+begins_comment state.Commented rest = false
 
 -- In an action, where no comment begins, these bytes are left of the text from this place on, after white space or none.
 pub record IsAt (text : List ℕ) (from : Cursor) (place : ℕ) (bytes : List ℕ) : Type 0 where
   pub opened : ℕ
-  pub inside : IsInAction from.mode opened
-  pub no_comment : begins_comment from.mode (rest_at text from) ≡ false
+  pub inside : IsInAction from.state opened
+  pub no_comment : begins_comment from.state (rest_at text from) ≡ false
   pub between : List ℕ
   pub spelled : rest_at text from ≡ between ++ bytes
   pub white : IsTrue (list_all is_white between)
@@ -67,9 +67,9 @@ Misses _ at bytes = ⊥
 
 -- What stands here, where neither a token nor the end does.
 abbrev pub Cause : TokenRefused → List ℕ → Cursor → Type 0
-Cause (refused.UnclosedAction place) text from = IsInAction from.mode place × IsTrue (list_all is_white (rest_at text from))
-Cause (refused.UnclosedComment place) text from = IsInAction from.mode place × IsTrue (begins_comment from.mode (rest_at text from))
-Cause (refused.BadDelimiter place) text from = (from.mode ≡ mode.Commented) × (place ≡ from.at)
+Cause (refused.UnclosedAction place) text from = IsInAction from.state place × IsTrue (list_all is_white (rest_at text from))
+Cause (refused.UnclosedComment place) text from = IsInAction from.state place × IsTrue (begins_comment from.state (rest_at text from))
+Cause (refused.BadDelimiter place) text from = (from.state ≡ state.Commented) × (place ≡ from.at)
 Cause why text from = (at : ℕ) × (bytes : List ℕ) × IsAt text from at bytes × Misses why at bytes
 
 -- The text is refused: after these tokens no other one stands, for this cause. (No cause holds at the end of the text.)

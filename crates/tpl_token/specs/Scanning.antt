@@ -9,8 +9,8 @@ use Rattle.tpl_token.specs.Refusals.{begins_number}
 use Rattle.tpl_token.specs.Strings.{escaped, is_kept, is_raw}
 use Rattle.tpl_token.specs.Texts.{bytes_before, text_len, trims_before, kept_start, kept_end}
 use Rattle.tpl_token.specs.declared.cursor.Cursor.{Cursor}
-use Rattle.tpl_token.specs.declared.cursor.Mode.{Mode}
-use Rattle.tpl_token.specs.declared.cursor.Mode.TheVariants as mode
+use Rattle.tpl_token.specs.declared.cursor.State.{State}
+use Rattle.tpl_token.specs.declared.cursor.State.TheVariants as state
 use Rattle.tpl_token.specs.declared.refused.TokenRefused.{TokenRefused}
 use Rattle.tpl_token.specs.declared.refused.TokenRefused.TheVariants as refused
 use Rattle.tpl_token.specs.declared.token.Token.{Token}
@@ -33,36 +33,36 @@ pub data Quoted : Type 0 where
   bad : ℕ → Quoted
 
 -- the same, after bytes with this value
-abbrev pub behind : List ℕ → ℕ → Quoted → Quoted
-behind value n (ended more m) = ended (value ++ more) (n + m)
-behind value n cut = cut
-behind value n (bad m) = bad (n + m)
+abbrev pub after : List ℕ → ℕ → Quoted → Quoted
+after value n (ended more m) = ended (value ++ more) (n + m)
+after value n cut = cut
+after value n (bad m) = bad (n + m)
 
 abbrev pub escape_len_of : Option (ℕ × ℕ) → ℕ
 escape_len_of None = 0
 escape_len_of (Some found) = found.1
 
-abbrev pub behind_escape : Option (ℕ × ℕ) → Quoted → Quoted
-behind_escape None later = bad 0
-behind_escape (Some found) later = behind (encode_utf8 found.0) 1 later
+abbrev pub after_backslash : Option (ℕ × ℕ) → Quoted → Quoted
+after_backslash None later = bad 0
+after_backslash (Some found) later = after (encode_utf8 found.0) 1 later
 
 abbrev pub quoted_step : ℕ → Option (ℕ × ℕ) → Quoted → Quoted
 quoted_step b found later =
     if b == 34 then ended [] 1
     else if b == 10 then cut
-    else if b == 92 then behind_escape found later
-    else behind (b ∷ []) 1 later
+    else if b == 92 then after_backslash found later
+    else after (b ∷ []) 1 later
 
 -- where the first bytes, so many, belong to an escape before
 abbrev pub quoted : ℕ → List ℕ → Quoted
 quoted skip [] = cut
-quoted (suc skip) (b ∷ bs) = behind [] 1 (quoted skip bs)
+quoted (suc skip) (b ∷ bs) = after [] 1 (quoted skip bs)
 quoted zero (b ∷ bs) = quoted_step b (escape_at bs) (quoted (if b == 92 then escape_len_of (escape_at bs) else 0) bs)
 
 -- what is read of a string up to `at`, with the value `old`, goes on from `next` with the value `new`
 abbrev pub ReadsOn : List ℕ → List ℕ → ℕ → List ℕ → ℕ → Type 0
 ReadsOn text old at new next = (start : ℕ) (whole : Quoted) → start < at →
-    behind old (at - (start + 1)) (quoted 0 (drop at text)) ≡ whole → behind new (next - (start + 1)) (quoted 0 (drop next text)) ≡ whole
+    after old (at - (start + 1)) (quoted 0 (drop at text)) ≡ whole → after new (next - (start + 1)) (quoted 0 (drop next text)) ≡ whole
 
 -- a token of an action at this place, and its length
 abbrev pub Found : Type 0
@@ -125,27 +125,27 @@ lexeme_at at bytes =
 abbrev pub Step : Type 0
 Step = Result (Token × Cursor) TokenRefused
 
--- a token of this kind and length, before this mode
-abbrev pub step : TokenKind → ℕ → ℕ → Mode → Token × Cursor
+-- a token of this kind and length, before this state
+abbrev pub step : TokenKind → ℕ → ℕ → State → Token × Cursor
 step what at len m = (record { kind = what; start = at; end = at + len }, cursor m (at + len))
 
 abbrev pub inner_step : ℕ → ℕ → Found → Step
-inner_step opened at (Ok found) = Ok (step found.0 at found.1 (mode.Action opened))
+inner_step opened at (Ok found) = Ok (step found.0 at found.1 (state.Action opened))
 inner_step opened at (Err why) = Err why
 
 -- after so many bytes of white space
 abbrev pub inner_at : ℕ → ℕ → ℕ → List ℕ → Step
 inner_at opened spaces at bytes =
     if length bytes == 0 then Err (refused.UnclosedAction opened)
-    else if begins (codes "}}") bytes then Ok (step kind.Close at 2 (mode.Text false))
-    else if nat_lt 0 spaces && begins (codes "-}}") bytes then Ok (step kind.Close at 3 (mode.Text true))
+    else if begins (codes "}}") bytes then Ok (step kind.Close at 2 (state.Text false))
+    else if nat_lt 0 spaces && begins (codes "-}}") bytes then Ok (step kind.Close at 3 (state.Text true))
     else inner_step opened at (lexeme_at at bytes)
 
 abbrev pub inside_at : ℕ → ℕ → List ℕ → Step
 inside_at opened at rest = inner_at opened (prefix_len is_white rest) (at + prefix_len is_white rest) (drop (prefix_len is_white rest) rest)
 
 abbrev pub comment_at : ℕ → ℕ → List ℕ → Step
-comment_at opened at body = if nat_lt (bytes_before (codes "*/") body) (length body) then Ok (step kind.Comment at (bytes_before (codes "*/") body + 4) mode.Commented) else Err (refused.UnclosedComment opened)
+comment_at opened at body = if nat_lt (bytes_before (codes "*/") body) (length body) then Ok (step kind.Comment at (bytes_before (codes "*/") body + 4) state.Commented) else Err (refused.UnclosedComment opened)
 
 abbrev pub opened_at : Bool → ℕ → ℕ → List ℕ → Step
 opened_at trims opened at rest =
@@ -154,17 +154,17 @@ opened_at trims opened at rest =
 
 abbrev pub commented_at : ℕ → List ℕ → Step
 commented_at at rest =
-    if begins (codes "}}") rest then Ok (step kind.Close at 2 (mode.Text false))
-    else if begins (codes " -}}") rest then Ok (step kind.Close (at + 1) 3 (mode.Text true))
+    if begins (codes "}}") rest then Ok (step kind.Close at 2 (state.Text false))
+    else if begins (codes " -}}") rest then Ok (step kind.Close (at + 1) 3 (state.Text true))
     else Err (refused.BadDelimiter at)
 
 abbrev pub open_at : ℕ → List ℕ → Option (Token × Cursor)
-open_at at rest = if length rest == 0 then None else Some (step kind.Open at (open_len (trims_before rest)) (mode.Opened (trims_before rest) at))
+open_at at rest = if length rest == 0 then None else Some (step kind.Open at (open_len (trims_before rest)) (state.Opened (trims_before rest) at))
 
 abbrev pub text_at : Bool → ℕ → List ℕ → Option (Token × Cursor)
 text_at trims at rest =
     if nat_lt (kept_start trims rest) (kept_end rest)
-    then Some (record { kind = kind.Text; start = at + kept_start trims rest; end = at + kept_end rest }, cursor (mode.Text false) (at + text_len rest))
+    then Some (record { kind = kind.Text; start = at + kept_start trims rest; end = at + kept_end rest }, cursor (state.Text false) (at + text_len rest))
     else open_at (at + text_len rest) (drop (text_len rest) rest)
 
 -- the next token; nothing at the end
@@ -175,14 +175,14 @@ abbrev pub some_next : Step → Advance
 some_next (Ok next) = Ok (Some next)
 some_next (Err why) = Err why
 
-abbrev pub advance_at : Mode → ℕ → List ℕ → Advance
-advance_at (mode.Text trims) at rest = Ok (text_at trims at rest)
-advance_at (mode.Opened trims opened) at rest = some_next (opened_at trims opened at rest)
-advance_at (mode.Action opened) at rest = some_next (inside_at opened at rest)
-advance_at mode.Commented at rest = some_next (commented_at at rest)
+abbrev pub advance_at : State → ℕ → List ℕ → Advance
+advance_at (state.Text trims) at rest = Ok (text_at trims at rest)
+advance_at (state.Opened trims opened) at rest = some_next (opened_at trims opened at rest)
+advance_at (state.Action opened) at rest = some_next (inside_at opened at rest)
+advance_at state.Commented at rest = some_next (commented_at at rest)
 
 abbrev pub advance : List ℕ → Cursor → Advance
-advance text from = advance_at from.mode from.at (rest_at text from)
+advance text from = advance_at from.state from.at (rest_at text from)
 
 -- what a step gives, and then the rest, where these tokens are before
 abbrev pub go_on : Advance → List Token → (Cursor → List Token → Result (List Token) TokenRefused) → Result (List Token) TokenRefused

@@ -9,7 +9,7 @@ use lib.Utf8.{scalar}
 
 -- a byte of a string in double quotes that stands for itself: any but the quote, the backslash and the line feed
 abbrev pub is_plain : ℕ → Bool
-is_plain b = not ((b == 34) || ((b == 92) || (b == 10)))
+is_plain b = not (b == 34 || b == 92 || b == 10)
 
 -- `\n`, `\r`, `\t`, `\\` and `\"`, by the byte after the backslash
 abbrev pub short_escape : List ℕ → Option ℕ

@@ -1,12 +1,12 @@
 ghost use Rattle.std.specs.Prelude.{◌≡◌, ◌+◌, ◌<◌, ◌≤◌, length, drop};
 ghost use Rattle.std.specs.List.{prefix_len};
-ghost use Rattle.tpl_token.specs.Answers.{Gives, max_text};
+ghost use Rattle.tpl_token.specs.Answers.{IsOrOutOfMemory, max_text};
 ghost use Rattle.tpl_token.specs.Characters.{is_white};
 ghost use Rattle.tpl_token.specs.Grammar.{gap};
 ghost use Rattle.tpl_token.specs.Scanning.{comment_at as comment_at_of, commented_at as commented_at_of, inner_at as inner_at_of, inside_at as inside_at_of, opened_at as opened_at_of};
 
 use crate::bytes::{begins, bytes_before, white_len};
-use crate::cursor::{Cursor, Mode};
+use crate::cursor::{Cursor, State};
 use crate::lexeme::lexeme_at;
 use crate::refused::TokenRefused;
 use crate::token::{Token, TokenKind};
@@ -22,7 +22,7 @@ pub fn opened_at(
 ) -> Result<(Token, Cursor), TokenRefused>
     requires limit { length text.now ≤ max_text }
     requires within { at ≤ length text.now }
-    ensures { Gives result (opened_at_of trims opened at (drop at text.now)) }
+    ensures { IsOrOutOfMemory result (opened_at_of trims opened at (drop at text.now)) }
 {
     let (_, rest) = text.as_bytes().split_at(at);
     if trims && begins(b" /*", rest) {
@@ -39,11 +39,11 @@ pub fn opened_at(
 // The comment whose `/*` stands at a place before these bytes.
 fn comment_at(opened: u32, at: usize, body: &[u8]) -> Result<(Token, Cursor), TokenRefused>
     requires limit { at + 2 + length body.now ≤ max_text }
-    ensures { Gives result (comment_at_of opened at body.now) }
+    ensures { IsOrOutOfMemory result (comment_at_of opened at body.now) }
 {
     let len = bytes_before(b"*/", body);
     if len < body.len() {
-        return Ok(Cursor::step(TokenKind::Comment, at, len + 4, Mode::Commented));
+        return Ok(Cursor::step(TokenKind::Comment, at, len + 4, State::Commented));
     }
     Err(TokenRefused::UnclosedComment(opened))
 }
@@ -51,13 +51,13 @@ fn comment_at(opened: u32, at: usize, body: &[u8]) -> Result<(Token, Cursor), To
 /// The end of an action after its comment.
 pub fn commented_at(at: usize, rest: &[u8]) -> Result<(Token, Cursor), TokenRefused>
     requires limit { at + length rest.now ≤ max_text }
-    ensures { Gives result (commented_at_of at rest.now) }
+    ensures { IsOrOutOfMemory result (commented_at_of at rest.now) }
 {
     if begins(b"}}", rest) {
-        return Ok(Cursor::step(TokenKind::Close, at, 2, Mode::Text { trims: false }));
+        return Ok(Cursor::step(TokenKind::Close, at, 2, State::Text { trims: false }));
     }
     if begins(b" -}}", rest) {
-        return Ok(Cursor::step(TokenKind::Close, at + 1, 3, Mode::Text { trims: true }));
+        return Ok(Cursor::step(TokenKind::Close, at + 1, 3, State::Text { trims: true }));
     }
     Err(TokenRefused::BadDelimiter(at as u32))
 }
@@ -71,7 +71,7 @@ pub fn inside_at(
 ) -> Result<(Token, Cursor), TokenRefused>
     requires limit { length text.now ≤ max_text }
     requires within { at ≤ length text.now }
-    ensures { Gives result (inside_at_of opened at (drop at text.now)) }
+    ensures { IsOrOutOfMemory result (inside_at_of opened at (drop at text.now)) }
 {
     let (_, rest) = text.as_bytes().split_at(at);
     let spaces = white_len(rest);
@@ -88,20 +88,20 @@ fn inner_at(
 ) -> Result<(Token, Cursor), TokenRefused>
     requires limit { length text.now ≤ max_text }
     requires within { at ≤ length text.now }
-    ensures { Gives result (inner_at_of opened spaces at (drop at text.now)) }
+    ensures { IsOrOutOfMemory result (inner_at_of opened spaces at (drop at text.now)) }
 {
     let (_, rest) = text.as_bytes().split_at(at);
     if rest.is_empty() {
         return Err(TokenRefused::UnclosedAction(opened));
     }
     if begins(b"}}", rest) {
-        return Ok(Cursor::step(TokenKind::Close, at, 2, Mode::Text { trims: false }));
+        return Ok(Cursor::step(TokenKind::Close, at, 2, State::Text { trims: false }));
     }
     if spaces > 0 && begins(b"-}}", rest) {
-        return Ok(Cursor::step(TokenKind::Close, at, 3, Mode::Text { trims: true }));
+        return Ok(Cursor::step(TokenKind::Close, at, 3, State::Text { trims: true }));
     }
     match lexeme_at(alloc, text, at) {
-        Ok((kind, len)) => Ok(Cursor::step(kind, at, len, Mode::Action { place: opened })),
+        Ok((kind, len)) => Ok(Cursor::step(kind, at, len, State::Action { place: opened })),
         Err(refused) => Err(refused),
     }
 }

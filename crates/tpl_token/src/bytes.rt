@@ -1,9 +1,11 @@
 // What stands at the beginning of bytes.
 ghost use Rattle.std.specs.Prelude.{◌≡◌, ◌≤◌, length, take};
 ghost use Rattle.std.specs.List.{prefix_len, suffix_len};
-ghost use Rattle.tpl_token.specs.Characters.{begins as begins_of, first_is, is_sign, is_white as is_white_of, is_word_byte, is_word_start};
+ghost use Rattle.tpl_token.specs.Characters.{begins as begins_of, first_is, is_other, is_sign, is_white as is_white_of, is_word_byte, is_word_start};
 ghost use Rattle.tpl_token.specs.Texts.{bytes_before as bytes_before_of};
 ghost use Rattle.std.specs.Char.{is_ascii_digit};
+
+use memchr::memchr;
 
 /// Whether the bytes begin with a mark.
 pub fn begins(mark: &[u8], bytes: &[u8]) -> bool
@@ -13,19 +15,35 @@ pub fn begins(mark: &[u8], bytes: &[u8]) -> bool
 }
 
 /// How many bytes stand before the first place where the mark begins, all of them where it begins nowhere.
-pub fn bytes_before(mark: &[u8], bytes: &[u8]) -> usize
+pub fn bytes_before(mark: &[u8; 2], bytes: &[u8]) -> usize
     ensures len { result ≡ bytes_before_of mark.now bytes.now }
     ensures bound { result ≤ length bytes.now }
 {
     let mut at = 0;
     while at < bytes.len() {
         let (_, rest) = bytes.split_at(at);
-        if begins(mark, rest) {
-            return at;
+        let run = bytes_until(mark[0], rest);
+        let (_, found) = rest.split_at(run);
+        if begins(mark, found) {
+            return at + run;
         }
-        at += 1;
+        if found.is_empty() {
+            return bytes.len();
+        }
+        at += run + 1;
     }
     at
+}
+
+/// How many bytes stand before the first one of this value, all of them where there is none.
+pub fn bytes_until(byte: u8, bytes: &[u8]) -> usize
+    ensures len { result ≡ prefix_len (is_other byte) bytes.now }
+    ensures bound { result ≤ length bytes.now }
+{
+    match memchr(byte, bytes) {
+        Some(run) => run,
+        None => bytes.len(),
+    }
 }
 
 /// How many bytes of white space stand at the beginning.

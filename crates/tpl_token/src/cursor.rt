@@ -8,14 +8,14 @@ use crate::token::{Token, TokenKind};
 #[derive(Clone, Copy, Debug)]
 pub struct Cursor {
     /// What stands there.
-    pub mode: Mode,
+    pub state: State,
     /// The place, in bytes from the beginning of the text.
     pub at: usize,
 }
 
 /// What stands at a place of a text, by what stands before it.
 #[derive(Clone, Copy, Debug)]
-pub enum Mode {
+pub enum State {
     /// Text, up to the next action or to the end.
     Text {
         /// Whether it stands after `-}}`, which trims its beginning.
@@ -39,9 +39,9 @@ pub enum Mode {
 
 impl Cursor {
     /// A token of this kind and length at a place, and how far the text is read with it.
-    pub fn step(kind: TokenKind, at: usize, len: usize, mode: Mode) -> (Token, Cursor)
+    pub fn step(kind: TokenKind, at: usize, len: usize, state: State) -> (Token, Cursor)
         requires limit { at + len ≤ max_text + 1 }
-        ensures { result ≡ step_of kind at len mode }
+        ensures { result ≡ step_of kind at len state }
     {
         let end = at + len;
         let token = Token {
@@ -49,6 +49,6 @@ impl Cursor {
             start: at as u32,
             end: end as u32,
         };
-        (token, Cursor { mode, at: end })
+        (token, Cursor { state, at: end })
     }
 }

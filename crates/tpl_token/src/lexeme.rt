@@ -1,5 +1,5 @@
 ghost use Rattle.std.specs.Prelude.{◌≡◌, ◌+◌, ◌<◌, ◌≤◌, drop, length, IfOk};
-ghost use Rattle.tpl_token.specs.Answers.{Gives, max_text};
+ghost use Rattle.tpl_token.specs.Answers.{IsOrOutOfMemory, max_text};
 ghost use Rattle.tpl_token.specs.Refusals.{begins_number as begins_number_of};
 ghost use Rattle.tpl_token.specs.Scanning.{dot_found, lexeme_at as lexeme_at_of, mark_found, name_len as name_len_of};
 
@@ -15,11 +15,11 @@ use std::alloc::Global;
 pub fn lexeme_at(alloc: Global, text: &str, at: usize) -> Result<(TokenKind, usize), TokenRefused>
     requires limit { length text.now ≤ max_text }
     requires within { at < length text.now }
-    ensures found { Gives result (lexeme_at_of at (drop at text.now)) }
+    ensures found { IsOrOutOfMemory result (lexeme_at_of at (drop at text.now)) }
     ensures bound { IfOk result (λ found. at + found.1 ≤ length text.now) }
 {
     let (_, rest) = text.as_bytes().split_at(at);
-    let (_, behind) = rest.split_at(1);
+    let (_, after) = rest.split_at(1);
     if begins_word(rest) {
         return Ok((TokenKind::Name, word_len(rest)));
     }
@@ -33,10 +33,10 @@ pub fn lexeme_at(alloc: Global, text: &str, at: usize) -> Result<(TokenKind, usi
         return raw_at(alloc, text, at);
     }
     if begins(b".", rest) {
-        return Ok(dot(name_len(behind)));
+        return Ok(dot(name_len(after)));
     }
     if begins(b"$", rest) {
-        return Ok((TokenKind::Variable, name_len(behind) + 1));
+        return Ok((TokenKind::Variable, name_len(after) + 1));
     }
     mark_at(at as u32, rest)
 }
@@ -51,8 +51,8 @@ fn begins_number(bytes: &[u8]) -> bool
     if !begins(b".", bytes) {
         return false;
     }
-    let (_, behind) = bytes.split_at(1);
-    begins_digit(behind)
+    let (_, after) = bytes.split_at(1);
+    begins_digit(after)
 }
 
 // The length of the name at the beginning, 0 where there is none.
@@ -80,7 +80,7 @@ fn dot(name: usize) -> (TokenKind, usize)
 
 // A token of one or two characters that are always the same.
 fn mark_at(at: u32, bytes: &[u8]) -> Result<(TokenKind, usize), TokenRefused>
-    ensures found { Gives result (mark_found at bytes.now) }
+    ensures found { IsOrOutOfMemory result (mark_found at bytes.now) }
     ensures bound { IfOk result (λ found. found.1 ≤ length bytes.now) }
 {
     if begins(b":=", bytes) {

@@ -1,12 +1,12 @@
 ghost use Rattle.std.specs.Prelude.{◌≡◌, ◌≤◌, ◌↔◌, IsTrue, Ok, Err, IfErr, IfOk, List, length};
-ghost use Rattle.tpl_token.specs.Answers.{Answers, Gives, max_text};
+ghost use Rattle.tpl_token.specs.Answers.{TokensAnswers, IsOrOutOfMemory, max_text};
 ghost use Rattle.tpl_token.specs.Grammar.{AreTokens};
 ghost use Rattle.tpl_token.specs.Refusals.{IsRefused};
 ghost use Rattle.tpl_token.specs.Scanning.{advance as advance_of};
 ghost use Rattle.tpl_token.specs.Spans.{AreCuts, Ascend, IsCutAt};
 
 use crate::action::{commented_at, inside_at, opened_at};
-use crate::cursor::{Cursor, Mode};
+use crate::cursor::{Cursor, State};
 use crate::refused::TokenRefused;
 use crate::text::text_at;
 use crate::token::Token;
@@ -29,11 +29,11 @@ pub fn fits(text: &str) -> bool
 pub fn tokens(alloc: Global, text: &str) -> Result<List<Token>, TokenRefused>
     requires limit { length text.now ≤ max_text }
     // The answer is the text's.
-    ensures answers { Answers text.now result }
+    ensures answers { TokensAnswers text.now result }
     // A text that has tokens is not refused, and these are the tokens.
-    ensures accepted { (list : List Token) → AreTokens text.now list → Gives result (Ok list) }
+    ensures accepted { (list : List Token) → AreTokens text.now list → IsOrOutOfMemory result (Ok list) }
     // A text that is refused is refused for this cause.
-    ensures refused { (why : TokenRefused) → IsRefused text.now why → Gives result (Err why) }
+    ensures refused { (why : TokenRefused) → IsRefused text.now why → IsOrOutOfMemory result (Err why) }
     // The tokens stand one after another.
     ensures spans { IfOk result (Ascend 0 (length text.now)) }
     // The text may be cut at their ends, and where it is refused.
@@ -42,7 +42,7 @@ pub fn tokens(alloc: Global, text: &str) -> Result<List<Token>, TokenRefused>
 {
     let mut tokens = List::new(alloc);
     let mut cursor = Cursor {
-        mode: Mode::Text { trims: false },
+        state: State::Text { trims: false },
         at: 0,
     };
     loop {
@@ -65,13 +65,13 @@ fn advance(
 ) -> Result<Option<(Token, Cursor)>, TokenRefused>
     requires limit { length text.now ≤ max_text }
     requires within { cursor.at ≤ length text.now }
-    ensures { Gives result (advance_of text.now cursor) }
+    ensures { IsOrOutOfMemory result (advance_of text.now cursor) }
 {
     let (_, rest) = text.as_bytes().split_at(cursor.at);
-    match cursor.mode {
-        Mode::Text { trims } => Ok(text_at(trims, cursor.at, rest)),
-        Mode::Opened { trims, place } => opened_at(alloc, text, trims, place, cursor.at).map(Some),
-        Mode::Action { place } => inside_at(alloc, text, place, cursor.at).map(Some),
-        Mode::Commented => commented_at(cursor.at, rest).map(Some),
+    match cursor.state {
+        State::Text { trims } => Ok(text_at(trims, cursor.at, rest)),
+        State::Opened { trims, place } => opened_at(alloc, text, trims, place, cursor.at).map(Some),
+        State::Action { place } => inside_at(alloc, text, place, cursor.at).map(Some),
+        State::Commented => commented_at(cursor.at, rest).map(Some),
     }
 }

@@ -3,7 +3,7 @@ ghost use Rattle.std.specs.Char.{is_digit};
 ghost use Rattle.std.specs.List.{list_all};
 ghost use Rattle.tpl_token.specs.Numbers.{below, magnitude as magnitude_of, number as number_of, numeral as numeral_of, signed as signed_of, unsigned as unsigned_of};
 ghost use Rattle.tpl_token.specs.Scanning.{number_found, number_len as number_len_of};
-ghost use Rattle.tpl_token.specs.Answers.{Gives};
+ghost use Rattle.tpl_token.specs.Answers.{IsOrOutOfMemory};
 
 use crate::bytes::{begins, begins_sign, word_len};
 use crate::refused::TokenRefused;
@@ -13,15 +13,15 @@ use std::str;
 /// The number at the beginning of bytes that stand at a place, and its length. `BadNumber` comes where what begins as a number
 /// is not one.
 pub fn number_at(at: u32, bytes: &[u8]) -> Result<(TokenKind, usize), TokenRefused>
-    ensures found { Gives result (number_found at bytes.now) }
+    ensures found { IsOrOutOfMemory result (number_found at bytes.now) }
     ensures bound { IfOk result (λ found. found.1 ≤ length bytes.now) }
 {
     let len = number_len(bytes);
-    let (front, behind) = bytes.split_at(len);
-    if begins(b".", behind) {
+    let (prefix, after) = bytes.split_at(len);
+    if begins(b".", after) {
         return Err(TokenRefused::BadNumber(at));
     }
-    match number(front) {
+    match number(prefix) {
         Some(value) => Ok((TokenKind::Number(value), len)),
         None => Err(TokenRefused::BadNumber(at)),
     }

@@ -2,14 +2,15 @@ ghost use Rattle.std.specs.Prelude.{◌≡◌, ◌+◌, ◌<◌, ◌≤◌, fals
 ghost use Rattle.std.specs.List.{prefix_len};
 ghost use Rattle.std.specs.Str.{IsCharBoundary};
 ghost use Rattle.tpl_token.specs.Characters.{first_is};
-ghost use Rattle.tpl_token.specs.Strings.{is_kept, is_plain as is_plain_of};
-ghost use Rattle.tpl_token.specs.Scanning.{ReadsOn, quoted, raw_found, raw_len as raw_len_of, string_found, without_returns as without_returns_of};
-ghost use Rattle.tpl_token.specs.Answers.{Gives, max_text};
+ghost use Rattle.tpl_token.specs.Strings.{is_plain};
+ghost use Rattle.tpl_token.specs.Scanning.{ReadsOn, quoted, raw_found, string_found, without_returns as without_returns_of};
+ghost use Rattle.tpl_token.specs.Answers.{IsOrOutOfMemory, max_text};
 
-use crate::bytes::begins;
+use crate::bytes::{begins, bytes_until};
 use crate::escape::escape_at;
 use crate::refused::TokenRefused;
 use crate::token::TokenKind;
+use memchr::memchr3;
 use page_io::{Memory, Text};
 use std::alloc::Global;
 
@@ -23,7 +24,7 @@ pub fn quoted_at(
     requires limit { length text.now ≤ max_text }
     requires within { start < length text.now }
     requires quote { slice_index text.now start ≡ 34 }
-    ensures found { Gives result (string_found start (quoted 0 (drop (start + 1) text.now))) }
+    ensures found { IsOrOutOfMemory result (string_found start (quoted 0 (drop (start + 1) text.now))) }
     ensures bound { IfOk result (λ found. start + found.1 ≤ length text.now) }
 {
     let mut value = String::new(alloc);
@@ -56,8 +57,9 @@ fn push_plain(value: &mut String, text: &str, at: usize) -> Result<usize, Memory
     ensures from { IfOk result (λ next. at ≤ next) }
     ensures to { IfOk result (λ next. next ≤ length text.now) }
     ensures cut { IfOk result (IsCharBoundary text.now) }
-    ensures stops { IfOk result (λ next. first_is is_plain_of (drop next text.now) ≡ false) }
-    ensures copied { IfOk result (λ next. ReadsOn text.now (string_bytes value.old) at (string_bytes value.new) next) }
+    ensures stops { IfOk result (λ next. first_is is_plain (drop next text.now) ≡ false) }
+    ensures copied { IfOk result (λ next.
+        ReadsOn text.now (string_bytes value.old) at (string_bytes value.new) next) }
 {
     let (_, rest) = text.as_bytes().split_at(at);
     let run = plain_len(rest);
@@ -67,16 +69,13 @@ fn push_plain(value: &mut String, text: &str, at: usize) -> Result<usize, Memory
 
 // How many bytes stand for themselves.
 fn plain_len(bytes: &[u8]) -> usize
-    ensures len { result ≡ prefix_len is_plain_of bytes.now }
+    ensures len { result ≡ prefix_len is_plain bytes.now }
     ensures bound { result ≤ length bytes.now }
 {
-    bytes.iter().take_while(|byte| is_plain(**byte)).count()
-}
-
-fn is_plain(byte: u8) -> bool
-    ensures { result ≡ is_plain_of byte }
-{
-    !(byte == b'"' || byte == b'\\' || byte == b'\n')
+    match memchr3(b'"', b'\\', b'\n', bytes) {
+        Some(run) => run,
+        None => bytes.len(),
+    }
 }
 
 /// The string between backquotes at a place where one stands, and its length. `UnclosedString` comes where the text ends
@@ -85,24 +84,16 @@ pub fn raw_at(alloc: Global, text: &str, start: usize) -> Result<(TokenKind, usi
     requires limit { length text.now ≤ max_text }
     requires within { start < length text.now }
     requires quote { slice_index text.now start ≡ 96 }
-    ensures found { Gives result (raw_found start (drop (start + 1) text.now)) }
+    ensures found { IsOrOutOfMemory result (raw_found start (drop (start + 1) text.now)) }
     ensures bound { IfOk result (λ found. start + found.1 ≤ length text.now) }
 {
     let (_, body) = text.as_bytes().split_at(start + 1);
-    let len = raw_len(body);
+    let len = bytes_until(b'`', body);
     if len < body.len() {
         let value = without_returns(alloc, &text[start + 1..start + 1 + len])?;
         return Ok((TokenKind::Str(Text::from(value)), len + 2));
     }
     Err(TokenRefused::UnclosedString(start as u32))
-}
-
-// How many bytes stand before a backquote.
-fn raw_len(bytes: &[u8]) -> usize
-    ensures len { result ≡ raw_len_of bytes.now }
-    ensures bound { result ≤ length bytes.now }
-{
-    bytes.iter().take_while(|byte| **byte != b'`').count()
 }
 
 // A copy without carriage returns.
@@ -113,7 +104,7 @@ fn without_returns(alloc: Global, text: &str) -> Result<String, Memory>
     let mut at = 0;
     while at < text.len() {
         let (_, rest) = text.as_bytes().split_at(at);
-        let run = line_len(rest);
+        let run = bytes_until(b'\r', rest);
         copy.push_str(&text[at..at + run])?;
         at += run;
         if at < text.len() {
@@ -121,12 +112,4 @@ fn without_returns(alloc: Global, text: &str) -> Result<String, Memory>
         }
     }
     Ok(copy)
-}
-
-// How many bytes stand before a carriage return.
-fn line_len(bytes: &[u8]) -> usize
-    ensures len { result ≡ prefix_len is_kept bytes.now }
-    ensures bound { result ≤ length bytes.now }
-{
-    bytes.iter().take_while(|byte| **byte != b'\r').count()
 }

@@ -6,7 +6,7 @@ ghost use Rattle.tpl_token.specs.Scanning.{open_at as open_at_of, text_at as tex
 ghost use Rattle.tpl_token.specs.Texts.{kept_end, kept_start, text_len, trims_before as trims_before_of};
 
 use crate::bytes::{begins, begins_white, bytes_before, white_end_len, white_len};
-use crate::cursor::{Cursor, Mode};
+use crate::cursor::{Cursor, State};
 use crate::token::{Token, TokenKind};
 
 /// The next token where text stands: the text, or the next action's `{{`. There is none at the end.
@@ -15,9 +15,9 @@ pub fn text_at(trims: bool, at: usize, rest: &[u8]) -> Option<(Token, Cursor)>
     ensures { result ≡ text_at_of trims at rest.now }
 {
     let len = bytes_before(b"{{", rest);
-    let (text, behind) = rest.split_at(len);
+    let (text, after) = rest.split_at(len);
     let start = if trims { white_len(text) } else { 0 };
-    let end = if trims_before(behind) {
+    let end = if trims_before(after) {
         len - white_end_len(text)
     } else {
         len
@@ -29,12 +29,12 @@ pub fn text_at(trims: bool, at: usize, rest: &[u8]) -> Option<(Token, Cursor)>
             end: (at + end) as u32,
         };
         let cursor = Cursor {
-            mode: Mode::Text { trims: false },
+            state: State::Text { trims: false },
             at: at + len,
         };
         return Some((token, cursor));
     }
-    open_at(at + len, behind)
+    open_at(at + len, after)
 }
 
 // Whether `{{-` stands at the beginning, and white space after it.
@@ -44,8 +44,8 @@ fn trims_before(rest: &[u8]) -> bool
     if !begins(b"{{-", rest) {
         return false;
     }
-    let (_, behind) = rest.split_at(3);
-    begins_white(behind)
+    let (_, after) = rest.split_at(3);
+    begins_white(after)
 }
 
 // The `{{` of an action at the beginning, unless there is nothing.
@@ -62,7 +62,7 @@ fn open_at(at: usize, rest: &[u8]) -> Option<(Token, Cursor)>
         TokenKind::Open,
         at,
         len,
-        Mode::Opened {
+        State::Opened {
             trims,
             place: at as u32,
         },

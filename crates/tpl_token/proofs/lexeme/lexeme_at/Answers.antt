@@ -3,7 +3,7 @@ use Rattle.std.proofs.lemmas.List.{drop-drop}
 use Rattle.tpl_token.specs.Characters.{begins, first_is, is_word_start}
 use Rattle.tpl_token.specs.Refusals.{begins_number}
 use Rattle.tpl_token.specs.Scanning.{quoted, raw_found, string_found}
-use Rattle.tpl_token.specs.Answers.{Gives}
+use Rattle.tpl_token.specs.Answers.{IsOrOutOfMemory}
 use Rattle.tpl_token.proofs.Chains.{lexeme-quoted, lexeme-raw}
 use Rattle.tpl_token.proofs.lexeme.lexeme_at.Goals as goal
 
@@ -16,7 +16,7 @@ returns-then-begins-clause-found c =
     let number = ap begins_number (sym rest) ∙ sym c.begins_number.ensures ∙ c.if-begins_number.false in
     let quote = ap (begins (codes "\"")) (sym rest) ∙ sym c.begins.ensures ∙ c.if-begins.true in
     let same = lexeme-quoted at (drop at text) word number quote ∙ ap (λ (xs : List ℕ). string_found at (quoted 0 xs)) (drop-drop 1 at text) in
-    subst (Gives c.quoted_at.result) (sym same) c.quoted_at.ensures.found
+    subst (IsOrOutOfMemory c.quoted_at.result) (sym same) c.quoted_at.ensures.found
 
 pub returns-then-begins-2-clause-found : goal.returns-then-begins-2-clause-found
 returns-then-begins-2-clause-found c =
@@ -28,4 +28,4 @@ returns-then-begins-2-clause-found c =
     let quote = ap (begins (codes "\"")) (sym rest) ∙ sym c.begins.ensures ∙ c.if-begins.false in
     let raw = ap (begins (codes "`")) (sym rest) ∙ sym c.begins-2.ensures ∙ c.if-begins-2.true in
     let same = lexeme-raw at (drop at text) word number quote raw ∙ ap (raw_found at) (drop-drop 1 at text) in
-    subst (Gives c.raw_at.result) (sym same) c.raw_at.ensures.found
+    subst (IsOrOutOfMemory c.raw_at.result) (sym same) c.raw_at.ensures.found

@@ -11,7 +11,7 @@ loop-token-smaller c =
     let text = c.args.text.now in
     let from = c.loop-token.cursor in
     let within = c.loop-token.invariant.within in
-    let next = says_next text from.mode from.at within (Ok (Some (c.in-Ok-Some.token, c.in-Ok-Some.next))) (c.in-Ok-Some.ensures ∙ ap Ok c.in-Ok-Some.field-0-is) in
+    let next = says_next text from.state from.at within (Ok (Some (c.in-Ok-Some.token, c.in-Ok-Some.next))) (c.in-Ok-Some.ensures ∙ ap Ok c.in-Ok-Some.field-0-is) in
     let o = onward text from c.in-Ok-Some.token c.in-Ok-Some.next within next in
     omega (arith, o.from_here, o.some, o.whole, o.within)
 
@@ -20,7 +20,7 @@ loop-token-preserved c =
     let text = c.args.text.now in
     let from = c.loop-token.cursor in
     let within = c.loop-token.invariant.within in
-    let next = says_next text from.mode from.at within (Ok (Some (c.in-Ok-Some.token, c.in-Ok-Some.next))) (c.in-Ok-Some.ensures ∙ ap Ok c.in-Ok-Some.field-0-is) in
+    let next = says_next text from.state from.at within (Ok (Some (c.in-Ok-Some.token, c.in-Ok-Some.next))) (c.in-Ok-Some.ensures ∙ ap Ok c.in-Ok-Some.field-0-is) in
     let o = onward text from c.in-Ok-Some.token c.in-Ok-Some.next within next in
     record {
       within = o.within;

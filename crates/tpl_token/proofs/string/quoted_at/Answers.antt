@@ -1,14 +1,14 @@
 use Rattle.std.proofs.Common.{◌≡◌, ℕ, ◌+◌, ◌-◌, List, [], drop, codes, refl, sym, ap, ◌∙◌, arith, ◌<◌}
 use Rattle.std.proofs.lemmas.Str.{IsCharBoundary-after_ascii}
 use Rattle.tpl_token.specs.Characters.{begins}
-use Rattle.tpl_token.specs.Scanning.{Quoted, behind, quoted}
+use Rattle.tpl_token.specs.Scanning.{Quoted, after, quoted}
 use Rattle.tpl_token.proofs.Cuts.{cut_after_escape}
-use Rattle.tpl_token.proofs.Quotes.{behind_nothing, at_quote, at_cut, at_bad, after_escape}
+use Rattle.tpl_token.proofs.Quotes.{after_nothing, at_quote, at_cut, at_bad, after_escape}
 use Rattle.tpl_token.proofs.string.quoted_at.Goals as goal
 
 -- nothing is read yet
-nothing : (v : List ℕ) (n : ℕ) (q : Quoted) → v ≡ [] → n ≡ 0 → behind v n q ≡ q
-nothing v n q none zero = ap (λ (x : List ℕ). behind x n q) none ∙ ap (λ (k : ℕ). behind [] k q) zero ∙ behind_nothing q
+nothing : (v : List ℕ) (n : ℕ) (q : Quoted) → v ≡ [] → n ≡ 0 → after v n q ≡ q
+nothing v n q none zero = ap (λ (x : List ℕ). after x n q) none ∙ ap (λ (k : ℕ). after [] k q) zero ∙ after_nothing q
 
 pub loop-at-init : goal.loop-at-init
 loop-at-init c = record {

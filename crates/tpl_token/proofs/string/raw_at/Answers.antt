@@ -12,5 +12,5 @@ range-requires-clause-start_boundary c = λ _. IsCharBoundary-after_ascii c.args
 pub range-requires-clause-end_boundary : goal.range-requires-clause-end_boundary
 range-requires-clause-end_boundary c =
     let rest = c.split_at.ensures.back ∙ ap (drop (c.args.start + 1)) c.as_bytes.ensures.value in
-    cut_after_run is_raw c.args.text.now (c.args.start + 1) c.raw_len-len.result raw_ascii (c.raw_len-len.ensures.len ∙ ap (prefix_len is_raw) rest)
-    (omega (arith, c.raw_len-len.ensures.bound, ap length rest, length-drop (c.args.start + 1) c.args.text.now, c.requires.within))
+    cut_after_run is_raw c.args.text.now (c.args.start + 1) c.bytes_until-len.result raw_ascii (c.bytes_until-len.ensures.len ∙ ap (prefix_len is_raw) rest)
+    (omega (arith, c.bytes_until-len.ensures.bound, ap length rest, length-drop (c.args.start + 1) c.args.text.now, c.requires.within))

@@ -1,0 +1,11 @@
+use denote.Shadow.{shadow}
+use denote.Text.{Utf8}
+use Rattle.std.proofs.Common.{◌≡◌, ◌++◌, length}
+use Rattle.tpl_print.specs.Replaced.{guarded}
+use Rattle.tpl_print.proofs.text.push_guarded.Given as goal
+
+abbrev pub invariant-loop-prefix : goal.invariant-loop-prefix
+invariant-loop-prefix l = shadow (Utf8 l.left) × (l.out ++ guarded l.followed l.left ≡ l.fn.out ++ guarded l.followed l.text)
+
+abbrev pub decreases-loop-prefix : goal.decreases-loop-prefix
+decreases-loop-prefix l = length l.left
