@@ -1,5 +1,5 @@
 -- The definitions computed on a small file.
-use Rattle.std.proofs.Common.{◌≡◌, ℕ, true, List, [], ◌∷◌, Ok, codes, refl, arith}
+use Rattle.std.proofs.Common.{◌≡◌, ℕ, true, false, List, [], ◌∷◌, Ok, codes, refl, arith}
 use Rattle.tpl_parse.specs.Forms.{no_forms, text, action}
 use Rattle.tpl_print.specs.Parsed.{IsParsed}
 use Rattle.tpl_print.specs.Spelling.{nodes_text}
@@ -48,6 +48,6 @@ parsed = record {
 }
 
 -- this is printed
-printed : nodes_text nodes ≡ codes "b{{ .a }}"
+printed : nodes_text false nodes ≡ codes "b{{ .a }}"
 unfolding field nodes
 printed = refl

@@ -1,8 +1,10 @@
 -- The forms of a part that are read are printed: the pieces of their nodes fit, and are read as forms with the same nodes.
 use Rattle.std.proofs.Common.{◌≡◌, ◌≢◌, ℕ, zero, suc, ◌≤◌, Bool, true, false, ◌||◌, List, [], ◌∷◌, ◌++◌, Some, codes, refl, sym, ap, ◌∙◌, append_assoc, subst, arith, true≢false}
-use Rattle.tpl_parse.specs.Forms.{Forms, no_forms, text, action, control, block, define, Else, no_else, otherwise, else_if, nodes_of, else_nodes, declared_by}
+use Rattle.std.specs.Bool.{⊤}
+use Rattle.tpl_parse.specs.Forms.{Forms, no_forms, text, action, control, block, define, Else, no_else, otherwise, else_if, nodes_of, else_nodes, declared_by, found_in, found_else}
 use Rattle.tpl_parse.specs.Grammar.{StandsOn, Opens, Closes, IsEnd, body_end, EndsBody, IsAction, IsControl, IsIf, AreForms, IsElse}
 use Rattle.tpl_parse.specs.Nests.{kind_of, first_names, else_names, is_range}
+use Rattle.tpl_parse.specs.declared.definition.Found.{Found}
 use Rattle.tpl_parse.specs.declared.frame.Control.{Control}
 use Rattle.tpl_parse.specs.declared.frame.Control.TheVariants as control_word
 use Rattle.tpl_pipe.specs.Grammar.{Stands}
@@ -87,9 +89,18 @@ pub record Outer (ps : List Piece) (Is : Part) : Type 0 where
 outer_by : {P : Part} (ps qs : List Piece) → ps ≡ qs → Outer qs P → Outer ps P
 outer_by {P} ps qs e x = subst (λ (xs : List Piece). Outer xs P) (sym e) x
 
--- forms with these nodes, apart from lines
+-- definitions that are blank
+abbrev pub AllBlank : List Found → Type 0
+AllBlank [] = ⊤
+AllBlank (f ∷ found) = (f.def.blank ≡ true) × AllBlank found
+
+blank_append : (a b : List Found) → AllBlank a → AllBlank b → AllBlank (a ++ b)
+blank_append [] b h k = k
+blank_append (f ∷ a) b h k = (h.0, blank_append a b h.1 k)
+
+-- forms with these nodes, apart from lines, whose definitions are blank
 abbrev pub IsBody : List (List ℕ) → ℕ → Bool → Bool → NodesData → Part
-IsBody v room in_range top nodes s r = (forms : Forms) × AreForms v room in_range top forms s r × (without_lines (nodes_of forms) ≡ without_lines nodes)
+IsBody v room in_range top nodes s r = (forms : Forms) × AreForms v room in_range top forms s r × (without_lines (nodes_of forms) ≡ without_lines nodes) × AllBlank (found_in forms)
 
 abbrev pub Body : List (List ℕ) → ℕ → Bool → Bool → NodesData → Type 0
 Body v room in_range top nodes = Outer (nodes_pieces nodes) (IsBody v room in_range top nodes)
@@ -100,7 +111,7 @@ else_end other = else_pieces (has_nodes other) ++ (nodes_pieces other ++ word_pi
 
 pub record ElseBody (v : List (List ℕ)) (room : ℕ) (in_range : Bool) (c : Control) (other : NodesData) : Type 0 where
   pub fits : (more : List Piece) → FitOut more → FitOut (else_end other ++ more)
-  pub reads : (s r : List Symbol) → Says (else_end other) s r → (later : Else) × IsElse v room in_range c later s r × (without_lines (else_nodes later) ≡ without_lines other)
+  pub reads : (s r : List Symbol) → Says (else_end other) s r → (later : Else) × IsElse v room in_range c later s r × (without_lines (else_nodes later) ≡ without_lines other) × AllBlank (found_else later)
 
 else_head : (other : NodesData) (more : List Piece) → OpenHead (else_end other ++ more)
 else_head no_nodes more = tt
@@ -112,7 +123,7 @@ nodes_head no_nodes more differs head = head
 nodes_head (node k l s first other rest) more differs head = rw differs tt
 
 empty_body : (v : List (List ℕ)) (room : ℕ) (in_range top : Bool) → Body v room in_range top no_nodes
-empty_body v room in_range top = record { fits = λ more head fit. fit; reads = λ s r says. (no_forms, says, refl) }
+empty_body v room in_range top = record { fits = λ more head fit. fit; reads = λ s r says. (no_forms, says, refl, tt) }
 
 -- an action that has no body, and what follows
 act_pieces : (k : NodeKind) (line : ℕ) (seams : List Seam) (rest : NodesData) → is_text k ≡ false → is_control k ≡ false
@@ -129,7 +140,7 @@ act_body v room in_range top k line rest e acts body =
           let h = says_split (action_pieces (inner_pieces k)) (nodes_pieces rest) s r says in
           let first = acted_reads (inner_pieces k) s h.0 acts.inner.prints h.1 in
           let more = body.reads h.0 r h.2 in
-          (action k first.0 more.0, (first.1, first.2, h.0, first.3, first.4, first.5, more.1), ap (λ (w : NodesData). node k 1 [] no_nodes no_nodes w) more.2);
+          (action k first.0 more.0, (first.1, first.2, h.0, first.3, first.4, first.5, more.1), ap (λ (w : NodesData). node k 1 [] no_nodes no_nodes w) more.2, more.3);
     })
 
 -- a control, and what follows
@@ -163,6 +174,7 @@ control_body v room in_range top c p line first other rest e inner part behind b
             control c p opening.0 one.0 two.0 three.0,
             (opening.1, opening.2, h.0, l.0, k.0, opening.3, opening.4, opening.5, one.1, two.1, three.1),
             λ i. node (kind_of c p) 1 [] (one.2 i) (two.2 i) (three.2 i),
+            blank_append (found_in one.0) (found_else two.0 ++ found_in three.0) one.3 (blank_append (found_else two.0) (found_in three.0) two.3 three.3),
           );
     })
 
@@ -170,7 +182,7 @@ control_body v room in_range top c p line first other rest e inner part behind b
 else_body : (v : List (List ℕ)) (room : ℕ) (in_range : Bool) (c : Control) (other : NodesData) → Body (v ++ else_names c) room in_range false other → ElseBody v room in_range c other
 else_body v room in_range c no_nodes body = record {
   fits = λ more fit. acted_fits (name (codes "end") ∷ []) more end_prints tt fit;
-  reads = λ s r says. let e = acted_reads (name (codes "end") ∷ []) s r end_prints says in (no_else, (e.0, e.1, e.2, e.3, e.4, e.5), refl);
+  reads = λ s r says. let e = acted_reads (name (codes "end") ∷ []) s r end_prints says in (no_else, (e.0, e.1, e.2, e.3, e.4, e.5), refl, tt);
 }
 else_body v room in_range c (node k l seams first other rest) body =
     let nodes = node k l seams first other rest in
@@ -186,7 +198,7 @@ else_body v room in_range c (node k l seams first other rest) body =
           let opening = acted_reads (name (codes "else") ∷ []) s h.0 else_prints h.1 in
           let one = body.reads h.0 k.0 k.1 in
           let e = acted_reads (name (codes "end") ∷ []) k.0 r end_prints k.2 in
-          (otherwise one.0, (opening.0, opening.1, opening.2, h.0, k.0, opening.3, opening.4, opening.5, one.1, (e.0, e.1, e.2, e.3, e.4, e.5)), one.2);
+          (otherwise one.0, (opening.0, opening.1, opening.2, h.0, k.0, opening.3, opening.4, opening.5, one.1, (e.0, e.1, e.2, e.3, e.4, e.5)), one.2, one.3);
     }
 
 -- a text, and what follows
@@ -245,6 +257,7 @@ parted_body v room in_range bytes line seams rest some begins body =
               ),
             ),
             ap (λ (w : NodesData). node (node_kind.Text bytes) 1 [] no_nodes no_nodes w) more.2,
+            (refl, more.3),
           );
     })
 
@@ -258,7 +271,7 @@ alone_body v room in_range top bytes line seams rest some begins body =
           let h = says_split (words bytes ∷ []) (nodes_pieces rest) s r says in
           let t = text_reads bytes s h.0 h.1 in
           let more = body.reads h.0 r h.2 in
-          (text bytes t.0 t.1 more.0, (h.0, t.2, more.1), ap (λ (w : NodesData). node (node_kind.Text bytes) 1 [] no_nodes no_nodes w) more.2);
+          (text bytes t.0 t.1 more.0, (h.0, t.2, more.1), ap (λ (w : NodesData). node (node_kind.Text bytes) 1 [] no_nodes no_nodes w) more.2, more.3);
     })
 
 text_body : (v : List (List ℕ)) (room : ℕ) (in_range top : Bool) (bytes : List ℕ) (line : ℕ) (seams : List Seam) (rest : NodesData) → bytes ≢ [] → (begins_text rest ≡ true → top ≡ true)

@@ -1,6 +1,6 @@
 -- Nodes by their numbers.
-use Rattle.std.proofs.Common.{◌≡◌, ℕ, ◌+◌, ◌<◌, Bool, true, List, ◌++◌, Option, Some, None, IfSome, is_some, codes, refl, sym, ap, ◌∙◌, arith, append_assoc}
-use Rattle.tpl_print.specs.Spelling.{head_text, inner_text, is_control, parts_text, else_mark, parting, begins_text, nodes_text, node_text, part_at}
+use Rattle.std.proofs.Common.{◌≡◌, ℕ, ◌+◌, ◌<◌, Bool, true, ◌||◌, List, ◌++◌, Option, Some, None, IfSome, is_some, codes, refl, sym, ap, ◌∙◌, arith, append_assoc}
+use Rattle.tpl_print.specs.Spelling.{node_head, is_control, parts_text, else_mark, parting, begins_text, nodes_text, node_text, part_at}
 use Rattle.tpl_tree.proofs.Numbers.{nodes_from-some}
 use Rattle.tpl_tree.specs.Listing.{has_nodes}
 use Rattle.tpl_tree.specs.Trees.{NodesData, no_nodes, node, nodes_size, nodes_from, part_of, rest_of, number_of, child_number, next_number, head_kind, is_text, Stands}
@@ -18,9 +18,10 @@ inside nodes found None stands = stands
 inside nodes found (Some n) stands = stands.0
 
 -- nodes are the first one, what parts it from the next one, and the rest
-pub nodes_text-parts : (nodes : NodesData) → nodes_text nodes ≡ node_text nodes ++ (parting (begins_text nodes) (begins_text (rest_of nodes)) ++ nodes_text (rest_of nodes))
-nodes_text-parts no_nodes = refl
-nodes_text-parts (node k l s first other rest) = sym (append_assoc (head_text (is_text k) (inner_text k)) (parts_text (is_control k) (nodes_text first) (else_mark (has_nodes other)) (nodes_text other)) _)
+pub nodes_text-parts : (followed : Bool) (nodes : NodesData) → nodes_text followed nodes ≡ node_text (has_nodes (rest_of nodes) || followed) nodes ++ (parting (begins_text nodes) (begins_text (rest_of nodes)) ++ nodes_text followed (rest_of nodes))
+nodes_text-parts followed no_nodes = refl
+nodes_text-parts followed (node k l s first other rest) =
+    sym (append_assoc (node_head (has_nodes rest || followed) k) (parts_text (is_control k) (nodes_text true first) (else_mark (has_nodes other)) (nodes_text true other)) _)
 
 pub sizes : (nodes : NodesData) → 0 < nodes_size nodes → nodes_size nodes ≡ 1 + nodes_size (part_of 0 nodes) + nodes_size (part_of 1 nodes) + nodes_size (rest_of nodes)
 sizes no_nodes some = absurd (omega arith)
@@ -31,13 +32,16 @@ begins_text-is no_nodes k e = cc
 begins_text-is (node what l s first other rest) k e = ap is_text (let same : what ≡ k = cc in same)
 
 -- one more node is printed
-pub one_more : (nodes : NodesData) (old printed new whole : List ℕ) → old ++ nodes_text nodes ≡ whole → printed ≡ old ++ node_text nodes
-    → new ≡ printed ++ parting (begins_text nodes) (begins_text (rest_of nodes)) → new ++ nodes_text (rest_of nodes) ≡ whole
-one_more nodes old printed new whole before first second =
-    ap (λ (xs : List ℕ). xs ++ nodes_text (rest_of nodes)) (second ∙ ap (λ (xs : List ℕ). xs ++ parting (begins_text nodes) (begins_text (rest_of nodes))) first)
-    ∙ append_assoc (old ++ node_text nodes) (parting (begins_text nodes) (begins_text (rest_of nodes))) (nodes_text (rest_of nodes))
-    ∙ append_assoc old (node_text nodes) (parting (begins_text nodes) (begins_text (rest_of nodes)) ++ nodes_text (rest_of nodes))
-    ∙ ap (λ (xs : List ℕ). old ++ xs) (sym (nodes_text-parts nodes))
+pub one_more : (followed : Bool) (nodes : NodesData) (old printed new whole : List ℕ) → old ++ nodes_text followed nodes ≡ whole → printed ≡ old ++ node_text (has_nodes (rest_of nodes) || followed) nodes
+    → new ≡ printed ++ parting (begins_text nodes) (begins_text (rest_of nodes)) → new ++ nodes_text followed (rest_of nodes) ≡ whole
+one_more followed nodes old printed new whole before first second =
+    let one = node_text (has_nodes (rest_of nodes) || followed) nodes in
+    let mark = parting (begins_text nodes) (begins_text (rest_of nodes)) in
+    let more = nodes_text followed (rest_of nodes) in
+    ap (λ (xs : List ℕ). xs ++ more) (second ∙ ap (λ (xs : List ℕ). xs ++ mark) first)
+    ∙ append_assoc (old ++ one) mark more
+    ∙ append_assoc old one (mark ++ more)
+    ∙ ap (λ (xs : List ℕ). old ++ xs) (sym (nodes_text-parts followed nodes))
     ∙ before
 
 pub some_nodes : (found : NodesData) (n : ℕ) (number : Option ℕ) → number ≡ number_of found n → is_some number ≡ has_nodes found
@@ -61,31 +65,31 @@ pub other_smaller : (nodes : NodesData) (n : ℕ) (number : Option ℕ) → n < 
 other_smaller nodes n number some is stands =
     omega (arith, sizes (nodes_from nodes n) (nodes_from-some nodes n some), ap nodes_size (part_found nodes (part_of 1 (nodes_from nodes n)) _ number is stands))
 
-node_text-control : (nodes : NodesData) (k : NodeKind) → Some k ≡ head_kind nodes → is_control k ≡ true
-    → node_text nodes ≡ head_text (is_text k) (inner_text k) ++ (nodes_text (part_of 0 nodes) ++ (else_mark (has_nodes (part_of 1 nodes)) ++ (nodes_text (part_of 1 nodes) ++ codes "{{ end }}")))
-node_text-control no_nodes k e t = cc
-node_text-control (node what l s first other rest) k e t =
+node_text-control : (followed : Bool) (nodes : NodesData) (k : NodeKind) → Some k ≡ head_kind nodes → is_control k ≡ true
+    → node_text followed nodes ≡ node_head followed k ++ (nodes_text true (part_of 0 nodes) ++ (else_mark (has_nodes (part_of 1 nodes)) ++ (nodes_text true (part_of 1 nodes) ++ codes "{{ end }}")))
+node_text-control followed no_nodes k e t = cc
+node_text-control followed (node what l s first other rest) k e t =
     let same : what ≡ k = cc in
     let control : is_control what ≡ true = ap is_control same ∙ t in
     rw (control, same) refl
 
 -- a control is printed
-pub control_printed : (nodes : NodesData) (n : ℕ) (k : NodeKind) (first other : Option ℕ) (mark : Bool) (before head one marked two after : List ℕ) → Some k ≡ head_kind (nodes_from nodes n) → is_control k ≡ true
+pub control_printed : (followed : Bool) (nodes : NodesData) (n : ℕ) (k : NodeKind) (first other : Option ℕ) (mark : Bool) (before head one marked two after : List ℕ) → Some k ≡ head_kind (nodes_from nodes n) → is_control k ≡ true
     → first ≡ child_number nodes n 0 → Stands nodes (part_of 0 (nodes_from nodes n)) first → other ≡ child_number nodes n 1 → Stands nodes (part_of 1 (nodes_from nodes n)) other
-    → mark ≡ is_some other → head ≡ before ++ head_text (is_text k) (inner_text k) → one ≡ head ++ nodes_text (part_at nodes first) → marked ≡ one ++ else_mark mark
-    → two ≡ marked ++ nodes_text (part_at nodes other) → after ≡ two ++ codes "{{ end }}" → after ≡ before ++ node_text (nodes_from nodes n)
-control_printed nodes n k first other mark before head one marked two after is control first_is first_stands other_is other_stands mark_is a b c d e =
+    → mark ≡ is_some other → head ≡ before ++ node_head followed k → one ≡ head ++ nodes_text true (part_at nodes first) → marked ≡ one ++ else_mark mark
+    → two ≡ marked ++ nodes_text true (part_at nodes other) → after ≡ two ++ codes "{{ end }}" → after ≡ before ++ node_text followed (nodes_from nodes n)
+control_printed followed nodes n k first other mark before head one marked two after is control first_is first_stands other_is other_stands mark_is a b c d e =
     let v = nodes_from nodes n in
-    let h = head_text (is_text k) (inner_text k) in
-    let f = nodes_text (part_of 0 v) in
+    let h = node_head followed k in
+    let f = nodes_text true (part_of 0 v) in
     let m = else_mark (has_nodes (part_of 1 v)) in
-    let o = nodes_text (part_of 1 v) in
-    let one_is : one ≡ (before ++ h) ++ f = b ∙ ap (λ (xs : List ℕ). xs ++ nodes_text (part_at nodes first)) a ∙ ap (λ (w : NodesData). (before ++ h) ++ nodes_text w) (part_found nodes (part_of 0 v) _ first first_is first_stands) in
+    let o = nodes_text true (part_of 1 v) in
+    let one_is : one ≡ (before ++ h) ++ f = b ∙ ap (λ (xs : List ℕ). xs ++ nodes_text true (part_at nodes first)) a ∙ ap (λ (w : NodesData). (before ++ h) ++ nodes_text true w) (part_found nodes (part_of 0 v) _ first first_is first_stands) in
     let marked_is : marked ≡ ((before ++ h) ++ f) ++ m = c ∙ ap (λ (xs : List ℕ). xs ++ else_mark mark) one_is ∙ ap (λ (x : Bool). ((before ++ h) ++ f) ++ else_mark x) (mark_is ∙ some_nodes (part_of 1 v) _ other other_is) in
-    let two_is : two ≡ (((before ++ h) ++ f) ++ m) ++ o = d ∙ ap (λ (xs : List ℕ). xs ++ nodes_text (part_at nodes other)) marked_is ∙ ap (λ (w : NodesData). (((before ++ h) ++ f) ++ m) ++ nodes_text w) (part_found nodes (part_of 1 v) _ other other_is other_stands) in
+    let two_is : two ≡ (((before ++ h) ++ f) ++ m) ++ o = d ∙ ap (λ (xs : List ℕ). xs ++ nodes_text true (part_at nodes other)) marked_is ∙ ap (λ (w : NodesData). (((before ++ h) ++ f) ++ m) ++ nodes_text true w) (part_found nodes (part_of 1 v) _ other other_is other_stands) in
     e ∙ ap (λ (xs : List ℕ). xs ++ codes "{{ end }}") two_is
     ∙ append_assoc (((before ++ h) ++ f) ++ m) o (codes "{{ end }}")
     ∙ append_assoc ((before ++ h) ++ f) m (o ++ codes "{{ end }}")
     ∙ append_assoc (before ++ h) f (m ++ (o ++ codes "{{ end }}"))
     ∙ append_assoc before h (f ++ (m ++ (o ++ codes "{{ end }}")))
-    ∙ ap (λ (xs : List ℕ). before ++ xs) (sym (node_text-control v k is control))
+    ∙ ap (λ (xs : List ℕ). before ++ xs) (sym (node_text-control followed v k is control))

@@ -2,7 +2,7 @@
 use Rattle.std.proofs.Common.{◌≡◌, ◌≢◌, ℕ, Bool, true, false, List, [], ◌∷◌, ◌++◌, Option, Some, None, codes, ◌==◌}
 use Rattle.std.specs.Bool.{⊤}
 use Rattle.std.specs.Fmt.{signed_decimal}
-use Rattle.tpl_print.specs.Pipes.{func_text}
+use Rattle.tpl_symbol.specs.Names.{function_name}
 use Rattle.tpl_print.specs.Replaced.{guarded, escaped}
 use Rattle.tpl_print.specs.Spelling.{is_control, begins_text}
 use Rattle.tpl_symbol.specs.Kinds.{unmarked}
@@ -33,16 +33,22 @@ pub data Piece : Type 0 where
   -- a field that touches what stands before it
   field : List ℕ → Piece
 
-abbrev pub spelling : Piece → List ℕ
-spelling (words bytes) = guarded bytes
-spelling opens = codes "{{"
-spelling closes = codes " }}"
-spelling (token what bytes) = codes " " ++ bytes
-spelling (field name) = codes "." ++ name
+-- whether pieces follow, or else what comes after them
+abbrev pub follows : Bool → List Piece → Bool
+follows after [] = after
+follows after (p ∷ ps) = true
 
-abbrev pub spelled : List Piece → List ℕ
-spelled [] = []
-spelled (p ∷ ps) = spelling p ++ spelled ps
+-- a piece, after which an action follows or not
+abbrev pub spelling : Bool → Piece → List ℕ
+spelling followed (words bytes) = guarded followed bytes
+spelling followed opens = codes "{{"
+spelling followed closes = codes " }}"
+spelling followed (token what bytes) = codes " " ++ bytes
+spelling followed (field name) = codes "." ++ name
+
+abbrev pub spelled : Bool → List Piece → List ℕ
+spelled after [] = []
+spelled after (p ∷ ps) = spelling (follows after ps) p ++ spelled after ps
 
 -- tokens that are printed
 abbrev pub name : List ℕ → Piece
@@ -69,7 +75,7 @@ abbrev mutual
 
   pub command_pieces : CommandData → List Piece
   command_pieces (single o) = operand_pieces o
-  command_pieces (call f os) = name (func_text f) ∷ operands_pieces os
+  command_pieces (call f os) = name (function_name f) ∷ operands_pieces os
 
   pub operands_pieces : OperandsData → List Piece
   operands_pieces no_operands = []

@@ -5,8 +5,8 @@ use Rattle.tpl_pipe.specs.Grammar.{Stands, IsPipe, IsFirst, AreCalls, IsCall, Ar
 use Rattle.tpl_print.proofs.Pieces.{Piece, token, name, variable_piece, string_piece, fields_pieces, pipe_pieces, calls_pieces, command_pieces, operands_pieces, operand_pieces, base_pieces, meaning}
 use Rattle.tpl_print.proofs.Prints.{Prints, PrintsAny, mapped, recast, empty, seq, seq_any, fielded, one_any, one}
 use Rattle.tpl_print.proofs.Sound.{Sound, stands_sound, fields_sound}
-use Rattle.tpl_print.proofs.Tokens.{name_token, field_token, variable_token, function_name, function_means, number_token, string_token}
-use Rattle.tpl_print.specs.Pipes.{func_text}
+use Rattle.tpl_print.proofs.Tokens.{name_token, field_token, variable_token, function_is_name, function_means, number_token, string_token}
+use Rattle.tpl_symbol.specs.Names.{function_name}
 use Rattle.tpl_symbol.specs.declared.symbol.Symbol.{Symbol}
 use Rattle.tpl_symbol.specs.declared.symbol.SymbolKind.{SymbolKind}
 use Rattle.tpl_symbol.specs.declared.symbol.SymbolKind.TheVariants as kind
@@ -25,8 +25,8 @@ variable_prints x is = one_any token_kind.Variable (36 ∷ x) (kind.Variable x) 
 pub string_prints : (value : List ℕ) → Prints (string_piece value ∷ []) (Stands (kind.Str value))
 string_prints value = one (token_kind.Str value) _ (kind.Str value) (string_token value) refl
 
-function_prints : (f : Func) → Prints (name (func_text f) ∷ []) (Stands (kind.Function f))
-function_prints f = word_prints (func_text f) (kind.Function f) (function_name f) (function_means f)
+function_prints : (f : Func) → Prints (name (function_name f) ∷ []) (Stands (kind.Function f))
+function_prints f = word_prints (function_name f) (kind.Function f) (function_is_name f) (function_means f)
 
 pub bar_prints : Prints (token token_kind.Bar (codes "|") ∷ []) (Stands kind.Bar)
 bar_prints = one token_kind.Bar (codes "|") kind.Bar (λ rest ends n. refl) refl
@@ -59,7 +59,7 @@ mutual
   first_prints v room more_room (call f os) s e le h sound =
       let behind = stands_sound (kind.Function f) s h.0 h.1 sound in
       let operands = operands_print v room more_room os h.0 e le h.2 behind.1 in
-      (mapped _ (seq (name (func_text f) ∷ []) (operands_pieces os) (function_prints f) operands.0) (λ s r h. h), operands.1)
+      (mapped _ (seq (name (function_name f) ∷ []) (operands_pieces os) (function_prints f) operands.0) (λ s r h. h), operands.1)
 
   calls_print : (v : List (List ℕ)) (room more_room : ℕ) (p : PipeData) (s e : List Symbol) → room ≤ more_room → AreCalls v room p s e → Sound s → Prints (calls_pieces p) (AreCalls v more_room p) × Sound e
   calls_print v room more_room no_commands s e le h sound = (mapped _ empty (λ s r h. h), subst Sound h sound)
@@ -77,7 +77,7 @@ mutual
   call_prints v room more_room (call f os) s e le h sound =
       let behind = stands_sound (kind.Function f) s h.0 h.1 sound in
       let operands = operands_print v room more_room os h.0 e le h.2 behind.1 in
-      (mapped _ (seq (name (func_text f) ∷ []) (operands_pieces os) (function_prints f) operands.0) (λ s r h. h), operands.1)
+      (mapped _ (seq (name (function_name f) ∷ []) (operands_pieces os) (function_prints f) operands.0) (λ s r h. h), operands.1)
 
   operands_print : (v : List (List ℕ)) (room more_room : ℕ) (os : OperandsData) (s e : List Symbol) → room ≤ more_room → AreOperands v room os s e → Sound s → Prints (operands_pieces os) (AreOperands v more_room os) × Sound e
   operands_print v room more_room no_operands s e le h sound = (mapped _ empty (λ s r h. h), subst Sound h sound)

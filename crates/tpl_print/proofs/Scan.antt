@@ -1,11 +1,11 @@
 -- Pieces that fit are read as their tokens, and these are the symbols of the pieces.
-use Rattle.std.proofs.Common.{◌≡◌, ◌≢◌, ℕ, ◌+◌, ◌-◌, ◌≤◌, ◌⊎◌, inl, inr, Bool, true, false, List, [], ◌∷◌, ◌++◌, length, drop, ◌==◌, not, Option, Some, None, codes, refl, sym, ap, ◌∙◌, arith, append_assoc, subst}
+use Rattle.std.proofs.Common.{◌≡◌, ◌≢◌, ℕ, ◌+◌, ◌-◌, ◌≤◌, ◌⊎◌, inl, inr, Bool, true, false, List, [], ◌∷◌, ◌++◌, length, drop, ◌==◌, not, Option, Some, None, codes, refl, sym, ap, ◌∙◌, arith, append_assoc, subst, true≢false}
 use Rattle.std.proofs.lemmas.Bool.Decides.{nat_tests}
 use Rattle.std.proofs.lemmas.List.{length-append, length-drop}
 use Rattle.std.specs.List.{list_all}
-use Rattle.tpl_print.proofs.Marks.{is_free, behind, here, within, at_guard, len_plain, kept_plain, kept_guard, list_all-append, guard}
-use Rattle.tpl_print.proofs.Pieces.{Piece, words, opens, closes, token, field, spelled, meaning, IsOf, Says, SpacedHead, OpenHead, FitIn, FitOut}
-use Rattle.tpl_print.specs.Replaced.{guarded}
+use Rattle.tpl_print.proofs.Marks.{NoneOpens, none_opens-append, is_free, free_begins, single_brace, other_after, behind, here, within, at_guard, len_plain, kept_plain, kept_guard, guard}
+use Rattle.tpl_print.proofs.Pieces.{Piece, words, opens, closes, token, field, follows, spelled, meaning, IsOf, Says, SpacedHead, OpenHead, FitIn, FitOut}
+use Rattle.tpl_print.specs.Replaced.{guarded, joins}
 use Rattle.tpl_symbol.proofs.Puts.{put-last, joined-apart}
 use Rattle.tpl_symbol.specs.Joins.{joined_kinds, symbol_at, put, put_kind}
 use Rattle.tpl_symbol.specs.Kinds.{begins_comment, bytes_of, is_comment_kind, kind_of, unmarked}
@@ -293,7 +293,7 @@ no_more_text text at place ps whole acc base done (inr h) some is r = record {
 }
 
 -- the last token of a text
-last_text : (text : List ℕ) (at place b : ℕ) (ps : List Piece) (whole acc bs tail : List ℕ) (base done : List Symbol) → Holds base acc done → list_all is_free (b ∷ bs) ≡ true
+last_text : (text : List ℕ) (at place b : ℕ) (ps : List Piece) (whole acc bs tail : List ℕ) (base done : List Symbol) → Holds base acc done → NoneOpens (b ∷ bs) tail
     → whole ≡ acc ++ (b ∷ bs) → drop at text ≡ (b ∷ bs) ++ tail → text_len tail ≡ 0 → trims_before tail ≡ false
     → ((at place : ℕ) (done : List Symbol) → at ≤ length text → drop at text ≡ tail → Scanned text (cursor (state.Text false) at) ps done place false)
     → TextScanned text (cursor (state.Text false) at) (words whole ∷ ps) base done place
@@ -333,7 +333,7 @@ last_text text at place b ps whole acc bs tail base done holds free is here_is n
     }
 
 -- a token of a text up to a brace, and the comment after it
-braced_text : (text : List ℕ) (at place : ℕ) (ps : List Piece) (acc front after : List ℕ) (base done : List Symbol) → Holds base acc done → list_all is_free front ≡ true
+braced_text : (text : List ℕ) (at place : ℕ) (ps : List Piece) (acc front after : List ℕ) (base done : List Symbol) → Holds base acc done → NoneOpens front (codes "{ " ++ guard after)
     → drop at text ≡ (front ++ codes "{ ") ++ guard after
     → ((at place : ℕ) (done : List Symbol) → at ≤ length text → Holds base (acc ++ (front ++ codes "{")) done → drop at text ≡ after → TextScanned text (cursor (state.Text false) at) ps base done place)
     → TextScanned text (cursor (state.Text false) at) ps base done place
@@ -419,40 +419,63 @@ braced_text text at place ps acc front after base done holds free here_is more =
       says = r.says;
     }
 
--- a text, of which `acc` is read, and `front` is known to have no brace
-scan_text : (text : List ℕ) (ps : List Piece) (tail whole : List ℕ) → whole ≢ [] → text_len tail ≡ 0 → trims_before tail ≡ false
+-- a brace that is written alone joins no other
+alone : (b : ℕ) (followed : Bool) (bytes tail : List ℕ) → joins followed bytes ≡ false → (followed ≡ false → tail ≡ []) → begins (codes "{{") (b ∷ (guarded followed bytes ++ tail)) ≡ false
+alone b followed [] tail apart ends = ap (λ (xs : List ℕ). begins (codes "{{") (b ∷ xs)) (ends apart) ∙ single_brace b
+alone b followed (c ∷ bytes) tail apart ends =
+    let same : guarded followed (c ∷ bytes) ≡ c ∷ guarded followed bytes = rw apart refl in
+    ap (λ (xs : List ℕ). begins (codes "{{") (b ∷ (xs ++ tail))) same ∙ other_after b c (guarded followed bytes ++ tail) apart
+
+-- a text, of which `acc` is read, and in `front` no action begins
+scan_text : (text : List ℕ) (ps : List Piece) (followed : Bool) (tail whole : List ℕ) → whole ≢ [] → text_len tail ≡ 0 → trims_before tail ≡ false → (followed ≡ false → tail ≡ [])
     → ((at place : ℕ) (done : List Symbol) → at ≤ length text → drop at text ≡ tail → Scanned text (cursor (state.Text false) at) ps done place false)
-    → (bytes front acc : List ℕ) (at place : ℕ) (base done : List Symbol) → at ≤ length text → Holds base acc done → list_all is_free front ≡ true → whole ≡ acc ++ (front ++ bytes)
-    → drop at text ≡ front ++ (guarded bytes ++ tail) → TextScanned text (cursor (state.Text false) at) (words whole ∷ ps) base done place
-scan_text text ps tail whole some none keeps more [] [] acc at place base done inside holds free is here_is = no_more_text text at place ps whole acc base done holds some is (more at place done inside here_is)
-scan_text text ps tail whole some none keeps more [] (b ∷ bs) acc at place base done inside holds free is here_is =
+    → (bytes front acc : List ℕ) (at place : ℕ) (base done : List Symbol) → at ≤ length text → Holds base acc done → NoneOpens front (guarded followed bytes ++ tail) → whole ≡ acc ++ (front ++ bytes)
+    → drop at text ≡ front ++ (guarded followed bytes ++ tail) → TextScanned text (cursor (state.Text false) at) (words whole ∷ ps) base done place
+scan_text text ps followed tail whole some none keeps ends more [] [] acc at place base done inside holds free is here_is =
+    no_more_text text at place ps whole acc base done holds some is (more at place done inside here_is)
+scan_text text ps followed tail whole some none keeps ends more [] (b ∷ bs) acc at place base done inside holds free is here_is =
     last_text text at place b ps whole acc bs tail base done holds free (is ∙ ap (λ (xs : List ℕ). acc ++ xs) (append_nil (b ∷ bs))) here_is none keeps more
-scan_text text ps tail whole some none keeps more (b ∷ bytes) front acc at place base done inside holds free is here_is = either (b == 123)
-    (λ t. let brace : b ≡ 123 = tells b 123 t in
-    let there : drop at text ≡ front ++ (codes "{ {{- /**/}}" ++ (guarded bytes ++ tail)) = rw t at here_is in
-    braced_text text at place (words whole ∷ ps) acc front (guarded bytes ++ tail) base done holds free (there ∙ sym (append_assoc front (codes "{ ") (guard (guarded bytes ++ tail))))
+scan_text text ps followed tail whole some none keeps ends more (b ∷ bytes) front acc at place base done inside holds free is here_is =
+    let left = guarded followed bytes ++ tail in
+    let alone_is : guarded followed (b ∷ bytes) ++ tail ≡ b ∷ left → begins (codes "{{") (b ∷ left) ≡ false → TextScanned text (cursor (state.Text false) at) (words whole ∷ ps) base done place = λ next no.
+    scan_text text ps followed tail whole some none keeps ends more bytes (front ++ b ∷ []) acc at place base done inside holds
+    (none_opens-append front (b ∷ []) left (subst (NoneOpens front) next free) (no, tt))
+    (is ∙ ap (λ (xs : List ℕ). acc ++ xs) (sym (append_assoc front (b ∷ []) bytes)))
+    (here_is ∙ ap (λ (xs : List ℕ). front ++ xs) next ∙ sym (append_assoc front (b ∷ []) left)) in
+    either (b == 123)
+    (λ t. let is_brace : b ≡ 123 = tells b 123 t in
+    either (joins followed bytes)
+    (λ joined. let next : guarded followed (b ∷ bytes) ++ tail ≡ codes "{ " ++ guard left = rw (t, joined) refl in
+    braced_text text at place (words whole ∷ ps) acc front left base done holds (subst (NoneOpens front) next free)
+    (here_is ∙ ap (λ (xs : List ℕ). front ++ xs) next ∙ sym (append_assoc front (codes "{ ") (guard left)))
     (λ next end done inside holds here_is.
-    scan_text text ps tail whole some none keeps more bytes [] (acc ++ (front ++ codes "{")) next end base done inside holds refl
-    (is ∙ ap (λ (x : ℕ). acc ++ (front ++ (x ∷ bytes))) brace ∙ ap (λ (xs : List ℕ). acc ++ xs) (sym (append_assoc front (codes "{") bytes)) ∙ sym (append_assoc acc (front ++ codes "{") bytes)) here_is))
+    scan_text text ps followed tail whole some none keeps ends more bytes [] (acc ++ (front ++ codes "{")) next end base done inside holds tt
+    (is ∙ ap (λ (x : ℕ). acc ++ (front ++ (x ∷ bytes))) is_brace ∙ ap (λ (xs : List ℕ). acc ++ xs) (sym (append_assoc front (codes "{") bytes)) ∙ sym (append_assoc acc (front ++ codes "{") bytes)) here_is))
+    (λ apart. let next : guarded followed (b ∷ bytes) ++ tail ≡ 123 ∷ left = rw (t, apart) refl in
+    alone_is (next ∙ ap (λ (x : ℕ). x ∷ left) (sym is_brace)) (alone b followed bytes tail apart ends)))
     (λ f. let free_byte : is_free b ≡ true = ap not f in
-    let there : drop at text ≡ front ++ (b ∷ (guarded bytes ++ tail)) = rw f at here_is in
-    scan_text text ps tail whole some none keeps more bytes (front ++ b ∷ []) acc at place base done inside holds (list_all-append is_free front (b ∷ []) free (rw free_byte refl))
-    (is ∙ ap (λ (xs : List ℕ). acc ++ xs) (sym (append_assoc front (b ∷ []) bytes))) (there ∙ sym (append_assoc front (b ∷ []) (guarded bytes ++ tail))))
+    let next : guarded followed (b ∷ bytes) ++ tail ≡ b ∷ left = rw f refl in
+    alone_is next (free_begins b left free_byte))
+
+-- where no pieces follow nothing does
+none_follow : (ps : List Piece) → follows false ps ≡ false → spelled false ps ≡ []
+none_follow [] h = refl
+none_follow (p ∷ ps) h = absurd (true≢false h)
 
 -- white space follows
-spaced_is : (ps : List Piece) → SpacedHead ps → (rest : List ℕ) × (spelled ps ≡ 32 ∷ rest)
+spaced_is : (ps : List Piece) → SpacedHead ps → (rest : List ℕ) × (spelled false ps ≡ 32 ∷ rest)
 spaced_is [] h = absurd h
 spaced_is (words bytes ∷ ps) h = absurd h
 spaced_is (opens ∷ ps) h = absurd h
-spaced_is (closes ∷ ps) h = (codes "}}" ++ spelled ps, refl)
-spaced_is (token what bytes ∷ ps) h = (bytes ++ spelled ps, refl)
+spaced_is (closes ∷ ps) h = (codes "}}" ++ spelled false ps, refl)
+spaced_is (token what bytes ∷ ps) h = (bytes ++ spelled false ps, refl)
 spaced_is (field n ∷ ps) h = absurd h
 
-no_dot : (ps : List Piece) → SpacedHead ps → first_is (λ b. b == 46) (spelled ps) ≡ false
+no_dot : (ps : List Piece) → SpacedHead ps → first_is (λ b. b == 46) (spelled false ps) ≡ false
 no_dot ps h = let is = spaced_is ps h in ap (first_is (λ b. b == 46)) is.1
 
 -- no letter or digit stands at the beginning of a piece inside an action
-ends_word : (ps : List Piece) → FitIn ps → EndsWord (spelled ps)
+ends_word : (ps : List Piece) → FitIn ps → EndsWord (spelled false ps)
 ends_word [] h = absurd h
 ends_word (words bytes ∷ ps) h = absurd h
 ends_word (opens ∷ ps) h = absurd h
@@ -465,12 +488,12 @@ record EndsText (tail : List ℕ) : Type 0 where
   none : text_len tail ≡ 0
   keeps : trims_before tail ≡ false
 
-ends_text : (ps : List Piece) → OpenHead ps → FitOut ps → EndsText (spelled ps)
+ends_text : (ps : List Piece) → OpenHead ps → FitOut ps → EndsText (spelled false ps)
 ends_text [] h fits = record { none = refl; keeps = refl }
 ends_text (words bytes ∷ ps) h fits = absurd h
 ends_text (opens ∷ ps) h fits =
     let is = spaced_is ps fits.0 in
-    let all : spelled (opens ∷ ps) ≡ codes "{{ " ++ is.0 = ap (λ (xs : List ℕ). codes "{{" ++ xs) is.1 in
+    let all : spelled false (opens ∷ ps) ≡ codes "{{ " ++ is.0 = ap (λ (xs : List ℕ). codes "{{" ++ xs) is.1 in
     record { none = ap text_len all; keeps = ap trims_before all }
 ends_text (closes ∷ ps) h fits = absurd h
 ends_text (token what bytes ∷ ps) h fits = absurd h
@@ -506,26 +529,26 @@ scan_end text at place done inside here_is =
 
 mutual
   -- inside an action
-  scan_in : (text : List ℕ) (ps : List Piece) (m : State) (at opened : ℕ) (done : List Symbol) → IsInAction m opened → FitIn ps → drop at text ≡ spelled ps → Scanned text (cursor m at) ps done at false
+  scan_in : (text : List ℕ) (ps : List Piece) (m : State) (at opened : ℕ) (done : List Symbol) → IsInAction m opened → FitIn ps → drop at text ≡ spelled false ps → Scanned text (cursor m at) ps done at false
   scan_in text [] m at opened done inside fits here_is = absurd fits
   scan_in text (words bytes ∷ ps) m at opened done inside fits here_is = absurd fits
   scan_in text (opens ∷ ps) m at opened done inside fits here_is = absurd fits
   scan_in text (closes ∷ ps) m at opened done inside fits here_is =
-      one_close text m at opened (spelled ps) ps done inside here_is
-      (λ done closed there. scan_out text ps (at + 3) (at + 3) done (within text at (codes " }}") (spelled ps) here_is (omega arith)) closed fits there)
+      one_close text m at opened (spelled false ps) ps done inside here_is
+      (λ done closed there. scan_out text ps (at + 3) (at + 3) done (within text at (codes " }}") (spelled false ps) here_is (omega arith)) closed fits there)
   scan_in text (token what bytes ∷ ps) m at opened done inside fits here_is =
-      one_token text m at opened (at + 1) (at + 1 + length bytes) what (codes " ") bytes (spelled ps) ps done false (token what bytes) inside refl here_is
-      (fits.0 (spelled ps) (ends_word ps fits.2) (λ number. no_dot ps (fits.1 number))) (omega arith) (omega arith)
+      one_token text m at opened (at + 1) (at + 1 + length bytes) what (codes " ") bytes (spelled false ps) ps done false (token what bytes) inside refl here_is
+      (fits.0 (spelled false ps) (ends_word ps fits.2) (λ number. no_dot ps (fits.1 number))) (omega arith) (omega arith)
       (λ s means touches. (means, touches ∙ later at))
       (λ done there. scan_in text ps (state.Action opened) (at + 1 + length bytes) opened done refl fits.2 there)
   scan_in text (field n ∷ ps) m at opened done inside fits here_is =
-      one_token text m at opened at (at + length (46 ∷ n)) kind.Field [] (46 ∷ n) (spelled ps) ps done false (field n) inside refl here_is
+      one_token text m at opened at (at + length (46 ∷ n)) kind.Field [] (46 ∷ n) (spelled false ps) ps done false (field n) inside refl here_is
       (n, refl, fits.0, ends_word ps fits.1) (omega arith) (omega arith)
       (λ s means touches. (field_is n s.kind means, touches ∙ same at))
       (λ done there. scan_in text ps (state.Action opened) (at + length (46 ∷ n)) opened done refl fits.1 there)
 
   -- after a text
-  scan_open : (text : List ℕ) (ps : List Piece) (at place : ℕ) (done : List Symbol) → at ≤ length text → OpenHead ps → FitOut ps → drop at text ≡ spelled ps → Scanned text (cursor (state.Text false) at) ps done place false
+  scan_open : (text : List ℕ) (ps : List Piece) (at place : ℕ) (done : List Symbol) → at ≤ length text → OpenHead ps → FitOut ps → drop at text ≡ spelled false ps → Scanned text (cursor (state.Text false) at) ps done place false
   scan_open text [] at place done inside open_head fits here_is = scan_end text at place done inside here_is
   scan_open text (words bytes ∷ ps) at place done inside open_head fits here_is = absurd open_head
   scan_open text (opens ∷ ps) at place done inside open_head fits here_is =
@@ -537,13 +560,13 @@ mutual
   scan_open text (field n ∷ ps) at place done inside open_head fits here_is = absurd open_head
 
   -- outside of actions, where no text is before
-  scan_out : (text : List ℕ) (ps : List Piece) (at place : ℕ) (done : List Symbol) → at ≤ length text → Closed done → FitOut ps → drop at text ≡ spelled ps → Scanned text (cursor (state.Text false) at) ps done place false
+  scan_out : (text : List ℕ) (ps : List Piece) (at place : ℕ) (done : List Symbol) → at ≤ length text → Closed done → FitOut ps → drop at text ≡ spelled false ps → Scanned text (cursor (state.Text false) at) ps done place false
   scan_out text [] at place done inside closed fits here_is = scan_end text at place done inside here_is
   scan_out text (words bytes ∷ ps) at place done inside closed fits here_is =
       let ends = ends_text ps fits.1 fits.2 in
       whole_text text at place (words bytes ∷ ps) done
-      (scan_text text ps (spelled ps) bytes fits.0 ends.none ends.keeps (λ at place done inside there. scan_open text ps at place done inside fits.1 fits.2 there)
-      bytes [] [] at place done done inside (inl (refl, refl, closed)) refl refl here_is)
+      (scan_text text ps (follows false ps) (spelled false ps) bytes fits.0 ends.none ends.keeps (none_follow ps) (λ at place done inside there. scan_open text ps at place done inside fits.1 fits.2 there)
+      bytes [] [] at place done done inside (inl (refl, refl, closed)) tt refl here_is)
   scan_out text (opens ∷ ps) at place done inside closed fits here_is =
       let is = spaced_is ps fits.0 in
       one_open text at is.0 ps done place (here_is ∙ ap (λ (xs : List ℕ). codes "{{" ++ xs) is.1)
@@ -558,7 +581,7 @@ pub record HasSymbols (text : List ℕ) (ps : List Piece) : Type 0 where
   pub are : AreTokens text tokens
   pub says : Says ps (symbols_of text tokens) []
 
-pub scanned : (text : List ℕ) (ps : List Piece) → FitOut ps → text ≡ spelled ps → HasSymbols text ps
+pub scanned : (text : List ℕ) (ps : List Piece) → FitOut ps → text ≡ spelled false ps → HasSymbols text ps
 scanned text ps fits is =
     let r = scan_out text ps 0 0 [] (omega arith) (λ new. refl) fits is in
     record { tokens = r.tokens; are = record { last = r.last; reads = r.reads; end = r.ends }; says = subst (λ (s : List Symbol). Says ps s []) (sym r.all) r.says }

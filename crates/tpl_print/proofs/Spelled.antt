@@ -1,9 +1,10 @@
 -- The pieces of a tree spell what is printed.
-use Rattle.std.proofs.Common.{◌≡◌, ℕ, Bool, true, false, List, [], ◌∷◌, ◌++◌, Option, Some, None, codes, refl, sym, ap, ◌∙◌, append_assoc}
-use Rattle.tpl_print.proofs.Pieces.{Piece, closes, token, string_piece, spelling, spelled, fields_pieces, pipe_pieces, calls_pieces, command_pieces, operands_pieces, operand_pieces, base_pieces, named_pieces, index_pieces, argument_pieces, inner_pieces, head_pieces, else_pieces, parts_pieces, parting_pieces, nodes_pieces, word_pieces}
-use Rattle.tpl_print.specs.Pipes.{func_text, fields_text, is_none, pipe_text, calls_text, command_text, operands_text, operand_text, base_text}
+use Rattle.std.proofs.Common.{◌≡◌, ℕ, Bool, true, false, true≢false, ◌||◌, List, [], ◌∷◌, ◌++◌, Option, Some, None, codes, refl, sym, ap, ◌∙◌, append_assoc}
+use Rattle.tpl_print.proofs.Pieces.{Piece, words, closes, token, string_piece, follows, spelling, spelled, fields_pieces, pipe_pieces, calls_pieces, command_pieces, operands_pieces, operand_pieces, base_pieces, named_pieces, index_pieces, argument_pieces, inner_pieces, head_pieces, else_pieces, parts_pieces, parting_pieces, nodes_pieces, word_pieces}
+use Rattle.tpl_symbol.specs.Names.{function_name}
+use Rattle.tpl_print.specs.Pipes.{fields_text, is_none, pipe_text, calls_text, command_text, operands_text, operand_text, base_text}
 use Rattle.tpl_print.specs.Replaced.{guarded, escaped}
-use Rattle.tpl_print.specs.Spelling.{named_text, index_text, argument_text, inner_text, head_text, is_control, else_mark, parts_text, begins_text, parting, nodes_text}
+use Rattle.tpl_print.specs.Spelling.{named_text, index_text, argument_text, inner_text, head_text, node_head, is_control, else_mark, parts_text, begins_text, parting, nodes_text}
 use Rattle.tpl_tree.specs.Listing.{has_nodes}
 use Rattle.tpl_tree.specs.Pipes.{PipeData, no_commands, command, CommandData, single, call, OperandsData, no_operands, operand, OperandData, with_fields, BaseData, str, number, truth, nil, dot, variable, paren}
 use Rattle.tpl_tree.specs.Trees.{NodesData, no_nodes, node, is_text}
@@ -11,13 +12,25 @@ use Rattle.tpl_tree.specs.declared.node_kind.NodeKind.{NodeKind}
 use Rattle.tpl_tree.specs.declared.node_kind.NodeKind.TheVariants as node_kind
 use Rattle.tpl_tree.specs.declared.pipe.Pipe.{Pipe}
 
-pub spelled-append : (a b : List Piece) → spelled (a ++ b) ≡ spelled a ++ spelled b
-spelled-append [] b = refl
-spelled-append (p ∷ a) b = ap (λ (xs : List ℕ). spelling p ++ xs) (spelled-append a b) ∙ sym (append_assoc (spelling p) (spelled a) (spelled b))
+follows-append : (after : Bool) (a b : List Piece) → follows after (a ++ b) ≡ follows (follows after b) a
+follows-append after [] b = refl
+follows-append after (p ∷ a) b = refl
+
+pub spelled-append : (after : Bool) (a b : List Piece) → spelled after (a ++ b) ≡ spelled (follows after b) a ++ spelled after b
+spelled-append after [] b = refl
+spelled-append after (p ∷ a) b =
+    ap (λ (f : Bool). spelling f p ++ spelled after (a ++ b)) (follows-append after a b)
+    ∙ ap (λ (xs : List ℕ). spelling (follows (follows after b) a) p ++ xs) (spelled-append after a b)
+    ∙ sym (append_assoc (spelling (follows (follows after b) a) p) (spelled (follows after b) a) (spelled after b))
 
 -- two lists of pieces after one another
-both : (a b : List Piece) (x y : List ℕ) → spelled a ≡ x → spelled b ≡ y → spelled (a ++ b) ≡ x ++ y
-both a b x y e f = spelled-append a b ∙ ap (λ (xs : List ℕ). xs ++ spelled b) e ∙ ap (λ (xs : List ℕ). x ++ xs) f
+both : (after : Bool) (a b : List Piece) (x y : List ℕ) → spelled (follows after b) a ≡ x → spelled after b ≡ y → spelled after (a ++ b) ≡ x ++ y
+both after a b x y e f = spelled-append after a b ∙ ap (λ (xs : List ℕ). xs ++ spelled after b) e ∙ ap (λ (xs : List ℕ). x ++ xs) f
+
+-- pieces before some that are followed are followed
+some_after : (after : Bool) (a b : List Piece) → follows after b ≡ true → follows after (a ++ b) ≡ true
+some_after after [] b h = h
+some_after after (p ∷ a) b h = refl
 
 -- one piece before others
 one : (front : List ℕ) (x y : List ℕ) → x ≡ y → front ++ x ≡ front ++ y
@@ -27,92 +40,134 @@ append_nil : (xs : List ℕ) → xs ++ [] ≡ xs
 append_nil [] = refl
 append_nil (x ∷ xs) = ap (λ (ys : List ℕ). x ∷ ys) (append_nil xs)
 
-fields : (names : List (List ℕ)) → spelled (fields_pieces names) ≡ fields_text names
-fields [] = refl
-fields (n ∷ names) = one (codes "." ++ n) _ _ (fields names)
+fields : (f : Bool) (names : List (List ℕ)) → spelled f (fields_pieces names) ≡ fields_text names
+fields f [] = refl
+fields f (n ∷ names) = one (codes "." ++ n) _ _ (fields f names)
 
-string_before : (value : List ℕ) (x : List ℕ) → spelling (string_piece value) ++ x ≡ codes " \"" ++ (escaped value ++ (codes "\"" ++ x))
-string_before value x = ap (λ (xs : List ℕ). codes " \"" ++ xs) (append_assoc (escaped value) (codes "\"") x)
+string_before : (f : Bool) (value : List ℕ) (x : List ℕ) → spelling f (string_piece value) ++ x ≡ codes " \"" ++ (escaped value ++ (codes "\"" ++ x))
+string_before f value x = ap (λ (xs : List ℕ). codes " \"" ++ xs) (append_assoc (escaped value) (codes "\"") x)
 
 mutual
-  pipe : (p : PipeData) → spelled (pipe_pieces p) ≡ pipe_text p
-  pipe no_commands = refl
-  pipe (command c more) = both (command_pieces c) (calls_pieces more) _ _ (command_is c) (calls more)
+  pipe : (f : Bool) (p : PipeData) → spelled f (pipe_pieces p) ≡ pipe_text p
+  pipe f no_commands = refl
+  pipe f (command c more) = both f (command_pieces c) (calls_pieces more) _ _ (command_is _ c) (calls f more)
 
-  calls : (p : PipeData) → spelled (calls_pieces p) ≡ calls_text p
-  calls no_commands = refl
-  calls (command c more) = one (codes " |") _ _ (both (command_pieces c) (calls_pieces more) _ _ (command_is c) (calls more))
+  calls : (f : Bool) (p : PipeData) → spelled f (calls_pieces p) ≡ calls_text p
+  calls f no_commands = refl
+  calls f (command c more) = one (codes " |") _ _ (both f (command_pieces c) (calls_pieces more) _ _ (command_is _ c) (calls f more))
 
-  command_is : (c : CommandData) → spelled (command_pieces c) ≡ command_text c
-  command_is (single o) = operand_is o
-  command_is (call f os) = one (codes " " ++ func_text f) _ _ (operands os)
+  command_is : (f : Bool) (c : CommandData) → spelled f (command_pieces c) ≡ command_text c
+  command_is f (single o) = operand_is f o
+  command_is f (call func os) = one (codes " " ++ function_name func) _ _ (operands f os)
 
-  operands : (os : OperandsData) → spelled (operands_pieces os) ≡ operands_text os
-  operands no_operands = refl
-  operands (operand o os) = both (operand_pieces o) (operands_pieces os) _ _ (operand_is o) (operands os)
+  operands : (f : Bool) (os : OperandsData) → spelled f (operands_pieces os) ≡ operands_text os
+  operands f no_operands = refl
+  operands f (operand o os) = both f (operand_pieces o) (operands_pieces os) _ _ (operand_is _ o) (operands f os)
 
-  operand_is : (o : OperandData) → spelled (operand_pieces o) ≡ operand_text o
-  operand_is (with_fields b names) = base b names
+  operand_is : (f : Bool) (o : OperandData) → spelled f (operand_pieces o) ≡ operand_text o
+  operand_is f (with_fields b names) = base f b names
 
-  base : (b : BaseData) (names : List (List ℕ)) → spelled (base_pieces b names) ≡ codes " " ++ (base_text b (is_none names) ++ fields_text names)
-  base (str value) names = one (codes " " ++ base_text (str value) (is_none names)) _ _ (fields names)
-  base (number n) names = one (codes " " ++ base_text (number n) (is_none names)) _ _ (fields names)
-  base (truth true) names = one (codes " true") _ _ (fields names)
-  base (truth false) names = one (codes " false") _ _ (fields names)
-  base nil names = one (codes " nil") _ _ (fields names)
-  base dot [] = refl
-  base dot (n ∷ names) = one (codes " ." ++ n) _ _ (fields names)
-  base (variable x) names = one (codes " $" ++ x) _ _ (fields names)
-  base (paren p) names = one (codes " (") _ _ (both (pipe_pieces p) (token _ (codes ")") ∷ fields_pieces names) _ _ (pipe p) (one (codes " )") _ _ (fields names)) ∙ sym (append_assoc (pipe_text p) (codes " )") (fields_text names)))
+  base : (f : Bool) (b : BaseData) (names : List (List ℕ)) → spelled f (base_pieces b names) ≡ codes " " ++ (base_text b (is_none names) ++ fields_text names)
+  base f (str value) names = one (codes " " ++ base_text (str value) (is_none names)) _ _ (fields f names)
+  base f (number n) names = one (codes " " ++ base_text (number n) (is_none names)) _ _ (fields f names)
+  base f (truth true) names = one (codes " true") _ _ (fields f names)
+  base f (truth false) names = one (codes " false") _ _ (fields f names)
+  base f nil names = one (codes " nil") _ _ (fields f names)
+  base f dot [] = refl
+  base f dot (n ∷ names) = one (codes " ." ++ n) _ _ (fields f names)
+  base f (variable x) names = one (codes " $" ++ x) _ _ (fields f names)
+  base f (paren p) names = one (codes " (") _ _ (both f (pipe_pieces p) (token _ (codes ")") ∷ fields_pieces names) _ _ (pipe _ p) (one (codes " )") _ _ (fields f names)) ∙ sym (append_assoc (pipe_text p) (codes " )") (fields_text names)))
 
-named : (x : Option (List ℕ)) → spelled (named_pieces x) ≡ named_text x
-named None = refl
-named (Some x) = refl
+named : (f : Bool) (x : Option (List ℕ)) → spelled f (named_pieces x) ≡ named_text x
+named f None = refl
+named f (Some x) = refl
 
-index : (x : Option (List ℕ)) → spelled (index_pieces x) ≡ index_text x
-index None = refl
-index (Some x) = refl
+index : (f : Bool) (x : Option (List ℕ)) → spelled f (index_pieces x) ≡ index_text x
+index f None = refl
+index f (Some x) = refl
 
-argument : (p : Option Pipe) → spelled (argument_pieces p) ≡ argument_text p
-argument None = refl
-argument (Some p) = pipe p.commands
+argument : (f : Bool) (p : Option Pipe) → spelled f (argument_pieces p) ≡ argument_text p
+argument f None = refl
+argument f (Some p) = pipe f p.commands
 
 variable_before : (x mark rest more : List ℕ) → rest ≡ more → codes " $" ++ (x ++ (mark ++ rest)) ≡ codes " $" ++ (x ++ (mark ++ more))
 variable_before x mark rest more e = ap (λ (xs : List ℕ). codes " $" ++ (x ++ (mark ++ xs))) e
 
-inner : (k : NodeKind) → spelled (inner_pieces k) ≡ inner_text k
-inner (node_kind.Text text) = append_nil (guarded text)
-inner (node_kind.Action p) = pipe p.commands
-inner (node_kind.Declare x p) = variable_before x (codes " :=") _ _ (pipe p.commands) ∙ ap (λ (xs : List ℕ). codes " $" ++ xs) (sym (append_assoc x (codes " :=") (pipe_text p.commands)))
-inner (node_kind.Assign x p) = variable_before x (codes " =") _ _ (pipe p.commands)
-inner (node_kind.If x p) = one (codes " if") _ _ (both (named_pieces x) (pipe_pieces p.commands) _ _ (named x) (pipe p.commands))
-inner (node_kind.With x p) = one (codes " with") _ _ (both (named_pieces x) (pipe_pieces p.commands) _ _ (named x) (pipe p.commands))
-inner (node_kind.Range i e p) = one (codes " range") _ _ (both (index_pieces i) (named_pieces e ++ pipe_pieces p.commands) _ _ (index i) (both (named_pieces e) (pipe_pieces p.commands) _ _ (named e) (pipe p.commands)))
-inner node_kind.Break = refl
-inner node_kind.Continue = refl
-inner (node_kind.Template n p) = one (codes " template") _ _ (string_before n (spelled (argument_pieces p)) ∙ ap (λ (xs : List ℕ). codes " \"" ++ (escaped n ++ (codes "\"" ++ xs))) (argument p))
+inner : (f : Bool) (k : NodeKind) → spelled f (inner_pieces k) ≡ inner_text f k
+inner f (node_kind.Text text) = append_nil (guarded f text)
+inner f (node_kind.Action p) = pipe f p.commands
+inner f (node_kind.Declare x p) = variable_before x (codes " :=") _ _ (pipe f p.commands) ∙ ap (λ (xs : List ℕ). codes " $" ++ xs) (sym (append_assoc x (codes " :=") (pipe_text p.commands)))
+inner f (node_kind.Assign x p) = variable_before x (codes " =") _ _ (pipe f p.commands)
+inner f (node_kind.If x p) = one (codes " if") _ _ (both f (named_pieces x) (pipe_pieces p.commands) _ _ (named _ x) (pipe f p.commands))
+inner f (node_kind.With x p) = one (codes " with") _ _ (both f (named_pieces x) (pipe_pieces p.commands) _ _ (named _ x) (pipe f p.commands))
+inner f (node_kind.Range i e p) = one (codes " range") _ _ (both f (index_pieces i) (named_pieces e ++ pipe_pieces p.commands) _ _ (index _ i) (both f (named_pieces e) (pipe_pieces p.commands) _ _ (named _ e) (pipe f p.commands)))
+inner f node_kind.Break = refl
+inner f node_kind.Continue = refl
+inner f (node_kind.Template n p) = one (codes " template") _ _ (string_before (follows f (argument_pieces p)) n (spelled f (argument_pieces p)) ∙ ap (λ (xs : List ℕ). codes " \"" ++ (escaped n ++ (codes "\"" ++ xs))) (argument f p))
 
-head : (t : Bool) (ps : List Piece) (x : List ℕ) → spelled ps ≡ x → spelled (head_pieces t ps) ≡ head_text t x
-head true ps x e = e
-head false ps x e = one (codes "{{") _ _ (both ps (closes ∷ []) _ _ e refl)
+action_head : (f : Bool) (k : NodeKind) → spelled f (head_pieces false (inner_pieces k)) ≡ head_text false (inner_text true k)
+action_head f k = one (codes "{{") _ _ (both f (inner_pieces k) (closes ∷ []) _ _ (inner true k) refl)
 
-else_is : (b : Bool) → spelled (else_pieces b) ≡ else_mark b
-else_is true = refl
-else_is false = refl
+head : (f followed : Bool) (k : NodeKind) → (is_text k ≡ true → f ≡ followed) → spelled f (head_pieces (is_text k) (inner_pieces k)) ≡ node_head followed k
+head f followed (node_kind.Text text) h = ap (λ (g : Bool). spelled g (words text ∷ [])) (h refl) ∙ inner followed (node_kind.Text text)
+head f followed (node_kind.Action p) h = action_head f (node_kind.Action p)
+head f followed (node_kind.Declare x p) h = action_head f (node_kind.Declare x p)
+head f followed (node_kind.Assign x p) h = action_head f (node_kind.Assign x p)
+head f followed (node_kind.If x p) h = action_head f (node_kind.If x p)
+head f followed (node_kind.With x p) h = action_head f (node_kind.With x p)
+head f followed (node_kind.Range i e p) h = action_head f (node_kind.Range i e p)
+head f followed node_kind.Break h = action_head f node_kind.Break
+head f followed node_kind.Continue h = action_head f node_kind.Continue
+head f followed (node_kind.Template n p) h = action_head f (node_kind.Template n p)
 
-parts : (b : Bool) (first mark other : List Piece) (x m y : List ℕ) → spelled first ≡ x → spelled mark ≡ m → spelled other ≡ y → spelled (parts_pieces b first mark other) ≡ parts_text b x m y
-parts true first mark other x m y e f g = both first (mark ++ (other ++ word_pieces (codes "end"))) _ _ e (both mark (other ++ word_pieces (codes "end")) _ _ f (both other (word_pieces (codes "end")) _ _ g refl))
-parts false first mark other x m y e f g = refl
+else_is : (f : Bool) (b : Bool) → spelled f (else_pieces b) ≡ else_mark b
+else_is f true = refl
+else_is f false = refl
 
-parting_is : (a b : Bool) → spelled (parting_pieces a b) ≡ parting a b
-parting_is true true = refl
-parting_is true false = refl
-parting_is false b = refl
+parts : (f : Bool) (b : Bool) (first mark other : List Piece) (x m y : List ℕ) → spelled true first ≡ x → ((g : Bool) → spelled g mark ≡ m) → spelled true other ≡ y
+    → spelled f (parts_pieces b first mark other) ≡ parts_text b x m y
+parts f true first mark other x m y is_first is_mark is_other =
+    let end = word_pieces (codes "end") in
+    both f first (mark ++ (other ++ end)) _ _ (ap (λ (g : Bool). spelled g first) (some_after f mark (other ++ end) (some_after f other end refl)) ∙ is_first)
+    (both f mark (other ++ end) _ _ (is_mark _) (both f other end _ _ is_other refl))
+parts f false first mark other x m y is_first is_mark is_other = refl
 
-pub spelled-nodes : (nodes : NodesData) → spelled (nodes_pieces nodes) ≡ nodes_text nodes
-spelled-nodes no_nodes = refl
-spelled-nodes (node k l s first other rest) =
-    both (head_pieces (is_text k) (inner_pieces k)) _ _ _ (head (is_text k) (inner_pieces k) _ (inner k))
-    (both (parts_pieces (is_control k) (nodes_pieces first) (else_pieces (has_nodes other)) (nodes_pieces other)) _ _ _
-    (parts (is_control k) (nodes_pieces first) (else_pieces (has_nodes other)) (nodes_pieces other) _ _ _ (spelled-nodes first) (else_is (has_nodes other)) (spelled-nodes other))
-    (both (parting_pieces (is_text k) (begins_text rest)) (nodes_pieces rest) _ _ (parting_is (is_text k) (begins_text rest)) (spelled-nodes rest)))
+parting_is : (f : Bool) (a b : Bool) → spelled f (parting_pieces a b) ≡ parting a b
+parting_is f true true = refl
+parting_is f true false = refl
+parting_is f false b = refl
+
+-- after a text an action follows where nodes do, or where one follows them
+text_before : (f : Bool) (rest : NodesData) → follows f (parting_pieces true (begins_text rest) ++ nodes_pieces rest) ≡ has_nodes rest || f
+text_before f no_nodes = refl
+text_before f (node (node_kind.Text text) line seams first other rest) = refl
+text_before f (node (node_kind.Action p) line seams first other rest) = refl
+text_before f (node (node_kind.Declare x p) line seams first other rest) = refl
+text_before f (node (node_kind.Assign x p) line seams first other rest) = refl
+text_before f (node (node_kind.If x p) line seams first other rest) = refl
+text_before f (node (node_kind.With x p) line seams first other rest) = refl
+text_before f (node (node_kind.Range i e p) line seams first other rest) = refl
+text_before f (node node_kind.Break line seams first other rest) = refl
+text_before f (node node_kind.Continue line seams first other rest) = refl
+text_before f (node (node_kind.Template n p) line seams first other rest) = refl
+
+text_followed : (f : Bool) (k : NodeKind) (first mark other : List Piece) (rest : NodesData) → is_text k ≡ true
+    → follows f (parts_pieces (is_control k) first mark other ++ (parting_pieces (is_text k) (begins_text rest) ++ nodes_pieces rest)) ≡ has_nodes rest || f
+text_followed f (node_kind.Text text) first mark other rest h = text_before f rest
+text_followed f (node_kind.Action p) first mark other rest h = absurd (true≢false (sym h))
+text_followed f (node_kind.Declare x p) first mark other rest h = absurd (true≢false (sym h))
+text_followed f (node_kind.Assign x p) first mark other rest h = absurd (true≢false (sym h))
+text_followed f (node_kind.If x p) first mark other rest h = absurd (true≢false (sym h))
+text_followed f (node_kind.With x p) first mark other rest h = absurd (true≢false (sym h))
+text_followed f (node_kind.Range i e p) first mark other rest h = absurd (true≢false (sym h))
+text_followed f node_kind.Break first mark other rest h = absurd (true≢false (sym h))
+text_followed f node_kind.Continue first mark other rest h = absurd (true≢false (sym h))
+text_followed f (node_kind.Template n p) first mark other rest h = absurd (true≢false (sym h))
+
+pub spelled-nodes : (f : Bool) (nodes : NodesData) → spelled f (nodes_pieces nodes) ≡ nodes_text f nodes
+spelled-nodes f no_nodes = refl
+spelled-nodes f (node k l s first other rest) =
+    both f (head_pieces (is_text k) (inner_pieces k)) _ _ _ (head _ (has_nodes rest || f) k (text_followed f k (nodes_pieces first) (else_pieces (has_nodes other)) (nodes_pieces other) rest))
+    (both f (parts_pieces (is_control k) (nodes_pieces first) (else_pieces (has_nodes other)) (nodes_pieces other)) _ _ _
+    (parts _ (is_control k) (nodes_pieces first) (else_pieces (has_nodes other)) (nodes_pieces other) _ _ _ (spelled-nodes true first) (λ g. else_is g (has_nodes other)) (spelled-nodes true other))
+    (both f (parting_pieces (is_text k) (begins_text rest)) (nodes_pieces rest) _ _ (parting_is _ (is_text k) (begins_text rest)) (spelled-nodes f rest)))

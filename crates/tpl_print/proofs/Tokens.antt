@@ -8,8 +8,9 @@ use Rattle.std.specs.List.{list_all}
 use Rattle.std.specs.Str.Parse.{AllDigits, digits_value}
 use Rattle.tpl_print.proofs.Pieces.{IsToken, meaning}
 use Rattle.tpl_print.proofs.Sound.{IsSmall}
-use Rattle.tpl_print.specs.Pipes.{func_text}
+use Rattle.tpl_symbol.specs.Names.{function_name}
 use Rattle.tpl_print.specs.Replaced.{escaped}
+use Rattle.tpl_symbol.proofs.FunctionNames.{reads_back}
 use Rattle.tpl_symbol.specs.declared.func.Func.{Func}
 use Rattle.tpl_symbol.specs.declared.func.Func.TheVariants as func
 use Rattle.tpl_symbol.specs.declared.symbol.SymbolKind.TheVariants as symbol
@@ -34,43 +35,27 @@ pub variable_token : (x : List ℕ) → (x ≡ []) ⊎ (is_name x ≡ true) → 
 variable_token x (inl none) rest ends number = inl (ap (λ (y : List ℕ). 36 ∷ y) none, no_start rest ends)
 variable_token x (inr is) rest ends number = inr (x, refl, is, ends)
 
-pub function_name : (f : Func) → is_name (func_text f) ≡ true
-function_name func.And = refl
-function_name func.Or = refl
-function_name func.Not = refl
-function_name func.Eq = refl
-function_name func.Ne = refl
-function_name func.Lt = refl
-function_name func.Le = refl
-function_name func.Gt = refl
-function_name func.Ge = refl
-function_name func.Index = refl
-function_name func.Slice = refl
-function_name func.Len = refl
-function_name func.Print = refl
-function_name func.Println = refl
-function_name func.Printf = refl
-function_name func.Html = refl
-function_name func.Urlquery = refl
+pub function_is_name : (f : Func) → is_name (function_name f) ≡ true
+function_is_name func.And = refl
+function_is_name func.Or = refl
+function_is_name func.Not = refl
+function_is_name func.Eq = refl
+function_is_name func.Ne = refl
+function_is_name func.Lt = refl
+function_is_name func.Le = refl
+function_is_name func.Gt = refl
+function_is_name func.Ge = refl
+function_is_name func.Index = refl
+function_is_name func.Slice = refl
+function_is_name func.Len = refl
+function_is_name func.Print = refl
+function_is_name func.Println = refl
+function_is_name func.Printf = refl
+function_is_name func.Html = refl
+function_is_name func.Urlquery = refl
 
-pub function_means : (f : Func) → meaning kind.Name (func_text f) ≡ Some (symbol.Function f)
-function_means func.And = refl
-function_means func.Or = refl
-function_means func.Not = refl
-function_means func.Eq = refl
-function_means func.Ne = refl
-function_means func.Lt = refl
-function_means func.Le = refl
-function_means func.Gt = refl
-function_means func.Ge = refl
-function_means func.Index = refl
-function_means func.Slice = refl
-function_means func.Len = refl
-function_means func.Print = refl
-function_means func.Println = refl
-function_means func.Printf = refl
-function_means func.Html = refl
-function_means func.Urlquery = refl
+pub function_means : (f : Func) → meaning kind.Name (function_name f) ≡ Some (symbol.Function f)
+function_means f = ap Some (reads_back f)
 
 -- digits
 all_digits : (ds : List ℕ) → AllDigits 10 ds → list_all (λ b. is_digit b 10) ds ≡ true

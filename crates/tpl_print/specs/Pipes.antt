@@ -2,29 +2,8 @@
 use Rattle.std.specs.Prelude.{ℕ, Bool, true, false, codes, List, [], ◌∷◌, ◌++◌}
 use Rattle.std.specs.Fmt.{signed_decimal}
 use Rattle.tpl_print.specs.Replaced.{escaped}
-use Rattle.tpl_symbol.specs.declared.func.Func.{Func}
-use Rattle.tpl_symbol.specs.declared.func.Func.TheVariants as func
+use Rattle.tpl_symbol.specs.Names.{function_name}
 use Rattle.tpl_tree.specs.Pipes.{PipeData, no_commands, command, CommandData, single, call, OperandsData, no_operands, operand, OperandData, with_fields, BaseData, str, number, truth, nil, dot, variable, paren}
-
--- the name of a function
-abbrev pub func_text : Func → List ℕ
-func_text func.And = codes "and"
-func_text func.Or = codes "or"
-func_text func.Not = codes "not"
-func_text func.Eq = codes "eq"
-func_text func.Ne = codes "ne"
-func_text func.Lt = codes "lt"
-func_text func.Le = codes "le"
-func_text func.Gt = codes "gt"
-func_text func.Ge = codes "ge"
-func_text func.Index = codes "index"
-func_text func.Slice = codes "slice"
-func_text func.Len = codes "len"
-func_text func.Print = codes "print"
-func_text func.Println = codes "println"
-func_text func.Printf = codes "printf"
-func_text func.Html = codes "html"
-func_text func.Urlquery = codes "urlquery"
 
 -- fields, each after its dot
 abbrev pub fields_text : List (List ℕ) → List ℕ
@@ -47,7 +26,7 @@ abbrev mutual
 
   pub command_text : CommandData → List ℕ
   command_text (single o) = operand_text o
-  command_text (call f os) = codes " " ++ (func_text f ++ operands_text os)
+  command_text (call f os) = codes " " ++ (function_name f ++ operands_text os)
 
   pub operands_text : OperandsData → List ℕ
   operands_text no_operands = []

@@ -1,5 +1,5 @@
 -- How the nodes of a tree are printed.
-use Rattle.std.specs.Prelude.{ℕ, Bool, true, false, codes, List, [], ◌++◌, Option, Some, None}
+use Rattle.std.specs.Prelude.{ℕ, Bool, true, false, ◌||◌, codes, List, [], ◌++◌, Option, Some, None}
 use Rattle.tpl_print.specs.Pipes.{pipe_text}
 use Rattle.tpl_print.specs.Replaced.{escaped, guarded}
 use Rattle.tpl_tree.specs.Listing.{has_nodes}
@@ -23,23 +23,27 @@ abbrev pub argument_text : Option Pipe → List ℕ
 argument_text None = []
 argument_text (Some p) = pipe_text p.commands
 
--- a text; of any other node what stands between its first `{{` and `}}`
-abbrev pub inner_text : NodeKind → List ℕ
-inner_text (kind.Text text) = guarded text
-inner_text (kind.Action p) = pipe_text p.commands
-inner_text (kind.Declare x p) = named_text (Some x) ++ pipe_text p.commands
-inner_text (kind.Assign x p) = codes " $" ++ (x ++ (codes " =" ++ pipe_text p.commands))
-inner_text (kind.If x p) = codes " if" ++ (named_text x ++ pipe_text p.commands)
-inner_text (kind.With x p) = codes " with" ++ (named_text x ++ pipe_text p.commands)
-inner_text (kind.Range i e p) = codes " range" ++ (index_text i ++ (named_text e ++ pipe_text p.commands))
-inner_text kind.Break = codes " break"
-inner_text kind.Continue = codes " continue"
-inner_text (kind.Template name p) = codes " template \"" ++ (escaped name ++ (codes "\"" ++ argument_text p))
+-- a text, which an action follows or not; of any other node what stands between its first `{{` and `}}`
+abbrev pub inner_text : Bool → NodeKind → List ℕ
+inner_text followed (kind.Text text) = guarded followed text
+inner_text followed (kind.Action p) = pipe_text p.commands
+inner_text followed (kind.Declare x p) = named_text (Some x) ++ pipe_text p.commands
+inner_text followed (kind.Assign x p) = codes " $" ++ (x ++ (codes " =" ++ pipe_text p.commands))
+inner_text followed (kind.If x p) = codes " if" ++ (named_text x ++ pipe_text p.commands)
+inner_text followed (kind.With x p) = codes " with" ++ (named_text x ++ pipe_text p.commands)
+inner_text followed (kind.Range i e p) = codes " range" ++ (index_text i ++ (named_text e ++ pipe_text p.commands))
+inner_text followed kind.Break = codes " break"
+inner_text followed kind.Continue = codes " continue"
+inner_text followed (kind.Template name p) = codes " template \"" ++ (escaped name ++ (codes "\"" ++ argument_text p))
 
 -- a text, or an action
 abbrev pub head_text : Bool → List ℕ → List ℕ
 head_text true inner = inner
 head_text false inner = codes "{{" ++ (inner ++ codes " }}")
+
+-- what stands of a node before its parts
+abbrev pub node_head : Bool → NodeKind → List ℕ
+node_head followed kind = head_text (is_text kind) (inner_text followed kind)
 
 -- whether a node has parts
 abbrev pub is_control : NodeKind → Bool
@@ -69,21 +73,25 @@ parting true true = codes "{{ define \"\" }}{{ end }}"
 parting true false = []
 parting false after = []
 
--- the nodes of a part, one after the other
-abbrev pub nodes_text : NodesData → List ℕ
-nodes_text no_nodes = []
-nodes_text (node kind line seams first other rest) =
-    head_text (is_text kind) (inner_text kind)
-    ++ (parts_text (is_control kind) (nodes_text first) (else_mark (has_nodes other)) (nodes_text other)
-    ++ (parting (is_text kind) (begins_text rest) ++ nodes_text rest))
+-- the nodes of a part, one after the other; after the last one an action follows or not
+abbrev pub nodes_text : Bool → NodesData → List ℕ
+nodes_text followed no_nodes = []
+nodes_text followed (node kind line seams first other rest) =
+    node_head (has_nodes rest || followed) kind
+    ++ (parts_text (is_control kind) (nodes_text true first) (else_mark (has_nodes other)) (nodes_text true other)
+    ++ (parting (is_text kind) (begins_text rest) ++ nodes_text followed rest))
 
 -- the first node with its parts
-abbrev pub node_text : NodesData → List ℕ
-node_text no_nodes = []
-node_text (node kind line seams first other rest) =
-    head_text (is_text kind) (inner_text kind) ++ parts_text (is_control kind) (nodes_text first) (else_mark (has_nodes other)) (nodes_text other)
+abbrev pub node_text : Bool → NodesData → List ℕ
+node_text followed no_nodes = []
+node_text followed (node kind line seams first other rest) =
+    node_head followed kind ++ parts_text (is_control kind) (nodes_text true first) (else_mark (has_nodes other)) (nodes_text true other)
 
 -- the nodes from a number on, within their part, and none where there is no number
 abbrev pub part_at : NodesData → Option ℕ → NodesData
 part_at nodes None = no_nodes
 part_at nodes (Some n) = nodes_from nodes n
+
+-- what parts the node of a number from the next one
+abbrev pub parting_at : NodesData → ℕ → Option ℕ → List ℕ
+parting_at nodes n next = parting (begins_text (nodes_from nodes n)) (begins_text (part_at nodes next))

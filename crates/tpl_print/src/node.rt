@@ -1,5 +1,6 @@
 ghost use Rattle.std.specs.Prelude.{◌≡◌, ◌++◌, Some, OnOk};
-ghost use Rattle.tpl_print.specs.Spelling.{named_text, index_text, argument_text, inner_text, head_text, is_control as is_control_kind};
+ghost use Rattle.tpl_print.specs.Spelling.{named_text, index_text, argument_text, inner_text, node_head};
+ghost use Rattle.tpl_print.specs.Spelling.{is_control as is_control_kind};
 ghost use Rattle.tpl_tree.specs.Trees.{is_text as is_text_kind};
 
 use crate::pipe::push_pipe;
@@ -8,23 +9,28 @@ use page_io::{Memory, Text};
 use std::alloc::Global;
 use tpl_tree::{NodeKind, Pipe};
 
-/// Appends a text, or the action that a node begins with.
-pub(crate) fn push_head(alloc: Global, out: &mut Text, kind: &NodeKind) -> Result<(), Memory>
-    ensures { OnOk result (out.new ≡ out.old ++ head_text (is_text_kind kind.now) (inner_text kind.now)) }
+/// Appends a text, or the action that a node begins with. After a text an action follows or not.
+pub(crate) fn push_head(
+    alloc: Global,
+    out: &mut Text,
+    kind: &NodeKind,
+    followed: bool,
+) -> Result<(), Memory>
+    ensures { OnOk result (out.new ≡ out.old ++ node_head followed kind.now) }
 {
     if is_text(kind) {
-        return push_inner(alloc, out, kind);
+        return push_inner(alloc, out, kind, followed);
     }
     out.push_str("{{")?;
-    push_inner(alloc, out, kind)?;
+    push_inner(alloc, out, kind, followed)?;
     out.push_str(" }}")
 }
 
-fn push_inner(alloc: Global, out: &mut Text, kind: &NodeKind) -> Result<(), Memory>
-    ensures { OnOk result (out.new ≡ out.old ++ inner_text kind.now) }
+fn push_inner(alloc: Global, out: &mut Text, kind: &NodeKind, followed: bool) -> Result<(), Memory>
+    ensures { OnOk result (out.new ≡ out.old ++ inner_text followed kind.now) }
 {
     match kind {
-        NodeKind::Text(text) => push_guarded(out, text.as_str()),
+        NodeKind::Text(text) => push_guarded(out, text.as_str(), followed),
         NodeKind::Action(pipe) => push_pipe(alloc, out, pipe),
         NodeKind::Declare(name, pipe) => {
             push_declared(out, name)?;

@@ -1,12 +1,12 @@
 ghost use Rattle.std.specs.Prelude.{◌≡◌, ◌++◌, OnOk};
-ghost use Rattle.tpl_print.specs.Pipes.{pipe_text, command_text, operands_text, operand_text, base_text, func_text};
+ghost use Rattle.tpl_print.specs.Pipes.{pipe_text, command_text, operands_text, operand_text, base_text};
 ghost use Rattle.tpl_tree.specs.Pipes.{dot};
 ghost use Rattle.tpl_tree.specs.View.{command_view, operand_view, base_view};
 
 use crate::text::{push_escaped, push_fields, push_number};
 use page_io::{Memory, Text};
 use std::alloc::Global;
-use tpl_tree::{Base, Command, Commands, Func, Operand, Operands, Pipe};
+use tpl_tree::{Base, Command, Commands, Operand, Operands, Pipe};
 
 /// Appends a pipe, with a space before each of its tokens.
 #[cycle(push)]
@@ -39,7 +39,7 @@ fn push_command(alloc: Global, out: &mut Text, command: &Command) -> Result<(), 
         Command::Single(operand) => push_operand(alloc, out, operand),
         Command::Call(func, operands) => {
             out.push_str(" ")?;
-            out.push_str(func_name(*func))?;
+            out.push_str(func.name())?;
             push_operands(alloc, out, operands)
         }
     }
@@ -100,28 +100,4 @@ fn push_dot(out: &mut Text, alone: bool) -> Result<(), Memory>
         return out.push_str(".");
     }
     Ok(())
-}
-
-fn func_name(func: Func) -> &'static str
-    ensures { result.now ≡ func_text func }
-{
-    match func {
-        Func::And => "and",
-        Func::Or => "or",
-        Func::Not => "not",
-        Func::Eq => "eq",
-        Func::Ne => "ne",
-        Func::Lt => "lt",
-        Func::Le => "le",
-        Func::Gt => "gt",
-        Func::Ge => "ge",
-        Func::Index => "index",
-        Func::Slice => "slice",
-        Func::Len => "len",
-        Func::Print => "print",
-        Func::Println => "println",
-        Func::Printf => "printf",
-        Func::Html => "html",
-        Func::Urlquery => "urlquery",
-    }
 }

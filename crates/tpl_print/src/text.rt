@@ -1,7 +1,8 @@
 ghost use Rattle.std.specs.Prelude.{◌≡◌, ◌++◌, ◌<◌, codes, OnOk};
 ghost use Rattle.std.specs.Fmt.{signed_decimal};
 ghost use Rattle.tpl_print.specs.Pipes.{fields_text};
-ghost use Rattle.tpl_print.specs.Replaced.{replaced, guarded as guarded_bytes, escaped as escaped_bytes};
+ghost use Rattle.tpl_print.specs.Replaced.{always, brace as brace_of, joins as joins_of, replaced};
+ghost use Rattle.tpl_print.specs.Replaced.{guarded as guarded_bytes, escaped as escaped_bytes};
 
 use page_io::{Memory, Text};
 use std::alloc::Global;
@@ -9,22 +10,48 @@ use std::alloc::Global;
 // Appends a text, with another one in the place of each of its characters `mark`, which is ASCII.
 fn push_replaced(out: &mut Text, text: &str, mark: char, by: &str) -> Result<(), Memory>
     requires { mark < 128 }
-    ensures { OnOk result (out.new ≡ out.old ++ replaced mark by.now text.now) }
+    ensures { OnOk result (out.new ≡ out.old ++ replaced mark (always by.now) text.now) }
 {
     let mut left = text;
-    while let Some((front, rest)) = left.split_once(mark) {
-        out.push_str(front)?;
+    while let Some((prefix, rest)) = left.split_once(mark) {
+        out.push_str(prefix)?;
         out.push_str(by)?;
         left = rest;
     }
     out.push_str(left)
 }
 
-/// Appends a text that stands outside actions.
-pub(crate) fn push_guarded(out: &mut Text, text: &str) -> Result<(), Memory>
-    ensures { OnOk result (out.new ≡ out.old ++ guarded_bytes text.now) }
+/// Appends a text that stands outside actions, which an action follows or not.
+pub(crate) fn push_guarded(out: &mut Text, text: &str, followed: bool) -> Result<(), Memory>
+    ensures { OnOk result (out.new ≡ out.old ++ guarded_bytes followed text.now) }
 {
-    push_replaced(out, text, '{', "{ {{- /**/}}")
+    let mut left = text;
+    while let Some((prefix, rest)) = left.split_once('{') {
+        out.push_str(prefix)?;
+        out.push_str(brace(followed, rest))?;
+        left = rest;
+    }
+    out.push_str(left)
+}
+
+// A brace before a text.
+fn brace(followed: bool, after: &str) -> &'static str
+    ensures { result.now ≡ brace_of followed after.now }
+{
+    if joins(followed, after.as_bytes()) {
+        return "{ {{- /**/}}";
+    }
+    "{"
+}
+
+// Whether a brace comes next.
+fn joins(followed: bool, after: &[u8]) -> bool
+    ensures { result ≡ joins_of followed after.now }
+{
+    match after {
+        [] => followed,
+        [byte, ..] => *byte == b'{',
+    }
 }
 
 /// Appends the value of a string, as it stands between double quotes.

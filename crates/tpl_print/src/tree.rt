@@ -1,55 +1,69 @@
-ghost use Rattle.std.specs.Prelude.{◌≡◌, ◌++◌, ◌<◌, true, Some, IfOk, IfSome, OnOk};
+ghost use Rattle.std.specs.Prelude.{◌≡◌, ◌++◌, ◌<◌, true, false, Some, IfOk, IfSome, OnOk};
 ghost use Rattle.tpl_print.specs.Parsed.{IsParsed, ReadsAs};
-ghost use Rattle.tpl_print.specs.Spelling.{nodes_text, node_text, part_at, else_mark, parting, begins_text};
-ghost use Rattle.tpl_tree.specs.Trees.{nodes_size, nodes_from, is_text as is_text_kind};
+ghost use Rattle.tpl_print.specs.Spelling.{nodes_text, node_text, part_at, else_mark, parting, parting_at};
+ghost use Rattle.tpl_tree.specs.Trees.{nodes_size, nodes_from};
 
 use crate::node::{is_control, is_text, push_head};
 use page_io::{Memory, Text};
 use std::alloc::Global;
 use tpl_tree::Tree;
 
-/// The tree as the text of a template file. The text reads as the same tree, lines apart, where the tree is one that parsing
-/// gives: the body of a file, or of a `define` or `block`. The error is out of memory.
+/// The tree as the text of a template file. Where the tree is one that parsing gives, which is the body of a file, or of a
+/// `define` or `block`, the text is a file whose own body is the same tree, lines apart, whatever name the file has. So
+/// `tpl_parse::parse_file` gives it, where the text has no more than the `tpl_token::MAX_TEXT` bytes that it takes, and
+/// memory suffices. The error is out of memory.
 #[tactic(auto, using(crate::proofs::ReadsBack::reads_back))]
 pub fn print_tree(alloc: Global, tree: &Tree) -> Result<Text, Memory>
-    ensures spelling { IfOk result (λ printed. printed ≡ nodes_text tree.now.nodes) }
-    ensures reads { IfOk result (λ printed. IsParsed tree.now.nodes → ReadsAs printed tree.now.nodes) }
+    ensures spelling { IfOk result (λ printed. printed ≡ nodes_text false tree.now.nodes) }
+    ensures reads { IsParsed tree.now.nodes → IfOk result (λ printed. ReadsAs printed tree.now.nodes) }
 {
     let mut out = Text::new(alloc);
-    push_part(alloc, &mut out, tree, tree.first())?;
+    push_part(alloc, &mut out, tree, tree.first(), false)?;
     Ok(out)
 }
 
-// Appends the nodes of a part from one on.
+// Appends the nodes of a part from one on. After the last one an action follows or not.
 #[cycle(part)]
-fn push_part(alloc: Global, out: &mut Text, tree: &Tree, first: Option<u32>) -> Result<(), Memory>
+fn push_part(
+    alloc: Global,
+    out: &mut Text,
+    tree: &Tree,
+    first: Option<u32>,
+    followed: bool,
+) -> Result<(), Memory>
     requires { IfSome first (λ n. n < nodes_size tree.now.nodes) }
-    ensures { OnOk result (out.new ≡ out.old ++ nodes_text (part_at tree.now.nodes first)) }
+    ensures { OnOk result (out.new ≡ out.old ++ nodes_text followed (part_at tree.now.nodes first)) }
 {
     let mut number = first;
     while let Some(node) = number {
-        push_node(alloc, out, tree, node)?;
         number = tree.next(node);
+        push_node(alloc, out, tree, node, number.is_some() || followed)?;
         push_parting(out, tree, node, number)?;
     }
     Ok(())
 }
 
-// Appends a node with its parts.
+// Appends a node with its parts. After it an action follows or not.
 #[cycle(part)]
-fn push_node(alloc: Global, out: &mut Text, tree: &Tree, node: u32) -> Result<(), Memory>
+fn push_node(
+    alloc: Global,
+    out: &mut Text,
+    tree: &Tree,
+    node: u32,
+    followed: bool,
+) -> Result<(), Memory>
     requires { node < nodes_size tree.now.nodes }
-    ensures { OnOk result (out.new ≡ out.old ++ node_text (nodes_from tree.now.nodes node)) }
+    ensures { OnOk result (out.new ≡ out.old ++ node_text followed (nodes_from tree.now.nodes node)) }
 {
     let kind = tree.kind(node);
-    push_head(alloc, out, kind)?;
+    push_head(alloc, out, kind, followed)?;
     if !is_control(kind) {
         return Ok(());
     }
-    push_part(alloc, out, tree, tree.child(node, 0))?;
+    push_part(alloc, out, tree, tree.child(node, 0), true)?;
     let other = tree.child(node, 1);
     push_else(out, other.is_some())?;
-    push_part(alloc, out, tree, other)?;
+    push_part(alloc, out, tree, other, true)?;
     out.push_str("{{ end }}")
 }
 
@@ -67,7 +81,7 @@ fn push_else(out: &mut Text, nodes: bool) -> Result<(), Memory>
 fn push_parting(out: &mut Text, tree: &Tree, node: u32, next: Option<u32>) -> Result<(), Memory>
     requires node { node < nodes_size tree.now.nodes }
     requires next { IfSome next (λ n. n < nodes_size tree.now.nodes) }
-    ensures { OnOk result (out.new ≡ out.old ++ parting (begins_text (nodes_from tree.now.nodes node)) (begins_text (part_at tree.now.nodes next))) }
+    ensures { OnOk result (out.new ≡ out.old ++ parting_at tree.now.nodes node next) }
 {
     if !is_text(tree.kind(node)) {
         return Ok(());

@@ -13,7 +13,7 @@ abbrev pub invariant-push_part-loop-number : goal.invariant-push_part-loop-numbe
 invariant-push_part-loop-number l = record {
   inside : IfSome l.number (λ n. n < nodes_size l.tree.nodes);
   size : nodes_size (part_at l.tree.nodes l.number) ≤ nodes_size (part_at l.tree.nodes l.fn.first);
-  rest : l.out ++ nodes_text (part_at l.tree.nodes l.number) ≡ l.fn.out ++ nodes_text (part_at l.tree.nodes l.fn.first);
+  rest : l.out ++ nodes_text l.followed (part_at l.tree.nodes l.number) ≡ l.fn.out ++ nodes_text l.followed (part_at l.tree.nodes l.fn.first);
 }
 
 abbrev pub decreases-push_part-loop-number : goal.decreases-push_part-loop-number
