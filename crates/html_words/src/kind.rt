@@ -1,6 +1,7 @@
-ghost use Rattle.std.specs.Prelude.{◌≡◌, ◌≤◌, length, drop};
-ghost use Rattle.std.specs.Str.{str_to_ascii_lowercase};
-ghost use Rattle.place_core.specs.Words.{is_script as is_script_of, kind_behind_prefix as kind_behind_prefix_of, is_among as is_among_of, kind_of, kind_of_name as kind_of_name_of, kind_with_front as kind_with_front_of, no_hole_names, prefix_length, url_names};
+ghost use Rattle.std.specs.Prelude.{◌≡◌, ◌≤◌, length};
+ghost use Rattle.std.specs.Str.{str_to_ascii_lowercase as lower};
+ghost use Rattle.place_core.specs.Words.{is_script as is_script_of, is_among as is_among_of, kind_of, kind_of_name as kind_of_name_of, kind_with_front as kind_with_front_of, no_hole_names, prefix_length, url_names};
+ghost use Rattle.html_words.specs.Prefixes.{kind_by_prefix};
 
 use crate::words::{begins, has_part, is_among, same};
 use place_core::{Element, Kind};
@@ -14,7 +15,7 @@ pub fn attr_kind(name: &str, element: Element) -> Kind
     if is_script(element) && same(name, b"type") {
         return Kind::ScriptType;
     }
-    kind_with_front(name)
+    kind_with_prefix(name)
 }
 
 // A data block is a script element too.
@@ -25,25 +26,25 @@ fn is_script(element: Element) -> bool
 }
 
 // The kind of a name with its prefix; `data-` does not matter.
-fn kind_with_front(name: &[u8]) -> Kind
-    ensures { result ≡ kind_with_front_of (str_to_ascii_lowercase name.now) }
+fn kind_with_prefix(name: &[u8]) -> Kind
+    ensures { result ≡ kind_with_front_of (lower name.now) }
 {
     if begins(name, b"data-") {
         let (_, rest) = name.split_at(5);
         return kind_of_name(rest);
     }
-    kind_behind_prefix(name)
+    kind_after_prefix(name)
 }
 
 // A declaration of a namespace is a URL's; any other prefix up to a colon does not matter.
-fn kind_behind_prefix(name: &[u8]) -> Kind
-    ensures { result ≡ kind_behind_prefix_of (str_to_ascii_lowercase name.now) (drop (prefix_length (str_to_ascii_lowercase name.now)) (str_to_ascii_lowercase name.now)) }
+fn kind_after_prefix(name: &[u8]) -> Kind
+    ensures { result ≡ kind_by_prefix (lower name.now) }
 {
-    let (front, rest) = name.split_at(prefix_len(name));
+    let (prefix, rest) = name.split_at(prefix_len(name));
     match rest.split_first() {
         None => kind_of_name(name),
         Some((_, rest)) => {
-            if same(front, b"xmlns") {
+            if same(prefix, b"xmlns") {
                 Kind::Url
             } else {
                 kind_of_name(rest)
@@ -62,7 +63,7 @@ fn prefix_len(name: &[u8]) -> usize
 
 // The kind of a name without a prefix.
 fn kind_of_name(name: &[u8]) -> Kind
-    ensures { result ≡ kind_of_name_of (str_to_ascii_lowercase name.now) }
+    ensures { result ≡ kind_of_name_of (lower name.now) }
 {
     if same(name, b"style") {
         return Kind::Style;
@@ -83,13 +84,13 @@ fn kind_of_name(name: &[u8]) -> Kind
 }
 
 fn is_no_hole_name(name: &[u8]) -> bool
-    ensures { result ≡ is_among_of no_hole_names (str_to_ascii_lowercase name.now) }
+    ensures { result ≡ is_among_of no_hole_names (lower name.now) }
 {
     is_among(name, &[b"srcdoc", b"srcset", b"imagesrcset"])
 }
 
 fn is_url_name(name: &[u8]) -> bool
-    ensures { result ≡ is_among_of url_names (str_to_ascii_lowercase name.now) }
+    ensures { result ≡ is_among_of url_names (lower name.now) }
 {
     is_among(
         name,

@@ -80,7 +80,7 @@ pub fn named(name: &[u8]) -> u32
 pub fn short_at_front(name: &[u8]) -> (u32, usize)
     ensures { result ≡ begins_at short_names name.now }
 {
-    front_in(name, &SHORT_NAMES)
+    prefix_in(name, &SHORT_NAMES)
 }
 
 /// In the value of an attribute: the short name that is all of a name, and how many bytes it takes with the ampersand.
@@ -101,7 +101,7 @@ fn named_in(name: &[u8], rows: &[(&[u8], u32)]) -> u32
     REPLACEMENT
 }
 
-fn front_in(name: &[u8], rows: &[(&[u8], u32)]) -> (u32, usize)
+fn prefix_in(name: &[u8], rows: &[(&[u8], u32)]) -> (u32, usize)
     ensures { result ≡ begins_at (map (λ r. row r.0.now r.1) rows.now) name.now }
 {
     for row in rows {

@@ -10,7 +10,7 @@ use crate::number::numbered_in;
 /// An ampersand that begins no reference: itself, one byte.
 pub const ITSELF: (u32, usize) = ('&' as u32, 1);
 
-/// The character of the reference in front of whose bytes an ampersand stands, in the value of an attribute or in text, and how
+/// The character of the reference before whose bytes an ampersand stands, in the value of an attribute or in text, and how
 /// many bytes it takes with the ampersand.
 pub fn reference_at(attribute: bool, bytes: &[u8]) -> (u32, usize)
     ensures { result ≡ reference_at_of attribute bytes.now }
@@ -22,8 +22,8 @@ pub fn reference_at(attribute: bool, bytes: &[u8]) -> (u32, usize)
                 return hashed_at(rest);
             }
             if byte.is_ascii_alphanumeric() {
-                let (name, behind) = bytes.split_at(name_len(bytes));
-                return name_at(attribute, name, behind);
+                let (name, after) = bytes.split_at(name_len(bytes));
+                return name_at(attribute, name, after);
             }
             ITSELF
         }
@@ -60,10 +60,10 @@ fn is_broken_number(bytes: &[u8]) -> bool
 }
 
 // A name, and what stands after it.
-fn name_at(attribute: bool, name: &[u8], behind: &[u8]) -> (u32, usize)
-    ensures { result ≡ name_at_of attribute name.now behind.now }
+fn name_at(attribute: bool, name: &[u8], after: &[u8]) -> (u32, usize)
+    ensures { result ≡ name_at_of attribute name.now after.now }
 {
-    match behind.split_first() {
+    match after.split_first() {
         None => short_at(attribute, false, name),
         Some((byte, _)) => {
             if *byte == b';' {
@@ -95,26 +95,26 @@ fn hashed_at(bytes: &[u8]) -> (u32, usize)
         None => ITSELF,
         Some((byte, rest)) => {
             if *byte == b'X' || *byte == b'x' {
-                let (digits, behind) = rest.split_at(hexadecimal_len(rest));
-                return number_from(16, 3, digits, behind);
+                let (digits, after) = rest.split_at(hexadecimal_len(rest));
+                return number_from(16, 3, digits, after);
             }
-            let (digits, behind) = bytes.split_at(decimal_len(bytes));
-            number_from(10, 2, digits, behind)
+            let (digits, after) = bytes.split_at(decimal_len(bytes));
+            number_from(10, 2, digits, after)
         }
     }
 }
 
 // A number in a base, with how many bytes stand before its digits, and what stands after them.
-fn number_from(base: u32, front: usize, digits: &[u8], behind: &[u8]) -> (u32, usize)
+fn number_from(base: u32, prefix: usize, digits: &[u8], after: &[u8]) -> (u32, usize)
     requires base { 1 ≤ base }
     requires most { base ≤ 16 }
-    requires front { front ≤ 3 }
-    ensures { result ≡ number_from_of base front digits.now behind.now }
+    requires prefix { prefix ≤ 3 }
+    ensures { result ≡ number_from_of base prefix digits.now after.now }
 {
     match digits.split_first() {
         None => ITSELF,
         Some(_) => {
-            let len = front + (digits.len() + semicolon_len(behind));
+            let len = prefix + (digits.len() + semicolon_len(after));
             (numbered_in(base, digits), len)
         }
     }

@@ -18,8 +18,8 @@ pub fn script_type(value: &str) -> bool
 fn without_parameters(value: &[u8]) -> &[u8]
     ensures { result.now ≡ without_parameters_of value.now }
 {
-    let (front, _) = value.split_at(type_len(value));
-    front
+    let (prefix, _) = value.split_at(type_len(value));
+    prefix
 }
 
 // Without white space at the beginning.
@@ -34,8 +34,8 @@ fn trimmed_start(value: &[u8]) -> &[u8]
 fn trimmed_end(value: &[u8]) -> &[u8]
     ensures { result.now ≡ trimmed_end_of value.now }
 {
-    let (front, _) = value.split_at(value.len() - white_end_len(value));
-    front
+    let (prefix, _) = value.split_at(value.len() - white_end_len(value));
+    prefix
 }
 
 // How many bytes stand before the first semicolon.

@@ -1,7 +1,7 @@
 // Names against words of HTML, in any case of the letters.
 ghost use Rattle.std.specs.Prelude.{◌≡◌, nat_eq, map};
 ghost use Rattle.std.specs.List.{starts_with};
-ghost use Rattle.std.specs.Str.{str_eq_ignore_ascii_case, str_to_ascii_lowercase};
+ghost use Rattle.std.specs.Str.{str_eq_ignore_ascii_case, str_to_ascii_lowercase as lower};
 ghost use Rattle.place_core.specs.Words.{has_part as has_part_of, is_among as is_among_of};
 
 /// Whether two names are the same, in any case.
@@ -13,7 +13,7 @@ pub fn same(one: &[u8], other: &[u8]) -> bool
 
 /// Whether a name is one of these words.
 pub fn is_among(name: &[u8], words: &[&[u8]]) -> bool
-    ensures { result ≡ is_among_of (map (λ word. str_to_ascii_lowercase word.now) words.now) (str_to_ascii_lowercase name.now) }
+    ensures { result ≡ is_among_of (map (λ word. lower word.now) words.now) (lower name.now) }
 {
     for word in words {
         if same(name, word) {
@@ -25,25 +25,25 @@ pub fn is_among(name: &[u8], words: &[&[u8]]) -> bool
 
 /// Whether a name begins with a word.
 pub fn begins(name: &[u8], word: &[u8]) -> bool
-    ensures { result ≡ starts_with nat_eq (str_to_ascii_lowercase name.now) (str_to_ascii_lowercase word.now) }
+    ensures { result ≡ starts_with nat_eq (lower name.now) (lower word.now) }
 {
     if name.len() < word.len() {
         return false;
     }
-    let (front, _) = name.split_at(word.len());
-    same(word, front)
+    let (prefix, _) = name.split_at(word.len());
+    same(word, prefix)
 }
 
 /// Whether a word stands somewhere in a name.
 pub fn has_part(name: &[u8], part: &[u8]) -> bool
-    ensures { result ≡ has_part_of (str_to_ascii_lowercase part.now) (str_to_ascii_lowercase name.now) }
+    ensures { result ≡ has_part_of (lower part.now) (lower name.now) }
 {
     let mut rest = name;
-    while let Some((_, behind)) = rest.split_first() {
+    while let Some((_, after)) = rest.split_first() {
         if begins(rest, part) {
             return true;
         }
-        rest = behind;
+        rest = after;
     }
     begins(rest, part)
 }

@@ -1,5 +1,5 @@
 use Rattle.std.proofs.Common.{◌∙◌, sym}
-use Rattle.html_words.proofs.kind.kind_with_front.Goals as goal
+use Rattle.html_words.proofs.kind.kind_with_prefix.Goals as goal
 use Rattle.html_words.proofs.Cases.{behind_data-lower}
 
 pub returns-then-begins : goal.returns-then-begins

@@ -1,6 +1,6 @@
 use Rattle.html_words.proofs.Cases.{no_prefix, some_prefix}
 use Rattle.std.proofs.Common.{◌∙◌, sym}
-use Rattle.html_words.proofs.kind.kind_behind_prefix.Goals as goal
+use Rattle.html_words.proofs.kind.kind_after_prefix.Goals as goal
 
 pub returns-in-None : goal.returns-in-None
 returns-in-None c =
