@@ -104,8 +104,8 @@ IsNoDatum (NotWhole shown) bytes =
 IsNoDatum Memory bytes = ⊥
 
 -- what reading answers, and why
-abbrev pub ReadAnswers : List ℕ → Result Datum DataRefused → Type 0
-ReadAnswers bytes (Ok datum) = IsDatum bytes (view datum)
-ReadAnswers bytes (Err (TooLong len)) = (len ≡ length bytes) × (max_length < length bytes)
-ReadAnswers bytes (Err Memory) = ⊤
-ReadAnswers bytes (Err why) = IsNoDatum why bytes
+abbrev pub ReadDatumAnswers : List ℕ → Result Datum DataRefused → Type 0
+ReadDatumAnswers bytes (Ok datum) = IsDatum bytes (view datum)
+ReadDatumAnswers bytes (Err (TooLong len)) = (len ≡ length bytes) × (max_length < length bytes)
+ReadDatumAnswers bytes (Err Memory) = ⊤
+ReadDatumAnswers bytes (Err why) = IsNoDatum why bytes

@@ -1,5 +1,5 @@
 ghost use Rattle.std.specs.Prelude.{◌≡◌, IfOk};
-ghost use Rattle.page_datum.specs.Reading.{ReadAnswers, shown_path as shown_path_of};
+ghost use Rattle.page_datum.specs.Reading.{ReadDatumAnswers, shown_path as shown_path_of};
 
 use crate::datum::Datum;
 use crate::depth::is_too_deep;
@@ -16,7 +16,7 @@ pub const MAX_LENGTH: usize = 8_388_608;
 /// written without a point and without an exponent. Of repeated keys the last one stands. Each
 /// refusal but out of memory comes exactly where it says, in the order of `DataRefused`.
 pub fn read_datum(alloc: Global, bytes: &[u8]) -> Result<Datum, DataRefused>
-    ensures { ReadAnswers bytes.now result }
+    ensures { ReadDatumAnswers bytes.now result }
 {
     if bytes.len() > MAX_LENGTH {
         return Err(DataRefused::TooLong(bytes.len() as u64));

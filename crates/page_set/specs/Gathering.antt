@@ -23,10 +23,10 @@ AddsNode template node datum old new (Err NoTemplate) = ⊥
 AddsNode template node datum old new (Err SinkStop) = ⊥
 
 -- the whole page of a run that is done, or its fault
-abbrev pub Gathers : Run → Result Gathered PageStop → Type 0
-Gathers whole (Ok made) =
+abbrev pub GatherAnswers : Run → Result Gathered PageStop → Type 0
+GatherAnswers whole (Ok made) =
     (whole.ending ≡ done) × (made.page.items ≡ page_of whole.pieces) × (made.steps ≡ whole.steps)
-Gathers whole (Err (Fault fault)) = whole.ending ≡ faulted fault
-Gathers whole (Err Memory) = ⊤
-Gathers whole (Err NoTemplate) = ⊥
-Gathers whole (Err SinkStop) = ⊥
+GatherAnswers whole (Err (Fault fault)) = whole.ending ≡ faulted fault
+GatherAnswers whole (Err Memory) = ⊤
+GatherAnswers whole (Err NoTemplate) = ⊥
+GatherAnswers whole (Err SinkStop) = ⊥

@@ -8,9 +8,9 @@ use Rattle.page_set.specs.declared.refused.MakeRefused.{MakeRefused}
 use Rattle.page_set.specs.declared.refused.MakeRefused.TheVariants.{TooLarge, NotUtf8, NoTemplates}
 use Rattle.page_set.specs.declared.refused.MakeRefused.TheVariants.{NotBuilt, Memory}
 
-abbrev pub Makes : List NamedFile → Result (Vec Node Global) MakeRefused → Type 0
-Makes files (Ok nodes) = IsMade files nodes.items
-Makes files (Err refused) = IsRefused refused files
+abbrev pub NodesOfAnswers : List NamedFile → Result (Vec Node Global) MakeRefused → Type 0
+NodesOfAnswers files (Ok nodes) = IsMade files nodes.items
+NodesOfAnswers files (Err refused) = IsRefused refused files
 
 -- the name and the line of what is not built, or out of memory
 abbrev pub IsNotBuilt : List ℕ → ℕ → MakeRefused → Type 0

@@ -11,10 +11,10 @@ use Rattle.page_set.specs.declared.node.Node.{Node}
 use Rattle.page_io.specs.declared.stop.Stop.{Stop}
 use Rattle.page_io.specs.declared.stop.Stop.TheVariants.{Cause, Memory}
 
-abbrev pub Scanned : List ℕ → Result (Vec Node Global) (Stop ℕ) → Type 0
-Scanned text (Ok nodes) = IsTemplate text nodes.items × (length nodes.items ≤ length text)
-Scanned text (Err (Cause line)) = IsStuckAt text line
-Scanned text (Err Memory) = ⊤
+abbrev pub ScanAnswers : List ℕ → Result (Vec Node Global) (Stop ℕ) → Type 0
+ScanAnswers text (Ok nodes) = IsTemplate text nodes.items × (length nodes.items ≤ length text)
+ScanAnswers text (Err (Cause line)) = IsStuckAt text line
+ScanAnswers text (Err Memory) = ⊤
 
 -- the nodes and the text from `start` to `at` become nodes and the text from `next` on, by the form
 -- at this place

@@ -1,11 +1,11 @@
 ghost use Rattle.page_datum.specs.View.{view};
-ghost use Rattle.page_set.specs.Picked.{Picks};
+ghost use Rattle.page_set.specs.Picked.{FieldAnswers};
 
 use page_datum::{Datum, FaultKind};
 
 /// The value of a field, where the datum has it. A dictionary that lacks it gives null.
 pub fn field<'a>(datum: &'a Datum, name: &str) -> Result<Option<&'a Datum>, FaultKind>
-    ensures { Picks name.now (view datum.now) result }
+    ensures { FieldAnswers name.now (view datum.now) result }
 {
     match datum {
         Datum::Dict(entries) => Ok(entries.get(name)),

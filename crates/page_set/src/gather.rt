@@ -2,7 +2,7 @@ ghost use Rattle.std.specs.Prelude.{◌≡◌, ◌≤◌, ◌^◌, ◌<◌, ◌+
 ghost use Rattle.page_datum.specs.Printed.{printed};
 ghost use Rattle.page_set.specs.Html.{html};
 ghost use Rattle.page_datum.specs.View.{view};
-ghost use Rattle.page_set.specs.Gathering.{AddsNode, Gathers};
+ghost use Rattle.page_set.specs.Gathering.{AddsNode, GatherAnswers};
 ghost use Rattle.page_set.specs.Running.{run};
 
 use crate::field::field;
@@ -27,7 +27,7 @@ pub fn gather(
     datum: &Datum,
 ) -> Result<Gathered, PageStop>
     requires { length nodes.now < 2 ^ 62 }
-    ensures { Gathers (run template.now nodes.now (view datum.now)) result }
+    ensures { GatherAnswers (run template.now nodes.now (view datum.now)) result }
 {
     let mut page = Vec::new(alloc);
     let mut steps = 0;

@@ -1,5 +1,5 @@
 ghost use Rattle.std.specs.Prelude.{◌≡◌, [], ◌∷◌};
-ghost use Rattle.page_set.specs.Made.{Makes, IsNotBuilt};
+ghost use Rattle.page_set.specs.Made.{NodesOfAnswers, IsNotBuilt};
 ghost use Rattle.page_set.specs.Running.{is_partial as is_partial_of};
 
 use crate::node::Node;
@@ -11,7 +11,7 @@ use std::alloc::Global;
 
 /// The nodes of the template of a set of files, or why the files are no set.
 pub fn nodes_of(alloc: Global, files: &[NamedFile]) -> Result<Vec<Node>, MakeRefused>
-    ensures { Makes files.now result }
+    ensures { NodesOfAnswers files.now result }
 {
     match files {
         [] => Err(MakeRefused::NoTemplates),
@@ -22,7 +22,7 @@ pub fn nodes_of(alloc: Global, files: &[NamedFile]) -> Result<Vec<Node>, MakeRef
 
 // The nodes of the one file of a set.
 fn template_of(alloc: Global, file: &NamedFile) -> Result<Vec<Node>, MakeRefused>
-    ensures { Makes (file.now ∷ []) result }
+    ensures { NodesOfAnswers (file.now ∷ []) result }
 {
     if file.bytes.len() > MAX_FILE {
         return match Text::copy_of(alloc, file.name.as_str()) {

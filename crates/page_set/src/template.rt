@@ -1,7 +1,7 @@
 ghost use Rattle.std.specs.Prelude.{◌≡◌, ◌+◌, ◌-◌, ◌<◌, ◌≤◌, ◌++◌, ◌∷◌, [], length, take, drop};
 ghost use Rattle.std.specs.Prelude.{vec_len, IfOk, OnOk};
 ghost use Rattle.page_set.specs.Found.{IsFound, found_len};
-ghost use Rattle.page_set.specs.Scanned.{Scanned, AddsForm};
+ghost use Rattle.page_set.specs.Scanned.{ScanAnswers, AddsForm};
 ghost use Rattle.page_set.specs.Nodes.{text_node};
 ghost use Rattle.page_set.specs.Making.{max_file};
 ghost use Rattle.std.specs.Str.{IsCharBoundary};
@@ -15,7 +15,7 @@ use std::alloc::Global;
 /// form, and comes exactly where there is one.
 pub fn scan(alloc: Global, text: &str) -> Result<Vec<Node>, Stop<u32>>
     requires { length text.now ≤ max_file }
-    ensures { Scanned text.now result }
+    ensures { ScanAnswers text.now result }
 {
     let mut nodes = Vec::new(alloc);
     let mut start = 0;

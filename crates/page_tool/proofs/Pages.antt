@@ -18,7 +18,7 @@ use Rattle.page_set.proofs.Sound.{sound}
 use Rattle.page_tool.proofs.Inputs.{built_dict}
 use Rattle.page_tool.specs.Files.{files_of}
 use Rattle.page_tool.specs.Input.{IsInput, is_built}
-use Rattle.page_tool.specs.Output.{WritesPage, WritesPart, WritesAll, WritesSound, WritesToFault, RenderOutput, RenderCause, HasRoot, HasInput}
+use Rattle.page_tool.specs.Output.{WritePageAnswers, WritesPart, WritesAll, WritesSound, WritesToFault, RenderOutput, RenderCause, HasRoot, HasInput}
 use Rattle.page_tool.specs.declared.stop.Stop.{Stop}
 use Rattle.page_tool.specs.declared.stop.Stop.TheVariants as stop
 
@@ -49,7 +49,7 @@ told_sound (Some h) (Some i) dir root files d e old new s r x is w =
 
 -- what was written of an execution that is done is sound
 pub sound_output : (held : Option Held) (input : Option (List ℕ)) (dir root : List ℕ) (files : Files) (d : Data) (e : Execution) (old new : Option (List ℕ)) (r : Result ⊤ Stop)
-    → IsLoaded held dir files → IfSome input (λ i. IsInput i d) → IsExecution files root d e → WritesPage e old new r → OnOk r (WritesSound held input dir root old new)
+    → IsLoaded held dir files → IfSome input (λ i. IsInput i d) → IsExecution files root d e → WritePageAnswers e old new r → OnOk r (WritesSound held input dir root old new)
 sound_output held input dir root files d e old new (Ok _) s r x w = told_sound held input dir root files d e old new s r x w.0 w.1
 sound_output held input dir root files d e old new (Err _) s r x w = tt
 
@@ -61,7 +61,7 @@ told_fault (Some h) (Some i) dir root files d e fault old new s r x is w = (e, f
 
 -- what was written of an execution was written of the page
 pub output : (held : Option Held) (input : Option (List ℕ)) (dir root : List ℕ) (files : Files) (d : Data) (e : Execution) (old new : Option (List ℕ)) (r : Result ⊤ Stop)
-    → IsLoaded held dir files → IfSome input (λ i. IsInput i d) → IsExecution files root d e → WritesPage e old new r → RenderOutput held input dir root old new r
+    → IsLoaded held dir files → IfSome input (λ i. IsInput i d) → IsExecution files root d e → WritePageAnswers e old new r → RenderOutput held input dir root old new r
 output held input dir root files d e old new (Ok _) s r x w = told_all held input dir root files d e old new s r x w.0 w.1
 output held input dir root files d e old new (Err (stop.Fault fault)) s r x w = told_fault held input dir root files d e fault old new s r x w.0 w.1
 output held input dir root files d e old new (Err stop.Write) s r x w = told_part held input dir root files d e old new s r x w
@@ -95,7 +95,7 @@ has_input (Some i) d r = (d, r)
 
 -- why writing the page of a root ended so
 pub written_cause : (held : Option Held) (input : Option (List ℕ)) (dir root : List ℕ) (files : Files) (d : Data) (e : Execution) (old new : Option (List ℕ)) (r : Result ⊤ Stop)
-    → IsLoaded held dir files → is_root files.list root ≡ true → IfSome input (λ i. IsInput i d) → WritesPage e old new r → RenderCause held input dir root r
+    → IsLoaded held dir files → is_root files.list root ≡ true → IfSome input (λ i. IsInput i d) → WritePageAnswers e old new r → RenderCause held input dir root r
 written_cause held input dir root files d e old new (Ok _) s is r w = (loaded_root held dir root files s is, has_input input d r)
 written_cause held input dir root files d e old new (Err (stop.Fault fault)) s is r w = (loaded_root held dir root files s is, has_input input d r)
 written_cause held input dir root files d e old new (Err stop.Write) s is r w = (loaded_root held dir root files s is, has_input input d r)

@@ -29,9 +29,9 @@ abbrev pub IsNoInput : InputRefused → List ℕ → Type 0
 IsNoInput (DataIs why) input = IsNoDatum why input
 IsNoInput NotBuilt input = (datum : Data) × IsDatum input datum × (is_built datum ≡ false)
 
-abbrev pub ReadsData : Option (List ℕ) → Result Datum Stop → Type 0
-ReadsData left (Ok datum) = IfSome left (λ input. IsInput input (view datum))
-ReadsData left (Err (stop.Data why)) = IfSome left (IsNoInput why)
-ReadsData left (Err stop.Read) = ⊤
-ReadsData left (Err stop.Memory) = ⊤
-ReadsData left (Err _) = ⊥
+abbrev pub ReadDataAnswers : Option (List ℕ) → Result Datum Stop → Type 0
+ReadDataAnswers left (Ok datum) = IfSome left (λ input. IsInput input (view datum))
+ReadDataAnswers left (Err (stop.Data why)) = IfSome left (IsNoInput why)
+ReadDataAnswers left (Err stop.Read) = ⊤
+ReadDataAnswers left (Err stop.Memory) = ⊤
+ReadDataAnswers left (Err _) = ⊥

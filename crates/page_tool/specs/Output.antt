@@ -67,13 +67,13 @@ WritesToFault held input dir root old new =
     × (e.ending ≡ faulted fault) × AppendsPart old new e.bytes)
 
 -- what a sink has got of an execution
-abbrev pub WritesPage : Execution → Option (List ℕ) → Option (List ℕ) → Result ⊤ Stop → Type 0
-WritesPage e old new (Ok _) = (e.ending ≡ done) × Appends old new e.bytes
-WritesPage e old new (Err (stop.Fault fault)) =
+abbrev pub WritePageAnswers : Execution → Option (List ℕ) → Option (List ℕ) → Result ⊤ Stop → Type 0
+WritePageAnswers e old new (Ok _) = (e.ending ≡ done) × Appends old new e.bytes
+WritePageAnswers e old new (Err (stop.Fault fault)) =
     (e.ending ≡ faulted fault) × AppendsPart old new e.bytes
-WritesPage e old new (Err stop.Write) = AppendsPart old new e.bytes
-WritesPage e old new (Err stop.Memory) = AppendsPart old new e.bytes
-WritesPage e old new (Err _) = ⊥
+WritePageAnswers e old new (Err stop.Write) = AppendsPart old new e.bytes
+WritePageAnswers e old new (Err stop.Memory) = AppendsPart old new e.bytes
+WritePageAnswers e old new (Err _) = ⊥
 
 -- what a sink has got where rendering stopped
 abbrev pub RenderOutput : Option Held → Option (List ℕ) → List ℕ → List ℕ → Option (List ℕ)

@@ -8,10 +8,10 @@ use Rattle.page_tool.specs.Output.{IsRefusedSet}
 use Rattle.page_tool.specs.declared.stop.Stop.{Stop}
 use Rattle.page_tool.specs.declared.stop.Stop.TheVariants as stop
 
-abbrev pub MakesSet : Option Held → List ℕ → Result PageSet Stop → Type 0
-MakesSet held dir (Ok set) =
+abbrev pub MakeSetAnswers : Option Held → List ℕ → Result PageSet Stop → Type 0
+MakeSetAnswers held dir (Ok set) =
     IfSome held (λ h. (set.files ≡ files_of h dir) × (Refuses (files_of h dir).list → ⊥))
-MakesSet held dir (Err (stop.Set why)) = IfSome held (λ h. IsRefusedSet h dir why)
-MakesSet held dir (Err stop.Read) = ⊤
-MakesSet held dir (Err stop.Memory) = ⊤
-MakesSet held dir (Err _) = ⊥
+MakeSetAnswers held dir (Err (stop.Set why)) = IfSome held (λ h. IsRefusedSet h dir why)
+MakeSetAnswers held dir (Err stop.Read) = ⊤
+MakeSetAnswers held dir (Err stop.Memory) = ⊤
+MakeSetAnswers held dir (Err _) = ⊥

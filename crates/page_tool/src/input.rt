@@ -2,7 +2,7 @@ ghost use Rattle.std.specs.Prelude.{◌≡◌, ◌≤◌, true, IfOk, OnOk, IsEr
 ghost use Rattle.std.specs.Io.KnownBytes.{IsAtEnd};
 ghost use Rattle.page_io.specs.Causes.{Rose};
 ghost use Rattle.page_datum.specs.View.{view};
-ghost use Rattle.page_tool.specs.Input.{ReadsData, is_built as is_built_of};
+ghost use Rattle.page_tool.specs.Input.{ReadDataAnswers, is_built as is_built_of};
 ghost use Rattle.page_tool.specs.Input.{has_texts as has_texts_of};
 
 use crate::stop::Stop;
@@ -21,7 +21,7 @@ pub enum InputRefused {
 
 /// The datum that an input is, read to its end.
 pub fn read_data<I: Source>(alloc: Global, input: &mut I) -> Result<Datum, Stop>
-    ensures data { ReadsData (I.left input.old) result }
+    ensures data { ReadDataAnswers (I.left input.old) result }
     ensures built { IfOk result (λ datum. is_built_of (view datum) ≡ true) }
     ensures end { OnOk result (IsAtEnd (I.left input.new)) }
     ensures later { I.faults input.old ≤ I.faults input.new }

@@ -6,10 +6,10 @@ ghost use Rattle.page_set.specs.Making.{IsExecution};
 ghost use Rattle.page_set.specs.Running.{is_root, execution_of};
 ghost use Rattle.page_tool.specs.Devices.{IsUnread};
 ghost use Rattle.page_tool.specs.Input.{is_built};
-ghost use Rattle.page_tool.specs.Output.{RenderOutput, RenderCause, WritesPage, WritesSound};
+ghost use Rattle.page_tool.specs.Output.{RenderOutput, RenderCause, WritePageAnswers, WritesSound};
 ghost use Rattle.page_tool.specs.Output.{HasRoot};
 ghost use Rattle.page_datum.specs.declared.fault.ExecFault.{ExecFault};
-ghost use Rattle.page_tool.specs.Sets.{MakesSet};
+ghost use Rattle.page_tool.specs.Sets.{MakeSetAnswers};
 
 use crate::input::read_data;
 use crate::load::load;
@@ -71,7 +71,7 @@ fn write_page<O: Sink>(
 ) -> Result<(), Stop>
     requires root { is_root set.now.files.list root.now ≡ true }
     requires built { is_built (view datum.now) ≡ true }
-    ensures page { WritesPage
+    ensures page { WritePageAnswers
         (execution_of set.now.files.list set.now.nodes root.now (view datum.now))
         (O.taken out.old) (O.taken out.new) result }
     ensures meant { IsExecution set.now.files root.now (view datum.now)
@@ -91,7 +91,7 @@ fn write_page<O: Sink>(
 
 // The set of the template files of a directory.
 fn make_set<F: Folder>(alloc: Global, folder: &mut F, dir: &str) -> Result<PageSet, Stop>
-    ensures set { MakesSet (F.held folder.old) dir.now result }
+    ensures set { MakeSetAnswers (F.held folder.old) dir.now result }
     ensures kept { F.held folder.new ≡ F.held folder.old }
     ensures later { F.faults folder.old ≤ F.faults folder.new }
     ensures read { IsErrOf result Stop.Read → Rose (F.faults folder.old) (F.faults folder.new) }

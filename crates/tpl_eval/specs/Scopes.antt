@@ -1,5 +1,5 @@
 -- What an evaluation sees, in the code and as data.
-use Rattle.std.specs.Prelude.{ℕ, List, [], ◌∷◌, ◌++◌, Option, Some, None}
+use Rattle.std.specs.Prelude.{List, [], ◌∷◌, ◌++◌, Option, Some, None}
 use Rattle.page_datum.specs.Data.{Data}
 use Rattle.page_datum.specs.View.{view}
 use Rattle.tpl_eval.specs.Evaluating.{ScopeData, Variables}

@@ -4,7 +4,7 @@ ghost use Rattle.tpl_eval.specs.Values.{PartAnswers, value_view};
 ghost use Rattle.tpl_eval.specs.Evaluating.{within};
 ghost use Rattle.tpl_eval.specs.Scopes.{stored_view};
 ghost use Rattle.tpl_eval.specs.Selectors.{part_by, selected_by};
-ghost use Rattle.tpl_value.specs.Picking.{Picks};
+ghost use Rattle.tpl_value.specs.Picking.{PickAnswers};
 
 use crate::stored::Stored;
 use page_datum::{Datum, FaultKind, ValueStop};
@@ -96,7 +96,7 @@ pub(crate) fn part_of<'d, 'v>(
 }
 
 fn selected<'a>(datum: &'a Datum, by: Selector<'_>) -> Result<Picked<'a>, FaultKind>
-    ensures { Picks (selected_by by.entry (view datum.now)) result }
+    ensures { PickAnswers (selected_by by.entry (view datum.now)) result }
 {
     match by {
         Selector::Field(name) => field(datum, name),

@@ -1,5 +1,5 @@
 -- What a list has after events that it was given.
-use Rattle.std.proofs.Common.{◌≡◌, ℕ, List, [], ◌∷◌, ◌++◌, None, append_assoc, append-nil, refl, sym, ap, ◌∙◌, subst, inl, inr}
+use Rattle.std.proofs.Common.{◌≡◌, List, [], ◌∷◌, ◌++◌, None, append_assoc, append-nil, refl, sym, ap, ◌∙◌, subst, inl, inr}
 use Rattle.tpl_events.specs.Sinks.{Leads, Refuses}
 use Rattle.tpl_events.specs.Lists.{Declines, HasAll, HasMore, HasSome, HasUpTo, IsKept, Keeps, Stays, listed, past, up_to, without_ends}
 use Rattle.tpl_events.specs.Events.{Event, Emission, enters, events_of, gives_hole, gives_text, leaves}

@@ -2,7 +2,6 @@
 use Rattle.std.specs.Prelude.{◌≡◌, ℕ, zero, suc, true, false, List, [], ◌∷◌, ◌++◌, ◌⊎◌, Option, Some, None, Vec}
 use Rattle.std.specs.declared.alloc.Global.{Global}
 use Rattle.page_datum.specs.View.{view}
-use Rattle.page_datum.specs.declared.datum.Datum.{Datum}
 use Rattle.tpl_events.specs.Events.{Event, Emission, enters, events_of, gives_hole, gives_text, leaves}
 use Rattle.tpl_events.specs.declared.list_sink.Kept.{Kept}
 use Rattle.tpl_events.specs.declared.list_sink.Kept.TheVariants as kept

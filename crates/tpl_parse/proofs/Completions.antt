@@ -5,27 +5,27 @@ use Rattle.tpl_parse.proofs.FileLaws.{run_more}
 use Rattle.tpl_parse.proofs.FilesSay.{file_stands}
 use Rattle.tpl_parse.proofs.OneFile.{none_goes_on}
 use Rattle.tpl_parse.specs.Grammar.{IsFileBody}
-use Rattle.tpl_parse.specs.Laws.{IsFront, AreFronts, RefusedIsFirst}
-use Rattle.tpl_parse.specs.Nests.{closed_control, closed_from, with_end, done}
+use Rattle.tpl_parse.specs.Laws.{IsPrefix, ArePrefixes, RefusedIsFirst}
+use Rattle.tpl_parse.specs.Building.{closed_control, closed_from, with_end, done}
 use Rattle.tpl_parse.specs.State.{State}
 use Rattle.tpl_parse.specs.Steps.{state, opening, close_end, after, onward, inside, run, and_then, beginning}
-use Rattle.tpl_parse.specs.Turns.{Turn, pipe_turn, piped, end_word}
+use Rattle.tpl_parse.specs.Actions.{Advance, pipe_advance, piped, end_word}
 use Rattle.tpl_parse.specs.declared.frame.Frame.{Frame}
 use Rattle.tpl_parse.specs.declared.frame.Frame.TheVariants as frame
-use Rattle.tpl_parse.specs.declared.head.Deed.TheVariants as deed
-use Rattle.tpl_parse.specs.declared.head.Head.{Head}
-use Rattle.tpl_parse.specs.declared.head.Head.TheVariants as head
-use Rattle.tpl_parse.specs.declared.head.Mode.{Mode}
-use Rattle.tpl_parse.specs.declared.head.Mode.TheVariants as mode
-use Rattle.tpl_parse.specs.declared.head.Opening.{Opening}
-use Rattle.tpl_parse.specs.declared.head.Purpose.{Purpose}
-use Rattle.tpl_parse.specs.declared.nest.Nest.{Nest}
+use Rattle.tpl_parse.specs.declared.action.ActionKind.TheVariants as action_kind
+use Rattle.tpl_parse.specs.declared.action.ActionState.{ActionState}
+use Rattle.tpl_parse.specs.declared.action.ActionState.TheVariants as action_state
+use Rattle.tpl_parse.specs.Phases.{Phase}
+use Rattle.tpl_parse.specs.Phases as phase
+use Rattle.tpl_parse.specs.declared.action.Opening.{Opening}
+use Rattle.tpl_parse.specs.declared.action.Purpose.{Purpose}
+use Rattle.tpl_parse.specs.declared.builder.Builder.{Builder}
 use Rattle.tpl_pipe.specs.Levels.{level, operand_of, operands_onto, commands_onto, ended, ended_with, take_into, with_operand}
-use Rattle.tpl_pipe.specs.Reading.{Step, place, read, read_function, closed, finish}
-use Rattle.tpl_pipe.specs.declared.place.Current.{Current}
-use Rattle.tpl_pipe.specs.declared.place.Current.TheVariants as current
-use Rattle.tpl_pipe.specs.declared.place.Level.{Level}
-use Rattle.tpl_pipe.specs.declared.place.Place.{Place}
+use Rattle.tpl_pipe.specs.Reading.{Step, pipe_state, read, read_function, closed, finish}
+use Rattle.tpl_pipe.specs.declared.pipe_state.Current.{Current}
+use Rattle.tpl_pipe.specs.declared.pipe_state.Current.TheVariants as current
+use Rattle.tpl_pipe.specs.declared.pipe_state.Level.{Level}
+use Rattle.tpl_pipe.specs.declared.pipe_state.PipeState.{PipeState}
 use Rattle.tpl_pipe.specs.declared.refused.ParseRefused.{ParseRefused}
 use Rattle.tpl_symbol.specs.declared.func.Func.TheVariants as func
 use Rattle.tpl_symbol.specs.declared.symbol.Symbol.{Symbol}
@@ -69,21 +69,21 @@ ends_parenthesis = symbol_of kind.Right
 
 -- symbols that lead outside actions
 abbrev LeadsOut : State → Type 0
-LeadsOut at = (more : List Symbol) × (n : Nest) × (run at more ≡ Ok (state n mode.Outside))
+LeadsOut at = (more : List Symbol) × (n : Builder) × (run at more ≡ Ok (state n phase.Outside))
 
 -- and with nothing open
 abbrev LeadsToEnd : State → Type 0
-LeadsToEnd at = (more : List Symbol) × (n : Nest) × (run at more ≡ Ok (state n mode.Outside)) × (n.frames ≡ [])
+LeadsToEnd at = (more : List Symbol) × (n : Builder) × (run at more ≡ Ok (state n phase.Outside)) × (n.frames ≡ [])
 
 -- an `end` closes what is innermost
-stays : (frames : List Frame) (o : Opening) (n : Nest) → length (closed_from frames o n).frames ≤ length frames
+stays : (frames : List Frame) (o : Opening) (n : Builder) → length (closed_from frames o n).frames ≤ length frames
 stays [] o n = omega arith
 stays (frame.Definition d ∷ frames) o n = omega arith
 stays (frame.Control c ∷ frames) o n = either c.chained
     (λ t. rw t (let h = stays frames o (closed_control frames c n) in omega arith))
     (λ f. rw f (omega arith))
 
-shrinks : (f : Frame) (frames : List Frame) (o : Opening) (n : Nest) → length (closed_from (f ∷ frames) o n).frames ≤ length frames
+shrinks : (f : Frame) (frames : List Frame) (o : Opening) (n : Builder) → length (closed_from (f ∷ frames) o n).frames ≤ length frames
 shrinks (frame.Definition d) frames o n = omega arith
 shrinks (frame.Control c) frames o n = either c.chained
     (λ t. rw t (stays frames o (closed_control frames c n)))
@@ -92,14 +92,14 @@ shrinks (frame.Control c) frames o n = either c.chained
 abbrev here : Opening
 here = opening 1 0 1
 
-end_turns : (f : Frame) (frames fs : List Frame) → fs ≡ f ∷ frames → end_word fs 1 ≡ Ok head.End
-end_turns f frames fs e = ap (λ (fs : List Frame). end_word fs 1) e
+end_advances : (f : Frame) (frames fs : List Frame) → fs ≡ f ∷ frames → end_word fs 1 ≡ Ok action_state.End
+end_advances f frames fs e = ap (λ (fs : List Frame). end_word fs 1) e
 
-end_leads : (f : Frame) (frames : List Frame) (n : Nest) (more : List Symbol) → n.frames ≡ f ∷ frames → run (state n mode.Outside) (opens ∷ ends ∷ closes ∷ more) ≡ run (state (with_end here n) mode.Outside) more
-end_leads f frames n more e = ap (λ (t : Turn). and_then (onward t here n) (λ next. run next (closes ∷ more))) (end_turns f frames n.frames e)
+end_leads : (f : Frame) (frames : List Frame) (n : Builder) (more : List Symbol) → n.frames ≡ f ∷ frames → run (state n phase.Outside) (opens ∷ ends ∷ closes ∷ more) ≡ run (state (with_end here n) phase.Outside) more
+end_leads f frames n more e = ap (λ (t : Advance). and_then (onward t here n) (λ next. run next (closes ∷ more))) (end_advances f frames n.frames e)
 
 -- an `end` for each that is open
-ends_all : (k : ℕ) (frames : List Frame) (n : Nest) → n.frames ≡ frames → length frames ≤ k → LeadsToEnd (state n mode.Outside)
+ends_all : (k : ℕ) (frames : List Frame) (n : Builder) → n.frames ≡ frames → length frames ≤ k → LeadsToEnd (state n phase.Outside)
 ends_all k [] n e h = ([], n, refl, e)
 ends_all zero (f ∷ frames) n e h = absurd (omega arith)
 ends_all (suc k) (f ∷ frames) n e h =
@@ -109,18 +109,18 @@ ends_all (suc k) (f ∷ frames) n e h =
     (opens ∷ ends ∷ closes ∷ later.0, later.1, end_leads f frames n later.0 e ∙ later.2, later.3)
 
 -- a symbol of a pipe
-reads_on : (n : Nest) (o : Opening) (p : Purpose) (at next : Place) (s : Symbol) (more : List Symbol) → close_end s.kind ≡ None → read n.variables at s ≡ Ok next
-    → run (state n (mode.Inside o (head.Pipe p at))) (s ∷ more) ≡ run (state n (mode.Inside o (head.Pipe p next))) more
+reads_on : (n : Builder) (o : Opening) (p : Purpose) (at next : PipeState) (s : Symbol) (more : List Symbol) → close_end s.kind ≡ None → read n.variables at s ≡ Ok next
+    → run (state n (phase.Inside o (action_state.Pipe p at))) (s ∷ more) ≡ run (state n (phase.Inside o (action_state.Pipe p next))) more
 reads_on n o p at next s more other e =
-    ap (λ (end : Option ℕ). and_then (inside end o (head.Pipe p at) s n) (λ later. run later more)) other
-    ∙ ap (λ (r : Step). and_then (onward (pipe_turn p s.line r) o n) (λ later. run later more)) e
+    ap (λ (end : Option ℕ). and_then (inside end o (action_state.Pipe p at) s n) (λ later. run later more)) other
+    ∙ ap (λ (r : Step). and_then (onward (pipe_advance p s.line r) o n) (λ later. run later more)) e
 
-abbrev done_with : Nest → Opening → Purpose → PipeData → Nest
-done_with n o p q = done (deed.Piped p (record { commands = q })) o 0 n
+abbrev done_with : Builder → Opening → Purpose → PipeData → Builder
+done_with n o p q = done (action_kind.Piped p (record { commands = q })) o 0 n
 
 -- the end of a pipe
-closes_pipe : (n : Nest) (o : Opening) (p : Purpose) (at : Place) (q : PipeData) → finish at ≡ Ok q
-    → run (state n (mode.Inside o (head.Pipe p at))) (closes ∷ []) ≡ Ok (state (done_with n o p q) mode.Outside)
+closes_pipe : (n : Builder) (o : Opening) (p : Purpose) (at : PipeState) (q : PipeData) → finish at ≡ Ok q
+    → run (state n (phase.Inside o (action_state.Pipe p at))) (closes ∷ []) ≡ Ok (state (done_with n o p q) phase.Outside)
 closes_pipe n o p at q e = ap (λ (r : Result PipeData ParseRefused). and_then (after (piped p 1 r) o 0 n) (λ later. run later [])) e
 
 -- after an operand a command may end
@@ -130,25 +130,25 @@ takes_ended o (current.Alone _) = (command_kind.Single o, refl)
 takes_ended o (current.Calls f os) = (_, refl)
 
 -- where a command may end, its pipe may, and those around it
-ends_levels : (n : Nest) (o : Opening) (p : Purpose) (outer : List Level) (l : Level) (c : Command) → ended l.current ≡ Some c → LeadsOut (state n (mode.Inside o (head.Pipe p (place outer l))))
+ends_levels : (n : Builder) (o : Opening) (p : Purpose) (outer : List Level) (l : Level) (c : Command) → ended l.current ≡ Some c → LeadsOut (state n (phase.Inside o (action_state.Pipe p (pipe_state outer l))))
 ends_levels n o p [] l c e =
     let q = commands_onto (c ∷ l.commands) no_commands in
-    (closes ∷ [], done_with n o p q, closes_pipe n o p (place [] l) q (ap (λ (x : Option Command). ended_with x l.commands) e))
+    (closes ∷ [], done_with n o p q, closes_pipe n o p (pipe_state [] l) q (ap (λ (x : Option Command). ended_with x l.commands) e))
 ends_levels n o p (around ∷ outer) l c e =
     let q = commands_onto (c ∷ l.commands) no_commands in
     let x = operand_of (base.Paren (record { commands = q })) [] in
     let next = with_operand x around in
     let d = takes_ended x around.current in
     let later = ends_levels n o p outer next d.0 d.1 in
-    let read_on = reads_on n o p (place (around ∷ outer) l) (place outer next) ends_parenthesis later.0 refl (ap (λ (y : Option Command). closed (ended_with y l.commands) outer around) e) in
+    let read_on = reads_on n o p (pipe_state (around ∷ outer) l) (pipe_state outer next) ends_parenthesis later.0 refl (ap (λ (y : Option Command). closed (ended_with y l.commands) outer around) e) in
     (ends_parenthesis ∷ later.0, later.1, read_on ∙ later.2)
 
 -- so a pipe may end, after an operand at most
-ends_level : (n : Nest) (o : Opening) (p : Purpose) (outer : List Level) (l : Level) (c : Current) → l.current ≡ c → LeadsOut (state n (mode.Inside o (head.Pipe p (place outer l))))
+ends_level : (n : Builder) (o : Opening) (p : Purpose) (outer : List Level) (l : Level) (c : Current) → l.current ≡ c → LeadsOut (state n (phase.Inside o (action_state.Pipe p (pipe_state outer l))))
 ends_level n o p outer l current.Nothing e =
     let next = level l.room l.commands (current.Calls func.Print []) in
     let later = ends_levels n o p outer next (command_kind.Call func.Print no_operands) refl in
-    let read_on = reads_on n o p (place outer l) (place outer next) calls later.0 refl (ap (λ (x : Current). read_function func.Print outer x l) e) in
+    let read_on = reads_on n o p (pipe_state outer l) (pipe_state outer next) calls later.0 refl (ap (λ (x : Current). read_function func.Print outer x l) e) in
     (calls ∷ later.0, later.1, read_on ∙ later.2)
 ends_level n o p outer l (current.Alone x) e = ends_levels n o p outer l (command_kind.Single x) (ap ended e)
 ends_level n o p outer l (current.Calls f os) e = ends_levels n o p outer l (command_kind.Call f (operands_onto os no_operands)) (ap ended e)
@@ -158,40 +158,40 @@ abbrev call : PipeData
 call = commands_onto (command_kind.Call func.Print no_operands ∷ []) no_commands
 
 -- an action may end
-ends_action : (n : Nest) (o : Opening) (h : Head) → LeadsOut (state n (mode.Inside o h))
-ends_action n o head.Start = (calls ∷ closes ∷ [], _, refl)
-ends_action n o (head.Behind b) = (calls ∷ closes ∷ [], _, refl)
-ends_action n o (head.Named b x line) = (declares ∷ calls ∷ closes ∷ [], _, refl)
-ends_action n o (head.Second i) = (is_named ∷ declares ∷ calls ∷ closes ∷ [], _, refl)
-ends_action n o (head.SecondNamed i x line) = (declares ∷ calls ∷ closes ∷ [], _, refl)
-ends_action n o (head.Pipe p at) = ends_level n o p at.outer at.level at.level.current refl
-ends_action n o head.Else = (closes ∷ [], _, refl)
-ends_action n o head.End = (closes ∷ [], _, refl)
-ends_action n o head.Break = (closes ∷ [], _, refl)
-ends_action n o head.Continue = (closes ∷ [], _, refl)
-ends_action n o head.Template = (names ∷ closes ∷ [], _, refl)
-ends_action n o (head.TemplateNamed name) = (closes ∷ [], _, refl)
-ends_action n o (head.Define line) = (names ∷ closes ∷ [], _, refl)
-ends_action n o (head.DefineNamed name line) = (closes ∷ [], _, refl)
-ends_action n o (head.Block line) = (names ∷ calls ∷ closes ∷ [], _, refl)
+ends_action : (n : Builder) (o : Opening) (h : ActionState) → LeadsOut (state n (phase.Inside o h))
+ends_action n o action_state.Start = (calls ∷ closes ∷ [], _, refl)
+ends_action n o (action_state.AfterWord b) = (calls ∷ closes ∷ [], _, refl)
+ends_action n o (action_state.Named b x line) = (declares ∷ calls ∷ closes ∷ [], _, refl)
+ends_action n o (action_state.Second i) = (is_named ∷ declares ∷ calls ∷ closes ∷ [], _, refl)
+ends_action n o (action_state.SecondNamed i x line) = (declares ∷ calls ∷ closes ∷ [], _, refl)
+ends_action n o (action_state.Pipe p at) = ends_level n o p at.outer at.level at.level.current refl
+ends_action n o action_state.Else = (closes ∷ [], _, refl)
+ends_action n o action_state.End = (closes ∷ [], _, refl)
+ends_action n o action_state.Break = (closes ∷ [], _, refl)
+ends_action n o action_state.Continue = (closes ∷ [], _, refl)
+ends_action n o action_state.Template = (names ∷ closes ∷ [], _, refl)
+ends_action n o (action_state.TemplateNamed name) = (closes ∷ [], _, refl)
+ends_action n o (action_state.Define line) = (names ∷ closes ∷ [], _, refl)
+ends_action n o (action_state.DefineNamed name line) = (closes ∷ [], _, refl)
+ends_action n o (action_state.Block line) = (names ∷ calls ∷ closes ∷ [], _, refl)
 
 -- from wherever symbols lead, more lead to the end of a file
-ends_mode : (n : Nest) (m : Mode) → LeadsToEnd (state n m)
-ends_mode n mode.Outside = ends_all (length n.frames) n.frames n refl (omega arith)
-ends_mode n (mode.Inside o h) =
+ends_phase : (n : Builder) (m : Phase) → LeadsToEnd (state n m)
+ends_phase n phase.Outside = ends_all (length n.frames) n.frames n refl (omega arith)
+ends_phase n (phase.Inside o h) =
     let out = ends_action n o h in
     let later = ends_all (length out.1.frames) out.1.frames out.1 refl (omega arith) in
-    (out.0 ++ later.0, later.1, run_more (state n (mode.Inside o h)) (state out.1 mode.Outside) out.0 later.0 out.2 ∙ later.2, later.3)
+    (out.0 ++ later.0, later.1, run_more (state n (phase.Inside o h)) (state out.1 phase.Outside) out.0 later.0 out.2 ∙ later.2, later.3)
 
-pub are_fronts : AreFronts
-are_fronts front at e =
-    let more = ends_mode at.nest at.mode in
-    let body = file_stands (front ++ more.0) (state more.1 mode.Outside) (run_more beginning at front more.0 e ∙ more.2) refl more.3 in
+pub are_prefixes : ArePrefixes
+are_prefixes prefix at e =
+    let more = ends_phase at.builder at.phase in
+    let body = file_stands (prefix ++ more.0) (state more.1 phase.Outside) (run_more beginning at prefix more.0 e ∙ more.2) refl more.3 in
     (more.0, body.0, body.1)
 
 pub refused_is_first : RefusedIsFirst
 refused_is_first symbols why line r = (
-  are_fronts r.before r.at r.leads,
-  λ (longer : IsFront (r.before ++ r.symbol ∷ [])). none_goes_on r.before longer.0 r.symbol r.at why line longer.1 r.leads r.refused
+  are_prefixes r.before r.at r.leads,
+  λ (longer : IsPrefix (r.before ++ r.symbol ∷ [])). none_goes_on r.before longer.0 r.symbol r.at why line longer.1 r.leads r.refused
       (subst (λ (all : List Symbol). IsFileBody longer.1 all) (append_assoc r.before (r.symbol ∷ []) longer.0) longer.2),
 )

@@ -3,20 +3,20 @@ use Rattle.std.proofs.Common.{◌≡◌, ℕ, true, false, List, [], ◌∷◌, 
 use Rattle.tpl_parse.proofs.FilesSay.{file_stands}
 use Rattle.tpl_parse.proofs.FormsLead.{forms_lead, with_forms}
 use Rattle.tpl_parse.specs.Endings.{second_line, with_own, defs_of, checked, finished_in}
-use Rattle.tpl_parse.specs.Files.{all_found, last_line, IsFile, IsOpen, IsStopped, place_of, IsRefused, Answers, GivesFile}
+use Rattle.tpl_parse.specs.Files.{all_found, last_line, IsFile, IsOpen, IsStopped, place_of, IsRefused, ParseFileAnswers, GivesFile}
 use Rattle.tpl_parse.specs.Forms.{Forms}
 use Rattle.tpl_parse.specs.Grammar.{IsFileBody}
-use Rattle.tpl_parse.specs.Nests.{empty_nest}
-use Rattle.tpl_parse.specs.Parsing.{Parsed, end_of, ended_in, ended, parsed, GivesParsed, token_refusal}
+use Rattle.tpl_parse.specs.Building.{empty_builder}
+use Rattle.tpl_parse.specs.Parsing.{Parsed, end_of, ended_in, ended, parsed, ParseTokensAnswers, token_refusal}
 use Rattle.tpl_parse.specs.Steps.{Stepped, state, and_then, step, run, beginning, most_open}
-use Rattle.tpl_parse.specs.Turns.{Refusal}
+use Rattle.tpl_parse.specs.Actions.{Refusal}
 use Rattle.tpl_parse.specs.declared.definition.Def.{Def}
 use Rattle.tpl_parse.specs.declared.definition.File.{File}
 use Rattle.tpl_parse.specs.declared.frame.Frame.{Frame}
-use Rattle.tpl_parse.specs.declared.head.Head.{Head}
-use Rattle.tpl_parse.specs.declared.head.Mode.{Mode}
-use Rattle.tpl_parse.specs.declared.head.Mode.TheVariants as mode
-use Rattle.tpl_parse.specs.declared.head.Opening.{Opening}
+use Rattle.tpl_parse.specs.declared.action.ActionState.{ActionState}
+use Rattle.tpl_parse.specs.Phases.{Phase}
+use Rattle.tpl_parse.specs.Phases as phase
+use Rattle.tpl_parse.specs.declared.action.Opening.{Opening}
 use Rattle.tpl_parse.specs.State.{State}
 use Rattle.tpl_parse.specs.declared.refused.FileRefused.{FileRefused}
 use Rattle.tpl_parse.specs.declared.refused.FileRefused.TheVariants as file_refused
@@ -34,7 +34,7 @@ use Rattle.tpl_token.specs.declared.token.Token.{Token}
 use Rattle.tpl_tree.specs.Trees.{no_nodes}
 
 -- the forms of a file lead to its end
-pub body_leads : (forms : Forms) (symbols : List Symbol) → IsFileBody forms symbols → run beginning symbols ≡ Ok (state (with_forms forms (empty_nest most_open)) mode.Outside)
+pub body_leads : (forms : Forms) (symbols : List Symbol) → IsFileBody forms symbols → run beginning symbols ≡ Ok (state (with_forms forms (empty_builder most_open)) phase.Outside)
 body_leads forms symbols body = forms_lead forms true [] no_nodes [] false most_open true [] symbols [] (λ e. refl) body
 
 pub parsed_of : (name text : List ℕ) (forms : Forms) (symbols : List Symbol) → IsFileBody forms symbols
@@ -65,7 +65,7 @@ as_refused why = Err why
 -- what is found of a refusal
 abbrev FoundAt : State → List Symbol → ParseRefused → ℕ → Type 0
 FoundAt from symbols why line =
-    (before : List Symbol) × (symbol : Symbol) × (behind : List Symbol) × (at : State) × (symbols ≡ before ++ symbol ∷ behind) × (run from before ≡ Ok at) × (step at symbol ≡ Err (why, line))
+    (before : List Symbol) × (symbol : Symbol) × (following : List Symbol) × (at : State) × (symbols ≡ before ++ symbol ∷ following) × (run from before ≡ Ok at) × (step at symbol ≡ Err (why, line))
 
 refused_in : (from : State) (s : Symbol) (symbols : List Symbol) (why : ParseRefused) (line : ℕ) (r : Stepped) → step from s ≡ r → and_then r (λ next. run next symbols) ≡ Err (why, line)
     → ((next : State) → run next symbols ≡ Err (why, line) → FoundAt next symbols why line) → FoundAt from (s ∷ symbols) why line
@@ -90,7 +90,7 @@ pub run_more : (from at : State) (before more : List Symbol) → run from before
 run_more from at [] more e = ap (λ (st : State). run st more) (same_state e)
 run_more from at (s ∷ before) more e = run_in from at s before more (step from s) refl e (λ next h. run_more next at before more h)
 
-inside_no_end : (o : Opening) (h : Head) → mode.Inside o h ≡ mode.Outside → ⊥
+inside_no_end : (o : Opening) (h : ActionState) → phase.Inside o h ≡ phase.Outside → ⊥
 inside_no_end o h e = cc
 
 no_frames : (f : Frame) (frames : List Frame) → f ∷ frames ≡ [] → ⊥
@@ -107,44 +107,44 @@ says_checked : (name text : List ℕ) (symbols : List Symbol) (forms : Forms) (r
 says_checked name text symbols forms None body e = (forms, body, e, refl)
 says_checked name text symbols forms (Some line) body e = inr (inr (refl, record { forms = forms; body = body; second = e }))
 
-says_finished : (name text : List ℕ) (symbols : List Symbol) (at : State) (frames : List Frame) → run beginning symbols ≡ Ok at → at.mode ≡ mode.Outside → at.nest.frames ≡ frames
-    → SaysParsed name text symbols (finished_in frames name (end_of text) at.nest)
+says_finished : (name text : List ℕ) (symbols : List Symbol) (at : State) (frames : List Frame) → run beginning symbols ≡ Ok at → at.phase ≡ phase.Outside → at.builder.frames ≡ frames
+    → SaysParsed name text symbols (finished_in frames name (end_of text) at.builder)
 says_finished name text symbols at (f ∷ frames) e outside none = inr (inl (refl, refl, record { at = at; leads = e; still = inr (λ empty. no_frames f frames (sym none ∙ empty)) }))
 says_finished name text symbols at [] e outside none =
     let stands = file_stands symbols at e outside none in
     subst (λ n. SaysParsed name text symbols (checked (second_line [] (with_own name (end_of text) n)) (with_own name (end_of text) n))) (sym stands.2)
     (says_checked name text symbols stands.0 (second_line [] (all_found name (last_line text) stands.0)) stands.1 refl)
 
-says_ended : (name text : List ℕ) (symbols : List Symbol) (at : State) (m : Mode) → run beginning symbols ≡ Ok at → at.mode ≡ m → SaysParsed name text symbols (ended_in m name (end_of text) at.nest)
-says_ended name text symbols at mode.Outside e same = says_finished name text symbols at at.nest.frames e same refl
-says_ended name text symbols at (mode.Inside o h) e same = inr (inl (refl, refl, record { at = at; leads = e; still = inl (λ outside. inside_no_end o h (sym same ∙ outside)) }))
+says_ended : (name text : List ℕ) (symbols : List Symbol) (at : State) (m : Phase) → run beginning symbols ≡ Ok at → at.phase ≡ m → SaysParsed name text symbols (ended_in m name (end_of text) at.builder)
+says_ended name text symbols at phase.Outside e same = says_finished name text symbols at at.builder.frames e same refl
+says_ended name text symbols at (phase.Inside o h) e same = inr (inl (refl, refl, record { at = at; leads = e; still = inl (λ outside. inside_no_end o h (sym same ∙ outside)) }))
 
 says_run : (name text : List ℕ) (symbols : List Symbol) (r : Stepped) → run beginning symbols ≡ r → SaysParsed name text symbols (ended name (end_of text) r)
-says_run name text symbols (Ok at) e = says_ended name text symbols at at.mode e refl
+says_run name text symbols (Ok at) e = says_ended name text symbols at at.phase e refl
 says_run name text symbols (Err why) e =
     let found = refused_at beginning symbols why.0 why.1 e in
-    inl (record { before = found.0; symbol = found.1; behind = found.2; split = found.4; at = found.3; leads = found.5; refused = found.6 })
+    inl (record { before = found.0; symbol = found.1; following = found.2; split = found.4; at = found.3; leads = found.5; refused = found.6 })
 
 pub says_parsed : (name text : List ℕ) (symbols : List Symbol) → SaysParsed name text symbols (parsed name (end_of text) symbols)
 says_parsed name text symbols = says_run name text symbols (run beginning symbols) refl
 
 -- a file that is refused is refused by computing
-open_ended : (name text : List ℕ) (at : State) (m : Mode) (frames : List Frame) → at.mode ≡ m → at.nest.frames ≡ frames → IsOpen at → ended name (end_of text) (Ok at) ≡ Err (refused.UnclosedBlock, line_of text (length text))
-open_ended name text at (mode.Inside o h) frames m f still = rw m refl
-open_ended name text at mode.Outside (f ∷ frames) m e still = rw (m, e) refl
-open_ended name text at mode.Outside [] m e (inl not) = absurd (not m)
-open_ended name text at mode.Outside [] m e (inr not) = absurd (not e)
+open_ended : (name text : List ℕ) (at : State) (m : Phase) (frames : List Frame) → at.phase ≡ m → at.builder.frames ≡ frames → IsOpen at → ended name (end_of text) (Ok at) ≡ Err (refused.UnclosedBlock, line_of text (length text))
+open_ended name text at (phase.Inside o h) frames m f still = rw m refl
+open_ended name text at phase.Outside (f ∷ frames) m e still = rw (m, e) refl
+open_ended name text at phase.Outside [] m e (inl not) = absurd (not m)
+open_ended name text at phase.Outside [] m e (inr not) = absurd (not e)
 
 pub stopped_parsed : (name text : List ℕ) (symbols : List Symbol) (why : ParseRefused) (line : ℕ) → IsStopped name text symbols why line → parsed name (end_of text) symbols ≡ Err (why, line)
 stopped_parsed name text symbols why line (inl r) =
-    ap (λ xs. parsed name (end_of text) xs) r.split ∙ ap (ended name (end_of text)) (run_more beginning r.at r.before (r.symbol ∷ r.behind) r.leads ∙ ap (λ (x : Stepped). and_then x (λ next. run next r.behind)) r.refused)
+    ap (λ xs. parsed name (end_of text) xs) r.split ∙ ap (ended name (end_of text)) (run_more beginning r.at r.before (r.symbol ∷ r.following) r.leads ∙ ap (λ (x : Stepped). and_then x (λ next. run next r.following)) r.refused)
 stopped_parsed name text symbols why line (inr (inl (is, at_line, u))) =
-    ap (ended name (end_of text)) u.leads ∙ open_ended name text u.at u.at.mode u.at.nest.frames refl refl u.still ∙ ap (λ (w : ParseRefused). as_refused (w, line_of text (length text))) (sym is) ∙ ap (λ (l : ℕ). as_refused (why, l)) (sym at_line)
+    ap (ended name (end_of text)) u.leads ∙ open_ended name text u.at u.at.phase u.at.builder.frames refl refl u.still ∙ ap (λ (w : ParseRefused). as_refused (w, line_of text (length text))) (sym is) ∙ ap (λ (l : ℕ). as_refused (why, l)) (sym at_line)
 stopped_parsed name text symbols why line (inr (inr (is, t))) =
     parsed_of name text t.forms symbols t.body ∙ ap (λ r. checked r (all_found name (last_line text) t.forms)) t.second ∙ ap (λ (w : ParseRefused). as_refused (w, line)) (sym is)
 
 -- what was returned, from the symbols of a text with these tokens
-pub ok_answers : (name text : List ℕ) (list : List Token) (r : Result File FileRefused) → AreTokens text list → GivesParsed r (parsed name (end_of text) (symbols_of text list)) → Answers name text r
+pub ok_answers : (name text : List ℕ) (list : List Token) (r : Result File FileRefused) → AreTokens text list → ParseTokensAnswers r (parsed name (end_of text) (symbols_of text list)) → ParseFileAnswers name text r
 ok_answers name text list (Ok file) are h =
     let says = subst (SaysParsed name text (symbols_of text list)) h (says_parsed name text (symbols_of text list)) in
     record { tokens = list; are_tokens = are; forms = says.0; body = says.1; single = says.2; all = says.3 }
@@ -188,13 +188,13 @@ defs_given defs = Ok defs
 abbrev as_file_refused : Refusal → Result (List Def) FileRefused
 as_file_refused why = Err (file_refused.Parse why.0 why.1)
 
-gives_file : (r : Result File FileRefused) (p : Parsed) (defs : List Def) → GivesParsed r p → p ≡ Ok defs → GivesFile r (Ok defs)
+gives_file : (r : Result File FileRefused) (p : Parsed) (defs : List Def) → ParseTokensAnswers r p → p ≡ Ok defs → GivesFile r (Ok defs)
 gives_file (Ok file) p defs h e = ap (λ (ds : List Def). defs_given ds) (same_defs (sym e ∙ h))
 gives_file (Err (file_refused.Parse why line)) p defs h e = absurd (no_defs (sym e ∙ h))
 gives_file (Err (file_refused.Token why line)) p defs h e = absurd h
 gives_file (Err file_refused.Memory) p defs h e = tt
 
-gives_stop : (r : Result File FileRefused) (p : Parsed) (why : ParseRefused) (line : ℕ) → GivesParsed r p → p ≡ Err (why, line) → GivesFile r (Err (file_refused.Parse why line))
+gives_stop : (r : Result File FileRefused) (p : Parsed) (why : ParseRefused) (line : ℕ) → ParseTokensAnswers r p → p ≡ Err (why, line) → GivesFile r (Err (file_refused.Parse why line))
 gives_stop (Ok file) p why line h e = absurd (no_defs (sym h ∙ e))
 gives_stop (Err (file_refused.Parse other at)) p why line h e = ap (λ (w : Refusal). as_file_refused w) (same_refusal (sym e ∙ h))
 gives_stop (Err (file_refused.Token other at)) p why line h e = absurd h
@@ -208,11 +208,11 @@ file_parsed name text list defs all file =
     ∙ ap (λ r. checked r (all_found name (last_line text) file.forms)) file.single
     ∙ ap (λ (ds : List Def). as_parsed ds) file.all
 
-pub ok_accepted : (name text : List ℕ) (list : List Token) (r : Result File FileRefused) → AreAll text list → GivesParsed r (parsed name (end_of text) (symbols_of text list))
+pub ok_accepted : (name text : List ℕ) (list : List Token) (r : Result File FileRefused) → AreAll text list → ParseTokensAnswers r (parsed name (end_of text) (symbols_of text list))
     → (defs : List Def) → IsFile name text defs → GivesFile r (Ok defs)
 ok_accepted name text list r all h defs file = gives_file r (parsed name (end_of text) (symbols_of text list)) defs h (file_parsed name text list defs all file)
 
-pub ok_refused : (name text : List ℕ) (list : List Token) (r : Result File FileRefused) → AreAll text list → GivesParsed r (parsed name (end_of text) (symbols_of text list))
+pub ok_refused : (name text : List ℕ) (list : List Token) (r : Result File FileRefused) → AreAll text list → ParseTokensAnswers r (parsed name (end_of text) (symbols_of text list))
     → (why : FileRefused) → IsRefused name text why → GivesFile r (Err why)
 ok_refused name text list r all h (file_refused.Token why line) is = absurd (no_tokens (all.1 why is.1))
 ok_refused name text list r all h (file_refused.Parse why line) is =
@@ -222,7 +222,7 @@ ok_refused name text list r all h (file_refused.Parse why line) is =
 ok_refused name text list r all h file_refused.Memory is = absurd is
 
 -- what was returned, where the text has no tokens
-pub err_answers : (name text : List ℕ) (why : TokenRefused) → token_answers.TokensAnswers text (Err why) → Answers name text (Err (token_refusal text why))
+pub err_answers : (name text : List ℕ) (why : TokenRefused) → token_answers.TokensAnswers text (Err why) → ParseFileAnswers name text (Err (token_refusal text why))
 err_answers name text (token_refused.UnclosedAction place) h = (place, h, refl, refl)
 err_answers name text (token_refused.BadCharacter place) h = (place, h, refl, refl)
 err_answers name text (token_refused.UnclosedString place) h = (place, h, refl, refl)

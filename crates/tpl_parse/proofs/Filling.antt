@@ -1,6 +1,6 @@
 -- The definition with a number gets its tree.
 use Rattle.std.proofs.Common.{◌≡◌, ℕ, zero, suc, ◌<◌, ◌≤◌, Bool, List, [], ◌∷◌, length, slice_index_or, slice_set, refl, ap, arith}
-use Rattle.tpl_parse.specs.Nests.{filled, filled_one}
+use Rattle.tpl_parse.specs.Building.{filled, filled_one}
 use Rattle.tpl_parse.specs.declared.definition.Found.{Found}
 use Rattle.tpl_tree.specs.Trees.{TreeData}
 

@@ -5,13 +5,13 @@ use Rattle.tpl_parse.proofs.FormsLead.{with_forms}
 use Rattle.tpl_parse.specs.Endings.{checked}
 use Rattle.tpl_parse.specs.Files.{all_found, last_line, IsFile, place_of, IsRefused}
 use Rattle.tpl_parse.specs.Laws.{HasAnswer, HaveOneTree, NoneGoesOn}
-use Rattle.tpl_parse.specs.Nests.{empty_nest}
+use Rattle.tpl_parse.specs.Building.{empty_builder}
 use Rattle.tpl_parse.specs.Parsing.{Parsed, end_of, parsed}
 use Rattle.tpl_parse.specs.Steps.{Stepped, and_then, run, beginning, most_open}
-use Rattle.tpl_parse.specs.Turns.{Refusal}
+use Rattle.tpl_parse.specs.Actions.{Refusal}
 use Rattle.tpl_parse.specs.declared.definition.Def.{Def}
 use Rattle.tpl_parse.specs.State.{State}
-use Rattle.tpl_parse.specs.declared.nest.Nest.{Nest}
+use Rattle.tpl_parse.specs.declared.builder.Builder.{Builder}
 use Rattle.tpl_parse.specs.declared.refused.FileRefused.{FileRefused}
 use Rattle.tpl_parse.specs.declared.refused.FileRefused.TheVariants as file_refused
 use Rattle.tpl_symbol.specs.Lines.{line_of}
@@ -110,8 +110,8 @@ same_state e = cc
 -- two readings of the same symbols end alike
 pub one_tree : HaveOneTree
 one_tree symbols a b x y =
-    let ends : with_forms a (empty_nest most_open) ≡ with_forms b (empty_nest most_open) = ap (λ (s : State). s.nest) (same_state (sym (body_leads a symbols x) ∙ body_leads b symbols y)) in
-    (ap (λ (n : Nest). n.body) ends, ap (λ (n : Nest). n.blank) ends, ap (λ (n : Nest). n.found) ends)
+    let ends : with_forms a (empty_builder most_open) ≡ with_forms b (empty_builder most_open) = ap (λ (s : State). s.builder) (same_state (sym (body_leads a symbols x) ∙ body_leads b symbols y)) in
+    (ap (λ (n : Builder). n.body) ends, ap (λ (n : Builder). n.blank) ends, ap (λ (n : Builder). n.found) ends)
 
 abbrev as_stop : Refusal → Stepped
 as_stop why = Err why

@@ -3,12 +3,12 @@ use Rattle.std.specs.Prelude.{◌≡◌, ◌≢◌, ◌⊎◌, ℕ, ◌-◌, Lis
 use Rattle.tpl_parse.specs.Endings.{second_line, defs_of}
 use Rattle.tpl_parse.specs.Forms.{Forms, nodes_of, is_blank, found_in}
 use Rattle.tpl_parse.specs.Grammar.{IsFileBody}
-use Rattle.tpl_parse.specs.Nests.{def_of, found_of}
+use Rattle.tpl_parse.specs.Building.{def_of, found_of}
 use Rattle.tpl_parse.specs.Steps.{step, run, beginning}
 use Rattle.tpl_parse.specs.declared.definition.Def.{Def}
 use Rattle.tpl_parse.specs.declared.definition.File.{File}
 use Rattle.tpl_parse.specs.declared.definition.Found.{Found}
-use Rattle.tpl_parse.specs.declared.head.Mode.TheVariants as mode
+use Rattle.tpl_parse.specs.Phases as phase
 use Rattle.tpl_parse.specs.State.{State}
 use Rattle.tpl_parse.specs.declared.refused.FileRefused.{FileRefused}
 use Rattle.tpl_parse.specs.declared.refused.FileRefused.TheVariants as file_refused
@@ -46,15 +46,15 @@ pub record IsFile (name text : List ℕ) (defs : List Def) : Type 0 where
 pub record IsRefusedAt (symbols : List Symbol) (why : ParseRefused) (line : ℕ) : Type 0 where
   pub before : List Symbol
   pub symbol : Symbol
-  pub behind : List Symbol
-  pub split : symbols ≡ before ++ symbol ∷ behind
+  pub following : List Symbol
+  pub split : symbols ≡ before ++ symbol ∷ following
   pub at : State
   pub leads : run beginning before ≡ Ok at
   pub refused : step at symbol ≡ Err (why, line)
 
 -- something is open: a control, a `define`, a `block`, or an action
 abbrev pub IsOpen : State → Type 0
-IsOpen at = (at.mode ≢ mode.Outside) ⊎ (at.nest.frames ≢ [])
+IsOpen at = (at.phase ≢ phase.Outside) ⊎ (at.builder.frames ≢ [])
 
 -- The symbols end, and something is open.
 pub record IsUnclosed (symbols : List Symbol) : Type 0 where
@@ -93,13 +93,21 @@ IsRefused name text (file_refused.Parse why line) = (list : List Token) × AreTo
 IsRefused name text file_refused.Memory = ⊥
 
 -- The definitions of the file, or why it has none. Out of memory may come instead.
-abbrev pub Answers : List ℕ → List ℕ → Result File FileRefused → Type 0
-Answers name text (Ok file) = IsFile name text file.defs
-Answers name text (Err file_refused.Memory) = ⊤
-Answers name text (Err why) = IsRefused name text why
+abbrev pub ParseFileAnswers : List ℕ → List ℕ → Result File FileRefused → Type 0
+ParseFileAnswers name text (Ok file) = IsFile name text file.defs
+ParseFileAnswers name text (Err file_refused.Memory) = ⊤
+ParseFileAnswers name text (Err why) = IsRefused name text why
 
 -- what was returned is this, or memory ran out
 abbrev pub GivesFile : Result File FileRefused → Result (List Def) FileRefused → Type 0
 GivesFile (Ok file) wanted = wanted ≡ Ok file.defs
 GivesFile (Err file_refused.Memory) wanted = ⊤
 GivesFile (Err why) wanted = wanted ≡ Err why
+
+-- a file that has definitions is not refused, and these are given
+abbrev pub AcceptsFile : List ℕ → List ℕ → Result File FileRefused → Type 0
+AcceptsFile name text result = (defs : List Def) → IsFile name text defs → GivesFile result (Ok defs)
+
+-- a file that has a cause to be refused is refused for this one
+abbrev pub RefusesFile : List ℕ → List ℕ → Result File FileRefused → Type 0
+RefusesFile name text result = (why : FileRefused) → IsRefused name text why → GivesFile result (Err why)

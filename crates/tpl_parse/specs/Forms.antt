@@ -1,7 +1,7 @@
 -- What stands in the body of a template file: texts, actions, controls, and definitions.
 use Rattle.std.specs.Prelude.{ℕ, Bool, true, false, ◌&&◌, List, [], ◌∷◌, ◌++◌, Some}
 use Rattle.std.specs.List.{list_all}
-use Rattle.tpl_parse.specs.Nests.{kind_of, def_of, found_of}
+use Rattle.tpl_parse.specs.Building.{kind_of, def_of, found_of}
 use Rattle.tpl_parse.specs.declared.definition.Found.{Found}
 use Rattle.tpl_parse.specs.declared.frame.Control.{Control}
 use Rattle.tpl_symbol.specs.declared.symbol.Seam.{Seam}

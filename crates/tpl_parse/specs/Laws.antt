@@ -5,7 +5,7 @@ use Rattle.tpl_parse.specs.Forms.{Forms, nodes_of, is_blank, found_in}
 use Rattle.tpl_parse.specs.Grammar.{IsFileBody}
 use Rattle.tpl_parse.specs.Steps.{step, run, beginning}
 use Rattle.tpl_parse.specs.declared.definition.Def.{Def}
-use Rattle.tpl_parse.specs.declared.head.Mode.TheVariants as mode
+use Rattle.tpl_parse.specs.Phases as phase
 use Rattle.tpl_parse.specs.State.{State}
 use Rattle.tpl_parse.specs.declared.refused.FileRefused.{FileRefused}
 use Rattle.tpl_pipe.specs.declared.refused.ParseRefused.{ParseRefused}
@@ -37,17 +37,17 @@ abbrev pub HaveOneTree : Type 0
 HaveOneTree = (symbols : List Symbol) (a b : Forms) → IsFileBody a symbols → IsFileBody b symbols → (nodes_of a ≡ nodes_of b) × (is_blank a ≡ is_blank b) × (found_in a ≡ found_in b)
 
 -- Some file begins with these symbols.
-abbrev pub IsFront : List Symbol → Type 0
-IsFront front = (more : List Symbol) × (forms : Forms) × IsFileBody forms (front ++ more)
+abbrev pub IsPrefix : List Symbol → Type 0
+IsPrefix prefix = (more : List Symbol) × (forms : Forms) × IsFileBody forms (prefix ++ more)
 
 -- Symbols that are read without a refusal are the prefix of a file: others that end the action, and an `end` for each thing
 -- that is open, may come after them.
-abbrev pub AreFronts : Type 0
-AreFronts = (front : List Symbol) (at : State) → run beginning front ≡ Ok at → IsFront front
+abbrev pub ArePrefixes : Type 0
+ArePrefixes = (prefix : List Symbol) (at : State) → run beginning prefix ≡ Ok at → IsPrefix prefix
 
 -- The symbol that is refused is the first with which no file goes on.
 abbrev pub RefusedIsFirst : Type 0
-RefusedIsFirst = (symbols : List Symbol) (why : ParseRefused) (line : ℕ) (r : IsRefusedAt symbols why line) → IsFront r.before × (IsFront (r.before ++ r.symbol ∷ []) → ⊥)
+RefusedIsFirst = (symbols : List Symbol) (why : ParseRefused) (line : ℕ) (r : IsRefusedAt symbols why line) → IsPrefix r.before × (IsPrefix (r.before ++ r.symbol ∷ []) → ⊥)
 
 -- a variable on this line
 abbrev pub IsVariableOn : Symbol → ℕ → Type 0
@@ -55,7 +55,7 @@ IsVariableOn s line = (name : List ℕ) × (s.kind ≡ kind.Variable name) × (s
 
 -- the last of these symbols is a variable on this line
 abbrev pub EndsInVariable : List Symbol → ℕ → Type 0
-EndsInVariable symbols line = (front : List Symbol) × (variable : Symbol) × (symbols ≡ front ++ variable ∷ []) × IsVariableOn variable line
+EndsInVariable symbols line = (prefix : List Symbol) × (variable : Symbol) × (symbols ≡ prefix ++ variable ∷ []) × IsVariableOn variable line
 
 -- the line of a refusal: that of the refused symbol, or that of a variable right before it
 abbrev pub IsLineOf : Symbol → List Symbol → ParseRefused → ℕ → Type 0
@@ -73,8 +73,8 @@ NoneGoesOn = (before more : List Symbol) (symbol : Symbol) (at : State) (why : P
 
 -- The symbols of a text end outside actions.
 abbrev pub ActionsEnd : Type 0
-ActionsEnd = (text : List ℕ) (tokens : List Token) (at : State) → AreTokens text tokens → run beginning (symbols_of text tokens) ≡ Ok at → at.mode ≡ mode.Outside
+ActionsEnd = (text : List ℕ) (tokens : List Token) (at : State) → AreTokens text tokens → run beginning (symbols_of text tokens) ≡ Ok at → at.phase ≡ phase.Outside
 
 -- So where they end and something is open, that is a control, a `define` or a `block`.
 abbrev pub UnclosedAreOpen : Type 0
-UnclosedAreOpen = (text : List ℕ) (tokens : List Token) → AreTokens text tokens → (unclosed : IsUnclosed (symbols_of text tokens)) → unclosed.at.nest.frames ≢ []
+UnclosedAreOpen = (text : List ℕ) (tokens : List Token) → AreTokens text tokens → (unclosed : IsUnclosed (symbols_of text tokens)) → unclosed.at.builder.frames ≢ []

@@ -4,8 +4,9 @@ pub mod Forms
 pub mod Gathering
 pub mod Grammar
 pub mod Laws
-pub mod Nests
+pub mod Building
 pub mod Parsing
+pub mod Phases
 pub mod State
 pub mod Steps
-pub mod Turns
+pub mod Actions

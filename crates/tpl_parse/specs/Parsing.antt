@@ -3,12 +3,12 @@ use Rattle.std.specs.Prelude.{◌≡◌, ℕ, List, length, Option, Some, None, 
 use Rattle.tpl_parse.specs.Endings.{finished}
 use Rattle.tpl_parse.specs.Files.{last_line, place_of}
 use Rattle.tpl_parse.specs.Steps.{Stepped, run, beginning}
-use Rattle.tpl_parse.specs.Turns.{Refusal}
+use Rattle.tpl_parse.specs.Actions.{Refusal}
 use Rattle.tpl_parse.specs.declared.definition.Def.{Def}
 use Rattle.tpl_parse.specs.declared.definition.File.{File}
-use Rattle.tpl_parse.specs.declared.head.Mode.{Mode}
-use Rattle.tpl_parse.specs.declared.head.Mode.TheVariants as mode
-use Rattle.tpl_parse.specs.declared.nest.Nest.{Nest}
+use Rattle.tpl_parse.specs.Phases.{Phase}
+use Rattle.tpl_parse.specs.Phases as phase
+use Rattle.tpl_parse.specs.declared.builder.Builder.{Builder}
 use Rattle.tpl_parse.specs.declared.refused.FileRefused.{FileRefused}
 use Rattle.tpl_parse.specs.declared.refused.FileRefused.TheVariants as file_refused
 use Rattle.tpl_pipe.specs.declared.refused.ParseRefused.TheVariants as refused
@@ -27,12 +27,12 @@ abbrev pub end_of : List ℕ → TextEnd
 end_of text = record { at = length text; before = last_line text; line = line_of text (length text) }
 
 -- no action is open at the end, since tokens end each
-abbrev pub ended_in : Mode → List ℕ → TextEnd → Nest → Parsed
-ended_in mode.Outside name end n = finished name end n
-ended_in (mode.Inside o h) name end n = Err (refused.UnclosedBlock, end.line)
+abbrev pub ended_in : Phase → List ℕ → TextEnd → Builder → Parsed
+ended_in phase.Outside name end n = finished name end n
+ended_in (phase.Inside o h) name end n = Err (refused.UnclosedBlock, end.line)
 
 abbrev pub ended : List ℕ → TextEnd → Stepped → Parsed
-ended name end (Ok at) = ended_in at.mode name end at.nest
+ended name end (Ok at) = ended_in at.phase name end at.builder
 ended name end (Err why) = Err why
 
 abbrev pub parsed : List ℕ → TextEnd → List Symbol → Parsed
@@ -43,11 +43,11 @@ abbrev pub parsed_text : List ℕ → List ℕ → List Token → Parsed
 parsed_text name text tokens = parsed name (end_of text) (symbols_of text tokens)
 
 -- what was returned is this, or memory ran out
-abbrev pub GivesParsed : Result File FileRefused → Parsed → Type 0
-GivesParsed (Ok file) wanted = wanted ≡ Ok file.defs
-GivesParsed (Err (file_refused.Parse why line)) wanted = wanted ≡ Err (why, line)
-GivesParsed (Err (file_refused.Token why line)) wanted = ⊥
-GivesParsed (Err file_refused.Memory) wanted = ⊤
+abbrev pub ParseTokensAnswers : Result File FileRefused → Parsed → Type 0
+ParseTokensAnswers (Ok file) wanted = wanted ≡ Ok file.defs
+ParseTokensAnswers (Err (file_refused.Parse why line)) wanted = wanted ≡ Err (why, line)
+ParseTokensAnswers (Err (file_refused.Token why line)) wanted = ⊥
+ParseTokensAnswers (Err file_refused.Memory) wanted = ⊤
 
 -- a refusal of tokens, as one of the file
 abbrev pub refusal_at : Option ℕ → List ℕ → TokenRefused → FileRefused

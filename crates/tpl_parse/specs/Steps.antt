@@ -1,27 +1,28 @@
 -- Reading a file symbol by symbol.
 use Rattle.std.specs.Prelude.{◌≡◌, ℕ, List, [], ◌∷◌, Option, Some, None, Result, Ok, Err, ⊤}
-use Rattle.tpl_parse.specs.Nests.{empty_nest, with_text, with_else, done}
-use Rattle.tpl_parse.specs.Turns.{Refusal, Turn, turn, piped, deed_of}
-use Rattle.tpl_parse.specs.declared.head.Deed.{Deed}
-use Rattle.tpl_parse.specs.declared.head.Head.{Head}
-use Rattle.tpl_parse.specs.declared.head.Head.TheVariants as head
-use Rattle.tpl_parse.specs.declared.head.Mode.{Mode}
-use Rattle.tpl_parse.specs.declared.head.Mode.TheVariants as mode
-use Rattle.tpl_parse.specs.declared.head.Opening.{Opening}
+use Rattle.page_io.specs.Stops.{Answers}
+use Rattle.page_io.specs.declared.stop.Stop.{Stop}
+use Rattle.page_io.specs.declared.stop.Stop.TheVariants as stop
+use Rattle.tpl_parse.specs.Building.{empty_builder, with_text, with_else, done}
+use Rattle.tpl_parse.specs.Actions.{Refusal, Advance, advance, piped, action_kind_of}
+use Rattle.tpl_parse.specs.declared.action.ActionKind.{ActionKind}
+use Rattle.tpl_parse.specs.declared.action.ActionState.{ActionState}
+use Rattle.tpl_parse.specs.declared.action.ActionState.TheVariants as action_state
+use Rattle.tpl_parse.specs.Phases.{Phase}
+use Rattle.tpl_parse.specs.Phases as phase
+use Rattle.tpl_parse.specs.declared.action.Opening.{Opening}
 use Rattle.tpl_parse.specs.State.{State}
-use Rattle.tpl_parse.specs.declared.head.Purpose.{Purpose}
-use Rattle.tpl_parse.specs.declared.nest.Nest.{Nest}
-use Rattle.tpl_parse.specs.declared.refused.ParseStop.{ParseStop}
-use Rattle.tpl_parse.specs.declared.refused.ParseStop.TheVariants as stop
+use Rattle.tpl_parse.specs.declared.action.Purpose.{Purpose}
+use Rattle.tpl_parse.specs.declared.builder.Builder.{Builder}
 use Rattle.tpl_pipe.specs.Reading.{finish}
-use Rattle.tpl_pipe.specs.declared.place.Place.{Place}
+use Rattle.tpl_pipe.specs.declared.pipe_state.PipeState.{PipeState}
 use Rattle.tpl_pipe.specs.declared.refused.ParseRefused.TheVariants as refused
 use Rattle.tpl_symbol.specs.declared.symbol.Symbol.{Symbol}
 use Rattle.tpl_symbol.specs.declared.symbol.SymbolKind.{SymbolKind}
 use Rattle.tpl_symbol.specs.declared.symbol.SymbolKind.TheVariants as kind
 
-abbrev pub state : Nest → Mode → State
-state n m = record { nest = n; mode = m }
+abbrev pub state : Builder → Phase → State
+state n m = record { builder = n; phase = m }
 
 abbrev pub Stepped : Type 0
 Stepped = Result State Refusal
@@ -30,25 +31,25 @@ abbrev pub opening : ℕ → ℕ → ℕ → Opening
 opening line start before = record { line = line; start = start; before = before }
 
 -- outside actions stand texts and the beginnings of actions
-abbrev pub outside : SymbolKind → ℕ → Nest → Stepped
-outside (kind.Text bytes seams) line n = Ok (state (with_text bytes line seams n) mode.Outside)
-outside (kind.Open start before) line n = Ok (state n (mode.Inside (opening line start before) head.Start))
+abbrev pub outside : SymbolKind → ℕ → Builder → Stepped
+outside (kind.Text bytes seams) line n = Ok (state (with_text bytes line seams n) phase.Outside)
+outside (kind.Open start before) line n = Ok (state n (phase.Inside (opening line start before) action_state.Start))
 outside _ line n = Err (refused.UnexpectedToken, line)
 
-abbrev pub outside_by : Symbol → Nest → Stepped
+abbrev pub outside_by : Symbol → Builder → Stepped
 outside_by s n = outside s.kind s.line n
 
-abbrev pub after : Result Deed Refusal → Opening → ℕ → Nest → Stepped
-after (Ok d) o end n = Ok (state (done d o end n) mode.Outside)
+abbrev pub after : Result ActionKind Refusal → Opening → ℕ → Builder → Stepped
+after (Ok d) o end n = Ok (state (done d o end n) phase.Outside)
 after (Err why) o end n = Err why
 
 -- with the word `else` the `else` part begins
-abbrev pub entered : Head → Nest → Nest
-entered head.Else n = with_else n
+abbrev pub entered : ActionState → Builder → Builder
+entered action_state.Else n = with_else n
 entered h n = n
 
-abbrev pub onward : Turn → Opening → Nest → Stepped
-onward (Ok h) o n = Ok (state (entered h n) (mode.Inside o h))
+abbrev pub onward : Advance → Opening → Builder → Stepped
+onward (Ok h) o n = Ok (state (entered h n) (phase.Inside o h))
 onward (Err why) o n = Err why
 
 -- where an action ends, if it ends with this symbol
@@ -56,17 +57,17 @@ abbrev pub close_end : SymbolKind → Option ℕ
 close_end (kind.Close end) = Some end
 close_end _ = None
 
-abbrev pub inside : Option ℕ → Opening → Head → Symbol → Nest → Stepped
-inside (Some end) o h s n = after (deed_of h n s.line) o end n
-inside None o h s n = onward (turn h n s) o n
+abbrev pub inside : Option ℕ → Opening → ActionState → Symbol → Builder → Stepped
+inside (Some end) o h s n = after (action_kind_of h n s.line) o end n
+inside None o h s n = onward (advance h n s) o n
 
-abbrev pub step_in : Mode → Symbol → Nest → Stepped
-step_in mode.Outside s n = outside s.kind s.line n
-step_in (mode.Inside o h) s n = inside (close_end s.kind) o h s n
+abbrev pub step_in : Phase → Symbol → Builder → Stepped
+step_in phase.Outside s n = outside s.kind s.line n
+step_in (phase.Inside o h) s n = inside (close_end s.kind) o h s n
 
 -- where a symbol leads
 abbrev pub step : State → Symbol → Stepped
-step at s = step_in at.mode s at.nest
+step at s = step_in at.phase s at.builder
 
 abbrev pub and_then : Stepped → (State → Stepped) → Stepped
 and_then (Ok next) f = f next
@@ -83,27 +84,25 @@ most_open = 100
 
 -- nothing is read of a file
 abbrev pub beginning : State
-beginning = state (empty_nest most_open) mode.Outside
+beginning = state (empty_builder most_open) phase.Outside
 
 -- what an action does that is read up to here, and ends on this line before this place
-abbrev pub after_head : Head → Opening → ℕ → ℕ → Nest → Stepped
-after_head h o line end n = after (deed_of h n line) o end n
+abbrev pub after_state : ActionState → Opening → ℕ → ℕ → Builder → Stepped
+after_state h o line end n = after (action_kind_of h n line) o end n
 
-abbrev pub after_pipe : Purpose → Place → Opening → ℕ → ℕ → Nest → Stepped
+abbrev pub after_pipe : Purpose → PipeState → Opening → ℕ → ℕ → Builder → Stepped
 after_pipe p at o line end n = after (piped p line (finish at)) o end n
 
 -- what is new is this, or memory ran out
-abbrev pub GivesState : {U : Type 0} → Result U ParseStop → Nest → Mode → Stepped → Type 0
-GivesState (Ok _) n m wanted = wanted ≡ Ok (state n m)
-GivesState (Err (stop.Refused why line)) n m wanted = wanted ≡ Err (why, line)
-GivesState (Err stop.Memory) n m wanted = ⊤
+abbrev pub StepAnswers : {U : Type 0} → Result U (Stop Refusal) → Builder → Phase → Stepped → Type 0
+StepAnswers result n m wanted = Answers (λ _. state n m) result wanted
 
 -- the same outside actions
-abbrev pub Leaves : {U : Type 0} → Result U ParseStop → Nest → Stepped → Type 0
-Leaves result n wanted = GivesState result n mode.Outside wanted
+abbrev pub EndActionAnswers : {U : Type 0} → Result U (Stop Refusal) → Builder → Stepped → Type 0
+EndActionAnswers result n wanted = StepAnswers result n phase.Outside wanted
 
--- the same in an action, which began in this nest
-abbrev pub GivesHead : {U : Type 0} → Result U ParseStop → Nest → Head → Turn → Nest → Type 0
-GivesHead (Ok _) n h wanted old = (wanted ≡ Ok h) × (n ≡ entered h old)
-GivesHead (Err (stop.Refused why line)) n h wanted old = wanted ≡ Err (why, line)
-GivesHead (Err stop.Memory) n h wanted old = ⊤
+-- the same in an action, before which this was built
+abbrev pub InActionAnswers : {U : Type 0} → Result U (Stop Refusal) → Builder → ActionState → Advance → Builder → Type 0
+InActionAnswers (Ok _) n h wanted old = (wanted ≡ Ok h) × (n ≡ entered h old)
+InActionAnswers (Err (stop.Cause why)) n h wanted old = wanted ≡ Err why
+InActionAnswers (Err stop.Memory) n h wanted old = ⊤

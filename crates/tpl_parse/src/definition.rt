@@ -20,7 +20,7 @@ pub struct Def {
 }
 
 /// A definition, and the line of its word `define` or `block`, which is 1 for the file's own body.
-#[derive(Debug, Drop)]
+#[derive(Drop)]
 pub struct Found {
     pub def: Def,
     pub line: u32,

@@ -3,7 +3,7 @@ use tpl_pipe::Variables;
 use tpl_tree::{Body, Pipe};
 
 /// A control, without its pipe: its word, and its variables.
-#[derive(Debug, Drop)]
+#[derive(Drop)]
 pub enum Control {
     /// `if`
     If(Option<Text>),
@@ -14,7 +14,7 @@ pub enum Control {
 }
 
 /// What stands around a control.
-#[derive(Clone, Copy, Debug, PartialEq, Eq)]
+#[derive(Clone, Copy)]
 pub struct Around {
     /// How many variables are declared before it in the same body.
     pub variables: usize,
@@ -25,7 +25,7 @@ pub struct Around {
 }
 
 /// A control that is open.
-#[derive(Debug, Drop)]
+#[derive(Drop)]
 pub struct OpenControl {
     pub control: Control,
     pub pipe: Pipe,
@@ -41,7 +41,7 @@ pub struct OpenControl {
 }
 
 /// A `define` or `block` that is open.
-#[derive(Debug, Drop)]
+#[derive(Drop)]
 pub struct OpenDefinition {
     /// The number of its definition.
     pub slot: usize,
@@ -58,7 +58,7 @@ pub struct OpenDefinition {
 }
 
 /// What is open.
-#[derive(Debug, Drop)]
+#[derive(Drop)]
 pub enum Frame {
     Control(OpenControl),
     Definition(OpenDefinition),

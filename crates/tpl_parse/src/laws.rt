@@ -1,5 +1,7 @@
 ghost use Rattle.std.specs.Prelude.{ℕ, List};
-ghost use Rattle.tpl_parse.specs.Laws.{ActionsEnd, AreFronts, HasAnswer, HaveNotBoth, HaveOneList, HaveOneRefusal, HaveOneTree, NoneGoesOn, RefusedHasItsLine, RefusedIsFirst, UnclosedAreOpen};
+ghost use Rattle.tpl_parse.specs.Laws.{ActionsEnd, ArePrefixes, HasAnswer, HaveNotBoth};
+ghost use Rattle.tpl_parse.specs.Laws.{HaveOneList, HaveOneRefusal, HaveOneTree, NoneGoesOn};
+ghost use Rattle.tpl_parse.specs.Laws.{RefusedHasItsLine, RefusedIsFirst, UnclosedAreOpen};
 
 /// A law, which takes no time: every file has exactly one answer, its definitions or a refusal; its symbols have at most one
 /// tree; the symbol that is refused is the first with which no file goes on; and a file ends outside actions, so that where
@@ -11,7 +13,7 @@ pub fn one_file()
     ensures not_both { HaveNotBoth }
     ensures tree { HaveOneTree }
     ensures none { NoneGoesOn }
-    ensures fronts { AreFronts }
+    ensures prefixes { ArePrefixes }
     ensures first { RefusedIsFirst }
     ensures lines { RefusedHasItsLine }
     ensures ends { ActionsEnd }

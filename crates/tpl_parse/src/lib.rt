@@ -1,18 +1,18 @@
 // The parser of template files.
 #![tactic(auto)]
 
-mod deed;
+mod action;
+mod action_end;
+mod builder;
 mod definition;
-mod finish;
+mod ending;
 mod frame;
 mod gathering;
-mod head;
 mod laws;
-mod nest;
 mod parse;
+mod reader;
 mod refused;
-mod step;
-mod turn;
+mod transition;
 
 pub use definition::{Def, File};
 pub use gathering::gather;

@@ -1,19 +1,20 @@
-ghost use Rattle.std.specs.Prelude.{◌≡◌, ◌≤◌, All, List, Ok, Err, length};
-ghost use Rattle.tpl_parse.specs.Files.{Answers, GivesFile, IsFile, IsRefused, place_of as place_in};
-ghost use Rattle.tpl_parse.specs.Parsing.{GivesParsed, end_of as end_of_text, parsed, parsed_text, token_refusal as token_refusal_of};
-ghost use Rattle.tpl_parse.specs.Turns.{Gives};
-ghost use Rattle.tpl_parse.specs.declared.definition.Def.{Def};
-ghost use Rattle.tpl_symbol.specs.Symbols.{IsFine, symbols_of};
+ghost use Rattle.std.specs.Prelude.{◌≡◌, ◌≤◌, All, length};
+ghost use Rattle.tpl_parse.specs.Files.{AcceptsFile, ParseFileAnswers, RefusesFile};
+ghost use Rattle.tpl_parse.specs.Files.{place_of as place_in};
+ghost use Rattle.tpl_parse.specs.Parsing.{ParseTokensAnswers, end_of as end_of_text, parsed};
+ghost use Rattle.tpl_parse.specs.Parsing.{parsed_text, token_refusal as token_refusal_of};
+ghost use Rattle.tpl_parse.specs.Actions.{Answers};
+ghost use Rattle.tpl_symbol.specs.Symbols.{IsFine};
 ghost use Rattle.tpl_token.specs.Answers.{max_text};
 ghost use Rattle.tpl_token.specs.Spans.{AreCuts, Ascend, IsCutAt};
 
+use crate::action::{ActionState, Position};
+use crate::builder::empty_builder;
 use crate::definition::{Def, File};
-use crate::finish::finish;
-use crate::head::Mode;
-use crate::nest::empty_nest;
-use crate::refused::{FileRefused, ParseStop};
-use crate::step::{ROOM, run_symbols};
-use page_io::{List, Memory};
+use crate::ending::finish;
+use crate::reader::{ROOM, run_symbols};
+use crate::refused::{FileRefused, Refusal};
+use page_io::{List, Memory, Stop};
 use std::alloc::Global;
 use tpl_pipe::ParseRefused;
 use tpl_symbol::{Symbol, TextEnd, line_of, symbols, text_end};
@@ -26,11 +27,11 @@ use tpl_token::{Token, TokenRefused, tokens};
 pub fn parse_file(alloc: Global, name: &str, text: &str) -> Result<File, FileRefused>
     requires limit { length text.now ≤ max_text }
     // The answer is the file's.
-    ensures answers { Answers name.now text.now result }
+    ensures answers { ParseFileAnswers name.now text.now result }
     // A file that has definitions is not refused, and these are the definitions.
-    ensures accepted { (defs : List Def) → IsFile name.now text.now defs → GivesFile result (Ok defs) }
+    ensures accepted { AcceptsFile name.now text.now result }
     // A file that is refused is refused for this cause.
-    ensures refused { (why : FileRefused) → IsRefused name.now text.now why → GivesFile result (Err why) }
+    ensures refused { RefusesFile name.now text.now result }
 {
     match tokens(alloc, text) {
         Ok(tokens) => parse_tokens(alloc, name, text, tokens.as_slice()),
@@ -76,15 +77,15 @@ fn parse_tokens(
     requires limit { length text.now ≤ max_text }
     requires spans { Ascend 0 (length text.now) tokens.now }
     requires cuts { AreCuts text.now tokens.now }
-    ensures { GivesParsed result (parsed_text name.now text.now tokens.now) }
+    ensures { ParseTokensAnswers result (parsed_text name.now text.now tokens.now) }
 {
     let Ok(symbols) = symbols(alloc, text, tokens) else {
         return Err(FileRefused::Memory);
     };
     match parse_symbols(alloc, name, symbols.as_slice(), end_of(text)) {
         Ok(defs) => Ok(File { defs }),
-        Err(ParseStop::Refused(why, line)) => Err(FileRefused::Parse(why, line)),
-        Err(ParseStop::Memory) => Err(FileRefused::Memory),
+        Err(Stop::Cause((why, line))) => Err(FileRefused::Parse(why, line)),
+        Err(Stop::Memory) => Err(FileRefused::Memory),
     }
 }
 
@@ -102,16 +103,17 @@ fn parse_symbols(
     name: &str,
     symbols: &[Symbol],
     end: TextEnd,
-) -> Result<List<Def>, ParseStop>
+) -> Result<List<Def>, Stop<Refusal>>
     requires { All IsFine symbols.now }
-    ensures { Gives result (parsed name.now end symbols.now) }
+    ensures { Answers result (parsed name.now end symbols.now) }
 {
-    let mut nest = empty_nest(alloc, ROOM);
-    let mut mode = Mode::Outside;
-    match run_symbols(alloc, &mut nest, &mut mode, symbols) {
-        Ok(()) => match mode {
-            Mode::Outside => finish(alloc, nest, name, end),
-            Mode::Inside(_, _) => Err(ParseStop::Refused(ParseRefused::UnclosedBlock, end.line)),
+    let mut builder = empty_builder(alloc, ROOM);
+    let mut position = Position::Outside;
+    let mut action = ActionState::Start;
+    match run_symbols(alloc, &mut builder, &mut position, &mut action, symbols) {
+        Ok(()) => match position {
+            Position::Outside => finish(alloc, builder, name, end),
+            Position::Inside(_) => Err(Stop::Cause((ParseRefused::UnclosedBlock, end.line))),
         },
         Err(stop) => Err(stop),
     }

@@ -1,5 +1,4 @@
-use page_io::Memory;
-use tpl_pipe::{ParseRefused, PipeStop};
+use tpl_pipe::ParseRefused;
 use tpl_token::TokenRefused;
 
 /// Why a template file is not read. The lines are counted from 1.
@@ -15,22 +14,5 @@ pub enum FileRefused {
     Memory,
 }
 
-/// Why parsing stops.
-#[derive(Clone, Copy, Debug, PartialEq, Eq, Drop)]
-pub enum ParseStop {
-    /// A symbol is refused, and its line.
-    Refused(ParseRefused, u32),
-    /// Out of memory.
-    Memory,
-}
-
-impl From<Memory> for ParseStop {
-    ghost use Rattle.std.specs.Prelude.{◌≡◌};
-    ghost use Rattle.tpl_parse.specs.declared.refused.ParseStop.TheVariants as stop;
-
-    ghost from_gives = { λ _ e. e ≡ stop.Memory };
-
-    fn from(_memory: Memory) -> ParseStop {
-        ParseStop::Memory
-    }
-}
+/// Why a symbol is refused, and its line.
+pub type Refusal = (ParseRefused, u32);

@@ -4,12 +4,12 @@ use Rattle.std.specs.Prelude.{⊤}
 use Rattle.tpl_token.proofs.Marks.{either}
 use Rattle.tpl_pipe.specs.Grammar.{Stands, Touching, AreFields, IsNil, IsPipe, AreCalls, AreOperands, IsOperand, IsBase}
 use Rattle.tpl_pipe.specs.Levels.{level, fresh, operand_of, operands_onto, commands_onto, ended, ended_pipe, may_take, takes_operand, take_into, with_operand, takes_field, last_takes, base_takes}
-use Rattle.tpl_pipe.specs.Reading.{place, read, read_kind}
+use Rattle.tpl_pipe.specs.Reading.{pipe_state, read, read_kind}
 use Rattle.tpl_pipe.specs.Runs.{is_close, read_pipe}
-use Rattle.tpl_pipe.specs.declared.place.Current.{Current}
-use Rattle.tpl_pipe.specs.declared.place.Current.TheVariants as current
-use Rattle.tpl_pipe.specs.declared.place.Level.{Level}
-use Rattle.tpl_pipe.specs.declared.place.Place.{Place}
+use Rattle.tpl_pipe.specs.declared.pipe_state.Current.{Current}
+use Rattle.tpl_pipe.specs.declared.pipe_state.Current.TheVariants as current
+use Rattle.tpl_pipe.specs.declared.pipe_state.Level.{Level}
+use Rattle.tpl_pipe.specs.declared.pipe_state.PipeState.{PipeState}
 use Rattle.tpl_symbol.specs.declared.func.Func.{Func}
 use Rattle.tpl_symbol.specs.declared.symbol.Symbol.{Symbol}
 use Rattle.tpl_symbol.specs.declared.symbol.SymbolKind.{SymbolKind}
@@ -52,11 +52,11 @@ fill lone o = current.Alone o
 fill (called f os) o = current.Calls f (o ∷ os)
 
 -- one symbol more
-reads_on : (variables : List (List ℕ)) (at next : Place) (s : Symbol) (symbols : List Symbol) → is_close s.kind ≡ false → read variables at s ≡ Ok next
+reads_on : (variables : List (List ℕ)) (at next : PipeState) (s : Symbol) (symbols : List Symbol) → is_close s.kind ≡ false → read variables at s ≡ Ok next
     → read_pipe variables at (s ∷ symbols) ≡ read_pipe variables next symbols
 reads_on variables at next s symbols inner e = rw (inner, e) refl
 
-pub stands_leads : (variables : List (List ℕ)) (at next : Place) (what : SymbolKind) (symbols rest : List Symbol) → Stands what symbols rest → is_close what ≡ false
+pub stands_leads : (variables : List (List ℕ)) (at next : PipeState) (what : SymbolKind) (symbols rest : List Symbol) → Stands what symbols rest → is_close what ≡ false
     → ((touches : Bool) → read_kind what touches variables at.outer at.level ≡ Ok next) → read_pipe variables at symbols ≡ read_pipe variables next rest
 stands_leads variables at next what [] rest h inner e = absurd h
 stands_leads variables at next what (s ∷ symbols) rest h inner e =
@@ -76,27 +76,27 @@ takes_more base.Nil fields name e = absurd (true≢false (sym e))
 -- where the last operand takes a field, one that touches it is read into it
 field_read : (variables : List (List ℕ)) (outer : List Level) (room : ℕ) (cs : List Command) (slot : Slot) (b : Base) (fields : List (List ℕ)) (name : List ℕ)
     → base_takes b fields ≡ true
-    → read_kind (kind.Field name) true variables outer (level room cs (fill slot (operand_of b fields))) ≡ Ok (place outer (level room cs (fill slot (operand_of b (fields ++ name ∷ [])))))
+    → read_kind (kind.Field name) true variables outer (level room cs (fill slot (operand_of b fields))) ≡ Ok (pipe_state outer (level room cs (fill slot (operand_of b (fields ++ name ∷ [])))))
 field_read variables outer room cs lone b fields name e = rw e refl
 field_read variables outer room cs (called f os) b fields name e = rw e refl
 
 fields_lead : (variables : List (List ℕ)) (outer : List Level) (room : ℕ) (cs : List Command) (slot : Slot) (b : Base) (fields names : List (List ℕ)) (symbols rest : List Symbol)
     → base_takes b fields ≡ true → AreFields names symbols rest
-    → read_pipe variables (place outer (level room cs (fill slot (operand_of b fields)))) symbols ≡ read_pipe variables (place outer (level room cs (fill slot (operand_of b (fields ++ names))))) rest
+    → read_pipe variables (pipe_state outer (level room cs (fill slot (operand_of b fields)))) symbols ≡ read_pipe variables (pipe_state outer (level room cs (fill slot (operand_of b (fields ++ names))))) rest
 fields_lead variables outer room cs slot b fields [] symbols rest e h =
-    ap (read_pipe variables (place outer (level room cs (fill slot (operand_of b fields))))) h.0
-    ∙ ap (λ (fs : List (List ℕ)). read_pipe variables (place outer (level room cs (fill slot (operand_of b fs)))) rest) (sym (append-nil fields))
+    ap (read_pipe variables (pipe_state outer (level room cs (fill slot (operand_of b fields))))) h.0
+    ∙ ap (λ (fs : List (List ℕ)). read_pipe variables (pipe_state outer (level room cs (fill slot (operand_of b fs)))) rest) (sym (append-nil fields))
 fields_lead variables outer room cs slot b fields (name ∷ names) [] rest e h = absurd h.1
 fields_lead variables outer room cs slot b fields (name ∷ names) (s ∷ symbols) rest e h =
-    let at = place outer (level room cs (fill slot (operand_of b fields))) in
-    let next = place outer (level room cs (fill slot (operand_of b (fields ++ name ∷ [])))) in
+    let at = pipe_state outer (level room cs (fill slot (operand_of b fields))) in
+    let next = pipe_state outer (level room cs (fill slot (operand_of b (fields ++ name ∷ [])))) in
     let kind_is : s.kind ≡ kind.Field name = h.1.0 in
     let touches : s.touches ≡ true = h.1.1 in
     let taken : read variables at s ≡ Ok next = ap (λ k. read_kind k s.touches variables outer at.level) kind_is ∙ ap (λ t. read_kind (kind.Field name) t variables outer at.level) touches ∙ field_read variables outer room cs slot b fields name e in
     reads_on variables at next s symbols (ap is_close kind_is) taken
     ∙ ap (read_pipe variables next) h.1.2
     ∙ fields_lead variables outer room cs slot b (fields ++ name ∷ []) names h.0 rest (takes_more b fields name e) h.2
-    ∙ ap (λ (fs : List (List ℕ)). read_pipe variables (place outer (level room cs (fill slot (operand_of b fs)))) rest) (append_assoc fields (name ∷ []) names)
+    ∙ ap (λ (fs : List (List ℕ)). read_pipe variables (pipe_state outer (level room cs (fill slot (operand_of b fs)))) rest) (append_assoc fields (name ∷ []) names)
 
 -- an operand may come where nothing stands, or after a function, and there it is the last one
 abbrev pub slot_of : Current → Slot
@@ -124,30 +124,30 @@ from_back (with_fields b fields) = ap (λ b. with_fields b fields) (base_back b)
 -- an operand that has no fields
 plain_leads : (variables : List (List ℕ)) (outer : List Level) (l : Level) (b : BaseData) (what : SymbolKind) (symbols rest : List Symbol)
     → Stands what symbols rest → is_close what ≡ false
-    → ((touches : Bool) → read_kind what touches variables outer l ≡ Ok (place outer (with_operand (operand_of (base_from b) []) l)))
-    → read_pipe variables (place outer l) symbols ≡ read_pipe variables (place outer (with_operand (from_data (with_fields b [])) l)) rest
-plain_leads variables outer l b what symbols rest h inner e = stands_leads variables (place outer l) (place outer (with_operand (operand_of (base_from b) []) l)) what symbols rest h inner e
+    → ((touches : Bool) → read_kind what touches variables outer l ≡ Ok (pipe_state outer (with_operand (operand_of (base_from b) []) l)))
+    → read_pipe variables (pipe_state outer l) symbols ≡ read_pipe variables (pipe_state outer (with_operand (from_data (with_fields b [])) l)) rest
+plain_leads variables outer l b what symbols rest h inner e = stands_leads variables (pipe_state outer l) (pipe_state outer (with_operand (operand_of (base_from b) []) l)) what symbols rest h inner e
 
 -- an operand whose base takes fields, and these
 base_leads : (variables : List (List ℕ)) (outer : List Level) (l : Level) (b : Base) (fields names : List (List ℕ)) (symbols rest : List Symbol)
     → base_takes b fields ≡ true → AreFields names symbols rest
-    → read_pipe variables (place outer (with_operand (operand_of b fields) l)) symbols ≡ read_pipe variables (place outer (with_operand (operand_of b (fields ++ names)) l)) rest
+    → read_pipe variables (pipe_state outer (with_operand (operand_of b fields) l)) symbols ≡ read_pipe variables (pipe_state outer (with_operand (operand_of b (fields ++ names)) l)) rest
 base_leads variables outer l b fields names symbols rest e h =
-    ap (λ now. read_pipe variables (place outer (level l.room l.commands now)) symbols) (filled (operand_of b fields) l.current)
+    ap (λ now. read_pipe variables (pipe_state outer (level l.room l.commands now)) symbols) (filled (operand_of b fields) l.current)
     ∙ fields_lead variables outer l.room l.commands (slot_of l.current) b fields names symbols rest e h
-    ∙ ap (λ now. read_pipe variables (place outer (level l.room l.commands now)) rest) (sym (filled (operand_of b (fields ++ names)) l.current))
+    ∙ ap (λ now. read_pipe variables (pipe_state outer (level l.room l.commands now)) rest) (sym (filled (operand_of b (fields ++ names)) l.current))
 
 -- where a parenthesis ends, its pipe is an operand
 abbrev pub Led : List (List ℕ) → List Level → Level → List Symbol → List Symbol → PipeData → Type 0
 Led variables outer l symbols rest p =
-    (last : Level) × (read_pipe variables (place outer l) symbols ≡ read_pipe variables (place outer last) rest) × (ended_pipe last ≡ Ok p)
+    (last : Level) × (read_pipe variables (pipe_state outer l) symbols ≡ read_pipe variables (pipe_state outer last) rest) × (ended_pipe last ≡ Ok p)
 
 right_read : (variables : List (List ℕ)) (outer : List Level) (l last : Level) (p : PipeData) (touches : Bool) → ended_pipe last ≡ Ok p
-    → read_kind kind.Right touches variables (l ∷ outer) last ≡ Ok (place outer (with_operand (operand_of (base.Paren (record { commands = p })) []) l))
+    → read_kind kind.Right touches variables (l ∷ outer) last ≡ Ok (pipe_state outer (with_operand (operand_of (base.Paren (record { commands = p })) []) l))
 right_read variables outer l last p touches e = rw e refl
 
 nil_read : (variables : List (List ℕ)) (outer : List Level) (room : ℕ) (cs : List Command) (now : Current) (touches : Bool) → may_take now cs ≡ true → May (with_fields nil []) now
-    → read_kind (kind.Word word.Nil) touches variables outer (level room cs now) ≡ Ok (place outer (with_operand (operand_of base.Nil []) (level room cs now)))
+    → read_kind (kind.Word word.Nil) touches variables outer (level room cs now) ≡ Ok (pipe_state outer (with_operand (operand_of base.Nil []) (level room cs now)))
 nil_read variables outer room cs current.Nothing touches e may = absurd (may tt)
 nil_read variables outer room cs (current.Alone _) touches e may = absurd (true≢false (sym e))
 nil_read variables outer room cs (current.Calls f os) touches e may = refl
@@ -174,24 +174,24 @@ operand_clear variables (suc room) (paren p) fields symbols rest h e = fields_cl
 
 -- a field that no operand before takes is an operand of its own
 own_field : (variables : List (List ℕ)) (outer : List Level) (l : Level) (name : List ℕ) (touches : Bool) → takes_operand l ≡ true → (touches ≡ true → last_takes l.current ≡ true → ⊥)
-    → read_kind (kind.Field name) touches variables outer l ≡ Ok (place outer (with_operand (operand_of base.Dot (name ∷ [])) l))
+    → read_kind (kind.Field name) touches variables outer l ≡ Ok (pipe_state outer (with_operand (operand_of base.Dot (name ∷ [])) l))
 own_field variables outer l name false e clear = rw e refl
 own_field variables outer l name true e clear = either (last_takes l.current) (λ t. absurd (clear refl t)) (λ f. rw (f, e) refl)
 
-field_starts : (variables : List (List ℕ)) (outer : List Level) (l : Level) (name : List ℕ) (names : List (List ℕ)) (symbols behind rest : List Symbol) → takes_operand l ≡ true → Clear l.current symbols
-    → Stands (kind.Field name) symbols behind → AreFields names behind rest
-    → read_pipe variables (place outer l) symbols ≡ read_pipe variables (place outer (with_operand (operand_of base.Dot (name ∷ names)) l)) rest
-field_starts variables outer l name names [] behind rest e clear h fields = absurd h
-field_starts variables outer l name names (s ∷ symbols) behind rest e clear h fields =
-    let taken : read variables (place outer l) s ≡ Ok (place outer (with_operand (operand_of base.Dot (name ∷ [])) l)) =
+field_starts : (variables : List (List ℕ)) (outer : List Level) (l : Level) (name : List ℕ) (names : List (List ℕ)) (symbols following rest : List Symbol) → takes_operand l ≡ true → Clear l.current symbols
+    → Stands (kind.Field name) symbols following → AreFields names following rest
+    → read_pipe variables (pipe_state outer l) symbols ≡ read_pipe variables (pipe_state outer (with_operand (operand_of base.Dot (name ∷ names)) l)) rest
+field_starts variables outer l name names [] following rest e clear h fields = absurd h
+field_starts variables outer l name names (s ∷ symbols) following rest e clear h fields =
+    let taken : read variables (pipe_state outer l) s ≡ Ok (pipe_state outer (with_operand (operand_of base.Dot (name ∷ [])) l)) =
     ap (λ k. read_kind k s.touches variables outer l) h.0 ∙ own_field variables outer l name s.touches e (λ t last. clear last name symbols (h.0, t, refl)) in
-    reads_on variables (place outer l) (place outer (with_operand (operand_of base.Dot (name ∷ [])) l)) s symbols (ap is_close h.0) taken
-    ∙ ap (read_pipe variables (place outer (with_operand (operand_of base.Dot (name ∷ [])) l))) h.1
-    ∙ base_leads variables outer l base.Dot (name ∷ []) names behind rest refl fields
+    reads_on variables (pipe_state outer l) (pipe_state outer (with_operand (operand_of base.Dot (name ∷ [])) l)) s symbols (ap is_close h.0) taken
+    ∙ ap (read_pipe variables (pipe_state outer (with_operand (operand_of base.Dot (name ∷ [])) l))) h.1
+    ∙ base_leads variables outer l base.Dot (name ∷ []) names following rest refl fields
 
 -- room for a parenthesis
 left_read : (variables : List (List ℕ)) (outer : List Level) (room : ℕ) (cs : List Command) (now : Current) (touches : Bool) → may_take now cs ≡ true
-    → read_kind kind.Left touches variables outer (level (suc room) cs now) ≡ Ok (place (level (suc room) cs now ∷ outer) (fresh room))
+    → read_kind kind.Left touches variables outer (level (suc room) cs now) ≡ Ok (pipe_state (level (suc room) cs now ∷ outer) (fresh room))
 left_read variables outer room cs now touches e = rw e refl
 
 operand_done : (variables : List (List ℕ)) (room : ℕ) (o : OperandData) (symbols rest : List Symbol) → IsOperand variables room o symbols rest
@@ -206,27 +206,27 @@ mutual
       let later = calls_lead variables outer room [] (current.Alone (from_data o)) (command_kind.Single (from_data o)) more h.0 rest refl h.2 in
       (later.0, first ∙ later.1, later.2 ∙ ap (λ o. Ok (command (single o) more)) (from_back o))
   pipe_leads variables outer room (command (call f os) more) symbols rest h =
-      let start = stands_leads variables (place outer (fresh room)) (place outer (level room [] (current.Calls f []))) (kind.Function f) symbols h.1.0 h.1.1 refl (λ touches. refl) in
+      let start = stands_leads variables (pipe_state outer (fresh room)) (pipe_state outer (level room [] (current.Calls f []))) (kind.Function f) symbols h.1.0 h.1.1 refl (λ touches. refl) in
       let given = operands_lead variables outer room [] f [] os h.1.0 h.0 (λ never. absurd (true≢false (sym never))) h.1.2 in
       let later = calls_lead variables outer room [] (current.Calls f given.0) (command_kind.Call f (operands_onto given.0 no_operands)) more h.0 rest refl h.2 in
       (later.0, start ∙ given.1 ∙ later.1, later.2 ∙ ap (λ os. Ok (command (call f os) more)) given.2)
 
   calls_lead : (variables : List (List ℕ)) (outer : List Level) (room : ℕ) (cs : List Command) (now : Current) (c : Command) (more : PipeData) (symbols rest : List Symbol)
       → ended now ≡ Some c → AreCalls variables room more symbols rest
-      → (last : Level) × (read_pipe variables (place outer (level room cs now)) symbols ≡ read_pipe variables (place outer last) rest) × (ended_pipe last ≡ Ok (commands_onto (c ∷ cs) more))
-  calls_lead variables outer room cs now c no_commands symbols rest e h = (level room cs now, ap (read_pipe variables (place outer (level room cs now))) h, rw e refl)
+      → (last : Level) × (read_pipe variables (pipe_state outer (level room cs now)) symbols ≡ read_pipe variables (pipe_state outer last) rest) × (ended_pipe last ≡ Ok (commands_onto (c ∷ cs) more))
+  calls_lead variables outer room cs now c no_commands symbols rest e h = (level room cs now, ap (read_pipe variables (pipe_state outer (level room cs now))) h, rw e refl)
   calls_lead variables outer room cs now c (command (single o) more) symbols rest e h = absurd h.3
   calls_lead variables outer room cs now c (command (call f os) more) symbols rest e h =
-      let bar = stands_leads variables (place outer (level room cs now)) (place outer (level room (c ∷ cs) current.Nothing)) kind.Bar symbols h.0 h.2 refl (λ touches. rw e refl) in
-      let start = stands_leads variables (place outer (level room (c ∷ cs) current.Nothing)) (place outer (level room (c ∷ cs) (current.Calls f []))) (kind.Function f) h.0 h.3.0 h.3.1 refl (λ touches. refl) in
+      let bar = stands_leads variables (pipe_state outer (level room cs now)) (pipe_state outer (level room (c ∷ cs) current.Nothing)) kind.Bar symbols h.0 h.2 refl (λ touches. rw e refl) in
+      let start = stands_leads variables (pipe_state outer (level room (c ∷ cs) current.Nothing)) (pipe_state outer (level room (c ∷ cs) (current.Calls f []))) (kind.Function f) h.0 h.3.0 h.3.1 refl (λ touches. refl) in
       let given = operands_lead variables outer room (c ∷ cs) f [] os h.3.0 h.1 (λ never. absurd (true≢false (sym never))) h.3.2 in
       let later = calls_lead variables outer room (c ∷ cs) (current.Calls f given.0) (command_kind.Call f (operands_onto given.0 no_operands)) more h.1 rest refl h.4 in
       (later.0, bar ∙ start ∙ given.1 ∙ later.1, later.2 ∙ ap (λ os. Ok (commands_onto (c ∷ cs) (command (call f os) more))) given.2)
 
   operands_lead : (variables : List (List ℕ)) (outer : List Level) (room : ℕ) (cs : List Command) (f : Func) (done : List Operand) (os : OperandsData) (symbols rest : List Symbol)
       → Clear (current.Calls f done) symbols → AreOperands variables room os symbols rest
-      → (all : List Operand) × (read_pipe variables (place outer (level room cs (current.Calls f done))) symbols ≡ read_pipe variables (place outer (level room cs (current.Calls f all))) rest) × (operands_onto all no_operands ≡ operands_onto done os)
-  operands_lead variables outer room cs f done no_operands symbols rest clear h = (done, ap (read_pipe variables (place outer (level room cs (current.Calls f done)))) h, refl)
+      → (all : List Operand) × (read_pipe variables (pipe_state outer (level room cs (current.Calls f done))) symbols ≡ read_pipe variables (pipe_state outer (level room cs (current.Calls f all))) rest) × (operands_onto all no_operands ≡ operands_onto done os)
+  operands_lead variables outer room cs f done no_operands symbols rest clear h = (done, ap (read_pipe variables (pipe_state outer (level room cs (current.Calls f done)))) h, refl)
   operands_lead variables outer room cs f done (operand o os) symbols rest clear h =
       let first = operand_leads variables outer room cs (current.Calls f done) o symbols h.0 refl tt clear h.1 in
       let later = operands_lead variables outer room cs f (from_data o ∷ done) os h.0 rest (operand_done variables room o symbols h.0 h.1) h.2 in
@@ -234,7 +234,7 @@ mutual
 
   operand_leads : (variables : List (List ℕ)) (outer : List Level) (room : ℕ) (cs : List Command) (now : Current) (o : OperandData) (symbols rest : List Symbol)
       → may_take now cs ≡ true → May o now → Clear now symbols → IsOperand variables room o symbols rest
-      → read_pipe variables (place outer (level room cs now)) symbols ≡ read_pipe variables (place outer (with_operand (from_data o) (level room cs now))) rest
+      → read_pipe variables (pipe_state outer (level room cs now)) symbols ≡ read_pipe variables (pipe_state outer (with_operand (from_data o) (level room cs now))) rest
   operand_leads variables outer room cs now (with_fields (str value) []) symbols rest e may clear h = plain_leads variables outer (level room cs now) (str value) (kind.Str value) symbols rest h refl (λ touches. rw e refl)
   operand_leads variables outer room cs now (with_fields (number n) []) symbols rest e may clear h = plain_leads variables outer (level room cs now) (number n) (kind.Number n) symbols rest h refl (λ touches. rw e refl)
   operand_leads variables outer room cs now (with_fields (truth true) []) symbols rest e may clear h = plain_leads variables outer (level room cs now) (truth true) (kind.Word word.True) symbols rest h refl (λ touches. rw e refl)
@@ -243,14 +243,14 @@ mutual
   operand_leads variables outer room cs now (with_fields dot []) symbols rest e may clear h = plain_leads variables outer (level room cs now) dot kind.Dot symbols rest h refl (λ touches. rw e refl)
   operand_leads variables outer room cs now (with_fields dot (name ∷ names)) symbols rest e may clear h = field_starts variables outer (level room cs now) name names symbols h.0 rest e clear h.1 h.2
   operand_leads variables outer room cs now (with_fields (variable name) fields) symbols rest e may clear h =
-      stands_leads variables (place outer (level room cs now)) (place outer (with_operand (operand_of (base.Variable name) []) (level room cs now))) (kind.Variable name) symbols h.0 h.2 refl (λ touches. rw (e, h.1) refl)
+      stands_leads variables (pipe_state outer (level room cs now)) (pipe_state outer (with_operand (operand_of (base.Variable name) []) (level room cs now))) (kind.Variable name) symbols h.0 h.2 refl (λ touches. rw (e, h.1) refl)
       ∙ base_leads variables outer (level room cs now) (base.Variable name) [] fields h.0 rest refl h.3
   operand_leads variables outer (suc room) cs now (with_fields (paren p) fields) symbols rest e may clear h =
       let l = level (suc room) cs now in
       let inner = pipe_leads variables (l ∷ outer) room p h.0 h.1 h.4 in
-      stands_leads variables (place outer l) (place (l ∷ outer) (fresh room)) kind.Left symbols h.0 h.3 refl (λ touches. left_read variables outer room cs now touches e)
+      stands_leads variables (pipe_state outer l) (pipe_state (l ∷ outer) (fresh room)) kind.Left symbols h.0 h.3 refl (λ touches. left_read variables outer room cs now touches e)
       ∙ inner.1
-      ∙ stands_leads variables (place (l ∷ outer) inner.0) (place outer (with_operand (operand_of (base.Paren (record { commands = p })) []) l)) kind.Right h.1 h.2 h.5 refl (λ touches. right_read variables outer l inner.0 p touches inner.2)
+      ∙ stands_leads variables (pipe_state (l ∷ outer) inner.0) (pipe_state outer (with_operand (operand_of (base.Paren (record { commands = p })) []) l)) kind.Right h.1 h.2 h.5 refl (λ touches. right_read variables outer l inner.0 p touches inner.2)
       ∙ base_leads variables outer l (base.Paren (record { commands = p })) [] fields h.2 rest refl h.6
   operand_leads variables outer zero cs now (with_fields (paren p) fields) symbols rest e may clear h = absurd h
   operand_leads variables outer room cs now (with_fields (str value) (_ ∷ _)) symbols rest e may clear h = absurd h
@@ -261,7 +261,7 @@ mutual
 
 -- A pipe, up to the end of its action, is read as it is.
 pub pipe_read : (variables : List (List ℕ)) (room : ℕ) (p : PipeData) (symbols rest : List Symbol) (s : Symbol) → IsPipe variables room p symbols (s ∷ rest) → is_close s.kind ≡ true
-    → read_pipe variables (place [] (fresh room)) symbols ≡ Ok (p, s ∷ rest)
+    → read_pipe variables (pipe_state [] (fresh room)) symbols ≡ Ok (p, s ∷ rest)
 pipe_read variables room p symbols rest s h e =
     let led = pipe_leads variables [] room p symbols (s ∷ rest) h in
     led.1 ∙ rw (e, led.2) refl

@@ -4,12 +4,12 @@ use Rattle.std.specs.Prelude.{⊤}
 use Rattle.tpl_token.proofs.Marks.{either}
 use Rattle.tpl_pipe.specs.Grammar.{Stands, Touching, AreFields, IsNil, IsPipe, AreCalls, IsCall, AreOperands, IsBase}
 use Rattle.tpl_pipe.specs.Levels.{level, fresh, operand_of, operands_onto, commands_onto, ended, ended_pipe, may_take, takes_operand, take_into, with_operand, takes_field, last_takes, add_field, field_into, with_field}
-use Rattle.tpl_pipe.specs.Reading.{Step, place, declared, read_kind, read_operand, read_nil, read_variable, read_field, read_left, read_function, read_unknown, read_word, closed, next_command, finish}
+use Rattle.tpl_pipe.specs.Reading.{Step, pipe_state, declared, read_kind, read_operand, read_nil, read_variable, read_field, read_left, read_function, read_unknown, read_word, closed, next_command, finish}
 use Rattle.tpl_pipe.specs.Runs.{PipeRead, is_close, ends_at, goes_on, read_pipe}
 use Rattle.tpl_pipe.proofs.PipeLeads.{takes_more}
-use Rattle.tpl_pipe.specs.declared.place.Current.{Current}
-use Rattle.tpl_pipe.specs.declared.place.Current.TheVariants as current
-use Rattle.tpl_pipe.specs.declared.place.Level.{Level}
+use Rattle.tpl_pipe.specs.declared.pipe_state.Current.{Current}
+use Rattle.tpl_pipe.specs.declared.pipe_state.Current.TheVariants as current
+use Rattle.tpl_pipe.specs.declared.pipe_state.Level.{Level}
 use Rattle.tpl_pipe.specs.declared.refused.ParseRefused.{ParseRefused}
 use Rattle.tpl_symbol.specs.declared.func.Func.{Func}
 use Rattle.tpl_symbol.specs.declared.symbol.Symbol.{Symbol}
@@ -162,17 +162,17 @@ not_nil (variable _) fields more h = λ n. n
 not_nil (paren _) fields more h = λ n. n
 
 -- an operand whose base stands first, and then its fields
-operand_goes : (variables : List (List ℕ)) (room : ℕ) (now : Current) (cs : List Command) (o : Operand) (symbols behind : List Symbol) (p : PipeData) (rest : List Symbol)
+operand_goes : (variables : List (List ℕ)) (room : ℕ) (now : Current) (cs : List Command) (o : Operand) (symbols following : List Symbol) (p : PipeData) (rest : List Symbol)
     → may_take now cs ≡ true → (IsFirstOperand now (operand_view o)) → (last_takes now ≡ true → Bare symbols)
-    → ((names : List (List ℕ)) (after : List Symbol) → Fields (takes_field o) names behind after → IsBase variables room (base_view o.base) (o.fields ++ names) symbols after)
-    → Goes variables room (take_into o now) cs behind p rest → Goes variables room now cs symbols p rest
-operand_goes variables room current.Nothing [] o symbols behind p rest e may bare stands h =
+    → ((names : List (List ℕ)) (after : List Symbol) → Fields (takes_field o) names following after → IsBase variables room (base_view o.base) (o.fields ++ names) symbols after)
+    → Goes variables room (take_into o now) cs following p rest → Goes variables room now cs symbols p rest
+operand_goes variables room current.Nothing [] o symbols following p rest e may bare stands h =
     subst (λ p. IsPipe variables room p symbols rest) (sym h.5) (h.2, (not_nil (base_view o.base) o.fields (o.fields ++ h.0) may, stands h.0 h.2 h.3), h.4)
-operand_goes variables room current.Nothing (_ ∷ _) o symbols behind p rest e may bare stands h = absurd (true≢false (sym e))
-operand_goes variables room (current.Alone _) cs o symbols behind p rest e may bare stands h = absurd (true≢false (sym e))
-operand_goes variables room (current.Calls f []) cs o symbols behind p rest e may bare stands h =
+operand_goes variables room current.Nothing (_ ∷ _) o symbols following p rest e may bare stands h = absurd (true≢false (sym e))
+operand_goes variables room (current.Alone _) cs o symbols following p rest e may bare stands h = absurd (true≢false (sym e))
+operand_goes variables room (current.Calls f []) cs o symbols following p rest e may bare stands h =
     (operand (more_fields o h.0) h.1, h.2, h.4, (h.3, stands h.0 h.3 h.5, h.6), h.7, h.8)
-operand_goes variables room (current.Calls f (last ∷ done)) cs o symbols behind p rest e may bare stands h = (
+operand_goes variables room (current.Calls f (last ∷ done)) cs o symbols following p rest e may bare stands h = (
   [],
   operand (more_fields o h.0) h.1,
   h.2,
@@ -217,7 +217,7 @@ other what s symbols k e name more t = true≢false (sym (ap is_field t.0) ∙ a
 
 -- what is read after the next symbol
 abbrev pub Later : List (List ℕ) → List Symbol → Type 0
-Later variables symbols = (outer : List Level) (l : Level) → Says variables outer l symbols (read_pipe variables (place outer l) symbols)
+Later variables symbols = (outer : List Level) (l : Level) → Says variables outer l symbols (read_pipe variables (pipe_state outer l) symbols)
 
 -- what is read from the next symbol on, with this step
 abbrev pub SaysStep : List (List ℕ) → List Level → Level → Symbol → List Symbol → Step → Type 0
@@ -225,8 +225,8 @@ SaysStep variables outer l s symbols step = Says variables outer l (s ∷ symbol
 
 steps_in : (variables : List (List ℕ)) (outer : List Level) (l l' : Level) (s : Symbol) (symbols : List Symbol) → Later variables symbols
     → ((p : PipeData) (rest : List Symbol) → Goes variables l'.room l'.current l'.commands symbols p rest → Goes variables l.room l.current l.commands (s ∷ symbols) p rest)
-    → SaysStep variables outer l s symbols (Ok (place outer l'))
-steps_in variables outer l l' s symbols later f = carry variables outer outer l l' (s ∷ symbols) symbols (lift variables outer l l' (s ∷ symbols) symbols f) (read_pipe variables (place outer l') symbols) (later outer l')
+    → SaysStep variables outer l s symbols (Ok (pipe_state outer l'))
+steps_in variables outer l l' s symbols later f = carry variables outer outer l l' (s ∷ symbols) symbols (lift variables outer l l' (s ∷ symbols) symbols f) (read_pipe variables (pipe_state outer l') symbols) (later outer l')
 
 says_operand : (variables : List (List ℕ)) (outer : List Level) (l : Level) (o : Operand) (s : Symbol) (symbols : List Symbol) → Later variables symbols
     → IsFirstOperand l.current (operand_view o) → (last_takes l.current ≡ true → Bare (s ∷ symbols))
@@ -289,7 +289,7 @@ says_left variables outer l (suc room) s symbols later k n = either (takes_opera
     lift variables outer l (with_operand o l) (s ∷ symbols) h.2 (λ p rest g. operand_goes variables l.room l.current l.commands o (s ∷ symbols) h.2 p rest t (may_come l.current (paren h.0) [] refl)
     (λ last. other kind.Left s symbols k refl)
     (λ names after fields. subst (λ m. IsBase variables m (paren h.0) names (s ∷ symbols) after) (sym n) (symbols, h.1, h.2, (k, refl), h.3, h.4, fields)) g) p rest h.5)
-    (read_pipe variables (place (l ∷ outer) (fresh room)) symbols) (later (l ∷ outer) (fresh room))))
+    (read_pipe variables (pipe_state (l ∷ outer) (fresh room)) symbols) (later (l ∷ outer) (fresh room))))
     (λ f. rw f tt)
 
 says_right : (variables : List (List ℕ)) (outer : List Level) (o l : Level) (r : Result PipeData ParseRefused) (s : Symbol) (symbols : List Symbol) → Later variables symbols → s.kind ≡ kind.Right → ended_pipe l ≡ r
@@ -299,7 +299,7 @@ says_right variables outer o l (Ok q) s symbols later k e =
     let next = with_operand (operand_of (base.Paren (record { commands = q })) []) o in
     carry variables (o ∷ outer) outer l next (s ∷ symbols) symbols
     (λ p rest h. (q, s ∷ symbols, symbols, ends_here variables l.room l.current l.commands (s ∷ symbols) q (other kind.Right s symbols k refl) e, (k, refl), h))
-    (read_pipe variables (place outer next) symbols) (later outer next)
+    (read_pipe variables (pipe_state outer next) symbols) (later outer next)
 
 says_bar : (variables : List (List ℕ)) (outer : List Level) (l : Level) (r : Option Command) (s : Symbol) (symbols : List Symbol) → Later variables symbols → s.kind ≡ kind.Bar → ended l.current ≡ r
     → SaysStep variables outer l s symbols (next_command r outer l)
@@ -346,7 +346,7 @@ says_close variables l (Err why) s symbols n c e = tt
 says_close variables l (Ok p) s symbols n c e = (ends_here variables l.room l.current l.commands (s ∷ symbols) p (other s.kind s symbols refl n) e, c)
 
 says_kind : (variables : List (List ℕ)) (outer : List Level) (l : Level) (what : SymbolKind) (s : Symbol) (symbols : List Symbol) → Later variables symbols → s.kind ≡ what
-    → Says variables outer l (s ∷ symbols) (if is_close what then ends_at (s ∷ symbols) (finish (place outer l)) else goes_on (s ∷ symbols) (read_kind what s.touches variables outer l) (λ next. read_pipe variables next symbols))
+    → Says variables outer l (s ∷ symbols) (if is_close what then ends_at (s ∷ symbols) (finish (pipe_state outer l)) else goes_on (s ∷ symbols) (read_kind what s.touches variables outer l) (λ next. read_pipe variables next symbols))
 says_kind variables outer l (kind.Str value) s symbols later k =
     says_operand variables outer l (operand_of (base.Str value) []) s symbols later (may_come l.current (str value) [] refl) (λ last. other (kind.Str value) s symbols k refl)
     (λ names after h. subst (λ ns. IsBase variables l.room (str value) ns (s ∷ symbols) after) (sym h.0) (k, h.1))
@@ -378,6 +378,6 @@ says variables [] outer l = tt
 says variables (s ∷ symbols) outer l = says_kind variables outer l s.kind s symbols (says variables symbols) refl
 
 -- a pipe that was read stands there, up to the end of its action
-pub pipe_stands : (variables : List (List ℕ)) (room : ℕ) (p : PipeData) (symbols rest : List Symbol) → read_pipe variables (place [] (fresh room)) symbols ≡ Ok (p, rest)
+pub pipe_stands : (variables : List (List ℕ)) (room : ℕ) (p : PipeData) (symbols rest : List Symbol) → read_pipe variables (pipe_state [] (fresh room)) symbols ≡ Ok (p, rest)
     → IsPipe variables room p symbols rest × IsEnd rest
 pipe_stands variables room p symbols rest e = subst (Says variables [] (fresh room) symbols) e (says variables symbols [] (fresh room))

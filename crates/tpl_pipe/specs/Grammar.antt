@@ -32,29 +32,29 @@ abbrev mutual
   pub IsPipe : List (List ℕ) → ℕ → PipeData → List Symbol → List Symbol → Type 0
   IsPipe variables room no_commands symbols rest = ⊥
   IsPipe variables room (command c more) symbols rest =
-      (behind : List Symbol) × IsFirst variables room c symbols behind × AreCalls variables room more behind rest
+      (following : List Symbol) × IsFirst variables room c symbols following × AreCalls variables room more following rest
 
   -- an operand alone, or a call
   pub IsFirst : List (List ℕ) → ℕ → CommandData → List Symbol → List Symbol → Type 0
   IsFirst variables room (single o) symbols rest = (IsNil o → ⊥) × IsOperand variables room o symbols rest
   IsFirst variables room (call f os) symbols rest =
-      (behind : List Symbol) × Stands (kind.Function f) symbols behind × AreOperands variables room os behind rest
+      (following : List Symbol) × Stands (kind.Function f) symbols following × AreOperands variables room os following rest
 
   pub AreCalls : List (List ℕ) → ℕ → PipeData → List Symbol → List Symbol → Type 0
   AreCalls variables room no_commands symbols rest = symbols ≡ rest
   AreCalls variables room (command c more) symbols rest =
-      (bar behind : List Symbol) × Stands kind.Bar symbols bar × IsCall variables room c bar behind × AreCalls variables room more behind rest
+      (bar following : List Symbol) × Stands kind.Bar symbols bar × IsCall variables room c bar following × AreCalls variables room more following rest
 
   -- a function and its operands
   pub IsCall : List (List ℕ) → ℕ → CommandData → List Symbol → List Symbol → Type 0
   IsCall variables room (single o) symbols rest = ⊥
   IsCall variables room (call f os) symbols rest =
-      (behind : List Symbol) × Stands (kind.Function f) symbols behind × AreOperands variables room os behind rest
+      (following : List Symbol) × Stands (kind.Function f) symbols following × AreOperands variables room os following rest
 
   pub AreOperands : List (List ℕ) → ℕ → OperandsData → List Symbol → List Symbol → Type 0
   AreOperands variables room no_operands symbols rest = symbols ≡ rest
   AreOperands variables room (operand o os) symbols rest =
-      (behind : List Symbol) × IsOperand variables room o symbols behind × AreOperands variables room os behind rest
+      (following : List Symbol) × IsOperand variables room o symbols following × AreOperands variables room os following rest
 
   pub IsOperand : List (List ℕ) → ℕ → OperandData → List Symbol → List Symbol → Type 0
   IsOperand variables room (with_fields b fields) symbols rest = IsBase variables room b fields symbols rest
@@ -68,9 +68,9 @@ abbrev mutual
   IsBase variables room nil [] symbols rest = Stands (kind.Word word.Nil) symbols rest
   IsBase variables room dot [] symbols rest = Stands kind.Dot symbols rest
   IsBase variables room dot (name ∷ names) symbols rest =
-      (behind : List Symbol) × Stands (kind.Field name) symbols behind × AreFields names behind rest
+      (following : List Symbol) × Stands (kind.Field name) symbols following × AreFields names following rest
   IsBase variables room (variable name) fields symbols rest =
-      (behind : List Symbol) × (declared variables name ≡ true) × Stands (kind.Variable name) symbols behind × AreFields fields behind rest
+      (following : List Symbol) × (declared variables name ≡ true) × Stands (kind.Variable name) symbols following × AreFields fields following rest
   IsBase variables (suc room) (paren p) fields symbols rest =
-      (inner end behind : List Symbol) × Stands kind.Left symbols inner × IsPipe variables room p inner end × Stands kind.Right end behind × AreFields fields behind rest
+      (inner end following : List Symbol) × Stands kind.Left symbols inner × IsPipe variables room p inner end × Stands kind.Right end following × AreFields fields following rest
   IsBase variables room b fields symbols rest = ⊥

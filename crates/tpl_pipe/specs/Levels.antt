@@ -1,8 +1,8 @@
 -- What is read of a pipe, as a pipe.
 use Rattle.std.specs.Prelude.{ℕ, Bool, true, false, List, [], ◌∷◌, ◌++◌, Option, Some, None, Result, Ok, Err}
-use Rattle.tpl_pipe.specs.declared.place.Current.{Current}
-use Rattle.tpl_pipe.specs.declared.place.Current.TheVariants as current
-use Rattle.tpl_pipe.specs.declared.place.Level.{Level}
+use Rattle.tpl_pipe.specs.declared.pipe_state.Current.{Current}
+use Rattle.tpl_pipe.specs.declared.pipe_state.Current.TheVariants as current
+use Rattle.tpl_pipe.specs.declared.pipe_state.Level.{Level}
 use Rattle.tpl_pipe.specs.declared.refused.ParseRefused.{ParseRefused}
 use Rattle.tpl_pipe.specs.declared.refused.ParseRefused.TheVariants as refused
 use Rattle.tpl_tree.specs.Pipes.{PipeData, no_commands, command, OperandsData, no_operands, operand}

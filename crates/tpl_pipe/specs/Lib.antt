@@ -2,5 +2,4 @@ pub mod Grammar
 pub mod Levels
 pub mod Reading
 pub mod Runs
-pub mod Stacks
 pub mod Variables

@@ -1,16 +1,15 @@
 -- Where in a pipe each symbol leads.
 use Rattle.std.specs.Prelude.{◌≡◌, ℕ, nat_eq, zero, suc, Bool, true, false, ◌&&◌, ◌||◌, if◌then◌else◌, List, [], ◌∷◌, Option, Some, None, Result, Ok, Err, ⊤}
 use Rattle.std.specs.Cmp.Lexicographic.{pointwise}
-use Rattle.page_io.specs.declared.stop.Memory.{Memory}
+use Rattle.page_io.specs.Stops.{Answers}
+use Rattle.page_io.specs.declared.stop.Stop.{Stop}
 use Rattle.tpl_pipe.specs.Levels.{level, fresh, operand_of, ended, ended_pipe, takes_operand, with_operand, last_takes, with_field}
-use Rattle.tpl_pipe.specs.declared.place.Current.{Current}
-use Rattle.tpl_pipe.specs.declared.place.Current.TheVariants as current
-use Rattle.tpl_pipe.specs.declared.place.Level.{Level}
-use Rattle.tpl_pipe.specs.declared.place.Place.{Place}
+use Rattle.tpl_pipe.specs.declared.pipe_state.Current.{Current}
+use Rattle.tpl_pipe.specs.declared.pipe_state.Current.TheVariants as current
+use Rattle.tpl_pipe.specs.declared.pipe_state.Level.{Level}
+use Rattle.tpl_pipe.specs.declared.pipe_state.PipeState.{PipeState}
 use Rattle.tpl_pipe.specs.declared.refused.ParseRefused.{ParseRefused}
 use Rattle.tpl_pipe.specs.declared.refused.ParseRefused.TheVariants as refused
-use Rattle.tpl_pipe.specs.declared.refused.PipeStop.{PipeStop}
-use Rattle.tpl_pipe.specs.declared.refused.PipeStop.TheVariants as stop
 use Rattle.tpl_symbol.specs.declared.func.Func.{Func}
 use Rattle.tpl_symbol.specs.declared.symbol.Symbol.{Symbol}
 use Rattle.tpl_symbol.specs.declared.symbol.SymbolKind.{SymbolKind}
@@ -23,8 +22,8 @@ use Rattle.tpl_tree.specs.declared.pipe.Base.TheVariants as base
 use Rattle.tpl_tree.specs.declared.pipe.Command.{Command}
 use Rattle.tpl_tree.specs.declared.pipe.Operand.{Operand}
 
-abbrev pub place : List Level → Level → Place
-place outer l = record { outer = outer; level = l }
+abbrev pub pipe_state : List Level → Level → PipeState
+pipe_state outer l = record { outer = outer; level = l }
 
 -- the variable is declared; `$` always is
 abbrev pub declared : List (List ℕ) → List ℕ → Bool
@@ -33,13 +32,13 @@ declared [] (_ ∷ _) = false
 declared (x ∷ xs) name = pointwise nat_eq x name || declared xs name
 
 abbrev pub Step : Type 0
-Step = Result Place ParseRefused
+Step = Result PipeState ParseRefused
 
 -- an operand
 abbrev pub read_operand : Operand → List Level → Level → Step
-read_operand o outer l = if takes_operand l then Ok (place outer (with_operand o l)) else Err refused.UnexpectedToken
+read_operand o outer l = if takes_operand l then Ok (pipe_state outer (with_operand o l)) else Err refused.UnexpectedToken
 
-abbrev pub operand_read : Base → Place → Step
+abbrev pub operand_read : Base → PipeState → Step
 operand_read b at = read_operand (operand_of b []) at.outer at.level
 
 -- `nil`, which is no whole command
@@ -50,24 +49,24 @@ read_nil outer (current.Calls _ _) l = read_operand (operand_of base.Nil []) out
 
 abbrev pub read_variable : List (List ℕ) → List ℕ → List Level → Level → Step
 read_variable variables name outer l =
-    if takes_operand l then (if declared variables name then Ok (place outer (with_operand (operand_of (base.Variable name) []) l)) else Err refused.UndefinedVariable)
+    if takes_operand l then (if declared variables name then Ok (pipe_state outer (with_operand (operand_of (base.Variable name) []) l)) else Err refused.UndefinedVariable)
     else Err refused.UnexpectedToken
 
-abbrev pub variable_read : List (List ℕ) → List ℕ → Place → Step
+abbrev pub variable_read : List (List ℕ) → List ℕ → PipeState → Step
 variable_read variables name at = read_variable variables name at.outer at.level
 
 -- a field of the operand that it touches, or an operand of its own
 abbrev pub read_field : List ℕ → Bool → List Level → Level → Step
 read_field name touches outer l =
-    if touches && last_takes l.current then Ok (place outer (with_field name l))
+    if touches && last_takes l.current then Ok (pipe_state outer (with_field name l))
     else read_operand (operand_of base.Dot (name ∷ [])) outer l
 
 abbrev pub read_left : ℕ → List Level → Level → Step
 read_left zero outer l = if takes_operand l then Err refused.TooNested else Err refused.UnexpectedToken
-read_left (suc room) outer l = if takes_operand l then Ok (place (l ∷ outer) (fresh room)) else Err refused.UnexpectedToken
+read_left (suc room) outer l = if takes_operand l then Ok (pipe_state (l ∷ outer) (fresh room)) else Err refused.UnexpectedToken
 
 abbrev pub closed : Result PipeData ParseRefused → List Level → Level → Step
-closed (Ok p) outer l = Ok (place outer (with_operand (operand_of (base.Paren (record { commands = p })) []) l))
+closed (Ok p) outer l = Ok (pipe_state outer (with_operand (operand_of (base.Paren (record { commands = p })) []) l))
 closed (Err why) outer l = Err why
 
 abbrev pub read_right : List Level → Level → Step
@@ -75,18 +74,18 @@ read_right [] l = Err refused.UnexpectedToken
 read_right (o ∷ outer) l = closed (ended_pipe l) outer o
 
 abbrev pub next_command : Option Command → List Level → Level → Step
-next_command (Some c) outer l = Ok (place outer (level l.room (c ∷ l.commands) current.Nothing))
+next_command (Some c) outer l = Ok (pipe_state outer (level l.room (c ∷ l.commands) current.Nothing))
 next_command None outer l = Err refused.UnexpectedToken
 
 abbrev pub read_bar : List Level → Level → Step
 read_bar outer l = next_command (ended l.current) outer l
 
 abbrev pub read_function : Func → List Level → Current → Level → Step
-read_function f outer current.Nothing l = Ok (place outer (level l.room l.commands (current.Calls f [])))
+read_function f outer current.Nothing l = Ok (pipe_state outer (level l.room l.commands (current.Calls f [])))
 read_function f outer (current.Alone _) l = Err refused.UnexpectedToken
 read_function f outer (current.Calls _ _) l = Err refused.UnexpectedToken
 
-abbrev pub function_read : Func → Place → Step
+abbrev pub function_read : Func → PipeState → Step
 function_read f at = read_function f at.outer at.level.current at.level
 
 abbrev pub read_unknown : Current → Step
@@ -115,7 +114,7 @@ read_kind (kind.Function f) touches variables outer l = read_function f outer l.
 read_kind kind.Unknown touches variables outer l = read_unknown l.current
 read_kind _ touches variables outer l = Err refused.UnexpectedToken
 
-abbrev pub read : List (List ℕ) → Place → Symbol → Step
+abbrev pub read : List (List ℕ) → PipeState → Symbol → Step
 read variables at symbol = read_kind symbol.kind symbol.touches variables at.outer at.level
 
 -- the pipe that the end of its action ends
@@ -123,22 +122,9 @@ abbrev pub finished : List Level → Level → Result PipeData ParseRefused
 finished [] l = ended_pipe l
 finished (_ ∷ _) l = Err refused.UnexpectedToken
 
-abbrev pub finish : Place → Result PipeData ParseRefused
+abbrev pub finish : PipeState → Result PipeData ParseRefused
 finish at = finished at.outer at.level
 
--- what was returned is this, or memory ran out
-abbrev pub Gives : {X Y : Type 0} → (X → Y) → Result X PipeStop → Result Y ParseRefused → Type 0
-Gives view (Ok x) wanted = wanted ≡ Ok (view x)
-Gives view (Err (stop.Refused why)) wanted = wanted ≡ Err why
-Gives view (Err stop.Memory) wanted = ⊤
-
 -- what is new is this, or memory ran out
-abbrev pub GivesNew : {U X : Type 0} → Result U PipeStop → X → Result X ParseRefused → Type 0
-GivesNew (Ok _) new wanted = wanted ≡ Ok new
-GivesNew (Err (stop.Refused why)) new wanted = wanted ≡ Err why
-GivesNew (Err stop.Memory) new wanted = ⊤
-
--- what was returned is this, or memory ran out
-abbrev pub Keeps : {X : Type 0} → X → Result X Memory → Type 0
-Keeps wanted (Ok x) = x ≡ wanted
-Keeps wanted (Err _) = ⊤
+abbrev pub ReadAnswers : {U X : Type 0} → Result U (Stop ParseRefused) → X → Result X ParseRefused → Type 0
+ReadAnswers result new wanted = Answers (λ _. new) result wanted

@@ -1,17 +1,24 @@
-ghost use Rattle.std.specs.Prelude.{◌≡◌, ◌<◌, OnOk};
-ghost use Rattle.tpl_pipe.specs.Levels.{add_field as with_one_field, ended as ended_of, ended_pipe, fresh, last_takes as last_takes_of, takes_field as takes_field_of, takes_operand as takes_operand_of, take_into as take_into_of, field_into as field_into_of, with_field as with_field_of, with_operand as with_operand_of};
-ghost use Rattle.tpl_pipe.specs.Reading.{Gives};
+ghost use Rattle.std.specs.Prelude.{◌≡◌, ◌<◌, ◌∷◌, IfOk, OnOk};
+ghost use Rattle.tpl_pipe.specs.Levels.{add_field as with_one_field, commands_onto};
+ghost use Rattle.tpl_pipe.specs.Levels.{ended as ended_of, ended_pipe, fresh};
+ghost use Rattle.tpl_pipe.specs.Levels.{last_takes as last_takes_of, takes_field as takes_field_of};
+ghost use Rattle.tpl_pipe.specs.Levels.{takes_operand as takes_operand_of};
+ghost use Rattle.tpl_pipe.specs.Levels.{take_into as take_into_of, field_into as field_into_of};
+ghost use Rattle.tpl_pipe.specs.Levels.{with_field as with_field_of};
+ghost use Rattle.tpl_pipe.specs.Levels.{with_operand as with_operand_of};
+ghost use Rattle.page_io.specs.Stops.{Answers};
+ghost use Rattle.tpl_tree.specs.Pipes.{no_commands};
 ghost use Rattle.tpl_tree.specs.View.{pipe_view};
 
-use crate::place::{Current, Level};
-use crate::refused::{ParseRefused, PipeStop};
-use crate::stack::Stack;
-use page_io::{Memory, Text};
+use crate::pipe_state::{Current, Level};
+use crate::refused::ParseRefused;
+use page_io::{Memory, Stack, Stop, Text};
 use std::alloc::Global;
 use std::mem;
 use tpl_tree::{Base, Command, Commands, Operand, Operands, Pipe};
 
 // A pipe of which nothing is read, in which so many parentheses may be opened.
+#[inline(always)]
 pub fn fresh_level(alloc: Global, room: u32) -> Level
     ensures { result ≡ fresh room }
 {
@@ -23,6 +30,7 @@ pub fn fresh_level(alloc: Global, room: u32) -> Level
 }
 
 // Whether an operand may come: first of all, or after a function.
+#[inline(always)]
 pub fn takes_operand(level: &Level) -> bool
     ensures { result ≡ takes_operand_of level.now }
 {
@@ -34,12 +42,14 @@ pub fn takes_operand(level: &Level) -> bool
 }
 
 // Adds an operand.
+#[inline(always)]
 pub fn add_operand(level: &mut Level, operand: Operand) -> Result<(), Memory>
     ensures { OnOk result (level.new ≡ with_operand_of operand level.old) }
 {
     take_into(operand, &mut level.current)
 }
 
+#[inline(always)]
 fn take_into(operand: Operand, current: &mut Current) -> Result<(), Memory>
     ensures { OnOk result (current.new ≡ take_into_of operand current.old) }
 {
@@ -103,6 +113,7 @@ fn field_into(name: Text, current: &mut Current) -> Result<(), Memory>
 
 // The command that was read, as one that ends here.
 #[tactic(auto, using(crate::proofs::Onto::operands_in_order))]
+#[inline(always)]
 pub fn ended(current: Current) -> Option<Command>
     ensures { result ≡ ended_of current }
 {
@@ -115,21 +126,33 @@ pub fn ended(current: Current) -> Option<Command>
     }
 }
 
+// These commands and then one more. The first takes room for itself alone.
+#[inline(always)]
+#[tactic(auto, using(crate::proofs::Onto::commands_with_last))]
+fn with_last(commands: Stack<Command>, last: Command) -> Result<Commands, Memory>
+    ensures { IfOk result (λ all. all ≡ commands_onto (last ∷ commands) no_commands) }
+{
+    let mut items = commands.into_vec();
+    if items.is_empty() {
+        items.reserve_exact(1)?;
+    }
+    items.push(last)?;
+    Ok(Commands::from(items))
+}
+
 // The pipe that was read, as one that ends here, taken out of the level.
-#[tactic(auto, using(crate::proofs::Onto::commands_in_order))]
-pub fn take_pipe(alloc: Global, level: &mut Level) -> Result<Pipe, PipeStop>
-    ensures { Gives pipe_view result (ended_pipe level.old) }
+#[inline(always)]
+pub fn take_pipe(alloc: Global, level: &mut Level) -> Result<Pipe, Stop<ParseRefused>>
+    ensures { Answers pipe_view result (ended_pipe level.old) }
 {
     let current = mem::replace(&mut level.current, Current::Nothing);
-    let mut commands = mem::replace(&mut level.commands, Stack::new(alloc));
+    let commands = mem::replace(&mut level.commands, Stack::new(alloc));
     match ended(current) {
-        Some(command) => match commands.push(command) {
-            Ok(()) => Ok(Pipe {
-                commands: Commands::from(commands.into_vec()),
-            }),
-            Err(Memory) => Err(PipeStop::Memory),
+        Some(command) => match with_last(commands, command) {
+            Ok(commands) => Ok(Pipe { commands }),
+            Err(Memory) => Err(Stop::Memory),
         },
-        None if commands.is_empty() => Err(PipeStop::Refused(ParseRefused::EmptyPipeline)),
-        None => Err(PipeStop::Refused(ParseRefused::UnexpectedToken)),
+        None if commands.is_empty() => Err(Stop::Cause(ParseRefused::EmptyPipeline)),
+        None => Err(Stop::Cause(ParseRefused::UnexpectedToken)),
     }
 }

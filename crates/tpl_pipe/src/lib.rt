@@ -2,14 +2,12 @@
 #![tactic(auto)]
 
 mod level;
-mod place;
+mod pipe_state;
 mod reading;
 mod refused;
-mod stack;
 mod variables;
 
-pub use place::{Current, Level, Place};
+pub use pipe_state::{Current, Level, PipeState};
 pub use reading::{finish, pipe_start, read};
-pub use refused::{ParseRefused, PipeStop};
-pub use stack::Stack;
+pub use refused::ParseRefused;
 pub use variables::Variables;

@@ -1,47 +1,55 @@
 ghost use Rattle.std.specs.Prelude.{◌≡◌, IfOk, OnOk, [], ◌∷◌, Ok, Err};
 ghost use Rattle.tpl_pipe.specs.Levels.{fresh, with_own_field};
-ghost use Rattle.tpl_pipe.specs.Reading.{Gives, GivesNew, closed, finish as finish_of, next_command, place, read as read_of, read_bar as read_bar_of, read_field as read_field_of, function_read, read_kind, read_left as read_left_of, read_nil as read_nil_of, operand_read, read_right as read_right_of, read_unknown as read_unknown_of, variable_read, read_word as read_word_of};
+ghost use Rattle.page_io.specs.Stops.{Answers};
+ghost use Rattle.tpl_pipe.specs.Reading.{ReadAnswers, closed, finish as finish_of, next_command};
+ghost use Rattle.tpl_pipe.specs.Reading.{pipe_state, read as read_of, read_bar as read_bar_of};
+ghost use Rattle.tpl_pipe.specs.Reading.{read_field as read_field_of, function_read, read_kind};
+ghost use Rattle.tpl_pipe.specs.Reading.{read_left as read_left_of, read_nil as read_nil_of};
+ghost use Rattle.tpl_pipe.specs.Reading.{operand_read, read_right as read_right_of};
+ghost use Rattle.tpl_pipe.specs.Reading.{read_unknown as read_unknown_of, variable_read};
+ghost use Rattle.tpl_pipe.specs.Reading.{read_word as read_word_of};
 ghost use Rattle.tpl_tree.specs.declared.pipe.Base.TheVariants as base;
 ghost use Rattle.tpl_tree.specs.View.{pipe_view};
 
 use crate::level::{
     add_field, add_operand, ended, fresh_level, last_takes, take_pipe, takes_operand,
 };
-use crate::place::{Current, Level, Place};
-use crate::refused::{ParseRefused, PipeStop};
-use crate::stack::Stack;
+use crate::pipe_state::{Current, Level, PipeState};
+use crate::refused::ParseRefused;
 use crate::variables::Variables;
-use page_io::{List, Memory, Text};
+use page_io::{List, Memory, Stack, Stop, Text};
 use std::alloc::Global;
 use std::mem;
 use tpl_symbol::{Symbol, SymbolKind, Word};
 use tpl_tree::{Base, Func, Operand, Pipe};
 
-const UNEXPECTED: PipeStop = PipeStop::Refused(ParseRefused::UnexpectedToken);
+const UNEXPECTED: Stop<ParseRefused> = Stop::Cause(ParseRefused::UnexpectedToken);
 
 /// The place before a pipe, in which so many parentheses may be opened.
-pub fn pipe_start(alloc: Global, room: u32) -> Place
-    ensures { result ≡ place [] (fresh room) }
+#[inline(always)]
+pub fn pipe_start(alloc: Global, room: u32) -> PipeState
+    ensures { result ≡ pipe_state [] (fresh room) }
 {
-    Place {
+    PipeState {
         outer: Stack::new(alloc),
         level: fresh_level(alloc, room),
     }
 }
 
 /// Goes on to the place after the next symbol of a pipe, where these variables are declared.
+#[inline(always)]
 pub fn read(
     alloc: Global,
     variables: &Variables,
-    at: &mut Place,
+    at: &mut PipeState,
     symbol: &Symbol,
-) -> Result<(), PipeStop>
-    ensures { GivesNew result at.new (read_of variables.now at.old symbol.now) }
+) -> Result<(), Stop<ParseRefused>>
+    ensures { ReadAnswers result at.new (read_of variables.now at.old symbol.now) }
 {
     match &symbol.kind {
         SymbolKind::Str(value) => match copy(alloc, value) {
             Ok(value) => read_operand(alloc, Base::Str(value), at),
-            Err(Memory) => Err(PipeStop::Memory),
+            Err(Memory) => Err(Stop::Memory),
         },
         SymbolKind::Number(number) => read_operand(alloc, Base::Number(*number), at),
         SymbolKind::Dot => read_operand(alloc, Base::Dot, at),
@@ -52,14 +60,15 @@ pub fn read(
         SymbolKind::Right => read_right(alloc, at),
         SymbolKind::Bar => read_bar(at),
         SymbolKind::Function(func) => read_function(alloc, *func, at),
-        SymbolKind::Unknown => Err(PipeStop::Refused(unknown(&at.level.current))),
+        SymbolKind::Unknown => Err(Stop::Cause(unknown(&at.level.current))),
         _ => Err(UNEXPECTED),
     }
 }
 
 /// The pipe that the end of its action ends at this place, which is taken out of it.
-pub fn finish(alloc: Global, at: &mut Place) -> Result<Pipe, PipeStop>
-    ensures { Gives pipe_view result (finish_of at.old) }
+#[inline(always)]
+pub fn finish(alloc: Global, at: &mut PipeState) -> Result<Pipe, Stop<ParseRefused>>
+    ensures { Answers pipe_view result (finish_of at.old) }
 {
     if at.outer.is_empty() {
         take_pipe(alloc, &mut at.level)
@@ -74,8 +83,9 @@ fn copy(alloc: Global, text: &Text) -> Result<Text, Memory>
     Text::copy_of(alloc, text.as_str())
 }
 
-fn read_operand(alloc: Global, base: Base, at: &mut Place) -> Result<(), PipeStop>
-    ensures { GivesNew result at.new (operand_read base at.old) }
+#[inline(always)]
+fn read_operand(alloc: Global, base: Base, at: &mut PipeState) -> Result<(), Stop<ParseRefused>>
+    ensures { ReadAnswers result at.new (operand_read base at.old) }
 {
     if !takes_operand(&at.level) {
         return Err(UNEXPECTED);
@@ -86,12 +96,12 @@ fn read_operand(alloc: Global, base: Base, at: &mut Place) -> Result<(), PipeSto
     };
     match add_operand(&mut at.level, operand) {
         Ok(()) => Ok(()),
-        Err(Memory) => Err(PipeStop::Memory),
+        Err(Memory) => Err(Stop::Memory),
     }
 }
 
-fn read_word(alloc: Global, word: Word, at: &mut Place) -> Result<(), PipeStop>
-    ensures { GivesNew result at.new (read_word_of word at.old.outer at.old.level) }
+fn read_word(alloc: Global, word: Word, at: &mut PipeState) -> Result<(), Stop<ParseRefused>>
+    ensures { ReadAnswers result at.new (read_word_of word at.old.outer at.old.level) }
 {
     match word {
         Word::True => read_operand(alloc, Base::Bool(true), at),
@@ -110,28 +120,33 @@ fn read_variable(
     alloc: Global,
     variables: &Variables,
     name: &Text,
-    at: &mut Place,
-) -> Result<(), PipeStop>
-    ensures { GivesNew result at.new (variable_read variables.now name.now at.old) }
+    at: &mut PipeState,
+) -> Result<(), Stop<ParseRefused>>
+    ensures { ReadAnswers result at.new (variable_read variables.now name.now at.old) }
 {
     if !takes_operand(&at.level) {
         return Err(UNEXPECTED);
     }
     if !variables.has(name) {
-        return Err(PipeStop::Refused(ParseRefused::UndefinedVariable));
+        return Err(Stop::Cause(ParseRefused::UndefinedVariable));
     }
     match copy(alloc, name) {
         Ok(name) => read_operand(alloc, Base::Variable(name), at),
-        Err(Memory) => Err(PipeStop::Memory),
+        Err(Memory) => Err(Stop::Memory),
     }
 }
 
 // A field of the operand that it touches, or an operand of its own.
-fn read_field(alloc: Global, name: &Text, touches: bool, at: &mut Place) -> Result<(), PipeStop>
-    ensures { GivesNew result at.new (read_field_of name.now touches at.old.outer at.old.level) }
+fn read_field(
+    alloc: Global,
+    name: &Text,
+    touches: bool,
+    at: &mut PipeState,
+) -> Result<(), Stop<ParseRefused>>
+    ensures { ReadAnswers result at.new (read_field_of name.now touches at.old.outer at.old.level) }
 {
     let Ok(name) = copy(alloc, name) else {
-        return Err(PipeStop::Memory);
+        return Err(Stop::Memory);
     };
     let added = if touches && last_takes(&at.level.current) {
         add_field(&mut at.level, name)
@@ -142,7 +157,7 @@ fn read_field(alloc: Global, name: &Text, touches: bool, at: &mut Place) -> Resu
     };
     match added {
         Ok(()) => Ok(()),
-        Err(Memory) => Err(PipeStop::Memory),
+        Err(Memory) => Err(Stop::Memory),
     }
 }
 
@@ -161,25 +176,25 @@ fn add_own_field(alloc: Global, level: &mut Level, name: Text) -> Result<(), Mem
     )
 }
 
-fn read_left(alloc: Global, at: &mut Place) -> Result<(), PipeStop>
-    ensures { GivesNew result at.new (read_left_of at.old.level.room at.old.outer at.old.level) }
+fn read_left(alloc: Global, at: &mut PipeState) -> Result<(), Stop<ParseRefused>>
+    ensures { ReadAnswers result at.new (read_left_of at.old.level.room at.old.outer at.old.level) }
 {
     if !takes_operand(&at.level) {
         return Err(UNEXPECTED);
     }
     if at.level.room == 0 {
-        return Err(PipeStop::Refused(ParseRefused::TooNested));
+        return Err(Stop::Cause(ParseRefused::TooNested));
     }
     let inner = fresh_level(alloc, at.level.room - 1);
     let around = mem::replace(&mut at.level, inner);
     match at.outer.push(around) {
         Ok(()) => Ok(()),
-        Err(Memory) => Err(PipeStop::Memory),
+        Err(Memory) => Err(Stop::Memory),
     }
 }
 
-fn read_right(alloc: Global, at: &mut Place) -> Result<(), PipeStop>
-    ensures { GivesNew result at.new (read_right_of at.old.outer at.old.level) }
+fn read_right(alloc: Global, at: &mut PipeState) -> Result<(), Stop<ParseRefused>>
+    ensures { ReadAnswers result at.new (read_right_of at.old.outer at.old.level) }
 {
     let Some(around) = at.outer.pop() else {
         return Err(UNEXPECTED);
@@ -193,15 +208,15 @@ fn read_right(alloc: Global, at: &mut Place) -> Result<(), PipeStop>
             };
             match add_operand(&mut at.level, operand) {
                 Ok(()) => Ok(()),
-                Err(Memory) => Err(PipeStop::Memory),
+                Err(Memory) => Err(Stop::Memory),
             }
         }
         Err(stop) => Err(stop),
     }
 }
 
-fn read_bar(at: &mut Place) -> Result<(), PipeStop>
-    ensures { GivesNew result at.new (read_bar_of at.old.outer at.old.level) }
+fn read_bar(at: &mut PipeState) -> Result<(), Stop<ParseRefused>>
+    ensures { ReadAnswers result at.new (read_bar_of at.old.outer at.old.level) }
 {
     let current = mem::replace(&mut at.level.current, Current::Nothing);
     let Some(command) = ended(current) else {
@@ -209,12 +224,12 @@ fn read_bar(at: &mut Place) -> Result<(), PipeStop>
     };
     match at.level.commands.push(command) {
         Ok(()) => Ok(()),
-        Err(Memory) => Err(PipeStop::Memory),
+        Err(Memory) => Err(Stop::Memory),
     }
 }
 
-fn read_function(alloc: Global, func: Func, at: &mut Place) -> Result<(), PipeStop>
-    ensures { GivesNew result at.new (function_read func at.old) }
+fn read_function(alloc: Global, func: Func, at: &mut PipeState) -> Result<(), Stop<ParseRefused>>
+    ensures { ReadAnswers result at.new (function_read func at.old) }
 {
     match &at.level.current {
         Current::Nothing => {

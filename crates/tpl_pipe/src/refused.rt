@@ -1,5 +1,3 @@
-use page_io::Memory;
-
 /// Why the tokens of a template file are no templates. Each names the first token at which none goes on.
 #[derive(Clone, Copy, Debug, PartialEq, Eq)]
 pub enum ParseRefused {
@@ -25,24 +23,4 @@ pub enum ParseRefused {
     EmptyPipeline,
     /// More than 100 controls and parentheses are open.
     TooNested,
-}
-
-/// Why a pipe is not read on.
-#[derive(Clone, Copy, Debug, PartialEq, Eq, Drop)]
-pub enum PipeStop {
-    /// The symbol may not stand there.
-    Refused(ParseRefused),
-    /// Out of memory.
-    Memory,
-}
-
-impl From<Memory> for PipeStop {
-    ghost use Rattle.std.specs.Prelude.{◌≡◌};
-    ghost use Rattle.tpl_pipe.specs.declared.refused.PipeStop.TheVariants as stop;
-
-    ghost from_gives = { λ _ e. e ≡ stop.Memory };
-
-    fn from(_memory: Memory) -> PipeStop {
-        PipeStop::Memory
-    }
 }

@@ -1,7 +1,7 @@
 -- What stands between the delimiters of an action is printed.
 use Rattle.std.proofs.Common.{◌≡◌, ℕ, ◌≤◌, Bool, true, false, List, [], ◌∷◌, ◌++◌, Option, Some, None, codes, refl, subst}
 use Rattle.tpl_parse.specs.Grammar.{IsAction, IsNamed, IsControl}
-use Rattle.tpl_parse.specs.Nests.{kind_of}
+use Rattle.tpl_parse.specs.Building.{kind_of}
 use Rattle.tpl_parse.specs.declared.frame.Control.{Control}
 use Rattle.tpl_parse.specs.declared.frame.Control.TheVariants as control
 use Rattle.tpl_pipe.specs.Grammar.{Stands, IsPipe}

@@ -4,7 +4,7 @@ use Rattle.std.proofs.lemmas.List.Elements.{All-cons, All-append}
 use Rattle.std.specs.List.{All}
 use Rattle.tpl_parse.specs.Forms.{Forms, no_forms, text, action, control, block, define, Else, no_else, otherwise, else_if, nodes_of, declared_by, found_in, found_else}
 use Rattle.tpl_parse.specs.Grammar.{AreForms, IsElse, IsFileBody}
-use Rattle.tpl_parse.specs.Nests.{first_names, else_names, is_range}
+use Rattle.tpl_parse.specs.Building.{first_names, else_names, is_range}
 use Rattle.tpl_parse.specs.Steps.{most_open}
 use Rattle.tpl_parse.specs.declared.definition.Found.{Found}
 use Rattle.tpl_parse.specs.declared.frame.Control.{Control}

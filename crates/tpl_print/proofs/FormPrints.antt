@@ -3,7 +3,7 @@ use Rattle.std.proofs.Common.{◌≡◌, ◌≢◌, ℕ, zero, suc, ◌≤◌, B
 use Rattle.std.specs.Bool.{⊤}
 use Rattle.tpl_parse.specs.Forms.{Forms, no_forms, text, action, control, block, define, Else, no_else, otherwise, else_if, nodes_of, else_nodes, declared_by, found_in, found_else}
 use Rattle.tpl_parse.specs.Grammar.{StandsOn, Opens, Closes, IsEnd, body_end, EndsBody, IsAction, IsControl, IsIf, AreForms, IsElse}
-use Rattle.tpl_parse.specs.Nests.{kind_of, first_names, else_names, is_range}
+use Rattle.tpl_parse.specs.Building.{kind_of, first_names, else_names, is_range}
 use Rattle.tpl_parse.specs.declared.definition.Found.{Found}
 use Rattle.tpl_parse.specs.declared.frame.Control.{Control}
 use Rattle.tpl_parse.specs.declared.frame.Control.TheVariants as control_word

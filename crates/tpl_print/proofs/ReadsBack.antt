@@ -3,7 +3,7 @@ use Rattle.std.proofs.Common.{◌≡◌, ℕ, false, true, List, [], ◌∷◌, 
 use Rattle.tpl_parse.specs.Endings.{defs_of, second_line}
 use Rattle.tpl_parse.specs.Files.{last_line}
 use Rattle.tpl_parse.specs.Forms.{nodes_of, is_blank, found_in}
-use Rattle.tpl_parse.specs.Nests.{def_of, found_of}
+use Rattle.tpl_parse.specs.Building.{def_of, found_of}
 use Rattle.tpl_parse.specs.Steps.{most_open}
 use Rattle.tpl_parse.specs.declared.definition.Def.{Def}
 use Rattle.tpl_parse.specs.declared.definition.Found.{Found}

@@ -19,8 +19,9 @@ use Rattle.tpl_symbol.specs.declared.symbol.Symbol.{Symbol}
 use Rattle.tpl_symbol.specs.declared.symbol.SymbolKind.{SymbolKind}
 use Rattle.tpl_symbol.specs.declared.symbol.SymbolKind.TheVariants as symbol
 use Rattle.tpl_token.proofs.Marks.{either, tells}
+use Rattle.tpl_token.proofs.NextStands.{inner_stands}
 use Rattle.tpl_token.specs.Characters.{begins, first_is, is_white}
-use Rattle.tpl_token.specs.Grammar.{cursor, MayClose, IsInAction, IsInner, Stands, Reads, IsEnd, AreTokens}
+use Rattle.tpl_token.specs.Grammar.{cursor, MayClose, IsInAction, Reads, IsEnd, AreTokens}
 use Rattle.tpl_token.specs.Lexemes.{EndsWord, IsLexeme}
 use Rattle.tpl_token.specs.Texts.{text_len, trims_before, kept_end}
 use Rattle.tpl_token.specs.declared.cursor.Cursor.{Cursor}
@@ -83,24 +84,6 @@ closed_behind done last plain new = put-last done last new ∙ ap (λ (xs : List
 
 snoc : (done more : List Symbol) (s : Symbol) → (done ++ s ∷ []) ++ more ≡ done ++ (s ∷ more)
 snoc done more s = append_assoc done (s ∷ []) more
-
-inner_stands : (what : TokenKind) (bytes rest text : List ℕ) (from : Cursor) (start end : ℕ) (to : Cursor) → IsLexeme what bytes rest → IsInner what text from start end to → Stands what text from start end to
-inner_stands kind.Text bytes rest text from start end to l h = absurd l
-inner_stands kind.Open bytes rest text from start end to l h = absurd l
-inner_stands kind.Close bytes rest text from start end to l h = absurd l
-inner_stands kind.Comment bytes rest text from start end to l h = absurd l
-inner_stands kind.Name bytes rest text from start end to l h = h
-inner_stands kind.Field bytes rest text from start end to l h = h
-inner_stands kind.Dot bytes rest text from start end to l h = h
-inner_stands kind.Variable bytes rest text from start end to l h = h
-inner_stands (kind.Number n) bytes rest text from start end to l h = h
-inner_stands (kind.Str value) bytes rest text from start end to l h = h
-inner_stands kind.Declare bytes rest text from start end to l h = h
-inner_stands kind.Assign bytes rest text from start end to l h = h
-inner_stands kind.Bar bytes rest text from start end to l h = h
-inner_stands kind.Comma bytes rest text from start end to l h = h
-inner_stands kind.Left bytes rest text from start end to l h = h
-inner_stands kind.Right bytes rest text from start end to l h = h
 
 -- what a token of an action is to the grammar
 record IsSymbol (what : TokenKind) (bytes text : List ℕ) (t : Token) (before after : Bool) : Type 0 where

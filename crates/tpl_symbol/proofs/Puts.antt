@@ -18,3 +18,14 @@ apart kind other last new differs = refl
 -- what is no text stays as it is
 pub joined-apart : (last new : Symbol) → ((bytes : List ℕ) (seams : List Seam) → last.kind ≢ symbol.Text bytes seams) → joined last new ≡ last ∷ new ∷ []
 joined-apart last new differs = apart last.kind new.kind last new differs
+
+apart_after : (kind other : SymbolKind) (last new : Symbol) → ((bytes : List ℕ) (seams : List Seam) → other ≢ symbol.Text bytes seams) → joined_kinds kind other last new ≡ last ∷ new ∷ []
+apart_after (symbol.Text _ _) (symbol.Text bytes seams) last new differs = absurd (differs bytes seams refl)
+apart_after (symbol.Text _ _) other last new differs = refl
+apart_after kind other last new differs = refl
+
+-- what is no text is put after the others as it is
+pub put-apart : (symbols : List Symbol) (new : Symbol) → ((bytes : List ℕ) (seams : List Seam) → new.kind ≢ symbol.Text bytes seams) → put symbols new ≡ symbols ++ new ∷ []
+put-apart [] new differs = refl
+put-apart (last ∷ []) new differs = apart_after last.kind new.kind last new differs
+put-apart (s ∷ t ∷ symbols) new differs = ap (λ (xs : List Symbol). s ∷ xs) (put-apart (t ∷ symbols) new differs)

@@ -1,12 +1,13 @@
 ghost use Rattle.std.specs.Prelude.{◌≡◌, ◌++◌, OnOk};
 ghost use Rattle.std.specs.List.{All};
-ghost use Rattle.tpl_symbol.specs.Joins.{joined, put as put_of, put_apart, put_kind as put_kind_of};
+ghost use Rattle.tpl_symbol.specs.Joins.{joined, put as put_of, put_apart, put_kind as put_kind_of, symbol_at};
 ghost use Rattle.tpl_symbol.specs.Symbols.{IsFine};
 
 use crate::symbol::{Seam, Symbol, SymbolKind};
 use page_io::Memory;
 
 /// Puts a symbol of this kind, where there is one, after the others. A text goes on the text before it.
+#[inline(always)]
 pub fn put_kind(
     symbols: &mut Vec<Symbol>,
     kind: Option<SymbolKind>,
@@ -17,19 +18,38 @@ pub fn put_kind(
     ensures { OnOk result (symbols.new.items ≡ put_kind_of symbols.old.items kind line touches) }
 {
     match kind {
-        Some(kind) => put(
-            symbols,
-            Symbol {
-                kind,
-                line,
-                touches,
-            },
-        ),
+        Some(kind) => put_new(symbols, kind, line, touches),
         None => Ok(()),
     }
 }
 
-// Puts a symbol after the others.
+// Puts a symbol after the others. Only a text has to look at the one before it.
+#[inline(always)]
+fn put_new(
+    symbols: &mut Vec<Symbol>,
+    kind: SymbolKind,
+    line: u32,
+    touches: bool,
+) -> Result<(), Memory>
+    requires { All IsFine symbols.old.items }
+    ensures { let new = symbol_at kind line touches in
+        OnOk result (symbols.new.items ≡ put_of symbols.old.items new) }
+{
+    match kind {
+        SymbolKind::Text(bytes, seams) => put(
+            symbols,
+            Symbol {
+                kind: SymbolKind::Text(bytes, seams),
+                line,
+                touches,
+            },
+        ),
+        kind => put_one(symbols, kind, line, touches),
+    }
+}
+
+// Puts a symbol after the others, whatever it is.
+#[inline(never)]
 fn put(symbols: &mut Vec<Symbol>, symbol: Symbol) -> Result<(), Memory>
     requires { All IsFine symbols.old.items }
     ensures { OnOk result (symbols.new.items ≡ put_of symbols.old.items symbol) }
@@ -74,6 +94,7 @@ fn put_joined(symbols: &mut Vec<Symbol>, last: Symbol, symbol: Symbol) -> Result
 }
 
 // Puts a symbol after the others as it is.
+#[inline(always)]
 fn put_one(
     symbols: &mut Vec<Symbol>,
     kind: SymbolKind,

@@ -1,7 +1,9 @@
 ghost use Rattle.std.specs.Prelude.{◌≡◌, ◌-◌, ◌<◌, ◌≤◌, IfOk, length};
 ghost use Rattle.std.specs.Str.{IsCharBoundary};
 ghost use Rattle.tpl_symbol.specs.Lines.{line_of as line_at};
-ghost use Rattle.tpl_symbol.specs.Kinds.{begins_comment as begins_comment_of, bytes_of as bytes_at, is_comment as is_comment_of, kind_at, unmarked as unmarked_of};
+ghost use Rattle.tpl_symbol.specs.Kinds.{begins_comment as begins_comment_of, bytes_of as bytes_at};
+ghost use Rattle.tpl_symbol.specs.Kinds.{is_comment as is_comment_of, kind_at};
+ghost use Rattle.tpl_symbol.specs.Kinds.{unmarked as unmarked_of};
 
 use crate::name::name_kind;
 use crate::symbol::SymbolKind;

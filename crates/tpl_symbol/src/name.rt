@@ -1,5 +1,6 @@
 ghost use Rattle.std.specs.Prelude.{◌≡◌};
-ghost use Rattle.tpl_symbol.specs.Names.{function_of as function_by, name_kind as name_kind_of, word_of as word_by};
+ghost use Rattle.tpl_symbol.specs.Names.{function_of as function_by, name_kind as name_kind_of};
+ghost use Rattle.tpl_symbol.specs.Names.{word_of as word_by};
 
 use crate::func::Func;
 use crate::symbol::SymbolKind;

@@ -10,7 +10,7 @@ pub mod Missed
 pub mod NextFound
 pub mod NextStands
 pub mod NumberLaws
-pub mod Quotes
+pub mod QuotedStrings
 pub mod Raws
 pub mod Runs
 pub mod StringLaws

@@ -22,7 +22,7 @@ use Rattle.tpl_token.specs.declared.token.TokenKind.TheVariants as kind
 use Rattle.tpl_token.proofs.LexemesStand.{says_lexeme}
 use Rattle.tpl_token.proofs.Marks.{either, begins-is, no_cons}
 use Rattle.tpl_token.proofs.NextFound.{in_action, skips, comment_none}
-use Rattle.tpl_token.proofs.Quotes.{quoted_no_escape}
+use Rattle.tpl_token.proofs.QuotedStrings.{quoted_no_escape}
 use Rattle.tpl_token.proofs.StringLaws.{parts_read}
 
 -- nothing is found

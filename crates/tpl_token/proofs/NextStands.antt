@@ -88,7 +88,7 @@ may_close (state.Action _) opened between trims h white some = (white, some)
 may_close state.Commented opened between trims h white some = absurd h
 
 -- a token of an action
-inner_stands : (what : TokenKind) (bytes rest text : List ℕ) (from : Cursor) (start end : ℕ) (to : Cursor) → IsLexeme what bytes rest → IsInner what text from start end to → Stands what text from start end to
+pub inner_stands : (what : TokenKind) (bytes rest text : List ℕ) (from : Cursor) (start end : ℕ) (to : Cursor) → IsLexeme what bytes rest → IsInner what text from start end to → Stands what text from start end to
 inner_stands kind.Text bytes rest text from start end to l h = absurd l
 inner_stands kind.Open bytes rest text from start end to l h = absurd l
 inner_stands kind.Close bytes rest text from start end to l h = absurd l

@@ -1,5 +1,5 @@
 -- Where a byte that is searched stands, the run of other bytes before it ends.
-use Rattle.std.proofs.Common.{◌≡◌, ℕ, Bool, not, List, length, get_or, Option, Some, None, refl, sym, ap, ◌∙◌, arith}
+use Rattle.std.proofs.Common.{◌≡◌, ℕ, Bool, not, List, length, get_or, Some, None, sym, ap, arith}
 use Rattle.std.proofs.lemmas.List.Sums.{prefix_len_is}
 use Rattle.std.specs.List.{prefix_len}
 use Rattle.memchr.specs.Find.{IsFirstByte}

@@ -10,7 +10,7 @@ use Rattle.std.specs.Str.{bytes_eq}
 use Rattle.tpl_token.specs.Scanning.{Quoted, ended, cut, bad, after, quoted, escape_at, escape_len}
 use Rattle.tpl_token.proofs.Cuts.{escape_is}
 use Rattle.tpl_token.proofs.Marks.{split, either, one_more}
-use Rattle.tpl_token.proofs.Quotes.{after_nothing, after_twice, plain_step, quoted_escape, quoted_no_escape}
+use Rattle.tpl_token.proofs.QuotedStrings.{after_nothing, after_twice, plain_step, quoted_escape, quoted_no_escape}
 
 -- an escape that begins bytes ends where these say
 escape_at_first : (b n : ℕ) (bs : List ℕ) → 0 < n → escape_len (b ∷ bs) ≡ n → escape_len (take n (b ∷ bs)) ≡ n

@@ -1,4 +1,5 @@
-ghost use Rattle.std.specs.Prelude.{◌≡◌, ◌+◌, ◌<◌, ◌≤◌, ◌^◌, [], length, false, All, IfOk, OnOk, OnErr};
+ghost use Rattle.std.specs.Prelude.{◌≡◌, ◌+◌, ◌<◌, ◌≤◌, ◌^◌, [], length, false, All, IfOk, OnOk};
+ghost use Rattle.std.specs.Prelude.{OnErr};
 ghost use Rattle.tpl_tree.specs.Trees.{NodesData, no_nodes, node, alone, append, is_text};
 ghost use Rattle.tpl_tree.specs.Listing.{linked};
 ghost use Rattle.tpl_tree.specs.declared.node_kind.NodeKind.TheVariants as kind_of;
@@ -52,7 +53,8 @@ impl Body {
         requires bound { length text ≤ 2 ^ 20 }
         requires line { line + length text < 2 ^ 32 }
         requires seams { All (λ s. s.line + length text < 2 ^ 32) seams }
-        ensures ok { OnOk result (self.new ≡ append self.old (alone (kind_of.Text text) line seams)) }
+        ensures ok { let more = alone (kind_of.Text text) line seams in
+            OnOk result (self.new ≡ append self.old more) }
         ensures err { OnErr result (self.new ≡ self.old) }
     {
         let alloc = *self.entries.allocator();
@@ -70,7 +72,8 @@ impl Body {
         other: Body,
     ) -> Result<(), Memory>
         requires { is_text kind ≡ false }
-        ensures ok { OnOk result (self.new ≡ append self.old (node kind line [] first other no_nodes)) }
+        ensures ok { let more = node kind line [] first other no_nodes in
+            OnOk result (self.new ≡ append self.old more) }
         ensures err { OnErr result (self.new ≡ self.old) }
     {
         let alloc = *self.entries.allocator();
@@ -79,6 +82,7 @@ impl Body {
     }
 
     /// Appends a node that is no text and has no parts, or leaves the nodes as they were when memory runs out.
+    #[inline(always)]
     pub fn push_alone(&mut self, kind: NodeKind, line: u32) -> Result<(), Memory>
         requires { is_text kind ≡ false }
         ensures ok { OnOk result (self.new ≡ append self.old (alone kind line [])) }
@@ -133,6 +137,7 @@ impl Body {
 }
 
 // Tells the entry `last`, if it is one of the first `count` ones, that a node follows it.
+#[inline(always)]
 fn link(entries: &mut Vec<Entry>, count: usize, last: usize)
     requires { count ≤ length entries.old.items }
     ensures { entries.new.items ≡ linked entries.old.items count last }

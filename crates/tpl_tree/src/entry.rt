@@ -39,7 +39,8 @@ impl Entry {
     }
 }
 
-fn copy_seams(alloc: Global, seams: &List<Seam>) -> Result<List<Seam>, Memory>
+/// Equal seams. The error is out of memory.
+pub fn copy_seams(alloc: Global, seams: &List<Seam>) -> Result<List<Seam>, Memory>
     ensures { IfOk result (λ copy. copy ≡ seams.now) }
 {
     let mut copies = List::new(alloc);

@@ -1,5 +1,6 @@
 ghost use Rattle.std.specs.Prelude.{◌≡◌, ◌<◌, ◌^◌, length, Some, IfOk, IfSome, option_and_then};
-ghost use Rattle.tpl_tree.specs.Forests.{HasAscendingNames, name_at, number_named, tree_at, tree_named};
+ghost use Rattle.tpl_tree.specs.Forests.{HasAscendingNames, name_at, number_named, tree_at};
+ghost use Rattle.tpl_tree.specs.Forests.{tree_named};
 
 use crate::tree::Tree;
 use page_io::{Memory, Text, number_of_key};

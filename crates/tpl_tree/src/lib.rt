@@ -11,6 +11,7 @@ mod pipe;
 mod tree;
 
 pub use body::Body;
+pub use entry::copy_seams;
 pub use forest::Forest;
 pub use node_kind::NodeKind;
 pub use pipe::{Base, Command, Commands, Operand, Operands, Pipe};

@@ -139,7 +139,8 @@ impl Operands {
     /// The operands in order. Each is smaller than the whole.
     pub fn as_slice(&self) -> &[Operand]
         ensures all { operands_view result.now ≡ self.now }
-        ensures smaller { All (λ o. operand_size (operand_view o) < operands_size self.now) result.now }
+        ensures smaller { let size = operands_size self.now in
+            All (λ o. operand_size (operand_view o) < size) result.now }
     {
         self.items.as_slice()
     }

@@ -1,6 +1,9 @@
-ghost use Rattle.std.specs.Prelude.{◌≡◌, ◌+◌, ◌<◌, ◌≤◌, ◌^◌, nat_lt, if◌then◌else◌, length, Some, None, IfOk};
+ghost use Rattle.std.specs.Prelude.{◌≡◌, ◌+◌, ◌<◌, ◌≤◌, ◌^◌, nat_lt, if◌then◌else◌, length, Some};
+ghost use Rattle.std.specs.Prelude.{None, IfOk};
 ghost use Rattle.tpl_tree.specs.Listing.{nodes_of, IsListing, IsEntry};
-ghost use Rattle.tpl_tree.specs.Trees.{nodes_size, nodes_from, part_of, rest_of, head_kind, head_line, head_seams, head_text, text_line, number_of, child_number, next_number, IsFine, IsTextInBounds, Stands};
+ghost use Rattle.tpl_tree.specs.Trees.{nodes_size, nodes_from, part_of, rest_of, head_kind};
+ghost use Rattle.tpl_tree.specs.Trees.{head_line, head_seams, head_text, text_line, number_of};
+ghost use Rattle.tpl_tree.specs.Trees.{child_number, next_number, IsFine, IsTextInBounds, Stands};
 
 use crate::entry::Entry;
 use crate::lines::line_in;
@@ -82,7 +85,8 @@ impl Tree {
     pub fn child(&self, node: u32, part: u32) -> Option<u32>
         requires { node < nodes_size self.now.nodes }
         ensures number { result ≡ child_number self.now.nodes node part }
-        ensures stands { Stands self.now.nodes (part_of part (nodes_from self.now.nodes node)) result }
+        ensures stands { let nodes = part_of part (nodes_from self.now.nodes node) in
+            Stands self.now.nodes nodes result }
     {
         let entry = self.entry(node);
         match part {
@@ -111,7 +115,8 @@ impl Tree {
     pub fn line_at(&self, node: u32, byte: u32) -> u32
         requires node { node < nodes_size self.now.nodes }
         requires byte { byte ≤ length (head_text (nodes_from self.now.nodes node)) }
-        ensures { result ≡ text_line (head_text (nodes_from self.now.nodes node)) (head_line (nodes_from self.now.nodes node)) (head_seams (nodes_from self.now.nodes node)) byte }
+        ensures { let nodes = nodes_from self.now.nodes node in
+            result ≡ text_line (head_text nodes) (head_line nodes) (head_seams nodes) byte }
     {
         let entry = self.entry(node);
         match &entry.kind {
@@ -150,8 +155,11 @@ impl Tree {
     fn entry(&self, node: u32) -> &Entry
         requires { node < nodes_size self.now.nodes }
         ensures entry { IsEntry (nodes_from self.now.nodes node) result.now }
-        ensures room { node + nodes_size (nodes_from self.now.nodes node) ≤ nodes_size self.now.nodes }
-        ensures sizes { nodes_size (nodes_from self.now.nodes node) ≡ 1 + result.now.first + result.now.other + nodes_size (rest_of (nodes_from self.now.nodes node)) }
+        ensures room { let nodes = nodes_from self.now.nodes node in
+            node + nodes_size nodes ≤ nodes_size self.now.nodes }
+        ensures sizes { let nodes = nodes_from self.now.nodes node in
+            let parts = result.now.first + result.now.other in
+            nodes_size nodes ≡ 1 + parts + nodes_size (rest_of nodes) }
         ensures fits { nodes_size self.now.nodes < 2 ^ 32 }
     {
         &self.entries[node as usize]

@@ -7,7 +7,7 @@ use Rattle.page_datum.specs.View.{view, items_view, entries_view}
 use Rattle.page_datum.specs.declared.datum.Datum.{Datum}
 use Rattle.page_datum.specs.declared.fault.FaultKind.{FaultKind}
 use Rattle.page_datum.specs.declared.fault.FaultKind.TheVariants.{IndexRange}
-use Rattle.tpl_value.specs.Picking.{item_at, item_of, Picks}
+use Rattle.tpl_value.specs.Picking.{item_at, item_of, PickAnswers}
 use Rattle.tpl_value.specs.declared.pick.Picked.{Picked}
 use Rattle.tpl_value.specs.Truth.{has_entries}
 
@@ -36,6 +36,6 @@ pub item_before : (at : ℤ) (items : DataList) → lt_z at (pos 0) ≡ true →
 item_before (pos n) items h = absurd (true≢false (sym h ∙ le-ltb n 0 (omega arith)))
 item_before (negsuc n) items h = refl
 
-pub item_from : (at : ℤ) (n : ℕ) (items : DataList) (result : Result Picked FaultKind) → lt_z at (pos 0) ≡ false → n ≡ nat_abs at → Picks (item_at n items) result → Picks (item_of at items) result
-item_from (pos m) n items result h e p = subst (λ (k : ℕ). Picks (item_at k items) result) e p
+pub item_from : (at : ℤ) (n : ℕ) (items : DataList) (result : Result Picked FaultKind) → lt_z at (pos 0) ≡ false → n ≡ nat_abs at → PickAnswers (item_at n items) result → PickAnswers (item_of at items) result
+item_from (pos m) n items result h e p = subst (λ (k : ℕ). PickAnswers (item_at k items) result) e p
 item_from (negsuc m) n items result h e p = cc

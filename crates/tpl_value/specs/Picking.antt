@@ -34,7 +34,7 @@ index_of (dict _) key = Err KeyKind
 index_of datum key = Err NotIndexable
 
 -- how a call answers with what was found, or a fault
-abbrev pub Picks : Result (Option Data) FaultKind → Result Picked FaultKind → Type 0
-Picks outcome (Ok (Value value)) = outcome ≡ Ok (Some (view value.now))
-Picks outcome (Ok Nothing) = outcome ≡ Ok None
-Picks outcome (Err kind) = outcome ≡ Err kind
+abbrev pub PickAnswers : Result (Option Data) FaultKind → Result Picked FaultKind → Type 0
+PickAnswers outcome (Ok (Value value)) = outcome ≡ Ok (Some (view value.now))
+PickAnswers outcome (Ok Nothing) = outcome ≡ Ok None
+PickAnswers outcome (Err kind) = outcome ≡ Err kind

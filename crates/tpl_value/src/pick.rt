@@ -1,6 +1,6 @@
 ghost use Rattle.std.specs.Prelude.{Ok, option_map};
 ghost use Rattle.page_datum.specs.View.{view, items_view};
-ghost use Rattle.tpl_value.specs.Picking.{Picks, field_of, index_of};
+ghost use Rattle.tpl_value.specs.Picking.{PickAnswers, field_of, index_of};
 ghost use Rattle.tpl_value.specs.Picking.{item_at as item_at_of, item_of};
 
 use page_datum::{Datum, FaultKind};
@@ -15,7 +15,7 @@ pub enum Picked<'a> {
 /// The value of a field: that of its key in a dictionary, and nothing where the dictionary lacks it. The errors are NilField, a
 /// field of null, and NoField, a field of anything else. Takes no memory.
 pub fn field<'a>(datum: &'a Datum, name: &str) -> Result<Picked<'a>, FaultKind>
-    ensures { Picks (field_of name.now (view datum.now)) result }
+    ensures { PickAnswers (field_of name.now (view datum.now)) result }
 {
     match datum {
         Datum::Dict(entries) => Ok(found(entries.get(name))),
@@ -28,7 +28,7 @@ pub fn field<'a>(datum: &'a Datum, name: &str) -> Result<Picked<'a>, FaultKind>
 /// and nothing where the dictionary lacks it. The errors are IndexRange, no such item, KeyKind, another kind of key, and
 /// NotIndexable, any other value. Takes no memory.
 pub fn index<'a>(datum: &'a Datum, key: &Datum) -> Result<Picked<'a>, FaultKind>
-    ensures { Picks (index_of (view datum.now) (view key.now)) result }
+    ensures { PickAnswers (index_of (view datum.now) (view key.now)) result }
 {
     match (datum, key) {
         (Datum::List(items), Datum::Int(at)) => item_at(items.as_slice(), *at),
@@ -39,7 +39,7 @@ pub fn index<'a>(datum: &'a Datum, key: &Datum) -> Result<Picked<'a>, FaultKind>
 }
 
 fn found(value: Option<&Datum>) -> Picked<'_>
-    ensures { Picks (Ok (option_map (λ d. view d.now) value.entry)) (Ok result) }
+    ensures { PickAnswers (Ok (option_map (λ d. view d.now) value.entry)) (Ok result) }
 {
     match value {
         Some(value) => Picked::Value(value),
@@ -48,7 +48,7 @@ fn found(value: Option<&Datum>) -> Picked<'_>
 }
 
 fn item_at(items: &[Datum], at: i64) -> Result<Picked<'_>, FaultKind>
-    ensures { Picks (item_of at (items_view items.now)) result }
+    ensures { PickAnswers (item_of at (items_view items.now)) result }
 {
     if at < 0 {
         return Err(FaultKind::IndexRange);
@@ -57,7 +57,7 @@ fn item_at(items: &[Datum], at: i64) -> Result<Picked<'_>, FaultKind>
 }
 
 fn numbered_item(items: &[Datum], number: usize) -> Result<Picked<'_>, FaultKind>
-    ensures { Picks (item_at_of number (items_view items.now)) result }
+    ensures { PickAnswers (item_at_of number (items_view items.now)) result }
 {
     match items.get(number) {
         Some(item) => Ok(Picked::Value(item)),

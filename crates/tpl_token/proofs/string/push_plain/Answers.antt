@@ -4,7 +4,7 @@ use Rattle.std.specs.List.{prefix_len}
 use Rattle.tpl_token.specs.Strings.{is_plain}
 use Rattle.tpl_token.proofs.Cuts.{cut_after_run, plain_ascii}
 use Rattle.tpl_token.proofs.Marks.{stops_at}
-use Rattle.tpl_token.proofs.Quotes.{after_run}
+use Rattle.tpl_token.proofs.QuotedStrings.{after_run}
 use Rattle.tpl_token.proofs.string.push_plain.Goals as goal
 
 pub range-requires-clause-end_boundary : goal.range-requires-clause-end_boundary

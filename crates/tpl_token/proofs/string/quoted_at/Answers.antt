@@ -3,7 +3,7 @@ use Rattle.std.proofs.lemmas.Str.{IsCharBoundary-after_ascii}
 use Rattle.tpl_token.specs.Characters.{begins}
 use Rattle.tpl_token.specs.Scanning.{Quoted, after, quoted}
 use Rattle.tpl_token.proofs.Cuts.{cut_after_escape}
-use Rattle.tpl_token.proofs.Quotes.{after_nothing, at_quote, at_cut, at_bad, after_escape}
+use Rattle.tpl_token.proofs.QuotedStrings.{after_nothing, at_quote, at_cut, at_bad, after_escape}
 use Rattle.tpl_token.proofs.string.quoted_at.Goals as goal
 
 -- nothing is read yet

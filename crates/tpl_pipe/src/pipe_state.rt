@@ -1,9 +1,9 @@
-use crate::stack::Stack;
+use page_io::Stack;
 use tpl_tree::{Command, Func, Operand};
 
 /// Where in a pipe reading is.
 #[derive(Debug, Drop)]
-pub struct Place {
+pub struct PipeState {
     /// The pipes around it whose parentheses are open, the innermost last.
     pub outer: Stack<Level>,
     /// The innermost pipe.

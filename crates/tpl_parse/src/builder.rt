@@ -1,22 +1,33 @@
-ghost use Rattle.std.specs.Prelude.{◌≡◌, ◌<◌, ◌≤◌, ◌+◌, ◌^◌, ◌++◌, ◌∷◌, OnOk, All, length, false, if◌then◌else◌};
+ghost use Rattle.std.specs.Prelude.{◌≡◌, ◌<◌, ◌≤◌, ◌+◌, ◌^◌, ◌++◌, ◌∷◌, OnOk, All, length, false};
+ghost use Rattle.std.specs.Prelude.{if◌then◌else◌};
 ghost use Rattle.std.specs.List.{list_all};
-ghost use Rattle.tpl_parse.specs.Nests.{closed_control as closed_control_of, closed_definition as closed_definition_of, closed_from, done as done_of, else_names as else_names_of, end_line as end_line_of, empty_nest as empty_nest_of, filled as filled_of, filled_one, first_names as first_names_of, is_range as is_range_of, kind_of as kind_in, names_of, opened as opened_of, other_begun, piped_nest, with_definition as with_definition_of, with_else as with_else_of, with_end as with_end_of, with_node as with_node_of, with_text as with_text_of};
+ghost use Rattle.tpl_parse.specs.Building.{closed_control as closed_control_of};
+ghost use Rattle.tpl_parse.specs.Building.{closed_definition as closed_definition_of, closed_from};
+ghost use Rattle.tpl_parse.specs.Building.{done as done_of, else_names as else_names_of};
+ghost use Rattle.tpl_parse.specs.Building.{end_line as end_line_of};
+ghost use Rattle.tpl_parse.specs.Building.{empty_builder as empty_builder_of, filled as filled_of};
+ghost use Rattle.tpl_parse.specs.Building.{filled_one, first_names as first_names_of};
+ghost use Rattle.tpl_parse.specs.Building.{is_range as is_range_of, kind_of as kind_in, names_of};
+ghost use Rattle.tpl_parse.specs.Building.{opened as opened_of, other_begun, piped_builder};
+ghost use Rattle.tpl_parse.specs.Building.{with_definition as with_definition_of};
+ghost use Rattle.tpl_parse.specs.Building.{with_else as with_else_of, with_end as with_end_of};
+ghost use Rattle.tpl_parse.specs.Building.{with_node as with_node_of, with_text as with_text_of};
 ghost use Rattle.tpl_token.specs.Characters.{is_white as is_white_byte};
 ghost use Rattle.tpl_tree.specs.Trees.{is_text};
 
+use crate::action::{ActionKind, Opening, Purpose};
 use crate::definition::{Def, Found};
 use crate::frame::{Around, Control, Frame, OpenControl, OpenDefinition};
-use crate::head::{Deed, Opening, Purpose};
-use page_io::{List, Memory, Text};
+use page_io::{List, Memory, Stack, Text};
 use std::alloc::Global;
 use std::mem;
-use tpl_pipe::{Stack, Variables};
+use tpl_pipe::Variables;
 use tpl_symbol::Seam;
 use tpl_tree::{Body, NodeKind, Pipe, Tree};
 
 /// What was read of a file, outside actions.
-#[derive(Debug, Drop)]
-pub struct Nest {
+#[derive(Drop)]
+pub struct Builder {
     /// What is open, the innermost last.
     pub frames: Stack<Frame>,
     /// The nodes of the innermost part so far.
@@ -34,10 +45,10 @@ pub struct Nest {
 }
 
 // Nothing of a file, in which so many controls and parentheses may be opened.
-pub fn empty_nest(alloc: Global, room: u32) -> Nest
-    ensures { result ≡ empty_nest_of room }
+pub fn empty_builder(alloc: Global, room: u32) -> Builder
+    ensures { result ≡ empty_builder_of room }
 {
-    Nest {
+    Builder {
         frames: Stack::new(alloc),
         body: Body::new(alloc),
         variables: Variables::new(alloc),
@@ -49,15 +60,20 @@ pub fn empty_nest(alloc: Global, room: u32) -> Nest
 }
 
 // Adds a text.
-pub fn add_text(nest: &mut Nest, text: Text, line: u32, seams: List<Seam>) -> Result<(), Memory>
+pub fn add_text(
+    builder: &mut Builder,
+    text: Text,
+    line: u32,
+    seams: List<Seam>,
+) -> Result<(), Memory>
     requires some { 0 < length text }
     requires bound { length text ≤ 2 ^ 20 }
     requires line { line + length text < 2 ^ 32 }
     requires seams { All (λ s. s.line + length text < 2 ^ 32) seams }
-    ensures { OnOk result (nest.new ≡ with_text_of text line seams nest.old) }
+    ensures { OnOk result (builder.new ≡ with_text_of text line seams builder.old) }
 {
-    nest.blank = nest.blank && is_white(text.as_str());
-    nest.body.push_text(text, line, seams)?;
+    builder.blank = builder.blank && is_white(text.as_str());
+    builder.body.push_text(text, line, seams)?;
     Ok(())
 }
 
@@ -70,37 +86,38 @@ fn is_white(text: &str) -> bool
 }
 
 // Adds a node that has no parts.
-fn add_node(nest: &mut Nest, kind: NodeKind, line: u32) -> Result<(), Memory>
+#[inline(always)]
+fn add_node(builder: &mut Builder, kind: NodeKind, line: u32) -> Result<(), Memory>
     requires { is_text kind ≡ false }
-    ensures { OnOk result (nest.new ≡ with_node_of kind line nest.old) }
+    ensures { OnOk result (builder.new ≡ with_node_of kind line builder.old) }
 {
-    nest.body.push_alone(kind, line)?;
-    nest.blank = false;
+    builder.body.push_alone(kind, line)?;
+    builder.blank = false;
     Ok(())
 }
 
 // Opens a control on a line.
 fn open_control(
     alloc: Global,
-    nest: &mut Nest,
+    builder: &mut Builder,
     control: Control,
     pipe: Pipe,
     line: u32,
     chained: bool,
 ) -> Result<(), Memory>
-    ensures { OnOk result (nest.new ≡ opened_of control pipe line chained nest.old) }
+    ensures { OnOk result (builder.new ≡ opened_of control pipe line chained builder.old) }
 {
     let around = Around {
-        variables: nest.variables.len(),
-        in_range: nest.in_range,
-        room: nest.room,
+        variables: builder.variables.len(),
+        in_range: builder.in_range,
+        room: builder.room,
     };
-    add_first_names(alloc, &mut nest.variables, &control)?;
-    nest.in_range = is_range(&control) || nest.in_range;
-    nest.room = nest.room.saturating_sub(1);
-    nest.blank = false;
-    let before = mem::replace(&mut nest.body, Body::new(alloc));
-    nest.frames.push(Frame::Control(OpenControl {
+    add_first_names(alloc, &mut builder.variables, &control)?;
+    builder.in_range = is_range(&control) || builder.in_range;
+    builder.room = builder.room.saturating_sub(1);
+    builder.blank = false;
+    let before = mem::replace(&mut builder.body, Body::new(alloc));
+    builder.frames.push(Frame::Control(OpenControl {
         control,
         pipe,
         line,
@@ -158,13 +175,13 @@ fn add_name(alloc: Global, variables: &mut Variables, name: &Option<Text>) -> Re
 
 // Begins the `else` part of the innermost control.
 #[inline(never)]
-pub fn begin_else(alloc: Global, nest: &mut Nest) -> Result<(), Memory>
-    ensures { OnOk result (nest.new ≡ with_else_of nest.old) }
+pub fn begin_else(alloc: Global, builder: &mut Builder) -> Result<(), Memory>
+    ensures { OnOk result (builder.new ≡ with_else_of builder.old) }
 {
-    match nest.frames.pop() {
-        Some(Frame::Control(innermost)) => begin_other(alloc, nest, innermost),
+    match builder.frames.pop() {
+        Some(Frame::Control(innermost)) => begin_other(alloc, builder, innermost),
         Some(frame) => {
-            nest.frames.push(frame)?;
+            builder.frames.push(frame)?;
             Ok(())
         }
         None => Ok(()),
@@ -172,36 +189,36 @@ pub fn begin_else(alloc: Global, nest: &mut Nest) -> Result<(), Memory>
 }
 
 // The same, where the control was taken off the others that are open.
-fn begin_other(alloc: Global, nest: &mut Nest, innermost: OpenControl) -> Result<(), Memory>
-    ensures { OnOk result (nest.new ≡ other_begun innermost nest.old) }
+fn begin_other(alloc: Global, builder: &mut Builder, innermost: OpenControl) -> Result<(), Memory>
+    ensures { OnOk result (builder.new ≡ other_begun innermost builder.old) }
 {
     let mut innermost = innermost;
-    let first = mem::replace(&mut nest.body, Body::new(alloc));
+    let first = mem::replace(&mut builder.body, Body::new(alloc));
     innermost.first = Some(first);
-    nest.variables.truncate(innermost.around.variables);
-    add_else_names(alloc, &mut nest.variables, &innermost.control)?;
-    nest.in_range = innermost.around.in_range;
-    nest.blank = false;
-    nest.frames.push(Frame::Control(innermost))?;
+    builder.variables.truncate(innermost.around.variables);
+    add_else_names(alloc, &mut builder.variables, &innermost.control)?;
+    builder.in_range = innermost.around.in_range;
+    builder.blank = false;
+    builder.frames.push(Frame::Control(innermost))?;
     Ok(())
 }
 
 // Closes the innermost control or definition by the action that begins there, and with an `else if` the control around it.
 #[inline(never)]
-fn close(alloc: Global, nest: &mut Nest, opening: Opening) -> Result<(), Memory>
-    ensures { OnOk result (nest.new ≡ with_end_of opening nest.old) }
+fn close(alloc: Global, builder: &mut Builder, opening: Opening) -> Result<(), Memory>
+    ensures { OnOk result (builder.new ≡ with_end_of opening builder.old) }
 {
     loop {
-        match nest.frames.pop() {
+        match builder.frames.pop() {
             Some(Frame::Control(innermost)) => {
                 let chained = innermost.chained;
-                close_control(alloc, nest, innermost)?;
+                close_control(alloc, builder, innermost)?;
                 if !chained {
                     return Ok(());
                 }
             }
             Some(Frame::Definition(innermost)) => {
-                close_definition(alloc, nest, innermost, opening);
+                close_definition(alloc, builder, innermost, opening);
                 return Ok(());
             }
             None => return Ok(()),
@@ -210,8 +227,9 @@ fn close(alloc: Global, nest: &mut Nest, opening: Opening) -> Result<(), Memory>
 }
 
 // Closes a control that was taken off the others that are open.
-fn close_control(alloc: Global, nest: &mut Nest, innermost: OpenControl) -> Result<(), Memory>
-    ensures { OnOk result (nest.new ≡ closed_control_of nest.old.frames innermost nest.old) }
+fn close_control(alloc: Global, builder: &mut Builder, innermost: OpenControl) -> Result<(), Memory>
+    ensures { let closed = closed_control_of builder.old.frames innermost builder.old in
+        OnOk result (builder.new ≡ closed) }
 {
     let OpenControl {
         control,
@@ -222,17 +240,18 @@ fn close_control(alloc: Global, nest: &mut Nest, innermost: OpenControl) -> Resu
         chained: _,
         around,
     } = innermost;
-    let last = mem::replace(&mut nest.body, before);
+    let last = mem::replace(&mut builder.body, before);
     let (first, other) = match first {
         Some(first) => (first, last),
         None => (last, Body::new(alloc)),
     };
-    nest.body
+    builder
+        .body
         .push(node_kind(control, pipe), line, first, other)?;
-    nest.variables.truncate(around.variables);
-    nest.in_range = around.in_range;
-    nest.room = around.room;
-    nest.blank = false;
+    builder.variables.truncate(around.variables);
+    builder.in_range = around.in_range;
+    builder.room = around.room;
+    builder.blank = false;
     Ok(())
 }
 
@@ -253,39 +272,44 @@ fn node_kind(control: Control, pipe: Pipe) -> NodeKind
 #[inline(never)]
 fn open_definition(
     alloc: Global,
-    nest: &mut Nest,
+    builder: &mut Builder,
     name: Text,
     line: u32,
     begins: u32,
 ) -> Result<(), Memory>
-    ensures { OnOk result (nest.new ≡ with_definition_of name line begins nest.old) }
+    ensures { OnOk result (builder.new ≡ with_definition_of name line begins builder.old) }
 {
-    let slot = nest.found.as_slice().len();
+    let slot = builder.found.as_slice().len();
     let tree = Body::new(alloc).into_tree(1);
     let def = Def {
         name,
         blank: true,
         tree,
     };
-    nest.found.push(Found { def, line })?;
-    let before = mem::replace(&mut nest.body, Body::new(alloc));
-    let variables = mem::replace(&mut nest.variables, Variables::new(alloc));
-    nest.frames.push(Frame::Definition(OpenDefinition {
+    builder.found.push(Found { def, line })?;
+    let before = mem::replace(&mut builder.body, Body::new(alloc));
+    let variables = mem::replace(&mut builder.variables, Variables::new(alloc));
+    builder.frames.push(Frame::Definition(OpenDefinition {
         slot,
         begins,
         before,
         variables,
-        in_range: nest.in_range,
-        blank: nest.blank,
+        in_range: builder.in_range,
+        blank: builder.blank,
     }))?;
-    nest.in_range = false;
-    nest.blank = true;
+    builder.in_range = false;
+    builder.blank = true;
     Ok(())
 }
 
 // Closes a definition that was taken off the others that are open.
-fn close_definition(alloc: Global, nest: &mut Nest, innermost: OpenDefinition, opening: Opening)
-    ensures { nest.new ≡ closed_definition_of nest.old.frames innermost opening nest.old }
+fn close_definition(
+    alloc: Global,
+    builder: &mut Builder,
+    innermost: OpenDefinition,
+    opening: Opening,
+)
+    ensures { builder.new ≡ closed_definition_of builder.old.frames innermost opening builder.old }
 {
     let OpenDefinition {
         slot,
@@ -295,17 +319,17 @@ fn close_definition(alloc: Global, nest: &mut Nest, innermost: OpenDefinition, o
         in_range,
         blank,
     } = innermost;
-    let body = mem::replace(&mut nest.body, before);
-    let found = mem::replace(&mut nest.found, List::new(alloc));
-    nest.found = filled(
+    let body = mem::replace(&mut builder.body, before);
+    let found = mem::replace(&mut builder.found, List::new(alloc));
+    builder.found = filled(
         found,
         slot,
-        nest.blank,
+        builder.blank,
         body.into_tree(end_line(begins, opening)),
     );
-    nest.variables = variables;
-    nest.in_range = in_range;
-    nest.blank = blank;
+    builder.variables = variables;
+    builder.in_range = in_range;
+    builder.blank = blank;
 }
 
 // The line of the last byte of a body that begins at a place, and ends where an action begins; 1 where it is empty.
@@ -341,42 +365,43 @@ fn fill(found: &mut Found, blank: bool, tree: Tree)
 // Adds what an action says that begins at the opening and ends before a place.
 pub fn add(
     alloc: Global,
-    nest: &mut Nest,
-    deed: Deed,
+    builder: &mut Builder,
+    action_kind: ActionKind,
     opening: Opening,
     end: u32,
 ) -> Result<(), Memory>
-    ensures { OnOk result (nest.new ≡ done_of deed opening end nest.old) }
+    ensures { OnOk result (builder.new ≡ done_of action_kind opening end builder.old) }
 {
     let line = opening.line;
-    match deed {
-        Deed::Piped(purpose, pipe) => add_pipe(alloc, nest, purpose, pipe, line, end),
-        Deed::Break => add_node(nest, NodeKind::Break, line),
-        Deed::Continue => add_node(nest, NodeKind::Continue, line),
-        Deed::Call(name) => add_node(nest, NodeKind::Template(name, None), line),
+    match action_kind {
+        ActionKind::Piped(purpose, pipe) => add_pipe(alloc, builder, purpose, pipe, line, end),
+        ActionKind::Break => add_node(builder, NodeKind::Break, line),
+        ActionKind::Continue => add_node(builder, NodeKind::Continue, line),
+        ActionKind::Call(name) => add_node(builder, NodeKind::Template(name, None), line),
         // It began with its word.
-        Deed::Else => Ok(()),
-        Deed::End => close(alloc, nest, opening),
-        Deed::Define(name, line) => open_definition(alloc, nest, name, line, end),
+        ActionKind::Else => Ok(()),
+        ActionKind::End => close(alloc, builder, opening),
+        ActionKind::Define(name, line) => open_definition(alloc, builder, name, line, end),
     }
 }
 
 // Adds what a pipe does, whose purpose is taken out of its place.
+#[inline(always)]
 pub fn add_taken(
     alloc: Global,
-    nest: &mut Nest,
+    builder: &mut Builder,
     purpose: &mut Purpose,
     pipe: Pipe,
     line: u32,
     end: u32,
 ) -> Result<(), Memory>
-    ensures { OnOk result (nest.new ≡ piped_nest purpose.old pipe line end nest.old) }
+    ensures { OnOk result (builder.new ≡ piped_builder purpose.old pipe line end builder.old) }
 {
     match purpose {
-        Purpose::Write => add_node(nest, NodeKind::Action(pipe), line),
+        Purpose::Write => add_node(builder, NodeKind::Action(pipe), line),
         _ => {
             let purpose = mem::replace(purpose, Purpose::Write);
-            add_pipe(alloc, nest, purpose, pipe, line, end)
+            add_pipe(alloc, builder, purpose, pipe, line, end)
         }
     }
 }
@@ -385,30 +410,30 @@ pub fn add_taken(
 #[inline(never)]
 fn add_pipe(
     alloc: Global,
-    nest: &mut Nest,
+    builder: &mut Builder,
     purpose: Purpose,
     pipe: Pipe,
     line: u32,
     end: u32,
 ) -> Result<(), Memory>
-    ensures { OnOk result (nest.new ≡ piped_nest purpose pipe line end nest.old) }
+    ensures { OnOk result (builder.new ≡ piped_builder purpose pipe line end builder.old) }
 {
     match purpose {
-        Purpose::Write => add_node(nest, NodeKind::Action(pipe), line),
+        Purpose::Write => add_node(builder, NodeKind::Action(pipe), line),
         Purpose::Declare(name) => {
             let copy = Text::copy_of(alloc, name.as_str())?;
-            add_node(nest, NodeKind::Declare(name, pipe), line)?;
-            nest.variables.push(copy)
+            add_node(builder, NodeKind::Declare(name, pipe), line)?;
+            builder.variables.push(copy)
         }
-        Purpose::Assign(name) => add_node(nest, NodeKind::Assign(name, pipe), line),
+        Purpose::Assign(name) => add_node(builder, NodeKind::Assign(name, pipe), line),
         Purpose::Control(control, chained) => {
-            open_control(alloc, nest, control, pipe, line, chained)
+            open_control(alloc, builder, control, pipe, line, chained)
         }
-        Purpose::Template(name) => { add_node(nest, NodeKind::Template(name, Some(pipe)), line) }
+        Purpose::Template(name) => { add_node(builder, NodeKind::Template(name, Some(pipe)), line) }
         Purpose::Block(name, word) => {
             let copy = Text::copy_of(alloc, name.as_str())?;
-            add_node(nest, NodeKind::Template(name, Some(pipe)), line)?;
-            open_definition(alloc, nest, copy, word, end)
+            add_node(builder, NodeKind::Template(name, Some(pipe)), line)?;
+            open_definition(alloc, builder, copy, word, end)
         }
     }
 }

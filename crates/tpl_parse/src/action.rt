@@ -1,9 +1,9 @@
 use crate::frame::Control;
 use page_io::Text;
-use tpl_pipe::Place;
+use tpl_pipe::PipeState;
 
 /// Where an action begins.
-#[derive(Clone, Copy, Debug, PartialEq, Eq)]
+#[derive(Clone, Copy)]
 pub struct Opening {
     /// The line of its `{{`.
     pub line: u32,
@@ -14,7 +14,7 @@ pub struct Opening {
 }
 
 /// What a pipe or the declaration of a variable stands after.
-#[derive(Clone, Copy, Debug, PartialEq, Eq)]
+#[derive(Clone, Copy)]
 pub enum Before {
     /// `{{`
     Action,
@@ -29,7 +29,7 @@ pub enum Before {
 }
 
 /// What a pipe is for.
-#[derive(Debug, Drop)]
+#[derive(Drop)]
 pub enum Purpose {
     /// Its value is written.
     Write,
@@ -46,43 +46,43 @@ pub enum Purpose {
 }
 
 /// Where in an action reading is.
-#[derive(Debug, Drop)]
-pub enum Head {
-    /// Behind `{{`.
+#[derive(Drop)]
+pub enum ActionState {
+    /// After `{{`.
     Start,
-    /// Behind a control's word.
-    Behind(Before),
-    /// Behind a variable, on this line, that may be declared.
+    /// After a control's word.
+    AfterWord(Before),
+    /// After a variable, on this line, that may be declared.
     Named(Before, Text, u32),
-    /// Behind `range $i,`.
+    /// After `range $i,`.
     Second(Text),
-    /// Behind `range $i, $e`, with the line of `$e`.
+    /// After `range $i, $e`, with the line of `$e`.
     SecondNamed(Text, Text, u32),
     /// In a pipe.
-    Pipe(Purpose, Place),
-    /// Behind `else`.
+    Pipe(Purpose, PipeState),
+    /// After `else`.
     Else,
-    /// Behind `end`.
+    /// After `end`.
     End,
-    /// Behind `break`.
+    /// After `break`.
     Break,
-    /// Behind `continue`.
+    /// After `continue`.
     Continue,
-    /// Behind `template`.
+    /// After `template`.
     Template,
-    /// Behind `template "n"`.
+    /// After `template "n"`.
     TemplateNamed(Text),
-    /// Behind `define`, on this line.
+    /// After `define`, on this line.
     Define(u32),
-    /// Behind `define "n"`.
+    /// After `define "n"`.
     DefineNamed(Text, u32),
-    /// Behind `block`, on this line.
+    /// After `block`, on this line.
     Block(u32),
 }
 
 /// What a whole action says.
-#[derive(Debug, Drop)]
-pub enum Deed {
+#[derive(Drop)]
+pub enum ActionKind {
     /// What a pipe is for, and the pipe.
     Piped(Purpose, tpl_tree::Pipe),
     /// `{{break}}`
@@ -100,10 +100,10 @@ pub enum Deed {
 }
 
 /// Where in a file reading is.
-#[derive(Debug, Drop)]
-pub enum Mode {
+#[derive(Clone, Copy)]
+pub enum Position {
     /// Outside actions.
     Outside,
-    /// In an action.
-    Inside(Opening, Head),
+    /// In an action, whose state is kept apart.
+    Inside(Opening),
 }

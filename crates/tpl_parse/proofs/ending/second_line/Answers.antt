@@ -3,8 +3,8 @@ use Rattle.std.specs.BTreeSet.{contains, Updates}
 use Rattle.std.specs.Cmp.Lexicographic.{slice_cmp}
 use Rattle.std.specs.Ordering.{nat_cmp}
 use Rattle.tpl_parse.proofs.SeenNames.{second_line-blank, second_line-new, second_line-seen, was_false, was_true}
-use Rattle.tpl_parse.proofs.finish.second_line.Goals as goal
-use Rattle.tpl_parse.proofs.finish.second_line.Goals.{then-not-one+in_ok-copy_of+in_ok-is_new+else-not-is_new, else-not-one}
+use Rattle.tpl_parse.proofs.ending.second_line.Goals as goal
+use Rattle.tpl_parse.proofs.ending.second_line.Goals.{then-not-one+in_ok-copy_of+in_ok-is_new+else-not-is_new, else-not-one}
 
 pub returns-then-not-is_new : goal.returns-then-not-is_new
 returns-then-not-is_new c =
