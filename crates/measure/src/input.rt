@@ -1,4 +1,4 @@
-ghost use Rattle.std.specs.Prelude.{◌≤◌, ◌+◌, ◌<◌, IfOk, length, string_bytes};
+ghost use Rattle.std.specs.Prelude.{◌≤◌, ◌+◌, ◌<◌, IfOk, OnOk, length, string_bytes};
 ghost use Rattle.page_datum.specs.Reading.{max_length};
 
 use crate::request::Input;
@@ -66,27 +66,40 @@ fn objects(alloc: Global, size: usize) -> Result<String, AllocError>
 // A prefix, as many units as fit, and an end; nothing where these two do not fit.
 fn repeated(
     alloc: Global,
-    front: &str,
+    prefix: &str,
     unit: &str,
     end: &str,
     size: usize,
 ) -> Result<String, AllocError>
     requires unit { 0 < length unit.now }
     requires unit_short { length unit.now ≤ 8 }
-    requires front { length front.now ≤ 8 }
+    requires prefix { length prefix.now ≤ 8 }
     requires end { length end.now ≤ 8 }
     requires size { size ≤ max_length }
     ensures { IfOk result (λ text. length (string_bytes text) ≤ size) }
 {
     let mut text = String::new(alloc);
-    if front.len() + end.len() > size {
+    if prefix.len() + end.len() > size {
         return Ok(text);
     }
-    text.push_str(front)?;
+    text.push_str(prefix)?;
     let room = size - end.len();
+    let eight = format!(in alloc; "{unit}{unit}{unit}{unit}{unit}{unit}{unit}{unit}")?;
+    let many = format!(in alloc; "{eight}{eight}{eight}{eight}")?;
+    push_units(&mut text, many.as_str(), room)?;
+    push_units(&mut text, unit, room)?;
+    text.push_str(end)?;
+    Ok(text)
+}
+
+// Pushes a unit as often as the text stays within its room.
+fn push_units(text: &mut String, unit: &str, room: usize) -> Result<(), AllocError>
+    requires unit { 0 < length unit.now }
+    requires within { length (string_bytes text.old) ≤ room }
+    ensures { OnOk result (length (string_bytes text.new) ≤ room) }
+{
     while text.len() + unit.len() <= room {
         text.push_str(unit)?;
     }
-    text.push_str(end)?;
-    Ok(text)
+    Ok(())
 }

@@ -1,7 +1,6 @@
 -- What a list has after an execution.
 use Rattle.std.proofs.Common.{ℕ, Result, Ok, Err, inl, inr}
-use Rattle.tpl_events.specs.Events.{events_of}
-use Rattle.tpl_events.specs.Lists.{Declines, Keeps, up_to}
+use Rattle.tpl_events.specs.Lists.{Declines, Keeps}
 use Rattle.tpl_events.specs.declared.list_sink.ListSink.{ListSink}
 use Rattle.tpl_events.specs.declared.sink.HoleStop.TheVariants as stop
 use Rattle.tpl_events.proofs.Lists.{has_all, has_prefix, has_some, has_up_to}

@@ -36,16 +36,16 @@ HaveNotBoth = (name text : List ℕ) (a : List Def) (b : FileRefused) → IsFile
 abbrev pub HaveOneTree : Type 0
 HaveOneTree = (symbols : List Symbol) (a b : Forms) → IsFileBody a symbols → IsFileBody b symbols → (nodes_of a ≡ nodes_of b) × (is_blank a ≡ is_blank b) × (found_in a ≡ found_in b)
 
--- Some file begins with these symbols.
+-- Some body of a file begins with these symbols.
 abbrev pub IsPrefix : List Symbol → Type 0
 IsPrefix prefix = (more : List Symbol) × (forms : Forms) × IsFileBody forms (prefix ++ more)
 
--- Symbols that are read without a refusal are the prefix of a file: others that end the action, and an `end` for each thing
+-- Symbols that are read without a refusal are the prefix of a body: others that end the action, and an `end` for each thing
 -- that is open, may come after them.
 abbrev pub ArePrefixes : Type 0
 ArePrefixes = (prefix : List Symbol) (at : State) → run beginning prefix ≡ Ok at → IsPrefix prefix
 
--- The symbol that is refused is the first with which no file goes on.
+-- The symbol that is refused is the first with which no body goes on, definitions of one name left aside.
 abbrev pub RefusedIsFirst : Type 0
 RefusedIsFirst = (symbols : List Symbol) (why : ParseRefused) (line : ℕ) (r : IsRefusedAt symbols why line) → IsPrefix r.before × (IsPrefix (r.before ++ r.symbol ∷ []) → ⊥)
 
@@ -66,7 +66,7 @@ IsLineOf symbol before why line = (line ≡ symbol.line) ⊎ ((why ≡ refused.U
 abbrev pub RefusedHasItsLine : Type 0
 RefusedHasItsLine = (symbols : List Symbol) (why : ParseRefused) (line : ℕ) (r : IsRefusedAt symbols why line) → IsLineOf r.symbol r.before why line
 
--- Where a symbol is refused, no file goes on with it, whatever follows.
+-- Where a symbol is refused, no body goes on with it, whatever follows.
 abbrev pub NoneGoesOn : Type 0
 NoneGoesOn = (before more : List Symbol) (symbol : Symbol) (at : State) (why : ParseRefused) (line : ℕ) (forms : Forms) → run beginning before ≡ Ok at → step at symbol ≡ Err (why, line)
     → IsFileBody forms (before ++ symbol ∷ more) → ⊥

@@ -4,8 +4,8 @@ ghost use Rattle.tpl_parse.specs.Laws.{HaveOneList, HaveOneRefusal, HaveOneTree,
 ghost use Rattle.tpl_parse.specs.Laws.{RefusedHasItsLine, RefusedIsFirst, UnclosedAreOpen};
 
 /// A law, which takes no time: every file has exactly one answer, its definitions or a refusal; its symbols have at most one
-/// tree; the symbol that is refused is the first with which no file goes on; and a file ends outside actions, so that where
-/// it is refused for its end a block is open.
+/// tree; the symbol that is refused is the first with which no body goes on, definitions of one name left aside; and a file
+/// ends outside actions, so that where it is refused for its end a block is open.
 pub fn one_file()
     ensures some { (name text : List ℕ) → HasAnswer name text }
     ensures file { HaveOneList }

@@ -15,7 +15,8 @@ use tpl_tree::Tree;
 #[tactic(auto, using(crate::proofs::ReadsBack::reads_back))]
 pub fn print_tree(alloc: Global, tree: &Tree) -> Result<Text, Memory>
     ensures spelling { IfOk result (λ printed. printed ≡ nodes_text false tree.now.nodes) }
-    ensures reads { IsParsed tree.now.nodes → IfOk result (λ printed. ReadsAs printed tree.now.nodes) }
+    ensures reads { IsParsed tree.now.nodes →
+        IfOk result (λ printed. ReadsAs printed tree.now.nodes) }
 {
     let mut out = Text::new(alloc);
     push_part(alloc, &mut out, tree, tree.first(), false)?;
@@ -32,7 +33,8 @@ fn push_part(
     followed: bool,
 ) -> Result<(), Memory>
     requires { IfSome first (λ n. n < nodes_size tree.now.nodes) }
-    ensures { OnOk result (out.new ≡ out.old ++ nodes_text followed (part_at tree.now.nodes first)) }
+    ensures { OnOk result
+        (out.new ≡ out.old ++ nodes_text followed (part_at tree.now.nodes first)) }
 {
     let mut number = first;
     while let Some(node) = number {
@@ -53,7 +55,8 @@ fn push_node(
     followed: bool,
 ) -> Result<(), Memory>
     requires { node < nodes_size tree.now.nodes }
-    ensures { OnOk result (out.new ≡ out.old ++ node_text followed (nodes_from tree.now.nodes node)) }
+    ensures { OnOk result
+        (out.new ≡ out.old ++ node_text followed (nodes_from tree.now.nodes node)) }
 {
     let kind = tree.kind(node);
     push_head(alloc, out, kind, followed)?;

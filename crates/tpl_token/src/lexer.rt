@@ -31,9 +31,11 @@ pub fn tokens(alloc: Global, text: &str) -> Result<List<Token>, TokenRefused>
     // The answer is the text's.
     ensures answers { TokensAnswers text.now result }
     // A text that has tokens is not refused, and these are the tokens.
-    ensures accepted { (list : List Token) → AreTokens text.now list → IsOrOutOfMemory result (Ok list) }
+    ensures accepted { (list : List Token) →
+        AreTokens text.now list → IsOrOutOfMemory result (Ok list) }
     // A text that is refused is refused for this cause.
-    ensures refused { (why : TokenRefused) → IsRefused text.now why → IsOrOutOfMemory result (Err why) }
+    ensures refused { (why : TokenRefused) →
+        IsRefused text.now why → IsOrOutOfMemory result (Err why) }
     // The tokens stand one after another.
     ensures spans { IfOk result (Ascend 0 (length text.now)) }
     // The text may be cut at their ends, and where it is refused.

@@ -24,7 +24,8 @@ pub fn quoted_at(
     requires limit { length text.now ≤ max_text }
     requires within { start < length text.now }
     requires quote { slice_index text.now start ≡ 34 }
-    ensures found { IsOrOutOfMemory result (string_found start (quoted 0 (drop (start + 1) text.now))) }
+    ensures found { IsOrOutOfMemory result
+        (string_found start (quoted 0 (drop (start + 1) text.now))) }
     ensures bound { IfOk result (λ found. start + found.1 ≤ length text.now) }
 {
     let mut value = String::new(alloc);
