@@ -3,102 +3,66 @@
 // some for each case that differs.
 #![tactic(auto)]
 
-mod commands;
-mod data;
-mod devices;
-mod difference;
-mod executions;
-mod expand;
-mod formats;
-mod gathering;
-mod kinds;
-mod nodes;
-mod pages;
-mod parse;
-mod printed;
-mod references;
-mod row;
-mod sanitizers;
-mod stop;
-mod subject;
-mod symbols;
-mod table;
-mod tokens;
-mod trees;
-mod values;
+mod engine;
 
-use crate::stop::Stop;
-use crate::table::{Report, report_of};
+use crate::engine::Engine;
+use case_table::{Report, Stop, report_of};
 use page_datum::read_datum;
-use page_io::{Bytes, ReadSource, read_up_to};
-use std::alloc::{AllocError, Global};
-use std::io::{self, ErrorKind};
+use page_io::{Bytes, IoStop, ReadSource, read_up_to};
 use std::process::ExitCode;
-use std::rt::Files;
-use std::{env, fs};
+use std::{env, fs, io};
 
 // The most bytes of a file of cases.
 const MOST: usize = 8_388_608;
 
 fn main(rt: HostRuntime) -> ExitCode {
-    let files = match words(&rt) {
-        Ok(files) => files,
-        Err(_) => return ExitCode::from(11),
+    let Ok(words) = env::args(&rt) else {
+        return ExitCode::from(1);
     };
     let mut same = true;
-    for file in files {
+    for file in words.skip(1) {
         match said(&rt, file.as_str()) {
             Ok(true) => {}
             Ok(false) => same = false,
             Err(_) => return ExitCode::from(6),
         }
     }
-    if same {
-        ExitCode::SUCCESS
-    } else {
-        ExitCode::from(1)
-    }
-}
-
-// The words after the program's name.
-fn words<R: env::Env + AllocGlobal>(rt: &R) -> Result<Vec<String>, AllocError> {
-    let mut words = Vec::new(rt.alloc());
-    let args = match env::args(rt) {
-        Ok(args) => args,
-        Err(error) if error.kind() == ErrorKind::OutOfMemory => return Err(AllocError),
-        Err(_) => return Ok(words),
-    };
-    for word in args.skip(1) {
-        words.push(word)?;
-    }
-    Ok(words)
+    ExitCode::from(if same { 0 } else { 1 })
 }
 
 // Prints what there is to say of a file, and tells whether none of its cases differs.
-fn said<R: Files + AllocGlobal + Print>(rt: &R, name: &str) -> io::Result<bool> {
+fn said(rt: &HostRuntime, name: &str) -> io::Result<bool> {
     match report(rt, name) {
         Ok(report) => {
             let (differences, cases) = (report.differences.as_str(), report.cases);
             println!(rt; "{differences}{name}: {cases} cases")?;
             Ok(differences.is_empty())
         }
-        Err(stop) => {
-            println!(rt; "{name}: {stop}")?;
+        Err(why) => {
+            println!(rt; "{name}: {why}")?;
             Ok(false)
         }
     }
 }
 
-// What becomes of the cases of a file.
-fn report<R: Files + AllocGlobal>(rt: &R, name: &str) -> Result<Report, Stop> {
-    let alloc = rt.alloc();
-    let mut source = match fs::open(rt, name) {
-        Ok(file) => ReadSource::new(file),
-        Err(_) => return Err(Stop::NoFile),
+// What becomes of the cases of a file, or why they cannot be run.
+fn report(rt: &HostRuntime, name: &str) -> Result<Report, &'static str> {
+    let Ok(bytes) = bytes_of(rt, name) else {
+        return Err("the file cannot be read");
     };
-    let bytes = read_up_to(alloc, &mut source, MOST)?;
-    match read_datum(alloc, bytes.as_slice()) {
-        Ok(table) => report_of(alloc, &table),
-        Err(_) => Err(Stop::NoJson),
+    let Ok(table) = read_datum(rt.alloc(), bytes.as_slice()) else {
+        return Err("no JSON");
+    };
+    match report_of(rt.alloc(), &table, &Engine::new(rt)) {
+        Ok(report) => Ok(report),
+        Err(Stop::Form) => Err("not the form of a table of cases"),
+        Err(Stop::Memory) => Err("out of memory"),
+    }
+}
+
+fn bytes_of(rt: &HostRuntime, name: &str) -> Result<Bytes, IoStop> {
+    match fs::open(rt, name) {
+        Ok(file) => read_up_to(rt.alloc(), &mut ReadSource::new(file), MOST),
+        Err(_) => Err(IoStop::Failed),
     }
 }

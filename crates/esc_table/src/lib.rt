@@ -4,8 +4,6 @@
 mod replacing;
 mod run;
 mod table;
-#[cfg(test)]
-mod tests;
 
 pub use replacing::replace;
 pub use table::Table;

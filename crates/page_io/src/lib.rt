@@ -19,8 +19,6 @@ mod stack;
 mod stop;
 mod streams;
 mod sure;
-#[cfg(test)]
-mod tests;
 mod text;
 
 pub use bytes::Bytes;
