@@ -19,8 +19,8 @@ pub fn tell_texts(out: &mut Told, call: &str, row: &Row) -> Result<(), Stop> {
     }
 }
 
-fn tell_joined(out: &mut Told, front: &str, rest: &str) -> Result<(), Stop> {
-    let mut text = Text::copy_of(out.alloc(), front)?;
+fn tell_joined(out: &mut Told, prefix: &str, rest: &str) -> Result<(), Stop> {
+    let mut text = Text::copy_of(out.alloc(), prefix)?;
     text.push_str(rest)?;
     out.put(text.into_string().as_str());
     Ok(())
@@ -39,8 +39,8 @@ fn tell_order(out: &mut Told, text: &str, other: &str) -> Result<(), Stop> {
     Ok(())
 }
 
-fn tell_bytes(out: &mut Told, front: Bytes, rest: &[u8]) -> Result<(), Stop> {
-    let mut bytes = front;
+fn tell_bytes(out: &mut Told, prefix: Bytes, rest: &[u8]) -> Result<(), Stop> {
+    let mut bytes = prefix;
     bytes.push_slice(rest)?;
     for byte in Bytes::from(bytes.into_vec()).as_slice() {
         out.put_between(" ");

@@ -27,8 +27,8 @@ fn put_quoted(out: &mut Told, text: &str) {
     let alloc = out.alloc();
     match text.char_indices().nth(MOST) {
         Some((end, _)) => {
-            let (front, _) = text.split_at(end);
-            out.put_made(format!(in alloc; "{front:?} .."));
+            let (prefix, _) = text.split_at(end);
+            out.put_made(format!(in alloc; "{prefix:?} .."));
         }
         None => out.put_made(format!(in alloc; "{text:?}")),
     }

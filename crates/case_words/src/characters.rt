@@ -54,7 +54,7 @@ pub fn tell_first(out: &mut Told, row: &Row) -> Result<(), Stop> {
 }
 
 /// Tells the first character of the bytes of a row before others, in hex, and where it takes not just those, how many it takes.
-pub fn tell_front(out: &mut Told, row: &Row) -> Result<(), Stop> {
+pub fn tell_prefix(out: &mut Told, row: &Row) -> Result<(), Stop> {
     let is_value = row.word(2, "text", "value")?;
     let rest = row.bytes(out.alloc(), 1)?;
     let mut bytes = row.bytes(out.alloc(), 0)?;

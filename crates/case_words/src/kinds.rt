@@ -1,4 +1,4 @@
-use crate::characters::{tell_first, tell_front, tell_value};
+use crate::characters::{tell_first, tell_prefix, tell_value};
 use case_table::{Row, Stop, Told};
 use html_words::{attr_kind, script_type, special};
 use place_core::Element;
@@ -19,7 +19,7 @@ pub fn tell_words(out: &mut Told, call: &str, row: &Row) -> Result<(), Stop> {
             "data"
         }),
         "next_char" => tell_first(out, row)?,
-        "next_char_before" => tell_front(out, row)?,
+        "next_char_before" => tell_prefix(out, row)?,
         "RefChars" => tell_value(out, row)?,
         _ => return Err(Stop::Form),
     }

@@ -5,10 +5,10 @@ use Rattle.std.proofs.lemmas.Bool.Decides.{nat_tests}
 use Rattle.std.specs.Char.{is_ascii_alphanumeric, is_ascii_digit, is_ascii_hexdigit}
 use Rattle.std.specs.Int.{is_in_range}
 use Rattle.place_core.specs.Classes.{Class, White, ExclamationMark, QuotationMark, NumberSign, Ampersand, Apostrophe, HyphenMinus, Solidus, Digit, Semicolon, LessThan, EqualsSign, GreaterThan, QuestionMark, Letter, OtherByte, class_of, is_equals_sign}
-use Rattle.place_core.specs.References.{Reference, Open, Form, Begun, Named, Hashed, Decimal, HexMark, Hexadecimal, Turn, Grows, Closes, Breaks, turn, Closed, begin_reference, plain_bytes, flushed, undone_byte, next_reference}
+use Rattle.place_core.specs.References.{Reference, Open, Form, Begun, Named, Hashed, Decimal, HexMark, Hexadecimal, ReferenceStep, Grows, Closes, Breaks, turn, Closed, begin_reference, plain_bytes, flushed, undone_byte, next_reference}
 
 -- what a byte does to an open reference
-abbrev pub turn_at : Form → ℕ → Turn
+abbrev pub turn_at : Form → ℕ → ReferenceStep
 turn_at Begun b = cond (b == 35) (Grows Hashed) (cond (is_ascii_alphanumeric b) (Grows Named) Breaks)
 turn_at Named b = cond (is_ascii_alphanumeric b) (Grows Named) (cond (b == 59) Closes Breaks)
 turn_at Hashed b = cond (b == 88 || b == 120) (Grows HexMark) (cond (is_ascii_digit b) (Grows Decimal) Breaks)
@@ -17,7 +17,7 @@ turn_at HexMark b = cond (is_ascii_hexdigit b) (Grows Hexadecimal) Breaks
 turn_at Hexadecimal b = cond (is_ascii_hexdigit b) (Grows Hexadecimal) (cond (b == 59) Closes Breaks)
 
 -- Bytes below 256 are tried one by one; to compare them, turns are numbered.
-abbrev number_of : Turn → ℕ
+abbrev number_of : ReferenceStep → ℕ
 number_of (Grows Begun) = 0
 number_of (Grows Named) = 1
 number_of (Grows Hashed) = 2
@@ -27,7 +27,7 @@ number_of (Grows Hexadecimal) = 5
 number_of Closes = 6
 number_of Breaks = 7
 
-abbrev numbered_turn : ℕ → Turn
+abbrev numbered_turn : ℕ → ReferenceStep
 numbered_turn zero = Grows Begun
 numbered_turn (suc zero) = Grows Named
 numbered_turn (suc (suc zero)) = Grows Hashed
@@ -37,7 +37,7 @@ numbered_turn (suc (suc (suc (suc (suc zero))))) = Grows Hexadecimal
 numbered_turn (suc (suc (suc (suc (suc (suc zero)))))) = Closes
 numbered_turn (suc (suc (suc (suc (suc (suc (suc n))))))) = Breaks
 
-back : (t : Turn) → numbered_turn (number_of t) ≡ t
+back : (t : ReferenceStep) → numbered_turn (number_of t) ≡ t
 back (Grows Begun) = refl
 back (Grows Named) = refl
 back (Grows Hashed) = refl

@@ -3,7 +3,7 @@ use Rattle.std.proofs.Common.{◌≡◌, ℕ, ◌<◌, ◌==◌, ◌||◌, ◌&&
 use Rattle.std.proofs.lemmas.Bool.{and_parts, or_parts, and_cases, ltb-true, leb-false}
 use Rattle.std.specs.Char.{is_ascii_alphanumeric, is_ascii_digit, is_ascii_hexdigit}
 use Rattle.std.specs.List.{list_all, starts_with}
-use Rattle.place_core.specs.Characters.{itself, begins_at, whole_at, short_at, name_at, number_from, hashed_at, reference_at, run, behind_run}
+use Rattle.place_core.specs.Characters.{itself, begins_at, whole_at, short_at, name_at, number_from, hashed_at, reference_at, run, after_run}
 use Rattle.place_core.specs.References.{Row, names, short_names, numbers, named_in, number_at, numbered, number_in, replacement}
 use Rattle.html_words.proofs.Encodings.{IsCode}
 
@@ -84,9 +84,9 @@ from_code base front (d ∷ ds) rest = record { code = numbered_code (number_in 
 
 hashed_code : (bs : List ℕ) → HasCode (hashed_at bs)
 hashed_code [] = is_itself
-hashed_code (b ∷ bs) = has_if (b == 88 || b == 120) _ _ (λ t. from_code 16 3 (run is_ascii_hexdigit bs) (behind_run is_ascii_hexdigit bs)) (λ f. from_code 10 2 (run is_ascii_digit (b ∷ bs)) (behind_run is_ascii_digit (b ∷ bs)))
+hashed_code (b ∷ bs) = has_if (b == 88 || b == 120) _ _ (λ t. from_code 16 3 (run is_ascii_hexdigit bs) (after_run is_ascii_hexdigit bs)) (λ f. from_code 10 2 (run is_ascii_digit (b ∷ bs)) (after_run is_ascii_digit (b ∷ bs)))
 
 pub reference_code : (attribute : Bool) (bs : List ℕ) → HasCode (reference_at attribute bs)
 reference_code attribute [] = is_itself
 reference_code attribute (b ∷ bs) = has_if (b == 35) _ _ (λ t. hashed_code bs)
-    (λ f. has_if (is_ascii_alphanumeric b) _ _ (λ t. name_code attribute (run is_ascii_alphanumeric (b ∷ bs)) (behind_run is_ascii_alphanumeric (b ∷ bs))) (λ g. is_itself))
+    (λ f. has_if (is_ascii_alphanumeric b) _ _ (λ t. name_code attribute (run is_ascii_alphanumeric (b ∷ bs)) (after_run is_ascii_alphanumeric (b ∷ bs))) (λ g. is_itself))

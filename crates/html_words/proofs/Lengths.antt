@@ -6,7 +6,7 @@ use Rattle.std.proofs.lemmas.Slice.Eq.{bytes_eq-Decides}
 use Rattle.std.specs.Char.{is_ascii_alphanumeric, is_ascii_digit, is_ascii_hexdigit}
 use Rattle.std.specs.List.{starts_with, prefix_len}
 use Rattle.std.specs.Option.{unwrap_or}
-use Rattle.place_core.specs.Characters.{begins_at, whole_at, short_at, name_at, semicolon_len, number_from, hashed_at, reference_at, character_at, char_at, characters_within, characters_at, run, behind_run, is_broken_off}
+use Rattle.place_core.specs.Characters.{begins_at, whole_at, short_at, name_at, semicolon_len, number_from, hashed_at, reference_at, character_at, char_at, characters_within, characters_at, run, after_run, is_broken_off}
 use Rattle.place_core.specs.References.{Row, short_names, replacement}
 use Rattle.place_core.specs.Utf8.{Partial, followed, first_character, begun, goes_on, gone_on, is_lead}
 
@@ -58,21 +58,21 @@ number_within : (base front : ℕ) (digits rest : List ℕ) → 1 ≤ front → 
 number_within base front [] rest h = record { some = omega arith; most = omega arith }
 number_within base front (d ∷ ds) rest h = record { some = omega arith; most = omega (arith, semicolon_within rest) }
 
-run_rest : (p : ℕ → Bool) (bytes : List ℕ) → length (run p bytes) + length (behind_run p bytes) ≡ length bytes
+run_rest : (p : ℕ → Bool) (bytes : List ℕ) → length (run p bytes) + length (after_run p bytes) ≡ length bytes
 run_rest p bytes = omega (arith, length-take (prefix_len p bytes) bytes, length-drop (prefix_len p bytes) bytes, prefix_len-le-length p bytes)
 
 hashed_within : (bytes : List ℕ) → IsWithin (suc (suc (length bytes))) (hashed_at bytes)
 hashed_within [] = record { some = omega arith; most = omega arith }
 hashed_within (b ∷ bs) = either_within (b == 88 || b == 120) _ _
-    (λ t. wider (number_within 16 3 (run is_ascii_hexdigit bs) (behind_run is_ascii_hexdigit bs) (omega arith)) (omega (arith, run_rest is_ascii_hexdigit bs)))
-    (λ f. wider (number_within 10 2 (run is_ascii_digit (b ∷ bs)) (behind_run is_ascii_digit (b ∷ bs)) (omega arith)) (omega (arith, run_rest is_ascii_digit (b ∷ bs))))
+    (λ t. wider (number_within 16 3 (run is_ascii_hexdigit bs) (after_run is_ascii_hexdigit bs) (omega arith)) (omega (arith, run_rest is_ascii_hexdigit bs)))
+    (λ f. wider (number_within 10 2 (run is_ascii_digit (b ∷ bs)) (after_run is_ascii_digit (b ∷ bs)) (omega arith)) (omega (arith, run_rest is_ascii_digit (b ∷ bs))))
 
 pub reference_within : (attribute : Bool) (bytes : List ℕ) → IsWithin (suc (length bytes)) (reference_at attribute bytes)
 reference_within attribute [] = one_of 0 _
 reference_within attribute (b ∷ bs) = either_within (b == 35) _ _
     (λ t. hashed_within bs)
     (λ f. either_within (is_ascii_alphanumeric b) _ _
-    (λ t. wider (name_within attribute (run is_ascii_alphanumeric (b ∷ bs)) (behind_run is_ascii_alphanumeric (b ∷ bs))) (omega (arith, run_rest is_ascii_alphanumeric (b ∷ bs))))
+    (λ t. wider (name_within attribute (run is_ascii_alphanumeric (b ∷ bs)) (after_run is_ascii_alphanumeric (b ∷ bs))) (omega (arith, run_rest is_ascii_alphanumeric (b ∷ bs))))
     (λ f. one_of (suc (length bs)) _))
 
 -- a character that is followed, after so many bytes of it

@@ -5,7 +5,7 @@ use Rattle.std.proofs.lemmas.Bool.Decides.{nat_tests}
 use Rattle.std.proofs.lemmas.List.{drop-drop, drop_at, take-append-drop, drop-append-le}
 use Rattle.std.specs.Char.{is_ascii_alphanumeric, is_ascii_digit, is_ascii_hexdigit}
 use Rattle.std.specs.List.{list_all, prefix_len, starts_with}
-use Rattle.place_core.specs.Characters.{itself, begins_at, whole_at, short_at, name_at, semicolon_len, number_from, hashed_at, reference_at, run, behind_run, is_broken_number, is_broken_off}
+use Rattle.place_core.specs.Characters.{itself, begins_at, whole_at, short_at, name_at, semicolon_len, number_from, hashed_at, reference_at, run, after_run, is_broken_number, is_broken_off}
 use Rattle.place_core.specs.Classes.{class_of}
 use Rattle.place_core.specs.References.{Row, names, short_names, named_in, whole_in, begins_in, numbered, number_in, Form, Begun, Named, Hashed, Decimal, HexMark, Hexadecimal, Grows, Closes, Breaks, meaning, flushed, flushed_name, Closed, Open, begin_reference, plain_bytes}
 use Rattle.html_words.proofs.Bytes.{turn_at, turns, undone_at, plain, equals}
@@ -23,23 +23,23 @@ one_more n = omega arith
 run_more : (p : ℕ → Bool) (b : ℕ) (bs : List ℕ) → p b ≡ true → run p (b ∷ bs) ≡ b ∷ run p bs
 run_more p b bs e = rw (e, one_more (prefix_len p bs)) refl
 
-behind_more : (p : ℕ → Bool) (b : ℕ) (bs : List ℕ) → p b ≡ true → behind_run p (b ∷ bs) ≡ behind_run p bs
+behind_more : (p : ℕ → Bool) (b : ℕ) (bs : List ℕ) → p b ≡ true → after_run p (b ∷ bs) ≡ after_run p bs
 behind_more p b bs e = rw (e, one_more (prefix_len p bs)) refl
 
 run_none : (p : ℕ → Bool) (b : ℕ) (bs : List ℕ) → p b ≡ false → run p (b ∷ bs) ≡ []
 run_none p b bs e = rw e refl
 
-behind_none : (p : ℕ → Bool) (b : ℕ) (bs : List ℕ) → p b ≡ false → behind_run p (b ∷ bs) ≡ b ∷ bs
+behind_none : (p : ℕ → Bool) (b : ℕ) (bs : List ℕ) → p b ≡ false → after_run p (b ∷ bs) ≡ b ∷ bs
 behind_none p b bs e = rw e refl
 
-run-behind : (p : ℕ → Bool) (bytes : List ℕ) → run p bytes ++ behind_run p bytes ≡ bytes
+run-behind : (p : ℕ → Bool) (bytes : List ℕ) → run p bytes ++ after_run p bytes ≡ bytes
 run-behind p bytes = take-append-drop (prefix_len p bytes) bytes
 
 abbrev first_is : (ℕ → Bool) → List ℕ → Bool
 first_is p [] = false
 first_is p (b ∷ bs) = p b
 
-run_stops : (p : ℕ → Bool) (bytes : List ℕ) → first_is p (behind_run p bytes) ≡ false
+run_stops : (p : ℕ → Bool) (bytes : List ℕ) → first_is p (after_run p bytes) ≡ false
 run_stops p [] = refl
 run_stops p (b ∷ bs) = either (p b) (λ t. rw (t, one_more (prefix_len p bs)) (run_stops p bs)) (λ f. rw f f)
 
@@ -77,7 +77,7 @@ uncut : (cut : Bool) → (cut && true) ≡ false → cut ≡ false
 uncut true e = e
 uncut false e = refl
 
-whole_run : (cut : Bool) (p : ℕ → Bool) (bytes : List ℕ) → (cut && list_all p bytes) ≡ false → Whole cut (behind_run p bytes)
+whole_run : (cut : Bool) (p : ℕ → Bool) (bytes : List ℕ) → (cut && list_all p bytes) ≡ false → Whole cut (after_run p bytes)
 whole_run cut p [] e = uncut cut e
 whole_run cut p (b ∷ bs) e = either (p b)
     (λ t. rw (behind_more p b bs t) (whole_run cut p bs (rw t at e)))
@@ -91,12 +91,12 @@ break : (cut attribute : Bool) (f : Form) (held rest : List ℕ) → Broken cut 
 break cut attribute f held [] h = rw h (sym (append-nil (flushed attribute false f held)))
 break cut attribute f held (b ∷ bs) h = rw (turns f b ∙ h, equals b) (append_assoc (flushed attribute (b == 61) f held) (plain_bytes (class_of b) b) (undone_at cut attribute (begin_reference (class_of b)) bs))
 
-grow_run : (cut attribute : Bool) (f : Form) (p : ℕ → Bool) → ((b : ℕ) → p b ≡ true → turn_at f b ≡ Grows f) → (held bytes : List ℕ) → undone_at cut attribute (Open f held) bytes ≡ undone_at cut attribute (Open f (held ++ run p bytes)) (behind_run p bytes)
+grow_run : (cut attribute : Bool) (f : Form) (p : ℕ → Bool) → ((b : ℕ) → p b ≡ true → turn_at f b ≡ Grows f) → (held bytes : List ℕ) → undone_at cut attribute (Open f held) bytes ≡ undone_at cut attribute (Open f (held ++ run p bytes)) (after_run p bytes)
 grow_run cut attribute f p h held [] = ap (λ (xs : List ℕ). undone_at cut attribute (Open f xs) []) (sym (append-nil held))
 grow_run cut attribute f p h held (b ∷ bs) = either (p b)
     (λ t. grow cut attribute f f held b bs (h b t)
     ∙ grow_run cut attribute f p h (held ++ b ∷ []) bs
-    ∙ rw (run_more p b bs t, behind_more p b bs t) (ap (λ (xs : List ℕ). undone_at cut attribute (Open f xs) (behind_run p bs)) (append_assoc held (b ∷ []) (run p bs))))
+    ∙ rw (run_more p b bs t, behind_more p b bs t) (ap (λ (xs : List ℕ). undone_at cut attribute (Open f xs) (after_run p bs)) (append_assoc held (b ∷ []) (run p bs))))
     (λ e. rw (run_none p b bs e, behind_none p b bs e) (ap (λ (xs : List ℕ). undone_at cut attribute (Open f xs) (b ∷ bs)) (sym (append-nil held))))
 
 -- letters and digits are plain
@@ -185,37 +185,37 @@ number_told cut attribute base front d ds rest before all out size e told =
     (sym (behind_all before ((d ∷ ds) ++ rest) (suc (length ds) + semicolon_len rest) (length before + (suc (length ds) + semicolon_len rest)) refl
     ∙ behind_all (d ∷ ds) rest (semicolon_len rest) (suc (length ds) + semicolon_len rest) refl)))
 
-from_run : (base front : ℕ) (p : ℕ → Bool) (b : ℕ) (bs : List ℕ) → p b ≡ true → number_from base front (run p (b ∷ bs)) (behind_run p (b ∷ bs)) ≡ number_from base front (b ∷ run p bs) (behind_run p bs)
-from_run base front p b bs e = ap (λ (xs : List ℕ). number_from base front xs (behind_run p (b ∷ bs))) (run_more p b bs e) ∙ ap (λ (xs : List ℕ). number_from base front (b ∷ run p bs) xs) (behind_more p b bs e)
+from_run : (base front : ℕ) (p : ℕ → Bool) (b : ℕ) (bs : List ℕ) → p b ≡ true → number_from base front (run p (b ∷ bs)) (after_run p (b ∷ bs)) ≡ number_from base front (b ∷ run p bs) (after_run p bs)
+from_run base front p b bs e = ap (λ (xs : List ℕ). number_from base front xs (after_run p (b ∷ bs))) (run_more p b bs e) ∙ ap (λ (xs : List ℕ). number_from base front (b ∷ run p bs) xs) (behind_more p b bs e)
 
-from_none : (base front : ℕ) (p : ℕ → Bool) (b : ℕ) (bs : List ℕ) → p b ≡ false → number_from base front (run p (b ∷ bs)) (behind_run p (b ∷ bs)) ≡ itself
-from_none base front p b bs e = ap (λ (xs : List ℕ). number_from base front xs (behind_run p (b ∷ bs))) (run_none p b bs e)
+from_none : (base front : ℕ) (p : ℕ → Bool) (b : ℕ) (bs : List ℕ) → p b ≡ false → number_from base front (run p (b ∷ bs)) (after_run p (b ∷ bs)) ≡ itself
+from_none base front p b bs e = ap (λ (xs : List ℕ). number_from base front xs (after_run p (b ∷ bs))) (run_none p b bs e)
 
-decimal_undone : (cut attribute : Bool) (b : ℕ) (bs : List ℕ) → (b == 88 || b == 120) ≡ false → (cut && list_all is_ascii_digit (b ∷ bs)) ≡ false → Undone cut attribute (undone_at cut attribute (Open Hashed (35 ∷ [])) (b ∷ bs)) (35 ∷ b ∷ bs) (number_from 10 2 (run is_ascii_digit (b ∷ bs)) (behind_run is_ascii_digit (b ∷ bs)))
+decimal_undone : (cut attribute : Bool) (b : ℕ) (bs : List ℕ) → (b == 88 || b == 120) ≡ false → (cut && list_all is_ascii_digit (b ∷ bs)) ≡ false → Undone cut attribute (undone_at cut attribute (Open Hashed (35 ∷ [])) (b ∷ bs)) (35 ∷ b ∷ bs) (number_from 10 2 (run is_ascii_digit (b ∷ bs)) (after_run is_ascii_digit (b ∷ bs)))
 unfolding flushed
 decimal_undone cut attribute b bs other whole = either (is_ascii_digit b)
     (λ t. otherwise cut attribute _ (35 ∷ b ∷ bs) _ _ (from_run 10 2 is_ascii_digit b bs t)
-    (number_told cut attribute 10 2 b (run is_ascii_digit bs) (behind_run is_ascii_digit bs) (35 ∷ []) (35 ∷ b ∷ bs) _ (omega arith)
+    (number_told cut attribute 10 2 b (run is_ascii_digit bs) (after_run is_ascii_digit bs) (35 ∷ []) (35 ∷ b ∷ bs) _ (omega arith)
     (ap (λ (xs : List ℕ). 35 ∷ b ∷ xs) (run-behind is_ascii_digit bs))
     (grow cut attribute Hashed Decimal (35 ∷ []) b bs (rw (other, t) refl)
     ∙ grow_run cut attribute Decimal is_ascii_digit (λ d e. rw e refl) (35 ∷ b ∷ []) bs
-    ∙ decimal_ends cut attribute (b ∷ run is_ascii_digit bs) (behind_run is_ascii_digit bs) (run_stops is_ascii_digit bs) (whole_run cut is_ascii_digit bs (rw t at whole)))))
+    ∙ decimal_ends cut attribute (b ∷ run is_ascii_digit bs) (after_run is_ascii_digit bs) (run_stops is_ascii_digit bs) (whole_run cut is_ascii_digit bs (rw t at whole)))))
     (λ f. otherwise cut attribute _ (35 ∷ b ∷ bs) _ _ (from_none 10 2 is_ascii_digit b bs f)
     (as_itself cut attribute _ (35 ∷ b ∷ bs) (break cut attribute Hashed (35 ∷ []) (b ∷ bs) (rw (other, f) refl) ∙ ap (λ (xs : List ℕ). 38 ∷ xs) (sym (plain cut attribute 35 (b ∷ bs) refl)))))
 
 mark_is_plain : (x : ℕ) → (x == 88 || x == 120) ≡ true → (x == 38) ≡ false
 mark_is_plain x e = grind (arith, nat_tests)
 
-hexadecimal_undone : (cut attribute : Bool) (x : ℕ) (bs : List ℕ) → (x == 88 || x == 120) ≡ true → (cut && list_all is_ascii_hexdigit bs) ≡ false → Undone cut attribute (undone_at cut attribute (Open HexMark (35 ∷ x ∷ [])) bs) (35 ∷ x ∷ bs) (number_from 16 3 (run is_ascii_hexdigit bs) (behind_run is_ascii_hexdigit bs))
+hexadecimal_undone : (cut attribute : Bool) (x : ℕ) (bs : List ℕ) → (x == 88 || x == 120) ≡ true → (cut && list_all is_ascii_hexdigit bs) ≡ false → Undone cut attribute (undone_at cut attribute (Open HexMark (35 ∷ x ∷ [])) bs) (35 ∷ x ∷ bs) (number_from 16 3 (run is_ascii_hexdigit bs) (after_run is_ascii_hexdigit bs))
 unfolding flushed
 hexadecimal_undone cut attribute x [] mark whole = as_itself cut attribute _ (35 ∷ x ∷ []) (break cut attribute HexMark (35 ∷ x ∷ []) [] (uncut cut whole) ∙ ap (λ (xs : List ℕ). 38 ∷ xs) (sym (plain cut attribute 35 (x ∷ []) refl ∙ ap (λ (xs : List ℕ). 35 ∷ xs) (plain cut attribute x [] (mark_is_plain x mark)))))
 hexadecimal_undone cut attribute x (b ∷ bs) mark whole = either (is_ascii_hexdigit b)
     (λ t. otherwise cut attribute _ (35 ∷ x ∷ b ∷ bs) _ _ (from_run 16 3 is_ascii_hexdigit b bs t)
-    (number_told cut attribute 16 3 b (run is_ascii_hexdigit bs) (behind_run is_ascii_hexdigit bs) (35 ∷ x ∷ []) (35 ∷ x ∷ b ∷ bs) _ (omega arith)
+    (number_told cut attribute 16 3 b (run is_ascii_hexdigit bs) (after_run is_ascii_hexdigit bs) (35 ∷ x ∷ []) (35 ∷ x ∷ b ∷ bs) _ (omega arith)
     (ap (λ (xs : List ℕ). 35 ∷ x ∷ b ∷ xs) (run-behind is_ascii_hexdigit bs))
     (grow cut attribute HexMark Hexadecimal (35 ∷ x ∷ []) b bs (rw t refl)
     ∙ grow_run cut attribute Hexadecimal is_ascii_hexdigit (λ d e. rw e refl) (35 ∷ x ∷ b ∷ []) bs
-    ∙ hexadecimal_ends cut attribute x (b ∷ run is_ascii_hexdigit bs) (behind_run is_ascii_hexdigit bs) (run_stops is_ascii_hexdigit bs) (whole_run cut is_ascii_hexdigit bs (rw t at whole)))))
+    ∙ hexadecimal_ends cut attribute x (b ∷ run is_ascii_hexdigit bs) (after_run is_ascii_hexdigit bs) (run_stops is_ascii_hexdigit bs) (whole_run cut is_ascii_hexdigit bs (rw t at whole)))))
     (λ f. otherwise cut attribute _ (35 ∷ x ∷ b ∷ bs) _ _ (from_none 16 3 is_ascii_hexdigit b bs f)
     (as_itself cut attribute _ (35 ∷ x ∷ b ∷ bs) (break cut attribute HexMark (35 ∷ x ∷ []) (b ∷ bs) (rw f refl)
     ∙ ap (λ (xs : List ℕ). 38 ∷ xs) (sym (plain cut attribute 35 (x ∷ b ∷ bs) refl ∙ ap (λ (xs : List ℕ). 35 ∷ xs) (plain cut attribute x (b ∷ bs) (mark_is_plain x mark)))))))
@@ -230,18 +230,18 @@ hashed_undone cut attribute (b ∷ bs) whole = either (b == 88 || b == 120)
 -- References.
 
 -- a name of all letters and digits that stand there
-named_at : (attribute : Bool) (b : ℕ) (bs : List ℕ) → (b == 35) ≡ false → is_ascii_alphanumeric b ≡ true → reference_at attribute (b ∷ bs) ≡ name_at attribute (b ∷ run is_ascii_alphanumeric bs) (behind_run is_ascii_alphanumeric bs)
+named_at : (attribute : Bool) (b : ℕ) (bs : List ℕ) → (b == 35) ≡ false → is_ascii_alphanumeric b ≡ true → reference_at attribute (b ∷ bs) ≡ name_at attribute (b ∷ run is_ascii_alphanumeric bs) (after_run is_ascii_alphanumeric bs)
 named_at attribute b bs f t =
     cond-false (b == 35) _ _ f
     ∙ cond-true (is_ascii_alphanumeric b) _ _ t
-    ∙ ap (λ (xs : List ℕ). name_at attribute xs (behind_run is_ascii_alphanumeric (b ∷ bs))) (run_more is_ascii_alphanumeric b bs t)
+    ∙ ap (λ (xs : List ℕ). name_at attribute xs (after_run is_ascii_alphanumeric (b ∷ bs))) (run_more is_ascii_alphanumeric b bs t)
     ∙ ap (λ (xs : List ℕ). name_at attribute (b ∷ run is_ascii_alphanumeric bs) xs) (behind_more is_ascii_alphanumeric b bs t)
 
-name_all : (cut attribute : Bool) (b : ℕ) (bs : List ℕ) → is_ascii_alphanumeric b ≡ true → Whole cut (behind_run is_ascii_alphanumeric bs) → Undone cut attribute (undone_at cut attribute (Open Named (b ∷ run is_ascii_alphanumeric bs)) (behind_run is_ascii_alphanumeric bs)) (b ∷ bs) (name_at attribute (b ∷ run is_ascii_alphanumeric bs) (behind_run is_ascii_alphanumeric bs))
+name_all : (cut attribute : Bool) (b : ℕ) (bs : List ℕ) → is_ascii_alphanumeric b ≡ true → Whole cut (after_run is_ascii_alphanumeric bs) → Undone cut attribute (undone_at cut attribute (Open Named (b ∷ run is_ascii_alphanumeric bs)) (after_run is_ascii_alphanumeric bs)) (b ∷ bs) (name_at attribute (b ∷ run is_ascii_alphanumeric bs) (after_run is_ascii_alphanumeric bs))
 name_all cut attribute b bs t whole =
-    subst (λ (all : List ℕ). Undone cut attribute (undone_at cut attribute (Open Named (b ∷ run is_ascii_alphanumeric bs)) (behind_run is_ascii_alphanumeric bs)) all (name_at attribute (b ∷ run is_ascii_alphanumeric bs) (behind_run is_ascii_alphanumeric bs)))
+    subst (λ (all : List ℕ). Undone cut attribute (undone_at cut attribute (Open Named (b ∷ run is_ascii_alphanumeric bs)) (after_run is_ascii_alphanumeric bs)) all (name_at attribute (b ∷ run is_ascii_alphanumeric bs) (after_run is_ascii_alphanumeric bs)))
     (ap (λ (xs : List ℕ). b ∷ xs) (run-behind is_ascii_alphanumeric bs))
-    (name_undone cut attribute (b ∷ run is_ascii_alphanumeric bs) (behind_run is_ascii_alphanumeric bs) (rw t (run_passes is_ascii_alphanumeric bs)) (run_stops is_ascii_alphanumeric bs) whole)
+    (name_undone cut attribute (b ∷ run is_ascii_alphanumeric bs) (after_run is_ascii_alphanumeric bs) (rw t (run_passes is_ascii_alphanumeric bs)) (run_stops is_ascii_alphanumeric bs) whole)
 
 reference_undone : (cut attribute : Bool) (bs : List ℕ) → (cut && is_broken_off bs) ≡ false → Undone cut attribute (undone_at cut attribute (Open Begun []) bs) bs (reference_at attribute bs)
 unfolding flushed

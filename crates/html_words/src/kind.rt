@@ -1,6 +1,6 @@
 ghost use Rattle.std.specs.Prelude.{◌≡◌, ◌≤◌, length};
 ghost use Rattle.std.specs.Str.{str_to_ascii_lowercase as lower};
-ghost use Rattle.place_core.specs.Words.{is_script as is_script_of, is_among as is_among_of, kind_of, kind_of_name as kind_of_name_of, kind_with_front as kind_with_front_of, no_hole_names, prefix_length, url_names};
+ghost use Rattle.place_core.specs.Words.{is_script as is_script_of, is_among as is_among_of, kind_of, kind_of_name as kind_of_name_of, kind_with_prefix as kind_with_prefix_of, no_hole_names, prefix_length, url_names};
 ghost use Rattle.html_words.specs.Prefixes.{kind_by_prefix};
 
 use crate::words::{begins, has_part, is_among, same};
@@ -27,7 +27,7 @@ fn is_script(element: Element) -> bool
 
 // The kind of a name with its prefix; `data-` does not matter.
 fn kind_with_prefix(name: &[u8]) -> Kind
-    ensures { result ≡ kind_with_front_of (lower name.now) }
+    ensures { result ≡ kind_with_prefix_of (lower name.now) }
 {
     if begins(name, b"data-") {
         let (_, rest) = name.split_at(5);

@@ -77,7 +77,7 @@ pub fn named(name: &[u8]) -> u32
 }
 
 /// In text: the short name that stands at the beginning of a name, and how many bytes it takes with the ampersand.
-pub fn short_at_front(name: &[u8]) -> (u32, usize)
+pub fn short_prefix(name: &[u8]) -> (u32, usize)
     ensures { result ≡ begins_at short_names name.now }
 {
     prefix_in(name, &SHORT_NAMES)

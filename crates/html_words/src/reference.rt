@@ -4,7 +4,7 @@ ghost use Rattle.std.specs.Char.{is_ascii_alphanumeric, is_ascii_digit, is_ascii
 ghost use Rattle.std.specs.List.{list_all, prefix_len};
 ghost use Rattle.place_core.specs.Characters.{hashed_at as hashed_at_of, is_broken_number as is_broken_number_of, is_broken_off as is_broken_off_of, name_at as name_at_of, number_from as number_from_of, reference_at as reference_at_of, semicolon_len as semicolon_len_of, short_at as short_at_of};
 
-use crate::names::{named, short_at_front, short_whole};
+use crate::names::{named, short_prefix, short_whole};
 use crate::number::numbered_in;
 
 /// An ampersand that begins no reference: itself, one byte.
@@ -79,7 +79,7 @@ fn short_at(attribute: bool, equals: bool, name: &[u8]) -> (u32, usize)
     ensures { result ≡ short_at_of attribute equals name.now }
 {
     if !attribute {
-        return short_at_front(name);
+        return short_prefix(name);
     }
     if equals {
         return ITSELF;

@@ -1,5 +1,5 @@
 -- The value at a key is the value of the entry with the key's number.
-use Rattle.std.proofs.Common.{◌≡◌, ℕ, Bool, zero, suc, ◌<◌, List, [], ◌∷◌, length, get_or, true, false, bytes_eq, Option, Some, None, option_map, refl, sym, ap, ◌∙◌, arith}
+use Rattle.std.proofs.Common.{◌≡◌, ℕ, Bool, suc, List, [], ◌∷◌, get_or, true, false, bytes_eq, Option, Some, None, option_map, refl, ap, ◌∙◌}
 use Rattle.std.specs.Map.{keys_of}
 use Rattle.page_io.specs.Keys.{HaveAscendingKeys, key_number}
 use Rattle.page_datum.specs.Data.{Data, keys, HasAscendingKeys, value_at}

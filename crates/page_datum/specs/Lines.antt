@@ -2,5 +2,5 @@
 use Rattle.std.specs.Prelude.{◌≡◌, ℕ, ◌≤◌, List, ◌++◌, length, take}
 
 -- new is old with a prefix of lines after it
-abbrev pub HasFront : List ℕ → List ℕ → List ℕ → Type 0
-HasFront old new lines = (n : ℕ) × (n ≤ length lines) × (new ≡ old ++ take n lines)
+abbrev pub HasPrefix : List ℕ → List ℕ → List ℕ → Type 0
+HasPrefix old new lines = (n : ℕ) × (n ≤ length lines) × (new ≡ old ++ take n lines)

@@ -40,7 +40,7 @@ abbrev pub whole_of : Option ℤ → Result Data Path
 whole_of (Some n) = Ok (int n)
 whole_of None = Err []
 
--- one more item in front, and one more entry
+-- one more item before them, and one more entry
 abbrev pub with_item : List ℕ → Result Data Path → Result DataList Path → Result DataList Path
 with_item number (Ok d) (Ok rest) = Ok (item d rest)
 with_item number (Ok d) (Err path) = Err path

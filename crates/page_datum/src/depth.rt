@@ -1,5 +1,5 @@
 ghost use Rattle.std.specs.Prelude.{◌≡◌, ◌<◌};
-ghost use Rattle.page_datum.specs.Depth.{place_after as place_after_of, opens as opens_of};
+ghost use Rattle.page_datum.specs.Depth.{state_after as place_after_of, opens as opens_of};
 ghost use Rattle.page_datum.specs.Depth.{closes as closes_of, open_after as open_after_of};
 ghost use Rattle.page_datum.specs.Depth.{is_too_deep as is_too_deep_of};
 
@@ -8,7 +8,7 @@ pub const MAX_DEPTH: usize = 100;
 
 /// Where a byte of a text stands.
 #[derive(Clone, Copy, Debug, PartialEq, Eq, Drop)]
-pub(crate) enum Place {
+pub(crate) enum StringState {
     /// Outside of strings.
     Outside,
     /// In a string.
@@ -21,51 +21,51 @@ pub(crate) enum Place {
 pub(crate) fn is_too_deep(bytes: &[u8]) -> bool
     ensures { result ≡ is_too_deep_of bytes.now }
 {
-    let mut place = Place::Outside;
+    let mut place = StringState::Outside;
     let mut opened = 0;
     for byte in bytes {
         opened = open_after(place, opened, *byte);
         if opened > MAX_DEPTH {
             return true;
         }
-        place = place_after(place, *byte);
+        place = state_after(place, *byte);
     }
     false
 }
 
-fn place_after(place: Place, byte: u8) -> Place
+fn state_after(place: StringState, byte: u8) -> StringState
     ensures { result ≡ place_after_of place byte }
 {
     match place {
-        Place::Outside => if byte == b'"' {
-            Place::Inside
+        StringState::Outside => if byte == b'"' {
+            StringState::Inside
         } else {
-            Place::Outside
+            StringState::Outside
         },
-        Place::Inside => if byte == b'"' {
-            Place::Outside
+        StringState::Inside => if byte == b'"' {
+            StringState::Outside
         } else if byte == b'\\' {
-            Place::Escaped
+            StringState::Escaped
         } else {
-            Place::Inside
+            StringState::Inside
         },
-        Place::Escaped => Place::Inside,
+        StringState::Escaped => StringState::Inside,
     }
 }
 
-fn open_after(place: Place, opened: usize, byte: u8) -> usize
+fn open_after(place: StringState, opened: usize, byte: u8) -> usize
     requires { opened < 101 }
     ensures { result ≡ open_after_of place opened byte }
 {
     match place {
-        Place::Outside => if opens(byte) {
+        StringState::Outside => if opens(byte) {
             opened + 1
         } else if closes(byte) {
             opened.saturating_sub(1)
         } else {
             opened
         },
-        Place::Inside | Place::Escaped => opened,
+        StringState::Inside | StringState::Escaped => opened,
     }
 }
 

@@ -1,5 +1,5 @@
 ghost use Rattle.std.specs.Prelude.{◌≡◌, ◌++◌, ℕ, List, Bool, OnOk};
-ghost use Rattle.page_datum.specs.Lines.{HasFront};
+ghost use Rattle.page_datum.specs.Lines.{HasPrefix};
 
 use page_io::{Memory, Text};
 
@@ -14,7 +14,7 @@ pub trait Shown {
     /// Appends the refusal's lines. After the error a prefix of them is appended.
     fn lines(&self, out: &mut Text) -> Result<(), Memory>
         ensures ok { OnOk result (out.new ≡ out.old ++ text self.now) }
-        ensures front { HasFront out.old out.new (text self.now) };
+        ensures prefix { HasPrefix out.old out.new (text self.now) };
 
     /// Whether it is out of memory.
     fn memory(&self) -> bool

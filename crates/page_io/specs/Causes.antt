@@ -12,7 +12,7 @@ pub record HasCause {T E : Type 0} (before now : ℕ) (result : Result T E) : Ty
   pub later : before ≤ now
   pub failed : OnErr result (Rose before now)
 
--- the same for a call that may also want memory
+-- the same for a call that may also run out of memory
 pub record HasStop {T : Type 0} (before now : ℕ) (result : Result T IoStop) : Type 0 where
   pub later : before ≤ now
   pub failed : IsErrOf result stop.Failed → Rose before now

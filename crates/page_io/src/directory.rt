@@ -57,7 +57,7 @@ impl<R: Files + AllocGlobal + Clone + Drop> Folder for Directory<R> {
     }
 
     fn read(&mut self, alloc: Global, dir: &str, name: &str, max: u64) -> Result<Bytes, IoStop> {
-        match front_of_file(&self.rt, alloc, dir, name, max) {
+        match prefix_of_file(&self.rt, alloc, dir, name, max) {
             Ok(bytes) => Ok(Bytes::from(bytes)),
             Err(error) => Err(self.stop(&error)),
         }
@@ -89,7 +89,7 @@ fn is_file<R: Files>(rt: &R, path: &str) -> io::Result<bool> {
     }
 }
 
-fn front_of_file<R: Files>(
+fn prefix_of_file<R: Files>(
     rt: &R,
     alloc: Global,
     dir: &str,

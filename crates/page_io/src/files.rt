@@ -52,10 +52,10 @@ pub fn content_in<'a>(files: &'a [MemFile], dir: &str, name: &str) -> Option<&'a
 }
 
 /// The first `max + 1` bytes, or all where there are no more.
-pub fn front_of(alloc: Global, bytes: &[u8], max: u64) -> Result<Bytes, Memory>
-    ensures { IfOk result (λ front. front ≡ take (max + 1) bytes.now) }
+pub fn prefix_of(alloc: Global, bytes: &[u8], max: u64) -> Result<Bytes, Memory>
+    ensures { IfOk result (λ prefix. prefix ≡ take (max + 1) bytes.now) }
 {
     let count = (max as usize).saturating_add(1).min(bytes.len());
-    let (front, _) = bytes.split_at(count);
-    Bytes::copy_of(alloc, front)
+    let (prefix, _) = bytes.split_at(count);
+    Bytes::copy_of(alloc, prefix)
 }

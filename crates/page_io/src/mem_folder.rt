@@ -7,7 +7,7 @@ ghost use Rattle.page_io.specs.Held.{names_in as names_of, content_in as content
 
 use crate::bytes::Bytes;
 use crate::calls::Calls;
-use crate::files::{content_in, front_of, names_in};
+use crate::files::{content_in, names_in, prefix_of};
 use crate::folder::Folder;
 use crate::list::{List, Names};
 use crate::stop::IoStop;
@@ -87,7 +87,7 @@ impl Folder for MemFolder {
     {
         self.calls.begin()?;
         match content_in(self.files.as_slice(), dir, name) {
-            Some(bytes) => Ok(front_of(alloc, bytes, max)?),
+            Some(bytes) => Ok(prefix_of(alloc, bytes, max)?),
             None => Err(IoStop::from(self.calls.fault())),
         }
     }

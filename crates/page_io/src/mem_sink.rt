@@ -82,8 +82,8 @@ impl Sink for MemSink {
         if count == 0 && !bytes.is_empty() {
             return Err(self.calls.fault());
         }
-        let (front, _) = bytes.split_at(count);
-        match self.taken.extend_from_slice(front) {
+        let (prefix, _) = bytes.split_at(count);
+        match self.taken.extend_from_slice(prefix) {
             Ok(()) => {
                 self.room -= count;
                 Ok(count)

@@ -63,14 +63,14 @@ impl Source for MemSource {
     {
         self.calls.begin()?;
         let (_, rest) = self.bytes.as_slice().split_at(self.at);
-        let count = copy_front(rest, buf, self.step);
+        let count = copy_prefix(rest, buf, self.step);
         self.at += count;
         Ok(count)
     }
 }
 
 /// Copies a prefix of the bytes that are left, at most `step`, and says how many they are.
-pub(crate) fn copy_front(rest: &[u8], buf: &mut [u8], step: u64) -> usize
+pub(crate) fn copy_prefix(rest: &[u8], buf: &mut [u8], step: u64) -> usize
     requires { 0 < step }
     ensures count { result ≡ min (min (length rest.now) (length buf.new)) step }
     ensures within { result ≤ length rest.now }

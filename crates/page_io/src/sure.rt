@@ -2,11 +2,11 @@
 ghost use Rattle.std.specs.Prelude.{◌≡◌, ◌<◌, ◌≤◌, length, Some};
 
 use crate::bytes::Bytes;
-use crate::files::{content_in, front_of, names_in};
+use crate::files::{content_in, names_in, prefix_of};
 use crate::folder::Folder;
 use crate::list::{List, Names};
 use crate::mem_folder::MemFile;
-use crate::mem_source::copy_front;
+use crate::mem_source::copy_prefix;
 use crate::sink::Sink;
 use crate::source::Source;
 use crate::stop::{Failed, IoStop};
@@ -42,7 +42,7 @@ impl Source for SureSource {
 
     fn read(&mut self, buf: &mut [u8]) -> Result<usize, Failed> {
         let (_, rest) = self.bytes.as_slice().split_at(self.at);
-        let count = copy_front(rest, buf, self.step);
+        let count = copy_prefix(rest, buf, self.step);
         self.at += count;
         Ok(count)
     }
@@ -109,7 +109,7 @@ impl Folder for SureFolder {
 
     fn read(&mut self, alloc: Global, dir: &str, name: &str, max: u64) -> Result<Bytes, IoStop> {
         match content_in(self.files.as_slice(), dir, name) {
-            Some(bytes) => Ok(front_of(alloc, bytes, max)?),
+            Some(bytes) => Ok(prefix_of(alloc, bytes, max)?),
             None => Ok(Bytes::new(alloc)),
         }
     }

@@ -4,7 +4,7 @@ use Rattle.std.proofs.lemmas.List.{drop_at}
 use Rattle.std.specs.Char.{is_ascii_alphanumeric}
 use Rattle.std.specs.List.{list_all, prefix_len}
 use Rattle.page_datum.specs.declared.files.NamedFile.{NamedFile}
-use Rattle.page_set.specs.Forms.{Form, start_tag, end_tag, hole, character, is_word_byte, Begins, IsFront, IsStuck}
+use Rattle.page_set.specs.Forms.{Form, start_tag, end_tag, hole, character, is_word_byte, Begins, AreForms, IsStuck}
 use Rattle.page_set.specs.Making.{IsMade, IsRefused, Refuses}
 use Rattle.page_set.specs.declared.node.Node.{Node}
 use Rattle.page_set.specs.declared.refused.MakeRefused.{MakeRefused}
@@ -53,13 +53,13 @@ not_empty text (end_tag n) rest e b = let h : [] ≡ 60 ∷ 47 ∷ ((n ++ 62 ∷
 not_empty text (hole n) rest e b = let h : [] ≡ 123 ∷ 123 ∷ 46 ∷ ((n ++ 125 ∷ 125 ∷ []) ++ rest) = sym e ∙ b.spelled in nothing _ _ h
 not_empty text (character c) rest e b = let h : [] ≡ c ∷ rest = sym e ∙ b.spelled in nothing _ _ h
 
-apart : (text : List ℕ) (forms front : List Form) (rest : List ℕ) → IsFront text forms [] → IsFront text front rest → IsStuck rest → ⊥
+apart : (text : List ℕ) (forms front : List Form) (rest : List ℕ) → AreForms text forms [] → AreForms text front rest → IsStuck rest → ⊥
 apart text [] [] rest whole part stuck = stuck.some (sym part ∙ whole)
 apart text (f ∷ forms) [] rest whole part stuck = stuck.none f whole.0 (subst (λ (xs : List ℕ). Begins xs f whole.0) part whole.1.0)
 apart text [] (g ∷ front) rest whole part stuck = not_empty text g part.0 whole part.1.0
 apart text (f ∷ forms) (g ∷ front) rest whole part stuck =
     let same : whole.0 ≡ part.0 = one_rest text f g whole.0 part.0 whole.1.0 part.1.0 in
-    apart part.0 forms front rest (subst (λ (xs : List ℕ). IsFront xs forms []) same whole.1.1) part.1.1 stuck
+    apart part.0 forms front rest (subst (λ (xs : List ℕ). AreForms xs forms []) same whole.1.1) part.1.1 stuck
 
 -- a set's files have no cause to be refused
 cause : (files : List NamedFile) (nodes : List Node) (refused : MakeRefused) → IsMade files nodes → refused ≢ Memory → IsRefused refused files → ⊥

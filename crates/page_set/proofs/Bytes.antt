@@ -4,7 +4,7 @@ use Rattle.std.proofs.lemmas.Bool.{cases_lt, agree_below, agree_below_at}
 use Rattle.std.specs.Char.{is_ascii_alphabetic, is_ascii_alphanumeric, to_ascii_lowercase}
 use Rattle.place_core.specs.Classes.{Class, Digit, Letter, class_of}
 use Rattle.place_core.specs.Events.{Event, TextByte, StartTagBegins, EndTagBegins, TagNameByte, TagEnds}
-use Rattle.place_core.specs.Html.{Mode, State, Text, TagOpen, EndTagOpen, TagName, behind_tag, config, read}
+use Rattle.place_core.specs.Html.{Mode, State, Text, TagOpen, EndTagOpen, TagName, after_tag, config, read}
 use Rattle.place_core.specs.References.{Closed}
 use Rattle.place_core.specs.Tags.{tag_named}
 use Rattle.place_core.proofs.Bytes.{eq-high, range-high, class-high}
@@ -89,6 +89,6 @@ pub name_byte : (m : Mode) (ends : Bool) (name : List ℕ) (b : ℕ) (t : List E
 name_byte m ends name b t h = name_class m (class_of b) ends name b t refl (by_true _ _ h (both _ _ (both _ _ (known b)).1).0)
 
 -- and `>` ends the tag
-pub tag_ends : (m : Mode) (ends : Bool) (name : List ℕ) (t : List Event) → read m (62 ∷ []) (config (TagName ends name) t) ≡ config (behind_tag (tag_named ends name)) (TagEnds false ∷ t)
+pub tag_ends : (m : Mode) (ends : Bool) (name : List ℕ) (t : List Event) → read m (62 ∷ []) (config (TagName ends name) t) ≡ config (after_tag (tag_named ends name)) (TagEnds false ∷ t)
 unfolding class_of
 tag_ends m ends name t = refl

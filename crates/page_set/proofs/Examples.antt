@@ -30,7 +30,7 @@ page_of_nothing = refl
 steps_of_paragraph : (run (codes "a.html") nodes (dict no_entries)).steps ≡ 4
 steps_of_paragraph = refl
 
--- special names in any case are no plain tags
+-- names of elements with a state of their own are no plain tags, in any case
 no_script : is_tag_name (codes "ScRiPt") ≡ false
 no_script = refl
 

@@ -2,7 +2,7 @@
 use Rattle.std.proofs.Common.{◌≡◌, ℕ, ◌+◌, ◌-◌, ◌≤◌, List, [], ◌∷◌, ◌++◌, length, take, drop, refl, sym, ap, ◌∙◌, subst, arith, append_assoc, append-nil}
 use Rattle.std.proofs.Math.Seq.{take-add}
 use Rattle.std.proofs.lemmas.List.{drop-drop, drop_all, take_at, length-append, length-drop}
-use Rattle.page_set.specs.Forms.{Form, spelling, spelled, Begins, IsFront, IsStuck}
+use Rattle.page_set.specs.Forms.{Form, spelling, spelled, Begins, AreForms, IsStuck}
 use Rattle.page_set.specs.Found.{IsFound, found_len, form_of}
 use Rattle.page_io.proofs.Feeds.{line_feeds-append}
 use Rattle.page_io.specs.Lines.{line_feeds}
@@ -15,16 +15,16 @@ use Rattle.page_set.proofs.HoleLaws.{length-spelling}
 -- the text up to a place is forms, which made these nodes and the text from `start` on
 pub record IsScannedTo (text : List ℕ) (start at line : ℕ) (nodes : List Node) : Type 0 where
   pub front : List Form
-  pub built : IsFront text front (drop at text)
+  pub built : AreForms text front (drop at text)
   pub made : (forms : List Form) → nodes ++ nodes_from line (take (at - start) (drop start text)) forms ≡ nodes_from 1 [] (front ++ forms)
 
 -- one more form at the end of a prefix
-pub front_more : (text : List ℕ) (front : List Form) (rest : List ℕ) (form : Form) (more : List ℕ) → IsFront text front rest → Begins rest form more → IsFront text (front ++ form ∷ []) more
+pub front_more : (text : List ℕ) (front : List Form) (rest : List ℕ) (form : Form) (more : List ℕ) → AreForms text front rest → Begins rest form more → AreForms text (front ++ form ∷ []) more
 front_more text [] rest form more h b = (more, (record { spelled = h ∙ b.spelled; stands = b.stands }, refl))
 front_more text (f ∷ front) rest form more h b = (h.0, (h.1.0, front_more h.0 front rest form more h.1.1 b))
 
 -- a text is its prefix and the rest
-pub spelled-front : (text : List ℕ) (front : List Form) (rest : List ℕ) → IsFront text front rest → text ≡ spelled front ++ rest
+pub spelled-front : (text : List ℕ) (front : List Form) (rest : List ℕ) → AreForms text front rest → text ≡ spelled front ++ rest
 spelled-front text [] rest h = h
 spelled-front text (f ∷ front) rest h = h.1.0.spelled ∙ ap (λ (xs : List ℕ). spelling f ++ xs) (spelled-front h.0 front rest h.1.1) ∙ sym (append_assoc (spelling f) (spelled front) rest)
 
@@ -72,6 +72,6 @@ stuck_here text start at line nodes rest fits s h is stuck =
 pub scanned_all : (text : List ℕ) (start at line : ℕ) (old new : List Node) → IsScannedTo text start at line old → at ≡ length text → new ≡ old ++ text_node (take (at - start) (drop start text)) → IsTemplate text new
 scanned_all text start at line old new s is made = record {
   forms = s.front;
-  built = subst (λ (xs : List ℕ). IsFront text s.front xs) (drop_all at text (omega (arith, is))) s.built;
+  built = subst (λ (xs : List ℕ). AreForms text s.front xs) (drop_all at text (omega (arith, is))) s.built;
   grouped = made ∙ s.made [] ∙ ap (nodes_from 1 []) (append-nil s.front);
 }

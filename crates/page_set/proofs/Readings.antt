@@ -7,12 +7,12 @@ use Rattle.std.specs.Str.{str_to_ascii_lowercase}
 use Rattle.std.specs.Prelude.{if◌then◌else◌}
 use Rattle.place_core.specs.Classes.{class_of}
 use Rattle.place_core.specs.Events.{Event, TextByte, Mark, TagNameByte, TagEnds, text_bytes}
-use Rattle.place_core.specs.Html.{Mode, Page, Text, TagName, behind_tag, tag_name_bytes, Config, config, read}
+use Rattle.place_core.specs.Html.{Mode, Page, Text, TagName, after_tag, tag_name_bytes, Config, config, read}
 use Rattle.place_core.specs.Plain.{only_text, IsPlain}
 use Rattle.place_core.specs.References.{Closed, meaning, flushed}
 use Rattle.place_core.specs.Tags.{tag_named}
 use Rattle.place_core.proofs.Readings.{read-append, text_bytes-append}
-use Rattle.page_set.specs.Html.{replacement_bytes, html_row, html}
+use Rattle.page_set.specs.Escapes.{replacement_bytes, html_row, html}
 use Rattle.page_set.specs.Shape.{marked}
 use Rattle.page_set.specs.Soundness.{as_text}
 use Rattle.page_set.proofs.Bytes.{plain_byte, name_byte, tag_ends}
@@ -93,10 +93,10 @@ html_marked bytes t = ap (λ (c : Config). config c.at (Mark ∷ t)) (html_reads
 
 -- a name and its `>` end a tag
 pub name_reads : (m : Mode) (ends : Bool) (name acc : List ℕ) (t : List Event) → list_all is_ascii_alphanumeric name ≡ true
-    → read m (name ++ 62 ∷ []) (config (TagName ends acc) t) ≡ config (behind_tag (tag_named ends (acc ++ str_to_ascii_lowercase name))) (TagEnds false ∷ tag_name_bytes name t)
-name_reads m ends [] acc t h = tag_ends m ends acc t ∙ ap (λ (n : List ℕ). config (behind_tag (tag_named ends n)) (TagEnds false ∷ t)) (sym (append-nil acc))
+    → read m (name ++ 62 ∷ []) (config (TagName ends acc) t) ≡ config (after_tag (tag_named ends (acc ++ str_to_ascii_lowercase name))) (TagEnds false ∷ tag_name_bytes name t)
+name_reads m ends [] acc t h = tag_ends m ends acc t ∙ ap (λ (n : List ℕ). config (after_tag (tag_named ends n)) (TagEnds false ∷ t)) (sym (append-nil acc))
 name_reads m ends (b ∷ name) acc t h =
     let parts = both (is_ascii_alphanumeric b) (list_all is_ascii_alphanumeric name) h in
     ap (read m (name ++ 62 ∷ [])) (name_byte m ends acc b t parts.0)
     ∙ name_reads m ends name (acc ++ to_ascii_lowercase b ∷ []) (TagNameByte (to_ascii_lowercase b) ∷ t) parts.1
-    ∙ ap (λ (n : List ℕ). config (behind_tag (tag_named ends n)) (TagEnds false ∷ tag_name_bytes (b ∷ name) t)) (append_assoc acc (to_ascii_lowercase b ∷ []) (str_to_ascii_lowercase name))
+    ∙ ap (λ (n : List ℕ). config (after_tag (tag_named ends n)) (TagEnds false ∷ tag_name_bytes (b ∷ name) t)) (append_assoc acc (to_ascii_lowercase b ∷ []) (str_to_ascii_lowercase name))

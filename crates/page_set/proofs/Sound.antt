@@ -12,7 +12,7 @@ use Rattle.place_core.specs.Events.{Event, Mark, text_bytes}
 use Rattle.place_core.specs.Html.{Page, Template, Text, Config, config, read, start}
 use Rattle.place_core.specs.References.{Closed}
 use Rattle.place_core.proofs.Readings.{read-append}
-use Rattle.page_set.specs.Html.{html}
+use Rattle.page_set.specs.Escapes.{html}
 use Rattle.page_set.specs.Making.{IsSet, IsExecution}
 use Rattle.page_set.specs.Path.{Symbol, Hole, read_path, read_written, read_filled, at_cut}
 use Rattle.page_set.specs.Running.{Piece, text_piece, hole_piece, Run, hole_run, field_of, run, page_of, is_root}

@@ -6,13 +6,13 @@ use Rattle.std.specs.Char.{is_ascii_alphabetic, is_ascii_alphanumeric, to_ascii_
 use Rattle.std.specs.List.{list_all}
 use Rattle.std.specs.Str.{str_to_ascii_lowercase}
 use Rattle.place_core.specs.Events.{Event, TextByte, TagNameByte, TagEnds}
-use Rattle.place_core.specs.Html.{Mode, Text, behind_tag, content_of, tag_name_bytes, config, read}
+use Rattle.place_core.specs.Html.{Mode, Text, after_tag, content_of, tag_name_bytes, config, read}
 use Rattle.place_core.specs.References.{Closed}
 use Rattle.place_core.specs.Tags.{tag_named}
 use Rattle.place_core.specs.declared.element.Element.{Element}
 use Rattle.place_core.specs.declared.element.Element.TheVariants as element
 use Rattle.place_core.proofs.Readings.{read-append}
-use Rattle.page_set.specs.Forms.{Form, start_tag, end_tag, hole, character, spelling, is_special_name, is_special, is_tag_name, IsFront}
+use Rattle.page_set.specs.Forms.{Form, start_tag, end_tag, hole, character, spelling, is_own_state_name, has_own_state, is_tag_name, AreForms}
 use Rattle.page_io.specs.Lines.{line_feeds}
 use Rattle.page_set.specs.Nodes.{text_node, nodes_from, IsTemplate}
 use Rattle.page_set.specs.declared.node.Node.{Node}
@@ -25,7 +25,7 @@ use Rattle.page_set.proofs.Readings.{name_reads}
 abbrev pub Whole : List ℕ → Type 0
 Whole bytes = (t : List Event) → (u : List Event) × ((m : Mode) → read m bytes (config (Text Closed) t) ≡ config (Text Closed) u)
 
--- after a tag with no special name there is text
+-- after a tag whose element has no state of its own there is text
 other_element : (script style title textarea : Bool) → (script || (style || (title || (textarea || false)))) ≡ false
     → (if title then element.Title else (if textarea then element.Textarea else (if style then element.Style else (if script then element.Script else element.Other)))) ≡ element.Other
 other_element true style title textarea e = absurd (true≢false e)
@@ -34,7 +34,7 @@ other_element false false true textarea e = absurd (true≢false e)
 other_element false false false true e = absurd (true≢false e)
 other_element false false false false e = refl
 
-text_behind : (ends : Bool) (name : List ℕ) (t : List Event) → is_special_name name ≡ false → config (behind_tag (tag_named ends name)) t ≡ config (Text Closed) t
+text_behind : (ends : Bool) (name : List ℕ) (t : List Event) → is_own_state_name name ≡ false → config (after_tag (tag_named ends name)) t ≡ config (Text Closed) t
 text_behind true name t plain = refl
 text_behind false name t plain = ap (λ (e : Element). config (content_of e) t) (other_element (bytes_eq name (codes "script")) (bytes_eq name (codes "style")) (bytes_eq name (codes "title")) (bytes_eq name (codes "textarea")) plain)
 
@@ -49,7 +49,7 @@ tag_whole ends (b ∷ name) h =
       u,
       λ m. begins_name m ends b (name ++ 62 ∷ []) t first.0
           ∙ name_reads m ends name (to_ascii_lowercase b ∷ []) (TagNameByte (to_ascii_lowercase b) ∷ tag_begins ends ∷ t) rest.1
-          ∙ text_behind ends (str_to_ascii_lowercase (b ∷ name)) u (not-true (is_special (b ∷ name)) more.1),
+          ∙ text_behind ends (str_to_ascii_lowercase (b ∷ name)) u (not-true (has_own_state (b ∷ name)) more.1),
     )
 
 character_whole : (byte : ℕ) → byte ≢ 60 → byte ≢ 38 → Whole (byte ∷ [])
@@ -77,7 +77,7 @@ last_text : (before : List ℕ) → Whole before → Wholes (text_node before)
 last_text [] w = tt
 last_text (b ∷ before) w = (w, tt)
 
-nodes_whole : (text : List ℕ) (forms : List Form) → IsFront text forms [] → (line : ℕ) (before : List ℕ) → Whole before → Wholes (nodes_from line before forms)
+nodes_whole : (text : List ℕ) (forms : List Form) → AreForms text forms [] → (line : ℕ) (before : List ℕ) → Whole before → Wholes (nodes_from line before forms)
 nodes_whole text [] f line before w = last_text before w
 nodes_whole text (start_tag name ∷ forms) f line before w = nodes_whole f.0 forms f.1.1 (line + line_feeds (spelling (start_tag name))) (before ++ spelling (start_tag name)) (append_whole before (spelling (start_tag name)) w (tag_whole false name f.1.0.stands))
 nodes_whole text (end_tag name ∷ forms) f line before w = nodes_whole f.0 forms f.1.1 (line + line_feeds (spelling (end_tag name))) (before ++ spelling (end_tag name)) (append_whole before (spelling (end_tag name)) w (tag_whole true name f.1.0.stands))

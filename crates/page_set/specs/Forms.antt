@@ -25,24 +25,25 @@ abbrev pub begins_with : (ℕ → Bool) → List ℕ → Bool
 begins_with p [] = false
 begins_with p (b ∷ bs) = p b
 
--- The elements whose content is not read as text (HTML Standard, sections 13.2.5.2 to 13.2.5.4).
+-- The elements whose content is read in a state of its own (HTML Standard, sections 13.2.5.2 to
+-- 13.2.5.4).
 -- The Standard has more of them (xmp, iframe, noembed, noframes, noscript, plaintext); the profile
 -- reads their content as text.
-abbrev pub special_names : List (List ℕ)
-special_names = codes "script" ∷ codes "style" ∷ codes "title" ∷ codes "textarea" ∷ []
+abbrev pub own_state_names : List (List ℕ)
+own_state_names = codes "script" ∷ codes "style" ∷ codes "title" ∷ codes "textarea" ∷ []
 
-abbrev pub is_special_name : List ℕ → Bool
-is_special_name name = list_any (pointwise nat_eq name) special_names
+abbrev pub is_own_state_name : List ℕ → Bool
+is_own_state_name name = list_any (pointwise nat_eq name) own_state_names
 
--- one of the special names, in any case
-abbrev pub is_special : List ℕ → Bool
-is_special name = is_special_name (str_to_ascii_lowercase name)
+-- one of these names, in any case
+abbrev pub has_own_state : List ℕ → Bool
+has_own_state name = is_own_state_name (str_to_ascii_lowercase name)
 
--- a letter, then letters and digits, and no special name
+-- a letter, then letters and digits, and none of these names
 abbrev pub is_tag_name : List ℕ → Bool
 is_tag_name name =
     begins_with is_ascii_alphabetic name
-    && (list_all is_ascii_alphanumeric name && not (is_special name))
+    && (list_all is_ascii_alphanumeric name && not (has_own_state name))
 
 -- a letter, a digit, or `_`
 abbrev pub is_word_byte : ℕ → Bool
@@ -71,10 +72,10 @@ pub record Begins (text : List ℕ) (form : Form) (rest : List ℕ) : Type 0 whe
   pub stands : MayStand form rest
 
 -- the text is these forms, one after another, and then the rest
-abbrev pub IsFront : List ℕ → List Form → List ℕ → Type 0
-IsFront text [] rest = text ≡ rest
-IsFront text (form ∷ forms) rest =
-    (more : List ℕ) × (Begins text form more × IsFront more forms rest)
+abbrev pub AreForms : List ℕ → List Form → List ℕ → Type 0
+AreForms text [] rest = text ≡ rest
+AreForms text (form ∷ forms) rest =
+    (more : List ℕ) × (Begins text form more × AreForms more forms rest)
 
 -- the bytes of forms
 abbrev pub spelled : List Form → List ℕ

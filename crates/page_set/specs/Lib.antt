@@ -1,7 +1,7 @@
+pub mod Composing
+pub mod Escapes
 pub mod Forms
 pub mod Found
-pub mod Gathering
-pub mod Html
 pub mod Made
 pub mod Making
 pub mod Names

@@ -2,7 +2,7 @@
 -- lines.
 use Rattle.std.specs.Prelude.{◌≡◌, ℕ, ◌+◌, List, [], ◌∷◌, ◌++◌}
 use Rattle.page_io.specs.Lines.{line_feeds}
-use Rattle.page_set.specs.Forms.{Form, hole, spelling, spelled, IsFront, IsStuck}
+use Rattle.page_set.specs.Forms.{Form, hole, spelling, spelled, AreForms, IsStuck}
 use Rattle.page_set.specs.declared.node.Node.{Node}
 use Rattle.page_set.specs.declared.node.Node.TheVariants.{Text, Hole}
 
@@ -23,13 +23,13 @@ nodes_from line before (form ∷ forms) =
 -- the text is a template of these nodes
 pub record IsTemplate (text : List ℕ) (nodes : List Node) : Type 0 where
   pub forms : List Form
-  pub built : IsFront text forms []
+  pub built : AreForms text forms []
   pub grouped : nodes ≡ nodes_from 1 [] forms
 
 -- the first place of the text that begins no form is on this line
 pub record IsStuckAt (text : List ℕ) (line : ℕ) : Type 0 where
   pub front : List Form
   pub rest : List ℕ
-  pub built : IsFront text front rest
+  pub built : AreForms text front rest
   pub stuck : IsStuck rest
   pub on : line ≡ 1 + line_feeds (spelled front)

@@ -9,7 +9,7 @@ use Rattle.page_datum.specs.declared.fault.FaultKind.{FaultKind}
 use Rattle.page_datum.specs.declared.fault.FaultKind.TheVariants.{NoField, NilField}
 use Rattle.page_datum.specs.declared.files.NamedFile.{NamedFile}
 use Rattle.page_set.specs.Forms.{begins_with}
-use Rattle.page_set.specs.Html.{html}
+use Rattle.page_set.specs.Escapes.{html}
 use Rattle.page_set.specs.declared.node.Node.{Node}
 use Rattle.page_set.specs.declared.node.Node.TheVariants.{Text, Hole}
 

@@ -11,7 +11,7 @@ use Rattle.place_core.specs.Events.{text_bytes}
 use Rattle.place_core.specs.Html.{Page, State, Text, Config, config, read, start}
 use Rattle.place_core.specs.Plain.{settled_config, IsPlain}
 use Rattle.place_core.specs.References.{Closed}
-use Rattle.page_set.specs.Html.{replacement_bytes}
+use Rattle.page_set.specs.Escapes.{replacement_bytes}
 use Rattle.page_set.specs.Making.{IsSet}
 use Rattle.page_set.specs.Path.{Symbol, Written, Hole, read_path, read_filled}
 use Rattle.page_set.specs.Running.{Piece, text_piece, hole_piece, field_of, run, written, is_root}

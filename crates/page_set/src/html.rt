@@ -1,5 +1,5 @@
 ghost use Rattle.std.specs.Prelude.{◌≡◌, ◌++◌, OnOk};
-ghost use Rattle.page_set.specs.Html.{html_row, html};
+ghost use Rattle.page_set.specs.Escapes.{html_row, html};
 
 use std::alloc::AllocError;
 

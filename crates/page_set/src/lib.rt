@@ -1,9 +1,9 @@
 // Sets of pages: files of templates, and the pages that they give for data.
 #![tactic(auto)]
 
+mod compose;
 mod field;
 mod form;
-mod gather;
 mod html;
 mod make;
 mod names;

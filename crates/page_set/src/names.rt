@@ -6,7 +6,7 @@ ghost use Rattle.std.specs.List.{prefix_len, list_all};
 ghost use Rattle.page_set.specs.Forms.{begins_with, is_word_byte, is_word_start};
 ghost use Rattle.page_set.specs.Forms.{is_tag_name as is_tag_name_of};
 ghost use Rattle.page_set.specs.Forms.{is_field_name as is_field_name_of};
-ghost use Rattle.page_set.specs.Forms.{is_special as is_special_of};
+ghost use Rattle.page_set.specs.Forms.{has_own_state as has_own_state_of};
 ghost use Rattle.page_set.specs.Names.{EndsName, LacksName};
 
 // The length of the name of a tag that a text begins with, where `>` follows.
@@ -42,10 +42,10 @@ pub fn field_name_len(body: &[u8]) -> Option<usize>
 }
 
 /// Whether bytes begin with others.
-pub fn begins(bytes: &[u8], front: &[u8]) -> bool
-    ensures { IsTrue result ↔ (bytes.now ≡ front.now ++ drop (length front.now) bytes.now) }
+pub fn begins(bytes: &[u8], prefix: &[u8]) -> bool
+    ensures { IsTrue result ↔ (bytes.now ≡ prefix.now ++ drop (length prefix.now) bytes.now) }
 {
-    bytes.starts_with(front)
+    bytes.starts_with(prefix)
 }
 
 fn alphanumeric_len(bytes: &[u8]) -> usize
@@ -74,7 +74,7 @@ fn is_word(byte: u8) -> bool
 fn is_tag_name(name: &[u8]) -> bool
     ensures { result ≡ is_tag_name_of name.now }
 {
-    begins_alphabetic(name) && is_alphanumeric(name) && !is_special(name)
+    begins_alphabetic(name) && is_alphanumeric(name) && !has_own_state(name)
 }
 
 fn is_field_name(name: &[u8]) -> bool
@@ -114,8 +114,8 @@ fn is_words(name: &[u8]) -> bool
         .all(|byte| byte.is_ascii_alphanumeric() || *byte == b'_')
 }
 
-fn is_special(name: &[u8]) -> bool
-    ensures { result ≡ is_special_of name.now }
+fn has_own_state(name: &[u8]) -> bool
+    ensures { result ≡ has_own_state_of name.now }
 {
     name.eq_ignore_ascii_case(b"script")
         || name.eq_ignore_ascii_case(b"style")

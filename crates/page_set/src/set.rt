@@ -3,7 +3,7 @@ ghost use Rattle.page_io.specs.Causes.{Rose};
 ghost use Rattle.page_datum.specs.View.{view};
 ghost use Rattle.page_set.specs.Running.{is_root as is_root_of};
 
-use crate::gather::gather;
+use crate::compose::compose;
 use crate::make::{is_partial, nodes_of};
 use crate::node::Node;
 use crate::refused::MakeRefused;
@@ -90,7 +90,7 @@ impl Pages for PageSet {
         if !self.is_root(root) {
             return Err(PageStop::NoTemplate);
         }
-        let made = match gather(alloc, root, nodes, datum) {
+        let made = match compose(alloc, root, nodes, datum) {
             Ok(made) => made,
             Err(stop) => return Err(stop),
         };

@@ -80,5 +80,5 @@ exact held input dir root f i o s c r q w n = record {
   no_input = no_input held input dir root f i s c r;
   complete = complete held input dir root f i o s c r w n;
   in_order = q;
-  faultless = n;
+  never_faults = n;
 }

@@ -31,4 +31,4 @@ pub record IsExact
       HasRoot h dir root → (datum : Data) → IsInput i datum
       → Ends status.Ok (folder_rose ⊎ input_rose) s ⊎ ((s ≡ status.WriteFault) × out_rose))
   pub in_order : s ≡ status.ReadFault → IfSome held (λ h. folder_rose ⊎ HasRoot h dir root)
-  pub faultless : s ≡ status.ExecFault → ⊥
+  pub never_faults : s ≡ status.ExecFault → ⊥

@@ -45,7 +45,7 @@ pub fn render<F: Folder, I: Source, O: Sink>(
         ⊎ (Rose (I.faults input.old) (I.faults input.new)
         × IfSome (F.held folder.old) (λ h. HasRoot h dir.now root.now)) }
     ensures write { IsErrOf result Stop.Write → Rose (O.faults out.old) (O.faults out.new) }
-    ensures faultless { (fault : ExecFault) → IsErrOf result (Stop.Fault fault) → ⊥ }
+    ensures never_faults { (fault : ExecFault) → IsErrOf result (Stop.Fault fault) → ⊥ }
 {
     let set = match make_set(alloc, folder, dir) {
         Ok(set) => set,
@@ -78,7 +78,7 @@ fn write_page<O: Sink>(
         (execution_of set.now.files.list set.now.nodes root.now (view datum.now)) }
     ensures later { O.faults out.old ≤ O.faults out.new }
     ensures write { IsErrOf result Stop.Write → Rose (O.faults out.old) (O.faults out.new) }
-    ensures faultless { (fault : ExecFault) → IsErrOf result (Stop.Fault fault) → ⊥ }
+    ensures never_faults { (fault : ExecFault) → IsErrOf result (Stop.Fault fault) → ⊥ }
 {
     match set.page(alloc, root, datum, out) {
         Ok(_) => Ok(()),

@@ -39,25 +39,25 @@ number_from base before (d ∷ ds) rest = (numbered (number_in base 0 (d ∷ ds)
 abbrev pub run : (ℕ → Bool) → List ℕ → List ℕ
 run passes bytes = take (prefix_len passes bytes) bytes
 
-abbrev pub behind_run : (ℕ → Bool) → List ℕ → List ℕ
-behind_run passes bytes = drop (prefix_len passes bytes) bytes
+abbrev pub after_run : (ℕ → Bool) → List ℕ → List ℕ
+after_run passes bytes = drop (prefix_len passes bytes) bytes
 
 -- after `&#`
 abbrev pub hashed_at : List ℕ → ℕ × ℕ
 hashed_at [] = itself
 hashed_at (b ∷ bs) =
-    if b == 88 || b == 120 then number_from 16 3 (run is_ascii_hexdigit bs) (behind_run is_ascii_hexdigit bs)
-    else number_from 10 2 (run is_ascii_digit (b ∷ bs)) (behind_run is_ascii_digit (b ∷ bs))
+    if b == 88 || b == 120 then number_from 16 3 (run is_ascii_hexdigit bs) (after_run is_ascii_hexdigit bs)
+    else number_from 10 2 (run is_ascii_digit (b ∷ bs)) (after_run is_ascii_digit (b ∷ bs))
 
 -- after `&`
 abbrev pub reference_at : Bool → List ℕ → ℕ × ℕ
 reference_at attribute [] = itself
 reference_at attribute (b ∷ bs) =
     if b == 35 then hashed_at bs
-    else (if is_ascii_alphanumeric b then name_at attribute (run is_ascii_alphanumeric (b ∷ bs)) (behind_run is_ascii_alphanumeric (b ∷ bs))
+    else (if is_ascii_alphanumeric b then name_at attribute (run is_ascii_alphanumeric (b ∷ bs)) (after_run is_ascii_alphanumeric (b ∷ bs))
     else itself)
 
--- Behind `&`: whether all that stands there up to the text's end is a reference that only its end breaks off. (`&` alone, or with letters and
+-- After `&`: whether all that stands there up to the text's end is a reference that only its end breaks off. (`&` alone, or with letters and
 -- digits, or `&#` with or without digits, or `&#x` with or without hexadecimal digits.)
 abbrev pub is_broken_number : List ℕ → Bool
 is_broken_number [] = true

@@ -8,7 +8,7 @@ use Rattle.std.specs.Str.{str_to_ascii_lowercase}
 use Rattle.place_core.specs.Classes.{Class, White, ExclamationMark, QuotationMark, Apostrophe, HyphenMinus, Solidus, LessThan, EqualsSign, GreaterThan, QuestionMark, Letter, class_of}
 use Rattle.place_core.specs.Events.{Event, BlockByte, Escape, StartTagBegins, EndTagBegins, TagNameByte, AttributeBegins, AttributeNameByte, AttributeNameEnds, TagEnds, UnreadByte, text_bytes, block_bytes, value_bytes, unread_bytes}
 use Rattle.place_core.specs.References.{Reference, Closed, next_reference, undone_byte, settled}
-use Rattle.place_core.specs.Tags.{Tag, EndTag, StartTag, tag_named, element_on, Value, value_of, with_bytes, with_value, without_value, Quotes, DoubleQuoted, SingleQuoted, Unquoted}
+use Rattle.place_core.specs.Tags.{Tag, EndTag, StartTag, tag_named, element_on, Value, value_of, with_bytes, with_value, without_value, Quoting, DoubleQuoted, SingleQuoted, Unquoted}
 use Rattle.place_core.specs.Words.{kind_of}
 use Rattle.place_core.specs.declared.element.Element.{Element}
 use Rattle.place_core.specs.declared.element.Element.TheVariants as element
@@ -35,7 +35,7 @@ pub data State : Type 0 where
   AttributeName : Tag → List ℕ → State
   AfterAttributeName : Tag → Kind → State
   BeforeAttributeValue : Tag → Kind → State
-  AttributeValue : Quotes → Tag → Value → Reference → State
+  AttributeValue : Quoting → Tag → Value → Reference → State
   AfterAttributeValue : Tag → State
   SelfClosingStartTag : Tag → State
   -- in a title or a textarea (RCDATA state), and after its `<`, its `</`, and that and letters (RCDATA less-than sign, end tag open and end
@@ -63,9 +63,9 @@ content_of element.Script = Unread
 content_of element.Style = Unread
 content_of element.Other = Text Closed
 
-abbrev pub behind_tag : Tag → State
-behind_tag EndTag = Text Closed
-behind_tag (StartTag e typed) = content_of e
+abbrev pub after_tag : Tag → State
+after_tag EndTag = Text Closed
+after_tag (StartTag e typed) = content_of e
 
 -- Text.
 
@@ -113,7 +113,7 @@ tells_end_tag_open m c b r t = tells_bogus m (codes "</") c b (text_bytes (settl
 abbrev pub next_tag_name : Class → ℕ → Bool → List ℕ → State
 next_tag_name White b ends name = BeforeAttributeName (tag_named ends name)
 next_tag_name Solidus b ends name = SelfClosingStartTag (tag_named ends name)
-next_tag_name GreaterThan b ends name = behind_tag (tag_named ends name)
+next_tag_name GreaterThan b ends name = after_tag (tag_named ends name)
 next_tag_name c b ends name = TagName ends (name ++ to_ascii_lowercase b ∷ [])
 
 abbrev pub tells_tag_name : Class → ℕ → List Event → List Event
@@ -126,7 +126,7 @@ tells_tag_name c b t = TagNameByte (to_ascii_lowercase b) ∷ t
 abbrev pub next_before_name : Class → ℕ → Tag → State
 next_before_name White b tag = BeforeAttributeName tag
 next_before_name Solidus b tag = SelfClosingStartTag tag
-next_before_name GreaterThan b tag = behind_tag tag
+next_before_name GreaterThan b tag = after_tag tag
 next_before_name c b tag = AttributeName tag (to_ascii_lowercase b ∷ [])
 
 abbrev pub tells_before_name : Class → ℕ → List Event → List Event
@@ -138,7 +138,7 @@ tells_before_name c b t = AttributeNameByte (to_ascii_lowercase b) ∷ Attribute
 abbrev pub next_name : Class → ℕ → Tag → List ℕ → State
 next_name White b tag name = AfterAttributeName tag (kind_of (element_on tag) name)
 next_name Solidus b tag name = SelfClosingStartTag (without_value tag (kind_of (element_on tag) name))
-next_name GreaterThan b tag name = behind_tag (without_value tag (kind_of (element_on tag) name))
+next_name GreaterThan b tag name = after_tag (without_value tag (kind_of (element_on tag) name))
 next_name EqualsSign b tag name = BeforeAttributeValue tag (kind_of (element_on tag) name)
 next_name c b tag name = AttributeName tag (name ++ to_ascii_lowercase b ∷ [])
 
@@ -165,34 +165,34 @@ tells_self_closing c b t = tells_before_name c b t
 
 -- Values: what a byte does to one, by how it is written.
 
-abbrev pub ends_value : Quotes → Class → Bool
+abbrev pub ends_value : Quoting → Class → Bool
 ends_value DoubleQuoted QuotationMark = true
 ends_value SingleQuoted Apostrophe = true
 ends_value Unquoted White = true
 ends_value Unquoted GreaterThan = true
 ends_value q c = false
 
-abbrev pub next_behind_value : Quotes → Class → ℕ → Tag → State
-next_behind_value Unquoted c b tag = next_before_name c b tag
-next_behind_value q c b tag = AfterAttributeValue tag
+abbrev pub next_after_value : Quoting → Class → ℕ → Tag → State
+next_after_value Unquoted c b tag = next_before_name c b tag
+next_after_value q c b tag = AfterAttributeValue tag
 
-abbrev pub tells_behind_value : Quotes → Class → ℕ → List Event → List Event
-tells_behind_value Unquoted c b t = tells_before_name c b t
-tells_behind_value q c b t = t
+abbrev pub tells_after_value : Quoting → Class → ℕ → List Event → List Event
+tells_after_value Unquoted c b t = tells_before_name c b t
+tells_after_value q c b t = t
 
-abbrev pub next_value : Bool → Quotes → Class → ℕ → Tag → Value → Reference → State
-next_value true q c b tag v r = next_behind_value q c b (with_value tag (with_bytes v (settled true r)))
+abbrev pub next_value : Bool → Quoting → Class → ℕ → Tag → Value → Reference → State
+next_value true q c b tag v r = next_after_value q c b (with_value tag (with_bytes v (settled true r)))
 next_value false q c b tag v r = AttributeValue q tag (with_bytes v (undone_byte true r c b)) (next_reference r c b)
 
-abbrev pub tells_value : Bool → Quotes → Class → ℕ → Reference → List Event → List Event
-tells_value true q c b r t = tells_behind_value q c b (value_bytes (settled true r) t)
+abbrev pub tells_value : Bool → Quoting → Class → ℕ → Reference → List Event → List Event
+tells_value true q c b r t = tells_after_value q c b (value_bytes (settled true r) t)
 tells_value false q c b r t = value_bytes (undone_byte true r c b) t
 
 abbrev pub next_before_value : Class → ℕ → Tag → Kind → State
 next_before_value White b tag k = BeforeAttributeValue tag k
 next_before_value QuotationMark b tag k = AttributeValue DoubleQuoted tag (value_of k) Closed
 next_before_value Apostrophe b tag k = AttributeValue SingleQuoted tag (value_of k) Closed
-next_before_value GreaterThan b tag k = behind_tag (without_value tag k)
+next_before_value GreaterThan b tag k = after_tag (without_value tag k)
 next_before_value c b tag k = next_value false Unquoted c b tag (value_of k) Closed
 
 abbrev pub tells_before_value : Class → ℕ → List Event → List Event

@@ -6,7 +6,7 @@ use Rattle.std.specs.Str.{str_to_ascii_lowercase}
 use Rattle.place_core.specs.Events.{Event, TextByte, BlockByte, AttributeBegins, ValueByte, attribute_name_bytes}
 use Rattle.place_core.specs.Html.{Page, State, Text, Rcdata, Block, BeforeAttributeName, AfterAttributeName, AfterAttributeValue, SelfClosingStartTag, AttributeName, BeforeAttributeValue, AttributeValue, Config, config, read}
 use Rattle.place_core.specs.References.{Reference, Closed}
-use Rattle.place_core.specs.Tags.{Tag, Value, ValueOf, Quotes, Unquoted, without_value}
+use Rattle.place_core.specs.Tags.{Tag, Value, ValueOf, Quoting, Unquoted, without_value}
 use Rattle.place_core.specs.Words.{is_special}
 use Rattle.place_core.specs.declared.kind.Kind.{Kind}
 use Rattle.place_core.specs.declared.kind.Kind.TheVariants as kind
@@ -42,12 +42,12 @@ pub record IsPlainUnquoted (tag : Tag) (d : Config) : Type 0 where
   pub told : IsTrue (only_value d.told)
   pub some : d.told ≢ []
 
-abbrev pub IsPlainQuoted : Quotes → Tag → Config → Type 0
+abbrev pub IsPlainQuoted : Quoting → Tag → Config → Type 0
 IsPlainQuoted Unquoted tag d = IsPlainUnquoted tag d
 IsPlainQuoted q tag d = (d.at ≡ AttributeValue q tag (ValueOf kind.Plain) Closed) × IsTrue (only_value d.told)
 
 -- in the value of an attribute of kind Plain; the other kinds have no plain holes yet
-abbrev pub IsPlainValue : Value → Quotes → Tag → Config → Type 0
+abbrev pub IsPlainValue : Value → Quoting → Tag → Config → Type 0
 IsPlainValue (ValueOf kind.Plain) q tag d = IsPlainQuoted q tag d
 IsPlainValue _ q tag d = ⊥
 

@@ -15,12 +15,12 @@ pub data Form : Type 0 where
   Hexadecimal : Form
 
 -- what the next byte does to it: the reference goes on, or ends by its semicolon; or the byte is no part of it, and is read again after it
-pub data Turn : Type 0 where
-  Grows : Form → Turn
-  Closes : Turn
-  Breaks : Turn
+pub data ReferenceStep : Type 0 where
+  Grows : Form → ReferenceStep
+  Closes : ReferenceStep
+  Breaks : ReferenceStep
 
-abbrev pub letter_turn : LetterClass → Form → Turn
+abbrev pub letter_turn : LetterClass → Form → ReferenceStep
 letter_turn l Begun = Grows Named
 letter_turn l Named = Grows Named
 letter_turn LetterX Hashed = Grows HexMark
@@ -28,7 +28,7 @@ letter_turn HexadecimalLetter HexMark = Grows Hexadecimal
 letter_turn HexadecimalLetter Hexadecimal = Grows Hexadecimal
 letter_turn l f = Breaks
 
-abbrev pub turn : Class → Form → Turn
+abbrev pub turn : Class → Form → ReferenceStep
 turn (Letter l) f = letter_turn l f
 turn Digit Begun = Grows Named
 turn Digit Named = Grows Named
@@ -133,12 +133,12 @@ plain_bytes Ampersand b = []
 plain_bytes _ b = b ∷ []
 
 -- .. and where one is open, by what the byte does to it
-abbrev pub turned : Turn → List ℕ → Class → ℕ → Reference
+abbrev pub turned : ReferenceStep → List ℕ → Class → ℕ → Reference
 turned (Grows g) bytes c b = Open g (bytes ++ b ∷ [])
 turned Closes bytes c b = Closed
 turned Breaks bytes c b = begin_reference c
 
-abbrev pub turn_bytes : Bool → Turn → Form → List ℕ → Class → ℕ → List ℕ
+abbrev pub turn_bytes : Bool → ReferenceStep → Form → List ℕ → Class → ℕ → List ℕ
 turn_bytes attribute (Grows g) f bytes c b = []
 turn_bytes attribute Closes f bytes c b = encode_utf8 (meaning f bytes)
 turn_bytes attribute Breaks f bytes c b = flushed attribute (is_equals_sign c) f bytes ++ plain_bytes c b

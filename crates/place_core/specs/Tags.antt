@@ -58,7 +58,7 @@ abbrev pub without_value : Tag → Kind → Tag
 without_value tag k = with_value tag (value_of k)
 
 -- how a value is written: between quotation marks, between apostrophes, or without
-pub data Quotes : Type 0 where
-  DoubleQuoted : Quotes
-  SingleQuoted : Quotes
-  Unquoted : Quotes
+pub data Quoting : Type 0 where
+  DoubleQuoted : Quoting
+  SingleQuoted : Quoting
+  Unquoted : Quoting

@@ -45,15 +45,15 @@ abbrev pub prefix_length : List ℕ → ℕ
 prefix_length name = prefix_len (λ b. not (b == 58)) name
 
 -- a name with a prefix up to its first colon: a declaration of a namespace is a URL's, any other prefix does not matter
-abbrev pub kind_behind_prefix : List ℕ → List ℕ → Kind
-kind_behind_prefix name [] = kind_of_name name
-kind_behind_prefix name (colon ∷ rest) = if bytes_eq (take (prefix_length name) name) (codes "xmlns") then kind.Url else kind_of_name rest
+abbrev pub kind_after_prefix : List ℕ → List ℕ → Kind
+kind_after_prefix name [] = kind_of_name name
+kind_after_prefix name (colon ∷ rest) = if bytes_eq (take (prefix_length name) name) (codes "xmlns") then kind.Url else kind_of_name rest
 
 -- a name with its prefix: `data-` does not matter either
-abbrev pub kind_with_front : List ℕ → Kind
-kind_with_front name =
+abbrev pub kind_with_prefix : List ℕ → Kind
+kind_with_prefix name =
     if starts_with nat_eq name (codes "data-") then kind_of_name (drop 5 name)
-    else kind_behind_prefix name (drop (prefix_length name) name)
+    else kind_after_prefix name (drop (prefix_length name) name)
 
 -- the `type` of a script element is read apart; a data block is a script element too
 abbrev pub is_script : Element → Bool
@@ -62,7 +62,7 @@ is_script element.DataBlock = true
 is_script _ = false
 
 abbrev pub kind_on : Element → List ℕ → Kind
-kind_on e name = if is_script e && bytes_eq name (codes "type") then kind.ScriptType else kind_with_front name
+kind_on e name = if is_script e && bytes_eq name (codes "type") then kind.ScriptType else kind_with_prefix name
 
 -- the kind of an attribute with this name, in any case, on an element
 abbrev pub kind_of : Element → List ℕ → Kind

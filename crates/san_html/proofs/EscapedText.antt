@@ -10,7 +10,7 @@ use Rattle.place_core.specs.Events.{Event, TextByte, BlockByte, ValueByte, text_
 use Rattle.place_core.specs.Html.{Page, Text, Rcdata, Block, AttributeValue, config, read}
 use Rattle.place_core.specs.Plain.{only_text, only_block, only_value, IsPlain}
 use Rattle.place_core.specs.References.{Closed, meaning, flushed, undone}
-use Rattle.place_core.specs.Tags.{Tag, ValueOf, Quotes, DoubleQuoted, SingleQuoted, Unquoted}
+use Rattle.place_core.specs.Tags.{Tag, ValueOf, Quoting, DoubleQuoted, SingleQuoted, Unquoted}
 use Rattle.place_core.specs.declared.element.Element.{Element}
 use Rattle.place_core.specs.declared.kind.Kind.{Kind}
 use Rattle.place_core.specs.declared.kind.Kind.TheVariants as kind
@@ -83,7 +83,7 @@ rcdata-plain x text bytes t e = (refl, rw e (refl, only-text text [] refl))
 block-plain : (text bytes : List ℕ) (t : List Event) → read Page bytes (config Block []) ≡ config Block (block_bytes text []) → IsPlain bytes (config Block t)
 block-plain text bytes t e = (refl, rw e (refl, only-block text [] refl))
 
-quoted-plain : (q : Quotes) (tag : Tag) (text bytes : List ℕ) (t : List Event) → is_quoted q ≡ true → read Page bytes (config (AttributeValue q tag (ValueOf kind.Plain) Closed) []) ≡ config (AttributeValue q tag (ValueOf kind.Plain) Closed) (value_bytes text []) → IsPlain bytes (config (AttributeValue q tag (ValueOf kind.Plain) Closed) t)
+quoted-plain : (q : Quoting) (tag : Tag) (text bytes : List ℕ) (t : List Event) → is_quoted q ≡ true → read Page bytes (config (AttributeValue q tag (ValueOf kind.Plain) Closed) []) ≡ config (AttributeValue q tag (ValueOf kind.Plain) Closed) (value_bytes text []) → IsPlain bytes (config (AttributeValue q tag (ValueOf kind.Plain) Closed) t)
 quoted-plain DoubleQuoted tag text bytes t q e = (refl, rw e (refl, only-value text [] refl))
 quoted-plain SingleQuoted tag text bytes t q e = (refl, rw e (refl, only-value text [] refl))
 quoted-plain Unquoted tag text bytes t q e = cc
@@ -94,7 +94,7 @@ text-reads cs t = takes-text (Text Closed) text_bytes is_own_in_text html_rows t
 rcdata-reads : (e : Element) (cs : List ℕ) (t : List Event) → read Page (replaced_all html_rows cs) (config (Rcdata e Closed) t) ≡ config (Rcdata e Closed) (text_bytes (as_text (encode_utf8_all cs)) t)
 rcdata-reads e cs t = takes-text (Rcdata e Closed) text_bytes is_own_in_text html_rows (rcdata-place e) (rcdata-rows e) text-covered cs t
 
-quoted-reads : (q : Quotes) (tag : Tag) (k : Kind) (cs : List ℕ) (t : List Event) → is_quoted q ≡ true → read Page (replaced_all html_rows cs) (config (AttributeValue q tag (ValueOf k) Closed) t) ≡ config (AttributeValue q tag (ValueOf k) Closed) (value_bytes (as_text (encode_utf8_all cs)) t)
+quoted-reads : (q : Quoting) (tag : Tag) (k : Kind) (cs : List ℕ) (t : List Event) → is_quoted q ≡ true → read Page (replaced_all html_rows cs) (config (AttributeValue q tag (ValueOf k) Closed) t) ≡ config (AttributeValue q tag (ValueOf k) Closed) (value_bytes (as_text (encode_utf8_all cs)) t)
 quoted-reads DoubleQuoted tag k cs t q = takes-text (AttributeValue DoubleQuoted tag (ValueOf k) Closed) value_bytes is_own_in_quoted html_rows (double-place tag k) (double-rows tag k) quoted-covered cs t
 quoted-reads SingleQuoted tag k cs t q = takes-text (AttributeValue SingleQuoted tag (ValueOf k) Closed) value_bytes is_own_in_quoted html_rows (single-place tag k) (single-rows tag k) quoted-covered cs t
 quoted-reads Unquoted tag k cs t q = cc

@@ -6,7 +6,7 @@ use Rattle.place_core.specs.Events.{Event, AttributeBegins, text_bytes, block_by
 use Rattle.place_core.specs.Html.{Page, State, Text, Rcdata, Block, BeforeAttributeName, AfterAttributeName, AfterAttributeValue, SelfClosingStartTag, AttributeName, BeforeAttributeValue, AttributeValue, config, read}
 use Rattle.place_core.specs.Plain.{IsPlain}
 use Rattle.place_core.specs.References.{Closed, undone}
-use Rattle.place_core.specs.Tags.{Tag, ValueOf, value_of, Quotes, Unquoted, without_value}
+use Rattle.place_core.specs.Tags.{Tag, ValueOf, value_of, Quoting, Unquoted, without_value}
 use Rattle.place_core.specs.declared.element.Element.{Element}
 use Rattle.place_core.specs.declared.kind.Kind.{Kind}
 use Rattle.place_core.specs.declared.kind.Kind.TheVariants as kind
@@ -42,13 +42,13 @@ pub record IsBackInBlock (text bytes : List ℕ) : Type 0 where
 
 -- in a quoted value: plain where the attribute is of kind Plain; and for each kind but the type of a script, whose bytes decide more and in which no
 -- data may stand, the text with its references undone
-abbrev pub is_quoted : Quotes → Bool
+abbrev pub is_quoted : Quoting → Bool
 is_quoted Unquoted = false
 is_quoted _ = true
 
 pub record IsBackInQuoted (text bytes : List ℕ) : Type 0 where
-  pub plain : (q : Quotes) (tag : Tag) (t : List Event) → is_quoted q ≡ true → IsPlain bytes (config (AttributeValue q tag (ValueOf kind.Plain) Closed) t)
-  pub reads : (q : Quotes) (tag : Tag) (k : Kind) (t : List Event) → is_quoted q ≡ true → read Page bytes (config (AttributeValue q tag (ValueOf k) Closed) t) ≡ config (AttributeValue q tag (ValueOf k) Closed) (value_bytes (as_text text) t)
+  pub plain : (q : Quoting) (tag : Tag) (t : List Event) → is_quoted q ≡ true → IsPlain bytes (config (AttributeValue q tag (ValueOf kind.Plain) Closed) t)
+  pub reads : (q : Quoting) (tag : Tag) (k : Kind) (t : List Event) → is_quoted q ≡ true → read Page bytes (config (AttributeValue q tag (ValueOf k) Closed) t) ≡ config (AttributeValue q tag (ValueOf k) Closed) (value_bytes (as_text text) t)
 
 -- in an unquoted value that has begun, and where one is to begin
 pub record IsBackInUnquoted (text bytes : List ℕ) : Type 0 where

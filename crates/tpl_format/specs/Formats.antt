@@ -10,12 +10,12 @@ use Rattle.tpl_format.specs.declared.verb.Reading.TheVariants.{More, Percent, Ta
 
 -- A format is read byte by byte, outside of a verb or within one. A byte writes some text, leads on to a place, and leaves some
 -- operands.
-abbrev pub Place : Type 0
-Place = Option Verb
+abbrev pub FormatState : Type 0
+FormatState = Option Verb
 
 pub record Step : Type 0 where
   pub written : List ℕ
-  pub place : Place
+  pub place : FormatState
   pub left : List Data
 
 -- a byte within a verb: the letter takes the next operand, and none may be missing
@@ -27,21 +27,21 @@ verb_step verb (Takes conversion) (datum ∷ left) = option_map (λ text. record
 verb_step verb Bad left = None
 
 -- outside of verbs each byte stands for itself, but `%` begins a verb
-abbrev pub step : Place → ℕ → List Data → Option Step
+abbrev pub step : FormatState → ℕ → List Data → Option Step
 step None b left = Some (if b == 37 then record { written = []; place = Some bare; left = left } else record { written = b ∷ []; place = None; left = left })
 step (Some verb) b left = verb_step verb (read verb b) left
 
 -- a format ends outside of verbs, and leaves no operand
-abbrev pub ended : Place → List Data → Option (List ℕ)
+abbrev pub ended : FormatState → List Data → Option (List ℕ)
 ended None [] = Some []
 ended place left = None
 
 -- what a step writes, and then what is made after it
-abbrev pub followed : (Place → List Data → Option (List ℕ)) → Option Step → Option (List ℕ)
+abbrev pub followed : (FormatState → List Data → Option (List ℕ)) → Option Step → Option (List ℕ)
 followed behind None = None
 followed behind (Some s) = option_map (λ more. s.written ++ more) (behind s.place s.left)
 
-abbrev pub formatted_from : List ℕ → Place → List Data → Option (List ℕ)
+abbrev pub formatted_from : List ℕ → FormatState → List Data → Option (List ℕ)
 formatted_from [] place left = ended place left
 formatted_from (b ∷ bytes) place left = followed (formatted_from bytes) (step place b left)
 

@@ -46,7 +46,7 @@ Directs found (Err Memory) = ⊤
 Directs found (Err stop) = ⊥
 
 -- an answer with a text
-abbrev pub Gives : Result (List ℕ) FaultKind → Result (List ℕ) ValueStop → Type 0
-Gives answer (Ok made) = answer ≡ Ok made
-Gives answer (Err (Fault kind)) = answer ≡ Err kind
-Gives answer (Err Memory) = ⊤
+abbrev pub TextAnswers : Result (List ℕ) FaultKind → Result (List ℕ) ValueStop → Type 0
+TextAnswers answer (Ok made) = answer ≡ Ok made
+TextAnswers answer (Err (Fault kind)) = answer ≡ Err kind
+TextAnswers answer (Err Memory) = ⊤

@@ -1,7 +1,7 @@
 ghost use Rattle.std.specs.Prelude.{[]};
 ghost use Rattle.tpl_format.specs.Answers.{ComputesFormat, PrintfAnswers, datas};
 ghost use Rattle.tpl_format.specs.Formats.{formatted};
-ghost use Rattle.tpl_format.specs.Making.{Gives, outcome};
+ghost use Rattle.tpl_format.specs.Making.{TextAnswers, outcome};
 
 use crate::directive::{read_verb, split_at_verb};
 use crate::limit::{add, is_long};
@@ -46,7 +46,7 @@ fn formatted_args(alloc: Global, args: &[Datum]) -> Result<Text, ValueStop>
 
 // The text that a format makes of operands.
 fn write(alloc: Global, format: &str, operands: &[Datum]) -> Result<Text, ValueStop>
-    ensures { Gives (outcome [] (formatted format.now (datas operands.now))) result }
+    ensures { TextAnswers (outcome [] (formatted format.now (datas operands.now))) result }
 {
     let mut out = Text::new(alloc);
     let mut rest = format;

@@ -1,5 +1,5 @@
 -- Where in a pipe each symbol leads.
-use Rattle.std.specs.Prelude.{◌≡◌, ℕ, nat_eq, zero, suc, Bool, true, false, ◌&&◌, ◌||◌, if◌then◌else◌, List, [], ◌∷◌, Option, Some, None, Result, Ok, Err, ⊤}
+use Rattle.std.specs.Prelude.{ℕ, nat_eq, zero, suc, Bool, true, false, ◌&&◌, ◌||◌, if◌then◌else◌, List, [], ◌∷◌, Option, Some, None, Result, Ok, Err}
 use Rattle.std.specs.Cmp.Lexicographic.{pointwise}
 use Rattle.page_io.specs.Stops.{Answers}
 use Rattle.page_io.specs.declared.stop.Stop.{Stop}

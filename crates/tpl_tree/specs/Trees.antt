@@ -107,12 +107,12 @@ seam_before before [] byte = before
 seam_before before (seam ∷ seams) byte = seam_before (if nat_le seam.at byte then seam else before) seams byte
 
 -- the line of a byte: that of the seam before it, and one more for each line feed between
-abbrev pub line_behind : List ℕ → Seam → ℕ → ℕ
-line_behind text seam byte = seam.line + line_feeds (take (byte - seam.at) (drop seam.at text))
+abbrev pub line_after : List ℕ → Seam → ℕ → ℕ
+line_after text seam byte = seam.line + line_feeds (take (byte - seam.at) (drop seam.at text))
 
 -- the line of a byte of a text that begins on a line and has seams; its length stands for the place after it
 abbrev pub text_line : List ℕ → ℕ → List Seam → ℕ → ℕ
-text_line text line seams byte = line_behind text (seam_before (record { at = 0; line = line }) seams byte) byte
+text_line text line seams byte = line_after text (seam_before (record { at = 0; line = line }) seams byte) byte
 
 -- a text has 1 to 2 ^ 20 bytes, and the line of each of its places is less than 2 ^ 32
 pub record IsFineText (text : List ℕ) (begins : ℕ) (breaks : List Seam) : Type 0 where

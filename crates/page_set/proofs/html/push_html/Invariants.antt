@@ -1,5 +1,5 @@
 use Rattle.std.proofs.Common.{◌≡◌, ◌++◌, drop}
-use Rattle.page_set.specs.Html.{html}
+use Rattle.page_set.specs.Escapes.{html}
 use Rattle.page_set.proofs.html.push_html.Given as goal
 
 abbrev pub invariant-loop-byte : goal.invariant-loop-byte

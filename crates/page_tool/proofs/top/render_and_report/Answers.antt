@@ -15,7 +15,7 @@ returns-in-Err-clause-exact g c =
     (λ e. read_of_two _ _ _ (c.in-Err.ensures.read (ap Err (was_read why s was e))))
     (λ e. read_in_order _ _ _ _ _ (c.in-Err.ensures.read (ap Err (was_read why s was e))))
     (λ e. c.in-Err.ensures.write (ap Err (was_write why s was e)))
-    (λ e. let f = was_fault why s was e in c.in-Err.ensures.faultless f.0 (ap Err f.1))
+    (λ e. let f = was_fault why s was e in c.in-Err.ensures.never_faults f.0 (ap Err f.1))
 
 pub returns-in-Err-clause-lines : goal.returns-in-Err-clause-lines
-returns-in-Err-clause-lines g c = says_or _ _ _ _ _ _ _ _ _ c.in-Err.ensures.cause (λ fault e. c.in-Err.ensures.faultless fault (ap Err e)) c.report.ensures.said
+returns-in-Err-clause-lines g c = says_or _ _ _ _ _ _ _ _ _ c.in-Err.ensures.cause (λ fault e. c.in-Err.ensures.never_faults fault (ap Err e)) c.report.ensures.said

@@ -1,4 +1,4 @@
--- How gathering a page answers.
+-- How composing a page answers.
 use Rattle.std.specs.Prelude.{◌≡◌, ℕ, ◌+◌, List, ◌++◌, Result, Ok, Err, ⊤}
 use Rattle.page_datum.specs.Data.{Data}
 use Rattle.page_datum.specs.Execution.{done, faulted}
@@ -6,7 +6,7 @@ use Rattle.page_datum.specs.declared.pages.PageStop.{PageStop}
 use Rattle.page_datum.specs.declared.pages.PageStop.TheVariants.{NoTemplate, Fault, SinkStop}
 use Rattle.page_datum.specs.declared.pages.PageStop.TheVariants.{Memory}
 use Rattle.page_set.specs.Running.{Run, node_run, page_of}
-use Rattle.page_set.specs.declared.gather.Gathered.{Gathered}
+use Rattle.page_set.specs.declared.compose.Composed.{Composed}
 use Rattle.page_set.specs.declared.node.Node.{Node}
 
 -- a node's part of the page, whatever follows it
@@ -23,10 +23,10 @@ AddsNode template node datum old new (Err NoTemplate) = ⊥
 AddsNode template node datum old new (Err SinkStop) = ⊥
 
 -- the whole page of a run that is done, or its fault
-abbrev pub GatherAnswers : Run → Result Gathered PageStop → Type 0
-GatherAnswers whole (Ok made) =
+abbrev pub ComposeAnswers : Run → Result Composed PageStop → Type 0
+ComposeAnswers whole (Ok made) =
     (whole.ending ≡ done) × (made.page.items ≡ page_of whole.pieces) × (made.steps ≡ whole.steps)
-GatherAnswers whole (Err (Fault fault)) = whole.ending ≡ faulted fault
-GatherAnswers whole (Err Memory) = ⊤
-GatherAnswers whole (Err NoTemplate) = ⊥
-GatherAnswers whole (Err SinkStop) = ⊥
+ComposeAnswers whole (Err (Fault fault)) = whole.ending ≡ faulted fault
+ComposeAnswers whole (Err Memory) = ⊤
+ComposeAnswers whole (Err NoTemplate) = ⊥
+ComposeAnswers whole (Err SinkStop) = ⊥

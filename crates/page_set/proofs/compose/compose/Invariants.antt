@@ -1,7 +1,7 @@
 use Rattle.std.proofs.Common.{◌≡◌, ◌+◌, ◌*◌, ◌≤◌, ◌++◌, drop}
 use Rattle.page_datum.specs.View.{view}
 use Rattle.page_set.specs.Running.{run, page_of}
-use Rattle.page_set.proofs.gather.gather.Given as goal
+use Rattle.page_set.proofs.compose.compose.Given as goal
 
 abbrev pub invariant-loop-node : goal.invariant-loop-node
 invariant-loop-node l =

@@ -1,8 +1,8 @@
 ghost use Rattle.std.specs.Prelude.{◌≡◌, ◌≤◌, ◌^◌, ◌<◌, ◌++◌, length, IfOk, OnOk};
 ghost use Rattle.page_datum.specs.Printed.{printed};
-ghost use Rattle.page_set.specs.Html.{html};
+ghost use Rattle.page_set.specs.Escapes.{html};
 ghost use Rattle.page_datum.specs.View.{view};
-ghost use Rattle.page_set.specs.Gathering.{AddsNode, GatherAnswers};
+ghost use Rattle.page_set.specs.Composing.{AddsNode, ComposeAnswers};
 ghost use Rattle.page_set.specs.Running.{run};
 
 use crate::field::field;
@@ -14,20 +14,20 @@ use std::alloc::Global;
 
 /// A page and the steps that made it.
 #[derive(Drop)]
-pub struct Gathered {
+pub struct Composed {
     pub page: Vec<u8>,
     pub steps: u64,
 }
 
 /// The page that a template's nodes give for a datum, or the fault of the first hole that has none.
-pub fn gather(
+pub fn compose(
     alloc: Global,
     template: &str,
     nodes: &[Node],
     datum: &Datum,
-) -> Result<Gathered, PageStop>
+) -> Result<Composed, PageStop>
     requires { length nodes.now < 2 ^ 62 }
-    ensures { GatherAnswers (run template.now nodes.now (view datum.now)) result }
+    ensures { ComposeAnswers (run template.now nodes.now (view datum.now)) result }
 {
     let mut page = Vec::new(alloc);
     let mut steps = 0;
@@ -37,7 +37,7 @@ pub fn gather(
             Err(stop) => return Err(stop),
         }
     }
-    Ok(Gathered { page, steps })
+    Ok(Composed { page, steps })
 }
 
 // Appends what a node gives, and says how many steps it took.
