@@ -56,7 +56,8 @@ pub trait Pages: Sized {
     fn make(alloc: Global, files: Files) -> Result<Self, Self::Refused>
         ensures made { IfOk result (λ set. made_of set ≡ files) }
         ensures accepted { IfOk result (λ _. refuses files → ⊥) }
-        ensures refused { IfErr result (λ e. ¬ IsTrue (Self.Refused.is_memory e) → refuses files) };
+        ensures refused { IfErr result (λ e.
+            ¬ IsTrue (Self.Refused.is_memory e) → refuses files) };
 
     /// Writes the page of a root with a datum. Whatever the answer, the sink has got a prefix of the
     /// execution's bytes, and all of them at Ok. `SinkStop` comes only where the sink's count of
@@ -73,7 +74,8 @@ pub trait Pages: Sized {
         ensures meant { is_execution (made_of self.now) root.now (view datum.now)
             (execution self.now root.now (view datum.now)) }
         ensures later { K.faults out.old ≤ K.faults out.new }
-        ensures sink { result ≡ Err PageStop.SinkStop → Rose (K.faults out.old) (K.faults out.new) }
+        ensures sink { result ≡ Err PageStop.SinkStop
+            → Rose (K.faults out.old) (K.faults out.new) }
         ensures sound { OnOk result (is_sound (made_of self.now) root.now (view datum.now)
             (execution self.now root.now (view datum.now)).bytes) };
 }

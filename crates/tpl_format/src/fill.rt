@@ -84,7 +84,8 @@ fn begins_character(byte: u8) -> bool
 
 // Appends a text of one byte so many times.
 fn push_times(out: &mut Text, mark: &str, times: usize) -> Result<(), Memory>
-    ensures { OnOk result ((b : ℕ) → mark.now ≡ b ∷ [] → out.new ≡ out.old ++ replicate times b) }
+    ensures { OnOk result ((b : ℕ) → mark.now ≡ b ∷ []
+        → out.new ≡ out.old ++ replicate times b) }
 {
     for _ in 0..times {
         out.push_str(mark)?;

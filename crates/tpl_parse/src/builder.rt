@@ -309,7 +309,8 @@ fn close_definition(
     innermost: OpenDefinition,
     opening: Opening,
 )
-    ensures { builder.new ≡ closed_definition_of builder.old.frames innermost opening builder.old }
+    ensures { builder.new
+        ≡ closed_definition_of builder.old.frames innermost opening builder.old }
 {
     let OpenDefinition {
         slot,

@@ -43,7 +43,8 @@ pub fn kind_of(
     requires start { IsCharBoundary text.now token.now.start }
     requires end { IsCharBoundary text.now token.now.end }
     requires line { before ≡ line_at text.now (token.now.start - 1) }
-    ensures { IfOk result (λ kind. kind ≡ kind_at text.now token.now comment_before comment_after) }
+    ensures { IfOk result (λ kind.
+        kind ≡ kind_at text.now token.now comment_before comment_after) }
 {
     let bytes = bytes_of(text, token);
     let (start, end) = (token.start, token.end);

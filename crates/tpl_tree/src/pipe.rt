@@ -117,7 +117,8 @@ impl Commands {
     /// The commands in order. Each is smaller than the whole.
     pub fn as_slice(&self) -> &[Command]
         ensures all { commands_view result.now ≡ self.now }
-        ensures smaller { All (λ c. command_size (command_view c) < pipe_size self.now) result.now }
+        ensures smaller { All (λ c.
+            command_size (command_view c) < pipe_size self.now) result.now }
     {
         self.items.as_slice()
     }
