@@ -36,6 +36,7 @@ class-high b h =
       eq-high b 61 h (omega arith),
       eq-high b 62 h (omega arith),
       eq-high b 63 h (omega arith),
+      eq-high b 96 h (omega arith),
       eq-high b 88 h (omega arith),
       eq-high b 120 h (omega arith),
     ) refl

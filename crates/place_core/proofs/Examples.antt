@@ -2,9 +2,10 @@
 use Rattle.std.proofs.Common.{◌≡◌, [], ◌∷◌, codes, refl, true, false, Some}
 use Rattle.place_core.specs.Characters.{char_at, characters_at}
 use Rattle.place_core.specs.Classes.{class_of}
-use Rattle.place_core.specs.Events.{Escape, StartTagBegins, EndTagBegins, AttributeBegins, AttributeNameEnds, TagEnds, text_bytes, block_bytes, value_bytes, attribute_name_bytes}
-use Rattle.place_core.specs.Html.{Page, Template, Text, Unread, AttributeValue, BeforeAttributeValue, config, read, start, tag_name_bytes}
+use Rattle.place_core.specs.Events.{Escape, StartTagBegins, EndTagBegins, AttributeBegins, AttributeNameEnds, TagEnds, Comment, DoctypeBegins, DoctypeEnds, text_bytes, block_bytes, value_bytes, attribute_name_bytes, doctype_bytes, tag_name_bytes}
+use Rattle.place_core.specs.Html.{read, start}
 use Rattle.place_core.specs.References.{Closed, Open, Named, meaning, flushed, undone}
+use Rattle.place_core.specs.States.{Page, Template, Text, InComment, Inside, Unread, AttributeValue, BeforeAttributeValue, config}
 use Rattle.place_core.specs.Tags.{StartTag, ValueOf, Unquoted}
 use Rattle.place_core.specs.Utf8.{Before, decoded}
 use Rattle.place_core.specs.Words.{kind_of, is_special, is_script_type}
@@ -20,6 +21,11 @@ paragraph = refl
 attributes : read Page (codes "<a x Href=b c='&lt=1&lt;'/>") start ≡ config (Text Closed) (TagEnds true ∷ value_bytes (codes "&lt=1<") (AttributeNameEnds kind.Plain ∷ attribute_name_bytes (codes "c") (AttributeBegins ∷ value_bytes (codes "b") (AttributeNameEnds kind.Url ∷ attribute_name_bytes (codes "href") (AttributeBegins ∷ AttributeNameEnds kind.Plain ∷ attribute_name_bytes (codes "x") (AttributeBegins ∷ tag_name_bytes (codes "a") (StartTagBegins ∷ [])))))))
 unfolding class_of meaning flushed lib.Utf8.encode
 attributes = refl
+
+-- the attributes of an end tag
+end_tag_attributes : read Page (codes "</p a='b'c>") start ≡ config (Text Closed) (TagEnds false ∷ AttributeNameEnds kind.Plain ∷ attribute_name_bytes (codes "c") (AttributeBegins ∷ value_bytes (codes "b") (AttributeNameEnds kind.Plain ∷ attribute_name_bytes (codes "a") (AttributeBegins ∷ tag_name_bytes (codes "p") (EndTagBegins ∷ [])))))
+unfolding class_of meaning flushed lib.Utf8.encode
+end_tag_attributes = refl
 
 -- in a title other tags are text, and its own end tag, in any case, ends it
 title : read Page (codes "<title><b>&amp</titl></TITLE >") start ≡ config (Text Closed) (TagEnds false ∷ tag_name_bytes (codes "title") (EndTagBegins ∷ text_bytes (codes "<b>&</titl>") (TagEnds false ∷ tag_name_bytes (codes "title") (StartTagBegins ∷ []))))
@@ -58,9 +64,27 @@ template_text : read Template (codes "<?</1") start ≡ config (Text Closed) (te
 unfolding class_of meaning flushed lib.Utf8.encode
 template_text = refl
 
-page_comment : (read Page (codes "<?") start).at ≡ Unread
+page_comment : read Page (codes "<?a>b</1>") start ≡ config (Text Closed) (Comment ∷ text_bytes (codes "b") (Comment ∷ []))
 unfolding class_of meaning flushed lib.Utf8.encode
 page_comment = refl
+
+-- comments: each of their ends, and what ends none
+comments : read Page (codes "<!-->a<!--->b<!-- -- --->c<!--x--!>d<!>") start ≡ config (Text Closed) (Comment ∷ text_bytes (codes "d") (Comment ∷ text_bytes (codes "c") (Comment ∷ text_bytes (codes "b") (Comment ∷ text_bytes (codes "a") (Comment ∷ [])))))
+unfolding class_of meaning flushed lib.Utf8.encode
+comments = refl
+
+no_end : (read Page (codes "<!--a>b->c--d>--!e") start).at ≡ InComment Inside
+unfolding class_of meaning flushed lib.Utf8.encode
+no_end = refl
+
+-- in a template a comment tells nothing and leaves the reference before it as it stands, and a `<!` that opens nothing is text
+template_comment : read Template (codes "&lt<!--a-->b<!docx<!-c") start ≡ config (Text Closed) (text_bytes (codes "&ltb<!docx<!-c") [])
+unfolding class_of meaning flushed lib.Utf8.encode
+template_comment = refl
+
+doctype : read Page (codes "&lt<!DocType html>") start ≡ config (Text Closed) (DoctypeEnds ∷ doctype_bytes (codes "DocType html") (DoctypeBegins ∷ text_bytes (codes "<") []))
+unfolding class_of meaning flushed lib.Utf8.encode
+doctype = refl
 
 -- numbers: of windows-1252, zero, a surrogate, past the last code point, and in base 16
 euro : read Page (codes "&#128;") start ≡ config (Text Closed) (text_bytes (226 ∷ 130 ∷ 172 ∷ []) [])

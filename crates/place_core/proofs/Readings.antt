@@ -3,15 +3,27 @@ use Rattle.std.proofs.Common.{◌≡◌, ℕ, Bool, true, false, List, [], ◌�
 use Rattle.std.specs.Char.{to_ascii_lowercase}
 use Rattle.place_core.specs.Classes.{Class, White, QuotationMark, Ampersand, Apostrophe, Digit, LessThan, GreaterThan, Letter, class_of}
 use Rattle.place_core.specs.Events.{Event, TextByte, BlockByte, ValueByte, text_bytes, block_bytes, value_bytes, AttributeNameByte, AttributeBegins}
-use Rattle.place_core.specs.Html.{Mode, Page, Text, Rcdata, Block, AttributeValue, BeforeAttributeValue, BeforeAttributeName, AttributeName, AfterAttributeName, SelfClosingStartTag, Config, config, read, read_byte}
+use Rattle.place_core.specs.Html.{read, byte_over, read_over}
+use Rattle.place_core.specs.States.{Reading, Page, Text, AttributeValue, BeforeAttributeValue, BeforeAttributeName, AttributeName, AfterAttributeName, SelfClosingStartTag, Characters, Bytes, Nothing, InContent, Config, config}
 use Rattle.place_core.specs.References.{Closed, undone}
-use Rattle.place_core.specs.Tags.{Tag, ValueOf, value_of, without_value, DoubleQuoted, SingleQuoted, Unquoted}
+use Rattle.place_core.specs.Tags.{Tag, Value, told_byte, told_bytes, Bodies, languages, with_byte, with_bytes, value_of, without_value, DoubleQuoted, SingleQuoted, Unquoted, ValueState}
 use Rattle.place_core.specs.declared.element.Element.{Element}
 use Rattle.place_core.specs.declared.kind.Kind.{Kind}
 
-pub read-append : (m : Mode) (xs ys : List ℕ) (c : Config) → read m (xs ++ ys) c ≡ read m ys (read m xs c)
-read-append m [] ys c = refl
-read-append m (x ∷ xs) ys c = read-append m xs ys (read_byte m x c)
+pub over-append : {B : Type 0} (l : Bodies B) (m : Reading) (xs ys : List ℕ) (c : Config B) → read_over l m (xs ++ ys) c ≡ read_over l m ys (read_over l m xs c)
+over-append l m [] ys c = refl
+over-append l m (x ∷ xs) ys c = over-append l m xs ys (byte_over l m x c)
+
+pub read-append : (m : Reading) (xs ys : List ℕ) (c : Config ValueState) → read m (xs ++ ys) c ≡ read m ys (read m xs c)
+read-append m xs ys c = over-append languages m xs ys c
+
+pub with_bytes-append : {B : Type 0} (l : Bodies B) (v : Value B) (xs ys : List ℕ) → with_bytes l v (xs ++ ys) ≡ with_bytes l (with_bytes l v xs) ys
+with_bytes-append l v [] ys = refl
+with_bytes-append l v (x ∷ xs) ys = with_bytes-append l (with_byte l v x) xs ys
+
+pub told_bytes-append : {B : Type 0} (l : Bodies B) (v : Value B) (xs ys : List ℕ) (t : List Event) → told_bytes l v (xs ++ ys) t ≡ told_bytes l (with_bytes l v xs) ys (told_bytes l v xs t)
+told_bytes-append l v [] ys t = refl
+told_bytes-append l v (x ∷ xs) ys t = told_bytes-append l (with_byte l v x) xs ys (told_byte l v x t)
 
 pub text_bytes-append : (xs ys : List ℕ) (t : List Event) → text_bytes (xs ++ ys) t ≡ text_bytes ys (text_bytes xs t)
 text_bytes-append [] ys t = refl
@@ -58,34 +70,34 @@ text-class Ampersand b t e h = absurd (no h)
 text-class LessThan b t e h = absurd (no h)
 text-class _ b t e h = rw e refl
 
-rcdata-class : (c : Class) (b : ℕ) (x : Element) (t : List Event) → class_of b ≡ c → is_own_in_text c ≡ true → read Page (b ∷ []) (config (Rcdata x Closed) t) ≡ config (Rcdata x Closed) (TextByte b ∷ t)
+rcdata-class : (c : Class) (b : ℕ) (x : Element) (t : List Event) → class_of b ≡ c → is_own_in_text c ≡ true → read Page (b ∷ []) (config (InContent x (Characters Closed) Nothing) t) ≡ config (InContent x (Characters Closed) Nothing) (TextByte b ∷ t)
 rcdata-class Ampersand b x t e h = absurd (no h)
 rcdata-class LessThan b x t e h = absurd (no h)
 rcdata-class _ b x t e h = rw e refl
 
-block-class : (c : Class) (b : ℕ) (t : List Event) → class_of b ≡ c → is_own_in_block c ≡ true → read Page (b ∷ []) (config Block t) ≡ config Block (BlockByte b ∷ t)
-block-class LessThan b t e h = absurd (no h)
-block-class _ b t e h = rw e refl
+block-class : (c : Class) (b : ℕ) (x : Element) (t : List Event) → class_of b ≡ c → is_own_in_block c ≡ true → read Page (b ∷ []) (config (InContent x Bytes Nothing) t) ≡ config (InContent x Bytes Nothing) (BlockByte b ∷ t)
+block-class LessThan b x t e h = absurd (no h)
+block-class _ b x t e h = rw e refl
 
-double-class : (c : Class) (b : ℕ) (tag : Tag) (k : Kind) (t : List Event) → class_of b ≡ c → is_own_in_quoted c ≡ true → read Page (b ∷ []) (config (AttributeValue DoubleQuoted tag (ValueOf k) Closed) t) ≡ config (AttributeValue DoubleQuoted tag (ValueOf k) Closed) (ValueByte b ∷ t)
-double-class QuotationMark b tag k t e h = absurd (no h)
-double-class Ampersand b tag k t e h = absurd (no h)
-double-class Apostrophe b tag k t e h = absurd (no h)
-double-class _ b tag k t e h = rw e refl
+double-class : {B : Type 0} (l : Bodies B) (c : Class) (b : ℕ) (tag : Tag) (v : Value B) (t : List Event) → class_of b ≡ c → is_own_in_quoted c ≡ true → read_over l Page (b ∷ []) (config (AttributeValue DoubleQuoted tag v Closed) t) ≡ config (AttributeValue DoubleQuoted tag (with_byte l v b) Closed) (told_byte l v b t)
+double-class l QuotationMark b tag v t e h = absurd (no h)
+double-class l Ampersand b tag v t e h = absurd (no h)
+double-class l Apostrophe b tag v t e h = absurd (no h)
+double-class l _ b tag v t e h = rw e refl
 
-single-class : (c : Class) (b : ℕ) (tag : Tag) (k : Kind) (t : List Event) → class_of b ≡ c → is_own_in_quoted c ≡ true → read Page (b ∷ []) (config (AttributeValue SingleQuoted tag (ValueOf k) Closed) t) ≡ config (AttributeValue SingleQuoted tag (ValueOf k) Closed) (ValueByte b ∷ t)
-single-class QuotationMark b tag k t e h = absurd (no h)
-single-class Ampersand b tag k t e h = absurd (no h)
-single-class Apostrophe b tag k t e h = absurd (no h)
-single-class _ b tag k t e h = rw e refl
+single-class : {B : Type 0} (l : Bodies B) (c : Class) (b : ℕ) (tag : Tag) (v : Value B) (t : List Event) → class_of b ≡ c → is_own_in_quoted c ≡ true → read_over l Page (b ∷ []) (config (AttributeValue SingleQuoted tag v Closed) t) ≡ config (AttributeValue SingleQuoted tag (with_byte l v b) Closed) (told_byte l v b t)
+single-class l QuotationMark b tag v t e h = absurd (no h)
+single-class l Ampersand b tag v t e h = absurd (no h)
+single-class l Apostrophe b tag v t e h = absurd (no h)
+single-class l _ b tag v t e h = rw e refl
 
-unquoted-class : (c : Class) (b : ℕ) (tag : Tag) (k : Kind) (t : List Event) → class_of b ≡ c → is_own_in_unquoted c ≡ true → read Page (b ∷ []) (config (AttributeValue Unquoted tag (ValueOf k) Closed) t) ≡ config (AttributeValue Unquoted tag (ValueOf k) Closed) (ValueByte b ∷ t)
-unquoted-class White b tag k t e h = absurd (no h)
-unquoted-class QuotationMark b tag k t e h = absurd (no h)
-unquoted-class Ampersand b tag k t e h = absurd (no h)
-unquoted-class Apostrophe b tag k t e h = absurd (no h)
-unquoted-class GreaterThan b tag k t e h = absurd (no h)
-unquoted-class _ b tag k t e h = rw e refl
+unquoted-class : {B : Type 0} (l : Bodies B) (c : Class) (b : ℕ) (tag : Tag) (v : Value B) (t : List Event) → class_of b ≡ c → is_own_in_unquoted c ≡ true → read_over l Page (b ∷ []) (config (AttributeValue Unquoted tag v Closed) t) ≡ config (AttributeValue Unquoted tag (with_byte l v b) Closed) (told_byte l v b t)
+unquoted-class l White b tag v t e h = absurd (no h)
+unquoted-class l QuotationMark b tag v t e h = absurd (no h)
+unquoted-class l Ampersand b tag v t e h = absurd (no h)
+unquoted-class l Apostrophe b tag v t e h = absurd (no h)
+unquoted-class l GreaterThan b tag v t e h = absurd (no h)
+unquoted-class l _ b tag v t e h = rw e refl
 
 -- where an unquoted value is to begin, a byte that begins one is read as its first byte
 abbrev pub begins_unquoted : Class → Bool
@@ -95,15 +107,15 @@ begins_unquoted Apostrophe = false
 begins_unquoted GreaterThan = false
 begins_unquoted _ = true
 
-unbegun-class : (c : Class) (b : ℕ) (tag : Tag) (k : Kind) (t : List Event) → class_of b ≡ c → begins_unquoted c ≡ true → read Page (b ∷ []) (config (BeforeAttributeValue tag k) t) ≡ read Page (b ∷ []) (config (AttributeValue Unquoted tag (value_of k) Closed) t)
-unbegun-class White b tag k t e h = absurd (no h)
-unbegun-class QuotationMark b tag k t e h = absurd (no h)
-unbegun-class Apostrophe b tag k t e h = absurd (no h)
-unbegun-class GreaterThan b tag k t e h = absurd (no h)
-unbegun-class _ b tag k t e h = rw e refl
+unbegun-class : {B : Type 0} (l : Bodies B) (c : Class) (b : ℕ) (tag : Tag) (k : Kind) (t : List Event) → class_of b ≡ c → begins_unquoted c ≡ true → read_over l Page (b ∷ []) (config (BeforeAttributeValue tag k) t) ≡ read_over l Page (b ∷ []) (config (AttributeValue Unquoted tag (value_of l k) Closed) t)
+unbegun-class l White b tag k t e h = absurd (no h)
+unbegun-class l QuotationMark b tag k t e h = absurd (no h)
+unbegun-class l Apostrophe b tag k t e h = absurd (no h)
+unbegun-class l GreaterThan b tag k t e h = absurd (no h)
+unbegun-class l _ b tag k t e h = rw e refl
 
-pub unbegun-byte : (b : ℕ) (bs : List ℕ) (tag : Tag) (k : Kind) (t : List Event) → begins_unquoted (class_of b) ≡ true → read Page (b ∷ bs) (config (BeforeAttributeValue tag k) t) ≡ read Page (b ∷ bs) (config (AttributeValue Unquoted tag (value_of k) Closed) t)
-unbegun-byte b bs tag k t h = ap (read Page bs) (unbegun-class (class_of b) b tag k t refl h)
+pub unbegun-byte : {B : Type 0} (l : Bodies B) (b : ℕ) (bs : List ℕ) (tag : Tag) (k : Kind) (t : List Event) → begins_unquoted (class_of b) ≡ true → read_over l Page (b ∷ bs) (config (BeforeAttributeValue tag k) t) ≡ read_over l Page (b ∷ bs) (config (AttributeValue Unquoted tag (value_of l k) Closed) t)
+unbegun-byte l b bs tag k t h = ap (read_over l Page bs) (unbegun-class l (class_of b) b tag k t refl h)
 
 -- letters and digits, of which names of attributes are made here
 abbrev pub is_name_class : Class → Bool
@@ -135,20 +147,20 @@ solidus-class _ b tag t e h = absurd (no h)
 pub text-byte : (b : ℕ) (t : List Event) → is_own_in_text (class_of b) ≡ true → read Page (b ∷ []) (config (Text Closed) t) ≡ config (Text Closed) (TextByte b ∷ t)
 text-byte b t h = text-class (class_of b) b t refl h
 
-pub rcdata-byte : (b : ℕ) (x : Element) (t : List Event) → is_own_in_text (class_of b) ≡ true → read Page (b ∷ []) (config (Rcdata x Closed) t) ≡ config (Rcdata x Closed) (TextByte b ∷ t)
+pub rcdata-byte : (b : ℕ) (x : Element) (t : List Event) → is_own_in_text (class_of b) ≡ true → read Page (b ∷ []) (config (InContent x (Characters Closed) Nothing) t) ≡ config (InContent x (Characters Closed) Nothing) (TextByte b ∷ t)
 rcdata-byte b x t h = rcdata-class (class_of b) b x t refl h
 
-pub block-byte : (b : ℕ) (t : List Event) → is_own_in_block (class_of b) ≡ true → read Page (b ∷ []) (config Block t) ≡ config Block (BlockByte b ∷ t)
-block-byte b t h = block-class (class_of b) b t refl h
+pub block-byte : (b : ℕ) (x : Element) (t : List Event) → is_own_in_block (class_of b) ≡ true → read Page (b ∷ []) (config (InContent x Bytes Nothing) t) ≡ config (InContent x Bytes Nothing) (BlockByte b ∷ t)
+block-byte b x t h = block-class (class_of b) b x t refl h
 
-pub double-byte : (b : ℕ) (tag : Tag) (k : Kind) (t : List Event) → is_own_in_quoted (class_of b) ≡ true → read Page (b ∷ []) (config (AttributeValue DoubleQuoted tag (ValueOf k) Closed) t) ≡ config (AttributeValue DoubleQuoted tag (ValueOf k) Closed) (ValueByte b ∷ t)
-double-byte b tag k t h = double-class (class_of b) b tag k t refl h
+pub double-byte : {B : Type 0} (l : Bodies B) (b : ℕ) (tag : Tag) (v : Value B) (t : List Event) → is_own_in_quoted (class_of b) ≡ true → read_over l Page (b ∷ []) (config (AttributeValue DoubleQuoted tag v Closed) t) ≡ config (AttributeValue DoubleQuoted tag (with_byte l v b) Closed) (told_byte l v b t)
+double-byte l b tag v t h = double-class l (class_of b) b tag v t refl h
 
-pub single-byte : (b : ℕ) (tag : Tag) (k : Kind) (t : List Event) → is_own_in_quoted (class_of b) ≡ true → read Page (b ∷ []) (config (AttributeValue SingleQuoted tag (ValueOf k) Closed) t) ≡ config (AttributeValue SingleQuoted tag (ValueOf k) Closed) (ValueByte b ∷ t)
-single-byte b tag k t h = single-class (class_of b) b tag k t refl h
+pub single-byte : {B : Type 0} (l : Bodies B) (b : ℕ) (tag : Tag) (v : Value B) (t : List Event) → is_own_in_quoted (class_of b) ≡ true → read_over l Page (b ∷ []) (config (AttributeValue SingleQuoted tag v Closed) t) ≡ config (AttributeValue SingleQuoted tag (with_byte l v b) Closed) (told_byte l v b t)
+single-byte l b tag v t h = single-class l (class_of b) b tag v t refl h
 
-pub unquoted-byte : (b : ℕ) (tag : Tag) (k : Kind) (t : List Event) → is_own_in_unquoted (class_of b) ≡ true → read Page (b ∷ []) (config (AttributeValue Unquoted tag (ValueOf k) Closed) t) ≡ config (AttributeValue Unquoted tag (ValueOf k) Closed) (ValueByte b ∷ t)
-unquoted-byte b tag k t h = unquoted-class (class_of b) b tag k t refl h
+pub unquoted-byte : {B : Type 0} (l : Bodies B) (b : ℕ) (tag : Tag) (v : Value B) (t : List Event) → is_own_in_unquoted (class_of b) ≡ true → read_over l Page (b ∷ []) (config (AttributeValue Unquoted tag v Closed) t) ≡ config (AttributeValue Unquoted tag (with_byte l v b) Closed) (told_byte l v b t)
+unquoted-byte l b tag v t h = unquoted-class l (class_of b) b tag v t refl h
 
 pub first-name-byte : (b : ℕ) (tag : Tag) (t : List Event) → is_name_class (class_of b) ≡ true → read Page (b ∷ []) (config (BeforeAttributeName tag) t) ≡ config (AttributeName tag (to_ascii_lowercase b ∷ [])) (AttributeNameByte (to_ascii_lowercase b) ∷ AttributeBegins ∷ t)
 first-name-byte b tag t h = first-name-class (class_of b) b tag t refl h

@@ -24,6 +24,7 @@ pub data Class : Type 0 where
   EqualsSign : Class
   GreaterThan : Class
   QuestionMark : Class
+  GraveAccent : Class
   Letter : LetterClass → Class
   OtherByte : Class
 
@@ -43,10 +44,11 @@ class_of b =
     else (if b == 61 then EqualsSign
     else (if b == 62 then GreaterThan
     else (if b == 63 then QuestionMark
+    else (if b == 96 then GraveAccent
     else (if is_ascii_hexdigit b then Letter HexadecimalLetter
     else (if b == 88 || b == 120 then Letter LetterX
     else (if is_ascii_alphabetic b then Letter OtherLetter
-    else OtherByte))))))))))))))))
+    else OtherByte)))))))))))))))))
 
 abbrev pub is_equals_sign : Class → Bool
 is_equals_sign EqualsSign = true

@@ -1,5 +1,6 @@
 -- What the lexer of HTML tells as it reads, byte by byte.
 use Rattle.std.specs.Prelude.{ℕ, Bool, List, [], ◌∷◌}
+use Rattle.std.specs.Char.{to_ascii_lowercase}
 use Rattle.place_core.specs.declared.kind.Kind.{Kind}
 
 pub data Event : Type 0 where
@@ -21,7 +22,13 @@ pub data Event : Type 0 where
   ValueByte : ℕ → Event
   -- the tag ends, and closes itself or not
   TagEnds : Bool → Event
-  -- a byte of what is not read yet
+  -- a comment; the texts of a template tell none, since no comment of theirs is written
+  Comment : Event
+  -- a doctype begins; a byte of it, after its `<!`; it ends
+  DoctypeBegins : Event
+  DoctypeByte : ℕ → Event
+  DoctypeEnds : Event
+  -- a byte of what is not read yet: the content of scripts and styles
   UnreadByte : ℕ → Event
 
 -- Events are told the last first: of two such calls, one in the other, the inner one is told before.
@@ -42,6 +49,11 @@ abbrev pub attribute_name_bytes : List ℕ → List Event → List Event
 attribute_name_bytes [] t = t
 attribute_name_bytes (b ∷ bs) t = attribute_name_bytes bs (AttributeNameByte b ∷ t)
 
-abbrev pub unread_bytes : List ℕ → List Event → List Event
-unread_bytes [] t = t
-unread_bytes (b ∷ bs) t = unread_bytes bs (UnreadByte b ∷ t)
+abbrev pub doctype_bytes : List ℕ → List Event → List Event
+doctype_bytes [] t = t
+doctype_bytes (b ∷ bs) t = doctype_bytes bs (DoctypeByte b ∷ t)
+
+-- the name of a tag, from its letters in any case
+abbrev pub tag_name_bytes : List ℕ → List Event → List Event
+tag_name_bytes [] t = t
+tag_name_bytes (b ∷ bs) t = tag_name_bytes bs (TagNameByte (to_ascii_lowercase b) ∷ t)

@@ -1,10 +1,15 @@
 pub mod Characters
 pub mod Classes
+pub mod Comments
+pub mod Contents
 pub mod Events
 pub mod Html
+pub mod Paths
 pub mod Placed
 pub mod Plain
 pub mod References
+pub mod Shape
+pub mod States
 pub mod Tags
 pub mod Utf8
 pub mod Words

@@ -4,10 +4,12 @@ use Rattle.std.specs.Char.{is_ascii_alphanumeric, is_ascii_whitespace}
 use Rattle.std.specs.List.{list_all}
 use Rattle.std.specs.Str.{str_to_ascii_lowercase}
 use Rattle.place_core.specs.Events.{Event, TextByte, BlockByte, AttributeBegins, ValueByte, attribute_name_bytes}
-use Rattle.place_core.specs.Html.{Page, State, Text, Rcdata, Block, BeforeAttributeName, AfterAttributeName, AfterAttributeValue, SelfClosingStartTag, AttributeName, BeforeAttributeValue, AttributeValue, Config, config, read}
+use Rattle.place_core.specs.Html.{read}
 use Rattle.place_core.specs.References.{Reference, Closed}
-use Rattle.place_core.specs.Tags.{Tag, Value, ValueOf, Quoting, Unquoted, without_value}
+use Rattle.place_core.specs.States.{Page, State, Text, BeforeAttributeName, AfterAttributeName, AfterAttributeValue, SelfClosingStartTag, AttributeName, BeforeAttributeValue, AttributeValue, Content, Characters, Bytes, Held, Nothing, InContent, Config, config}
+use Rattle.place_core.specs.Tags.{Tag, Value, ValueOf, Quoting, Unquoted, without_value, ValueState}
 use Rattle.place_core.specs.Words.{is_special}
+use Rattle.place_core.specs.declared.element.Element.{Element}
 use Rattle.place_core.specs.declared.kind.Kind.{Kind}
 use Rattle.place_core.specs.declared.kind.Kind.TheVariants as kind
 
@@ -29,7 +31,7 @@ only_value (_ ∷ t) = false
 
 -- The bytes are one whole name of an attribute, letters and digits, and no name that data may not make; the lexer is in it. What stands after
 -- the hole may still add to the name: that is seen where the name ends.
-pub record IsPlainName (tag : Tag) (bytes : List ℕ) (d : Config) : Type 0 where
+pub record IsPlainName (tag : Tag) (bytes : List ℕ) (d : Config ValueState) : Type 0 where
   pub within : d.at ≡ AttributeName tag (str_to_ascii_lowercase bytes)
   pub told : d.told ≡ attribute_name_bytes (str_to_ascii_lowercase bytes) (AttributeBegins ∷ [])
   pub some : bytes ≢ []
@@ -37,17 +39,17 @@ pub record IsPlainName (tag : Tag) (bytes : List ℕ) (d : Config) : Type 0 wher
   pub harmless : is_special bytes ≡ false
 
 -- the bytes lie in an unquoted value, and there is one at least
-pub record IsPlainUnquoted (tag : Tag) (d : Config) : Type 0 where
+pub record IsPlainUnquoted (tag : Tag) (d : Config ValueState) : Type 0 where
   pub within : d.at ≡ AttributeValue Unquoted tag (ValueOf kind.Plain) Closed
   pub told : IsTrue (only_value d.told)
   pub some : d.told ≢ []
 
-abbrev pub IsPlainQuoted : Quoting → Tag → Config → Type 0
+abbrev pub IsPlainQuoted : Quoting → Tag → Config ValueState → Type 0
 IsPlainQuoted Unquoted tag d = IsPlainUnquoted tag d
 IsPlainQuoted q tag d = (d.at ≡ AttributeValue q tag (ValueOf kind.Plain) Closed) × IsTrue (only_value d.told)
 
 -- in the value of an attribute of kind Plain; the other kinds have no plain holes yet
-abbrev pub IsPlainValue : Value → Quoting → Tag → Config → Type 0
+abbrev pub IsPlainValue : Value ValueState → Quoting → Tag → Config ValueState → Type 0
 IsPlainValue (ValueOf kind.Plain) q tag d = IsPlainQuoted q tag d
 IsPlainValue _ q tag d = ⊥
 
@@ -56,7 +58,7 @@ abbrev pub begins_at_once : List ℕ → Bool
 begins_at_once [] = false
 begins_at_once (b ∷ bs) = not (is_ascii_whitespace b)
 
-abbrev pub IsPlainBefore : Kind → Tag → List ℕ → Config → Type 0
+abbrev pub IsPlainBefore : Kind → Tag → List ℕ → Config ValueState → Type 0
 IsPlainBefore kind.Plain tag bytes d = (begins_at_once bytes ≡ true) × IsPlainUnquoted tag d
 IsPlainBefore _ tag bytes d = ⊥
 
@@ -65,13 +67,18 @@ abbrev pub WhereClosed : Reference → Type 0 → Type 0
 WhereClosed Closed fact = fact
 WhereClosed _ fact = ⊥
 
+-- in a title or a textarea, and in a data block, where nothing is held back
+abbrev pub IsPlainContent : Held → Content → Element → Config ValueState → Type 0
+IsPlainContent Nothing (Characters r) e d = WhereClosed r ((d.at ≡ InContent e (Characters Closed) Nothing) × IsTrue (only_text d.told))
+IsPlainContent Nothing Bytes e d = (d.at ≡ InContent e Bytes Nothing) × IsTrue (only_block d.told)
+IsPlainContent _ x e d = ⊥
+
 -- Bytes that read from this state, with nothing told, to `d` are plain there. In text, title, textarea and data block they are bytes of that very
 -- text; in a value of that value; in a tag they are one whole name. In the other states none are plain, nor are bytes at whose beginning
 -- or end the lexer holds something back, even where it could come to nothing (`</x` in a title), nor a whole `<!--` in a data block.
-abbrev pub IsPlainFrom : State → List ℕ → Config → Type 0
+abbrev pub IsPlainFrom : State ValueState → List ℕ → Config ValueState → Type 0
 IsPlainFrom (Text r) bytes d = WhereClosed r ((d.at ≡ Text Closed) × IsTrue (only_text d.told))
-IsPlainFrom (Rcdata e r) bytes d = WhereClosed r ((d.at ≡ Rcdata e Closed) × IsTrue (only_text d.told))
-IsPlainFrom Block bytes d = (d.at ≡ Block) × IsTrue (only_block d.told)
+IsPlainFrom (InContent e x h) bytes d = IsPlainContent h x e d
 IsPlainFrom (BeforeAttributeName tag) bytes d = IsPlainName tag bytes d
 IsPlainFrom (AfterAttributeName tag k) bytes d = IsPlainName (without_value tag k) bytes d
 IsPlainFrom (AfterAttributeValue tag) bytes d = IsPlainName tag bytes d
@@ -82,9 +89,9 @@ IsPlainFrom _ bytes d = ⊥
 
 -- Where a hole begins, what the lexer of a script or a style still holds back is told first. The states that are read need no such telling: where
 -- they hold something back no hole is plain.
-abbrev pub settled_config : Config → Config
+abbrev pub settled_config : Config ValueState → Config ValueState
 settled_config c = c
 
 -- plain in its place, and no token of what stands before lies partly in it
-abbrev pub IsPlain : List ℕ → Config → Type 0
+abbrev pub IsPlain : List ℕ → Config ValueState → Type 0
 IsPlain bytes c = (read Page bytes c ≡ read Page bytes (settled_config c)) × IsPlainFrom (settled_config c).at bytes (read Page bytes (config (settled_config c).at []))

@@ -158,6 +158,11 @@ abbrev pub settled : Bool → Reference → List ℕ
 settled attribute Closed = []
 settled attribute (Open f bytes) = flushed attribute false f bytes
 
+-- .. and where it is cut there: the bytes of the reference as they stand
+abbrev pub as_it_stands : Reference → List ℕ
+as_it_stands Closed = []
+as_it_stands (Open f bytes) = 38 ∷ bytes
+
 -- a text with its references undone, byte by byte, from where it stands
 abbrev pub undone : Bool → Reference → List ℕ → List ℕ
 undone attribute r [] = settled attribute r

@@ -1,12 +1,13 @@
--- What the lexer of HTML remembers of the tag that it reads.
-use Rattle.std.specs.Prelude.{ℕ, Bool, true, false, bytes_eq, codes, List, [], ◌++◌, if◌then◌else◌}
+-- What the lexer of HTML remembers of the tag that it reads, and of the value in it.
+use Rattle.std.specs.Prelude.{ℕ, Bool, true, false, bytes_eq, codes, List, [], ◌∷◌, ◌++◌, if◌then◌else◌}
+use Rattle.place_core.specs.Events.{Event, ValueByte}
 use Rattle.place_core.specs.Words.{is_script_type}
 use Rattle.place_core.specs.declared.element.Element.{Element}
 use Rattle.place_core.specs.declared.element.Element.TheVariants as element
 use Rattle.place_core.specs.declared.kind.Kind.{Kind}
 use Rattle.place_core.specs.declared.kind.Kind.TheVariants as kind
 
--- an end tag, or a start tag with its element and whether the value of a `type` of a script has been read
+-- an end tag, or a start tag with its element and whether a `type` has been read in it
 pub data Tag : Type 0 where
   EndTag : Tag
   StartTag : Element → Bool → Tag
@@ -30,32 +31,69 @@ abbrev pub element_on : Tag → Element
 element_on EndTag = element.Other
 element_on (StartTag e typed) = e
 
--- How the value of an attribute is read: its bytes are told; those of a script's type are also kept, since they decide how the content of
--- the element is read.
-pub data Value : Type 0 where
-  ValueOf : Kind → Value
-  TypeSoFar : List ℕ → Value
+-- A language of values: what it holds where a value of a kind begins, and after one byte more, with references undone; and what it
+-- tells of a byte, and where the value ends.
+pub record Bodies (B : Type 0) : Type 0 where
+  pub start : Kind → B
+  pub feed : B → ℕ → B
+  pub tells : B → ℕ → List Event → List Event
+  pub ends : B → List Event → List Event
 
-abbrev pub value_of : Kind → Value
-value_of kind.ScriptType = TypeSoFar []
-value_of k = ValueOf k
+-- A language that holds nothing but the kind, and tells each byte. It is all that is read of values so far.
+abbrev pub kinds : Bodies Kind
+kinds = record { start = λ k. k; feed = λ k b. k; tells = λ k b t. ValueByte b ∷ t; ends = λ k t. t }
 
-abbrev pub with_bytes : Value → List ℕ → Value
-with_bytes (ValueOf k) bytes = ValueOf k
-with_bytes (TypeSoFar before) bytes = TypeSoFar (before ++ bytes)
+abbrev pub ValueState : Type 0
+ValueState = Kind
 
--- the tag after a value: the first type of a script decides
+abbrev pub languages : Bodies ValueState
+languages = kinds
+
+-- How the value of an attribute is read: in its language; or the type of a script, whose bytes are kept, since they decide how the
+-- content of the element is read.
+pub data Value (B : Type 0) : Type 0 where
+  ValueOf : B → Value B
+  TypeSoFar : List ℕ → Value B
+
+abbrev pub value_of : {B : Type 0} → Bodies B → Kind → Value B
+value_of x kind.ScriptType = TypeSoFar []
+value_of x k = ValueOf (x.start k)
+
+abbrev pub with_byte : {B : Type 0} → Bodies B → Value B → ℕ → Value B
+with_byte x (ValueOf v) b = ValueOf (x.feed v b)
+with_byte x (TypeSoFar before) b = TypeSoFar (before ++ b ∷ [])
+
+abbrev pub with_bytes : {B : Type 0} → Bodies B → Value B → List ℕ → Value B
+with_bytes x v [] = v
+with_bytes x v (b ∷ bs) = with_bytes x (with_byte x v b) bs
+
+-- what bytes of a value tell, and what its end does
+abbrev pub told_byte : {B : Type 0} → Bodies B → Value B → ℕ → List Event → List Event
+told_byte x (ValueOf v) b t = x.tells v b t
+told_byte x (TypeSoFar before) b t = ValueByte b ∷ t
+
+abbrev pub told_bytes : {B : Type 0} → Bodies B → Value B → List ℕ → List Event → List Event
+told_bytes x v [] t = t
+told_bytes x v (b ∷ bs) t = told_bytes x (with_byte x v b) bs (told_byte x v b t)
+
+abbrev pub told_end : {B : Type 0} → Bodies B → Value B → List Event → List Event
+told_end x (ValueOf v) t = x.ends v t
+told_end x (TypeSoFar before) t = t
+
+-- the tag after the value of a `type`: the first one of a script decides
 abbrev pub typed_by : Tag → List ℕ → Tag
+typed_by EndTag type = EndTag
 typed_by (StartTag element.Script false) type = StartTag (if is_script_type type then element.Script else element.DataBlock) true
-typed_by tag type = tag
+typed_by (StartTag e typed) type = StartTag e true
 
-abbrev pub with_value : Tag → Value → Tag
-with_value tag (ValueOf k) = tag
+abbrev pub with_value : {B : Type 0} → Tag → Value B → Tag
+with_value tag (ValueOf v) = tag
 with_value tag (TypeSoFar type) = typed_by tag type
 
 -- the tag after an attribute without a value, which is read as the empty one
 abbrev pub without_value : Tag → Kind → Tag
-without_value tag k = with_value tag (value_of k)
+without_value tag kind.ScriptType = typed_by tag []
+without_value tag k = tag
 
 -- how a value is written: between quotation marks, between apostrophes, or without
 pub data Quoting : Type 0 where
