@@ -8,3 +8,5 @@ pub mod References
 pub mod Tags
 pub mod Utf8
 pub mod Words
+pub mod JoinLaws
+pub mod Places

@@ -3,6 +3,7 @@
 #![tactic(auto)]
 
 mod bare;
+mod bearing;
 mod body;
 mod chain;
 mod chars;
@@ -10,6 +11,7 @@ mod code;
 mod css;
 mod css_tails;
 mod element;
+mod joining;
 mod js;
 mod js_tails;
 mod kind;
@@ -28,6 +30,7 @@ mod tag_place;
 mod value_place;
 
 pub use bare::Bare;
+pub use bearing::{has, same};
 pub use body::Body;
 pub use chain::Chain;
 pub use chars::Chars;
@@ -35,6 +38,7 @@ pub use code::Code;
 pub use css::Css;
 pub use css_tails::CssTails;
 pub use element::Element;
+pub use joining::join;
 pub use js::Js;
 pub use js_tails::JsTails;
 pub use kind::Kind;
