@@ -13,3 +13,5 @@ pub mod States
 pub mod Tags
 pub mod Utf8
 pub mod Words
+pub mod JoinLaws
+pub mod Places

@@ -2,12 +2,56 @@
 // say where in a page something stands.
 #![tactic(auto)]
 
+mod bare;
+mod bearing;
+mod body;
+mod chain;
 mod chars;
+mod code;
+mod css;
+mod css_tails;
 mod element;
+mod joining;
+mod js;
+mod js_tails;
 mod kind;
+mod member;
+mod parts;
+mod place;
+mod prefix;
+mod quotes;
+mod san;
+mod senses;
+mod spots;
+mod step_err;
 mod str_chars;
+mod tag_of;
+mod tag_place;
+mod value_place;
 
+pub use bare::Bare;
+pub use bearing::{has, same};
+pub use body::Body;
+pub use chain::Chain;
 pub use chars::Chars;
+pub use code::Code;
+pub use css::Css;
+pub use css_tails::CssTails;
 pub use element::Element;
+pub use joining::join;
+pub use js::Js;
+pub use js_tails::JsTails;
 pub use kind::Kind;
+pub use member::Member;
+pub use parts::Parts;
+pub use place::{Place, TEXT};
+pub use prefix::Prefix;
+pub use quotes::Quotes;
+pub use san::San;
+pub use senses::Senses;
+pub use spots::Spots;
+pub use step_err::StepErr;
 pub use str_chars::StrChars;
+pub use tag_of::TagOf;
+pub use tag_place::TagPlace;
+pub use value_place::ValuePlace;

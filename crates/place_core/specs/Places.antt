@@ -1,0 +1,370 @@
+-- Places: when two of them join, which one is below which, what members a place has, and which places paths can come to.
+use Rattle.std.specs.Prelude.{ℕ, Bool, true, false, ◌≡◌, ◌≤◌, ◌||◌, ◌==◌, Option, Some, None, option_map, is_some, if◌then◌else◌, ⊤}
+use Rattle.place_core.specs.declared.bare.Bare.{Bare}
+use Rattle.place_core.specs.declared.body.Body.{Body}
+use Rattle.place_core.specs.declared.body.Body.TheVariants as body
+use Rattle.place_core.specs.declared.css.Css.{Css}
+use Rattle.place_core.specs.declared.css.Css.TheVariants as css
+use Rattle.place_core.specs.declared.css_tails.CssTails.{CssTails}
+use Rattle.place_core.specs.declared.element.Element.{Element}
+use Rattle.place_core.specs.declared.element.Element.TheVariants as element
+use Rattle.place_core.specs.declared.js.Js.{Js}
+use Rattle.place_core.specs.declared.js.Js.TheVariants as js
+use Rattle.place_core.specs.declared.js_tails.JsTails.{JsTails}
+use Rattle.place_core.specs.declared.kind.Kind.{Kind}
+use Rattle.place_core.specs.declared.kind.Kind.TheVariants as kind
+use Rattle.place_core.specs.declared.member.Member.{Member}
+use Rattle.place_core.specs.declared.member.Member.TheVariants as member
+use Rattle.place_core.specs.declared.parts.Parts.{Parts}
+use Rattle.place_core.specs.declared.place.Place.{Place}
+use Rattle.place_core.specs.declared.place.Place.TheVariants as place
+use Rattle.place_core.specs.declared.prefix.Prefix.{Prefix}
+use Rattle.place_core.specs.declared.prefix.Prefix.TheVariants as prefix
+use Rattle.place_core.specs.declared.quotes.Quotes.{Quotes}
+use Rattle.place_core.specs.declared.quotes.Quotes.TheVariants as quotes
+use Rattle.place_core.specs.declared.senses.Senses.{Senses}
+use Rattle.place_core.specs.declared.spots.Spots.{Spots}
+use Rattle.place_core.specs.declared.tag_of.TagOf.{TagOf}
+use Rattle.place_core.specs.declared.tag_of.TagOf.TheVariants as tag
+use Rattle.place_core.specs.declared.tag_place.TagPlace.{TagPlace}
+use Rattle.place_core.specs.declared.value_place.ValuePlace.{ValuePlace}
+
+-- Sets are united.
+abbrev pub both_spots : Spots → Spots → Spots
+both_spots s t = record { name = s.name || t.name; before = s.before || t.before; inside = s.inside || t.inside; after = s.after || t.after }
+
+abbrev pub both_bare : Bare → Bare → Bare
+both_bare s t = record { uq = s.uq || t.uq; unbegun = s.unbegun || t.unbegun }
+
+abbrev pub both_senses : Senses → Senses → Senses
+both_senses s t = record { re = s.re || t.re; div = s.div || t.div; brace = s.brace || t.brace }
+
+abbrev pub both_js_tails : JsTails → JsTails → JsTails
+both_js_tails s t = record { word = s.word || t.word; num = s.num || t.num; lt = s.lt || t.lt; slash = s.slash || t.slash;
+  plus = s.plus || t.plus; minus = s.minus || t.minus; hash = s.hash || t.hash }
+
+abbrev pub both_css_tails : CssTails → CssTails → CssTails
+both_css_tails s t = record { word = s.word || t.word; slash = s.slash || t.slash; lt = s.lt || t.lt }
+
+-- Two different prefixes become the one that says so.
+abbrev pub same_prefix : Prefix → Prefix → Bool
+same_prefix prefix.Off prefix.Off = true
+same_prefix (prefix.Javascript n) (prefix.Javascript m) = n == m
+same_prefix (prefix.Vbscript n) (prefix.Vbscript m) = n == m
+same_prefix (prefix.DataScheme n) (prefix.DataScheme m) = n == m
+same_prefix prefix.Differs prefix.Differs = true
+same_prefix _ _ = false
+
+abbrev pub both_prefixes : Option Prefix → Option Prefix → Option Prefix
+both_prefixes None q = q
+both_prefixes (Some p) None = Some p
+both_prefixes (Some p) (Some q) = Some (if same_prefix p q then p else prefix.Differs)
+
+abbrev pub both_parts : Parts → Parts → Parts
+both_parts s t = record { start = s.start || t.start; opened = both_prefixes s.opened t.opened; openhole = s.openhole || t.openhole;
+  prequery = s.prequery || t.prequery; query = s.query || t.query; bad = s.bad || t.bad }
+
+-- Elements, tags and kinds join where they are the same; a kind joins none.
+abbrev pub same_element : Element → Element → Bool
+same_element element.Other element.Other = true
+same_element element.Title element.Title = true
+same_element element.Textarea element.Textarea = true
+same_element element.Style element.Style = true
+same_element element.Script element.Script = true
+same_element element.DataBlock element.DataBlock = true
+same_element _ _ = false
+
+abbrev pub same_kind : Kind → Kind → Bool
+same_kind kind.Plain kind.Plain = true
+same_kind kind.Url kind.Url = true
+same_kind kind.Script kind.Script = true
+same_kind kind.Style kind.Style = true
+same_kind kind.ScriptType kind.ScriptType = true
+same_kind kind.NoHole kind.NoHole = true
+same_kind _ _ = false
+
+abbrev pub joined_elements : Element → Element → Option Element
+joined_elements e f = if same_element e f then Some e else None
+
+abbrev pub joined_tags : TagOf → TagOf → Option TagOf
+joined_tags tag.End tag.End = Some tag.End
+joined_tags (tag.Start e) (tag.Start f) = option_map tag.Start (joined_elements e f)
+joined_tags _ _ = None
+
+abbrev pub joined_kinds : Option Kind → Option Kind → Option (Option Kind)
+joined_kinds None l = Some l
+joined_kinds (Some k) None = Some (Some k)
+joined_kinds (Some k) (Some l) = if same_kind k l then Some (Some k) else None
+
+-- The rows of a script and of a style.
+abbrev pub joined_js : Js → Js → Option Js
+joined_js (js.Code s x) (js.Code t y) = Some (js.Code (both_senses s t) (both_js_tails x y))
+joined_js js.Dq js.Dq = Some js.Dq
+joined_js js.Sq js.Sq = Some js.Sq
+joined_js (js.Regexp x) (js.Regexp y) = Some (js.Regexp (x || y))
+joined_js (js.Line s) (js.Line t) = Some (js.Line (both_senses s t))
+joined_js (js.Block s x) (js.Block t y) = Some (js.Block (both_senses s t) (x || y))
+joined_js _ _ = None
+
+abbrev pub joined_css : Css → Css → Option Css
+joined_css (css.Code x) (css.Code y) = Some (css.Code (both_css_tails x y))
+joined_css css.Dq css.Dq = Some css.Dq
+joined_css css.Sq css.Sq = Some css.Sq
+joined_css css.UrlFresh css.UrlFresh = Some css.UrlFresh
+joined_css (css.Url s) (css.Url t) = Some (css.Url (both_parts s t))
+joined_css (css.UrlDq s) (css.UrlDq t) = Some (css.UrlDq (both_parts s t))
+joined_css (css.UrlSq s) (css.UrlSq t) = Some (css.UrlSq (both_parts s t))
+joined_css css.UrlEnd css.UrlEnd = Some css.UrlEnd
+joined_css (css.Comment x) (css.Comment y) = Some (css.Comment (x || y))
+joined_css _ _ = None
+
+abbrev pub joined_quotes : Quotes → Quotes → Option Quotes
+joined_quotes quotes.Dq quotes.Dq = Some quotes.Dq
+joined_quotes quotes.Sq quotes.Sq = Some quotes.Sq
+joined_quotes (quotes.Bare s) (quotes.Bare t) = Some (quotes.Bare (both_bare s t))
+joined_quotes _ _ = None
+
+abbrev pub joined_bodies : Body → Body → Option Body
+joined_bodies body.Plain body.Plain = Some body.Plain
+joined_bodies body.NoHole body.NoHole = Some body.NoHole
+joined_bodies (body.Url s) (body.Url t) = Some (body.Url (both_parts s t))
+joined_bodies (body.Js i) (body.Js j) = option_map body.Js (joined_js i j)
+joined_bodies (body.Css c) (body.Css d) = option_map body.Css (joined_css c d)
+joined_bodies _ _ = None
+
+-- A place in a tag joins where both the tag and the kind do, one in a value where the tag, the quotes and the body do.
+abbrev pub tag_place : Bool → Spots → Option TagOf → Option (Option Kind) → Option TagPlace
+tag_place typed s (Some t) (Some k) = Some (record { tag = t; typed = typed; spots = s; kind = k })
+tag_place typed s _ _ = None
+
+abbrev pub joined_tag_places : TagPlace → TagPlace → Option TagPlace
+joined_tag_places x y = tag_place (x.typed || y.typed) (both_spots x.spots y.spots) (joined_tags x.tag y.tag) (joined_kinds x.kind y.kind)
+
+abbrev pub value_place : Bool → Option TagOf → Option Quotes → Option Body → Option ValuePlace
+value_place typed (Some t) (Some q) (Some b) = Some (record { tag = t; typed = typed; quotes = q; body = b })
+value_place typed _ _ _ = None
+
+abbrev pub joined_value_places : ValuePlace → ValuePlace → Option ValuePlace
+joined_value_places x y = value_place (x.typed || y.typed) (joined_tags x.tag y.tag) (joined_quotes x.quotes y.quotes)
+  (joined_bodies x.body y.body)
+
+-- the place that stands for what two places stand for, where there is one
+abbrev pub joined : Place → Place → Option Place
+joined place.Text place.Text = Some place.Text
+joined place.Doctype place.Doctype = Some place.Doctype
+joined (place.Comment x) (place.Comment y) = Some (place.Comment (x || y))
+joined (place.Rcdata e) (place.Rcdata f) = option_map place.Rcdata (joined_elements e f)
+joined (place.Tag x) (place.Tag y) = option_map place.Tag (joined_tag_places x y)
+joined (place.Value x) (place.Value y) = option_map place.Value (joined_value_places x y)
+joined (place.Script i) (place.Script j) = option_map place.Script (joined_js i j)
+joined (place.Style c) (place.Style d) = option_map place.Style (joined_css c d)
+joined (place.Block x) (place.Block y) = Some (place.Block (x || y))
+joined _ _ = None
+
+-- a place is below another one: joining them gives that one
+abbrev pub Below : Place → Place → Type 0
+Below a b = joined a b ≡ Some b
+
+-- Which members a place has.
+abbrev pub spots_have : Spots → Member → Bool
+spots_have s member.NameSpot = s.name
+spots_have s member.BeforeSpot = s.before
+spots_have s member.InsideSpot = s.inside
+spots_have s member.AfterSpot = s.after
+spots_have s _ = false
+
+abbrev pub bare_has : Bare → Member → Bool
+bare_has s member.UnquotedValue = s.uq
+bare_has s member.UnbegunValue = s.unbegun
+bare_has s _ = false
+
+abbrev pub senses_have : Senses → Member → Bool
+senses_have s member.SenseRe = s.re
+senses_have s member.SenseDiv = s.div
+senses_have s member.SenseBrace = s.brace
+senses_have s _ = false
+
+abbrev pub js_tails_have : JsTails → Member → Bool
+js_tails_have s member.JsWord = s.word
+js_tails_have s member.JsNum = s.num
+js_tails_have s member.JsLt = s.lt
+js_tails_have s member.JsSlash = s.slash
+js_tails_have s member.JsPlus = s.plus
+js_tails_have s member.JsMinus = s.minus
+js_tails_have s member.JsHash = s.hash
+js_tails_have s _ = false
+
+abbrev pub css_tails_have : CssTails → Member → Bool
+css_tails_have s member.CssWord = s.word
+css_tails_have s member.CssSlash = s.slash
+css_tails_have s member.CssLt = s.lt
+css_tails_have s _ = false
+
+-- whatever the beginning of a URL spells, that the path is in it is one member
+abbrev pub parts_have : Parts → Member → Bool
+parts_have s member.PartStart = s.start
+parts_have s member.PartOpen = is_some s.opened
+parts_have s member.PartOpenhole = s.openhole
+parts_have s member.PartPrequery = s.prequery
+parts_have s member.PartQuery = s.query
+parts_have s member.PartBad = s.bad
+parts_have s _ = false
+
+abbrev pub regexp_has : Bool → Member → Bool
+regexp_has x member.RegexpSlash = x
+regexp_has x _ = false
+
+abbrev pub js_star_has : Bool → Member → Bool
+js_star_has x member.JsStar = x
+js_star_has x _ = false
+
+abbrev pub css_star_has : Bool → Member → Bool
+css_star_has x member.CssStar = x
+css_star_has x _ = false
+
+abbrev pub dash_has : Bool → Member → Bool
+dash_has x member.CommentDash = x
+dash_has x _ = false
+
+abbrev pub block_has : Bool → Member → Bool
+block_has x member.BlockLt = x
+block_has x _ = false
+
+abbrev pub typed_has : Bool → Member → Bool
+typed_has x member.Typed = x
+typed_has x _ = false
+
+abbrev pub js_has : Js → Member → Bool
+js_has (js.Code s x) m = senses_have s m || js_tails_have x m
+js_has (js.Regexp x) m = regexp_has x m
+js_has (js.Line s) m = senses_have s m
+js_has (js.Block s x) m = senses_have s m || js_star_has x m
+js_has js.Dq m = false
+js_has js.Sq m = false
+
+abbrev pub css_has : Css → Member → Bool
+css_has (css.Code x) m = css_tails_have x m
+css_has (css.Url s) m = parts_have s m
+css_has (css.UrlDq s) m = parts_have s m
+css_has (css.UrlSq s) m = parts_have s m
+css_has (css.Comment x) m = css_star_has x m
+css_has css.Dq m = false
+css_has css.Sq m = false
+css_has css.UrlFresh m = false
+css_has css.UrlEnd m = false
+
+abbrev pub quotes_have : Quotes → Member → Bool
+quotes_have (quotes.Bare s) m = bare_has s m
+quotes_have quotes.Dq m = false
+quotes_have quotes.Sq m = false
+
+abbrev pub body_has : Body → Member → Bool
+body_has (body.Url s) m = parts_have s m
+body_has (body.Js j) m = js_has j m
+body_has (body.Css c) m = css_has c m
+body_has body.Plain m = false
+body_has body.NoHole m = false
+
+-- what a place has beside the whole
+abbrev pub part_has : Place → Member → Bool
+part_has place.Text m = false
+part_has place.Doctype m = false
+part_has (place.Comment x) m = dash_has x m
+part_has (place.Rcdata e) m = false
+part_has (place.Tag x) m = typed_has x.typed m || spots_have x.spots m
+part_has (place.Value x) m = typed_has x.typed m || (quotes_have x.quotes m || body_has x.body m)
+part_has (place.Script j) m = js_has j m
+part_has (place.Style c) m = css_has c m
+part_has (place.Block x) m = block_has x m
+
+abbrev pub is_whole : Member → Bool
+is_whole member.Whole = true
+is_whole _ = false
+
+-- some path bears the member, maybe not all
+abbrev pub Has : Place → Member → Type 0
+Has p m = (is_whole m || part_has p m) ≡ true
+
+-- The member that two paths bear which met in the beginning of a URL, having spelled different things; that they did is told of no
+-- place while URLs are not read.
+abbrev pub side : Member
+side = member.PartOpen
+
+abbrev pub HasApart : Place → Type 0
+HasApart p = ⊥
+
+-- Which places paths can come to: each set but those of tails has a member.
+abbrev pub is_rcdata : Element → Bool
+is_rcdata element.Title = true
+is_rcdata element.Textarea = true
+is_rcdata _ = false
+
+abbrev pub some_spot : Spots → Bool
+some_spot s = s.name || (s.before || (s.inside || s.after))
+
+abbrev pub some_bare : Bare → Bool
+some_bare s = s.uq || s.unbegun
+
+abbrev pub some_sense : Senses → Bool
+some_sense s = s.re || (s.div || s.brace)
+
+abbrev pub some_part : Parts → Bool
+some_part s = s.start || (is_some s.opened || (s.openhole || (s.prequery || (s.query || s.bad))))
+
+-- at least one letter, and at most all letters of the word
+abbrev pub IsValidPrefix : Option Prefix → Type 0
+IsValidPrefix (Some (prefix.Javascript n)) = (1 ≤ n) × (n ≤ 10)
+IsValidPrefix (Some (prefix.Vbscript n)) = (1 ≤ n) × (n ≤ 8)
+IsValidPrefix (Some (prefix.DataScheme n)) = (1 ≤ n) × (n ≤ 4)
+IsValidPrefix (Some prefix.Off) = ⊤
+IsValidPrefix (Some prefix.Differs) = ⊤
+IsValidPrefix None = ⊤
+
+abbrev pub IsValidParts : Parts → Type 0
+IsValidParts s = (some_part s ≡ true) × IsValidPrefix s.opened
+
+abbrev pub IsValidJs : Js → Type 0
+IsValidJs (js.Code s x) = some_sense s ≡ true
+IsValidJs (js.Line s) = some_sense s ≡ true
+IsValidJs (js.Block s x) = some_sense s ≡ true
+IsValidJs js.Dq = ⊤
+IsValidJs js.Sq = ⊤
+IsValidJs (js.Regexp x) = ⊤
+
+abbrev pub IsValidCss : Css → Type 0
+IsValidCss (css.Url s) = IsValidParts s
+IsValidCss (css.UrlDq s) = IsValidParts s
+IsValidCss (css.UrlSq s) = IsValidParts s
+IsValidCss (css.Code x) = ⊤
+IsValidCss css.Dq = ⊤
+IsValidCss css.Sq = ⊤
+IsValidCss css.UrlFresh = ⊤
+IsValidCss css.UrlEnd = ⊤
+IsValidCss (css.Comment x) = ⊤
+
+abbrev pub IsValidQuotes : Quotes → Type 0
+IsValidQuotes (quotes.Bare s) = some_bare s ≡ true
+IsValidQuotes quotes.Dq = ⊤
+IsValidQuotes quotes.Sq = ⊤
+
+abbrev pub IsValidBody : Body → Type 0
+IsValidBody (body.Url s) = IsValidParts s
+IsValidBody (body.Js j) = IsValidJs j
+IsValidBody (body.Css c) = IsValidCss c
+IsValidBody body.Plain = ⊤
+IsValidBody body.NoHole = ⊤
+
+-- a kind stands exactly where the place may be in or after an attribute's name
+abbrev pub IsValidTag : TagPlace → Type 0
+IsValidTag x = (some_spot x.spots ≡ true) × (is_some x.kind ≡ (x.spots.inside || x.spots.after))
+
+abbrev pub IsValid : Place → Type 0
+IsValid place.Text = ⊤
+IsValid place.Doctype = ⊤
+IsValid (place.Comment x) = ⊤
+IsValid (place.Rcdata e) = is_rcdata e ≡ true
+IsValid (place.Tag x) = IsValidTag x
+IsValid (place.Value x) = IsValidQuotes x.quotes × IsValidBody x.body
+IsValid (place.Script j) = IsValidJs j
+IsValid (place.Style c) = IsValidCss c
+IsValid (place.Block x) = ⊤

@@ -1,0 +1,18 @@
+use crate::css::Css;
+use crate::js::Js;
+use crate::parts::Parts;
+
+/// What an attribute's value is read as, and how far it has come.
+#[derive(Clone, Copy, Debug, Drop, PartialEq, Eq)]
+pub enum Body {
+    /// Text, as behind `<b title="`.
+    Plain,
+    /// Text in which no value of data may stand, as behind `<iframe srcdoc="`.
+    NoHole,
+    /// A URL, as behind `<a href="`.
+    Url(Parts),
+    /// A script, as behind `<b onclick="`.
+    Js(Js),
+    /// Declarations of a style, as behind `<b style="`.
+    Css(Css),
+}

@@ -1,0 +1,10 @@
+use crate::san::San;
+
+/// What is done to a value of data, one after the other.
+#[derive(Clone, Copy, Debug, Drop, PartialEq, Eq)]
+pub struct Chain {
+    /// How many of `sans` count.
+    pub count: u8,
+    /// The sanitizers, the first one first.
+    pub sans: [San; 3],
+}

@@ -1,0 +1,10 @@
+/// What a style ends in that the next character may go on with: a set, which may be empty.
+#[derive(Clone, Copy, Debug, Drop, PartialEq, Eq)]
+pub struct CssTails {
+    /// A word, as `color`.
+    pub word: bool,
+    /// `/`, which may go on as `/*`.
+    pub slash: bool,
+    /// `<`, which may go on as `</style`.
+    pub lt: bool,
+}

@@ -1,0 +1,33 @@
+use crate::css::Css;
+use crate::element::Element;
+use crate::js::Js;
+use crate::tag_place::TagPlace;
+use crate::value_place::ValuePlace;
+
+/// A place in a page: all that matters to how the text after it is read and how a value of data is written there. Where several
+/// paths lead to one point of a template, its sets and truth values say what holds on some of them.
+#[derive(Clone, Copy, Debug, Drop, PartialEq, Eq)]
+pub enum Place {
+    /// In text, as behind `<p>`.
+    Text,
+    /// In a document type, as behind `<!DOCTYPE `.
+    Doctype,
+    /// In a comment, as behind `<!-- a`; true where the last character may be `-`.
+    Comment(bool),
+    /// In text without tags, as behind `<title>` or `<textarea>`.
+    Rcdata(Element),
+    /// In a tag, as behind `<b `, outside the values of its attributes.
+    Tag(TagPlace),
+    /// In an attribute's value, as behind `<b title="`.
+    Value(ValuePlace),
+    /// In the content of a script element, as behind `<script>`.
+    Script(Js),
+    /// In the content of a style element, as behind `<style>`.
+    Style(Css),
+    /// In the content of a script element that has no script's type, as behind `<script type="text/plain">`; true where the last
+    /// character may be `<`.
+    Block(bool),
+}
+
+/// The place where a page begins.
+pub const TEXT: Place = Place::Text;

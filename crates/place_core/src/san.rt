@@ -1,0 +1,33 @@
+/// What is done to a value of data before it is written. (The sanitizers of Samuel, Saxena and Song, and the escapers of Go's
+/// `html/template`.)
+#[derive(Clone, Copy, Debug, Drop, PartialEq, Eq)]
+pub enum San {
+    /// Written as text.
+    Html,
+    /// Written in an attribute's value with quotes.
+    Attr,
+    /// Written in an attribute's value without quotes.
+    AttrNospace,
+    /// Written as an attribute's name.
+    AttrName,
+    /// Written as a value in a script.
+    JsValue,
+    /// Written in a string of a script.
+    JsString,
+    /// Written in a regular expression.
+    JsRegexp,
+    /// Written as a value in a style.
+    CssValue,
+    /// Written in a string of a style.
+    CssString,
+    /// A URL, with no scheme that runs code.
+    UrlFilter,
+    /// Written in the beginning of a URL.
+    UrlOpen,
+    /// Written in a URL, so that it stays a URL.
+    UrlNorm,
+    /// Written in the query of a URL.
+    UrlQuery,
+    /// Left out.
+    Drop,
+}

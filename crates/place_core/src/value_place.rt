@@ -1,0 +1,16 @@
+use crate::body::Body;
+use crate::quotes::Quotes;
+use crate::tag_of::TagOf;
+
+/// A place in an attribute's value, as behind `<a href="`.
+#[derive(Clone, Copy, Debug, Drop, PartialEq, Eq)]
+pub struct ValuePlace {
+    /// The tag.
+    pub tag: TagOf,
+    /// Whether the tag may have had an attribute `type` before this one.
+    pub typed: bool,
+    /// The quotes around the value.
+    pub quotes: Quotes,
+    /// What the value is read as.
+    pub body: Body,
+}
