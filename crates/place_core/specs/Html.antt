@@ -115,19 +115,20 @@ tells_before_name Solidus b t = t
 tells_before_name GreaterThan b t = TagEnds false ∷ t
 tells_before_name c b t = AttributeNameByte (to_ascii_lowercase b) ∷ AttributeBegins ∷ t
 
-abbrev pub next_name : {B : Type 0} → Class → ℕ → Tag → List ℕ → State B
-next_name White b tag name = AfterAttributeName tag (kind_of (element_on tag) name)
-next_name Solidus b tag name = SelfClosingStartTag (without_value tag (kind_of (element_on tag) name))
-next_name GreaterThan b tag name = after_tag (without_value tag (kind_of (element_on tag) name))
-next_name EqualsSign b tag name = BeforeAttributeValue tag (kind_of (element_on tag) name)
-next_name c b tag name = AttributeName tag (name ++ to_ascii_lowercase b ∷ [])
+-- in the name of an attribute, which has this kind if it ends here
+abbrev pub next_name : {B : Type 0} → Class → ℕ → Tag → Kind → List ℕ → State B
+next_name White b tag k name = AfterAttributeName tag k
+next_name Solidus b tag k name = SelfClosingStartTag (without_value tag k)
+next_name GreaterThan b tag k name = after_tag (without_value tag k)
+next_name EqualsSign b tag k name = BeforeAttributeValue tag k
+next_name c b tag k name = AttributeName tag (name ++ to_ascii_lowercase b ∷ [])
 
-abbrev pub tells_name : Class → ℕ → Tag → List ℕ → List Event → List Event
-tells_name White b tag name t = AttributeNameEnds (kind_of (element_on tag) name) ∷ t
-tells_name Solidus b tag name t = AttributeNameEnds (kind_of (element_on tag) name) ∷ t
-tells_name GreaterThan b tag name t = TagEnds false ∷ AttributeNameEnds (kind_of (element_on tag) name) ∷ t
-tells_name EqualsSign b tag name t = AttributeNameEnds (kind_of (element_on tag) name) ∷ t
-tells_name c b tag name t = AttributeNameByte (to_ascii_lowercase b) ∷ t
+abbrev pub tells_name : Class → ℕ → Kind → List Event → List Event
+tells_name White b k t = AttributeNameEnds k ∷ t
+tells_name Solidus b k t = AttributeNameEnds k ∷ t
+tells_name GreaterThan b k t = TagEnds false ∷ AttributeNameEnds k ∷ t
+tells_name EqualsSign b k t = AttributeNameEnds k ∷ t
+tells_name c b k t = AttributeNameByte (to_ascii_lowercase b) ∷ t
 
 abbrev pub next_after_name : {B : Type 0} → Class → ℕ → Tag → Kind → State B
 next_after_name White b tag k = AfterAttributeName tag k
@@ -205,7 +206,7 @@ next x m InDoctype c b = next_in_doctype c
 next x m (TagName ends name) c b = next_tag_name c b ends name
 next x m (WholeTagName tag) c b = next_before_name c b tag
 next x m (BeforeAttributeName tag) c b = next_before_name c b tag
-next x m (AttributeName tag name) c b = next_name c b tag name
+next x m (AttributeName tag name) c b = next_name c b tag (kind_of (element_on tag) name) name
 next x m (WholeAttributeName tag k) c b = next_whole_name c b tag k
 next x m (AfterAttributeName tag k) c b = next_after_name c b tag k
 next x m (BeforeAttributeValue tag k) c b = next_before_value x c b tag k
@@ -226,7 +227,7 @@ tells x m InDoctype c b t = tells_doctype c b t
 tells x m (TagName ends name) c b t = tells_tag_name c b t
 tells x m (WholeTagName tag) c b t = tells_before_name c b t
 tells x m (BeforeAttributeName tag) c b t = tells_before_name c b t
-tells x m (AttributeName tag name) c b t = tells_name c b tag name t
+tells x m (AttributeName tag name) c b t = tells_name c b (kind_of (element_on tag) name) t
 tells x m (WholeAttributeName tag k) c b t = tells_whole_name c b k t
 tells x m (AfterAttributeName tag k) c b t = tells_after_name c b t
 tells x m (BeforeAttributeValue tag k) c b t = tells_before_value x c b k t

@@ -14,13 +14,6 @@ use crate::spots::Spots;
 ghost use Rattle.std.specs.Prelude.{◌≡◌, ◌↔◌, ◌||◌, IsTrue};
 ghost use Rattle.place_core.specs.Places.{bare_has, body_has, css_has, css_tails_have, is_whole as is_the_whole, js_has, js_tails_have, part_has, parts_have, quotes_have, senses_have, spots_have, Has};
 
-/// Whether two places are the same.
-pub fn same(a: Place, b: Place) -> bool
-    ensures { IsTrue result ↔ (a ≡ b) }
-{
-    a == b
-}
-
 /// Whether a place has a member.
 pub fn has(place: Place, member: Member) -> bool
     ensures { IsTrue result ↔ Has place member }

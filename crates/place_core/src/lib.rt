@@ -30,7 +30,7 @@ mod tag_place;
 mod value_place;
 
 pub use bare::Bare;
-pub use bearing::{has, same};
+pub use bearing::has;
 pub use body::Body;
 pub use chain::Chain;
 pub use chars::Chars;

@@ -1,0 +1,2 @@
+pub mod OnePath
+pub mod OneTexts
