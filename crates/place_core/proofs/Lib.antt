@@ -2,3 +2,9 @@ pub mod Bytes
 pub mod Examples
 pub mod Readings
 pub mod Texts
+pub mod Semilattices
+pub mod JoinParts
+pub mod Joins
+pub mod JoinMembers
+pub mod JoinValid
+pub mod Equality
