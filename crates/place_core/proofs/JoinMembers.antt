@@ -203,7 +203,7 @@ have_left : (w c a b : Bool) → c ≡ (a || b) → (w || a) ≡ true → (w || 
 have_left true c a b e h = refl
 have_left false c a b e h = e ∙ ap (λ z. z || b) h
 
-or_true : (a : Bool) → (a || true) ≡ true
+pub or_true : (a : Bool) → (a || true) ≡ true
 or_true true = refl
 or_true false = refl
 

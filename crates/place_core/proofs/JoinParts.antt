@@ -184,7 +184,7 @@ elements_partial = of_test same_element element_test
 kinds_partial_test : IsPartial (if_same same_kind)
 kinds_partial_test = of_test same_kind kind_test
 
-tags_Start : (x y : _) → tag.Start x ≡ tag.Start y → x ≡ y
+pub tags_Start : (x y : _) → tag.Start x ≡ tag.Start y → x ≡ y
 tags_Start x y e = cc
 
 tags_same : (a : TagOf) → joined_tags a a ≡ Some a
@@ -432,10 +432,10 @@ quotes_partial = record { same = quotes_same; swapped = quotes_swapped; through 
 bodies_Url : (x y : _) → body.Url x ≡ body.Url y → x ≡ y
 bodies_Url x y e = cc
 
-bodies_Js : (x y : _) → body.Js x ≡ body.Js y → x ≡ y
+pub bodies_Js : (x y : _) → body.Js x ≡ body.Js y → x ≡ y
 bodies_Js x y e = cc
 
-bodies_Css : (x y : _) → body.Css x ≡ body.Css y → x ≡ y
+pub bodies_Css : (x y : _) → body.Css x ≡ body.Css y → x ≡ y
 bodies_Css x y e = cc
 
 bodies_same : (a : Body) → joined_bodies a a ≡ Some a

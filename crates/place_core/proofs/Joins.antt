@@ -11,25 +11,25 @@ use Rattle.place_core.proofs.JoinParts.{elements_partial, js_partial, css_partia
 places_Comment : (x y : _) → place.Comment x ≡ place.Comment y → x ≡ y
 places_Comment x y e = cc
 
-places_Rcdata : (x y : _) → place.Rcdata x ≡ place.Rcdata y → x ≡ y
+pub places_Rcdata : (x y : _) → place.Rcdata x ≡ place.Rcdata y → x ≡ y
 places_Rcdata x y e = cc
 
-places_Tag : (x y : _) → place.Tag x ≡ place.Tag y → x ≡ y
+pub places_Tag : (x y : _) → place.Tag x ≡ place.Tag y → x ≡ y
 places_Tag x y e = cc
 
-places_Value : (x y : _) → place.Value x ≡ place.Value y → x ≡ y
+pub places_Value : (x y : _) → place.Value x ≡ place.Value y → x ≡ y
 places_Value x y e = cc
 
-places_Script : (x y : _) → place.Script x ≡ place.Script y → x ≡ y
+pub places_Script : (x y : _) → place.Script x ≡ place.Script y → x ≡ y
 places_Script x y e = cc
 
-places_Style : (x y : _) → place.Style x ≡ place.Style y → x ≡ y
+pub places_Style : (x y : _) → place.Style x ≡ place.Style y → x ≡ y
 places_Style x y e = cc
 
 places_Block : (x y : _) → place.Block x ≡ place.Block y → x ≡ y
 places_Block x y e = cc
 
-places_same : (a : Place) → joined a a ≡ Some a
+pub places_same : (a : Place) → joined a a ≡ Some a
 places_same place.Text = refl
 places_same place.Doctype = refl
 places_same (place.Comment a) = ap (option_map place.Comment) ((of_union ◌||◌ or_union).same a)
@@ -40,7 +40,7 @@ places_same (place.Script a) = ap (option_map place.Script) ((js_partial).same a
 places_same (place.Style a) = ap (option_map place.Style) ((css_partial).same a)
 places_same (place.Block a) = ap (option_map place.Block) ((of_union ◌||◌ or_union).same a)
 
-places_swapped : (a b : Place) → joined a b ≡ joined b a
+pub places_swapped : (a b : Place) → joined a b ≡ joined b a
 places_swapped place.Text place.Text = refl
 places_swapped place.Doctype place.Doctype = refl
 places_swapped (place.Comment a) (place.Comment b) = ap (option_map place.Comment) ((of_union ◌||◌ or_union).swapped a b)

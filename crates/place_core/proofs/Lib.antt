@@ -8,3 +8,5 @@ pub mod Joins
 pub mod JoinMembers
 pub mod JoinValid
 pub mod Equality
+pub mod PlaceExamples
+pub mod TornPlaces

@@ -1,5 +1,5 @@
 ghost use Rattle.place_core.specs.JoinLaws.{BelowIsOrder, HasGrows, JoinHas, JoinIsAbove, JoinIsLeast, JoinKeepsValid};
-ghost use Rattle.place_core.specs.JoinLaws.{JoinSame, JoinSwapped};
+ghost use Rattle.place_core.specs.JoinLaws.{JoinSame, JoinSwapped, Torn};
 
 /// Two places that are below a third one join, and what they join to is below it. A law: the call does nothing.
 pub fn join_is_least()
@@ -40,4 +40,10 @@ pub fn join_has()
 /// What is above a place has its members. A law: the call does nothing.
 pub fn has_grows()
     ensures { HasGrows }
+{}
+
+/// Two places that do not join have two members that show it: no two places below them that have these members join. Where names
+/// of attributes of two kinds clash, these are the places in or after the names. A law: the call does nothing.
+pub fn torn()
+    ensures { Torn }
 {}
