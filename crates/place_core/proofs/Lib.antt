@@ -3,3 +3,11 @@ pub mod Examples
 pub mod NotPlain
 pub mod Readings
 pub mod Texts
+pub mod Semilattices
+pub mod JoinParts
+pub mod Joins
+pub mod JoinMembers
+pub mod JoinValid
+pub mod Equality
+pub mod PlaceExamples
+pub mod TornPlaces
