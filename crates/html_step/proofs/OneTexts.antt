@@ -115,7 +115,6 @@ place-there (suc n) (b ∷ bs) k s f e h =
     let l = not-late k n (front_error f (class_of b)) (stepped (k + 1) bs (front_next f (class_of b) b)) h in
     place-there n bs (k + 1) (next languages Template s (class_of b) b) (front_next f (class_of b) b) (a.steps l.0) (later k n (stepped (k + 1) bs (front_next f (class_of b) b)) l.1)
 
-
 -- the whole answer
 abbrev pub Whole : Result Place (StepErr Place) → List ℕ → State ValueState → Type 0
 Whole (Ok q) bytes s = (refusal_from 0 bytes s ≡ None) × (placed (node bytes s) ≡ Some q)

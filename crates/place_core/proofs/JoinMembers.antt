@@ -175,7 +175,7 @@ values_or : (x y : ValuePlace) (m : Member) → IfSome (joined_value_places x y)
     ≡ ((typed_has x.typed m || (quotes_have x.quotes m || body_has x.body m)) || (typed_has y.typed m || (quotes_have y.quotes m || body_has y.body m))))
 values_or x y m = rw (← six (typed_has x.typed m) (typed_has y.typed m) (quotes_have x.quotes m) (quotes_have y.quotes m) (body_has x.body m) (body_has y.body m), ← typed_or x.typed y.typed m)
     (value_place_has (x.typed || y.typed) (joined_tags x.tag y.tag) (joined_quotes x.quotes y.quotes) (joined_bodies x.body y.body) m
-      (quotes_have x.quotes m || quotes_have y.quotes m) (body_has x.body m || body_has y.body m) (quotes_or x.quotes y.quotes m) (bodies_or x.body y.body m))
+    (quotes_have x.quotes m || quotes_have y.quotes m) (body_has x.body m || body_has y.body m) (quotes_or x.quotes y.quotes m) (bodies_or x.body y.body m))
 
 none_has : (o : Option Element) (m : Member) → IfSome (option_map place.Rcdata o) (λ c. part_has c m ≡ false)
 none_has (Some e) m = refl
@@ -215,9 +215,11 @@ joined_or : (a b c : Place) (m : Member) → joined a b ≡ Some c → part_has 
 joined_or a b c m e = of_some (λ c. part_has c m ≡ (part_has a m || part_has b m)) (joined a b) c (places_or a b m) e
 
 pub the_join_has : JoinHas
-the_join_has a b c m e = (have_either (is_whole m) (part_has c m) (part_has a m) (part_has b m) (joined_or a b c m e),
-    have_left (is_whole m) (part_has c m) (part_has a m) (part_has b m) (joined_or a b c m e),
-    have_right (is_whole m) (part_has c m) (part_has a m) (part_has b m) (joined_or a b c m e))
+the_join_has a b c m e = (
+  have_either (is_whole m) (part_has c m) (part_has a m) (part_has b m) (joined_or a b c m e),
+  have_left (is_whole m) (part_has c m) (part_has a m) (part_has b m) (joined_or a b c m e),
+  have_right (is_whole m) (part_has c m) (part_has a m) (part_has b m) (joined_or a b c m e),
+)
 
 pub the_has_grows : HasGrows
 the_has_grows a b m e h = have_left (is_whole m) (part_has b m) (part_has a m) (part_has b m) (joined_or a b b m e) h

@@ -141,7 +141,7 @@ places_valid (place.Rcdata e) (place.Rcdata f) h k = element_valid e (same_eleme
 places_valid (place.Tag x) (place.Tag y) h k = for_map place.Tag IsValid (joined_tag_places x y) (tags_valid x y h k)
 places_valid (place.Value x) (place.Value y) h k = for_map place.Value IsValid (joined_value_places x y)
     (value_place_valid (x.typed || y.typed) (joined_tags x.tag y.tag) (joined_quotes x.quotes y.quotes) (joined_bodies x.body y.body)
-      (quotes_valid x.quotes y.quotes h.0 k.0) (bodies_valid x.body y.body h.1 k.1))
+    (quotes_valid x.quotes y.quotes h.0 k.0) (bodies_valid x.body y.body h.1 k.1))
 places_valid (place.Script i) (place.Script j) h k = for_map place.Script IsValid (joined_js i j) (js_valid i j h k)
 places_valid (place.Style i) (place.Style j) h k = for_map place.Style IsValid (joined_css i j) (css_valid i j h k)
 places_valid place.Text place.Text h k = tt

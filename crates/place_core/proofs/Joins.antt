@@ -107,8 +107,13 @@ places_least (place.Block d) (place.Block a) _ h k = absurd (none_some (place.Bl
 places_least d _ _ h k = absurd (none_some d h)
 
 pub places_partial : IsPartial joined
-places_partial = record { same = places_same; swapped = places_swapped; through = places_through; left = places_left;
-  least = λ a b d h k. places_least d a b h k }
+places_partial = record {
+  same = places_same;
+  swapped = places_swapped;
+  through = places_through;
+  left = places_left;
+  least = λ a b d h k. places_least d a b h k;
+}
 
 pub the_join_same : JoinSame
 the_join_same = places_same

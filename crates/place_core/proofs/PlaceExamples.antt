@@ -37,12 +37,16 @@ opening p = value quotes.Dq (body.Url (record { start = false; opened = Some p; 
 -- behind a slash with one meaning
 script : Bool → Bool → Place
 script re div = place.Script (js.Code (record { re = re; div = div; brace = false })
-  (record { word = false; num = false; lt = false; slash = false; plus = false; minus = false; hash = false }))
+    (record { word = false; num = false; lt = false; slash = false; plus = false; minus = false; hash = false }))
 
 -- in a tag of any other element
 spots : Bool → Bool → Bool → Option Kind → Place
-spots name inside after k = place.Tag (record { tag = tag.Start element.Other; typed = false; kind = k;
-  spots = record { name = name; before = false; inside = inside; after = after } })
+spots name inside after k = place.Tag (record {
+  tag = tag.Start element.Other;
+  typed = false;
+  kind = k;
+  spots = record { name = name; before = false; inside = inside; after = after };
+})
 
 -- `<b title={{if .x}}a{{end}}`: the value may have begun
 begun_or_not : joined (value (bare false true) body.Plain) (value (bare true false) body.Plain) ≡ Some (value (bare true true) body.Plain)

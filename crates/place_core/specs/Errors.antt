@@ -150,7 +150,6 @@ abbrev pub is_broken : CommentState → Bool
 is_broken Broken = true
 is_broken s = false
 
-
 abbrev pub byte_error : State ValueState → Class → Option Cause
 byte_error (Text r) c = None
 byte_error (TagOpen r) c = None
