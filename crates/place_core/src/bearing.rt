@@ -14,6 +14,13 @@ use crate::quotes::Quotes;
 use crate::senses::Senses;
 use crate::spots::Spots;
 
+/// Whether two places are the same.
+pub fn same(a: Place, b: Place) -> bool
+    ensures { IsTrue result ↔ (a ≡ b) }
+{
+    a == b
+}
+
 /// Whether a place has a member.
 pub fn has(place: Place, member: Member) -> bool
     ensures { IsTrue result ↔ Has place member }

@@ -31,7 +31,7 @@ mod tag_place;
 mod value_place;
 
 pub use bare::Bare;
-pub use bearing::has;
+pub use bearing::{has, same};
 pub use body::Body;
 pub use chain::Chain;
 pub use chars::Chars;
