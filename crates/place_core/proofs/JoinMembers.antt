@@ -1,10 +1,10 @@
 -- A join has the members of both places, and no others.
-use Rattle.std.proofs.Common.{◌≡◌, Bool, true, false, ◌||◌, ◌⊎◌, inl, inr, Option, Some, None, is_some, option_map, if◌then◌else◌, refl, sym, ap, ap₂, ◌∙◌}
+use Rattle.std.proofs.Common.{◌≡◌, Bool, true, false, ◌||◌, ◌⊎◌, inl, inr, Option, Some, None, is_some, option_map, refl, sym, ap, ap₂, ◌∙◌}
 use Rattle.std.specs.Prelude.{IfSome}
 use Rattle.place_core.specs.JoinLaws.{JoinHas, HasGrows}
-use Rattle.place_core.specs.Places.{both_spots, both_bare, both_senses, both_js_tails, both_css_tails, both_prefixes, both_parts, same_prefix}
+use Rattle.place_core.specs.Places.{both_spots, both_bare, both_senses, both_js_tails, both_css_tails, both_prefixes, both_parts}
 use Rattle.place_core.specs.Places.{joined, joined_elements, joined_tags, joined_kinds, joined_js, joined_css, joined_quotes, joined_bodies, tag_place, value_place, joined_tag_places, joined_value_places}
-use Rattle.place_core.specs.Places.{spots_have, bare_has, senses_have, js_tails_have, css_tails_have, parts_have, regexp_has, js_star_has, css_star_has, dash_has, block_has, typed_has, js_has, css_has, quotes_have, body_has, part_has, is_whole, Has}
+use Rattle.place_core.specs.Places.{spots_have, bare_has, senses_have, js_tails_have, css_tails_have, parts_have, regexp_has, js_star_has, css_star_has, dash_has, block_has, typed_has, js_has, css_has, quotes_have, body_has, part_has, is_whole}
 use Rattle.place_core.specs.declared.bare.Bare.{Bare}
 use Rattle.place_core.specs.declared.body.Body.{Body}
 use Rattle.place_core.specs.declared.body.Body.TheVariants as body
@@ -175,7 +175,7 @@ values_or : (x y : ValuePlace) (m : Member) → IfSome (joined_value_places x y)
     ≡ ((typed_has x.typed m || (quotes_have x.quotes m || body_has x.body m)) || (typed_has y.typed m || (quotes_have y.quotes m || body_has y.body m))))
 values_or x y m = rw (← six (typed_has x.typed m) (typed_has y.typed m) (quotes_have x.quotes m) (quotes_have y.quotes m) (body_has x.body m) (body_has y.body m), ← typed_or x.typed y.typed m)
     (value_place_has (x.typed || y.typed) (joined_tags x.tag y.tag) (joined_quotes x.quotes y.quotes) (joined_bodies x.body y.body) m
-      (quotes_have x.quotes m || quotes_have y.quotes m) (body_has x.body m || body_has y.body m) (quotes_or x.quotes y.quotes m) (bodies_or x.body y.body m))
+    (quotes_have x.quotes m || quotes_have y.quotes m) (body_has x.body m || body_has y.body m) (quotes_or x.quotes y.quotes m) (bodies_or x.body y.body m))
 
 none_has : (o : Option Element) (m : Member) → IfSome (option_map place.Rcdata o) (λ c. part_has c m ≡ false)
 none_has (Some e) m = refl
@@ -215,9 +215,11 @@ joined_or : (a b c : Place) (m : Member) → joined a b ≡ Some c → part_has 
 joined_or a b c m e = of_some (λ c. part_has c m ≡ (part_has a m || part_has b m)) (joined a b) c (places_or a b m) e
 
 pub the_join_has : JoinHas
-the_join_has a b c m e = (have_either (is_whole m) (part_has c m) (part_has a m) (part_has b m) (joined_or a b c m e),
-    have_left (is_whole m) (part_has c m) (part_has a m) (part_has b m) (joined_or a b c m e),
-    have_right (is_whole m) (part_has c m) (part_has a m) (part_has b m) (joined_or a b c m e))
+the_join_has a b c m e = (
+  have_either (is_whole m) (part_has c m) (part_has a m) (part_has b m) (joined_or a b c m e),
+  have_left (is_whole m) (part_has c m) (part_has a m) (part_has b m) (joined_or a b c m e),
+  have_right (is_whole m) (part_has c m) (part_has a m) (part_has b m) (joined_or a b c m e),
+)
 
 pub the_has_grows : HasGrows
 the_has_grows a b m e h = have_left (is_whole m) (part_has b m) (part_has a m) (part_has b m) (joined_or a b b m e) h

@@ -4,25 +4,20 @@ use Rattle.std.specs.Prelude.{IfSome}
 use Rattle.place_core.specs.Places.{both_spots, both_bare, both_senses, both_js_tails, both_css_tails, both_prefixes, both_parts, same_prefix, same_element, same_kind}
 use Rattle.place_core.specs.Places.{joined_elements, joined_tags, joined_kinds, joined_js, joined_css, joined_quotes, joined_bodies, tag_place, value_place, joined_tag_places, joined_value_places}
 use Rattle.place_core.proofs.Semilattices.{IsUnion, IsPartial, IsTest, none_some, one_value, row_through, row_left, row_least, of_union, both, both_unions, or_union, or_same, or_swapped, or_grouped, if_same, of_test, pairs, of_pairs, of_shape, both_some}
-use Rattle.place_core.specs.declared.bare.Bare.{Bare}
 use Rattle.place_core.specs.declared.body.Body.{Body}
 use Rattle.place_core.specs.declared.body.Body.TheVariants as body
 use Rattle.place_core.specs.declared.css.Css.{Css}
 use Rattle.place_core.specs.declared.css.Css.TheVariants as css
-use Rattle.place_core.specs.declared.css_tails.CssTails.{CssTails}
 use Rattle.place_core.specs.declared.element.Element.{Element}
 use Rattle.place_core.specs.declared.element.Element.TheVariants as element
 use Rattle.place_core.specs.declared.js.Js.{Js}
 use Rattle.place_core.specs.declared.js.Js.TheVariants as js
-use Rattle.place_core.specs.declared.js_tails.JsTails.{JsTails}
 use Rattle.place_core.specs.declared.kind.Kind.{Kind}
 use Rattle.place_core.specs.declared.kind.Kind.TheVariants as kind
-use Rattle.place_core.specs.declared.parts.Parts.{Parts}
 use Rattle.place_core.specs.declared.prefix.Prefix.{Prefix}
 use Rattle.place_core.specs.declared.prefix.Prefix.TheVariants as prefix
 use Rattle.place_core.specs.declared.quotes.Quotes.{Quotes}
 use Rattle.place_core.specs.declared.quotes.Quotes.TheVariants as quotes
-use Rattle.place_core.specs.declared.senses.Senses.{Senses}
 use Rattle.place_core.specs.declared.spots.Spots.{Spots}
 use Rattle.place_core.specs.declared.tag_of.TagOf.{TagOf}
 use Rattle.place_core.specs.declared.tag_of.TagOf.TheVariants as tag
@@ -35,31 +30,36 @@ pub spots_union : IsUnion both_spots
 spots_union = record {
   same = λ a. rw (or_same a.name, or_same a.before, or_same a.inside, or_same a.after) refl;
   swapped = λ a b. rw (or_swapped a.name b.name, or_swapped a.before b.before, or_swapped a.inside b.inside, or_swapped a.after b.after) refl;
-  grouped = λ a b c. rw (or_grouped a.name b.name c.name, or_grouped a.before b.before c.before, or_grouped a.inside b.inside c.inside, or_grouped a.after b.after c.after) refl }
+  grouped = λ a b c. rw (or_grouped a.name b.name c.name, or_grouped a.before b.before c.before, or_grouped a.inside b.inside c.inside, or_grouped a.after b.after c.after) refl;
+}
 
 pub bare_union : IsUnion both_bare
 bare_union = record {
   same = λ a. rw (or_same a.uq, or_same a.unbegun) refl;
   swapped = λ a b. rw (or_swapped a.uq b.uq, or_swapped a.unbegun b.unbegun) refl;
-  grouped = λ a b c. rw (or_grouped a.uq b.uq c.uq, or_grouped a.unbegun b.unbegun c.unbegun) refl }
+  grouped = λ a b c. rw (or_grouped a.uq b.uq c.uq, or_grouped a.unbegun b.unbegun c.unbegun) refl;
+}
 
 pub senses_union : IsUnion both_senses
 senses_union = record {
   same = λ a. rw (or_same a.re, or_same a.div, or_same a.brace) refl;
   swapped = λ a b. rw (or_swapped a.re b.re, or_swapped a.div b.div, or_swapped a.brace b.brace) refl;
-  grouped = λ a b c. rw (or_grouped a.re b.re c.re, or_grouped a.div b.div c.div, or_grouped a.brace b.brace c.brace) refl }
+  grouped = λ a b c. rw (or_grouped a.re b.re c.re, or_grouped a.div b.div c.div, or_grouped a.brace b.brace c.brace) refl;
+}
 
 pub js_tails_union : IsUnion both_js_tails
 js_tails_union = record {
   same = λ a. rw (or_same a.word, or_same a.num, or_same a.lt, or_same a.slash, or_same a.plus, or_same a.minus, or_same a.hash) refl;
   swapped = λ a b. rw (or_swapped a.word b.word, or_swapped a.num b.num, or_swapped a.lt b.lt, or_swapped a.slash b.slash, or_swapped a.plus b.plus, or_swapped a.minus b.minus, or_swapped a.hash b.hash) refl;
-  grouped = λ a b c. rw (or_grouped a.word b.word c.word, or_grouped a.num b.num c.num, or_grouped a.lt b.lt c.lt, or_grouped a.slash b.slash c.slash, or_grouped a.plus b.plus c.plus, or_grouped a.minus b.minus c.minus, or_grouped a.hash b.hash c.hash) refl }
+  grouped = λ a b c. rw (or_grouped a.word b.word c.word, or_grouped a.num b.num c.num, or_grouped a.lt b.lt c.lt, or_grouped a.slash b.slash c.slash, or_grouped a.plus b.plus c.plus, or_grouped a.minus b.minus c.minus, or_grouped a.hash b.hash c.hash) refl;
+}
 
 pub css_tails_union : IsUnion both_css_tails
 css_tails_union = record {
   same = λ a. rw (or_same a.word, or_same a.slash, or_same a.lt) refl;
   swapped = λ a b. rw (or_swapped a.word b.word, or_swapped a.slash b.slash, or_swapped a.lt b.lt) refl;
-  grouped = λ a b c. rw (or_grouped a.word b.word c.word, or_grouped a.slash b.slash c.slash, or_grouped a.lt b.lt c.lt) refl }
+  grouped = λ a b c. rw (or_grouped a.word b.word c.word, or_grouped a.slash b.slash c.slash, or_grouped a.lt b.lt c.lt) refl;
+}
 
 -- tests
 no : false ≡ true → ⊥
@@ -175,7 +175,8 @@ pub parts_union : IsUnion both_parts
 parts_union = record {
   same = λ a. rw (or_same a.start, or_same a.openhole, or_same a.prequery, or_same a.query, or_same a.bad, prefixes_same a.opened) refl;
   swapped = λ a b. rw (or_swapped a.start b.start, or_swapped a.openhole b.openhole, or_swapped a.prequery b.prequery, or_swapped a.query b.query, or_swapped a.bad b.bad, prefixes_swapped a.opened b.opened) refl;
-  grouped = λ a b c. rw (or_grouped a.start b.start c.start, or_grouped a.openhole b.openhole c.openhole, or_grouped a.prequery b.prequery c.prequery, or_grouped a.query b.query c.query, or_grouped a.bad b.bad c.bad, prefixes_grouped a.opened b.opened c.opened) refl }
+  grouped = λ a b c. rw (or_grouped a.start b.start c.start, or_grouped a.openhole b.openhole c.openhole, or_grouped a.prequery b.prequery c.prequery, or_grouped a.query b.query c.query, or_grouped a.bad b.bad c.bad, prefixes_grouped a.opened b.opened c.opened) refl;
+}
 
 -- elements and tags
 pub elements_partial : IsPartial joined_elements
@@ -216,8 +217,13 @@ tags_least (tag.Start d) (tag.Start a) _ h k = absurd (none_some (tag.Start d) k
 tags_least d _ _ h k = absurd (none_some d h)
 
 pub tags_partial : IsPartial joined_tags
-tags_partial = record { same = tags_same; swapped = tags_swapped; through = tags_through; left = tags_left;
-  least = λ a b d h k. tags_least d a b h k }
+tags_partial = record {
+  same = tags_same;
+  swapped = tags_swapped;
+  through = tags_through;
+  left = tags_left;
+  least = λ a b d h k. tags_least d a b h k;
+}
 
 js_Code : (x y : _ × _) → js.Code x.0 x.1 ≡ js.Code y.0 y.1 → x ≡ y
 js_Code x y e = (let f : x.0 ≡ y.0 = cc in let g : x.1 ≡ y.1 = cc in ap₂ (λ s t. (s, t)) f g)
@@ -288,8 +294,13 @@ js_least (js.Block d d1) (js.Block a a1) _ h k = absurd (none_some (js.Block d d
 js_least d _ _ h k = absurd (none_some d h)
 
 pub js_partial : IsPartial joined_js
-js_partial = record { same = js_same; swapped = js_swapped; through = js_through; left = js_left;
-  least = λ a b d h k. js_least d a b h k }
+js_partial = record {
+  same = js_same;
+  swapped = js_swapped;
+  through = js_through;
+  left = js_left;
+  least = λ a b d h k. js_least d a b h k;
+}
 
 css_Code : (x y : _) → css.Code x ≡ css.Code y → x ≡ y
 css_Code x y e = cc
@@ -384,8 +395,13 @@ css_least (css.Comment d) (css.Comment a) _ h k = absurd (none_some (css.Comment
 css_least d _ _ h k = absurd (none_some d h)
 
 pub css_partial : IsPartial joined_css
-css_partial = record { same = css_same; swapped = css_swapped; through = css_through; left = css_left;
-  least = λ a b d h k. css_least d a b h k }
+css_partial = record {
+  same = css_same;
+  swapped = css_swapped;
+  through = css_through;
+  left = css_left;
+  least = λ a b d h k. css_least d a b h k;
+}
 
 quotes_Bare : (x y : _) → quotes.Bare x ≡ quotes.Bare y → x ≡ y
 quotes_Bare x y e = cc
@@ -426,8 +442,13 @@ quotes_least (quotes.Bare d) (quotes.Bare a) _ h k = absurd (none_some (quotes.B
 quotes_least d _ _ h k = absurd (none_some d h)
 
 pub quotes_partial : IsPartial joined_quotes
-quotes_partial = record { same = quotes_same; swapped = quotes_swapped; through = quotes_through; left = quotes_left;
-  least = λ a b d h k. quotes_least d a b h k }
+quotes_partial = record {
+  same = quotes_same;
+  swapped = quotes_swapped;
+  through = quotes_through;
+  left = quotes_left;
+  least = λ a b d h k. quotes_least d a b h k;
+}
 
 bodies_Url : (x y : _) → body.Url x ≡ body.Url y → x ≡ y
 bodies_Url x y e = cc
@@ -488,8 +509,13 @@ bodies_least (body.Css d) (body.Css a) _ h k = absurd (none_some (body.Css d) k)
 bodies_least d _ _ h k = absurd (none_some d h)
 
 pub bodies_partial : IsPartial joined_bodies
-bodies_partial = record { same = bodies_same; swapped = bodies_swapped; through = bodies_through; left = bodies_left;
-  least = λ a b d h k. bodies_least d a b h k }
+bodies_partial = record {
+  same = bodies_same;
+  swapped = bodies_swapped;
+  through = bodies_through;
+  left = bodies_left;
+  least = λ a b d h k. bodies_least d a b h k;
+}
 
 -- kinds: one joins none
 some_kind : (x y : Kind) → Some x ≡ Some y → x ≡ y
@@ -522,16 +548,16 @@ kinds_left : (a b : Option Kind) → IfSome (joined_kinds a b) (λ c. joined_kin
 kinds_left None b = refl
 kinds_left (Some a) None = kinds_same (Some a)
 kinds_left (Some a) (Some b) = subst (λ o. IfSome o (λ c. joined_kinds (Some a) c ≡ Some c)) (sym (kinds_map a b))
-  (row_left Some (if_same same_kind) kinds_partial_test joined_kinds a b (kinds_map a))
+    (row_left Some (if_same same_kind) kinds_partial_test joined_kinds a b (kinds_map a))
 
 kinds_least : (a b d : Option Kind) → joined_kinds a d ≡ Some d → joined_kinds b d ≡ Some d → (c : Option Kind) × (joined_kinds a b ≡ Some c) × (joined_kinds c d ≡ Some d)
 kinds_least None b d h k = (b, refl, k)
 kinds_least (Some a) None d h k = (Some a, refl, h)
 kinds_least (Some a) (Some b) None h k = absurd (let e : Some a ≡ None = one_value (Some a) None h in cc)
 kinds_least (Some a) (Some b) (Some d) h k =
-  (let it : (c : Option Kind) × (option_map Some (if_same same_kind a b) ≡ Some c) × (joined_kinds c (Some d) ≡ Some (Some d)) =
+    (let it : (c : Option Kind) × (option_map Some (if_same same_kind a b) ≡ Some c) × (joined_kinds c (Some d) ≡ Some (Some d)) =
     row_least Some some_kind (if_same same_kind) kinds_partial_test joined_kinds kinds_map a b d (sym (kinds_map a d) ∙ h) (sym (kinds_map b d) ∙ k)
-  in (it.0, kinds_map a b ∙ it.1, it.2))
+    in (it.0, kinds_map a b ∙ it.1, it.2))
 
 pub kinds_partial : IsPartial joined_kinds
 kinds_partial = record { same = kinds_same; swapped = kinds_swapped; through = kinds_through; left = kinds_left; least = kinds_least }
@@ -558,9 +584,9 @@ tag_made typed s None k = refl
 pub tag_places_partial : IsPartial joined_tag_places
 unfolding made_tag tag_parts
 tag_places_partial = of_shape made_tag tag_parts (λ b. refl) (λ a. refl)
-  (pairs (pairs (λ (a b : Bool). Some (a || b)) (λ (a b : Spots). Some (both_spots a b))) (pairs joined_tags joined_kinds)) joined_tag_places
-  (λ x y. tag_made (x.typed || y.typed) (both_spots x.spots y.spots) (joined_tags x.tag y.tag) (joined_kinds x.kind y.kind))
-  (of_pairs (pairs (λ (a b : Bool). Some (a || b)) (λ (a b : Spots). Some (both_spots a b))) (pairs joined_tags joined_kinds)
+    (pairs (pairs (λ (a b : Bool). Some (a || b)) (λ (a b : Spots). Some (both_spots a b))) (pairs joined_tags joined_kinds)) joined_tag_places
+    (λ x y. tag_made (x.typed || y.typed) (both_spots x.spots y.spots) (joined_tags x.tag y.tag) (joined_kinds x.kind y.kind))
+    (of_pairs (pairs (λ (a b : Bool). Some (a || b)) (λ (a b : Spots). Some (both_spots a b))) (pairs joined_tags joined_kinds)
     (of_pairs (λ (a b : Bool). Some (a || b)) (λ (a b : Spots). Some (both_spots a b)) flags_partial spots_partial)
     (of_pairs joined_tags joined_kinds tags_partial kinds_partial))
 
@@ -580,8 +606,8 @@ value_made typed None q b = refl
 pub value_places_partial : IsPartial joined_value_places
 unfolding made_value value_parts
 value_places_partial = of_shape made_value value_parts (λ b. refl) (λ a. refl)
-  (pairs (pairs (λ (a b : Bool). Some (a || b)) joined_tags) (pairs joined_quotes joined_bodies)) joined_value_places
-  (λ x y. value_made (x.typed || y.typed) (joined_tags x.tag y.tag) (joined_quotes x.quotes y.quotes) (joined_bodies x.body y.body))
-  (of_pairs (pairs (λ (a b : Bool). Some (a || b)) joined_tags) (pairs joined_quotes joined_bodies)
+    (pairs (pairs (λ (a b : Bool). Some (a || b)) joined_tags) (pairs joined_quotes joined_bodies)) joined_value_places
+    (λ x y. value_made (x.typed || y.typed) (joined_tags x.tag y.tag) (joined_quotes x.quotes y.quotes) (joined_bodies x.body y.body))
+    (of_pairs (pairs (λ (a b : Bool). Some (a || b)) joined_tags) (pairs joined_quotes joined_bodies)
     (of_pairs (λ (a b : Bool). Some (a || b)) joined_tags flags_partial tags_partial)
     (of_pairs joined_quotes joined_bodies quotes_partial bodies_partial))

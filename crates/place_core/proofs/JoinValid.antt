@@ -1,9 +1,9 @@
 -- The join of places that paths can come to is one too.
-use Rattle.std.proofs.Common.{◌≡◌, ◌≤◌, Bool, true, false, ◌||◌, Option, Some, None, is_some, option_map, if◌then◌else◌, refl, sym, ap, ap₂, ◌∙◌, subst}
+use Rattle.std.proofs.Common.{◌≡◌, Bool, true, false, ◌||◌, Option, Some, None, is_some, option_map, if◌then◌else◌, refl, ap, ap₂, ◌∙◌}
 use Rattle.std.specs.Prelude.{IfSome}
 use Rattle.place_core.specs.JoinLaws.{JoinKeepsValid}
 use Rattle.place_core.specs.Places.{both_spots, both_bare, both_senses, both_prefixes, both_parts, same_prefix, same_kind, same_element}
-use Rattle.place_core.specs.Places.{joined, joined_elements, joined_tags, joined_kinds, joined_js, joined_css, joined_quotes, joined_bodies, tag_place, value_place, joined_tag_places, joined_value_places}
+use Rattle.place_core.specs.Places.{joined, joined_tags, joined_kinds, joined_js, joined_css, joined_quotes, joined_bodies, tag_place, value_place, joined_tag_places, joined_value_places}
 use Rattle.place_core.specs.Places.{some_spot, some_bare, some_sense, some_part, is_rcdata, IsValid, IsValidPrefix, IsValidParts, IsValidJs, IsValidCss, IsValidQuotes, IsValidBody, IsValidTag}
 use Rattle.place_core.specs.declared.bare.Bare.{Bare}
 use Rattle.place_core.specs.declared.body.Body.{Body}
@@ -25,9 +25,8 @@ use Rattle.place_core.specs.declared.senses.Senses.{Senses}
 use Rattle.place_core.specs.declared.spots.Spots.{Spots}
 use Rattle.place_core.specs.declared.tag_of.TagOf.{TagOf}
 use Rattle.place_core.specs.declared.tag_place.TagPlace.{TagPlace}
-use Rattle.place_core.specs.declared.value_place.ValuePlace.{ValuePlace}
 use Rattle.place_core.proofs.JoinMembers.{four, prefixes_or}
-use Rattle.place_core.proofs.Semilattices.{for_map, of_some, none_some}
+use Rattle.place_core.proofs.Semilattices.{for_map, of_some}
 
 -- sets that have a member
 spots_some : (s t : Spots) → some_spot (both_spots s t) ≡ (some_spot s || some_spot t)
@@ -141,7 +140,7 @@ places_valid (place.Rcdata e) (place.Rcdata f) h k = element_valid e (same_eleme
 places_valid (place.Tag x) (place.Tag y) h k = for_map place.Tag IsValid (joined_tag_places x y) (tags_valid x y h k)
 places_valid (place.Value x) (place.Value y) h k = for_map place.Value IsValid (joined_value_places x y)
     (value_place_valid (x.typed || y.typed) (joined_tags x.tag y.tag) (joined_quotes x.quotes y.quotes) (joined_bodies x.body y.body)
-      (quotes_valid x.quotes y.quotes h.0 k.0) (bodies_valid x.body y.body h.1 k.1))
+    (quotes_valid x.quotes y.quotes h.0 k.0) (bodies_valid x.body y.body h.1 k.1))
 places_valid (place.Script i) (place.Script j) h k = for_map place.Script IsValid (joined_js i j) (js_valid i j h k)
 places_valid (place.Style i) (place.Style j) h k = for_map place.Style IsValid (joined_css i j) (css_valid i j h k)
 places_valid place.Text place.Text h k = tt

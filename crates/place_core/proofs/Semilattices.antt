@@ -1,5 +1,5 @@
 -- Joins by parts: what holds of the joins of the parts holds of the join of the whole.
-use Rattle.std.proofs.Common.{◌≡◌, ℕ, Bool, true, false, ◌||◌, ◌==◌, Option, Some, None, option_map, if◌then◌else◌, refl, sym, ap, ap₂, ◌∙◌, subst, eqb→eq}
+use Rattle.std.proofs.Common.{◌≡◌, Bool, true, false, ◌||◌, Option, Some, None, option_map, if◌then◌else◌, refl, sym, ap, ap₂, ◌∙◌, subst}
 use Rattle.std.specs.Prelude.{IfSome}
 
 -- a join of sets, which always is
@@ -76,7 +76,8 @@ of_union f u = record {
   swapped = λ a b. ap Some (u.swapped a b);
   through = λ a b c h k. ap Some (union_through f u a b c (one_value (f a b) b h) (one_value (f b c) c k));
   left = λ a b. ap Some (union_above f u a b);
-  least = λ a b d h k. (f a b, refl, ap Some (u.grouped a b d ∙ ap (f a) (one_value (f b d) d k) ∙ one_value (f a d) d h)) }
+  least = λ a b d h k. (f a b, refl, ap Some (u.grouped a b d ∙ ap (f a) (one_value (f b d) d k) ∙ one_value (f a d) d h));
+}
 
 abbrev pub both : {A B : Type 0} (f : A → A → A) (g : B → B → B) → (A × B) → (A × B) → (A × B)
 both f g p q = (f p.0 q.0, g p.1 q.1)
@@ -85,7 +86,8 @@ pub both_unions : {A B : Type 0} (f : A → A → A) (g : B → B → B) → IsU
 both_unions f g u v = record {
   same = λ a. ap₂ (λ x y. (x, y)) (u.same a.0) (v.same a.1);
   swapped = λ a b. ap₂ (λ x y. (x, y)) (u.swapped a.0 b.0) (v.swapped a.1 b.1);
-  grouped = λ a b c. ap₂ (λ x y. (x, y)) (u.grouped a.0 b.0 c.0) (v.grouped a.1 b.1 c.1) }
+  grouped = λ a b c. ap₂ (λ x y. (x, y)) (u.grouped a.0 b.0 c.0) (v.grouped a.1 b.1 c.1);
+}
 
 -- truth values
 pub or_same : (a : Bool) → (a || a) ≡ a
@@ -140,7 +142,8 @@ of_test test t = record {
   swapped = λ a b. test_swapped test t a b (test a b) (test b a) refl refl;
   through = λ a b c h k. ap (λ x. if_same test x c) (if_gives test t a b b h) ∙ k;
   left = λ a b. test_left test t a b (test a b);
-  least = λ a b d h k. (d, ap (if_same test a) (if_gives test t b d d k) ∙ h, same_if test t d) }
+  least = λ a b d h k. (d, ap (if_same test a) (if_gives test t b d d k) ∙ h, same_if test t d);
+}
 
 -- two parts, each of which has to join
 abbrev pub both_some : {A B : Type 0} → Option A → Option B → Option (A × B)
@@ -177,7 +180,8 @@ of_pairs i j p q = record {
   least = λ a b d h k.
       let it : (c : _) × (i a.0 b.0 ≡ Some c) × (i c d.0 ≡ Some d.0) = p.least a.0 b.0 d.0 (first_of (i a.0 d.0) (j a.1 d.1) d h) (first_of (i b.0 d.0) (j b.1 d.1) d k) in
       let at : (c : _) × (j a.1 b.1 ≡ Some c) × (j c d.1 ≡ Some d.1) = q.least a.1 b.1 d.1 (second_of (i a.0 d.0) (j a.1 d.1) d h) (second_of (i b.0 d.0) (j b.1 d.1) d k) in
-      ((it.0, at.0), ap₂ both_some it.1 at.1, ap₂ both_some it.2 at.2) }
+      ((it.0, at.0), ap₂ both_some it.1 at.1, ap₂ both_some it.2 at.2);
+}
 
 -- the same under another shape
 pub shape_back : {A B : Type 0} (K : A → B) (parts : B → A) (f : (a : A) → parts (K a) ≡ a) (o : Option A) (c : B) → option_map K o ≡ Some c → o ≡ Some (parts c)
@@ -200,5 +204,6 @@ of_shape K parts e f j i g p = record {
   left = λ a b. subst (λ o. IfSome o (λ c. i a c ≡ Some c)) (sym (g a b)) (shape_left K parts f j i g a (j (parts a) (parts b)) (p.left (parts a) (parts b)));
   least = λ a b d h k.
       let it : (c : _) × (j (parts a) (parts b) ≡ Some c) × (j c (parts d) ≡ Some (parts d)) = p.least (parts a) (parts b) (parts d)
-          (shape_back K parts f (j (parts a) (parts d)) d (sym (g a d) ∙ h)) (shape_back K parts f (j (parts b) (parts d)) d (sym (g b d) ∙ k)) in
-      (K it.0, g a b ∙ ap (option_map K) it.1, g (K it.0) d ∙ ap (λ x. option_map K (j x (parts d))) (f it.0) ∙ ap (option_map K) it.2 ∙ ap Some (e d)) }
+      (shape_back K parts f (j (parts a) (parts d)) d (sym (g a d) ∙ h)) (shape_back K parts f (j (parts b) (parts d)) d (sym (g b d) ∙ k)) in
+      (K it.0, g a b ∙ ap (option_map K) it.1, g (K it.0) d ∙ ap (λ x. option_map K (j x (parts d))) (f it.0) ∙ ap (option_map K) it.2 ∙ ap Some (e d));
+}

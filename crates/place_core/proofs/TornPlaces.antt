@@ -1,9 +1,9 @@
 -- Two places that do not join have two members that show it.
-use Rattle.std.proofs.Common.{◌≡◌, Bool, true, false, ◌||◌, Option, Some, None, is_some, option_map, if◌then◌else◌, refl, sym, ap, ap₂, ◌∙◌, subst}
+use Rattle.std.proofs.Common.{◌≡◌, Bool, true, false, ◌||◌, Option, Some, None, is_some, option_map, if◌then◌else◌, refl, sym, ap, ap₂, ◌∙◌}
 use Rattle.std.specs.Prelude.{IfSome}
 use Rattle.place_core.specs.JoinLaws.{Torn}
 use Rattle.place_core.specs.Places.{joined, joined_elements, joined_tags, joined_kinds, joined_js, joined_css, joined_quotes, joined_bodies, tag_place, value_place, joined_tag_places, joined_value_places, same_kind, same_element}
-use Rattle.place_core.specs.Places.{both_spots, both_bare, both_senses, both_js_tails, both_css_tails, both_parts, spots_have, Has, IsValid, IsValidTag, Below}
+use Rattle.place_core.specs.Places.{both_spots, both_bare, both_senses, both_js_tails, both_css_tails, both_parts, Has, IsValid, IsValidTag, Below}
 use Rattle.place_core.specs.declared.bare.Bare.{Bare}
 use Rattle.place_core.specs.declared.body.Body.{Body}
 use Rattle.place_core.specs.declared.body.Body.TheVariants as body
@@ -11,7 +11,6 @@ use Rattle.place_core.specs.declared.css.Css.{Css}
 use Rattle.place_core.specs.declared.css.Css.TheVariants as css
 use Rattle.place_core.specs.declared.css_tails.CssTails.{CssTails}
 use Rattle.place_core.specs.declared.element.Element.{Element}
-use Rattle.place_core.specs.declared.element.Element.TheVariants as element
 use Rattle.place_core.specs.declared.js.Js.{Js}
 use Rattle.place_core.specs.declared.js.Js.TheVariants as js
 use Rattle.place_core.specs.declared.js_tails.JsTails.{JsTails}
@@ -30,7 +29,7 @@ use Rattle.place_core.specs.declared.tag_of.TagOf.TheVariants as tag
 use Rattle.place_core.specs.declared.tag_place.TagPlace.{TagPlace}
 use Rattle.place_core.specs.declared.value_place.ValuePlace.{ValuePlace}
 use Rattle.place_core.proofs.Semilattices.{none_some, one_value, of_some, for_map, no_map, more_of, row_value}
-use Rattle.place_core.proofs.JoinParts.{elements_partial, tags_partial, js_partial, css_partial, quotes_partial, bodies_partial, kinds_partial, bodies_Js, bodies_Css, tags_Start}
+use Rattle.place_core.proofs.JoinParts.{elements_partial, tags_partial, js_partial, css_partial, quotes_partial, bodies_partial, bodies_Js, bodies_Css}
 use Rattle.place_core.proofs.JoinMembers.{or_true}
 use Rattle.place_core.proofs.Joins.{places_same, places_swapped, places_Rcdata, places_Tag, places_Value, places_Script, places_Style}
 
@@ -174,11 +173,11 @@ shape_up (place.Rcdata e) (place.Rcdata f) = for_map place.Rcdata (λ c. shape c
     (more_of (λ g. g ≡ e) (λ g. place.Rcdata g ≡ place.Rcdata e) (joined_elements e f) (λ g h. ap place.Rcdata h) (elements_up e f))
 shape_up (place.Tag x) (place.Tag y) = for_map place.Tag (λ c. shape c ≡ place.Tag (tag_shape x)) (joined_tag_places x y)
     (more_of (λ z. tag_shape z ≡ tag_shape x) (λ z. place.Tag (tag_shape z) ≡ place.Tag (tag_shape x)) (joined_tag_places x y) (λ z h. ap place.Tag h)
-      (tag_place_up (x.typed || y.typed) (both_spots x.spots y.spots) (joined_tags x.tag y.tag) (joined_kinds x.kind y.kind) x.tag (tags_up x.tag y.tag)))
+    (tag_place_up (x.typed || y.typed) (both_spots x.spots y.spots) (joined_tags x.tag y.tag) (joined_kinds x.kind y.kind) x.tag (tags_up x.tag y.tag)))
 shape_up (place.Value x) (place.Value y) = for_map place.Value (λ c. shape c ≡ place.Value (value_shape x)) (joined_value_places x y)
     (more_of (λ z. value_shape z ≡ value_shape x) (λ z. place.Value (value_shape z) ≡ place.Value (value_shape x)) (joined_value_places x y) (λ z h. ap place.Value h)
-      (value_place_up (x.typed || y.typed) (joined_tags x.tag y.tag) (joined_quotes x.quotes y.quotes) (joined_bodies x.body y.body)
-        x.tag (quotes_shape x.quotes) (body_shape x.body) (tags_up x.tag y.tag) (quotes_up x.quotes y.quotes) (bodies_up x.body y.body)))
+    (value_place_up (x.typed || y.typed) (joined_tags x.tag y.tag) (joined_quotes x.quotes y.quotes) (joined_bodies x.body y.body)
+    x.tag (quotes_shape x.quotes) (body_shape x.body) (tags_up x.tag y.tag) (quotes_up x.quotes y.quotes) (bodies_up x.body y.body)))
 shape_up (place.Script i) (place.Script j) = for_map place.Script (λ c. shape c ≡ place.Script (js_shape i)) (joined_js i j)
     (more_of (λ k. js_shape k ≡ js_shape i) (λ k. place.Script (js_shape k) ≡ place.Script (js_shape i)) (joined_js i j) (λ k h. ap place.Script h) (js_up i j))
 shape_up (place.Style i) (place.Style j) = for_map place.Style (λ c. shape c ≡ place.Style (css_shape i)) (joined_css i j)
@@ -299,9 +298,13 @@ kind_part typed s None k x e = absurd (none_some x e)
 
 tag_below : (c : Place) (x : TagPlace) (i : Bool) → IsValid c → Below c (place.Tag x) → Has c (spot i) → is_some x.kind ≡ true
     → (z : TagPlace) × (c ≡ place.Tag z) × (z.kind ≡ x.kind)
-tag_below (place.Tag z) x i v h m s = (z, refl, one_kind z.kind x.kind (kind_of_tag z v i m) s
-    (kind_part (z.typed || x.typed) (both_spots z.spots x.spots) (joined_tags z.tag x.tag) (joined_kinds z.kind x.kind) x
-      (row_value place.Tag places_Tag (joined_tag_places z x) x h)))
+tag_below (place.Tag z) x i v h m s = (
+  z,
+  refl,
+  one_kind z.kind x.kind (kind_of_tag z v i m) s
+      (kind_part (z.typed || x.typed) (both_spots z.spots x.spots) (joined_tags z.tag x.tag) (joined_kinds z.kind x.kind) x
+      (row_value place.Tag places_Tag (joined_tag_places z x) x h)),
+)
 tag_below _ x i v h m s = absurd (none_some (place.Tag x) h)
 
 two_kinds : (k l : Option Kind) → joined_kinds k l ≡ None → (is_some k ≡ true) × (is_some l ≡ true)
@@ -324,10 +327,16 @@ clash_below x y z u c d h e f g i = ap₂ joined e g ∙ ap (option_map place.Ta
     (no_kind (z.typed || u.typed) (both_spots z.spots u.spots) (joined_tags z.tag u.tag) (joined_kinds z.kind u.kind) (ap₂ joined_kinds f i ∙ h))
 
 clash_torn : (x y : TagPlace) (i j : Bool) → joined_kinds x.kind y.kind ≡ None → Has (place.Tag x) (spot i) → Has (place.Tag y) (spot j) → IsTorn (place.Tag x) (place.Tag y)
-clash_torn x y i j h m n = (spot i, spot j, m, n, λ c d v k o w l p.
-    let it : (z : TagPlace) × (c ≡ place.Tag z) × (z.kind ≡ x.kind) = tag_below c x i v k o (two_kinds x.kind y.kind h).0 in
-    let at : (z : TagPlace) × (d ≡ place.Tag z) × (z.kind ≡ y.kind) = tag_below d y j w l p (two_kinds x.kind y.kind h).1 in
-    clash_below x y it.0 at.0 c d h it.1 it.2 at.1 at.2)
+clash_torn x y i j h m n = (
+  spot i,
+  spot j,
+  m,
+  n,
+  λ c d v k o w l p.
+      let it : (z : TagPlace) × (c ≡ place.Tag z) × (z.kind ≡ x.kind) = tag_below c x i v k o (two_kinds x.kind y.kind h).0 in
+      let at : (z : TagPlace) × (d ≡ place.Tag z) × (z.kind ≡ y.kind) = tag_below d y j w l p (two_kinds x.kind y.kind h).1 in
+      clash_below x y it.0 at.0 c d h it.1 it.2 at.1 at.2,
+)
 
 kinds_torn : (x y : TagPlace) → IsValidTag x → IsValidTag y → joined_kinds x.kind y.kind ≡ None → IsTorn (place.Tag x) (place.Tag y)
 kinds_torn x y v w h =

@@ -1,5 +1,5 @@
 -- Places: when two of them join, which one is below which, what members a place has, and which places paths can come to.
-use Rattle.std.specs.Prelude.{ℕ, Bool, true, false, ◌≡◌, ◌≤◌, ◌||◌, ◌==◌, Option, Some, None, option_map, is_some, if◌then◌else◌, ⊤}
+use Rattle.std.specs.Prelude.{Bool, true, false, ◌≡◌, ◌≤◌, ◌||◌, ◌==◌, Option, Some, None, option_map, is_some, if◌then◌else◌, ⊤}
 use Rattle.place_core.specs.declared.bare.Bare.{Bare}
 use Rattle.place_core.specs.declared.body.Body.{Body}
 use Rattle.place_core.specs.declared.body.Body.TheVariants as body
@@ -31,7 +31,12 @@ use Rattle.place_core.specs.declared.value_place.ValuePlace.{ValuePlace}
 
 -- Sets are united.
 abbrev pub both_spots : Spots → Spots → Spots
-both_spots s t = record { name = s.name || t.name; before = s.before || t.before; inside = s.inside || t.inside; after = s.after || t.after }
+both_spots s t = record {
+  name = s.name || t.name;
+  before = s.before || t.before;
+  inside = s.inside || t.inside;
+  after = s.after || t.after;
+}
 
 abbrev pub both_bare : Bare → Bare → Bare
 both_bare s t = record { uq = s.uq || t.uq; unbegun = s.unbegun || t.unbegun }
@@ -40,8 +45,15 @@ abbrev pub both_senses : Senses → Senses → Senses
 both_senses s t = record { re = s.re || t.re; div = s.div || t.div; brace = s.brace || t.brace }
 
 abbrev pub both_js_tails : JsTails → JsTails → JsTails
-both_js_tails s t = record { word = s.word || t.word; num = s.num || t.num; lt = s.lt || t.lt; slash = s.slash || t.slash;
-  plus = s.plus || t.plus; minus = s.minus || t.minus; hash = s.hash || t.hash }
+both_js_tails s t = record {
+  word = s.word || t.word;
+  num = s.num || t.num;
+  lt = s.lt || t.lt;
+  slash = s.slash || t.slash;
+  plus = s.plus || t.plus;
+  minus = s.minus || t.minus;
+  hash = s.hash || t.hash;
+}
 
 abbrev pub both_css_tails : CssTails → CssTails → CssTails
 both_css_tails s t = record { word = s.word || t.word; slash = s.slash || t.slash; lt = s.lt || t.lt }
@@ -61,8 +73,14 @@ both_prefixes (Some p) None = Some p
 both_prefixes (Some p) (Some q) = Some (if same_prefix p q then p else prefix.Differs)
 
 abbrev pub both_parts : Parts → Parts → Parts
-both_parts s t = record { start = s.start || t.start; opened = both_prefixes s.opened t.opened; openhole = s.openhole || t.openhole;
-  prequery = s.prequery || t.prequery; query = s.query || t.query; bad = s.bad || t.bad }
+both_parts s t = record {
+  start = s.start || t.start;
+  opened = both_prefixes s.opened t.opened;
+  openhole = s.openhole || t.openhole;
+  prequery = s.prequery || t.prequery;
+  query = s.query || t.query;
+  bad = s.bad || t.bad;
+}
 
 -- Elements, tags and kinds join where they are the same; a kind joins none.
 abbrev pub same_element : Element → Element → Bool
@@ -146,7 +164,7 @@ value_place typed _ _ _ = None
 
 abbrev pub joined_value_places : ValuePlace → ValuePlace → Option ValuePlace
 joined_value_places x y = value_place (x.typed || y.typed) (joined_tags x.tag y.tag) (joined_quotes x.quotes y.quotes)
-  (joined_bodies x.body y.body)
+    (joined_bodies x.body y.body)
 
 -- the place that stands for what two places stand for, where there is one
 abbrev pub joined : Place → Place → Option Place

@@ -1,3 +1,6 @@
+ghost use Rattle.std.specs.Prelude.{◌≡◌, ◌↔◌, ◌||◌, IsTrue};
+ghost use Rattle.place_core.specs.Places.{bare_has, body_has, css_has, css_tails_have, is_whole as is_the_whole, js_has, js_tails_have, part_has, parts_have, quotes_have, senses_have, spots_have, Has};
+
 use crate::bare::Bare;
 use crate::body::Body;
 use crate::css::Css;
@@ -10,9 +13,6 @@ use crate::place::Place;
 use crate::quotes::Quotes;
 use crate::senses::Senses;
 use crate::spots::Spots;
-
-ghost use Rattle.std.specs.Prelude.{◌≡◌, ◌↔◌, ◌||◌, IsTrue};
-ghost use Rattle.place_core.specs.Places.{bare_has, body_has, css_has, css_tails_have, is_whole as is_the_whole, js_has, js_tails_have, part_has, parts_have, quotes_have, senses_have, spots_have, Has};
 
 /// Whether two places are the same.
 pub fn same(a: Place, b: Place) -> bool

@@ -1,3 +1,11 @@
+ghost use Rattle.std.specs.Prelude.{◌≡◌};
+ghost use Rattle.place_core.specs.Places.{both_spots as united_spots, both_bare as united_bare, both_senses as united_senses};
+ghost use Rattle.place_core.specs.Places.{both_js_tails as united_js_tails, both_css_tails as united_css_tails};
+ghost use Rattle.place_core.specs.Places.{same_prefix as equal_prefix, both_prefixes as united_prefixes};
+ghost use Rattle.place_core.specs.Places.{both_parts as united_parts, same_element as equal_element, same_kind as equal_kind};
+ghost use Rattle.place_core.specs.Places.{joined, joined_bodies, joined_css, joined_elements, joined_js, joined_kinds};
+ghost use Rattle.place_core.specs.Places.{joined_quotes, joined_tag_places, joined_tags, joined_value_places};
+
 use crate::bare::Bare;
 use crate::body::Body;
 use crate::css::Css;
@@ -15,14 +23,6 @@ use crate::spots::Spots;
 use crate::tag_of::TagOf;
 use crate::tag_place::TagPlace;
 use crate::value_place::ValuePlace;
-
-ghost use Rattle.std.specs.Prelude.{◌≡◌};
-ghost use Rattle.place_core.specs.Places.{both_spots as united_spots, both_bare as united_bare, both_senses as united_senses};
-ghost use Rattle.place_core.specs.Places.{both_js_tails as united_js_tails, both_css_tails as united_css_tails};
-ghost use Rattle.place_core.specs.Places.{same_prefix as equal_prefix, both_prefixes as united_prefixes};
-ghost use Rattle.place_core.specs.Places.{both_parts as united_parts, same_element as equal_element, same_kind as equal_kind};
-ghost use Rattle.place_core.specs.Places.{joined, joined_bodies, joined_css, joined_elements, joined_js, joined_kinds};
-ghost use Rattle.place_core.specs.Places.{joined_quotes, joined_tag_places, joined_tags, joined_value_places};
 
 /// The place that stands for what two places stand for, where there is one. Two places join where they are the same but for what
 /// is one of several: sets are united, a truth value is true where one of both is, a kind joins none, and two different
@@ -74,13 +74,20 @@ fn both_spots(s: Spots, t: Spots) -> Spots
 fn both_bare(s: Bare, t: Bare) -> Bare
     ensures { result ≡ united_bare s t }
 {
-    Bare { uq: s.uq || t.uq, unbegun: s.unbegun || t.unbegun }
+    Bare {
+        uq: s.uq || t.uq,
+        unbegun: s.unbegun || t.unbegun,
+    }
 }
 
 fn both_senses(s: Senses, t: Senses) -> Senses
     ensures { result ≡ united_senses s t }
 {
-    Senses { re: s.re || t.re, div: s.div || t.div, brace: s.brace || t.brace }
+    Senses {
+        re: s.re || t.re,
+        div: s.div || t.div,
+        brace: s.brace || t.brace,
+    }
 }
 
 fn both_js_tails(s: JsTails, t: JsTails) -> JsTails
@@ -100,7 +107,11 @@ fn both_js_tails(s: JsTails, t: JsTails) -> JsTails
 fn both_css_tails(s: CssTails, t: CssTails) -> CssTails
     ensures { result ≡ united_css_tails s t }
 {
-    CssTails { word: s.word || t.word, slash: s.slash || t.slash, lt: s.lt || t.lt }
+    CssTails {
+        word: s.word || t.word,
+        slash: s.slash || t.slash,
+        lt: s.lt || t.lt,
+    }
 }
 
 fn same_prefix(p: Prefix, q: Prefix) -> bool
@@ -122,7 +133,11 @@ fn both_prefixes(p: Option<Prefix>, q: Option<Prefix>) -> Option<Prefix>
     match (p, q) {
         (None, _) => q,
         (Some(_), None) => p,
-        (Some(one), Some(other)) => if same_prefix(one, other) { Some(one) } else { Some(Prefix::Differs) },
+        (Some(one), Some(other)) => if same_prefix(one, other) {
+            Some(one)
+        } else {
+            Some(Prefix::Differs)
+        },
     }
 }
 
@@ -173,10 +188,10 @@ fn join_elements(e: Element, f: Element) -> Option<Element>
     if same_element(e, f) { Some(e) } else { None }
 }
 
-fn join_tags(a: TagOf, b: TagOf) -> Option<TagOf>
-    ensures { result ≡ joined_tags a b }
+fn join_tags(t: TagOf, u: TagOf) -> Option<TagOf>
+    ensures { result ≡ joined_tags t u }
 {
-    match (a, b) {
+    match (t, u) {
         (TagOf::End, TagOf::End) => Some(TagOf::End),
         (TagOf::Start(e), TagOf::Start(f)) => match join_elements(e, f) {
             Some(element) => Some(TagOf::Start(element)),
@@ -192,7 +207,11 @@ fn join_kinds(k: Option<Kind>, l: Option<Kind>) -> Option<Option<Kind>>
     match (k, l) {
         (None, _) => Some(l),
         (Some(_), None) => Some(k),
-        (Some(one), Some(other)) => if same_kind(one, other) { Some(Some(one)) } else { None },
+        (Some(one), Some(other)) => if same_kind(one, other) {
+            Some(Some(one))
+        } else {
+            None
+        },
     }
 }
 
@@ -227,10 +246,10 @@ fn join_css(c: Css, d: Css) -> Option<Css>
     }
 }
 
-fn join_quotes(a: Quotes, b: Quotes) -> Option<Quotes>
-    ensures { result ≡ joined_quotes a b }
+fn join_quotes(q: Quotes, r: Quotes) -> Option<Quotes>
+    ensures { result ≡ joined_quotes q r }
 {
-    match (a, b) {
+    match (q, r) {
         (Quotes::Dq, Quotes::Dq) => Some(Quotes::Dq),
         (Quotes::Sq, Quotes::Sq) => Some(Quotes::Sq),
         (Quotes::Bare(s), Quotes::Bare(t)) => Some(Quotes::Bare(both_bare(s, t))),
@@ -238,10 +257,10 @@ fn join_quotes(a: Quotes, b: Quotes) -> Option<Quotes>
     }
 }
 
-fn join_bodies(a: Body, b: Body) -> Option<Body>
-    ensures { result ≡ joined_bodies a b }
+fn join_bodies(one: Body, other: Body) -> Option<Body>
+    ensures { result ≡ joined_bodies one other }
 {
-    match (a, b) {
+    match (one, other) {
         (Body::Plain, Body::Plain) => Some(Body::Plain),
         (Body::NoHole, Body::NoHole) => Some(Body::NoHole),
         (Body::Url(s), Body::Url(t)) => Some(Body::Url(both_parts(s, t))),
@@ -274,7 +293,11 @@ fn join_tag_places(x: TagPlace, y: TagPlace) -> Option<TagPlace>
 fn join_value_places(x: ValuePlace, y: ValuePlace) -> Option<ValuePlace>
     ensures { result ≡ joined_value_places x y }
 {
-    match (join_tags(x.tag, y.tag), join_quotes(x.quotes, y.quotes), join_bodies(x.body, y.body)) {
+    match (
+        join_tags(x.tag, y.tag),
+        join_quotes(x.quotes, y.quotes),
+        join_bodies(x.body, y.body),
+    ) {
         (Some(tag), Some(quotes), Some(body)) => Some(ValuePlace {
             tag,
             typed: x.typed || y.typed,

@@ -43,7 +43,10 @@ pub use joining::join;
 pub use js::Js;
 pub use js_tails::JsTails;
 pub use kind::Kind;
-pub use laws::{below_is_order, has_grows, join_has, join_is_above, join_is_least, join_keeps_valid, join_same, join_swapped, torn};
+pub use laws::{
+    below_is_order, has_grows, join_has, join_is_above, join_is_least, join_keeps_valid, join_same,
+    join_swapped, torn,
+};
 pub use member::Member;
 pub use parts::Parts;
 pub use place::{Place, TEXT};
