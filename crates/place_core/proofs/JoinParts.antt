@@ -4,25 +4,20 @@ use Rattle.std.specs.Prelude.{IfSome}
 use Rattle.place_core.specs.Places.{both_spots, both_bare, both_senses, both_js_tails, both_css_tails, both_prefixes, both_parts, same_prefix, same_element, same_kind}
 use Rattle.place_core.specs.Places.{joined_elements, joined_tags, joined_kinds, joined_js, joined_css, joined_quotes, joined_bodies, tag_place, value_place, joined_tag_places, joined_value_places}
 use Rattle.place_core.proofs.Semilattices.{IsUnion, IsPartial, IsTest, none_some, one_value, row_through, row_left, row_least, of_union, both, both_unions, or_union, or_same, or_swapped, or_grouped, if_same, of_test, pairs, of_pairs, of_shape, both_some}
-use Rattle.place_core.specs.declared.bare.Bare.{Bare}
 use Rattle.place_core.specs.declared.body.Body.{Body}
 use Rattle.place_core.specs.declared.body.Body.TheVariants as body
 use Rattle.place_core.specs.declared.css.Css.{Css}
 use Rattle.place_core.specs.declared.css.Css.TheVariants as css
-use Rattle.place_core.specs.declared.css_tails.CssTails.{CssTails}
 use Rattle.place_core.specs.declared.element.Element.{Element}
 use Rattle.place_core.specs.declared.element.Element.TheVariants as element
 use Rattle.place_core.specs.declared.js.Js.{Js}
 use Rattle.place_core.specs.declared.js.Js.TheVariants as js
-use Rattle.place_core.specs.declared.js_tails.JsTails.{JsTails}
 use Rattle.place_core.specs.declared.kind.Kind.{Kind}
 use Rattle.place_core.specs.declared.kind.Kind.TheVariants as kind
-use Rattle.place_core.specs.declared.parts.Parts.{Parts}
 use Rattle.place_core.specs.declared.prefix.Prefix.{Prefix}
 use Rattle.place_core.specs.declared.prefix.Prefix.TheVariants as prefix
 use Rattle.place_core.specs.declared.quotes.Quotes.{Quotes}
 use Rattle.place_core.specs.declared.quotes.Quotes.TheVariants as quotes
-use Rattle.place_core.specs.declared.senses.Senses.{Senses}
 use Rattle.place_core.specs.declared.spots.Spots.{Spots}
 use Rattle.place_core.specs.declared.tag_of.TagOf.{TagOf}
 use Rattle.place_core.specs.declared.tag_of.TagOf.TheVariants as tag

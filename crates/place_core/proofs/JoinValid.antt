@@ -1,9 +1,9 @@
 -- The join of places that paths can come to is one too.
-use Rattle.std.proofs.Common.{◌≡◌, ◌≤◌, Bool, true, false, ◌||◌, Option, Some, None, is_some, option_map, if◌then◌else◌, refl, sym, ap, ap₂, ◌∙◌, subst}
+use Rattle.std.proofs.Common.{◌≡◌, Bool, true, false, ◌||◌, Option, Some, None, is_some, option_map, if◌then◌else◌, refl, ap, ap₂, ◌∙◌}
 use Rattle.std.specs.Prelude.{IfSome}
 use Rattle.place_core.specs.JoinLaws.{JoinKeepsValid}
 use Rattle.place_core.specs.Places.{both_spots, both_bare, both_senses, both_prefixes, both_parts, same_prefix, same_kind, same_element}
-use Rattle.place_core.specs.Places.{joined, joined_elements, joined_tags, joined_kinds, joined_js, joined_css, joined_quotes, joined_bodies, tag_place, value_place, joined_tag_places, joined_value_places}
+use Rattle.place_core.specs.Places.{joined, joined_tags, joined_kinds, joined_js, joined_css, joined_quotes, joined_bodies, tag_place, value_place, joined_tag_places, joined_value_places}
 use Rattle.place_core.specs.Places.{some_spot, some_bare, some_sense, some_part, is_rcdata, IsValid, IsValidPrefix, IsValidParts, IsValidJs, IsValidCss, IsValidQuotes, IsValidBody, IsValidTag}
 use Rattle.place_core.specs.declared.bare.Bare.{Bare}
 use Rattle.place_core.specs.declared.body.Body.{Body}
@@ -25,9 +25,8 @@ use Rattle.place_core.specs.declared.senses.Senses.{Senses}
 use Rattle.place_core.specs.declared.spots.Spots.{Spots}
 use Rattle.place_core.specs.declared.tag_of.TagOf.{TagOf}
 use Rattle.place_core.specs.declared.tag_place.TagPlace.{TagPlace}
-use Rattle.place_core.specs.declared.value_place.ValuePlace.{ValuePlace}
 use Rattle.place_core.proofs.JoinMembers.{four, prefixes_or}
-use Rattle.place_core.proofs.Semilattices.{for_map, of_some, none_some}
+use Rattle.place_core.proofs.Semilattices.{for_map, of_some}
 
 -- sets that have a member
 spots_some : (s t : Spots) → some_spot (both_spots s t) ≡ (some_spot s || some_spot t)

@@ -1,26 +1,19 @@
 -- Worked examples of joining, by computing.
 use Rattle.std.proofs.Common.{◌≡◌, Bool, true, false, Option, Some, None, refl}
 use Rattle.place_core.specs.Places.{joined}
-use Rattle.place_core.specs.declared.bare.Bare.{Bare}
 use Rattle.place_core.specs.declared.body.Body.{Body}
 use Rattle.place_core.specs.declared.body.Body.TheVariants as body
 use Rattle.place_core.specs.declared.element.Element.TheVariants as element
 use Rattle.place_core.specs.declared.js.Js.TheVariants as js
-use Rattle.place_core.specs.declared.js_tails.JsTails.{JsTails}
 use Rattle.place_core.specs.declared.kind.Kind.{Kind}
 use Rattle.place_core.specs.declared.kind.Kind.TheVariants as kind
-use Rattle.place_core.specs.declared.parts.Parts.{Parts}
 use Rattle.place_core.specs.declared.place.Place.{Place}
 use Rattle.place_core.specs.declared.place.Place.TheVariants as place
 use Rattle.place_core.specs.declared.prefix.Prefix.{Prefix}
 use Rattle.place_core.specs.declared.prefix.Prefix.TheVariants as prefix
 use Rattle.place_core.specs.declared.quotes.Quotes.{Quotes}
 use Rattle.place_core.specs.declared.quotes.Quotes.TheVariants as quotes
-use Rattle.place_core.specs.declared.senses.Senses.{Senses}
-use Rattle.place_core.specs.declared.spots.Spots.{Spots}
 use Rattle.place_core.specs.declared.tag_of.TagOf.TheVariants as tag
-use Rattle.place_core.specs.declared.tag_place.TagPlace.{TagPlace}
-use Rattle.place_core.specs.declared.value_place.ValuePlace.{ValuePlace}
 
 -- a value of any other element
 value : Quotes → Body → Place

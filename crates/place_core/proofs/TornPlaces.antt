@@ -1,9 +1,9 @@
 -- Two places that do not join have two members that show it.
-use Rattle.std.proofs.Common.{◌≡◌, Bool, true, false, ◌||◌, Option, Some, None, is_some, option_map, if◌then◌else◌, refl, sym, ap, ap₂, ◌∙◌, subst}
+use Rattle.std.proofs.Common.{◌≡◌, Bool, true, false, ◌||◌, Option, Some, None, is_some, option_map, if◌then◌else◌, refl, sym, ap, ap₂, ◌∙◌}
 use Rattle.std.specs.Prelude.{IfSome}
 use Rattle.place_core.specs.JoinLaws.{Torn}
 use Rattle.place_core.specs.Places.{joined, joined_elements, joined_tags, joined_kinds, joined_js, joined_css, joined_quotes, joined_bodies, tag_place, value_place, joined_tag_places, joined_value_places, same_kind, same_element}
-use Rattle.place_core.specs.Places.{both_spots, both_bare, both_senses, both_js_tails, both_css_tails, both_parts, spots_have, Has, IsValid, IsValidTag, Below}
+use Rattle.place_core.specs.Places.{both_spots, both_bare, both_senses, both_js_tails, both_css_tails, both_parts, Has, IsValid, IsValidTag, Below}
 use Rattle.place_core.specs.declared.bare.Bare.{Bare}
 use Rattle.place_core.specs.declared.body.Body.{Body}
 use Rattle.place_core.specs.declared.body.Body.TheVariants as body
@@ -11,7 +11,6 @@ use Rattle.place_core.specs.declared.css.Css.{Css}
 use Rattle.place_core.specs.declared.css.Css.TheVariants as css
 use Rattle.place_core.specs.declared.css_tails.CssTails.{CssTails}
 use Rattle.place_core.specs.declared.element.Element.{Element}
-use Rattle.place_core.specs.declared.element.Element.TheVariants as element
 use Rattle.place_core.specs.declared.js.Js.{Js}
 use Rattle.place_core.specs.declared.js.Js.TheVariants as js
 use Rattle.place_core.specs.declared.js_tails.JsTails.{JsTails}
@@ -30,7 +29,7 @@ use Rattle.place_core.specs.declared.tag_of.TagOf.TheVariants as tag
 use Rattle.place_core.specs.declared.tag_place.TagPlace.{TagPlace}
 use Rattle.place_core.specs.declared.value_place.ValuePlace.{ValuePlace}
 use Rattle.place_core.proofs.Semilattices.{none_some, one_value, of_some, for_map, no_map, more_of, row_value}
-use Rattle.place_core.proofs.JoinParts.{elements_partial, tags_partial, js_partial, css_partial, quotes_partial, bodies_partial, kinds_partial, bodies_Js, bodies_Css, tags_Start}
+use Rattle.place_core.proofs.JoinParts.{elements_partial, tags_partial, js_partial, css_partial, quotes_partial, bodies_partial, bodies_Js, bodies_Css}
 use Rattle.place_core.proofs.JoinMembers.{or_true}
 use Rattle.place_core.proofs.Joins.{places_same, places_swapped, places_Rcdata, places_Tag, places_Value, places_Script, places_Style}
 

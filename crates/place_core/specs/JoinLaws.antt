@@ -1,10 +1,10 @@
 -- The laws of joining places.
-use Rattle.std.specs.Prelude.{◌≡◌, ◌⊎◌, Option, Some, None}
+use Rattle.std.specs.Prelude.{◌≡◌, ◌⊎◌, Some, None}
 use Rattle.place_core.specs.declared.member.Member.{Member}
 use Rattle.place_core.specs.declared.place.Place.{Place}
 use Rattle.place_core.specs.Places.{Below, Has, IsValid, joined}
 
--- two places that are below one join, and their join is the least place above them
+-- two places that are below a third one join, and their join is the least place above them
 abbrev pub JoinIsLeast : Type 0
 JoinIsLeast = (a b d : Place) → Below a d → Below b d → (c : Place) × (joined a b ≡ Some c) × Below c d
 
@@ -19,7 +19,8 @@ abbrev pub JoinSwapped : Type 0
 JoinSwapped = (a b : Place) → joined a b ≡ joined b a
 
 abbrev pub BelowIsOrder : Type 0
-BelowIsOrder = ((a : Place) → Below a a) × ((a b c : Place) → Below a b → Below b c → Below a c) × ((a b : Place) → Below a b → Below b a → a ≡ b)
+BelowIsOrder = ((a : Place) → Below a a) × ((a b c : Place) → Below a b → Below b c → Below a c)
+    × ((a b : Place) → Below a b → Below b a → a ≡ b)
 
 abbrev pub JoinKeepsValid : Type 0
 JoinKeepsValid = (a b c : Place) → IsValid a → IsValid b → joined a b ≡ Some c → IsValid c

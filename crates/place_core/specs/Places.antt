@@ -1,5 +1,5 @@
 -- Places: when two of them join, which one is below which, what members a place has, and which places paths can come to.
-use Rattle.std.specs.Prelude.{ℕ, Bool, true, false, ◌≡◌, ◌≤◌, ◌||◌, ◌==◌, Option, Some, None, option_map, is_some, if◌then◌else◌, ⊤}
+use Rattle.std.specs.Prelude.{Bool, true, false, ◌≡◌, ◌≤◌, ◌||◌, ◌==◌, Option, Some, None, option_map, is_some, if◌then◌else◌, ⊤}
 use Rattle.place_core.specs.declared.bare.Bare.{Bare}
 use Rattle.place_core.specs.declared.body.Body.{Body}
 use Rattle.place_core.specs.declared.body.Body.TheVariants as body
@@ -31,7 +31,12 @@ use Rattle.place_core.specs.declared.value_place.ValuePlace.{ValuePlace}
 
 -- Sets are united.
 abbrev pub both_spots : Spots → Spots → Spots
-both_spots s t = record { name = s.name || t.name; before = s.before || t.before; inside = s.inside || t.inside; after = s.after || t.after }
+both_spots s t = record {
+  name = s.name || t.name;
+  before = s.before || t.before;
+  inside = s.inside || t.inside;
+  after = s.after || t.after;
+}
 
 abbrev pub both_bare : Bare → Bare → Bare
 both_bare s t = record { uq = s.uq || t.uq; unbegun = s.unbegun || t.unbegun }

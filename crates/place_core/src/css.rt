@@ -20,6 +20,6 @@ pub enum Css {
     UrlSq(Parts),
     /// Behind a URL and before its `)`, as behind `url("/a" `.
     UrlEnd,
-    /// In a comment, as behind `/* a`; true where the last character may be `*`.
+    /// In a comment, as behind `/* a`; true where a piece of text may have ended in `*`.
     Comment(bool),
 }

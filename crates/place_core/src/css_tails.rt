@@ -1,4 +1,4 @@
-/// What a style ends in that the next character may go on with: a set, which may be empty.
+/// What a piece of style ended in that the next one may go on with: a set, which may be empty.
 #[derive(Clone, Copy, Debug, Drop, PartialEq, Eq)]
 pub struct CssTails {
     /// A word, as `color`.

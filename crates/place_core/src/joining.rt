@@ -188,10 +188,10 @@ fn join_elements(e: Element, f: Element) -> Option<Element>
     if same_element(e, f) { Some(e) } else { None }
 }
 
-fn join_tags(a: TagOf, b: TagOf) -> Option<TagOf>
-    ensures { result ≡ joined_tags a b }
+fn join_tags(t: TagOf, u: TagOf) -> Option<TagOf>
+    ensures { result ≡ joined_tags t u }
 {
-    match (a, b) {
+    match (t, u) {
         (TagOf::End, TagOf::End) => Some(TagOf::End),
         (TagOf::Start(e), TagOf::Start(f)) => match join_elements(e, f) {
             Some(element) => Some(TagOf::Start(element)),
@@ -246,10 +246,10 @@ fn join_css(c: Css, d: Css) -> Option<Css>
     }
 }
 
-fn join_quotes(a: Quotes, b: Quotes) -> Option<Quotes>
-    ensures { result ≡ joined_quotes a b }
+fn join_quotes(q: Quotes, r: Quotes) -> Option<Quotes>
+    ensures { result ≡ joined_quotes q r }
 {
-    match (a, b) {
+    match (q, r) {
         (Quotes::Dq, Quotes::Dq) => Some(Quotes::Dq),
         (Quotes::Sq, Quotes::Sq) => Some(Quotes::Sq),
         (Quotes::Bare(s), Quotes::Bare(t)) => Some(Quotes::Bare(both_bare(s, t))),
@@ -257,10 +257,10 @@ fn join_quotes(a: Quotes, b: Quotes) -> Option<Quotes>
     }
 }
 
-fn join_bodies(a: Body, b: Body) -> Option<Body>
-    ensures { result ≡ joined_bodies a b }
+fn join_bodies(one: Body, other: Body) -> Option<Body>
+    ensures { result ≡ joined_bodies one other }
 {
-    match (a, b) {
+    match (one, other) {
         (Body::Plain, Body::Plain) => Some(Body::Plain),
         (Body::NoHole, Body::NoHole) => Some(Body::NoHole),
         (Body::Url(s), Body::Url(t)) => Some(Body::Url(both_parts(s, t))),

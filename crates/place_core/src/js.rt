@@ -10,10 +10,11 @@ pub enum Js {
     Dq,
     /// In a string with single quotes, as behind `x = '`.
     Sq,
-    /// In a regular expression, as behind `x = /a`; true where its last character may be `/`, which a value of data must not follow.
+    /// In a regular expression, as behind `x = /a`; true where a piece of text may have ended in the slash that begins it, as `x = /`.
     Regexp(bool),
     /// In a comment to the end of the line, as behind `// a`; with what a slash would be behind it.
     Line(Senses),
-    /// In a comment of any length, as behind `/* a`, with what a slash would be behind it; true where the last character may be `*`.
+    /// In a comment of any length, as behind `/* a`, with what a slash would be behind it; true where a piece of text
+    /// may have ended in `*`.
     Block(Senses, bool),
 }

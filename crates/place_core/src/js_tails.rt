@@ -1,4 +1,4 @@
-/// What a script ends in that the next character may go on with: a set, which may be empty.
+/// What a piece of script ended in that the next one may go on with: a set, which may be empty.
 #[derive(Clone, Copy, Debug, Drop, PartialEq, Eq)]
 pub struct JsTails {
     /// A word, as `var`.

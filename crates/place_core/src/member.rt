@@ -6,9 +6,9 @@ pub enum Member {
     Whole,
     /// An attribute `type` was in the tag.
     Typed,
-    /// The last character of a comment is `-`.
+    /// A piece of text ended in `-` or `--!`, in a comment.
     CommentDash,
-    /// The last character of a block of data is `<`.
+    /// A piece of text ended in `<`, in a script element with a type that is no script's.
     BlockLt,
     /// In the tag's name.
     NameSpot,
@@ -38,32 +38,32 @@ pub enum Member {
     SenseRe,
     /// A slash would be a division.
     SenseDiv,
-    /// A slash would be one of both.
+    /// A slash would be one or the other, which cannot be told.
     SenseBrace,
-    /// A script's code ends in a word.
+    /// A piece of script ended in a word.
     JsWord,
-    /// A script's code ends in a number.
+    /// A piece of script ended in a number.
     JsNum,
-    /// A script's code ends in `<`.
+    /// A piece of script ended in `<`.
     JsLt,
-    /// A script's code ends in `/`.
+    /// A piece of script ended in `/`, a division.
     JsSlash,
-    /// A script's code ends in `+`.
+    /// A piece of script ended in `+`.
     JsPlus,
-    /// A script's code ends in `-`.
+    /// A piece of script ended in `-`.
     JsMinus,
-    /// A script's code ends in `#`.
+    /// A piece of script ended in `#`.
     JsHash,
-    /// A regular expression ends in `/`.
+    /// A piece of script ended in the slash that begins a regular expression.
     RegexpSlash,
-    /// A script's comment ends in `*`.
+    /// A piece of script ended in `*`, in a comment.
     JsStar,
-    /// A style ends in a word.
+    /// A piece of style ended in a word.
     CssWord,
-    /// A style ends in `/`.
+    /// A piece of style ended in `/`.
     CssSlash,
-    /// A style ends in `<`.
+    /// A piece of style ended in `<`.
     CssLt,
-    /// A style's comment ends in `*`.
+    /// A piece of style ended in `*`, in a comment.
     CssStar,
 }

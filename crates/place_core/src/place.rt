@@ -12,7 +12,7 @@ pub enum Place {
     Text,
     /// In a document type, as behind `<!DOCTYPE `.
     Doctype,
-    /// In a comment, as behind `<!-- a`; true where the last character may be `-`.
+    /// In a comment, as behind `<!-- a`; true where a piece of text may have ended in `-` or `--!`, as `<!-- a -`.
     Comment(bool),
     /// In text without tags, as behind `<title>` or `<textarea>`.
     Rcdata(Element),
@@ -24,8 +24,8 @@ pub enum Place {
     Script(Js),
     /// In the content of a style element, as behind `<style>`.
     Style(Css),
-    /// In the content of a script element that has no script's type, as behind `<script type="text/plain">`; true where the last
-    /// character may be `<`.
+    /// In the content of a script element that has no script's type, as behind `<script type="text/plain">`; true where a
+    /// piece of text may have ended in `<`.
     Block(bool),
 }
 

@@ -1,5 +1,4 @@
-/// What is done to a value of data before it is written. (The sanitizers of Samuel, Saxena and Song, and the escapers of Go's
-/// `html/template`.)
+/// What is done to a value of data before it is written. (The escapers of Go's `html/template`.)
 #[derive(Clone, Copy, Debug, Drop, PartialEq, Eq)]
 pub enum San {
     /// Written as text.

@@ -5,6 +5,6 @@ pub struct Senses {
     pub re: bool,
     /// A division, as behind `x`.
     pub div: bool,
-    /// One of both, which cannot be told, as behind `}`.
+    /// One or the other, which cannot be told, as behind `}`.
     pub brace: bool,
 }

@@ -1,4 +1,3 @@
-use Rattle.std.proofs.Common.{rules, ◌≡◌, ◌↔◌, IsTrue}
 use Rattle.place_core.proofs.Equality.{the_same}
 use Rattle.place_core.proofs.bearing.same.Goals as goal
 
