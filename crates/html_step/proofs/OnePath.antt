@@ -104,14 +104,14 @@ same-element EndTag = refl
 same-element (StartTag e typed) = refl
 
 -- what is refused is no step
-some : {A : Type 0} (x : A) → Some x ≡ None → ⊥
+pub some : {A : Type 0} (x : A) → Some x ≡ None → ⊥
 some x e = cc
 
-none-at-hand : (o : Option Code) → at_hand o ≡ None → o ≡ None
+pub none-at-hand : (o : Option Code) → at_hand o ≡ None → o ≡ None
 none-at-hand None e = refl
 none-at-hand (Some e) h = absurd (some _ h)
 
-none-unless : (second : Bool) (len : ℕ) (o : Option Code) → unless_second second len o ≡ None → o ≡ None
+pub none-unless : (second : Bool) (len : ℕ) (o : Option Code) → unless_second second len o ≡ None → o ≡ None
 none-unless true len o h = absurd (some _ h)
 none-unless false len o h = none-at-hand o h
 

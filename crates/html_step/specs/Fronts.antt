@@ -116,9 +116,12 @@ with_quotes v q = At (place.Value (record { tag = v.tag; typed = v.typed; quotes
 abbrev pub begun : Quotes
 begun = quotes.Bare (record { uq = true; unbegun = false })
 
+abbrev pub bare_white : ValuePlace → Bool → Front
+bare_white v true = in_tag v.tag v.typed only_before None
+bare_white v false = with_quotes v unbegun
+
 abbrev pub bare_next : ValuePlace → Bool → Class → Front
-bare_next v true White = in_tag v.tag v.typed only_before None
-bare_next v false White = with_quotes v unbegun
+bare_next v uq White = bare_white v uq
 bare_next v uq QuotationMark = with_quotes v quotes.Dq
 bare_next v uq Apostrophe = with_quotes v quotes.Sq
 bare_next v uq GreaterThan = content_front v.tag
