@@ -126,7 +126,7 @@ some-none false false i a h e f = h
 rest-of : (name before : Bool) (o : Option Kind) (k : Kind) → equals_error name before o ≡ None → name ≡ false → before ≡ false → o ≡ Some k → kind_error k ≡ None
 rest-of name before o k n e f g = sym (rw (e, f, g) refl) ∙ n
 
-has-kind : (x y : TagPlace) → IsValidTag x → TagBelow x y → equals_error y.spots.name y.spots.before y.kind ≡ None → HasKind x y
+pub has-kind : (x y : TagPlace) → IsValidTag x → TagBelow x y → equals_error y.spots.name y.spots.before y.kind ≡ None → HasKind x y
 has-kind x y v h n =
     let e = equals-none y.spots.name y.spots.before y.kind n in
     let name : x.spots.name ≡ false = under-false x.spots.name (subst (Under x.spots.name) e.0 h.name) in
@@ -158,7 +158,7 @@ tag-grows x y _ b v h n =
 
 -- Values.
 
-built-same : (b c : Body) → body_error c ≡ None → joined_bodies b c ≡ Some c → b ≡ c
+pub built-same : (b c : Body) → body_error c ≡ None → joined_bodies b c ≡ Some c → b ≡ c
 built-same body.Plain body.Plain n h = refl
 built-same body.NoHole body.NoHole n h = refl
 built-same body.NoHole body.Plain n h = absurd (none_some body.Plain h)
@@ -173,7 +173,7 @@ built-same b (body.Url p) n h = absurd (some _ n)
 built-same b (body.Js p) n h = absurd (some _ n)
 built-same b (body.Css p) n h = absurd (some _ n)
 
-bare-white : (su sb ru rb : Bool) → (su || sb) ≡ true → Under su ru → Under sb rb → (ru && rb) ≡ false → (su ≡ ru) × (sb ≡ rb)
+pub bare-white : (su sb ru rb : Bool) → (su || sb) ≡ true → Under su ru → Under sb rb → (ru && rb) ≡ false → (su ≡ ru) × (sb ≡ rb)
 bare-white true true true true s u b n = (refl, refl)
 bare-white true true true false s u b n = absurd (no (sym b))
 bare-white true true false rb s u b n = absurd (no (sym u))
@@ -188,7 +188,7 @@ bare-white false false ru rb s u b n = absurd (no s)
 bare-one : (s r : Bare) → quotes.Bare s ≡ quotes.Bare r → s ≡ r
 bare-one s r e = cc
 
-bare-parts : (s r : Bare) → joined_quotes (quotes.Bare s) (quotes.Bare r) ≡ Some (quotes.Bare r) → Under s.uq r.uq × Under s.unbegun r.unbegun
+pub bare-parts : (s r : Bare) → joined_quotes (quotes.Bare s) (quotes.Bare r) ≡ Some (quotes.Bare r) → Under s.uq r.uq × Under s.unbegun r.unbegun
 bare-parts s r h =
     let e = bare-one (both_bare s r) r (one_value (quotes.Bare (both_bare s r)) (quotes.Bare r) h) in
     (ap (λ (x : Bare). x.uq) e, ap (λ (x : Bare). x.unbegun) e)
@@ -236,7 +236,7 @@ quotes-grow x y quotes.Sq (quotes.Bare r) c v h j n = absurd (none_some (quotes.
 quotes-grow x y (quotes.Bare s) quotes.Dq c v h j n = absurd (none_some quotes.Dq j)
 quotes-grow x y (quotes.Bare s) quotes.Sq c v h j n = absurd (none_some quotes.Sq j)
 
-first-none : (o p : Option Code) → first_of o p ≡ None → (o ≡ None) × (p ≡ None)
+pub first-none : (o p : Option Code) → first_of o p ≡ None → (o ≡ None) × (p ≡ None)
 first-none None p n = (refl, n)
 first-none (Some e) p n = absurd (some _ n)
 
@@ -249,7 +249,7 @@ value-grows x y c v h n =
 
 -- Comments.
 
-comment-one : (x y : Bool) → place.Comment x ≡ place.Comment y → x ≡ y
+pub comment-one : (x y : Bool) → place.Comment x ≡ place.Comment y → x ≡ y
 comment-one x y e = cc
 
 comment-grows : (x y : Bool) (c : Class) → Under x y → comment_error y c ≡ None → (comment_error x c ≡ None) × FrontBelow (comment_next c (comment_state x)) (comment_next c (comment_state y))

@@ -1,3 +1,6 @@
+pub mod BelowFronts
+pub mod FromSteps
+pub mod FromTexts
 pub mod FrontOrder
 pub mod OnePath
 pub mod OneTexts

@@ -17,7 +17,7 @@ use Rattle.html_step.proofs.OneTexts.{one-text}
 use Rattle.html_step.proofs.ValidSteps.{front-valid, end-valid}
 
 -- an answer is one
-one-ok : (x y : Place) (o : Result Place Refusal) → o ≡ Ok x → o ≡ Ok y → x ≡ y
+pub one-ok : (x y : Place) (o : Result Place Refusal) → o ≡ Ok x → o ≡ Ok y → x ≡ y
 one-ok x y o e f = let same : Ok x ≡ Ok y = sym e ∙ f in cc
 
 one-answer : (x y : Place) (o : Result Place (StepErr Place)) → o ≡ Ok x → o ≡ Ok y → x ≡ y

@@ -1,0 +1,335 @@
+-- Each member after a byte comes from one member before it.
+use Rattle.std.proofs.Common.{◌≡◌, ℕ, Bool, true, false, ◌||◌, ◌&&◌, List, [], ◌∷◌, ◌++◌, length, Option, Some, None, refl, sym, ap, ◌∙◌, subst}
+use Rattle.std.specs.Char.{to_ascii_lowercase}
+use Rattle.place_core.specs.Classes.{Class, White, ExclamationMark, QuotationMark, Apostrophe, HyphenMinus, Solidus, LessThan, EqualsSign, GreaterThan, GraveAccent, Letter}
+use Rattle.place_core.specs.Comments.{closes_comment, next_comment}
+use Rattle.place_core.specs.Errors.{at_hand, attribute_name_error, body_error, content_error, equals_error, kind_error, is_second_type, place_error, quotes_error, tag_error, bare_error, value_error}
+use Rattle.place_core.specs.Places.{Below, Has, IsValid, IsValidQuotes, joined_quotes, IsValidTag, bare_has, body_has, dash_has, is_whole, part_has, quotes_have, some_bare, spots_have, typed_has}
+use Rattle.place_core.specs.StatePlaces.{body_at, only_after, only_before, only_inside, unbegun}
+use Rattle.place_core.specs.States.{CommentState, Started, StartedDash, Inside, Dash, DashDash, Bang, Broken, Held}
+use Rattle.place_core.specs.Words.{kind_of}
+use Rattle.place_core.specs.declared.bare.Bare.{Bare}
+use Rattle.place_core.specs.declared.body.Body.{Body}
+use Rattle.place_core.specs.declared.body.Body.TheVariants as body
+use Rattle.place_core.specs.declared.code.Code.TheVariants as code
+use Rattle.place_core.specs.declared.element.Element.TheVariants as element
+use Rattle.place_core.specs.declared.kind.Kind.{Kind}
+use Rattle.place_core.specs.declared.kind.Kind.TheVariants as kind
+use Rattle.place_core.specs.declared.member.Member.{Member}
+use Rattle.place_core.specs.declared.member.Member.TheVariants as member
+use Rattle.place_core.specs.declared.place.Place.{Place}
+use Rattle.place_core.specs.declared.place.Place.TheVariants as place
+use Rattle.place_core.specs.declared.quotes.Quotes.{Quotes}
+use Rattle.place_core.specs.declared.quotes.Quotes.TheVariants as quotes
+use Rattle.place_core.specs.declared.spots.Spots.{Spots}
+use Rattle.place_core.specs.declared.tag_of.TagOf.{TagOf}
+use Rattle.place_core.specs.declared.tag_of.TagOf.TheVariants as tag
+use Rattle.place_core.specs.declared.tag_place.TagPlace.{TagPlace}
+use Rattle.place_core.specs.declared.value_place.ValuePlace.{ValuePlace}
+use Rattle.place_core.proofs.Joins.{places_same}
+use Rattle.place_core.proofs.Semilattices.{none_some, one_value}
+use Rattle.html_step.specs.Fronts.{Front, At, AfterLess, AfterLessSolidus, InDeclaration, InTagName, InAttributeName, InCommentEnd, InContentEnd, after_white, attribute_name_next, bare_next, bare_white, begun, comment_closed, comment_front, comment_next, comment_state, content_front, front_error, front_next, front_place, in_tag, kind_body, quoted_next, tag_element, tag_next, typed_with, value_front, with_quotes}
+use Rattle.html_step.proofs.BelowFronts.{IsRigid, below-at, below-at-comment, below-at-tag, below-at-value, below-attribute, comment-end-rigid, content-end-rigid, declaration-rigid, doctype-rigid, less-rigid, rcdata-rigid, solidus-rigid, tag-name-rigid, text-rigid, whole-in}
+use Rattle.html_step.proofs.FrontOrder.{FrontBelow, FrontHas, FrontValid, HasKind, bare-parts, bare-white, built-same, first-none, has-kind, if-none}
+use Rattle.html_step.proofs.OnePath.{none-at-hand, none-unless, some}
+use Rattle.html_step.proofs.PlaceParts.{Under, TagBelow, ValueBelow, below-tag, below-value, under-false}
+
+pub record From (f : Front) (c : Class) (b : ℕ) (y : Member) : Type 0 where
+  pub source : Member
+  pub there : FrontHas f source
+  pub leads : (g : Front) → FrontValid g → FrontBelow g f → FrontHas g source → FrontHas (front_next g c b) y
+
+no : false ≡ true → ⊥
+no e = cc
+
+or-false : (x : Bool) → (x || false) ≡ true → x ≡ true
+or-false true h = refl
+or-false false h = h
+
+false-or : (x : Bool) → x ≡ true → (x || false) ≡ true
+false-or x h = rw h refl
+
+from-whole : (f : Front) (c : Class) (b : ℕ) (y : Member) → is_whole y ≡ true → From f c b y
+from-whole f c b y e = record { source = member.Whole; there = whole-in f member.Whole refl; leads = λ g v l h. whole-in (front_next g c b) y e }
+
+from-rigid : (f : Front) → IsRigid f → (c : Class) (b : ℕ) (y : Member) → FrontHas (front_next f c b) y → From f c b y
+from-rigid f r c b y h = record {
+  source = member.Whole;
+  there = whole-in f member.Whole refl;
+  leads = λ g v l o. subst (λ (x : Front). FrontHas (front_next x c b) y) (sym (r g l)) h;
+}
+
+-- after the end of a tag there is nothing but the whole
+content-whole : (t : TagOf) (y : Member) → FrontHas (content_front t) y → is_whole y ≡ true
+content-whole tag.End y h = or-false (is_whole y) h
+content-whole (tag.Start element.Title) y h = or-false (is_whole y) h
+content-whole (tag.Start element.Textarea) y h = or-false (is_whole y) h
+content-whole (tag.Start _) y h = or-false (is_whole y) h
+
+-- from a tag
+from-tag : (t : TagPlace) (c : Class) (b : ℕ) (y x : Member) → FrontHas (At (place.Tag t)) x → ((u : TagPlace) → IsValidTag u → TagBelow u t → FrontHas (At (place.Tag u)) x → FrontHas (tag_next u c b) y) → From (At (place.Tag t)) c b y
+from-tag t c b y x h f = record {
+  source = x;
+  there = h;
+  leads = λ g v l o. below-at-tag (λ (g : Front). FrontValid g → FrontHas g x → FrontHas (front_next g c b) y) t (λ u l v o. f u v l o) g l v o;
+}
+
+or-last : (x y : Bool) → y ≡ true → (x || y) ≡ true
+or-last true y h = refl
+or-last false y h = h
+
+from-before : (t : TagPlace) (n : Bool) (b : ℕ) → t.spots.name ≡ n → (t.spots.name || t.spots.before) ≡ true → From (At (place.Tag t)) White b member.BeforeSpot
+from-before t true b e h = from-tag t White b member.BeforeSpot member.NameSpot e (λ u v l o. rw o refl)
+from-before t false b e h = from-tag t White b member.BeforeSpot member.BeforeSpot (sym (rw e refl) ∙ h) (λ u v l o. or-last u.spots.name u.spots.before o)
+
+from-after : (t : TagPlace) (i : Bool) (b : ℕ) → t.spots.inside ≡ i → (t.spots.inside || t.spots.after) ≡ true → From (At (place.Tag t)) White b member.AfterSpot
+from-after t true b e h = from-tag t White b member.AfterSpot member.InsideSpot e (λ u v l o. rw o refl)
+from-after t false b e h = from-tag t White b member.AfterSpot member.AfterSpot (sym (rw e refl) ∙ h) (λ u v l o. or-last u.spots.inside u.spots.after o)
+
+from-white : (t : TagPlace) (b : ℕ) (y : Member) → FrontHas (tag_next t White b) y → From (At (place.Tag t)) White b y
+from-white t b member.Whole h = from-whole (At (place.Tag t)) White b member.Whole refl
+from-white t b member.Typed h = from-tag t White b member.Typed member.Typed h (λ u v l o. o)
+from-white t b member.BeforeSpot h = from-before t t.spots.name b refl h
+from-white t b member.AfterSpot h = from-after t t.spots.inside b refl h
+from-white t b _ h = absurd (no h)
+
+from-solidus : (t : TagPlace) (b : ℕ) (y : Member) → FrontHas (tag_next t Solidus b) y → From (At (place.Tag t)) Solidus b y
+from-solidus t b member.Whole h = from-whole (At (place.Tag t)) Solidus b member.Whole refl
+from-solidus t b member.Typed h = from-tag t Solidus b member.Typed member.Typed h (λ u v l o. o)
+from-solidus t b member.BeforeSpot h = from-tag t Solidus b member.BeforeSpot member.Whole refl (λ u v l o. refl)
+from-solidus t b _ h = absurd (no h)
+
+-- a value that begins
+begins-typed : (t : TagOf) (x : Bool) (k : Kind) → kind_error k ≡ None → FrontHas (value_front t x (body_at k)) member.Typed → (x || false) ≡ true
+begins-typed t x kind.Plain n h = h
+begins-typed t x kind.NoHole n h = h
+begins-typed t x kind.Url n h = absurd (some _ n)
+begins-typed t x kind.Script n h = absurd (some _ n)
+begins-typed t x kind.Style n h = absurd (some _ n)
+begins-typed t x kind.ScriptType n h = absurd (some _ n)
+
+typed-begins : (t : TagOf) (x : Bool) (k : Kind) → kind_error k ≡ None → (x || false) ≡ true → FrontHas (value_front t x (body_at k)) member.Typed
+typed-begins t x kind.Plain n h = h
+typed-begins t x kind.NoHole n h = h
+typed-begins t x kind.Url n h = absurd (some _ n)
+typed-begins t x kind.Script n h = absurd (some _ n)
+typed-begins t x kind.Style n h = absurd (some _ n)
+typed-begins t x kind.ScriptType n h = absurd (some _ n)
+
+unbegun-begins : (t : TagOf) (x : Bool) (k : Kind) → kind_error k ≡ None → FrontHas (value_front t x (body_at k)) member.UnbegunValue
+unbegun-begins t x kind.Plain n = refl
+unbegun-begins t x kind.NoHole n = refl
+unbegun-begins t x kind.Url n = absurd (some _ n)
+unbegun-begins t x kind.Script n = absurd (some _ n)
+unbegun-begins t x kind.Style n = absurd (some _ n)
+unbegun-begins t x kind.ScriptType n = absurd (some _ n)
+
+-- nothing else is there
+abbrev is_begun : Member → Bool
+is_begun member.Whole = true
+is_begun member.Typed = true
+is_begun member.UnbegunValue = true
+is_begun _ = false
+
+begins-only : (t : TagOf) (x : Bool) (k : Kind) (y : Member) → kind_error k ≡ None → FrontHas (value_front t x (body_at k)) y → is_begun y ≡ true
+begins-only t x k member.Whole n h = refl
+begins-only t x k member.Typed n h = refl
+begins-only t x k member.UnbegunValue n h = refl
+begins-only t x kind.Plain _ n h = h
+begins-only t x kind.NoHole _ n h = h
+begins-only t x kind.Url y n h = absurd (some _ n)
+begins-only t x kind.Script y n h = absurd (some _ n)
+begins-only t x kind.Style y n h = absurd (some _ n)
+begins-only t x kind.ScriptType y n h = absurd (some _ n)
+
+from-equals : (t : TagPlace) (b : ℕ) (y : Member) → IsValidTag t → tag_error t EqualsSign ≡ None → FrontHas (tag_next t EqualsSign b) y → From (At (place.Tag t)) EqualsSign b y
+from-equals t b member.Whole v n h = from-whole (At (place.Tag t)) EqualsSign b member.Whole refl
+from-equals t b member.Typed v n h =
+    let k = has-kind t t v (below-tag t t (places_same (place.Tag t))) n in
+    from-tag t EqualsSign b member.Typed member.Typed (begins-typed t.tag t.typed k.kind k.built (subst (λ (o : Option Kind). FrontHas (value_front t.tag t.typed (kind_body o)) member.Typed) k.there h))
+    (λ u w l o. let j = has-kind u t w l n in subst (λ (o : Option Kind). FrontHas (value_front u.tag u.typed (kind_body o)) member.Typed) (sym j.there) (typed-begins u.tag u.typed j.kind j.built o))
+from-equals t b member.UnbegunValue v n h =
+    from-tag t EqualsSign b member.UnbegunValue member.Whole refl
+    (λ u w l o. let j = has-kind u t w l n in subst (λ (o : Option Kind). FrontHas (value_front u.tag u.typed (kind_body o)) member.UnbegunValue) (sym j.there) (unbegun-begins u.tag u.typed j.kind j.built))
+from-equals t b y v n h =
+    let k = has-kind t t v (below-tag t t (places_same (place.Tag t))) n in
+    absurd (no (begins-only t.tag t.typed k.kind y k.built (subst (λ (o : Option Kind). FrontHas (value_front t.tag t.typed (kind_body o)) y) k.there h)))
+
+from-name : (t : TagPlace) (c : Class) (b : ℕ) (y : Member) → ((u : TagPlace) → tag_next u c b ≡ InAttributeName u.tag u.typed (to_ascii_lowercase b ∷ [])) → FrontHas (InAttributeName t.tag t.typed (to_ascii_lowercase b ∷ [])) y → From (At (place.Tag t)) c b y
+from-name t c b member.Whole e h = from-whole (At (place.Tag t)) c b member.Whole refl
+from-name t c b member.Typed e h = from-tag t c b member.Typed member.Typed (false-or t.typed h) (λ u v l o. subst (λ (f : Front). FrontHas f member.Typed) (sym (e u)) (or-false u.typed o))
+from-name t c b _ e h = absurd (no h)
+
+from-tag-byte : (t : TagPlace) (c : Class) (b : ℕ) (y : Member) → IsValidTag t → tag_error t c ≡ None → FrontHas (tag_next t c b) y → From (At (place.Tag t)) c b y
+from-tag-byte t White b y v n h = from-white t b y h
+from-tag-byte t Solidus b y v n h = from-solidus t b y h
+from-tag-byte t GreaterThan b y v n h = from-whole (At (place.Tag t)) GreaterThan b y (content-whole t.tag y h)
+from-tag-byte t EqualsSign b y v n h = from-equals t b y v n h
+from-tag-byte t QuotationMark b y v n h = absurd (some _ n)
+from-tag-byte t Apostrophe b y v n h = absurd (some _ n)
+from-tag-byte t LessThan b y v n h = absurd (some _ n)
+from-tag-byte t _ b y v n h = from-name t _ b y (λ u. refl) h
+
+-- From a value: two places of which one is below the other go on alike.
+data Alike (u v : ValuePlace) (f g : Front) : Type 0 where
+  tags : f ≡ in_tag u.tag u.typed only_before None → g ≡ in_tag v.tag v.typed only_before None → Alike u v f g
+  goes : (q : Quotes) → f ≡ with_quotes u q → g ≡ with_quotes v q → Alike u v f g
+  ends : f ≡ content_front u.tag → g ≡ content_front v.tag → Alike u v f g
+
+white-alike : (u v : ValuePlace) (a b : Bool) → a ≡ b → Alike u v (bare_white u a) (bare_white v b)
+white-alike u v true true e = tags refl refl
+white-alike u v false false e = goes unbegun refl refl
+white-alike u v true false e = absurd (no (sym e))
+white-alike u v false true e = absurd (no e)
+
+bare-alike : (u v : ValuePlace) (s r : Bare) (c : Class) → some_bare s ≡ true → Under s.uq r.uq → Under s.unbegun r.unbegun → bare_error v.tag r c ≡ None → Alike u v (bare_next u s.uq c) (bare_next v r.uq c)
+bare-alike u v s r White h a b n = white-alike u v s.uq r.uq (bare-white s.uq s.unbegun r.uq r.unbegun h a b (if-none (r.uq && r.unbegun) code.AmbigContext n)).0
+bare-alike u v s r QuotationMark h a b n = goes quotes.Dq refl refl
+bare-alike u v s r Apostrophe h a b n = goes quotes.Sq refl refl
+bare-alike u v s r GreaterThan h a b n = ends refl refl
+bare-alike u v s r _ h a b n = goes begun refl refl
+
+quotes-alike : (u v : ValuePlace) (q r : Quotes) (c : Class) → IsValidQuotes q → joined_quotes q r ≡ Some r → quotes_error v.tag r c ≡ None → Alike u v (quoted_next u q c) (quoted_next v r c)
+quotes-alike u v quotes.Dq quotes.Dq QuotationMark h j n = tags refl refl
+quotes-alike u v quotes.Dq quotes.Dq _ h j n = goes quotes.Dq refl refl
+quotes-alike u v quotes.Sq quotes.Sq Apostrophe h j n = tags refl refl
+quotes-alike u v quotes.Sq quotes.Sq _ h j n = goes quotes.Sq refl refl
+quotes-alike u v (quotes.Bare s) (quotes.Bare r) c h j n = let p = bare-parts s r j in bare-alike u v s r c h p.0 p.1 n
+quotes-alike u v quotes.Dq quotes.Sq c h j n = absurd (none_some quotes.Sq j)
+quotes-alike u v quotes.Dq (quotes.Bare r) c h j n = absurd (none_some (quotes.Bare r) j)
+quotes-alike u v quotes.Sq quotes.Dq c h j n = absurd (none_some quotes.Dq j)
+quotes-alike u v quotes.Sq (quotes.Bare r) c h j n = absurd (none_some (quotes.Bare r) j)
+quotes-alike u v (quotes.Bare s) quotes.Dq c h j n = absurd (none_some quotes.Dq j)
+quotes-alike u v (quotes.Bare s) quotes.Sq c h j n = absurd (none_some quotes.Sq j)
+
+value-alike : (u v : ValuePlace) (c : Class) → IsValidQuotes u.quotes → ValueBelow u v → value_error v c ≡ None → Alike u v (quoted_next u u.quotes c) (quoted_next v v.quotes c)
+value-alike u v c h l n = quotes-alike u v u.quotes v.quotes c h l.quotes (first-none (body_error v.body) (quotes_error v.tag v.quotes c) n).1
+
+-- whether a `type` may have been seen is a member of its own, the others do not depend on it
+in-tag-typed : (x z : Bool) (s : Spots) (y : Member) → (is_whole y || (typed_has x y || spots_have s y)) ≡ true → (typed_has true y ≡ true → z ≡ true) → (is_whole y || (typed_has z y || spots_have s y)) ≡ true
+in-tag-typed x z s member.Typed h f = false-or z (f refl)
+in-tag-typed x z s _ h f = h
+
+value-typed : (x z : Bool) (q : Quotes) (b : Body) (y : Member) → (is_whole y || (typed_has x y || (quotes_have q y || body_has b y))) ≡ true → (typed_has true y ≡ true → z ≡ true) → (is_whole y || (typed_has z y || (quotes_have q y || body_has b y))) ≡ true
+value-typed x z q b member.Typed h f = rw (f refl) refl
+value-typed x z q b _ h f = h
+
+alike-has : (u v : ValuePlace) (f g : Front) (y : Member) → Alike u v f g → u.body ≡ v.body → FrontHas g y → (typed_has true y ≡ true → u.typed ≡ true) → FrontHas f y
+alike-has u v f g y (tags e i) b h t = subst (λ (x : Front). FrontHas x y) (sym e) (in-tag-typed v.typed u.typed only_before y (subst (λ (x : Front). FrontHas x y) i h) t)
+alike-has u v f g y (goes q e i) b h t =
+    subst (λ (x : Front). FrontHas x y) (sym e) (value-typed v.typed u.typed q u.body y (subst (λ (x : Body). (is_whole y || (typed_has v.typed y || (quotes_have q y || body_has x y))) ≡ true) (sym b) (subst (λ (x : Front). FrontHas x y) i h)) t)
+alike-has u v f g y (ends e i) b h t = subst (λ (x : Front). FrontHas x y) (sym e) (whole-in (content_front u.tag) y (content-whole v.tag y (subst (λ (x : Front). FrontHas x y) i h)))
+
+plain-typed : (x : Bool) (q : Quotes) (b : Body) → body_error b ≡ None → (x || (quotes_have q member.Typed || body_has b member.Typed)) ≡ true → x ≡ true
+plain-typed true q b n h = refl
+plain-typed false (quotes.Bare s) body.Plain n h = h
+plain-typed false (quotes.Bare s) body.NoHole n h = h
+plain-typed false quotes.Dq body.Plain n h = h
+plain-typed false quotes.Dq body.NoHole n h = h
+plain-typed false quotes.Sq body.Plain n h = h
+plain-typed false quotes.Sq body.NoHole n h = h
+plain-typed false q (body.Url p) n h = absurd (some _ n)
+plain-typed false q (body.Js p) n h = absurd (some _ n)
+plain-typed false q (body.Css p) n h = absurd (some _ n)
+
+alike-typed : (v : ValuePlace) (f g : Front) → Alike v v f g → body_error v.body ≡ None → FrontHas g member.Typed → v.typed ≡ true
+alike-typed v f g (tags e i) n h = or-false v.typed (subst (λ (x : Front). FrontHas x member.Typed) i h)
+alike-typed v f g (goes q e i) n h = plain-typed v.typed q v.body n (subst (λ (x : Front). FrontHas x member.Typed) i h)
+alike-typed v f g (ends e i) n h = absurd (no (content-whole v.tag member.Typed (subst (λ (x : Front). FrontHas x member.Typed) i h)))
+
+from-value : (v : ValuePlace) (c : Class) (b : ℕ) (y x : Member) → FrontHas (At (place.Value v)) x → ((u : ValuePlace) → IsValidQuotes u.quotes → ValueBelow u v → FrontHas (At (place.Value u)) x → FrontHas (quoted_next u u.quotes c) y) → From (At (place.Value v)) c b y
+from-value t c b y x h f = record {
+  source = x;
+  there = h;
+  leads = λ g v l o. below-at-value (λ (g : Front). FrontValid g → FrontHas g x → FrontHas (front_next g c b) y) t (λ u l v o. f u v.0 l o) g l v o;
+}
+
+from-value-byte : (v : ValuePlace) (c : Class) (b : ℕ) (y : Member) → IsValidQuotes v.quotes → value_error v c ≡ None → FrontHas (quoted_next v v.quotes c) y → From (At (place.Value v)) c b y
+from-value-byte v c b member.Typed w n h =
+    let f = first-none (body_error v.body) (quotes_error v.tag v.quotes c) n in
+    let typed : v.typed ≡ true = alike-typed v (quoted_next v v.quotes c) (quoted_next v v.quotes c) (value-alike v v c w (below-value v v (places_same (place.Value v))) n) f.0 h in
+    from-value v c b member.Typed member.Typed (rw typed refl)
+    (λ u z l o. let same : u.body ≡ v.body = built-same u.body v.body f.0 l.body in
+    alike-has u v (quoted_next u u.quotes c) (quoted_next v v.quotes c) member.Typed (value-alike u v c z l n) same h (λ e. plain-typed u.typed u.quotes u.body (ap body_error same ∙ f.0) o))
+from-value-byte v c b y w n h =
+    let f = first-none (body_error v.body) (quotes_error v.tag v.quotes c) n in
+    from-value v c b y member.Whole refl
+    (λ u z l o. alike-has u v (quoted_next u u.quotes c) (quoted_next v v.quotes c) y (value-alike u v c z l n) (built-same u.body v.body f.0 l.body) h (λ e. absurd (no e)))
+
+-- From a comment.
+no-dash : (y : Member) → (is_whole y || dash_has false y) ≡ true → is_whole y ≡ true
+no-dash member.CommentDash h = absurd (no h)
+no-dash y h = or-false (is_whole y) h
+
+comment-whole : (dash : Bool) (c : Class) (y : Member) → FrontHas (comment_next c (comment_state dash)) y → is_whole y ≡ true
+comment-whole true HyphenMinus y h = h
+comment-whole true _ y h = no-dash y h
+comment-whole false HyphenMinus y h = h
+comment-whole false _ y h = no-dash y h
+
+-- From a name of an attribute.
+untyped-rigid : (t : TagOf) (name : List ℕ) → IsRigid (InAttributeName t false name)
+untyped-rigid t name g h = below-attribute (λ (g : Front). g ≡ InAttributeName t false name) t false name (λ x u. ap (λ (z : Bool). InAttributeName t z name) (under-false x u)) g h
+
+from-typed : (t : TagOf) (name : List ℕ) (c : Class) (b : ℕ) (y : Member) → FrontHas (front_next (InAttributeName t true name) c b) y → From (InAttributeName t true name) c b y
+from-typed t name c b y h = record {
+  source = member.Typed;
+  there = refl;
+  leads = λ g v l o. below-attribute (λ (g : Front). FrontHas g member.Typed → FrontHas (front_next g c b) y) t true name (λ x u o. subst (λ (z : Bool). FrontHas (front_next (InAttributeName t z name) c b) y) (sym o) h) g l o;
+}
+
+from-attribute : (t : TagOf) (typed : Bool) (name : List ℕ) (c : Class) (b : ℕ) (y : Member) → FrontHas (front_next (InAttributeName t typed name) c b) y → From (InAttributeName t typed name) c b y
+from-attribute t true name c b y h = from-typed t name c b y h
+from-attribute t false name c b y h = from-rigid (InAttributeName t false name) (untyped-rigid t name) c b y h
+
+-- From any front.
+from-place : (p : Place) (c : Class) (b : ℕ) (y : Member) → IsValid p → at_hand (place_error p c) ≡ None → FrontHas (front_next (At p) c b) y → From (At p) c b y
+from-place place.Text c b y v n h = from-rigid (At place.Text) text-rigid c b y h
+from-place place.Doctype c b y v n h = from-rigid (At place.Doctype) doctype-rigid c b y h
+from-place (place.Comment dash) c b y v n h = from-whole (At (place.Comment dash)) c b y (comment-whole dash c y h)
+from-place (place.Rcdata e) c b y v n h = from-rigid (At (place.Rcdata e)) (rcdata-rigid e) c b y h
+from-place (place.Tag t) c b y v n h = from-tag-byte t c b y v (none-at-hand (tag_error t c) n) h
+from-place (place.Value x) c b y v n h = from-value-byte x c b y v.0 (none-at-hand (value_error x c) n) h
+from-place (place.Script j) c b y v n h = absurd (some _ n)
+from-place (place.Style j) c b y v n h = absurd (some _ n)
+from-place (place.Block lt) c b y v n h = absurd (some _ n)
+
+pub from-byte : (f : Front) (c : Class) (b : ℕ) (y : Member) → FrontValid f → front_error f c ≡ None → FrontHas (front_next f c b) y → From f c b y
+from-byte (At p) c b y v n h = from-place p c b y v n h
+from-byte AfterLess c b y v n h = from-rigid AfterLess less-rigid c b y h
+from-byte AfterLessSolidus c b y v n h = from-rigid AfterLessSolidus solidus-rigid c b y h
+from-byte (InDeclaration held) c b y v n h = from-rigid (InDeclaration held) (declaration-rigid held) c b y h
+from-byte (InTagName end name) c b y v n h = from-rigid (InTagName end name) (tag-name-rigid end name) c b y h
+from-byte (InAttributeName t typed name) c b y v n h = from-attribute t typed name c b y h
+from-byte (InCommentEnd s) c b y v n h = from-rigid (InCommentEnd s) (comment-end-rigid s) c b y h
+from-byte (InContentEnd e x) c b y v n h = from-rigid (InContentEnd e x) (content-end-rigid e x) c b y h
+
+-- From the end of a text.
+pub record FromEnd (f : Front) (y : Member) : Type 0 where
+  pub source : Member
+  pub there : FrontHas f source
+  pub leads : (g : Front) → FrontBelow g f → FrontHas g source → Has (front_place g) y
+
+end-rigid : (f : Front) → IsRigid f → (y : Member) → Has (front_place f) y → FromEnd f y
+end-rigid f r y h = record { source = member.Whole; there = whole-in f member.Whole refl; leads = λ g l o. subst (λ (x : Front). Has (front_place x) y) (sym (r g l)) h }
+
+end-at : (p : Place) (y : Member) (g : Front) → FrontBelow g (At p) → FrontHas g y → Has (front_place g) y
+end-at p y g l o = below-at (λ (g : Front). FrontHas g y → Has (front_place g) y) p (λ a l o. o) g l o
+
+end-attribute : (t : TagOf) (typed : Bool) (name : List ℕ) (y : Member) → Has (front_place (InAttributeName t typed name)) y → FromEnd (InAttributeName t typed name) y
+end-attribute t false name y h = end-rigid (InAttributeName t false name) (untyped-rigid t name) y h
+end-attribute t true name y h = record {
+  source = member.Typed;
+  there = refl;
+  leads = λ g l o. below-attribute (λ (g : Front). FrontHas g member.Typed → Has (front_place g) y) t true name (λ x u o. subst (λ (z : Bool). Has (front_place (InAttributeName t z name)) y) (sym o) h) g l o;
+}
+
+pub from-end : (f : Front) (y : Member) → Has (front_place f) y → FromEnd f y
+from-end (At p) y h = record { source = y; there = h; leads = λ g l o. end-at p y g l o }
+from-end AfterLess y h = end-rigid AfterLess less-rigid y h
+from-end AfterLessSolidus y h = end-rigid AfterLessSolidus solidus-rigid y h
+from-end (InDeclaration held) y h = end-rigid (InDeclaration held) (declaration-rigid held) y h
+from-end (InTagName end name) y h = end-rigid (InTagName end name) (tag-name-rigid end name) y h
+from-end (InAttributeName t typed name) y h = end-attribute t typed name y h
+from-end (InCommentEnd s) y h = end-rigid (InCommentEnd s) (comment-end-rigid s) y h
+from-end (InContentEnd e x) y h = end-rigid (InContentEnd e x) (content-end-rigid e x) y h
