@@ -39,10 +39,10 @@ pub record From (f : Front) (c : Class) (b : ℕ) (y : Member) : Type 0 where
   pub there : FrontHas f source
   pub leads : (g : Front) → FrontValid g → FrontBelow g f → FrontHas g source → FrontHas (front_next g c b) y
 
-no : false ≡ true → ⊥
+pub no : false ≡ true → ⊥
 no e = cc
 
-or-false : (x : Bool) → (x || false) ≡ true → x ≡ true
+pub or-false : (x : Bool) → (x || false) ≡ true → x ≡ true
 or-false true h = refl
 or-false false h = h
 
@@ -268,7 +268,7 @@ comment-whole false HyphenMinus y h = h
 comment-whole false _ y h = no-dash y h
 
 -- From a name of an attribute.
-untyped-rigid : (t : TagOf) (name : List ℕ) → IsRigid (InAttributeName t false name)
+pub untyped-rigid : (t : TagOf) (name : List ℕ) → IsRigid (InAttributeName t false name)
 untyped-rigid t name g h = below-attribute (λ (g : Front). g ≡ InAttributeName t false name) t false name (λ x u. ap (λ (z : Bool). InAttributeName t z name) (under-false x u)) g h
 
 from-typed : (t : TagOf) (name : List ℕ) (c : Class) (b : ℕ) (y : Member) → FrontHas (front_next (InAttributeName t true name) c b) y → From (InAttributeName t true name) c b y

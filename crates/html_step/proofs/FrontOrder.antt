@@ -114,11 +114,11 @@ pub record HasKind (x y : TagPlace) : Type 0 where
   pub name : x.spots.name ≡ false
   pub before : x.spots.before ≡ false
 
-kind-of-some : (o : Option Kind) → is_some o ≡ true → (k : Kind) × (o ≡ Some k)
+pub kind-of-some : (o : Option Kind) → is_some o ≡ true → (k : Kind) × (o ≡ Some k)
 kind-of-some (Some k) h = (k, refl)
 kind-of-some None h = cc
 
-some-none : (n b i a : Bool) → (n || (b || (i || a))) ≡ true → n ≡ false → b ≡ false → (i || a) ≡ true
+pub some-none : (n b i a : Bool) → (n || (b || (i || a))) ≡ true → n ≡ false → b ≡ false → (i || a) ≡ true
 some-none true b i a h e f = cc
 some-none false true i a h e f = cc
 some-none false false i a h e f = h

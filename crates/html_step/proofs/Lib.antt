@@ -1,9 +1,12 @@
 pub mod BelowFronts
+pub mod Clashing
 pub mod FromSteps
 pub mod FromTexts
 pub mod FrontOrder
 pub mod OnePath
 pub mod OneTexts
 pub mod PlaceParts
+pub mod ShownSteps
+pub mod ShownTexts
 pub mod ValidSteps
 pub mod WholeTexts
