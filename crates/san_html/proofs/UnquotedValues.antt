@@ -9,7 +9,7 @@ use Rattle.place_core.specs.Classes.{Class, White, QuotationMark, Ampersand, Apo
 use Rattle.place_core.specs.Events.{Event, ValueByte}
 use Rattle.place_core.specs.Html.{read}
 use Rattle.place_core.specs.Plain.{IsPlainUnquoted, begins_at_once}
-use Rattle.place_core.specs.References.{Closed, meaning, flushed}
+use Rattle.place_core.specs.References.{meaning, flushed}
 use Rattle.place_core.specs.States.{Page, BeforeAttributeValue, config}
 use Rattle.place_core.specs.Tags.{Tag, Value, ValueOf, ValueState, languages, value_of, told_bytes, Unquoted}
 use Rattle.place_core.specs.declared.kind.Kind.{Kind}

@@ -1,5 +1,5 @@
--- What each sanitizer promises of its bytes in their place: they are plain there, and are read back as the text. A place is a state in which the
--- lexer holds nothing back: no reference is open, and no `<`. Whoever writes a text before a value has to see to that.
+-- What each sanitizer promises of its bytes in their place: they are plain there, and are read back as the text. A place is a state in
+-- which the lexer holds nothing back: no reference is open, and no `<`. Whoever writes a text before a value has to see to that.
 use Rattle.std.specs.Prelude.{◌≡◌, ℕ, Bool, true, false, ◌==◌, List, [], ◌∷◌, ◌++◌, if◌then◌else◌}
 use Rattle.std.specs.Str.{str_to_ascii_lowercase}
 use Rattle.place_core.specs.Events.{Event, AttributeBegins, text_bytes, block_bytes, attribute_name_bytes}
@@ -48,8 +48,8 @@ pub record IsBackInBlock (text bytes : List ℕ) : Type 0 where
   pub reads : (t : List Event) → read Page bytes (config in_block t) ≡ config in_block (block_bytes bytes t)
   pub undoes : undone false Closed bytes ≡ as_text text
 
--- in a quoted value: plain where the attribute is of kind Plain; and whatever the value is so far, of any kind, it goes on with the text, with its
--- references undone
+-- in a quoted value: plain where the attribute is of kind Plain; and whatever the value is so far, of any kind, and also in the type of a
+-- script, it goes on with the text
 abbrev pub is_quoted : Quoting → Bool
 is_quoted Unquoted = false
 is_quoted _ = true
@@ -62,15 +62,19 @@ abbrev pub after_text : Quoting → Tag → Value ValueState → List ℕ → Li
 after_text q tag v text t = config (in_value q tag (with_bytes languages v text)) (told_bytes languages v text t)
 
 pub record IsBackInQuoted (text bytes : List ℕ) : Type 0 where
-  pub plain : (q : Quoting) (tag : Tag) (t : List Event) → is_quoted q ≡ true → IsPlain bytes (config (in_value q tag (ValueOf kind.Plain)) t)
-  pub reads : (q : Quoting) (tag : Tag) (v : Value ValueState) (t : List Event) → is_quoted q ≡ true → read Page bytes (config (in_value q tag v) t) ≡ after_text q tag v (as_text text) t
+  pub plain : (q : Quoting) (tag : Tag) (t : List Event) →
+      is_quoted q ≡ true → IsPlain bytes (config (in_value q tag (ValueOf kind.Plain)) t)
+  pub reads : (q : Quoting) (tag : Tag) (v : Value ValueState) (t : List Event) →
+      is_quoted q ≡ true → read Page bytes (config (in_value q tag v) t) ≡ after_text q tag v (as_text text) t
 
 -- in an unquoted value that has begun, of any kind, and where one is to begin
 pub record IsBackInUnquoted (text bytes : List ℕ) : Type 0 where
   pub plain : (tag : Tag) (t : List Event) → IsPlain bytes (config (in_value Unquoted tag (ValueOf kind.Plain)) t)
-  pub reads : (tag : Tag) (v : Value ValueState) (t : List Event) → read Page bytes (config (in_value Unquoted tag v) t) ≡ after_text Unquoted tag v (as_unquoted text) t
+  pub reads : (tag : Tag) (v : Value ValueState) (t : List Event) →
+      read Page bytes (config (in_value Unquoted tag v) t) ≡ after_text Unquoted tag v (as_unquoted text) t
   pub plain_unbegun : (tag : Tag) (t : List Event) → IsPlain bytes (config (BeforeAttributeValue tag kind.Plain) t)
-  pub reads_unbegun : (tag : Tag) (k : Kind) (t : List Event) → read Page bytes (config (BeforeAttributeValue tag k) t) ≡ after_text Unquoted tag (value_of languages k) (as_unquoted text) t
+  pub reads_unbegun : (tag : Tag) (k : Kind) (t : List Event) →
+      read Page bytes (config (BeforeAttributeValue tag k) t) ≡ after_text Unquoted tag (value_of languages k) (as_unquoted text) t
 
 -- a name as it is read back: in lower case
 abbrev pub as_name : List ℕ → List ℕ
