@@ -1,5 +1,6 @@
 pub mod EscapedText
 pub mod Names
+mod NotBack
 pub mod Results
 pub mod Rows
 pub mod Takes

@@ -1,0 +1,54 @@
+-- Worked examples of bytes that are not a text in its place, and of the type of a script, which goes on with a text.
+use Rattle.std.proofs.Common.{◌≡◌, zero, suc, IsTrue, false, [], ◌∷◌, codes, refl, ap, length, true≢false}
+use Rattle.place_core.specs.Classes.{class_of}
+use Rattle.place_core.specs.Events.{ValueByte}
+use Rattle.place_core.specs.Html.{read}
+use Rattle.place_core.specs.References.{meaning, flushed}
+use Rattle.place_core.specs.States.{Page, AfterAttributeValue, BeforeAttributeName, Config, config}
+use Rattle.place_core.specs.Tags.{EndTag, ValueOf, ValueState, TypeSoFar, DoubleQuoted}
+use Rattle.place_core.specs.declared.element.Element.TheVariants as element
+use Rattle.place_core.specs.declared.kind.Kind.TheVariants as kind
+use Rattle.san_html.specs.ReadBack.{in_value, IsBackInText, IsBackInRcdata, IsBackInBlock, IsBackInQuoted, IsBackInUnquoted, IsBackInTag}
+
+no : IsTrue false → ⊥
+no h = cc
+
+markup : IsBackInText (codes "<b>") (codes "<b>") → ⊥
+unfolding class_of meaning flushed lib.Utf8.encode
+markup h = no (h.plain []).1.1
+
+one_is_four : suc zero ≡ suc (suc (suc (suc zero))) → ⊥
+one_is_four e = cc
+
+reference : IsBackInText (codes "&lt;") (codes "&lt;") → ⊥
+unfolding class_of meaning flushed lib.Utf8.encode
+reference h = one_is_four (ap (λ (c : Config ValueState). length c.told) (h.reads []))
+
+end_of_title : IsBackInRcdata (codes "</title>") (codes "</title>") → ⊥
+unfolding class_of meaning flushed lib.Utf8.encode
+end_of_title h = no (h.plain element.Title []).1.1
+
+end_of_block : IsBackInBlock (codes "</script>") (codes "</script>") → ⊥
+unfolding class_of meaning flushed lib.Utf8.encode
+end_of_block h = no (h.plain []).1.1
+
+after_and_in : AfterAttributeValue EndTag ≡ in_value DoubleQuoted EndTag (ValueOf kind.Plain) → ⊥
+after_and_in e = cc
+
+quote : IsBackInQuoted (codes "\"") (codes "\"") → ⊥
+unfolding class_of meaning flushed lib.Utf8.encode
+quote h = after_and_in (h.plain DoubleQuoted EndTag [] refl).1.0
+
+blank : IsBackInUnquoted (codes "a b") (codes "a b") → ⊥
+unfolding class_of meaning flushed lib.Utf8.encode
+blank h = no (h.plain EndTag []).1.told
+
+empty : IsBackInUnquoted [] [] → ⊥
+empty h = (h.plain EndTag []).1.some refl
+
+handler : IsBackInTag (codes "onclick") (codes "onclick") → ⊥
+unfolding class_of
+handler h = true≢false (h.plain (BeforeAttributeName EndTag) EndTag [] refl).1.harmless
+
+type_goes_on : IsBackInQuoted (codes "on") (codes "on") → read Page (codes "on") (config (in_value DoubleQuoted EndTag (TypeSoFar (codes "js"))) []) ≡ config (in_value DoubleQuoted EndTag (TypeSoFar (codes "json"))) (ValueByte 110 ∷ ValueByte 111 ∷ [])
+type_goes_on h = h.reads DoubleQuoted EndTag (TypeSoFar (codes "js")) [] refl
