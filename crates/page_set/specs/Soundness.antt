@@ -33,8 +33,8 @@ parts_of [] = []
 parts_of (text_piece bytes ∷ pieces) = TextPart (written (text_piece bytes)) ∷ parts_of pieces
 parts_of (hole_piece value ∷ pieces) = HolePart (written (hole_piece value)) ∷ parts_of pieces
 
--- The path is read with a text in each hole, and the reading stays where it is; where the texts run
--- out it stops, and spare texts are not read.
+-- the path read with a text in each hole, which leaves the reading in the state where it is; where
+-- the texts run out the reading stops, and spare texts are not read
 abbrev pub read_filled : List Symbol → List (List ℕ) → Config ValueState → Config ValueState
 read_filled [] texts c = c
 read_filled (Written bytes ∷ symbols) texts c =
@@ -83,7 +83,8 @@ pub record IsSoundFor
     (root : List ℕ) (nodes : List Node) (datum : Data) (page : List ℕ) : Type 0 where
   pub finished : (run root nodes datum).ending ≡ done
   pub bytes : page ≡ bytes_of (parts_of (run root nodes datum).pieces)
-  pub reads : Reads (parts_of (run root nodes datum).pieces) start (read_path languages (path_of nodes) start)
+  pub reads : Reads (parts_of (run root nodes datum).pieces) start
+      (read_path languages (path_of nodes) start)
   pub no_other : (end : Config ValueState) → Reads (parts_of (run root nodes datum).pieces) start end
       → end ≡ read_path languages (path_of nodes) start
   pub shape : (end : Config ValueState) → Reads (parts_of (run root nodes datum).pieces) start end
