@@ -1,11 +1,13 @@
 -- Worked examples of how pages are read, by computing.
 use Rattle.std.proofs.Common.{◌≡◌, List, [], ◌∷◌, codes, refl, false}
 use Rattle.place_core.specs.Classes.{class_of}
-use Rattle.place_core.specs.Events.{Event, TextByte, Mark, StartTagBegins, EndTagBegins, TagNameByte, TagEnds, UnreadByte, text_bytes}
-use Rattle.place_core.specs.Html.{Page, Text, TagOpen, Unread, tag_name_bytes, config, read, start}
+use Rattle.place_core.specs.Events.{Event, TextByte, Mark, StartTagBegins, EndTagBegins, TagNameByte, TagEnds, UnreadByte, text_bytes, tag_name_bytes}
+use Rattle.place_core.specs.Html.{read, start}
+use Rattle.place_core.specs.Paths.{Written, Hole, read_path}
 use Rattle.place_core.specs.References.{Closed, Open, Named, meaning, flushed}
-use Rattle.page_set.specs.Path.{Written, Hole, read_path}
-use Rattle.page_set.specs.Shape.{marked, TextToken, OtherToken, tokens_from}
+use Rattle.place_core.specs.Shape.{marked, TextToken, OtherToken, tokens_from}
+use Rattle.place_core.specs.States.{Page, Text, TagOpen, DeclarationOpen, Unread, config}
+use Rattle.place_core.specs.Tags.{languages}
 
 -- the tags of a paragraph, as they are told
 abbrev start_p : List Event → List Event
@@ -15,7 +17,7 @@ abbrev end_p : List Event → List Event
 end_p t = TagEnds false ∷ tag_name_bytes (codes "p") (EndTagBegins ∷ t)
 
 -- the path of `<p>{{.x}}</p>`, and its page for a value that looks like an end tag
-path : read_path (Written (codes "<p>") ∷ Hole ∷ Written (codes "</p>") ∷ []) start ≡ config (Text Closed) (end_p (Mark ∷ start_p []))
+path : read_path languages (Written (codes "<p>") ∷ Hole ∷ Written (codes "</p>") ∷ []) start ≡ config (Text Closed) (end_p (Mark ∷ start_p []))
 unfolding class_of meaning flushed lib.Utf8.encode
 path = refl
 
@@ -28,7 +30,7 @@ bare : read Page (codes "<p></p></p>") start ≡ config (Text Closed) (end_p (en
 unfolding class_of meaning flushed lib.Utf8.encode
 bare = refl
 
-tokens : tokens_from [] (StartTagBegins ∷ TagNameByte 112 ∷ TagEnds false ∷ TextByte 97 ∷ Mark ∷ TextByte 98 ∷ EndTagBegins ∷ []) ≡ OtherToken StartTagBegins ∷ OtherToken (TagNameByte 112) ∷ OtherToken (TagEnds false) ∷ TextToken (TextByte 97 ∷ Mark ∷ TextByte 98 ∷ []) ∷ OtherToken EndTagBegins ∷ []
+tokens : tokens_from false [] (StartTagBegins ∷ TagNameByte 112 ∷ TagEnds false ∷ TextByte 97 ∷ Mark ∷ TextByte 98 ∷ EndTagBegins ∷ []) ≡ OtherToken StartTagBegins ∷ OtherToken (TagNameByte 112) ∷ OtherToken (TagEnds false) ∷ TextToken (TextByte 97 ∷ Mark ∷ TextByte 98 ∷ []) ∷ OtherToken EndTagBegins ∷ []
 tokens = refl
 
 -- numbers: zero, a surrogate, past the last code point, and in base 16
@@ -61,8 +63,8 @@ no_reference : read Page (codes "a & b &# &#x &zz ") start ≡ config (Text Clos
 unfolding class_of meaning flushed lib.Utf8.encode
 no_reference = refl
 
--- comments and scripts are not read yet
-comment : read Page (codes "<!-") start ≡ config Unread (UnreadByte 45 ∷ UnreadByte 33 ∷ UnreadByte 60 ∷ [])
+-- what may open a comment is held back, and scripts are not read yet
+comment : read Page (codes "<!-") start ≡ config (DeclarationOpen Closed (codes "-")) []
 unfolding class_of meaning flushed lib.Utf8.encode
 comment = refl
 
@@ -71,10 +73,10 @@ unfolding class_of meaning flushed lib.Utf8.encode
 script = refl
 
 -- what is only begun at the end of a node is text
-cut : read_path (Written (codes "a&#1") ∷ Hole ∷ Written (codes "</") ∷ Hole ∷ []) start ≡ config (Text Closed) (Mark ∷ text_bytes (codes "</") (Mark ∷ text_bytes (codes "a&#1") []))
+cut : read_path languages (Written (codes "a&#1") ∷ Hole ∷ Written (codes "</") ∷ Hole ∷ []) start ≡ config (Text Closed) (Mark ∷ text_bytes (codes "</") (Mark ∷ text_bytes (codes "a&#1") []))
 unfolding class_of meaning flushed lib.Utf8.encode
 cut = refl
 
-cut_tag : read_path (Written (codes "&lt<") ∷ Hole ∷ Written (codes "&lt</") ∷ Hole ∷ []) start ≡ config (Text Closed) (Mark ∷ text_bytes (codes "<</") (Mark ∷ text_bytes (codes "<<") []))
+cut_tag : read_path languages (Written (codes "&lt<") ∷ Hole ∷ Written (codes "&lt</") ∷ Hole ∷ []) start ≡ config (Text Closed) (Mark ∷ text_bytes (codes "<</") (Mark ∷ text_bytes (codes "<<") []))
 unfolding class_of meaning flushed lib.Utf8.encode
 cut_tag = refl

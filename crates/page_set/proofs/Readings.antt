@@ -6,14 +6,15 @@ use Rattle.std.specs.List.{list_all}
 use Rattle.std.specs.Str.{str_to_ascii_lowercase}
 use Rattle.std.specs.Prelude.{if◌then◌else◌}
 use Rattle.place_core.specs.Classes.{class_of}
-use Rattle.place_core.specs.Events.{Event, TextByte, Mark, TagNameByte, TagEnds, text_bytes}
-use Rattle.place_core.specs.Html.{Mode, Page, Text, TagName, after_tag, tag_name_bytes, Config, config, read}
+use Rattle.place_core.specs.Events.{Event, TextByte, Mark, TagNameByte, TagEnds, text_bytes, tag_name_bytes}
+use Rattle.place_core.specs.Html.{after_tag, read}
 use Rattle.place_core.specs.Plain.{only_text, IsPlain}
 use Rattle.place_core.specs.References.{Closed, meaning, flushed}
-use Rattle.place_core.specs.Tags.{tag_named}
+use Rattle.place_core.specs.Shape.{marked}
+use Rattle.place_core.specs.States.{Reading, Page, Text, TagName, Config, config}
+use Rattle.place_core.specs.Tags.{tag_named, ValueState}
 use Rattle.place_core.proofs.Readings.{read-append, text_bytes-append}
 use Rattle.page_set.specs.Escapes.{replacement_bytes, html_row, html}
-use Rattle.page_set.specs.Shape.{marked}
 use Rattle.page_set.specs.Soundness.{as_text}
 use Rattle.page_set.proofs.Bytes.{plain_byte, name_byte, tag_ends}
 use Rattle.page_set.proofs.NameLaws.{both}
@@ -86,13 +87,13 @@ only (b ∷ bytes) t e = only bytes (TextByte b ∷ t) e
 
 -- so it is plain in a text
 pub html_plain : (bytes : List ℕ) (t : List Event) → IsPlain (html bytes) (config (Text Closed) t)
-html_plain bytes t = (refl, (ap (λ (c : Config). c.at) (html_reads bytes []), ap (λ (c : Config). only_text c.told) (html_reads bytes []) ∙ only (as_text bytes) [] refl))
+html_plain bytes t = (refl, (ap (λ (c : Config ValueState). c.at) (html_reads bytes []), ap (λ (c : Config ValueState). only_text c.told) (html_reads bytes []) ∙ only (as_text bytes) [] refl))
 
 pub html_marked : (bytes : List ℕ) (t : List Event) → marked (html bytes) (config (Text Closed) t) ≡ config (Text Closed) (Mark ∷ t)
-html_marked bytes t = ap (λ (c : Config). config c.at (Mark ∷ t)) (html_reads bytes [])
+html_marked bytes t = ap (λ (c : Config ValueState). config c.at (Mark ∷ t)) (html_reads bytes [])
 
 -- a name and its `>` end a tag
-pub name_reads : (m : Mode) (ends : Bool) (name acc : List ℕ) (t : List Event) → list_all is_ascii_alphanumeric name ≡ true
+pub name_reads : (m : Reading) (ends : Bool) (name acc : List ℕ) (t : List Event) → list_all is_ascii_alphanumeric name ≡ true
     → read m (name ++ 62 ∷ []) (config (TagName ends acc) t) ≡ config (after_tag (tag_named ends (acc ++ str_to_ascii_lowercase name))) (TagEnds false ∷ tag_name_bytes name t)
 name_reads m ends [] acc t h = tag_ends m ends acc t ∙ ap (λ (n : List ℕ). config (after_tag (tag_named ends n)) (TagEnds false ∷ t)) (sym (append-nil acc))
 name_reads m ends (b ∷ name) acc t h =

@@ -9,22 +9,24 @@ use Rattle.page_datum.specs.declared.fault.FaultKind.{FaultKind}
 use Rattle.page_datum.specs.declared.files.Files.{Files}
 use Rattle.page_datum.specs.declared.files.NamedFile.{NamedFile}
 use Rattle.place_core.specs.Events.{Event, Mark, text_bytes}
-use Rattle.place_core.specs.Html.{Page, Template, Text, Config, config, read, start}
+use Rattle.place_core.specs.Html.{read, start}
+use Rattle.place_core.specs.Paths.{Symbol, Hole, cut, read_node, read_path}
 use Rattle.place_core.specs.References.{Closed}
+use Rattle.place_core.specs.Shape.{Part, TextPart, HolePart, bytes_of, marked, Reads, shape_of}
+use Rattle.place_core.specs.States.{Page, Template, Text, Config, config}
+use Rattle.place_core.specs.Tags.{ValueState, languages}
 use Rattle.place_core.proofs.Readings.{read-append}
 use Rattle.page_set.specs.Escapes.{html}
 use Rattle.page_set.specs.Making.{IsSet, IsExecution}
-use Rattle.page_set.specs.Path.{Symbol, Hole, read_path, read_written, read_filled, at_cut}
 use Rattle.page_set.specs.Running.{Piece, text_piece, hole_piece, Run, hole_run, field_of, run, page_of, is_root}
-use Rattle.page_set.specs.Shape.{Part, TextPart, HolePart, bytes_of, marked, Reads, shape_of}
-use Rattle.page_set.specs.Soundness.{path_of, parts_of, text_of, texts_of, as_text, ReadsBack, IsSoundFor, IsSound}
+use Rattle.page_set.specs.Soundness.{path_of, parts_of, text_of, texts_of, read_filled, as_text, ReadsBack, IsSoundFor, IsSound}
 use Rattle.page_set.specs.declared.node.Node.{Node}
 use Rattle.page_set.specs.declared.node.Node.TheVariants as node
 use Rattle.page_set.proofs.Readings.{html_reads, html_plain, html_marked}
 use Rattle.page_set.proofs.Wholes.{Wholes, template_whole}
 
 -- a page reads to one place at most
-one_end : (parts : List Part) (from e f : Config) → Reads parts from e → Reads parts from f → e ≡ f
+one_end : (parts : List Part) (from e f : Config ValueState) → Reads parts from e → Reads parts from f → e ≡ f
 one_end [] from e f p q = p ∙ sym q
 one_end (TextPart bytes ∷ parts) from e f p q = one_end parts (read Page bytes from) e f p q
 one_end (HolePart bytes ∷ parts) from e f (inl p) (inl q) = one_end parts (marked bytes from) e f p.1 q.1
@@ -41,29 +43,29 @@ not_faulted : (fault : ExecFault) → faulted fault ≡ done → ⊥
 not_faulted fault e = cc
 
 -- where a run is done, its page reads to the end of its path
-hole_reads : (template : List ℕ) (line : ℕ) (r : Result Data FaultKind) (rest : Run) (t : List Event) (end : Config)
+hole_reads : (template : List ℕ) (line : ℕ) (r : Result Data FaultKind) (rest : Run) (t : List Event) (end : Config ValueState)
     → (rest.ending ≡ done → Reads (parts_of rest.pieces) (config (Text Closed) (Mark ∷ t)) end)
     → (hole_run template line r rest).ending ≡ done → Reads (parts_of (hole_run template line r rest).pieces) (config (Text Closed) t) end
 hole_reads template line (Err kind) rest t end behind e = absurd (not_faulted _ e)
 hole_reads template line (Ok value) rest t end behind e =
-    inl (html_plain (printed value) t, subst (λ (c : Config). Reads (parts_of rest.pieces) c end) (sym (html_marked (printed value) t)) (behind e))
+    inl (html_plain (printed value) t, subst (λ (c : Config ValueState). Reads (parts_of rest.pieces) c end) (sym (html_marked (printed value) t)) (behind e))
 
 reads : (template : List ℕ) (nodes : List Node) (datum : Data) (t : List Event) → Wholes nodes → (run template nodes datum).ending ≡ done
-    → Reads (parts_of (run template nodes datum).pieces) (config (Text Closed) t) (read_path (path_of nodes) (config (Text Closed) t))
+    → Reads (parts_of (run template nodes datum).pieces) (config (Text Closed) t) (read_path languages (path_of nodes) (config (Text Closed) t))
 reads template [] datum t w e = refl
 reads template (node.Text text ∷ nodes) datum t w e =
     let u = w.0 t in
     let parts = parts_of (run template nodes datum).pieces in
-    subst (λ (c : Config). Reads parts c (read_path (path_of nodes) (read_written text (config (Text Closed) t)))) (sym (u.1 Page))
-    (subst (λ (c : Config). Reads parts (config (Text Closed) u.0) (read_path (path_of nodes) (at_cut c.at c.told))) (sym (u.1 Template)) (reads template nodes datum u.0 w.1 e))
+    subst (λ (c : Config ValueState). Reads parts c (read_path languages (path_of nodes) (read_node languages text (config (Text Closed) t)))) (sym (u.1 Page))
+    (subst (λ (c : Config ValueState). Reads parts (config (Text Closed) u.0) (read_path languages (path_of nodes) (cut languages c))) (sym (u.1 Template)) (reads template nodes datum u.0 w.1 e))
 reads template (node.Hole name line ∷ nodes) datum t w e =
-    hole_reads template line (field_of name datum) (run template nodes datum) t (read_path (path_of nodes) (config (Text Closed) (Mark ∷ t))) (reads template nodes datum (Mark ∷ t) w) e
+    hole_reads template line (field_of name datum) (run template nodes datum) t (read_path languages (path_of nodes) (config (Text Closed) (Mark ∷ t))) (reads template nodes datum (Mark ∷ t) w) e
 
-in_text : (nodes : List Node) (t : List Event) → Wholes nodes → (read_path (path_of nodes) (config (Text Closed) t)).at ≡ Text Closed
+in_text : (nodes : List Node) (t : List Event) → Wholes nodes → (read_path languages (path_of nodes) (config (Text Closed) t)).at ≡ Text Closed
 in_text [] t w = refl
 in_text (node.Text text ∷ nodes) t w =
     let u = w.0 t in
-    ap (λ (c : Config). (read_path (path_of nodes) (at_cut c.at c.told)).at) (u.1 Template) ∙ in_text nodes u.0 w.1
+    ap (λ (c : Config ValueState). (read_path languages (path_of nodes) (cut languages c)).at) (u.1 Template) ∙ in_text nodes u.0 w.1
 in_text (node.Hole name line ∷ nodes) t w = in_text nodes (Mark ∷ t) w
 
 -- each value reads back in its place
@@ -72,7 +74,7 @@ hole_values : (template : List ℕ) (line : ℕ) (r : Result Data FaultKind) (re
 hole_values template line (Err kind) rest t behind = tt
 hole_values template line (Ok value) rest t behind = (
   html_plain (printed value) t,
-  ap (λ (c : Config). c.told) (html_reads (printed value) []),
+  ap (λ (c : Config ValueState). c.told) (html_reads (printed value) []),
   subst (ReadsBack rest.pieces) (sym (html_marked (printed value) t)) behind,
 )
 
@@ -103,7 +105,7 @@ whole template (node.Text text ∷ nodes) datum t w e =
     read-append Page text page (config (Text Closed) t)
     ∙ ap (read Page page) (u.1 Page)
     ∙ whole template nodes datum u.0 w.1 e
-    ∙ ap (λ (c : Config). read_filled (path_of nodes) (texts_of nodes datum) (at_cut c.at c.told)) (sym (u.1 Template))
+    ∙ ap (λ (c : Config ValueState). read_filled (path_of nodes) (texts_of nodes datum) (cut languages c)) (sym (u.1 Template))
 whole template (node.Hole name line ∷ nodes) datum t w e =
     hole_whole template line (field_of name datum) (run template nodes datum) (path_of nodes) (texts_of nodes datum) t (λ u. whole template nodes datum u w) e
 
@@ -115,7 +117,7 @@ set_whole (file ∷ second ∷ files) nodes set = absurd set
 sound_for : (template : List ℕ) (nodes : List Node) (datum : Data) → Wholes nodes → (run template nodes datum).ending ≡ done → IsSoundFor template nodes datum (page_of (run template nodes datum).pieces)
 sound_for template nodes datum w e =
     let parts = parts_of (run template nodes datum).pieces in
-    let own : Config = read_path (path_of nodes) start in
+    let own : Config ValueState = read_path languages (path_of nodes) start in
     let ends : Reads parts start own = reads template nodes datum [] w e in
     record {
       finished = e;

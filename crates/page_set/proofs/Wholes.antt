@@ -5,10 +5,11 @@ use Rattle.std.proofs.lemmas.Bool.{ne_eqb, not-true, false≢true, true≢false}
 use Rattle.std.specs.Char.{is_ascii_alphabetic, is_ascii_alphanumeric, to_ascii_lowercase}
 use Rattle.std.specs.List.{list_all}
 use Rattle.std.specs.Str.{str_to_ascii_lowercase}
-use Rattle.place_core.specs.Events.{Event, TextByte, TagNameByte, TagEnds}
-use Rattle.place_core.specs.Html.{Mode, Text, after_tag, content_of, tag_name_bytes, config, read}
+use Rattle.place_core.specs.Events.{Event, TextByte, TagNameByte, TagEnds, tag_name_bytes}
+use Rattle.place_core.specs.Html.{after_tag, content_of, read}
 use Rattle.place_core.specs.References.{Closed}
-use Rattle.place_core.specs.Tags.{tag_named}
+use Rattle.place_core.specs.States.{Reading, Text, config}
+use Rattle.place_core.specs.Tags.{tag_named, ValueState}
 use Rattle.place_core.specs.declared.element.Element.{Element}
 use Rattle.place_core.specs.declared.element.Element.TheVariants as element
 use Rattle.place_core.proofs.Readings.{read-append}
@@ -23,7 +24,7 @@ use Rattle.page_set.proofs.Readings.{name_reads}
 
 -- reading it in a text ends in a text, as a page and as a template
 abbrev pub Whole : List ℕ → Type 0
-Whole bytes = (t : List Event) → (u : List Event) × ((m : Mode) → read m bytes (config (Text Closed) t) ≡ config (Text Closed) u)
+Whole bytes = (t : List Event) → (u : List Event) × ((m : Reading) → read m bytes (config (Text Closed) t) ≡ config (Text Closed) u)
 
 -- after a tag whose element has no state of its own there is text
 other_element : (script style title textarea : Bool) → (script || (style || (title || (textarea || false)))) ≡ false
@@ -34,7 +35,7 @@ other_element false false true textarea e = absurd (true≢false e)
 other_element false false false true e = absurd (true≢false e)
 other_element false false false false e = refl
 
-text_behind : (ends : Bool) (name : List ℕ) (t : List Event) → is_own_state_name name ≡ false → config (after_tag (tag_named ends name)) t ≡ config (Text Closed) t
+text_behind : (ends : Bool) (name : List ℕ) (t : List Event) → is_own_state_name name ≡ false → config {B = ValueState} (after_tag (tag_named ends name)) t ≡ config (Text Closed) t
 text_behind true name t plain = refl
 text_behind false name t plain = ap (λ (e : Element). config (content_of e) t) (other_element (bytes_eq name (codes "script")) (bytes_eq name (codes "style")) (bytes_eq name (codes "title")) (bytes_eq name (codes "textarea")) plain)
 

@@ -6,11 +6,9 @@ pub mod Made
 pub mod Making
 pub mod Names
 pub mod Nodes
-pub mod Path
 pub mod Picked
 pub mod Refusals
 pub mod Running
 pub mod Scanned
 pub mod SetValue
-pub mod Shape
 pub mod Soundness
