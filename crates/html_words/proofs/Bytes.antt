@@ -4,7 +4,7 @@ use Rattle.std.proofs.lemmas.Bool.{cases_lt, and_right, lt-leb, ltb-true, eqb-tr
 use Rattle.std.proofs.lemmas.Bool.Decides.{nat_tests}
 use Rattle.std.specs.Char.{is_ascii_alphanumeric, is_ascii_digit, is_ascii_hexdigit}
 use Rattle.std.specs.Int.{is_in_range}
-use Rattle.place_core.specs.Classes.{Class, White, ExclamationMark, QuotationMark, NumberSign, Ampersand, Apostrophe, HyphenMinus, Solidus, Digit, Semicolon, LessThan, EqualsSign, GreaterThan, QuestionMark, Letter, OtherByte, class_of, is_equals_sign}
+use Rattle.place_core.specs.Classes.{Class, White, ExclamationMark, QuotationMark, NumberSign, Ampersand, Apostrophe, HyphenMinus, Solidus, Digit, Semicolon, LessThan, EqualsSign, GreaterThan, QuestionMark, GraveAccent, Letter, OtherByte, class_of, is_equals_sign}
 use Rattle.place_core.specs.References.{Reference, Open, Form, Begun, Named, Hashed, Decimal, HexMark, Hexadecimal, ReferenceStep, Grows, Closes, Breaks, turn, Closed, begin_reference, plain_bytes, flushed, undone_byte, next_reference}
 
 -- what a byte does to an open reference
@@ -68,7 +68,7 @@ not_one b c h e = ne_eqb b c (λ same. omega (arith, ltb-true c 256 e))
 -- the other bytes are of no class of their own
 no_class : (b : ℕ) → 256 ≤ b → class_of b ≡ OtherByte
 unfolding class_of
-no_class b h = rw (past 9 10 b h refl, past 12 13 b h refl, past 32 32 b h refl, not_one b 33 h refl, not_one b 34 h refl, not_one b 35 h refl, not_one b 38 h refl, not_one b 39 h refl, not_one b 45 h refl, not_one b 47 h refl, past 48 57 b h refl, not_one b 59 h refl, not_one b 60 h refl, not_one b 61 h refl, not_one b 62 h refl, not_one b 63 h refl, past 65 70 b h refl, past 97 102 b h refl, not_one b 88 h refl, not_one b 120 h refl, past 65 90 b h refl, past 97 122 b h refl) refl
+no_class b h = rw (past 9 10 b h refl, past 12 13 b h refl, past 32 32 b h refl, not_one b 33 h refl, not_one b 34 h refl, not_one b 35 h refl, not_one b 38 h refl, not_one b 39 h refl, not_one b 45 h refl, not_one b 47 h refl, past 48 57 b h refl, not_one b 59 h refl, not_one b 60 h refl, not_one b 61 h refl, not_one b 62 h refl, not_one b 63 h refl, not_one b 96 h refl, past 65 70 b h refl, past 97 102 b h refl, not_one b 88 h refl, not_one b 120 h refl, past 65 90 b h refl, past 97 122 b h refl) refl
 
 no_turn : (f : Form) (b : ℕ) → 256 ≤ b → turn_at f b ≡ Breaks
 no_turn f b h =
@@ -131,6 +131,7 @@ plain_class b LessThan e = (refl, refl)
 plain_class b EqualsSign e = (refl, refl)
 plain_class b GreaterThan e = (refl, refl)
 plain_class b QuestionMark e = (refl, refl)
+plain_class b GraveAccent e = (refl, refl)
 plain_class b (Letter l) e = (refl, refl)
 plain_class b OtherByte e = (refl, refl)
 

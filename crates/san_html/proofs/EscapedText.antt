@@ -6,50 +6,55 @@ use Rattle.std.proofs.lemmas.Bool.{cases_lt, and_parts, and_from, agree_below, n
 use Rattle.std.proofs.lemmas.Str.{encode_ascii}
 use Rattle.esc_table.specs.Replaced.{written, replaced_all}
 use Rattle.place_core.specs.Classes.{class_of}
-use Rattle.place_core.specs.Events.{Event, TextByte, BlockByte, ValueByte, text_bytes, block_bytes, value_bytes}
-use Rattle.place_core.specs.Html.{Page, Text, Rcdata, Block, AttributeValue, config, read}
+use Rattle.place_core.specs.Events.{Event, TextByte, BlockByte, ValueByte, text_bytes, block_bytes}
+use Rattle.place_core.specs.Html.{read}
 use Rattle.place_core.specs.Plain.{only_text, only_block, only_value, IsPlain}
 use Rattle.place_core.specs.References.{Closed, meaning, flushed, undone}
-use Rattle.place_core.specs.Tags.{Tag, ValueOf, Quoting, DoubleQuoted, SingleQuoted, Unquoted}
+use Rattle.place_core.specs.States.{Page, Text, config}
+use Rattle.place_core.specs.Tags.{Tag, Value, ValueOf, ValueState, languages, with_bytes, told_bytes, Quoting, DoubleQuoted, SingleQuoted, Unquoted}
 use Rattle.place_core.specs.declared.element.Element.{Element}
+use Rattle.place_core.specs.declared.element.Element.TheVariants as element
 use Rattle.place_core.specs.declared.kind.Kind.{Kind}
 use Rattle.place_core.specs.declared.kind.Kind.TheVariants as kind
 use Rattle.place_core.proofs.Bytes.{class-high}
-use Rattle.place_core.proofs.Readings.{is_own_in_text, is_own_in_block, is_own_in_quoted, text-byte, rcdata-byte, block-byte, double-byte, single-byte, undone-byte, text_bytes-append, value_bytes-append}
-use Rattle.san_html.specs.ReadBack.{as_text, is_quoted, IsBackInText, IsBackInRcdata, IsBackInBlock, IsBackInQuoted}
+use Rattle.place_core.proofs.Readings.{is_own_in_text, is_own_in_block, is_own_in_quoted, text-byte, rcdata-byte, block-byte, double-byte, single-byte, undone-byte, text_bytes-append, told_bytes-append}
+use Rattle.san_html.specs.ReadBack.{as_text, is_quoted, in_rcdata, in_block, in_value, after_text, IsBackInText, IsBackInRcdata, IsBackInBlock, IsBackInQuoted}
 use Rattle.san_html.specs.Sanitizers.{html_rows}
 use Rattle.san_html.proofs.Rows.{AllRows, written-has}
-use Rattle.san_html.proofs.Takes.{AllHigh, encode-high, as_text-append, Place, Takes, is_covered, all_true, covered, takes-text, high-text}
+use Rattle.san_html.proofs.Takes.{AllHigh, encode-high, as_text-append, Telling, Place, Takes, is_covered, all_true, covered, takes-text, high-text}
 
 -- bytes that stand for themselves
-text-place : Place (Text Closed) text_bytes is_own_in_text
-text-place = record { byte = text-byte; none = λ t. refl; more = text_bytes-append; high = refl }
+abbrev telling_text : Telling
+telling_text v = text_bytes
 
-rcdata-place : (e : Element) → Place (Rcdata e Closed) text_bytes is_own_in_text
-rcdata-place e = record { byte = λ b t h. rcdata-byte b e t h; none = λ t. refl; more = text_bytes-append; high = refl }
+text-place : Place (λ (v : Value ValueState). Text Closed) telling_text is_own_in_text
+text-place = record { byte = λ b v t h. text-byte b t h; none = λ v t. refl; more = λ v. text_bytes-append; high = refl }
 
-double-place : (tag : Tag) (k : Kind) → Place (AttributeValue DoubleQuoted tag (ValueOf k) Closed) value_bytes is_own_in_quoted
-double-place tag k = record { byte = λ b t h. double-byte b tag k t h; none = λ t. refl; more = value_bytes-append; high = refl }
+rcdata-place : (e : Element) → Place (λ (v : Value ValueState). in_rcdata e) telling_text is_own_in_text
+rcdata-place e = record { byte = λ b v t h. rcdata-byte b e t h; none = λ v t. refl; more = λ v. text_bytes-append; high = refl }
 
-single-place : (tag : Tag) (k : Kind) → Place (AttributeValue SingleQuoted tag (ValueOf k) Closed) value_bytes is_own_in_quoted
-single-place tag k = record { byte = λ b t h. single-byte b tag k t h; none = λ t. refl; more = value_bytes-append; high = refl }
+double-place : (tag : Tag) → Place (in_value DoubleQuoted tag) (told_bytes languages) is_own_in_quoted
+double-place tag = record { byte = λ b v t h. double-byte languages b tag v t h; none = λ v t. refl; more = told_bytes-append languages; high = refl }
+
+single-place : (tag : Tag) → Place (in_value SingleQuoted tag) (told_bytes languages) is_own_in_quoted
+single-place tag = record { byte = λ b v t h. single-byte languages b tag v t h; none = λ v t. refl; more = told_bytes-append languages; high = refl }
 
 -- the rows are read as their characters
-text-rows : AllRows (Takes (Text Closed) text_bytes) html_rows
+text-rows : AllRows (Takes (λ (v : Value ValueState). Text Closed) telling_text) html_rows
 unfolding class_of meaning flushed lib.Utf8.encode
-text-rows = (λ t. refl, (λ t. refl, (λ t. refl, (λ t. refl, (λ t. refl, (λ t. refl, (λ t. refl, tt)))))))
+text-rows = (λ v t. refl, (λ v t. refl, (λ v t. refl, (λ v t. refl, (λ v t. refl, (λ v t. refl, (λ v t. refl, tt)))))))
 
-rcdata-rows : (e : Element) → AllRows (Takes (Rcdata e Closed) text_bytes) html_rows
+rcdata-rows : (e : Element) → AllRows (Takes (λ (v : Value ValueState). in_rcdata e) telling_text) html_rows
 unfolding class_of meaning flushed lib.Utf8.encode
-rcdata-rows e = (λ t. refl, (λ t. refl, (λ t. refl, (λ t. refl, (λ t. refl, (λ t. refl, (λ t. refl, tt)))))))
+rcdata-rows e = (λ v t. refl, (λ v t. refl, (λ v t. refl, (λ v t. refl, (λ v t. refl, (λ v t. refl, (λ v t. refl, tt)))))))
 
-double-rows : (tag : Tag) (k : Kind) → AllRows (Takes (AttributeValue DoubleQuoted tag (ValueOf k) Closed) value_bytes) html_rows
+double-rows : (tag : Tag) → AllRows (Takes (in_value DoubleQuoted tag) (told_bytes languages)) html_rows
 unfolding class_of meaning flushed lib.Utf8.encode
-double-rows tag k = (λ t. refl, (λ t. refl, (λ t. refl, (λ t. refl, (λ t. refl, (λ t. refl, (λ t. refl, tt)))))))
+double-rows tag = (λ v t. refl, (λ v t. refl, (λ v t. refl, (λ v t. refl, (λ v t. refl, (λ v t. refl, (λ v t. refl, tt)))))))
 
-single-rows : (tag : Tag) (k : Kind) → AllRows (Takes (AttributeValue SingleQuoted tag (ValueOf k) Closed) value_bytes) html_rows
+single-rows : (tag : Tag) → AllRows (Takes (in_value SingleQuoted tag) (told_bytes languages)) html_rows
 unfolding class_of meaning flushed lib.Utf8.encode
-single-rows tag k = (λ t. refl, (λ t. refl, (λ t. refl, (λ t. refl, (λ t. refl, (λ t. refl, (λ t. refl, tt)))))))
+single-rows tag = (λ v t. refl, (λ v t. refl, (λ v t. refl, (λ v t. refl, (λ v t. refl, (λ v t. refl, (λ v t. refl, tt)))))))
 
 -- every other byte of ASCII stands for itself
 text-covered : agree_below (is_covered html_rows is_own_in_text) all_true 128 ≡ true
@@ -69,35 +74,44 @@ only-block : (bs : List ℕ) (t : List Event) → only_block t ≡ true → only
 only-block [] t e = e
 only-block (b ∷ bs) t e = only-block bs (BlockByte b ∷ t) e
 
-pub only-value : (bs : List ℕ) (t : List Event) → only_value t ≡ true → only_value (value_bytes bs t) ≡ true
-only-value [] t e = e
-only-value (b ∷ bs) t e = only-value bs (ValueByte b ∷ t) e
+-- a value of a kind holds nothing but the kind, and its bytes are told as they are
+pub same-kind : (k : Kind) (bs : List ℕ) → with_bytes languages (ValueOf k) bs ≡ ValueOf k
+same-kind k [] = refl
+same-kind k (b ∷ bs) = same-kind k bs
+
+pub only-value : (k : Kind) (bs : List ℕ) (t : List Event) → only_value t ≡ true → only_value (told_bytes languages (ValueOf k) bs t) ≡ true
+only-value k [] t e = e
+only-value k (b ∷ bs) t e = only-value k bs (ValueByte b ∷ t) e
 
 -- bytes that tell nothing but a text are plain
 text-plain : (text bytes : List ℕ) (t : List Event) → read Page bytes (config (Text Closed) []) ≡ config (Text Closed) (text_bytes text []) → IsPlain bytes (config (Text Closed) t)
 text-plain text bytes t e = (refl, rw e (refl, only-text text [] refl))
 
-rcdata-plain : (x : Element) (text bytes : List ℕ) (t : List Event) → read Page bytes (config (Rcdata x Closed) []) ≡ config (Rcdata x Closed) (text_bytes text []) → IsPlain bytes (config (Rcdata x Closed) t)
+rcdata-plain : (x : Element) (text bytes : List ℕ) (t : List Event) → read Page bytes (config (in_rcdata x) []) ≡ config (in_rcdata x) (text_bytes text []) → IsPlain bytes (config (in_rcdata x) t)
 rcdata-plain x text bytes t e = (refl, rw e (refl, only-text text [] refl))
 
-block-plain : (text bytes : List ℕ) (t : List Event) → read Page bytes (config Block []) ≡ config Block (block_bytes text []) → IsPlain bytes (config Block t)
+block-plain : (text bytes : List ℕ) (t : List Event) → read Page bytes (config in_block []) ≡ config in_block (block_bytes text []) → IsPlain bytes (config in_block t)
 block-plain text bytes t e = (refl, rw e (refl, only-block text [] refl))
 
-quoted-plain : (q : Quoting) (tag : Tag) (text bytes : List ℕ) (t : List Event) → is_quoted q ≡ true → read Page bytes (config (AttributeValue q tag (ValueOf kind.Plain) Closed) []) ≡ config (AttributeValue q tag (ValueOf kind.Plain) Closed) (value_bytes text []) → IsPlain bytes (config (AttributeValue q tag (ValueOf kind.Plain) Closed) t)
-quoted-plain DoubleQuoted tag text bytes t q e = (refl, rw e (refl, only-value text [] refl))
-quoted-plain SingleQuoted tag text bytes t q e = (refl, rw e (refl, only-value text [] refl))
+quoted-plain : (q : Quoting) (tag : Tag) (text bytes : List ℕ) (t : List Event) → is_quoted q ≡ true → read Page bytes (config (in_value q tag (ValueOf kind.Plain)) []) ≡ after_text q tag (ValueOf kind.Plain) text [] → IsPlain bytes (config (in_value q tag (ValueOf kind.Plain)) t)
+quoted-plain DoubleQuoted tag text bytes t q e = (refl, rw e (ap (in_value DoubleQuoted tag) (same-kind kind.Plain text), only-value kind.Plain text [] refl))
+quoted-plain SingleQuoted tag text bytes t q e = (refl, rw e (ap (in_value SingleQuoted tag) (same-kind kind.Plain text), only-value kind.Plain text [] refl))
 quoted-plain Unquoted tag text bytes t q e = cc
 
+-- in text the value counts for nothing
+abbrev no_value : Value ValueState
+no_value = ValueOf kind.Plain
+
 text-reads : (cs : List ℕ) (t : List Event) → read Page (replaced_all html_rows cs) (config (Text Closed) t) ≡ config (Text Closed) (text_bytes (as_text (encode_utf8_all cs)) t)
-text-reads cs t = takes-text (Text Closed) text_bytes is_own_in_text html_rows text-place text-rows text-covered cs t
+text-reads cs t = takes-text (λ (v : Value ValueState). Text Closed) telling_text is_own_in_text html_rows text-place text-rows text-covered cs no_value t
 
-rcdata-reads : (e : Element) (cs : List ℕ) (t : List Event) → read Page (replaced_all html_rows cs) (config (Rcdata e Closed) t) ≡ config (Rcdata e Closed) (text_bytes (as_text (encode_utf8_all cs)) t)
-rcdata-reads e cs t = takes-text (Rcdata e Closed) text_bytes is_own_in_text html_rows (rcdata-place e) (rcdata-rows e) text-covered cs t
+rcdata-reads : (e : Element) (cs : List ℕ) (t : List Event) → read Page (replaced_all html_rows cs) (config (in_rcdata e) t) ≡ config (in_rcdata e) (text_bytes (as_text (encode_utf8_all cs)) t)
+rcdata-reads e cs t = takes-text (λ (v : Value ValueState). in_rcdata e) telling_text is_own_in_text html_rows (rcdata-place e) (rcdata-rows e) text-covered cs no_value t
 
-quoted-reads : (q : Quoting) (tag : Tag) (k : Kind) (cs : List ℕ) (t : List Event) → is_quoted q ≡ true → read Page (replaced_all html_rows cs) (config (AttributeValue q tag (ValueOf k) Closed) t) ≡ config (AttributeValue q tag (ValueOf k) Closed) (value_bytes (as_text (encode_utf8_all cs)) t)
-quoted-reads DoubleQuoted tag k cs t q = takes-text (AttributeValue DoubleQuoted tag (ValueOf k) Closed) value_bytes is_own_in_quoted html_rows (double-place tag k) (double-rows tag k) quoted-covered cs t
-quoted-reads SingleQuoted tag k cs t q = takes-text (AttributeValue SingleQuoted tag (ValueOf k) Closed) value_bytes is_own_in_quoted html_rows (single-place tag k) (single-rows tag k) quoted-covered cs t
-quoted-reads Unquoted tag k cs t q = cc
+quoted-reads : (q : Quoting) (tag : Tag) (v : Value ValueState) (cs : List ℕ) (t : List Event) → is_quoted q ≡ true → read Page (replaced_all html_rows cs) (config (in_value q tag v) t) ≡ after_text q tag v (as_text (encode_utf8_all cs)) t
+quoted-reads DoubleQuoted tag v cs t q = takes-text (in_value DoubleQuoted tag) (told_bytes languages) is_own_in_quoted html_rows (double-place tag) (double-rows tag) quoted-covered cs v t
+quoted-reads SingleQuoted tag v cs t q = takes-text (in_value SingleQuoted tag) (told_bytes languages) is_own_in_quoted html_rows (single-place tag) (single-rows tag) quoted-covered cs v t
+quoted-reads Unquoted tag v cs t q = cc
 
 pub back-in-text : (cs : List ℕ) → IsBackInText (encode_utf8_all cs) (replaced_all html_rows cs)
 back-in-text cs = record {
@@ -113,8 +127,8 @@ back-in-rcdata cs = record {
 
 pub back-in-quoted : (cs : List ℕ) → IsBackInQuoted (encode_utf8_all cs) (replaced_all html_rows cs)
 back-in-quoted cs = record {
-  plain = λ q tag t h. quoted-plain q tag (as_text (encode_utf8_all cs)) (replaced_all html_rows cs) t h (quoted-reads q tag kind.Plain cs [] h);
-  reads = λ q tag k t h. quoted-reads q tag k cs t h;
+  plain = λ q tag t h. quoted-plain q tag (as_text (encode_utf8_all cs)) (replaced_all html_rows cs) t h (quoted-reads q tag (ValueOf kind.Plain) cs [] h);
+  reads = λ q tag v t h. quoted-reads q tag v cs t h;
 }
 
 -- in a data block: none of the bytes is a `<`
@@ -142,11 +156,11 @@ own-written c = written-has IsOwn html_rows c own-rows (λ none. elim (cases_lt 
   | inr high ↦ own-high (encode_utf8 c) (encode-high c high)
 ])
 
-block-bytes-read : (bs : List ℕ) (t : List Event) → list_all (λ b. is_own_in_block (class_of b)) bs ≡ true → read Page bs (config Block t) ≡ config Block (block_bytes bs t)
+block-bytes-read : (bs : List ℕ) (t : List Event) → list_all (λ b. is_own_in_block (class_of b)) bs ≡ true → read Page bs (config in_block t) ≡ config in_block (block_bytes bs t)
 block-bytes-read [] t h = refl
 block-bytes-read (b ∷ bs) t h =
     let parts = and_parts (is_own_in_block (class_of b)) (list_all (λ b. is_own_in_block (class_of b)) bs) h in
-    ap (read Page bs) (block-byte b t parts.0) ∙ block-bytes-read bs (BlockByte b ∷ t) parts.1
+    ap (read Page bs) (block-byte b element.DataBlock t parts.0) ∙ block-bytes-read bs (BlockByte b ∷ t) parts.1
 
 all-append : (p : ℕ → Bool) (xs ys : List ℕ) → list_all p xs ≡ true → list_all p ys ≡ true → list_all p (xs ++ ys) ≡ true
 all-append p [] ys h k = k
@@ -156,7 +170,7 @@ replaced-own : (cs : List ℕ) → list_all (λ b. is_own_in_block (class_of b))
 replaced-own [] = refl
 replaced-own (c ∷ cs) = all-append (λ b. is_own_in_block (class_of b)) (written html_rows c) (replaced_all html_rows cs) (own-written c) (replaced-own cs)
 
-block-reads : (cs : List ℕ) (t : List Event) → read Page (replaced_all html_rows cs) (config Block t) ≡ config Block (block_bytes (replaced_all html_rows cs) t)
+block-reads : (cs : List ℕ) (t : List Event) → read Page (replaced_all html_rows cs) (config in_block t) ≡ config in_block (block_bytes (replaced_all html_rows cs) t)
 block-reads cs t = block-bytes-read (replaced_all html_rows cs) t (replaced-own cs)
 
 -- with references undone the bytes of a character are the character

@@ -7,9 +7,10 @@ use Rattle.std.specs.Str.{str_to_ascii_lowercase}
 use Rattle.std.proofs.lemmas.Bool.{cases_lt, and_parts, agree_below, agree_below_at, true≢false, false≢true, or_from, cond_both, eqb-true, eqb-false, not-true, ltb-true, ltb-false}
 use Rattle.place_core.specs.Classes.{class_of}
 use Rattle.place_core.specs.Events.{Event, AttributeBegins, AttributeNameByte, attribute_name_bytes}
-use Rattle.place_core.specs.Html.{Page, State, BeforeAttributeName, AttributeName, AfterAttributeName, AfterAttributeValue, SelfClosingStartTag, Config, config, read}
+use Rattle.place_core.specs.Html.{read}
 use Rattle.place_core.specs.Plain.{IsPlainName, IsPlain}
-use Rattle.place_core.specs.Tags.{Tag, without_value}
+use Rattle.place_core.specs.States.{Page, State, BeforeAttributeName, AttributeName, AfterAttributeName, AfterAttributeValue, SelfClosingStartTag, Config, config}
+use Rattle.place_core.specs.Tags.{Tag, ValueState, without_value}
 use Rattle.place_core.specs.declared.element.Element.TheVariants as element
 use Rattle.place_core.specs.Words.{is_special, is_plain, kind_on, is_among, special_names}
 use Rattle.place_core.proofs.Bytes.{range-high}
@@ -75,7 +76,7 @@ rest-reads tag (b ∷ bs) name t h =
     ∙ rest-reads tag bs (name ++ to_ascii_lowercase b ∷ []) (AttributeNameByte (to_ascii_lowercase b) ∷ t) parts.1
     ∙ ap (λ (n : List ℕ). config (AttributeName tag n) (attribute_name_bytes (str_to_ascii_lowercase (b ∷ bs)) t)) (append_assoc name (to_ascii_lowercase b ∷ []) (str_to_ascii_lowercase bs))
 
-abbrev Whole : State → Tag → List ℕ → List Event → Type 0
+abbrev Whole : State ValueState → Tag → List ℕ → List Event → Type 0
 Whole s tag bytes t = read Page bytes (config s t) ≡ config (AttributeName tag (str_to_ascii_lowercase bytes)) (attribute_name_bytes (str_to_ascii_lowercase bytes) (AttributeBegins ∷ t))
 
 word-reads : (tag : Tag) (b : ℕ) (bs : List ℕ) (t : List Event) → list_all is_ascii_alphanumeric (b ∷ bs) ≡ true → Whole (BeforeAttributeName tag) tag (b ∷ bs) t
@@ -85,14 +86,14 @@ word-reads tag b bs t h =
     ∙ rest-reads tag bs (to_ascii_lowercase b ∷ []) (AttributeNameByte (to_ascii_lowercase b) ∷ AttributeBegins ∷ t) parts.1
 
 -- wherever a name may begin
-begun : (s : State) (tag : Tag) (b : ℕ) (bs : List ℕ) (t : List Event) → BeginsName s tag → list_all is_ascii_alphanumeric (b ∷ bs) ≡ true → Whole s tag (b ∷ bs) t
+begun : (s : State ValueState) (tag : Tag) (b : ℕ) (bs : List ℕ) (t : List Event) → BeginsName s tag → list_all is_ascii_alphanumeric (b ∷ bs) ≡ true → Whole s tag (b ∷ bs) t
 begun (BeforeAttributeName before) tag b bs t i h = rw i (word-reads before b bs t h)
 begun (AfterAttributeName before k) tag b bs t i h = rw i (after-name-byte b bs before k t (word b (and_parts (is_ascii_alphanumeric b) (list_all is_ascii_alphanumeric bs) h).0).class ∙ word-reads (without_value before k) b bs t h)
 begun (AfterAttributeValue before) tag b bs t i h = rw i (word-reads before b bs t h)
 begun (SelfClosingStartTag before) tag b bs t i h = rw i (solidus-byte b bs before t (word b (and_parts (is_ascii_alphanumeric b) (list_all is_ascii_alphanumeric bs) h).0).class ∙ word-reads before b bs t h)
 begun _ tag b bs t i h = absurd i
 
-whole : (s : State) (tag : Tag) (bytes : List ℕ) (t : List Event) → BeginsName s tag → bytes ≢ [] → list_all is_ascii_alphanumeric bytes ≡ true → Whole s tag bytes t
+whole : (s : State ValueState) (tag : Tag) (bytes : List ℕ) (t : List Event) → BeginsName s tag → bytes ≢ [] → list_all is_ascii_alphanumeric bytes ≡ true → Whole s tag bytes t
 whole s tag [] t i n h = absurd (n refl)
 whole s tag (b ∷ bs) t i n h = begun s tag b bs t i h
 
@@ -101,10 +102,10 @@ lower-some : (bs : List ℕ) → bs ≢ [] → str_to_ascii_lowercase bs ≢ []
 lower-some [] n e = n refl
 lower-some (b ∷ bs) n e = cc
 
-named : (tag : Tag) (bytes : List ℕ) (d : Config) → bytes ≢ [] → list_all is_ascii_alphanumeric bytes ≡ true → is_special bytes ≡ false → d ≡ config (AttributeName tag (str_to_ascii_lowercase bytes)) (attribute_name_bytes (str_to_ascii_lowercase bytes) (AttributeBegins ∷ [])) → IsPlainName tag bytes d
+named : (tag : Tag) (bytes : List ℕ) (d : Config ValueState) → bytes ≢ [] → list_all is_ascii_alphanumeric bytes ≡ true → is_special bytes ≡ false → d ≡ config (AttributeName tag (str_to_ascii_lowercase bytes)) (attribute_name_bytes (str_to_ascii_lowercase bytes) (AttributeBegins ∷ [])) → IsPlainName tag bytes d
 named tag bytes d n h s e = rw e (record { within = refl; told = refl; some = n; letters = h; harmless = s })
 
-plain : (s : State) (tag : Tag) (bytes : List ℕ) (t : List Event) → BeginsName s tag → bytes ≢ [] → list_all is_ascii_alphanumeric bytes ≡ true → is_special bytes ≡ false → IsPlain bytes (config s t)
+plain : (s : State ValueState) (tag : Tag) (bytes : List ℕ) (t : List Event) → BeginsName s tag → bytes ≢ [] → list_all is_ascii_alphanumeric bytes ≡ true → is_special bytes ≡ false → IsPlain bytes (config s t)
 plain (BeforeAttributeName before) tag bytes t i n h f = (refl, named before bytes _ n h f (whole (BeforeAttributeName before) before bytes [] refl n h))
 plain (AfterAttributeName before k) tag bytes t i n h f = (refl, named (without_value before k) bytes _ n h f (whole (AfterAttributeName before k) (without_value before k) bytes [] refl n h))
 plain (AfterAttributeValue before) tag bytes t i n h f = (refl, named before bytes _ n h f (whole (AfterAttributeValue before) before bytes [] refl n h))

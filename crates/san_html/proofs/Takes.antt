@@ -7,9 +7,11 @@ use Rattle.esc_table.specs.Rows.{Row, found}
 use Rattle.esc_table.specs.Replaced.{written, replaced_all}
 use Rattle.place_core.specs.Classes.{Class, OtherByte, class_of}
 use Rattle.place_core.specs.Events.{Event}
-use Rattle.place_core.specs.Html.{Page, State, config, read}
+use Rattle.place_core.specs.Html.{read}
+use Rattle.place_core.specs.States.{Page, State, config}
+use Rattle.place_core.specs.Tags.{Value, ValueState, languages, with_byte, with_bytes}
 use Rattle.place_core.proofs.Bytes.{class-high}
-use Rattle.place_core.proofs.Readings.{read-append}
+use Rattle.place_core.proofs.Readings.{read-append, with_bytes-append}
 use Rattle.san_html.specs.ReadBack.{as_byte, as_text}
 use Rattle.san_html.proofs.Rows.{AllRows, written-has}
 
@@ -37,23 +39,27 @@ pub high-text : (bs : List ℕ) → AllHigh bs → as_text bs ≡ bs
 high-text [] h = refl
 high-text (b ∷ bs) h = rw (high-byte b h.0, high-text bs h.1) refl
 
--- A place of a page: how bytes are told there, and the classes of bytes that stand for themselves.
-pub record Place (at : State) (tells : List ℕ → List Event → List Event) (own : Class → Bool) : Type 0 where
-  pub byte : (b : ℕ) (t : List Event) → own (class_of b) ≡ true → read Page (b ∷ []) (config at t) ≡ config at (tells (b ∷ []) t)
-  pub none : (t : List Event) → tells [] t ≡ t
-  pub more : (xs ys : List ℕ) (t : List Event) → tells (xs ++ ys) t ≡ tells ys (tells xs t)
+-- what bytes of a text tell, by the value so far; outside of values it counts for nothing
+abbrev pub Telling : Type 0
+Telling = Value ValueState → List ℕ → List Event → List Event
+
+-- A place of a page, by the value so far: how bytes are told there, and the classes of bytes that stand for themselves.
+pub record Place (at : Value ValueState → State ValueState) (tells : Telling) (own : Class → Bool) : Type 0 where
+  pub byte : (b : ℕ) (v : Value ValueState) (t : List Event) → own (class_of b) ≡ true → read Page (b ∷ []) (config (at v) t) ≡ config (at (with_byte languages v b)) (tells v (b ∷ []) t)
+  pub none : (v : Value ValueState) (t : List Event) → tells v [] t ≡ t
+  pub more : (v : Value ValueState) (xs ys : List ℕ) (t : List Event) → tells v (xs ++ ys) t ≡ tells (with_bytes languages v xs) ys (tells v xs t)
   pub high : own OtherByte ≡ true
 
 -- bytes that are read there as a character of a text
-abbrev pub Takes : State → (List ℕ → List Event → List Event) → ℕ → List ℕ → Type 0
-Takes at tells c bytes = (t : List Event) → read Page bytes (config at t) ≡ config at (tells (as_text (encode_utf8 c)) t)
+abbrev pub Takes : (Value ValueState → State ValueState) → Telling → ℕ → List ℕ → Type 0
+Takes at tells c bytes = (v : Value ValueState) (t : List Event) → read Page bytes (config (at v) t) ≡ config (at (with_bytes languages v (as_text (encode_utf8 c)))) (tells v (as_text (encode_utf8 c)) t)
 
-high-bytes : (at : State) (tells : List ℕ → List Event → List Event) (own : Class → Bool) → Place at tells own → (bs : List ℕ) → AllHigh bs → (t : List Event) → read Page bs (config at t) ≡ config at (tells bs t)
-high-bytes at tells own p [] h t = ap (config at) (sym (p.none t))
-high-bytes at tells own p (b ∷ bs) h t =
-    ap (read Page bs) (p.byte b t (ap own (class-high b h.0) ∙ p.high))
-    ∙ high-bytes at tells own p bs h.1 (tells (b ∷ []) t)
-    ∙ ap (config at) (sym (p.more (b ∷ []) bs t))
+high-bytes : (at : Value ValueState → State ValueState) (tells : Telling) (own : Class → Bool) → Place at tells own → (bs : List ℕ) → AllHigh bs → (v : Value ValueState) (t : List Event) → read Page bs (config (at v) t) ≡ config (at (with_bytes languages v bs)) (tells v bs t)
+high-bytes at tells own p [] h v t = ap (config (at v)) (sym (p.none v t))
+high-bytes at tells own p (b ∷ bs) h v t =
+    ap (read Page bs) (p.byte b v t (ap own (class-high b h.0) ∙ p.high))
+    ∙ high-bytes at tells own p bs h.1 (with_byte languages v b) (tells v (b ∷ []) t)
+    ∙ ap (config (at (with_bytes languages v (b ∷ bs)))) (sym (p.more v (b ∷ []) bs t))
 
 -- whether a byte of ASCII has a row, or is not NUL and stands for itself
 abbrev pub is_covered : List Row → (Class → Bool) → ℕ → Bool
@@ -68,18 +74,18 @@ no e = cc
 pub covered : (rows : List Row) (own : Class → Bool) (c : ℕ) → agree_below (is_covered rows own) all_true 128 ≡ true → c < 128 → found rows c ≡ None → (own (class_of c) && not (c == 0)) ≡ true
 covered rows own c all h e = ap (λ (o : Option (List ℕ)). is_some o || (own (class_of c) && not (c == 0))) (sym e) ∙ agree_below_at (is_covered rows own) all_true 128 c all h
 
-own-low : (at : State) (tells : List ℕ → List Event → List Event) (own : Class → Bool) → Place at tells own → (c : ℕ) → c < 128 → (own (class_of c) && not (c == 0)) ≡ true → Takes at tells c (encode_utf8 c)
-own-low at tells own p c h e t =
+own-low : (at : Value ValueState → State ValueState) (tells : Telling) (own : Class → Bool) → Place at tells own → (c : ℕ) → c < 128 → (own (class_of c) && not (c == 0)) ≡ true → Takes at tells c (encode_utf8 c)
+own-low at tells own p c h e v t =
     let parts = and_parts (own (class_of c)) (not (c == 0)) e in
     let kept : as_text (c ∷ []) ≡ c ∷ [] = rw (not-true (c == 0) parts.1) refl in
-    rw (encode_ascii c h) (p.byte c t parts.0 ∙ ap (λ (xs : List ℕ). config at (tells xs t)) (sym kept))
+    rw (encode_ascii c h) (p.byte c v t parts.0 ∙ ap (λ (xs : List ℕ). config (at (with_bytes languages v xs)) (tells v xs t)) (sym kept))
 
-own-high : (at : State) (tells : List ℕ → List Event → List Event) (own : Class → Bool) → Place at tells own → (c : ℕ) → 128 ≤ c → Takes at tells c (encode_utf8 c)
-own-high at tells own p c h t =
-    high-bytes at tells own p (encode_utf8 c) (encode-high c h) t
-    ∙ ap (λ (xs : List ℕ). config at (tells xs t)) (sym (high-text (encode_utf8 c) (encode-high c h)))
+own-high : (at : Value ValueState → State ValueState) (tells : Telling) (own : Class → Bool) → Place at tells own → (c : ℕ) → 128 ≤ c → Takes at tells c (encode_utf8 c)
+own-high at tells own p c h v t =
+    high-bytes at tells own p (encode_utf8 c) (encode-high c h) v t
+    ∙ ap (λ (xs : List ℕ). config (at (with_bytes languages v xs)) (tells v xs t)) (sym (high-text (encode_utf8 c) (encode-high c h)))
 
-pub takes-written : (at : State) (tells : List ℕ → List Event → List Event) (own : Class → Bool) (rows : List Row) → Place at tells own → AllRows (Takes at tells) rows → agree_below (is_covered rows own) all_true 128 ≡ true → (c : ℕ) → Takes at tells c (written rows c)
+pub takes-written : (at : Value ValueState → State ValueState) (tells : Telling) (own : Class → Bool) (rows : List Row) → Place at tells own → AllRows (Takes at tells) rows → agree_below (is_covered rows own) all_true 128 ≡ true → (c : ℕ) → Takes at tells c (written rows c)
 takes-written at tells own rows p all tested c =
     written-has (Takes at tells) rows c all (λ none. elim (cases_lt c 128) [
       | inl low ↦ own-low at tells own p c low (covered rows own c tested low none)
@@ -87,11 +93,14 @@ takes-written at tells own rows p all tested c =
     ])
 
 -- the whole text
-pub takes-text : (at : State) (tells : List ℕ → List Event → List Event) (own : Class → Bool) (rows : List Row) → Place at tells own → AllRows (Takes at tells) rows → agree_below (is_covered rows own) all_true 128 ≡ true → (cs : List ℕ) (t : List Event) → read Page (replaced_all rows cs) (config at t) ≡ config at (tells (as_text (encode_utf8_all cs)) t)
-takes-text at tells own rows p all tested [] t = ap (config at) (sym (p.none t))
-takes-text at tells own rows p all tested (c ∷ cs) t =
-    read-append Page (written rows c) (replaced_all rows cs) (config at t)
-    ∙ ap (read Page (replaced_all rows cs)) (takes-written at tells own rows p all tested c t)
-    ∙ takes-text at tells own rows p all tested cs (tells (as_text (encode_utf8 c)) t)
-    ∙ ap (config at) (sym (p.more (as_text (encode_utf8 c)) (as_text (encode_utf8_all cs)) t))
-    ∙ ap (λ (xs : List ℕ). config at (tells xs t)) (sym (as_text-append (encode_utf8 c) (encode_utf8_all cs)))
+pub takes-text : (at : Value ValueState → State ValueState) (tells : Telling) (own : Class → Bool) (rows : List Row) → Place at tells own → AllRows (Takes at tells) rows → agree_below (is_covered rows own) all_true 128 ≡ true → (cs : List ℕ) (v : Value ValueState) (t : List Event) → read Page (replaced_all rows cs) (config (at v) t) ≡ config (at (with_bytes languages v (as_text (encode_utf8_all cs)))) (tells v (as_text (encode_utf8_all cs)) t)
+takes-text at tells own rows p all tested [] v t = ap (config (at v)) (sym (p.none v t))
+takes-text at tells own rows p all tested (c ∷ cs) v t =
+    let first = as_text (encode_utf8 c) in
+    let others = as_text (encode_utf8_all cs) in
+    read-append Page (written rows c) (replaced_all rows cs) (config (at v) t)
+    ∙ ap (read Page (replaced_all rows cs)) (takes-written at tells own rows p all tested c v t)
+    ∙ takes-text at tells own rows p all tested cs (with_bytes languages v first) (tells v first t)
+    ∙ ap (config (at (with_bytes languages (with_bytes languages v first) others))) (sym (p.more v first others t))
+    ∙ ap (λ (w : Value ValueState). config (at w) (tells v (first ++ others) t)) (sym (with_bytes-append languages v first others))
+    ∙ ap (λ (xs : List ℕ). config (at (with_bytes languages v xs)) (tells v xs t)) (sym (as_text-append (encode_utf8 c) (encode_utf8_all cs)))

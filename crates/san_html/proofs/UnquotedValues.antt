@@ -6,35 +6,36 @@ use Rattle.std.proofs.lemmas.Bool.{cases_lt, cases_Bool, and_parts, agree_below,
 use Rattle.std.proofs.lemmas.Str.{encode_ascii, length-encode, len_utf8_bounds}
 use Rattle.esc_table.specs.Replaced.{written, replaced, replaced_all}
 use Rattle.place_core.specs.Classes.{Class, White, QuotationMark, Ampersand, Apostrophe, GreaterThan, class_of}
-use Rattle.place_core.specs.Events.{Event, ValueByte, value_bytes}
-use Rattle.place_core.specs.Html.{Page, BeforeAttributeValue, AttributeValue, config, read}
+use Rattle.place_core.specs.Events.{Event, ValueByte}
+use Rattle.place_core.specs.Html.{read}
 use Rattle.place_core.specs.Plain.{IsPlainUnquoted, begins_at_once}
 use Rattle.place_core.specs.References.{Closed, meaning, flushed}
-use Rattle.place_core.specs.Tags.{Tag, ValueOf, value_of, Unquoted}
+use Rattle.place_core.specs.States.{Page, BeforeAttributeValue, config}
+use Rattle.place_core.specs.Tags.{Tag, Value, ValueOf, ValueState, languages, value_of, told_bytes, Unquoted}
 use Rattle.place_core.specs.declared.kind.Kind.{Kind}
 use Rattle.place_core.specs.declared.kind.Kind.TheVariants as kind
 use Rattle.place_core.proofs.Bytes.{class-high, class-white}
-use Rattle.place_core.proofs.Readings.{is_own_in_unquoted, begins_unquoted, unquoted-byte, unbegun-byte, value_bytes-append}
-use Rattle.san_html.specs.ReadBack.{as_byte, as_text, as_unquoted, IsBackInUnquoted}
+use Rattle.place_core.proofs.Readings.{is_own_in_unquoted, begins_unquoted, unquoted-byte, unbegun-byte, told_bytes-append}
+use Rattle.san_html.specs.ReadBack.{as_byte, as_text, as_unquoted, in_value, after_text, IsBackInUnquoted}
 use Rattle.san_html.specs.Sanitizers.{attr_nospace_rows, failsafe}
-use Rattle.san_html.proofs.EscapedText.{only-value}
+use Rattle.san_html.proofs.EscapedText.{same-kind, only-value}
 use Rattle.san_html.proofs.Results.{for-text}
 use Rattle.san_html.proofs.Rows.{AllRows, written-has}
 use Rattle.san_html.proofs.Takes.{AllHigh, encode-high, Place, Takes, is_covered, all_true, covered, takes-text}
 
-unquoted-place : (tag : Tag) (k : Kind) → Place (AttributeValue Unquoted tag (ValueOf k) Closed) value_bytes is_own_in_unquoted
-unquoted-place tag k = record { byte = λ b t h. unquoted-byte b tag k t h; none = λ t. refl; more = value_bytes-append; high = refl }
+unquoted-place : (tag : Tag) → Place (in_value Unquoted tag) (told_bytes languages) is_own_in_unquoted
+unquoted-place tag = record { byte = λ b v t h. unquoted-byte languages b tag v t h; none = λ v t. refl; more = told_bytes-append languages; high = refl }
 
-unquoted-rows : (tag : Tag) (k : Kind) → AllRows (Takes (AttributeValue Unquoted tag (ValueOf k) Closed) value_bytes) attr_nospace_rows
+unquoted-rows : (tag : Tag) → AllRows (Takes (in_value Unquoted tag) (told_bytes languages)) attr_nospace_rows
 unfolding class_of meaning flushed lib.Utf8.encode
-unquoted-rows tag k = (λ t. refl, (λ t. refl, (λ t. refl, (λ t. refl, (λ t. refl, (λ t. refl, (λ t. refl, (λ t. refl, (λ t. refl, (λ t. refl, (λ t. refl, (λ t. refl, (λ t. refl, (λ t. refl, (λ t. refl, tt)))))))))))))))
+unquoted-rows tag = (λ v t. refl, (λ v t. refl, (λ v t. refl, (λ v t. refl, (λ v t. refl, (λ v t. refl, (λ v t. refl, (λ v t. refl, (λ v t. refl, (λ v t. refl, (λ v t. refl, (λ v t. refl, (λ v t. refl, (λ v t. refl, (λ v t. refl, tt)))))))))))))))
 
 unquoted-covered : agree_below (is_covered attr_nospace_rows is_own_in_unquoted) all_true 128 ≡ true
 unfolding class_of
 unquoted-covered = refl
 
-unquoted-reads : (tag : Tag) (k : Kind) (cs : List ℕ) (t : List Event) → read Page (replaced_all attr_nospace_rows cs) (config (AttributeValue Unquoted tag (ValueOf k) Closed) t) ≡ config (AttributeValue Unquoted tag (ValueOf k) Closed) (value_bytes (as_text (encode_utf8_all cs)) t)
-unquoted-reads tag k cs t = takes-text (AttributeValue Unquoted tag (ValueOf k) Closed) value_bytes is_own_in_unquoted attr_nospace_rows (unquoted-place tag k) (unquoted-rows tag k) unquoted-covered cs t
+unquoted-reads : (tag : Tag) (v : Value ValueState) (cs : List ℕ) (t : List Event) → read Page (replaced_all attr_nospace_rows cs) (config (in_value Unquoted tag v) t) ≡ after_text Unquoted tag v (as_text (encode_utf8_all cs)) t
+unquoted-reads tag v cs t = takes-text (in_value Unquoted tag) (told_bytes languages) is_own_in_unquoted attr_nospace_rows (unquoted-place tag) (unquoted-rows tag) unquoted-covered cs v t
 
 -- what is written for a character begins with a byte that begins an unquoted value
 abbrev begins : List ℕ → Bool
@@ -76,9 +77,9 @@ begins-append : (xs ys : List ℕ) → begins xs ≡ true → begins (xs ++ ys) 
 begins-append [] ys h = cc
 begins-append (x ∷ xs) ys h = h
 
-unbegun : (bytes : List ℕ) (tag : Tag) (k : Kind) (t : List Event) → begins bytes ≡ true → value_of k ≡ ValueOf k → read Page bytes (config (BeforeAttributeValue tag k) t) ≡ read Page bytes (config (AttributeValue Unquoted tag (ValueOf k) Closed) t)
-unbegun [] tag k t h e = cc
-unbegun (b ∷ bs) tag k t h e = rw (sym e) (unbegun-byte b bs tag k t h)
+unbegun : (bytes : List ℕ) (tag : Tag) (k : Kind) (t : List Event) → begins bytes ≡ true → read Page bytes (config (BeforeAttributeValue tag k) t) ≡ read Page bytes (config (in_value Unquoted tag (value_of languages k)) t)
+unbegun [] tag k t h = cc
+unbegun (b ∷ bs) tag k t h = unbegun-byte languages b bs tag k t h
 
 -- .. and is no white space
 no-white : (b : ℕ) → begins_unquoted (class_of b) ≡ true → not (is_ascii_whitespace b) ≡ true
@@ -96,29 +97,29 @@ unquoted-some : (text : List ℕ) → text ≢ [] → as_unquoted text ≡ as_te
 unquoted-some [] n = absurd (n refl)
 unquoted-some (b ∷ bs) n = refl
 
-told-some : (bs : List ℕ) (e : Event) (t : List Event) → value_bytes bs (e ∷ t) ≢ []
+told-some : (bs : List ℕ) (e : Event) (t : List Event) → told_bytes languages (ValueOf kind.Plain) bs (e ∷ t) ≢ []
 told-some [] e t h = cc
 told-some (b ∷ bs) e t h = told-some bs (ValueByte b) (e ∷ t) h
 
-byte-some : (b : ℕ) (bs : List ℕ) → value_bytes (as_byte b ++ bs) [] ≢ []
+byte-some : (b : ℕ) (bs : List ℕ) → told_bytes languages (ValueOf kind.Plain) (as_byte b ++ bs) [] ≢ []
 byte-some b bs = elim (cases_Bool (b == 0)) [
   | inl e ↦ rw e (told-some (191 ∷ 189 ∷ bs) (ValueByte 239) [])
   | inr e ↦ rw e (told-some bs (ValueByte b) [])
 ]
 
-text-some : (text : List ℕ) → text ≢ [] → value_bytes (as_text text) [] ≢ []
+text-some : (text : List ℕ) → text ≢ [] → told_bytes languages (ValueOf kind.Plain) (as_text text) [] ≢ []
 text-some [] n = absurd (n refl)
 text-some (b ∷ bs) n = byte-some b (as_text bs)
 
-unquoted-plain : (tag : Tag) (text bytes : List ℕ) → text ≢ [] → read Page bytes (config (AttributeValue Unquoted tag (ValueOf kind.Plain) Closed) []) ≡ config (AttributeValue Unquoted tag (ValueOf kind.Plain) Closed) (value_bytes (as_text text) []) → IsPlainUnquoted tag (read Page bytes (config (AttributeValue Unquoted tag (ValueOf kind.Plain) Closed) []))
-unquoted-plain tag text bytes n e = rw e (record { within = refl; told = only-value (as_text text) [] refl; some = text-some text n })
+unquoted-plain : (tag : Tag) (text bytes : List ℕ) → text ≢ [] → read Page bytes (config (in_value Unquoted tag (ValueOf kind.Plain)) []) ≡ after_text Unquoted tag (ValueOf kind.Plain) (as_text text) [] → IsPlainUnquoted tag (read Page bytes (config (in_value Unquoted tag (ValueOf kind.Plain)) []))
+unquoted-plain tag text bytes n e = rw e (record { within = ap (in_value Unquoted tag) (same-kind kind.Plain (as_text text)); told = only-value kind.Plain (as_text text) [] refl; some = text-some text n })
 
-back : (text bytes : List ℕ) → text ≢ [] → begins bytes ≡ true → ((tag : Tag) (k : Kind) (t : List Event) → read Page bytes (config (AttributeValue Unquoted tag (ValueOf k) Closed) t) ≡ config (AttributeValue Unquoted tag (ValueOf k) Closed) (value_bytes (as_text text) t)) → IsBackInUnquoted text bytes
+back : (text bytes : List ℕ) → text ≢ [] → begins bytes ≡ true → ((tag : Tag) (v : Value ValueState) (t : List Event) → read Page bytes (config (in_value Unquoted tag v) t) ≡ after_text Unquoted tag v (as_text text) t) → IsBackInUnquoted text bytes
 back text bytes n h reads = record {
-  plain = λ tag t. (refl, unquoted-plain tag text bytes n (reads tag kind.Plain []));
-  reads = λ tag k t. rw (unquoted-some text n) (reads tag k t);
-  plain_unbegun = λ tag t. (refl, (at-once bytes h, subst (IsPlainUnquoted tag) (sym (unbegun bytes tag kind.Plain [] h refl)) (unquoted-plain tag text bytes n (reads tag kind.Plain []))));
-  reads_unbegun = λ tag k t e. unbegun bytes tag k t h e ∙ rw (unquoted-some text n) (reads tag k t);
+  plain = λ tag t. (refl, unquoted-plain tag text bytes n (reads tag (ValueOf kind.Plain) []));
+  reads = λ tag v t. rw (unquoted-some text n) (reads tag v t);
+  plain_unbegun = λ tag t. (refl, (at-once bytes h, subst (IsPlainUnquoted tag) (sym (unbegun bytes tag kind.Plain [] h)) (unquoted-plain tag text bytes n (reads tag (ValueOf kind.Plain) []))));
+  reads_unbegun = λ tag k t. unbegun bytes tag k t h ∙ rw (unquoted-some text n) (reads tag (value_of languages k) t);
 }
 
 abbrev BackSome : List ℕ → List ℕ → Type 0
@@ -126,7 +127,7 @@ BackSome text bytes = text ≢ [] → IsBackInUnquoted text bytes
 
 back-some : (cs : List ℕ) → BackSome (encode_utf8_all cs) (replaced_all attr_nospace_rows cs)
 back-some [] n = absurd (n refl)
-back-some (c ∷ cs) n = back (encode_utf8_all (c ∷ cs)) (replaced_all attr_nospace_rows (c ∷ cs)) n (begins-append (written attr_nospace_rows c) (replaced_all attr_nospace_rows cs) (written-begins c)) (λ tag k t. unquoted-reads tag k (c ∷ cs) t)
+back-some (c ∷ cs) n = back (encode_utf8_all (c ∷ cs)) (replaced_all attr_nospace_rows (c ∷ cs)) n (begins-append (written attr_nospace_rows c) (replaced_all attr_nospace_rows cs) (written-begins c)) (λ tag v t. unquoted-reads tag v (c ∷ cs) t)
 
 pub some-result : {E : Type 0} (text : List ℕ) → IsUtf8 text → text ≢ [] → (result : Result (List ℕ) E) → IfOk result (λ bytes. bytes ≡ replaced attr_nospace_rows text) → IfOk result (IsBackInUnquoted text)
 some-result text u n (Ok bytes) e = subst (IsBackInUnquoted text) (sym e) (for-text BackSome attr_nospace_rows back-some text u n)
@@ -137,9 +138,9 @@ back-failsafe : IsBackInUnquoted [] failsafe
 unfolding class_of
 back-failsafe = record {
   plain = λ tag t. (refl, record { within = refl; told = refl; some = λ e. cc });
-  reads = λ tag k t. refl;
+  reads = λ tag v t. refl;
   plain_unbegun = λ tag t. (refl, (refl, record { within = refl; told = refl; some = λ e. cc }));
-  reads_unbegun = λ tag k t e. rw e refl;
+  reads_unbegun = λ tag k t. refl;
 }
 
 pub none-result : {E : Type 0} (text : List ℕ) → text ≡ [] → (result : Result (List ℕ) E) → IfOk result (λ bytes. bytes ≡ failsafe) → IfOk result (IsBackInUnquoted text)
