@@ -1,3 +1,4 @@
+pub mod ClassViews
 pub mod Fronts
 pub mod Laws
 pub mod Steps
