@@ -1,4 +1,6 @@
 pub mod ClassViews
+pub mod FrontViews
 pub mod Fronts
 pub mod Laws
+pub mod Slices
 pub mod Steps

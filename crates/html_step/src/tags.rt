@@ -1,0 +1,152 @@
+ghost use Rattle.std.specs.Prelude.{◌≡◌, ◌+◌, ◌<◌, ◌≤◌, ℕ, List, get_or, length, Some, None};
+ghost use Rattle.std.specs.Str.{str_to_ascii_lowercase as lower};
+ghost use Rattle.place_core.specs.StatePlaces.{only_after, only_before};
+ghost use Rattle.html_step.specs.ClassViews.{class_at};
+ghost use Rattle.html_step.specs.FrontViews.{front_at, held_from};
+ghost use Rattle.html_step.specs.Fronts.{At, after_white as after_white_of, attribute_name_next, content_front, in_tag as in_tag_of, kind_body, tag_next, typed_with as typed_with_of, value_front};
+ghost use Rattle.html_step.specs.Slices.{held};
+
+use crate::class::Class;
+use crate::front::Front;
+use place_core::{Bare, Body, Element, Kind, Place, Quotes, Spots, TagOf, TagPlace, ValuePlace};
+
+// Where in a tag a path stands alone.
+const BEFORE: Spots = Spots {
+    name: false,
+    before: true,
+    inside: false,
+    after: false,
+};
+const AFTER: Spots = Spots {
+    name: false,
+    before: false,
+    inside: false,
+    after: true,
+};
+
+/// Where a value has not begun.
+pub const UNBEGUN: Quotes = Quotes::Bare(Bare {
+    uq: false,
+    unbegun: true,
+});
+
+/// Before an attribute.
+pub fn before_name(tag: TagOf, typed: bool) -> Place
+    ensures { At result ≡ in_tag_of tag typed only_before None }
+{
+    Place::Tag(TagPlace {
+        tag,
+        typed,
+        spots: BEFORE,
+        kind: None,
+    })
+}
+
+/// After the end of a tag.
+pub fn content(tag: TagOf) -> Place
+    ensures { At result ≡ content_front tag }
+{
+    match tag {
+        TagOf::Start(Element::Title) => Place::Rcdata(Element::Title),
+        TagOf::Start(Element::Textarea) => Place::Rcdata(Element::Textarea),
+        _ => Place::Text,
+    }
+}
+
+/// In a tag, where a text begins or after a blank or a value.
+pub fn in_tag(place: TagPlace, class: Class, index: usize) -> Front
+    ensures front { (text : List ℕ) → index < length text → front_at text (index + 1) result
+        ≡ tag_next place (class_at class) (get_or text index 0) }
+    ensures held { held_from result ≤ index }
+{
+    match class {
+        Class::White => Front::At(Place::Tag(TagPlace {
+            tag: place.tag,
+            typed: place.typed,
+            spots: after_white(place.spots),
+            kind: place.kind,
+        })),
+        Class::Solidus => Front::At(before_name(place.tag, place.typed)),
+        Class::GreaterThan => Front::At(content(place.tag)),
+        Class::EqualsSign => Front::At(value_begins(place.tag, place.typed, body_of(place.kind))),
+        _ => Front::InAttributeName {
+            tag: place.tag,
+            typed: place.typed,
+            from: index,
+        },
+    }
+}
+
+/// In the name of an attribute, which is of this kind so far.
+pub fn in_attribute_name(class: Class, tag: TagOf, typed: bool, kind: Kind, from: usize) -> Front
+    ensures front { (text : List ℕ) (k : ℕ) → from ≤ k → k < length text → front_at text (k + 1) result
+        ≡ attribute_name_next (class_at class) (get_or text k 0) tag typed kind
+            (lower (held text from k)) }
+    ensures held { held_from result ≤ from }
+{
+    match class {
+        Class::White => Front::At(after_name(tag, typed, kind)),
+        Class::Solidus => Front::At(before_name(tag, typed_with(tag, typed, kind))),
+        Class::GreaterThan => Front::At(content(tag)),
+        Class::EqualsSign => Front::At(value_begins(tag, typed, body_of(Some(kind)))),
+        _ => Front::InAttributeName { tag, typed, from },
+    }
+}
+
+// After the name of an attribute, and a blank.
+fn after_name(tag: TagOf, typed: bool, kind: Kind) -> Place
+    ensures { At result ≡ in_tag_of tag (typed_with_of tag typed kind) only_after (Some kind) }
+{
+    Place::Tag(TagPlace {
+        tag,
+        typed: typed_with(tag, typed, kind),
+        spots: AFTER,
+        kind: Some(kind),
+    })
+}
+
+/// Whether a `type` may have been seen after the name of an attribute.
+pub fn typed_with(tag: TagOf, typed: bool, kind: Kind) -> bool
+    ensures { result ≡ typed_with_of tag typed kind }
+{
+    match (tag, kind) {
+        (TagOf::Start(_), Kind::ScriptType) => true,
+        _ => typed,
+    }
+}
+
+fn after_white(spots: Spots) -> Spots
+    ensures { result ≡ after_white_of spots }
+{
+    Spots {
+        name: false,
+        before: spots.name || spots.before,
+        inside: false,
+        after: spots.inside || spots.after,
+    }
+}
+
+// Where a value of this body begins; of a kind that is not read yet, it is refused.
+fn value_begins(tag: TagOf, typed: bool, body: Option<Body>) -> Place
+    ensures { At result ≡ value_front tag typed body }
+{
+    match body {
+        Some(body) => Place::Value(ValuePlace {
+            tag,
+            typed,
+            quotes: UNBEGUN,
+            body,
+        }),
+        None => Place::Text,
+    }
+}
+
+fn body_of(kind: Option<Kind>) -> Option<Body>
+    ensures { result ≡ kind_body kind }
+{
+    match kind {
+        Some(Kind::Plain) => Some(Body::Plain),
+        Some(Kind::NoHole) => Some(Body::NoHole),
+        _ => None,
+    }
+}
