@@ -1,3 +1,4 @@
 pub mod HeldNames
+pub mod Lowered
 pub mod OnePath
 pub mod OneTexts

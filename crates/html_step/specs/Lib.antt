@@ -3,4 +3,5 @@ pub mod FrontViews
 pub mod Fronts
 pub mod Laws
 pub mod Slices
+pub mod StepViews
 pub mod Steps

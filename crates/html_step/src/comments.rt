@@ -30,7 +30,9 @@ pub fn in_comment_end(class: Class, stage: CommentStage) -> Front
     match (class, stage) {
         (Class::GreaterThan, CommentStage::Dash) => Front::At(Place::Comment(false)),
         (Class::GreaterThan, _) => Front::At(Place::Text),
-        (Class::HyphenMinus, CommentStage::Started) => Front::InCommentEnd(CommentStage::StartedDash),
+        (Class::HyphenMinus, CommentStage::Started) => Front::InCommentEnd(
+            CommentStage::StartedDash,
+        ),
         (Class::HyphenMinus, CommentStage::Bang) => Front::InCommentEnd(CommentStage::Dash),
         (Class::HyphenMinus, _) => Front::InCommentEnd(CommentStage::DashDash),
         (Class::ExclamationMark, CommentStage::DashDash) => Front::InCommentEnd(CommentStage::Bang),

@@ -38,7 +38,13 @@ pub fn after_content_less(class: Class, element: Element, index: usize) -> Front
 }
 
 /// In a title or a textarea, after `</` and letters: whether the byte goes on with its name, and whether they are all of it.
-pub fn in_content_name(class: Class, grows: bool, whole: bool, element: Element, from: usize) -> Front
+pub fn in_content_name(
+    class: Class,
+    grows: bool,
+    whole: bool,
+    element: Element,
+    from: usize,
+) -> Front
     ensures front { (text : List ℕ) (k : ℕ) → from ≤ k → k < length text → front_at text (k + 1) result
         ≡ end_name_next grows whole (class_at class) (get_or text k 0) element (held text from k) }
     ensures held { held_from result ≤ from }

@@ -33,7 +33,13 @@ pub fn in_tag_name(tag: TagOf, class: Class) -> Option<Code>
 }
 
 /// Why a byte is refused in the name of an attribute of this kind, of which so many bytes have been read.
-pub fn in_attribute_name(tag: TagOf, typed: bool, kind: Kind, len: usize, class: Class) -> Option<Cause>
+pub fn in_attribute_name(
+    tag: TagOf,
+    typed: bool,
+    kind: Kind,
+    len: usize,
+    class: Class,
+) -> Option<Cause>
     ensures error { cause_at result ≡ attribute_name_error tag typed kind len (class_at class) }
     ensures bound { IfSome result (λ cause. cause.back ≤ len) }
 {
@@ -52,7 +58,10 @@ pub fn name_ends(typed: bool, kind: Kind, len: usize, code: Option<Code>) -> Opt
     ensures bound { IfSome result (λ cause. cause.back ≤ len) }
 {
     if is_second(typed, kind) {
-        return Some(Cause { code: Code::BadHTML, back: len });
+        return Some(Cause {
+            code: Code::BadHTML,
+            back: len,
+        });
     }
     at_hand(code)
 }
@@ -65,7 +74,9 @@ fn in_tag(place: TagPlace, class: Class) -> Option<Code>
         Class::White | Class::Solidus => None,
         Class::GreaterThan => entering(place.tag),
         Class::EqualsSign => equals_sign(place.spots.name, place.spots.before, place.kind),
-        Class::QuotationMark | Class::Apostrophe | Class::LessThan => Some(no_name(place.spots.name)),
+        Class::QuotationMark | Class::Apostrophe | Class::LessThan => Some(no_name(
+            place.spots.name,
+        )),
         _ => {
             if place.spots.name || place.spots.inside {
                 Some(Code::SplitToken)
@@ -80,7 +91,11 @@ fn in_tag(place: TagPlace, class: Class) -> Option<Code>
 fn no_name(name: bool) -> Code
     ensures { result ≡ (if name then code.SplitToken else code.BadHTML) }
 {
-    if name { Code::SplitToken } else { Code::BadHTML }
+    if name {
+        Code::SplitToken
+    } else {
+        Code::BadHTML
+    }
 }
 
 // An equals sign begins a value after a name alone.
@@ -135,7 +150,9 @@ fn in_comment(dash: bool, class: Class) -> Option<Code>
     ensures { result ≡ comment_error dash (class_at class) }
 {
     match class {
-        Class::HyphenMinus | Class::ExclamationMark | Class::GreaterThan if dash => Some(Code::SplitToken),
+        Class::HyphenMinus | Class::ExclamationMark | Class::GreaterThan if dash => Some(
+            Code::SplitToken,
+        ),
         _ => None,
     }
 }

@@ -12,15 +12,27 @@ pub enum Front {
     /// In text, after `</`.
     AfterLessSolidus,
     /// In text, after `<!` and what has been read since.
-    InDeclaration { from: usize },
+    InDeclaration {
+        from: usize,
+    },
     /// In the name of a tag, an end tag or not.
-    InTagName { ends: bool, from: usize },
+    InTagName {
+        ends: bool,
+        from: usize,
+    },
     /// In the name of an attribute of this tag, in which a `type` may have been seen.
-    InAttributeName { tag: TagOf, typed: bool, from: usize },
+    InAttributeName {
+        tag: TagOf,
+        typed: bool,
+        from: usize,
+    },
     /// In a comment, in what may be its end.
     InCommentEnd(CommentStage),
     /// In a title or a textarea, after `<`.
     AfterContentLess(Element),
     /// In a title or a textarea, after `</` and letters.
-    InContentName { element: Element, from: usize },
+    InContentName {
+        element: Element,
+        from: usize,
+    },
 }

@@ -6,14 +6,16 @@ mod class;
 mod comment_stage;
 mod comments;
 mod contents;
-mod tags;
-mod values;
-
 mod errors;
 mod front;
-mod slices;
 mod names;
-
-
+mod next;
+mod refusal;
+mod refusals;
+mod slices;
+mod steps;
+mod tags;
 mod texts;
+mod values;
 
+pub use steps::{after_text, place_before};

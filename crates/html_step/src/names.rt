@@ -4,11 +4,12 @@ ghost use Rattle.place_core.specs.Comments.{declared_by as declared_by_of};
 ghost use Rattle.place_core.specs.Contents.{is_name_of as is_its_name, may_be_name_of as may_be_its_name, name_of as name_of_it};
 ghost use Rattle.place_core.specs.StatePlaces.{tag_of};
 ghost use Rattle.place_core.specs.Tags.{element_of as element_of_name, tag_named as tag_named_of};
+ghost use Rattle.place_core.specs.Words.{kind_of};
 ghost use Rattle.html_step.specs.Fronts.{tag_element};
 ghost use Rattle.html_step.specs.FrontViews.{declaration_at};
 
-use html_words::{begins, same};
-use place_core::{Element, TagOf};
+use html_words::{begins, name_kind, same};
+use place_core::{Element, Kind, TagOf};
 
 /// What bytes after `<!` open.
 #[derive(Clone, Copy)]
@@ -72,6 +73,13 @@ pub fn element_on(tag: TagOf) -> Element
         TagOf::End => Element::Other,
         TagOf::Start(element) => element,
     }
+}
+
+/// The kind of an attribute of this tag, by its name in any case.
+pub fn kind_on(tag: TagOf, name: &[u8]) -> Kind
+    ensures { result ≡ kind_of (tag_element tag) (lower name.now) }
+{
+    name_kind(name, element_on(tag))
 }
 
 /// Whether letters are the name of an element, in any case.

@@ -1,9 +1,10 @@
-ghost use Rattle.std.specs.Prelude.{◌≡◌, ◌+◌, ◌<◌, ◌≤◌, ℕ, List, get_or, length, Some, None};
+ghost use Rattle.std.specs.Prelude.{◌≡◌, ◌+◌, ◌<◌, ◌≤◌, ℕ, List, get_or, length, Some, None, false};
 ghost use Rattle.std.specs.Str.{str_to_ascii_lowercase as lower};
-ghost use Rattle.place_core.specs.StatePlaces.{only_after, only_before};
+ghost use Rattle.place_core.specs.StatePlaces.{only_after, only_before, only_inside, only_name, tag_of};
+ghost use Rattle.place_core.specs.Tags.{tag_named};
 ghost use Rattle.html_step.specs.ClassViews.{class_at};
 ghost use Rattle.html_step.specs.FrontViews.{front_at, held_from};
-ghost use Rattle.html_step.specs.Fronts.{At, after_white as after_white_of, attribute_name_next, content_front, in_tag as in_tag_of, kind_body, tag_next, typed_with as typed_with_of, value_front};
+ghost use Rattle.html_step.specs.Fronts.{At, after_white as after_white_of, attribute_name_next, content_front, in_tag as in_tag_of, kind_body, tag_name_next, tag_next, typed_with as typed_with_of, value_front};
 ghost use Rattle.html_step.specs.Slices.{held};
 
 use crate::class::Class;
@@ -11,12 +12,27 @@ use crate::front::Front;
 use place_core::{Bare, Body, Element, Kind, Place, Quotes, Spots, TagOf, TagPlace, ValuePlace};
 
 // Where in a tag a path stands alone.
+const NAME: Spots = Spots {
+    name: true,
+    before: false,
+    inside: false,
+    after: false,
+};
+
 const BEFORE: Spots = Spots {
     name: false,
     before: true,
     inside: false,
     after: false,
 };
+
+const INSIDE: Spots = Spots {
+    name: false,
+    before: false,
+    inside: true,
+    after: false,
+};
+
 const AFTER: Spots = Spots {
     name: false,
     before: false,
@@ -81,7 +97,7 @@ pub fn in_tag(place: TagPlace, class: Class, index: usize) -> Front
 pub fn in_attribute_name(class: Class, tag: TagOf, typed: bool, kind: Kind, from: usize) -> Front
     ensures front { (text : List ℕ) (k : ℕ) → from ≤ k → k < length text → front_at text (k + 1) result
         ≡ attribute_name_next (class_at class) (get_or text k 0) tag typed kind
-            (lower (held text from k)) }
+        (lower (held text from k)) }
     ensures held { held_from result ≤ from }
 {
     match class {
@@ -149,4 +165,42 @@ fn body_of(kind: Option<Kind>) -> Option<Body>
         Some(Kind::NoHole) => Some(Body::NoHole),
         _ => None,
     }
+}
+
+/// In the name of a tag, which is this tag so far.
+pub fn in_tag_name(class: Class, tag: TagOf, ends: bool, from: usize) -> Front
+    ensures front { (text : List ℕ) (k : ℕ) → from ≤ k → k < length text
+        → tag ≡ tag_of (tag_named ends (lower (held text from k))) → front_at text (k + 1) result
+        ≡ tag_name_next (class_at class) (get_or text k 0) ends (lower (held text from k)) }
+    ensures held { held_from result ≤ from }
+{
+    match class {
+        Class::White | Class::Solidus => Front::At(before_name(tag, false)),
+        Class::GreaterThan => Front::At(content(tag)),
+        _ => Front::InTagName { ends, from },
+    }
+}
+
+/// Where a text ends in the name of a tag.
+pub fn whole_tag_name(tag: TagOf) -> Place
+    ensures { At result ≡ in_tag_of tag false only_name None }
+{
+    Place::Tag(TagPlace {
+        tag,
+        typed: false,
+        spots: NAME,
+        kind: None,
+    })
+}
+
+/// Where a text ends in the name of an attribute.
+pub fn whole_attribute_name(tag: TagOf, typed: bool, kind: Kind) -> Place
+    ensures { At result ≡ in_tag_of tag (typed_with_of tag typed kind) only_inside (Some kind) }
+{
+    Place::Tag(TagPlace {
+        tag,
+        typed: typed_with(tag, typed, kind),
+        spots: INSIDE,
+        kind: Some(kind),
+    })
 }

@@ -29,7 +29,10 @@ pub fn after_less(class: Class, index: usize) -> Front
     ensures held { held_from result ≤ index + 1 }
 {
     match class {
-        Class::Letter(_) => Front::InTagName { ends: false, from: index },
+        Class::Letter(_) => Front::InTagName {
+            ends: false,
+            from: index,
+        },
         Class::Solidus => Front::AfterLessSolidus,
         Class::ExclamationMark => Front::InDeclaration { from: index + 1 },
         _ => in_text(class),
@@ -43,7 +46,10 @@ pub fn after_solidus(class: Class, index: usize) -> Front
     ensures held { held_from result ≤ index }
 {
     match class {
-        Class::Letter(_) => Front::InTagName { ends: true, from: index },
+        Class::Letter(_) => Front::InTagName {
+            ends: true,
+            from: index,
+        },
         _ => in_text(class),
     }
 }
