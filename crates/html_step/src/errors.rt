@@ -1,11 +1,17 @@
-ghost use Rattle.std.specs.Prelude.{◌≡◌, ◌≤◌, IfSome, if◌then◌else◌};
+ghost use Rattle.std.specs.Prelude.{◌≡◌, ◌≤◌, IfSome, length, if◌then◌else◌};
 ghost use Rattle.place_core.specs.declared.code.Code.TheVariants as code;
 ghost use Rattle.place_core.specs.Errors.{at_hand as at_hand_of, attribute_name_error, bare_error, body_error, comment_error, content_error, equals_error, is_second_type, kind_error, place_error, quotes_error, tag_error, tag_name_error, unless_second, value_error};
+ghost use Rattle.std.specs.Str.{str_to_ascii_lowercase as lower};
+ghost use Rattle.place_core.specs.StatePlaces.{tag_of};
+ghost use Rattle.place_core.specs.Tags.{tag_named as tag_named_of};
+ghost use Rattle.place_core.specs.Words.{kind_of};
+ghost use Rattle.html_step.specs.Fronts.{tag_element};
 ghost use Rattle.html_step.specs.ClassViews.{class_at};
 ghost use Rattle.html_step.specs.FrontViews.{cause_at};
 
 use crate::cause::Cause;
 use crate::class::Class;
+use crate::names::{kind_on, tag_named};
 use place_core::{Bare, Body, Code, Element, Kind, Place, Quotes, TagOf, TagPlace, ValuePlace};
 
 /// Why a byte is refused at a place.
@@ -21,32 +27,30 @@ pub fn at_place(place: Place, class: Class) -> Option<Code>
     }
 }
 
-/// Why a byte is refused in the name of a tag.
-pub fn in_tag_name(tag: TagOf, class: Class) -> Option<Code>
-    ensures { result ≡ tag_name_error tag (class_at class) }
+/// Why a byte is refused in the name of a tag, of which this has been read.
+pub fn in_tag_name(ends: bool, name: &[u8], class: Class) -> Option<Code>
+    ensures { result ≡ tag_name_error (tag_of (tag_named_of ends (lower name.now))) (class_at class) }
 {
     match class {
         Class::QuotationMark | Class::Apostrophe | Class::LessThan => Some(Code::BadHTML),
-        Class::GreaterThan => entering(tag),
+        Class::GreaterThan => entering(tag_named(ends, name)),
         _ => None,
     }
 }
 
-/// Why a byte is refused in the name of an attribute of this kind, of which so many bytes have been read.
-pub fn in_attribute_name(
-    tag: TagOf,
-    typed: bool,
-    kind: Kind,
-    len: usize,
-    class: Class,
-) -> Option<Cause>
-    ensures error { cause_at result ≡ attribute_name_error tag typed kind len (class_at class) }
-    ensures bound { IfSome result (λ cause. cause.back ≤ len) }
+/// Why a byte is refused in the name of an attribute, of which this has been read.
+pub fn in_attribute_name(tag: TagOf, typed: bool, name: &[u8], class: Class) -> Option<Cause>
+    ensures error { cause_at result ≡ attribute_name_error tag typed
+        (kind_of (tag_element tag) (lower name.now)) (length name.now) (class_at class) }
+    ensures bound { IfSome result (λ cause. cause.back ≤ length name.now) }
 {
     match class {
-        Class::White | Class::Solidus => name_ends(typed, kind, len, None),
-        Class::GreaterThan => name_ends(typed, kind, len, entering(tag)),
-        Class::EqualsSign => name_ends(typed, kind, len, of_kind(kind)),
+        Class::White | Class::Solidus => name_ends(typed, kind_on(tag, name), name.len(), None),
+        Class::GreaterThan => name_ends(typed, kind_on(tag, name), name.len(), entering(tag)),
+        Class::EqualsSign => {
+            let kind = kind_on(tag, name);
+            name_ends(typed, kind, name.len(), of_kind(kind))
+        }
         Class::QuotationMark | Class::Apostrophe | Class::LessThan => at_hand(Some(Code::BadHTML)),
         _ => None,
     }

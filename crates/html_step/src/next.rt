@@ -7,7 +7,7 @@ use crate::class::Class;
 use crate::comments::{in_comment, in_comment_end};
 use crate::contents::{after_content_less, in_content, in_content_name};
 use crate::front::Front;
-use crate::names::{declared_by, is_name_of, kind_on, may_be_name_of, tag_named};
+use crate::names::{declared_by, is_name_of, may_be_name_of};
 use crate::slices::held;
 use crate::tags::{in_attribute_name, in_tag, in_tag_name};
 use crate::texts::{after_less, after_solidus, in_declaration, in_doctype, in_text};
@@ -30,13 +30,9 @@ pub fn next(text: &[u8], index: usize, class: Class, front: Front) -> Front
             let opens = declared_by(held(text, from, index + 1));
             in_declaration(class, opens, from)
         }
-        Front::InTagName { ends, from } => {
-            let tag = tag_named(ends, held(text, from, index));
-            in_tag_name(class, tag, ends, from)
-        }
+        Front::InTagName { ends, from } => in_tag_name(class, ends, held(text, from, index), from),
         Front::InAttributeName { tag, typed, from } => {
-            let kind = kind_on(tag, held(text, from, index));
-            in_attribute_name(class, tag, typed, kind, from)
+            in_attribute_name(class, tag, typed, held(text, from, index), from)
         }
         Front::InCommentEnd(stage) => in_comment_end(class, stage),
         Front::AfterContentLess(element) => after_content_less(class, element, index),

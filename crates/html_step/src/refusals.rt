@@ -7,7 +7,7 @@ use crate::cause::Cause;
 use crate::class::Class;
 use crate::errors::{at_hand, at_place, in_attribute_name, in_tag_name, name_ends};
 use crate::front::Front;
-use crate::names::{kind_on, tag_named};
+use crate::names::kind_on;
 use crate::slices::held;
 
 /// Why a byte is refused after so many bytes of a text.
@@ -20,12 +20,10 @@ pub fn at_byte(text: &[u8], index: usize, class: Class, front: Front) -> Option<
     match front {
         Front::At(place) => at_hand(at_place(place, class)),
         Front::InTagName { ends, from } => {
-            let tag = tag_named(ends, held(text, from, index));
-            at_hand(in_tag_name(tag, class))
+            at_hand(in_tag_name(ends, held(text, from, index), class))
         }
         Front::InAttributeName { tag, typed, from } => {
-            let name = held(text, from, index);
-            in_attribute_name(tag, typed, kind_on(tag, name), name.len(), class)
+            in_attribute_name(tag, typed, held(text, from, index), class)
         }
         _ => None,
     }

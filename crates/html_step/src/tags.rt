@@ -1,14 +1,15 @@
 ghost use Rattle.std.specs.Prelude.{◌≡◌, ◌+◌, ◌<◌, ◌≤◌, ℕ, List, get_or, length, Some, None, false};
 ghost use Rattle.std.specs.Str.{str_to_ascii_lowercase as lower};
-ghost use Rattle.place_core.specs.StatePlaces.{only_after, only_before, only_inside, only_name, tag_of};
-ghost use Rattle.place_core.specs.Tags.{tag_named};
+ghost use Rattle.place_core.specs.StatePlaces.{only_after, only_before, only_inside, only_name};
+ghost use Rattle.place_core.specs.Words.{kind_of};
 ghost use Rattle.html_step.specs.ClassViews.{class_at};
 ghost use Rattle.html_step.specs.FrontViews.{front_at, held_from};
-ghost use Rattle.html_step.specs.Fronts.{At, after_white as after_white_of, attribute_name_next, content_front, in_tag as in_tag_of, kind_body, tag_name_next, tag_next, typed_with as typed_with_of, value_front};
+ghost use Rattle.html_step.specs.Fronts.{At, after_white as after_white_of, attribute_name_next, content_front, in_tag as in_tag_of, kind_body, tag_element, tag_name_next, tag_next, typed_with as typed_with_of, value_front};
 ghost use Rattle.html_step.specs.Slices.{held};
 
 use crate::class::Class;
 use crate::front::Front;
+use crate::names::{kind_on, tag_named};
 use place_core::{Bare, Body, Element, Kind, Place, Quotes, Spots, TagOf, TagPlace, ValuePlace};
 
 // Where in a tag a path stands alone.
@@ -93,18 +94,21 @@ pub fn in_tag(place: TagPlace, class: Class, index: usize) -> Front
     }
 }
 
-/// In the name of an attribute, which is of this kind so far.
-pub fn in_attribute_name(class: Class, tag: TagOf, typed: bool, kind: Kind, from: usize) -> Front
-    ensures front { (text : List ℕ) (k : ℕ) → from ≤ k → k < length text → front_at text (k + 1) result
-        ≡ attribute_name_next (class_at class) (get_or text k 0) tag typed kind
-        (lower (held text from k)) }
+/// In the name of an attribute, of which this has been read.
+pub fn in_attribute_name(class: Class, tag: TagOf, typed: bool, name: &[u8], from: usize) -> Front
+    ensures front { (text : List ℕ) (k : ℕ) → from ≤ k → k < length text → name.now ≡ held text from k
+        → front_at text (k + 1) result ≡ attribute_name_next (class_at class) (get_or text k 0) tag typed
+        (kind_of (tag_element tag) (lower name.now)) (lower name.now) }
     ensures held { held_from result ≤ from }
 {
     match class {
-        Class::White => Front::At(after_name(tag, typed, kind)),
-        Class::Solidus => Front::At(before_name(tag, typed_with(tag, typed, kind))),
+        Class::White => Front::At(after_name(tag, typed, kind_on(tag, name))),
+        Class::Solidus => Front::At(before_name(tag, typed_with(tag, typed, kind_on(tag, name)))),
         Class::GreaterThan => Front::At(content(tag)),
-        Class::EqualsSign => Front::At(value_begins(tag, typed, body_of(Some(kind)))),
+        Class::EqualsSign => {
+            let kind = kind_on(tag, name);
+            Front::At(value_begins(tag, typed, body_of(Some(kind))))
+        }
         _ => Front::InAttributeName { tag, typed, from },
     }
 }
@@ -167,16 +171,16 @@ fn body_of(kind: Option<Kind>) -> Option<Body>
     }
 }
 
-/// In the name of a tag, which is this tag so far.
-pub fn in_tag_name(class: Class, tag: TagOf, ends: bool, from: usize) -> Front
-    ensures front { (text : List ℕ) (k : ℕ) → from ≤ k → k < length text
-        → tag ≡ tag_of (tag_named ends (lower (held text from k))) → front_at text (k + 1) result
-        ≡ tag_name_next (class_at class) (get_or text k 0) ends (lower (held text from k)) }
+/// In the name of a tag, of which this has been read.
+pub fn in_tag_name(class: Class, ends: bool, name: &[u8], from: usize) -> Front
+    ensures front { (text : List ℕ) (k : ℕ) → from ≤ k → k < length text → name.now ≡ held text from k
+        → front_at text (k + 1) result
+        ≡ tag_name_next (class_at class) (get_or text k 0) ends (lower name.now) }
     ensures held { held_from result ≤ from }
 {
     match class {
-        Class::White | Class::Solidus => Front::At(before_name(tag, false)),
-        Class::GreaterThan => Front::At(content(tag)),
+        Class::White | Class::Solidus => Front::At(before_name(tag_named(ends, name), false)),
+        Class::GreaterThan => Front::At(content(tag_named(ends, name))),
         _ => Front::InTagName { ends, from },
     }
 }
