@@ -3,6 +3,8 @@ pub mod Clashing
 pub mod FromSteps
 pub mod FromTexts
 pub mod FrontOrder
+pub mod HeldNames
+pub mod Lowered
 pub mod OnePath
 pub mod OneTexts
 pub mod PlaceParts

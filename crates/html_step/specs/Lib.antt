@@ -1,3 +1,7 @@
+pub mod ClassViews
+pub mod FrontViews
 pub mod Fronts
 pub mod Laws
+pub mod Slices
+pub mod StepViews
 pub mod Steps

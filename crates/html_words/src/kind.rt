@@ -11,7 +11,13 @@ use place_core::{Element, Kind};
 pub fn attr_kind(name: &str, element: Element) -> Kind
     ensures { result ≡ kind_of element name.now }
 {
-    let name = name.as_bytes();
+    name_kind(name.as_bytes(), element)
+}
+
+/// The same of a name that is given by its bytes. Takes no memory.
+pub fn name_kind(name: &[u8], element: Element) -> Kind
+    ensures { result ≡ kind_of element name.now }
+{
     if is_script(element) && same(name, b"type") {
         return Kind::ScriptType;
     }

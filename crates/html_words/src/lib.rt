@@ -15,8 +15,9 @@ mod utf8;
 mod words;
 
 pub use character::next_char;
-pub use kind::attr_kind;
+pub use kind::{attr_kind, name_kind};
 pub use laws::{cut_is_one_by_one, undone_is_one_by_one};
 pub use ref_chars::RefChars;
 pub use script::script_type;
 pub use special_name::special;
+pub use words::{begins, same};

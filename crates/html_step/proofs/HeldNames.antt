@@ -1,0 +1,15 @@
+-- What has been read of a text grows by the byte at hand.
+use Rattle.std.proofs.Common.{◌≡◌, ℕ, ◌+◌, ◌<◌, ◌≤◌, List, [], ◌∷◌, ◌++◌, length, take, drop, arith}
+use Rattle.std.specs.Prelude.{get_or}
+use Rattle.std.proofs.lemmas.Grind.{take_at_read}
+use Rattle.std.proofs.lemmas.List.{drop-append-le, length-take, length-take-le, drop_at, drop_all}
+use Rattle.html_step.specs.Slices.{held}
+
+pub held_grows : (text : List ℕ) (from k : ℕ) → from ≤ k → k < length text → held text from (k + 1) ≡ held text from k ++ get_or text k 0 ∷ []
+held_grows text from k h i = rw ((take_at_read text k 0 i).1) (drop-append-le from (take k text) _ (rw (length-take-le k text (omega arith)) h))
+
+pub held_begins : (text : List ℕ) (k : ℕ) → k < length text → held text k (k + 1) ≡ get_or text k 0 ∷ []
+held_begins text k i = rw ((take_at_read text k 0 i).1) (drop_at (take k text) _ k (length-take-le k text (omega arith)))
+
+pub held_nothing : (text : List ℕ) (k : ℕ) → held text k k ≡ []
+held_nothing text k = drop_all k (take k text) (omega (arith, length-take {A = ℕ}))

@@ -1,0 +1,110 @@
+ghost use Rattle.std.specs.Prelude.{◌≡◌, codes, nat_eq};
+ghost use Rattle.std.specs.Str.{str_to_ascii_lowercase as lower};
+ghost use Rattle.place_core.specs.Comments.{declared_by as declared_by_of};
+ghost use Rattle.place_core.specs.Contents.{is_name_of as is_its_name, may_be_name_of as may_be_its_name, name_of as name_of_it};
+ghost use Rattle.place_core.specs.StatePlaces.{tag_of};
+ghost use Rattle.place_core.specs.Tags.{element_of as element_of_name, tag_named as tag_named_of};
+ghost use Rattle.place_core.specs.Words.{kind_of};
+ghost use Rattle.html_step.specs.Fronts.{tag_element};
+ghost use Rattle.html_step.specs.FrontViews.{declaration_at};
+
+use html_words::{begins, name_kind, same};
+use place_core::{Element, Kind, TagOf};
+
+/// What bytes after `<!` open.
+#[derive(Clone, Copy)]
+pub enum Declaration {
+    Comment,
+    Doctype,
+    /// What may still become one of these.
+    Unfinished,
+    Nothing,
+}
+
+/// What bytes after `<!` open: a doctype in any case of the letters.
+pub fn declared_by(bytes: &[u8]) -> Declaration
+    ensures { declaration_at result ≡ declared_by_of bytes.now }
+{
+    if bytes == b"--".as_slice() {
+        return Declaration::Comment;
+    }
+    if same(bytes, b"doctype") {
+        return Declaration::Doctype;
+    }
+    if b"--".starts_with(bytes) || begins(b"doctype", bytes) {
+        return Declaration::Unfinished;
+    }
+    Declaration::Nothing
+}
+
+/// The tag of this name, in any case; an end tag or not.
+pub fn tag_named(ends: bool, name: &[u8]) -> TagOf
+    ensures { result ≡ tag_of (tag_named_of ends (lower name.now)) }
+{
+    if ends {
+        return TagOf::End;
+    }
+    TagOf::Start(element_of(name))
+}
+
+fn element_of(name: &[u8]) -> Element
+    ensures { result ≡ element_of_name (lower name.now) }
+{
+    if same(name, b"title") {
+        return Element::Title;
+    }
+    if same(name, b"textarea") {
+        return Element::Textarea;
+    }
+    if same(name, b"style") {
+        return Element::Style;
+    }
+    if same(name, b"script") {
+        return Element::Script;
+    }
+    Element::Other
+}
+
+/// The element on which the attributes of a tag stand; those of an end tag are as on any other element.
+pub fn element_on(tag: TagOf) -> Element
+    ensures { result ≡ tag_element tag }
+{
+    match tag {
+        TagOf::End => Element::Other,
+        TagOf::Start(element) => element,
+    }
+}
+
+/// The kind of an attribute of this tag, by its name in any case.
+pub fn kind_on(tag: TagOf, name: &[u8]) -> Kind
+    ensures { result ≡ kind_of (tag_element tag) (lower name.now) }
+{
+    name_kind(name, element_on(tag))
+}
+
+/// Whether letters are the name of an element, in any case.
+pub fn is_name_of(element: Element, letters: &[u8]) -> bool
+    ensures { result ≡ is_its_name element letters.now }
+{
+    same(letters, name_of(element))
+}
+
+/// Whether letters may become the name of an element.
+pub fn may_be_name_of(element: Element, letters: &[u8]) -> bool
+    ensures { result ≡ may_be_its_name element letters.now }
+{
+    begins(name_of(element), letters)
+}
+
+fn name_of(element: Element) -> &'static [u8]
+    ensures name { result.now ≡ name_of_it element }
+    ensures lower { lower result.now ≡ name_of_it element }
+{
+    match element {
+        Element::Title => b"title",
+        Element::Textarea => b"textarea",
+        Element::Style => b"style",
+        Element::Script | Element::DataBlock => b"script",
+        Element::Other => b"",
+    }
+}

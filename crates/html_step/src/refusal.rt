@@ -1,0 +1,8 @@
+use place_core::Code;
+
+/// What is refused of a text, and at which of its bytes.
+#[derive(Clone, Copy)]
+pub struct Refusal {
+    pub code: Code,
+    pub at: usize,
+}

@@ -1,0 +1,120 @@
+ghost use Rattle.std.specs.Prelude.{◌≡◌, ◌<◌, ◌≤◌, ◌-◌, ◌^◌, IfErr, length};
+ghost use Rattle.html_step.specs.FrontViews.{front_at, held_from};
+ghost use Rattle.html_step.specs.Fronts.{At, front_place};
+ghost use Rattle.html_step.specs.StepViews.{stepped_at};
+ghost use Rattle.html_step.specs.Steps.{after_text as after_text_of, front_after as front_after_of, place_before as place_before_of, stepped as stepped_of};
+
+use crate::cause::Cause;
+use crate::class::class_of;
+use crate::front::Front;
+use crate::names::{kind_on, tag_named};
+use crate::next::next;
+use crate::refusal::Refusal;
+use crate::refusals::{at_byte, at_end};
+use crate::slices::held;
+use crate::tags::{whole_attribute_name, whole_tag_name};
+use place_core::{Place, StepErr};
+
+/// The place after a text, from the place before it; or why the text is refused, and at which of its bytes, with the place before
+/// that byte. (HTML Standard, section 13.2.5.) Of several bytes that are refused it is the first; a name of an attribute that
+/// is refused is so at its first byte. The causes:
+///
+/// - `BadHTML`: a `=`, a quote or a `<` where no name of an attribute may begin with it; a quote or a `<` in a name; a quote, `<`,
+///   `=` or a grave accent in a value without quotes; a second `type` of a script.
+/// - `SplitToken`: a byte at the beginning that goes on with the name, or with the end of a comment, in which the text before it ended.
+/// - `AmbigContext`: a blank that ends a value on some paths, and on others stands before one.
+/// - `NotBuilt`: the content of a script or a style, and a value that is a URL, a script, a style, or the `type` of a script.
+///
+/// Takes no memory.
+pub fn after_text(place: Place, text: &str) -> Result<Place, StepErr<Place>>
+    requires { length text.now < 2 ^ 32 }
+    ensures { result ≡ after_text_of text.now place }
+{
+    match stepped(text.as_bytes(), place) {
+        Ok(after) => Ok(after),
+        Err(refusal) => {
+            let at = refusal.at as u32;
+            Err(StepErr {
+                code: refusal.code,
+                at,
+                before: place_before(place, text, at),
+            })
+        }
+    }
+}
+
+/// The place before a byte of a text, from the place before the text, whatever is refused there. The byte is given by its place in
+/// the text, in bytes; past the text's end it is the place after the text. Takes no memory.
+pub fn place_before(place: Place, text: &str, at: u32) -> Place
+    ensures { result ≡ place_before_of text.now at place }
+{
+    let text = text.as_bytes();
+    let (before, _) = text.split_at((at as usize).min(text.len()));
+    place_of(before, front_after(before, place))
+}
+
+// The place after a text, or what is refused there first.
+fn stepped(text: &[u8], place: Place) -> Result<Place, Refusal>
+    ensures place { stepped_at result ≡ stepped_of 0 text.now (At place) }
+    ensures bound { IfErr result (λ refusal. refusal.at ≤ length text.now) }
+{
+    let mut front = Front::At(place);
+    for index in 0..text.len() {
+        let class = class_of(text[index]);
+        match at_byte(text, index, class, front) {
+            Some(cause) => return Err(refused(cause, index)),
+            None => front = next(text, index, class, front),
+        }
+    }
+    match at_end(text, front) {
+        Some(cause) => Err(refused(cause, text.len())),
+        None => Ok(place_of(text, front)),
+    }
+}
+
+// A cause at a byte, or before it.
+fn refused(cause: Cause, index: usize) -> Refusal
+    requires { cause.back ≤ index }
+    ensures code { result.code ≡ cause.code }
+    ensures at { result.at ≡ index - cause.back }
+    ensures bound { result.at ≤ index }
+{
+    Refusal {
+        code: cause.code,
+        at: index - cause.back,
+    }
+}
+
+// What a text leads to, whatever is refused.
+fn front_after(text: &[u8], place: Place) -> Front
+    ensures front { front_at text.now (length text.now) result ≡ front_after_of text.now (At place) }
+    ensures held { held_from result ≤ length text.now }
+{
+    let mut front = Front::At(place);
+    for index in 0..text.len() {
+        front = next(text, index, class_of(text[index]), front);
+    }
+    front
+}
+
+// The place where a text ends.
+fn place_of(text: &[u8], front: Front) -> Place
+    requires held { held_from front ≤ length text.now }
+    ensures { result ≡ front_place (front_at text.now (length text.now) front) }
+{
+    match front {
+        Front::At(place) => place,
+        Front::AfterLess | Front::AfterLessSolidus | Front::InDeclaration { .. } => Place::Text,
+        Front::InTagName { ends, from } => whole_tag_name(tag_named(
+            ends,
+            held(text, from, text.len()),
+        )),
+        Front::InAttributeName { tag, typed, from } => {
+            let kind = kind_on(tag, held(text, from, text.len()));
+            whole_attribute_name(tag, typed, kind)
+        }
+        Front::InCommentEnd(_) => Place::Comment(true),
+        Front::AfterContentLess(element) => Place::Rcdata(element),
+        Front::InContentName { element, .. } => Place::Rcdata(element),
+    }
+}
