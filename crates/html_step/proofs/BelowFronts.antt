@@ -1,10 +1,9 @@
 -- What is below a front, front by front.
-use Rattle.std.proofs.Common.{◌≡◌, ℕ, Bool, true, false, ◌||◌, List, Option, Some, None, refl, sym, ap, ◌∙◌, subst}
-use Rattle.place_core.specs.Places.{Below, joined, is_whole, typed_has}
+use Rattle.std.proofs.Common.{◌≡◌, ℕ, Bool, true, ◌||◌, List, refl, sym, ap, subst}
+use Rattle.place_core.specs.Places.{Below, is_whole}
 use Rattle.place_core.specs.States.{CommentState, Held}
 use Rattle.place_core.specs.declared.element.Element.{Element}
 use Rattle.place_core.specs.declared.member.Member.{Member}
-use Rattle.place_core.specs.declared.member.Member.TheVariants as member
 use Rattle.place_core.specs.declared.place.Place.{Place}
 use Rattle.place_core.specs.declared.place.Place.TheVariants as place
 use Rattle.place_core.specs.declared.tag_of.TagOf.{TagOf}

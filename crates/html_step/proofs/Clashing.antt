@@ -1,13 +1,11 @@
 -- White space where one path is in a value without quotes and another one before a value.
-use Rattle.std.proofs.Common.{◌≡◌, ℕ, Bool, true, false, ◌||◌, ◌&&◌, List, Option, Some, None, if◌then◌else◌, refl, sym, ap, ◌∙◌, subst, ◌⊎◌, inl, inr}
+use Rattle.std.proofs.Common.{◌≡◌, true, ◌&&◌, Option, Some, None, refl, sym, ◌∙◌, subst, ◌⊎◌, inl, inr}
 use Rattle.std.specs.Prelude.{⊤}
 use Rattle.place_core.specs.Classes.{Class, White}
-use Rattle.place_core.specs.Errors.{at_hand, bare_error, body_error, byte_clash, quotes_error, value_error}
-use Rattle.place_core.specs.Places.{Below, Has, IsValid, body_has, is_whole, quotes_have, typed_has}
-use Rattle.place_core.specs.States.{State, Text, TagOpen, EndTagOpen, DeclarationOpen, InComment, Started, StartedDash, Inside, Dash, DashDash, Bang, Broken, BogusComment, InDoctype, TagName, WholeTagName, BeforeAttributeName, AttributeName, WholeAttributeName, AfterAttributeName, BeforeAttributeValue, AttributeValue, AfterAttributeValue, SelfClosingStartTag, Characters, Bytes, Nothing, HeldLess, HeldName, HeldBang, HeldBangDash, InContent, Unread}
-use Rattle.place_core.specs.Tags.{Value, ValueOf, TypeSoFar, ValueState, DoubleQuoted, SingleQuoted, Unquoted}
-use Rattle.place_core.specs.declared.bare.Bare.{Bare}
-use Rattle.place_core.specs.declared.body.Body.{Body}
+use Rattle.place_core.specs.Errors.{body_error, byte_clash, quotes_error, value_error}
+use Rattle.place_core.specs.Places.{Has, quotes_have}
+use Rattle.place_core.specs.States.{State, Text, TagOpen, EndTagOpen, DeclarationOpen, InComment, Inside, Broken, BogusComment, InDoctype, TagName, WholeTagName, BeforeAttributeName, AttributeName, WholeAttributeName, AfterAttributeName, BeforeAttributeValue, AttributeValue, AfterAttributeValue, SelfClosingStartTag, Characters, Bytes, Nothing, HeldLess, HeldName, HeldBang, HeldBangDash, InContent, Unread}
+use Rattle.place_core.specs.Tags.{ValueOf, TypeSoFar, ValueState, DoubleQuoted, SingleQuoted, Unquoted}
 use Rattle.place_core.specs.declared.code.Code.{Code}
 use Rattle.place_core.specs.declared.code.Code.TheVariants as code
 use Rattle.place_core.specs.declared.element.Element.TheVariants as element
@@ -25,7 +23,6 @@ use Rattle.html_step.specs.Fronts.{Front, At, AfterLess, AfterLessSolidus, InDec
 use Rattle.html_step.proofs.FromSteps.{no}
 use Rattle.html_step.proofs.FrontOrder.{FrontBelow, FrontHas, first-none, if-none}
 use Rattle.html_step.proofs.OnePath.{WhereFronted, fronted, none-at-hand, some}
-use Rattle.html_step.proofs.PlaceParts.{Under}
 use Rattle.html_step.proofs.ShownSteps.{none-some, plain-quotes}
 
 abbrev pub IsUnquoted : State ValueState → Type 0

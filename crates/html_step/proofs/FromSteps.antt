@@ -1,13 +1,10 @@
 -- Each member after a byte comes from one member before it.
-use Rattle.std.proofs.Common.{◌≡◌, ℕ, Bool, true, false, ◌||◌, ◌&&◌, List, [], ◌∷◌, ◌++◌, length, Option, Some, None, refl, sym, ap, ◌∙◌, subst}
+use Rattle.std.proofs.Common.{◌≡◌, ℕ, Bool, true, false, ◌||◌, ◌&&◌, List, [], ◌∷◌, Option, Some, None, refl, sym, ap, ◌∙◌, subst}
 use Rattle.std.specs.Char.{to_ascii_lowercase}
-use Rattle.place_core.specs.Classes.{Class, White, ExclamationMark, QuotationMark, Apostrophe, HyphenMinus, Solidus, LessThan, EqualsSign, GreaterThan, GraveAccent, Letter}
-use Rattle.place_core.specs.Comments.{closes_comment, next_comment}
-use Rattle.place_core.specs.Errors.{at_hand, attribute_name_error, body_error, content_error, equals_error, kind_error, is_second_type, place_error, quotes_error, tag_error, bare_error, value_error}
-use Rattle.place_core.specs.Places.{Below, Has, IsValid, IsValidQuotes, joined_quotes, IsValidTag, bare_has, body_has, dash_has, is_whole, part_has, quotes_have, some_bare, spots_have, typed_has}
-use Rattle.place_core.specs.StatePlaces.{body_at, only_after, only_before, only_inside, unbegun}
-use Rattle.place_core.specs.States.{CommentState, Started, StartedDash, Inside, Dash, DashDash, Bang, Broken, Held}
-use Rattle.place_core.specs.Words.{kind_of}
+use Rattle.place_core.specs.Classes.{Class, White, QuotationMark, Apostrophe, HyphenMinus, Solidus, LessThan, EqualsSign, GreaterThan}
+use Rattle.place_core.specs.Errors.{at_hand, body_error, kind_error, place_error, quotes_error, tag_error, bare_error, value_error}
+use Rattle.place_core.specs.Places.{Has, IsValid, IsValidQuotes, joined_quotes, IsValidTag, body_has, dash_has, is_whole, quotes_have, some_bare, spots_have, typed_has}
+use Rattle.place_core.specs.StatePlaces.{body_at, only_before, unbegun}
 use Rattle.place_core.specs.declared.bare.Bare.{Bare}
 use Rattle.place_core.specs.declared.body.Body.{Body}
 use Rattle.place_core.specs.declared.body.Body.TheVariants as body
@@ -27,11 +24,11 @@ use Rattle.place_core.specs.declared.tag_of.TagOf.TheVariants as tag
 use Rattle.place_core.specs.declared.tag_place.TagPlace.{TagPlace}
 use Rattle.place_core.specs.declared.value_place.ValuePlace.{ValuePlace}
 use Rattle.place_core.proofs.Joins.{places_same}
-use Rattle.place_core.proofs.Semilattices.{none_some, one_value}
-use Rattle.html_step.specs.Fronts.{Front, At, AfterLess, AfterLessSolidus, InDeclaration, InTagName, InAttributeName, InCommentEnd, InContentEnd, after_white, attribute_name_next, bare_next, bare_white, begun, comment_closed, comment_front, comment_next, comment_state, content_front, front_error, front_next, front_place, in_tag, kind_body, quoted_next, tag_element, tag_next, typed_with, value_front, with_quotes}
-use Rattle.html_step.proofs.BelowFronts.{IsRigid, below-at, below-at-comment, below-at-tag, below-at-value, below-attribute, comment-end-rigid, content-end-rigid, declaration-rigid, doctype-rigid, less-rigid, rcdata-rigid, solidus-rigid, tag-name-rigid, text-rigid, whole-in}
-use Rattle.html_step.proofs.FrontOrder.{FrontBelow, FrontHas, FrontValid, HasKind, bare-parts, bare-white, built-same, first-none, has-kind, if-none}
-use Rattle.html_step.proofs.OnePath.{none-at-hand, none-unless, some}
+use Rattle.place_core.proofs.Semilattices.{none_some}
+use Rattle.html_step.specs.Fronts.{Front, At, AfterLess, AfterLessSolidus, InDeclaration, InTagName, InAttributeName, InCommentEnd, InContentEnd, bare_next, bare_white, begun, comment_next, comment_state, content_front, front_error, front_next, front_place, in_tag, kind_body, quoted_next, tag_next, value_front, with_quotes}
+use Rattle.html_step.proofs.BelowFronts.{IsRigid, below-at, below-at-tag, below-at-value, below-attribute, comment-end-rigid, content-end-rigid, declaration-rigid, doctype-rigid, less-rigid, rcdata-rigid, solidus-rigid, tag-name-rigid, text-rigid, whole-in}
+use Rattle.html_step.proofs.FrontOrder.{FrontBelow, FrontHas, FrontValid, bare-parts, bare-white, built-same, first-none, has-kind, if-none}
+use Rattle.html_step.proofs.OnePath.{none-at-hand, some}
 use Rattle.html_step.proofs.PlaceParts.{Under, TagBelow, ValueBelow, below-tag, below-value, under-false}
 
 pub record From (f : Front) (c : Class) (b : ℕ) (y : Member) : Type 0 where

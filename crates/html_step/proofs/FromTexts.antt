@@ -1,10 +1,8 @@
 -- Members through whole texts.
-use Rattle.std.proofs.Common.{◌≡◌, ℕ, ◌+◌, List, [], ◌∷◌, Option, Some, None, Result, Ok, Err, refl, sym, ap, ◌∙◌, subst}
+use Rattle.std.proofs.Common.{◌≡◌, ℕ, ◌+◌, List, [], ◌∷◌, Ok, refl, sym, ◌∙◌, subst}
 use Rattle.place_core.specs.Classes.{class_of}
-use Rattle.place_core.specs.Errors.{Refusal, node}
 use Rattle.place_core.specs.Membership.{IsIn, Bears}
-use Rattle.place_core.specs.Places.{Below, Has, IsValid}
-use Rattle.place_core.specs.StatePlaces.{placed}
+use Rattle.place_core.specs.Places.{Has}
 use Rattle.place_core.specs.States.{State}
 use Rattle.place_core.specs.Tags.{ValueState}
 use Rattle.place_core.specs.declared.member.Member.{Member}
@@ -12,8 +10,8 @@ use Rattle.place_core.specs.declared.place.Place.{Place}
 use Rattle.place_core.proofs.Semilattices.{one_value}
 use Rattle.html_step.specs.Fronts.{Front, At, front_cut_error, front_error, front_next, front_place}
 use Rattle.html_step.specs.Laws.{FromText}
-use Rattle.html_step.specs.Steps.{after_text, stepped, unless_refused}
-use Rattle.html_step.proofs.FromSteps.{From, FromEnd, from-byte, from-end}
+use Rattle.html_step.specs.Steps.{stepped}
+use Rattle.html_step.proofs.FromSteps.{from-byte, from-end}
 use Rattle.html_step.proofs.FrontOrder.{FrontBelow, FrontHas, FrontValid, front-grows}
 use Rattle.html_step.proofs.OneTexts.{one-text}
 use Rattle.html_step.proofs.ValidSteps.{front-valid}
@@ -33,7 +31,7 @@ from-bytes [] k f q y v e h =
       source = x.source;
       there = x.there;
       leads = λ g a w l o d. let m = not-refused k (front_cut_error g) (Ok (front_place g)) a d in
-      subst (λ (p : Place). Has p y) (one-ok (front_place g) a (Ok (front_place g)) refl m.1) (x.leads g l o);
+          subst (λ (p : Place). Has p y) (one-ok (front_place g) a (Ok (front_place g)) refl m.1) (x.leads g l o);
     }
 from-bytes (b ∷ bs) k f q y v e h =
     let n = not-refused k (front_error f (class_of b)) (stepped (k + 1) bs (front_next f (class_of b) b)) q e in
@@ -43,7 +41,7 @@ from-bytes (b ∷ bs) k f q y v e h =
       source = x.source;
       there = x.there;
       leads = λ g a w l o d. let m = not-refused k (front_error g (class_of b)) (stepped (k + 1) bs (front_next g (class_of b) b)) a d in
-      r.leads (front_next g (class_of b) b) a (front-valid g (class_of b) b w) (front-grows g f (class_of b) b w l n.0).1 (x.leads g w l o) m.1;
+          r.leads (front_next g (class_of b) b) a (front-valid g (class_of b) b w) (front-grows g f (class_of b) b w l n.0).1 (x.leads g w l o) m.1;
     }
 
 -- what a path bears, its own place has
@@ -52,11 +50,14 @@ own-has p s x i h = subst (λ (a : Place). Has a x) (one_value h.own i.own (sym 
 
 pub from-text : FromText
 from-text bytes p q y v e h =
-    let r = from-bytes bytes 0 (At p) q y v (text-steps bytes p q e) h in
-    (r.source, r.there, λ s i o.
-    let g = grows-text bytes i.own p q i.valid v i.below e in
-    record {
-      own = g.0;
-      stands = ((one-text bytes i.own s i.stands).0 g.0 g.1).1;
-      has = r.leads (At i.own) g.0 i.valid i.below (own-has p s r.source i o) (text-steps bytes i.own g.0 g.1);
-    })
+    let r = from-bytes bytes 0 (At p) q y v (text-steps bytes p q e) h in (
+      r.source,
+      r.there,
+      λ s i o.
+          let g = grows-text bytes i.own p q i.valid v i.below e in
+          record {
+            own = g.0;
+            stands = ((one-text bytes i.own s i.stands).0 g.0 g.1).1;
+            has = r.leads (At i.own) g.0 i.valid i.below (own-has p s r.source i o) (text-steps bytes i.own g.0 g.1);
+          },
+    )

@@ -1,13 +1,10 @@
 -- Fronts that are below one another, their validity and their members; a step keeps the order.
-use Rattle.std.proofs.Common.{◌≡◌, ℕ, Bool, true, false, ◌||◌, ◌&&◌, List, [], ◌∷◌, ◌++◌, length, Option, Some, None, if◌then◌else◌, refl, sym, ap, ◌∙◌, subst, inl, inr}
-use Rattle.std.specs.Char.{to_ascii_lowercase}
+use Rattle.std.proofs.Common.{◌≡◌, ℕ, Bool, true, false, ◌||◌, ◌&&◌, List, length, Option, Some, None, if◌then◌else◌, refl, sym, ap, ◌∙◌, subst}
 use Rattle.std.specs.Option.{is_some}
-use Rattle.place_core.specs.Classes.{Class, White, ExclamationMark, QuotationMark, NumberSign, Ampersand, Apostrophe, HyphenMinus, Solidus, Digit, Semicolon, LessThan, EqualsSign, GreaterThan, QuestionMark, GraveAccent, Letter, OtherByte}
-use Rattle.place_core.specs.Comments.{next_comment}
+use Rattle.place_core.specs.Classes.{Class, White, ExclamationMark, QuotationMark, Apostrophe, HyphenMinus, Solidus, LessThan, EqualsSign, GreaterThan, GraveAccent}
 use Rattle.place_core.specs.Errors.{at_hand, attribute_name_error, bare_error, body_error, comment_error, content_error, equals_error, first_of, is_second_type, kind_error, place_error, quotes_error, tag_error, unless_second, value_error}
-use Rattle.place_core.specs.Places.{Below, Has, IsValid, IsValidBody, IsValidQuotes, IsValidTag, both_bare, is_rcdata, is_whole, joined, joined_kinds, joined_quotes, joined_bodies, some_bare, some_spot, typed_has}
-use Rattle.place_core.specs.StatePlaces.{body_at, only_after, only_before, only_inside, only_name, unbegun}
-use Rattle.place_core.specs.States.{CommentState, Started, StartedDash, Inside, Dash, DashDash, Bang, Broken, Held}
+use Rattle.place_core.specs.Places.{Below, Has, IsValid, IsValidQuotes, IsValidTag, both_bare, is_rcdata, is_whole, joined_kinds, joined_quotes, joined_bodies, some_bare, typed_has}
+use Rattle.place_core.specs.StatePlaces.{body_at, only_after, only_before, only_inside, unbegun}
 use Rattle.place_core.specs.Words.{kind_of}
 use Rattle.place_core.specs.declared.bare.Bare.{Bare}
 use Rattle.place_core.specs.declared.body.Body.{Body}
@@ -28,11 +25,11 @@ use Rattle.place_core.specs.declared.tag_of.TagOf.TheVariants as tag
 use Rattle.place_core.specs.declared.tag_place.TagPlace.{TagPlace}
 use Rattle.place_core.specs.declared.value_place.ValuePlace.{ValuePlace}
 use Rattle.place_core.proofs.JoinParts.{kinds_partial}
-use Rattle.place_core.proofs.Joins.{places_Rcdata, places_same}
+use Rattle.place_core.proofs.Joins.{places_same}
 use Rattle.place_core.proofs.Semilattices.{none_some, one_value}
 use Rattle.html_step.specs.Fronts.{Front, At, AfterLess, AfterLessSolidus, InDeclaration, InTagName, InAttributeName, InCommentEnd, InContentEnd, after_white, begun, attribute_name_next, bare_next, bare_white, comment_next, comment_state, content_front, front_next, front_error, front_place, front_cut_error, in_tag, kind_body, quoted_next, tag_element, tag_next, typed_with, value_front, with_quotes}
 use Rattle.html_step.proofs.OnePath.{none-at-hand, none-unless, some}
-use Rattle.html_step.proofs.PlaceParts.{Under, under-false, under-true, under-same, under-both, TagBelow, ValueBelow, below-tag, tag-below, below-value, value-below, below-rcdata, same-kinds, same-tags}
+use Rattle.html_step.proofs.PlaceParts.{Under, under-false, under-same, under-both, TagBelow, ValueBelow, below-tag, tag-below, below-value, value-below, below-rcdata, same-kinds}
 
 -- Between lexemes by the order of places. In a name of an attribute it only matters whether a `type` may have been seen.
 abbrev pub FrontBelow : Front → Front → Type 0

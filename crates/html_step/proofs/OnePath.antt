@@ -1,16 +1,16 @@
 -- Where a text is stepped from the place of one path, the steps are the path's own.
-use Rattle.std.proofs.Common.{◌≡◌, ℕ, ◌+◌, Bool, true, false, List, [], ◌∷◌, ◌++◌, length, Option, Some, None, refl, sym, ap, ◌∙◌}
+use Rattle.std.proofs.Common.{◌≡◌, ℕ, Bool, true, false, List, [], ◌∷◌, ◌++◌, length, Option, Some, None, refl, sym, ap, ◌∙◌}
 use Rattle.std.specs.Prelude.{⊤}
 use Rattle.std.specs.Option.{option_map}
-use Rattle.place_core.specs.Classes.{Class, White, ExclamationMark, QuotationMark, NumberSign, Ampersand, Apostrophe, HyphenMinus, Solidus, Digit, Semicolon, LessThan, EqualsSign, GreaterThan, QuestionMark, GraveAccent, Letter, OtherByte, class_of}
+use Rattle.place_core.specs.Classes.{Class, White, QuotationMark, Ampersand, Apostrophe, HyphenMinus, Solidus, LessThan, EqualsSign, GreaterThan, GraveAccent, Letter}
 use Rattle.place_core.specs.Comments.{OpensComment, OpensDoctype, Unfinished, OpensNothing, Declaration, declared_by}
 use Rattle.place_core.specs.Contents.{may_be_name_of, is_name_of, next_loose, next_less, next_end_name}
 use Rattle.place_core.specs.Errors.{byte_error, cut_error, at_hand, unless_second, is_second_type, content_error, kind_error, body_error, tag_error, bare_error, quotes_error, attribute_name_error}
-use Rattle.place_core.specs.Html.{next, after_tag, next_declaration, next_before_name, next_name, next_whole_name, next_after_name, next_before_value, next_value}
+use Rattle.place_core.specs.Html.{next, after_tag, next_declaration, next_before_name, next_name, next_whole_name, next_after_name, next_before_value}
 use Rattle.place_core.specs.Paths.{at_cut}
-use Rattle.place_core.specs.References.{Reference, Closed, settled, undone_byte, as_it_stands}
+use Rattle.place_core.specs.References.{Reference, settled, undone_byte, as_it_stands}
 use Rattle.place_core.specs.StatePlaces.{tag_of, is_typed, tag_spot, body_at, only_name, only_before, only_inside, only_after, value_spot, value_body, quotes_at, unbegun, placed}
-use Rattle.place_core.specs.States.{Template, State, Text, TagOpen, EndTagOpen, DeclarationOpen, CommentState, Started, StartedDash, Inside, Dash, DashDash, Bang, Broken, InComment, BogusComment, InDoctype, TagName, WholeTagName, BeforeAttributeName, AttributeName, WholeAttributeName, AfterAttributeName, BeforeAttributeValue, AttributeValue, AfterAttributeValue, SelfClosingStartTag, Content, Characters, Bytes, Held, Nothing, HeldLess, HeldName, HeldBang, HeldBangDash, InContent, Unread}
+use Rattle.place_core.specs.States.{Template, State, Text, TagOpen, EndTagOpen, DeclarationOpen, CommentState, Started, StartedDash, Inside, Dash, DashDash, Bang, Broken, InComment, BogusComment, InDoctype, TagName, WholeTagName, BeforeAttributeName, AttributeName, WholeAttributeName, AfterAttributeName, BeforeAttributeValue, AttributeValue, AfterAttributeValue, SelfClosingStartTag, Characters, Bytes, Held, Nothing, HeldLess, HeldName, HeldBang, HeldBangDash, InContent, Unread}
 use Rattle.place_core.specs.Tags.{Tag, EndTag, StartTag, Value, ValueOf, TypeSoFar, ValueState, languages, value_of, tag_named, element_on, with_bytes, with_value, without_value, Quoting, DoubleQuoted, SingleQuoted, Unquoted}
 use Rattle.place_core.specs.Words.{kind_of}
 use Rattle.place_core.specs.declared.body.Body.{Body}
@@ -20,11 +20,10 @@ use Rattle.place_core.specs.declared.element.Element.{Element}
 use Rattle.place_core.specs.declared.element.Element.TheVariants as element
 use Rattle.place_core.specs.declared.kind.Kind.{Kind}
 use Rattle.place_core.specs.declared.kind.Kind.TheVariants as kind
-use Rattle.place_core.specs.declared.place.Place.{Place}
 use Rattle.place_core.specs.declared.place.Place.TheVariants as place
 use Rattle.place_core.specs.declared.quotes.Quotes.{Quotes}
 use Rattle.place_core.specs.declared.tag_of.TagOf.{TagOf}
-use Rattle.html_step.specs.Fronts.{Front, At, AfterLess, AfterLessSolidus, InDeclaration, InTagName, InAttributeName, InCommentEnd, InContentEnd, comment_front, content_front, value_front, declaration_next, content_next, held_less_next, end_name_next, attribute_name_next, tag_next, typed_with, front_next, front_error, front_place, front_cut_error, tag_element}
+use Rattle.html_step.specs.Fronts.{Front, At, AfterLess, AfterLessSolidus, InDeclaration, InTagName, InAttributeName, InContentEnd, comment_front, content_front, value_front, declaration_next, content_next, held_less_next, end_name_next, attribute_name_next, tag_next, typed_with, front_next, front_error, front_place, front_cut_error, tag_element}
 
 -- the front of a path's state
 abbrev pub content_fronted : Held → Element → Option Front

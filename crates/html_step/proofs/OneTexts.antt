@@ -1,8 +1,8 @@
 -- A whole text, from the place of one path.
-use Rattle.std.proofs.Common.{◌≡◌, ℕ, ◌+◌, ◌-◌, zero, suc, Bool, true, false, List, [], ◌∷◌, take, Option, Some, None, Result, Ok, Err, refl, sym, ap, ◌∙◌, subst, arith}
+use Rattle.std.proofs.Common.{◌≡◌, ℕ, ◌+◌, ◌-◌, zero, suc, List, [], ◌∷◌, take, Option, Some, None, Result, Ok, Err, refl, ap, ◌∙◌, subst, arith}
 use Rattle.std.specs.Option.{option_map}
 use Rattle.place_core.specs.Classes.{class_of}
-use Rattle.place_core.specs.Errors.{Cause, Refusal, Refuses, byte_error, cut_error, refusal_from, standing_at, states, node}
+use Rattle.place_core.specs.Errors.{Cause, Refusal, Refuses, byte_error, cut_error, refusal_from, standing_at, node}
 use Rattle.place_core.specs.Html.{next}
 use Rattle.place_core.specs.References.{Closed, Open}
 use Rattle.place_core.specs.StatePlaces.{placed}

@@ -1,7 +1,6 @@
 -- What it says of the parts of two places in tags, or in values, that one is below the other.
-use Rattle.std.proofs.Common.{◌≡◌, Bool, true, false, ◌||◌, Option, Some, None, option_map, if◌then◌else◌, refl, sym, ap, ap₂, ◌∙◌, subst}
-use Rattle.place_core.specs.Places.{Below, joined, both_bare, both_spots, joined_bodies, joined_elements, joined_kinds, joined_quotes, joined_tag_places, joined_tags, joined_value_places, same_element, same_kind, tag_place, value_place}
-use Rattle.place_core.specs.declared.bare.Bare.{Bare}
+use Rattle.std.proofs.Common.{◌≡◌, Bool, true, false, ◌||◌, Option, Some, None, if◌then◌else◌, refl, sym, ap, ◌∙◌}
+use Rattle.place_core.specs.Places.{Below, both_spots, joined_bodies, joined_elements, joined_kinds, joined_quotes, joined_tag_places, joined_tags, joined_value_places, same_element, same_kind, tag_place, value_place}
 use Rattle.place_core.specs.declared.body.Body.{Body}
 use Rattle.place_core.specs.declared.element.Element.{Element}
 use Rattle.place_core.specs.declared.kind.Kind.{Kind}
@@ -12,7 +11,7 @@ use Rattle.place_core.specs.declared.tag_of.TagOf.{TagOf}
 use Rattle.place_core.specs.declared.tag_of.TagOf.TheVariants as tag
 use Rattle.place_core.specs.declared.tag_place.TagPlace.{TagPlace}
 use Rattle.place_core.specs.declared.value_place.ValuePlace.{ValuePlace}
-use Rattle.place_core.proofs.JoinParts.{element_is, kind_is, tags_Start, tags_partial}
+use Rattle.place_core.proofs.JoinParts.{kind_is, tags_Start, tags_partial}
 use Rattle.place_core.proofs.Joins.{places_Rcdata, places_Tag, places_Value}
 use Rattle.place_core.proofs.Semilattices.{none_some, one_value, row_value}
 

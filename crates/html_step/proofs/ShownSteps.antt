@@ -1,8 +1,8 @@
 -- What refuses a byte: one member, on whatever path bears it, or two.
-use Rattle.std.proofs.Common.{◌≡◌, ℕ, Bool, true, false, ◌||◌, ◌&&◌, List, length, Option, Some, None, if◌then◌else◌, refl, sym, ap, ◌∙◌, subst}
-use Rattle.place_core.specs.Classes.{Class, White, ExclamationMark, QuotationMark, Apostrophe, HyphenMinus, Solidus, LessThan, EqualsSign, GreaterThan, GraveAccent}
-use Rattle.place_core.specs.Errors.{Cause, at_hand, bare_error, body_error, comment_error, content_error, equals_error, first_of, kind_error, place_error, quotes_error, tag_error, value_error}
-use Rattle.place_core.specs.Places.{Below, Has, IsValid, IsValidQuotes, IsValidTag, bare_has, body_has, is_whole, joined_bodies, joined_kinds, joined_quotes, quotes_have, spots_have, typed_has}
+use Rattle.std.proofs.Common.{◌≡◌, ℕ, Bool, true, false, ◌||◌, ◌&&◌, List, Option, Some, None, if◌then◌else◌, refl, sym, ap, ◌∙◌, subst}
+use Rattle.place_core.specs.Classes.{Class, White, QuotationMark, Apostrophe, Solidus, LessThan, EqualsSign, GreaterThan, GraveAccent}
+use Rattle.place_core.specs.Errors.{Cause, at_hand, bare_error, body_error, comment_error, content_error, equals_error, first_of, place_error, quotes_error, tag_error, value_error}
+use Rattle.place_core.specs.Places.{Below, IsValid, IsValidQuotes, IsValidTag, body_has, joined_bodies, joined_kinds, joined_quotes, quotes_have}
 use Rattle.place_core.specs.declared.bare.Bare.{Bare}
 use Rattle.place_core.specs.declared.body.Body.{Body}
 use Rattle.place_core.specs.declared.body.Body.TheVariants as body

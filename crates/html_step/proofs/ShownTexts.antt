@@ -1,12 +1,11 @@
 -- Whole texts: what is refused is shown by one path or by two, and what is accepted by none.
-use Rattle.std.proofs.Common.{◌≡◌, ℕ, ◌+◌, ◌-◌, zero, suc, Bool, true, false, ◌||◌, List, [], ◌∷◌, Option, Some, None, Result, Ok, Err, refl, sym, ap, ◌∙◌, subst, arith, inl, inr}
+use Rattle.std.proofs.Common.{◌≡◌, ℕ, ◌+◌, ◌-◌, zero, suc, List, [], ◌∷◌, Option, Some, None, Result, Ok, Err, refl, sym, ap, ◌∙◌, subst, arith, inl, inr}
 use Rattle.place_core.specs.Classes.{Class, White, class_of}
-use Rattle.place_core.specs.Errors.{Cause, Refusal, Refuses, Clashes, byte_clash, byte_error, node, refusal_from}
+use Rattle.place_core.specs.Errors.{Cause, Refusal, Refuses, Clashes, byte_clash, byte_error, refusal_from}
 use Rattle.place_core.specs.Html.{next}
 use Rattle.place_core.specs.Membership.{IsIn, Bears}
-use Rattle.place_core.specs.Places.{Below, Has, IsValid}
 use Rattle.place_core.specs.StatePlaces.{placed}
-use Rattle.place_core.specs.States.{Template, State, Text, TagOpen, EndTagOpen, DeclarationOpen, InComment, Started, StartedDash, Inside, Dash, DashDash, Bang, Broken, BogusComment, InDoctype, TagName, WholeTagName, BeforeAttributeName, AttributeName, WholeAttributeName, AfterAttributeName, BeforeAttributeValue, AttributeValue, AfterAttributeValue, SelfClosingStartTag, InContent, Unread}
+use Rattle.place_core.specs.States.{Template, State}
 use Rattle.place_core.specs.Tags.{ValueState, languages}
 use Rattle.place_core.specs.declared.code.Code.{Code}
 use Rattle.place_core.specs.declared.code.Code.TheVariants as code
@@ -16,13 +15,13 @@ use Rattle.place_core.specs.declared.place.Place.{Place}
 use Rattle.place_core.specs.declared.step_err.StepErr.{StepErr}
 use Rattle.html_step.specs.Fronts.{Front, At, front_cut_error, front_error, front_next, front_place}
 use Rattle.html_step.specs.Laws.{AcceptsText, IsShown, Shown, ShownText, one, two}
-use Rattle.html_step.specs.Steps.{after_text, place_before, stepped, unless_refused, with_place_before}
+use Rattle.html_step.specs.Steps.{place_before, stepped, unless_refused, with_place_before}
 use Rattle.html_step.proofs.Clashing.{begun-grows, both-refuse, clash, clash-is, has-unbegun, has-unquoted, is-unbegun, is-unquoted, unbegun-grows}
 use Rattle.html_step.proofs.FromSteps.{From, from-byte}
 use Rattle.html_step.proofs.FromTexts.{own-has}
 use Rattle.html_step.proofs.FrontOrder.{FrontBelow, FrontHas, FrontValid, front-grows}
-use Rattle.html_step.proofs.OnePath.{Agrees, fronted}
-use Rattle.html_step.proofs.OneTexts.{agrees-at, at-place, one-text, whole}
+use Rattle.html_step.proofs.OnePath.{fronted}
+use Rattle.html_step.proofs.OneTexts.{agrees-at, at-place, one-text}
 use Rattle.html_step.proofs.ShownSteps.{ShownByte, ShownEnd, shown_one, shown_two, shown-byte, shown-end}
 use Rattle.html_step.proofs.ValidSteps.{front-valid}
 use Rattle.html_step.proofs.WholeTexts.{grows-text, not-refused, text-steps}
@@ -188,6 +187,6 @@ never-clashes (b ∷ bs) k f q s t g h e (suc at) i j v w l m o c =
 pub accepts-text : AcceptsText
 accepts-text bytes p q s v e i = (
   λ x r. (let g = grows-text bytes i.own p q i.valid v i.below e in
-  none-refused (record { code = x.code; at = x.at }) (refusal_from 0 bytes s) ((one-text bytes i.own s i.stands).0 g.0 g.1).0 r.stands),
+      none-refused (record { code = x.code; at = x.at }) (refusal_from 0 bytes s) ((one-text bytes i.own s i.stands).0 g.0 g.1).0 r.stands),
   λ t x at j c. never-clashes bytes 0 (At p) q s t (At i.own) (At j.own) x at (at-place s i.own i.stands) (at-place t j.own j.stands) i.valid j.valid i.below j.below (text-steps bytes p q e) c,
 )

@@ -1,12 +1,11 @@
 -- A step leads from what is valid to what is valid.
-use Rattle.std.proofs.Common.{◌≡◌, ℕ, Bool, true, false, ◌||◌, List, [], ◌∷◌, ◌++◌, length, Option, Some, None, refl, sym, ap, ◌∙◌, subst}
-use Rattle.place_core.specs.Classes.{Class, White, ExclamationMark, QuotationMark, Apostrophe, HyphenMinus, Solidus, LessThan, EqualsSign, GreaterThan, GraveAccent, Letter}
+use Rattle.std.proofs.Common.{◌≡◌, ℕ, Bool, true, false, ◌||◌, List, [], ◌∷◌, ◌++◌, Option, Some, None, refl}
+use Rattle.place_core.specs.Classes.{Class, White, QuotationMark, Apostrophe, Solidus, LessThan, EqualsSign, GreaterThan, Letter}
 use Rattle.place_core.specs.Comments.{Declaration, OpensComment, OpensDoctype, Unfinished, OpensNothing, closes_comment, declared_by, next_comment}
 use Rattle.place_core.specs.Contents.{is_name_of, may_be_name_of}
-use Rattle.place_core.specs.Errors.{at_hand, body_error, content_error, equals_error, kind_error, place_error, is_second_type, tag_error, value_error}
-use Rattle.place_core.specs.Places.{IsValid, IsValidQuotes, IsValidBody, IsValidTag, is_rcdata, some_spot}
-use Rattle.place_core.specs.StatePlaces.{body_at, only_after, only_before, only_inside, only_name, tag_of, unbegun}
-use Rattle.place_core.specs.States.{CommentState, Started, StartedDash, Inside, Dash, DashDash, Bang, Broken, Held, Nothing, HeldLess, HeldName, HeldBang, HeldBangDash}
+use Rattle.place_core.specs.Places.{IsValid, IsValidBody, IsValidTag, is_rcdata}
+use Rattle.place_core.specs.StatePlaces.{body_at, tag_of}
+use Rattle.place_core.specs.States.{CommentState, Inside, Broken, Held, Nothing, HeldLess, HeldName, HeldBang, HeldBangDash}
 use Rattle.place_core.specs.Tags.{tag_named}
 use Rattle.place_core.specs.Words.{kind_of}
 use Rattle.place_core.specs.declared.element.Element.{Element}
@@ -21,9 +20,8 @@ use Rattle.place_core.specs.declared.tag_of.TagOf.{TagOf}
 use Rattle.place_core.specs.declared.tag_of.TagOf.TheVariants as tag
 use Rattle.place_core.specs.declared.tag_place.TagPlace.{TagPlace}
 use Rattle.place_core.specs.declared.value_place.ValuePlace.{ValuePlace}
-use Rattle.html_step.specs.Fronts.{Front, At, AfterLess, AfterLessSolidus, InDeclaration, InTagName, InAttributeName, InCommentEnd, InContentEnd, attribute_name_next, bare_next, bare_white, comment_closed, comment_front, comment_next, comment_state, content_end_next, content_front, content_next, declaration_next, end_name_next, front_error, front_next, front_place, kind_body, quoted_next, tag_element, tag_name_next, tag_next, value_front}
-use Rattle.html_step.proofs.FrontOrder.{FrontValid, equals-none, if-none}
-use Rattle.html_step.proofs.OnePath.{none-at-hand, none-unless, some}
+use Rattle.html_step.specs.Fronts.{Front, At, AfterLess, AfterLessSolidus, InDeclaration, InTagName, InAttributeName, InCommentEnd, InContentEnd, attribute_name_next, bare_white, comment_closed, comment_front, comment_next, comment_state, content_end_next, content_front, content_next, declaration_next, end_name_next, front_next, front_place, kind_body, quoted_next, tag_element, tag_name_next, tag_next, value_front}
+use Rattle.html_step.proofs.FrontOrder.{FrontValid}
 
 some-white : (n b i a : Bool) → (n || (b || (i || a))) ≡ true → ((n || b) || (i || a)) ≡ true
 some-white true b i a h = refl

@@ -1,15 +1,11 @@
 -- Whole texts, byte by byte from fronts: they keep the order of places, and what is valid.
-use Rattle.std.proofs.Common.{◌≡◌, ℕ, ◌+◌, Bool, List, [], ◌∷◌, take, Option, Some, None, Result, Ok, Err, refl, sym, ap, ◌∙◌, subst}
+use Rattle.std.proofs.Common.{◌≡◌, ℕ, ◌+◌, List, [], ◌∷◌, Option, Some, None, Result, Ok, Err, refl, sym, ap, ◌∙◌, subst}
 use Rattle.place_core.specs.Classes.{class_of}
-use Rattle.place_core.specs.Errors.{Cause, Refusal, Refuses, Clashes, refusal_from, node}
-use Rattle.place_core.specs.Membership.{IsIn, Bears}
-use Rattle.place_core.specs.Places.{Below, Has, IsValid}
-use Rattle.place_core.specs.StatePlaces.{placed}
-use Rattle.place_core.specs.States.{State}
-use Rattle.place_core.specs.Tags.{ValueState}
+use Rattle.place_core.specs.Errors.{Cause, Refusal}
+use Rattle.place_core.specs.Places.{Below, IsValid}
 use Rattle.place_core.specs.declared.place.Place.{Place}
 use Rattle.place_core.specs.declared.step_err.StepErr.{StepErr}
-use Rattle.html_step.specs.Fronts.{Front, At, AfterLess, AfterLessSolidus, InDeclaration, InTagName, InAttributeName, InCommentEnd, InContentEnd, front_cut_error, front_error, front_next, front_place, tag_element}
+use Rattle.html_step.specs.Fronts.{Front, At, front_cut_error, front_error, front_next, front_place}
 use Rattle.html_step.specs.Laws.{CoversText, GrowsText, ValidText}
 use Rattle.html_step.specs.Steps.{after_text, stepped, unless_refused, with_place_before}
 use Rattle.html_step.proofs.FrontOrder.{FrontBelow, FrontValid, end-grows, front-grows}

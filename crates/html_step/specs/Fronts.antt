@@ -1,12 +1,12 @@
 -- How a text is stepped, byte by byte, for all the paths that stand at a place together. Between lexemes they are at a place, which has sets; in
 -- a lexeme they are all in the same one. What is left out of the states of the lexer is what no place depends on: references, and what a
 -- quoted value has held so far.
-use Rattle.std.specs.Prelude.{ℕ, ◌+◌, Bool, true, false, ◌||◌, List, [], ◌∷◌, ◌++◌, length, take, Option, Some, None, Result, Ok, Err, if◌then◌else◌}
+use Rattle.std.specs.Prelude.{ℕ, Bool, true, false, ◌||◌, List, [], ◌∷◌, ◌++◌, length, Option, Some, None}
 use Rattle.std.specs.Char.{to_ascii_lowercase}
-use Rattle.place_core.specs.Classes.{Class, White, ExclamationMark, QuotationMark, Apostrophe, Solidus, LessThan, EqualsSign, GreaterThan, Letter, class_of}
+use Rattle.place_core.specs.Classes.{Class, White, ExclamationMark, QuotationMark, Apostrophe, Solidus, LessThan, EqualsSign, GreaterThan, Letter}
 use Rattle.place_core.specs.Comments.{Declaration, OpensComment, OpensDoctype, Unfinished, OpensNothing, declared_by, next_comment, closes_comment}
 use Rattle.place_core.specs.Contents.{may_be_name_of, is_name_of}
-use Rattle.place_core.specs.Errors.{Cause, Refusal, place_error, at_hand, tag_name_error, attribute_name_error, unless_second, is_second_type}
+use Rattle.place_core.specs.Errors.{Cause, place_error, at_hand, tag_name_error, attribute_name_error, unless_second, is_second_type}
 use Rattle.place_core.specs.StatePlaces.{tag_of, only_name, only_before, only_inside, only_after, unbegun, body_at}
 use Rattle.place_core.specs.States.{CommentState, Started, Inside, Broken, Held, HeldLess, HeldName}
 use Rattle.place_core.specs.Tags.{tag_named}
@@ -21,7 +21,6 @@ use Rattle.place_core.specs.declared.place.Place.TheVariants as place
 use Rattle.place_core.specs.declared.quotes.Quotes.{Quotes}
 use Rattle.place_core.specs.declared.quotes.Quotes.TheVariants as quotes
 use Rattle.place_core.specs.declared.spots.Spots.{Spots}
-use Rattle.place_core.specs.declared.step_err.StepErr.{StepErr}
 use Rattle.place_core.specs.declared.tag_of.TagOf.{TagOf}
 use Rattle.place_core.specs.declared.tag_of.TagOf.TheVariants as tag
 use Rattle.place_core.specs.declared.tag_place.TagPlace.{TagPlace}

@@ -1,5 +1,5 @@
 -- What a step over a whole text promises of the paths that a place stands for.
-use Rattle.std.specs.Prelude.{◌≡◌, ℕ, List, Option, Some, None, Result, Ok, Err, ◌⊎◌}
+use Rattle.std.specs.Prelude.{◌≡◌, ℕ, List, Some, None, Ok, Err}
 use Rattle.place_core.specs.Errors.{Refuses, Clashes, refusal_from, node}
 use Rattle.place_core.specs.Membership.{IsIn, Bears}
 use Rattle.place_core.specs.Places.{Below, Has, IsValid}

@@ -1,5 +1,5 @@
 -- The place after a text and after a hole, or what refuses them there.
-use Rattle.std.specs.Prelude.{ℕ, ◌+◌, ◌-◌, Bool, true, false, ◌||◌, List, [], ◌∷◌, take, Option, Some, None, Result, Ok, Err, if◌then◌else◌}
+use Rattle.std.specs.Prelude.{ℕ, ◌+◌, ◌-◌, List, [], ◌∷◌, take, Option, Some, None, Result, Ok, Err}
 use Rattle.place_core.specs.Classes.{class_of}
 use Rattle.place_core.specs.Errors.{Cause, Refusal}
 use Rattle.place_core.specs.declared.place.Place.{Place}

@@ -8,6 +8,7 @@ mod comments;
 mod contents;
 mod errors;
 mod front;
+mod laws;
 mod names;
 mod next;
 mod refusal;
@@ -18,4 +19,8 @@ mod tags;
 mod texts;
 mod values;
 
+pub use laws::{
+    accepts_all_paths, covers_paths, keeps_order, keeps_valid, members_come_from_one, one_path,
+    refused_is_shown,
+};
 pub use steps::{after_text, place_before};

@@ -5,8 +5,8 @@ use Rattle.place_core.specs.Classes.{Class, White, ExclamationMark, QuotationMar
 use Rattle.place_core.specs.Html.{next}
 use Rattle.place_core.specs.Paths.{at_cut}
 use Rattle.place_core.specs.StatePlaces.{placed, tag_of, is_typed, tag_spot, only_name, only_before, only_inside, only_after, quotes_at}
-use Rattle.place_core.specs.States.{Template, State, Text, TagOpen, EndTagOpen, DeclarationOpen, InComment, Inside, Broken, CommentState, BogusComment, InDoctype, TagName, WholeTagName, BeforeAttributeName, AttributeName, WholeAttributeName, AfterAttributeName, BeforeAttributeValue, AttributeValue, AfterAttributeValue, SelfClosingStartTag, InContent, Unread}
-use Rattle.place_core.specs.Tags.{Tag, Value, ValueState, languages, tag_named, element_on, value_of, Quoting, DoubleQuoted, SingleQuoted, Unquoted}
+use Rattle.place_core.specs.States.{Template, State, Text, TagOpen, EndTagOpen, DeclarationOpen, InComment, Broken, CommentState, BogusComment, InDoctype, TagName, WholeTagName, BeforeAttributeName, AttributeName, WholeAttributeName, AfterAttributeName, BeforeAttributeValue, AttributeValue, AfterAttributeValue, SelfClosingStartTag, InContent, Unread}
+use Rattle.place_core.specs.Tags.{ValueState, languages, tag_named, element_on, Unquoted}
 use Rattle.place_core.specs.Words.{kind_of}
 use Rattle.place_core.specs.declared.bare.Bare.{Bare}
 use Rattle.place_core.specs.declared.body.Body.{Body}

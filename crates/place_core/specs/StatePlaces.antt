@@ -1,7 +1,7 @@
 -- The place of a path: what is kept of the state that it has come to. Inside a lexeme, such as a name or a reference, it has none.
-use Rattle.std.specs.Prelude.{ℕ, Bool, true, false, Option, Some, None}
+use Rattle.std.specs.Prelude.{Bool, true, false, Option, Some, None}
 use Rattle.place_core.specs.References.{Reference, Closed, Open}
-use Rattle.place_core.specs.States.{State, Text, TagOpen, EndTagOpen, DeclarationOpen, CommentState, Started, StartedDash, Inside, Dash, DashDash, Bang, Broken, InComment, BogusComment, InDoctype, TagName, WholeTagName, BeforeAttributeName, AttributeName, WholeAttributeName, AfterAttributeName, BeforeAttributeValue, AttributeValue, AfterAttributeValue, SelfClosingStartTag, Content, Characters, Bytes, Held, Nothing, InContent, Unread}
+use Rattle.place_core.specs.States.{State, Text, TagOpen, EndTagOpen, DeclarationOpen, CommentState, Started, StartedDash, Inside, Dash, DashDash, Bang, Broken, InComment, BogusComment, InDoctype, TagName, WholeTagName, BeforeAttributeName, AttributeName, WholeAttributeName, AfterAttributeName, BeforeAttributeValue, AttributeValue, AfterAttributeValue, SelfClosingStartTag, Content, Characters, Held, Nothing, InContent, Unread}
 use Rattle.place_core.specs.Tags.{Tag, EndTag, StartTag, Value, ValueOf, TypeSoFar, ValueState, languages, value_of, without_value, Quoting, DoubleQuoted, SingleQuoted, Unquoted}
 use Rattle.place_core.specs.declared.body.Body.{Body}
 use Rattle.place_core.specs.declared.body.Body.TheVariants as body
@@ -17,7 +17,6 @@ use Rattle.place_core.specs.declared.spots.Spots.{Spots}
 use Rattle.place_core.specs.declared.tag_of.TagOf.{TagOf}
 use Rattle.place_core.specs.declared.tag_of.TagOf.TheVariants as tag
 use Rattle.place_core.specs.declared.tag_place.TagPlace.{TagPlace}
-use Rattle.place_core.specs.declared.value_place.ValuePlace.{ValuePlace}
 
 abbrev pub tag_of : Tag → TagOf
 tag_of EndTag = tag.End

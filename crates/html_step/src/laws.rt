@@ -1,0 +1,40 @@
+ghost use Rattle.html_step.specs.Laws.{AcceptsText, CoversText, FromText, GrowsText, OneText, ShownText, ValidText};
+
+/// From the place of one path a step over a text is the path's own: it is taken exactly where the path is not refused in the text, and
+/// leads to the path's place after it; else it tells by which code the path is refused, at which byte, and its place before that. A
+/// law: the call does nothing.
+pub fn one_path()
+    ensures { OneText }
+{}
+
+/// Each path that a place stands for comes to one for which the place after the text stands. A law: the call does nothing.
+pub fn covers_paths()
+    ensures { CoversText }
+{}
+
+/// Each member of the place after a text comes from one member of the place before it, on every path that bears that one. A law: the
+/// call does nothing.
+pub fn members_come_from_one()
+    ensures { FromText }
+{}
+
+/// Where a text is refused there is a member so that every path that bears it is refused, by that code at that byte; or there are two
+/// so that any two paths that bear them are refused together. A law: the call does nothing.
+pub fn refused_is_shown()
+    ensures { ShownText }
+{}
+
+/// Where a text is accepted no path that the place stands for is refused, and no two are refused together. A law: the call does nothing.
+pub fn accepts_all_paths()
+    ensures { AcceptsText }
+{}
+
+/// A place below another one accepts what that one accepts, and comes to a place below. A law: the call does nothing.
+pub fn keeps_order()
+    ensures { GrowsText }
+{}
+
+/// A valid place comes to a valid one. A law: the call does nothing.
+pub fn keeps_valid()
+    ensures { ValidText }
+{}
