@@ -7,10 +7,13 @@ mod comment_stage;
 mod comments;
 mod contents;
 mod errors;
+mod escaper;
 mod front;
+mod hole;
 mod laws;
 mod names;
 mod next;
+mod predefined;
 mod refusal;
 mod refusals;
 mod slices;
@@ -19,8 +22,11 @@ mod tags;
 mod texts;
 mod values;
 
+pub use escaper::Escaper;
+pub use hole::after_hole;
 pub use laws::{
     accepts_all_paths, covers_paths, keeps_order, keeps_valid, members_come_from_one, one_path,
     refused_is_shown,
 };
+pub use predefined::may_escape;
 pub use steps::{after_text, place_before};
