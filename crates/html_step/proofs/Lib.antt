@@ -4,6 +4,8 @@ pub mod FromSteps
 pub mod FromTexts
 pub mod FrontOrder
 pub mod HeldNames
+pub mod HoleOrder
+pub mod HoleSteps
 pub mod Lowered
 pub mod OnePath
 pub mod OneTexts

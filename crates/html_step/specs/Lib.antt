@@ -1,6 +1,7 @@
 pub mod ClassViews
 pub mod FrontViews
 pub mod Fronts
+pub mod HoleLaws
 pub mod Holes
 pub mod Laws
 pub mod Slices
