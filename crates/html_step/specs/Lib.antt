@@ -3,6 +3,8 @@ pub mod FrontViews
 pub mod Fronts
 pub mod Holes
 pub mod Laws
+pub mod PlaceText
+pub mod Sets
 pub mod Slices
 pub mod StepViews
 pub mod Steps
