@@ -4,6 +4,8 @@ pub mod Fronts
 pub mod HoleLaws
 pub mod Holes
 pub mod Laws
+pub mod PlaceText
+pub mod Sets
 pub mod Slices
 pub mod StepViews
 pub mod Steps

@@ -1,6 +1,7 @@
 // The steps of HTML: where a text of a template leads to from a place, and a hole.
 #![tactic(auto)]
 
+mod bodies;
 mod cause;
 mod class;
 mod comment_stage;
@@ -14,8 +15,10 @@ mod laws;
 mod names;
 mod next;
 mod predefined;
+mod printed;
 mod refusal;
 mod refusals;
+mod sets;
 mod slices;
 mod steps;
 mod tags;
@@ -29,4 +32,5 @@ pub use laws::{
     refused_is_shown,
 };
 pub use predefined::may_escape;
+pub use printed::print_place;
 pub use steps::{after_text, place_before};
