@@ -1,15 +1,10 @@
 -- Holes and escapers, over the order of places.
-use Rattle.std.proofs.Common.{◌≡◌, Bool, true, false, ◌||◌, ◌&&◌, not, Option, Some, None, Result, Ok, Err, if◌then◌else◌, refl, sym, ap, ◌∙◌, subst, ◌⊎◌, inl, inr}
-use Rattle.place_core.specs.Errors.{RefusesHole, body_error, body_hole_error, hole_error}
-use Rattle.place_core.specs.Membership.{IsIn, Bears}
-use Rattle.place_core.specs.Paths.{at_hole}
-use Rattle.place_core.specs.Places.{Below, Has, IsValid, IsValidBody, body_has, is_whole, joined_bodies, joined_quotes, quotes_have, typed_has}
-use Rattle.place_core.specs.StatePlaces.{only_inside, placed}
-use Rattle.place_core.specs.States.{State}
-use Rattle.place_core.specs.Tags.{ValueState, languages}
+use Rattle.std.proofs.Common.{◌≡◌, Bool, true, false, ◌||◌, Some, None, Ok, Err, if◌then◌else◌, refl, sym, ap, ◌∙◌, subst, ◌⊎◌, inl, inr}
+use Rattle.place_core.specs.Errors.{body_error, body_hole_error, hole_error}
+use Rattle.place_core.specs.Places.{Below, Has, IsValid, body_has, is_whole, joined_bodies, joined_quotes, quotes_have, typed_has}
+use Rattle.place_core.specs.StatePlaces.{only_inside}
 use Rattle.place_core.specs.declared.body.Body.{Body}
 use Rattle.place_core.specs.declared.body.Body.TheVariants as body
-use Rattle.place_core.specs.declared.chain.Chain.{Chain}
 use Rattle.place_core.specs.declared.code.Code.{Code}
 use Rattle.place_core.specs.declared.code.Code.TheVariants as code
 use Rattle.place_core.specs.declared.kind.Kind.TheVariants as kind
@@ -21,10 +16,8 @@ use Rattle.place_core.specs.declared.quotes.Quotes.{Quotes}
 use Rattle.place_core.specs.declared.quotes.Quotes.TheVariants as quotes
 use Rattle.place_core.specs.declared.tag_place.TagPlace.{TagPlace}
 use Rattle.place_core.specs.declared.value_place.ValuePlace.{ValuePlace}
-use Rattle.place_core.proofs.JoinMembers.{the_has_grows}
-use Rattle.place_core.proofs.Joins.{places_same}
 use Rattle.place_core.proofs.Semilattices.{none_some, one_value}
-use Rattle.html_step.specs.Fronts.{Front, At, begun, front_place}
+use Rattle.html_step.specs.Fronts.{Front, begun, front_place}
 use Rattle.html_step.specs.HoleLaws.{AcceptsHole, CoversHole, FromHole, GrowsHole, OneHole, ShownHole, ValidHole}
 use Rattle.html_step.specs.Holes.{Holed, after_hole, named_by_data, plain_hole, value_hole}
 use Rattle.html_step.proofs.BelowFronts.{tag-place, value-place}
@@ -32,7 +25,6 @@ use Rattle.html_step.proofs.FromSteps.{false-or, no, or-false, plain-typed}
 use Rattle.html_step.proofs.FromTexts.{own-has}
 use Rattle.html_step.proofs.FrontOrder.{built-same, one-spot, value-from}
 use Rattle.html_step.proofs.HoleSteps.{OwnHole, own-at}
-use Rattle.html_step.proofs.OnePath.{some}
 use Rattle.html_step.proofs.PlaceParts.{TagBelow, Under, ValueBelow, below-tag, below-value, value-below, under-both, under-false}
 use Rattle.html_step.proofs.ShownSteps.{none-some}
 
@@ -271,14 +263,17 @@ from-to (place.Block b) y = tt
 
 pub from-hole : FromHole
 from-hole p q c y v h k =
-    let r = subst (λ (o : Holed). FromTo o p y) h (from-to p y) k in
-    (r.source, r.there, λ s i o.
-    let g = grows-hole i.own p q c i.valid v i.below h in
-    record {
-      own = g.0;
-      stands = ((one-hole i.own s i.stands).0 g.0 c g.1).1;
-      has = subst (λ (o : Holed). HasAfter o y) g.1 (r.leads i.own i.below (own-has p s r.source i o));
-    })
+    let r = subst (λ (o : Holed). FromTo o p y) h (from-to p y) k in (
+      r.source,
+      r.there,
+      λ s i o.
+          let g = grows-hole i.own p q c i.valid v i.below h in
+          record {
+            own = g.0;
+            stands = ((one-hole i.own s i.stands).0 g.0 c g.1).1;
+            has = subst (λ (o : Holed). HasAfter o y) g.1 (r.leads i.own i.below (own-has p s r.source i o));
+          },
+    )
 
 -- What is refused.
 record ShownPlace (p : Place) (e : Code) : Type 0 where

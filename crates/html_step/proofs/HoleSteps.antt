@@ -1,34 +1,17 @@
 -- Holes, place by place.
-use Rattle.std.proofs.Common.{◌≡◌, Bool, true, false, ◌||◌, Option, Some, None, Result, Ok, Err, if◌then◌else◌, option_map, refl, sym, ap, ◌∙◌, subst}
-use Rattle.place_core.specs.Errors.{RefusesHole, body_hole_error, hole_error}
-use Rattle.place_core.specs.Membership.{IsIn, Bears}
+use Rattle.std.proofs.Common.{◌≡◌, Option, Some, None, Ok, Err, refl, subst}
+use Rattle.place_core.specs.Errors.{hole_error}
 use Rattle.place_core.specs.Paths.{at_hole}
-use Rattle.place_core.specs.Places.{Below, Has, IsValid, IsValidBody, joined_bodies, joined_quotes}
 use Rattle.place_core.specs.References.{Closed, Open}
-use Rattle.place_core.specs.StatePlaces.{body_at, only_inside, placed, value_body, value_spot, unbegun, tag_of, is_typed, quotes_at}
+use Rattle.place_core.specs.StatePlaces.{placed}
 use Rattle.place_core.specs.States.{State, Text, TagOpen, EndTagOpen, DeclarationOpen, InComment, Started, StartedDash, Inside, Dash, DashDash, Bang, Broken, BogusComment, InDoctype, TagName, WholeTagName, BeforeAttributeName, AttributeName, WholeAttributeName, AfterAttributeName, BeforeAttributeValue, AttributeValue, AfterAttributeValue, SelfClosingStartTag, Characters, Bytes, Nothing, HeldLess, HeldName, HeldBang, HeldBangDash, InContent, Unread}
-use Rattle.place_core.specs.Tags.{Tag, Value, ValueOf, TypeSoFar, ValueState, languages, value_of, without_value, Quoting, DoubleQuoted, SingleQuoted, Unquoted}
-use Rattle.place_core.specs.declared.body.Body.{Body}
-use Rattle.place_core.specs.declared.body.Body.TheVariants as body
-use Rattle.place_core.specs.declared.chain.Chain.{Chain}
-use Rattle.place_core.specs.declared.code.Code.{Code}
-use Rattle.place_core.specs.declared.code.Code.TheVariants as code
+use Rattle.place_core.specs.Tags.{Tag, ValueOf, TypeSoFar, ValueState, languages, Quoting, DoubleQuoted, SingleQuoted, Unquoted}
 use Rattle.place_core.specs.declared.element.Element.TheVariants as element
 use Rattle.place_core.specs.declared.kind.Kind.{Kind}
 use Rattle.place_core.specs.declared.kind.Kind.TheVariants as kind
-use Rattle.place_core.specs.declared.member.Member.{Member}
-use Rattle.place_core.specs.declared.member.Member.TheVariants as member
 use Rattle.place_core.specs.declared.place.Place.{Place}
-use Rattle.place_core.specs.declared.place.Place.TheVariants as place
-use Rattle.place_core.specs.declared.quotes.Quotes.{Quotes}
-use Rattle.place_core.specs.declared.quotes.Quotes.TheVariants as quotes
-use Rattle.place_core.specs.declared.tag_of.TagOf.{TagOf}
-use Rattle.place_core.specs.declared.tag_place.TagPlace.{TagPlace}
-use Rattle.place_core.specs.declared.value_place.ValuePlace.{ValuePlace}
-use Rattle.html_step.specs.Fronts.{Front, At, begun}
-use Rattle.html_step.specs.Holes.{Holed, after_hole, named_by_data, plain_hole, value_hole}
-use Rattle.html_step.proofs.OnePath.{same-tag, same-typed, same-body}
-use Rattle.html_step.proofs.OneTexts.{none}
+use Rattle.html_step.specs.Holes.{Holed, after_hole}
+use Rattle.html_step.proofs.OnePath.{same-tag}
 
 -- the answer at the place of a path
 abbrev pub OwnHole : Holed → Place → State ValueState → Type 0

@@ -1,5 +1,5 @@
 -- What a step over a hole, and the naming of an escaper, promise of the paths that a place stands for.
-use Rattle.std.specs.Prelude.{◌≡◌, Bool, true, false, Some, None, Ok, Err}
+use Rattle.std.specs.Prelude.{◌≡◌, true, false, Some, None, Ok, Err}
 use Rattle.place_core.specs.Errors.{RefusesHole, hole_error}
 use Rattle.place_core.specs.Membership.{IsIn, Bears}
 use Rattle.place_core.specs.Paths.{at_hole}
