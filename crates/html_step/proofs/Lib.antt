@@ -1,5 +1,6 @@
 pub mod BelowFronts
 pub mod Clashing
+pub mod EscapeOrder
 pub mod FromSteps
 pub mod FromTexts
 pub mod FrontOrder

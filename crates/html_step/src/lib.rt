@@ -11,6 +11,7 @@ mod errors;
 mod escaper;
 mod front;
 mod hole;
+mod hole_laws;
 mod laws;
 mod names;
 mod next;
@@ -27,6 +28,11 @@ mod values;
 
 pub use escaper::Escaper;
 pub use hole::after_hole;
+pub use hole_laws::{
+    accepts_hole_on_all_paths, escapers_keep_order, hole_covers_paths, hole_keeps_order,
+    hole_keeps_valid, hole_members_come_from_one, hole_of_one_path, refused_escaper_is_shown,
+    refused_hole_is_shown,
+};
 pub use laws::{
     accepts_all_paths, covers_paths, keeps_order, keeps_valid, members_come_from_one, one_path,
     refused_is_shown,
