@@ -8,6 +8,7 @@ pub mod HeldNames
 pub mod HoleOrder
 pub mod HoleSteps
 pub mod Lowered
+pub mod MetApart
 pub mod OnePath
 pub mod OneTexts
 pub mod PlaceParts

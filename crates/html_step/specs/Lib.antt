@@ -1,3 +1,4 @@
+pub mod Apart
 pub mod ClassViews
 pub mod FrontViews
 pub mod Fronts

@@ -35,7 +35,7 @@ pub use hole_laws::{
 };
 pub use laws::{
     accepts_all_paths, covers_paths, keeps_order, keeps_valid, members_come_from_one, one_path,
-    refused_is_shown,
+    paths_that_met_apart, refused_is_shown,
 };
 pub use predefined::may_escape;
 pub use printed::print_place;
