@@ -35,7 +35,7 @@ below-at P p f (InTagName ends name) h = cc
 below-at P p f (InCommentEnd s) h = cc
 below-at P p f (InContentEnd e x) h = cc
 
-tag-place : (P : Front → Type 0) (t : TagPlace) → ((u : TagPlace) → TagBelow u t → P (At (place.Tag u))) → (a : Place) → Below a (place.Tag t) → P (At a)
+pub tag-place : (P : Front → Type 0) (t : TagPlace) → ((u : TagPlace) → TagBelow u t → P (At (place.Tag u))) → (a : Place) → Below a (place.Tag t) → P (At a)
 tag-place P t f (place.Tag u) h = f u (below-tag u t h)
 tag-place P t f place.Text h = absurd (none_some (place.Tag t) h)
 tag-place P t f place.Doctype h = absurd (none_some (place.Tag t) h)
@@ -49,7 +49,7 @@ tag-place P t f (place.Block x) h = absurd (none_some (place.Tag t) h)
 pub below-at-tag : (P : Front → Type 0) (t : TagPlace) → ((u : TagPlace) → TagBelow u t → P (At (place.Tag u))) → (g : Front) → FrontBelow g (At (place.Tag t)) → P g
 below-at-tag P t f g h = below-at P (place.Tag t) (tag-place P t f) g h
 
-value-place : (P : Front → Type 0) (t : ValuePlace) → ((u : ValuePlace) → ValueBelow u t → P (At (place.Value u))) → (a : Place) → Below a (place.Value t) → P (At a)
+pub value-place : (P : Front → Type 0) (t : ValuePlace) → ((u : ValuePlace) → ValueBelow u t → P (At (place.Value u))) → (a : Place) → Below a (place.Value t) → P (At a)
 value-place P t f (place.Value u) h = f u (below-value u t h)
 value-place P t f place.Text h = absurd (none_some (place.Value t) h)
 value-place P t f place.Doctype h = absurd (none_some (place.Value t) h)

@@ -43,7 +43,7 @@ pub or-false : (x : Bool) → (x || false) ≡ true → x ≡ true
 or-false true h = refl
 or-false false h = h
 
-false-or : (x : Bool) → x ≡ true → (x || false) ≡ true
+pub false-or : (x : Bool) → x ≡ true → (x || false) ≡ true
 false-or x h = rw h refl
 
 from-whole : (f : Front) (c : Class) (b : ℕ) (y : Member) → is_whole y ≡ true → From f c b y
@@ -217,7 +217,7 @@ alike-has u v f g y (goes q e i) b h t =
     subst (λ (x : Front). FrontHas x y) (sym e) (value-typed v.typed u.typed q u.body y (subst (λ (x : Body). (is_whole y || (typed_has v.typed y || (quotes_have q y || body_has x y))) ≡ true) (sym b) (subst (λ (x : Front). FrontHas x y) i h)) t)
 alike-has u v f g y (ends e i) b h t = subst (λ (x : Front). FrontHas x y) (sym e) (whole-in (content_front u.tag) y (content-whole v.tag y (subst (λ (x : Front). FrontHas x y) i h)))
 
-plain-typed : (x : Bool) (q : Quotes) (b : Body) → body_error b ≡ None → (x || (quotes_have q member.Typed || body_has b member.Typed)) ≡ true → x ≡ true
+pub plain-typed : (x : Bool) (q : Quotes) (b : Body) → body_error b ≡ None → (x || (quotes_have q member.Typed || body_has b member.Typed)) ≡ true → x ≡ true
 plain-typed true q b n h = refl
 plain-typed false (quotes.Bare s) body.Plain n h = h
 plain-typed false (quotes.Bare s) body.NoHole n h = h

@@ -78,7 +78,7 @@ tag-from t u x y s r k l e f a b c d g =
 pub one-spot : (t u : TagOf) (x y : Bool) (s : Spots) (k : Option Kind) → t ≡ u → Under x y → FrontBelow (in_tag t x s k) (in_tag u y s k)
 one-spot t u x y s k e f = tag-from t u x y s s k k e f (under-same s.name) (under-same s.before) (under-same s.inside) (under-same s.after) (kinds_partial.same k)
 
-value-from : (t u : TagOf) (x y : Bool) (q r : Quotes) (b c : Body) → t ≡ u → Under x y → joined_quotes q r ≡ Some r → joined_bodies b c ≡ Some c
+pub value-from : (t u : TagOf) (x y : Bool) (q r : Quotes) (b c : Body) → t ≡ u → Under x y → joined_quotes q r ≡ Some r → joined_bodies b c ≡ Some c
     → FrontBelow (At (place.Value (record { tag = t; typed = x; quotes = q; body = b }))) (At (place.Value (record { tag = u; typed = y; quotes = r; body = c })))
 value-from t u x y q r b c e f g h = value-below (record { tag = t; typed = x; quotes = q; body = b }) (record { tag = u; typed = y; quotes = r; body = c }) (record { tag = e; typed = f; quotes = g; body = h })
 

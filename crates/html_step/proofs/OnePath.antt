@@ -66,7 +66,7 @@ abbrev pub WhereFronted : Option Front → (Front → Type 0) → Type 0
 WhereFronted None P = ⊤
 WhereFronted (Some f) P = P f
 
-same-body : (bs : List ℕ) (k : Kind) → value_body (with_bytes languages (ValueOf k) bs) ≡ value_body (ValueOf k)
+pub same-body : (bs : List ℕ) (k : Kind) → value_body (with_bytes languages (ValueOf k) bs) ≡ value_body (ValueOf k)
 same-body [] k = refl
 same-body (b ∷ bs) k = same-body bs k
 
@@ -75,7 +75,7 @@ same-with t [] k = refl
 same-with t (b ∷ bs) k = same-with t bs k
 
 -- what an attribute without a value does to its tag
-same-tag : (t : Tag) (k : Kind) → tag_of (without_value t k) ≡ tag_of t
+pub same-tag : (t : Tag) (k : Kind) → tag_of (without_value t k) ≡ tag_of t
 same-tag EndTag kind.ScriptType = refl
 same-tag (StartTag element.Other typed) kind.ScriptType = refl
 same-tag (StartTag element.Title typed) kind.ScriptType = refl
@@ -86,7 +86,7 @@ same-tag (StartTag element.Script false) kind.ScriptType = refl
 same-tag (StartTag element.DataBlock typed) kind.ScriptType = refl
 same-tag t _ = refl
 
-same-typed : (t : Tag) (k : Kind) → is_typed (without_value t k) ≡ typed_with (tag_of t) (is_typed t) k
+pub same-typed : (t : Tag) (k : Kind) → is_typed (without_value t k) ≡ typed_with (tag_of t) (is_typed t) k
 same-typed EndTag kind.ScriptType = refl
 same-typed (StartTag element.Other typed) kind.ScriptType = refl
 same-typed (StartTag element.Title typed) kind.ScriptType = refl

@@ -16,7 +16,7 @@ use Rattle.html_step.specs.Laws.{OneText}
 use Rattle.html_step.specs.Steps.{after_text, stepped, unless_refused, front_after, place_before, with_place_before}
 use Rattle.html_step.proofs.OnePath.{fronted, Agrees, Ends, WhereFronted, agrees, ends-agree}
 
-none : {A : Type 0} {x : A} → None ≡ Some x → ⊥
+pub none : {A : Type 0} {x : A} → None ≡ Some x → ⊥
 none e = cc
 
 -- a state that has a place is at it

@@ -2,7 +2,7 @@
 use Rattle.std.specs.Prelude.{◌≡◌, ℕ, List, Some, None, Ok, Err}
 use Rattle.place_core.specs.Errors.{Refuses, Clashes, refusal_from, node}
 use Rattle.place_core.specs.Membership.{IsIn, Bears}
-use Rattle.place_core.specs.Places.{Below, Has, IsValid}
+use Rattle.place_core.specs.Places.{Below, Has, HasApart, IsValid, side}
 use Rattle.place_core.specs.StatePlaces.{placed}
 use Rattle.place_core.specs.States.{State}
 use Rattle.place_core.specs.Tags.{ValueState}
@@ -10,6 +10,7 @@ use Rattle.place_core.specs.declared.code.Code.{Code}
 use Rattle.place_core.specs.declared.member.Member.{Member}
 use Rattle.place_core.specs.declared.place.Place.{Place}
 use Rattle.place_core.specs.declared.step_err.StepErr.{StepErr}
+use Rattle.html_step.specs.Apart.{ClashesApart}
 use Rattle.html_step.specs.Steps.{after_text}
 
 -- From the place of one path the step is the path's own: where it is taken the path is refused nowhere in the text and comes to the place after
@@ -28,14 +29,16 @@ abbrev pub FromText : Type 0
 FromText = (bytes : List ℕ) (p q : Place) (y : Member) → IsValid p → after_text bytes p ≡ Ok q → Has q y →
     (x : Member) × Has p x × ((s : State ValueState) → IsIn p s → Bears s x → Bears (node bytes s) y)
 
--- What is refused is refused on each path that bears some member, or on any two paths that bear two.
+-- What is refused is refused on each path that bears some member, or on any two paths that bear two, or on two that met apart.
 pub data Shown : Type 0 where
   one : Member → Shown
   two : Member → Member → Shown
+  apart : Shown
 
 abbrev pub IsShown : List ℕ → Place → StepErr Place → Shown → Type 0
 IsShown bytes p e (one x) = Has p x × ((s : State ValueState) → IsIn p s → Bears s x → (b : Place) × Refuses bytes s (record { code = e.code; at = e.at; before = b }))
 IsShown bytes p e (two x y) = Has p x × Has p y × ((s r : State ValueState) → IsIn p s → Bears s x → IsIn p r → Bears r y → Clashes bytes s r e.code e.at)
+IsShown bytes p e apart = HasApart p × ((s r : State ValueState) → IsIn p s → Bears s side → IsIn p r → Bears r side → ClashesApart bytes s r e.code e.at)
 
 abbrev pub ShownText : Type 0
 ShownText = (bytes : List ℕ) (p : Place) (e : StepErr Place) → IsValid p → after_text bytes p ≡ Err e → (h : Shown) × IsShown bytes p e h

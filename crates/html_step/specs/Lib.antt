@@ -1,7 +1,12 @@
+pub mod Apart
 pub mod ClassViews
 pub mod FrontViews
 pub mod Fronts
+pub mod HoleLaws
+pub mod Holes
 pub mod Laws
+pub mod PlaceText
+pub mod Sets
 pub mod Slices
 pub mod StepViews
 pub mod Steps

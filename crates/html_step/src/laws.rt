@@ -1,3 +1,4 @@
+ghost use Rattle.html_step.specs.Apart.{ApartLaws};
 ghost use Rattle.html_step.specs.Laws.{AcceptsText, CoversText, FromText, GrowsText, OneText, ShownText, ValidText};
 
 /// From the place of one path a step over a text is the path's own: it is taken exactly where the path is not refused in the text, and
@@ -37,4 +38,10 @@ pub fn keeps_order()
 /// A valid place comes to a valid one. A law: the call does nothing.
 pub fn keeps_valid()
     ensures { ValidText }
+{}
+
+/// What says of a place that two of its paths met apart in the beginning of a URL is kept by texts and joins, and comes from where they
+/// met. No path is in a URL yet. A law: the call does nothing.
+pub fn paths_that_met_apart()
+    ensures { ApartLaws }
 {}

@@ -1,26 +1,42 @@
 // The steps of HTML: where a text of a template leads to from a place, and a hole.
 #![tactic(auto)]
 
+mod bodies;
 mod cause;
 mod class;
 mod comment_stage;
 mod comments;
 mod contents;
 mod errors;
+mod escaper;
 mod front;
+mod hole;
+mod hole_laws;
 mod laws;
 mod names;
 mod next;
+mod predefined;
+mod printed;
 mod refusal;
 mod refusals;
+mod sets;
 mod slices;
 mod steps;
 mod tags;
 mod texts;
 mod values;
 
+pub use escaper::Escaper;
+pub use hole::after_hole;
+pub use hole_laws::{
+    accepts_hole_on_all_paths, escapers_keep_order, hole_covers_paths, hole_keeps_order,
+    hole_keeps_valid, hole_members_come_from_one, hole_of_one_path, refused_escaper_is_shown,
+    refused_hole_is_shown,
+};
 pub use laws::{
     accepts_all_paths, covers_paths, keeps_order, keeps_valid, members_come_from_one, one_path,
-    refused_is_shown,
+    paths_that_met_apart, refused_is_shown,
 };
+pub use predefined::may_escape;
+pub use printed::print_place;
 pub use steps::{after_text, place_before};

@@ -27,7 +27,8 @@ const BEFORE: Spots = Spots {
     after: false,
 };
 
-const INSIDE: Spots = Spots {
+/// In the name of an attribute.
+pub const INSIDE: Spots = Spots {
     name: false,
     before: false,
     inside: true,

@@ -6,7 +6,8 @@ use crate::class::Class;
 use crate::tags::{UNBEGUN, before_name, content};
 use place_core::{Bare, Place, Quotes, ValuePlace};
 
-const BEGUN: Quotes = Quotes::Bare(Bare {
+/// In a value without quotes that has begun.
+pub const BEGUN: Quotes = Quotes::Bare(Bare {
     uq: true,
     unbegun: false,
 });

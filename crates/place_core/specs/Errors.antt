@@ -181,6 +181,25 @@ byte_clash (BeforeAttributeValue t k) (AttributeValue Unquoted u v r) White = So
 byte_clash (AttributeValue Unquoted u v r) (BeforeAttributeValue t k) White = Some code.AmbigContext
 byte_clash s r c = None
 
+-- Where a value of data may not stand: in a name, which it would go on with, and where it would decide how the page is read.
+abbrev pub body_hole_error : Body → Option Code
+body_hole_error body.Plain = None
+body_hole_error body.NoHole = Some code.BadHTML
+body_hole_error (body.Url parts) = Some code.NotBuilt
+body_hole_error (body.Js js) = Some code.NotBuilt
+body_hole_error (body.Css css) = Some code.NotBuilt
+
+abbrev pub hole_error : Place → Option Code
+hole_error place.Text = None
+hole_error place.Doctype = Some code.BadHTML
+hole_error (place.Comment dash) = None
+hole_error (place.Rcdata e) = None
+hole_error (place.Tag t) = if t.spots.name || t.spots.inside then Some code.SplitToken else None
+hole_error (place.Value v) = body_hole_error v.body
+hole_error (place.Script js) = Some code.NotBuilt
+hole_error (place.Style css) = Some code.NotBuilt
+hole_error (place.Block lt) = Some code.NotBuilt
+
 -- What is refused of a text, and at which of its bytes; an error of the node's end stands at its length, or before that.
 pub record Refusal : Type 0 where
   pub code : Code
@@ -206,6 +225,12 @@ node bytes s = at_cut languages (states bytes s)
 pub record Refuses (bytes : List ℕ) (s : State ValueState) (e : StepErr Place) : Type 0 where
   pub stands : refusal_from 0 bytes s ≡ Some (record { code = e.code; at = e.at })
   pub before : placed (node (take e.at bytes) s) ≡ Some e.before
+
+-- A hole is refused on the path that has come to a state, which is at a place.
+pub record RefusesHole (s : State ValueState) (e : Code) : Type 0 where
+  pub own : Place
+  pub stands : placed s ≡ Some own
+  pub refused : hole_error own ≡ Some e
 
 -- Two paths, of which neither is refused before this byte of a text, are refused together there.
 abbrev pub Clashes : List ℕ → State ValueState → State ValueState → Code → ℕ → Type 0

@@ -1,0 +1,89 @@
+-- Holes, place by place.
+use Rattle.std.proofs.Common.{◌≡◌, Option, Some, None, Ok, Err, refl, subst}
+use Rattle.place_core.specs.Errors.{hole_error}
+use Rattle.place_core.specs.Paths.{at_hole}
+use Rattle.place_core.specs.References.{Closed, Open}
+use Rattle.place_core.specs.StatePlaces.{placed}
+use Rattle.place_core.specs.States.{State, Text, TagOpen, EndTagOpen, DeclarationOpen, InComment, Started, StartedDash, Inside, Dash, DashDash, Bang, Broken, BogusComment, InDoctype, TagName, WholeTagName, BeforeAttributeName, AttributeName, WholeAttributeName, AfterAttributeName, BeforeAttributeValue, AttributeValue, AfterAttributeValue, SelfClosingStartTag, Characters, Bytes, Nothing, HeldLess, HeldName, HeldBang, HeldBangDash, InContent, Unread}
+use Rattle.place_core.specs.Tags.{Tag, ValueOf, TypeSoFar, ValueState, languages, Quoting, DoubleQuoted, SingleQuoted, Unquoted}
+use Rattle.place_core.specs.declared.element.Element.TheVariants as element
+use Rattle.place_core.specs.declared.kind.Kind.{Kind}
+use Rattle.place_core.specs.declared.kind.Kind.TheVariants as kind
+use Rattle.place_core.specs.declared.place.Place.{Place}
+use Rattle.html_step.specs.Holes.{Holed, after_hole}
+use Rattle.html_step.proofs.OnePath.{same-tag}
+
+-- the answer at the place of a path
+abbrev pub OwnHole : Holed → Place → State ValueState → Type 0
+OwnHole (Ok h) p s = (hole_error p ≡ None) × (placed (at_hole languages s) ≡ Some h.0)
+OwnHole (Err e) p s = hole_error p ≡ Some e
+
+-- where a place is that of a state
+abbrev WherePlaced : Option Place → State ValueState → Type 0
+WherePlaced None s = Unit {0}
+WherePlaced (Some p) s = OwnHole (after_hole p) p s
+
+value-own : (q : Quoting) (t : Tag) (k : Kind) → WherePlaced (placed (AttributeValue q t (ValueOf k) Closed)) (AttributeValue q t (ValueOf k) Closed)
+value-own DoubleQuoted t kind.Plain = (refl, refl)
+value-own SingleQuoted t kind.Plain = (refl, refl)
+value-own Unquoted t kind.Plain = (refl, refl)
+value-own q t kind.NoHole = refl
+value-own q t kind.Url = tt
+value-own q t kind.Script = tt
+value-own q t kind.Style = tt
+value-own q t kind.ScriptType = tt
+
+before-own : (t : Tag) (k : Kind) → WherePlaced (placed (BeforeAttributeValue t k)) (BeforeAttributeValue t k)
+before-own t kind.Plain = (refl, refl)
+before-own t kind.NoHole = refl
+before-own t kind.Url = tt
+before-own t kind.Script = tt
+before-own t kind.Style = tt
+before-own t kind.ScriptType = tt
+
+after-own : (t : Tag) (k : Kind) → WherePlaced (placed (AfterAttributeName t k)) (AfterAttributeName t k)
+after-own t k = (refl, rw (same-tag t k) refl)
+
+own-hole : (s : State ValueState) → WherePlaced (placed s) s
+own-hole (Text Closed) = (refl, refl)
+own-hole (Text (Open f bytes)) = tt
+own-hole (TagOpen r) = tt
+own-hole (EndTagOpen r) = tt
+own-hole (DeclarationOpen r held) = tt
+own-hole (InComment Inside) = (refl, refl)
+own-hole (InComment Broken) = (refl, refl)
+own-hole (InComment Started) = tt
+own-hole (InComment StartedDash) = tt
+own-hole (InComment Dash) = tt
+own-hole (InComment DashDash) = tt
+own-hole (InComment Bang) = tt
+own-hole BogusComment = tt
+own-hole InDoctype = refl
+own-hole (TagName ends name) = tt
+own-hole (WholeTagName t) = refl
+own-hole (BeforeAttributeName t) = (refl, refl)
+own-hole (AttributeName t name) = tt
+own-hole (WholeAttributeName t k) = refl
+own-hole (AfterAttributeName t k) = after-own t k
+own-hole (BeforeAttributeValue t k) = before-own t k
+own-hole (AttributeValue q t (ValueOf k) Closed) = value-own q t k
+own-hole (AttributeValue q t (TypeSoFar before) Closed) = tt
+own-hole (AttributeValue q t v (Open f bytes)) = tt
+own-hole (AfterAttributeValue t) = (refl, refl)
+own-hole (SelfClosingStartTag t) = (refl, refl)
+own-hole (InContent element.Title (Characters Closed) Nothing) = (refl, refl)
+own-hole (InContent element.Textarea (Characters Closed) Nothing) = (refl, refl)
+own-hole (InContent element.DataBlock (Characters Closed) Nothing) = tt
+own-hole (InContent element.Script (Characters Closed) Nothing) = tt
+own-hole (InContent element.Style (Characters Closed) Nothing) = tt
+own-hole (InContent element.Other (Characters Closed) Nothing) = tt
+own-hole (InContent x (Characters (Open f bytes)) Nothing) = tt
+own-hole (InContent x Bytes Nothing) = tt
+own-hole (InContent x y HeldLess) = tt
+own-hole (InContent x y (HeldName letters)) = tt
+own-hole (InContent x y HeldBang) = tt
+own-hole (InContent x y HeldBangDash) = tt
+own-hole Unread = tt
+
+pub own-at : (p : Place) (s : State ValueState) → placed s ≡ Some p → OwnHole (after_hole p) p s
+own-at p s e = subst (λ (o : Option Place). WherePlaced o s) e (own-hole s)

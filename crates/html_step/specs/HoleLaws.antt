@@ -1,0 +1,53 @@
+-- What a step over a hole, and the naming of an escaper, promise of the paths that a place stands for.
+use Rattle.std.specs.Prelude.{◌≡◌, true, false, Some, None, Ok, Err}
+use Rattle.place_core.specs.Errors.{RefusesHole, hole_error}
+use Rattle.place_core.specs.Membership.{IsIn, Bears}
+use Rattle.place_core.specs.Paths.{at_hole}
+use Rattle.place_core.specs.Places.{Below, Has, IsValid}
+use Rattle.place_core.specs.StatePlaces.{placed}
+use Rattle.place_core.specs.States.{State}
+use Rattle.place_core.specs.Tags.{ValueState, languages}
+use Rattle.place_core.specs.declared.chain.Chain.{Chain}
+use Rattle.place_core.specs.declared.code.Code.{Code}
+use Rattle.place_core.specs.declared.member.Member.{Member}
+use Rattle.place_core.specs.declared.place.Place.{Place}
+use Rattle.html_step.specs.Holes.{after_hole, may_escape}
+use Rattle.html_step.specs.declared.escaper.Escaper.{Escaper}
+
+-- From the place of one path the step is the path's own: it comes to the place after the hole, or the hole is refused on it.
+abbrev pub OneHole : Type 0
+OneHole = (p : Place) (s : State ValueState) → placed s ≡ Some p →
+    ((q : Place) (c : Chain) → after_hole p ≡ Ok (q, c) → (hole_error p ≡ None) × (placed (at_hole languages s) ≡ Some q))
+    × ((e : Code) → after_hole p ≡ Err e → RefusesHole s e)
+
+-- Each path that a place stands for comes to one for which the place after the hole stands, and its own place has the same chain.
+abbrev pub CoversHole : Type 0
+CoversHole = (p q : Place) (c : Chain) (s : State ValueState) → IsValid p → IsIn p s → after_hole p ≡ Ok (q, c) → IsIn q (at_hole languages s)
+    × ((a : Place) → placed s ≡ Some a → (b : Place) × (after_hole a ≡ Ok (b, c)))
+
+abbrev pub FromHole : Type 0
+FromHole = (p q : Place) (c : Chain) (y : Member) → IsValid p → after_hole p ≡ Ok (q, c) → Has q y →
+    (x : Member) × Has p x × ((s : State ValueState) → IsIn p s → Bears s x → Bears (at_hole languages s) y)
+
+-- A hole that is refused is refused on each path that bears some member.
+abbrev pub ShownHole : Type 0
+ShownHole = (p : Place) (e : Code) → IsValid p → after_hole p ≡ Err e →
+    (x : Member) × Has p x × ((s : State ValueState) → IsIn p s → Bears s x → RefusesHole s e)
+
+abbrev pub AcceptsHole : Type 0
+AcceptsHole = (p q : Place) (c : Chain) (s : State ValueState) (e : Code) → IsValid p → after_hole p ≡ Ok (q, c) → IsIn p s → RefusesHole s e → ⊥
+
+abbrev pub GrowsHole : Type 0
+GrowsHole = (p r q : Place) (c : Chain) → IsValid p → IsValid r → Below p r → after_hole r ≡ Ok (q, c) → (a : Place) × (after_hole p ≡ Ok (a, c)) × Below a q
+
+abbrev pub ValidHole : Type 0
+ValidHole = (p q : Place) (c : Chain) → IsValid p → after_hole p ≡ Ok (q, c) → IsValid q
+
+-- An escaper that may be named at a place may be named at each place below it; and where it may not there is a member so that it may not on
+-- any path that bears it.
+abbrev pub GrowsEscape : Type 0
+GrowsEscape = (x : Escaper) (p r : Place) → IsValid p → Below p r → may_escape r x ≡ true → may_escape p x ≡ true
+
+abbrev pub ShownEscape : Type 0
+ShownEscape = (x : Escaper) (p : Place) → IsValid p → may_escape p x ≡ false →
+    (m : Member) × Has p m × ((s : State ValueState) (a : Place) → IsIn p s → Bears s m → placed s ≡ Some a → may_escape a x ≡ false)

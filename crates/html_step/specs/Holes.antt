@@ -1,0 +1,119 @@
+-- A value of data at a place: what is done to it, and the place after it, or why none may stand there; and where a template may name an escaper.
+use Rattle.std.specs.Prelude.{Bool, true, false, not, is_none, ◌||◌, ◌&&◌, [], ◌∷◌, Some, Result, Ok, Err}
+use Rattle.place_core.specs.StatePlaces.{only_inside}
+use Rattle.place_core.specs.declared.body.Body.{Body}
+use Rattle.place_core.specs.declared.body.Body.TheVariants as body
+use Rattle.place_core.specs.declared.chain.Chain.{Chain}
+use Rattle.place_core.specs.declared.code.Code.{Code}
+use Rattle.place_core.specs.declared.code.Code.TheVariants as code
+use Rattle.place_core.specs.declared.css.Css.{Css}
+use Rattle.place_core.specs.declared.css.Css.TheVariants as css
+use Rattle.place_core.specs.declared.kind.Kind.TheVariants as kind
+use Rattle.place_core.specs.declared.parts.Parts.{Parts}
+use Rattle.place_core.specs.declared.place.Place.{Place}
+use Rattle.place_core.specs.declared.place.Place.TheVariants as place
+use Rattle.place_core.specs.declared.quotes.Quotes.{Quotes}
+use Rattle.place_core.specs.declared.quotes.Quotes.TheVariants as quotes
+use Rattle.place_core.specs.declared.san.San.{San}
+use Rattle.place_core.specs.declared.san.San.TheVariants as san
+use Rattle.place_core.specs.declared.tag_place.TagPlace.{TagPlace}
+use Rattle.place_core.specs.declared.value_place.ValuePlace.{ValuePlace}
+use Rattle.html_step.specs.Fronts.{begun}
+use Rattle.html_step.specs.declared.escaper.Escaper.{Escaper}
+use Rattle.html_step.specs.declared.escaper.Escaper.TheVariants as escaper
+
+abbrev pub Holed : Type 0
+Holed = Result (Place × Chain) Code
+
+-- a chain of one
+abbrev pub only : San → Chain
+only s = record { count = 1; sans = s ∷ s ∷ s ∷ [] }
+
+-- The name of an attribute, which is a plain one: where paths stand in a name, the value would go on with it.
+abbrev pub named_by_data : Bool → TagPlace → Holed
+named_by_data true t = Err code.SplitToken
+named_by_data false t = Ok (place.Tag (record { tag = t.tag; typed = t.typed; spots = only_inside; kind = Some kind.Plain }), only san.AttrName)
+
+-- in a value that is read as text, by its quotes
+abbrev pub plain_hole : Quotes → ValuePlace → Holed
+plain_hole quotes.Dq v = Ok (place.Value v, only san.Attr)
+plain_hole quotes.Sq v = Ok (place.Value v, only san.Attr)
+plain_hole (quotes.Bare b) v = Ok (place.Value (record { tag = v.tag; typed = v.typed; quotes = begun; body = v.body }), only san.AttrNospace)
+
+abbrev pub value_hole : Body → ValuePlace → Holed
+value_hole body.Plain v = plain_hole v.quotes v
+value_hole body.NoHole v = Err code.BadHTML
+value_hole (body.Url parts) v = Err code.NotBuilt
+value_hole (body.Js js) v = Err code.NotBuilt
+value_hole (body.Css css) v = Err code.NotBuilt
+
+abbrev pub after_hole : Place → Holed
+after_hole place.Text = Ok (place.Text, only san.Html)
+after_hole place.Doctype = Err code.BadHTML
+after_hole (place.Comment dash) = Ok (place.Comment dash, only san.Drop)
+after_hole (place.Rcdata e) = Ok (place.Rcdata e, only san.Html)
+after_hole (place.Tag t) = named_by_data (t.spots.name || t.spots.inside) t
+after_hole (place.Value v) = value_hole v.body v
+after_hole (place.Script js) = Err code.NotBuilt
+after_hole (place.Style css) = Err code.NotBuilt
+after_hole (place.Block lt) = Err code.NotBuilt
+
+-- Text, and values with quotes that are read as text, are where a value is written as text; the query of a URL is where it is written so.
+abbrev pub is_only_query : Parts → Bool
+is_only_query p = p.query && (not p.start && (is_none p.opened && (not p.openhole && (not p.prequery && not p.bad))))
+
+abbrev pub css_query : Css → Bool
+css_query (css.Url p) = is_only_query p
+css_query (css.UrlDq p) = is_only_query p
+css_query (css.UrlSq p) = is_only_query p
+css_query (css.Code tails) = false
+css_query css.Dq = false
+css_query css.Sq = false
+css_query css.UrlFresh = false
+css_query css.UrlEnd = false
+css_query (css.Comment star) = false
+
+abbrev pub body_query : Body → Bool
+body_query (body.Url p) = is_only_query p
+body_query (body.Css c) = css_query c
+body_query body.Plain = false
+body_query body.NoHole = false
+body_query (body.Js js) = false
+
+abbrev pub in_query : Place → Bool
+in_query (place.Value v) = body_query v.body
+in_query (place.Style c) = css_query c
+in_query place.Text = false
+in_query place.Doctype = false
+in_query (place.Comment dash) = false
+in_query (place.Rcdata e) = false
+in_query (place.Tag t) = false
+in_query (place.Script js) = false
+in_query (place.Block lt) = false
+
+abbrev pub is_quoted : Quotes → Bool
+is_quoted quotes.Dq = true
+is_quoted quotes.Sq = true
+is_quoted (quotes.Bare b) = false
+
+abbrev pub plain_text : Body → Quotes → Bool
+plain_text body.Plain q = is_quoted q
+plain_text body.NoHole q = false
+plain_text (body.Url p) q = false
+plain_text (body.Js js) q = false
+plain_text (body.Css css) q = false
+
+abbrev pub as_text : Place → Bool
+as_text place.Text = true
+as_text (place.Rcdata e) = true
+as_text (place.Block lt) = true
+as_text (place.Value v) = plain_text v.body v.quotes
+as_text place.Doctype = false
+as_text (place.Comment dash) = false
+as_text (place.Tag t) = false
+as_text (place.Script js) = false
+as_text (place.Style css) = false
+
+abbrev pub may_escape : Place → Escaper → Bool
+may_escape p escaper.Html = as_text p
+may_escape p escaper.Urlquery = in_query p

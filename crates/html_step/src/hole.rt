@@ -1,0 +1,78 @@
+ghost use Rattle.std.specs.Prelude.{◌≡◌, ◌||◌};
+ghost use Rattle.html_step.specs.Holes.{after_hole as after_hole_of, named_by_data as named_by_data_of, only as only_of, plain_hole as plain_hole_of, value_hole as value_hole_of};
+
+use crate::tags::INSIDE;
+use crate::values::BEGUN;
+use place_core::{Body, Chain, Code, Kind, Place, Quotes, San, TagPlace, ValuePlace};
+
+/// What is done to a value of data at a place, and the place after it; or why no value may stand there. (HTML Standard, section
+/// 13.2.5; Go's `html/template`.) The causes:
+///
+/// - `BadHTML`: in a doctype, and in an attribute in which no value of data may stand.
+/// - `SplitToken`: in the name of a tag or of an attribute, which the value would go on with.
+/// - `NotBuilt`: in a script, a style, a block of data, and a value that is a URL, a script or a style.
+///
+/// Takes no memory.
+pub fn after_hole(place: Place) -> Result<(Place, Chain), Code>
+    ensures { result ≡ after_hole_of place }
+{
+    match place {
+        Place::Text | Place::Rcdata(_) => Ok((place, only(San::Html))),
+        Place::Comment(_) => Ok((place, only(San::Drop))),
+        Place::Doctype => Err(Code::BadHTML),
+        Place::Tag(tag) => named_by_data(tag.spots.name || tag.spots.inside, tag),
+        Place::Value(value) => in_value(value),
+        Place::Script(_) | Place::Style(_) | Place::Block(_) => Err(Code::NotBuilt),
+    }
+}
+
+// In a tag: the value is the name of an attribute, or would go on with one.
+fn named_by_data(goes_on: bool, place: TagPlace) -> Result<(Place, Chain), Code>
+    ensures { result ≡ named_by_data_of goes_on place }
+{
+    if goes_on {
+        return Err(Code::SplitToken);
+    }
+    let named = Place::Tag(TagPlace {
+        tag: place.tag,
+        typed: place.typed,
+        spots: INSIDE,
+        kind: Some(Kind::Plain),
+    });
+    Ok((named, only(San::AttrName)))
+}
+
+fn in_value(place: ValuePlace) -> Result<(Place, Chain), Code>
+    ensures { result ≡ value_hole_of place.body place }
+{
+    match place.body {
+        Body::Plain => in_plain_value(place),
+        Body::NoHole => Err(Code::BadHTML),
+        Body::Url(_) | Body::Js(_) | Body::Css(_) => Err(Code::NotBuilt),
+    }
+}
+
+// In a value that is read as text; without quotes, the value has begun.
+fn in_plain_value(place: ValuePlace) -> Result<(Place, Chain), Code>
+    ensures { result ≡ plain_hole_of place.quotes place }
+{
+    match place.quotes {
+        Quotes::Dq | Quotes::Sq => Ok((Place::Value(place), only(San::Attr))),
+        Quotes::Bare(_) => {
+            let begun = Place::Value(ValuePlace {
+                quotes: BEGUN,
+                ..place
+            });
+            Ok((begun, only(San::AttrNospace)))
+        }
+    }
+}
+
+fn only(san: San) -> Chain
+    ensures { result ≡ only_of san }
+{
+    Chain {
+        count: 1,
+        sans: [san; 3],
+    }
+}

@@ -1,0 +1,77 @@
+ghost use Rattle.std.specs.Prelude.{◌≡◌};
+ghost use Rattle.html_step.specs.Holes.{as_text as as_text_of, body_query as body_query_of, css_query as css_query_of, in_query as in_query_of, is_only_query as is_only_query_of, may_escape as may_escape_of, plain_text as plain_text_of};
+
+use crate::escaper::Escaper;
+use place_core::{Body, Css, Parts, Place, Quotes};
+
+/// Whether a template may name an escaper at a place: `html` in text, in a title, a textarea and a block of data, and in a value
+/// with quotes that is read as text; `urlquery` where all paths stand in the query of a URL. (Go's `html/template`.) Takes no
+/// memory.
+pub fn may_escape(place: Place, escaper: Escaper) -> bool
+    ensures { result ≡ may_escape_of place escaper }
+{
+    match escaper {
+        Escaper::Html => as_text(place),
+        Escaper::Urlquery => in_query(place),
+    }
+}
+
+fn as_text(place: Place) -> bool
+    ensures { result ≡ as_text_of place }
+{
+    match place {
+        Place::Text | Place::Rcdata(_) | Place::Block(_) => true,
+        Place::Value(value) => plain_text(value.body, value.quotes),
+        _ => false,
+    }
+}
+
+fn plain_text(body: Body, quotes: Quotes) -> bool
+    ensures { result ≡ plain_text_of body quotes }
+{
+    match (body, quotes) {
+        (Body::Plain, Quotes::Dq | Quotes::Sq) => true,
+        _ => false,
+    }
+}
+
+fn in_query(place: Place) -> bool
+    ensures { result ≡ in_query_of place }
+{
+    match place {
+        Place::Value(value) => body_query(value.body),
+        Place::Style(css) => css_query(css),
+        _ => false,
+    }
+}
+
+fn body_query(body: Body) -> bool
+    ensures { result ≡ body_query_of body }
+{
+    match body {
+        Body::Url(parts) => is_only_query(parts),
+        Body::Css(css) => css_query(css),
+        _ => false,
+    }
+}
+
+fn css_query(css: Css) -> bool
+    ensures { result ≡ css_query_of css }
+{
+    match css {
+        Css::Url(parts) | Css::UrlDq(parts) | Css::UrlSq(parts) => is_only_query(parts),
+        _ => false,
+    }
+}
+
+// Whether all paths stand in the query.
+fn is_only_query(parts: Parts) -> bool
+    ensures { result ≡ is_only_query_of parts }
+{
+    parts.query
+        && !parts.start
+        && parts.opened.is_none()
+        && !parts.openhole
+        && !parts.prequery
+        && !parts.bad
+}
