@@ -2,3 +2,4 @@ pub mod HeldNames
 pub mod Lowered
 pub mod OnePath
 pub mod OneTexts
+pub mod WorkedSteps

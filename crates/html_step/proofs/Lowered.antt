@@ -1,8 +1,8 @@
 -- Names in lower case.
-use Rattle.std.proofs.Common.{◌≡◌, ℕ, List, [], ◌∷◌, refl, ap, ap₂}
+use Rattle.std.proofs.Common.{◌≡◌, ℕ, List, [], ◌∷◌, refl}
 use Rattle.std.specs.Str.{str_to_ascii_lowercase}
 use Rattle.std.proofs.lemmas.Str.Ascii.{lowercase-lowercase}
-use Rattle.place_core.specs.Words.{kind_of, kind_on}
+use Rattle.place_core.specs.Words.{kind_of}
 use Rattle.place_core.specs.declared.element.Element.{Element}
 
 pub lower_twice : (name : List ℕ) → str_to_ascii_lowercase (str_to_ascii_lowercase name) ≡ str_to_ascii_lowercase name

@@ -1,5 +1,5 @@
 -- A value of data at a place: what is done to it, and the place after it, or why none may stand there; and where a template may name an escaper.
-use Rattle.std.specs.Prelude.{ℕ, Bool, true, false, not, is_none, ◌||◌, ◌&&◌, List, [], ◌∷◌, Option, Some, None, Result, Ok, Err}
+use Rattle.std.specs.Prelude.{Bool, true, false, not, is_none, ◌||◌, ◌&&◌, [], ◌∷◌, Some, Result, Ok, Err}
 use Rattle.place_core.specs.StatePlaces.{only_inside}
 use Rattle.place_core.specs.declared.body.Body.{Body}
 use Rattle.place_core.specs.declared.body.Body.TheVariants as body

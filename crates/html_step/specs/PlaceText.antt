@@ -1,5 +1,5 @@
 -- How a place is printed: its kind, and then its parts, with a blank before each.
-use Rattle.std.specs.Prelude.{ℕ, Bool, true, false, ◌||◌, is_some, take, codes, List, [], ◌∷◌, ◌++◌, Option, Some, None}
+use Rattle.std.specs.Prelude.{ℕ, Bool, true, ◌||◌, is_some, take, codes, List, [], ◌∷◌, ◌++◌, Option, Some, None}
 use Rattle.place_core.specs.declared.bare.Bare.{Bare}
 use Rattle.place_core.specs.declared.body.Body.{Body}
 use Rattle.place_core.specs.declared.body.Body.TheVariants as body

@@ -1,4 +1,3 @@
-use Rattle.std.proofs.Common.{◌≡◌}
 use Rattle.html_step.specs.Fronts.{tag_element}
 use Rattle.html_step.proofs.Lowered.{kind_lowered}
 use Rattle.html_step.proofs.names.kind_on.Goals as goal

@@ -1,4 +1,4 @@
-use Rattle.std.proofs.Common.{◌≡◌, ap}
+use Rattle.std.proofs.Common.{ap}
 use Rattle.html_step.specs.Fronts.{At, front_place}
 use Rattle.html_step.specs.Steps.{front_after}
 use Rattle.std.proofs.lemmas.List.{take_min}
