@@ -6,8 +6,8 @@ ghost use Rattle.html_step.specs.Slices.{held};
 
 use crate::class::Class;
 use crate::comment_stage::CommentStage;
+use crate::declaration::Declaration;
 use crate::front::Front;
-use crate::names::Declaration;
 use place_core::Place;
 
 /// In text.
