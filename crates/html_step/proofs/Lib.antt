@@ -16,3 +16,4 @@ pub mod ShownSteps
 pub mod ShownTexts
 pub mod ValidSteps
 pub mod WholeTexts
+pub mod WorkedSteps

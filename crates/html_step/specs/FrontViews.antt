@@ -6,8 +6,8 @@ use Rattle.place_core.specs.Errors.{Cause}
 use Rattle.place_core.specs.States.{CommentState, Started, StartedDash, Dash, DashDash, Bang, HeldLess, HeldName}
 use Rattle.html_step.specs.Fronts.{Front, At, AfterLess, AfterLessSolidus, InDeclaration, InTagName, InAttributeName, InCommentEnd, InContentEnd}
 use Rattle.html_step.specs.Slices.{held}
-use Rattle.html_step.specs.declared.names.Declaration.{Declaration as ReadDeclaration}
-use Rattle.html_step.specs.declared.names.Declaration.TheVariants as declaration
+use Rattle.html_step.specs.declared.declaration.Declaration.{Declaration as ReadDeclaration}
+use Rattle.html_step.specs.declared.declaration.Declaration.TheVariants as declaration
 use Rattle.html_step.specs.declared.cause.Cause.{Cause as ReadCause}
 use Rattle.html_step.specs.declared.comment_stage.CommentStage.{CommentStage}
 use Rattle.html_step.specs.declared.comment_stage.CommentStage.TheVariants as stage

@@ -45,7 +45,8 @@ pub fn in_content_name(
     element: Element,
     from: usize,
 ) -> Front
-    ensures front { (text : List ℕ) (k : ℕ) → from ≤ k → k < length text → front_at text (k + 1) result
+    ensures front { (text : List ℕ) (k : ℕ) → from ≤ k → k < length text
+        → front_at text (k + 1) result
         ≡ end_name_next grows whole (class_at class) (get_or text k 0) element (held text from k) }
     ensures held { held_from result ≤ from }
 {

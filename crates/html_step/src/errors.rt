@@ -29,7 +29,8 @@ pub fn at_place(place: Place, class: Class) -> Option<Code>
 
 /// Why a byte is refused in the name of a tag, of which this has been read.
 pub fn in_tag_name(ends: bool, name: &[u8], class: Class) -> Option<Code>
-    ensures { result ≡ tag_name_error (tag_of (tag_named_of ends (lower name.now))) (class_at class) }
+    ensures { result ≡ tag_name_error (tag_of (tag_named_of ends (lower name.now)))
+        (class_at class) }
 {
     match class {
         Class::QuotationMark | Class::Apostrophe | Class::LessThan => Some(Code::BadHTML),

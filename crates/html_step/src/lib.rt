@@ -7,6 +7,7 @@ mod class;
 mod comment_stage;
 mod comments;
 mod contents;
+mod declaration;
 mod errors;
 mod escaper;
 mod front;

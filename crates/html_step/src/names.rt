@@ -1,41 +1,13 @@
-ghost use Rattle.std.specs.Prelude.{◌≡◌, codes, nat_eq};
+ghost use Rattle.std.specs.Prelude.{◌≡◌};
 ghost use Rattle.std.specs.Str.{str_to_ascii_lowercase as lower};
-ghost use Rattle.place_core.specs.Comments.{declared_by as declared_by_of};
 ghost use Rattle.place_core.specs.Contents.{is_name_of as is_its_name, may_be_name_of as may_be_its_name, name_of as name_of_it};
 ghost use Rattle.place_core.specs.StatePlaces.{tag_of};
 ghost use Rattle.place_core.specs.Tags.{element_of as element_of_name, tag_named as tag_named_of};
 ghost use Rattle.place_core.specs.Words.{kind_of};
 ghost use Rattle.html_step.specs.Fronts.{tag_element};
-ghost use Rattle.html_step.specs.FrontViews.{declaration_at};
 
 use html_words::{begins, name_kind, same};
 use place_core::{Element, Kind, TagOf};
-
-/// What bytes after `<!` open.
-#[derive(Clone, Copy)]
-pub enum Declaration {
-    Comment,
-    Doctype,
-    /// What may still become one of these.
-    Unfinished,
-    Nothing,
-}
-
-/// What bytes after `<!` open: a doctype in any case of the letters.
-pub fn declared_by(bytes: &[u8]) -> Declaration
-    ensures { declaration_at result ≡ declared_by_of bytes.now }
-{
-    if bytes == b"--".as_slice() {
-        return Declaration::Comment;
-    }
-    if same(bytes, b"doctype") {
-        return Declaration::Doctype;
-    }
-    if b"--".starts_with(bytes) || begins(b"doctype", bytes) {
-        return Declaration::Unfinished;
-    }
-    Declaration::Nothing
-}
 
 /// The tag of this name, in any case; an end tag or not.
 pub fn tag_named(ends: bool, name: &[u8]) -> TagOf

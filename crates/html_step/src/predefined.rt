@@ -4,9 +4,9 @@ ghost use Rattle.html_step.specs.Holes.{as_text as as_text_of, body_query as bod
 use crate::escaper::Escaper;
 use place_core::{Body, Css, Parts, Place, Quotes};
 
-/// Whether a template may name an escaper at a place: `html` in text, in a title, a textarea and a block of data, and in a value
-/// with quotes that is read as text; `urlquery` where all paths stand in the query of a URL. (Go's `html/template`.) Takes no
-/// memory.
+/// Whether a template may name an escaper at a place: `html` in text, in a title, in a textarea, in a block of data, and in a
+/// value with quotes that is read as text; `urlquery` where all paths stand in the query of a URL. (In the manner of Go's
+/// `html/template`.) Takes no memory.
 pub fn may_escape(place: Place, escaper: Escaper) -> bool
     ensures { result ≡ may_escape_of place escaper }
 {

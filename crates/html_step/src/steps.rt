@@ -15,17 +15,18 @@ use crate::slices::held;
 use crate::tags::{whole_attribute_name, whole_tag_name};
 use place_core::{Place, StepErr};
 
-/// The place after a text, from the place before it; or why the text is refused, and at which of its bytes, with the place before
-/// that byte. (HTML Standard, section 13.2.5.) Of several bytes that are refused it is the first; a name of an attribute that
-/// is refused is so at its first byte. The causes:
+/// The place after a text of a template, from the place before it; or why the text is refused and at which of its bytes, with
+/// the place before that byte. Of several bytes that are refused it is the first. (HTML Standard, section 13.2.5.) The causes:
 ///
-/// - `BadHTML`: a `=`, a quote or a `<` where no name of an attribute may begin with it; a quote or a `<` in a name; a quote, `<`,
-///   `=` or a grave accent in a value without quotes; a second `type` of a script.
-/// - `SplitToken`: a byte at the beginning that goes on with the name, or with the end of a comment, in which the text before it ended.
-/// - `AmbigContext`: a blank that ends a value on some paths, and on others stands before one.
-/// - `NotBuilt`: the content of a script or a style, and a value that is a URL, a script, a style, or the `type` of a script.
+/// - `BadHTML`: in a tag, a quote or a `<` in or before a name, and a `=` before one; in a value without quotes a quote; there
+///   and before such a value a `<`, a `=` or a grave accent; a second `type` of a script, at the first byte of its name.
+/// - `SplitToken`: the first byte of a text that would go on with a name, or with what may be the end of a comment, in which
+///   the text before it ended, or with a name that is a value of data.
+/// - `AmbigContext`: a blank that on some paths ends a value without quotes, and on others stands before one.
+/// - `NotBuilt`: the `>` before the content of a script, a style or a block of data; the `=` before a value that is a URL, a
+///   script, a style, or the `type` of a script; and each byte at a place in one of these.
 ///
-/// Takes no memory.
+/// Takes no memory, and time in proportion to the length of the text.
 pub fn after_text(place: Place, text: &str) -> Result<Place, StepErr<Place>>
     requires { length text.now < 2 ^ 32 }
     ensures { result ≡ after_text_of text.now place }
@@ -43,8 +44,9 @@ pub fn after_text(place: Place, text: &str) -> Result<Place, StepErr<Place>>
     }
 }
 
-/// The place before a byte of a text, from the place before the text, whatever is refused there. The byte is given by its place in
-/// the text, in bytes; past the text's end it is the place after the text. Takes no memory.
+/// The place before a byte of a text, from the place before the text, whatever is refused there. The byte is given by its
+/// place in the text, in bytes; from the text's end on it is the place after the text. (HTML Standard, section 13.2.5.) Takes
+/// no memory, and time in proportion to the length of the text.
 pub fn place_before(place: Place, text: &str, at: u32) -> Place
     ensures { result ≡ place_before_of text.now at place }
 {
@@ -87,7 +89,8 @@ fn refused(cause: Cause, index: usize) -> Refusal
 
 // What a text leads to, whatever is refused.
 fn front_after(text: &[u8], place: Place) -> Front
-    ensures front { front_at text.now (length text.now) result ≡ front_after_of text.now (At place) }
+    ensures front { front_at text.now (length text.now) result
+        ≡ front_after_of text.now (At place) }
     ensures held { held_from result ≤ length text.now }
 {
     let mut front = Front::At(place);

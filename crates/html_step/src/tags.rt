@@ -97,8 +97,9 @@ pub fn in_tag(place: TagPlace, class: Class, index: usize) -> Front
 
 /// In the name of an attribute, of which this has been read.
 pub fn in_attribute_name(class: Class, tag: TagOf, typed: bool, name: &[u8], from: usize) -> Front
-    ensures front { (text : List ℕ) (k : ℕ) → from ≤ k → k < length text → name.now ≡ held text from k
-        → front_at text (k + 1) result ≡ attribute_name_next (class_at class) (get_or text k 0) tag typed
+    ensures front { (text : List ℕ) (k : ℕ) → from ≤ k → k < length text
+        → name.now ≡ held text from k → front_at text (k + 1) result
+        ≡ attribute_name_next (class_at class) (get_or text k 0) tag typed
         (kind_of (tag_element tag) (lower name.now)) (lower name.now) }
     ensures held { held_from result ≤ from }
 {
@@ -174,8 +175,8 @@ fn body_of(kind: Option<Kind>) -> Option<Body>
 
 /// In the name of a tag, of which this has been read.
 pub fn in_tag_name(class: Class, ends: bool, name: &[u8], from: usize) -> Front
-    ensures front { (text : List ℕ) (k : ℕ) → from ≤ k → k < length text → name.now ≡ held text from k
-        → front_at text (k + 1) result
+    ensures front { (text : List ℕ) (k : ℕ) → from ≤ k → k < length text
+        → name.now ≡ held text from k → front_at text (k + 1) result
         ≡ tag_name_next (class_at class) (get_or text k 0) ends (lower name.now) }
     ensures held { held_from result ≤ from }
 {

@@ -6,8 +6,8 @@ ghost use Rattle.html_step.specs.Slices.{held};
 
 use crate::class::Class;
 use crate::comment_stage::CommentStage;
+use crate::declaration::Declaration;
 use crate::front::Front;
-use crate::names::Declaration;
 use place_core::Place;
 
 /// In text.
@@ -56,8 +56,9 @@ pub fn after_solidus(class: Class, index: usize) -> Front
 
 /// After `<!` and bytes that open this with the byte at hand.
 pub fn in_declaration(class: Class, opens: Declaration, from: usize) -> Front
-    ensures front { (text : List ℕ) (k : ℕ) → from ≤ k → k < length text → front_at text (k + 1) result
-        ≡ declaration_next (declaration_at opens) (class_at class) (get_or text k 0) (held text from k) }
+    ensures front { (text : List ℕ) (k : ℕ) → from ≤ k → k < length text
+        → front_at text (k + 1) result ≡ declaration_next (declaration_at opens)
+        (class_at class) (get_or text k 0) (held text from k) }
     ensures held { held_from result ≤ from }
 {
     match opens {

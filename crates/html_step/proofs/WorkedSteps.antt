@@ -1,0 +1,68 @@
+-- Small texts, stepped from text and printed.
+use Rattle.std.proofs.Common.{◌≡◌, codes, refl, Result, Ok, Err, List, ℕ}
+use Rattle.place_core.specs.Classes.{class_of}
+use Rattle.place_core.specs.declared.code.Code.{Code}
+use Rattle.place_core.specs.declared.code.Code.TheVariants as code
+use Rattle.place_core.specs.declared.place.Place.{Place}
+use Rattle.place_core.specs.declared.place.Place.TheVariants as place
+use Rattle.place_core.specs.declared.step_err.StepErr.{StepErr}
+use Rattle.html_step.specs.PlaceText.{place_text}
+use Rattle.html_step.specs.Steps.{after_text}
+
+-- the place after a text, or the code and the place before what is refused
+data Told : Type 0 where
+  after : List ℕ → Told
+  refused : Code → ℕ → List ℕ → Told
+
+abbrev told : Result Place (StepErr Place) → Told
+told (Ok p) = after (place_text p)
+told (Err e) = refused e.code e.at (place_text e.before)
+
+abbrev step : List ℕ → Told
+step bytes = told (after_text bytes place.Text)
+
+-- Places: in a value, after a name, in names that the text's end ends, in a comment, in a title
+in_a_value : step (codes "<b TITLE=\"x") ≡ after (codes "value other dq plain")
+unfolding class_of
+in_a_value = refl
+
+before_a_value : step (codes "<title x=") ≡ after (codes "value title unbegun plain")
+unfolding class_of
+before_a_value = refl
+
+after_a_name : step (codes "<script type ") ≡ after (codes "tag script after type typed")
+unfolding class_of
+after_a_name = refl
+
+in_a_tag_name : step (codes "a</Style") ≡ after (codes "tag end name")
+unfolding class_of
+in_a_tag_name = refl
+
+in_a_comment : step (codes "<!-- a --b-") ≡ after (codes "comment dash")
+unfolding class_of
+in_a_comment = refl
+
+in_a_title : step (codes "<title><b></b></titl") ≡ after (codes "title")
+unfolding class_of
+in_a_title = refl
+
+after_a_title : step (codes "<title>a</Title>b<!doctype c>") ≡ after (codes "text")
+unfolding class_of
+after_a_title = refl
+
+-- Refusals: a quote in a value without quotes, a `=` before a name, a second `type`, and what is not read yet
+quote_in_a_value : step (codes "<b x=a\"") ≡ refused code.BadHTML 6 (codes "value other uq plain")
+unfolding class_of
+quote_in_a_value = refl
+
+equals_sign_first : step (codes "<b =") ≡ refused code.BadHTML 3 (codes "tag other before")
+unfolding class_of
+equals_sign_first = refl
+
+second_type : step (codes "<script type type>") ≡ refused code.BadHTML 13 (codes "tag script after type typed")
+unfolding class_of
+second_type = refl
+
+url_value : step (codes "<a href=") ≡ refused code.NotBuilt 7 (codes "tag other in url")
+unfolding class_of
+url_value = refl

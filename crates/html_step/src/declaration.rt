@@ -1,0 +1,31 @@
+ghost use Rattle.std.specs.Prelude.{◌≡◌};
+ghost use Rattle.place_core.specs.Comments.{declared_by as declared_by_of};
+ghost use Rattle.html_step.specs.FrontViews.{declaration_at};
+
+use html_words::{begins, same};
+
+/// What bytes after `<!` open.
+#[derive(Clone, Copy)]
+pub enum Declaration {
+    Comment,
+    Doctype,
+    /// What may still become one of these.
+    Unfinished,
+    Nothing,
+}
+
+/// What bytes after `<!` open: a doctype in any case of the letters.
+pub fn declared_by(bytes: &[u8]) -> Declaration
+    ensures { declaration_at result ≡ declared_by_of bytes.now }
+{
+    if bytes == b"--".as_slice() {
+        return Declaration::Comment;
+    }
+    if same(bytes, b"doctype") {
+        return Declaration::Doctype;
+    }
+    if b"--".starts_with(bytes) || begins(b"doctype", bytes) {
+        return Declaration::Unfinished;
+    }
+    Declaration::Nothing
+}
