@@ -3,7 +3,7 @@ use Rattle.std.proofs.Common.{◌≡◌, ℕ, Bool, true, false, List, [], ◌�
 use Rattle.std.specs.Prelude.{⊤}
 use Rattle.std.specs.Option.{option_map}
 use Rattle.place_core.specs.Classes.{Class, White, QuotationMark, Ampersand, Apostrophe, HyphenMinus, Solidus, LessThan, EqualsSign, GreaterThan, GraveAccent, Letter}
-use Rattle.place_core.specs.Comments.{OpensComment, OpensDoctype, Unfinished, OpensNothing, Declaration, declared_by}
+use Rattle.place_core.specs.Comments.{OpensComment, OpensDoctype, Undecided, OpensNothing, Declaration, declared_by}
 use Rattle.place_core.specs.Contents.{may_be_name_of, is_name_of, next_loose, next_less, next_end_name}
 use Rattle.place_core.specs.Errors.{byte_error, cut_error, at_hand, unless_second, is_second_type, content_error, kind_error, body_error, tag_error, bare_error, quotes_error, attribute_name_error}
 use Rattle.place_core.specs.Html.{next, after_tag, next_declaration, next_before_name, next_name, next_whole_name, next_after_name, next_before_value}
@@ -159,7 +159,7 @@ solidus-steps r _ b = record { errors = refl; steps = λ n. refl }
 declaration-next : (d : Declaration) (r : Reference) (held : List ℕ) (c : Class) (b : ℕ) → fronted (next_declaration d Template c b r held) ≡ Some (declaration_next d c b held)
 declaration-next OpensComment r held c b = refl
 declaration-next OpensDoctype r held c b = refl
-declaration-next Unfinished r held c b = refl
+declaration-next Undecided r held c b = refl
 declaration-next OpensNothing r held LessThan b = refl
 declaration-next OpensNothing r held _ b = refl
 

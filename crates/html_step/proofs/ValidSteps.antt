@@ -1,7 +1,7 @@
 -- A step leads from what is valid to what is valid.
 use Rattle.std.proofs.Common.{◌≡◌, ℕ, Bool, true, false, ◌||◌, List, [], ◌∷◌, ◌++◌, Option, Some, None, refl}
 use Rattle.place_core.specs.Classes.{Class, White, QuotationMark, Apostrophe, Solidus, LessThan, EqualsSign, GreaterThan, Letter}
-use Rattle.place_core.specs.Comments.{Declaration, OpensComment, OpensDoctype, Unfinished, OpensNothing, closes_comment, declared_by, next_comment}
+use Rattle.place_core.specs.Comments.{Declaration, OpensComment, OpensDoctype, Undecided, OpensNothing, closes_comment, declared_by, next_comment}
 use Rattle.place_core.specs.Contents.{is_name_of, may_be_name_of}
 use Rattle.place_core.specs.Places.{IsValid, IsValidBody, IsValidTag, is_rcdata}
 use Rattle.place_core.specs.StatePlaces.{body_at, tag_of}
@@ -98,7 +98,7 @@ place-valid (place.Block lt) c b v = v
 declaration-valid : (d : Declaration) (c : Class) (b : ℕ) (held : List ℕ) → FrontValid (declaration_next d c b held)
 declaration-valid OpensComment c b held = tt
 declaration-valid OpensDoctype c b held = tt
-declaration-valid Unfinished c b held = tt
+declaration-valid Undecided c b held = tt
 declaration-valid OpensNothing LessThan b held = tt
 declaration-valid OpensNothing _ b held = tt
 

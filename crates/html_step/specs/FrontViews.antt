@@ -1,7 +1,7 @@
 -- The fronts and the causes of the code, where so many bytes of a text have been read.
 use Rattle.std.specs.Prelude.{ℕ, List, Option, Some, None}
 use Rattle.std.specs.Str.{str_to_ascii_lowercase}
-use Rattle.place_core.specs.Comments.{Declaration, OpensComment, OpensDoctype, Unfinished, OpensNothing}
+use Rattle.place_core.specs.Comments.{Declaration, OpensComment, OpensDoctype, Undecided, OpensNothing}
 use Rattle.place_core.specs.Errors.{Cause}
 use Rattle.place_core.specs.States.{CommentState, Started, StartedDash, Dash, DashDash, Bang, HeldLess, HeldName}
 use Rattle.html_step.specs.Fronts.{Front, At, AfterLess, AfterLessSolidus, InDeclaration, InTagName, InAttributeName, InCommentEnd, InContentEnd}
@@ -52,5 +52,5 @@ held_from (front.InContentName e from) = from
 abbrev pub declaration_at : ReadDeclaration → Declaration
 declaration_at declaration.Comment = OpensComment
 declaration_at declaration.Doctype = OpensDoctype
-declaration_at declaration.Unfinished = Unfinished
+declaration_at declaration.Undecided = Undecided
 declaration_at declaration.Nothing = OpensNothing

@@ -4,7 +4,7 @@
 use Rattle.std.specs.Prelude.{ℕ, Bool, true, false, ◌||◌, List, [], ◌∷◌, ◌++◌, length, Option, Some, None}
 use Rattle.std.specs.Char.{to_ascii_lowercase}
 use Rattle.place_core.specs.Classes.{Class, White, ExclamationMark, QuotationMark, Apostrophe, Solidus, LessThan, EqualsSign, GreaterThan, Letter}
-use Rattle.place_core.specs.Comments.{Declaration, OpensComment, OpensDoctype, Unfinished, OpensNothing, declared_by, next_comment, closes_comment}
+use Rattle.place_core.specs.Comments.{Declaration, OpensComment, OpensDoctype, Undecided, OpensNothing, declared_by, next_comment, closes_comment}
 use Rattle.place_core.specs.Contents.{may_be_name_of, is_name_of}
 use Rattle.place_core.specs.Errors.{Cause, place_error, at_hand, tag_name_error, attribute_name_error, unless_second, is_second_type}
 use Rattle.place_core.specs.StatePlaces.{tag_of, only_name, only_before, only_inside, only_after, unbegun, body_at}
@@ -155,7 +155,7 @@ solidus_next c b = text_front c
 abbrev pub declaration_next : Declaration → Class → ℕ → List ℕ → Front
 declaration_next OpensComment c b held = InCommentEnd Started
 declaration_next OpensDoctype c b held = At place.Doctype
-declaration_next Unfinished c b held = InDeclaration (held ++ b ∷ [])
+declaration_next Undecided c b held = InDeclaration (held ++ b ∷ [])
 declaration_next OpensNothing c b held = text_front c
 
 abbrev pub tag_name_next : Class → ℕ → Bool → List ℕ → Front

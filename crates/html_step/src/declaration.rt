@@ -10,7 +10,7 @@ pub enum Declaration {
     Comment,
     Doctype,
     /// What may still become one of these.
-    Unfinished,
+    Undecided,
     Nothing,
 }
 
@@ -25,7 +25,7 @@ pub fn declared_by(bytes: &[u8]) -> Declaration
         return Declaration::Doctype;
     }
     if b"--".starts_with(bytes) || begins(b"doctype", bytes) {
-        return Declaration::Unfinished;
+        return Declaration::Undecided;
     }
     Declaration::Nothing
 }

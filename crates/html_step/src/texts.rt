@@ -64,7 +64,7 @@ pub fn in_declaration(class: Class, opens: Declaration, from: usize) -> Front
     match opens {
         Declaration::Comment => Front::InCommentEnd(CommentStage::Started),
         Declaration::Doctype => Front::At(Place::Doctype),
-        Declaration::Unfinished => Front::InDeclaration { from },
+        Declaration::Undecided => Front::InDeclaration { from },
         Declaration::Nothing => in_text(class),
     }
 }

@@ -1,4 +1,4 @@
--- Comments, doctypes, and what begins them (HTML Standard, sections 13.2.5.42 to 13.2.5.52; of a doctype only its end matters here).
+-- Comments, doctypes, and what begins them (HTML Standard, sections 13.2.5.41 to 13.2.5.53; of a doctype only its end matters here).
 use Rattle.std.specs.Prelude.{ℕ, Bool, true, false, ◌||◌, codes, bytes_eq, nat_eq, List, ◌∷◌, if◌then◌else◌}
 use Rattle.std.specs.List.{starts_with}
 use Rattle.std.specs.Str.{str_to_ascii_lowercase}
@@ -11,22 +11,22 @@ use Rattle.place_core.specs.States.{State, Text, InComment, BogusComment, InDoct
 pub data Declaration : Type 0 where
   OpensComment : Declaration
   OpensDoctype : Declaration
-  Unfinished : Declaration
+  Undecided : Declaration
   OpensNothing : Declaration
 
 abbrev pub declared_by : List ℕ → Declaration
 declared_by bytes =
     if bytes_eq bytes (codes "--") then OpensComment
     else (if bytes_eq (str_to_ascii_lowercase bytes) (codes "doctype") then OpensDoctype
-    else (if starts_with nat_eq (codes "--") bytes || starts_with nat_eq (codes "doctype") (str_to_ascii_lowercase bytes) then Unfinished
+    else (if starts_with nat_eq (codes "--") bytes || starts_with nat_eq (codes "doctype") (str_to_ascii_lowercase bytes) then Undecided
     else OpensNothing))
 
--- a byte in a comment that is no `-`, `!` or `>`
+-- a byte that is read as in the comment state
 abbrev pub next_inside : Class → CommentState
 next_inside HyphenMinus = Dash
 next_inside c = Inside
 
--- after `--!`, or at the beginning after `--`: a `>` ends the comment, and is not looked at here
+-- a byte in each state; a `>`, which may end the comment, is not looked at here
 abbrev pub next_comment : CommentState → Class → CommentState
 next_comment Started HyphenMinus = StartedDash
 next_comment StartedDash HyphenMinus = DashDash
@@ -35,7 +35,7 @@ next_comment DashDash HyphenMinus = DashDash
 next_comment DashDash ExclamationMark = Bang
 next_comment s c = next_inside c
 
--- whether a `>` ends the comment there
+-- whether a `>` ends the comment: after `<!--`, `<!---`, `--` and `--!`
 abbrev pub closes_comment : CommentState → Bool
 closes_comment Inside = false
 closes_comment Dash = false

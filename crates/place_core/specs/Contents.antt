@@ -1,5 +1,5 @@
 -- The content of elements that holds no tags (HTML Standard, sections 13.2.5.2, 13.2.5.4, 13.2.5.9 to 13.2.5.11 and 13.2.5.15 to
--- 13.2.5.18): of title and textarea, which is text, and of data blocks, which is bytes. It goes up to the element's own end tag. A data
+-- 13.2.5.19): of title and textarea, which is text, and of data blocks, which is bytes. It goes up to the element's own end tag. A data
 -- block has no escaped states here: a `<!--` in it is told, and changes nothing.
 use Rattle.std.specs.Prelude.{ℕ, Bool, true, false, codes, bytes_eq, nat_eq, List, [], ◌∷◌, ◌++◌}
 use Rattle.std.specs.List.{starts_with}

@@ -22,7 +22,7 @@ pub data Event : Type 0 where
   ValueByte : ℕ → Event
   -- the tag ends, and closes itself or not
   TagEnds : Bool → Event
-  -- a comment; the texts of a template tell none, since no comment of theirs is written
+  -- a comment begins; its bytes are not told. The texts of a template tell none, since no comment of theirs is written
   Comment : Event
   -- a doctype begins; a byte of it, after its `<!`; it ends
   DoctypeBegins : Event

@@ -1,11 +1,11 @@
 -- How the bytes of a page are read, and the texts of a template (HTML Standard, section 13.2.5): text, comments, doctypes, tags, the values of
 -- attributes, and the content of title, textarea and data blocks. The content of scripts and styles is not read yet: it is one state, Unread,
--- out of which nothing leads; nor is it said here what is told where a page ends inside a tag, a comment or a doctype. NUL, CR and CR LF are
+-- out of which nothing leads; nor is it said here what the end of a page tells: of what is held back there, and inside a tag, a comment or a doctype. NUL, CR and CR LF are
 -- bytes like others. The language of the values is a parameter.
 use Rattle.std.specs.Prelude.{ℕ, Bool, true, false, codes, List, [], ◌∷◌, ◌++◌}
 use Rattle.std.specs.Char.{to_ascii_lowercase}
 use Rattle.place_core.specs.Classes.{Class, White, ExclamationMark, QuotationMark, Apostrophe, Solidus, LessThan, EqualsSign, GreaterThan, QuestionMark, Letter, class_of}
-use Rattle.place_core.specs.Comments.{Declaration, OpensComment, OpensDoctype, Unfinished, OpensNothing, declared_by, next_in_comment, next_in_bogus, next_in_doctype, tells_doctype}
+use Rattle.place_core.specs.Comments.{Declaration, OpensComment, OpensDoctype, Undecided, OpensNothing, declared_by, next_in_comment, next_in_bogus, next_in_doctype, tells_doctype}
 use Rattle.place_core.specs.Contents.{next_in_content, tells_in_content}
 use Rattle.place_core.specs.Events.{Event, StartTagBegins, EndTagBegins, TagNameByte, AttributeBegins, AttributeNameByte, AttributeNameEnds, TagEnds, Comment, DoctypeBegins, UnreadByte, text_bytes, doctype_bytes}
 use Rattle.place_core.specs.References.{Reference, Closed, next_reference, undone_byte, settled, as_it_stands}
@@ -74,7 +74,7 @@ tells_end_tag_open m c b r t = tells_bogus m (codes "</") c b (text_bytes (settl
 abbrev pub next_declaration : {B : Type 0} → Declaration → Reading → Class → ℕ → Reference → List ℕ → State B
 next_declaration OpensComment m c b r held = InComment Started
 next_declaration OpensDoctype m c b r held = InDoctype
-next_declaration Unfinished m c b r held = DeclarationOpen r (held ++ b ∷ [])
+next_declaration Undecided m c b r held = DeclarationOpen r (held ++ b ∷ [])
 next_declaration OpensNothing m c b r held = next_bogus m c b
 
 -- before a comment of a template's text a reference is left as it stands, since no comment is written
@@ -85,7 +85,7 @@ tells_comment Template r t = text_bytes (as_it_stands r) t
 abbrev pub tells_declaration : Declaration → Reading → Class → ℕ → Reference → List ℕ → List Event → List Event
 tells_declaration OpensComment m c b r held t = tells_comment m r t
 tells_declaration OpensDoctype m c b r held t = doctype_bytes (held ++ b ∷ []) (DoctypeBegins ∷ text_bytes (settled false r) t)
-tells_declaration Unfinished m c b r held t = t
+tells_declaration Undecided m c b r held t = t
 tells_declaration OpensNothing m c b r held t = tells_bogus m (codes "<!" ++ held) c b (text_bytes (settled false r) t)
 
 -- Tags.

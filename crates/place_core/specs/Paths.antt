@@ -63,10 +63,10 @@ tells_cut x (SelfClosingStartTag tag) t = t
 tells_cut x (InContent e y h) t = content_bytes y (held_bytes h) (cut_content y t)
 tells_cut x Unread t = t
 
--- the text of a node
 abbrev pub cut : {B : Type 0} → Bodies B → Config B → Config B
 cut x c = config (at_cut x c.at) (tells_cut x c.at c.told)
 
+-- the text of a node, with its end
 abbrev pub read_node : {B : Type 0} → Bodies B → List ℕ → Config B → Config B
 read_node x bytes c = cut x (read_over x Template bytes c)
 

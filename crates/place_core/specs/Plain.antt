@@ -75,7 +75,7 @@ IsPlainContent _ x e d = ⊥
 
 -- Bytes that read from this state, with nothing told, to `d` are plain there. In text, title, textarea and data block they are bytes of that very
 -- text; in a value of that value; in a tag they are one whole name. In the other states none are plain, nor are bytes at whose beginning
--- or end the lexer holds something back, even where it could come to nothing (`</x` in a title), nor a whole `<!--` in a data block.
+-- or end the lexer holds something back, even where it could come to nothing (`</` before an `x`, in a title), nor a whole `<!--` in a data block.
 abbrev pub IsPlainFrom : State ValueState → List ℕ → Config ValueState → Type 0
 IsPlainFrom (Text r) bytes d = WhereClosed r ((d.at ≡ Text Closed) × IsTrue (only_text d.told))
 IsPlainFrom (InContent e x h) bytes d = IsPlainContent h x e d

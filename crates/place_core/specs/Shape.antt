@@ -31,7 +31,7 @@ Reads (TextPart bytes ∷ parts) from to = Reads parts (read Page bytes from) to
 Reads (HolePart bytes ∷ parts) from to =
     (IsPlain bytes from × Reads parts (marked bytes from) to) ⊎ ((IsPlain bytes from → ⊥) × Reads parts (read Page bytes from) to)
 
--- a token: a longest text with its marks, or another event
+-- a token: a longest text with its marks, or another event; in a data block each byte is one, and each run of marks
 pub data Token : Type 0 where
   TextToken : List Event → Token
   OtherToken : Event → Token

@@ -7,14 +7,14 @@ use Rattle.place_core.specs.declared.element.Element.{Element}
 use Rattle.place_core.specs.declared.kind.Kind.{Kind}
 
 -- what is read: a finished page, or the texts of a template, in which a `<?`, a `<!` that opens neither a comment nor a doctype, and a
--- `</` before no letter, are text
+-- `</` before no letter, are text, and a comment tells nothing and leaves the reference before it as it stands
 pub data Reading : Type 0 where
   Page : Reading
   Template : Reading
 
 -- where a comment stands: after `<!--` (comment start state), after `<!---` (comment start dash), in it (comment), after `-` (comment end
--- dash), after `--` (comment end) and after `--!` (comment end bang); and where a node has ended in one of these but the third: what comes
--- next can no longer close the comment
+-- dash), after `--` (comment end) and after `--!` (comment end bang); and where a node has ended in one of these but the third: what has
+-- begun there is not finished by the next text
 pub data CommentState : Type 0 where
   Started : CommentState
   StartedDash : CommentState
