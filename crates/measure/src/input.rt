@@ -17,6 +17,7 @@ pub fn input_of(alloc: Global, input: Input, size: usize) -> Result<String, Allo
         Input::Definitions => definitions(alloc, size),
         Input::Markup => repeated(alloc, "", "<\"&", "", size),
         Input::References => repeated(alloc, "", "&lt;&#9;", "", size),
+        Input::Tags => repeated(alloc, "", "<a b=c>", "", size),
         Input::Numbers => repeated(alloc, "[", "1,", "1]", size),
         Input::Texts => repeated(alloc, "[\"", "a", "\"]", size),
         Input::Lists => repeated(alloc, "[", "[],", "[]]", size),

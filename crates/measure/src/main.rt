@@ -13,10 +13,11 @@ mod request;
 use crate::counter::executed_counted;
 use crate::input::input_of;
 use crate::request::{Call, Input, Request, most, size_named, words_named};
+use html_step::{after_text, print_place};
 use html_words::RefChars;
 use page_datum::{DataRefused, print_datum, read_datum};
 use page_io::{Memory, Text};
-use place_core::Chars;
+use place_core::{Chars, TEXT};
 use san_html::{attr_nospace, html};
 use std::alloc::{AllocError, Global};
 use std::env;
@@ -34,6 +35,7 @@ fn main(rt: HostRuntime) -> ExitCode {
             let _ = eprintln!(&rt; "      parse-text parse-actions parse-definitions");
             let _ = eprintln!(&rt; "      html-text html-markup nospace-text nospace-markup");
             let _ = eprintln!(&rt; "      characters-text characters-references");
+            let _ = eprintln!(&rt; "      steps-text steps-tags");
             let _ = eprintln!(&rt; "      data-numbers data-text data-lists data-objects");
             let _ = eprintln!(&rt; "      execute-turns execute-calls execute-keys");
             return ExitCode::from(2);
@@ -85,6 +87,7 @@ fn counted(alloc: Global, call: Call, input: Input, size: usize) -> Result<Strin
             attr_nospace(alloc, text.as_str()),
         ),
         Call::Characters => characters_counted(alloc, text.as_str()),
+        Call::Steps => place_told(alloc, text.as_str()),
         Call::Data => printed_counted(alloc, text.as_str()),
         Call::Turns => executed_counted(alloc, "{{range .}}{{.}}{{end}}", text.as_str()),
         Call::Calls => executed_counted(
@@ -155,6 +158,23 @@ fn characters_counted(alloc: Global, text: &str) -> Result<String, AllocError>
         }
     }
     format!(in alloc; "{bytes} bytes, {bytes} characters")
+}
+
+// The place after a text, from text.
+fn place_told(alloc: Global, text: &str) -> Result<String, AllocError>
+    requires { length text.now ≤ max_text }
+{
+    let bytes = text.len();
+    match after_text(TEXT, text) {
+        Ok(place) => match print_place(alloc, place) {
+            Ok(place) => {
+                let place = place.as_str();
+                format!(in alloc; "{bytes} bytes, {place}")
+            }
+            Err(Memory) => Err(AllocError),
+        },
+        Err(_) => format!(in alloc; "{bytes} bytes, refused"),
+    }
 }
 
 // What is printed of data.

@@ -17,6 +17,8 @@ pub enum Call {
     AttrNospace,
     /// Its characters are read with references undone, as the value of an attribute.
     Characters,
+    /// It is stepped, from text to the place after it.
+    Steps,
     /// It is read as data, which are printed.
     Data,
     /// A template with a hole for each item of it is executed.
@@ -44,6 +46,8 @@ pub enum Input {
     Markup,
     /// References, again and again.
     References,
+    /// Tags with an attribute, again and again.
+    Tags,
     /// A list of numbers.
     Numbers,
     /// A list with one long string.
@@ -79,6 +83,8 @@ pub fn words_named(word: &str) -> Option<(Call, Input)> {
         "nospace-markup" => Some((Call::AttrNospace, Input::Markup)),
         "characters-text" => Some((Call::Characters, Input::Text)),
         "characters-references" => Some((Call::Characters, Input::References)),
+        "steps-text" => Some((Call::Steps, Input::Text)),
+        "steps-tags" => Some((Call::Steps, Input::Tags)),
         "data-numbers" => Some((Call::Data, Input::Numbers)),
         "data-text" => Some((Call::Data, Input::Texts)),
         "data-lists" => Some((Call::Data, Input::Lists)),
@@ -96,7 +102,12 @@ pub fn most(call: Call) -> usize
 {
     match call {
         Call::Data | Call::Turns | Call::Calls | Call::Keys => MAX_LENGTH,
-        Call::Tokens | Call::Parse | Call::Html | Call::AttrNospace | Call::Characters => MAX_TEXT,
+        Call::Tokens
+        | Call::Parse
+        | Call::Html
+        | Call::AttrNospace
+        | Call::Characters
+        | Call::Steps => MAX_TEXT,
     }
 }
 
