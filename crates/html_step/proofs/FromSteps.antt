@@ -1,5 +1,5 @@
 -- Each member after a byte comes from one member before it.
-use Rattle.std.proofs.Common.{◌≡◌, ℕ, Bool, true, false, ◌||◌, ◌&&◌, List, [], ◌∷◌, Option, Some, None, refl, sym, ap, ◌∙◌, subst}
+use Rattle.std.proofs.Common.{◌≡◌, ℕ, Bool, true, false, ◌||◌, ◌&&◌, List, [], ◌∷◌, if◌then◌else◌, Option, Some, None, refl, sym, ap, ◌∙◌, subst}
 use Rattle.std.specs.Char.{to_ascii_lowercase}
 use Rattle.place_core.specs.Classes.{Class, White, QuotationMark, Apostrophe, HyphenMinus, Solidus, LessThan, EqualsSign, GreaterThan}
 use Rattle.place_core.specs.Errors.{at_hand, body_error, kind_error, place_error, quotes_error, tag_error, bare_error, value_error}
@@ -26,15 +26,16 @@ use Rattle.place_core.specs.declared.value_place.ValuePlace.{ValuePlace}
 use Rattle.place_core.proofs.Joins.{places_same}
 use Rattle.place_core.proofs.Semilattices.{none_some}
 use Rattle.html_step.specs.Fronts.{Front, At, AfterLess, AfterLessSolidus, InDeclaration, InTagName, InAttributeName, InCommentEnd, InContentEnd, bare_next, bare_white, begun, comment_next, comment_state, content_front, front_error, front_next, front_place, in_tag, kind_body, quoted_next, tag_next, value_front, with_quotes}
+use Rattle.html_step.specs.Origins.{byte_origin, end_origin, name_origin, place_origin, tag_origin, typed_origin, white_origin}
 use Rattle.html_step.proofs.BelowFronts.{IsRigid, below-at, below-at-tag, below-at-value, below-attribute, comment-end-rigid, content-end-rigid, declaration-rigid, doctype-rigid, less-rigid, rcdata-rigid, solidus-rigid, tag-name-rigid, text-rigid, whole-in}
 use Rattle.html_step.proofs.FrontOrder.{FrontBelow, FrontHas, FrontValid, bare-parts, bare-white, built-same, first-none, has-kind, if-none}
 use Rattle.html_step.proofs.OnePath.{none-at-hand, some}
 use Rattle.html_step.proofs.PlaceParts.{Under, TagBelow, ValueBelow, below-tag, below-value, under-false}
 
-pub record From (f : Front) (c : Class) (b : ℕ) (y : Member) : Type 0 where
-  pub source : Member
-  pub there : FrontHas f source
-  pub leads : (g : Front) → FrontValid g → FrontBelow g f → FrontHas g source → FrontHas (front_next g c b) y
+-- a member after a byte comes from this one before it
+pub record From (f : Front) (c : Class) (b : ℕ) (y x : Member) : Type 0 where
+  pub there : FrontHas f x
+  pub leads : (g : Front) → FrontValid g → FrontBelow g f → FrontHas g x → FrontHas (front_next g c b) y
 
 pub no : false ≡ true → ⊥
 no e = cc
@@ -46,27 +47,29 @@ or-false false h = h
 pub false-or : (x : Bool) → x ≡ true → (x || false) ≡ true
 false-or x h = rw h refl
 
-from-whole : (f : Front) (c : Class) (b : ℕ) (y : Member) → is_whole y ≡ true → From f c b y
-from-whole f c b y e = record { source = member.Whole; there = whole-in f member.Whole refl; leads = λ g v l h. whole-in (front_next g c b) y e }
+from-whole : (f : Front) (c : Class) (b : ℕ) (y : Member) → is_whole y ≡ true → From f c b y member.Whole
+from-whole f c b y e = record { there = whole-in f member.Whole refl; leads = λ g v l h. whole-in (front_next g c b) y e }
 
-from-rigid : (f : Front) → IsRigid f → (c : Class) (b : ℕ) (y : Member) → FrontHas (front_next f c b) y → From f c b y
+from-rigid : (f : Front) → IsRigid f → (c : Class) (b : ℕ) (y : Member) → FrontHas (front_next f c b) y → From f c b y member.Whole
 from-rigid f r c b y h = record {
-  source = member.Whole;
   there = whole-in f member.Whole refl;
   leads = λ g v l o. subst (λ (x : Front). FrontHas (front_next x c b) y) (sym (r g l)) h;
 }
 
+whole-typed : (y : Member) → is_whole y ≡ true → typed_origin y ≡ member.Whole
+whole-typed member.Whole e = refl
+whole-typed _ e = absurd (no e)
+
 -- after the end of a tag there is nothing but the whole
-content-whole : (t : TagOf) (y : Member) → FrontHas (content_front t) y → is_whole y ≡ true
+pub content-whole : (t : TagOf) (y : Member) → FrontHas (content_front t) y → is_whole y ≡ true
 content-whole tag.End y h = or-false (is_whole y) h
 content-whole (tag.Start element.Title) y h = or-false (is_whole y) h
 content-whole (tag.Start element.Textarea) y h = or-false (is_whole y) h
 content-whole (tag.Start _) y h = or-false (is_whole y) h
 
 -- from a tag
-from-tag : (t : TagPlace) (c : Class) (b : ℕ) (y x : Member) → FrontHas (At (place.Tag t)) x → ((u : TagPlace) → IsValidTag u → TagBelow u t → FrontHas (At (place.Tag u)) x → FrontHas (tag_next u c b) y) → From (At (place.Tag t)) c b y
+pub from-tag : (t : TagPlace) (c : Class) (b : ℕ) (y x : Member) → FrontHas (At (place.Tag t)) x → ((u : TagPlace) → IsValidTag u → TagBelow u t → FrontHas (At (place.Tag u)) x → FrontHas (tag_next u c b) y) → From (At (place.Tag t)) c b y x
 from-tag t c b y x h f = record {
-  source = x;
   there = h;
   leads = λ g v l o. below-at-tag (λ (g : Front). FrontValid g → FrontHas g x → FrontHas (front_next g c b) y) t (λ u l v o. f u v l o) g l v o;
 }
@@ -75,22 +78,22 @@ or-last : (x y : Bool) → y ≡ true → (x || y) ≡ true
 or-last true y h = refl
 or-last false y h = h
 
-from-before : (t : TagPlace) (n : Bool) (b : ℕ) → t.spots.name ≡ n → (t.spots.name || t.spots.before) ≡ true → From (At (place.Tag t)) White b member.BeforeSpot
+pub from-before : (t : TagPlace) (n : Bool) (b : ℕ) → t.spots.name ≡ n → (t.spots.name || t.spots.before) ≡ true → From (At (place.Tag t)) White b member.BeforeSpot (if n then member.NameSpot else member.BeforeSpot)
 from-before t true b e h = from-tag t White b member.BeforeSpot member.NameSpot e (λ u v l o. rw o refl)
 from-before t false b e h = from-tag t White b member.BeforeSpot member.BeforeSpot (sym (rw e refl) ∙ h) (λ u v l o. or-last u.spots.name u.spots.before o)
 
-from-after : (t : TagPlace) (i : Bool) (b : ℕ) → t.spots.inside ≡ i → (t.spots.inside || t.spots.after) ≡ true → From (At (place.Tag t)) White b member.AfterSpot
+pub from-after : (t : TagPlace) (i : Bool) (b : ℕ) → t.spots.inside ≡ i → (t.spots.inside || t.spots.after) ≡ true → From (At (place.Tag t)) White b member.AfterSpot (if i then member.InsideSpot else member.AfterSpot)
 from-after t true b e h = from-tag t White b member.AfterSpot member.InsideSpot e (λ u v l o. rw o refl)
 from-after t false b e h = from-tag t White b member.AfterSpot member.AfterSpot (sym (rw e refl) ∙ h) (λ u v l o. or-last u.spots.inside u.spots.after o)
 
-from-white : (t : TagPlace) (b : ℕ) (y : Member) → FrontHas (tag_next t White b) y → From (At (place.Tag t)) White b y
+pub from-white : (t : TagPlace) (b : ℕ) (y : Member) → FrontHas (tag_next t White b) y → From (At (place.Tag t)) White b y (white_origin t.spots y)
 from-white t b member.Whole h = from-whole (At (place.Tag t)) White b member.Whole refl
 from-white t b member.Typed h = from-tag t White b member.Typed member.Typed h (λ u v l o. o)
 from-white t b member.BeforeSpot h = from-before t t.spots.name b refl h
 from-white t b member.AfterSpot h = from-after t t.spots.inside b refl h
 from-white t b _ h = absurd (no h)
 
-from-solidus : (t : TagPlace) (b : ℕ) (y : Member) → FrontHas (tag_next t Solidus b) y → From (At (place.Tag t)) Solidus b y
+pub from-solidus : (t : TagPlace) (b : ℕ) (y : Member) → FrontHas (tag_next t Solidus b) y → From (At (place.Tag t)) Solidus b y (typed_origin y)
 from-solidus t b member.Whole h = from-whole (At (place.Tag t)) Solidus b member.Whole refl
 from-solidus t b member.Typed h = from-tag t Solidus b member.Typed member.Typed h (λ u v l o. o)
 from-solidus t b member.BeforeSpot h = from-tag t Solidus b member.BeforeSpot member.Whole refl (λ u v l o. refl)
@@ -139,7 +142,7 @@ begins-only t x kind.Script y n h = absurd (some _ n)
 begins-only t x kind.Style y n h = absurd (some _ n)
 begins-only t x kind.ScriptType y n h = absurd (some _ n)
 
-from-equals : (t : TagPlace) (b : ℕ) (y : Member) → IsValidTag t → tag_error t EqualsSign ≡ None → FrontHas (tag_next t EqualsSign b) y → From (At (place.Tag t)) EqualsSign b y
+pub from-equals : (t : TagPlace) (b : ℕ) (y : Member) → IsValidTag t → tag_error t EqualsSign ≡ None → FrontHas (tag_next t EqualsSign b) y → From (At (place.Tag t)) EqualsSign b y (typed_origin y)
 from-equals t b member.Whole v n h = from-whole (At (place.Tag t)) EqualsSign b member.Whole refl
 from-equals t b member.Typed v n h =
     let k = has-kind t t v (below-tag t t (places_same (place.Tag t))) n in
@@ -152,15 +155,15 @@ from-equals t b y v n h =
     let k = has-kind t t v (below-tag t t (places_same (place.Tag t))) n in
     absurd (no (begins-only t.tag t.typed k.kind y k.built (subst (λ (o : Option Kind). FrontHas (value_front t.tag t.typed (kind_body o)) y) k.there h)))
 
-from-name : (t : TagPlace) (c : Class) (b : ℕ) (y : Member) → ((u : TagPlace) → tag_next u c b ≡ InAttributeName u.tag u.typed (to_ascii_lowercase b ∷ [])) → FrontHas (InAttributeName t.tag t.typed (to_ascii_lowercase b ∷ [])) y → From (At (place.Tag t)) c b y
+pub from-name : (t : TagPlace) (c : Class) (b : ℕ) (y : Member) → ((u : TagPlace) → tag_next u c b ≡ InAttributeName u.tag u.typed (to_ascii_lowercase b ∷ [])) → FrontHas (InAttributeName t.tag t.typed (to_ascii_lowercase b ∷ [])) y → From (At (place.Tag t)) c b y (typed_origin y)
 from-name t c b member.Whole e h = from-whole (At (place.Tag t)) c b member.Whole refl
 from-name t c b member.Typed e h = from-tag t c b member.Typed member.Typed (false-or t.typed h) (λ u v l o. subst (λ (f : Front). FrontHas f member.Typed) (sym (e u)) (or-false u.typed o))
 from-name t c b _ e h = absurd (no h)
 
-from-tag-byte : (t : TagPlace) (c : Class) (b : ℕ) (y : Member) → IsValidTag t → tag_error t c ≡ None → FrontHas (tag_next t c b) y → From (At (place.Tag t)) c b y
+pub from-tag-byte : (t : TagPlace) (c : Class) (b : ℕ) (y : Member) → IsValidTag t → tag_error t c ≡ None → FrontHas (tag_next t c b) y → From (At (place.Tag t)) c b y (tag_origin c t.spots y)
 from-tag-byte t White b y v n h = from-white t b y h
 from-tag-byte t Solidus b y v n h = from-solidus t b y h
-from-tag-byte t GreaterThan b y v n h = from-whole (At (place.Tag t)) GreaterThan b y (content-whole t.tag y h)
+from-tag-byte t GreaterThan b y v n h = (let e = content-whole t.tag y h in subst (From (At (place.Tag t)) GreaterThan b y) (sym (whole-typed y e)) (from-whole (At (place.Tag t)) GreaterThan b y e))
 from-tag-byte t EqualsSign b y v n h = from-equals t b y v n h
 from-tag-byte t QuotationMark b y v n h = absurd (some _ n)
 from-tag-byte t Apostrophe b y v n h = absurd (some _ n)
@@ -234,14 +237,13 @@ alike-typed v f g (tags e i) n h = or-false v.typed (subst (λ (x : Front). Fron
 alike-typed v f g (goes q e i) n h = plain-typed v.typed q v.body n (subst (λ (x : Front). FrontHas x member.Typed) i h)
 alike-typed v f g (ends e i) n h = absurd (no (content-whole v.tag member.Typed (subst (λ (x : Front). FrontHas x member.Typed) i h)))
 
-from-value : (v : ValuePlace) (c : Class) (b : ℕ) (y x : Member) → FrontHas (At (place.Value v)) x → ((u : ValuePlace) → IsValidQuotes u.quotes → ValueBelow u v → FrontHas (At (place.Value u)) x → FrontHas (quoted_next u u.quotes c) y) → From (At (place.Value v)) c b y
+pub from-value : (v : ValuePlace) (c : Class) (b : ℕ) (y x : Member) → FrontHas (At (place.Value v)) x → ((u : ValuePlace) → IsValidQuotes u.quotes → ValueBelow u v → FrontHas (At (place.Value u)) x → FrontHas (quoted_next u u.quotes c) y) → From (At (place.Value v)) c b y x
 from-value t c b y x h f = record {
-  source = x;
   there = h;
   leads = λ g v l o. below-at-value (λ (g : Front). FrontValid g → FrontHas g x → FrontHas (front_next g c b) y) t (λ u l v o. f u v.0 l o) g l v o;
 }
 
-from-value-byte : (v : ValuePlace) (c : Class) (b : ℕ) (y : Member) → IsValidQuotes v.quotes → value_error v c ≡ None → FrontHas (quoted_next v v.quotes c) y → From (At (place.Value v)) c b y
+pub from-value-byte : (v : ValuePlace) (c : Class) (b : ℕ) (y : Member) → IsValidQuotes v.quotes → value_error v c ≡ None → FrontHas (quoted_next v v.quotes c) y → From (At (place.Value v)) c b y (typed_origin y)
 from-value-byte v c b member.Typed w n h =
     let f = first-none (body_error v.body) (quotes_error v.tag v.quotes c) n in
     let typed : v.typed ≡ true = alike-typed v (quoted_next v v.quotes c) (quoted_next v v.quotes c) (value-alike v v c w (below-value v v (places_same (place.Value v))) n) f.0 h in
@@ -268,19 +270,18 @@ comment-whole false _ y h = no-dash y h
 pub untyped-rigid : (t : TagOf) (name : List ℕ) → IsRigid (InAttributeName t false name)
 untyped-rigid t name g h = below-attribute (λ (g : Front). g ≡ InAttributeName t false name) t false name (λ x u. ap (λ (z : Bool). InAttributeName t z name) (under-false x u)) g h
 
-from-typed : (t : TagOf) (name : List ℕ) (c : Class) (b : ℕ) (y : Member) → FrontHas (front_next (InAttributeName t true name) c b) y → From (InAttributeName t true name) c b y
+pub from-typed : (t : TagOf) (name : List ℕ) (c : Class) (b : ℕ) (y : Member) → FrontHas (front_next (InAttributeName t true name) c b) y → From (InAttributeName t true name) c b y member.Typed
 from-typed t name c b y h = record {
-  source = member.Typed;
   there = refl;
   leads = λ g v l o. below-attribute (λ (g : Front). FrontHas g member.Typed → FrontHas (front_next g c b) y) t true name (λ x u o. subst (λ (z : Bool). FrontHas (front_next (InAttributeName t z name) c b) y) (sym o) h) g l o;
 }
 
-from-attribute : (t : TagOf) (typed : Bool) (name : List ℕ) (c : Class) (b : ℕ) (y : Member) → FrontHas (front_next (InAttributeName t typed name) c b) y → From (InAttributeName t typed name) c b y
+pub from-attribute : (t : TagOf) (typed : Bool) (name : List ℕ) (c : Class) (b : ℕ) (y : Member) → FrontHas (front_next (InAttributeName t typed name) c b) y → From (InAttributeName t typed name) c b y (name_origin typed)
 from-attribute t true name c b y h = from-typed t name c b y h
 from-attribute t false name c b y h = from-rigid (InAttributeName t false name) (untyped-rigid t name) c b y h
 
 -- From any front.
-from-place : (p : Place) (c : Class) (b : ℕ) (y : Member) → IsValid p → at_hand (place_error p c) ≡ None → FrontHas (front_next (At p) c b) y → From (At p) c b y
+pub from-place : (p : Place) (c : Class) (b : ℕ) (y : Member) → IsValid p → at_hand (place_error p c) ≡ None → FrontHas (front_next (At p) c b) y → From (At p) c b y (place_origin p c y)
 from-place place.Text c b y v n h = from-rigid (At place.Text) text-rigid c b y h
 from-place place.Doctype c b y v n h = from-rigid (At place.Doctype) doctype-rigid c b y h
 from-place (place.Comment dash) c b y v n h = from-whole (At (place.Comment dash)) c b y (comment-whole dash c y h)
@@ -291,7 +292,7 @@ from-place (place.Script j) c b y v n h = absurd (some _ n)
 from-place (place.Style j) c b y v n h = absurd (some _ n)
 from-place (place.Block lt) c b y v n h = absurd (some _ n)
 
-pub from-byte : (f : Front) (c : Class) (b : ℕ) (y : Member) → FrontValid f → front_error f c ≡ None → FrontHas (front_next f c b) y → From f c b y
+pub from-byte : (f : Front) (c : Class) (b : ℕ) (y : Member) → FrontValid f → front_error f c ≡ None → FrontHas (front_next f c b) y → From f c b y (byte_origin f c y)
 from-byte (At p) c b y v n h = from-place p c b y v n h
 from-byte AfterLess c b y v n h = from-rigid AfterLess less-rigid c b y h
 from-byte AfterLessSolidus c b y v n h = from-rigid AfterLessSolidus solidus-rigid c b y h
@@ -302,27 +303,25 @@ from-byte (InCommentEnd s) c b y v n h = from-rigid (InCommentEnd s) (comment-en
 from-byte (InContentEnd e x) c b y v n h = from-rigid (InContentEnd e x) (content-end-rigid e x) c b y h
 
 -- From the end of a text.
-pub record FromEnd (f : Front) (y : Member) : Type 0 where
-  pub source : Member
-  pub there : FrontHas f source
-  pub leads : (g : Front) → FrontBelow g f → FrontHas g source → Has (front_place g) y
+pub record FromEnd (f : Front) (y x : Member) : Type 0 where
+  pub there : FrontHas f x
+  pub leads : (g : Front) → FrontBelow g f → FrontHas g x → Has (front_place g) y
 
-end-rigid : (f : Front) → IsRigid f → (y : Member) → Has (front_place f) y → FromEnd f y
-end-rigid f r y h = record { source = member.Whole; there = whole-in f member.Whole refl; leads = λ g l o. subst (λ (x : Front). Has (front_place x) y) (sym (r g l)) h }
+end-rigid : (f : Front) → IsRigid f → (y : Member) → Has (front_place f) y → FromEnd f y member.Whole
+end-rigid f r y h = record { there = whole-in f member.Whole refl; leads = λ g l o. subst (λ (x : Front). Has (front_place x) y) (sym (r g l)) h }
 
 end-at : (p : Place) (y : Member) (g : Front) → FrontBelow g (At p) → FrontHas g y → Has (front_place g) y
 end-at p y g l o = below-at (λ (g : Front). FrontHas g y → Has (front_place g) y) p (λ a l o. o) g l o
 
-end-attribute : (t : TagOf) (typed : Bool) (name : List ℕ) (y : Member) → Has (front_place (InAttributeName t typed name)) y → FromEnd (InAttributeName t typed name) y
+end-attribute : (t : TagOf) (typed : Bool) (name : List ℕ) (y : Member) → Has (front_place (InAttributeName t typed name)) y → FromEnd (InAttributeName t typed name) y (name_origin typed)
 end-attribute t false name y h = end-rigid (InAttributeName t false name) (untyped-rigid t name) y h
 end-attribute t true name y h = record {
-  source = member.Typed;
   there = refl;
   leads = λ g l o. below-attribute (λ (g : Front). FrontHas g member.Typed → Has (front_place g) y) t true name (λ x u o. subst (λ (z : Bool). Has (front_place (InAttributeName t z name)) y) (sym o) h) g l o;
 }
 
-pub from-end : (f : Front) (y : Member) → Has (front_place f) y → FromEnd f y
-from-end (At p) y h = record { source = y; there = h; leads = λ g l o. end-at p y g l o }
+pub from-end : (f : Front) (y : Member) → Has (front_place f) y → FromEnd f y (end_origin f y)
+from-end (At p) y h = record { there = h; leads = λ g l o. end-at p y g l o }
 from-end AfterLess y h = end-rigid AfterLess less-rigid y h
 from-end AfterLessSolidus y h = end-rigid AfterLessSolidus solidus-rigid y h
 from-end (InDeclaration held) y h = end-rigid (InDeclaration held) (declaration-rigid held) y h

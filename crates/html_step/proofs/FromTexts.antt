@@ -2,33 +2,32 @@
 use Rattle.std.proofs.Common.{◌≡◌, ℕ, ◌+◌, List, [], ◌∷◌, Ok, refl, sym, ◌∙◌, subst}
 use Rattle.place_core.specs.Classes.{class_of}
 use Rattle.place_core.specs.Membership.{IsIn, Bears}
-use Rattle.place_core.specs.Places.{Has}
+use Rattle.place_core.specs.Places.{Has, IsValid}
 use Rattle.place_core.specs.States.{State}
 use Rattle.place_core.specs.Tags.{ValueState}
 use Rattle.place_core.specs.declared.member.Member.{Member}
 use Rattle.place_core.specs.declared.place.Place.{Place}
 use Rattle.place_core.proofs.Semilattices.{one_value}
 use Rattle.html_step.specs.Fronts.{Front, At, front_cut_error, front_error, front_next, front_place}
-use Rattle.html_step.specs.Laws.{FromText}
-use Rattle.html_step.specs.Steps.{stepped}
+use Rattle.html_step.specs.Laws.{FromText, IsOrigin}
+use Rattle.html_step.specs.Origins.{origin}
+use Rattle.html_step.specs.Steps.{after_text, stepped}
 use Rattle.html_step.proofs.FromSteps.{from-byte, from-end}
 use Rattle.html_step.proofs.FrontOrder.{FrontBelow, FrontHas, FrontValid, front-grows}
 use Rattle.html_step.proofs.OneTexts.{one-text}
 use Rattle.html_step.proofs.ValidSteps.{front-valid}
 use Rattle.html_step.proofs.WholeTexts.{grows-text, not-refused, one-ok, text-steps}
 
--- a member after the bytes, and where it comes from
-pub record FromBytes (k : ℕ) (bytes : List ℕ) (f : Front) (y : Member) : Type 0 where
-  pub source : Member
-  pub there : FrontHas f source
-  pub leads : (g : Front) (a : Place) → FrontValid g → FrontBelow g f → FrontHas g source → stepped k bytes g ≡ Ok a → Has a y
+-- a member after the bytes comes from this one
+pub record FromBytes (k : ℕ) (bytes : List ℕ) (f : Front) (y x : Member) : Type 0 where
+  pub there : FrontHas f x
+  pub leads : (g : Front) (a : Place) → FrontValid g → FrontBelow g f → FrontHas g x → stepped k bytes g ≡ Ok a → Has a y
 
-pub from-bytes : (bytes : List ℕ) (k : ℕ) (f : Front) (q : Place) (y : Member) → FrontValid f → stepped k bytes f ≡ Ok q → Has q y → FromBytes k bytes f y
+pub from-bytes : (bytes : List ℕ) (k : ℕ) (f : Front) (q : Place) (y : Member) → FrontValid f → stepped k bytes f ≡ Ok q → Has q y → FromBytes k bytes f y (origin bytes f y)
 from-bytes [] k f q y v e h =
     let n = not-refused k (front_cut_error f) (Ok (front_place f)) q e in
     let x = from-end f y (subst (λ (p : Place). Has p y) (one-ok q (front_place f) (Ok (front_place f)) n.1 refl) h) in
     record {
-      source = x.source;
       there = x.there;
       leads = λ g a w l o d. let m = not-refused k (front_cut_error g) (Ok (front_place g)) a d in
           subst (λ (p : Place). Has p y) (one-ok (front_place g) a (Ok (front_place g)) refl m.1) (x.leads g l o);
@@ -36,9 +35,8 @@ from-bytes [] k f q y v e h =
 from-bytes (b ∷ bs) k f q y v e h =
     let n = not-refused k (front_error f (class_of b)) (stepped (k + 1) bs (front_next f (class_of b) b)) q e in
     let r = from-bytes bs (k + 1) (front_next f (class_of b) b) q y (front-valid f (class_of b) b v) n.1 h in
-    let x = from-byte f (class_of b) b r.source v n.0 r.there in
+    let x = from-byte f (class_of b) b (origin bs (front_next f (class_of b) b) y) v n.0 r.there in
     record {
-      source = x.source;
       there = x.there;
       leads = λ g a w l o d. let m = not-refused k (front_error g (class_of b)) (stepped (k + 1) bs (front_next g (class_of b) b)) a d in
           r.leads (front_next g (class_of b) b) a (front-valid g (class_of b) b w) (front-grows g f (class_of b) b w l n.0).1 (x.leads g w l o) m.1;
@@ -48,16 +46,19 @@ from-bytes (b ∷ bs) k f q y v e h =
 pub own-has : (p : Place) (s : State ValueState) (x : Member) (i : IsIn p s) → Bears s x → Has i.own x
 own-has p s x i h = subst (λ (a : Place). Has a x) (one_value h.own i.own (sym h.stands ∙ i.stands)) h.has
 
-pub from-text : FromText
-from-text bytes p q y v e h =
+-- on the paths that a place stands for
+pub from-text-at : (bytes : List ℕ) (p q : Place) (y : Member) → IsValid p → after_text bytes p ≡ Ok q → Has q y → IsOrigin bytes p y (origin bytes (At p) y)
+from-text-at bytes p q y v e h =
     let r = from-bytes bytes 0 (At p) q y v (text-steps bytes p q e) h in (
-      r.source,
       r.there,
       λ s i o.
           let g = grows-text bytes i.own p q i.valid v i.below e in
           record {
             own = g.0;
             stands = ((one-text bytes i.own s i.stands).0 g.0 g.1).1;
-            has = r.leads (At i.own) g.0 i.valid i.below (own-has p s r.source i o) (text-steps bytes i.own g.0 g.1);
+            has = r.leads (At i.own) g.0 i.valid i.below (own-has p s (origin bytes (At p) y) i o) (text-steps bytes i.own g.0 g.1);
           },
     )
+
+pub from-text : FromText
+from-text bytes p q y v e h = (let r = from-text-at bytes p q y v e h in (origin bytes (At p) y, r.0, r.1))

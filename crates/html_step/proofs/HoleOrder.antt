@@ -5,6 +5,7 @@ use Rattle.place_core.specs.Places.{Below, Has, IsValid, body_has, is_whole, joi
 use Rattle.place_core.specs.StatePlaces.{only_inside}
 use Rattle.place_core.specs.declared.body.Body.{Body}
 use Rattle.place_core.specs.declared.body.Body.TheVariants as body
+use Rattle.place_core.specs.declared.chain.Chain.{Chain}
 use Rattle.place_core.specs.declared.code.Code.{Code}
 use Rattle.place_core.specs.declared.code.Code.TheVariants as code
 use Rattle.place_core.specs.declared.kind.Kind.TheVariants as kind
@@ -18,7 +19,9 @@ use Rattle.place_core.specs.declared.tag_place.TagPlace.{TagPlace}
 use Rattle.place_core.specs.declared.value_place.ValuePlace.{ValuePlace}
 use Rattle.place_core.proofs.Semilattices.{none_some, one_value}
 use Rattle.html_step.specs.Fronts.{Front, begun, front_place}
-use Rattle.html_step.specs.HoleLaws.{AcceptsHole, CoversHole, FromHole, GrowsHole, OneHole, ShownHole, ValidHole}
+use Rattle.html_step.specs.HoleOrigins.{hole_origin, hole_shows, quotes_origin}
+use Rattle.html_step.specs.Origins.{typed_origin}
+use Rattle.html_step.specs.HoleLaws.{IsHoleOrigin, IsHoleShown, AcceptsHole, CoversHole, FromHole, GrowsHole, OneHole, ShownHole, ValidHole}
 use Rattle.html_step.specs.Holes.{Holed, after_hole, named_by_data, plain_hole, value_hole}
 use Rattle.html_step.proofs.BelowFronts.{tag-place, value-place}
 use Rattle.html_step.proofs.FromSteps.{false-or, no, or-false, plain-typed}
@@ -143,14 +146,13 @@ abbrev HasAfter : Holed → Member → Type 0
 HasAfter (Ok h) y = Has h.0 y
 HasAfter (Err e) y = Unit {0}
 
-record FromPlace (p : Place) (y : Member) : Type 0 where
-  source : Member
-  there : Has p source
-  leads : (a : Place) → Below a p → Has a source → HasAfter (after_hole a) y
+record FromPlace (p : Place) (y x : Member) : Type 0 where
+  there : Has p x
+  leads : (a : Place) → Below a p → Has a x → HasAfter (after_hole a) y
 
-abbrev FromTo : Holed → Place → Member → Type 0
-FromTo (Ok h) p y = Has h.0 y → FromPlace p y
-FromTo (Err e) p y = Unit {0}
+abbrev FromTo : Holed → Place → Member → Member → Type 0
+FromTo (Ok h) p y x = Has h.0 y → FromPlace p y x
+FromTo (Err e) p y x = Unit {0}
 
 text-stays : (a : Place) (y : Member) → Below a place.Text → Has a y → HasAfter (after_hole a) y
 text-stays place.Text y l h = h
@@ -168,14 +170,13 @@ named-has : (u : TagPlace) (n : Bool) (y : Member) → Has (place.Tag (record { 
 named-has u true y h = tt
 named-has u false y h = h
 
-from-tag : (t : TagPlace) (y x : Member) → Has (place.Tag t) x → ((u : TagPlace) → TagBelow u t → Has (place.Tag u) x → Has (place.Tag (record { tag = u.tag; typed = u.typed; spots = only_inside; kind = Some kind.Plain })) y) → FromPlace (place.Tag t) y
+from-tag : (t : TagPlace) (y x : Member) → Has (place.Tag t) x → ((u : TagPlace) → TagBelow u t → Has (place.Tag u) x → Has (place.Tag (record { tag = u.tag; typed = u.typed; spots = only_inside; kind = Some kind.Plain })) y) → FromPlace (place.Tag t) y x
 from-tag t y x h f = record {
-  source = x;
   there = h;
   leads = λ a l o. tag-place (λ (g : Front). Has (front_place g) x → HasAfter (after_hole (front_place g)) y) t (λ u b o. named-has u (u.spots.name || u.spots.inside) y (f u b o)) a l o;
 }
 
-tag-from : (t : TagPlace) (n : Bool) (y : Member) → FromTo (named_by_data n t) (place.Tag t) y
+tag-from : (t : TagPlace) (n : Bool) (y : Member) → FromTo (named_by_data n t) (place.Tag t) y (typed_origin y)
 tag-from t true y = tt
 tag-from t false member.Whole = λ h. from-tag t member.Whole member.Whole refl (λ u b o. refl)
 tag-from t false member.Typed = λ h. from-tag t member.Typed member.Typed h (λ u b o. o)
@@ -183,9 +184,8 @@ tag-from t false member.InsideSpot = λ h. from-tag t member.InsideSpot member.W
 tag-from t false _ = λ h. absurd (no h)
 
 -- in a value
-from-value : (t : ValuePlace) (y x : Member) → Has (place.Value t) x → ((u : ValuePlace) → ValueBelow u t → Has (place.Value u) x → HasAfter (value_hole u.body u) y) → FromPlace (place.Value t) y
+from-value : (t : ValuePlace) (y x : Member) → Has (place.Value t) x → ((u : ValuePlace) → ValueBelow u t → Has (place.Value u) x → HasAfter (value_hole u.body u) y) → FromPlace (place.Value t) y x
 from-value t y x h f = record {
-  source = x;
   there = h;
   leads = λ a l o. value-place (λ (g : Front). Has (front_place g) x → HasAfter (after_hole (front_place g)) y) t (λ u b o. f u b o) a l o;
 }
@@ -210,7 +210,7 @@ quoted-after u (quotes.Bare s) quotes.Sq y e j d h = absurd (none_some quotes.Sq
 quoted-after u (quotes.Bare s) (quotes.Bare r) y e j (inl d) h = cc
 quoted-after u (quotes.Bare s) (quotes.Bare r) y e j (inr d) h = cc
 
-quoted-from : (t : ValuePlace) (r : Quotes) (y : Member) → t.quotes ≡ r → (r ≡ quotes.Dq) ⊎ (r ≡ quotes.Sq) → t.body ≡ body.Plain → Has (place.Value t) y → FromPlace (place.Value t) y
+quoted-from : (t : ValuePlace) (r : Quotes) (y : Member) → t.quotes ≡ r → (r ≡ quotes.Dq) ⊎ (r ≡ quotes.Sq) → t.body ≡ body.Plain → Has (place.Value t) y → FromPlace (place.Value t) y y
 quoted-from t r y e d b h =
     from-value t y y h
     (λ u l o. subst (λ (z : Body). HasAfter (value_hole z u) y) (sym (plain-of u t l b)) (quoted-after u u.quotes r y refl (subst (λ (z : Quotes). joined_quotes u.quotes z ≡ Some z) e l.quotes) d o))
@@ -224,7 +224,7 @@ bare-after u (quotes.Bare r) s y j b h = subst (λ (z : Body). (is_whole y || (t
 bare-after u quotes.Dq s y j b h = absurd (none_some (quotes.Bare s) j)
 bare-after u quotes.Sq s y j b h = absurd (none_some (quotes.Bare s) j)
 
-bare-from-by : (t : ValuePlace) (s : _) (y x : Member) → t.quotes ≡ quotes.Bare s → t.body ≡ body.Plain → Has (place.Value t) x → ((u : ValuePlace) → u.body ≡ body.Plain → Has (place.Value u) x → Begun u y) → FromPlace (place.Value t) y
+bare-from-by : (t : ValuePlace) (s : _) (y x : Member) → t.quotes ≡ quotes.Bare s → t.body ≡ body.Plain → Has (place.Value t) x → ((u : ValuePlace) → u.body ≡ body.Plain → Has (place.Value u) x → Begun u y) → FromPlace (place.Value t) y x
 bare-from-by t s y x e b h f =
     from-value t y x h
     (λ u l o. let c = plain-of u t l b in subst (λ (z : Body). HasAfter (value_hole z u) y) (sym c) (bare-after u u.quotes s y (subst (λ (z : Quotes). joined_quotes u.quotes z ≡ Some z) e l.quotes) c (f u c o)))
@@ -232,62 +232,62 @@ bare-from-by t s y x e b h f =
 typed-of-value : (x : Bool) (q : Quotes) (b : Body) → b ≡ body.Plain → (x || (quotes_have q member.Typed || body_has b member.Typed)) ≡ true → x ≡ true
 typed-of-value x q b e h = plain-typed x q b (ap body_error e) h
 
-bare-from : (t : ValuePlace) (s : _) (y : Member) → t.quotes ≡ quotes.Bare s → t.body ≡ body.Plain → Begun t y → FromPlace (place.Value t) y
+bare-from : (t : ValuePlace) (s : _) (y : Member) → t.quotes ≡ quotes.Bare s → t.body ≡ body.Plain → Begun t y → FromPlace (place.Value t) y (typed_origin y)
 bare-from t s member.Whole e b h = bare-from-by t s member.Whole member.Whole e b refl (λ u c o. refl)
 bare-from t s member.Typed e b h = bare-from-by t s member.Typed member.Typed e b (rw (or-false t.typed h) refl) (λ u c o. false-or u.typed (typed-of-value u.typed u.quotes u.body c o))
 bare-from t s member.UnquotedValue e b h = bare-from-by t s member.UnquotedValue member.Whole e b refl (λ u c o. refl)
 bare-from t s _ e b h = absurd (no h)
 
-plain-from : (t : ValuePlace) (q : Quotes) (y : Member) → t.quotes ≡ q → t.body ≡ body.Plain → FromTo (plain_hole q t) (place.Value t) y
+plain-from : (t : ValuePlace) (q : Quotes) (y : Member) → t.quotes ≡ q → t.body ≡ body.Plain → FromTo (plain_hole q t) (place.Value t) y (quotes_origin q y)
 plain-from t quotes.Dq y e b = λ h. quoted-from t quotes.Dq y e (inl refl) b h
 plain-from t quotes.Sq y e b = λ h. quoted-from t quotes.Sq y e (inr refl) b h
 plain-from t (quotes.Bare s) y e b = λ h. bare-from t s y e b (subst (λ (z : Body). (is_whole y || (typed_has t.typed y || (quotes_have begun y || body_has z y))) ≡ true) b h)
 
-value-from-to : (t : ValuePlace) (b : Body) (y : Member) → t.body ≡ b → FromTo (value_hole b t) (place.Value t) y
+value-from-to : (t : ValuePlace) (b : Body) (y : Member) → t.body ≡ b → FromTo (value_hole b t) (place.Value t) y (quotes_origin t.quotes y)
 value-from-to t body.Plain y e = plain-from t t.quotes y refl e
 value-from-to t body.NoHole y e = tt
 value-from-to t (body.Url p) y e = tt
 value-from-to t (body.Js p) y e = tt
 value-from-to t (body.Css p) y e = tt
 
-from-to : (p : Place) (y : Member) → FromTo (after_hole p) p y
-from-to place.Text y = λ h. record { source = y; there = h; leads = λ a l o. text-stays a y l o }
+from-to : (p : Place) (y : Member) → FromTo (after_hole p) p y (hole_origin p y)
+from-to place.Text y = λ h. record { there = h; leads = λ a l o. text-stays a y l o }
 from-to place.Doctype y = tt
-from-to (place.Comment d) y = λ h. record { source = y; there = h; leads = λ a l o. comment-stays d a y l o }
-from-to (place.Rcdata e) y = λ h. record { source = y; there = h; leads = λ a l o. rcdata-stays e a y l o }
+from-to (place.Comment d) y = λ h. record { there = h; leads = λ a l o. comment-stays d a y l o }
+from-to (place.Rcdata e) y = λ h. record { there = h; leads = λ a l o. rcdata-stays e a y l o }
 from-to (place.Tag t) y = tag-from t (t.spots.name || t.spots.inside) y
 from-to (place.Value t) y = value-from-to t t.body y refl
 from-to (place.Script j) y = tt
 from-to (place.Style j) y = tt
 from-to (place.Block b) y = tt
 
-pub from-hole : FromHole
-from-hole p q c y v h k =
-    let r = subst (λ (o : Holed). FromTo o p y) h (from-to p y) k in (
-      r.source,
+pub from-hole-at : (p q : Place) (c : Chain) (y : Member) → IsValid p → after_hole p ≡ Ok (q, c) → Has q y → IsHoleOrigin p y (hole_origin p y)
+from-hole-at p q c y v h k =
+    let r = subst (λ (o : Holed). FromTo o p y (hole_origin p y)) h (from-to p y) k in (
       r.there,
       λ s i o.
           let g = grows-hole i.own p q c i.valid v i.below h in
           record {
             own = g.0;
             stands = ((one-hole i.own s i.stands).0 g.0 c g.1).1;
-            has = subst (λ (o : Holed). HasAfter o y) g.1 (r.leads i.own i.below (own-has p s r.source i o));
+            has = subst (λ (o : Holed). HasAfter o y) g.1 (r.leads i.own i.below (own-has p s (hole_origin p y) i o));
           },
     )
 
+pub from-hole : FromHole
+from-hole p q c y v h k = (let r = from-hole-at p q c y v h k in (hole_origin p y, r.0, r.1))
+
 -- What is refused.
-record ShownPlace (p : Place) (e : Code) : Type 0 where
-  bears : Member
-  there : Has p bears
-  refuses : (a : Place) → Below a p → Has a bears → hole_error a ≡ Some e
+record ShownPlace (p : Place) (e : Code) (x : Member) : Type 0 where
+  there : Has p x
+  refuses : (a : Place) → Below a p → Has a x → hole_error a ≡ Some e
 
-abbrev ShownTo : Holed → Place → Type 0
-ShownTo (Ok h) p = Unit {0}
-ShownTo (Err e) p = ShownPlace p e
+abbrev ShownTo : Holed → Place → Member → Type 0
+ShownTo (Ok h) p x = Unit {0}
+ShownTo (Err e) p x = ShownPlace p e x
 
-shown-tag : (t : TagPlace) (x : Member) → Has (place.Tag t) x → ((u : TagPlace) → TagBelow u t → Has (place.Tag u) x → (u.spots.name || u.spots.inside) ≡ true) → ShownPlace (place.Tag t) code.SplitToken
+shown-tag : (t : TagPlace) (x : Member) → Has (place.Tag t) x → ((u : TagPlace) → TagBelow u t → Has (place.Tag u) x → (u.spots.name || u.spots.inside) ≡ true) → ShownPlace (place.Tag t) code.SplitToken x
 shown-tag t x h f = record {
-  bears = x;
   there = h;
   refuses = λ a l o. tag-place (λ (g : Front). Has (front_place g) x → hole_error (front_place g) ≡ Some code.SplitToken) t (λ u b o. ap (λ (z : Bool). if z then Some code.SplitToken else None) (f u b o)) a l o;
 }
@@ -296,7 +296,7 @@ or-last : (x y : Bool) → y ≡ true → (x || y) ≡ true
 or-last true y h = refl
 or-last false y h = h
 
-tag-shown : (t : TagPlace) (n i : Bool) → t.spots.name ≡ n → t.spots.inside ≡ i → ShownTo (named_by_data (n || i) t) (place.Tag t)
+tag-shown : (t : TagPlace) (n i : Bool) → t.spots.name ≡ n → t.spots.inside ≡ i → ShownTo (named_by_data (n || i) t) (place.Tag t) (if n then member.NameSpot else member.InsideSpot)
 tag-shown t true i n j = shown-tag t member.NameSpot n (λ u b o. ap (λ (z : Bool). z || u.spots.inside) o)
 tag-shown t false true n j = shown-tag t member.InsideSpot j (λ u b o. or-last u.spots.name u.spots.inside o)
 tag-shown t false false n j = tt
@@ -313,19 +313,18 @@ same-hole-error (body.Url p) c h = absurd (none_some c h)
 same-hole-error (body.Js p) c h = absurd (none_some c h)
 same-hole-error (body.Css p) c h = absurd (none_some c h)
 
-shown-value : (t : ValuePlace) (e : Code) → body_hole_error t.body ≡ Some e → ShownPlace (place.Value t) e
+shown-value : (t : ValuePlace) (e : Code) → body_hole_error t.body ≡ Some e → ShownPlace (place.Value t) e member.Whole
 shown-value t e n = record {
-  bears = member.Whole;
   there = refl;
   refuses = λ a l o. value-place (λ (g : Front). hole_error (front_place g) ≡ Some e) t (λ u b. same-hole-error u.body t.body b.body ∙ n) a l;
 }
 
-plain-shown : (t : ValuePlace) (q : Quotes) → ShownTo (plain_hole q t) (place.Value t)
+plain-shown : (t : ValuePlace) (q : Quotes) → ShownTo (plain_hole q t) (place.Value t) member.Whole
 plain-shown t quotes.Dq = tt
 plain-shown t quotes.Sq = tt
 plain-shown t (quotes.Bare b) = tt
 
-value-shown : (t : ValuePlace) (b : Body) → t.body ≡ b → ShownTo (value_hole b t) (place.Value t)
+value-shown : (t : ValuePlace) (b : Body) → t.body ≡ b → ShownTo (value_hole b t) (place.Value t) member.Whole
 value-shown t body.Plain e = plain-shown t t.quotes
 value-shown t body.NoHole e = shown-value t code.BadHTML (ap body_hole_error e)
 value-shown t (body.Url p) e = shown-value t code.NotBuilt (ap body_hole_error e)
@@ -348,18 +347,21 @@ block-refuses : (j : Bool) (a : Place) → Below a (place.Block j) → hole_erro
 block-refuses j (place.Block i) h = refl
 block-refuses j a h = absurd (none_some (place.Block j) h)
 
-shown-to : (p : Place) → ShownTo (after_hole p) p
+shown-to : (p : Place) → ShownTo (after_hole p) p (hole_shows p)
 shown-to place.Text = tt
-shown-to place.Doctype = record { bears = member.Whole; there = refl; refuses = λ a l o. doctype-refuses a l }
+shown-to place.Doctype = record { there = refl; refuses = λ a l o. doctype-refuses a l }
 shown-to (place.Comment d) = tt
 shown-to (place.Rcdata e) = tt
 shown-to (place.Tag t) = tag-shown t t.spots.name t.spots.inside refl refl
 shown-to (place.Value t) = value-shown t t.body refl
-shown-to (place.Script j) = record { bears = member.Whole; there = refl; refuses = λ a l o. script-refuses j a l }
-shown-to (place.Style j) = record { bears = member.Whole; there = refl; refuses = λ a l o. style-refuses j a l }
-shown-to (place.Block b) = record { bears = member.Whole; there = refl; refuses = λ a l o. block-refuses b a l }
+shown-to (place.Script j) = record { there = refl; refuses = λ a l o. script-refuses j a l }
+shown-to (place.Style j) = record { there = refl; refuses = λ a l o. style-refuses j a l }
+shown-to (place.Block b) = record { there = refl; refuses = λ a l o. block-refuses b a l }
+
+pub shown-hole-at : (p : Place) (e : Code) → IsValid p → after_hole p ≡ Err e → IsHoleShown p e (hole_shows p)
+shown-hole-at p e v h =
+    let x = subst (λ (o : Holed). ShownTo o p (hole_shows p)) h (shown-to p) in
+    (x.there, λ s i o. record { own = i.own; stands = i.stands; refused = x.refuses i.own i.below (own-has p s (hole_shows p) i o) })
 
 pub shown-hole : ShownHole
-shown-hole p e v h =
-    let x = subst (λ (o : Holed). ShownTo o p) h (shown-to p) in
-    (x.bears, x.there, λ s i o. record { own = i.own; stands = i.stands; refused = x.refuses i.own i.below (own-has p s x.bears i o) })
+shown-hole p e v h = (let r = shown-hole-at p e v h in (hole_shows p, r.0, r.1))

@@ -11,6 +11,7 @@ pub mod Lowered
 pub mod MetApart
 pub mod OnePath
 pub mod OneTexts
+pub mod OriginSteps
 pub mod PlaceParts
 pub mod ShownSteps
 pub mod ShownTexts

@@ -4,6 +4,7 @@ use Rattle.place_core.specs.Classes.{Class, White, class_of}
 use Rattle.place_core.specs.Errors.{Cause, Refusal, Refuses, Clashes, byte_clash, byte_error, refusal_from}
 use Rattle.place_core.specs.Html.{next}
 use Rattle.place_core.specs.Membership.{IsIn, Bears}
+use Rattle.place_core.specs.Places.{IsValid}
 use Rattle.place_core.specs.StatePlaces.{placed}
 use Rattle.place_core.specs.States.{Template, State}
 use Rattle.place_core.specs.Tags.{ValueState, languages}
@@ -14,15 +15,16 @@ use Rattle.place_core.specs.declared.member.Member.TheVariants as member
 use Rattle.place_core.specs.declared.place.Place.{Place}
 use Rattle.place_core.specs.declared.step_err.StepErr.{StepErr}
 use Rattle.html_step.specs.Fronts.{Front, At, front_cut_error, front_error, front_next, front_place}
-use Rattle.html_step.specs.Laws.{AcceptsText, IsShown, Shown, ShownText, one, two}
-use Rattle.html_step.specs.Steps.{place_before, stepped, unless_refused, with_place_before}
+use Rattle.html_step.specs.Laws.{AcceptsText, IsShown, Shown, ShownText, apart, one, two}
+use Rattle.html_step.specs.Origins.{back_by, byte_origin, byte_shows, end_shows, shows, unless_shown}
+use Rattle.html_step.specs.Steps.{after_text, place_before, stepped, unless_refused, with_place_before}
 use Rattle.html_step.proofs.Clashing.{begun-grows, both-refuse, clash, clash-is, has-unbegun, has-unquoted, is-unbegun, is-unquoted, unbegun-grows}
 use Rattle.html_step.proofs.FromSteps.{From, from-byte}
 use Rattle.html_step.proofs.FromTexts.{own-has}
 use Rattle.html_step.proofs.FrontOrder.{FrontBelow, FrontHas, FrontValid, front-grows}
 use Rattle.html_step.proofs.OnePath.{fronted}
 use Rattle.html_step.proofs.OneTexts.{agrees-at, at-place, one-text}
-use Rattle.html_step.proofs.ShownSteps.{ShownByte, ShownEnd, shown_one, shown_two, shown-byte, shown-end}
+use Rattle.html_step.proofs.ShownSteps.{ShownByte, ShownEnd, shown-byte, shown-end}
 use Rattle.html_step.proofs.ValidSteps.{front-valid}
 use Rattle.html_step.proofs.WholeTexts.{grows-text, not-refused, text-steps}
 
@@ -33,10 +35,11 @@ pub record Stands (s : State ValueState) (g f : Front) (x : Member) : Type 0 whe
   pub below : FrontBelow g f
   pub has : FrontHas g x
 
-pub data ShownBytes (k : ℕ) (bytes : List ℕ) (f : Front) (r : Refusal) : Type 0 where
-  by_one : (x : Member) → FrontHas f x → ((g : Front) → FrontValid g → FrontBelow g f → FrontHas g x → stepped k bytes g ≡ Err r) → ShownBytes k bytes f r
-  by_two : (x y : Member) (i : ℕ) → r.at ≡ k + i → FrontHas f x → FrontHas f y
-      → ((s t : State ValueState) (g h : Front) → Stands s g f x → Stands t h f y → Clashes bytes s t r.code i) → ShownBytes k bytes f r
+abbrev pub ShownBytes : ℕ → List ℕ → Front → Refusal → Shown → Type 0
+ShownBytes k bytes f r (one x) = FrontHas f x × ((g : Front) → FrontValid g → FrontBelow g f → FrontHas g x → stepped k bytes g ≡ Err r)
+ShownBytes k bytes f r (two x y) = (i : ℕ) × (r.at ≡ k + i) × FrontHas f x × FrontHas f y
+    × ((s t : State ValueState) (g h : Front) → Stands s g f x → Stands t h f y → Clashes bytes s t r.code i)
+ShownBytes k bytes f r apart = ⊥
 
 one-err : (x y : Refusal) (o : Result Place Refusal) → o ≡ Err x → o ≡ Err y → x ≡ y
 one-err x y o e f = let same : Err x ≡ Err y = sym e ∙ f in cc
@@ -66,26 +69,27 @@ refused-later : (k : ℕ) (o : Option Cause) (r : Result Place Refusal) (e : Ref
 refused-later k o r e i h = ap (λ (y : Option Cause). unless_refused k y r) i ∙ h
 
 clash-here : (k b : ℕ) (bs : List ℕ) (f : Front) (r : Refusal) (x : Cause) → r ≡ record { code = x.code; at = k - x.back } → class_of b ≡ White → x ≡ record { code = code.AmbigContext; back = 0 }
-    → FrontHas f member.UnquotedValue → FrontHas f member.UnbegunValue → ShownBytes k (b ∷ bs) f r
+    → FrontHas f member.UnquotedValue → FrontHas f member.UnbegunValue → ShownBytes k (b ∷ bs) f r (two member.UnquotedValue member.UnbegunValue)
 clash-here k b bs f r x e w c h i =
     let is : r ≡ record { code = code.AmbigContext; at = k - 0 } = e ∙ ap (λ (y : Cause). record { code = y.code; at = k - y.back }) c in
     let at : r.at ≡ k + 0 = ap (λ (y : Refusal). y.at) is ∙ (let z : k - 0 ≡ k + 0 = omega arith in z) in
-    by_two member.UnquotedValue member.UnbegunValue 0 at h i
-    (λ s t g j p q. rw (w, ap (λ (y : Refusal). y.code) is) (clash s t (is-unquoted s g p.at p.has) (is-unbegun t j q.at q.has)))
+    (0, at, h, i, λ s t g j p q. rw (w, ap (λ (y : Refusal). y.code) is) (clash s t (is-unquoted s g p.at p.has) (is-unbegun t j q.at q.has)))
 
-byte-shown : (k b : ℕ) (bs : List ℕ) (f : Front) (r : Refusal) (x : Cause) → front_error f (class_of b) ≡ Some x → stepped k (b ∷ bs) f ≡ Err r → ShownByte f (class_of b) x → ShownBytes k (b ∷ bs) f r
-byte-shown k b bs f r x e h (shown_one m i j) =
-    by_one m i (λ g v l o. hand-refused k (front_error f (class_of b)) (front_error g (class_of b)) (stepped (k + 1) bs (front_next f (class_of b) b)) (stepped (k + 1) bs (front_next g (class_of b) b)) x r e (j g v l o) h)
-byte-shown k b bs f r x e h (shown_two w i j c) =
-    clash-here k b bs f r x (hand-is k (front_error f (class_of b)) (stepped (k + 1) bs (front_next f (class_of b) b)) x r e h) w c i j
+byte-shown : (k b : ℕ) (bs : List ℕ) (f : Front) (r : Refusal) (x : Cause) (y : Shown) → front_error f (class_of b) ≡ Some x → stepped k (b ∷ bs) f ≡ Err r → ShownByte f (class_of b) x y → ShownBytes k (b ∷ bs) f r y
+byte-shown k b bs f r x (one m) e h d =
+    (d.0, λ g v l o. hand-refused k (front_error f (class_of b)) (front_error g (class_of b)) (stepped (k + 1) bs (front_next f (class_of b) b)) (stepped (k + 1) bs (front_next g (class_of b) b)) x r e (d.1 g v l o) h)
+byte-shown k b bs f r x (two m n) e h d =
+    (let c = clash-here k b bs f r x (hand-is k (front_error f (class_of b)) (stepped (k + 1) bs (front_next f (class_of b) b)) x r e h) d.0 d.5 d.3 d.4 in
+    subst (λ (z : Member). ShownBytes k (b ∷ bs) f r (two z n)) (sym d.1) (subst (λ (z : Member). ShownBytes k (b ∷ bs) f r (two member.UnquotedValue z)) (sym d.2) c))
+byte-shown k b bs f r x apart e h d = d
 
-end-shown : (k : ℕ) (f : Front) (r : Refusal) (x : Cause) → front_cut_error f ≡ Some x → stepped k [] f ≡ Err r → ShownEnd f x → ShownBytes k [] f r
+end-shown : (k : ℕ) (f : Front) (r : Refusal) (x : Cause) → front_cut_error f ≡ Some x → stepped k [] f ≡ Err r → ShownEnd f x (end_shows f) → ShownBytes k [] f r (one (end_shows f))
 end-shown k f r x e h s =
-    by_one s.member s.there (λ g v l o. hand-refused k (front_cut_error f) (front_cut_error g) (Ok (front_place f)) (Ok (front_place g)) x r e (s.refuses g l o) h)
+    (s.there, λ g v l o. hand-refused k (front_cut_error f) (front_cut_error g) (Ok (front_place f)) (Ok (front_place g)) x r e (s.refuses g l o) h)
 
-next-stands : (s : State ValueState) (g f : Front) (b : ℕ) (x : Member) → front_error f (class_of b) ≡ None → (from : From f (class_of b) b x) → Stands s g f from.source
+next-stands : (s : State ValueState) (g f : Front) (b : ℕ) (x : Member) → front_error f (class_of b) ≡ None → (z : Member) (from : From f (class_of b) b x z) → Stands s g f z
     → (byte_error s (class_of b) ≡ None) × Stands (next languages Template s (class_of b) b) (front_next g (class_of b) b) (front_next f (class_of b) b) x
-next-stands s g f b x n from st =
+next-stands s g f b x n z from st =
     let a = agrees-at s g b st.at in
     let m = front-grows g f (class_of b) b st.valid st.below n in (
       a.errors ∙ m.0,
@@ -97,34 +101,40 @@ next-stands s g f b x n from st =
       },
     )
 
-earlier : (k b : ℕ) (bs : List ℕ) (f : Front) (r : Refusal) → FrontValid f → front_error f (class_of b) ≡ None → ShownBytes (k + 1) bs (front_next f (class_of b) b) r → ShownBytes k (b ∷ bs) f r
-earlier k b bs f r v n (by_one x h j) =
-    let o = from-byte f (class_of b) b x v n h in
-    by_one o.source o.there
-    (λ g w l p. let m = front-grows g f (class_of b) b w l n in
-    refused-later k (front_error g (class_of b)) (stepped (k + 1) bs (front_next g (class_of b) b)) r m.0 (j (front_next g (class_of b) b) (front-valid g (class_of b) b w) m.1 (o.leads g w l p)))
-earlier k b bs f r v n (by_two x y i e h j c) =
-    let o = from-byte f (class_of b) b x v n h in
-    let p = from-byte f (class_of b) b y v n j in
-    by_two o.source p.source (suc i) (omega (arith, e)) o.there p.there
-    (λ s t g q z w. let m = next-stands s g f b x n o z in
-    let d = next-stands t q f b y n p w in
-    (m.0, d.0, c (next languages Template s (class_of b) b) (next languages Template t (class_of b) b) (front_next g (class_of b) b) (front_next q (class_of b) b) m.1 d.1))
+earlier : (k b : ℕ) (bs : List ℕ) (f : Front) (r : Refusal) (z : Shown) → FrontValid f → front_error f (class_of b) ≡ None → ShownBytes (k + 1) bs (front_next f (class_of b) b) r z → ShownBytes k (b ∷ bs) f r (back_by f (class_of b) z)
+earlier k b bs f r (one x) v n d =
+    (let o = from-byte f (class_of b) b x v n d.0 in (
+      o.there,
+      λ g w l p. let m = front-grows g f (class_of b) b w l n in
+          refused-later k (front_error g (class_of b)) (stepped (k + 1) bs (front_next g (class_of b) b)) r m.0 (d.1 (front_next g (class_of b) b) (front-valid g (class_of b) b w) m.1 (o.leads g w l p)),
+    ))
+earlier k b bs f r (two x y) v n d =
+    (let o = from-byte f (class_of b) b x v n d.2 in
+    let p = from-byte f (class_of b) b y v n d.3 in (
+      suc d.0,
+      omega (arith, d.1),
+      o.there,
+      p.there,
+      λ s t g q z w. let m = next-stands s g f b x n (byte_origin f (class_of b) x) o z in
+          let u = next-stands t q f b y n (byte_origin f (class_of b) y) p w in
+          (m.0, u.0, d.4 (next languages Template s (class_of b) b) (next languages Template t (class_of b) b) (front_next g (class_of b) b) (front_next q (class_of b) b) m.1 u.1),
+    ))
+earlier k b bs f r apart v n d = d
 
 -- by cases on what is refused at the byte, or at the end
-end-cases : (k : ℕ) (f : Front) (r : Refusal) (o : Option Cause) → front_cut_error f ≡ o → stepped k [] f ≡ Err r → ShownBytes k [] f r
+end-cases : (k : ℕ) (f : Front) (r : Refusal) (o : Option Cause) → front_cut_error f ≡ o → stepped k [] f ≡ Err r → ShownBytes k [] f r (one (end_shows f))
 end-cases k f r (Some x) e h = end-shown k f r x e h (shown-end f x e)
 end-cases k f r None e h = absurd (err-ok (front_place f) r (Ok (front_place f)) refl (later-refused k (front_cut_error f) (Ok (front_place f)) r e h))
 
-byte-cases : (k b : ℕ) (bs : List ℕ) (f : Front) (r : Refusal) (o : Option Cause) → front_error f (class_of b) ≡ o → FrontValid f → stepped k (b ∷ bs) f ≡ Err r
-    → (front_error f (class_of b) ≡ None → ShownBytes (k + 1) bs (front_next f (class_of b) b) r) → ShownBytes k (b ∷ bs) f r
-byte-cases k b bs f r (Some x) e v h more = byte-shown k b bs f r x e h (shown-byte f (class_of b) x v e)
-byte-cases k b bs f r None e v h more = earlier k b bs f r v e (more e)
+byte-cases : (k b : ℕ) (bs : List ℕ) (f : Front) (r : Refusal) (z : Shown) (o : Option Cause) → front_error f (class_of b) ≡ o → FrontValid f → stepped k (b ∷ bs) f ≡ Err r
+    → (front_error f (class_of b) ≡ None → ShownBytes (k + 1) bs (front_next f (class_of b) b) r z) → ShownBytes k (b ∷ bs) f r (unless_shown o (byte_shows f (class_of b)) (back_by f (class_of b) z))
+byte-cases k b bs f r z (Some x) e v h more = byte-shown k b bs f r x (byte_shows f (class_of b)) e h (shown-byte f (class_of b) x v e)
+byte-cases k b bs f r z None e v h more = earlier k b bs f r z v e (more e)
 
-shown-bytes : (bytes : List ℕ) (k : ℕ) (f : Front) (r : Refusal) → FrontValid f → stepped k bytes f ≡ Err r → ShownBytes k bytes f r
+shown-bytes : (bytes : List ℕ) (k : ℕ) (f : Front) (r : Refusal) → FrontValid f → stepped k bytes f ≡ Err r → ShownBytes k bytes f r (shows bytes f)
 shown-bytes [] k f r v h = end-cases k f r (front_cut_error f) refl h
 shown-bytes (b ∷ bs) k f r v h =
-    byte-cases k b bs f r (front_error f (class_of b)) refl v h
+    byte-cases k b bs f r (shows bs (front_next f (class_of b) b)) (front_error f (class_of b)) refl v h
     (λ n. shown-bytes bs (k + 1) (front_next f (class_of b) b) r (front-valid f (class_of b) b v) (later-refused k (front_error f (class_of b)) (stepped (k + 1) bs (front_next f (class_of b) b)) r n h))
 
 -- the whole answer
@@ -148,15 +158,19 @@ refuses-there bytes p s c at r e h i j =
 plus-none : (i : ℕ) → 0 + i ≡ i
 plus-none i = omega arith
 
-show : (bytes : List ℕ) (p : Place) (e : StepErr Place) (r : Refusal) → e.code ≡ r.code → e.at ≡ r.at → ShownBytes 0 bytes (At p) r → (h : Shown) × IsShown bytes p e h
-show bytes p e r c a (by_one x h j) = (one x, (h, λ s i b. refuses-there bytes i.own s e.code e.at r i.stands (j (At i.own) i.valid i.below (own-has p s x i b)) c a))
-show bytes p e r c a (by_two x y i at h j k) =
-    (two x y, (h, j, λ s t u b v d. rw (c, a ∙ at ∙ plus-none i) (k s t (At u.own) (At v.own) (stands-in p s x u b) (stands-in p t y v d))))
+show : (bytes : List ℕ) (p : Place) (e : StepErr Place) (r : Refusal) (z : Shown) → e.code ≡ r.code → e.at ≡ r.at → ShownBytes 0 bytes (At p) r z → IsShown bytes p e z
+show bytes p e r (one x) c a d = (d.0, λ s i b. refuses-there bytes i.own s e.code e.at r i.stands (d.1 (At i.own) i.valid i.below (own-has p s x i b)) c a)
+show bytes p e r (two x y) c a d =
+    (d.2, d.3, λ s t u b v w. rw (c, a ∙ d.1 ∙ plus-none d.0) (d.4 s t (At u.own) (At v.own) (stands-in p s x u b) (stands-in p t y v w)))
+show bytes p e r apart c a d = absurd d
+
+pub shown-text-at : (bytes : List ℕ) (p : Place) (e : StepErr Place) → IsValid p → after_text bytes p ≡ Err e → IsShown bytes p e (shows bytes (At p))
+shown-text-at bytes p e v h =
+    let r = text-refused bytes p e (stepped 0 bytes (At p)) h in
+    show bytes p e r.0 (shows bytes (At p)) r.2 r.3 (shown-bytes bytes 0 (At p) r.0 v r.1)
 
 pub shown-text : ShownText
-shown-text bytes p e v h =
-    let r = text-refused bytes p e (stepped 0 bytes (At p)) h in
-    show bytes p e r.0 r.2 r.3 (shown-bytes bytes 0 (At p) r.0 v r.1)
+shown-text bytes p e v h = (shows bytes (At p), shown-text-at bytes p e v h)
 
 -- What is accepted is refused on no path, and on no two.
 none-refused : (r : Refusal) (o : Option Refusal) → o ≡ None → o ≡ Some r → ⊥

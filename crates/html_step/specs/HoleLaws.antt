@@ -25,6 +25,13 @@ abbrev pub CoversHole : Type 0
 CoversHole = (p q : Place) (c : Chain) (s : State ValueState) → IsValid p → IsIn p s → after_hole p ≡ Ok (q, c) → IsIn q (at_hole languages s)
     × ((a : Place) → placed s ≡ Some a → (b : Place) × (after_hole a ≡ Ok (b, c)))
 
+-- a member before a hole that a member after it comes from, and one that shows that a hole is refused: on whatever path bears it
+abbrev pub IsHoleOrigin : Place → Member → Member → Type 0
+IsHoleOrigin p y x = Has p x × ((s : State ValueState) → IsIn p s → Bears s x → Bears (at_hole languages s) y)
+
+abbrev pub IsHoleShown : Place → Code → Member → Type 0
+IsHoleShown p e x = Has p x × ((s : State ValueState) → IsIn p s → Bears s x → RefusesHole s e)
+
 abbrev pub FromHole : Type 0
 FromHole = (p q : Place) (c : Chain) (y : Member) → IsValid p → after_hole p ≡ Ok (q, c) → Has q y →
     (x : Member) × Has p x × ((s : State ValueState) → IsIn p s → Bears s x → Bears (at_hole languages s) y)

@@ -24,6 +24,10 @@ OneText = (bytes : List ℕ) (p : Place) (s : State ValueState) → placed s ≡
 abbrev pub CoversText : Type 0
 CoversText = (bytes : List ℕ) (p q : Place) (s : State ValueState) → IsValid p → IsIn p s → after_text bytes p ≡ Ok q → IsIn q (node bytes s)
 
+-- a member before a text that a member after it comes from: on whatever path bears it
+abbrev pub IsOrigin : List ℕ → Place → Member → Member → Type 0
+IsOrigin bytes p y x = Has p x × ((s : State ValueState) → IsIn p s → Bears s x → Bears (node bytes s) y)
+
 -- A member after the text comes from one before it, on whatever path bears that one.
 abbrev pub FromText : Type 0
 FromText = (bytes : List ℕ) (p q : Place) (y : Member) → IsValid p → after_text bytes p ≡ Ok q → Has q y →

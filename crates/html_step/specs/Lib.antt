@@ -3,8 +3,11 @@ pub mod ClassViews
 pub mod FrontViews
 pub mod Fronts
 pub mod HoleLaws
+pub mod HoleOrigins
 pub mod Holes
 pub mod Laws
+pub mod OriginViews
+pub mod Origins
 pub mod PlaceText
 pub mod Sets
 pub mod Slices

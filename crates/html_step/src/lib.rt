@@ -13,14 +13,18 @@ mod escaper;
 mod front;
 mod hole;
 mod hole_laws;
+mod hole_showing;
 mod laws;
 mod names;
 mod next;
+mod origins;
 mod predefined;
 mod printed;
 mod refusal;
 mod refusals;
 mod sets;
+mod showing;
+mod shown;
 mod slices;
 mod steps;
 mod tags;
@@ -34,10 +38,13 @@ pub use hole_laws::{
     hole_keeps_valid, hole_members_come_from_one, hole_of_one_path, refused_escaper_is_shown,
     refused_hole_is_shown,
 };
+pub use hole_showing::{hole_from, hole_shown};
 pub use laws::{
     accepts_all_paths, covers_paths, keeps_order, keeps_valid, members_come_from_one, one_path,
     paths_that_met_apart, refused_is_shown,
 };
 pub use predefined::may_escape;
 pub use printed::print_place;
+pub use showing::{text_from, text_shown};
+pub use shown::Shown;
 pub use steps::{after_text, place_before};
