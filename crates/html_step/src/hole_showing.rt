@@ -11,13 +11,15 @@ use place_core::{Chain, Code, Member, Place, Quotes};
 /// Takes no memory.
 pub fn hole_from(place: Place, member: Member) -> Member
     requires valid { IsValid place }
-    requires accepted { (q : Place) × (c : Chain) × (after_hole_of place ≡ Ok (q, c)) × Has q member }
+    requires accepted { (q : Place) × (c : Chain)
+        × (after_hole_of place ≡ Ok (q, c)) × Has q member }
     ensures { IsHoleOrigin place member result }
 {
     origin(place, member)
 }
 
-/// A member of a place that shows that a hole is refused there: it is refused on every path that bears the member. Takes no memory.
+/// A member of a place that shows that a hole is refused there: it is refused on every path that bears the member. Where a hole is
+/// accepted the answer says nothing. Takes no memory.
 pub fn hole_shown(place: Place) -> Member
     requires valid { IsValid place }
     ensures { (e : Code) → after_hole_of place ≡ Err e → IsHoleShown place e result }

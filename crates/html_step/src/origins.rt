@@ -131,7 +131,8 @@ pub fn name_origin(typed: bool) -> Member
 
 /// The member before the end of a text that a member after it comes from.
 pub fn end_origin(front: Front, member: Member) -> Member
-    ensures { (text : List ℕ) (k : ℕ) → result ≡ end_origin_of (front_at text k front) member }
+    ensures { (text : List ℕ) (k : ℕ)
+        → result ≡ end_origin_of (front_at text k front) member }
 {
     match front {
         Front::At(_) => member,

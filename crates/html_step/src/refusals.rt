@@ -14,7 +14,8 @@ use crate::slices::held;
 pub fn at_byte(text: &[u8], index: usize, class: Class, front: Front) -> Option<Cause>
     requires inside { index ≤ length text.now }
     requires held { held_from front ≤ index }
-    ensures error { cause_at result ≡ front_error (front_at text.now index front) (class_at class) }
+    ensures error { cause_at result
+        ≡ front_error (front_at text.now index front) (class_at class) }
     ensures bound { IfSome result (λ cause. cause.back ≤ index) }
 {
     match front {
@@ -32,7 +33,8 @@ pub fn at_byte(text: &[u8], index: usize, class: Class, front: Front) -> Option<
 /// Why the end of a text is refused.
 pub fn at_end(text: &[u8], front: Front) -> Option<Cause>
     requires held { held_from front ≤ length text.now }
-    ensures error { cause_at result ≡ front_cut_error (front_at text.now (length text.now) front) }
+    ensures error { cause_at result
+        ≡ front_cut_error (front_at text.now (length text.now) front) }
     ensures bound { IfSome result (λ cause. cause.back ≤ length text.now) }
 {
     match front {

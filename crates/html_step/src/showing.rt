@@ -30,7 +30,7 @@ pub fn text_from(place: Place, text: &str, member: Member) -> Member
 }
 
 /// What shows that a text is refused: a member of the place, every path of which is refused by the same code at the same byte, or two,
-/// any two paths of which are refused together there. Takes no memory.
+/// any two paths of which are refused together there. Where the text is accepted the answer says nothing. Takes no memory.
 pub fn text_shown(place: Place, text: &str) -> Shown
     requires valid { IsValid place }
     requires length { length text.now < 2 ^ 32 }

@@ -12,7 +12,8 @@ use place_core::Place;
 
 /// In text.
 pub fn in_text(class: Class) -> Front
-    ensures front { (text : List ℕ) (k : ℕ) → front_at text k result ≡ text_front (class_at class) }
+    ensures front { (text : List ℕ) (k : ℕ)
+        → front_at text k result ≡ text_front (class_at class) }
     ensures held { held_from result ≡ 0 }
 {
     match class {
