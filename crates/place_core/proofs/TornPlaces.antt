@@ -1,7 +1,7 @@
 -- Two places that do not join have two members that show it.
 use Rattle.std.proofs.Common.{◌≡◌, Bool, true, false, ◌||◌, Option, Some, None, is_some, option_map, if◌then◌else◌, refl, sym, ap, ap₂, ◌∙◌}
 use Rattle.std.specs.Prelude.{IfSome}
-use Rattle.place_core.specs.JoinLaws.{Torn}
+use Rattle.place_core.specs.JoinLaws.{AreTorn, Torn, join_shows, name_shows, tags_show}
 use Rattle.place_core.specs.Places.{joined, joined_elements, joined_tags, joined_kinds, joined_js, joined_css, joined_quotes, joined_bodies, tag_place, value_place, joined_tag_places, joined_value_places, same_kind, same_element}
 use Rattle.place_core.specs.Places.{both_spots, both_bare, both_senses, both_js_tails, both_css_tails, both_parts, Has, IsValid, IsValidTag, Below}
 use Rattle.place_core.specs.declared.bare.Bare.{Bare}
@@ -255,31 +255,23 @@ values_apart x y h e = value_apart (x.typed || y.typed) (joined_tags x.tag y.tag
     (λ k. quotes_apart x.quotes y.quotes k (ap (λ (z : ValuePlace). z.quotes) e))
     (λ k. bodies_apart x.body y.body k (ap (λ (z : ValuePlace). z.body) e))
 
--- what is to be shown of two places
-abbrev IsTorn : Place → Place → Type 0
-IsTorn a b = (x : Member) × (y : Member) × Has a x × Has b y
-    × ((c d : Place) → IsValid c → Below c a → Has c x → IsValid d → Below d b → Has d y → joined c d ≡ None)
-
-torn_whole : (a b : Place) → (shape a ≡ shape b → ⊥) → IsTorn a b
-torn_whole a b f = (member.Whole, member.Whole, refl, refl, λ c d v h i w k j. rigid a b c d f h k)
+torn_whole : (a b : Place) → (shape a ≡ shape b → ⊥) → AreTorn a b member.Whole member.Whole
+torn_whole a b f = (refl, refl, λ c d v h i w k j. rigid a b c d f h k)
 
 -- places in tags of one name, with two kinds
-spot : Bool → Member
-spot true = member.InsideSpot
-spot false = member.AfterSpot
+abbrev spot : Bool → Member
+spot i = if i then member.InsideSpot else member.AfterSpot
 
 kind_of_tag : (z : TagPlace) → IsValidTag z → (i : Bool) → Has (place.Tag z) (spot i) → is_some z.kind ≡ true
-unfolding spot
 kind_of_tag z v true h = v.1 ∙ ap (λ x. x || z.spots.after) h
 kind_of_tag z v false h = v.1 ∙ ap (λ x. z.spots.inside || x) h ∙ or_true z.spots.inside
 
 no : false ≡ true → ⊥
 no e = cc
 
-spot_of : (x : TagPlace) (a b : Bool) → x.spots.inside ≡ a → x.spots.after ≡ b → (a || b) ≡ true → (i : Bool) × Has (place.Tag x) (spot i)
-unfolding spot
-spot_of x true b h k e = (true, h)
-spot_of x false true h k e = (false, k)
+spot_of : (x : TagPlace) (a b : Bool) → x.spots.inside ≡ a → x.spots.after ≡ b → (a || b) ≡ true → Has (place.Tag x) (spot a)
+spot_of x true b h k e = h
+spot_of x false true h k e = k
 spot_of x false false h k e = absurd (no e)
 
 if_kind : (k l : Kind) (x : Bool) → (if x then Some (Some k) else None) ≡ Some (Some l) → Some k ≡ Some l
@@ -326,10 +318,8 @@ clash_below : (x y z u : TagPlace) (c d : Place) → joined_kinds x.kind y.kind 
 clash_below x y z u c d h e f g i = ap₂ joined e g ∙ ap (option_map place.Tag)
     (no_kind (z.typed || u.typed) (both_spots z.spots u.spots) (joined_tags z.tag u.tag) (joined_kinds z.kind u.kind) (ap₂ joined_kinds f i ∙ h))
 
-clash_torn : (x y : TagPlace) (i j : Bool) → joined_kinds x.kind y.kind ≡ None → Has (place.Tag x) (spot i) → Has (place.Tag y) (spot j) → IsTorn (place.Tag x) (place.Tag y)
+clash_torn : (x y : TagPlace) (i j : Bool) → joined_kinds x.kind y.kind ≡ None → Has (place.Tag x) (spot i) → Has (place.Tag y) (spot j) → AreTorn (place.Tag x) (place.Tag y) (spot i) (spot j)
 clash_torn x y i j h m n = (
-  spot i,
-  spot j,
   m,
   n,
   λ c d v k o w l p.
@@ -338,29 +328,32 @@ clash_torn x y i j h m n = (
       clash_below x y it.0 at.0 c d h it.1 it.2 at.1 at.2,
 )
 
-kinds_torn : (x y : TagPlace) → IsValidTag x → IsValidTag y → joined_kinds x.kind y.kind ≡ None → IsTorn (place.Tag x) (place.Tag y)
-kinds_torn x y v w h =
-    let i : (i : Bool) × Has (place.Tag x) (spot i) = spot_of x x.spots.inside x.spots.after refl refl (sym v.1 ∙ (two_kinds x.kind y.kind h).0) in
-    let j : (i : Bool) × Has (place.Tag y) (spot i) = spot_of y y.spots.inside y.spots.after refl refl (sym w.1 ∙ (two_kinds x.kind y.kind h).1) in
-    clash_torn x y i.0 j.0 h i.1 j.1
+kinds_torn : (x y : TagPlace) → IsValidTag x → IsValidTag y → joined_kinds x.kind y.kind ≡ None → AreTorn (place.Tag x) (place.Tag y) (name_shows x) (name_shows y)
+kinds_torn x y v w h = clash_torn x y x.spots.inside y.spots.inside h
+    (spot_of x x.spots.inside x.spots.after refl refl (sym v.1 ∙ (two_kinds x.kind y.kind h).0))
+    (spot_of y y.spots.inside y.spots.after refl refl (sym w.1 ∙ (two_kinds x.kind y.kind h).1))
 
-tags_torn : (x y : TagPlace) (o : Option TagOf) → joined_tags x.tag y.tag ≡ o → IsValidTag x → IsValidTag y → joined_tag_places x y ≡ None → IsTorn (place.Tag x) (place.Tag y)
+tags_torn : (x y : TagPlace) (o : Option TagOf) → joined_tags x.tag y.tag ≡ o → IsValidTag x → IsValidTag y → joined_tag_places x y ≡ None
+    → AreTorn (place.Tag x) (place.Tag y) (tags_show o x y).0 (tags_show o x y).1
 tags_torn x y None e v w h = torn_whole (place.Tag x) (place.Tag y)
     (λ s. tags_apart x.tag y.tag e (ap (λ (z : TagPlace). z.tag) (places_Tag (tag_shape x) (tag_shape y) s)))
 tags_torn x y (Some t) e v w h = kinds_torn x y v w (kinds_none (x.typed || y.typed) (both_spots x.spots y.spots) (joined_tags x.tag y.tag) (joined_kinds x.kind y.kind) t e h)
 
-pub the_torn : Torn
-the_torn place.Text place.Text v w h = absurd (some_none place.Text h)
-the_torn place.Doctype place.Doctype v w h = absurd (some_none place.Doctype h)
-the_torn (place.Comment x) (place.Comment y) v w h = absurd (some_none (place.Comment (x || y)) h)
-the_torn (place.Rcdata e) (place.Rcdata f) v w h = torn_whole (place.Rcdata e) (place.Rcdata f)
+pub shown_torn : (a b : Place) → IsValid a → IsValid b → joined a b ≡ None → AreTorn a b (join_shows a b).0 (join_shows a b).1
+shown_torn place.Text place.Text v w h = absurd (some_none place.Text h)
+shown_torn place.Doctype place.Doctype v w h = absurd (some_none place.Doctype h)
+shown_torn (place.Comment x) (place.Comment y) v w h = absurd (some_none (place.Comment (x || y)) h)
+shown_torn (place.Rcdata e) (place.Rcdata f) v w h = torn_whole (place.Rcdata e) (place.Rcdata f)
     (λ s. elements_apart e f (no_map place.Rcdata (joined_elements e f) h) (places_Rcdata e f s))
-the_torn (place.Tag x) (place.Tag y) v w h = tags_torn x y (joined_tags x.tag y.tag) refl v w (no_map place.Tag (joined_tag_places x y) h)
-the_torn (place.Value x) (place.Value y) v w h = torn_whole (place.Value x) (place.Value y)
+shown_torn (place.Tag x) (place.Tag y) v w h = tags_torn x y (joined_tags x.tag y.tag) refl v w (no_map place.Tag (joined_tag_places x y) h)
+shown_torn (place.Value x) (place.Value y) v w h = torn_whole (place.Value x) (place.Value y)
     (λ s. values_apart x y (no_map place.Value (joined_value_places x y) h) (places_Value (value_shape x) (value_shape y) s))
-the_torn (place.Script i) (place.Script j) v w h = torn_whole (place.Script i) (place.Script j)
+shown_torn (place.Script i) (place.Script j) v w h = torn_whole (place.Script i) (place.Script j)
     (λ s. js_apart i j (no_map place.Script (joined_js i j) h) (places_Script (js_shape i) (js_shape j) s))
-the_torn (place.Style i) (place.Style j) v w h = torn_whole (place.Style i) (place.Style j)
+shown_torn (place.Style i) (place.Style j) v w h = torn_whole (place.Style i) (place.Style j)
     (λ s. css_apart i j (no_map place.Style (joined_css i j) h) (places_Style (css_shape i) (css_shape j) s))
-the_torn (place.Block x) (place.Block y) v w h = absurd (some_none (place.Block (x || y)) h)
-the_torn a b v w h = torn_whole a b (λ s. none_some (shape b) (ap (λ z. joined z (shape b)) s ∙ places_same (shape b)))
+shown_torn (place.Block x) (place.Block y) v w h = absurd (some_none (place.Block (x || y)) h)
+shown_torn a b v w h = torn_whole a b (λ s. none_some (shape b) (ap (λ z. joined z (shape b)) s ∙ places_same (shape b)))
+
+pub the_torn : Torn
+the_torn a b v w h = ((join_shows a b).0, (join_shows a b).1, shown_torn a b v w h)

@@ -188,7 +188,8 @@ fn join_elements(e: Element, f: Element) -> Option<Element>
     if same_element(e, f) { Some(e) } else { None }
 }
 
-fn join_tags(t: TagOf, u: TagOf) -> Option<TagOf>
+/// The tag that two tags join to.
+pub fn join_tags(t: TagOf, u: TagOf) -> Option<TagOf>
     ensures { result ≡ joined_tags t u }
 {
     match (t, u) {
