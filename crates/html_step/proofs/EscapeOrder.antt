@@ -19,8 +19,10 @@ use Rattle.place_core.proofs.Joins.{places_Style}
 use Rattle.place_core.proofs.JoinMembers.{or_true}
 use Rattle.place_core.proofs.Semilattices.{none_some, one_value, row_value}
 use Rattle.html_step.specs.Fronts.{Front, front_place}
-use Rattle.html_step.specs.HoleLaws.{GrowsEscape, ShownEscape}
-use Rattle.html_step.specs.Holes.{as_text, body_query, css_query, in_query, is_only_query, is_quoted, plain_text}
+use Rattle.html_step.specs.HoleLaws.{GrowsEscape, IsEscapeShown, ShownEscape}
+use Rattle.html_step.specs.HoleOrigins.{body_shows, css_shows, escape_shows, parts_show, query_shows}
+use Rattle.html_step.specs.Holes.{as_text, may_escape, body_query, css_query, in_query, is_only_query, is_quoted, plain_text}
+use Rattle.html_step.specs.declared.escaper.Escaper.{Escaper}
 use Rattle.html_step.specs.declared.escaper.Escaper.TheVariants as escaper
 use Rattle.html_step.proofs.BelowFronts.{value-place}
 use Rattle.html_step.proofs.FromSteps.{no}
@@ -208,6 +210,7 @@ no-quotes quotes.Sq b m e h = h
 -- Where a place is not in the query alone, some member of it is elsewhere.
 record Elsewhere (p : Parts) : Type 0 where
   bears : Member
+  is : parts_show p ≡ bears
   there : parts_have p bears ≡ true
   part : is_part bears ≡ true
   leads : (s : Parts) → parts_have s bears ≡ true → is_only_query s ≡ false
@@ -224,11 +227,11 @@ not-query : (s : Bool) (o : Option Prefix) (h p q b : Bool) → is_none o ≡ fa
 not-query s o h p q b e = rw (e, and-false (not s)) (and-false q)
 
 elsewhere : (p : Parts) (s : Bool) (o : Option Prefix) (h r b q : Bool) → p.start ≡ s → p.opened ≡ o → p.openhole ≡ h → p.prequery ≡ r → p.bad ≡ b → p.query ≡ q → some_part p ≡ true → is_only_query p ≡ false → Elsewhere p
-elsewhere p true o h r b q d e f g i j v n = record { bears = member.PartStart; there = d; part = refl; leads = λ s k. rw k (and-false s.query) }
-elsewhere p false (Some x) h r b q d e f g i j v n = record { bears = member.PartOpen; there = ap is_some e; part = refl; leads = λ s k. not-query s.start s.opened s.openhole s.prequery s.query s.bad (none-of-some s.opened k) }
-elsewhere p false None true r b q d e f g i j v n = record { bears = member.PartOpenhole; there = f; part = refl; leads = λ s k. rw (k, and-false (is_none s.opened), and-false (not s.start)) (and-false s.query) }
-elsewhere p false None false true b q d e f g i j v n = record { bears = member.PartPrequery; there = g; part = refl; leads = λ s k. rw (k, and-false (not s.openhole), and-false (is_none s.opened), and-false (not s.start)) (and-false s.query) }
-elsewhere p false None false false true q d e f g i j v n = record { bears = member.PartBad; there = i; part = refl; leads = λ s k. rw (k, and-false (not s.prequery), and-false (not s.openhole), and-false (is_none s.opened), and-false (not s.start)) (and-false s.query) }
+elsewhere p true o h r b q d e f g i j v n = record { bears = member.PartStart; is = rw d refl; there = d; part = refl; leads = λ s k. rw k (and-false s.query) }
+elsewhere p false (Some x) h r b q d e f g i j v n = record { bears = member.PartOpen; is = rw (d, e) refl; there = ap is_some e; part = refl; leads = λ s k. not-query s.start s.opened s.openhole s.prequery s.query s.bad (none-of-some s.opened k) }
+elsewhere p false None true r b q d e f g i j v n = record { bears = member.PartOpenhole; is = rw (d, e, f) refl; there = f; part = refl; leads = λ s k. rw (k, and-false (is_none s.opened), and-false (not s.start)) (and-false s.query) }
+elsewhere p false None false true b q d e f g i j v n = record { bears = member.PartPrequery; is = rw (d, e, f, g) refl; there = g; part = refl; leads = λ s k. rw (k, and-false (not s.openhole), and-false (is_none s.opened), and-false (not s.start)) (and-false s.query) }
+elsewhere p false None false false true q d e f g i j v n = record { bears = member.PartBad; is = rw (d, e, f, g, i) refl; there = i; part = refl; leads = λ s k. rw (k, and-false (not s.prequery), and-false (not s.openhole), and-false (is_none s.opened), and-false (not s.start)) (and-false s.query) }
 elsewhere p false None false false false true d e f g i j v n = absurd (no (sym n ∙ rw (d, e, f, g, i, j) refl))
 elsewhere p false None false false false false d e f g i j v n = absurd (no (sym (rw (d, e, f, g, i, j) refl) ∙ v))
 
@@ -237,6 +240,7 @@ parts-elsewhere p v n = elsewhere p p.start p.opened p.openhole p.prequery p.bad
 
 record ShownQuery (p : Place) : Type 0 where
   bears : Member
+  is : query_shows p ≡ bears
   there : Has p bears
   leads : (a : Place) → Below a p → Has a bears → in_query a ≡ false
 
@@ -271,16 +275,18 @@ part-of-value x q b _ e h = absurd (no e)
 value-of-part : (x : Bool) (q : Quotes) (b : Body) (m : Member) → body_has b m ≡ true → (is_whole m || (typed_has x m || (quotes_have q m || body_has b m))) ≡ true
 value-of-part x q b m h = rw (h, or_true (quotes_have q m), or_true (typed_has x m)) (or_true (is_whole m))
 
-value-elsewhere : (v : ValuePlace) (m : Member) → is_part m ≡ true → body_has v.body m ≡ true → ((b : Body) → joined_bodies b v.body ≡ Some v.body → body_has b m ≡ true → body_query b ≡ false) → ShownQuery (place.Value v)
-value-elsewhere v m e h f = record {
+value-elsewhere : (v : ValuePlace) (m : Member) → body_shows v.body ≡ m → is_part m ≡ true → body_has v.body m ≡ true → ((b : Body) → joined_bodies b v.body ≡ Some v.body → body_has b m ≡ true → body_query b ≡ false) → ShownQuery (place.Value v)
+value-elsewhere v m i e h f = record {
   bears = m;
+  is = i;
   there = value-of-part v.typed v.quotes v.body m h;
   leads = λ a l o. value-place (λ (g : Front). Has (front_place g) m → in_query (front_place g) ≡ false) v (λ u b o. f u.body b.body (part-of-value u.typed u.quotes u.body m e o)) a l o;
 }
 
-value-whole : (v : ValuePlace) → ((b : Body) → joined_bodies b v.body ≡ Some v.body → body_query b ≡ false) → ShownQuery (place.Value v)
-value-whole v f = record {
+value-whole : (v : ValuePlace) → body_shows v.body ≡ member.Whole → ((b : Body) → joined_bodies b v.body ≡ Some v.body → body_query b ≡ false) → ShownQuery (place.Value v)
+value-whole v i f = record {
   bears = member.Whole;
+  is = i;
   there = refl;
   leads = λ a l o. value-place (λ (g : Front). in_query (front_place g) ≡ false) v (λ u b. f u.body b.body) a l;
 }
@@ -294,8 +300,8 @@ url-elsewhere p e (body.Css c) h o = absurd (none_some (body.Url p) h)
 
 -- a style
 data CssShown (c : Css) : Type 0 where
-  css_never : ((d : Css) → joined_css d c ≡ Some c → css_query d ≡ false) → CssShown c
-  css_part : (m : Member) → is_part m ≡ true → css_has c m ≡ true → ((d : Css) → joined_css d c ≡ Some c → css_has d m ≡ true → css_query d ≡ false) → CssShown c
+  css_never : css_shows c ≡ member.Whole → ((d : Css) → joined_css d c ≡ Some c → css_query d ≡ false) → CssShown c
+  css_part : (m : Member) → css_shows c ≡ m → is_part m ≡ true → css_has c m ≡ true → ((d : Css) → joined_css d c ≡ Some c → css_has d m ≡ true → css_query d ≡ false) → CssShown c
 
 css-url : (p : Parts) (e : Elsewhere p) (d : Css) → joined_css d (css.Url p) ≡ Some (css.Url p) → css_has d e.bears ≡ true → css_query d ≡ false
 css-url p e (css.Url s) h o = e.leads s o
@@ -324,15 +330,15 @@ css-never (css.UrlSq p) (css.UrlSq s) h e = absurd (no (sym e))
 css-never c (css.UrlSq s) h e = absurd (none_some c h)
 
 css-shown : (c : Css) → IsValidCss c → css_query c ≡ false → CssShown c
-css-shown (css.Url p) v n = (let e = parts-elsewhere p v.0 n in css_part e.bears e.part e.there (λ d h o. css-url p e d h o))
-css-shown (css.UrlDq p) v n = (let e = parts-elsewhere p v.0 n in css_part e.bears e.part e.there (λ d h o. css-dq p e d h o))
-css-shown (css.UrlSq p) v n = (let e = parts-elsewhere p v.0 n in css_part e.bears e.part e.there (λ d h o. css-sq p e d h o))
-css-shown (css.Code x) v n = css_never (λ d h. css-never (css.Code x) d h refl)
-css-shown css.Dq v n = css_never (λ d h. css-never css.Dq d h refl)
-css-shown css.Sq v n = css_never (λ d h. css-never css.Sq d h refl)
-css-shown css.UrlFresh v n = css_never (λ d h. css-never css.UrlFresh d h refl)
-css-shown css.UrlEnd v n = css_never (λ d h. css-never css.UrlEnd d h refl)
-css-shown (css.Comment x) v n = css_never (λ d h. css-never (css.Comment x) d h refl)
+css-shown (css.Url p) v n = (let e = parts-elsewhere p v.0 n in css_part e.bears e.is e.part e.there (λ d h o. css-url p e d h o))
+css-shown (css.UrlDq p) v n = (let e = parts-elsewhere p v.0 n in css_part e.bears e.is e.part e.there (λ d h o. css-dq p e d h o))
+css-shown (css.UrlSq p) v n = (let e = parts-elsewhere p v.0 n in css_part e.bears e.is e.part e.there (λ d h o. css-sq p e d h o))
+css-shown (css.Code x) v n = css_never refl (λ d h. css-never (css.Code x) d h refl)
+css-shown css.Dq v n = css_never refl (λ d h. css-never css.Dq d h refl)
+css-shown css.Sq v n = css_never refl (λ d h. css-never css.Sq d h refl)
+css-shown css.UrlFresh v n = css_never refl (λ d h. css-never css.UrlFresh d h refl)
+css-shown css.UrlEnd v n = css_never refl (λ d h. css-never css.UrlEnd d h refl)
+css-shown (css.Comment x) v n = css_never refl (λ d h. css-never (css.Comment x) d h refl)
 
 css-body : (P : Body → Type 0) (c : Css) → ((d : Css) → joined_css d c ≡ Some c → P (body.Css d)) → (b : Body) → joined_bodies b (body.Css c) ≡ Some (body.Css c) → P b
 css-body P c f (body.Css d) h = f d (row_value body.Css css-body-one (joined_css d c) c h)
@@ -351,19 +357,19 @@ never-body (body.Css p) (body.Css s) h e = absurd (no (sym e))
 never-body c (body.Css s) h e = absurd (none_some c h)
 
 css-value-shown : (v : ValuePlace) (c : Css) → v.body ≡ body.Css c → CssShown c → ShownQuery (place.Value v)
-css-value-shown v c e (css_never f) = value-whole v (λ b h. css-body (λ (x : Body). body_query x ≡ false) c f b (subst (λ (x : Body). joined_bodies b x ≡ Some x) e h))
-css-value-shown v c e (css_part m p h f) =
-    value-elsewhere v m p (subst (λ (x : Body). body_has x m ≡ true) (sym e) h)
+css-value-shown v c e (css_never i f) = value-whole v (ap body_shows e ∙ i) (λ b h. css-body (λ (x : Body). body_query x ≡ false) c f b (subst (λ (x : Body). joined_bodies b x ≡ Some x) e h))
+css-value-shown v c e (css_part m i p h f) =
+    value-elsewhere v m (ap body_shows e ∙ i) p (subst (λ (x : Body). body_has x m ≡ true) (sym e) h)
     (λ b j o. css-body (λ (x : Body). body_has x m ≡ true → body_query x ≡ false) c f b (subst (λ (x : Body). joined_bodies b x ≡ Some x) e j) o)
 
 value-shown : (v : ValuePlace) (b : Body) → v.body ≡ b → IsValidBody b → body_query b ≡ false → ShownQuery (place.Value v)
 value-shown v (body.Url p) e w n =
     (let x = parts-elsewhere p w.0 n in
-    value-elsewhere v x.bears x.part (subst (λ (y : Body). body_has y x.bears ≡ true) (sym e) x.there) (λ b h o. url-elsewhere p x b (subst (λ (y : Body). joined_bodies b y ≡ Some y) e h) o))
+    value-elsewhere v x.bears (ap body_shows e ∙ x.is) x.part (subst (λ (y : Body). body_has y x.bears ≡ true) (sym e) x.there) (λ b h o. url-elsewhere p x b (subst (λ (y : Body). joined_bodies b y ≡ Some y) e h) o))
 value-shown v (body.Css c) e w n = css-value-shown v c e (css-shown c w n)
-value-shown v body.Plain e w n = value-whole v (λ b h. never-body v.body b h (ap is_query_body e))
-value-shown v body.NoHole e w n = value-whole v (λ b h. never-body v.body b h (ap is_query_body e))
-value-shown v (body.Js j) e w n = value-whole v (λ b h. never-body v.body b h (ap is_query_body e))
+value-shown v body.Plain e w n = value-whole v (ap body_shows e) (λ b h. never-body v.body b h (ap is_query_body e))
+value-shown v body.NoHole e w n = value-whole v (ap body_shows e) (λ b h. never-body v.body b h (ap is_query_body e))
+value-shown v (body.Js j) e w n = value-whole v (ap body_shows e) (λ b h. never-body v.body b h (ap is_query_body e))
 
 -- a style element
 css-place : (P : Place → Type 0) (c : Css) → ((d : Css) → joined_css d c ≡ Some c → P (place.Style d)) → (a : Place) → Below a (place.Style c) → P a
@@ -375,23 +381,33 @@ not-whole member.Whole x e h = absurd (no e)
 not-whole _ x e h = h
 
 style-shown : (c : Css) → CssShown c → ShownQuery (place.Style c)
-style-shown c (css_never f) = record { bears = member.Whole; there = refl; leads = λ a l o. css-place (λ (p : Place). in_query p ≡ false) c f a l }
-style-shown c (css_part m p h f) = record {
+style-shown c (css_never i f) = record { bears = member.Whole; is = i; there = refl; leads = λ a l o. css-place (λ (p : Place). in_query p ≡ false) c f a l }
+style-shown c (css_part m i p h f) = record {
   bears = m;
+  is = i;
   there = rw h (or_true (is_whole m));
   leads = λ a l o. css-place (λ (x : Place). Has x m → in_query x ≡ false) c (λ d j k. f d j (not-whole m (css_has d m) p k)) a l o;
 }
 
-whole-shown : (p : Place) → is_row p ≡ true → ShownQuery p
-whole-shown p e = record { bears = member.Whole; there = refl; leads = λ a l o. row-query a p l e }
+whole-shown : (p : Place) → query_shows p ≡ member.Whole → is_row p ≡ true → ShownQuery p
+whole-shown p i e = record { bears = member.Whole; is = i; there = refl; leads = λ a l o. row-query a p l e }
 
 query-shown : (p : Place) → IsValid p → in_query p ≡ false → ShownQuery p
 query-shown (place.Value v) w n = value-shown v v.body refl w.1 n
 query-shown (place.Style c) w n = style-shown c (css-shown c w n)
-query-shown p w n = whole-shown p refl
+query-shown p w n = whole-shown p refl refl
+
+query-escape : (p : Place) (x : ShownQuery p) → IsEscapeShown p escaper.Urlquery x.bears
+query-escape p x = (
+  x.there,
+  λ s a i b e.
+      let same : i.own ≡ a = one_value i.own a (sym i.stands ∙ e) in
+      subst (λ (y : Place). in_query y ≡ false) same (x.leads i.own i.below (own-has p s x.bears i b)),
+)
+
+pub escape-shown : (x : Escaper) (p : Place) → IsValid p → may_escape p x ≡ false → IsEscapeShown p x (escape_shows p x)
+escape-shown escaper.Html p v n = (refl, λ s a i b e. same-text a p (subst (λ (x : Place). Below x p) (one_value i.own a (sym i.stands ∙ e)) i.below) ∙ n)
+escape-shown escaper.Urlquery p v n = (let x = query-shown p v n in subst (IsEscapeShown p escaper.Urlquery) (sym x.is) (query-escape p x))
 
 pub shown-escape : ShownEscape
-shown-escape escaper.Html p v n = (member.Whole, refl, λ s a i b e. same-text a p (subst (λ (x : Place). Below x p) (one_value i.own a (sym i.stands ∙ e)) i.below) ∙ n)
-shown-escape escaper.Urlquery p v n =
-    (let x = query-shown p v n in
-    (x.bears, x.there, λ s a i b e. (let same : i.own ≡ a = one_value i.own a (sym i.stands ∙ e) in subst (λ (y : Place). in_query y ≡ false) same (x.leads i.own i.below (own-has p s x.bears i b)))))
+shown-escape x p v n = (escape_shows p x, escape-shown x p v n)

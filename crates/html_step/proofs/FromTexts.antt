@@ -61,4 +61,4 @@ from-text-at bytes p q y v e h =
     )
 
 pub from-text : FromText
-from-text bytes p q y v e h = (let r = from-text-at bytes p q y v e h in (origin bytes (At p) y, r.0, r.1))
+from-text bytes p q y v e h = (origin bytes (At p) y, from-text-at bytes p q y v e h)

@@ -275,7 +275,7 @@ from-hole-at p q c y v h k =
     )
 
 pub from-hole : FromHole
-from-hole p q c y v h k = (let r = from-hole-at p q c y v h k in (hole_origin p y, r.0, r.1))
+from-hole p q c y v h k = (hole_origin p y, from-hole-at p q c y v h k)
 
 -- What is refused.
 record ShownPlace (p : Place) (e : Code) (x : Member) : Type 0 where
@@ -364,4 +364,4 @@ shown-hole-at p e v h =
     (x.there, λ s i o. record { own = i.own; stands = i.stands; refused = x.refuses i.own i.below (own-has p s (hole_shows p) i o) })
 
 pub shown-hole : ShownHole
-shown-hole p e v h = (let r = shown-hole-at p e v h in (hole_shows p, r.0, r.1))
+shown-hole p e v h = (hole_shows p, shown-hole-at p e v h)

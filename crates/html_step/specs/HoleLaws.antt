@@ -33,13 +33,11 @@ abbrev pub IsHoleShown : Place → Code → Member → Type 0
 IsHoleShown p e x = Has p x × ((s : State ValueState) → IsIn p s → Bears s x → RefusesHole s e)
 
 abbrev pub FromHole : Type 0
-FromHole = (p q : Place) (c : Chain) (y : Member) → IsValid p → after_hole p ≡ Ok (q, c) → Has q y →
-    (x : Member) × Has p x × ((s : State ValueState) → IsIn p s → Bears s x → Bears (at_hole languages s) y)
+FromHole = (p q : Place) (c : Chain) (y : Member) → IsValid p → after_hole p ≡ Ok (q, c) → Has q y → (x : Member) × IsHoleOrigin p y x
 
 -- A hole that is refused is refused on each path that bears some member.
 abbrev pub ShownHole : Type 0
-ShownHole = (p : Place) (e : Code) → IsValid p → after_hole p ≡ Err e →
-    (x : Member) × Has p x × ((s : State ValueState) → IsIn p s → Bears s x → RefusesHole s e)
+ShownHole = (p : Place) (e : Code) → IsValid p → after_hole p ≡ Err e → (x : Member) × IsHoleShown p e x
 
 abbrev pub AcceptsHole : Type 0
 AcceptsHole = (p q : Place) (c : Chain) (s : State ValueState) (e : Code) → IsValid p → after_hole p ≡ Ok (q, c) → IsIn p s → RefusesHole s e → ⊥
@@ -50,11 +48,13 @@ GrowsHole = (p r q : Place) (c : Chain) → IsValid p → IsValid r → Below p 
 abbrev pub ValidHole : Type 0
 ValidHole = (p q : Place) (c : Chain) → IsValid p → after_hole p ≡ Ok (q, c) → IsValid q
 
--- An escaper that may be named at a place may be named at each place below it; and where it may not there is a member so that it may not on
--- any path that bears it.
+-- An escaper that may be named at a place may be named at each place below it.
 abbrev pub GrowsEscape : Type 0
 GrowsEscape = (x : Escaper) (p r : Place) → IsValid p → Below p r → may_escape r x ≡ true → may_escape p x ≡ true
 
+-- Where it may not be named there is a member so that it may not on any path that bears it.
+abbrev pub IsEscapeShown : Place → Escaper → Member → Type 0
+IsEscapeShown p x m = Has p m × ((s : State ValueState) (a : Place) → IsIn p s → Bears s m → placed s ≡ Some a → may_escape a x ≡ false)
+
 abbrev pub ShownEscape : Type 0
-ShownEscape = (x : Escaper) (p : Place) → IsValid p → may_escape p x ≡ false →
-    (m : Member) × Has p m × ((s : State ValueState) (a : Place) → IsIn p s → Bears s m → placed s ≡ Some a → may_escape a x ≡ false)
+ShownEscape = (x : Escaper) (p : Place) → IsValid p → may_escape p x ≡ false → (m : Member) × IsEscapeShown p x m

@@ -30,8 +30,7 @@ IsOrigin bytes p y x = Has p x × ((s : State ValueState) → IsIn p s → Bears
 
 -- A member after the text comes from one before it, on whatever path bears that one.
 abbrev pub FromText : Type 0
-FromText = (bytes : List ℕ) (p q : Place) (y : Member) → IsValid p → after_text bytes p ≡ Ok q → Has q y →
-    (x : Member) × Has p x × ((s : State ValueState) → IsIn p s → Bears s x → Bears (node bytes s) y)
+FromText = (bytes : List ℕ) (p q : Place) (y : Member) → IsValid p → after_text bytes p ≡ Ok q → Has q y → (x : Member) × IsOrigin bytes p y x
 
 -- What is refused is refused on each path that bears some member, or on any two paths that bear two, or on two that met apart.
 pub data Shown : Type 0 where

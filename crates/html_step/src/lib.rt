@@ -9,6 +9,7 @@ mod comments;
 mod contents;
 mod declaration;
 mod errors;
+mod escape_showing;
 mod escaper;
 mod front;
 mod hole;
@@ -31,6 +32,7 @@ mod tags;
 mod texts;
 mod values;
 
+pub use escape_showing::escape_shown;
 pub use escaper::Escaper;
 pub use hole::after_hole;
 pub use hole_laws::{
