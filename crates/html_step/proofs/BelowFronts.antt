@@ -10,7 +10,7 @@ use Rattle.place_core.specs.declared.tag_of.TagOf.{TagOf}
 use Rattle.place_core.specs.declared.tag_place.TagPlace.{TagPlace}
 use Rattle.place_core.specs.declared.value_place.ValuePlace.{ValuePlace}
 use Rattle.place_core.proofs.Semilattices.{none_some, one_value}
-use Rattle.html_step.specs.Fronts.{Front, At, AfterLess, AfterLessSolidus, InDeclaration, InTagName, InAttributeName, InCommentEnd, InContentEnd}
+use Rattle.html_front.specs.Fronts.{Front, At, AfterLess, AfterLessSolidus, InDeclaration, InTagName, InAttributeName, InCommentEnd, InContentEnd}
 use Rattle.html_step.proofs.FrontOrder.{FrontBelow, FrontHas, comment-one}
 use Rattle.html_step.proofs.PlaceParts.{Under, TagBelow, ValueBelow, below-tag, below-value, below-rcdata}
 

@@ -19,7 +19,7 @@ use Rattle.place_core.specs.declared.quotes.Quotes.TheVariants as quotes
 use Rattle.place_core.specs.declared.tag_of.TagOf.{TagOf}
 use Rattle.place_core.specs.declared.value_place.ValuePlace.{ValuePlace}
 use Rattle.place_core.proofs.JoinMembers.{the_has_grows}
-use Rattle.html_step.specs.Fronts.{Front, At, AfterLess, AfterLessSolidus, InDeclaration, InTagName, InAttributeName, InCommentEnd, InContentEnd, front_error}
+use Rattle.html_front.specs.Fronts.{Front, At, AfterLess, AfterLessSolidus, InDeclaration, InTagName, InAttributeName, InCommentEnd, InContentEnd, front_error}
 use Rattle.html_step.proofs.FromSteps.{no}
 use Rattle.html_step.proofs.FrontOrder.{FrontBelow, FrontHas, first-none, if-none}
 use Rattle.html_step.proofs.OnePath.{WhereFronted, fronted, none-at-hand, some}

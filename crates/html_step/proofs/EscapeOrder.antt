@@ -18,7 +18,7 @@ use Rattle.place_core.specs.declared.value_place.ValuePlace.{ValuePlace}
 use Rattle.place_core.proofs.Joins.{places_Style}
 use Rattle.place_core.proofs.JoinMembers.{or_true}
 use Rattle.place_core.proofs.Semilattices.{none_some, one_value, row_value}
-use Rattle.html_step.specs.Fronts.{Front, front_place}
+use Rattle.html_front.specs.Fronts.{Front, front_place}
 use Rattle.html_step.specs.HoleLaws.{GrowsEscape, IsEscapeShown, ShownEscape}
 use Rattle.html_step.specs.HoleOrigins.{body_shows, css_shows, escape_shows, parts_show, query_shows}
 use Rattle.html_step.specs.Holes.{as_text, may_escape, body_query, css_query, in_query, is_only_query, is_quoted, plain_text}

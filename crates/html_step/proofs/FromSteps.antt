@@ -25,7 +25,7 @@ use Rattle.place_core.specs.declared.tag_place.TagPlace.{TagPlace}
 use Rattle.place_core.specs.declared.value_place.ValuePlace.{ValuePlace}
 use Rattle.place_core.proofs.Joins.{places_same}
 use Rattle.place_core.proofs.Semilattices.{none_some}
-use Rattle.html_step.specs.Fronts.{Front, At, AfterLess, AfterLessSolidus, InDeclaration, InTagName, InAttributeName, InCommentEnd, InContentEnd, bare_next, bare_white, begun, comment_next, comment_state, content_front, front_error, front_next, front_place, in_tag, kind_body, quoted_next, tag_next, value_front, with_quotes}
+use Rattle.html_front.specs.Fronts.{Front, At, AfterLess, AfterLessSolidus, InDeclaration, InTagName, InAttributeName, InCommentEnd, InContentEnd, bare_next, bare_white, begun, comment_next, comment_state, content_front, front_error, front_next, front_place, in_tag, kind_body, quoted_next, tag_next, value_front, with_quotes}
 use Rattle.html_step.specs.Origins.{byte_origin, end_origin, name_origin, place_origin, tag_origin, typed_origin, white_origin}
 use Rattle.html_step.proofs.BelowFronts.{IsRigid, below-at, below-at-tag, below-at-value, below-attribute, comment-end-rigid, content-end-rigid, declaration-rigid, doctype-rigid, less-rigid, rcdata-rigid, solidus-rigid, tag-name-rigid, text-rigid, whole-in}
 use Rattle.html_step.proofs.FrontOrder.{FrontBelow, FrontHas, FrontValid, bare-parts, bare-white, built-same, first-none, has-kind, if-none}

@@ -8,7 +8,7 @@ use Rattle.place_core.specs.Tags.{ValueState}
 use Rattle.place_core.specs.declared.member.Member.{Member}
 use Rattle.place_core.specs.declared.place.Place.{Place}
 use Rattle.place_core.proofs.Semilattices.{one_value}
-use Rattle.html_step.specs.Fronts.{Front, At, front_cut_error, front_error, front_next, front_place}
+use Rattle.html_front.specs.Fronts.{Front, At, front_cut_error, front_error, front_next, front_place}
 use Rattle.html_step.specs.Laws.{FromText, IsOrigin}
 use Rattle.html_step.specs.Origins.{origin}
 use Rattle.html_step.specs.Steps.{after_text, stepped}

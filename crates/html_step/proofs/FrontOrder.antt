@@ -27,7 +27,7 @@ use Rattle.place_core.specs.declared.value_place.ValuePlace.{ValuePlace}
 use Rattle.place_core.proofs.JoinParts.{kinds_partial}
 use Rattle.place_core.proofs.Joins.{places_same}
 use Rattle.place_core.proofs.Semilattices.{none_some, one_value}
-use Rattle.html_step.specs.Fronts.{Front, At, AfterLess, AfterLessSolidus, InDeclaration, InTagName, InAttributeName, InCommentEnd, InContentEnd, after_white, begun, attribute_name_next, bare_next, bare_white, comment_next, comment_state, content_front, front_next, front_error, front_place, front_cut_error, in_tag, kind_body, quoted_next, tag_element, tag_next, typed_with, value_front, with_quotes}
+use Rattle.html_front.specs.Fronts.{Front, At, AfterLess, AfterLessSolidus, InDeclaration, InTagName, InAttributeName, InCommentEnd, InContentEnd, after_white, begun, attribute_name_next, bare_next, bare_white, comment_next, comment_state, content_front, front_next, front_error, front_place, front_cut_error, in_tag, kind_body, quoted_next, tag_element, tag_next, typed_with, value_front, with_quotes}
 use Rattle.html_step.proofs.OnePath.{none-at-hand, none-unless, some}
 use Rattle.html_step.proofs.PlaceParts.{Under, under-false, under-same, under-both, TagBelow, ValueBelow, below-tag, tag-below, below-value, value-below, below-rcdata, same-kinds}
 

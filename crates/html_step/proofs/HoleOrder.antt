@@ -18,7 +18,7 @@ use Rattle.place_core.specs.declared.quotes.Quotes.TheVariants as quotes
 use Rattle.place_core.specs.declared.tag_place.TagPlace.{TagPlace}
 use Rattle.place_core.specs.declared.value_place.ValuePlace.{ValuePlace}
 use Rattle.place_core.proofs.Semilattices.{none_some, one_value}
-use Rattle.html_step.specs.Fronts.{Front, begun, front_place}
+use Rattle.html_front.specs.Fronts.{Front, begun, front_place}
 use Rattle.html_step.specs.HoleOrigins.{hole_origin, hole_shows, quotes_origin}
 use Rattle.html_step.specs.Origins.{typed_origin}
 use Rattle.html_step.specs.HoleLaws.{IsHoleOrigin, IsHoleShown, AcceptsHole, CoversHole, FromHole, GrowsHole, OneHole, ShownHole, ValidHole}

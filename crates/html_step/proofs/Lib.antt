@@ -4,10 +4,8 @@ pub mod EscapeOrder
 pub mod FromSteps
 pub mod FromTexts
 pub mod FrontOrder
-pub mod HeldNames
 pub mod HoleOrder
 pub mod HoleSteps
-pub mod Lowered
 pub mod MetApart
 pub mod OnePath
 pub mod OneTexts

@@ -23,7 +23,7 @@ use Rattle.place_core.specs.declared.kind.Kind.TheVariants as kind
 use Rattle.place_core.specs.declared.place.Place.TheVariants as place
 use Rattle.place_core.specs.declared.quotes.Quotes.{Quotes}
 use Rattle.place_core.specs.declared.tag_of.TagOf.{TagOf}
-use Rattle.html_step.specs.Fronts.{Front, At, AfterLess, AfterLessSolidus, InDeclaration, InTagName, InAttributeName, InContentEnd, comment_front, content_front, value_front, declaration_next, content_next, held_less_next, end_name_next, attribute_name_next, tag_next, typed_with, front_next, front_error, front_place, front_cut_error, tag_element}
+use Rattle.html_front.specs.Fronts.{Front, At, AfterLess, AfterLessSolidus, InDeclaration, InTagName, InAttributeName, InContentEnd, comment_front, content_front, value_front, declaration_next, content_next, held_less_next, end_name_next, attribute_name_next, tag_next, typed_with, front_next, front_error, front_place, front_cut_error, tag_element}
 
 -- the front of a path's state
 abbrev pub content_fronted : Held → Element → Option Front

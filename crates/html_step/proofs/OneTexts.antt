@@ -11,7 +11,7 @@ use Rattle.place_core.specs.Tags.{ValueState, languages}
 use Rattle.place_core.specs.declared.element.Element.TheVariants as element
 use Rattle.place_core.specs.declared.place.Place.{Place}
 use Rattle.place_core.specs.declared.step_err.StepErr.{StepErr}
-use Rattle.html_step.specs.Fronts.{Front, At, front_next, front_error, front_place, front_cut_error}
+use Rattle.html_front.specs.Fronts.{Front, At, front_next, front_error, front_place, front_cut_error}
 use Rattle.html_step.specs.Laws.{OneText}
 use Rattle.html_step.specs.Steps.{after_text, stepped, unless_refused, front_after, place_before, with_place_before}
 use Rattle.html_step.proofs.OnePath.{fronted, Agrees, Ends, WhereFronted, agrees, ends-agree}

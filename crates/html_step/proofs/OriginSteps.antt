@@ -8,12 +8,12 @@ use Rattle.place_core.specs.declared.member.Member.TheVariants as member
 use Rattle.place_core.specs.declared.place.Place.{Place}
 use Rattle.place_core.specs.declared.place.Place.TheVariants as place
 use Rattle.place_core.specs.declared.spots.Spots.{Spots}
-use Rattle.html_step.specs.FrontViews.{cause_at}
-use Rattle.html_step.specs.Fronts.{Front, At, InAttributeName, front_error, front_next}
+use Rattle.html_front.specs.FrontViews.{cause_at}
+use Rattle.html_front.specs.Fronts.{Front, At, InAttributeName, front_error, front_next}
 use Rattle.html_step.specs.Laws.{Shown, apart, one, two}
 use Rattle.html_step.specs.OriginViews.{origin_at, shown_through}
 use Rattle.html_step.specs.Origins.{back_by, byte_origin, byte_shows, place_origin, shows, tag_origin, typed_origin, unless_shown, white_origin}
-use Rattle.html_step.specs.declared.cause.Cause.{Cause as ReadCause}
+use Rattle.html_front.specs.declared.cause.Cause.{Cause as ReadCause}
 use Rattle.html_step.specs.declared.origins.Origins.TheVariants as origins
 
 -- the members that do not come from the whole alone

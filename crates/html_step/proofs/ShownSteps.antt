@@ -19,7 +19,7 @@ use Rattle.place_core.specs.declared.tag_of.TagOf.{TagOf}
 use Rattle.place_core.specs.declared.tag_place.TagPlace.{TagPlace}
 use Rattle.place_core.specs.declared.value_place.ValuePlace.{ValuePlace}
 use Rattle.place_core.proofs.Semilattices.{none_some, one_value}
-use Rattle.html_step.specs.Fronts.{Front, At, AfterLess, AfterLessSolidus, InDeclaration, InTagName, InAttributeName, InCommentEnd, InContentEnd, front_cut_error, front_error}
+use Rattle.html_front.specs.Fronts.{Front, At, AfterLess, AfterLessSolidus, InDeclaration, InTagName, InAttributeName, InCommentEnd, InContentEnd, front_cut_error, front_error}
 use Rattle.html_step.specs.Laws.{Shown, apart, one, two}
 use Rattle.html_step.specs.Origins.{bare_shows, byte_shows, end_shows, name_origin, place_shows, tag_shows, value_shows}
 use Rattle.html_step.proofs.BelowFronts.{IsRigid, below-at, below-at-comment, below-at-tag, below-at-value, below-attribute, tag-name-rigid, whole-in}

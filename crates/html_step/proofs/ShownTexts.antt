@@ -14,7 +14,7 @@ use Rattle.place_core.specs.declared.member.Member.{Member}
 use Rattle.place_core.specs.declared.member.Member.TheVariants as member
 use Rattle.place_core.specs.declared.place.Place.{Place}
 use Rattle.place_core.specs.declared.step_err.StepErr.{StepErr}
-use Rattle.html_step.specs.Fronts.{Front, At, front_cut_error, front_error, front_next, front_place}
+use Rattle.html_front.specs.Fronts.{Front, At, front_cut_error, front_error, front_next, front_place}
 use Rattle.html_step.specs.Laws.{AcceptsText, IsShown, Shown, ShownText, apart, one, two}
 use Rattle.html_step.specs.Origins.{back_by, byte_origin, byte_shows, end_shows, shows, unless_shown}
 use Rattle.html_step.specs.Steps.{after_text, place_before, stepped, unless_refused, with_place_before}

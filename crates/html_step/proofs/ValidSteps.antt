@@ -20,7 +20,7 @@ use Rattle.place_core.specs.declared.tag_of.TagOf.{TagOf}
 use Rattle.place_core.specs.declared.tag_of.TagOf.TheVariants as tag
 use Rattle.place_core.specs.declared.tag_place.TagPlace.{TagPlace}
 use Rattle.place_core.specs.declared.value_place.ValuePlace.{ValuePlace}
-use Rattle.html_step.specs.Fronts.{Front, At, AfterLess, AfterLessSolidus, InDeclaration, InTagName, InAttributeName, InCommentEnd, InContentEnd, attribute_name_next, bare_white, comment_closed, comment_front, comment_next, comment_state, content_end_next, content_front, content_next, declaration_next, end_name_next, front_next, front_place, kind_body, quoted_next, tag_element, tag_name_next, tag_next, value_front}
+use Rattle.html_front.specs.Fronts.{Front, At, AfterLess, AfterLessSolidus, InDeclaration, InTagName, InAttributeName, InCommentEnd, InContentEnd, attribute_name_next, bare_white, comment_closed, comment_front, comment_next, comment_state, content_end_next, content_front, content_next, declaration_next, end_name_next, front_next, front_place, kind_body, quoted_next, tag_element, tag_name_next, tag_next, value_front}
 use Rattle.html_step.proofs.FrontOrder.{FrontValid}
 
 some-white : (n b i a : Bool) → (n || (b || (i || a))) ≡ true → ((n || b) || (i || a)) ≡ true

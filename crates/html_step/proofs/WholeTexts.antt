@@ -5,7 +5,7 @@ use Rattle.place_core.specs.Errors.{Cause, Refusal}
 use Rattle.place_core.specs.Places.{Below, IsValid}
 use Rattle.place_core.specs.declared.place.Place.{Place}
 use Rattle.place_core.specs.declared.step_err.StepErr.{StepErr}
-use Rattle.html_step.specs.Fronts.{Front, At, front_cut_error, front_error, front_next, front_place}
+use Rattle.html_front.specs.Fronts.{Front, At, front_cut_error, front_error, front_next, front_place}
 use Rattle.html_step.specs.Laws.{CoversText, GrowsText, ValidText}
 use Rattle.html_step.specs.Steps.{after_text, stepped, unless_refused, with_place_before}
 use Rattle.html_step.proofs.FrontOrder.{FrontBelow, FrontValid, end-grows, front-grows}

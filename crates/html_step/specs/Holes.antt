@@ -18,7 +18,7 @@ use Rattle.place_core.specs.declared.san.San.{San}
 use Rattle.place_core.specs.declared.san.San.TheVariants as san
 use Rattle.place_core.specs.declared.tag_place.TagPlace.{TagPlace}
 use Rattle.place_core.specs.declared.value_place.ValuePlace.{ValuePlace}
-use Rattle.html_step.specs.Fronts.{begun}
+use Rattle.html_front.specs.Fronts.{begun}
 use Rattle.html_step.specs.declared.escaper.Escaper.{Escaper}
 use Rattle.html_step.specs.declared.escaper.Escaper.TheVariants as escaper
 

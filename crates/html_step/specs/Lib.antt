@@ -1,7 +1,4 @@
 pub mod Apart
-pub mod ClassViews
-pub mod FrontViews
-pub mod Fronts
 pub mod HoleLaws
 pub mod HoleOrigins
 pub mod Holes
@@ -10,6 +7,5 @@ pub mod OriginViews
 pub mod Origins
 pub mod PlaceText
 pub mod Sets
-pub mod Slices
 pub mod StepViews
 pub mod Steps

@@ -10,7 +10,7 @@ use Rattle.place_core.specs.declared.place.Place.TheVariants as place
 use Rattle.place_core.specs.declared.quotes.Quotes.{Quotes}
 use Rattle.place_core.specs.declared.quotes.Quotes.TheVariants as quotes
 use Rattle.place_core.specs.declared.spots.Spots.{Spots}
-use Rattle.html_step.specs.Fronts.{Front, At, InAttributeName, front_error, front_next}
+use Rattle.html_front.specs.Fronts.{Front, At, InAttributeName, front_error, front_next}
 use Rattle.html_step.specs.Laws.{Shown, one, two, apart}
 
 -- White space in a tag leads from a name to before one, and from in a name to after one.

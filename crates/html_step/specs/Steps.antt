@@ -4,7 +4,7 @@ use Rattle.place_core.specs.Classes.{class_of}
 use Rattle.place_core.specs.Errors.{Cause, Refusal}
 use Rattle.place_core.specs.declared.place.Place.{Place}
 use Rattle.place_core.specs.declared.step_err.StepErr.{StepErr}
-use Rattle.html_step.specs.Fronts.{Front, At, front_next, front_error, front_place, front_cut_error}
+use Rattle.html_front.specs.Fronts.{Front, At, front_next, front_error, front_place, front_cut_error}
 
 -- what a text leads to, whatever is refused
 abbrev pub front_after : List ℕ → Front → Front

@@ -1,8 +1,7 @@
 ghost use Rattle.std.specs.Prelude.{◌≡◌, ◌||◌};
 ghost use Rattle.html_step.specs.Holes.{after_hole as after_hole_of, named_by_data as named_by_data_of, only as only_of, plain_hole as plain_hole_of, value_hole as value_hole_of};
 
-use crate::tags::INSIDE;
-use crate::values::BEGUN;
+use html_front::{BEGUN, INSIDE};
 use place_core::{Body, Chain, Code, Kind, Place, Quotes, San, TagPlace, ValuePlace};
 
 /// What is done to a value of data at a place, and the place after it; or why no value may stand there. (HTML Standard, section

@@ -2,35 +2,20 @@
 #![tactic(auto)]
 
 mod bodies;
-mod cause;
-mod class;
-mod comment_stage;
-mod comments;
-mod contents;
-mod declaration;
-mod errors;
 mod escape_showing;
 mod escaper;
-mod front;
 mod hole;
 mod hole_laws;
 mod hole_showing;
 mod laws;
-mod names;
-mod next;
 mod origins;
 mod predefined;
 mod printed;
 mod refusal;
-mod refusals;
 mod sets;
 mod showing;
 mod shown;
-mod slices;
 mod steps;
-mod tags;
-mod texts;
-mod values;
 
 pub use escape_showing::escape_shown;
 pub use escaper::Escaper;

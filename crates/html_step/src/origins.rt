@@ -1,12 +1,11 @@
 ghost use Rattle.std.specs.Prelude.{◌≡◌, ℕ, List};
-ghost use Rattle.html_step.specs.ClassViews.{class_at};
-ghost use Rattle.html_step.specs.FrontViews.{front_at};
+ghost use Rattle.html_front.specs.ClassViews.{class_at};
+ghost use Rattle.html_front.specs.FrontViews.{front_at};
 ghost use Rattle.html_step.specs.Origins.{byte_origin, end_origin as end_origin_of, name_origin as name_origin_of, place_origin as place_origin_of, tag_origin as tag_origin_of, typed_origin as typed_origin_of, white_origin as white_origin_of};
 ghost use Rattle.html_step.specs.OriginViews.{origin_at, shown_at, shown_through};
 
-use crate::class::Class;
-use crate::front::Front;
 use crate::shown::Shown;
+use html_front::{Class, Front};
 use place_core::{Member, Place, Spots};
 
 /// Which member before some bytes each member after them comes from: before any byte each from itself.

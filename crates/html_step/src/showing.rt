@@ -2,20 +2,17 @@ ghost use Rattle.std.specs.Prelude.{◌≡◌, ◌<◌, ◌^◌, ℕ, List, Some
 ghost use Rattle.place_core.specs.Errors.{body_error};
 ghost use Rattle.place_core.specs.Places.{Has, IsValid};
 ghost use Rattle.place_core.specs.declared.step_err.StepErr.{StepErr};
-ghost use Rattle.html_step.specs.ClassViews.{class_at};
-ghost use Rattle.html_step.specs.FrontViews.{front_at};
-ghost use Rattle.html_step.specs.Fronts.{At};
+ghost use Rattle.html_front.specs.ClassViews.{class_at};
+ghost use Rattle.html_front.specs.FrontViews.{front_at};
+ghost use Rattle.html_front.specs.Fronts.{At};
 ghost use Rattle.html_step.specs.Laws.{IsOrigin, IsShown};
 ghost use Rattle.html_step.specs.OriginViews.{shown_at};
 ghost use Rattle.html_step.specs.Origins.{bare_shows as bare_shows_of, byte_shows as byte_shows_of, end_shows as end_shows_of, origin as origin_of_text, place_shows as place_shows_of, shows, tag_shows as tag_shows_of, value_shows};
 ghost use Rattle.html_step.specs.Steps.{after_text as after_text_of};
 
-use crate::class::{Class, class_of};
-use crate::front::Front;
-use crate::next::next;
 use crate::origins::{Origins, end_origin, name_origin};
-use crate::refusals::at_byte;
 use crate::shown::Shown;
+use html_front::{Class, Front, at_byte, class_of, next};
 use place_core::{Body, Member, Place, Quotes, Spots, ValuePlace};
 
 /// A member of a place that a member of the place after a text comes from: every path that bears the one comes to bear the other.

@@ -1,18 +1,11 @@
 ghost use Rattle.std.specs.Prelude.{◌≡◌, ◌<◌, ◌≤◌, ◌-◌, ◌^◌, IfErr, length};
-ghost use Rattle.html_step.specs.FrontViews.{front_at, held_from};
-ghost use Rattle.html_step.specs.Fronts.{At, front_place};
+ghost use Rattle.html_front.specs.FrontViews.{front_at, held_from};
+ghost use Rattle.html_front.specs.Fronts.{At};
 ghost use Rattle.html_step.specs.StepViews.{stepped_at};
 ghost use Rattle.html_step.specs.Steps.{after_text as after_text_of, front_after as front_after_of, place_before as place_before_of, stepped as stepped_of};
 
-use crate::cause::Cause;
-use crate::class::class_of;
-use crate::front::Front;
-use crate::names::{kind_on, tag_named};
-use crate::next::next;
 use crate::refusal::Refusal;
-use crate::refusals::{at_byte, at_end};
-use crate::slices::held;
-use crate::tags::{whole_attribute_name, whole_tag_name};
+use html_front::{Cause, Front, at_byte, at_end, class_of, end_place, next};
 use place_core::{Place, StepErr};
 
 /// The place after a text of a template, from the place before it; or why the text is refused and at which of its bytes, with
@@ -52,7 +45,7 @@ pub fn place_before(place: Place, text: &str, at: u32) -> Place
 {
     let text = text.as_bytes();
     let (before, _) = text.split_at((at as usize).min(text.len()));
-    place_of(before, front_after(before, place))
+    end_place(before, front_after(before, place))
 }
 
 // The place after a text, or what is refused there first.
@@ -70,7 +63,7 @@ fn stepped(text: &[u8], place: Place) -> Result<Place, Refusal>
     }
     match at_end(text, front) {
         Some(cause) => Err(refused(cause, text.len())),
-        None => Ok(place_of(text, front)),
+        None => Ok(end_place(text, front)),
     }
 }
 
@@ -98,26 +91,4 @@ fn front_after(text: &[u8], place: Place) -> Front
         front = next(text, index, class_of(text[index]), front);
     }
     front
-}
-
-// The place where a text ends.
-fn place_of(text: &[u8], front: Front) -> Place
-    requires held { held_from front ≤ length text.now }
-    ensures { result ≡ front_place (front_at text.now (length text.now) front) }
-{
-    match front {
-        Front::At(place) => place,
-        Front::AfterLess | Front::AfterLessSolidus | Front::InDeclaration { .. } => Place::Text,
-        Front::InTagName { ends, from } => whole_tag_name(tag_named(
-            ends,
-            held(text, from, text.len()),
-        )),
-        Front::InAttributeName { tag, typed, from } => {
-            let kind = kind_on(tag, held(text, from, text.len()));
-            whole_attribute_name(tag, typed, kind)
-        }
-        Front::InCommentEnd(_) => Place::Comment(true),
-        Front::AfterContentLess(element) => Place::Rcdata(element),
-        Front::InContentName { element, .. } => Place::Rcdata(element),
-    }
 }

@@ -1,7 +1,7 @@
 use Rattle.std.proofs.Common.{◌≡◌, ◌≤◌, drop}
 use Rattle.place_core.specs.declared.member.Member.{Member}
-use Rattle.html_step.specs.FrontViews.{front_at, held_from}
-use Rattle.html_step.specs.Fronts.{At}
+use Rattle.html_front.specs.FrontViews.{front_at, held_from}
+use Rattle.html_front.specs.Fronts.{At}
 use Rattle.html_step.specs.OriginViews.{origin_at}
 use Rattle.html_step.specs.Origins.{origin}
 use Rattle.html_step.proofs.showing.origin.Given as goal

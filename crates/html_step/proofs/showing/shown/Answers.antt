@@ -1,8 +1,8 @@
 use Rattle.std.proofs.Common.{arith, get_or, drop, sym, ◌∙◌, ◌+◌}
 use Rattle.std.proofs.lemmas.List.{drop_more}
-use Rattle.html_step.specs.ClassViews.{class_at}
-use Rattle.html_step.specs.FrontViews.{front_at}
-use Rattle.html_step.specs.Fronts.{At}
+use Rattle.html_front.specs.ClassViews.{class_at}
+use Rattle.html_front.specs.FrontViews.{front_at}
+use Rattle.html_front.specs.Fronts.{At}
 use Rattle.html_step.specs.OriginViews.{origin_at}
 use Rattle.html_step.specs.Origins.{shows}
 use Rattle.html_step.proofs.OriginSteps.{shown-then}

@@ -1,5 +1,5 @@
 use Rattle.std.proofs.Common.{ap, sym, subst, ◌∙◌, List, ℕ}
-use Rattle.html_step.specs.Fronts.{At}
+use Rattle.html_front.specs.Fronts.{At}
 use Rattle.html_step.specs.Laws.{IsShown}
 use Rattle.html_step.specs.Origins.{shows}
 use Rattle.html_step.proofs.ShownTexts.{shown-text-at}

@@ -1,6 +1,6 @@
 use Rattle.std.proofs.Common.{◌≡◌, ◌≤◌, drop}
-use Rattle.html_step.specs.FrontViews.{front_at, held_from}
-use Rattle.html_step.specs.Fronts.{At}
+use Rattle.html_front.specs.FrontViews.{front_at, held_from}
+use Rattle.html_front.specs.Fronts.{At}
 use Rattle.html_step.specs.Steps.{front_after}
 use Rattle.html_step.proofs.steps.front_after.Given as goal
 

@@ -1,6 +1,6 @@
 use Rattle.std.proofs.Common.{◌≡◌, ◌≤◌, drop}
-use Rattle.html_step.specs.FrontViews.{front_at, held_from}
-use Rattle.html_step.specs.Fronts.{At}
+use Rattle.html_front.specs.FrontViews.{front_at, held_from}
+use Rattle.html_front.specs.Fronts.{At}
 use Rattle.html_step.specs.Steps.{stepped}
 use Rattle.html_step.proofs.steps.stepped.Given as goal
 

@@ -1,6 +1,6 @@
 use Rattle.std.proofs.Common.{ap, ◌∙◌}
-use Rattle.html_step.specs.ClassViews.{class_at}
-use Rattle.html_step.specs.FrontViews.{front_at}
+use Rattle.html_front.specs.ClassViews.{class_at}
+use Rattle.html_front.specs.FrontViews.{front_at}
 use Rattle.html_step.specs.OriginViews.{origin_at}
 use Rattle.html_step.proofs.OriginSteps.{origins-then}
 use Rattle.html_step.proofs.origins.Origins.then.Goals as goal

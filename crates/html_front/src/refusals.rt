@@ -1,7 +1,7 @@
 ghost use Rattle.std.specs.Prelude.{◌≡◌, ◌≤◌, IfSome, length};
-ghost use Rattle.html_step.specs.ClassViews.{class_at};
-ghost use Rattle.html_step.specs.FrontViews.{cause_at, front_at, held_from};
-ghost use Rattle.html_step.specs.Fronts.{front_cut_error, front_error};
+ghost use Rattle.html_front.specs.ClassViews.{class_at};
+ghost use Rattle.html_front.specs.FrontViews.{cause_at, front_at, held_from};
+ghost use Rattle.html_front.specs.Fronts.{front_cut_error, front_error};
 
 use crate::cause::Cause;
 use crate::class::Class;

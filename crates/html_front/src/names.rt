@@ -4,7 +4,7 @@ ghost use Rattle.place_core.specs.Contents.{is_name_of as is_its_name, may_be_na
 ghost use Rattle.place_core.specs.StatePlaces.{tag_of};
 ghost use Rattle.place_core.specs.Tags.{element_of as element_of_name, tag_named as tag_named_of};
 ghost use Rattle.place_core.specs.Words.{kind_of};
-ghost use Rattle.html_step.specs.Fronts.{tag_element};
+ghost use Rattle.html_front.specs.Fronts.{tag_element};
 
 use html_words::{begins, name_kind, same};
 use place_core::{Element, Kind, TagOf};

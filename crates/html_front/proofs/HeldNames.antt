@@ -3,7 +3,7 @@ use Rattle.std.proofs.Common.{◌≡◌, ℕ, ◌+◌, ◌<◌, ◌≤◌, List,
 use Rattle.std.specs.Prelude.{get_or}
 use Rattle.std.proofs.lemmas.Grind.{take_at_read}
 use Rattle.std.proofs.lemmas.List.{drop-append-le, length-take, length-take-le, drop_at, drop_all}
-use Rattle.html_step.specs.Slices.{held}
+use Rattle.html_front.specs.Slices.{held}
 
 pub held_grows : (text : List ℕ) (from k : ℕ) → from ≤ k → k < length text → held text from (k + 1) ≡ held text from k ++ get_or text k 0 ∷ []
 held_grows text from k h i = rw ((take_at_read text k 0 i).1) (drop-append-le from (take k text) _ (rw (length-take-le k text (omega arith)) h))

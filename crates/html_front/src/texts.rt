@@ -1,8 +1,8 @@
 ghost use Rattle.std.specs.Prelude.{◌≡◌, ◌+◌, ◌^◌, ◌<◌, ◌≤◌, ℕ, List, get_or, length};
-ghost use Rattle.html_step.specs.ClassViews.{class_at};
-ghost use Rattle.html_step.specs.FrontViews.{declaration_at, front_at, held_from};
-ghost use Rattle.html_step.specs.Fronts.{declaration_next, less_next, solidus_next, text_front, At, doctype_next};
-ghost use Rattle.html_step.specs.Slices.{held};
+ghost use Rattle.html_front.specs.ClassViews.{class_at};
+ghost use Rattle.html_front.specs.FrontViews.{declaration_at, front_at, held_from};
+ghost use Rattle.html_front.specs.Fronts.{declaration_next, less_next, solidus_next, text_front, At, doctype_next};
+ghost use Rattle.html_front.specs.Slices.{held};
 
 use crate::class::Class;
 use crate::comment_stage::CommentStage;

@@ -1,6 +1,6 @@
 ghost use Rattle.std.specs.Prelude.{◌≡◌};
 ghost use Rattle.place_core.specs.Comments.{declared_by as declared_by_of};
-ghost use Rattle.html_step.specs.FrontViews.{declaration_at};
+ghost use Rattle.html_front.specs.FrontViews.{declaration_at};
 
 use html_words::{begins, same};
 

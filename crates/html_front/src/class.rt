@@ -1,6 +1,6 @@
 ghost use Rattle.std.specs.Prelude.{◌≡◌};
 ghost use Rattle.place_core.specs.Classes.{class_of as class_of_byte};
-ghost use Rattle.html_step.specs.ClassViews.{class_at};
+ghost use Rattle.html_front.specs.ClassViews.{class_at};
 
 /// A letter, of both cases.
 #[derive(Clone, Copy)]

@@ -2,10 +2,10 @@ ghost use Rattle.std.specs.Prelude.{◌≡◌, ◌+◌, ◌<◌, ◌≤◌, ℕ,
 ghost use Rattle.std.specs.Str.{str_to_ascii_lowercase as lower};
 ghost use Rattle.place_core.specs.StatePlaces.{only_after, only_before, only_inside, only_name};
 ghost use Rattle.place_core.specs.Words.{kind_of};
-ghost use Rattle.html_step.specs.ClassViews.{class_at};
-ghost use Rattle.html_step.specs.FrontViews.{front_at, held_from};
-ghost use Rattle.html_step.specs.Fronts.{At, after_white as after_white_of, attribute_name_next, content_front, in_tag as in_tag_of, kind_body, tag_element, tag_name_next, tag_next, typed_with as typed_with_of, value_front};
-ghost use Rattle.html_step.specs.Slices.{held};
+ghost use Rattle.html_front.specs.ClassViews.{class_at};
+ghost use Rattle.html_front.specs.FrontViews.{front_at, held_from};
+ghost use Rattle.html_front.specs.Fronts.{At, after_white as after_white_of, attribute_name_next, content_front, in_tag as in_tag_of, kind_body, tag_element, tag_name_next, tag_next, typed_with as typed_with_of, value_front};
+ghost use Rattle.html_front.specs.Slices.{held};
 
 use crate::class::Class;
 use crate::front::Front;

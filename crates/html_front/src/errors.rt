@@ -5,9 +5,9 @@ ghost use Rattle.std.specs.Str.{str_to_ascii_lowercase as lower};
 ghost use Rattle.place_core.specs.StatePlaces.{tag_of};
 ghost use Rattle.place_core.specs.Tags.{tag_named as tag_named_of};
 ghost use Rattle.place_core.specs.Words.{kind_of};
-ghost use Rattle.html_step.specs.Fronts.{tag_element};
-ghost use Rattle.html_step.specs.ClassViews.{class_at};
-ghost use Rattle.html_step.specs.FrontViews.{cause_at};
+ghost use Rattle.html_front.specs.Fronts.{tag_element};
+ghost use Rattle.html_front.specs.ClassViews.{class_at};
+ghost use Rattle.html_front.specs.FrontViews.{cause_at};
 
 use crate::cause::Cause;
 use crate::class::Class;

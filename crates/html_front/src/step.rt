@@ -1,7 +1,7 @@
 ghost use Rattle.std.specs.Prelude.{◌≡◌, ◌+◌, ◌<◌, ◌≤◌, get_or, length};
-ghost use Rattle.html_step.specs.ClassViews.{class_at};
-ghost use Rattle.html_step.specs.FrontViews.{front_at, held_from};
-ghost use Rattle.html_step.specs.Fronts.{front_next, place_next};
+ghost use Rattle.html_front.specs.ClassViews.{class_at};
+ghost use Rattle.html_front.specs.FrontViews.{front_at, held_from};
+ghost use Rattle.html_front.specs.Fronts.{front_next, place_next};
 
 use crate::class::Class;
 use crate::comments::{in_comment, in_comment_end};

@@ -4,15 +4,15 @@ use Rattle.std.specs.Str.{str_to_ascii_lowercase}
 use Rattle.place_core.specs.Comments.{Declaration, OpensComment, OpensDoctype, Undecided, OpensNothing}
 use Rattle.place_core.specs.Errors.{Cause}
 use Rattle.place_core.specs.States.{CommentState, Started, StartedDash, Dash, DashDash, Bang, HeldLess, HeldName}
-use Rattle.html_step.specs.Fronts.{Front, At, AfterLess, AfterLessSolidus, InDeclaration, InTagName, InAttributeName, InCommentEnd, InContentEnd}
-use Rattle.html_step.specs.Slices.{held}
-use Rattle.html_step.specs.declared.declaration.Declaration.{Declaration as ReadDeclaration}
-use Rattle.html_step.specs.declared.declaration.Declaration.TheVariants as declaration
-use Rattle.html_step.specs.declared.cause.Cause.{Cause as ReadCause}
-use Rattle.html_step.specs.declared.comment_stage.CommentStage.{CommentStage}
-use Rattle.html_step.specs.declared.comment_stage.CommentStage.TheVariants as stage
-use Rattle.html_step.specs.declared.front.Front.{Front as ReadFront}
-use Rattle.html_step.specs.declared.front.Front.TheVariants as front
+use Rattle.html_front.specs.Fronts.{Front, At, AfterLess, AfterLessSolidus, InDeclaration, InTagName, InAttributeName, InCommentEnd, InContentEnd}
+use Rattle.html_front.specs.Slices.{held}
+use Rattle.html_front.specs.declared.declaration.Declaration.{Declaration as ReadDeclaration}
+use Rattle.html_front.specs.declared.declaration.Declaration.TheVariants as declaration
+use Rattle.html_front.specs.declared.cause.Cause.{Cause as ReadCause}
+use Rattle.html_front.specs.declared.comment_stage.CommentStage.{CommentStage}
+use Rattle.html_front.specs.declared.comment_stage.CommentStage.TheVariants as stage
+use Rattle.html_front.specs.declared.front.Front.{Front as ReadFront}
+use Rattle.html_front.specs.declared.front.Front.TheVariants as front
 
 abbrev pub cause_at : Option ReadCause → Option Cause
 cause_at None = None

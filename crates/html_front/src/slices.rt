@@ -1,5 +1,5 @@
 ghost use Rattle.std.specs.Prelude.{◌≡◌, ◌≤◌, length};
-ghost use Rattle.html_step.specs.Slices.{held as held_of};
+ghost use Rattle.html_front.specs.Slices.{held as held_of};
 
 /// What has been read of a text from one place to another.
 pub fn held(text: &[u8], from: usize, to: usize) -> &[u8]

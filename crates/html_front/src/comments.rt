@@ -1,8 +1,8 @@
 ghost use Rattle.std.specs.Prelude.{◌≡◌, ℕ, List};
 ghost use Rattle.place_core.specs.States.{Inside};
-ghost use Rattle.html_step.specs.ClassViews.{class_at};
-ghost use Rattle.html_step.specs.FrontViews.{front_at, held_from, stage_at};
-ghost use Rattle.html_step.specs.Fronts.{comment_next};
+ghost use Rattle.html_front.specs.ClassViews.{class_at};
+ghost use Rattle.html_front.specs.FrontViews.{front_at, held_from, stage_at};
+ghost use Rattle.html_front.specs.Fronts.{comment_next};
 
 use crate::class::Class;
 use crate::comment_stage::CommentStage;

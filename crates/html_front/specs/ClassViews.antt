@@ -1,9 +1,9 @@
 -- The classes of bytes as the code has them.
 use Rattle.place_core.specs.Classes.{LetterClass, HexadecimalLetter, LetterX, OtherLetter, Class, White, ExclamationMark, QuotationMark, NumberSign, Ampersand, Apostrophe, HyphenMinus, Solidus, Digit, Semicolon, LessThan, EqualsSign, GreaterThan, QuestionMark, GraveAccent, Letter, OtherByte}
-use Rattle.html_step.specs.declared.class.Class.{Class as ReadClass}
-use Rattle.html_step.specs.declared.class.Class.TheVariants as read
-use Rattle.html_step.specs.declared.class.Letter.{Letter as ReadLetter}
-use Rattle.html_step.specs.declared.class.Letter.TheVariants as letter
+use Rattle.html_front.specs.declared.class.Class.{Class as ReadClass}
+use Rattle.html_front.specs.declared.class.Class.TheVariants as read
+use Rattle.html_front.specs.declared.class.Letter.{Letter as ReadLetter}
+use Rattle.html_front.specs.declared.class.Letter.TheVariants as letter
 
 abbrev pub letter_at : ReadLetter → LetterClass
 letter_at letter.Hexadecimal = HexadecimalLetter

@@ -1,6 +1,6 @@
 ghost use Rattle.std.specs.Prelude.{◌≡◌};
-ghost use Rattle.html_step.specs.ClassViews.{class_at};
-ghost use Rattle.html_step.specs.Fronts.{At, bare_next, quoted_next, with_quotes as with_quotes_of};
+ghost use Rattle.html_front.specs.ClassViews.{class_at};
+ghost use Rattle.html_front.specs.Fronts.{At, bare_next, quoted_next, with_quotes as with_quotes_of};
 
 use crate::class::Class;
 use crate::tags::{UNBEGUN, before_name, content};

@@ -1,0 +1,4 @@
+pub mod ClassViews
+pub mod FrontViews
+pub mod Fronts
+pub mod Slices

@@ -1,0 +1,29 @@
+// One byte of a template's text: what it leads to from where the text has been read to, and whether it is refused there.
+#![tactic(auto)]
+
+mod cause;
+mod class;
+mod comment_stage;
+mod comments;
+mod contents;
+mod declaration;
+mod ends;
+mod errors;
+mod front;
+mod names;
+mod refusals;
+mod slices;
+mod step;
+mod tags;
+mod texts;
+mod values;
+
+pub use cause::Cause;
+pub use class::{Class, Letter, class_of};
+pub use comment_stage::CommentStage;
+pub use ends::end_place;
+pub use front::Front;
+pub use refusals::{at_byte, at_end};
+pub use step::next;
+pub use tags::INSIDE;
+pub use values::BEGUN;
