@@ -37,6 +37,7 @@ pub enum Class {
 }
 
 /// The class of a byte.
+#[inline(always)]
 #[tactic(auto, unfolding(place_core::specs::Classes::class_of))]
 pub fn class_of(byte: u8) -> Class
     ensures { class_at result ≡ class_of_byte byte }

@@ -15,6 +15,7 @@ use crate::names::{kind_on, tag_named};
 use place_core::{Bare, Body, Code, Element, Kind, Place, Quotes, TagOf, TagPlace, ValuePlace};
 
 /// Why a byte is refused at a place.
+#[inline(always)]
 pub fn at_place(place: Place, class: Class) -> Option<Code>
     ensures { result ≡ place_error place (class_at class) }
 {

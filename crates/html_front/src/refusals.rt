@@ -11,6 +11,7 @@ use crate::names::kind_on;
 use crate::slices::held;
 
 /// Why a byte is refused after so many bytes of a text.
+#[inline(always)]
 pub fn at_byte(text: &[u8], index: usize, class: Class, front: Front) -> Option<Cause>
     requires inside { index ≤ length text.now }
     requires held { held_from front ≤ index }

@@ -16,6 +16,7 @@ use crate::values::in_value;
 use place_core::Place;
 
 /// The front after the byte at a place of a text, whether it is refused or not.
+#[inline(always)]
 pub fn next(text: &[u8], index: usize, class: Class, front: Front) -> Front
     requires inside { index < length text.now }
     requires held { held_from front ≤ index }
@@ -45,6 +46,7 @@ pub fn next(text: &[u8], index: usize, class: Class, front: Front) -> Front
     }
 }
 
+#[inline(always)]
 fn after_place(text: &[u8], index: usize, class: Class, place: Place) -> Front
     requires inside { index < length text.now }
     ensures front { front_at text.now (index + 1) result

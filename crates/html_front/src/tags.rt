@@ -72,6 +72,7 @@ pub fn content(tag: TagOf) -> Place
 }
 
 /// In a tag, where a text begins or after a blank or a value.
+#[inline(always)]
 pub fn in_tag(place: TagPlace, class: Class, index: usize) -> Front
     ensures front { (text : List ℕ) → index < length text → front_at text (index + 1) result
         ≡ tag_next place (class_at class) (get_or text index 0) }
@@ -96,6 +97,7 @@ pub fn in_tag(place: TagPlace, class: Class, index: usize) -> Front
 }
 
 /// In the name of an attribute, of which this has been read.
+#[inline(always)]
 pub fn in_attribute_name(class: Class, tag: TagOf, typed: bool, name: &[u8], from: usize) -> Front
     ensures front { (text : List ℕ) (k : ℕ) → from ≤ k → k < length text
         → name.now ≡ held text from k → front_at text (k + 1) result

@@ -13,6 +13,7 @@ pub const BEGUN: Quotes = Quotes::Bare(Bare {
 });
 
 /// In the value of an attribute.
+#[inline(always)]
 pub fn in_value(place: ValuePlace, class: Class) -> Place
     ensures { At result ≡ quoted_next place place.quotes (class_at class) }
 {
