@@ -29,6 +29,7 @@ mod step_err;
 mod str_chars;
 mod tag_of;
 mod tag_place;
+mod validity;
 mod value_place;
 
 pub use bare::Bare;
@@ -61,4 +62,5 @@ pub use step_err::StepErr;
 pub use str_chars::StrChars;
 pub use tag_of::TagOf;
 pub use tag_place::TagPlace;
+pub use validity::is_valid;
 pub use value_place::ValuePlace;

@@ -1,0 +1,127 @@
+ghost use Rattle.std.specs.Prelude.{◌≡◌, ◌↔◌, IsTrue};
+ghost use Rattle.place_core.specs.Places.{is_rcdata as is_rcdata_of, some_bare as some_bare_of, some_part as some_part_of, some_sense as some_sense_of, some_spot as some_spot_of};
+ghost use Rattle.place_core.specs.Places.{IsValid, IsValidBody, IsValidCss, IsValidJs, IsValidParts, IsValidPrefix, IsValidQuotes, IsValidTag};
+
+use crate::bare::Bare;
+use crate::body::Body;
+use crate::css::Css;
+use crate::element::Element;
+use crate::js::Js;
+use crate::parts::Parts;
+use crate::place::Place;
+use crate::prefix::Prefix;
+use crate::quotes::Quotes;
+use crate::senses::Senses;
+use crate::spots::Spots;
+use crate::tag_place::TagPlace;
+
+/// Whether paths can come to a place: each of its sets but those of what a text ended in has a member, and a kind stands exactly
+/// where the place may be in or after an attribute's name.
+pub fn is_valid(place: Place) -> bool
+    ensures { IsTrue result ↔ IsValid place }
+{
+    match place {
+        Place::Text | Place::Doctype | Place::Comment(_) | Place::Block(_) => true,
+        Place::Rcdata(element) => is_rcdata(element),
+        Place::Tag(tag) => is_valid_tag(tag),
+        Place::Value(value) => is_valid_quotes(value.quotes) && is_valid_body(value.body),
+        Place::Script(js) => is_valid_js(js),
+        Place::Style(css) => is_valid_css(css),
+    }
+}
+
+fn is_rcdata(element: Element) -> bool
+    ensures { result ≡ is_rcdata_of element }
+{
+    match element {
+        Element::Title | Element::Textarea => true,
+        _ => false,
+    }
+}
+
+fn is_valid_tag(place: TagPlace) -> bool
+    ensures { IsTrue result ↔ IsValidTag place }
+{
+    let named = place.spots.inside || place.spots.after;
+    some_spot(place.spots) && place.kind.is_some() == named
+}
+
+fn is_valid_quotes(quotes: Quotes) -> bool
+    ensures { IsTrue result ↔ IsValidQuotes quotes }
+{
+    match quotes {
+        Quotes::Dq | Quotes::Sq => true,
+        Quotes::Bare(bare) => some_bare(bare),
+    }
+}
+
+fn is_valid_body(body: Body) -> bool
+    ensures { IsTrue result ↔ IsValidBody body }
+{
+    match body {
+        Body::Plain | Body::NoHole => true,
+        Body::Url(parts) => is_valid_url(parts),
+        Body::Js(js) => is_valid_js(js),
+        Body::Css(css) => is_valid_css(css),
+    }
+}
+
+fn is_valid_js(js: Js) -> bool
+    ensures { IsTrue result ↔ IsValidJs js }
+{
+    match js {
+        Js::Code(senses, _) | Js::Line(senses) | Js::Block(senses, _) => some_sense(senses),
+        Js::Dq | Js::Sq | Js::Regexp(_) => true,
+    }
+}
+
+fn is_valid_css(css: Css) -> bool
+    ensures { IsTrue result ↔ IsValidCss css }
+{
+    match css {
+        Css::Url(parts) | Css::UrlDq(parts) | Css::UrlSq(parts) => is_valid_url(parts),
+        _ => true,
+    }
+}
+
+fn is_valid_url(parts: Parts) -> bool
+    ensures { IsTrue result ↔ IsValidParts parts }
+{
+    some_part(parts) && is_valid_prefix(parts.opened)
+}
+
+// At least one letter is spelled, and at most all letters of the word.
+fn is_valid_prefix(prefix: Option<Prefix>) -> bool
+    ensures { IsTrue result ↔ IsValidPrefix prefix }
+{
+    match prefix {
+        Some(Prefix::Javascript(count)) => 1 <= count && count <= 10,
+        Some(Prefix::Vbscript(count)) => 1 <= count && count <= 8,
+        Some(Prefix::DataScheme(count)) => 1 <= count && count <= 4,
+        Some(Prefix::Off | Prefix::Differs) | None => true,
+    }
+}
+
+fn some_spot(s: Spots) -> bool
+    ensures { result ≡ some_spot_of s }
+{
+    s.name || s.before || s.inside || s.after
+}
+
+fn some_bare(s: Bare) -> bool
+    ensures { result ≡ some_bare_of s }
+{
+    s.uq || s.unbegun
+}
+
+fn some_sense(s: Senses) -> bool
+    ensures { result ≡ some_sense_of s }
+{
+    s.re || s.div || s.brace
+}
+
+fn some_part(s: Parts) -> bool
+    ensures { result ≡ some_part_of s }
+{
+    s.start || s.opened.is_some() || s.openhole || s.prequery || s.query || s.bad
+}
