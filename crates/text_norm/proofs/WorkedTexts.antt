@@ -1,0 +1,52 @@
+-- Small texts, written from text.
+use Rattle.std.proofs.Common.{◌≡◌, codes, refl, List, ℕ}
+use Rattle.place_core.specs.Classes.{class_of}
+use Rattle.place_core.specs.References.{Closed}
+use Rattle.place_core.specs.States.{Text}
+use Rattle.place_core.specs.Tags.{languages}
+use Rattle.place_core.specs.declared.place.Place.TheVariants as place
+use Rattle.text_norm.specs.Fronted.{written_at}
+use Rattle.text_norm.specs.Written.{written}
+
+abbrev from_text : List ℕ → List ℕ
+from_text bytes = written languages bytes (Text Closed)
+
+-- a comment, and what stands before one and at the end
+comment_left_out : from_text (codes "a<!-- b -->&#3") ≡ codes "a&amp;#3"
+unfolding class_of
+comment_left_out = refl
+
+before_a_comment : from_text (codes "&l<!-- -->t;") ≡ codes "&amp;lt;"
+unfolding class_of
+before_a_comment = refl
+
+hexadecimal : from_text (codes "&#X4") ≡ codes "&amp;#X4"
+unfolding class_of
+hexadecimal = refl
+
+-- a `<` that begins nothing
+lone_less : from_text (codes "a < b<1<<!x</2>&lt<<b>&am<i") ≡ codes "a &lt; b&lt;1&lt;&lt;!x&lt;/2>&lt&lt;<b>&am<i"
+unfolding class_of
+lone_less = refl
+
+at_the_end : from_text (codes "&lt<!-") ≡ codes "&lt&lt;!-"
+unfolding class_of
+at_the_end = refl
+
+-- tags, titles and doctypes as they stand, but for references at the end of a node
+tag : from_text (codes "<b title=\"a&lt;&am\" x=&y") ≡ codes "<b title=\"a&lt;&am\" x=&amp;y"
+unfolding class_of
+tag = refl
+
+title : from_text (codes "<title><b></titlx</title>") ≡ codes "<title>&lt;b>&lt;/titlx</title>"
+unfolding class_of
+title = refl
+
+doctype : from_text (codes "<!DOCTYPE html>") ≡ codes "<!DOCTYPE html>"
+unfolding class_of
+doctype = refl
+
+-- the same for all paths of a place
+all_paths : written_at (codes "a<!-- b -->&#3<b x=&y") place.Text ≡ codes "a&#3<b x=&amp;y"
+unfolding class_of
+all_paths = refl

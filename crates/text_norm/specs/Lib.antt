@@ -1,0 +1,2 @@
+pub mod Fronted
+pub mod Written

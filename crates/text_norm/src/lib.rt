@@ -1,0 +1,2 @@
+// The texts of a template as a page gets them.
+#![tactic(auto)]
