@@ -1,3 +1,5 @@
+pub mod Declared
 pub mod Places
 pub mod Runs
+pub mod TextKeeps
 pub mod WorkedTexts
