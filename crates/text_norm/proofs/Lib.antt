@@ -1,3 +1,4 @@
+pub mod ContentKeeps
 pub mod Declared
 pub mod Places
 pub mod Runs

@@ -15,11 +15,11 @@ use Rattle.text_norm.proofs.Declared.{undecided-own}
 use Rattle.text_norm.proofs.Places.{is_less, text-run, text-since}
 use Rattle.text_norm.proofs.Runs.{follows-run, lt-read, on}
 
-class_less : class_of 60 ≡ LessThan
+pub class_less : class_of 60 ≡ LessThan
 unfolding class_of
 class_less = refl
 
-class_solidus : class_of 47 ≡ Solidus
+pub class_solidus : class_of 47 ≡ Solidus
 unfolding class_of
 class_solidus = refl
 
@@ -28,7 +28,7 @@ unfolding class_of
 class_bang = refl
 
 -- what an `&` behind it tells of an open reference is what is told of it where it is settled
-behind-amp : (r : Reference) → undone_byte false r Ampersand 38 ≡ settled false r
+pub behind-amp : (r : Reference) → undone_byte false r Ampersand 38 ≡ settled false r
 behind-amp Closed = refl
 behind-amp (Open f h) = append-nil (flushed false false f h)
 
