@@ -2,5 +2,6 @@ pub mod ContentKeeps
 pub mod Declared
 pub mod Places
 pub mod Runs
+pub mod TagsKeep
 pub mod TextKeeps
 pub mod WorkedTexts
