@@ -4,4 +4,5 @@ pub mod Places
 pub mod Runs
 pub mod TagsKeep
 pub mod TextKeeps
+pub mod ValuesKeep
 pub mod WorkedTexts

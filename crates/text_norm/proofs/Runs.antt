@@ -10,7 +10,7 @@ use Rattle.place_core.proofs.Readings.{over-append}
 use Rattle.text_norm.specs.Standing.{HeldReference, StandsIn, page}
 use Rattle.text_norm.specs.Written.{reference_out, turn_out}
 
-class_amp : class_of 38 ≡ Ampersand
+pub class_amp : class_of 38 ≡ Ampersand
 unfolding class_of
 class_amp = refl
 

@@ -38,7 +38,7 @@ before-leads x tag Solidus b t d n h = h
 before-leads x tag GreaterThan b t d n h = tag-leads x tag t d (n refl) h
 before-leads x tag _ b t d n h = h
 
-without-value : (tag : Tag) (k : Kind) → content_error (tag_of tag) ≡ None → content_error (tag_of (without_value tag k)) ≡ None
+pub without-value : (tag : Tag) (k : Kind) → content_error (tag_of tag) ≡ None → content_error (tag_of (without_value tag k)) ≡ None
 without-value tag k n = ap content_error (same-tag tag k) ∙ n
 
 -- in the name of a tag
