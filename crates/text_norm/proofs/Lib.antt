@@ -1,5 +1,6 @@
 pub mod ContentKeeps
 pub mod Declared
+pub mod Keeps
 pub mod Places
 pub mod Runs
 pub mod TagsKeep

@@ -16,15 +16,15 @@ use Rattle.text_norm.proofs.Runs.{amp-read, class_amp, follows-run, on}
 use Rattle.text_norm.proofs.TagsKeep.{before-leads, tag-leads, without-value}
 
 -- A value of a language stays one.
-record Own (B : Type 0) (z : Value B) : Type 0 where
-  value : B
-  is : z ≡ ValueOf value
+pub record Own (B : Type 0) (z : Value B) : Type 0 where
+  pub value : B
+  pub is : z ≡ ValueOf value
 
-own-with : {B : Type 0} (x : Bodies B) (v : B) (bs : List ℕ) → Own B (with_bytes x (ValueOf v) bs)
+pub own-with : {B : Type 0} (x : Bodies B) (v : B) (bs : List ℕ) → Own B (with_bytes x (ValueOf v) bs)
 own-with x v [] = record { value = v; is = refl }
 own-with x v (b ∷ bs) = own-with x (x.feed v b) bs
 
-own-stands : {B : Type 0} (x : Bodies B) (q : Quoting) (tag : Tag) (z : Value B) (r : Reference) (t : List Event) (d : Config B) → Own B z → StandsIn x (value_at x q tag z t) r d → StandsInValue x q tag z r t d
+pub own-stands : {B : Type 0} (x : Bodies B) (q : Quoting) (tag : Tag) (z : Value B) (r : Reference) (t : List Event) (d : Config B) → Own B z → StandsIn x (value_at x q tag z t) r d → StandsInValue x q tag z r t d
 own-stands x q tag z r t d o h = subst (λ (w : Value _). StandsInValue x q tag w r t d) (sym o.is) (subst (λ (w : Value _). StandsIn x (value_at x q tag w t) r d) o.is h)
 
 own-tag : {B : Type 0} (tag : Tag) (z : Value B) → Own B z → with_value tag z ≡ tag
