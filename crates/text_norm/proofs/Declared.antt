@@ -126,3 +126,46 @@ own-class x _ b u e m n = rw e refl
 
 pub undecided-own : {B : Type 0} (x : Bodies B) (held : List ℕ) (b : ℕ) (u : List Event) → declared_by (held ++ b ∷ []) ≡ Undecided → page x (b ∷ []) (config (Text Closed) u) ≡ config (Text Closed) (TextByte b ∷ u)
 undecided-own x held b u k = own-class x (class_of b) b u refl (λ e. not-amp held b (amp-only b e) k) (λ e. not-less held b (less-only b e) k)
+
+-- nor does an `&` end what opens a comment or a doctype
+not-equal : (w held : List ℕ) (b : ℕ) → has w b ≡ false → bytes_eq (held ++ b ∷ []) w ≡ false
+not-equal [] [] b n = refl
+not-equal [] (x ∷ held) b n = refl
+not-equal (y ∷ w) [] b n = rw (false-left (nat_eq b y) (has w b) n) refl
+not-equal (y ∷ w) (x ∷ held) b n = rw (not-equal w held b (false-right (nat_eq b y) (has w b) n)) (no-and (nat_eq x y))
+
+begun-or-not : (x : Bool) → (if x then Undecided else OpensNothing) ≡ OpensComment → ⊥
+begun-or-not true e = cc
+begun-or-not false e = cc
+
+late-comment : (x y : Bool) → (if x then OpensDoctype else (if y then Undecided else OpensNothing)) ≡ OpensComment → ⊥
+late-comment true y e = cc
+late-comment false y e = begun-or-not y e
+
+late-doctype : (y : Bool) → (if y then Undecided else OpensNothing) ≡ OpensDoctype → ⊥
+late-doctype true e = cc
+late-doctype false e = cc
+
+comment-first : OpensComment ≡ OpensDoctype → ⊥
+comment-first e = cc
+
+bytes-doctype : (held : List ℕ) → declared_by (held ++ 38 ∷ []) ≡ OpensDoctype → bytes_eq (str_to_ascii_lowercase (held ++ 38 ∷ [])) (codes "doctype") ≡ true
+bytes-doctype held h =
+    found (bytes_eq (str_to_ascii_lowercase (held ++ 38 ∷ [])) (codes "doctype")) OpensDoctype _ (λ j. late-doctype _ j)
+    (skip (bytes_eq (held ++ 38 ∷ []) (codes "--")) OpensComment OpensDoctype _ (λ j. comment-first j) h)
+
+not-comment : (held : List ℕ) (b : ℕ) → (b == 38) ≡ true → declared_by (held ++ b ∷ []) ≡ OpensComment → ⊥
+not-comment held b e k =
+    let h : declared_by (held ++ 38 ∷ []) ≡ OpensComment = subst (λ (z : ℕ). declared_by (held ++ z ∷ []) ≡ OpensComment) (eqb-true b 38 e) k in
+    no (sym (found (bytes_eq (held ++ 38 ∷ []) (codes "--")) OpensComment _ (λ j. late-comment _ _ j) h) ∙ not-equal (codes "--") held 38 refl)
+
+not-doctype : (held : List ℕ) (b : ℕ) → (b == 38) ≡ true → declared_by (held ++ b ∷ []) ≡ OpensDoctype → ⊥
+not-doctype held b e k =
+    let h : declared_by (held ++ 38 ∷ []) ≡ OpensDoctype = subst (λ (z : ℕ). declared_by (held ++ z ∷ []) ≡ OpensDoctype) (eqb-true b 38 e) k in
+    no (sym (bytes-doctype held h) ∙ rw (lower-append held 38) (not-equal (codes "doctype") (str_to_ascii_lowercase held) 38 refl))
+
+pub no-amp-comment : (held : List ℕ) (b : ℕ) → declared_by (held ++ b ∷ []) ≡ OpensComment → class_of b ≡ Ampersand → ⊥
+no-amp-comment held b k e = not-comment held b (amp-only b e) k
+
+pub no-amp-doctype : (held : List ℕ) (b : ℕ) → declared_by (held ++ b ∷ []) ≡ OpensDoctype → class_of b ≡ Ampersand → ⊥
+no-amp-doctype held b k e = not-doctype held b (amp-only b e) k

@@ -128,3 +128,18 @@ cut-follows x (InContent e (Characters r) HeldBang) t d h = absurd h
 cut-follows x (InContent e (Characters r) HeldBangDash) t d h = absurd h
 cut-follows x (InContent e Bytes held) t d h = absurd h
 cut-follows x Unread t d h = h
+
+-- what is refused at no byte
+goes : (k : ℕ) (o : Option Cause) (rest : Option Refusal) → standing_at k o rest ≡ None → (o ≡ None) × (rest ≡ None)
+goes k None rest n = (refl, n)
+goes k (Some e) rest n = absurd (some _ n)
+
+pub keeps-from : (bytes : List ℕ) (k : ℕ) (s : State ValueState) (t : List Event) (d : Config ValueState) → refusal_from k bytes s ≡ None → Stands languages s t d
+    → (let c = read_node languages bytes (config s t) in Stands languages c.at c.told (page languages (written languages bytes s) d))
+keeps-from [] k s t d n h = cut-follows languages s t d h
+keeps-from (b ∷ bs) k s t d n h =
+    let m = goes k (byte_error s (class_of b)) (refusal_from (k + 1) bs (next languages Template s (class_of b) b)) n in
+    let z = next languages Template s (class_of b) b in
+    let u = tells languages Template s (class_of b) b t in
+    let o = out s (class_of b) b in
+    rw (over-append languages Page o (written languages bs z) d) (keeps-from bs (k + 1) z u (page languages o d) m.1 (follows s (class_of b) b t d refl m.0 h))

@@ -3,6 +3,7 @@ pub mod Declared
 pub mod Keeps
 pub mod Places
 pub mod Runs
+pub mod Same
 pub mod TagsKeep
 pub mod TextKeeps
 pub mod ValuesKeep

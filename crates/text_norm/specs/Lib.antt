@@ -1,3 +1,4 @@
 pub mod Fronted
+pub mod Laws
 pub mod Standing
 pub mod Written
