@@ -2,25 +2,30 @@
 use Rattle.std.proofs.Common.{◌≡◌, ℕ, ◌+◌, Bool, true, false, codes, List, [], ◌∷◌, ◌++◌, Option, Some, None, Result, Ok, Err, refl, sym, ap, ap₂, ◌∙◌, subst}
 use Rattle.std.specs.Option.{option_map}
 use Rattle.place_core.specs.Classes.{Class, White, ExclamationMark, QuotationMark, Ampersand, Apostrophe, Solidus, LessThan, EqualsSign, GreaterThan, QuestionMark, Letter, class_of}
-use Rattle.place_core.specs.Comments.{Declaration, OpensComment, OpensDoctype, Undecided, OpensNothing, closes_comment, comment_ended, declared_by}
-use Rattle.place_core.specs.Contents.{may_be_name_of, is_name_of}
-use Rattle.place_core.specs.Html.{after_tag, ends_value, next, next_before_name, next_declaration, next_end_tag_open, next_tag_open, next_text}
+use Rattle.place_core.specs.Comments.{Declaration, OpensComment, OpensDoctype, Undecided, OpensNothing, closes_comment, comment_ended, declared_by, next_in_comment, next_in_doctype}
+use Rattle.place_core.specs.Contents.{may_be_name_of, is_name_of, next_end_name, next_less, next_loose}
+use Rattle.place_core.specs.Html.{after_tag, ends_value, next, next_after_name, next_after_value, next_before_name, next_before_value, next_declaration, next_end_tag_open, next_name, next_tag_name, next_tag_open, next_text, next_value, next_whole_name}
 use Rattle.place_core.specs.Membership.{IsIn}
 use Rattle.place_core.specs.Places.{Below, IsValid}
-use Rattle.place_core.specs.References.{Reference, Closed, Open, begin_reference, next_reference}
-use Rattle.place_core.specs.States.{CommentState, Template, State, Text, TagOpen, EndTagOpen, DeclarationOpen, InComment, BogusComment, InDoctype, TagName, WholeTagName, BeforeAttributeName, AttributeName, WholeAttributeName, AfterAttributeName, BeforeAttributeValue, AttributeValue, AfterAttributeValue, SelfClosingStartTag, Characters, Bytes, Held, Nothing, HeldLess, HeldName, HeldBang, HeldBangDash, InContent, Unread}
-use Rattle.place_core.specs.Tags.{Tag, EndTag, StartTag, ValueState, languages, Quoting, DoubleQuoted, SingleQuoted, Unquoted}
+use Rattle.place_core.specs.References.{Reference, Closed, Open, as_it_stands, begin_reference, next_reference, settled}
+use Rattle.place_core.specs.States.{CommentState, Started, StartedDash, Inside, Dash, DashDash, Bang, Broken, Template, State, Text, TagOpen, EndTagOpen, DeclarationOpen, InComment, BogusComment, InDoctype, TagName, WholeTagName, BeforeAttributeName, AttributeName, WholeAttributeName, AfterAttributeName, BeforeAttributeValue, AttributeValue, AfterAttributeValue, SelfClosingStartTag, Characters, Bytes, Held, Nothing, HeldLess, HeldName, HeldBang, HeldBangDash, InContent, Unread}
+use Rattle.place_core.specs.Tags.{Tag, EndTag, StartTag, ValueState, languages, Quoting, DoubleQuoted, SingleQuoted, Unquoted, Value, ValueOf, TypeSoFar, element_on, tag_named, with_bytes, with_value, without_value}
 use Rattle.place_core.specs.declared.element.Element.{Element}
 use Rattle.place_core.specs.declared.element.Element.TheVariants as element
+use Rattle.place_core.specs.Words.{kind_of}
+use Rattle.place_core.specs.declared.kind.Kind.{Kind}
+use Rattle.place_core.specs.declared.kind.Kind.TheVariants as kind
 use Rattle.place_core.specs.declared.place.Place.{Place}
 use Rattle.place_core.specs.declared.place.Place.TheVariants as place
-use Rattle.place_core.proofs.Semilattices.{none_some}
+use Rattle.place_core.specs.declared.value_place.ValuePlace.{ValuePlace}
+use Rattle.place_core.proofs.Semilattices.{none_some, one_value}
 use Rattle.html_front.specs.Fronts.{Front, At, AfterLess, AfterLessSolidus, InDeclaration, InTagName, InAttributeName, InCommentEnd, InContentEnd, front_error, front_next, front_cut_error, front_place}
 use Rattle.html_step.proofs.FrontOrder.{FrontBelow, FrontValid, front-grows}
+use Rattle.html_step.proofs.OnePath.{WhereFronted, content_fronted, fronted}
 use Rattle.html_step.proofs.ValidSteps.{front-valid}
 use Rattle.text_norm.proofs.Declared.{no-amp-comment, no-amp-doctype}
 use Rattle.text_norm.specs.Fronted.{declaration_open, less_open, front_cut_out, front_open, front_out, place_open, place_out, written_from}
-use Rattle.text_norm.specs.Written.{cut_out, out, written}
+use Rattle.text_norm.specs.Written.{cut_out, out, reference_out, text_out, value_out, written}
 
 -- A front and one above it.
 record Same (f g : Front) (c : Class) (b : ℕ) (r : Reference) : Type 0 where
@@ -98,22 +103,19 @@ cut-same (InTagName ends name) g r h = ap (λ (z : Front). front_cut_out z r) h
 cut-same (InCommentEnd s) g r h = ap (λ (z : Front). front_cut_out z r) h
 cut-same (InContentEnd e k) g r h = ap (λ (z : Front). front_cut_out z r) h
 
--- A state and its front.
-pub opened : State ValueState → Reference
-opened (Text r) = r
-opened (TagOpen r) = r
-opened (EndTagOpen r) = r
-opened (DeclarationOpen r held) = r
-opened (AttributeValue q tag v r) = r
-opened (InContent e (Characters r) h) = r
-opened s = Closed
+-- The reference that is open in a state; none is told of what no path comes to: behind a `<` in a title none is open any more.
+abbrev pub opened : State ValueState → Option Reference
+opened (Text r) = Some r
+opened (TagOpen r) = Some r
+opened (EndTagOpen r) = Some r
+opened (DeclarationOpen r held) = Some r
+opened (AttributeValue q tag v r) = Some r
+opened (InContent e (Characters r) Nothing) = Some r
+opened (InContent e (Characters Closed) h) = Some Closed
+opened (InContent e (Characters (Open f bytes)) h) = None
+opened s = Some Closed
 
-record Writes (s : State ValueState) (f : Front) (c : Class) (b : ℕ) : Type 0 where
-  outs : out s c b ≡ front_out f c b (opened s)
-  opens : opened (next languages Template s c b) ≡ front_open f c b (opened s)
-
-after-closed : (tag : Tag) → opened (after_tag tag) ≡ Closed
-unfolding opened
+after-closed : (tag : Tag) → opened (after_tag tag) ≡ Some Closed
 after-closed EndTag = refl
 after-closed (StartTag element.Other typed) = refl
 after-closed (StartTag element.Title typed) = refl
@@ -122,8 +124,7 @@ after-closed (StartTag element.Style typed) = refl
 after-closed (StartTag element.Script typed) = refl
 after-closed (StartTag element.DataBlock typed) = refl
 
-before-closed : (c : Class) (b : ℕ) (tag : Tag) → opened (next_before_name c b tag) ≡ Closed
-unfolding opened
+before-closed : (c : Class) (b : ℕ) (tag : Tag) → opened (next_before_name c b tag) ≡ Some Closed
 before-closed White b tag = refl
 before-closed Solidus b tag = refl
 before-closed GreaterThan b tag = after-closed tag
@@ -133,13 +134,11 @@ begin-closed : (c : Class) → (c ≡ Ampersand → ⊥) → Closed ≡ begin_re
 begin-closed Ampersand n = absurd (n refl)
 begin-closed _ n = refl
 
-text-opens : (c : Class) (b : ℕ) → opened (next_text c b Closed) ≡ begin_reference c
-unfolding opened
+text-opens : (c : Class) (b : ℕ) → opened (next_text c b Closed) ≡ Some (begin_reference c)
 text-opens LessThan b = refl
 text-opens c b = refl
 
-less-opens : (r : Reference) (c : Class) (b : ℕ) → opened (next_tag_open Template c b r) ≡ less_open c r
-unfolding opened
+less-opens : (r : Reference) (c : Class) (b : ℕ) → opened (next_tag_open Template c b r) ≡ Some (less_open c r)
 less-opens r (Letter l) b = refl
 less-opens r Solidus b = refl
 less-opens r ExclamationMark b = refl
@@ -147,15 +146,217 @@ less-opens r QuestionMark b = refl
 less-opens r LessThan b = refl
 less-opens r c b = refl
 
-solidus-opens : (c : Class) (b : ℕ) → opened (next_end_tag_open Template c b) ≡ begin_reference c
-unfolding opened
+solidus-opens : (c : Class) (b : ℕ) → opened (next_end_tag_open Template c b) ≡ Some (begin_reference c)
 solidus-opens (Letter l) b = refl
 solidus-opens LessThan b = refl
 solidus-opens c b = refl
 
-declaration-opens : (n : Declaration) (r : Reference) (held : List ℕ) (c : Class) (b : ℕ) → class_of b ≡ c → declared_by (held ++ b ∷ []) ≡ n → opened (next_declaration n Template c b r held) ≡ declaration_open n c r
-unfolding opened
-declaration-opens OpensComment r held c b e k = begin-closed c (λ a. no-amp-comment held b k (e ∙ a))
-declaration-opens OpensDoctype r held c b e k = begin-closed c (λ a. no-amp-doctype held b k (e ∙ a))
+declaration-opens : (n : Declaration) (r : Reference) (held : List ℕ) (c : Class) (b : ℕ) → class_of b ≡ c → declared_by (held ++ b ∷ []) ≡ n → opened (next_declaration n Template c b r held) ≡ Some (declaration_open n c r)
+declaration-opens OpensComment r held c b e k = ap Some (begin-closed c (λ a. no-amp-comment held b k (e ∙ a)))
+declaration-opens OpensDoctype r held c b e k = ap Some (begin-closed c (λ a. no-amp-doctype held b k (e ∙ a)))
 declaration-opens Undecided r held c b e k = refl
 declaration-opens OpensNothing r held c b e k = text-opens c b
+
+tag-name-opens : (c : Class) (b : ℕ) (ends : Bool) (name : List ℕ) → opened (next_tag_name c b ends name) ≡ Some Closed
+tag-name-opens White b ends name = refl
+tag-name-opens Solidus b ends name = refl
+tag-name-opens GreaterThan b ends name = after-closed (tag_named ends name)
+tag-name-opens c b ends name = refl
+
+name-opens : (c : Class) (b : ℕ) (tag : Tag) (k : Kind) (name : List ℕ) → opened (next_name c b tag k name) ≡ Some Closed
+name-opens White b tag k name = refl
+name-opens Solidus b tag k name = refl
+name-opens GreaterThan b tag k name = after-closed (without_value tag k)
+name-opens EqualsSign b tag k name = refl
+name-opens c b tag k name = refl
+
+whole-opens : (c : Class) (b : ℕ) (tag : Tag) (k : Kind) → opened (next_whole_name c b tag k) ≡ Some Closed
+whole-opens White b tag k = refl
+whole-opens Solidus b tag k = refl
+whole-opens GreaterThan b tag k = after-closed (without_value tag k)
+whole-opens EqualsSign b tag k = refl
+whole-opens c b tag k = refl
+
+after-name-opens : (c : Class) (b : ℕ) (tag : Tag) (k : Kind) → opened (next_after_name c b tag k) ≡ Some Closed
+after-name-opens White b tag k = refl
+after-name-opens Solidus b tag k = refl
+after-name-opens GreaterThan b tag k = after-closed (without_value tag k)
+after-name-opens EqualsSign b tag k = refl
+after-name-opens c b tag k = refl
+
+before-value-opens : (c : Class) (b : ℕ) (tag : Tag) (k : Kind) → opened (next_before_value languages c b tag k) ≡ Some (next_reference Closed c b)
+before-value-opens White b tag k = refl
+before-value-opens QuotationMark b tag k = refl
+before-value-opens Apostrophe b tag k = refl
+before-value-opens GreaterThan b tag k = after-closed (without_value tag k)
+before-value-opens c b tag k = refl
+
+comment-ends : (ended : Bool) → opened (comment_ended ended) ≡ Some Closed
+comment-ends true = refl
+comment-ends false = refl
+
+comment-opens : (s : CommentState) (c : Class) → opened (next_in_comment c s) ≡ Some Closed
+comment-opens s GreaterThan = comment-ends (closes_comment s)
+comment-opens s c = refl
+
+doctype-opens : (c : Class) → opened (next_in_doctype c) ≡ Some Closed
+doctype-opens GreaterThan = refl
+doctype-opens c = refl
+
+never : false ≡ true → ⊥
+never e = cc
+
+-- a byte that ends a value ends a reference in it
+value-ends : (q : Quoting) (c : Class) (b : ℕ) (r : Reference) → ends_value q c ≡ true → (as_it_stands r ++ b ∷ [] ≡ reference_out r c b) × (Closed ≡ next_reference r c b)
+value-ends DoubleQuoted QuotationMark b Closed e = (refl, refl)
+value-ends DoubleQuoted QuotationMark b (Open f h) e = (refl, refl)
+value-ends SingleQuoted Apostrophe b Closed e = (refl, refl)
+value-ends SingleQuoted Apostrophe b (Open f h) e = (refl, refl)
+value-ends Unquoted White b Closed e = (refl, refl)
+value-ends Unquoted White b (Open f h) e = (refl, refl)
+value-ends Unquoted GreaterThan b Closed e = (refl, refl)
+value-ends Unquoted GreaterThan b (Open f h) e = (refl, refl)
+value-ends DoubleQuoted c b r e = absurd (never e)
+value-ends SingleQuoted c b r e = absurd (never e)
+value-ends Unquoted c b r e = absurd (never e)
+
+after-value-opens : (q : Quoting) (c : Class) (b : ℕ) (tag : Tag) → opened (next_after_value q c b tag) ≡ Some Closed
+after-value-opens DoubleQuoted c b tag = refl
+after-value-opens SingleQuoted c b tag = refl
+after-value-opens Unquoted c b tag = before-closed c b tag
+
+value-writes : (ends : Bool) (q : Quoting) (tag : Tag) (v : Value ValueState) (r : Reference) (c : Class) (b : ℕ) → ends_value q c ≡ ends
+    → (value_out ends c b r ≡ reference_out r c b) × (opened (next_value languages ends q c b tag v r) ≡ Some (next_reference r c b))
+value-writes true q tag v r c b e = (let w = value-ends q c b r e in (w.0, after-value-opens q c b (with_value tag (with_bytes languages v (settled true r))) ∙ ap Some w.1))
+value-writes false q tag v r c b e = (refl, refl)
+
+-- a title and a textarea
+loose-opens : (e : Element) (r : Reference) (c : Class) (b : ℕ) → opened (next_loose c b e (Characters r)) ≡ Some (next_reference r c b)
+loose-opens e Closed LessThan b = refl
+loose-opens e (Open f h) LessThan b = refl
+loose-opens e r c b = refl
+
+content-less-opens : (e : Element) (c : Class) (b : ℕ) → opened (next_less c b e (Characters Closed)) ≡ Some (begin_reference c)
+content-less-opens e Solidus b = refl
+content-less-opens e ExclamationMark b = refl
+content-less-opens e LessThan b = refl
+content-less-opens e c b = refl
+
+end-name-opens : (grows whole : Bool) (e : Element) (letters : List ℕ) (c : Class) (b : ℕ) → opened (next_end_name grows whole c b e (Characters Closed) letters) ≡ Some (begin_reference c)
+end-name-opens true whole e letters (Letter l) b = refl
+end-name-opens grows true e letters White b = refl
+end-name-opens grows true e letters Solidus b = refl
+end-name-opens grows true e letters GreaterThan b = refl
+end-name-opens grows whole e letters c b = loose-opens e Closed c b
+
+-- A state and its front: what is written at a byte, and the reference that is open behind it.
+record Writes (s : State ValueState) (f : Front) (c : Class) (b : ℕ) (r : Reference) : Type 0 where
+  outs : out s c b ≡ front_out f c b r
+  opens : opened (next languages Template s c b) ≡ Some (front_open f c b r)
+
+abbrev WritesAt : State ValueState → Class → ℕ → Type 0
+WritesAt s c b = WhereFronted (fronted s) (λ f. (r : Reference) → opened s ≡ Some r → Writes s f c b r)
+
+at-one : (s : State ValueState) (f : Front) (c : Class) (b : ℕ) (a r : Reference) → Some a ≡ Some r → Writes s f c b a → Writes s f c b r
+at-one s f c b a r e w = subst (Writes s f c b) (one_value a r e) w
+
+text-writes : (a : Reference) (c : Class) (b : ℕ) → Writes (Text a) (At place.Text) c b a
+text-writes a LessThan b = record { outs = refl; opens = refl }
+text-writes a c b = record { outs = refl; opens = refl }
+
+comment-writes : (s : CommentState) (c : Class) (b : ℕ) → WritesAt (InComment s) c b
+comment-writes Started c b = λ r e. at-one (InComment Started) _ c b Closed r e (record { outs = refl; opens = comment-opens Started c })
+comment-writes StartedDash c b = λ r e. at-one (InComment StartedDash) _ c b Closed r e (record { outs = refl; opens = comment-opens StartedDash c })
+comment-writes Inside c b = λ r e. at-one (InComment Inside) _ c b Closed r e (record { outs = refl; opens = comment-opens Inside c })
+comment-writes Dash c b = λ r e. at-one (InComment Dash) _ c b Closed r e (record { outs = refl; opens = comment-opens Dash c })
+comment-writes DashDash c b = λ r e. at-one (InComment DashDash) _ c b Closed r e (record { outs = refl; opens = comment-opens DashDash c })
+comment-writes Bang c b = λ r e. at-one (InComment Bang) _ c b Closed r e (record { outs = refl; opens = comment-opens Bang c })
+comment-writes Broken c b = λ r e. at-one (InComment Broken) _ c b Closed r e (record { outs = refl; opens = comment-opens Broken c })
+
+before-value-writes : (tag : Tag) (k : Kind) (c : Class) (b : ℕ) → WritesAt (BeforeAttributeValue tag k) c b
+before-value-writes tag kind.Plain c b = λ r e. at-one (BeforeAttributeValue tag kind.Plain) _ c b Closed r e (record { outs = refl; opens = before-value-opens c b tag kind.Plain })
+before-value-writes tag kind.NoHole c b = λ r e. at-one (BeforeAttributeValue tag kind.NoHole) _ c b Closed r e (record { outs = refl; opens = before-value-opens c b tag kind.NoHole })
+before-value-writes tag kind.Url c b = tt
+before-value-writes tag kind.Script c b = tt
+before-value-writes tag kind.Style c b = tt
+before-value-writes tag kind.ScriptType c b = tt
+
+value-writes-at : (q : Quoting) (tag : Tag) (k : Kind) (a : Reference) (v : ValuePlace) (c : Class) (b : ℕ) → Writes (AttributeValue q tag (ValueOf k) a) (At (place.Value v)) c b a
+value-writes-at q tag k a v c b = (let w = value-writes (ends_value q c) q tag (ValueOf k) a c b refl in record { outs = w.0; opens = w.1 })
+
+in-value-writes : (q : Quoting) (tag : Tag) (v : Value ValueState) (a : Reference) (c : Class) (b : ℕ) → WritesAt (AttributeValue q tag v a) c b
+in-value-writes q tag (ValueOf kind.Plain) a c b = λ r e. at-one (AttributeValue q tag (ValueOf kind.Plain) a) _ c b a r e (value-writes-at q tag kind.Plain a _ c b)
+in-value-writes q tag (ValueOf kind.NoHole) a c b = λ r e. at-one (AttributeValue q tag (ValueOf kind.NoHole) a) _ c b a r e (value-writes-at q tag kind.NoHole a _ c b)
+in-value-writes q tag (ValueOf kind.Url) a c b = tt
+in-value-writes q tag (ValueOf kind.Script) a c b = tt
+in-value-writes q tag (ValueOf kind.Style) a c b = tt
+in-value-writes q tag (ValueOf kind.ScriptType) a c b = tt
+in-value-writes q tag (TypeSoFar before) a c b = tt
+
+loose-writes : (e : Element) (a : Reference) (c : Class) (b : ℕ) → Writes (InContent e (Characters a) Nothing) (At (place.Rcdata e)) c b a
+loose-writes e a c b = record { outs = refl; opens = loose-opens e a c b }
+
+less-writes : (e : Element) (c : Class) (b : ℕ) → Writes (InContent e (Characters Closed) HeldLess) (InContentEnd e HeldLess) c b Closed
+less-writes e c b = record { outs = refl; opens = content-less-opens e c b }
+
+end-writes : (e : Element) (letters : List ℕ) (c : Class) (b : ℕ) → Writes (InContent e (Characters Closed) (HeldName letters)) (InContentEnd e (HeldName letters)) c b Closed
+end-writes e letters c b = record { outs = refl; opens = end-name-opens (may_be_name_of e (letters ++ b ∷ [])) (is_name_of e letters) e letters c b }
+
+not-open : (r : Reference) → None ≡ Some r → ⊥
+not-open r e = cc
+
+none-fronted : (e : Element) (h : Held) (a : Reference) (c : Class) (b : ℕ) → content_fronted h e ≡ None → WritesAt (InContent e (Characters a) h) c b
+none-fronted e h a c b n = subst (λ (o : Option Front). WhereFronted o (λ f. (r : Reference) → opened (InContent e (Characters a) h) ≡ Some r → Writes (InContent e (Characters a) h) f c b r)) (sym n) tt
+
+no-front : (h : Held) → (content_fronted h element.Other ≡ None) × (content_fronted h element.Style ≡ None) × (content_fronted h element.Script ≡ None) × (content_fronted h element.DataBlock ≡ None)
+no-front Nothing = (refl, refl, refl, refl)
+no-front HeldLess = (refl, refl, refl, refl)
+no-front (HeldName letters) = (refl, refl, refl, refl)
+no-front HeldBang = (refl, refl, refl, refl)
+no-front HeldBangDash = (refl, refl, refl, refl)
+
+content-writes : (e : Element) (a : Reference) (h : Held) (c : Class) (b : ℕ) → WritesAt (InContent e (Characters a) h) c b
+content-writes element.Title a Nothing c b = λ r e. at-one (InContent element.Title (Characters a) Nothing) _ c b a r e (loose-writes element.Title a c b)
+content-writes element.Textarea a Nothing c b = λ r e. at-one (InContent element.Textarea (Characters a) Nothing) _ c b a r e (loose-writes element.Textarea a c b)
+content-writes element.Title Closed HeldLess c b = λ r e. at-one (InContent element.Title (Characters Closed) HeldLess) _ c b Closed r e (less-writes element.Title c b)
+content-writes element.Textarea Closed HeldLess c b = λ r e. at-one (InContent element.Textarea (Characters Closed) HeldLess) _ c b Closed r e (less-writes element.Textarea c b)
+content-writes element.Title Closed (HeldName letters) c b = λ r e. at-one (InContent element.Title (Characters Closed) (HeldName letters)) _ c b Closed r e (end-writes element.Title letters c b)
+content-writes element.Textarea Closed (HeldName letters) c b = λ r e. at-one (InContent element.Textarea (Characters Closed) (HeldName letters)) _ c b Closed r e (end-writes element.Textarea letters c b)
+content-writes element.Title (Open f bytes) HeldLess c b = λ r e. absurd (not-open r e)
+content-writes element.Textarea (Open f bytes) HeldLess c b = λ r e. absurd (not-open r e)
+content-writes element.Title (Open f bytes) (HeldName letters) c b = λ r e. absurd (not-open r e)
+content-writes element.Textarea (Open f bytes) (HeldName letters) c b = λ r e. absurd (not-open r e)
+content-writes element.Title a HeldBang c b = tt
+content-writes element.Title a HeldBangDash c b = tt
+content-writes element.Textarea a HeldBang c b = tt
+content-writes element.Textarea a HeldBangDash c b = tt
+content-writes element.Other a h c b = none-fronted element.Other h a c b (no-front h).0
+content-writes element.Style a h c b = none-fronted element.Style h a c b (no-front h).1
+content-writes element.Script a h c b = none-fronted element.Script h a c b (no-front h).2
+content-writes element.DataBlock a h c b = none-fronted element.DataBlock h a c b (no-front h).3
+
+writes : (s : State ValueState) (c : Class) (b : ℕ) → class_of b ≡ c → WritesAt s c b
+writes (Text a) c b k = λ r e. at-one (Text a) (At place.Text) c b a r e (text-writes a c b)
+writes (TagOpen a) c b k = λ r e. at-one (TagOpen a) AfterLess c b a r e (record { outs = refl; opens = less-opens a c b })
+writes (EndTagOpen a) c b k = λ r e. at-one (EndTagOpen a) AfterLessSolidus c b a r e (record { outs = refl; opens = solidus-opens c b })
+writes (DeclarationOpen a held) c b k = λ r e. at-one (DeclarationOpen a held) (InDeclaration held) c b a r e (record { outs = refl; opens = declaration-opens (declared_by (held ++ b ∷ [])) a held c b k refl })
+writes (InComment s) c b k = comment-writes s c b
+writes BogusComment c b k = tt
+writes InDoctype c b k = λ r e. at-one InDoctype (At place.Doctype) c b Closed r e (record { outs = refl; opens = doctype-opens c })
+writes (TagName ends name) c b k = λ r e. at-one (TagName ends name) (InTagName ends name) c b Closed r e (record { outs = refl; opens = tag-name-opens c b ends name })
+writes (WholeTagName t) c b k = λ r e. at-one (WholeTagName t) _ c b Closed r e (record { outs = refl; opens = before-closed c b t })
+writes (BeforeAttributeName t) c b k = λ r e. at-one (BeforeAttributeName t) _ c b Closed r e (record { outs = refl; opens = before-closed c b t })
+writes (AttributeName t name) c b k = λ r e. at-one (AttributeName t name) _ c b Closed r e (record { outs = refl; opens = name-opens c b t (kind_of (element_on t) name) name })
+writes (WholeAttributeName t j) c b k = λ r e. at-one (WholeAttributeName t j) _ c b Closed r e (record { outs = refl; opens = whole-opens c b t j })
+writes (AfterAttributeName t j) c b k = λ r e. at-one (AfterAttributeName t j) _ c b Closed r e (record { outs = refl; opens = after-name-opens c b t j })
+writes (BeforeAttributeValue t j) c b k = before-value-writes t j c b
+writes (AttributeValue q t v a) c b k = in-value-writes q t v a c b
+writes (AfterAttributeValue t) c b k = λ r e. at-one (AfterAttributeValue t) _ c b Closed r e (record { outs = refl; opens = before-closed c b t })
+writes (SelfClosingStartTag t) c b k = λ r e. at-one (SelfClosingStartTag t) _ c b Closed r e (record { outs = refl; opens = before-closed c b t })
+writes (InContent x (Characters a) h) c b k = content-writes x a h c b
+writes (InContent x Bytes h) c b k = tt
+writes Unread c b k = tt
+
+-- .. and at the end of a text
+CutAt : State ValueState → Type 0
+CutAt s = WhereFronted (fronted s) (λ f. (r : Reference) → opened s ≡ Some r → cut_out s ≡ front_cut_out f r)
