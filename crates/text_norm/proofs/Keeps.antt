@@ -2,9 +2,10 @@
 use Rattle.std.proofs.Common.{◌≡◌, ℕ, ◌+◌, ◌-◌, Bool, true, false, codes, List, [], ◌∷◌, ◌++◌, Option, Some, None, refl, sym, ap, ◌∙◌, subst}
 use Rattle.place_core.specs.Classes.{Class, White, QuotationMark, Ampersand, Apostrophe, Solidus, LessThan, EqualsSign, GreaterThan, Letter, class_of}
 use Rattle.place_core.specs.Comments.{closes_comment, comment_ended, next_in_comment}
-use Rattle.place_core.specs.Errors.{Cause, Refusal, at_hand, bare_error, byte_error, content_error, first_of, kind_error, quotes_error, refusal_from, standing_at, tag_error, unless_second, is_second_type}
+use Rattle.place_core.specs.Errors.{Cause, Refusal, at_hand, bare_error, byte_error, content_error, first_of, kind_error, quotes_error, refusal_from, standing_at, states, tag_error, unless_second, is_second_type}
 use Rattle.place_core.specs.Events.{Event, text_bytes}
 use Rattle.place_core.specs.Html.{byte_over, next, read_over, tells}
+use Rattle.place_core.specs.Membership.{IsIn}
 use Rattle.place_core.specs.Paths.{at_cut, read_node, tells_cut}
 use Rattle.place_core.specs.References.{Form, Reference, Closed, Open, as_it_stands, settled}
 use Rattle.place_core.specs.StatePlaces.{only_before, quotes_at, tag_of, tag_spot, unbegun}
@@ -17,6 +18,10 @@ use Rattle.place_core.specs.declared.kind.Kind.{Kind}
 use Rattle.place_core.specs.declared.kind.Kind.TheVariants as kind
 use Rattle.place_core.proofs.Readings.{over-append}
 use Rattle.html_step.proofs.OnePath.{none-at-hand, none-unless, some}
+use Rattle.html_step.proofs.OneTexts.{one-text}
+use Rattle.html_step.proofs.WholeTexts.{covers-text, grows-text}
+use Rattle.text_norm.specs.Laws.{KeepsShape}
+use Rattle.text_norm.proofs.Same.{written-on-paths}
 use Rattle.text_norm.specs.Standing.{HeldContentLess, HeldDeclaration, HeldEndName, HeldLessThan, HeldReference, Stands, StandsInContent, StandsInValue, page, value_at}
 use Rattle.text_norm.specs.Written.{cut_out, out, written}
 use Rattle.text_norm.proofs.ContentKeeps.{in-content}
@@ -143,3 +148,18 @@ keeps-from (b ∷ bs) k s t d n h =
     let u = tells languages Template s (class_of b) b t in
     let o = out s (class_of b) b in
     rw (over-append languages Page o (written languages bs z) d) (keeps-from bs (k + 1) z u (page languages o d) m.1 (follows s (class_of b) b t d refl m.0 h))
+
+-- the states of a reading are those of its bytes
+same-states : (bytes : List ℕ) (s : State ValueState) (t : List Event) → (read_over languages Template bytes (config s t)).at ≡ states bytes s
+same-states [] s t = refl
+same-states (b ∷ bs) s t = same-states bs (next languages Template s (class_of b) b) (tells languages Template s (class_of b) b t)
+
+pub keeps-shape : KeepsShape
+keeps-shape bytes p q s t d v i e h =
+    let g = grows-text bytes i.own p q i.valid v i.below e in
+    let n = ((one-text bytes i.own s i.stands).0 g.0 g.1).0 in
+    let c = read_node languages bytes (config s t) in
+    (
+      subst (IsIn q) (sym (ap (at_cut languages) (same-states bytes s t))) (covers-text bytes p q s v i e),
+      subst (λ (z : List ℕ). Stands languages c.at c.told (page languages z d)) (written-on-paths bytes p q s v i e) (keeps-from bytes 0 s t d n h),
+    )

@@ -22,7 +22,12 @@ use Rattle.place_core.proofs.Semilattices.{none_some, one_value}
 use Rattle.html_front.specs.Fronts.{Front, At, AfterLess, AfterLessSolidus, InDeclaration, InTagName, InAttributeName, InCommentEnd, InContentEnd, front_error, front_next, front_cut_error, front_place}
 use Rattle.html_step.proofs.FrontOrder.{FrontBelow, FrontValid, front-grows}
 use Rattle.html_step.proofs.OnePath.{WhereFronted, content_fronted, fronted}
+use Rattle.html_step.proofs.OneTexts.{agrees-at, at-place}
 use Rattle.html_step.proofs.ValidSteps.{front-valid}
+use Rattle.html_step.proofs.WholeTexts.{grows-text, not-refused, text-steps}
+use Rattle.html_step.specs.Steps.{stepped}
+use Rattle.text_norm.specs.Laws.{WrittenOnPaths}
+use Rattle.place_core.specs.StatePlaces.{placed}
 use Rattle.text_norm.proofs.Declared.{no-amp-comment, no-amp-doctype}
 use Rattle.text_norm.specs.Fronted.{declaration_open, less_open, front_cut_out, front_open, front_out, place_open, place_out, written_from}
 use Rattle.text_norm.specs.Written.{cut_out, out, reference_out, text_out, value_out, written}
@@ -358,5 +363,135 @@ writes (InContent x Bytes h) c b k = tt
 writes Unread c b k = tt
 
 -- .. and at the end of a text
-CutAt : State ValueState → Type 0
+abbrev CutAt : State ValueState → Type 0
 CutAt s = WhereFronted (fronted s) (λ f. (r : Reference) → opened s ≡ Some r → cut_out s ≡ front_cut_out f r)
+
+by-one : (f : Front) (a r : Reference) (bytes : List ℕ) → Some a ≡ Some r → bytes ≡ front_cut_out f a → bytes ≡ front_cut_out f r
+by-one f a r bytes e h = subst (λ (z : Reference). bytes ≡ front_cut_out f z) (one_value a r e) h
+
+no-cut : (e : Element) (a : Reference) (h : Held) → content_fronted h e ≡ None → CutAt (InContent e (Characters a) h)
+no-cut e a h n = subst (λ (o : Option Front). WhereFronted o (λ f. (r : Reference) → opened (InContent e (Characters a) h) ≡ Some r → cut_out {B = ValueState} (InContent e (Characters a) h) ≡ front_cut_out f r)) (sym n) tt
+
+content-cuts : (e : Element) (a : Reference) (h : Held) → CutAt (InContent e (Characters a) h)
+content-cuts element.Title a Nothing = λ r e. by-one (At (place.Rcdata element.Title)) a r _ e refl
+content-cuts element.Textarea a Nothing = λ r e. by-one (At (place.Rcdata element.Textarea)) a r _ e refl
+content-cuts element.Title Closed HeldLess = λ r e. refl
+content-cuts element.Textarea Closed HeldLess = λ r e. refl
+content-cuts element.Title Closed (HeldName letters) = λ r e. refl
+content-cuts element.Textarea Closed (HeldName letters) = λ r e. refl
+content-cuts element.Title (Open f bytes) HeldLess = λ r e. refl
+content-cuts element.Textarea (Open f bytes) HeldLess = λ r e. refl
+content-cuts element.Title (Open f bytes) (HeldName letters) = λ r e. refl
+content-cuts element.Textarea (Open f bytes) (HeldName letters) = λ r e. refl
+content-cuts element.Title a HeldBang = tt
+content-cuts element.Title a HeldBangDash = tt
+content-cuts element.Textarea a HeldBang = tt
+content-cuts element.Textarea a HeldBangDash = tt
+content-cuts element.Other a h = no-cut element.Other a h (no-front h).0
+content-cuts element.Style a h = no-cut element.Style a h (no-front h).1
+content-cuts element.Script a h = no-cut element.Script a h (no-front h).2
+content-cuts element.DataBlock a h = no-cut element.DataBlock a h (no-front h).3
+
+value-cuts : (q : Quoting) (tag : Tag) (v : Value ValueState) (a : Reference) → CutAt (AttributeValue q tag v a)
+value-cuts q tag (ValueOf kind.Plain) a = λ r e. by-one (At place.Text) a r _ e refl
+value-cuts q tag (ValueOf kind.NoHole) a = λ r e. by-one (At place.Text) a r _ e refl
+value-cuts q tag (ValueOf kind.Url) a = tt
+value-cuts q tag (ValueOf kind.Script) a = tt
+value-cuts q tag (ValueOf kind.Style) a = tt
+value-cuts q tag (ValueOf kind.ScriptType) a = tt
+value-cuts q tag (TypeSoFar before) a = tt
+
+before-cuts : (tag : Tag) (k : Kind) → CutAt (BeforeAttributeValue tag k)
+before-cuts tag kind.Plain = λ r e. by-one (At place.Text) Closed r _ e refl
+before-cuts tag kind.NoHole = λ r e. by-one (At place.Text) Closed r _ e refl
+before-cuts tag kind.Url = tt
+before-cuts tag kind.Script = tt
+before-cuts tag kind.Style = tt
+before-cuts tag kind.ScriptType = tt
+
+comment-cuts : (s : CommentState) → CutAt (InComment s)
+comment-cuts Started = λ r e. refl
+comment-cuts StartedDash = λ r e. refl
+comment-cuts Inside = λ r e. by-one (At place.Text) Closed r _ e refl
+comment-cuts Dash = λ r e. refl
+comment-cuts DashDash = λ r e. refl
+comment-cuts Bang = λ r e. refl
+comment-cuts Broken = λ r e. by-one (At place.Text) Closed r _ e refl
+
+cuts : (s : State ValueState) → CutAt s
+cuts (Text a) = λ r e. by-one (At place.Text) a r _ e refl
+cuts (TagOpen a) = λ r e. by-one AfterLess a r _ e refl
+cuts (EndTagOpen a) = λ r e. by-one AfterLessSolidus a r _ e refl
+cuts (DeclarationOpen a held) = λ r e. by-one (InDeclaration held) a r _ e refl
+cuts (InComment s) = comment-cuts s
+cuts BogusComment = tt
+cuts InDoctype = λ r e. by-one (At place.Text) Closed r _ e refl
+cuts (TagName ends name) = λ r e. refl
+cuts (WholeTagName t) = λ r e. by-one (At place.Text) Closed r _ e refl
+cuts (BeforeAttributeName t) = λ r e. by-one (At place.Text) Closed r _ e refl
+cuts (AttributeName t name) = λ r e. refl
+cuts (WholeAttributeName t j) = λ r e. by-one (At place.Text) Closed r _ e refl
+cuts (AfterAttributeName t j) = λ r e. by-one (At place.Text) Closed r _ e refl
+cuts (BeforeAttributeValue t j) = before-cuts t j
+cuts (AttributeValue q t v a) = value-cuts q t v a
+cuts (AfterAttributeValue t) = λ r e. by-one (At place.Text) Closed r _ e refl
+cuts (SelfClosingStartTag t) = λ r e. by-one (At place.Text) Closed r _ e refl
+cuts (InContent x (Characters a) h) = content-cuts x a h
+cuts (InContent x Bytes h) = tt
+cuts Unread = tt
+
+-- A path that is at a place has no reference open.
+no-place : (p : Place) → None ≡ Some p → ⊥
+no-place p e = cc
+
+closed-at : (s : State ValueState) (p : Place) → placed s ≡ Some p → opened s ≡ Some Closed
+closed-at (Text Closed) p e = refl
+closed-at (Text (Open f bytes)) p e = absurd (no-place p e)
+closed-at (TagOpen r) p e = absurd (no-place p e)
+closed-at (EndTagOpen r) p e = absurd (no-place p e)
+closed-at (DeclarationOpen r held) p e = absurd (no-place p e)
+closed-at (AttributeValue q t v Closed) p e = refl
+closed-at (AttributeValue q t v (Open f bytes)) p e = absurd (no-place p e)
+closed-at (InContent x (Characters Closed) Nothing) p e = refl
+closed-at (InContent x (Characters Closed) HeldLess) p e = refl
+closed-at (InContent x (Characters Closed) (HeldName letters)) p e = refl
+closed-at (InContent x (Characters Closed) HeldBang) p e = refl
+closed-at (InContent x (Characters Closed) HeldBangDash) p e = refl
+closed-at (InContent x (Characters (Open f bytes)) Nothing) p e = absurd (no-place p e)
+closed-at (InContent x (Characters (Open f bytes)) HeldLess) p e = absurd (no-place p e)
+closed-at (InContent x (Characters (Open f bytes)) (HeldName letters)) p e = absurd (no-place p e)
+closed-at (InContent x (Characters (Open f bytes)) HeldBang) p e = absurd (no-place p e)
+closed-at (InContent x (Characters (Open f bytes)) HeldBangDash) p e = absurd (no-place p e)
+closed-at s p e = refl
+
+-- Whole texts.
+writes-at : (s : State ValueState) (f : Front) (b : ℕ) (r : Reference) → fronted s ≡ Some f → opened s ≡ Some r → Writes s f (class_of b) b r
+writes-at s f b r e o = subst (λ (z : Option Front). WhereFronted z (λ g. (a : Reference) → opened s ≡ Some a → Writes s g (class_of b) b a)) e (writes s (class_of b) b refl) r o
+
+cuts-at : (s : State ValueState) (f : Front) (r : Reference) → fronted s ≡ Some f → opened s ≡ Some r → cut_out s ≡ front_cut_out f r
+cuts-at s f r e o = subst (λ (z : Option Front). WhereFronted z (λ g. (a : Reference) → opened s ≡ Some a → cut_out s ≡ front_cut_out g a)) e (cuts s) r o
+
+same-from : (bytes : List ℕ) (k : ℕ) (s : State ValueState) (f : Front) (r : Reference) (q : Place) → fronted s ≡ Some f → opened s ≡ Some r → stepped k bytes f ≡ Ok q
+    → written languages bytes s ≡ written_from bytes f r
+same-from [] k s f r q e o h = cuts-at s f r e o
+same-from (b ∷ bs) k s f r q e o h =
+    let n = not-refused k (front_error f (class_of b)) (stepped (k + 1) bs (front_next f (class_of b) b)) q h in
+    let w = writes-at s f b r e o in
+    ap₂ (λ (x y : List ℕ). x ++ y) w.outs
+    (same-from bs (k + 1) (next languages Template s (class_of b) b) (front_next f (class_of b) b) (front_open f (class_of b) b r) q ((agrees-at s f b e).steps n.0) w.opens n.1)
+
+above-from : (bytes : List ℕ) (k : ℕ) (f g : Front) (r : Reference) (q : Place) → FrontValid f → FrontBelow f g → stepped k bytes g ≡ Ok q → written_from bytes f r ≡ written_from bytes g r
+above-from [] k f g r q v h e = cut-same f g r h
+above-from (b ∷ bs) k f g r q v h e =
+    let n = not-refused k (front_error g (class_of b)) (stepped (k + 1) bs (front_next g (class_of b) b)) q e in
+    let m = front-grows f g (class_of b) b v h n.0 in
+    let w = front-same f g (class_of b) b r h in
+    ap₂ (λ (x y : List ℕ). x ++ y) w.outs
+    (above-from bs (k + 1) (front_next f (class_of b) b) (front_next g (class_of b) b) (front_open f (class_of b) b r) q (front-valid f (class_of b) b v) m.1 n.1
+    ∙ ap (λ (z : Reference). written_from bs (front_next g (class_of b) b) z) w.opens)
+
+pub written-on-paths : WrittenOnPaths
+written-on-paths bytes p q s v i e =
+    let g = grows-text bytes i.own p q i.valid v i.below e in
+    same-from bytes 0 s (At i.own) Closed g.0 (at-place s i.own i.stands) (closed-at s i.own i.stands) (text-steps bytes i.own g.0 g.1)
+    ∙ above-from bytes 0 (At i.own) (At p) Closed q i.valid i.below (text-steps bytes p q e)

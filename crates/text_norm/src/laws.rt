@@ -1,0 +1,12 @@
+ghost use Rattle.text_norm.specs.Laws.{KeepsShape, WrittenOnPaths};
+
+/// For a text that is accepted at a place the same is written on every path that the place stands for. A law: the call does nothing.
+pub fn written_on_paths()
+    ensures { WrittenOnPaths }
+{}
+
+/// What is written of a text keeps the shape: where a page's reading stands for a path before the text, it stands for it behind what is
+/// written, having told the same. A law: the call does nothing.
+pub fn keeps_shape()
+    ensures { KeepsShape }
+{}
