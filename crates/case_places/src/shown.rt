@@ -3,16 +3,20 @@ use crate::named::place_named;
 use crate::tell::escaper_named;
 use case_table::{Row, Stop, Told, text_of};
 use html_step::{
-    Shown, after_hole, after_text, escape_shown, hole_from, hole_shown, text_from, text_shown,
+    Shown, after_hole, after_text, escape_shown, hole_from, hole_shown, may_escape, text_from,
+    text_shown,
 };
 use page_datum::Datum;
-use place_core::{Member, Place, has, is_valid, join_shown};
+use place_core::{Member, Place, has, is_valid, join, join_shown};
 use std::alloc::{AllocError, Global};
 
+// The most bytes of a text.
+const MOST: usize = 16_777_216;
+
 /// Tells of a call that names members of a place, where several answers may be right: `shown` where the answer is one of those that
-/// the row lists, and else the answer. The members that show that a text, a hole or an escaper is refused (`text_shown`,
-/// `hole_shown`, `escape_shown`), or that two places do not join (`join_shown`), and the one that a member after a text or a hole
-/// comes from (`text_from`, `hole_from`).
+/// the row lists, and else the answer; `none` where the call has nothing to say. The members that show that a text, a hole or an
+/// escaper is refused (`text_shown`, `hole_shown`, `escape_shown`), or that two places do not join (`join_shown`), and the one that
+/// a member after a text or a hole comes from (`text_from`, `hole_from`).
 pub fn tell_shown(out: &mut Told, call: &str, row: &Row) -> Result<(), Stop> {
     let place = place_named(row.text(0)?)?;
     match call {
@@ -28,25 +32,38 @@ pub fn tell_shown(out: &mut Told, call: &str, row: &Row) -> Result<(), Stop> {
 
 fn tell_text_shown(out: &mut Told, place: Place, row: &Row) -> Result<(), Stop> {
     let text = row.text(1)?;
-    if !is_valid(place) || text.len() > 16_777_216 {
+    if !is_valid(place) || text.len() > MOST {
         return Err(Stop::Form);
     }
-    let answer = shown_named(out.alloc(), text_shown(place, text));
-    tell_answer(out, answer, row.list(2)?)
+    match after_text(place, text) {
+        Err(_) => {
+            let answer = shown_named(out.alloc(), text_shown(place, text));
+            tell_answer(out, answer, row.list(2)?)
+        }
+        Ok(_) => tell_none(out),
+    }
 }
 
 fn tell_hole_shown(out: &mut Told, place: Place, row: &Row) -> Result<(), Stop> {
     if !is_valid(place) {
         return Err(Stop::Form);
     }
-    let answer = one_named(out.alloc(), hole_shown(place));
-    tell_answer(out, answer, row.list(1)?)
+    match after_hole(place) {
+        Err(_) => {
+            let answer = one_named(out.alloc(), hole_shown(place));
+            tell_answer(out, answer, row.list(1)?)
+        }
+        Ok(_) => tell_none(out),
+    }
 }
 
 fn tell_escape_shown(out: &mut Told, place: Place, row: &Row) -> Result<(), Stop> {
     let escaper = escaper_named(row.text(1)?)?;
     if !is_valid(place) {
         return Err(Stop::Form);
+    }
+    if may_escape(place, escaper) {
+        return tell_none(out);
     }
     let answer = one_named(out.alloc(), escape_shown(place, escaper));
     tell_answer(out, answer, row.list(2)?)
@@ -57,6 +74,9 @@ fn tell_join_shown(out: &mut Told, one: Place, row: &Row) -> Result<(), Stop> {
     if !is_valid(one) || !is_valid(other) {
         return Err(Stop::Form);
     }
+    if join(one, other).is_some() {
+        return tell_none(out);
+    }
     let (x, y) = join_shown(one, other);
     let answer = two_named(out.alloc(), x, y);
     tell_answer(out, answer, row.list(2)?)
@@ -64,7 +84,7 @@ fn tell_join_shown(out: &mut Told, one: Place, row: &Row) -> Result<(), Stop> {
 
 fn tell_text_from(out: &mut Told, place: Place, row: &Row) -> Result<(), Stop> {
     let (text, member) = (row.text(1)?, member_named(row.text(2)?)?);
-    if !is_valid(place) || text.len() > 16_777_216 {
+    if !is_valid(place) || text.len() > MOST {
         return Err(Stop::Form);
     }
     match after_text(place, text) {
@@ -72,7 +92,7 @@ fn tell_text_from(out: &mut Told, place: Place, row: &Row) -> Result<(), Stop> {
             let answer = one_named(out.alloc(), text_from(place, text, member));
             tell_answer(out, answer, row.list(3)?)
         }
-        _ => Err(Stop::Form),
+        _ => tell_none(out),
     }
 }
 
@@ -86,7 +106,7 @@ fn tell_hole_from(out: &mut Told, place: Place, row: &Row) -> Result<(), Stop> {
             let answer = one_named(out.alloc(), hole_from(place, member));
             tell_answer(out, answer, row.list(2)?)
         }
-        _ => Err(Stop::Form),
+        _ => tell_none(out),
     }
 }
 
@@ -104,6 +124,11 @@ fn one_named(alloc: Global, member: Member) -> Result<String, AllocError> {
 
 fn two_named(alloc: Global, x: Member, y: Member) -> Result<String, AllocError> {
     format!(in alloc; "{x:?}, {y:?}")
+}
+
+fn tell_none(out: &mut Told) -> Result<(), Stop> {
+    out.put("none");
+    Ok(())
 }
 
 // Tells whether an answer is among the right ones, and else the answer.
