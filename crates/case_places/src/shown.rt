@@ -50,7 +50,7 @@ fn tell_hole_shown(out: &mut Told, place: Place, row: &Row) -> Result<(), Stop> 
     }
     match after_hole(place) {
         Err(_) => {
-            let answer = one_named(out.alloc(), hole_shown(place));
+            let answer = shown_named(out.alloc(), hole_shown(place));
             tell_answer(out, answer, row.list(1)?)
         }
         Ok(_) => tell_none(out),
