@@ -1,13 +1,16 @@
+use crate::member::member_named;
+use crate::named::place_named;
+use crate::shown::tell_shown;
 use crate::walk::{Walked, walk};
 use case_table::{Row, Stop, Told, text_of};
 use html_step::{Escaper, after_hole, may_escape, print_place};
 use page_datum::Datum;
 use page_io::Text;
-use place_core::{Chain, Place, San, TEXT, join};
+use place_core::{Chain, Place, San, TEXT, has, join};
 
-/// Tells of a call of `html_step`: where pieces lead to from text (`path`), the chain of a hole after them (`after_hole`), where
-/// pieces lead to from the join of two paths (`joined`), where texts lead to as one and one by one (`cut`), and whether an
-/// escaper may be named after pieces (`may_escape`).
+/// Tells of a call of `html_step`. Places are given by pieces that lead to them from text: where pieces lead to (`path`), the chain of
+/// a hole after them (`after_hole`), where pieces lead to from the join of two paths (`joined`), where texts lead to as one and one
+/// by one (`cut`), and whether an escaper may be named after pieces (`may_escape`). The other calls are given the texts of places.
 pub fn tell_places(out: &mut Told, call: &str, row: &Row) -> Result<(), Stop> {
     match call {
         "path" => tell_walked(out, walk(TEXT, row.list(0)?)?),
@@ -15,7 +18,23 @@ pub fn tell_places(out: &mut Told, call: &str, row: &Row) -> Result<(), Stop> {
         "joined" => tell_joined(out, row)?,
         "cut" => tell_cut(out, row.list(0)?)?,
         "may_escape" => tell_escaper(out, place_after(row.list(0)?)?, row.text(1)?)?,
-        _ => return Err(Stop::Form),
+        _ => tell_named(out, call, row)?,
+    }
+    Ok(())
+}
+
+// Of places by their texts: how one is printed (`printed`), the join of two (`join`), where pieces lead to from one (`after`), whether
+// it has a member (`has`), the chain of a hole there (`hole`), and whether an escaper may be named there (`named escaper`).
+fn tell_named(out: &mut Told, call: &str, row: &Row) -> Result<(), Stop> {
+    let place = place_named(row.text(0)?)?;
+    match call {
+        "printed" => tell_place(out, place),
+        "join" => tell_join(out, place, place_named(row.text(1)?)?),
+        "after" => tell_walked(out, walk(place, row.list(1)?)?),
+        "has" => tell_member(out, place, row.text(1)?)?,
+        "hole" => tell_hole(out, place),
+        "named escaper" => tell_escaper(out, place, row.text(1)?)?,
+        _ => tell_shown(out, call, row)?,
     }
     Ok(())
 }
@@ -116,16 +135,30 @@ fn tell_cut(out: &mut Told, texts: &[Datum]) -> Result<(), Stop> {
     Ok(())
 }
 
-fn tell_escaper(out: &mut Told, place: Place, name: &str) -> Result<(), Stop> {
-    let escaper = match name {
-        "html" => Escaper::Html,
-        "urlquery" => Escaper::Urlquery,
-        _ => return Err(Stop::Form),
-    };
-    out.put(if may_escape(place, escaper) {
-        "may"
-    } else {
-        "not"
-    });
+fn tell_join(out: &mut Told, one: Place, other: Place) {
+    match join(one, other) {
+        Some(place) => tell_place(out, place),
+        None => out.put("none"),
+    }
+}
+
+fn tell_member(out: &mut Told, place: Place, name: &str) -> Result<(), Stop> {
+    let is_there = has(place, member_named(name)?);
+    out.put(if is_there { "has" } else { "not" });
     Ok(())
+}
+
+fn tell_escaper(out: &mut Told, place: Place, name: &str) -> Result<(), Stop> {
+    let is_allowed = may_escape(place, escaper_named(name)?);
+    out.put(if is_allowed { "may" } else { "not" });
+    Ok(())
+}
+
+/// The escaper with the name that templates have for it.
+pub fn escaper_named(name: &str) -> Result<Escaper, Stop> {
+    match name {
+        "html" => Ok(Escaper::Html),
+        "urlquery" => Ok(Escaper::Urlquery),
+        _ => Err(Stop::Form),
+    }
 }

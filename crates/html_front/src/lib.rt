@@ -1,5 +1,5 @@
-// One byte of a template's text: what it leads to from where the text has been read to, and whether it is refused there. What stands in a
-// loop over the bytes is inlined: a front that is passed to a call and back is copied, which takes three times as long.
+// One byte of a template's text: what it leads to from where the text has been read to, and whether it is refused there. The step
+// and the refusal at a place are inlined: a front that is passed to a call and back is copied, which takes three times as long.
 #![tactic(auto)]
 
 mod cause;

@@ -26,7 +26,6 @@ use Rattle.html_step.specs.declared.escaper.Escaper.{Escaper}
 use Rattle.html_step.specs.declared.escaper.Escaper.TheVariants as escaper
 use Rattle.html_step.proofs.BelowFronts.{value-place}
 use Rattle.html_step.proofs.FromSteps.{no}
-use Rattle.html_step.proofs.FromTexts.{own-has}
 use Rattle.html_step.proofs.PlaceParts.{Under, ValueBelow, below-value, under-false}
 
 -- As text: what is below a place is as it is.
@@ -397,17 +396,9 @@ query-shown (place.Value v) w n = value-shown v v.body refl w.1 n
 query-shown (place.Style c) w n = style-shown c (css-shown c w n)
 query-shown p w n = whole-shown p refl refl
 
-query-escape : (p : Place) (x : ShownQuery p) → IsEscapeShown p escaper.Urlquery x.bears
-query-escape p x = (
-  x.there,
-  λ s a i b e.
-      let same : i.own ≡ a = one_value i.own a (sym i.stands ∙ e) in
-      subst (λ (y : Place). in_query y ≡ false) same (x.leads i.own i.below (own-has p s x.bears i b)),
-)
-
 pub escape-shown : (x : Escaper) (p : Place) → IsValid p → may_escape p x ≡ false → IsEscapeShown p x (escape_shows p x)
-escape-shown escaper.Html p v n = (refl, λ s a i b e. same-text a p (subst (λ (x : Place). Below x p) (one_value i.own a (sym i.stands ∙ e)) i.below) ∙ n)
-escape-shown escaper.Urlquery p v n = (let x = query-shown p v n in subst (IsEscapeShown p escaper.Urlquery) (sym x.is) (query-escape p x))
+escape-shown escaper.Html p v n = (refl, λ a w l o. same-text a p l ∙ n)
+escape-shown escaper.Urlquery p v n = (let x = query-shown p v n in subst (IsEscapeShown p escaper.Urlquery) (sym x.is) (x.there, λ a w l o. x.leads a l o))
 
 pub shown-escape : ShownEscape
 shown-escape x p v n = (escape_shows p x, escape-shown x p v n)

@@ -19,6 +19,7 @@ use Rattle.place_core.specs.declared.tag_place.TagPlace.{TagPlace}
 use Rattle.place_core.specs.declared.value_place.ValuePlace.{ValuePlace}
 use Rattle.place_core.proofs.Semilattices.{none_some, one_value}
 use Rattle.html_front.specs.Fronts.{Front, begun, front_place}
+use Rattle.html_step.specs.Laws.{one}
 use Rattle.html_step.specs.HoleOrigins.{hole_origin, hole_shows, quotes_origin}
 use Rattle.html_step.specs.Origins.{typed_origin}
 use Rattle.html_step.specs.HoleLaws.{IsHoleOrigin, IsHoleShown, AcceptsHole, CoversHole, FromHole, GrowsHole, OneHole, ShownHole, ValidHole}
@@ -136,10 +137,13 @@ covers-hole p q c s v i h =
     )
 
 pub accepts-hole : AcceptsHole
-accepts-hole p q c s e v h i r =
-    let g = grows-hole i.own p q c i.valid v i.below h in
-    let own : r.own ≡ i.own = one_value r.own i.own (sym r.stands ∙ i.stands) in
-    none-some e (sym ((one-hole i.own s i.stands).0 g.0 c g.1).0 ∙ subst (λ (a : Place). hole_error a ≡ Some e) own r.refused)
+accepts-hole p q c s e v h i = (
+  λ r.
+      let g = grows-hole i.own p q c i.valid v i.below h in
+      let own : r.own ≡ i.own = one_value r.own i.own (sym r.stands ∙ i.stands) in
+      none-some e (sym ((one-hole i.own s i.stands).0 g.0 c g.1).0 ∙ subst (λ (a : Place). hole_error a ≡ Some e) own r.refused),
+  λ r j k. k,
+)
 
 -- Members.
 abbrev HasAfter : Holed → Member → Type 0
@@ -358,10 +362,10 @@ shown-to (place.Script j) = record { there = refl; refuses = λ a l o. script-re
 shown-to (place.Style j) = record { there = refl; refuses = λ a l o. style-refuses j a l }
 shown-to (place.Block b) = record { there = refl; refuses = λ a l o. block-refuses b a l }
 
-pub shown-hole-at : (p : Place) (e : Code) → IsValid p → after_hole p ≡ Err e → IsHoleShown p e (hole_shows p)
+pub shown-hole-at : (p : Place) (e : Code) → IsValid p → after_hole p ≡ Err e → IsHoleShown p e (one (hole_shows p))
 shown-hole-at p e v h =
     let x = subst (λ (o : Holed). ShownTo o p (hole_shows p)) h (shown-to p) in
     (x.there, λ s i o. record { own = i.own; stands = i.stands; refused = x.refuses i.own i.below (own-has p s (hole_shows p) i o) })
 
 pub shown-hole : ShownHole
-shown-hole p e v h = (hole_shows p, shown-hole-at p e v h)
+shown-hole p e v h = (one (hole_shows p), shown-hole-at p e v h)

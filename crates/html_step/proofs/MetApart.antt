@@ -7,6 +7,7 @@ met-apart = record {
   from = λ bytes p q e h. absurd h;
   joins = λ a b c e h. absurd h;
   stays = λ bytes p q s h i b e k. absurd h;
+  holed = λ p q c e h. h;
   above = λ a b l h. absurd h;
   met = λ p s r i j h. absurd h;
   parted = λ bytes p q s r i j e h. absurd h;

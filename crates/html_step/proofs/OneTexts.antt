@@ -1,5 +1,6 @@
 -- A whole text, from the place of one path.
-use Rattle.std.proofs.Common.{◌≡◌, ℕ, ◌+◌, ◌-◌, zero, suc, List, [], ◌∷◌, take, Option, Some, None, Result, Ok, Err, refl, ap, ◌∙◌, subst, arith}
+use Rattle.std.proofs.Common.{◌≡◌, ◌≤◌, ℕ, ◌+◌, ◌-◌, zero, suc, List, [], ◌∷◌, take, Option, Some, None, Result, Ok, Err, refl, sym, ap, ◌∙◌, subst, arith}
+use Rattle.std.specs.Prelude.{⊤}
 use Rattle.std.specs.Option.{option_map}
 use Rattle.place_core.specs.Classes.{class_of}
 use Rattle.place_core.specs.Errors.{Cause, Refusal, Refuses, byte_error, cut_error, refusal_from, standing_at, node}
@@ -12,7 +13,7 @@ use Rattle.place_core.specs.declared.element.Element.TheVariants as element
 use Rattle.place_core.specs.declared.place.Place.{Place}
 use Rattle.place_core.specs.declared.step_err.StepErr.{StepErr}
 use Rattle.html_front.specs.Fronts.{Front, At, front_next, front_error, front_place, front_cut_error}
-use Rattle.html_step.specs.Laws.{OneText}
+use Rattle.html_step.specs.Laws.{OneBefore, OneText}
 use Rattle.html_step.specs.Steps.{after_text, stepped, unless_refused, front_after, place_before, with_place_before}
 use Rattle.html_step.proofs.OnePath.{fronted, Agrees, Ends, WhereFronted, agrees, ends-agree}
 
@@ -87,29 +88,25 @@ says (b ∷ bs) k s f e =
     byte-says k b bs (front_error f (class_of b)) s (stepped (k + 1) bs (front_next f (class_of b) b)) a.errors
     (λ n. says bs (k + 1) (next languages Template s (class_of b) b) (front_next f (class_of b) b) (a.steps n))
 
--- the place before what is refused
-refused-late : (k n back : ℕ) → k - back ≡ k + suc n → ⊥
+-- the place before a byte, up to the one that is refused
+refused-late : (k n back : ℕ) → k + suc n ≤ k - back → ⊥
 refused-late k n back e = omega (arith, e)
 
-abbrev pub refused_at : ℕ → Result Place Refusal → Type 0
-refused_at at (Ok q) = ⊥
-refused_at at (Err r) = r.at ≡ at
+abbrev pub Reaches : ℕ → Result Place Refusal → Type 0
+Reaches at (Ok q) = ⊤
+Reaches at (Err r) = at ≤ r.at
 
-end-late : (k n : ℕ) (o : Option Cause) (q : Place) → refused_at (k + suc n) (unless_refused k o (Ok q)) → ⊥
-end-late k n None q h = h
-end-late k n (Some x) q h = refused-late k n x.back h
-
-not-late : (k n : ℕ) (o : Option Cause) (r : Result Place Refusal) → refused_at (k + suc n) (unless_refused k o r) → (o ≡ None) × refused_at (k + suc n) r
+not-late : (k n : ℕ) (o : Option Cause) (r : Result Place Refusal) → Reaches (k + suc n) (unless_refused k o r) → (o ≡ None) × Reaches (k + suc n) r
 not-late k n None r h = (refl, h)
 not-late k n (Some x) r h = absurd (refused-late k n x.back h)
 
-later : (k n : ℕ) (r : Result Place Refusal) → refused_at (k + suc n) r → refused_at (k + 1 + n) r
-later k n (Ok q) h = h
+later : (k n : ℕ) (r : Result Place Refusal) → Reaches (k + suc n) r → Reaches (k + 1 + n) r
+later k n (Ok q) h = tt
 later k n (Err r) h = omega (arith, h)
 
-pub place-there : (n : ℕ) (bytes : List ℕ) (k : ℕ) (s : State ValueState) (f : Front) → fronted s ≡ Some f → refused_at (k + n) (stepped k bytes f) → placed (node (take n bytes) s) ≡ Some (front_place (front_after (take n bytes) f))
+pub place-there : (n : ℕ) (bytes : List ℕ) (k : ℕ) (s : State ValueState) (f : Front) → fronted s ≡ Some f → Reaches (k + n) (stepped k bytes f) → placed (node (take n bytes) s) ≡ Some (front_place (front_after (take n bytes) f))
 place-there zero bytes k s f e h = (ends-at s f e).place
-place-there (suc n) [] k s f e h = absurd (end-late k n (front_cut_error f) (front_place f) h)
+place-there (suc n) [] k s f e h = (ends-at s f e).place
 place-there (suc n) (b ∷ bs) k s f e h =
     let a = agrees-at s f b e in
     let l = not-late k n (front_error f (class_of b)) (stepped (k + 1) bs (front_next f (class_of b) b)) h in
@@ -121,9 +118,9 @@ Whole (Ok q) bytes s = (refusal_from 0 bytes s ≡ None) × (placed (node bytes 
 Whole (Err e) bytes s = Refuses bytes s e
 
 whole-of : (bytes : List ℕ) (p : Place) (s : State ValueState) (r : Result Place Refusal) → Says r 0 bytes s
-    → ((at : ℕ) → refused_at (0 + at) r → placed (node (take at bytes) s) ≡ Some (place_before bytes at p)) → Whole (with_place_before bytes p r) bytes s
+    → ((at : ℕ) → Reaches (0 + at) r → placed (node (take at bytes) s) ≡ Some (place_before bytes at p)) → Whole (with_place_before bytes p r) bytes s
 whole-of bytes p s (Ok q) h before = h
-whole-of bytes p s (Err r) h before = record { stands = h; before = before r.at (let e : r.at ≡ 0 + r.at = omega arith in e) }
+whole-of bytes p s (Err r) h before = record { stands = h; before = before r.at (let e : 0 + r.at ≤ r.at = omega arith in e) }
 
 pub whole : (bytes : List ℕ) (p : Place) (s : State ValueState) → placed s ≡ Some p → Whole (after_text bytes p) bytes s
 whole bytes p s e =
@@ -135,3 +132,18 @@ one-text bytes p s h = (
   λ q e. subst (λ (r : Result Place (StepErr Place)). Whole r bytes s) e (whole bytes p s h),
   λ x e. subst (λ (r : Result Place (StepErr Place)). Whole r bytes s) e (whole bytes p s h),
 )
+
+abbrev ReachesAnswer : ℕ → Result Place (StepErr Place) → Type 0
+ReachesAnswer at (Ok q) = ⊤
+ReachesAnswer at (Err e) = at ≤ e.at
+
+reaches : (bytes : List ℕ) (p : Place) (at : ℕ) (r : Result Place Refusal) (o : Result Place (StepErr Place)) → with_place_before bytes p r ≡ o → ReachesAnswer at o → Reaches (0 + at) r
+reaches bytes p at (Ok q) o e h = tt
+reaches bytes p at (Err r) o e h = (let l : at ≤ r.at = subst (ReachesAnswer at) (sym e) h in omega (arith, l))
+
+one-there : (bytes : List ℕ) (p : Place) (s : State ValueState) (at : ℕ) (o : Result Place (StepErr Place)) → placed s ≡ Some p → after_text bytes p ≡ o → ReachesAnswer at o
+    → placed (node (take at bytes) s) ≡ Some (place_before bytes at p)
+one-there bytes p s at o h e r = place-there at bytes 0 s (At p) (at-place s p h) (reaches bytes p at (stepped 0 bytes (At p)) o e r)
+
+pub one-before : OneBefore
+one-before bytes p s at h = (λ q e. one-there bytes p s at (Ok q) h e tt, λ x e l. one-there bytes p s at (Err x) h e l)

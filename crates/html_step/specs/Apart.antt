@@ -6,9 +6,11 @@ use Rattle.place_core.specs.Membership.{IsIn, Bears}
 use Rattle.place_core.specs.Places.{Below, Has, HasApart, joined, side}
 use Rattle.place_core.specs.States.{State}
 use Rattle.place_core.specs.Tags.{ValueState}
+use Rattle.place_core.specs.declared.chain.Chain.{Chain}
 use Rattle.place_core.specs.declared.code.Code.{Code}
 use Rattle.place_core.specs.declared.member.Member.{Member}
 use Rattle.place_core.specs.declared.place.Place.{Place}
+use Rattle.html_step.specs.Holes.{after_hole}
 use Rattle.html_step.specs.Steps.{after_text}
 
 -- two paths are apart here; they come apart within a text, and stay in the beginning of the URL; one stays in it
@@ -37,6 +39,7 @@ pub record ApartLaws : Type 0 where
       → Apart s r × Bears s side × Bears r side))
   pub stays : (bytes : List ℕ) (p q : Place) (s : State ValueState) → HasApart p → IsIn p s → Bears s side → after_text bytes p ≡ Ok q
       → Keeps bytes s → HasApart q
+  pub holed : (p q : Place) (c : Chain) → after_hole p ≡ Ok (q, c) → HasApart q → ⊥
   pub above : (a b : Place) → Below a b → HasApart a → HasApart b
   pub met : (p : Place) (s r : State ValueState) → IsIn p s → IsIn p r → Apart s r → HasApart p
   pub parted : (bytes : List ℕ) (p q : Place) (s r : State ValueState) → IsIn p s → IsIn p r → after_text bytes p ≡ Ok q

@@ -1,6 +1,6 @@
 -- What a step over a hole, and the naming of an escaper, promise of the paths that a place stands for.
 use Rattle.std.specs.Prelude.{◌≡◌, true, false, Some, None, Ok, Err}
-use Rattle.place_core.specs.Errors.{RefusesHole, hole_error}
+use Rattle.place_core.specs.Errors.{ClashesHole, RefusesHole, hole_error}
 use Rattle.place_core.specs.Membership.{IsIn, Bears}
 use Rattle.place_core.specs.Paths.{at_hole}
 use Rattle.place_core.specs.Places.{Below, Has, IsValid}
@@ -12,6 +12,7 @@ use Rattle.place_core.specs.declared.code.Code.{Code}
 use Rattle.place_core.specs.declared.member.Member.{Member}
 use Rattle.place_core.specs.declared.place.Place.{Place}
 use Rattle.html_step.specs.Holes.{after_hole, may_escape}
+use Rattle.html_step.specs.Laws.{Shown, one, two, apart}
 use Rattle.html_step.specs.declared.escaper.Escaper.{Escaper}
 
 -- From the place of one path the step is the path's own: it comes to the place after the hole, or the hole is refused on it.
@@ -22,39 +23,49 @@ OneHole = (p : Place) (s : State ValueState) → placed s ≡ Some p →
 
 -- Each path that a place stands for comes to one for which the place after the hole stands, and its own place has the same chain.
 abbrev pub CoversHole : Type 0
-CoversHole = (p q : Place) (c : Chain) (s : State ValueState) → IsValid p → IsIn p s → after_hole p ≡ Ok (q, c) → IsIn q (at_hole languages s)
-    × ((a : Place) → placed s ≡ Some a → (b : Place) × (after_hole a ≡ Ok (b, c)))
+CoversHole = (p q : Place) (c : Chain) (s : State ValueState) → IsValid p → IsIn p s → after_hole p ≡ Ok (q, c)
+    → IsIn q (at_hole languages s) × ((a : Place) → placed s ≡ Some a → (b : Place) × (after_hole a ≡ Ok (b, c)))
 
--- a member before a hole that a member after it comes from, and one that shows that a hole is refused: on whatever path bears it
+-- A member before a hole that a member after it comes from; and what shows that a hole is refused: a member, on whatever path bears it, or two,
+-- on any two paths that bear them.
 abbrev pub IsHoleOrigin : Place → Member → Member → Type 0
 IsHoleOrigin p y x = Has p x × ((s : State ValueState) → IsIn p s → Bears s x → Bears (at_hole languages s) y)
 
-abbrev pub IsHoleShown : Place → Code → Member → Type 0
-IsHoleShown p e x = Has p x × ((s : State ValueState) → IsIn p s → Bears s x → RefusesHole s e)
+abbrev pub IsHoleShown : Place → Code → Shown → Type 0
+IsHoleShown p e (one x) = Has p x × ((s : State ValueState) → IsIn p s → Bears s x → RefusesHole s e)
+IsHoleShown p e (two x y) = Has p x × Has p y
+    × ((s r : State ValueState) → IsIn p s → Bears s x → IsIn p r → Bears r y → ClashesHole s r e)
+IsHoleShown p e apart = ⊥
 
 abbrev pub FromHole : Type 0
-FromHole = (p q : Place) (c : Chain) (y : Member) → IsValid p → after_hole p ≡ Ok (q, c) → Has q y → (x : Member) × IsHoleOrigin p y x
+FromHole = (p q : Place) (c : Chain) (y : Member) → IsValid p → after_hole p ≡ Ok (q, c) → Has q y
+    → (x : Member) × IsHoleOrigin p y x
 
--- A hole that is refused is refused on each path that bears some member.
+-- A hole that is refused is refused on each path that bears some member, or on any two that bear two.
 abbrev pub ShownHole : Type 0
-ShownHole = (p : Place) (e : Code) → IsValid p → after_hole p ≡ Err e → (x : Member) × IsHoleShown p e x
+ShownHole = (p : Place) (e : Code) → IsValid p → after_hole p ≡ Err e → (h : Shown) × IsHoleShown p e h
 
+-- Where a hole is accepted, it is refused on no path that the place stands for, and on no two of them.
 abbrev pub AcceptsHole : Type 0
-AcceptsHole = (p q : Place) (c : Chain) (s : State ValueState) (e : Code) → IsValid p → after_hole p ≡ Ok (q, c) → IsIn p s → RefusesHole s e → ⊥
+AcceptsHole = (p q : Place) (c : Chain) (s : State ValueState) (e : Code) → IsValid p → after_hole p ≡ Ok (q, c) → IsIn p s
+    → (RefusesHole s e → ⊥) × ((r : State ValueState) → IsIn p r → ClashesHole s r e → ⊥)
 
+-- A valid place below another one is accepted where that one is, with the same chain, and comes to one below.
 abbrev pub GrowsHole : Type 0
-GrowsHole = (p r q : Place) (c : Chain) → IsValid p → IsValid r → Below p r → after_hole r ≡ Ok (q, c) → (a : Place) × (after_hole p ≡ Ok (a, c)) × Below a q
+GrowsHole = (p r q : Place) (c : Chain) → IsValid p → IsValid r → Below p r → after_hole r ≡ Ok (q, c)
+    → (a : Place) × (after_hole p ≡ Ok (a, c)) × Below a q
 
 abbrev pub ValidHole : Type 0
 ValidHole = (p q : Place) (c : Chain) → IsValid p → after_hole p ≡ Ok (q, c) → IsValid q
 
--- An escaper that may be named at a place may be named at each place below it.
+-- An escaper that may be named at a place may be named at each valid place below it.
 abbrev pub GrowsEscape : Type 0
 GrowsEscape = (x : Escaper) (p r : Place) → IsValid p → Below p r → may_escape r x ≡ true → may_escape p x ≡ true
 
--- Where it may not be named there is a member so that it may not on any path that bears it.
+-- Where it may not be named there is a member so that it may not at any valid place below that has the member: so at the place of no path
+-- that bears it.
 abbrev pub IsEscapeShown : Place → Escaper → Member → Type 0
-IsEscapeShown p x m = Has p m × ((s : State ValueState) (a : Place) → IsIn p s → Bears s m → placed s ≡ Some a → may_escape a x ≡ false)
+IsEscapeShown p x m = Has p m × ((a : Place) → IsValid a → Below a p → Has a m → may_escape a x ≡ false)
 
 abbrev pub ShownEscape : Type 0
 ShownEscape = (x : Escaper) (p : Place) → IsValid p → may_escape p x ≡ false → (m : Member) × IsEscapeShown p x m

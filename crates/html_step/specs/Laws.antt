@@ -1,5 +1,5 @@
 -- What a step over a whole text promises of the paths that a place stands for.
-use Rattle.std.specs.Prelude.{◌≡◌, ℕ, List, Some, None, Ok, Err}
+use Rattle.std.specs.Prelude.{◌≡◌, ◌≤◌, ℕ, List, take, Some, None, Ok, Err}
 use Rattle.place_core.specs.Errors.{Refuses, Clashes, refusal_from, node}
 use Rattle.place_core.specs.Membership.{IsIn, Bears}
 use Rattle.place_core.specs.Places.{Below, Has, HasApart, IsValid, side}
@@ -11,7 +11,7 @@ use Rattle.place_core.specs.declared.member.Member.{Member}
 use Rattle.place_core.specs.declared.place.Place.{Place}
 use Rattle.place_core.specs.declared.step_err.StepErr.{StepErr}
 use Rattle.html_step.specs.Apart.{ClashesApart}
-use Rattle.html_step.specs.Steps.{after_text}
+use Rattle.html_step.specs.Steps.{after_text, place_before}
 
 -- From the place of one path the step is the path's own: where it is taken the path is refused nowhere in the text and comes to the place after
 -- it, and else the path is refused, by this code, at this byte, after this place.
@@ -20,9 +20,16 @@ OneText = (bytes : List ℕ) (p : Place) (s : State ValueState) → placed s ≡
     ((q : Place) → after_text bytes p ≡ Ok q → (refusal_from 0 bytes s ≡ None) × (placed (node bytes s) ≡ Some q))
     × ((e : StepErr Place) → after_text bytes p ≡ Err e → Refuses bytes s e)
 
+-- From the place of one path the place before a byte is the path's own, where the text ends there as a node, up to the byte that is refused.
+abbrev pub OneBefore : Type 0
+OneBefore = (bytes : List ℕ) (p : Place) (s : State ValueState) (at : ℕ) → placed s ≡ Some p →
+    ((q : Place) → after_text bytes p ≡ Ok q → placed (node (take at bytes) s) ≡ Some (place_before bytes at p))
+    × ((e : StepErr Place) → after_text bytes p ≡ Err e → at ≤ e.at → placed (node (take at bytes) s) ≡ Some (place_before bytes at p))
+
 -- Each path that a place stands for comes to one for which the place after the text stands.
 abbrev pub CoversText : Type 0
-CoversText = (bytes : List ℕ) (p q : Place) (s : State ValueState) → IsValid p → IsIn p s → after_text bytes p ≡ Ok q → IsIn q (node bytes s)
+CoversText = (bytes : List ℕ) (p q : Place) (s : State ValueState) → IsValid p → IsIn p s → after_text bytes p ≡ Ok q
+    → IsIn q (node bytes s)
 
 -- a member before a text that a member after it comes from: on whatever path bears it
 abbrev pub IsOrigin : List ℕ → Place → Member → Member → Type 0
@@ -30,7 +37,8 @@ IsOrigin bytes p y x = Has p x × ((s : State ValueState) → IsIn p s → Bears
 
 -- A member after the text comes from one before it, on whatever path bears that one.
 abbrev pub FromText : Type 0
-FromText = (bytes : List ℕ) (p q : Place) (y : Member) → IsValid p → after_text bytes p ≡ Ok q → Has q y → (x : Member) × IsOrigin bytes p y x
+FromText = (bytes : List ℕ) (p q : Place) (y : Member) → IsValid p → after_text bytes p ≡ Ok q → Has q y
+    → (x : Member) × IsOrigin bytes p y x
 
 -- What is refused is refused on each path that bears some member, or on any two paths that bear two, or on two that met apart.
 pub data Shown : Type 0 where
@@ -39,21 +47,27 @@ pub data Shown : Type 0 where
   apart : Shown
 
 abbrev pub IsShown : List ℕ → Place → StepErr Place → Shown → Type 0
-IsShown bytes p e (one x) = Has p x × ((s : State ValueState) → IsIn p s → Bears s x → (b : Place) × Refuses bytes s (record { code = e.code; at = e.at; before = b }))
-IsShown bytes p e (two x y) = Has p x × Has p y × ((s r : State ValueState) → IsIn p s → Bears s x → IsIn p r → Bears r y → Clashes bytes s r e.code e.at)
-IsShown bytes p e apart = HasApart p × ((s r : State ValueState) → IsIn p s → Bears s side → IsIn p r → Bears r side → ClashesApart bytes s r e.code e.at)
+IsShown bytes p e (one x) = Has p x
+    × ((s : State ValueState) → IsIn p s → Bears s x → (b : Place) × Refuses bytes s (record { code = e.code; at = e.at; before = b }))
+IsShown bytes p e (two x y) = Has p x × Has p y
+    × ((s r : State ValueState) → IsIn p s → Bears s x → IsIn p r → Bears r y → Clashes bytes s r e.code e.at)
+IsShown bytes p e apart = HasApart p
+    × ((s r : State ValueState) → IsIn p s → Bears s side → IsIn p r → Bears r side → ClashesApart bytes s r e.code e.at)
 
 abbrev pub ShownText : Type 0
-ShownText = (bytes : List ℕ) (p : Place) (e : StepErr Place) → IsValid p → after_text bytes p ≡ Err e → (h : Shown) × IsShown bytes p e h
+ShownText = (bytes : List ℕ) (p : Place) (e : StepErr Place) → IsValid p → after_text bytes p ≡ Err e
+    → (h : Shown) × IsShown bytes p e h
 
 -- Where a text is accepted, no path that the place stands for is refused, and no two of them are refused together.
 abbrev pub AcceptsText : Type 0
 AcceptsText = (bytes : List ℕ) (p q : Place) (s : State ValueState) → IsValid p → after_text bytes p ≡ Ok q → IsIn p s →
-    ((e : StepErr Place) → Refuses bytes s e → ⊥) × ((r : State ValueState) (e : Code) (at : ℕ) → IsIn p r → Clashes bytes s r e at → ⊥)
+    ((e : StepErr Place) → Refuses bytes s e → ⊥)
+    × ((r : State ValueState) (e : Code) (at : ℕ) → IsIn p r → Clashes bytes s r e at → ⊥)
 
--- A place below another one is accepted where that one is, and comes to one below.
+-- A valid place below another one is accepted where that one is, and comes to one below.
 abbrev pub GrowsText : Type 0
-GrowsText = (bytes : List ℕ) (p r q : Place) → IsValid p → IsValid r → Below p r → after_text bytes r ≡ Ok q → (a : Place) × (after_text bytes p ≡ Ok a) × Below a q
+GrowsText = (bytes : List ℕ) (p r q : Place) → IsValid p → IsValid r → Below p r → after_text bytes r ≡ Ok q
+    → (a : Place) × (after_text bytes p ≡ Ok a) × Below a q
 
 abbrev pub ValidText : Type 0
 ValidText = (bytes : List ℕ) (p q : Place) → IsValid p → after_text bytes p ≡ Ok q → IsValid q

@@ -7,8 +7,8 @@ ghost use Rattle.html_step.specs.Holes.{may_escape as may_escape_of};
 use crate::escaper::Escaper;
 use place_core::{Body, Css, Member, Parts, Place};
 
-/// A member of a place that shows that an escaper may not be named there: it may not on any path that bears the member. Where it may be
-/// named the answer says nothing. Takes no memory.
+/// A member of a place that shows that an escaper may not be named there: it may not at any valid place below that has the member, and so
+/// on no path that bears it. Where it may be named the answer says nothing. Takes no memory.
 pub fn escape_shown(place: Place, escaper: Escaper) -> Member
     requires valid { IsValid place }
     ensures { may_escape_of place escaper ≡ false → IsEscapeShown place escaper result }

@@ -18,18 +18,19 @@ pub fn hole_members_come_from_one()
     ensures { FromHole }
 {}
 
-/// Where a hole is refused there is a member so that it is refused on every path that bears it. A law: the call does nothing.
+/// Where a hole is refused there is a member so that it is refused on every path that bears it; or there are two so that it is refused
+/// on any two paths that bear them. A law: the call does nothing.
 pub fn refused_hole_is_shown()
     ensures { ShownHole }
 {}
 
-/// Where a hole is accepted it is refused on no path that the place stands for. A law: the call does nothing.
+/// Where a hole is accepted it is refused on no path that the place stands for, and on no two of them. A law: the call does nothing.
 pub fn accepts_hole_on_all_paths()
     ensures { AcceptsHole }
 {}
 
-/// A place below another one accepts a hole where that one does, with the same chain, and comes to a place below. A law: the call
-/// does nothing.
+/// A valid place below another one accepts a hole where that one does, with the same chain, and comes to a place below. A law: the
+/// call does nothing.
 pub fn hole_keeps_order()
     ensures { GrowsHole }
 {}
@@ -44,8 +45,8 @@ pub fn escapers_keep_order()
     ensures { GrowsEscape }
 {}
 
-/// Where an escaper may not be named there is a member so that it may not be named on any path that bears it. A law: the call does
-/// nothing.
+/// Where an escaper may not be named there is a member so that it may not at any valid place below that has the member, and so on no
+/// path that bears it. A law: the call does nothing.
 pub fn refused_escaper_is_shown()
     ensures { ShownEscape }
 {}

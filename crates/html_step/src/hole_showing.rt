@@ -3,8 +3,10 @@ ghost use Rattle.place_core.specs.Places.{Has, IsValid};
 ghost use Rattle.html_step.specs.HoleLaws.{IsHoleOrigin, IsHoleShown};
 ghost use Rattle.html_step.specs.HoleOrigins.{hole_origin, hole_shows, quotes_origin as quotes_origin_of};
 ghost use Rattle.html_step.specs.Holes.{after_hole as after_hole_of};
+ghost use Rattle.html_step.specs.OriginViews.{shown_at};
 
 use crate::origins::typed_origin;
+use crate::shown::Shown;
 use place_core::{Chain, Code, Member, Place, Quotes};
 
 /// A member of a place that a member of the place after a hole comes from: every path that bears the one comes to bear the other.
@@ -18,13 +20,14 @@ pub fn hole_from(place: Place, member: Member) -> Member
     origin(place, member)
 }
 
-/// A member of a place that shows that a hole is refused there: it is refused on every path that bears the member. Where a hole is
-/// accepted the answer says nothing. Takes no memory.
-pub fn hole_shown(place: Place) -> Member
+/// What shows that a hole is refused at a place: a member of it, on every path of which the hole is refused by the same code, or two, on
+/// any two paths of which it is refused together. Where a hole is accepted the answer says nothing. Takes no memory.
+pub fn hole_shown(place: Place) -> Shown
     requires valid { IsValid place }
-    ensures { (e : Code) → after_hole_of place ≡ Err e → IsHoleShown place e result }
+    ensures { (e : Code) → after_hole_of place ≡ Err e
+        → IsHoleShown place e (shown_at result) }
 {
-    shown(place)
+    Shown::One(shown(place))
 }
 
 fn origin(place: Place, member: Member) -> Member

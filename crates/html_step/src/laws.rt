@@ -1,11 +1,16 @@
 ghost use Rattle.html_step.specs.Apart.{ApartLaws};
-ghost use Rattle.html_step.specs.Laws.{AcceptsText, CoversText, FromText, GrowsText, OneText, ShownText, ValidText};
+ghost use Rattle.html_step.specs.Laws.{AcceptsText, CoversText, FromText, GrowsText, OneBefore, OneText, ShownText, ValidText};
 
 /// From the place of one path a step over a text is the path's own: it is taken exactly where the path is not refused in the text, and
 /// leads to the path's place after it; else it tells by which code the path is refused, at which byte, and its place before that. A
 /// law: the call does nothing.
 pub fn one_path()
     ensures { OneText }
+{}
+
+/// From the place of one path the place before a byte is the path's own, up to the byte that is refused. A law: the call does nothing.
+pub fn one_path_before()
+    ensures { OneBefore }
 {}
 
 /// Each path that a place stands for comes to one for which the place after the text stands. A law: the call does nothing.
@@ -30,7 +35,7 @@ pub fn accepts_all_paths()
     ensures { AcceptsText }
 {}
 
-/// A place below another one accepts what that one accepts, and comes to a place below. A law: the call does nothing.
+/// A valid place below another one accepts what that one accepts, and comes to a place below. A law: the call does nothing.
 pub fn keeps_order()
     ensures { GrowsText }
 {}
@@ -40,8 +45,8 @@ pub fn keeps_valid()
     ensures { ValidText }
 {}
 
-/// What says of a place that two of its paths met apart in the beginning of a URL is kept by texts and joins, and comes from where they
-/// met. No path is in a URL yet. A law: the call does nothing.
+/// What says of a place that two of its paths met apart in the beginning of a URL is kept by texts and joins, ends at a hole, and comes
+/// from where they met. No path is in a URL yet. A law: the call does nothing.
 pub fn paths_that_met_apart()
     ensures { ApartLaws }
 {}

@@ -28,7 +28,7 @@ pub use hole_laws::{
 pub use hole_showing::{hole_from, hole_shown};
 pub use laws::{
     accepts_all_paths, covers_paths, keeps_order, keeps_valid, members_come_from_one, one_path,
-    paths_that_met_apart, refused_is_shown,
+    one_path_before, paths_that_met_apart, refused_is_shown,
 };
 pub use predefined::may_escape;
 pub use printed::print_place;

@@ -200,6 +200,11 @@ hole_error (place.Script js) = Some code.NotBuilt
 hole_error (place.Style css) = Some code.NotBuilt
 hole_error (place.Block lt) = Some code.NotBuilt
 
+-- Two paths at one hole, of which neither is refused, are refused together there. No two are today: it is where both are in one URL, in
+-- different parts of it.
+abbrev pub ClashesHole : State ValueState → State ValueState → Code → Type 0
+ClashesHole s r e = ⊥
+
 -- What is refused of a text, and at which of its bytes; an error of the node's end stands at its length, or before that.
 pub record Refusal : Type 0 where
   pub code : Code

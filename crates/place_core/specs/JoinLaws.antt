@@ -36,7 +36,7 @@ JoinHas = (a b c : Place) (m : Member) → joined a b ≡ Some c → (Has c m �
 abbrev pub HasGrows : Type 0
 HasGrows = (a b : Place) (m : Member) → Below a b → Has a m → Has b m
 
--- two members that show that two places do not join: no places below them that have these join
+-- two members that show that two places do not join: no valid places below them that have these join
 abbrev pub AreTorn : Place → Place → Member → Member → Type 0
 AreTorn a b x y = Has a x × Has b y
     × ((c d : Place) → IsValid c → Below c a → Has c x → IsValid d → Below d b → Has d y → joined c d ≡ None)

@@ -311,7 +311,7 @@ side = member.PartOpen
 abbrev pub HasApart : Place → Type 0
 HasApart p = ⊥
 
--- Which places paths can come to: each set but those of tails has a member.
+-- Which places are valid; paths come to no others. Each set but those of tails has a member.
 abbrev pub is_rcdata : Element → Bool
 is_rcdata element.Title = true
 is_rcdata element.Textarea = true

@@ -8,8 +8,8 @@ use crate::place::Place;
 use crate::tag_of::TagOf;
 use crate::tag_place::TagPlace;
 
-/// Two members, one of each place, that show that the places do not join: no places below them that have these join. Where the places
-/// join the answer says nothing. Takes no memory.
+/// Two members, one of each place, that show that the places do not join: no valid places below them that have these join. Where
+/// the places join the answer says nothing. Takes no memory.
 pub fn join_shown(a: Place, b: Place) -> (Member, Member)
     requires one { IsValid a }
     requires other { IsValid b }

@@ -27,7 +27,7 @@ pub fn below_is_order()
     ensures { BelowIsOrder }
 {}
 
-/// Where paths can come to two places, they can come to the join: each of its sets has a member. A law: the call does nothing.
+/// The join of two valid places is valid. A law: the call does nothing.
 pub fn join_keeps_valid()
     ensures { JoinKeepsValid }
 {}
@@ -42,8 +42,8 @@ pub fn has_grows()
     ensures { HasGrows }
 {}
 
-/// Two places that do not join have two members that show it: no two places below them that have these members join. Where names
-/// of attributes of two kinds clash, these are the places in or after the names. A law: the call does nothing.
+/// Two valid places that do not join have two members that show it: no two valid places below them that have these members join.
+/// Where names of attributes of two kinds clash, these are the places in or after the names. A law: the call does nothing.
 pub fn torn()
     ensures { Torn }
 {}

@@ -4,7 +4,7 @@
 pub enum Member {
     /// Every place has it, and every path bears it.
     Whole,
-    /// An attribute `type` was in the tag.
+    /// A `type` was in the tag of a script.
     Typed,
     /// A piece of text ended in `-` or `--!`, in a comment.
     CommentDash,

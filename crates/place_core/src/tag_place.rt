@@ -7,7 +7,7 @@ use crate::tag_of::TagOf;
 pub struct TagPlace {
     /// The tag.
     pub tag: TagOf,
-    /// Whether the tag may have had an attribute `type`, as behind `<script type=module `.
+    /// Whether the tag, which is a script's, may have had a `type`, as behind `<script type=module `.
     pub typed: bool,
     /// Where in the tag.
     pub spots: Spots,

@@ -15,8 +15,9 @@ use crate::senses::Senses;
 use crate::spots::Spots;
 use crate::tag_place::TagPlace;
 
-/// Whether paths can come to a place: each of its sets but those of what a text ended in has a member, and a kind stands exactly
-/// where the place may be in or after an attribute's name.
+/// Whether a place is valid; paths come to no others. Each of its sets has a member, but for those of what a text ended in; a kind
+/// stands exactly where the place may be in or after an attribute's name; and what the beginning of a URL spells is at least one
+/// letter of its word, and no more than all.
 pub fn is_valid(place: Place) -> bool
     ensures { IsTrue result ↔ IsValid place }
 {

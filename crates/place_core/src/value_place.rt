@@ -7,7 +7,7 @@ use crate::tag_of::TagOf;
 pub struct ValuePlace {
     /// The tag.
     pub tag: TagOf,
-    /// Whether the tag may have had an attribute `type` before this one.
+    /// Whether the tag, which is a script's, may have had a `type` before this attribute.
     pub typed: bool,
     /// The quotes around the value.
     pub quotes: Quotes,
