@@ -1,2 +1,3 @@
 pub mod Fronted
+pub mod ReferenceViews
 pub mod Written

@@ -1,0 +1,50 @@
+ghost use Rattle.std.specs.Prelude.{◌≡◌, ◌+◌, ◌^◌, ◌<◌, ◌≤◌, ℕ, List, IfSome, get_or, length};
+ghost use Rattle.place_core.specs.References.{begin_reference, next_reference};
+ghost use Rattle.html_front.specs.ClassViews.{class_at};
+ghost use Rattle.text_norm.specs.ReferenceViews.{reference_at};
+
+use crate::form::Form;
+use crate::step::{Step, turn};
+use html_front::Class;
+
+/// A reference that has begun: its form, and where the bytes after its `&` begin in the text.
+#[derive(Clone, Copy)]
+pub struct Opened {
+    pub form: Form,
+    pub from: usize,
+}
+
+/// The reference that is open after a byte where none was open.
+pub fn begun(class: Class, index: usize) -> Option<Opened>
+    requires small { index < 2 ^ 63 }
+    ensures reference { (text : List ℕ) → reference_at text (index + 1) result
+        ≡ begin_reference (class_at class) }
+    ensures from { IfSome result (λ opened. opened.from ≤ index + 1) }
+{
+    match class {
+        Class::Ampersand => Some(Opened {
+            form: Form::Begun,
+            from: index + 1,
+        }),
+        _ => None,
+    }
+}
+
+/// The reference that is open after a byte of a text with references.
+pub fn after_byte(reference: Option<Opened>, class: Class, index: usize) -> Option<Opened>
+    requires small { index < 2 ^ 63 }
+    requires from { IfSome reference (λ opened. opened.from ≤ index) }
+    ensures reference { (text : List ℕ) → index < length text
+        → reference_at text (index + 1) result
+        ≡ next_reference (reference_at text index reference) (class_at class) (get_or text index 0) }
+    ensures from { IfSome result (λ opened. opened.from ≤ index + 1) }
+{
+    match reference {
+        None => begun(class, index),
+        Some(opened) => match turn(class, opened.form) {
+            Step::Grows(form) => Some(Opened { form, ..opened }),
+            Step::Closes => None,
+            Step::Breaks => begun(class, index),
+        },
+    }
+}
