@@ -1,3 +1,4 @@
 pub mod Fronted
+pub mod Kept
 pub mod ReferenceViews
 pub mod Written

@@ -21,7 +21,6 @@ step_at (step.Grows f) = Grows (form_at f)
 step_at step.Closes = Closes
 step_at step.Breaks = Breaks
 
--- the reference whose bytes end at `to` in a text
-abbrev pub reference_at : List ℕ → ℕ → Option Opened → Reference
-reference_at text to None = Closed
-reference_at text to (Some o) = Open (form_at o.form) (held text o.from to)
+abbrev pub reference_at : List ℕ → Option Opened → Reference
+reference_at text None = Closed
+reference_at text (Some o) = Open (form_at o.form) (held text o.from o.to)

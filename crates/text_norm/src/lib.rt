@@ -1,6 +1,8 @@
 // The texts of a template as a page gets them.
 #![tactic(auto)]
 
+mod change;
 mod form;
 mod opened;
+mod reading;
 mod step;

@@ -7,42 +7,47 @@ use crate::form::Form;
 use crate::step::{Step, turn};
 use html_front::Class;
 
-/// A reference that has begun: its form, and where the bytes after its `&` begin in the text.
+/// A reference that has begun: its form, and where the bytes after its `&` begin and end in the text.
 #[derive(Clone, Copy)]
 pub struct Opened {
     pub form: Form,
     pub from: usize,
+    pub to: usize,
 }
 
 /// The reference that is open after a byte where none was open.
 pub fn begun(class: Class, index: usize) -> Option<Opened>
     requires small { index < 2 ^ 63 }
-    ensures reference { (text : List ℕ) → reference_at text (index + 1) result
+    ensures reference { (text : List ℕ) → reference_at text result
         ≡ begin_reference (class_at class) }
-    ensures from { IfSome result (λ opened. opened.from ≤ index + 1) }
 {
     match class {
         Class::Ampersand => Some(Opened {
             form: Form::Begun,
             from: index + 1,
+            to: index + 1,
         }),
         _ => None,
     }
 }
 
-/// The reference that is open after a byte of a text with references.
+/// The reference that is open after a byte of a text with references, if it has gone up to the byte.
 pub fn after_byte(reference: Option<Opened>, class: Class, index: usize) -> Option<Opened>
     requires small { index < 2 ^ 63 }
     requires from { IfSome reference (λ opened. opened.from ≤ index) }
+    requires to { IfSome reference (λ opened. opened.to ≡ index) }
     ensures reference { (text : List ℕ) → index < length text
-        → reference_at text (index + 1) result
-        ≡ next_reference (reference_at text index reference) (class_at class) (get_or text index 0) }
-    ensures from { IfSome result (λ opened. opened.from ≤ index + 1) }
+        → reference_at text result
+        ≡ next_reference (reference_at text reference) (class_at class) (get_or text index 0) }
 {
     match reference {
         None => begun(class, index),
         Some(opened) => match turn(class, opened.form) {
-            Step::Grows(form) => Some(Opened { form, ..opened }),
+            Step::Grows(form) => Some(Opened {
+                form,
+                to: index + 1,
+                ..opened
+            }),
             Step::Closes => None,
             Step::Breaks => begun(class, index),
         },
