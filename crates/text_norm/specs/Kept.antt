@@ -1,8 +1,8 @@
 -- What is held back of a text that has been read to a front, and what becomes of it at a byte.
-use Rattle.std.specs.Prelude.{ℕ, ◌+◌, ◌≤◌, Bool, true, false, ◌≡◌, codes, List, [], ◌∷◌, ◌++◌, length, get_or, Option, IfSome}
+use Rattle.std.specs.Prelude.{ℕ, ◌+◌, ◌≤◌, Bool, true, false, ◌≡◌, codes, List, [], ◌∷◌, ◌++◌, length, get_or, Option, IfSome, IsSomeAnd, ◌⊎◌, ◌<◌}
 use Rattle.std.specs.Str.{IsCharBoundary}
-use Rattle.place_core.specs.Classes.{class_of}
-use Rattle.place_core.specs.References.{Reference, Closed, as_it_stands}
+use Rattle.place_core.specs.Classes.{Class, Ampersand, class_of}
+use Rattle.place_core.specs.References.{Reference, Closed, as_it_stands, next_reference}
 use Rattle.place_core.specs.States.{Held, Nothing, HeldLess, HeldName}
 use Rattle.place_core.specs.declared.place.Place.{Place}
 use Rattle.place_core.specs.declared.place.Place.TheVariants as place
@@ -77,6 +77,54 @@ change_of AfterLessSolidus g = less_change g
 change_of (InDeclaration held) g = less_change g
 change_of (InContentEnd e h) g = content_change g
 change_of f g = change.Keeps
+
+-- whether an open reference is held back as it is, with the bytes after it
+abbrev pub goes_on : Front → Bool
+goes_on AfterLessSolidus = true
+goes_on (InDeclaration held) = true
+goes_on g = false
+
+abbrev pub begins_less : Front → Bool
+begins_less AfterLess = true
+begins_less g = false
+
+abbrev pub stays : Front → Front → Bool
+stays (At place.Text) g = begins_less g
+stays AfterLess g = goes_on g
+stays (InDeclaration held) g = goes_on g
+stays f g = false
+
+-- the reference that is open after a byte that stays as it is, by the fronts before and after it
+abbrev pub place_kept : Place → Class → ℕ → Reference → Reference
+place_kept place.Text c b r = next_reference r c b
+place_kept (place.Rcdata e) c b r = next_reference r c b
+place_kept (place.Value v) c b r = next_reference r c b
+place_kept p c b r = Closed
+
+abbrev pub front_kept : Front → Class → ℕ → Reference → Reference
+front_kept (At p) c b r = place_kept p c b r
+front_kept f c b r = Closed
+
+abbrev pub reference_kept : Bool → Front → Class → ℕ → Reference → Reference
+reference_kept true f c b r = r
+reference_kept false f c b r = front_kept f c b r
+
+-- a reference after a byte: begun by it, or gone on with
+pub record IsBegun (c : Class) (index : ℕ) (opened : Opened) : Type 0 where
+  pub by : c ≡ Ampersand
+  pub from : opened.from ≡ index + 1
+
+abbrev pub IsLonger : Option Opened → Opened → Type 0
+IsLonger reference opened = IsSomeAnd reference (λ before. opened.from ≡ before.from)
+
+pub record IsReadTo (c : Class) (index : ℕ) (reference : Option Opened) (opened : Opened) : Type 0 where
+  pub to : opened.to ≡ index + 1
+  pub order : opened.from ≤ index + 1
+  pub origin : IsBegun c index opened ⊎ IsLonger reference opened
+
+abbrev pub Continues : Bool → Class → ℕ → Option Opened → Option Opened → Type 0
+Continues true c index reference after = after ≡ reference
+Continues false c index reference after = IfSome after (IsReadTo c index reference)
 
 -- a reading of so many bytes of a text
 abbrev pub front_of : List ℕ → ℕ → Reading → Front

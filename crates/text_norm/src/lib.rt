@@ -1,6 +1,7 @@
 // The texts of a template as a page gets them.
 #![tactic(auto)]
 
+mod bearing;
 mod change;
 mod form;
 mod opened;

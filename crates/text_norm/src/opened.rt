@@ -1,6 +1,7 @@
-ghost use Rattle.std.specs.Prelude.{◌≡◌, ◌+◌, ◌^◌, ◌<◌, ◌≤◌, ℕ, List, IfSome, get_or, length};
+ghost use Rattle.std.specs.Prelude.{◌≡◌, ◌+◌, ◌^◌, ◌<◌, ◌≤◌, ℕ, List, IfSome, get_or, length, Option};
 ghost use Rattle.place_core.specs.References.{begin_reference, next_reference};
 ghost use Rattle.html_front.specs.ClassViews.{class_at};
+ghost use Rattle.text_norm.specs.Kept.{IsReadTo};
 ghost use Rattle.text_norm.specs.ReferenceViews.{reference_at};
 
 use crate::form::Form;
@@ -20,6 +21,8 @@ pub fn begun(class: Class, index: usize) -> Option<Opened>
     requires small { index < 2 ^ 63 }
     ensures reference { (text : List ℕ) → reference_at text result
         ≡ begin_reference (class_at class) }
+    ensures so { (reference : Option Opened)
+        → IfSome result (IsReadTo (class_at class) index reference) }
 {
     match class {
         Class::Ampersand => Some(Opened {
@@ -31,14 +34,15 @@ pub fn begun(class: Class, index: usize) -> Option<Opened>
     }
 }
 
-/// The reference that is open after a byte of a text with references, if it has gone up to the byte.
+/// The reference that is open after a byte of a text with references.
 pub fn after_byte(reference: Option<Opened>, class: Class, index: usize) -> Option<Opened>
     requires small { index < 2 ^ 63 }
     requires from { IfSome reference (λ opened. opened.from ≤ index) }
-    requires to { IfSome reference (λ opened. opened.to ≡ index) }
     ensures reference { (text : List ℕ) → index < length text
+        → IfSome reference (λ opened. opened.to ≡ index)
         → reference_at text result
         ≡ next_reference (reference_at text reference) (class_at class) (get_or text index 0) }
+    ensures so { IfSome result (IsReadTo (class_at class) index reference) }
 {
     match reference {
         None => begun(class, index),
