@@ -1,1 +1,2 @@
+mod ByteLaws
 pub mod WorkedTexts
