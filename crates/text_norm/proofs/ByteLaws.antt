@@ -54,6 +54,7 @@ pub record KeepsBytes (f g : Front) (r s : Reference) (c : Class) (b : ℕ) (wri
   pub before : hides f ≡ false
   pub kept : reference_kept (stays f g) f c b r ≡ s
   pub out : stays f g ≡ true → written ≡ []
+  pub alone : stays f g ≡ false → c ≡ Ampersand → less_kept g ≡ []
 
 pub record EscapesBytes (f g : Front) (r s : Reference) (c : Class) (b : ℕ) (written : List ℕ) : Type 0 where
   pub more : List ℕ
@@ -62,6 +63,7 @@ pub record EscapesBytes (f g : Front) (r s : Reference) (c : Class) (b : ℕ) (w
   pub out : written ≡ as_it_stands r ++ (codes "&lt;" ++ again)
   pub bytes : again ++ (as_it_stands s ++ less_kept g) ≡ more ++ b ∷ []
   pub reference : s ≡ begin_reference c
+  pub alone : c ≡ Ampersand → less_kept g ≡ []
   pub closed : bears g ≡ false → s ≡ Closed
   pub shown : hides g ≡ false
   pub before : hides f ≡ false
@@ -128,6 +130,7 @@ with_references f g r c b p less_f less_g closed shown before moves kept = recor
   before = before;
   kept = rw moves kept;
   out = λ h. absurd (no (sym moves ∙ h));
+  alone = λ h k. less_g;
 }
 
 -- and without
@@ -139,6 +142,7 @@ without_references f g r c b less loose before moves kept closed = record {
   before = before;
   kept = rw moves kept;
   out = λ h. absurd (no (sym moves ∙ h));
+  alone = λ h k. loose.less;
 }
 
 in_text : (c : Class) (b : ℕ) (r : Reference) → Spelled c b → Law (At place.Text) (text_front c) r (front_open (At place.Text) c b r) c b (text_out c b r)
@@ -152,7 +156,7 @@ in_text HyphenMinus b r p = with_references (At place.Text) (At place.Text) r Hy
 in_text Solidus b r p = with_references (At place.Text) (At place.Text) r Solidus b p refl refl (λ h. absurd (yes h)) refl refl refl refl
 in_text Digit b r p = with_references (At place.Text) (At place.Text) r Digit b p refl refl (λ h. absurd (yes h)) refl refl refl refl
 in_text Semicolon b r p = with_references (At place.Text) (At place.Text) r Semicolon b p refl refl (λ h. absurd (yes h)) refl refl refl refl
-in_text LessThan b r p = record { bytes = rw p refl; closed = λ h. cc; shown = refl; before = refl; kept = refl; out = λ h. refl }
+in_text LessThan b r p = record { bytes = rw p refl; closed = λ h. cc; shown = refl; before = refl; kept = refl; out = λ h. refl; alone = λ h k. absurd (yes h) }
 in_text EqualsSign b r p = with_references (At place.Text) (At place.Text) r EqualsSign b p refl refl (λ h. absurd (yes h)) refl refl refl refl
 in_text GreaterThan b r p = with_references (At place.Text) (At place.Text) r GreaterThan b p refl refl (λ h. absurd (yes h)) refl refl refl refl
 in_text QuestionMark b r p = with_references (At place.Text) (At place.Text) r QuestionMark b p refl refl (λ h. absurd (yes h)) refl refl refl refl
@@ -175,7 +179,7 @@ in_rcdata HyphenMinus b e r p = with_references (At (place.Rcdata e)) (At (place
 in_rcdata Solidus b e r p = with_references (At (place.Rcdata e)) (At (place.Rcdata e)) r Solidus b p refl refl (λ h. absurd (yes h)) refl refl refl refl
 in_rcdata Digit b e r p = with_references (At (place.Rcdata e)) (At (place.Rcdata e)) r Digit b p refl refl (λ h. absurd (yes h)) refl refl refl refl
 in_rcdata Semicolon b e r p = with_references (At (place.Rcdata e)) (At (place.Rcdata e)) r Semicolon b p refl refl (λ h. absurd (yes h)) refl refl refl refl
-in_rcdata LessThan b e r p = record { bytes = rw (ends_at_less r b, p) refl; closed = λ h. ends_at_less r b; shown = refl; before = refl; kept = refl; out = λ h. absurd (no h) }
+in_rcdata LessThan b e r p = record { bytes = rw (ends_at_less r b, p) refl; closed = λ h. ends_at_less r b; shown = refl; before = refl; kept = refl; out = λ h. absurd (no h); alone = λ h k. cc }
 in_rcdata EqualsSign b e r p = with_references (At (place.Rcdata e)) (At (place.Rcdata e)) r EqualsSign b p refl refl (λ h. absurd (yes h)) refl refl refl refl
 in_rcdata GreaterThan b e r p = with_references (At (place.Rcdata e)) (At (place.Rcdata e)) r GreaterThan b p refl refl (λ h. absurd (yes h)) refl refl refl refl
 in_rcdata QuestionMark b e r p = with_references (At (place.Rcdata e)) (At (place.Rcdata e)) r QuestionMark b p refl refl (λ h. absurd (yes h)) refl refl refl refl
@@ -430,6 +434,44 @@ shown-content GraveAccent e = refl
 shown-content (Letter l) e = refl
 shown-content OtherByte e = refl
 
+alone-text : (c : Class) → c ≡ Ampersand → less_kept (text_front c) ≡ []
+alone-text White h = refl
+alone-text ExclamationMark h = refl
+alone-text QuotationMark h = refl
+alone-text NumberSign h = refl
+alone-text Ampersand h = refl
+alone-text Apostrophe h = refl
+alone-text HyphenMinus h = refl
+alone-text Solidus h = refl
+alone-text Digit h = refl
+alone-text Semicolon h = refl
+alone-text LessThan h = cc
+alone-text EqualsSign h = refl
+alone-text GreaterThan h = refl
+alone-text QuestionMark h = refl
+alone-text GraveAccent h = refl
+alone-text (Letter l) h = refl
+alone-text OtherByte h = refl
+
+alone-content : (c : Class) (e : Element) → c ≡ Ampersand → less_kept (content_next c e) ≡ []
+alone-content White e h = refl
+alone-content ExclamationMark e h = refl
+alone-content QuotationMark e h = refl
+alone-content NumberSign e h = refl
+alone-content Ampersand e h = refl
+alone-content Apostrophe e h = refl
+alone-content HyphenMinus e h = refl
+alone-content Solidus e h = refl
+alone-content Digit e h = refl
+alone-content Semicolon e h = refl
+alone-content LessThan e h = cc
+alone-content EqualsSign e h = refl
+alone-content GreaterThan e h = refl
+alone-content QuestionMark e h = refl
+alone-content GraveAccent e h = refl
+alone-content (Letter l) e h = refl
+alone-content OtherByte e h = refl
+
 closed-text : (c : Class) → bears (text_front c) ≡ false → begin_reference c ≡ Closed
 closed-text White h = absurd (yes h)
 closed-text ExclamationMark h = absurd (yes h)
@@ -476,6 +518,7 @@ escapes_text f r c b more out p less before written = record {
   out = written ∙ append_assoc (as_it_stands r) (codes "&lt;") (more ++ text_out c b Closed);
   bytes = append_assoc more (text_out c b Closed) (as_it_stands (begin_reference c) ++ less_kept (text_front c)) ∙ ap (λ (xs : List ℕ). more ++ xs) (again_text c b p);
   reference = refl;
+  alone = alone-text c;
   closed = closed-text c;
   shown = shown-text c;
   before = before;
@@ -489,6 +532,7 @@ escapes_content f r c b e more out none p less before written = record {
   out = rw none written;
   bytes = append_assoc more (loose_out c b Closed) (as_it_stands (begin_reference c) ++ less_kept (content_next c e)) ∙ ap (λ (xs : List ℕ). more ++ xs) (again_content c b e p);
   reference = refl;
+  alone = alone-content c e;
   closed = closed-content c e;
   shown = shown-content c e;
   before = before;
@@ -496,13 +540,13 @@ escapes_content f r c b e more out none p less before written = record {
 
 after_less : (c : Class) (b : ℕ) (r : Reference) → Spelled c b → Law AfterLess (front_next AfterLess c b) r (front_open AfterLess c b r) c b (front_out AfterLess c b r)
 after_less White b r p = escapes_text AfterLess r White b [] ((as_it_stands r ++ codes "&lt;") ++ text_out White b Closed) p refl refl refl
-after_less ExclamationMark b r p = record { bytes = rw p refl; closed = λ h. absurd (yes h); shown = refl; before = refl; kept = refl; out = λ h. refl }
+after_less ExclamationMark b r p = record { bytes = rw p refl; closed = λ h. absurd (yes h); shown = refl; before = refl; kept = refl; out = λ h. refl; alone = λ h k. absurd (yes h) }
 after_less QuotationMark b r p = escapes_text AfterLess r QuotationMark b [] ((as_it_stands r ++ codes "&lt;") ++ text_out QuotationMark b Closed) p refl refl refl
 after_less NumberSign b r p = escapes_text AfterLess r NumberSign b [] ((as_it_stands r ++ codes "&lt;") ++ text_out NumberSign b Closed) p refl refl refl
 after_less Ampersand b r p = escapes_text AfterLess r Ampersand b [] ((as_it_stands r ++ codes "&lt;") ++ text_out Ampersand b Closed) p refl refl refl
 after_less Apostrophe b r p = escapes_text AfterLess r Apostrophe b [] ((as_it_stands r ++ codes "&lt;") ++ text_out Apostrophe b Closed) p refl refl refl
 after_less HyphenMinus b r p = escapes_text AfterLess r HyphenMinus b [] ((as_it_stands r ++ codes "&lt;") ++ text_out HyphenMinus b Closed) p refl refl refl
-after_less Solidus b r p = record { bytes = rw p refl; closed = λ h. absurd (yes h); shown = refl; before = refl; kept = refl; out = λ h. refl }
+after_less Solidus b r p = record { bytes = rw p refl; closed = λ h. absurd (yes h); shown = refl; before = refl; kept = refl; out = λ h. refl; alone = λ h k. absurd (yes h) }
 after_less Digit b r p = escapes_text AfterLess r Digit b [] ((as_it_stands r ++ codes "&lt;") ++ text_out Digit b Closed) p refl refl refl
 after_less Semicolon b r p = escapes_text AfterLess r Semicolon b [] ((as_it_stands r ++ codes "&lt;") ++ text_out Semicolon b Closed) p refl refl refl
 after_less LessThan b r p = escapes_text AfterLess r LessThan b [] ((as_it_stands r ++ codes "&lt;") ++ text_out LessThan b Closed) p refl refl refl
@@ -510,7 +554,7 @@ after_less EqualsSign b r p = escapes_text AfterLess r EqualsSign b [] ((as_it_s
 after_less GreaterThan b r p = escapes_text AfterLess r GreaterThan b [] ((as_it_stands r ++ codes "&lt;") ++ text_out GreaterThan b Closed) p refl refl refl
 after_less QuestionMark b r p = escapes_text AfterLess r QuestionMark b [] ((as_it_stands r ++ codes "&lt;") ++ text_out QuestionMark b Closed) p refl refl refl
 after_less GraveAccent b r p = escapes_text AfterLess r GraveAccent b [] ((as_it_stands r ++ codes "&lt;") ++ text_out GraveAccent b Closed) p refl refl refl
-after_less (Letter l) b r p = record { bytes = sym (append_assoc (as_it_stands r) (codes "<") (b ∷ [])) ∙ sym (append-nil ((as_it_stands r ++ codes "<") ++ b ∷ [])); closed = λ h. refl; shown = refl; before = refl; kept = refl; out = λ h. absurd (no h) }
+after_less (Letter l) b r p = record { bytes = sym (append_assoc (as_it_stands r) (codes "<") (b ∷ [])) ∙ sym (append-nil ((as_it_stands r ++ codes "<") ++ b ∷ [])); closed = λ h. refl; shown = refl; before = refl; kept = refl; out = λ h. absurd (no h); alone = λ h k. refl }
 after_less OtherByte b r p = escapes_text AfterLess r OtherByte b [] ((as_it_stands r ++ codes "&lt;") ++ text_out OtherByte b Closed) p refl refl refl
 
 after_solidus : (c : Class) (b : ℕ) (r : Reference) → Spelled c b → Law AfterLessSolidus (front_next AfterLessSolidus c b) r (front_open AfterLessSolidus c b r) c b (front_out AfterLessSolidus c b r)
@@ -529,7 +573,7 @@ after_solidus EqualsSign b r p = escapes_text AfterLessSolidus r EqualsSign b (c
 after_solidus GreaterThan b r p = escapes_text AfterLessSolidus r GreaterThan b (codes "/") ((as_it_stands r ++ codes "&lt;") ++ (codes "/" ++ text_out GreaterThan b Closed)) p refl refl refl
 after_solidus QuestionMark b r p = escapes_text AfterLessSolidus r QuestionMark b (codes "/") ((as_it_stands r ++ codes "&lt;") ++ (codes "/" ++ text_out QuestionMark b Closed)) p refl refl refl
 after_solidus GraveAccent b r p = escapes_text AfterLessSolidus r GraveAccent b (codes "/") ((as_it_stands r ++ codes "&lt;") ++ (codes "/" ++ text_out GraveAccent b Closed)) p refl refl refl
-after_solidus (Letter l) b r p = record { bytes = sym (append_assoc (as_it_stands r) (codes "</") (b ∷ [])) ∙ sym (append-nil ((as_it_stands r ++ codes "</") ++ b ∷ [])); closed = λ h. refl; shown = refl; before = refl; kept = refl; out = λ h. absurd (no h) }
+after_solidus (Letter l) b r p = record { bytes = sym (append_assoc (as_it_stands r) (codes "</") (b ∷ [])) ∙ sym (append-nil ((as_it_stands r ++ codes "</") ++ b ∷ [])); closed = λ h. refl; shown = refl; before = refl; kept = refl; out = λ h. absurd (no h); alone = λ h k. refl }
 after_solidus OtherByte b r p = escapes_text AfterLessSolidus r OtherByte b (codes "/") ((as_it_stands r ++ codes "&lt;") ++ (codes "/" ++ text_out OtherByte b Closed)) p refl refl refl
 
 opens_nothing : (c : Class) (b : ℕ) (bytes : List ℕ) (r : Reference) → Spelled c b → Law (InDeclaration bytes) (text_front c) r (begin_reference c) c b (declaration_out OpensNothing c b r bytes)
@@ -553,8 +597,8 @@ opens_nothing OtherByte b bytes r p = escapes_text (InDeclaration bytes) r Other
 
 in_declared : (d : Declaration) (c : Class) (b : ℕ) (bytes : List ℕ) (r : Reference) → Spelled c b → Law (InDeclaration bytes) (declaration_next d c b bytes) r (declaration_open d c r) c b (declaration_out d c b r bytes)
 in_declared OpensComment c b bytes r p = record { more = codes "!" ++ bytes; less = refl; out = refl; reference = refl; loose = refl; hidden = refl; before = refl }
-in_declared OpensDoctype c b bytes r p = record { bytes = sym (append_assoc (as_it_stands r) (codes "<!" ++ bytes) (b ∷ [])) ∙ sym (append-nil ((as_it_stands r ++ (codes "<!" ++ bytes)) ++ b ∷ [])); closed = λ h. refl; shown = refl; before = refl; kept = refl; out = λ h. absurd (no h) }
-in_declared Undecided c b bytes r p = record { bytes = refl; closed = λ h. absurd (yes h); shown = refl; before = refl; kept = refl; out = λ h. refl }
+in_declared OpensDoctype c b bytes r p = record { bytes = sym (append_assoc (as_it_stands r) (codes "<!" ++ bytes) (b ∷ [])) ∙ sym (append-nil ((as_it_stands r ++ (codes "<!" ++ bytes)) ++ b ∷ [])); closed = λ h. refl; shown = refl; before = refl; kept = refl; out = λ h. absurd (no h); alone = λ h k. refl }
+in_declared Undecided c b bytes r p = record { bytes = refl; closed = λ h. absurd (yes h); shown = refl; before = refl; kept = refl; out = λ h. refl; alone = λ h k. absurd (yes h) }
 in_declared OpensNothing c b bytes r p = opens_nothing c b bytes r p
 
 after_content_less : (c : Class) (b : ℕ) (e : Element) (r : Reference) → Spelled c b → r ≡ Closed → Law (InContentEnd e HeldLess) (front_next (InContentEnd e HeldLess) c b) r (begin_reference c) c b (front_out (InContentEnd e HeldLess) c b r)
@@ -565,7 +609,7 @@ after_content_less NumberSign b e r p h = escapes_content (InContentEnd e HeldLe
 after_content_less Ampersand b e r p h = escapes_content (InContentEnd e HeldLess) r Ampersand b e [] (codes "&lt;" ++ loose_out Ampersand b Closed) h p refl refl refl
 after_content_less Apostrophe b e r p h = escapes_content (InContentEnd e HeldLess) r Apostrophe b e [] (codes "&lt;" ++ loose_out Apostrophe b Closed) h p refl refl refl
 after_content_less HyphenMinus b e r p h = escapes_content (InContentEnd e HeldLess) r HyphenMinus b e [] (codes "&lt;" ++ loose_out HyphenMinus b Closed) h p refl refl refl
-after_content_less Solidus b e r p h = record { bytes = rw (p, h) refl; closed = λ k. refl; shown = refl; before = refl; kept = refl; out = λ k. absurd (no k) }
+after_content_less Solidus b e r p h = record { bytes = rw (p, h) refl; closed = λ k. refl; shown = refl; before = refl; kept = refl; out = λ k. absurd (no k); alone = λ a k. cc }
 after_content_less Digit b e r p h = escapes_content (InContentEnd e HeldLess) r Digit b e [] (codes "&lt;" ++ loose_out Digit b Closed) h p refl refl refl
 after_content_less Semicolon b e r p h = escapes_content (InContentEnd e HeldLess) r Semicolon b e [] (codes "&lt;" ++ loose_out Semicolon b Closed) h p refl refl refl
 after_content_less LessThan b e r p h = escapes_content (InContentEnd e HeldLess) r LessThan b e [] (codes "&lt;" ++ loose_out LessThan b Closed) h p refl refl refl
@@ -577,22 +621,22 @@ after_content_less (Letter l) b e r p h = escapes_content (InContentEnd e HeldLe
 after_content_less OtherByte b e r p h = escapes_content (InContentEnd e HeldLess) r OtherByte b e [] (codes "&lt;" ++ loose_out OtherByte b Closed) h p refl refl refl
 
 in_end_name : (grows whole : Bool) (c : Class) (b : ℕ) (e : Element) (letters : List ℕ) (r : Reference) → Spelled c b → r ≡ Closed → Law (InContentEnd e (HeldName letters)) (end_name_next grows whole c b e letters) r (begin_reference c) c b (end_name_out grows whole c b letters)
-in_end_name true true White b e letters r p h = record { bytes = rw (h, append-nil (letters ++ b ∷ [])) refl; closed = λ k. refl; shown = refl; before = refl; kept = refl; out = λ k. absurd (no k) }
+in_end_name true true White b e letters r p h = record { bytes = rw (h, append-nil (letters ++ b ∷ [])) refl; closed = λ k. refl; shown = refl; before = refl; kept = refl; out = λ k. absurd (no k); alone = λ a k. cc }
 in_end_name true true ExclamationMark b e letters r p h = escapes_content (InContentEnd e (HeldName letters)) r ExclamationMark b e (codes "/" ++ letters) (codes "&lt;" ++ ((codes "/" ++ letters) ++ loose_out ExclamationMark b Closed)) h p refl refl refl
 in_end_name true true QuotationMark b e letters r p h = escapes_content (InContentEnd e (HeldName letters)) r QuotationMark b e (codes "/" ++ letters) (codes "&lt;" ++ ((codes "/" ++ letters) ++ loose_out QuotationMark b Closed)) h p refl refl refl
 in_end_name true true NumberSign b e letters r p h = escapes_content (InContentEnd e (HeldName letters)) r NumberSign b e (codes "/" ++ letters) (codes "&lt;" ++ ((codes "/" ++ letters) ++ loose_out NumberSign b Closed)) h p refl refl refl
 in_end_name true true Ampersand b e letters r p h = escapes_content (InContentEnd e (HeldName letters)) r Ampersand b e (codes "/" ++ letters) (codes "&lt;" ++ ((codes "/" ++ letters) ++ loose_out Ampersand b Closed)) h p refl refl refl
 in_end_name true true Apostrophe b e letters r p h = escapes_content (InContentEnd e (HeldName letters)) r Apostrophe b e (codes "/" ++ letters) (codes "&lt;" ++ ((codes "/" ++ letters) ++ loose_out Apostrophe b Closed)) h p refl refl refl
 in_end_name true true HyphenMinus b e letters r p h = escapes_content (InContentEnd e (HeldName letters)) r HyphenMinus b e (codes "/" ++ letters) (codes "&lt;" ++ ((codes "/" ++ letters) ++ loose_out HyphenMinus b Closed)) h p refl refl refl
-in_end_name true true Solidus b e letters r p h = record { bytes = rw (h, append-nil (letters ++ b ∷ [])) refl; closed = λ k. refl; shown = refl; before = refl; kept = refl; out = λ k. absurd (no k) }
+in_end_name true true Solidus b e letters r p h = record { bytes = rw (h, append-nil (letters ++ b ∷ [])) refl; closed = λ k. refl; shown = refl; before = refl; kept = refl; out = λ k. absurd (no k); alone = λ a k. cc }
 in_end_name true true Digit b e letters r p h = escapes_content (InContentEnd e (HeldName letters)) r Digit b e (codes "/" ++ letters) (codes "&lt;" ++ ((codes "/" ++ letters) ++ loose_out Digit b Closed)) h p refl refl refl
 in_end_name true true Semicolon b e letters r p h = escapes_content (InContentEnd e (HeldName letters)) r Semicolon b e (codes "/" ++ letters) (codes "&lt;" ++ ((codes "/" ++ letters) ++ loose_out Semicolon b Closed)) h p refl refl refl
 in_end_name true true LessThan b e letters r p h = escapes_content (InContentEnd e (HeldName letters)) r LessThan b e (codes "/" ++ letters) (codes "&lt;" ++ ((codes "/" ++ letters) ++ loose_out LessThan b Closed)) h p refl refl refl
 in_end_name true true EqualsSign b e letters r p h = escapes_content (InContentEnd e (HeldName letters)) r EqualsSign b e (codes "/" ++ letters) (codes "&lt;" ++ ((codes "/" ++ letters) ++ loose_out EqualsSign b Closed)) h p refl refl refl
-in_end_name true true GreaterThan b e letters r p h = record { bytes = rw (h, append-nil (letters ++ b ∷ [])) refl; closed = λ k. refl; shown = refl; before = refl; kept = refl; out = λ k. absurd (no k) }
+in_end_name true true GreaterThan b e letters r p h = record { bytes = rw (h, append-nil (letters ++ b ∷ [])) refl; closed = λ k. refl; shown = refl; before = refl; kept = refl; out = λ k. absurd (no k); alone = λ a k. cc }
 in_end_name true true QuestionMark b e letters r p h = escapes_content (InContentEnd e (HeldName letters)) r QuestionMark b e (codes "/" ++ letters) (codes "&lt;" ++ ((codes "/" ++ letters) ++ loose_out QuestionMark b Closed)) h p refl refl refl
 in_end_name true true GraveAccent b e letters r p h = escapes_content (InContentEnd e (HeldName letters)) r GraveAccent b e (codes "/" ++ letters) (codes "&lt;" ++ ((codes "/" ++ letters) ++ loose_out GraveAccent b Closed)) h p refl refl refl
-in_end_name true true (Letter l) b e letters r p h = record { bytes = rw h refl; closed = λ k. refl; shown = refl; before = refl; kept = refl; out = λ k. absurd (no k) }
+in_end_name true true (Letter l) b e letters r p h = record { bytes = rw h refl; closed = λ k. refl; shown = refl; before = refl; kept = refl; out = λ k. absurd (no k); alone = λ a k. cc }
 in_end_name true true OtherByte b e letters r p h = escapes_content (InContentEnd e (HeldName letters)) r OtherByte b e (codes "/" ++ letters) (codes "&lt;" ++ ((codes "/" ++ letters) ++ loose_out OtherByte b Closed)) h p refl refl refl
 in_end_name true false White b e letters r p h = escapes_content (InContentEnd e (HeldName letters)) r White b e (codes "/" ++ letters) (codes "&lt;" ++ ((codes "/" ++ letters) ++ loose_out White b Closed)) h p refl refl refl
 in_end_name true false ExclamationMark b e letters r p h = escapes_content (InContentEnd e (HeldName letters)) r ExclamationMark b e (codes "/" ++ letters) (codes "&lt;" ++ ((codes "/" ++ letters) ++ loose_out ExclamationMark b Closed)) h p refl refl refl
@@ -609,21 +653,21 @@ in_end_name true false EqualsSign b e letters r p h = escapes_content (InContent
 in_end_name true false GreaterThan b e letters r p h = escapes_content (InContentEnd e (HeldName letters)) r GreaterThan b e (codes "/" ++ letters) (codes "&lt;" ++ ((codes "/" ++ letters) ++ loose_out GreaterThan b Closed)) h p refl refl refl
 in_end_name true false QuestionMark b e letters r p h = escapes_content (InContentEnd e (HeldName letters)) r QuestionMark b e (codes "/" ++ letters) (codes "&lt;" ++ ((codes "/" ++ letters) ++ loose_out QuestionMark b Closed)) h p refl refl refl
 in_end_name true false GraveAccent b e letters r p h = escapes_content (InContentEnd e (HeldName letters)) r GraveAccent b e (codes "/" ++ letters) (codes "&lt;" ++ ((codes "/" ++ letters) ++ loose_out GraveAccent b Closed)) h p refl refl refl
-in_end_name true false (Letter l) b e letters r p h = record { bytes = rw h refl; closed = λ k. refl; shown = refl; before = refl; kept = refl; out = λ k. absurd (no k) }
+in_end_name true false (Letter l) b e letters r p h = record { bytes = rw h refl; closed = λ k. refl; shown = refl; before = refl; kept = refl; out = λ k. absurd (no k); alone = λ a k. cc }
 in_end_name true false OtherByte b e letters r p h = escapes_content (InContentEnd e (HeldName letters)) r OtherByte b e (codes "/" ++ letters) (codes "&lt;" ++ ((codes "/" ++ letters) ++ loose_out OtherByte b Closed)) h p refl refl refl
-in_end_name false true White b e letters r p h = record { bytes = rw (h, append-nil (letters ++ b ∷ [])) refl; closed = λ k. refl; shown = refl; before = refl; kept = refl; out = λ k. absurd (no k) }
+in_end_name false true White b e letters r p h = record { bytes = rw (h, append-nil (letters ++ b ∷ [])) refl; closed = λ k. refl; shown = refl; before = refl; kept = refl; out = λ k. absurd (no k); alone = λ a k. cc }
 in_end_name false true ExclamationMark b e letters r p h = escapes_content (InContentEnd e (HeldName letters)) r ExclamationMark b e (codes "/" ++ letters) (codes "&lt;" ++ ((codes "/" ++ letters) ++ loose_out ExclamationMark b Closed)) h p refl refl refl
 in_end_name false true QuotationMark b e letters r p h = escapes_content (InContentEnd e (HeldName letters)) r QuotationMark b e (codes "/" ++ letters) (codes "&lt;" ++ ((codes "/" ++ letters) ++ loose_out QuotationMark b Closed)) h p refl refl refl
 in_end_name false true NumberSign b e letters r p h = escapes_content (InContentEnd e (HeldName letters)) r NumberSign b e (codes "/" ++ letters) (codes "&lt;" ++ ((codes "/" ++ letters) ++ loose_out NumberSign b Closed)) h p refl refl refl
 in_end_name false true Ampersand b e letters r p h = escapes_content (InContentEnd e (HeldName letters)) r Ampersand b e (codes "/" ++ letters) (codes "&lt;" ++ ((codes "/" ++ letters) ++ loose_out Ampersand b Closed)) h p refl refl refl
 in_end_name false true Apostrophe b e letters r p h = escapes_content (InContentEnd e (HeldName letters)) r Apostrophe b e (codes "/" ++ letters) (codes "&lt;" ++ ((codes "/" ++ letters) ++ loose_out Apostrophe b Closed)) h p refl refl refl
 in_end_name false true HyphenMinus b e letters r p h = escapes_content (InContentEnd e (HeldName letters)) r HyphenMinus b e (codes "/" ++ letters) (codes "&lt;" ++ ((codes "/" ++ letters) ++ loose_out HyphenMinus b Closed)) h p refl refl refl
-in_end_name false true Solidus b e letters r p h = record { bytes = rw (h, append-nil (letters ++ b ∷ [])) refl; closed = λ k. refl; shown = refl; before = refl; kept = refl; out = λ k. absurd (no k) }
+in_end_name false true Solidus b e letters r p h = record { bytes = rw (h, append-nil (letters ++ b ∷ [])) refl; closed = λ k. refl; shown = refl; before = refl; kept = refl; out = λ k. absurd (no k); alone = λ a k. cc }
 in_end_name false true Digit b e letters r p h = escapes_content (InContentEnd e (HeldName letters)) r Digit b e (codes "/" ++ letters) (codes "&lt;" ++ ((codes "/" ++ letters) ++ loose_out Digit b Closed)) h p refl refl refl
 in_end_name false true Semicolon b e letters r p h = escapes_content (InContentEnd e (HeldName letters)) r Semicolon b e (codes "/" ++ letters) (codes "&lt;" ++ ((codes "/" ++ letters) ++ loose_out Semicolon b Closed)) h p refl refl refl
 in_end_name false true LessThan b e letters r p h = escapes_content (InContentEnd e (HeldName letters)) r LessThan b e (codes "/" ++ letters) (codes "&lt;" ++ ((codes "/" ++ letters) ++ loose_out LessThan b Closed)) h p refl refl refl
 in_end_name false true EqualsSign b e letters r p h = escapes_content (InContentEnd e (HeldName letters)) r EqualsSign b e (codes "/" ++ letters) (codes "&lt;" ++ ((codes "/" ++ letters) ++ loose_out EqualsSign b Closed)) h p refl refl refl
-in_end_name false true GreaterThan b e letters r p h = record { bytes = rw (h, append-nil (letters ++ b ∷ [])) refl; closed = λ k. refl; shown = refl; before = refl; kept = refl; out = λ k. absurd (no k) }
+in_end_name false true GreaterThan b e letters r p h = record { bytes = rw (h, append-nil (letters ++ b ∷ [])) refl; closed = λ k. refl; shown = refl; before = refl; kept = refl; out = λ k. absurd (no k); alone = λ a k. cc }
 in_end_name false true QuestionMark b e letters r p h = escapes_content (InContentEnd e (HeldName letters)) r QuestionMark b e (codes "/" ++ letters) (codes "&lt;" ++ ((codes "/" ++ letters) ++ loose_out QuestionMark b Closed)) h p refl refl refl
 in_end_name false true GraveAccent b e letters r p h = escapes_content (InContentEnd e (HeldName letters)) r GraveAccent b e (codes "/" ++ letters) (codes "&lt;" ++ ((codes "/" ++ letters) ++ loose_out GraveAccent b Closed)) h p refl refl refl
 in_end_name false true (Letter l) b e letters r p h = escapes_content (InContentEnd e (HeldName letters)) r (Letter l) b e (codes "/" ++ letters) (codes "&lt;" ++ ((codes "/" ++ letters) ++ loose_out (Letter l) b Closed)) h p refl refl refl

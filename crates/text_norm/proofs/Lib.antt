@@ -1,2 +1,3 @@
 mod ByteLaws
+mod Slices
 pub mod WorkedTexts

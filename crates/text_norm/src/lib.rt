@@ -4,6 +4,8 @@
 mod bearing;
 mod change;
 mod form;
+mod less;
 mod opened;
 mod reading;
 mod step;
+mod writing;
