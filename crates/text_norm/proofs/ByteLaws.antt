@@ -340,23 +340,23 @@ loose-attribute_name (Letter l) b t typed k name = record { less = refl; shown =
 loose-attribute_name OtherByte b t typed k name = record { less = refl; shown = refl }
 
 loose-doctype : (c : Class) → IsLoose (doctype_next c)
-loose-doctype White  = record { less = refl; shown = refl }
-loose-doctype ExclamationMark  = record { less = refl; shown = refl }
-loose-doctype QuotationMark  = record { less = refl; shown = refl }
-loose-doctype NumberSign  = record { less = refl; shown = refl }
-loose-doctype Ampersand  = record { less = refl; shown = refl }
-loose-doctype Apostrophe  = record { less = refl; shown = refl }
-loose-doctype HyphenMinus  = record { less = refl; shown = refl }
-loose-doctype Solidus  = record { less = refl; shown = refl }
-loose-doctype Digit  = record { less = refl; shown = refl }
-loose-doctype Semicolon  = record { less = refl; shown = refl }
-loose-doctype LessThan  = record { less = refl; shown = refl }
-loose-doctype EqualsSign  = record { less = refl; shown = refl }
-loose-doctype GreaterThan  = record { less = refl; shown = refl }
-loose-doctype QuestionMark  = record { less = refl; shown = refl }
-loose-doctype GraveAccent  = record { less = refl; shown = refl }
-loose-doctype (Letter l)  = record { less = refl; shown = refl }
-loose-doctype OtherByte  = record { less = refl; shown = refl }
+loose-doctype White = record { less = refl; shown = refl }
+loose-doctype ExclamationMark = record { less = refl; shown = refl }
+loose-doctype QuotationMark = record { less = refl; shown = refl }
+loose-doctype NumberSign = record { less = refl; shown = refl }
+loose-doctype Ampersand = record { less = refl; shown = refl }
+loose-doctype Apostrophe = record { less = refl; shown = refl }
+loose-doctype HyphenMinus = record { less = refl; shown = refl }
+loose-doctype Solidus = record { less = refl; shown = refl }
+loose-doctype Digit = record { less = refl; shown = refl }
+loose-doctype Semicolon = record { less = refl; shown = refl }
+loose-doctype LessThan = record { less = refl; shown = refl }
+loose-doctype EqualsSign = record { less = refl; shown = refl }
+loose-doctype GreaterThan = record { less = refl; shown = refl }
+loose-doctype QuestionMark = record { less = refl; shown = refl }
+loose-doctype GraveAccent = record { less = refl; shown = refl }
+loose-doctype (Letter l) = record { less = refl; shown = refl }
+loose-doctype OtherByte = record { less = refl; shown = refl }
 
 again_text : (c : Class) (b : ℕ) → Spelled c b → text_out c b Closed ++ (as_it_stands (begin_reference c) ++ less_kept (text_front c)) ≡ b ∷ []
 again_text White b p = refl
@@ -397,23 +397,23 @@ again_content (Letter l) b e p = refl
 again_content OtherByte b e p = refl
 
 shown-text : (c : Class) → hides (text_front c) ≡ false
-shown-text White  = refl
-shown-text ExclamationMark  = refl
-shown-text QuotationMark  = refl
-shown-text NumberSign  = refl
-shown-text Ampersand  = refl
-shown-text Apostrophe  = refl
-shown-text HyphenMinus  = refl
-shown-text Solidus  = refl
-shown-text Digit  = refl
-shown-text Semicolon  = refl
-shown-text LessThan  = refl
-shown-text EqualsSign  = refl
-shown-text GreaterThan  = refl
-shown-text QuestionMark  = refl
-shown-text GraveAccent  = refl
-shown-text (Letter l)  = refl
-shown-text OtherByte  = refl
+shown-text White = refl
+shown-text ExclamationMark = refl
+shown-text QuotationMark = refl
+shown-text NumberSign = refl
+shown-text Ampersand = refl
+shown-text Apostrophe = refl
+shown-text HyphenMinus = refl
+shown-text Solidus = refl
+shown-text Digit = refl
+shown-text Semicolon = refl
+shown-text LessThan = refl
+shown-text EqualsSign = refl
+shown-text GreaterThan = refl
+shown-text QuestionMark = refl
+shown-text GraveAccent = refl
+shown-text (Letter l) = refl
+shown-text OtherByte = refl
 
 shown-content : (c : Class) (e : Element) → hides (content_next c e) ≡ false
 shown-content White e = refl

@@ -1,3 +1,4 @@
 mod ByteLaws
+mod Kept
 mod Slices
 pub mod WorkedTexts

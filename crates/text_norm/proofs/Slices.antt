@@ -16,25 +16,31 @@ held_joins text from at to h i j =
     let whole : take to text ≡ take at text ++ drop at (take to text) = rw (sym (take-take at to text i)) (sym (take-append-drop at (take to text))) in
     ap (drop from) whole ∙ drop-append-le from (take at text) (drop at (take to text)) (omega (arith, length-take-le at text (omega arith)))
 
--- what has been read is some bytes, a byte, and others
-pub record IsSplit (text : List ℕ) (from at to b : ℕ) (left right : List ℕ) : Type 0 where
-  pub order : from ≤ at
-  pub inside : at < to
-  pub byte : get_or text at 0 ≡ b
+-- what has been read is some bytes, and then others
+pub record IsParted (text : List ℕ) (from at to : ℕ) (left right : List ℕ) : Type 0 where
+  pub start : at ≡ from + length left
+  pub end : at + length right ≡ to
   pub before : held text from at ≡ left
-  pub behind : held text (at + 1) to ≡ right
+  pub behind : held text at to ≡ right
 
-pub split : (text : List ℕ) (from to b : ℕ) (left right : List ℕ) → from ≤ to → to ≤ length text → left ++ b ∷ right ≡ held text from to → IsSplit text from (from + length left) to b left right
-split text from to b left right h i e =
-    let len : length left + (1 + length right) ≡ to - from = omega (arith, sym (length-append left (b ∷ right)), ap length e, length-held text from to i) in
-    let joined = held_joins text from (from + length left) to (omega arith) (omega (arith, len)) i in
-    let front : length (held text from (from + length left)) ≡ length left = omega (arith, length-held text from (from + length left) (omega (arith, len))) in
-    let first : left ≡ held text from (from + length left) = sym (take-append_seam left (b ∷ right)) ∙ ap (take (length left)) (e ∙ joined) ∙ ap (λ (n : ℕ). take n (held text from (from + length left) ++ held text (from + length left) to)) (sym front) ∙ take-append_seam (held text from (from + length left)) (held text (from + length left) to) in
-    let second : b ∷ right ≡ held text (from + length left) to = sym (drop-append_seam left (b ∷ right)) ∙ ap (drop (length left)) (e ∙ joined) ∙ ap (λ (n : ℕ). drop n (held text from (from + length left) ++ held text (from + length left) to)) (sym front) ∙ drop-append_seam (held text from (from + length left)) (held text (from + length left) to) in
+pub parted : (text : List ℕ) (from to : ℕ) (left right : List ℕ) → from ≤ to → to ≤ length text → left ++ right ≡ held text from to → IsParted text from (to - length right) to left right
+parted text from to left right h i e =
+    let len : length left + length right ≡ to - from = omega (arith, sym (length-append left right), ap length e, length-held text from to i) in
+    let at = to - length right in
+    let joined = held_joins text from at to (omega (arith, len)) (omega (arith, len)) i in
+    let front : length (held text from at) ≡ length left = omega (arith, len, length-held text from at (omega (arith, len))) in
     record {
-  order = omega arith;
-  inside = omega (arith, len);
-  byte = sym (read-held text from to (length left) (omega (arith, len))) ∙ sym (ap (λ (xs : List ℕ). get_or xs (length left) 0) e) ∙ get_or-append_seam left b right 0;
-  before = sym first;
-  behind = sym (ap (drop 1) second ∙ drop-drop 1 (from + length left) (take to text));
-}
+      start = omega (arith, len);
+      end = omega (arith, len);
+      before = sym (take-append_seam (held text from at) (held text at to)) ∙ ap (λ (n : ℕ). take n (held text from at ++ held text at to)) front ∙ ap (take (length left)) (sym (e ∙ joined)) ∙ take-append_seam left right;
+      behind = sym (drop-append_seam (held text from at) (held text at to)) ∙ ap (λ (n : ℕ). drop n (held text from at ++ held text at to)) front ∙ ap (drop (length left)) (sym (e ∙ joined)) ∙ drop-append_seam left right;
+    }
+
+-- .. the first of which is this one
+pub first_byte : (text : List ℕ) (at to b : ℕ) (right : List ℕ) → at < to → held text at to ≡ b ∷ right → get_or text at 0 ≡ b
+first_byte text at to b right h e =
+    let here : at + 0 ≡ at = omega arith in
+    ap (λ (i : ℕ). get_or text i 0) (sym here) ∙ sym (read-held text at to 0 (omega (arith, h))) ∙ ap (λ (xs : List ℕ). get_or xs 0 0) e
+
+pub behind_first : (text : List ℕ) (at to b : ℕ) (right : List ℕ) → held text at to ≡ b ∷ right → held text (at + 1) to ≡ right
+behind_first text at to b right e = sym (drop-drop 1 at (take to text)) ∙ ap (drop 1) e

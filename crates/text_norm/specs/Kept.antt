@@ -1,5 +1,5 @@
 -- What is held back of a text that has been read to a front, and what becomes of it at a byte.
-use Rattle.std.specs.Prelude.{ℕ, ◌+◌, ◌≤◌, Bool, true, false, ◌≡◌, codes, List, [], ◌∷◌, ◌++◌, length, get_or, Option, IfSome, IsSomeAnd, ◌⊎◌, ◌<◌}
+use Rattle.std.specs.Prelude.{ℕ, ◌+◌, ◌-◌, ◌≤◌, Bool, true, false, ◌≡◌, codes, List, [], ◌∷◌, ◌++◌, length, get_or, Option, IfSome, IsSomeAnd, ◌⊎◌, ◌<◌}
 use Rattle.std.specs.Str.{IsCharBoundary}
 use Rattle.place_core.specs.Classes.{Class, Ampersand, class_of}
 use Rattle.place_core.specs.References.{Reference, Closed, as_it_stands, next_reference}
@@ -156,3 +156,8 @@ pub record Reads (text : List ℕ) (index : ℕ) (x y : Reading) (free old new :
   pub reference : reference_of text y ≡ front_open (front_of text index x) (class_of (get_or text index 0)) (get_or text index 0) (reference_of text x)
   pub kept : IsKept text (index + 1) y
   pub bytes : new ++ kept.free ≡ old ++ (free ++ front_out (front_of text index x) (class_of (get_or text index 0)) (get_or text index 0) (reference_of text x))
+
+-- what has been read outside of comments may be cut where its text ends, before a `<` that is held back
+pub record IsEnd (text : List ℕ) (index : ℕ) (x : Reading) : Type 0 where
+  pub shown : hides (front_of text index x) ≡ false
+  pub cut : IsCharBoundary text (index - length (less_kept (front_of text index x)))

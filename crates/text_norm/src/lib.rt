@@ -2,8 +2,10 @@
 #![tactic(auto)]
 
 mod bearing;
+mod byte;
 mod change;
 mod form;
+mod free;
 mod less;
 mod opened;
 mod reading;

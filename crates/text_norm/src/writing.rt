@@ -29,12 +29,7 @@ pub fn push_less(out: &mut Text, text: &str, from: usize, less: usize) -> Result
 }
 
 /// Writes a part of a text as it stands, and then a reference that is to be text.
-pub fn push_reference(
-    out: &mut Text,
-    text: &str,
-    from: usize,
-    opened: Opened,
-) -> Result<(), Memory>
+pub fn push_reference(out: &mut Text, text: &str, from: usize, opened: Opened) -> Result<(), Memory>
     requires begun { 0 < opened.from }
     requires before { from ≤ opened.from - 1 }
     requires order { opened.from ≤ opened.to }
