@@ -1,4 +1,6 @@
 mod ByteLaws
 mod Kept
 mod Slices
+mod Spelled
+mod Steps
 pub mod WorkedTexts
