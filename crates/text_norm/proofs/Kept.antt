@@ -50,3 +50,11 @@ pub cut_bytes : (text : List ℕ) (done end : ℕ) (free : List ℕ) (opened : O
 cut_bytes text done end free opened utf8 o h =
     let here : opened.from - 1 + 1 ≡ opened.from = omega (arith, o.begun) in
     subst (IsCharBoundary text) here (IsCharBoundary-after_ascii text (opened.from - 1) utf8 (omega (arith, o.begun, o.bytes)) (omega (arith, o.sign)))
+
+reaches_end : (end index : ℕ) (o : Option Opened) → end ≡ index → ((opened : Opened) → o ≡ Some opened → opened.to ≡ end) → IfSome o (λ opened. opened.to ≡ index)
+reaches_end end index None e h = tt
+reaches_end end index (Some opened) e h = h opened refl ∙ e
+
+-- where no `<` is held back, an open reference has gone up to the byte
+pub reaches : (text : List ℕ) (index : ℕ) (x : Reading) (kept : IsKept text index x) → index ≤ length text → less_kept (front_of text index x) ≡ [] → IfSome x.reference (λ opened. opened.to ≡ index)
+reaches text index x kept inside none = reaches_end (index - length (less_kept (front_of text index x))) index x.reference (omega (arith, ap length none)) (λ opened is. (open_at text index x opened kept inside is).to)

@@ -1,4 +1,5 @@
 mod ByteLaws
+mod ChangedSteps
 mod Kept
 mod Slices
 mod Spelled

@@ -5,7 +5,10 @@ use Rattle.std.specs.Str.{IsCharBoundary}
 use Rattle.place_core.specs.Classes.{Class, Ampersand, class_of}
 use Rattle.place_core.specs.References.{Reference, Closed, as_it_stands}
 use Rattle.html_front.proofs.HeldNames.{held_grows}
-use Rattle.html_front.specs.FrontViews.{held_from}
+use Rattle.html_front.specs.ClassViews.{class_at}
+use Rattle.html_front.specs.FrontViews.{front_at, held_from}
+use Rattle.html_front.specs.declared.class.Class.{Class as ReadClass}
+use Rattle.html_front.specs.declared.front.Front.{Front as ReadFront}
 use Rattle.html_front.specs.Fronts.{Front, front_next}
 use Rattle.html_front.specs.Slices.{held}
 use Rattle.text_norm.specs.Fronted.{front_open, front_out}
@@ -33,6 +36,12 @@ open_of text index x = front_open (front_of text index x) (class_of (byte_at tex
 
 abbrev pub out_of : List ℕ → ℕ → Reading → List ℕ
 out_of text index x = front_out (front_of text index x) (class_of (byte_at text index)) (byte_at text index) (reference_of text x)
+
+-- the next front, of the code
+pub front_is : (bytes text : List ℕ) (index : ℕ) (before after : ReadFront) (class : ReadClass) → bytes ≡ text → class_at class ≡ class_of (byte_at text index) → front_at bytes (index + 1) after ≡ front_next (front_at bytes index before) (class_at class) (byte_at bytes index) → front_at text (index + 1) after ≡ front_next (front_at text index before) (class_of (byte_at text index)) (byte_at text index)
+front_is bytes text index before after class same is front =
+    subst (λ (xs : List ℕ). front_at xs (index + 1) after ≡ front_next (front_at xs index before) (class_at class) (byte_at xs index)) same front
+    ∙ ap (λ (c : Class). front_next (front_at text index before) c (byte_at text index)) is
 
 -- the law of a byte, of what the code does
 abbrev pub LawHere : Change → List ℕ → ℕ → Reading → Reading → Type 0
@@ -73,7 +82,7 @@ placed_after false c start later index before (Some o) so placed stayed begun lo
   inside = omega (arith, so.to);
 }
 
-length-open : (text : List ℕ) (o : Opened) → o.to ≤ length text → length (as_it_stands (reference_at text (Some o))) ≡ 1 + (o.to - o.from)
+pub length-open : (text : List ℕ) (o : Opened) → o.to ≤ length text → length (as_it_stands (reference_at text (Some o))) ≡ 1 + (o.to - o.from)
 length-open text o h = omega (arith, length-held text o.from o.to h)
 
 keep_placed : (text : List ℕ) (index : ℕ) (x y : Reading) → (kept : IsKept text index x) → index < length text → KeepsBytes (front_of text index x) (front_of text (index + 1) y) (reference_of text x) (open_of text index x) (class_of (byte_at text index)) (byte_at text index) (out_of text index x) → reference_of text y ≡ open_of text index x → Continues (stays (front_of text index x) (front_of text (index + 1) y)) (class_of (byte_at text index)) index x.reference y.reference → y.done ≡ x.done → IfSome y.reference (IsPlaced (y.done + length (kept.free ++ out_of text index x)) (index + 1))
