@@ -38,20 +38,20 @@ less_at text index x more kept inside less =
     let p = less_parted text index x kept inside in
     let at = index - length (less_kept (front_of text index x)) in
     record {
-  order = omega (arith, p.start);
-  end = omega (arith, p.end, ap length less);
-  byte = first_byte text at index 60 more (omega (arith, p.end, ap length less)) (p.behind ∙ less);
-  before = p.before;
-  behind = behind_first text at index 60 more (p.behind ∙ less);
-}
+      order = omega (arith, p.start);
+      end = omega (arith, p.end, ap length less);
+      byte = first_byte text at index 60 more (omega (arith, p.end, ap length less)) (p.behind ∙ less);
+      before = p.before;
+      behind = behind_first text at index 60 more (p.behind ∙ less);
+    }
 
 pub ends_at_less : (text : List ℕ) (index : ℕ) (x : Reading) (more : List ℕ) (kept : IsKept text index x) → index ≤ length text → less_kept (front_of text index x) ≡ 60 ∷ more → hides (front_of text index x) ≡ false → IsEnd text index x
 ends_at_less text index x more kept inside less shown =
     let l = less_at text index x more kept inside less in
     record {
-  shown = shown;
-  cut = IsCharBoundary-before_ascii text (index - length (less_kept (front_of text index x))) (omega (arith, l.end, inside)) (omega (arith, l.byte));
-}
+      shown = shown;
+      cut = IsCharBoundary-before_ascii text (index - length (less_kept (front_of text index x))) (omega (arith, l.end, inside)) (omega (arith, l.byte));
+    }
 
 escape_bytes : (old new free r again out : List ℕ) → new ≡ old ++ ((free ++ r) ++ codes "&lt;") → out ≡ r ++ (codes "&lt;" ++ again) → new ++ again ≡ old ++ (free ++ out)
 escape_bytes old new free r again out wrote is =
@@ -69,29 +69,29 @@ escapes text index less x y old new kept inside utf8 front is reference so named
     let l = subst (λ (at : ℕ). IsLessAt text index at x kept.free here.more) (sym where_less) (less_at text index x here.more kept (omega (arith, inside)) here.less) in
     let lengths : length here.again + (length z + length (less_kept g)) ≡ length here.more + 1 = omega (arith, ap length here.bytes, length-append here.more (byte_at text index ∷ []), length-append here.again (z ++ less_kept g), length-append z (less_kept g)) in
     record {
-  front = front;
-  reference = same;
-  kept = record {
-    free = here.again;
-    parts = ap (λ (r : Reference). here.again ++ (as_it_stands r ++ less_kept g)) same
-        ∙ here.bytes
-        ∙ ap (λ (xs : List ℕ). xs ++ byte_at text index ∷ []) (sym l.behind)
-        ∙ sym (held_grows text (less + 1) index (omega (arith, l.end)) inside)
-        ∙ ap (λ (d : ℕ). held text d (index + 1)) (sym done);
-    placed = placed_after false (class_of (byte_at text index)) 0 (y.done + length here.again) index None y.reference so tt
-        (λ h. absurd (no h))
-        (λ o moves is to begun.
+      front = front;
+      reference = same;
+      kept = record {
+        free = here.again;
+        parts = ap (λ (r : Reference). here.again ++ (as_it_stands r ++ less_kept g)) same
+            ∙ here.bytes
+            ∙ ap (λ (xs : List ℕ). xs ++ byte_at text index ∷ []) (sym l.behind)
+            ∙ sym (held_grows text (less + 1) index (omega (arith, l.end)) inside)
+            ∙ ap (λ (d : ℕ). held text d (index + 1)) (sym done);
+        placed = placed_after false (class_of (byte_at text index)) 0 (y.done + length here.again) index None y.reference so tt
+            (λ h. absurd (no h))
+            (λ o moves is to begun.
             let zs : length z ≡ 1 + (o.to - o.from) = ap (λ (r : Reference). length (as_it_stands r)) (sym same) ∙ ap (λ (q : Option Opened). length (as_it_stands (reference_at text q))) is ∙ length-open text o (omega (arith, to, inside)) in
             omega (arith, done, lengths, zs, to, begun.from, ap length (here.alone begun.by), l.end))
-        (λ o p was. absurd (nothing p was));
-    named = named;
-    done = omega (arith, done, l.end);
-    closed = λ h. same ∙ here.closed h;
-    hidden = λ h. absurd (no (sym here.shown ∙ h));
-    cut = λ h. subst (IsCharBoundary text) (sym done) (IsCharBoundary-after_ascii text less utf8 (omega (arith, l.end, inside)) (omega (arith, l.byte)));
-  };
-  bytes = escape_bytes old new kept.free (as_it_stands (reference_of text x)) here.again (out_of text index x) (wrote ∙ ap (λ (xs : List ℕ). old ++ (xs ++ codes "&lt;")) l.before) here.out;
-}
+            (λ o p was. absurd (nothing p was));
+        named = named;
+        done = omega (arith, done, l.end);
+        closed = λ h. same ∙ here.closed h;
+        hidden = λ h. absurd (no (sym here.shown ∙ h));
+        cut = λ h. subst (IsCharBoundary text) (sym done) (IsCharBoundary-after_ascii text less utf8 (omega (arith, l.end, inside)) (omega (arith, l.byte)));
+      };
+      bytes = escape_bytes old new kept.free (as_it_stands (reference_of text x)) here.again (out_of text index x) (wrote ∙ ap (λ (xs : List ℕ). old ++ (xs ++ codes "&lt;")) l.before) here.out;
+    }
 
 -- after a byte that is left out
 abbrev left_out : (text : List ℕ) (index : ℕ) (y : Reading) → index < length text → y.reference ≡ None → y.done ≡ index + 1 → held_from y.front ≤ index + 1 → less_kept (front_of text (index + 1) y) ≡ [] → (hides (front_of text (index + 1) y) ≡ false → IsCharBoundary text (index + 1)) → IsKept text (index + 1) y
@@ -110,11 +110,11 @@ pub opens : (text : List ℕ) (index : ℕ) (x y : Reading) (old new : List ℕ)
 opens text index x y old new kept inside front is reference named done wrote =
     let here = law_here change.OpensComment text index x y kept front is in
     record {
-  front = front;
-  reference = ap (reference_at text) reference ∙ sym here.reference;
-  kept = left_out text index y inside reference done named here.loose (λ h. absurd (no (sym h ∙ here.hidden)));
-  bytes = append-nil new ∙ wrote ∙ ap (λ (xs : List ℕ). old ++ (kept.free ++ xs)) (sym here.out);
-}
+      front = front;
+      reference = ap (reference_at text) reference ∙ sym here.reference;
+      kept = left_out text index y inside reference done named here.loose (λ h. absurd (no (sym h ∙ here.hidden)));
+      bytes = append-nil new ∙ wrote ∙ ap (λ (xs : List ℕ). old ++ (kept.free ++ xs)) (sym here.out);
+    }
 
 empty : (xs ys : List ℕ) → xs ++ ys ≡ [] → xs ≡ []
 empty [] ys h = refl
@@ -125,8 +125,8 @@ leaves text index x y out kept inside utf8 front is reference named done =
     let here = law_here change.LeavesOut text index x y kept front is in
     let none : kept.free ≡ [] = empty kept.free (as_it_stands (reference_of text x) ++ less_kept (front_of text index x)) (kept.parts ∙ ap (λ (d : ℕ). held text d index) (kept.hidden here.before) ∙ held_nothing text index) in
     record {
-  front = front;
-  reference = ap (reference_at text) reference ∙ sym here.reference;
-  kept = left_out text index y inside reference done named here.loose (λ h. IsCharBoundary-after_ascii text index utf8 inside (greater_ascii (byte_at text index) (here.ends h)));
-  bytes = ap (λ (xs : List ℕ). out ++ xs) (sym (ap (λ (xs : List ℕ). xs ++ out_of text index x) none ∙ here.out));
-}
+      front = front;
+      reference = ap (reference_at text) reference ∙ sym here.reference;
+      kept = left_out text index y inside reference done named here.loose (λ h. IsCharBoundary-after_ascii text index utf8 inside (greater_ascii (byte_at text index) (here.ends h)));
+      bytes = ap (λ (xs : List ℕ). out ++ xs) (sym (ap (λ (xs : List ℕ). xs ++ out_of text index x) none ∙ here.out));
+    }

@@ -1,5 +1,6 @@
 mod ByteLaws
 mod ChangedSteps
+mod EndLaws
 mod Kept
 mod Slices
 mod Spelled

@@ -95,33 +95,33 @@ keep_placed text index x y kept inside here reference so done =
     let grown : length a + (length (less_kept f) + 1) ≡ length (out_of text index x) + (length z + length (less_kept g)) = omega (arith, ap length here.bytes, length-append a (less_kept f ++ byte_at text index ∷ []), length-append (less_kept f) (byte_at text index ∷ []), length-append (out_of text index x) (z ++ less_kept g), length-append z (less_kept g)) in
     let free = length-append kept.free (out_of text index x) in
     placed_after (stays f g) (class_of (byte_at text index)) (x.done + length kept.free) (y.done + length (kept.free ++ out_of text index x)) index x.reference y.reference so kept.placed
-        (λ stay. omega (arith, free, done, ap length (here.out stay)))
-        (λ o moves is to begun.
-            let zs : length z ≡ 1 + (o.to - o.from) = ap (λ (r : Reference). length (as_it_stands r)) (sym reference) ∙ ap (λ (q : Option Opened). length (as_it_stands (reference_at text q))) is ∙ length-open text o (omega (arith, to, inside)) in
-            omega (arith, free, done, total, grown, zs, to, begun.from, ap length (here.alone moves begun.by), kept.done))
-        (λ o p was is to from placed.
-            let zs : length z ≡ 1 + (o.to - o.from) = ap (λ (r : Reference). length (as_it_stands r)) (sym reference) ∙ ap (λ (q : Option Opened). length (as_it_stands (reference_at text q))) is ∙ length-open text o (omega (arith, to, inside)) in
-            let ones : length a ≡ 1 + (p.to - p.from) = ap (λ (q : Option Opened). length (as_it_stands (reference_at text q))) was ∙ length-open text p (omega (arith, placed.inside, inside)) in
-            omega (arith, free, done, total, grown, zs, ones, to, from, placed.from, placed.order, placed.inside, kept.done))
+    (λ stay. omega (arith, free, done, ap length (here.out stay)))
+    (λ o moves is to begun.
+    let zs : length z ≡ 1 + (o.to - o.from) = ap (λ (r : Reference). length (as_it_stands r)) (sym reference) ∙ ap (λ (q : Option Opened). length (as_it_stands (reference_at text q))) is ∙ length-open text o (omega (arith, to, inside)) in
+    omega (arith, free, done, total, grown, zs, to, begun.from, ap length (here.alone moves begun.by), kept.done))
+    (λ o p was is to from placed.
+    let zs : length z ≡ 1 + (o.to - o.from) = ap (λ (r : Reference). length (as_it_stands r)) (sym reference) ∙ ap (λ (q : Option Opened). length (as_it_stands (reference_at text q))) is ∙ length-open text o (omega (arith, to, inside)) in
+    let ones : length a ≡ 1 + (p.to - p.from) = ap (λ (q : Option Opened). length (as_it_stands (reference_at text q))) was ∙ length-open text p (omega (arith, placed.inside, inside)) in
+    omega (arith, free, done, total, grown, zs, ones, to, from, placed.from, placed.order, placed.inside, kept.done))
 
 pub keeps : (text : List ℕ) (index : ℕ) (x y : Reading) (out : List ℕ) (kept : IsKept text index x) → index < length text → front_of text (index + 1) y ≡ next_of text index x → change.Keeps ≡ change_of (front_of text index x) (front_of text (index + 1) y) → reference_of text y ≡ reference_kept (stays (front_of text index x) (front_of text (index + 1) y)) (front_of text index x) (class_of (byte_at text index)) (byte_at text index) (reference_of text x) → Continues (stays (front_of text index x) (front_of text (index + 1) y)) (class_of (byte_at text index)) index x.reference y.reference → held_from y.front ≤ index + 1 → y.done ≡ x.done → Reads text index x y kept.free out out
 keeps text index x y out kept inside front is reference so named done =
     let here = law_here change.Keeps text index x y kept front is in
     let same : reference_of text y ≡ open_of text index x = reference ∙ here.kept in
     record {
-  front = front;
-  reference = same;
-  kept = record {
-    free = kept.free ++ out_of text index x;
-    parts = ap (λ (r : Reference). (kept.free ++ out_of text index x) ++ (as_it_stands r ++ less_kept (front_of text (index + 1) y))) same
-        ∙ keep_parts text x.done index kept.free (as_it_stands (reference_of text x)) (less_kept (front_of text index x)) (out_of text index x) (as_it_stands (open_of text index x) ++ less_kept (front_of text (index + 1) y)) kept.done inside kept.parts here.bytes
-        ∙ ap (λ (d : ℕ). held text d (index + 1)) (sym done);
-    placed = keep_placed text index x y kept inside here same so done;
-    named = named;
-    done = omega (arith, done, kept.done);
-    closed = λ h. same ∙ here.closed h;
-    hidden = λ h. absurd (no (sym here.shown ∙ h));
-    cut = λ h. subst (IsCharBoundary text) (sym done) (kept.cut here.before);
-  };
-  bytes = refl;
-}
+      front = front;
+      reference = same;
+      kept = record {
+        free = kept.free ++ out_of text index x;
+        parts = ap (λ (r : Reference). (kept.free ++ out_of text index x) ++ (as_it_stands r ++ less_kept (front_of text (index + 1) y))) same
+            ∙ keep_parts text x.done index kept.free (as_it_stands (reference_of text x)) (less_kept (front_of text index x)) (out_of text index x) (as_it_stands (open_of text index x) ++ less_kept (front_of text (index + 1) y)) kept.done inside kept.parts here.bytes
+            ∙ ap (λ (d : ℕ). held text d (index + 1)) (sym done);
+        placed = keep_placed text index x y kept inside here same so done;
+        named = named;
+        done = omega (arith, done, kept.done);
+        closed = λ h. same ∙ here.closed h;
+        hidden = λ h. absurd (no (sym here.shown ∙ h));
+        cut = λ h. subst (IsCharBoundary text) (sym done) (kept.cut here.before);
+      };
+      bytes = refl;
+    }

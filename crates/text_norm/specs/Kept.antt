@@ -13,6 +13,8 @@ use Rattle.text_norm.specs.Fronted.{front_open, front_out}
 use Rattle.text_norm.specs.ReferenceViews.{reference_at}
 use Rattle.text_norm.specs.declared.change.Change.{Change}
 use Rattle.text_norm.specs.declared.change.Change.TheVariants as change
+use Rattle.text_norm.specs.declared.ending.Ending.{Ending}
+use Rattle.text_norm.specs.declared.ending.Ending.TheVariants as ending
 use Rattle.text_norm.specs.declared.opened.Opened.{Opened}
 use Rattle.text_norm.specs.declared.reading.Reading.{Reading}
 
@@ -77,6 +79,21 @@ change_of AfterLessSolidus g = less_change g
 change_of (InDeclaration held) g = less_change g
 change_of (InContentEnd e h) g = content_change g
 change_of f g = change.Keeps
+
+-- where a text ends
+abbrev pub held_ending : Held → Ending
+held_ending HeldLess = ending.BehindLess
+held_ending (HeldName letters) = ending.BehindLess
+held_ending h = ending.Loose
+
+abbrev pub ending_of : Front → Ending
+ending_of (At (place.Comment dash)) = ending.InComment
+ending_of (InCommentEnd s) = ending.InComment
+ending_of AfterLess = ending.BehindLess
+ending_of AfterLessSolidus = ending.BehindLess
+ending_of (InDeclaration held) = ending.BehindLess
+ending_of (InContentEnd e h) = held_ending h
+ending_of f = ending.Loose
 
 -- whether an open reference is held back as it is, with the bytes after it
 abbrev pub goes_on : Front → Bool

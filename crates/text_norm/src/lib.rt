@@ -4,10 +4,15 @@
 mod bearing;
 mod byte;
 mod change;
+mod end;
+mod ending;
 mod form;
 mod free;
 mod less;
 mod opened;
 mod reading;
 mod step;
+mod texts;
 mod writing;
+
+pub use texts::write_text;
