@@ -2,6 +2,7 @@ mod ByteLaws
 mod ChangedSteps
 mod EndLaws
 mod Kept
+mod Loops
 mod Slices
 mod Spelled
 mod Steps
