@@ -1,11 +1,11 @@
 -- What a byte does to what is held back: a law for each front.
-use Rattle.std.proofs.Common.{◌≡◌, ℕ, Bool, true, false, codes, List, [], ◌∷◌, ◌++◌, refl, sym, ap, ◌∙◌, subst}
+use Rattle.std.proofs.Common.{◌≡◌, ℕ, Bool, true, false, codes, List, [], ◌∷◌, ◌++◌, refl, sym, ap, ◌∙◌}
 use Rattle.std.proofs.lemmas.List.{append_assoc, append-nil}
 use Rattle.place_core.specs.Classes.{Class, White, ExclamationMark, QuotationMark, NumberSign, Ampersand, Apostrophe, HyphenMinus, Solidus, Digit, Semicolon, LessThan, EqualsSign, GreaterThan, QuestionMark, GraveAccent, Letter, OtherByte}
 use Rattle.place_core.specs.Comments.{Declaration, OpensComment, OpensDoctype, Undecided, OpensNothing, declared_by, next_comment, closes_comment}
 use Rattle.place_core.specs.Contents.{may_be_name_of, is_name_of}
-use Rattle.place_core.specs.References.{Form, Reference, Closed, Open, ReferenceStep, Grows, Closes, Breaks, turn, turned, as_it_stands, begin_reference, next_reference, plain_bytes}
-use Rattle.place_core.specs.States.{CommentState, Started, StartedDash, Inside, Dash, DashDash, Bang, Broken, Held, Nothing, HeldLess, HeldName, HeldBang, HeldBangDash}
+use Rattle.place_core.specs.References.{Reference, Closed, Open, ReferenceStep, Grows, Closes, Breaks, turn, turned, as_it_stands, begin_reference, next_reference, plain_bytes}
+use Rattle.place_core.specs.States.{CommentState, Started, StartedDash, Inside, Dash, DashDash, Bang, Broken, Nothing, HeldLess, HeldName, HeldBang, HeldBangDash}
 use Rattle.place_core.specs.StatePlaces.{tag_of}
 use Rattle.place_core.specs.Tags.{tag_named}
 use Rattle.place_core.specs.Words.{kind_of}

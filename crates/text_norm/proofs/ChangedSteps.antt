@@ -1,10 +1,10 @@
 -- A byte behind a `<` that begins nothing, a byte that begins a comment, and one in a comment.
-use Rattle.std.proofs.Common.{◌≡◌, ℕ, ◌+◌, ◌-◌, ◌<◌, ◌≤◌, Bool, true, false, codes, List, [], ◌∷◌, ◌++◌, length, take, drop, get_or, Option, Some, None, IfSome, refl, sym, ap, ◌∙◌, subst, arith, inl, inr, ◌⊎◌}
+use Rattle.std.proofs.Common.{◌≡◌, ℕ, ◌+◌, ◌-◌, ◌<◌, ◌≤◌, true, false, codes, List, [], ◌∷◌, ◌++◌, length, get_or, Option, Some, None, IfSome, refl, sym, ap, ◌∙◌, subst, arith}
 use Rattle.std.proofs.lemmas.List.{append_assoc, append-nil, length-append}
 use Rattle.std.proofs.lemmas.Str.{IsCharBoundary-after_ascii, IsCharBoundary-before_ascii}
 use Rattle.std.specs.Str.{IsCharBoundary, IsUtf8}
 use Rattle.place_core.specs.Classes.{class_of}
-use Rattle.place_core.specs.References.{Reference, Closed, as_it_stands, begin_reference}
+use Rattle.place_core.specs.References.{Reference, as_it_stands, begin_reference}
 use Rattle.html_front.proofs.HeldNames.{held_grows, held_nothing}
 use Rattle.html_front.specs.FrontViews.{held_from}
 use Rattle.html_front.specs.Slices.{held}
@@ -15,7 +15,7 @@ use Rattle.text_norm.specs.declared.change.Change.TheVariants as change
 use Rattle.text_norm.specs.declared.opened.Opened.{Opened}
 use Rattle.text_norm.specs.declared.reading.Reading.{Reading}
 use Rattle.text_norm.proofs.Kept.{less_parted}
-use Rattle.text_norm.proofs.Slices.{behind_first, first_byte, length-held}
+use Rattle.text_norm.proofs.Slices.{behind_first, first_byte}
 use Rattle.text_norm.proofs.Spelled.{greater_ascii}
 use Rattle.text_norm.proofs.Steps.{byte_at, law_here, length-open, next_of, open_of, out_of, placed_after}
 

@@ -1,5 +1,5 @@
 -- What is written where a text ends: a law for each front.
-use Rattle.std.proofs.Common.{◌≡◌, Bool, true, false, codes, List, ℕ, [], ◌∷◌, ◌++◌, refl, sym, ap, ◌∙◌, subst}
+use Rattle.std.proofs.Common.{◌≡◌, true, false, codes, List, ℕ, [], ◌∷◌, ◌++◌, refl, sym, ap, ◌∙◌, subst}
 use Rattle.std.proofs.lemmas.List.{append_assoc}
 use Rattle.place_core.specs.References.{Reference, Closed, as_it_stands}
 use Rattle.place_core.specs.States.{HeldLess, HeldName, HeldBang, HeldBangDash, Nothing}

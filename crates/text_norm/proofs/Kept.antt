@@ -1,16 +1,15 @@
 -- What is held back, and where it stands.
-use Rattle.std.proofs.Common.{◌≡◌, ℕ, ◌+◌, ◌-◌, ◌<◌, ◌≤◌, Bool, true, false, codes, List, [], ◌∷◌, ◌++◌, length, take, drop, get_or, Option, Some, None, IfSome, OnOk, refl, sym, ap, ◌∙◌, subst, arith}
-use Rattle.std.proofs.lemmas.List.{append_assoc, append-nil, length-append}
+use Rattle.std.proofs.Common.{◌≡◌, ℕ, ◌+◌, ◌-◌, ◌<◌, ◌≤◌, List, [], ◌∷◌, ◌++◌, length, get_or, Option, Some, None, IfSome, refl, ap, ◌∙◌, subst, arith}
+use Rattle.std.proofs.lemmas.List.{append_assoc, length-append}
 use Rattle.std.proofs.lemmas.Str.{IsCharBoundary-after_ascii, IsCharBoundary-before_ascii}
 use Rattle.std.specs.Str.{IsCharBoundary, IsUtf8}
-use Rattle.place_core.specs.References.{Reference, Closed, as_it_stands}
+use Rattle.place_core.specs.References.{as_it_stands}
 use Rattle.html_front.specs.Slices.{held}
 use Rattle.text_norm.specs.Kept.{IsKept, IsPlaced, front_of, less_kept, reference_of}
-use Rattle.text_norm.specs.ReferenceViews.{form_at, reference_at}
-use Rattle.text_norm.specs.Written.{escaped}
+use Rattle.text_norm.specs.ReferenceViews.{reference_at}
 use Rattle.text_norm.specs.declared.opened.Opened.{Opened}
 use Rattle.text_norm.specs.declared.reading.Reading.{Reading}
-use Rattle.text_norm.proofs.Slices.{IsParted, behind_first, first_byte, length-held, parted}
+use Rattle.text_norm.proofs.Slices.{IsParted, first_byte, length-held, parted}
 
 -- before what is held back of a `<`
 pub less_parted : (text : List ℕ) (index : ℕ) (x : Reading) (kept : IsKept text index x) → index ≤ length text → IsParted text x.done (index - length (less_kept (front_of text index x))) index (kept.free ++ as_it_stands (reference_of text x)) (less_kept (front_of text index x))

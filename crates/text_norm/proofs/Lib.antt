@@ -3,6 +3,7 @@ mod ChangedSteps
 mod EndLaws
 mod Kept
 mod Loops
+mod Rests
 mod Slices
 mod Spelled
 mod Steps

@@ -1,7 +1,7 @@
 -- Parts of a text.
-use Rattle.std.proofs.Common.{◌≡◌, ℕ, ◌+◌, ◌-◌, ◌<◌, ◌≤◌, List, [], ◌∷◌, ◌++◌, length, take, drop, get_or, refl, sym, ap, ◌∙◌, subst, arith}
-use Rattle.std.proofs.Math.Seq.{take-append_seam, drop-append_seam, get_or-append_seam}
-use Rattle.std.proofs.lemmas.List.{append_assoc, drop-append-le, drop-drop, get_or-take, get_or-drop, length-append, length-drop, length-take-le, take-append-drop, take-take}
+use Rattle.std.proofs.Common.{◌≡◌, ℕ, ◌+◌, ◌-◌, ◌<◌, ◌≤◌, List, ◌∷◌, ◌++◌, length, take, drop, get_or, sym, ap, ◌∙◌, arith}
+use Rattle.std.proofs.Math.Seq.{take-append_seam, drop-append_seam}
+use Rattle.std.proofs.lemmas.List.{drop-append-le, drop-drop, get_or-take, get_or-drop, length-append, length-drop, length-take-le, take-append-drop, take-take}
 use Rattle.html_front.specs.Slices.{held}
 
 pub length-held : (text : List ℕ) (from to : ℕ) → to ≤ length text → length (held text from to) ≡ to - from

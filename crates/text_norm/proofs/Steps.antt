@@ -1,9 +1,9 @@
 -- A byte that stays as it is.
-use Rattle.std.proofs.Common.{◌≡◌, ℕ, ◌+◌, ◌-◌, ◌<◌, ◌≤◌, Bool, true, false, codes, List, [], ◌∷◌, ◌++◌, length, take, drop, get_or, Option, Some, None, IfSome, refl, sym, ap, ◌∙◌, subst, arith, inl, inr, ◌⊎◌}
-use Rattle.std.proofs.lemmas.List.{append_assoc, append-nil, length-append}
+use Rattle.std.proofs.Common.{◌≡◌, ℕ, ◌+◌, ◌-◌, ◌<◌, ◌≤◌, Bool, true, false, List, [], ◌∷◌, ◌++◌, length, get_or, Option, Some, None, IfSome, refl, sym, ap, ◌∙◌, subst, arith, inl, inr, ◌⊎◌}
+use Rattle.std.proofs.lemmas.List.{append_assoc, length-append}
 use Rattle.std.specs.Str.{IsCharBoundary}
-use Rattle.place_core.specs.Classes.{Class, Ampersand, class_of}
-use Rattle.place_core.specs.References.{Reference, Closed, as_it_stands}
+use Rattle.place_core.specs.Classes.{Class, class_of}
+use Rattle.place_core.specs.References.{Reference, as_it_stands}
 use Rattle.html_front.proofs.HeldNames.{held_grows}
 use Rattle.html_front.specs.ClassViews.{class_at}
 use Rattle.html_front.specs.FrontViews.{front_at, held_from}
@@ -12,7 +12,7 @@ use Rattle.html_front.specs.declared.front.Front.{Front as ReadFront}
 use Rattle.html_front.specs.Fronts.{Front, front_next}
 use Rattle.html_front.specs.Slices.{held}
 use Rattle.text_norm.specs.Fronted.{front_open, front_out}
-use Rattle.text_norm.specs.Kept.{Continues, IsBegun, IsKept, IsLonger, IsPlaced, Reads, change_of, front_of, hides, less_kept, reference_kept, reference_of, stays}
+use Rattle.text_norm.specs.Kept.{Continues, IsBegun, IsKept, IsLonger, IsPlaced, Reads, change_of, front_of, less_kept, reference_kept, reference_of, stays}
 use Rattle.text_norm.specs.ReferenceViews.{reference_at}
 use Rattle.text_norm.specs.declared.change.Change.{Change}
 use Rattle.text_norm.specs.declared.change.Change.TheVariants as change

@@ -1,5 +1,5 @@
 -- What is held back of a text that has been read to a front, and what becomes of it at a byte.
-use Rattle.std.specs.Prelude.{ℕ, ◌+◌, ◌-◌, ◌≤◌, Bool, true, false, ◌≡◌, codes, List, [], ◌∷◌, ◌++◌, length, get_or, Option, IfSome, IsSomeAnd, ◌⊎◌, ◌<◌}
+use Rattle.std.specs.Prelude.{ℕ, ◌+◌, ◌-◌, ◌≤◌, Bool, true, false, ◌≡◌, codes, List, [], ◌++◌, length, get_or, Option, IfSome, IsSomeAnd, ◌⊎◌}
 use Rattle.std.specs.Str.{IsCharBoundary}
 use Rattle.place_core.specs.Classes.{Class, Ampersand, class_of}
 use Rattle.place_core.specs.References.{Reference, Closed, as_it_stands, next_reference}

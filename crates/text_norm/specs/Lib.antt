@@ -1,4 +1,5 @@
 pub mod Fronted
 pub mod Kept
 pub mod ReferenceViews
+pub mod Resting
 pub mod Written

@@ -11,6 +11,7 @@ mod free;
 mod less;
 mod opened;
 mod reading;
+mod resting;
 mod step;
 mod texts;
 mod writing;

@@ -4,6 +4,7 @@ ghost use Rattle.text_norm.specs.Fronted.{written_at};
 use crate::byte::write_byte;
 use crate::end::write_end;
 use crate::reading::Reading;
+use crate::resting::resting_end;
 use html_front::Front;
 use page_io::{Memory, Text};
 use place_core::Place;
@@ -27,8 +28,11 @@ pub fn write_text(alloc: Global, place: Place, text: &str) -> Result<Text, Memor
         reference: None,
         done: 0,
     };
-    for index in 0..text.len() {
+    let bytes = text.as_bytes();
+    let mut index = 0;
+    while index < bytes.len() {
         reading = write_byte(&mut out, text, index, reading)?;
+        index = resting_end(bytes, index + 1, reading);
     }
     write_end(&mut out, text, reading)?;
     Ok(out)

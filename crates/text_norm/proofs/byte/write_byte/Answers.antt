@@ -1,11 +1,10 @@
-use Rattle.std.proofs.Common.{◌≡◌, ℕ, ◌+◌, ◌-◌, ◌<◌, ◌≤◌, List, [], ◌++◌, codes, get_or, length, Option, None, IfSome, refl, sym, ap, ◌∙◌, subst, arith}
+use Rattle.std.proofs.Common.{◌≡◌, ℕ, ◌+◌, ◌≤◌, List, get_or, length, None, IfSome, refl, sym, ap, ◌∙◌, subst, arith}
 use Rattle.std.specs.Str.{IsCharBoundary}
 use Rattle.place_core.specs.Classes.{Class, class_of}
 use Rattle.place_core.specs.References.{begin_reference}
 use Rattle.html_front.specs.ClassViews.{class_at}
 use Rattle.html_front.specs.FrontViews.{front_at}
-use Rattle.text_norm.specs.Kept.{Continues, IsReadTo, change_of, front_of, less_kept, reference_kept, reference_of, stays}
-use Rattle.text_norm.specs.ReferenceViews.{reference_at}
+use Rattle.text_norm.specs.Kept.{Continues, IsReadTo, change_of, front_of, reference_kept, reference_of, stays}
 use Rattle.text_norm.specs.declared.change.Change.TheVariants as change
 use Rattle.text_norm.specs.declared.reading.Reading.{Reading}
 use Rattle.text_norm.proofs.ChangedSteps.{ends_at_less, escapes, leaves, less_at, opens}

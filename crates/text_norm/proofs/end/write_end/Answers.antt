@@ -1,10 +1,10 @@
-use Rattle.std.proofs.Common.{◌≡◌, ℕ, ◌+◌, ◌-◌, ◌<◌, ◌≤◌, List, [], ◌++◌, codes, length, get_or, Result, Ok, Err, OnOk, refl, sym, ap, ◌∙◌, subst, arith}
-use Rattle.std.proofs.lemmas.Str.{IsCharBoundary-after_ascii, IsCharBoundary-before_ascii}
+use Rattle.std.proofs.Common.{◌≡◌, ℕ, ◌+◌, ◌≤◌, List, ◌++◌, length, get_or, Result, Ok, Err, OnOk, sym, ap, ◌∙◌, subst, arith}
+use Rattle.std.proofs.lemmas.Str.{IsCharBoundary-after_ascii}
 use Rattle.std.specs.Str.{IsCharBoundary}
 use Rattle.html_front.specs.Slices.{held}
 use Rattle.place_core.specs.References.{as_it_stands}
 use Rattle.text_norm.specs.Fronted.{front_cut_out}
-use Rattle.text_norm.specs.Kept.{front_of, less_kept, reference_of}
+use Rattle.text_norm.specs.Kept.{front_of, reference_of}
 use Rattle.text_norm.specs.declared.ending.Ending.TheVariants as ending
 use Rattle.text_norm.proofs.ChangedSteps.{IsLessAt, ends_at_less, less_at}
 use Rattle.text_norm.proofs.EndLaws.{end_bytes, end_here}
@@ -54,8 +54,8 @@ returns-in_ok-push_less-in-BehindLess c kept =
     let at = c.less_from-less.ensures c.args.text.now inside in
     let m = subst (λ (at : ℕ). IsLessAt c.args.text.now (length c.args.text.now) at c.args.reading kept.free here.more) (sym at) l in
     on_ok c.push_run.result (c.push_run.new.out ≡ c.push_less.new.out ++ held c.args.text.now (c.less_from-less.result + 1) (length c.args.text.now)) (c.push_run.new.out ≡ c.args.out.now ++ (kept.free ++ front_cut_out (front_of c.args.text.now (length c.args.text.now) c.args.reading) (reference_of c.args.text.now c.args.reading)))
-        (λ ends. end_bytes c.args.out.now c.push_less.new.out c.push_run.new.out kept.free (as_it_stands (reference_of c.args.text.now c.args.reading)) (held c.args.text.now c.args.reading.done c.less_from-less.result) here.more (front_cut_out (front_of c.args.text.now (length c.args.text.now) c.args.reading) (reference_of c.args.text.now c.args.reading)) c.in_ok-push_less-in-BehindLess.ensures m.before (ends ∙ ap (λ (xs : List ℕ). c.push_less.new.out ++ xs) m.behind) here.out)
-        c.push_run.ensures
+    (λ ends. end_bytes c.args.out.now c.push_less.new.out c.push_run.new.out kept.free (as_it_stands (reference_of c.args.text.now c.args.reading)) (held c.args.text.now c.args.reading.done c.less_from-less.result) here.more (front_cut_out (front_of c.args.text.now (length c.args.text.now) c.args.reading) (reference_of c.args.text.now c.args.reading)) c.in_ok-push_less-in-BehindLess.ensures m.before (ends ∙ ap (λ (xs : List ℕ). c.push_less.new.out ++ xs) m.behind) here.out)
+    c.push_run.ensures
 
 pub returns-in-Loose : goal.returns-in-Loose
 returns-in-Loose c kept =

@@ -1,6 +1,4 @@
-use Rattle.std.proofs.Common.{◌≡◌, ℕ, ◌-◌, List, ◌++◌, length, OnOk, refl, sym, ap, ◌∙◌, subst, arith, Some, None, Option}
-use Rattle.std.proofs.lemmas.List.{append-nil}
-use Rattle.std.proofs.lemmas.Str.{IsCharBoundary-after_ascii, IsCharBoundary-before_ascii}
+use Rattle.std.proofs.Common.{◌≡◌, ℕ, ◌-◌, List, ◌++◌, length, OnOk, sym, ap, ◌∙◌, subst, arith, Some, Option}
 use Rattle.std.specs.Str.{IsCharBoundary}
 use Rattle.html_front.specs.Slices.{held}
 use Rattle.place_core.specs.References.{as_it_stands}
