@@ -1,7 +1,7 @@
 -- The same for all the paths of a place together: by the front to which they have read the text, and the reference that is open there.
 use Rattle.std.specs.Prelude.{ℕ, codes, List, [], ◌∷◌, ◌++◌}
 use Rattle.place_core.specs.Classes.{Class, ExclamationMark, Solidus, LessThan, class_of}
-use Rattle.place_core.specs.Comments.{Declaration, Undecided, declared_by}
+use Rattle.place_core.specs.Comments.{Declaration, Undecided, OpensNothing, declared_by}
 use Rattle.place_core.specs.References.{Reference, Closed, as_it_stands, begin_reference, next_reference}
 use Rattle.place_core.specs.declared.place.Place.{Place}
 use Rattle.place_core.specs.declared.place.Place.TheVariants as place
@@ -20,7 +20,8 @@ less_open c r = begin_reference c
 
 abbrev pub declaration_open : Declaration → Class → Reference → Reference
 declaration_open Undecided c r = r
-declaration_open d c r = begin_reference c
+declaration_open OpensNothing c r = begin_reference c
+declaration_open d c r = Closed
 
 abbrev pub place_open : Place → Class → ℕ → Reference → Reference
 place_open place.Text c b r = text_open c b r

@@ -1,4 +1,7 @@
 pub mod Fronted
+pub mod Kept
 pub mod Laws
+pub mod ReferenceViews
+pub mod Resting
 pub mod Standing
 pub mod Written

@@ -1,0 +1,767 @@
+-- What a byte does to what is held back: a law for each front.
+use Rattle.std.proofs.Common.{◌≡◌, ℕ, Bool, true, false, codes, List, [], ◌∷◌, ◌++◌, refl, sym, ap, ◌∙◌}
+use Rattle.std.proofs.lemmas.List.{append_assoc, append-nil}
+use Rattle.place_core.specs.Classes.{Class, White, ExclamationMark, QuotationMark, NumberSign, Ampersand, Apostrophe, HyphenMinus, Solidus, Digit, Semicolon, LessThan, EqualsSign, GreaterThan, QuestionMark, GraveAccent, Letter, OtherByte}
+use Rattle.place_core.specs.Comments.{Declaration, OpensComment, OpensDoctype, Undecided, OpensNothing, declared_by, next_comment, closes_comment}
+use Rattle.place_core.specs.Contents.{may_be_name_of, is_name_of}
+use Rattle.place_core.specs.References.{Reference, Closed, Open, ReferenceStep, Grows, Closes, Breaks, turn, turned, as_it_stands, begin_reference, next_reference, plain_bytes}
+use Rattle.place_core.specs.States.{CommentState, Started, StartedDash, Inside, Dash, DashDash, Bang, Broken, Nothing, HeldLess, HeldName, HeldBang, HeldBangDash}
+use Rattle.place_core.specs.StatePlaces.{tag_of}
+use Rattle.place_core.specs.Tags.{tag_named}
+use Rattle.place_core.specs.Words.{kind_of}
+use Rattle.place_core.specs.declared.body.Body.{Body}
+use Rattle.place_core.specs.declared.element.Element.{Element}
+use Rattle.place_core.specs.declared.element.Element.TheVariants as element
+use Rattle.place_core.specs.declared.kind.Kind.{Kind}
+use Rattle.place_core.specs.declared.place.Place.{Place}
+use Rattle.place_core.specs.declared.place.Place.TheVariants as place
+use Rattle.place_core.specs.declared.quotes.Quotes.{Quotes}
+use Rattle.place_core.specs.declared.quotes.Quotes.TheVariants as quotes
+use Rattle.place_core.specs.declared.tag_of.TagOf.{TagOf}
+use Rattle.place_core.specs.declared.tag_of.TagOf.TheVariants as tag
+use Rattle.place_core.specs.declared.tag_place.TagPlace.{TagPlace}
+use Rattle.place_core.specs.declared.value_place.ValuePlace.{ValuePlace}
+use Rattle.std.proofs.Common.{Option, Some, None}
+use Rattle.html_front.specs.Fronts.{Front, At, AfterLess, AfterLessSolidus, InDeclaration, InTagName, InAttributeName, InCommentEnd, InContentEnd, attribute_name_next, bare_next, bare_white, comment_closed, comment_front, comment_next, comment_state, content_front, content_next, declaration_next, doctype_next, end_name_next, front_next, kind_body, quoted_next, tag_element, tag_name_next, tag_next, text_front, value_front}
+use Rattle.text_norm.specs.Fronted.{declaration_open, front_open, front_out}
+use Rattle.text_norm.specs.Kept.{bears, change_of, front_kept, hides, less_kept, reference_kept, stays}
+use Rattle.text_norm.specs.Written.{declaration_out, end_name_out, escaped, loose_out, reference_out, text_out, turn_out}
+use Rattle.text_norm.specs.declared.change.Change.{Change}
+use Rattle.text_norm.specs.declared.change.Change.TheVariants as change
+
+no : false ≡ true → ⊥
+no h = cc
+
+yes : true ≡ false → ⊥
+yes h = cc
+
+-- the bytes of the classes that are written in another way
+abbrev pub Spelled : Class → ℕ → Type 0
+Spelled Ampersand b = b ≡ 38
+Spelled LessThan b = b ≡ 60
+Spelled Solidus b = b ≡ 47
+Spelled ExclamationMark b = b ≡ 33
+Spelled c b = b ≡ b
+
+pub record IsLoose (g : Front) : Type 0 where
+  pub less : less_kept g ≡ []
+  pub shown : hides g ≡ false
+
+pub record KeepsBytes (f g : Front) (r s : Reference) (c : Class) (b : ℕ) (written : List ℕ) : Type 0 where
+  pub bytes : as_it_stands r ++ (less_kept f ++ b ∷ []) ≡ written ++ (as_it_stands s ++ less_kept g)
+  pub closed : bears g ≡ false → s ≡ Closed
+  pub shown : hides g ≡ false
+  pub before : hides f ≡ false
+  pub kept : reference_kept (stays f g) f c b r ≡ s
+  pub out : stays f g ≡ true → written ≡ []
+  pub alone : stays f g ≡ false → c ≡ Ampersand → less_kept g ≡ []
+
+pub record EscapesBytes (f g : Front) (r s : Reference) (c : Class) (b : ℕ) (written : List ℕ) : Type 0 where
+  pub more : List ℕ
+  pub again : List ℕ
+  pub less : less_kept f ≡ 60 ∷ more
+  pub out : written ≡ as_it_stands r ++ (codes "&lt;" ++ again)
+  pub bytes : again ++ (as_it_stands s ++ less_kept g) ≡ more ++ b ∷ []
+  pub reference : s ≡ begin_reference c
+  pub alone : c ≡ Ampersand → less_kept g ≡ []
+  pub closed : bears g ≡ false → s ≡ Closed
+  pub shown : hides g ≡ false
+  pub before : hides f ≡ false
+
+pub record OpensBytes (f g : Front) (r s : Reference) (c : Class) (b : ℕ) (written : List ℕ) : Type 0 where
+  pub more : List ℕ
+  pub less : less_kept f ≡ 60 ∷ more
+  pub out : written ≡ escaped r
+  pub reference : s ≡ Closed
+  pub loose : less_kept g ≡ []
+  pub hidden : hides g ≡ true
+  pub before : hides f ≡ false
+
+pub record LeavesBytes (f g : Front) (r s : Reference) (c : Class) (b : ℕ) (written : List ℕ) : Type 0 where
+  pub out : written ≡ []
+  pub reference : s ≡ Closed
+  pub loose : less_kept g ≡ []
+  pub ends : hides g ≡ false → c ≡ GreaterThan
+  pub before : hides f ≡ true
+
+abbrev pub LawOf : Change → Front → Front → Reference → Reference → Class → ℕ → List ℕ → Type 0
+LawOf change.Keeps f g r s c b out = KeepsBytes f g r s c b out
+LawOf change.EscapesLess f g r s c b out = EscapesBytes f g r s c b out
+LawOf change.OpensComment f g r s c b out = OpensBytes f g r s c b out
+LawOf change.LeavesOut f g r s c b out = LeavesBytes f g r s c b out
+
+abbrev pub Law : Front → Front → Reference → Reference → Class → ℕ → List ℕ → Type 0
+Law f g r s c b out = LawOf (change_of f g) f g r s c b out
+
+plain_law : (c : Class) (b : ℕ) → Spelled c b → b ∷ [] ≡ plain_bytes c b ++ as_it_stands (begin_reference c)
+plain_law White b p = refl
+plain_law ExclamationMark b p = refl
+plain_law QuotationMark b p = refl
+plain_law NumberSign b p = refl
+plain_law Ampersand b p = rw p refl
+plain_law Apostrophe b p = refl
+plain_law HyphenMinus b p = refl
+plain_law Solidus b p = refl
+plain_law Digit b p = refl
+plain_law Semicolon b p = refl
+plain_law LessThan b p = refl
+plain_law EqualsSign b p = refl
+plain_law GreaterThan b p = refl
+plain_law QuestionMark b p = refl
+plain_law GraveAccent b p = refl
+plain_law (Letter l) b p = refl
+plain_law OtherByte b p = refl
+
+turn_law : (t : ReferenceStep) (bytes : List ℕ) (c : Class) (b : ℕ) → Spelled c b → (38 ∷ bytes) ++ b ∷ [] ≡ turn_out t bytes c b ++ as_it_stands (turned t bytes c b)
+turn_law (Grows g) bytes c b p = refl
+turn_law Closes bytes c b p = sym (append-nil ((38 ∷ bytes) ++ b ∷ []))
+turn_law Breaks bytes c b p = ap (λ (xs : List ℕ). (38 ∷ bytes) ++ xs) (plain_law c b p) ∙ sym (append_assoc (38 ∷ bytes) (plain_bytes c b) (as_it_stands (begin_reference c)))
+
+reference_law : (r : Reference) (c : Class) (b : ℕ) → Spelled c b → as_it_stands r ++ b ∷ [] ≡ reference_out r c b ++ as_it_stands (next_reference r c b)
+reference_law Closed c b p = plain_law c b p
+reference_law (Open f bytes) c b p = turn_law (turn c f) bytes c b p
+
+-- in text with references
+with_references : (f g : Front) (r : Reference) (c : Class) (b : ℕ) → Spelled c b → less_kept f ≡ [] → less_kept g ≡ [] → (bears g ≡ false → next_reference r c b ≡ Closed) → hides g ≡ false → hides f ≡ false → stays f g ≡ false → front_kept f c b r ≡ next_reference r c b → KeepsBytes f g r (next_reference r c b) c b (reference_out r c b)
+with_references f g r c b p less_f less_g closed shown before moves kept = record {
+  bytes = rw (less_f, less_g, append-nil (as_it_stands (next_reference r c b))) (reference_law r c b p);
+  closed = closed;
+  shown = shown;
+  before = before;
+  kept = rw moves kept;
+  out = λ h. absurd (no (sym moves ∙ h));
+  alone = λ h k. less_g;
+}
+
+-- and without
+without_references : (f g : Front) (r : Reference) (c : Class) (b : ℕ) → less_kept f ≡ [] → IsLoose g → hides f ≡ false → stays f g ≡ false → front_kept f c b r ≡ Closed → r ≡ Closed → KeepsBytes f g r Closed c b (b ∷ [])
+without_references f g r c b less loose before moves kept closed = record {
+  bytes = rw (less, loose.less, closed) refl;
+  closed = λ h. refl;
+  shown = loose.shown;
+  before = before;
+  kept = rw moves kept;
+  out = λ h. absurd (no (sym moves ∙ h));
+  alone = λ h k. loose.less;
+}
+
+in_text : (c : Class) (b : ℕ) (r : Reference) → Spelled c b → Law (At place.Text) (text_front c) r (front_open (At place.Text) c b r) c b (text_out c b r)
+in_text White b r p = with_references (At place.Text) (At place.Text) r White b p refl refl (λ h. absurd (yes h)) refl refl refl refl
+in_text ExclamationMark b r p = with_references (At place.Text) (At place.Text) r ExclamationMark b p refl refl (λ h. absurd (yes h)) refl refl refl refl
+in_text QuotationMark b r p = with_references (At place.Text) (At place.Text) r QuotationMark b p refl refl (λ h. absurd (yes h)) refl refl refl refl
+in_text NumberSign b r p = with_references (At place.Text) (At place.Text) r NumberSign b p refl refl (λ h. absurd (yes h)) refl refl refl refl
+in_text Ampersand b r p = with_references (At place.Text) (At place.Text) r Ampersand b p refl refl (λ h. absurd (yes h)) refl refl refl refl
+in_text Apostrophe b r p = with_references (At place.Text) (At place.Text) r Apostrophe b p refl refl (λ h. absurd (yes h)) refl refl refl refl
+in_text HyphenMinus b r p = with_references (At place.Text) (At place.Text) r HyphenMinus b p refl refl (λ h. absurd (yes h)) refl refl refl refl
+in_text Solidus b r p = with_references (At place.Text) (At place.Text) r Solidus b p refl refl (λ h. absurd (yes h)) refl refl refl refl
+in_text Digit b r p = with_references (At place.Text) (At place.Text) r Digit b p refl refl (λ h. absurd (yes h)) refl refl refl refl
+in_text Semicolon b r p = with_references (At place.Text) (At place.Text) r Semicolon b p refl refl (λ h. absurd (yes h)) refl refl refl refl
+in_text LessThan b r p = record { bytes = rw p refl; closed = λ h. cc; shown = refl; before = refl; kept = refl; out = λ h. refl; alone = λ h k. absurd (yes h) }
+in_text EqualsSign b r p = with_references (At place.Text) (At place.Text) r EqualsSign b p refl refl (λ h. absurd (yes h)) refl refl refl refl
+in_text GreaterThan b r p = with_references (At place.Text) (At place.Text) r GreaterThan b p refl refl (λ h. absurd (yes h)) refl refl refl refl
+in_text QuestionMark b r p = with_references (At place.Text) (At place.Text) r QuestionMark b p refl refl (λ h. absurd (yes h)) refl refl refl refl
+in_text GraveAccent b r p = with_references (At place.Text) (At place.Text) r GraveAccent b p refl refl (λ h. absurd (yes h)) refl refl refl refl
+in_text (Letter l) b r p = with_references (At place.Text) (At place.Text) r (Letter l) b p refl refl (λ h. absurd (yes h)) refl refl refl refl
+in_text OtherByte b r p = with_references (At place.Text) (At place.Text) r OtherByte b p refl refl (λ h. absurd (yes h)) refl refl refl refl
+
+ends_at_less : (r : Reference) (b : ℕ) → next_reference r LessThan b ≡ Closed
+ends_at_less Closed b = refl
+ends_at_less (Open f bytes) b = refl
+
+in_rcdata : (c : Class) (b : ℕ) (e : Element) (r : Reference) → Spelled c b → Law (At (place.Rcdata e)) (content_next c e) r (next_reference r c b) c b (loose_out c b r)
+in_rcdata White b e r p = with_references (At (place.Rcdata e)) (At (place.Rcdata e)) r White b p refl refl (λ h. absurd (yes h)) refl refl refl refl
+in_rcdata ExclamationMark b e r p = with_references (At (place.Rcdata e)) (At (place.Rcdata e)) r ExclamationMark b p refl refl (λ h. absurd (yes h)) refl refl refl refl
+in_rcdata QuotationMark b e r p = with_references (At (place.Rcdata e)) (At (place.Rcdata e)) r QuotationMark b p refl refl (λ h. absurd (yes h)) refl refl refl refl
+in_rcdata NumberSign b e r p = with_references (At (place.Rcdata e)) (At (place.Rcdata e)) r NumberSign b p refl refl (λ h. absurd (yes h)) refl refl refl refl
+in_rcdata Ampersand b e r p = with_references (At (place.Rcdata e)) (At (place.Rcdata e)) r Ampersand b p refl refl (λ h. absurd (yes h)) refl refl refl refl
+in_rcdata Apostrophe b e r p = with_references (At (place.Rcdata e)) (At (place.Rcdata e)) r Apostrophe b p refl refl (λ h. absurd (yes h)) refl refl refl refl
+in_rcdata HyphenMinus b e r p = with_references (At (place.Rcdata e)) (At (place.Rcdata e)) r HyphenMinus b p refl refl (λ h. absurd (yes h)) refl refl refl refl
+in_rcdata Solidus b e r p = with_references (At (place.Rcdata e)) (At (place.Rcdata e)) r Solidus b p refl refl (λ h. absurd (yes h)) refl refl refl refl
+in_rcdata Digit b e r p = with_references (At (place.Rcdata e)) (At (place.Rcdata e)) r Digit b p refl refl (λ h. absurd (yes h)) refl refl refl refl
+in_rcdata Semicolon b e r p = with_references (At (place.Rcdata e)) (At (place.Rcdata e)) r Semicolon b p refl refl (λ h. absurd (yes h)) refl refl refl refl
+in_rcdata LessThan b e r p = record { bytes = rw (ends_at_less r b, p) refl; closed = λ h. ends_at_less r b; shown = refl; before = refl; kept = refl; out = λ h. absurd (no h); alone = λ h k. cc }
+in_rcdata EqualsSign b e r p = with_references (At (place.Rcdata e)) (At (place.Rcdata e)) r EqualsSign b p refl refl (λ h. absurd (yes h)) refl refl refl refl
+in_rcdata GreaterThan b e r p = with_references (At (place.Rcdata e)) (At (place.Rcdata e)) r GreaterThan b p refl refl (λ h. absurd (yes h)) refl refl refl refl
+in_rcdata QuestionMark b e r p = with_references (At (place.Rcdata e)) (At (place.Rcdata e)) r QuestionMark b p refl refl (λ h. absurd (yes h)) refl refl refl refl
+in_rcdata GraveAccent b e r p = with_references (At (place.Rcdata e)) (At (place.Rcdata e)) r GraveAccent b p refl refl (λ h. absurd (yes h)) refl refl refl refl
+in_rcdata (Letter l) b e r p = with_references (At (place.Rcdata e)) (At (place.Rcdata e)) r (Letter l) b p refl refl (λ h. absurd (yes h)) refl refl refl refl
+in_rcdata OtherByte b e r p = with_references (At (place.Rcdata e)) (At (place.Rcdata e)) r OtherByte b p refl refl (λ h. absurd (yes h)) refl refl refl refl
+
+ends_at_quotation : (r : Reference) (b : ℕ) → next_reference r QuotationMark b ≡ Closed
+ends_at_quotation Closed b = refl
+ends_at_quotation (Open f bytes) b = refl
+
+ends_at_apostrophe : (r : Reference) (b : ℕ) → next_reference r Apostrophe b ≡ Closed
+ends_at_apostrophe Closed b = refl
+ends_at_apostrophe (Open f bytes) b = refl
+
+ends_at_white : (r : Reference) (b : ℕ) → next_reference r White b ≡ Closed
+ends_at_white Closed b = refl
+ends_at_white (Open f bytes) b = refl
+
+ends_at_greater : (r : Reference) (b : ℕ) → next_reference r GreaterThan b ≡ Closed
+ends_at_greater Closed b = refl
+ends_at_greater (Open f bytes) b = refl
+
+loose-content : (t : TagOf) → IsLoose (content_front t)
+loose-content tag.End = record { less = refl; shown = refl }
+loose-content (tag.Start element.Title) = record { less = refl; shown = refl }
+loose-content (tag.Start element.Textarea) = record { less = refl; shown = refl }
+loose-content (tag.Start element.Style) = record { less = refl; shown = refl }
+loose-content (tag.Start element.Script) = record { less = refl; shown = refl }
+loose-content (tag.Start element.DataBlock) = record { less = refl; shown = refl }
+loose-content (tag.Start element.Other) = record { less = refl; shown = refl }
+
+loose-value : (t : TagOf) (typed : Bool) (o : Option Body) → IsLoose (value_front t typed o)
+loose-value t typed None = record { less = refl; shown = refl }
+loose-value t typed (Some b) = record { less = refl; shown = refl }
+
+in_double : (c : Class) (b : ℕ) (v : ValuePlace) (r : Reference) → Spelled c b → KeepsBytes (At (place.Value v)) (quoted_next v quotes.Dq c) r (next_reference r c b) c b (reference_out r c b)
+in_double White b v r p = with_references (At (place.Value v)) (quoted_next v quotes.Dq White) r White b p refl refl (λ h. absurd (yes h)) refl refl refl refl
+in_double ExclamationMark b v r p = with_references (At (place.Value v)) (quoted_next v quotes.Dq ExclamationMark) r ExclamationMark b p refl refl (λ h. absurd (yes h)) refl refl refl refl
+in_double QuotationMark b v r p = with_references (At (place.Value v)) (quoted_next v quotes.Dq QuotationMark) r QuotationMark b p refl refl (λ h. ends_at_quotation r b) refl refl refl refl
+in_double NumberSign b v r p = with_references (At (place.Value v)) (quoted_next v quotes.Dq NumberSign) r NumberSign b p refl refl (λ h. absurd (yes h)) refl refl refl refl
+in_double Ampersand b v r p = with_references (At (place.Value v)) (quoted_next v quotes.Dq Ampersand) r Ampersand b p refl refl (λ h. absurd (yes h)) refl refl refl refl
+in_double Apostrophe b v r p = with_references (At (place.Value v)) (quoted_next v quotes.Dq Apostrophe) r Apostrophe b p refl refl (λ h. absurd (yes h)) refl refl refl refl
+in_double HyphenMinus b v r p = with_references (At (place.Value v)) (quoted_next v quotes.Dq HyphenMinus) r HyphenMinus b p refl refl (λ h. absurd (yes h)) refl refl refl refl
+in_double Solidus b v r p = with_references (At (place.Value v)) (quoted_next v quotes.Dq Solidus) r Solidus b p refl refl (λ h. absurd (yes h)) refl refl refl refl
+in_double Digit b v r p = with_references (At (place.Value v)) (quoted_next v quotes.Dq Digit) r Digit b p refl refl (λ h. absurd (yes h)) refl refl refl refl
+in_double Semicolon b v r p = with_references (At (place.Value v)) (quoted_next v quotes.Dq Semicolon) r Semicolon b p refl refl (λ h. absurd (yes h)) refl refl refl refl
+in_double LessThan b v r p = with_references (At (place.Value v)) (quoted_next v quotes.Dq LessThan) r LessThan b p refl refl (λ h. absurd (yes h)) refl refl refl refl
+in_double EqualsSign b v r p = with_references (At (place.Value v)) (quoted_next v quotes.Dq EqualsSign) r EqualsSign b p refl refl (λ h. absurd (yes h)) refl refl refl refl
+in_double GreaterThan b v r p = with_references (At (place.Value v)) (quoted_next v quotes.Dq GreaterThan) r GreaterThan b p refl refl (λ h. absurd (yes h)) refl refl refl refl
+in_double QuestionMark b v r p = with_references (At (place.Value v)) (quoted_next v quotes.Dq QuestionMark) r QuestionMark b p refl refl (λ h. absurd (yes h)) refl refl refl refl
+in_double GraveAccent b v r p = with_references (At (place.Value v)) (quoted_next v quotes.Dq GraveAccent) r GraveAccent b p refl refl (λ h. absurd (yes h)) refl refl refl refl
+in_double (Letter l) b v r p = with_references (At (place.Value v)) (quoted_next v quotes.Dq (Letter l)) r (Letter l) b p refl refl (λ h. absurd (yes h)) refl refl refl refl
+in_double OtherByte b v r p = with_references (At (place.Value v)) (quoted_next v quotes.Dq OtherByte) r OtherByte b p refl refl (λ h. absurd (yes h)) refl refl refl refl
+
+in_single : (c : Class) (b : ℕ) (v : ValuePlace) (r : Reference) → Spelled c b → KeepsBytes (At (place.Value v)) (quoted_next v quotes.Sq c) r (next_reference r c b) c b (reference_out r c b)
+in_single White b v r p = with_references (At (place.Value v)) (quoted_next v quotes.Sq White) r White b p refl refl (λ h. absurd (yes h)) refl refl refl refl
+in_single ExclamationMark b v r p = with_references (At (place.Value v)) (quoted_next v quotes.Sq ExclamationMark) r ExclamationMark b p refl refl (λ h. absurd (yes h)) refl refl refl refl
+in_single QuotationMark b v r p = with_references (At (place.Value v)) (quoted_next v quotes.Sq QuotationMark) r QuotationMark b p refl refl (λ h. absurd (yes h)) refl refl refl refl
+in_single NumberSign b v r p = with_references (At (place.Value v)) (quoted_next v quotes.Sq NumberSign) r NumberSign b p refl refl (λ h. absurd (yes h)) refl refl refl refl
+in_single Ampersand b v r p = with_references (At (place.Value v)) (quoted_next v quotes.Sq Ampersand) r Ampersand b p refl refl (λ h. absurd (yes h)) refl refl refl refl
+in_single Apostrophe b v r p = with_references (At (place.Value v)) (quoted_next v quotes.Sq Apostrophe) r Apostrophe b p refl refl (λ h. ends_at_apostrophe r b) refl refl refl refl
+in_single HyphenMinus b v r p = with_references (At (place.Value v)) (quoted_next v quotes.Sq HyphenMinus) r HyphenMinus b p refl refl (λ h. absurd (yes h)) refl refl refl refl
+in_single Solidus b v r p = with_references (At (place.Value v)) (quoted_next v quotes.Sq Solidus) r Solidus b p refl refl (λ h. absurd (yes h)) refl refl refl refl
+in_single Digit b v r p = with_references (At (place.Value v)) (quoted_next v quotes.Sq Digit) r Digit b p refl refl (λ h. absurd (yes h)) refl refl refl refl
+in_single Semicolon b v r p = with_references (At (place.Value v)) (quoted_next v quotes.Sq Semicolon) r Semicolon b p refl refl (λ h. absurd (yes h)) refl refl refl refl
+in_single LessThan b v r p = with_references (At (place.Value v)) (quoted_next v quotes.Sq LessThan) r LessThan b p refl refl (λ h. absurd (yes h)) refl refl refl refl
+in_single EqualsSign b v r p = with_references (At (place.Value v)) (quoted_next v quotes.Sq EqualsSign) r EqualsSign b p refl refl (λ h. absurd (yes h)) refl refl refl refl
+in_single GreaterThan b v r p = with_references (At (place.Value v)) (quoted_next v quotes.Sq GreaterThan) r GreaterThan b p refl refl (λ h. absurd (yes h)) refl refl refl refl
+in_single QuestionMark b v r p = with_references (At (place.Value v)) (quoted_next v quotes.Sq QuestionMark) r QuestionMark b p refl refl (λ h. absurd (yes h)) refl refl refl refl
+in_single GraveAccent b v r p = with_references (At (place.Value v)) (quoted_next v quotes.Sq GraveAccent) r GraveAccent b p refl refl (λ h. absurd (yes h)) refl refl refl refl
+in_single (Letter l) b v r p = with_references (At (place.Value v)) (quoted_next v quotes.Sq (Letter l)) r (Letter l) b p refl refl (λ h. absurd (yes h)) refl refl refl refl
+in_single OtherByte b v r p = with_references (At (place.Value v)) (quoted_next v quotes.Sq OtherByte) r OtherByte b p refl refl (λ h. absurd (yes h)) refl refl refl refl
+
+in_bare_white : (uq : Bool) (b : ℕ) (v : ValuePlace) (r : Reference) → Spelled White b → KeepsBytes (At (place.Value v)) (bare_white v uq) r (next_reference r White b) White b (reference_out r White b)
+in_bare_white true b v r p = with_references (At (place.Value v)) (bare_white v true) r White b p refl refl (λ h. ends_at_white r b) refl refl refl refl
+in_bare_white false b v r p = with_references (At (place.Value v)) (bare_white v false) r White b p refl refl (λ h. absurd (yes h)) refl refl refl refl
+
+in_bare : (c : Class) (b : ℕ) (v : ValuePlace) (uq : Bool) (r : Reference) → Spelled c b → KeepsBytes (At (place.Value v)) (bare_next v uq c) r (next_reference r c b) c b (reference_out r c b)
+in_bare White b v uq r p = in_bare_white uq b v r p
+in_bare ExclamationMark b v uq r p = with_references (At (place.Value v)) (bare_next v uq ExclamationMark) r ExclamationMark b p refl refl (λ h. absurd (yes h)) refl refl refl refl
+in_bare QuotationMark b v uq r p = with_references (At (place.Value v)) (bare_next v uq QuotationMark) r QuotationMark b p refl refl (λ h. absurd (yes h)) refl refl refl refl
+in_bare NumberSign b v uq r p = with_references (At (place.Value v)) (bare_next v uq NumberSign) r NumberSign b p refl refl (λ h. absurd (yes h)) refl refl refl refl
+in_bare Ampersand b v uq r p = with_references (At (place.Value v)) (bare_next v uq Ampersand) r Ampersand b p refl refl (λ h. absurd (yes h)) refl refl refl refl
+in_bare Apostrophe b v uq r p = with_references (At (place.Value v)) (bare_next v uq Apostrophe) r Apostrophe b p refl refl (λ h. absurd (yes h)) refl refl refl refl
+in_bare HyphenMinus b v uq r p = with_references (At (place.Value v)) (bare_next v uq HyphenMinus) r HyphenMinus b p refl refl (λ h. absurd (yes h)) refl refl refl refl
+in_bare Solidus b v uq r p = with_references (At (place.Value v)) (bare_next v uq Solidus) r Solidus b p refl refl (λ h. absurd (yes h)) refl refl refl refl
+in_bare Digit b v uq r p = with_references (At (place.Value v)) (bare_next v uq Digit) r Digit b p refl refl (λ h. absurd (yes h)) refl refl refl refl
+in_bare Semicolon b v uq r p = with_references (At (place.Value v)) (bare_next v uq Semicolon) r Semicolon b p refl refl (λ h. absurd (yes h)) refl refl refl refl
+in_bare LessThan b v uq r p = with_references (At (place.Value v)) (bare_next v uq LessThan) r LessThan b p refl refl (λ h. absurd (yes h)) refl refl refl refl
+in_bare EqualsSign b v uq r p = with_references (At (place.Value v)) (bare_next v uq EqualsSign) r EqualsSign b p refl refl (λ h. absurd (yes h)) refl refl refl refl
+in_bare GreaterThan b v uq r p = with_references (At (place.Value v)) (content_front v.tag) r GreaterThan b p refl (loose-content v.tag).less (λ h. ends_at_greater r b) (loose-content v.tag).shown refl refl refl
+in_bare QuestionMark b v uq r p = with_references (At (place.Value v)) (bare_next v uq QuestionMark) r QuestionMark b p refl refl (λ h. absurd (yes h)) refl refl refl refl
+in_bare GraveAccent b v uq r p = with_references (At (place.Value v)) (bare_next v uq GraveAccent) r GraveAccent b p refl refl (λ h. absurd (yes h)) refl refl refl refl
+in_bare (Letter l) b v uq r p = with_references (At (place.Value v)) (bare_next v uq (Letter l)) r (Letter l) b p refl refl (λ h. absurd (yes h)) refl refl refl refl
+in_bare OtherByte b v uq r p = with_references (At (place.Value v)) (bare_next v uq OtherByte) r OtherByte b p refl refl (λ h. absurd (yes h)) refl refl refl refl
+
+in_quotes : (q : Quotes) (c : Class) (b : ℕ) (v : ValuePlace) (r : Reference) → Spelled c b → KeepsBytes (At (place.Value v)) (quoted_next v q c) r (next_reference r c b) c b (reference_out r c b)
+in_quotes quotes.Dq c b v r p = in_double c b v r p
+in_quotes quotes.Sq c b v r p = in_single c b v r p
+in_quotes (quotes.Bare u) c b v r p = in_bare c b v u.uq r p
+
+loose-tag : (c : Class) (t : TagPlace) (b : ℕ) → IsLoose (tag_next t c b)
+loose-tag White t b = record { less = refl; shown = refl }
+loose-tag ExclamationMark t b = record { less = refl; shown = refl }
+loose-tag QuotationMark t b = record { less = refl; shown = refl }
+loose-tag NumberSign t b = record { less = refl; shown = refl }
+loose-tag Ampersand t b = record { less = refl; shown = refl }
+loose-tag Apostrophe t b = record { less = refl; shown = refl }
+loose-tag HyphenMinus t b = record { less = refl; shown = refl }
+loose-tag Solidus t b = record { less = refl; shown = refl }
+loose-tag Digit t b = record { less = refl; shown = refl }
+loose-tag Semicolon t b = record { less = refl; shown = refl }
+loose-tag LessThan t b = record { less = refl; shown = refl }
+loose-tag EqualsSign t b = loose-value t.tag t.typed (kind_body t.kind)
+loose-tag GreaterThan t b = loose-content t.tag
+loose-tag QuestionMark t b = record { less = refl; shown = refl }
+loose-tag GraveAccent t b = record { less = refl; shown = refl }
+loose-tag (Letter l) t b = record { less = refl; shown = refl }
+loose-tag OtherByte t b = record { less = refl; shown = refl }
+
+loose-tag_name : (c : Class) (b : ℕ) (ends : Bool) (name : List ℕ) → IsLoose (tag_name_next c b ends name)
+loose-tag_name White b ends name = record { less = refl; shown = refl }
+loose-tag_name ExclamationMark b ends name = record { less = refl; shown = refl }
+loose-tag_name QuotationMark b ends name = record { less = refl; shown = refl }
+loose-tag_name NumberSign b ends name = record { less = refl; shown = refl }
+loose-tag_name Ampersand b ends name = record { less = refl; shown = refl }
+loose-tag_name Apostrophe b ends name = record { less = refl; shown = refl }
+loose-tag_name HyphenMinus b ends name = record { less = refl; shown = refl }
+loose-tag_name Solidus b ends name = record { less = refl; shown = refl }
+loose-tag_name Digit b ends name = record { less = refl; shown = refl }
+loose-tag_name Semicolon b ends name = record { less = refl; shown = refl }
+loose-tag_name LessThan b ends name = record { less = refl; shown = refl }
+loose-tag_name EqualsSign b ends name = record { less = refl; shown = refl }
+loose-tag_name GreaterThan b ends name = loose-content (tag_of (tag_named ends name))
+loose-tag_name QuestionMark b ends name = record { less = refl; shown = refl }
+loose-tag_name GraveAccent b ends name = record { less = refl; shown = refl }
+loose-tag_name (Letter l) b ends name = record { less = refl; shown = refl }
+loose-tag_name OtherByte b ends name = record { less = refl; shown = refl }
+
+loose-attribute_name : (c : Class) (b : ℕ) (t : TagOf) (typed : Bool) (k : Kind) (name : List ℕ) → IsLoose (attribute_name_next c b t typed k name)
+loose-attribute_name White b t typed k name = record { less = refl; shown = refl }
+loose-attribute_name ExclamationMark b t typed k name = record { less = refl; shown = refl }
+loose-attribute_name QuotationMark b t typed k name = record { less = refl; shown = refl }
+loose-attribute_name NumberSign b t typed k name = record { less = refl; shown = refl }
+loose-attribute_name Ampersand b t typed k name = record { less = refl; shown = refl }
+loose-attribute_name Apostrophe b t typed k name = record { less = refl; shown = refl }
+loose-attribute_name HyphenMinus b t typed k name = record { less = refl; shown = refl }
+loose-attribute_name Solidus b t typed k name = record { less = refl; shown = refl }
+loose-attribute_name Digit b t typed k name = record { less = refl; shown = refl }
+loose-attribute_name Semicolon b t typed k name = record { less = refl; shown = refl }
+loose-attribute_name LessThan b t typed k name = record { less = refl; shown = refl }
+loose-attribute_name EqualsSign b t typed k name = loose-value t typed (kind_body (Some k))
+loose-attribute_name GreaterThan b t typed k name = loose-content t
+loose-attribute_name QuestionMark b t typed k name = record { less = refl; shown = refl }
+loose-attribute_name GraveAccent b t typed k name = record { less = refl; shown = refl }
+loose-attribute_name (Letter l) b t typed k name = record { less = refl; shown = refl }
+loose-attribute_name OtherByte b t typed k name = record { less = refl; shown = refl }
+
+loose-doctype : (c : Class) → IsLoose (doctype_next c)
+loose-doctype White = record { less = refl; shown = refl }
+loose-doctype ExclamationMark = record { less = refl; shown = refl }
+loose-doctype QuotationMark = record { less = refl; shown = refl }
+loose-doctype NumberSign = record { less = refl; shown = refl }
+loose-doctype Ampersand = record { less = refl; shown = refl }
+loose-doctype Apostrophe = record { less = refl; shown = refl }
+loose-doctype HyphenMinus = record { less = refl; shown = refl }
+loose-doctype Solidus = record { less = refl; shown = refl }
+loose-doctype Digit = record { less = refl; shown = refl }
+loose-doctype Semicolon = record { less = refl; shown = refl }
+loose-doctype LessThan = record { less = refl; shown = refl }
+loose-doctype EqualsSign = record { less = refl; shown = refl }
+loose-doctype GreaterThan = record { less = refl; shown = refl }
+loose-doctype QuestionMark = record { less = refl; shown = refl }
+loose-doctype GraveAccent = record { less = refl; shown = refl }
+loose-doctype (Letter l) = record { less = refl; shown = refl }
+loose-doctype OtherByte = record { less = refl; shown = refl }
+
+again_text : (c : Class) (b : ℕ) → Spelled c b → text_out c b Closed ++ (as_it_stands (begin_reference c) ++ less_kept (text_front c)) ≡ b ∷ []
+again_text White b p = refl
+again_text ExclamationMark b p = refl
+again_text QuotationMark b p = refl
+again_text NumberSign b p = refl
+again_text Ampersand b p = rw p refl
+again_text Apostrophe b p = refl
+again_text HyphenMinus b p = refl
+again_text Solidus b p = refl
+again_text Digit b p = refl
+again_text Semicolon b p = refl
+again_text LessThan b p = rw p refl
+again_text EqualsSign b p = refl
+again_text GreaterThan b p = refl
+again_text QuestionMark b p = refl
+again_text GraveAccent b p = refl
+again_text (Letter l) b p = refl
+again_text OtherByte b p = refl
+
+again_content : (c : Class) (b : ℕ) (e : Element) → Spelled c b → loose_out c b Closed ++ (as_it_stands (begin_reference c) ++ less_kept (content_next c e)) ≡ b ∷ []
+again_content White b e p = refl
+again_content ExclamationMark b e p = refl
+again_content QuotationMark b e p = refl
+again_content NumberSign b e p = refl
+again_content Ampersand b e p = rw p refl
+again_content Apostrophe b e p = refl
+again_content HyphenMinus b e p = refl
+again_content Solidus b e p = refl
+again_content Digit b e p = refl
+again_content Semicolon b e p = refl
+again_content LessThan b e p = rw p refl
+again_content EqualsSign b e p = refl
+again_content GreaterThan b e p = refl
+again_content QuestionMark b e p = refl
+again_content GraveAccent b e p = refl
+again_content (Letter l) b e p = refl
+again_content OtherByte b e p = refl
+
+shown-text : (c : Class) → hides (text_front c) ≡ false
+shown-text White = refl
+shown-text ExclamationMark = refl
+shown-text QuotationMark = refl
+shown-text NumberSign = refl
+shown-text Ampersand = refl
+shown-text Apostrophe = refl
+shown-text HyphenMinus = refl
+shown-text Solidus = refl
+shown-text Digit = refl
+shown-text Semicolon = refl
+shown-text LessThan = refl
+shown-text EqualsSign = refl
+shown-text GreaterThan = refl
+shown-text QuestionMark = refl
+shown-text GraveAccent = refl
+shown-text (Letter l) = refl
+shown-text OtherByte = refl
+
+shown-content : (c : Class) (e : Element) → hides (content_next c e) ≡ false
+shown-content White e = refl
+shown-content ExclamationMark e = refl
+shown-content QuotationMark e = refl
+shown-content NumberSign e = refl
+shown-content Ampersand e = refl
+shown-content Apostrophe e = refl
+shown-content HyphenMinus e = refl
+shown-content Solidus e = refl
+shown-content Digit e = refl
+shown-content Semicolon e = refl
+shown-content LessThan e = refl
+shown-content EqualsSign e = refl
+shown-content GreaterThan e = refl
+shown-content QuestionMark e = refl
+shown-content GraveAccent e = refl
+shown-content (Letter l) e = refl
+shown-content OtherByte e = refl
+
+alone-text : (c : Class) → c ≡ Ampersand → less_kept (text_front c) ≡ []
+alone-text White h = refl
+alone-text ExclamationMark h = refl
+alone-text QuotationMark h = refl
+alone-text NumberSign h = refl
+alone-text Ampersand h = refl
+alone-text Apostrophe h = refl
+alone-text HyphenMinus h = refl
+alone-text Solidus h = refl
+alone-text Digit h = refl
+alone-text Semicolon h = refl
+alone-text LessThan h = cc
+alone-text EqualsSign h = refl
+alone-text GreaterThan h = refl
+alone-text QuestionMark h = refl
+alone-text GraveAccent h = refl
+alone-text (Letter l) h = refl
+alone-text OtherByte h = refl
+
+alone-content : (c : Class) (e : Element) → c ≡ Ampersand → less_kept (content_next c e) ≡ []
+alone-content White e h = refl
+alone-content ExclamationMark e h = refl
+alone-content QuotationMark e h = refl
+alone-content NumberSign e h = refl
+alone-content Ampersand e h = refl
+alone-content Apostrophe e h = refl
+alone-content HyphenMinus e h = refl
+alone-content Solidus e h = refl
+alone-content Digit e h = refl
+alone-content Semicolon e h = refl
+alone-content LessThan e h = cc
+alone-content EqualsSign e h = refl
+alone-content GreaterThan e h = refl
+alone-content QuestionMark e h = refl
+alone-content GraveAccent e h = refl
+alone-content (Letter l) e h = refl
+alone-content OtherByte e h = refl
+
+closed-text : (c : Class) → bears (text_front c) ≡ false → begin_reference c ≡ Closed
+closed-text White h = absurd (yes h)
+closed-text ExclamationMark h = absurd (yes h)
+closed-text QuotationMark h = absurd (yes h)
+closed-text NumberSign h = absurd (yes h)
+closed-text Ampersand h = absurd (yes h)
+closed-text Apostrophe h = absurd (yes h)
+closed-text HyphenMinus h = absurd (yes h)
+closed-text Solidus h = absurd (yes h)
+closed-text Digit h = absurd (yes h)
+closed-text Semicolon h = absurd (yes h)
+closed-text LessThan h = absurd (yes h)
+closed-text EqualsSign h = absurd (yes h)
+closed-text GreaterThan h = absurd (yes h)
+closed-text QuestionMark h = absurd (yes h)
+closed-text GraveAccent h = absurd (yes h)
+closed-text (Letter l) h = absurd (yes h)
+closed-text OtherByte h = absurd (yes h)
+
+closed-content : (c : Class) (e : Element) → bears (content_next c e) ≡ false → begin_reference c ≡ Closed
+closed-content White e h = absurd (yes h)
+closed-content ExclamationMark e h = absurd (yes h)
+closed-content QuotationMark e h = absurd (yes h)
+closed-content NumberSign e h = absurd (yes h)
+closed-content Ampersand e h = absurd (yes h)
+closed-content Apostrophe e h = absurd (yes h)
+closed-content HyphenMinus e h = absurd (yes h)
+closed-content Solidus e h = absurd (yes h)
+closed-content Digit e h = absurd (yes h)
+closed-content Semicolon e h = absurd (yes h)
+closed-content LessThan e h = refl
+closed-content EqualsSign e h = absurd (yes h)
+closed-content GreaterThan e h = absurd (yes h)
+closed-content QuestionMark e h = absurd (yes h)
+closed-content GraveAccent e h = absurd (yes h)
+closed-content (Letter l) e h = absurd (yes h)
+closed-content OtherByte e h = absurd (yes h)
+
+escapes_text : (f : Front) (r : Reference) (c : Class) (b : ℕ) (more out : List ℕ) → Spelled c b → less_kept f ≡ 60 ∷ more → hides f ≡ false → out ≡ (as_it_stands r ++ codes "&lt;") ++ (more ++ text_out c b Closed) → EscapesBytes f (text_front c) r (begin_reference c) c b out
+escapes_text f r c b more out p less before written = record {
+  more = more;
+  again = more ++ text_out c b Closed;
+  less = less;
+  out = written ∙ append_assoc (as_it_stands r) (codes "&lt;") (more ++ text_out c b Closed);
+  bytes = append_assoc more (text_out c b Closed) (as_it_stands (begin_reference c) ++ less_kept (text_front c)) ∙ ap (λ (xs : List ℕ). more ++ xs) (again_text c b p);
+  reference = refl;
+  alone = alone-text c;
+  closed = closed-text c;
+  shown = shown-text c;
+  before = before;
+}
+
+escapes_content : (f : Front) (r : Reference) (c : Class) (b : ℕ) (e : Element) (more out : List ℕ) → r ≡ Closed → Spelled c b → less_kept f ≡ 60 ∷ more → hides f ≡ false → out ≡ codes "&lt;" ++ (more ++ loose_out c b Closed) → EscapesBytes f (content_next c e) r (begin_reference c) c b out
+escapes_content f r c b e more out none p less before written = record {
+  more = more;
+  again = more ++ loose_out c b Closed;
+  less = less;
+  out = rw none written;
+  bytes = append_assoc more (loose_out c b Closed) (as_it_stands (begin_reference c) ++ less_kept (content_next c e)) ∙ ap (λ (xs : List ℕ). more ++ xs) (again_content c b e p);
+  reference = refl;
+  alone = alone-content c e;
+  closed = closed-content c e;
+  shown = shown-content c e;
+  before = before;
+}
+
+after_less : (c : Class) (b : ℕ) (r : Reference) → Spelled c b → Law AfterLess (front_next AfterLess c b) r (front_open AfterLess c b r) c b (front_out AfterLess c b r)
+after_less White b r p = escapes_text AfterLess r White b [] ((as_it_stands r ++ codes "&lt;") ++ text_out White b Closed) p refl refl refl
+after_less ExclamationMark b r p = record { bytes = rw p refl; closed = λ h. absurd (yes h); shown = refl; before = refl; kept = refl; out = λ h. refl; alone = λ h k. absurd (yes h) }
+after_less QuotationMark b r p = escapes_text AfterLess r QuotationMark b [] ((as_it_stands r ++ codes "&lt;") ++ text_out QuotationMark b Closed) p refl refl refl
+after_less NumberSign b r p = escapes_text AfterLess r NumberSign b [] ((as_it_stands r ++ codes "&lt;") ++ text_out NumberSign b Closed) p refl refl refl
+after_less Ampersand b r p = escapes_text AfterLess r Ampersand b [] ((as_it_stands r ++ codes "&lt;") ++ text_out Ampersand b Closed) p refl refl refl
+after_less Apostrophe b r p = escapes_text AfterLess r Apostrophe b [] ((as_it_stands r ++ codes "&lt;") ++ text_out Apostrophe b Closed) p refl refl refl
+after_less HyphenMinus b r p = escapes_text AfterLess r HyphenMinus b [] ((as_it_stands r ++ codes "&lt;") ++ text_out HyphenMinus b Closed) p refl refl refl
+after_less Solidus b r p = record { bytes = rw p refl; closed = λ h. absurd (yes h); shown = refl; before = refl; kept = refl; out = λ h. refl; alone = λ h k. absurd (yes h) }
+after_less Digit b r p = escapes_text AfterLess r Digit b [] ((as_it_stands r ++ codes "&lt;") ++ text_out Digit b Closed) p refl refl refl
+after_less Semicolon b r p = escapes_text AfterLess r Semicolon b [] ((as_it_stands r ++ codes "&lt;") ++ text_out Semicolon b Closed) p refl refl refl
+after_less LessThan b r p = escapes_text AfterLess r LessThan b [] ((as_it_stands r ++ codes "&lt;") ++ text_out LessThan b Closed) p refl refl refl
+after_less EqualsSign b r p = escapes_text AfterLess r EqualsSign b [] ((as_it_stands r ++ codes "&lt;") ++ text_out EqualsSign b Closed) p refl refl refl
+after_less GreaterThan b r p = escapes_text AfterLess r GreaterThan b [] ((as_it_stands r ++ codes "&lt;") ++ text_out GreaterThan b Closed) p refl refl refl
+after_less QuestionMark b r p = escapes_text AfterLess r QuestionMark b [] ((as_it_stands r ++ codes "&lt;") ++ text_out QuestionMark b Closed) p refl refl refl
+after_less GraveAccent b r p = escapes_text AfterLess r GraveAccent b [] ((as_it_stands r ++ codes "&lt;") ++ text_out GraveAccent b Closed) p refl refl refl
+after_less (Letter l) b r p = record { bytes = sym (append_assoc (as_it_stands r) (codes "<") (b ∷ [])) ∙ sym (append-nil ((as_it_stands r ++ codes "<") ++ b ∷ [])); closed = λ h. refl; shown = refl; before = refl; kept = refl; out = λ h. absurd (no h); alone = λ h k. refl }
+after_less OtherByte b r p = escapes_text AfterLess r OtherByte b [] ((as_it_stands r ++ codes "&lt;") ++ text_out OtherByte b Closed) p refl refl refl
+
+after_solidus : (c : Class) (b : ℕ) (r : Reference) → Spelled c b → Law AfterLessSolidus (front_next AfterLessSolidus c b) r (front_open AfterLessSolidus c b r) c b (front_out AfterLessSolidus c b r)
+after_solidus White b r p = escapes_text AfterLessSolidus r White b (codes "/") ((as_it_stands r ++ codes "&lt;") ++ (codes "/" ++ text_out White b Closed)) p refl refl refl
+after_solidus ExclamationMark b r p = escapes_text AfterLessSolidus r ExclamationMark b (codes "/") ((as_it_stands r ++ codes "&lt;") ++ (codes "/" ++ text_out ExclamationMark b Closed)) p refl refl refl
+after_solidus QuotationMark b r p = escapes_text AfterLessSolidus r QuotationMark b (codes "/") ((as_it_stands r ++ codes "&lt;") ++ (codes "/" ++ text_out QuotationMark b Closed)) p refl refl refl
+after_solidus NumberSign b r p = escapes_text AfterLessSolidus r NumberSign b (codes "/") ((as_it_stands r ++ codes "&lt;") ++ (codes "/" ++ text_out NumberSign b Closed)) p refl refl refl
+after_solidus Ampersand b r p = escapes_text AfterLessSolidus r Ampersand b (codes "/") ((as_it_stands r ++ codes "&lt;") ++ (codes "/" ++ text_out Ampersand b Closed)) p refl refl refl
+after_solidus Apostrophe b r p = escapes_text AfterLessSolidus r Apostrophe b (codes "/") ((as_it_stands r ++ codes "&lt;") ++ (codes "/" ++ text_out Apostrophe b Closed)) p refl refl refl
+after_solidus HyphenMinus b r p = escapes_text AfterLessSolidus r HyphenMinus b (codes "/") ((as_it_stands r ++ codes "&lt;") ++ (codes "/" ++ text_out HyphenMinus b Closed)) p refl refl refl
+after_solidus Solidus b r p = escapes_text AfterLessSolidus r Solidus b (codes "/") ((as_it_stands r ++ codes "&lt;") ++ (codes "/" ++ text_out Solidus b Closed)) p refl refl refl
+after_solidus Digit b r p = escapes_text AfterLessSolidus r Digit b (codes "/") ((as_it_stands r ++ codes "&lt;") ++ (codes "/" ++ text_out Digit b Closed)) p refl refl refl
+after_solidus Semicolon b r p = escapes_text AfterLessSolidus r Semicolon b (codes "/") ((as_it_stands r ++ codes "&lt;") ++ (codes "/" ++ text_out Semicolon b Closed)) p refl refl refl
+after_solidus LessThan b r p = escapes_text AfterLessSolidus r LessThan b (codes "/") ((as_it_stands r ++ codes "&lt;") ++ (codes "/" ++ text_out LessThan b Closed)) p refl refl refl
+after_solidus EqualsSign b r p = escapes_text AfterLessSolidus r EqualsSign b (codes "/") ((as_it_stands r ++ codes "&lt;") ++ (codes "/" ++ text_out EqualsSign b Closed)) p refl refl refl
+after_solidus GreaterThan b r p = escapes_text AfterLessSolidus r GreaterThan b (codes "/") ((as_it_stands r ++ codes "&lt;") ++ (codes "/" ++ text_out GreaterThan b Closed)) p refl refl refl
+after_solidus QuestionMark b r p = escapes_text AfterLessSolidus r QuestionMark b (codes "/") ((as_it_stands r ++ codes "&lt;") ++ (codes "/" ++ text_out QuestionMark b Closed)) p refl refl refl
+after_solidus GraveAccent b r p = escapes_text AfterLessSolidus r GraveAccent b (codes "/") ((as_it_stands r ++ codes "&lt;") ++ (codes "/" ++ text_out GraveAccent b Closed)) p refl refl refl
+after_solidus (Letter l) b r p = record { bytes = sym (append_assoc (as_it_stands r) (codes "</") (b ∷ [])) ∙ sym (append-nil ((as_it_stands r ++ codes "</") ++ b ∷ [])); closed = λ h. refl; shown = refl; before = refl; kept = refl; out = λ h. absurd (no h); alone = λ h k. refl }
+after_solidus OtherByte b r p = escapes_text AfterLessSolidus r OtherByte b (codes "/") ((as_it_stands r ++ codes "&lt;") ++ (codes "/" ++ text_out OtherByte b Closed)) p refl refl refl
+
+opens_nothing : (c : Class) (b : ℕ) (bytes : List ℕ) (r : Reference) → Spelled c b → Law (InDeclaration bytes) (text_front c) r (begin_reference c) c b (declaration_out OpensNothing c b r bytes)
+opens_nothing White b bytes r p = escapes_text (InDeclaration bytes) r White b (codes "!" ++ bytes) (declaration_out OpensNothing White b r bytes) p refl refl refl
+opens_nothing ExclamationMark b bytes r p = escapes_text (InDeclaration bytes) r ExclamationMark b (codes "!" ++ bytes) (declaration_out OpensNothing ExclamationMark b r bytes) p refl refl refl
+opens_nothing QuotationMark b bytes r p = escapes_text (InDeclaration bytes) r QuotationMark b (codes "!" ++ bytes) (declaration_out OpensNothing QuotationMark b r bytes) p refl refl refl
+opens_nothing NumberSign b bytes r p = escapes_text (InDeclaration bytes) r NumberSign b (codes "!" ++ bytes) (declaration_out OpensNothing NumberSign b r bytes) p refl refl refl
+opens_nothing Ampersand b bytes r p = escapes_text (InDeclaration bytes) r Ampersand b (codes "!" ++ bytes) (declaration_out OpensNothing Ampersand b r bytes) p refl refl refl
+opens_nothing Apostrophe b bytes r p = escapes_text (InDeclaration bytes) r Apostrophe b (codes "!" ++ bytes) (declaration_out OpensNothing Apostrophe b r bytes) p refl refl refl
+opens_nothing HyphenMinus b bytes r p = escapes_text (InDeclaration bytes) r HyphenMinus b (codes "!" ++ bytes) (declaration_out OpensNothing HyphenMinus b r bytes) p refl refl refl
+opens_nothing Solidus b bytes r p = escapes_text (InDeclaration bytes) r Solidus b (codes "!" ++ bytes) (declaration_out OpensNothing Solidus b r bytes) p refl refl refl
+opens_nothing Digit b bytes r p = escapes_text (InDeclaration bytes) r Digit b (codes "!" ++ bytes) (declaration_out OpensNothing Digit b r bytes) p refl refl refl
+opens_nothing Semicolon b bytes r p = escapes_text (InDeclaration bytes) r Semicolon b (codes "!" ++ bytes) (declaration_out OpensNothing Semicolon b r bytes) p refl refl refl
+opens_nothing LessThan b bytes r p = escapes_text (InDeclaration bytes) r LessThan b (codes "!" ++ bytes) (declaration_out OpensNothing LessThan b r bytes) p refl refl refl
+opens_nothing EqualsSign b bytes r p = escapes_text (InDeclaration bytes) r EqualsSign b (codes "!" ++ bytes) (declaration_out OpensNothing EqualsSign b r bytes) p refl refl refl
+opens_nothing GreaterThan b bytes r p = escapes_text (InDeclaration bytes) r GreaterThan b (codes "!" ++ bytes) (declaration_out OpensNothing GreaterThan b r bytes) p refl refl refl
+opens_nothing QuestionMark b bytes r p = escapes_text (InDeclaration bytes) r QuestionMark b (codes "!" ++ bytes) (declaration_out OpensNothing QuestionMark b r bytes) p refl refl refl
+opens_nothing GraveAccent b bytes r p = escapes_text (InDeclaration bytes) r GraveAccent b (codes "!" ++ bytes) (declaration_out OpensNothing GraveAccent b r bytes) p refl refl refl
+opens_nothing (Letter l) b bytes r p = escapes_text (InDeclaration bytes) r (Letter l) b (codes "!" ++ bytes) (declaration_out OpensNothing (Letter l) b r bytes) p refl refl refl
+opens_nothing OtherByte b bytes r p = escapes_text (InDeclaration bytes) r OtherByte b (codes "!" ++ bytes) (declaration_out OpensNothing OtherByte b r bytes) p refl refl refl
+
+in_declared : (d : Declaration) (c : Class) (b : ℕ) (bytes : List ℕ) (r : Reference) → Spelled c b → Law (InDeclaration bytes) (declaration_next d c b bytes) r (declaration_open d c r) c b (declaration_out d c b r bytes)
+in_declared OpensComment c b bytes r p = record { more = codes "!" ++ bytes; less = refl; out = refl; reference = refl; loose = refl; hidden = refl; before = refl }
+in_declared OpensDoctype c b bytes r p = record { bytes = sym (append_assoc (as_it_stands r) (codes "<!" ++ bytes) (b ∷ [])) ∙ sym (append-nil ((as_it_stands r ++ (codes "<!" ++ bytes)) ++ b ∷ [])); closed = λ h. refl; shown = refl; before = refl; kept = refl; out = λ h. absurd (no h); alone = λ h k. refl }
+in_declared Undecided c b bytes r p = record { bytes = refl; closed = λ h. absurd (yes h); shown = refl; before = refl; kept = refl; out = λ h. refl; alone = λ h k. absurd (yes h) }
+in_declared OpensNothing c b bytes r p = opens_nothing c b bytes r p
+
+after_content_less : (c : Class) (b : ℕ) (e : Element) (r : Reference) → Spelled c b → r ≡ Closed → Law (InContentEnd e HeldLess) (front_next (InContentEnd e HeldLess) c b) r (begin_reference c) c b (front_out (InContentEnd e HeldLess) c b r)
+after_content_less White b e r p h = escapes_content (InContentEnd e HeldLess) r White b e [] (codes "&lt;" ++ loose_out White b Closed) h p refl refl refl
+after_content_less ExclamationMark b e r p h = escapes_content (InContentEnd e HeldLess) r ExclamationMark b e [] (codes "&lt;" ++ loose_out ExclamationMark b Closed) h p refl refl refl
+after_content_less QuotationMark b e r p h = escapes_content (InContentEnd e HeldLess) r QuotationMark b e [] (codes "&lt;" ++ loose_out QuotationMark b Closed) h p refl refl refl
+after_content_less NumberSign b e r p h = escapes_content (InContentEnd e HeldLess) r NumberSign b e [] (codes "&lt;" ++ loose_out NumberSign b Closed) h p refl refl refl
+after_content_less Ampersand b e r p h = escapes_content (InContentEnd e HeldLess) r Ampersand b e [] (codes "&lt;" ++ loose_out Ampersand b Closed) h p refl refl refl
+after_content_less Apostrophe b e r p h = escapes_content (InContentEnd e HeldLess) r Apostrophe b e [] (codes "&lt;" ++ loose_out Apostrophe b Closed) h p refl refl refl
+after_content_less HyphenMinus b e r p h = escapes_content (InContentEnd e HeldLess) r HyphenMinus b e [] (codes "&lt;" ++ loose_out HyphenMinus b Closed) h p refl refl refl
+after_content_less Solidus b e r p h = record { bytes = rw (p, h) refl; closed = λ k. refl; shown = refl; before = refl; kept = refl; out = λ k. absurd (no k); alone = λ a k. cc }
+after_content_less Digit b e r p h = escapes_content (InContentEnd e HeldLess) r Digit b e [] (codes "&lt;" ++ loose_out Digit b Closed) h p refl refl refl
+after_content_less Semicolon b e r p h = escapes_content (InContentEnd e HeldLess) r Semicolon b e [] (codes "&lt;" ++ loose_out Semicolon b Closed) h p refl refl refl
+after_content_less LessThan b e r p h = escapes_content (InContentEnd e HeldLess) r LessThan b e [] (codes "&lt;" ++ loose_out LessThan b Closed) h p refl refl refl
+after_content_less EqualsSign b e r p h = escapes_content (InContentEnd e HeldLess) r EqualsSign b e [] (codes "&lt;" ++ loose_out EqualsSign b Closed) h p refl refl refl
+after_content_less GreaterThan b e r p h = escapes_content (InContentEnd e HeldLess) r GreaterThan b e [] (codes "&lt;" ++ loose_out GreaterThan b Closed) h p refl refl refl
+after_content_less QuestionMark b e r p h = escapes_content (InContentEnd e HeldLess) r QuestionMark b e [] (codes "&lt;" ++ loose_out QuestionMark b Closed) h p refl refl refl
+after_content_less GraveAccent b e r p h = escapes_content (InContentEnd e HeldLess) r GraveAccent b e [] (codes "&lt;" ++ loose_out GraveAccent b Closed) h p refl refl refl
+after_content_less (Letter l) b e r p h = escapes_content (InContentEnd e HeldLess) r (Letter l) b e [] (codes "&lt;" ++ loose_out (Letter l) b Closed) h p refl refl refl
+after_content_less OtherByte b e r p h = escapes_content (InContentEnd e HeldLess) r OtherByte b e [] (codes "&lt;" ++ loose_out OtherByte b Closed) h p refl refl refl
+
+in_end_name : (grows whole : Bool) (c : Class) (b : ℕ) (e : Element) (letters : List ℕ) (r : Reference) → Spelled c b → r ≡ Closed → Law (InContentEnd e (HeldName letters)) (end_name_next grows whole c b e letters) r (begin_reference c) c b (end_name_out grows whole c b letters)
+in_end_name true true White b e letters r p h = record { bytes = rw (h, append-nil (letters ++ b ∷ [])) refl; closed = λ k. refl; shown = refl; before = refl; kept = refl; out = λ k. absurd (no k); alone = λ a k. cc }
+in_end_name true true ExclamationMark b e letters r p h = escapes_content (InContentEnd e (HeldName letters)) r ExclamationMark b e (codes "/" ++ letters) (codes "&lt;" ++ ((codes "/" ++ letters) ++ loose_out ExclamationMark b Closed)) h p refl refl refl
+in_end_name true true QuotationMark b e letters r p h = escapes_content (InContentEnd e (HeldName letters)) r QuotationMark b e (codes "/" ++ letters) (codes "&lt;" ++ ((codes "/" ++ letters) ++ loose_out QuotationMark b Closed)) h p refl refl refl
+in_end_name true true NumberSign b e letters r p h = escapes_content (InContentEnd e (HeldName letters)) r NumberSign b e (codes "/" ++ letters) (codes "&lt;" ++ ((codes "/" ++ letters) ++ loose_out NumberSign b Closed)) h p refl refl refl
+in_end_name true true Ampersand b e letters r p h = escapes_content (InContentEnd e (HeldName letters)) r Ampersand b e (codes "/" ++ letters) (codes "&lt;" ++ ((codes "/" ++ letters) ++ loose_out Ampersand b Closed)) h p refl refl refl
+in_end_name true true Apostrophe b e letters r p h = escapes_content (InContentEnd e (HeldName letters)) r Apostrophe b e (codes "/" ++ letters) (codes "&lt;" ++ ((codes "/" ++ letters) ++ loose_out Apostrophe b Closed)) h p refl refl refl
+in_end_name true true HyphenMinus b e letters r p h = escapes_content (InContentEnd e (HeldName letters)) r HyphenMinus b e (codes "/" ++ letters) (codes "&lt;" ++ ((codes "/" ++ letters) ++ loose_out HyphenMinus b Closed)) h p refl refl refl
+in_end_name true true Solidus b e letters r p h = record { bytes = rw (h, append-nil (letters ++ b ∷ [])) refl; closed = λ k. refl; shown = refl; before = refl; kept = refl; out = λ k. absurd (no k); alone = λ a k. cc }
+in_end_name true true Digit b e letters r p h = escapes_content (InContentEnd e (HeldName letters)) r Digit b e (codes "/" ++ letters) (codes "&lt;" ++ ((codes "/" ++ letters) ++ loose_out Digit b Closed)) h p refl refl refl
+in_end_name true true Semicolon b e letters r p h = escapes_content (InContentEnd e (HeldName letters)) r Semicolon b e (codes "/" ++ letters) (codes "&lt;" ++ ((codes "/" ++ letters) ++ loose_out Semicolon b Closed)) h p refl refl refl
+in_end_name true true LessThan b e letters r p h = escapes_content (InContentEnd e (HeldName letters)) r LessThan b e (codes "/" ++ letters) (codes "&lt;" ++ ((codes "/" ++ letters) ++ loose_out LessThan b Closed)) h p refl refl refl
+in_end_name true true EqualsSign b e letters r p h = escapes_content (InContentEnd e (HeldName letters)) r EqualsSign b e (codes "/" ++ letters) (codes "&lt;" ++ ((codes "/" ++ letters) ++ loose_out EqualsSign b Closed)) h p refl refl refl
+in_end_name true true GreaterThan b e letters r p h = record { bytes = rw (h, append-nil (letters ++ b ∷ [])) refl; closed = λ k. refl; shown = refl; before = refl; kept = refl; out = λ k. absurd (no k); alone = λ a k. cc }
+in_end_name true true QuestionMark b e letters r p h = escapes_content (InContentEnd e (HeldName letters)) r QuestionMark b e (codes "/" ++ letters) (codes "&lt;" ++ ((codes "/" ++ letters) ++ loose_out QuestionMark b Closed)) h p refl refl refl
+in_end_name true true GraveAccent b e letters r p h = escapes_content (InContentEnd e (HeldName letters)) r GraveAccent b e (codes "/" ++ letters) (codes "&lt;" ++ ((codes "/" ++ letters) ++ loose_out GraveAccent b Closed)) h p refl refl refl
+in_end_name true true (Letter l) b e letters r p h = record { bytes = rw h refl; closed = λ k. refl; shown = refl; before = refl; kept = refl; out = λ k. absurd (no k); alone = λ a k. cc }
+in_end_name true true OtherByte b e letters r p h = escapes_content (InContentEnd e (HeldName letters)) r OtherByte b e (codes "/" ++ letters) (codes "&lt;" ++ ((codes "/" ++ letters) ++ loose_out OtherByte b Closed)) h p refl refl refl
+in_end_name true false White b e letters r p h = escapes_content (InContentEnd e (HeldName letters)) r White b e (codes "/" ++ letters) (codes "&lt;" ++ ((codes "/" ++ letters) ++ loose_out White b Closed)) h p refl refl refl
+in_end_name true false ExclamationMark b e letters r p h = escapes_content (InContentEnd e (HeldName letters)) r ExclamationMark b e (codes "/" ++ letters) (codes "&lt;" ++ ((codes "/" ++ letters) ++ loose_out ExclamationMark b Closed)) h p refl refl refl
+in_end_name true false QuotationMark b e letters r p h = escapes_content (InContentEnd e (HeldName letters)) r QuotationMark b e (codes "/" ++ letters) (codes "&lt;" ++ ((codes "/" ++ letters) ++ loose_out QuotationMark b Closed)) h p refl refl refl
+in_end_name true false NumberSign b e letters r p h = escapes_content (InContentEnd e (HeldName letters)) r NumberSign b e (codes "/" ++ letters) (codes "&lt;" ++ ((codes "/" ++ letters) ++ loose_out NumberSign b Closed)) h p refl refl refl
+in_end_name true false Ampersand b e letters r p h = escapes_content (InContentEnd e (HeldName letters)) r Ampersand b e (codes "/" ++ letters) (codes "&lt;" ++ ((codes "/" ++ letters) ++ loose_out Ampersand b Closed)) h p refl refl refl
+in_end_name true false Apostrophe b e letters r p h = escapes_content (InContentEnd e (HeldName letters)) r Apostrophe b e (codes "/" ++ letters) (codes "&lt;" ++ ((codes "/" ++ letters) ++ loose_out Apostrophe b Closed)) h p refl refl refl
+in_end_name true false HyphenMinus b e letters r p h = escapes_content (InContentEnd e (HeldName letters)) r HyphenMinus b e (codes "/" ++ letters) (codes "&lt;" ++ ((codes "/" ++ letters) ++ loose_out HyphenMinus b Closed)) h p refl refl refl
+in_end_name true false Solidus b e letters r p h = escapes_content (InContentEnd e (HeldName letters)) r Solidus b e (codes "/" ++ letters) (codes "&lt;" ++ ((codes "/" ++ letters) ++ loose_out Solidus b Closed)) h p refl refl refl
+in_end_name true false Digit b e letters r p h = escapes_content (InContentEnd e (HeldName letters)) r Digit b e (codes "/" ++ letters) (codes "&lt;" ++ ((codes "/" ++ letters) ++ loose_out Digit b Closed)) h p refl refl refl
+in_end_name true false Semicolon b e letters r p h = escapes_content (InContentEnd e (HeldName letters)) r Semicolon b e (codes "/" ++ letters) (codes "&lt;" ++ ((codes "/" ++ letters) ++ loose_out Semicolon b Closed)) h p refl refl refl
+in_end_name true false LessThan b e letters r p h = escapes_content (InContentEnd e (HeldName letters)) r LessThan b e (codes "/" ++ letters) (codes "&lt;" ++ ((codes "/" ++ letters) ++ loose_out LessThan b Closed)) h p refl refl refl
+in_end_name true false EqualsSign b e letters r p h = escapes_content (InContentEnd e (HeldName letters)) r EqualsSign b e (codes "/" ++ letters) (codes "&lt;" ++ ((codes "/" ++ letters) ++ loose_out EqualsSign b Closed)) h p refl refl refl
+in_end_name true false GreaterThan b e letters r p h = escapes_content (InContentEnd e (HeldName letters)) r GreaterThan b e (codes "/" ++ letters) (codes "&lt;" ++ ((codes "/" ++ letters) ++ loose_out GreaterThan b Closed)) h p refl refl refl
+in_end_name true false QuestionMark b e letters r p h = escapes_content (InContentEnd e (HeldName letters)) r QuestionMark b e (codes "/" ++ letters) (codes "&lt;" ++ ((codes "/" ++ letters) ++ loose_out QuestionMark b Closed)) h p refl refl refl
+in_end_name true false GraveAccent b e letters r p h = escapes_content (InContentEnd e (HeldName letters)) r GraveAccent b e (codes "/" ++ letters) (codes "&lt;" ++ ((codes "/" ++ letters) ++ loose_out GraveAccent b Closed)) h p refl refl refl
+in_end_name true false (Letter l) b e letters r p h = record { bytes = rw h refl; closed = λ k. refl; shown = refl; before = refl; kept = refl; out = λ k. absurd (no k); alone = λ a k. cc }
+in_end_name true false OtherByte b e letters r p h = escapes_content (InContentEnd e (HeldName letters)) r OtherByte b e (codes "/" ++ letters) (codes "&lt;" ++ ((codes "/" ++ letters) ++ loose_out OtherByte b Closed)) h p refl refl refl
+in_end_name false true White b e letters r p h = record { bytes = rw (h, append-nil (letters ++ b ∷ [])) refl; closed = λ k. refl; shown = refl; before = refl; kept = refl; out = λ k. absurd (no k); alone = λ a k. cc }
+in_end_name false true ExclamationMark b e letters r p h = escapes_content (InContentEnd e (HeldName letters)) r ExclamationMark b e (codes "/" ++ letters) (codes "&lt;" ++ ((codes "/" ++ letters) ++ loose_out ExclamationMark b Closed)) h p refl refl refl
+in_end_name false true QuotationMark b e letters r p h = escapes_content (InContentEnd e (HeldName letters)) r QuotationMark b e (codes "/" ++ letters) (codes "&lt;" ++ ((codes "/" ++ letters) ++ loose_out QuotationMark b Closed)) h p refl refl refl
+in_end_name false true NumberSign b e letters r p h = escapes_content (InContentEnd e (HeldName letters)) r NumberSign b e (codes "/" ++ letters) (codes "&lt;" ++ ((codes "/" ++ letters) ++ loose_out NumberSign b Closed)) h p refl refl refl
+in_end_name false true Ampersand b e letters r p h = escapes_content (InContentEnd e (HeldName letters)) r Ampersand b e (codes "/" ++ letters) (codes "&lt;" ++ ((codes "/" ++ letters) ++ loose_out Ampersand b Closed)) h p refl refl refl
+in_end_name false true Apostrophe b e letters r p h = escapes_content (InContentEnd e (HeldName letters)) r Apostrophe b e (codes "/" ++ letters) (codes "&lt;" ++ ((codes "/" ++ letters) ++ loose_out Apostrophe b Closed)) h p refl refl refl
+in_end_name false true HyphenMinus b e letters r p h = escapes_content (InContentEnd e (HeldName letters)) r HyphenMinus b e (codes "/" ++ letters) (codes "&lt;" ++ ((codes "/" ++ letters) ++ loose_out HyphenMinus b Closed)) h p refl refl refl
+in_end_name false true Solidus b e letters r p h = record { bytes = rw (h, append-nil (letters ++ b ∷ [])) refl; closed = λ k. refl; shown = refl; before = refl; kept = refl; out = λ k. absurd (no k); alone = λ a k. cc }
+in_end_name false true Digit b e letters r p h = escapes_content (InContentEnd e (HeldName letters)) r Digit b e (codes "/" ++ letters) (codes "&lt;" ++ ((codes "/" ++ letters) ++ loose_out Digit b Closed)) h p refl refl refl
+in_end_name false true Semicolon b e letters r p h = escapes_content (InContentEnd e (HeldName letters)) r Semicolon b e (codes "/" ++ letters) (codes "&lt;" ++ ((codes "/" ++ letters) ++ loose_out Semicolon b Closed)) h p refl refl refl
+in_end_name false true LessThan b e letters r p h = escapes_content (InContentEnd e (HeldName letters)) r LessThan b e (codes "/" ++ letters) (codes "&lt;" ++ ((codes "/" ++ letters) ++ loose_out LessThan b Closed)) h p refl refl refl
+in_end_name false true EqualsSign b e letters r p h = escapes_content (InContentEnd e (HeldName letters)) r EqualsSign b e (codes "/" ++ letters) (codes "&lt;" ++ ((codes "/" ++ letters) ++ loose_out EqualsSign b Closed)) h p refl refl refl
+in_end_name false true GreaterThan b e letters r p h = record { bytes = rw (h, append-nil (letters ++ b ∷ [])) refl; closed = λ k. refl; shown = refl; before = refl; kept = refl; out = λ k. absurd (no k); alone = λ a k. cc }
+in_end_name false true QuestionMark b e letters r p h = escapes_content (InContentEnd e (HeldName letters)) r QuestionMark b e (codes "/" ++ letters) (codes "&lt;" ++ ((codes "/" ++ letters) ++ loose_out QuestionMark b Closed)) h p refl refl refl
+in_end_name false true GraveAccent b e letters r p h = escapes_content (InContentEnd e (HeldName letters)) r GraveAccent b e (codes "/" ++ letters) (codes "&lt;" ++ ((codes "/" ++ letters) ++ loose_out GraveAccent b Closed)) h p refl refl refl
+in_end_name false true (Letter l) b e letters r p h = escapes_content (InContentEnd e (HeldName letters)) r (Letter l) b e (codes "/" ++ letters) (codes "&lt;" ++ ((codes "/" ++ letters) ++ loose_out (Letter l) b Closed)) h p refl refl refl
+in_end_name false true OtherByte b e letters r p h = escapes_content (InContentEnd e (HeldName letters)) r OtherByte b e (codes "/" ++ letters) (codes "&lt;" ++ ((codes "/" ++ letters) ++ loose_out OtherByte b Closed)) h p refl refl refl
+in_end_name false false White b e letters r p h = escapes_content (InContentEnd e (HeldName letters)) r White b e (codes "/" ++ letters) (codes "&lt;" ++ ((codes "/" ++ letters) ++ loose_out White b Closed)) h p refl refl refl
+in_end_name false false ExclamationMark b e letters r p h = escapes_content (InContentEnd e (HeldName letters)) r ExclamationMark b e (codes "/" ++ letters) (codes "&lt;" ++ ((codes "/" ++ letters) ++ loose_out ExclamationMark b Closed)) h p refl refl refl
+in_end_name false false QuotationMark b e letters r p h = escapes_content (InContentEnd e (HeldName letters)) r QuotationMark b e (codes "/" ++ letters) (codes "&lt;" ++ ((codes "/" ++ letters) ++ loose_out QuotationMark b Closed)) h p refl refl refl
+in_end_name false false NumberSign b e letters r p h = escapes_content (InContentEnd e (HeldName letters)) r NumberSign b e (codes "/" ++ letters) (codes "&lt;" ++ ((codes "/" ++ letters) ++ loose_out NumberSign b Closed)) h p refl refl refl
+in_end_name false false Ampersand b e letters r p h = escapes_content (InContentEnd e (HeldName letters)) r Ampersand b e (codes "/" ++ letters) (codes "&lt;" ++ ((codes "/" ++ letters) ++ loose_out Ampersand b Closed)) h p refl refl refl
+in_end_name false false Apostrophe b e letters r p h = escapes_content (InContentEnd e (HeldName letters)) r Apostrophe b e (codes "/" ++ letters) (codes "&lt;" ++ ((codes "/" ++ letters) ++ loose_out Apostrophe b Closed)) h p refl refl refl
+in_end_name false false HyphenMinus b e letters r p h = escapes_content (InContentEnd e (HeldName letters)) r HyphenMinus b e (codes "/" ++ letters) (codes "&lt;" ++ ((codes "/" ++ letters) ++ loose_out HyphenMinus b Closed)) h p refl refl refl
+in_end_name false false Solidus b e letters r p h = escapes_content (InContentEnd e (HeldName letters)) r Solidus b e (codes "/" ++ letters) (codes "&lt;" ++ ((codes "/" ++ letters) ++ loose_out Solidus b Closed)) h p refl refl refl
+in_end_name false false Digit b e letters r p h = escapes_content (InContentEnd e (HeldName letters)) r Digit b e (codes "/" ++ letters) (codes "&lt;" ++ ((codes "/" ++ letters) ++ loose_out Digit b Closed)) h p refl refl refl
+in_end_name false false Semicolon b e letters r p h = escapes_content (InContentEnd e (HeldName letters)) r Semicolon b e (codes "/" ++ letters) (codes "&lt;" ++ ((codes "/" ++ letters) ++ loose_out Semicolon b Closed)) h p refl refl refl
+in_end_name false false LessThan b e letters r p h = escapes_content (InContentEnd e (HeldName letters)) r LessThan b e (codes "/" ++ letters) (codes "&lt;" ++ ((codes "/" ++ letters) ++ loose_out LessThan b Closed)) h p refl refl refl
+in_end_name false false EqualsSign b e letters r p h = escapes_content (InContentEnd e (HeldName letters)) r EqualsSign b e (codes "/" ++ letters) (codes "&lt;" ++ ((codes "/" ++ letters) ++ loose_out EqualsSign b Closed)) h p refl refl refl
+in_end_name false false GreaterThan b e letters r p h = escapes_content (InContentEnd e (HeldName letters)) r GreaterThan b e (codes "/" ++ letters) (codes "&lt;" ++ ((codes "/" ++ letters) ++ loose_out GreaterThan b Closed)) h p refl refl refl
+in_end_name false false QuestionMark b e letters r p h = escapes_content (InContentEnd e (HeldName letters)) r QuestionMark b e (codes "/" ++ letters) (codes "&lt;" ++ ((codes "/" ++ letters) ++ loose_out QuestionMark b Closed)) h p refl refl refl
+in_end_name false false GraveAccent b e letters r p h = escapes_content (InContentEnd e (HeldName letters)) r GraveAccent b e (codes "/" ++ letters) (codes "&lt;" ++ ((codes "/" ++ letters) ++ loose_out GraveAccent b Closed)) h p refl refl refl
+in_end_name false false (Letter l) b e letters r p h = escapes_content (InContentEnd e (HeldName letters)) r (Letter l) b e (codes "/" ++ letters) (codes "&lt;" ++ ((codes "/" ++ letters) ++ loose_out (Letter l) b Closed)) h p refl refl refl
+in_end_name false false OtherByte b e letters r p h = escapes_content (InContentEnd e (HeldName letters)) r OtherByte b e (codes "/" ++ letters) (codes "&lt;" ++ ((codes "/" ++ letters) ++ loose_out OtherByte b Closed)) h p refl refl refl
+
+hidden-comment : (s : CommentState) → hides (comment_front s) ≡ true
+hidden-comment Started = refl
+hidden-comment StartedDash = refl
+hidden-comment Inside = refl
+hidden-comment Dash = refl
+hidden-comment DashDash = refl
+hidden-comment Bang = refl
+hidden-comment Broken = refl
+
+less-comment : (s : CommentState) → less_kept (comment_front s) ≡ []
+less-comment Started = refl
+less-comment StartedDash = refl
+less-comment Inside = refl
+less-comment Dash = refl
+less-comment DashDash = refl
+less-comment Bang = refl
+less-comment Broken = refl
+
+less-closed : (x : Bool) → less_kept (comment_closed x) ≡ []
+less-closed true = refl
+less-closed false = refl
+
+leaves : (c : Class) (s : CommentState) (f : Front) (r : Reference) (b : ℕ) → hides f ≡ true → LeavesBytes f (comment_next c s) r Closed c b []
+leaves White s f r b before = record { out = refl; reference = refl; loose = less-comment (next_comment s White); ends = λ h. absurd (no (sym h ∙ hidden-comment (next_comment s White))); before = before }
+leaves ExclamationMark s f r b before = record { out = refl; reference = refl; loose = less-comment (next_comment s ExclamationMark); ends = λ h. absurd (no (sym h ∙ hidden-comment (next_comment s ExclamationMark))); before = before }
+leaves QuotationMark s f r b before = record { out = refl; reference = refl; loose = less-comment (next_comment s QuotationMark); ends = λ h. absurd (no (sym h ∙ hidden-comment (next_comment s QuotationMark))); before = before }
+leaves NumberSign s f r b before = record { out = refl; reference = refl; loose = less-comment (next_comment s NumberSign); ends = λ h. absurd (no (sym h ∙ hidden-comment (next_comment s NumberSign))); before = before }
+leaves Ampersand s f r b before = record { out = refl; reference = refl; loose = less-comment (next_comment s Ampersand); ends = λ h. absurd (no (sym h ∙ hidden-comment (next_comment s Ampersand))); before = before }
+leaves Apostrophe s f r b before = record { out = refl; reference = refl; loose = less-comment (next_comment s Apostrophe); ends = λ h. absurd (no (sym h ∙ hidden-comment (next_comment s Apostrophe))); before = before }
+leaves HyphenMinus s f r b before = record { out = refl; reference = refl; loose = less-comment (next_comment s HyphenMinus); ends = λ h. absurd (no (sym h ∙ hidden-comment (next_comment s HyphenMinus))); before = before }
+leaves Solidus s f r b before = record { out = refl; reference = refl; loose = less-comment (next_comment s Solidus); ends = λ h. absurd (no (sym h ∙ hidden-comment (next_comment s Solidus))); before = before }
+leaves Digit s f r b before = record { out = refl; reference = refl; loose = less-comment (next_comment s Digit); ends = λ h. absurd (no (sym h ∙ hidden-comment (next_comment s Digit))); before = before }
+leaves Semicolon s f r b before = record { out = refl; reference = refl; loose = less-comment (next_comment s Semicolon); ends = λ h. absurd (no (sym h ∙ hidden-comment (next_comment s Semicolon))); before = before }
+leaves LessThan s f r b before = record { out = refl; reference = refl; loose = less-comment (next_comment s LessThan); ends = λ h. absurd (no (sym h ∙ hidden-comment (next_comment s LessThan))); before = before }
+leaves EqualsSign s f r b before = record { out = refl; reference = refl; loose = less-comment (next_comment s EqualsSign); ends = λ h. absurd (no (sym h ∙ hidden-comment (next_comment s EqualsSign))); before = before }
+leaves GreaterThan s f r b before = record { out = refl; reference = refl; loose = less-closed (closes_comment s); ends = λ h. refl; before = before }
+leaves QuestionMark s f r b before = record { out = refl; reference = refl; loose = less-comment (next_comment s QuestionMark); ends = λ h. absurd (no (sym h ∙ hidden-comment (next_comment s QuestionMark))); before = before }
+leaves GraveAccent s f r b before = record { out = refl; reference = refl; loose = less-comment (next_comment s GraveAccent); ends = λ h. absurd (no (sym h ∙ hidden-comment (next_comment s GraveAccent))); before = before }
+leaves (Letter l) s f r b before = record { out = refl; reference = refl; loose = less-comment (next_comment s (Letter l)); ends = λ h. absurd (no (sym h ∙ hidden-comment (next_comment s (Letter l)))); before = before }
+leaves OtherByte s f r b before = record { out = refl; reference = refl; loose = less-comment (next_comment s OtherByte); ends = λ h. absurd (no (sym h ∙ hidden-comment (next_comment s OtherByte))); before = before }
+
+-- the fronts of the code
+abbrev pub IsRead : Front → Type 0
+IsRead (InContentEnd e Nothing) = ⊥
+IsRead (InContentEnd e HeldBang) = ⊥
+IsRead (InContentEnd e HeldBangDash) = ⊥
+IsRead f = f ≡ f
+
+abbrev LawAt : Front → Class → ℕ → Reference → Type 0
+LawAt f c b r = Law f (front_next f c b) r (front_open f c b r) c b (front_out f c b r)
+
+at_place : (p : Place) (c : Class) (b : ℕ) (r : Reference) → Spelled c b → (bears (At p) ≡ false → r ≡ Closed) → LawAt (At p) c b r
+at_place place.Text c b r p closed = in_text c b r p
+at_place (place.Rcdata e) c b r p closed = in_rcdata c b e r p
+at_place (place.Value v) c b r p closed = in_quotes v.quotes c b v r p
+at_place (place.Tag t) c b r p closed = without_references (At (place.Tag t)) (tag_next t c b) r c b refl (loose-tag c t b) refl refl refl (closed refl)
+at_place place.Doctype c b r p closed = without_references (At place.Doctype) (doctype_next c) r c b refl (loose-doctype c) refl refl refl (closed refl)
+at_place (place.Comment dash) c b r p closed = leaves c (comment_state dash) (At (place.Comment dash)) r b refl
+at_place (place.Script j) c b r p closed = without_references (At (place.Script j)) (At (place.Script j)) r c b refl (record { less = refl; shown = refl }) refl refl refl (closed refl)
+at_place (place.Style j) c b r p closed = without_references (At (place.Style j)) (At (place.Style j)) r c b refl (record { less = refl; shown = refl }) refl refl refl (closed refl)
+at_place (place.Block j) c b r p closed = without_references (At (place.Block j)) (At (place.Block j)) r c b refl (record { less = refl; shown = refl }) refl refl refl (closed refl)
+
+pub law : (f : Front) (c : Class) (b : ℕ) (r : Reference) → IsRead f → Spelled c b → (bears f ≡ false → r ≡ Closed) → LawAt f c b r
+law (At q) c b r i p closed = at_place q c b r p closed
+law AfterLess c b r i p closed = after_less c b r p
+law AfterLessSolidus c b r i p closed = after_solidus c b r p
+law (InDeclaration bytes) c b r i p closed = in_declared (declared_by (bytes ++ b ∷ [])) c b bytes r p
+law (InTagName ends name) c b r i p closed = without_references (InTagName ends name) (tag_name_next c b ends name) r c b refl (loose-tag_name c b ends name) refl refl refl (closed refl)
+law (InAttributeName t typed name) c b r i p closed = without_references (InAttributeName t typed name) (attribute_name_next c b t typed (kind_of (tag_element t) name) name) r c b refl (loose-attribute_name c b t typed (kind_of (tag_element t) name) name) refl refl refl (closed refl)
+law (InCommentEnd s) c b r i p closed = leaves c s (InCommentEnd s) r b refl
+law (InContentEnd e Nothing) c b r i p closed = absurd i
+law (InContentEnd e HeldLess) c b r i p closed = after_content_less c b e r p (closed refl)
+law (InContentEnd e (HeldName letters)) c b r i p closed = in_end_name (may_be_name_of e (letters ++ b ∷ [])) (is_name_of e letters) c b e letters r p (closed refl)
+law (InContentEnd e HeldBang) c b r i p closed = absurd i
+law (InContentEnd e HeldBangDash) c b r i p closed = absurd i
