@@ -1,18 +1,19 @@
 mod ByteLaws
 mod ChangedSteps
-pub mod ContentKeeps
-pub mod Declared
 mod EndLaws
-pub mod Keeps
 mod Kept
 mod Loops
-pub mod Places
 mod Rests
-pub mod Runs
-pub mod Same
 mod Slices
 mod Spelled
 mod Steps
+pub mod ContentKeeps
+pub mod Declared
+pub mod HoleKeeps
+pub mod Keeps
+pub mod Places
+pub mod Runs
+pub mod Same
 pub mod TagsKeep
 pub mod TextKeeps
 pub mod ValuesKeep

@@ -28,7 +28,6 @@ use Rattle.html_step.proofs.WholeTexts.{grows-text, not-refused, text-steps}
 use Rattle.html_step.specs.Steps.{stepped}
 use Rattle.text_norm.specs.Laws.{WrittenOnPaths}
 use Rattle.place_core.specs.StatePlaces.{placed}
-use Rattle.text_norm.proofs.Declared.{no-amp-comment, no-amp-doctype}
 use Rattle.text_norm.specs.Fronted.{declaration_open, less_open, front_cut_out, front_open, front_out, place_open, place_out, written_from}
 use Rattle.text_norm.specs.Written.{cut_out, out, reference_out, text_out, value_out, written}
 
@@ -135,10 +134,6 @@ before-closed Solidus b tag = refl
 before-closed GreaterThan b tag = after-closed tag
 before-closed _ b tag = refl
 
-begin-closed : (c : Class) → (c ≡ Ampersand → ⊥) → Closed ≡ begin_reference c
-begin-closed Ampersand n = absurd (n refl)
-begin-closed _ n = refl
-
 text-opens : (c : Class) (b : ℕ) → opened (next_text c b Closed) ≡ Some (begin_reference c)
 text-opens LessThan b = refl
 text-opens c b = refl
@@ -157,8 +152,8 @@ solidus-opens LessThan b = refl
 solidus-opens c b = refl
 
 declaration-opens : (n : Declaration) (r : Reference) (held : List ℕ) (c : Class) (b : ℕ) → class_of b ≡ c → declared_by (held ++ b ∷ []) ≡ n → opened (next_declaration n Template c b r held) ≡ Some (declaration_open n c r)
-declaration-opens OpensComment r held c b e k = ap Some (begin-closed c (λ a. no-amp-comment held b k (e ∙ a)))
-declaration-opens OpensDoctype r held c b e k = ap Some (begin-closed c (λ a. no-amp-doctype held b k (e ∙ a)))
+declaration-opens OpensComment r held c b e k = refl
+declaration-opens OpensDoctype r held c b e k = refl
 declaration-opens Undecided r held c b e k = refl
 declaration-opens OpensNothing r held c b e k = text-opens c b
 

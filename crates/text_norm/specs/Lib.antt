@@ -1,4 +1,5 @@
 pub mod Fronted
+pub mod HoleLaws
 pub mod Kept
 pub mod Laws
 pub mod ReferenceViews

@@ -17,5 +17,5 @@ mod step;
 mod texts;
 mod writing;
 
-pub use laws::{keeps_shape, written_on_paths};
+pub use laws::{keeps_shape, keeps_shape_at_holes, written_on_paths};
 pub use texts::write_text;
