@@ -1,15 +1,14 @@
 -- What is written of a title and a textarea leads the page's reading where the path's leads.
-use Rattle.std.proofs.Common.{◌≡◌, ℕ, Bool, true, false, codes, List, [], ◌∷◌, ◌++◌, refl, sym, ap, ◌∙◌, subst}
-use Rattle.std.proofs.lemmas.List.{append-nil, append_assoc}
-use Rattle.place_core.specs.Classes.{LetterClass, Class, White, ExclamationMark, Ampersand, Solidus, LessThan, GreaterThan, Letter, class_of}
+use Rattle.std.proofs.Common.{◌≡◌, ℕ, Bool, true, false, codes, List, [], ◌∷◌, ◌++◌, refl, sym, ap, ◌∙◌}
+use Rattle.place_core.specs.Classes.{LetterClass, Class, White, ExclamationMark, Solidus, LessThan, GreaterThan, Letter, class_of}
 use Rattle.place_core.specs.Contents.{next_in_content, tells_in_content, next_loose, tells_loose, next_less, tells_less, next_end_name, tells_end_name, may_be_name_of, is_name_of}
 use Rattle.place_core.specs.Events.{Event, text_bytes}
-use Rattle.place_core.specs.References.{Form, Reference, Closed, Open, as_it_stands, next_reference, settled, undone_byte, flushed}
-use Rattle.place_core.specs.States.{Page, State, Characters, Held, Nothing, HeldLess, HeldName, HeldBang, HeldBangDash, InContent, Config, config}
+use Rattle.place_core.specs.References.{Reference, Closed, Open, as_it_stands, next_reference, settled, undone_byte}
+use Rattle.place_core.specs.States.{Characters, Held, Nothing, HeldLess, HeldName, HeldBang, HeldBangDash, InContent, Config, config}
 use Rattle.place_core.specs.Tags.{Bodies}
 use Rattle.place_core.specs.declared.element.Element.{Element}
 use Rattle.place_core.proofs.Readings.{text_bytes-append}
-use Rattle.text_norm.specs.Standing.{HeldContentLess, HeldEndName, HeldReference, Stands, StandsIn, StandsInContent, content_at, page}
+use Rattle.text_norm.specs.Standing.{HeldContentLess, HeldEndName, Stands, StandsIn, StandsInContent, content_at, page}
 use Rattle.text_norm.specs.Written.{content_less_out, content_out, end_name_out, loose_out, reference_out}
 use Rattle.text_norm.proofs.Places.{content-run, content-since}
 use Rattle.text_norm.proofs.Runs.{follows-run, lt-read, on}

@@ -10,7 +10,7 @@ use Rattle.place_core.specs.References.{Closed}
 use Rattle.place_core.specs.States.{Text, config}
 use Rattle.place_core.specs.Tags.{Bodies}
 use Rattle.text_norm.specs.Standing.{page}
-use Rattle.place_core.specs.Comments.{Declaration, OpensComment, OpensDoctype, OpensNothing, Undecided, declared_by}
+use Rattle.place_core.specs.Comments.{OpensComment, OpensDoctype, OpensNothing, Undecided, declared_by}
 
 skip : {A : Type 0} (x : Bool) (a c y : A) → (a ≡ c → ⊥) → (if x then a else y) ≡ c → y ≡ c
 skip true a c y n e = absurd (n e)
@@ -70,7 +70,7 @@ neither held b n m e =
     let one = skip (bytes_eq bytes (codes "--")) OpensComment Undecided (if bytes_eq (str_to_ascii_lowercase bytes) (codes "doctype") then OpensDoctype else (if dashes || letters then Undecided else OpensNothing)) (λ k. comment k) e in
     let two = skip (bytes_eq (str_to_ascii_lowercase bytes) (codes "doctype")) OpensDoctype Undecided (if dashes || letters then Undecided else OpensNothing) (λ k. doctype k) one in
     is-false dashes letters (found (dashes || letters) Undecided OpensNothing (λ k. nothing k) two) (not-begun (codes "--") held b n)
-        (rw (lower-append held b) (not-begun (codes "doctype") (str_to_ascii_lowercase held) (to_ascii_lowercase b) m))
+    (rw (lower-append held b) (not-begun (codes "doctype") (str_to_ascii_lowercase held) (to_ascii_lowercase b) m))
 
 -- the classes of `&` and of `<` are theirs alone
 next-if : {A : Type 0} (x : Bool) {a c y : A} → (a ≡ c → ⊥) → (if x then a else y) ≡ c → y ≡ c

@@ -1,8 +1,7 @@
 -- The bytes of a hole lead the page's reading where the hole leads the path.
-use Rattle.std.proofs.Common.{◌≡◌, ◌⊎◌, ℕ, Bool, true, false, not, ◌||◌, List, [], ◌∷◌, Option, Some, None, Result, Ok, Err, inl, refl, sym, ap, ◌∙◌, subst}
+use Rattle.std.proofs.Common.{◌≡◌, ℕ, Bool, true, false, not, ◌||◌, List, [], ◌∷◌, Option, Some, None, Ok, Err, inl, refl, sym, ap, ◌∙◌, subst}
 use Rattle.place_core.specs.Events.{Event, Mark, AttributeBegins}
 use Rattle.place_core.specs.Html.{read}
-use Rattle.place_core.specs.Membership.{IsIn}
 use Rattle.place_core.specs.Paths.{at_hole, mark_in}
 use Rattle.std.specs.Str.{str_to_ascii_lowercase}
 use Rattle.place_core.specs.Plain.{IsPlain, IsPlainName}
@@ -11,8 +10,8 @@ use Rattle.html_front.proofs.Lowered.{kind_lowered}
 use Rattle.place_core.specs.References.{Closed, Open}
 use Rattle.place_core.specs.Shape.{HolePart, Reads, marked}
 use Rattle.place_core.specs.StatePlaces.{placed}
-use Rattle.place_core.specs.States.{CommentState, Started, StartedDash, Inside, Dash, DashDash, Bang, Broken, Page, State, Text, TagOpen, EndTagOpen, DeclarationOpen, InComment, BogusComment, InDoctype, TagName, WholeTagName, BeforeAttributeName, AttributeName, WholeAttributeName, AfterAttributeName, BeforeAttributeValue, AttributeValue, AfterAttributeValue, SelfClosingStartTag, Characters, Bytes, Held, Nothing, HeldLess, HeldName, HeldBang, HeldBangDash, InContent, Unread, Config, config}
-use Rattle.place_core.specs.Tags.{Tag, Value, ValueOf, TypeSoFar, ValueState, languages, Quoting, DoubleQuoted, SingleQuoted, Unquoted, element_on, without_value}
+use Rattle.place_core.specs.States.{Started, StartedDash, Inside, Dash, DashDash, Bang, Broken, Page, State, Text, TagOpen, EndTagOpen, DeclarationOpen, InComment, BogusComment, InDoctype, TagName, WholeTagName, BeforeAttributeName, AttributeName, WholeAttributeName, AfterAttributeName, BeforeAttributeValue, AttributeValue, AfterAttributeValue, SelfClosingStartTag, Characters, Bytes, Nothing, HeldLess, HeldName, HeldBang, HeldBangDash, InContent, Unread, Config, config}
+use Rattle.place_core.specs.Tags.{Tag, ValueOf, TypeSoFar, ValueState, languages, DoubleQuoted, SingleQuoted, Unquoted, element_on, without_value}
 use Rattle.place_core.specs.declared.element.Element.{Element}
 use Rattle.place_core.specs.declared.element.Element.TheVariants as element
 use Rattle.place_core.specs.declared.kind.Kind.{Kind}
@@ -21,8 +20,7 @@ use Rattle.place_core.specs.declared.place.Place.{Place}
 use Rattle.place_core.specs.declared.place.Place.TheVariants as place
 use Rattle.place_core.specs.declared.san.San.{San}
 use Rattle.place_core.specs.declared.san.San.TheVariants as san
-use Rattle.san_html.specs.ReadBack.{IsBackInText, IsBackInRcdata, IsBackInQuoted, IsBackInUnquoted, IsBackInTag, BeginsName, in_value}
-use Rattle.san_html.proofs.EscapedText.{same-kind}
+use Rattle.san_html.specs.ReadBack.{IsBackInQuoted, IsBackInUnquoted, IsBackInTag, BeginsName, in_value}
 use Rattle.html_step.specs.Holes.{Holed, after_hole, only}
 use Rattle.html_step.proofs.HoleOrder.{covers-hole}
 use Rattle.text_norm.specs.HoleLaws.{ArePlain, IsBackBy, KeepsHole, parts_of}
@@ -110,7 +108,7 @@ content-keeps : (e : Element) (x : San) (text bytes : List ℕ) (t : List Event)
 content-keeps e x text bytes t d h k l =
     subst (λ (z : San). IsBackBy z text bytes → Kept z (InContent e (Characters Closed) Nothing) bytes t d) h
     (λ k. subst (λ (z : Config ValueState). Kept san.Html (InContent e (Characters Closed) Nothing) bytes t z) (sym l)
-      (kept (InContent e (Characters Closed) Nothing) bytes t (config (InContent e (Characters Closed) Nothing) t) (k.1.plain e t) (ap (λ (z : State ValueState). config z (Mark ∷ t)) ((k.1.plain e t).1).0))) k
+    (kept (InContent e (Characters Closed) Nothing) bytes t (config (InContent e (Characters Closed) Nothing) t) (k.1.plain e t) (ap (λ (z : State ValueState). config z (Mark ∷ t)) ((k.1.plain e t).1).0))) k
 
 -- where the bytes lead that are plain in an unquoted value, and before one
 unquoted : (tag : Tag) (bytes : List ℕ) (t : List Event) → IsPlain bytes (config (in_value Unquoted tag (ValueOf kind.Plain)) t)
@@ -125,31 +123,31 @@ unbegun-keeps : (tag : Tag) (x : San) (text bytes : List ℕ) (t : List Event) (
 unbegun-keeps tag x text bytes t d e k l =
     subst (λ (z : San). IsBackBy z text bytes → Kept z (BeforeAttributeValue tag kind.Plain) bytes t d) e
     (λ (k : IsBackInUnquoted text bytes). subst (λ (z : Config ValueState). Kept san.AttrNospace (BeforeAttributeValue tag kind.Plain) bytes t z) (sym l)
-      (kept (BeforeAttributeValue tag kind.Plain) bytes t (config (BeforeAttributeValue tag kind.Plain) t) (k.plain_unbegun tag t) (unbegun tag bytes t (k.plain_unbegun tag t)))) k
+    (kept (BeforeAttributeValue tag kind.Plain) bytes t (config (BeforeAttributeValue tag kind.Plain) t) (k.plain_unbegun tag t) (unbegun tag bytes t (k.plain_unbegun tag t)))) k
 
 unquoted-keeps : (tag : Tag) (x : San) (text bytes : List ℕ) (t : List Event) (d : Config ValueState) → san.AttrNospace ≡ x → IsBackBy x text bytes → d ≡ config (in_value Unquoted tag (ValueOf kind.Plain)) t → Kept x (in_value Unquoted tag (ValueOf kind.Plain)) bytes t d
 unquoted-keeps tag x text bytes t d e k l =
     subst (λ (z : San). IsBackBy z text bytes → Kept z (in_value Unquoted tag (ValueOf kind.Plain)) bytes t d) e
     (λ (k : IsBackInUnquoted text bytes). subst (λ (z : Config ValueState). Kept san.AttrNospace (in_value Unquoted tag (ValueOf kind.Plain)) bytes t z) (sym l)
-      (kept (in_value Unquoted tag (ValueOf kind.Plain)) bytes t (config (in_value Unquoted tag (ValueOf kind.Plain)) t) (k.plain tag t) (unquoted tag bytes t (k.plain tag t)))) k
+    (kept (in_value Unquoted tag (ValueOf kind.Plain)) bytes t (config (in_value Unquoted tag (ValueOf kind.Plain)) t) (k.plain tag t) (unquoted tag bytes t (k.plain tag t)))) k
 
 double-keeps : (tag : Tag) (x : San) (text bytes : List ℕ) (t : List Event) (d : Config ValueState) → san.Attr ≡ x → IsBackBy x text bytes → d ≡ config (in_value DoubleQuoted tag (ValueOf kind.Plain)) t → Kept x (in_value DoubleQuoted tag (ValueOf kind.Plain)) bytes t d
 double-keeps tag x text bytes t d e k l =
     subst (λ (z : San). IsBackBy z text bytes → Kept z (in_value DoubleQuoted tag (ValueOf kind.Plain)) bytes t d) e
     (λ (k : IsBackInQuoted text bytes). subst (λ (z : Config ValueState). Kept san.Attr (in_value DoubleQuoted tag (ValueOf kind.Plain)) bytes t z) (sym l)
-      (kept (in_value DoubleQuoted tag (ValueOf kind.Plain)) bytes t (config (in_value DoubleQuoted tag (ValueOf kind.Plain)) t) (k.plain DoubleQuoted tag t refl) (ap (λ (z : State ValueState). config z (Mark ∷ t)) ((k.plain DoubleQuoted tag t refl).1).0))) k
+    (kept (in_value DoubleQuoted tag (ValueOf kind.Plain)) bytes t (config (in_value DoubleQuoted tag (ValueOf kind.Plain)) t) (k.plain DoubleQuoted tag t refl) (ap (λ (z : State ValueState). config z (Mark ∷ t)) ((k.plain DoubleQuoted tag t refl).1).0))) k
 
 single-keeps : (tag : Tag) (x : San) (text bytes : List ℕ) (t : List Event) (d : Config ValueState) → san.Attr ≡ x → IsBackBy x text bytes → d ≡ config (in_value SingleQuoted tag (ValueOf kind.Plain)) t → Kept x (in_value SingleQuoted tag (ValueOf kind.Plain)) bytes t d
 single-keeps tag x text bytes t d e k l =
     subst (λ (z : San). IsBackBy z text bytes → Kept z (in_value SingleQuoted tag (ValueOf kind.Plain)) bytes t d) e
     (λ (k : IsBackInQuoted text bytes). subst (λ (z : Config ValueState). Kept san.Attr (in_value SingleQuoted tag (ValueOf kind.Plain)) bytes t z) (sym l)
-      (kept (in_value SingleQuoted tag (ValueOf kind.Plain)) bytes t (config (in_value SingleQuoted tag (ValueOf kind.Plain)) t) (k.plain SingleQuoted tag t refl) (ap (λ (z : State ValueState). config z (Mark ∷ t)) ((k.plain SingleQuoted tag t refl).1).0))) k
+    (kept (in_value SingleQuoted tag (ValueOf kind.Plain)) bytes t (config (in_value SingleQuoted tag (ValueOf kind.Plain)) t) (k.plain SingleQuoted tag t refl) (ap (λ (z : State ValueState). config z (Mark ∷ t)) ((k.plain SingleQuoted tag t refl).1).0))) k
 
 hole-keeps : (s : State ValueState) (x : San) (text bytes : List ℕ) (t : List Event) (d : Config ValueState) → HoleOf (placed s) x → IsBackBy x text bytes → Stands languages s t d → Kept x s bytes t d
 hole-keeps (Text Closed) x text bytes t d h k l =
     subst (λ (z : San). IsBackBy z text bytes → Kept z (Text Closed) bytes t d) (its place.Text x h)
     (λ k. subst (λ (z : Config ValueState). Kept san.Html (Text Closed) bytes t z) (sym l)
-      (kept (Text Closed) bytes t (config (Text Closed) t) (k.0.plain t) (ap (λ (z : State ValueState). config z (Mark ∷ t)) ((k.0.plain t).1).0))) k
+    (kept (Text Closed) bytes t (config (Text Closed) t) (k.0.plain t) (ap (λ (z : State ValueState). config z (Mark ∷ t)) ((k.0.plain t).1).0))) k
 hole-keeps (Text (Open f b)) x text bytes t d h k l = absurd h
 hole-keeps (TagOpen r) x text bytes t d h k l = absurd h
 hole-keeps (EndTagOpen r) x text bytes t d h k l = absurd h

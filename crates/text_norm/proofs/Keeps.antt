@@ -1,19 +1,17 @@
 -- What is written of a text leads the page's reading where the path's reading of the text leads.
-use Rattle.std.proofs.Common.{◌≡◌, ℕ, ◌+◌, ◌-◌, Bool, true, false, codes, List, [], ◌∷◌, ◌++◌, Option, Some, None, refl, sym, ap, ◌∙◌, subst}
-use Rattle.place_core.specs.Classes.{Class, White, QuotationMark, Ampersand, Apostrophe, Solidus, LessThan, EqualsSign, GreaterThan, Letter, class_of}
+use Rattle.std.proofs.Common.{◌≡◌, ℕ, ◌+◌, Bool, true, false, codes, List, [], ◌∷◌, ◌++◌, Option, Some, None, refl, sym, ap, ◌∙◌, subst}
+use Rattle.place_core.specs.Classes.{Class, GreaterThan, class_of}
 use Rattle.place_core.specs.Comments.{closes_comment, comment_ended, next_in_comment}
-use Rattle.place_core.specs.Errors.{Cause, Refusal, at_hand, bare_error, byte_error, content_error, first_of, kind_error, quotes_error, refusal_from, standing_at, states, tag_error, unless_second, is_second_type}
+use Rattle.place_core.specs.Errors.{Cause, Refusal, at_hand, byte_error, content_error, first_of, kind_error, quotes_error, refusal_from, standing_at, states, tag_error}
 use Rattle.place_core.specs.Events.{Event, text_bytes}
-use Rattle.place_core.specs.Html.{byte_over, next, read_over, tells}
+use Rattle.place_core.specs.Html.{next, read_over, tells}
 use Rattle.place_core.specs.Membership.{IsIn}
 use Rattle.place_core.specs.Paths.{at_cut, read_node, tells_cut}
-use Rattle.place_core.specs.References.{Form, Reference, Closed, Open, as_it_stands, settled}
-use Rattle.place_core.specs.StatePlaces.{only_before, quotes_at, tag_of, tag_spot, unbegun}
-use Rattle.place_core.specs.States.{Page, Template, State, Text, TagOpen, EndTagOpen, DeclarationOpen, CommentState, InComment, BogusComment, InDoctype, TagName, WholeTagName, BeforeAttributeName, AttributeName, WholeAttributeName, AfterAttributeName, BeforeAttributeValue, AttributeValue, AfterAttributeValue, SelfClosingStartTag, Content, Characters, Bytes, Held, Nothing, HeldLess, HeldName, HeldBang, HeldBangDash, InContent, Unread, Config, config}
-use Rattle.place_core.specs.Tags.{Tag, Bodies, Value, ValueOf, TypeSoFar, ValueState, languages, Quoting, DoubleQuoted, SingleQuoted, Unquoted, element_on, tag_named, told_bytes, value_of, with_bytes}
-use Rattle.place_core.specs.Words.{kind_of}
+use Rattle.place_core.specs.References.{Form, Closed, Open, as_it_stands, settled}
+use Rattle.place_core.specs.StatePlaces.{only_before, quotes_at, tag_of, tag_spot}
+use Rattle.place_core.specs.States.{Page, Template, State, Text, TagOpen, EndTagOpen, DeclarationOpen, CommentState, InComment, BogusComment, InDoctype, TagName, WholeTagName, BeforeAttributeName, AttributeName, WholeAttributeName, AfterAttributeName, BeforeAttributeValue, AttributeValue, AfterAttributeValue, SelfClosingStartTag, Characters, Bytes, Nothing, HeldLess, HeldName, HeldBang, HeldBangDash, InContent, Unread, Config, config}
+use Rattle.place_core.specs.Tags.{Tag, Bodies, ValueOf, TypeSoFar, ValueState, languages, Quoting, Unquoted, tag_named, told_bytes, value_of, with_bytes}
 use Rattle.place_core.specs.declared.code.Code.{Code}
-use Rattle.place_core.specs.declared.element.Element.{Element}
 use Rattle.place_core.specs.declared.kind.Kind.{Kind}
 use Rattle.place_core.specs.declared.kind.Kind.TheVariants as kind
 use Rattle.place_core.proofs.Readings.{over-append}
@@ -22,7 +20,7 @@ use Rattle.html_step.proofs.OneTexts.{one-text}
 use Rattle.html_step.proofs.WholeTexts.{covers-text, grows-text}
 use Rattle.text_norm.specs.Laws.{KeepsShape}
 use Rattle.text_norm.proofs.Same.{written-on-paths}
-use Rattle.text_norm.specs.Standing.{HeldContentLess, HeldDeclaration, HeldEndName, HeldLessThan, HeldReference, Stands, StandsInContent, StandsInValue, page, value_at}
+use Rattle.text_norm.specs.Standing.{HeldReference, Stands, StandsInValue, page, value_at}
 use Rattle.text_norm.specs.Written.{cut_out, out, written}
 use Rattle.text_norm.proofs.ContentKeeps.{in-content}
 use Rattle.text_norm.proofs.Runs.{on}
@@ -158,8 +156,7 @@ pub keeps-shape : KeepsShape
 keeps-shape bytes p q s t d v i e h =
     let g = grows-text bytes i.own p q i.valid v i.below e in
     let n = ((one-text bytes i.own s i.stands).0 g.0 g.1).0 in
-    let c = read_node languages bytes (config s t) in
-    (
+    let c = read_node languages bytes (config s t) in (
       subst (IsIn q) (sym (ap (at_cut languages) (same-states bytes s t))) (covers-text bytes p q s v i e),
       subst (λ (z : List ℕ). Stands languages c.at c.told (page languages z d)) (written-on-paths bytes p q s v i e) (keeps-from bytes 0 s t d n h),
     )

@@ -1,15 +1,15 @@
 -- Where text with references is read: in text, in a title or a textarea, and in a value.
-use Rattle.std.proofs.Common.{◌≡◌, ℕ, Bool, true, false, codes, List, [], ◌∷◌, ◌++◌, refl, sym, ap, ap₂, ◌∙◌}
-use Rattle.place_core.specs.Classes.{LetterClass, Class, White, QuotationMark, Ampersand, Apostrophe, Semicolon, LessThan, GreaterThan, Letter, class_of}
+use Rattle.std.proofs.Common.{◌≡◌, ℕ, Bool, true, false, List, ◌∷◌, ◌++◌, refl, sym, ap, ap₂, ◌∙◌}
+use Rattle.place_core.specs.Classes.{Class, LessThan, class_of}
 use Rattle.place_core.specs.Events.{Event, text_bytes}
 use Rattle.place_core.specs.Html.{byte_over, ends_value}
-use Rattle.place_core.specs.References.{Reference, Closed, Open, Form, next_reference, undone_byte}
-use Rattle.place_core.specs.States.{Page, State, Text, AttributeValue, Characters, Nothing, InContent, Config, config}
+use Rattle.place_core.specs.References.{Reference, Closed, Open, next_reference, undone_byte}
+use Rattle.place_core.specs.States.{Page, Text, AttributeValue, Characters, Nothing, InContent, Config, config}
 use Rattle.place_core.specs.Tags.{Tag, Value, Bodies, Quoting, DoubleQuoted, SingleQuoted, Unquoted, with_bytes, told_bytes}
 use Rattle.place_core.specs.declared.element.Element.{Element}
 use Rattle.place_core.proofs.Readings.{text_bytes-append, with_bytes-append, told_bytes-append}
-use Rattle.text_norm.specs.Standing.{HeldReference, StandsIn, content_at, page, text_at, value_at}
-use Rattle.text_norm.proofs.Runs.{HeldFrom, IsRun, StandsFrom}
+use Rattle.text_norm.specs.Standing.{StandsIn, content_at, text_at, value_at}
+use Rattle.text_norm.proofs.Runs.{IsRun, StandsFrom}
 
 abbrev pub is_less : Class → Bool
 is_less LessThan = true

@@ -1,8 +1,8 @@
 -- Text with references: a byte of it, and what is held back of a reference.
-use Rattle.std.proofs.Common.{◌≡◌, ℕ, Bool, true, false, codes, List, [], ◌∷◌, ◌++◌, refl, sym, ap, ap₂, ◌∙◌}
-use Rattle.std.proofs.lemmas.List.{append-nil, append_assoc}
+use Rattle.std.proofs.Common.{◌≡◌, ℕ, Bool, false, codes, List, [], ◌∷◌, ◌++◌, refl, ap, ap₂, ◌∙◌}
+use Rattle.std.proofs.lemmas.List.{append-nil}
 use Rattle.place_core.specs.Classes.{LetterClass, HexadecimalLetter, OtherLetter, Class, Ampersand, Semicolon, Letter, class_of}
-use Rattle.place_core.specs.Html.{byte_over, read_over}
+use Rattle.place_core.specs.Html.{byte_over}
 use Rattle.place_core.specs.References.{Form, Begun, Named, Reference, Closed, Open, ReferenceStep, Grows, Closes, Breaks, turn, begin_reference, next_reference, plain_bytes, turned, undone_byte, turn_bytes, meaning}
 use Rattle.place_core.specs.States.{Page, Config}
 use Rattle.place_core.specs.Tags.{Bodies}

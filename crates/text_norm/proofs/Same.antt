@@ -1,12 +1,10 @@
 -- What is written by a state and by its front is the same, and so it is by a front and one above it.
-use Rattle.std.proofs.Common.{◌≡◌, ℕ, ◌+◌, Bool, true, false, codes, List, [], ◌∷◌, ◌++◌, Option, Some, None, Result, Ok, Err, refl, sym, ap, ap₂, ◌∙◌, subst}
-use Rattle.std.specs.Option.{option_map}
-use Rattle.place_core.specs.Classes.{Class, White, ExclamationMark, QuotationMark, Ampersand, Apostrophe, Solidus, LessThan, EqualsSign, GreaterThan, QuestionMark, Letter, class_of}
+use Rattle.std.proofs.Common.{◌≡◌, ℕ, ◌+◌, Bool, true, false, List, [], ◌∷◌, ◌++◌, Option, Some, None, Ok, refl, sym, ap, ap₂, ◌∙◌, subst}
+use Rattle.place_core.specs.Classes.{Class, White, ExclamationMark, QuotationMark, Apostrophe, Solidus, LessThan, EqualsSign, GreaterThan, QuestionMark, Letter, class_of}
 use Rattle.place_core.specs.Comments.{Declaration, OpensComment, OpensDoctype, Undecided, OpensNothing, closes_comment, comment_ended, declared_by, next_in_comment, next_in_doctype}
 use Rattle.place_core.specs.Contents.{may_be_name_of, is_name_of, next_end_name, next_less, next_loose}
 use Rattle.place_core.specs.Html.{after_tag, ends_value, next, next_after_name, next_after_value, next_before_name, next_before_value, next_declaration, next_end_tag_open, next_name, next_tag_name, next_tag_open, next_text, next_value, next_whole_name}
-use Rattle.place_core.specs.Membership.{IsIn}
-use Rattle.place_core.specs.Places.{Below, IsValid}
+use Rattle.place_core.specs.Places.{Below}
 use Rattle.place_core.specs.References.{Reference, Closed, Open, as_it_stands, begin_reference, next_reference, settled}
 use Rattle.place_core.specs.States.{CommentState, Started, StartedDash, Inside, Dash, DashDash, Bang, Broken, Template, State, Text, TagOpen, EndTagOpen, DeclarationOpen, InComment, BogusComment, InDoctype, TagName, WholeTagName, BeforeAttributeName, AttributeName, WholeAttributeName, AfterAttributeName, BeforeAttributeValue, AttributeValue, AfterAttributeValue, SelfClosingStartTag, Characters, Bytes, Held, Nothing, HeldLess, HeldName, HeldBang, HeldBangDash, InContent, Unread}
 use Rattle.place_core.specs.Tags.{Tag, EndTag, StartTag, ValueState, languages, Quoting, DoubleQuoted, SingleQuoted, Unquoted, Value, ValueOf, TypeSoFar, element_on, tag_named, with_bytes, with_value, without_value}
@@ -19,7 +17,7 @@ use Rattle.place_core.specs.declared.place.Place.{Place}
 use Rattle.place_core.specs.declared.place.Place.TheVariants as place
 use Rattle.place_core.specs.declared.value_place.ValuePlace.{ValuePlace}
 use Rattle.place_core.proofs.Semilattices.{none_some, one_value}
-use Rattle.html_front.specs.Fronts.{Front, At, AfterLess, AfterLessSolidus, InDeclaration, InTagName, InAttributeName, InCommentEnd, InContentEnd, front_error, front_next, front_cut_error, front_place}
+use Rattle.html_front.specs.Fronts.{Front, At, AfterLess, AfterLessSolidus, InDeclaration, InTagName, InAttributeName, InCommentEnd, InContentEnd, front_error, front_next}
 use Rattle.html_step.proofs.FrontOrder.{FrontBelow, FrontValid, front-grows}
 use Rattle.html_step.proofs.OnePath.{WhereFronted, content_fronted, fronted}
 use Rattle.html_step.proofs.OneTexts.{agrees-at, at-place}
@@ -28,8 +26,8 @@ use Rattle.html_step.proofs.WholeTexts.{grows-text, not-refused, text-steps}
 use Rattle.html_step.specs.Steps.{stepped}
 use Rattle.text_norm.specs.Laws.{WrittenOnPaths}
 use Rattle.place_core.specs.StatePlaces.{placed}
-use Rattle.text_norm.specs.Fronted.{declaration_open, less_open, front_cut_out, front_open, front_out, place_open, place_out, written_from}
-use Rattle.text_norm.specs.Written.{cut_out, out, reference_out, text_out, value_out, written}
+use Rattle.text_norm.specs.Fronted.{declaration_open, less_open, front_cut_out, front_open, front_out, written_from}
+use Rattle.text_norm.specs.Written.{cut_out, out, reference_out, value_out, written}
 
 -- A front and one above it.
 record Same (f g : Front) (c : Class) (b : ℕ) (r : Reference) : Type 0 where

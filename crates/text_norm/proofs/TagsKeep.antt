@@ -1,24 +1,17 @@
 -- What is written of a tag leads the page's reading where the path's leads.
-use Rattle.std.proofs.Common.{◌≡◌, ℕ, Bool, true, false, codes, List, [], ◌∷◌, ◌++◌, Option, Some, None, refl, sym, ap, ap₂, ◌∙◌, subst}
-use Rattle.place_core.specs.Classes.{LetterClass, Class, White, QuotationMark, Ampersand, Apostrophe, Solidus, LessThan, EqualsSign, GreaterThan, Letter, class_of}
-use Rattle.place_core.specs.Errors.{at_hand, bare_error, byte_error, content_error, equals_error, first_of, kind_error, tag_error, unless_second, is_second_type}
+use Rattle.std.proofs.Common.{◌≡◌, ℕ, Bool, false, List, [], ◌∷◌, Some, None, refl, ap, ◌∙◌}
+use Rattle.place_core.specs.Classes.{Class, White, Solidus, EqualsSign, GreaterThan, class_of}
+use Rattle.place_core.specs.Errors.{content_error, tag_error}
 use Rattle.place_core.specs.Events.{Event, AttributeNameEnds, TagEnds}
-use Rattle.place_core.specs.Html.{after_tag, ends_value, next, next_after_name, next_before_name, next_before_value, next_name, next_tag_name, next_value, next_whole_name, tells, tells_before_name, tells_before_value, tells_name, tells_tag_name, tells_value, tells_whole_name}
-use Rattle.place_core.specs.References.{Form, Reference, Closed, Open, next_reference, settled, undone_byte, as_it_stands}
-use Rattle.place_core.specs.StatePlaces.{only_inside, only_name, tag_of, tag_spot, unbegun}
-use Rattle.place_core.specs.States.{Page, Template, State, TagName, WholeTagName, BeforeAttributeName, AttributeName, WholeAttributeName, AfterAttributeName, BeforeAttributeValue, AttributeValue, AfterAttributeValue, SelfClosingStartTag, Config, config}
-use Rattle.place_core.specs.Tags.{Tag, EndTag, StartTag, Bodies, Value, ValueOf, Quoting, DoubleQuoted, SingleQuoted, Unquoted, element_on, tag_named, told_bytes, told_end, value_of, with_byte, with_bytes, with_value, without_value}
+use Rattle.place_core.specs.Html.{after_tag, next, next_before_name, next_name, next_tag_name, next_whole_name, tells, tells_before_name, tells_name, tells_tag_name, tells_whole_name}
+use Rattle.place_core.specs.StatePlaces.{only_inside, only_name, tag_of, tag_spot}
+use Rattle.place_core.specs.States.{Template, TagName, BeforeAttributeName, AttributeName, AfterAttributeName, BeforeAttributeValue, SelfClosingStartTag, Config, config}
+use Rattle.place_core.specs.Tags.{Tag, EndTag, StartTag, Bodies, element_on, tag_named, without_value}
 use Rattle.place_core.specs.Words.{kind_of}
-use Rattle.place_core.specs.declared.code.Code.{Code}
-use Rattle.place_core.specs.declared.element.Element.{Element}
 use Rattle.place_core.specs.declared.element.Element.TheVariants as element
 use Rattle.place_core.specs.declared.kind.Kind.{Kind}
-use Rattle.place_core.specs.declared.kind.Kind.TheVariants as kind
-use Rattle.html_step.proofs.OnePath.{none-at-hand, none-unless, same-tag, some}
-use Rattle.text_norm.specs.Standing.{HeldReference, Stands, StandsIn, StandsInValue, WholeAttribute, WholeTag, page, value_at}
-use Rattle.text_norm.specs.Written.{reference_out, value_out}
-use Rattle.text_norm.proofs.Places.{value-run, value-since}
-use Rattle.text_norm.proofs.Runs.{amp-read, follows-run, on}
+use Rattle.html_step.proofs.OnePath.{same-tag, some}
+use Rattle.text_norm.specs.Standing.{Stands, WholeAttribute, WholeTag, page}
 
 -- a tag that ends, and whose content is built
 pub tag-leads : {B : Type 0} (x : Bodies B) (tag : Tag) (t : List Event) (d : Config B) → content_error (tag_of tag) ≡ None → d ≡ config (after_tag tag) t → Stands x (after_tag tag) t d

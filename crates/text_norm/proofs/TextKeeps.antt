@@ -1,18 +1,18 @@
 -- What is written of text, and of a `<` in it, leads the page's reading where the path's leads.
-use Rattle.std.proofs.Common.{◌≡◌, ℕ, Bool, true, false, codes, List, [], ◌∷◌, ◌++◌, refl, sym, ap, ◌∙◌, subst}
+use Rattle.std.proofs.Common.{◌≡◌, ℕ, false, codes, List, [], ◌∷◌, ◌++◌, refl, sym, ap, ◌∙◌, subst}
 use Rattle.std.proofs.lemmas.List.{append-nil, append_assoc}
-use Rattle.place_core.specs.Classes.{LetterClass, Class, White, ExclamationMark, Ampersand, HyphenMinus, Solidus, LessThan, QuestionMark, Letter, class_of}
+use Rattle.place_core.specs.Classes.{Class, ExclamationMark, Ampersand, Solidus, LessThan, QuestionMark, Letter, class_of}
 use Rattle.place_core.specs.Comments.{Declaration, OpensComment, OpensDoctype, Undecided, OpensNothing, declared_by}
 use Rattle.place_core.specs.Events.{Event, text_bytes}
-use Rattle.place_core.specs.Html.{next, tells, byte_over, next_text, tells_text, next_tag_open, tells_tag_open, next_end_tag_open, tells_end_tag_open, next_declaration, tells_declaration}
-use Rattle.place_core.specs.References.{Form, Reference, Closed, Open, as_it_stands, next_reference, settled, undone_byte, flushed}
-use Rattle.place_core.specs.States.{Page, Template, State, Text, TagOpen, EndTagOpen, DeclarationOpen, TagName, InComment, Started, InDoctype, Config, config}
+use Rattle.place_core.specs.Html.{next, tells, next_text, tells_text, next_tag_open, tells_tag_open, next_end_tag_open, tells_end_tag_open, next_declaration, tells_declaration}
+use Rattle.place_core.specs.References.{Reference, Closed, Open, as_it_stands, next_reference, settled, undone_byte, flushed}
+use Rattle.place_core.specs.States.{Template, Text, TagOpen, EndTagOpen, DeclarationOpen, Config, config}
 use Rattle.place_core.specs.Tags.{Bodies}
 use Rattle.place_core.proofs.Readings.{text_bytes-append}
-use Rattle.text_norm.specs.Standing.{HeldDeclaration, HeldLessThan, HeldReference, Stands, StandsIn, page, text_at}
-use Rattle.text_norm.specs.Written.{declaration_out, escaped, less_out, reference_out, solidus_out, text_out}
+use Rattle.text_norm.specs.Standing.{HeldDeclaration, HeldLessThan, Stands, StandsIn, page, text_at}
+use Rattle.text_norm.specs.Written.{declaration_out, less_out, reference_out, solidus_out, text_out}
 use Rattle.text_norm.proofs.Declared.{undecided-own}
-use Rattle.text_norm.proofs.Places.{is_less, text-run, text-since}
+use Rattle.text_norm.proofs.Places.{text-run, text-since}
 use Rattle.text_norm.proofs.Runs.{follows-run, lt-read, on}
 
 pub class_less : class_of 60 ≡ LessThan

@@ -1,13 +1,13 @@
 -- What is written of a value leads the page's reading where the path's leads.
-use Rattle.std.proofs.Common.{◌≡◌, ℕ, Bool, true, false, codes, List, [], ◌∷◌, ◌++◌, Option, Some, None, refl, sym, ap, ap₂, ◌∙◌, subst}
-use Rattle.place_core.specs.Classes.{LetterClass, Class, White, QuotationMark, Ampersand, Apostrophe, Solidus, LessThan, EqualsSign, GreaterThan, Letter, class_of}
+use Rattle.std.proofs.Common.{◌≡◌, ℕ, Bool, true, false, codes, List, [], ◌∷◌, ◌++◌, None, refl, sym, ap, ◌∙◌, subst}
+use Rattle.place_core.specs.Classes.{Class, White, QuotationMark, Ampersand, Apostrophe, GreaterThan, class_of}
 use Rattle.place_core.specs.Errors.{content_error}
 use Rattle.place_core.specs.Events.{Event, TagEnds}
-use Rattle.place_core.specs.Html.{after_tag, byte_over, ends_value, next_after_value, next_before_value, next_value, tells_after_value, tells_before_value, tells_value}
-use Rattle.place_core.specs.References.{Form, Begun, Reference, Closed, Open, next_reference, settled, undone_byte, as_it_stands}
+use Rattle.place_core.specs.Html.{ends_value, next_after_value, next_before_value, next_value, tells_before_value, tells_value}
+use Rattle.place_core.specs.References.{Begun, Reference, Closed, Open, next_reference, settled, undone_byte, as_it_stands}
 use Rattle.place_core.specs.StatePlaces.{tag_of}
-use Rattle.place_core.specs.States.{Page, State, BeforeAttributeValue, AttributeValue, AfterAttributeValue, Config, config}
-use Rattle.place_core.specs.Tags.{Tag, Bodies, Value, ValueOf, Quoting, DoubleQuoted, SingleQuoted, Unquoted, told_bytes, told_end, value_of, with_byte, with_bytes, with_value, without_value}
+use Rattle.place_core.specs.States.{BeforeAttributeValue, Config, config}
+use Rattle.place_core.specs.Tags.{Tag, Bodies, Value, ValueOf, Quoting, DoubleQuoted, SingleQuoted, Unquoted, told_bytes, told_end, value_of, with_bytes, with_value, without_value}
 use Rattle.place_core.specs.declared.kind.Kind.{Kind}
 use Rattle.text_norm.specs.Standing.{HeldReference, Stands, StandsIn, StandsInValue, page, value_at}
 use Rattle.text_norm.specs.Written.{reference_out, value_out}

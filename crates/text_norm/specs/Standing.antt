@@ -1,11 +1,11 @@
 -- Where the lexer of a page stands while a path of a template is read, of whose texts it reads what is written. Where nothing is held back it
 -- stands where the path does, and has told the same. Where something is held back it is said what it comes to by that: as it stands, and by
 -- what may be written for it.
-use Rattle.std.specs.Prelude.{ℕ, Bool, true, false, codes, List, [], ◌∷◌, ◌++◌, ◌≡◌}
+use Rattle.std.specs.Prelude.{ℕ, Bool, false, codes, List, [], ◌∷◌, ◌++◌, ◌≡◌}
 use Rattle.place_core.specs.Events.{Event, text_bytes}
 use Rattle.place_core.specs.Html.{read_over}
 use Rattle.place_core.specs.References.{Form, Reference, Closed, Open, as_it_stands, settled}
-use Rattle.place_core.specs.States.{Page, State, Text, TagOpen, EndTagOpen, DeclarationOpen, InComment, BogusComment, InDoctype, TagName, WholeTagName, BeforeAttributeName, AttributeName, WholeAttributeName, AfterAttributeName, BeforeAttributeValue, AttributeValue, AfterAttributeValue, SelfClosingStartTag, Content, Characters, Bytes, Held, Nothing, HeldLess, HeldName, HeldBang, HeldBangDash, InContent, Unread, Config, config}
+use Rattle.place_core.specs.States.{Page, State, Text, TagOpen, EndTagOpen, DeclarationOpen, InComment, BogusComment, InDoctype, TagName, WholeTagName, BeforeAttributeName, AttributeName, WholeAttributeName, AfterAttributeName, BeforeAttributeValue, AttributeValue, AfterAttributeValue, SelfClosingStartTag, Content, Characters, Held, Nothing, HeldLess, HeldName, InContent, Unread, Config, config}
 use Rattle.place_core.specs.Tags.{Tag, tag_named, element_on, Value, ValueOf, TypeSoFar, Bodies, Quoting, with_bytes, told_bytes}
 use Rattle.place_core.specs.Words.{kind_of}
 use Rattle.place_core.specs.declared.element.Element.{Element}
