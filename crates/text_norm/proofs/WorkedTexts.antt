@@ -1,9 +1,12 @@
 -- Small texts, written from text.
-use Rattle.std.proofs.Common.{◌≡◌, codes, refl, List, ℕ}
+use Rattle.std.proofs.Common.{◌≡◌, codes, refl, List, [], ◌∷◌, ◌++◌, ℕ}
 use Rattle.place_core.specs.Classes.{class_of}
-use Rattle.place_core.specs.References.{Closed}
-use Rattle.place_core.specs.States.{Text}
-use Rattle.place_core.specs.Tags.{languages}
+use Rattle.place_core.specs.References.{Closed, meaning}
+use Rattle.place_core.specs.Html.{read, start}
+use Rattle.place_core.specs.Paths.{Written, read_node, read_path}
+use Rattle.place_core.specs.Shape.{shape_of}
+use Rattle.place_core.specs.States.{Page, State, Text, config}
+use Rattle.place_core.specs.Tags.{ValueState, languages}
 use Rattle.place_core.specs.declared.place.Place.TheVariants as place
 use Rattle.text_norm.specs.Fronted.{written_at}
 use Rattle.text_norm.specs.Written.{written}
@@ -50,3 +53,41 @@ doctype = refl
 all_paths : written_at (codes "a<!-- b -->&#3<b x=&y") place.Text ≡ codes "a&#3<b x=&amp;y"
 unfolding class_of
 all_paths = refl
+
+-- Two nodes after one another, from text: what is written of them, and that a page reads it in the path's shape.
+abbrev node_after : List ℕ → State ValueState → State ValueState
+node_after bytes s = (read_node languages bytes (config s [])).at
+
+abbrev two : List ℕ → List ℕ → List ℕ
+two a b = from_text a ++ written languages b (node_after a (Text Closed))
+
+abbrev IsReadBack : List ℕ → List ℕ → List ℕ → Type 0
+IsReadBack a b page = (two a b ≡ page) × (shape_of (read Page page start) ≡ shape_of (read_path languages (Written a ∷ Written b ∷ []) start))
+
+reference_over_nodes : IsReadBack (codes "a&l") (codes "t;<b>") (codes "a&amp;lt;<b>")
+unfolding class_of meaning lib.Utf8.encode
+reference_over_nodes = (refl, refl)
+
+comment_over_nodes : IsReadBack (codes "a<!-- b") (codes " c -->d<i>") (codes "ad<i>")
+unfolding class_of meaning lib.Utf8.encode
+comment_over_nodes = (refl, refl)
+
+less_over_nodes : IsReadBack (codes "a</") (codes "b>") (codes "a&lt;/b>")
+unfolding class_of meaning lib.Utf8.encode
+less_over_nodes = (refl, refl)
+
+declaration_over_nodes : IsReadBack (codes "<!doc") (codes "type>") (codes "&lt;!doctype>")
+unfolding class_of meaning lib.Utf8.encode
+declaration_over_nodes = (refl, refl)
+
+name_over_nodes : IsReadBack (codes "<b title") (codes "=x y>") (codes "<b title=x y>")
+unfolding class_of meaning lib.Utf8.encode
+name_over_nodes = (refl, refl)
+
+value_over_nodes : IsReadBack (codes "<b title='&#X4") (codes "1;'>") (codes "<b title='&amp;#X41;'>")
+unfolding class_of meaning lib.Utf8.encode
+value_over_nodes = (refl, refl)
+
+title_over_nodes : IsReadBack (codes "<title>a</tit") (codes "le></title>") (codes "<title>a&lt;/title></title>")
+unfolding class_of meaning lib.Utf8.encode
+title_over_nodes = (refl, refl)
