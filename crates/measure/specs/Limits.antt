@@ -3,7 +3,7 @@ use Rattle.std.specs.Prelude.{ℕ}
 use Rattle.tpl_token.specs.Answers.{max_text}
 use Rattle.page_datum.specs.Reading.{max_length}
 use Rattle.measure.specs.declared.request.Call.{Call}
-use Rattle.measure.specs.declared.request.Call.TheVariants.{Tokens, Parse, Html, AttrNospace, Characters, Steps, Data, Turns, Calls, Keys}
+use Rattle.measure.specs.declared.request.Call.TheVariants.{Tokens, Parse, Html, AttrNospace, Characters, Steps, Written, Data, Turns, Calls, Keys}
 
 abbrev pub most_of : Call → ℕ
 most_of Data = max_length
@@ -16,3 +16,4 @@ most_of Html = max_text
 most_of AttrNospace = max_text
 most_of Characters = max_text
 most_of Steps = max_text
+most_of Written = max_text

@@ -23,6 +23,7 @@ use std::alloc::{AllocError, Global};
 use std::env;
 use std::io::ErrorKind;
 use std::process::ExitCode;
+use text_norm::write_text;
 use tpl_parse::{FileRefused, parse_file};
 use tpl_token::{TokenRefused, tokens};
 
@@ -35,7 +36,7 @@ fn main(rt: HostRuntime) -> ExitCode {
             let _ = eprintln!(&rt; "      parse-text parse-actions parse-definitions");
             let _ = eprintln!(&rt; "      html-text html-markup nospace-text nospace-markup");
             let _ = eprintln!(&rt; "      characters-text characters-references");
-            let _ = eprintln!(&rt; "      steps-text steps-tags");
+            let _ = eprintln!(&rt; "      steps-text steps-tags written-text written-tags");
             let _ = eprintln!(&rt; "      data-numbers data-text data-lists data-objects");
             let _ = eprintln!(&rt; "      execute-turns execute-calls execute-keys");
             return ExitCode::from(2);
@@ -88,6 +89,11 @@ fn counted(alloc: Global, call: Call, input: Input, size: usize) -> Result<Strin
         ),
         Call::Characters => characters_counted(alloc, text.as_str()),
         Call::Steps => place_told(alloc, text.as_str()),
+        Call::Written => written_counted(
+            alloc,
+            text.as_str(),
+            write_text(alloc, TEXT, text.as_str()),
+        ),
         Call::Data => printed_counted(alloc, text.as_str()),
         Call::Turns => executed_counted(alloc, "{{range .}}{{.}}{{end}}", text.as_str()),
         Call::Calls => executed_counted(
@@ -131,7 +137,7 @@ fn definitions_counted(alloc: Global, text: &str) -> Result<String, AllocError>
     }
 }
 
-// What a sanitizer made of a text.
+// What was made of a text.
 fn written_counted(
     alloc: Global,
     text: &str,

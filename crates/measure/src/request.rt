@@ -19,6 +19,8 @@ pub enum Call {
     Characters,
     /// It is stepped, from text to the place after it.
     Steps,
+    /// It is written as a page gets it, from text.
+    Written,
     /// It is read as data, which are printed.
     Data,
     /// A template with a hole for each item of it is executed.
@@ -85,6 +87,8 @@ pub fn words_named(word: &str) -> Option<(Call, Input)> {
         "characters-references" => Some((Call::Characters, Input::References)),
         "steps-text" => Some((Call::Steps, Input::Text)),
         "steps-tags" => Some((Call::Steps, Input::Tags)),
+        "written-text" => Some((Call::Written, Input::Text)),
+        "written-tags" => Some((Call::Written, Input::Tags)),
         "data-numbers" => Some((Call::Data, Input::Numbers)),
         "data-text" => Some((Call::Data, Input::Texts)),
         "data-lists" => Some((Call::Data, Input::Lists)),
@@ -107,7 +111,8 @@ pub fn most(call: Call) -> usize
         | Call::Html
         | Call::AttrNospace
         | Call::Characters
-        | Call::Steps => MAX_TEXT,
+        | Call::Steps
+        | Call::Written => MAX_TEXT,
     }
 }
 
