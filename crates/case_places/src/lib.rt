@@ -1,4 +1,4 @@
-// What is told of places and of the steps over texts and holes, for tables of cases.
+// What is told of places, of the steps over texts and holes, and of the texts that are written, for tables of cases.
 #![tactic(auto)]
 
 mod member;
@@ -9,5 +9,7 @@ mod pieces;
 mod shown;
 mod tell;
 mod walk;
+mod written;
 
 pub use tell::tell_places;
+pub use written::tell_written;

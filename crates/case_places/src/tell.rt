@@ -51,8 +51,8 @@ fn tell_place(out: &mut Told, place: Place) {
     out.put_text(print_place(out.alloc(), place));
 }
 
-// Tells a place; or the code, the number of the piece with its byte, and the place before that.
-fn tell_walked(out: &mut Told, walked: Walked) {
+/// Tells a place; or the code, the number of the piece with its byte, and the place before that.
+pub fn tell_walked(out: &mut Told, walked: Walked) {
     match walked {
         Walked::At(place) => tell_place(out, place),
         Walked::Refused {

@@ -2,7 +2,7 @@ use case_data::{tell_data, tell_formats, tell_values};
 use case_devices::{is_of_system, tell_devices, tell_system};
 use case_executions::tell_executions;
 use case_pages::{tell_commands, tell_pages};
-use case_places::tell_places;
+use case_places::{tell_places, tell_written};
 use case_table::{Row, Stop, Subject, Told};
 use case_trees::{tell_files, tell_printed, tell_symbols, tell_tokens, tell_trees};
 use case_words::{tell_replaced, tell_sanitized, tell_text, tell_words};
@@ -70,6 +70,7 @@ fn tell_of_html(out: &mut Told, library: &str, call: &str, row: &Row) -> Result<
         "place_core" => tell_text(out, call, row),
         "html_words" => tell_words(out, call, row),
         "html_step" => tell_places(out, call, row),
+        "text_norm" => tell_written(out, call, row),
         "san_html" => tell_sanitized(out, call, row),
         "esc_table" => tell_replaced(out, call, row),
         _ => Err(Stop::Form),
