@@ -3,6 +3,7 @@ use Rattle.std.proofs.Common.{◌≡◌, List, [], ◌∷◌, ◌++◌, append-n
 use Rattle.tpl_paths.specs.declared.choice.Choice.{Choice}
 use Rattle.tpl_tree.specs.Forests.{ForestData}
 use Rattle.tpl_paths.specs.Edges.{calls, fills, passes, picks, writes}
+use Rattle.tpl_paths.specs.Laws.{FrontIsWalk}
 use Rattle.tpl_paths.specs.Walks.{IsWalk, Move, Sign, Standing, after, along, back, choices_of, enters_at, hole_of, leaves_call, reached, signs_of, text_of}
 
 pub walk-append : (forest : ForestData) (a : Standing) (ms ns : List Move) → IsWalk forest a ms → IsWalk forest (reached forest a ms) ns → IsWalk forest a (ms ++ ns)
@@ -30,3 +31,7 @@ choices-append (along (calls n name to) ∷ ms) ns = choices-append ms ns
 choices-append (along (picks from choice to) ∷ ms) ns = ap (λ (x : List Choice). choice ∷ x) (choices-append ms ns)
 choices-append (along (passes from to) ∷ ms) ns = choices-append ms ns
 choices-append (back ∷ ms) ns = choices-append ms ns
+
+pub front-is-walk : FrontIsWalk
+front-is-walk forest a [] ns h = (tt, h)
+front-is-walk forest a (m ∷ ms) ns h = (let k = front-is-walk forest (after forest a m) ms ns h.1 in ((h.0, k.0), k.1))

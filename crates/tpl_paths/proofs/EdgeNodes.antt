@@ -7,6 +7,7 @@ use Rattle.tpl_tree.specs.Trees.{NodesData, head_kind, no_nodes, node, nodes_fro
 use Rattle.tpl_tree.specs.declared.node_kind.NodeKind.{NodeKind}
 use Rattle.tpl_tree.specs.declared.node_kind.NodeKind.TheVariants as kind
 use Rattle.tpl_tree.specs.declared.pipe.Pipe.{Pipe}
+use Rattle.tpl_paths.specs.Laws.{EdgesHaveNodes}
 use Rattle.tpl_paths.specs.Edges.{Edge, Part, Point, Within, again, begins, calls, edges_in, edges_of, fills, finish, kind_at, node_edges, nodes_in, passes, past, picks, writes}
 
 pub record IsNode (nodes : NodesData) (k n : ℕ) (what : NodeKind) : Type 0 where
@@ -124,3 +125,10 @@ pub call_stands : (forest : ForestData) (t : List ℕ) (n : ℕ) (name : List �
 call_stands forest t n name to w =
     let h = edge_node (nodes_in forest t) 0 finish finish finish (calls n name to) w in
     (h.0, kind_is forest t n (kind.Template name h.0) h.1)
+
+pub edges-have-nodes : EdgesHaveNodes
+edges-have-nodes forest t (writes n bytes to) w = text_stands forest t n bytes to w
+edges-have-nodes forest t (fills n pipe to) w = hole_stands forest t n pipe to w
+edges-have-nodes forest t (calls n name to) w = call_stands forest t n name to w
+edges-have-nodes forest t (picks from choice to) w = tt
+edges-have-nodes forest t (passes from to) w = tt

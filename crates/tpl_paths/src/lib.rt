@@ -10,5 +10,5 @@ mod point;
 pub use choice::Choice;
 pub use edge::Edge;
 pub use edges::edges_of;
-pub use laws::choices_determine;
+pub use laws::{choices_determine, edges_have_nodes, front_is_walk};
 pub use point::Point;
