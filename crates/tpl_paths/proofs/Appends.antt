@@ -1,5 +1,5 @@
 -- Walks after one another.
-use Rattle.std.proofs.Common.{◌≡◌, List, [], ◌∷◌, ◌++◌, append-nil, refl, sym, ap, ◌∙◌, subst}
+use Rattle.std.proofs.Common.{◌≡◌, List, [], ◌∷◌, ◌++◌, refl, ap}
 use Rattle.tpl_paths.specs.declared.choice.Choice.{Choice}
 use Rattle.tpl_tree.specs.Forests.{ForestData}
 use Rattle.tpl_paths.specs.Edges.{calls, fills, passes, picks, writes}

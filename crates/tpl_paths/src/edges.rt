@@ -126,10 +126,7 @@ fn add_range(
         edges,
         Edge::Picks(Point::Before(n), Choice::Turn, begin(first, again)),
     )?;
-    add(
-        edges,
-        Edge::Picks(again, Choice::Turn, begin(first, again)),
-    )?;
+    add(edges, Edge::Picks(again, Choice::Turn, begin(first, again)))?;
     add(
         edges,
         Edge::Picks(Point::Before(n), Choice::Done, begin(other, past)),

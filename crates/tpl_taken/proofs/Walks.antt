@@ -5,9 +5,9 @@ use Rattle.page_datum.specs.declared.fault.FaultKind.{FaultKind}
 use Rattle.tpl_eval.specs.Evaluating.{Variables}
 use Rattle.tpl_eval.specs.Functions.{Outcome, counted}
 use Rattle.tpl_exec.specs.Meaning.{Calls, argument, at_dot, calls_within, declared, elements, entered, evaluated, max_calls, node_run, nodes_run, parted, ranged, returned, template_run, turn_variables, turned, turns, with_steps, with_value}
-use Rattle.tpl_events.specs.Events.{Event, enters, gives_hole, gives_text}
+use Rattle.tpl_events.specs.Events.{gives_hole, gives_text}
 use Rattle.tpl_events.specs.Events.{leaves as leaves_event}
-use Rattle.tpl_exec.specs.Runs.{Choice as RunChoice, End, Run, Site, State, and_then, broken, choosing, continued, cut_end, cut_state, done, else_part, ends, fault, faulted, emission, emitting, go_on, if_next, next, scoped, then_part, turn}
+use Rattle.tpl_exec.specs.Runs.{Choice as RunChoice, End, Run, Site, State, broken, choosing, continued, cut_end, cut_state, done, else_part, ends, faulted, emission, emitting, go_on, if_next, next, scoped, then_part, turn}
 use Rattle.tpl_exec.specs.Meaning.{nodes_of_tree as nodes_executed}
 use Rattle.tpl_tree.specs.Forests.{ForestData, tree_named}
 use Rattle.tpl_tree.specs.Trees.{NodesData, TreeData, no_nodes, node, nodes_size}
