@@ -21,7 +21,8 @@ fn begin(node: Option<u32>, to: Point) -> Point
 
 // Adds an edge.
 fn add(edges: &mut Vec<Edge>, edge: Edge) -> Result<(), AllocError>
-    ensures added { OnOk result (edges.new.items ≡ edges.old.items ++ edge ∷ []) }
+    ensures added { OnOk result (edges.new.items
+        ≡ edges.old.items ++ edge ∷ []) }
 {
     edges.push(edge)?;
     Ok(())
@@ -38,7 +39,8 @@ pub fn add_edges(
     edges: &mut Vec<Edge>,
 ) -> Result<(), AllocError>
     requires { IfSome start (λ n. n < nodes_size tree.now.nodes) }
-    ensures added { OnOk result (edges.new.items ≡ edges.old.items ++ read_edges (edges_at tree.now.nodes start to out on)) }
+    ensures added { OnOk result (edges.new.items
+        ≡ edges.old.items ++ read_edges (edges_at tree.now.nodes start to out on)) }
 {
     let mut node = start;
     while let Some(n) = node {
@@ -60,7 +62,8 @@ fn add_node(
     edges: &mut Vec<Edge>,
 ) -> Result<(), AllocError>
     requires { n < nodes_size tree.now.nodes }
-    ensures added { OnOk result (edges.new.items ≡ edges.old.items ++ read_edges (own_edges (nodes_from tree.now.nodes n) n to out on)) }
+    ensures added { OnOk result (edges.new.items
+        ≡ edges.old.items ++ read_edges (own_edges (nodes_from tree.now.nodes n) n to out on)) }
 {
     match tree.kind(n) {
         NodeKind::Text(_) => add(edges, Edge::Writes(n, to)),
@@ -87,7 +90,8 @@ fn add_control(
     edges: &mut Vec<Edge>,
 ) -> Result<(), AllocError>
     requires { n < nodes_size tree.now.nodes }
-    ensures added { OnOk result (edges.new.items ≡ edges.old.items ++ read_edges (control_edges tree.now.nodes n to out on)) }
+    ensures added { OnOk result (edges.new.items
+        ≡ edges.old.items ++ read_edges (control_edges tree.now.nodes n to out on)) }
 {
     let first = tree.child(n, 0);
     let other = tree.child(n, 1);
@@ -116,7 +120,8 @@ fn add_range(
     edges: &mut Vec<Edge>,
 ) -> Result<(), AllocError>
     requires { n < nodes_size tree.now.nodes }
-    ensures added { OnOk result (edges.new.items ≡ edges.old.items ++ read_edges (range_edges tree.now.nodes n to out on)) }
+    ensures added { OnOk result (edges.new.items
+        ≡ edges.old.items ++ read_edges (range_edges tree.now.nodes n to out on)) }
 {
     let first = tree.child(n, 0);
     let other = tree.child(n, 1);
@@ -140,7 +145,8 @@ fn add_range(
 /// The edges of a template, each once, in the order of its nodes. The error is out of memory. Takes time in proportion to the number of
 /// nodes.
 pub fn edges_of(alloc: Global, tree: &Tree) -> Result<Vec<Edge>, AllocError>
-    ensures { IfOk result (λ edges. edges.items ≡ read_edges (tree_edges tree.now.nodes 0 finish finish finish)) }
+    ensures { IfOk result (λ edges. edges.items
+        ≡ read_edges (tree_edges tree.now.nodes 0 finish finish finish)) }
 {
     let mut edges = Vec::new(alloc);
     add_edges(
