@@ -1,0 +1,6 @@
+pub mod Adding
+pub mod Appends
+pub mod Blocks
+pub mod EdgeNodes
+pub mod Examples
+pub mod OneWalk

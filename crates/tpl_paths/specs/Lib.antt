@@ -1,0 +1,4 @@
+pub mod EdgeViews
+pub mod Edges
+pub mod Laws
+pub mod Walks

@@ -1,0 +1,12 @@
+/// What is chosen at an `if`, a `with` or a range.
+#[derive(Clone, Copy, Debug)]
+pub enum Choice {
+    /// The first part of an `if` or a `with`.
+    Then,
+    /// The `else` part of an `if` or a `with`, also where none is written.
+    Else,
+    /// One more turn of a range.
+    Turn,
+    /// The end of a range, also where there is nothing to go over.
+    Done,
+}

@@ -1,0 +1,12 @@
+/// Where a path stands in a template.
+#[derive(Clone, Copy, Debug)]
+pub enum Point {
+    /// Before a node, which is given by its number; of a range, before its first turn.
+    Before(u32),
+    /// At a range, before a further turn.
+    Again(u32),
+    /// Behind the parts of an `if`, a `with` or a range.
+    Past(u32),
+    /// At the end of the template.
+    Finish,
+}

@@ -1,0 +1,6 @@
+// Which path of a forest an execution takes.
+#![tactic(auto)]
+
+mod laws;
+
+pub use laws::meaning_walks;
