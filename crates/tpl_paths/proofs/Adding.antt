@@ -7,7 +7,7 @@ use Rattle.tpl_tree.specs.declared.node_kind.NodeKind.{NodeKind}
 use Rattle.tpl_tree.specs.declared.node_kind.NodeKind.TheVariants as kind
 use Rattle.tpl_tree.specs.declared.pipe.Pipe.{Pipe}
 use Rattle.tpl_paths.specs.EdgeViews.{edge_at, read_edges, begin_at, control_edges, edges_at, nodes_at, own_edges, range_edges}
-use Rattle.tpl_paths.specs.Edges.{Edge, Point, again, before, begins, edges_of, passes, past, picks}
+use Rattle.tpl_paths.specs.Edges.{Edge, Point, again, before, begins, edges_of, head, passes, past, picks}
 use Rattle.tpl_paths.specs.declared.choice.Choice.TheVariants as chosen
 use Rattle.tpl_paths.specs.declared.edge.Edge.{Edge as ReadEdge}
 
@@ -67,7 +67,7 @@ abbrev range_at : NodesData → NodesData → ℕ → Point → Point → Point 
 range_at nodes w n to out on =
     let one : Option ℕ = number_of (part_of 0 w) (n + 1) in
     let two : Option ℕ = number_of (part_of 1 w) (n + 1 + nodes_size (part_of 0 w)) in
-    picks (before n) chosen.Turn (begin_at one (again n)) ∷ picks (again n) chosen.Turn (begin_at one (again n))
+    passes (before n) (head n) ∷ passes (again n) (head n) ∷ picks (head n) chosen.Turn (begin_at one (again n))
     ∷ picks (before n) chosen.Done (begin_at two (past n)) ∷ picks (again n) chosen.Done (past n) ∷ passes (past n) to
     ∷ (edges_at nodes one (again n) (past n) (again n) ++ edges_at nodes two (past n) out on)
 

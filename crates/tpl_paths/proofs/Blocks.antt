@@ -1,22 +1,26 @@
 -- At each point one edge leads on, or one for each choice.
-use Rattle.std.proofs.Common.{◌≡◌, ℕ, ◌+◌, ◌<◌, ◌≤◌, List, [], ◌∷◌, ◌++◌, Option, Some, None, sym, ap, ◌∙◌, subst, inl, inr, arith}
+use Rattle.std.proofs.Common.{◌≡◌, ℕ, ◌+◌, ◌<◌, ◌≤◌, List, [], ◌∷◌, ◌++◌, Option, Some, None, refl, sym, ap, ◌∙◌, subst, inl, inr, arith}
 use Rattle.tpl_paths.specs.declared.choice.Choice.{Choice}
 use Rattle.tpl_paths.specs.declared.choice.Choice.TheVariants as chosen
 use Rattle.tpl_tree.specs.Forests.{ForestData}
 use Rattle.tpl_tree.specs.Trees.{NodesData, no_nodes, node, nodes_size}
 use Rattle.tpl_tree.specs.declared.node_kind.NodeKind.{NodeKind}
 use Rattle.tpl_tree.specs.declared.node_kind.NodeKind.TheVariants as kind
-use Rattle.tpl_paths.specs.Edges.{Edge, Part, Point, Within, again, before, begins, calls, edges_in, edges_of, fills, finish, from_of, node_edges, nodes_in, passes, past, picks, writes}
+use Rattle.tpl_paths.specs.Edges.{Edge, Part, Point, Within, again, before, begins, calls, edges_in, edges_of, fills, finish, from_of, head, node_edges, nodes_in, passes, past, picks, writes}
 use Rattle.tpl_paths.specs.declared.point.Point.TheVariants as point
 use Rattle.tpl_paths.proofs.EdgeNodes.{within-either}
 
--- the choice of an edge, and two that may be the same
+-- the choice of an edge, where the way to the head of a range is one more turn, and two that may be the same
+abbrev pub head_choice : Point → Option Choice
+head_choice (point.Head n) = Some chosen.Turn
+head_choice p = None
+
 abbrev pub choice_of : Edge → Option Choice
 choice_of (writes n bytes to) = None
 choice_of (fills n pipe to) = None
 choice_of (calls n name to) = None
 choice_of (picks from choice to) = Some choice
-choice_of (passes from to) = None
+choice_of (passes from to) = head_choice to
 
 abbrev pub Agree : Option Choice → Option Choice → Type 0
 Agree (Some c) (Some d) = c ≡ d
@@ -56,18 +60,21 @@ abbrev pub InRange : ℕ → ℕ → Point → Type 0
 InRange a b (point.Before n) = (a ≤ n) × (n < b)
 InRange a b (point.Again n) = (a ≤ n) × (n < b)
 InRange a b (point.Past n) = (a ≤ n) × (n < b)
+InRange a b (point.Head n) = (a ≤ n) × (n < b)
 InRange a b point.Finish = ⊥
 
 apart_ranges : (a b c d : ℕ) (p : Point) → b ≤ c → InRange a b p → InRange c d p → ⊥
 apart_ranges a b c d (point.Before n) le h k = absurd (omega (arith, h.1, k.0))
 apart_ranges a b c d (point.Again n) le h k = absurd (omega (arith, h.1, k.0))
 apart_ranges a b c d (point.Past n) le h k = absurd (omega (arith, h.1, k.0))
+apart_ranges a b c d (point.Head n) le h k = absurd (omega (arith, h.1, k.0))
 apart_ranges a b c d point.Finish le h k = h
 
 wider : (a b c d : ℕ) (p : Point) → c ≤ a → b ≤ d → InRange a b p → InRange c d p
 wider a b c d (point.Before n) l r h = (omega (arith, h.0), omega (arith, h.1))
 wider a b c d (point.Again n) l r h = (omega (arith, h.0), omega (arith, h.1))
 wider a b c d (point.Past n) l r h = (omega (arith, h.0), omega (arith, h.1))
+wider a b c d (point.Head n) l r h = (omega (arith, h.0), omega (arith, h.1))
 wider a b c d point.Finish l r h = h
 
 -- edges that begin in a range, of which one leads on from each point, or one for each choice
@@ -110,16 +117,19 @@ block_control n u v to =
           (unique_cons y (z ∷ []) (apart_cons y z [] (λ a b. cc) (apart_nil y)) (unique_cons z [] (apart_nil z) unique_nil));
     }
 
-block_range : (n : ℕ) (u v to : Point) → Block n (n + 1) (picks (before n) chosen.Turn u ∷ picks (again n) chosen.Turn u ∷ picks (before n) chosen.Done v ∷ picks (again n) chosen.Done (past n) ∷ passes (past n) to ∷ [])
+block_range : (n : ℕ) (u v to : Point) → Block n (n + 1) (passes (before n) (head n) ∷ passes (again n) (head n) ∷ picks (head n) chosen.Turn u ∷ picks (before n) chosen.Done v ∷ picks (again n) chosen.Done (past n) ∷ passes (past n) to ∷ [])
 block_range n u v to =
-    let p : Edge = picks (before n) chosen.Turn u in let q : Edge = picks (again n) chosen.Turn u in let r : Edge = picks (before n) chosen.Done v in let s : Edge = picks (again n) chosen.Done (past n) in let t : Edge = passes (past n) to in
+    let p : Edge = passes (before n) (head n) in let q : Edge = passes (again n) (head n) in let o : Edge = picks (head n) chosen.Turn u in
+    let r : Edge = picks (before n) chosen.Done v in let s : Edge = picks (again n) chosen.Done (past n) in let t : Edge = passes (past n) to in
     let here : (n ≤ n) × (n < n + 1) = (omega arith, omega arith) in record {
-      ranged = ranged_cons n (n + 1) p (q ∷ r ∷ s ∷ t ∷ []) here (ranged_cons n (n + 1) q (r ∷ s ∷ t ∷ []) here (ranged_cons n (n + 1) r (s ∷ t ∷ []) here
-          (ranged_cons n (n + 1) s (t ∷ []) here (ranged_cons n (n + 1) t [] here (ranged_nil n (n + 1))))));
-      unique = unique_cons p (q ∷ r ∷ s ∷ t ∷ []) (apart_cons p q (r ∷ s ∷ t ∷ []) (λ a b. cc) (apart_cons p r (s ∷ t ∷ []) (λ a b. cc) (apart_cons p s (t ∷ []) (λ a b. cc) (apart_cons p t [] (λ a b. cc) (apart_nil p)))))
-          (unique_cons q (r ∷ s ∷ t ∷ []) (apart_cons q r (s ∷ t ∷ []) (λ a b. cc) (apart_cons q s (t ∷ []) (λ a b. cc) (apart_cons q t [] (λ a b. cc) (apart_nil q))))
+      ranged = ranged_cons n (n + 1) p (q ∷ o ∷ r ∷ s ∷ t ∷ []) here (ranged_cons n (n + 1) q (o ∷ r ∷ s ∷ t ∷ []) here (ranged_cons n (n + 1) o (r ∷ s ∷ t ∷ []) here (ranged_cons n (n + 1) r (s ∷ t ∷ []) here
+          (ranged_cons n (n + 1) s (t ∷ []) here (ranged_cons n (n + 1) t [] here (ranged_nil n (n + 1)))))));
+      unique = unique_cons p (q ∷ o ∷ r ∷ s ∷ t ∷ []) (apart_cons p q (o ∷ r ∷ s ∷ t ∷ []) (λ a b. cc) (apart_cons p o (r ∷ s ∷ t ∷ []) (λ a b. cc) (apart_cons p r (s ∷ t ∷ []) (λ a b. cc)
+          (apart_cons p s (t ∷ []) (λ a b. cc) (apart_cons p t [] (λ a b. cc) (apart_nil p))))))
+          (unique_cons q (o ∷ r ∷ s ∷ t ∷ []) (apart_cons q o (r ∷ s ∷ t ∷ []) (λ a b. cc) (apart_cons q r (s ∷ t ∷ []) (λ a b. cc) (apart_cons q s (t ∷ []) (λ a b. cc) (apart_cons q t [] (λ a b. cc) (apart_nil q)))))
+          (unique_cons o (r ∷ s ∷ t ∷ []) (apart_cons o r (s ∷ t ∷ []) (λ a b. cc) (apart_cons o s (t ∷ []) (λ a b. cc) (apart_cons o t [] (λ a b. cc) (apart_nil o))))
           (unique_cons r (s ∷ t ∷ []) (apart_cons r s (t ∷ []) (λ a b. cc) (apart_cons r t [] (λ a b. cc) (apart_nil r)))
-          (unique_cons s (t ∷ []) (apart_cons s t [] (λ a b. cc) (apart_nil s)) (unique_cons t [] (apart_nil t) unique_nil))));
+          (unique_cons s (t ∷ []) (apart_cons s t [] (λ a b. cc) (apart_nil s)) (unique_cons t [] (apart_nil t) unique_nil)))));
     }
 
 -- a node with its parts
@@ -139,7 +149,7 @@ own_block n f o one two first other to out on h k (kind.With name pipe) =
     (block_append (n + 1) (n + 1 + f) (n + 1 + f) (n + 1 + f + o) (first (past n) out on) (other (past n) out on) (omega arith) (omega arith) (omega arith) (h (past n) out on) (k (past n) out on))
 own_block n f o one two first other to out on h k (kind.Range index element pipe) =
     block_append n (n + 1) (n + 1) (n + 1 + f + o)
-    (picks (before n) chosen.Turn (one (again n)) ∷ picks (again n) chosen.Turn (one (again n)) ∷ picks (before n) chosen.Done (two (past n)) ∷ picks (again n) chosen.Done (past n) ∷ passes (past n) to ∷ []) (first (again n) (past n) (again n) ++ other (past n) out on)
+    (passes (before n) (head n) ∷ passes (again n) (head n) ∷ picks (head n) chosen.Turn (one (again n)) ∷ picks (before n) chosen.Done (two (past n)) ∷ picks (again n) chosen.Done (past n) ∷ passes (past n) to ∷ []) (first (again n) (past n) (again n) ++ other (past n) out on)
     (omega arith) (omega arith) (omega arith) (block_range n (one (again n)) (two (past n)) to)
     (block_append (n + 1) (n + 1 + f) (n + 1 + f) (n + 1 + f + o) (first (again n) (past n) (again n)) (other (past n) out on) (omega arith) (omega arith) (omega arith) (h (again n) (past n) (again n)) (k (past n) out on))
 own_block n f o one two first other to out on h k kind.Break = block_wider n (n + 1) (n + 1 + f + o) _ (omega arith) (block_one n (passes (before n) out) (omega arith, omega arith))
@@ -162,3 +172,65 @@ one_edge forest t = (nodes_block (nodes_in forest t) 0 finish finish finish).uni
 
 pub no_finish : (forest : ForestData) (t : List ℕ) (e : Edge) → Within e (edges_in forest t) → from_of e ≡ finish → ⊥
 no_finish forest t e w is = subst (InRange 0 (0 + nodes_size (nodes_in forest t))) is ((nodes_block (nodes_in forest t) 0 finish finish finish).ranged e w)
+
+-- from the head of a range only a turn leads on
+abbrev IsHeadTurn : Point → Option Choice → Type 0
+IsHeadTurn (point.Head n) c = c ≡ Some chosen.Turn
+IsHeadTurn p c = Unit {0}
+
+abbrev pub picked : Edge → Option Choice
+picked (picks from choice to) = Some choice
+picked e = None
+
+abbrev TurnsAtHead : Edge → Type 0
+TurnsAtHead e = IsHeadTurn (from_of e) (picked e)
+
+turns : (n : ℕ) → IsHeadTurn (head n) (Some chosen.Turn)
+turns n = refl
+
+own_turns : (n : ℕ) (one two : Point → Point) (first other : Part) (to out on : Point) → ((a b c : Point) (e : Edge) → Within e (first a b c) → TurnsAtHead e) → ((a b c : Point) (e : Edge) → Within e (other a b c) → TurnsAtHead e)
+    → (what : NodeKind) (e : Edge) → Within e (node_edges what n one two first other to out on) → TurnsAtHead e
+own_turns n one two first other to out on h k (kind.Text bytes) e (inl i) = subst TurnsAtHead (sym i) tt
+own_turns n one two first other to out on h k (kind.Text bytes) e (inr w) = absurd w
+own_turns n one two first other to out on h k (kind.Action pipe) e (inl i) = subst TurnsAtHead (sym i) tt
+own_turns n one two first other to out on h k (kind.Action pipe) e (inr w) = absurd w
+own_turns n one two first other to out on h k (kind.Declare name pipe) e (inl i) = subst TurnsAtHead (sym i) tt
+own_turns n one two first other to out on h k (kind.Declare name pipe) e (inr w) = absurd w
+own_turns n one two first other to out on h k (kind.Assign name pipe) e (inl i) = subst TurnsAtHead (sym i) tt
+own_turns n one two first other to out on h k (kind.Assign name pipe) e (inr w) = absurd w
+own_turns n one two first other to out on h k (kind.If name pipe) e (inl i) = subst TurnsAtHead (sym i) tt
+own_turns n one two first other to out on h k (kind.If name pipe) e (inr (inl i)) = subst TurnsAtHead (sym i) tt
+own_turns n one two first other to out on h k (kind.If name pipe) e (inr (inr (inl i))) = subst TurnsAtHead (sym i) tt
+own_turns n one two first other to out on h k (kind.If name pipe) e (inr (inr (inr w))) = within-either TurnsAtHead (first (past n) out on) (other (past n) out on) (h (past n) out on) (k (past n) out on) e w
+own_turns n one two first other to out on h k (kind.With name pipe) e (inl i) = subst TurnsAtHead (sym i) tt
+own_turns n one two first other to out on h k (kind.With name pipe) e (inr (inl i)) = subst TurnsAtHead (sym i) tt
+own_turns n one two first other to out on h k (kind.With name pipe) e (inr (inr (inl i))) = subst TurnsAtHead (sym i) tt
+own_turns n one two first other to out on h k (kind.With name pipe) e (inr (inr (inr w))) = within-either TurnsAtHead (first (past n) out on) (other (past n) out on) (h (past n) out on) (k (past n) out on) e w
+own_turns n one two first other to out on h k (kind.Range index element pipe) e (inl i) = subst TurnsAtHead (sym i) tt
+own_turns n one two first other to out on h k (kind.Range index element pipe) e (inr (inl i)) = subst TurnsAtHead (sym i) tt
+own_turns n one two first other to out on h k (kind.Range index element pipe) e (inr (inr (inl i))) = subst TurnsAtHead (sym i) (turns n)
+own_turns n one two first other to out on h k (kind.Range index element pipe) e (inr (inr (inr (inl i)))) = subst TurnsAtHead (sym i) tt
+own_turns n one two first other to out on h k (kind.Range index element pipe) e (inr (inr (inr (inr (inl i))))) = subst TurnsAtHead (sym i) tt
+own_turns n one two first other to out on h k (kind.Range index element pipe) e (inr (inr (inr (inr (inr (inl i)))))) = subst TurnsAtHead (sym i) tt
+own_turns n one two first other to out on h k (kind.Range index element pipe) e (inr (inr (inr (inr (inr (inr w)))))) =
+    within-either TurnsAtHead (first (again n) (past n) (again n)) (other (past n) out on) (h (again n) (past n) (again n)) (k (past n) out on) e w
+own_turns n one two first other to out on h k kind.Break e (inl i) = subst TurnsAtHead (sym i) tt
+own_turns n one two first other to out on h k kind.Break e (inr w) = absurd w
+own_turns n one two first other to out on h k kind.Continue e (inl i) = subst TurnsAtHead (sym i) tt
+own_turns n one two first other to out on h k kind.Continue e (inr w) = absurd w
+own_turns n one two first other to out on h k (kind.Template name pipe) e (inl i) = subst TurnsAtHead (sym i) tt
+own_turns n one two first other to out on h k (kind.Template name pipe) e (inr w) = absurd w
+
+nodes_turn : (nodes : NodesData) (n : ℕ) (to out on : Point) (e : Edge) → Within e (edges_of nodes n to out on) → TurnsAtHead e
+nodes_turn no_nodes n to out on e w = absurd w
+nodes_turn (node what l s first other rest) n to out on e w =
+    let second : ℕ = n + 1 + nodes_size first in
+    let behind : ℕ = second + nodes_size other in
+    within-either TurnsAtHead
+    (node_edges what n (begins first (n + 1)) (begins other second) (edges_of first (n + 1)) (edges_of other second) (begins rest behind to) out on) (edges_of rest behind to out on)
+    (own_turns n (begins first (n + 1)) (begins other second) (edges_of first (n + 1)) (edges_of other second) (begins rest behind to) out on
+    (λ a b c. nodes_turn first (n + 1) a b c) (λ a b c. nodes_turn other second a b c) what)
+    (nodes_turn rest behind to out on) e w
+
+pub head_turns : (forest : ForestData) (t : List ℕ) (e : Edge) (n : ℕ) → Within e (edges_in forest t) → from_of e ≡ head n → picked e ≡ Some chosen.Turn
+head_turns forest t e n w i = subst (λ (p : Point). IsHeadTurn p (picked e)) i (nodes_turn (nodes_in forest t) 0 finish finish finish e w)

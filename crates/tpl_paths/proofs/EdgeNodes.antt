@@ -88,7 +88,8 @@ own whole k one two first other to out on (kind.Range index element pipe) h f g 
 own whole k one two first other to out on (kind.Range index element pipe) h f g e (inr (inr (inl i))) = subst (EdgeNode whole k) (sym i) tt
 own whole k one two first other to out on (kind.Range index element pipe) h f g e (inr (inr (inr (inl i)))) = subst (EdgeNode whole k) (sym i) tt
 own whole k one two first other to out on (kind.Range index element pipe) h f g e (inr (inr (inr (inr (inl i))))) = subst (EdgeNode whole k) (sym i) tt
-own whole k one two first other to out on (kind.Range index element pipe) h f g e (inr (inr (inr (inr (inr v))))) = within-either (EdgeNode whole k) (first (again k) (past k) (again k)) (other (past k) out on) (f (again k) (past k) (again k)) (g (past k) out on) e v
+own whole k one two first other to out on (kind.Range index element pipe) h f g e (inr (inr (inr (inr (inr (inl i)))))) = subst (EdgeNode whole k) (sym i) tt
+own whole k one two first other to out on (kind.Range index element pipe) h f g e (inr (inr (inr (inr (inr (inr v)))))) = within-either (EdgeNode whole k) (first (again k) (past k) (again k)) (other (past k) out on) (f (again k) (past k) (again k)) (g (past k) out on) e v
 own whole k one two first other to out on kind.Break h f g e (inl i) = subst (EdgeNode whole k) (sym i) tt
 own whole k one two first other to out on kind.Break h f g e (inr v) = absurd v
 own whole k one two first other to out on kind.Continue h f g e (inl i) = subst (EdgeNode whole k) (sym i) tt

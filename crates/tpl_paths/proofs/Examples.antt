@@ -6,7 +6,7 @@ use Rattle.tpl_tree.specs.Forests.{ForestData}
 use Rattle.tpl_tree.specs.Trees.{NodesData, no_nodes, node}
 use Rattle.tpl_tree.specs.declared.node_kind.NodeKind.TheVariants as kind
 use Rattle.tpl_tree.specs.declared.pipe.Pipe.{Pipe}
-use Rattle.tpl_paths.specs.Edges.{again, before, calls, edges_of, finish, passes, past, picks, writes}
+use Rattle.tpl_paths.specs.Edges.{again, before, calls, edges_of, finish, head, passes, past, picks, writes}
 use Rattle.tpl_paths.specs.Walks.{IsWalk, Move, along, at_root, back, choices_of, enters_at, leaves_call, reached, signs_of, standing, text_of}
 
 abbrev dot : Pipe
@@ -20,7 +20,7 @@ abbrev nodes : NodesData
 nodes = node (kind.Range None None dot) 1 [] (text 65 (node kind.Break 1 [] no_nodes no_nodes no_nodes)) (text 66 no_nodes) (text 67 no_nodes)
 
 edges : edges_of nodes 0 finish finish finish
-    ≡ picks (before 0) chosen.Turn (before 1) ∷ picks (again 0) chosen.Turn (before 1) ∷ picks (before 0) chosen.Done (before 3) ∷ picks (again 0) chosen.Done (past 0) ∷ passes (past 0) (before 4)
+    ≡ passes (before 0) (head 0) ∷ passes (again 0) (head 0) ∷ picks (head 0) chosen.Turn (before 1) ∷ picks (before 0) chosen.Done (before 3) ∷ picks (again 0) chosen.Done (past 0) ∷ passes (past 0) (before 4)
     ∷ writes 1 (65 ∷ []) (before 2) ∷ passes (before 2) (past 0) ∷ writes 3 (66 ∷ []) (past 0) ∷ writes 4 (67 ∷ []) finish ∷ []
 edges = refl
 
@@ -31,11 +31,29 @@ forest = (97 ∷ [], record { nodes = node (kind.Range None None dot) 1 [] (text
 
 -- two turns, and the call
 abbrev moves : List Move
-moves = along (picks (before 0) chosen.Turn (before 1)) ∷ along (writes 1 (65 ∷ []) (again 0)) ∷ along (picks (again 0) chosen.Turn (before 1)) ∷ along (writes 1 (65 ∷ []) (again 0)) ∷ along (picks (again 0) chosen.Done (past 0))
+moves = along (passes (before 0) (head 0)) ∷ along (picks (head 0) chosen.Turn (before 1)) ∷ along (writes 1 (65 ∷ []) (again 0)) ∷ along (passes (again 0) (head 0)) ∷ along (picks (head 0) chosen.Turn (before 1)) ∷ along (writes 1 (65 ∷ []) (again 0)) ∷ along (picks (again 0) chosen.Done (past 0))
     ∷ along (passes (past 0) (before 2)) ∷ along (calls 2 (98 ∷ []) finish) ∷ along (writes 0 (66 ∷ []) finish) ∷ back ∷ []
 
 a_walk : IsWalk forest (at_root forest (97 ∷ [])) moves
-a_walk = ((inl refl, refl), ((inr (inr (inr (inr (inr (inl refl))))), refl), ((inr (inl refl), refl), ((inr (inr (inr (inr (inr (inl refl))))), refl), ((inr (inr (inr (inl refl))), refl), ((inr (inr (inr (inr (inl refl)))), refl), ((inr (inr (inr (inr (inr (inr (inl refl)))))), refl), ((inl refl, refl), ((tt, refl), tt)))))))))
+a_walk = (
+  (inl refl, refl),
+  (
+    (inr (inr (inl refl)), refl),
+    (
+      (inr (inr (inr (inr (inr (inr (inl refl)))))), refl),
+      (
+        (inr (inl refl), refl),
+        (
+          (inr (inr (inl refl)), refl),
+          (
+            (inr (inr (inr (inr (inr (inr (inl refl)))))), refl),
+            ((inr (inr (inr (inr (inl refl)))), refl), ((inr (inr (inr (inr (inr (inl refl))))), refl), ((inr (inr (inr (inr (inr (inr (inr (inl refl))))))), refl), ((inl refl, refl), ((tt, refl), tt))))),
+          ),
+        ),
+      ),
+    ),
+  ),
+)
 
 its_end : reached forest (at_root forest (97 ∷ [])) moves ≡ standing [] (97 ∷ []) finish
 its_end = refl

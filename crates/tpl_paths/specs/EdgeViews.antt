@@ -2,7 +2,7 @@
 use Rattle.std.specs.Prelude.{ℕ, ◌+◌, List, [], ◌∷◌, ◌++◌, Option, Some, None, map}
 use Rattle.tpl_paths.specs.declared.choice.Choice.TheVariants as chosen
 use Rattle.tpl_tree.specs.Trees.{NodesData, child_number, no_nodes, node, nodes_from, nodes_size}
-use Rattle.tpl_paths.specs.Edges.{Edge, Point, again, before, begins, calls, edges_of, fills, node_edges, passes, past, picks, writes}
+use Rattle.tpl_paths.specs.Edges.{Edge, Point, again, before, begins, calls, edges_of, fills, head, node_edges, passes, past, picks, writes}
 use Rattle.tpl_paths.specs.declared.edge.Edge.{Edge as ReadEdge}
 use Rattle.tpl_paths.specs.declared.edge.Edge.TheVariants as edge
 
@@ -45,6 +45,6 @@ control_edges nodes n to out on =
 
 abbrev pub range_edges : NodesData → ℕ → Point → Point → Point → List Edge
 range_edges nodes n to out on =
-    picks (before n) chosen.Turn (begin_at (child_number nodes n 0) (again n)) ∷ picks (again n) chosen.Turn (begin_at (child_number nodes n 0) (again n))
+    passes (before n) (head n) ∷ passes (again n) (head n) ∷ picks (head n) chosen.Turn (begin_at (child_number nodes n 0) (again n))
     ∷ picks (before n) chosen.Done (begin_at (child_number nodes n 1) (past n)) ∷ picks (again n) chosen.Done (past n) ∷ passes (past n) to
     ∷ (edges_at nodes (child_number nodes n 0) (again n) (past n) (again n) ++ edges_at nodes (child_number nodes n 1) (past n) out on)

@@ -21,6 +21,9 @@ before n = point.Before n
 abbrev pub again : ℕ → Point
 again n = point.Again n
 
+abbrev pub head : ℕ → Point
+head n = point.Head n
+
 abbrev pub past : ℕ → Point
 past n = point.Past n
 
@@ -71,7 +74,8 @@ node_edges (kind.With name pipe) n one two first other to out on =
     picks (before n) chosen.Then (one (past n)) ∷ picks (before n) chosen.Else (two (past n)) ∷ passes (past n) to
     ∷ (first (past n) out on ++ other (past n) out on)
 node_edges (kind.Range index element pipe) n one two first other to out on =
-    picks (before n) chosen.Turn (one (again n)) ∷ picks (again n) chosen.Turn (one (again n)) ∷ picks (before n) chosen.Done (two (past n)) ∷ picks (again n) chosen.Done (past n) ∷ passes (past n) to
+    passes (before n) (head n) ∷ passes (again n) (head n) ∷ picks (head n) chosen.Turn (one (again n))
+    ∷ picks (before n) chosen.Done (two (past n)) ∷ picks (again n) chosen.Done (past n) ∷ passes (past n) to
     ∷ (first (again n) (past n) (again n) ++ other (past n) out on)
 node_edges kind.Break n one two first other to out on = passes (before n) out ∷ []
 node_edges kind.Continue n one two first other to out on = passes (before n) on ∷ []

@@ -127,11 +127,10 @@ fn add_range(
     let other = tree.child(n, 1);
     let past = Point::Past(n);
     let again = Point::Again(n);
-    add(
-        edges,
-        Edge::Picks(Point::Before(n), Choice::Turn, begin(first, again)),
-    )?;
-    add(edges, Edge::Picks(again, Choice::Turn, begin(first, again)))?;
+    let head = Point::Head(n);
+    add(edges, Edge::Passes(Point::Before(n), head))?;
+    add(edges, Edge::Passes(again, head))?;
+    add(edges, Edge::Picks(head, Choice::Turn, begin(first, again)))?;
     add(
         edges,
         Edge::Picks(Point::Before(n), Choice::Done, begin(other, past)),

@@ -15,7 +15,7 @@ use Rattle.tpl_tree.specs.declared.node_kind.NodeKind.{NodeKind}
 use Rattle.tpl_tree.specs.declared.node_kind.NodeKind.TheVariants as kind
 use Rattle.tpl_tree.specs.declared.pipe.Pipe.{Pipe}
 use Rattle.tpl_value.specs.Truth.{truth_of}
-use Rattle.tpl_paths.specs.Edges.{Edge, Part, Point, Within, again, before, begins, edges_in, edges_of, finish, node_edges, nodes_in, nodes_of_tree, passes, past, picks, start_in, writes, fills, calls as calls_edge}
+use Rattle.tpl_paths.specs.Edges.{Edge, Part, Point, Within, again, before, begins, edges_in, edges_of, finish, head, node_edges, nodes_in, nodes_of_tree, passes, past, picks, start_in, writes, fills, calls as calls_edge}
 use Rattle.tpl_paths.specs.declared.choice.Choice.{Choice}
 use Rattle.tpl_paths.specs.declared.choice.Choice.TheVariants as chosen
 use Rattle.tpl_taken.specs.Taken.{Exits, IsWalked, Lands, MeaningWalks, choice_of, exits}
@@ -139,42 +139,43 @@ turned_walks forest os t n out on count others k (broken state) b h = walked_end
 turned_walks forest os t n out on count others k (faulted why) b h = walked_ends forest b (faulted why) (exits os t (past n) out on) tt
 
 turn_walks : (forest : ForestData) (os : List Open) (t : List ℕ) (n : ℕ) (from one out on : Point) (at : Site) (line count : ℕ) (part : Data × Data → State → Run) (e : Data × Data) (es : List (Data × Data)) (state : State)
-    → Within (picks from chosen.Turn one) (edges_in forest t)
+    → Within (passes from (head n)) (edges_in forest t) → Within (picks (head n) chosen.Turn one) (edges_in forest t)
     → ((now : State) → IsWalked forest (standing os t one) (part e now) (exits os t (again n) (past n) (again n)))
     → ((now : State) → IsWalked forest (standing os t (again n)) (turns at line count part es now) (exits os t (past n) out on))
     → IsWalked forest (standing os t from) (turns at line count part (e ∷ es) state) (exits os t (past n) out on)
-turn_walks forest os t n from one out on at line count part e es state edge v k =
+turn_walks forest os t n from one out on at line count part e es state way edge v k =
     walked_steps forest (standing os t from) at line (counted 1 state.steps) _ (exits os t (past n) out on) (λ steps.
     let now : State = record { variables = state.variables; steps = steps } in
     let run : Run = part e now in
     let others : State → Run = turns at line count part es in
-    walked_choice forest os t from one turn (go_on (turned count others) run) (exits os t (past n) out on) edge
+    walked_pass forest os t from (head n) (choosing turn (go_on (turned count others) run)) (exits os t (past n) out on) way
+    (walked_choice forest os t (head n) one turn (go_on (turned count others) run) (exits os t (past n) out on) edge
     (walked_on forest (standing os t one) run (turned count others) (exits os t (again n) (past n) (again n)) (exits os t (past n) out on) (v now)
-    (turned_walks forest os t n out on count others k run.end)))
+    (turned_walks forest os t n out on count others k run.end))))
 
 turns_walk : (forest : ForestData) (os : List Open) (t : List ℕ) (n : ℕ) (one out on : Point) (at : Site) (line count : ℕ) (part : Data × Data → State → Run)
-    → Within (picks (again n) chosen.Turn one) (edges_in forest t) → Within (picks (again n) chosen.Done (past n)) (edges_in forest t)
+    → Within (passes (again n) (head n)) (edges_in forest t) → Within (picks (head n) chosen.Turn one) (edges_in forest t) → Within (picks (again n) chosen.Done (past n)) (edges_in forest t)
     → ((e : Data × Data) (now : State) → IsWalked forest (standing os t one) (part e now) (exits os t (again n) (past n) (again n)))
     → (es : List (Data × Data)) (state : State) → IsWalked forest (standing os t (again n)) (turns at line count part es state) (exits os t (past n) out on)
-turns_walk forest os t n one out on at line count part f g v [] state =
+turns_walk forest os t n one out on at line count part w f g v [] state =
     walked_choice forest os t (again n) (past n) done (ends (next state)) (exits os t (past n) out on) g (walked_ends forest (standing os t (past n)) (next state) (exits os t (past n) out on) refl)
-turns_walk forest os t n one out on at line count part f g v (e ∷ es) state =
-    turn_walks forest os t n (again n) one out on at line count part e es state f (v e) (turns_walk forest os t n one out on at line count part f g v es)
+turns_walk forest os t n one out on at line count part w f g v (e ∷ es) state =
+    turn_walks forest os t n (again n) one out on at line count part e es state w f (v e) (turns_walk forest os t n one out on at line count part w f g v es)
 
 -- a range
 ranged_walks : (forest : ForestData) (os : List Open) (t : List ℕ) (n : ℕ) (one two out on : Point) (at : Site) (line : ℕ) (part : Data × Data → State → Run) (other : State → Run)
-    → Within (picks (before n) chosen.Turn one) (edges_in forest t) → Within (picks (again n) chosen.Turn one) (edges_in forest t)
+    → Within (passes (before n) (head n)) (edges_in forest t) → Within (passes (again n) (head n)) (edges_in forest t) → Within (picks (head n) chosen.Turn one) (edges_in forest t)
     → Within (picks (before n) chosen.Done two) (edges_in forest t) → Within (picks (again n) chosen.Done (past n)) (edges_in forest t)
     → ((e : Data × Data) (now : State) → IsWalked forest (standing os t one) (part e now) (exits os t (again n) (past n) (again n)))
     → ((now : State) → IsWalked forest (standing os t two) (other now) (exits os t (past n) out on))
     → (found : Option (List (Data × Data))) (state : State) → IsWalked forest (standing os t (before n)) (ranged at line part other found state) (exits os t (past n) out on)
-ranged_walks forest os t n one two out on at line part other a b c d v w None state = walked_ends forest (standing os t (before n)) _ (exits os t (past n) out on) tt
-ranged_walks forest os t n one two out on at line part other a b c d v w (Some []) state =
+ranged_walks forest os t n one two out on at line part other a b g c d v w None state = walked_ends forest (standing os t (before n)) _ (exits os t (past n) out on) tt
+ranged_walks forest os t n one two out on at line part other a b g c d v w (Some []) state =
     walked_choice forest os t (before n) two done (scoped (length state.variables) (other state)) (exits os t (past n) out on) c
     (walked_scoped forest (standing os t two) (length state.variables) (other state) (exits os t (past n) out on) (w state))
-ranged_walks forest os t n one two out on at line part other a b c d v w (Some (e ∷ es)) state =
-    turn_walks forest os t n (before n) one out on at line (length state.variables) part e es state a (v e)
-    (turns_walk forest os t n one out on at line (length state.variables) part b d v es)
+ranged_walks forest os t n one two out on at line part other a b g c d v w (Some (e ∷ es)) state =
+    turn_walks forest os t n (before n) one out on at line (length state.variables) part e es state a g (v e)
+    (turns_walk forest os t n one out on at line (length state.variables) part b g d v es)
 
 -- calls
 abbrev CallWalks : ForestData → List Open → List ℕ → Result Run FaultKind → Type 0
@@ -258,12 +259,12 @@ node_walks forest calls os at n line one two first other fr or to out on cw fw o
     let beside : List Edge = other (past n) out on in
     let part : Data × Data → State → Run = λ e now. fr e.1 (record { variables = turn_variables index element e now.variables; steps = now.steps }) in
     walked_value forest (standing os at.template (before n)) at line (evaluated at pipe state) _ (exits os at.template to out on) (λ value steps.
-    walked_past forest (standing os at.template (before n)) os at.template (past n) to out on _ (es (passes (past n) to) (inr (inr (inr (inr (inl refl))))))
+    walked_past forest (standing os at.template (before n)) os at.template (past n) to out on _ (es (passes (past n) to) (inr (inr (inr (inr (inr (inl refl)))))))
     (ranged_walks forest os at.template n (one (again n)) (two (past n)) out on at line part (or at.dot)
-    (es _ (inl refl)) (es _ (inr (inl refl))) (es _ (inr (inr (inl refl)))) (es _ (inr (inr (inr (inl refl)))))
+    (es _ (inl refl)) (es _ (inr (inl refl))) (es _ (inr (inr (inl refl)))) (es _ (inr (inr (inr (inl refl))))) (es _ (inr (inr (inr (inr (inl refl))))))
     (λ e now. fw (again n) (past n) (again n) e.1 (record { variables = turn_variables index element e now.variables; steps = now.steps })
-    (λ f h. es f (inr (inr (inr (inr (inr (within-left f inside beside h))))))))
-    (λ now. ow (past n) out on at.dot now (λ f h. es f (inr (inr (inr (inr (inr (within-right f inside beside h))))))))
+    (λ f h. es f (inr (inr (inr (inr (inr (inr (within-left f inside beside h)))))))))
+    (λ now. ow (past n) out on at.dot now (λ f h. es f (inr (inr (inr (inr (inr (inr (within-right f inside beside h)))))))))
     (elements value) (record { variables = state.variables; steps = steps })))
 node_walks forest calls os at n line one two first other fr or to out on cw fw ow kind.Break es state =
     walked_pass forest os at.template (before n) out (ends (broken state)) (exits os at.template to out on) (es (passes (before n) out) (inl refl))
