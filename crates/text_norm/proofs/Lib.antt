@@ -11,10 +11,12 @@ pub mod ContentKeeps
 pub mod Declared
 pub mod HoleKeeps
 pub mod Keeps
+pub mod PiecesKeep
 pub mod Places
 pub mod Runs
 pub mod Same
 pub mod TagsKeep
+pub mod Tells
 pub mod TextKeeps
 pub mod ValuesKeep
 pub mod WorkedTexts

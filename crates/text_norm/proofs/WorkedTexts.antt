@@ -7,8 +7,13 @@ use Rattle.place_core.specs.Paths.{Written, read_node, read_path}
 use Rattle.place_core.specs.Shape.{shape_of}
 use Rattle.place_core.specs.States.{Page, State, Text, config}
 use Rattle.place_core.specs.Tags.{ValueState, languages}
+use Rattle.place_core.specs.Places.{Below, IsValid}
+use Rattle.place_core.specs.declared.place.Place.{Place}
 use Rattle.place_core.specs.declared.place.Place.TheVariants as place
+use Rattle.place_core.specs.declared.san.San.TheVariants as san
 use Rattle.text_norm.specs.Fronted.{written_at}
+use Rattle.text_norm.specs.HoleLaws.{IsBackBy}
+use Rattle.text_norm.specs.Pieces.{TextAt, HoleAt, AreAccepted, IsOver}
 use Rattle.text_norm.specs.Written.{written}
 
 abbrev from_text : List ℕ → List ℕ
@@ -91,3 +96,14 @@ value_over_nodes = (refl, refl)
 title_over_nodes : IsReadBack (codes "<title>a</tit") (codes "le></title>") (codes "<title>a&lt;/title></title>")
 unfolding class_of meaning lib.Utf8.encode
 title_over_nodes = (refl, refl)
+
+-- a hole between tags: accepted from text to text, whatever is written for it
+same : (p : Place) → IsValid p → Below p p → IsOver p p
+same p v b = record { valid = v; below = b }
+
+between_tags : (text bytes : List ℕ) → IsBackBy san.Html text bytes
+    → AreAccepted (TextAt place.Text (codes "<b>") ∷ HoleAt place.Text san.Html text bytes ∷ TextAt place.Text (codes "</b>") ∷ []) place.Text place.Text
+unfolding class_of
+between_tags text bytes k =
+    let t = same place.Text tt refl in
+    (t, (place.Text, refl, (t, (place.Text, refl, k, (t, (place.Text, refl, t))))))

@@ -2,7 +2,9 @@ pub mod Fronted
 pub mod HoleLaws
 pub mod Kept
 pub mod Laws
+pub mod Pieces
 pub mod ReferenceViews
 pub mod Resting
 pub mod Standing
+pub mod StandsLaws
 pub mod Written

@@ -17,5 +17,8 @@ mod step;
 mod texts;
 mod writing;
 
-pub use laws::{keeps_shape, keeps_shape_at_holes, written_on_paths};
+pub use laws::{
+    keeps_shape, keeps_shape_at_holes, pages_read_as_paths, stands_at_start, stands_somewhere,
+    stands_where_nothing_is_held, tells_the_same, written_on_paths,
+};
 pub use texts::write_text;
