@@ -1,0 +1,4 @@
+pub mod AtNodes
+pub mod KeptEdges
+pub mod SpotLaws
+pub mod StepLaws

@@ -1,0 +1,5 @@
+pub mod FlowViews
+pub mod Flows
+pub mod Laws
+pub mod Leaving
+pub mod Spots
