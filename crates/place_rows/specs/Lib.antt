@@ -1,0 +1,4 @@
+pub mod Charts
+pub mod Least
+pub mod Numbers
+pub mod Rows
