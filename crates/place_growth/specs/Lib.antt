@@ -1,0 +1,3 @@
+pub mod Growths
+pub mod Tears
+pub mod Tracing
