@@ -1,0 +1,6 @@
+pub mod EdgeEnds
+pub mod FoundCharts
+pub mod JudgedCharts
+pub mod KeptCalls
+pub mod KeptLaws
+pub mod NothingTraced

@@ -1,0 +1,17 @@
+use Rattle.std.proofs.Common.{◌≡◌, ℕ, false, Option, Some, None, refl, sym, ◌∙◌}
+use Rattle.std.specs.Prelude.{is_some}
+use Rattle.place_infer.proofs.KeptLaws.{kept_push}
+use Rattle.place_infer.proofs.kept.keep_pair.Goals as goal
+
+none_by : (o : Option ℕ) → is_some o ≡ false → o ≡ None
+none_by None e = refl
+none_by (Some n) e = cc
+
+pub returns-clause-kept : goal.returns-clause-kept
+returns-clause-kept c = λ forest roots first kept reached.
+    let row = c.in_ok-row.row in
+    let t = c.in_ok-row.ensures.template in
+    let e = c.in_ok-row.ensures.entry in
+    let none = sym c.find.ensures.number ∙ none_by c.find.result (sym c.is_some.ensures ∙ c.if-is_some.false) in
+    rw c.in_ok-push.ensures.ok
+    (kept_push forest roots first c.args.all.now c.args.kept.now row kept (rw (t, e) none) (λ k. rw (t, e) (c.in_ok-row.ensures.same k)) (rw (t, e) reached))

@@ -1,0 +1,3 @@
+pub mod ChartViews
+pub mod Inferring
+pub mod Kept
