@@ -11,5 +11,5 @@ mod tell;
 mod walk;
 mod written;
 
-pub use tell::tell_places;
+pub use tell::{tell_chain, tell_place, tell_places};
 pub use written::tell_written;

@@ -47,7 +47,8 @@ fn place_after(pieces: &[Datum]) -> Result<Place, Stop> {
     }
 }
 
-fn tell_place(out: &mut Told, place: Place) {
+/// Tells a place.
+pub fn tell_place(out: &mut Told, place: Place) {
     out.put_text(print_place(out.alloc(), place));
 }
 
@@ -83,10 +84,11 @@ fn tell_hole(out: &mut Told, place: Place) {
     }
 }
 
-fn tell_chain(out: &mut Told, chain: Chain) {
+/// Tells the sanitizers of a chain.
+pub fn tell_chain(out: &mut Told, chain: Chain) {
     for index in 0..3usize {
         if index < usize::from(chain.count) {
-            out.put_between(" | ");
+            out.put(if index == 0 { "" } else { " | " });
             out.put(name_of(chain.sans[index]));
         }
     }

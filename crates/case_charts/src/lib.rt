@@ -1,0 +1,7 @@
+// What is told of the charts of sets of templates, for tables of cases.
+#![tactic(auto)]
+
+mod charts;
+mod pairs;
+
+pub use charts::tell_charts;
