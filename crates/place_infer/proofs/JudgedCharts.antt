@@ -103,7 +103,7 @@ root-from forest (x ∷ names) name t zero lt is e = first-in (number_named x fo
 root-from forest (x ∷ names) name t (suc k) lt is e = with-in (number_named x forest) (root_numbers forest names) t (root-from forest names name t k (omega (arith, lt)) is e)
 
 -- the number of a root is among those of the roots
-root-in : (forest : ForestData) (names : List (List ℕ)) (name : List ℕ) (t : ℕ) → Contains names name → number_named name forest ≡ Some t → Contains (root_numbers forest names) t
+pub root-in : (forest : ForestData) (names : List (List ℕ)) (name : List ℕ) (t : ℕ) → Contains names name → number_named name forest ≡ Some t → Contains (root_numbers forest names) t
 root-in forest names name t is e = root-from forest names name t is.0 is.1 is.2 e
 
 pub chart-of-set : (forest : ForestData) (names : List (List ℕ)) (roots : List ℕ) (tear : Option Tear) (chart : ChartData) → roots ≡ root_numbers forest names → IsFound forest roots chart.rows tear → All IsRowWhole chart.rows

@@ -1,0 +1,2 @@
+pub mod NoErrors
+pub mod TakenEdges

@@ -1,0 +1,41 @@
+-- On the paths of a set of templates that has a chart no error stands.
+use Rattle.std.specs.Prelude.{◌≡◌, ℕ, List, [], Some, None, Contains}
+use Rattle.place_charts.specs.Charts.{read_moves}
+use Rattle.place_charts.specs.Html.{html}
+use Rattle.place_core.specs.Html.{start}
+use Rattle.place_core.specs.Places.{joined}
+use Rattle.place_core.specs.StatePlaces.{placed}
+use Rattle.place_core.specs.States.{State}
+use Rattle.place_core.specs.Tags.{ValueState}
+use Rattle.place_core.specs.declared.place.Place.{Place}
+use Rattle.place_core.specs.declared.place.Place.TheVariants as place
+use Rattle.place_infer.specs.ChartViews.{ChartData}
+use Rattle.place_infer.specs.Inferring.{IsChartOfSet}
+use Rattle.place_witness.specs.Errors.{EdgeClashes, Errs}
+use Rattle.tpl_paths.specs.Edges.{Edge, Within, edges_in, finish, from_of}
+use Rattle.tpl_paths.specs.Walks.{IsWalk, Move, Standing, at_root, reached, standing}
+use Rattle.tpl_tree.specs.Forests.{ForestData, number_named}
+
+-- where a path of a root stands, and what it has read
+abbrev pub stands_at : ForestData → List ℕ → List Move → Standing
+stands_at forest name ms = reached forest (at_root forest name) ms
+
+abbrev pub state_at : List Move → State ValueState
+state_at ms = read_moves html ms start.at
+
+abbrev pub IsPath : ForestData → List ℕ → List Move → Type 0
+IsPath forest name ms = IsWalk forest (at_root forest name) ms
+
+-- No error stands on a path of the root, at the edges along which it may go on; and on no two that meet there.
+pub record HasNoError (forest : ForestData) (name : List ℕ) : Type 0 where
+  pub one : (ms : List Move) (e : Edge) → IsPath forest name ms → Within e (edges_in forest (stands_at forest name ms).template) → (stands_at forest name ms).at ≡ from_of e
+      → Errs forest (stands_at forest name ms).template e (state_at ms) → ⊥
+  pub two : (ms ns : List Move) (e : Edge) → IsPath forest name ms → IsPath forest name ns → stands_at forest name ns ≡ stands_at forest name ms
+      → Within e (edges_in forest (stands_at forest name ms).template) → (stands_at forest name ms).at ≡ from_of e → EdgeClashes e (state_at ms) (state_at ns) → ⊥
+  pub joins : (ms ns : List Move) (a b : Place) → IsPath forest name ms → IsPath forest name ns → stands_at forest name ns ≡ stands_at forest name ms
+      → placed (state_at ms) ≡ Some a → placed (state_at ns) ≡ Some b → joined a b ≡ None → ⊥
+  pub ends : (ms : List Move) (a : Place) → IsPath forest name ms → stands_at forest name ms ≡ standing [] name finish → placed (state_at ms) ≡ Some a → a ≡ place.Text
+
+abbrev pub ChartedSetsHaveNoError : Type 0
+ChartedSetsHaveNoError = (forest : ForestData) (names : List (List ℕ)) (chart : ChartData) (name : List ℕ) (t : ℕ) → IsChartOfSet forest names chart
+    → Contains names name → number_named name forest ≡ Some t → HasNoError forest name

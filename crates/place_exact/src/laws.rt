@@ -1,0 +1,7 @@
+ghost use Rattle.place_exact.specs.Exactness.{ChartedSetsHaveNoError};
+
+/// Where a set has a chart, no error stands on any path of its roots, and on no two that meet: no text, hole, call or escaper is refused, no
+/// places in which paths meet fail to join, and each root ends in text. A law: the call does nothing.
+pub fn charted_sets_have_no_error()
+    ensures { ChartedSetsHaveNoError }
+{}
