@@ -1,8 +1,9 @@
 -- The templates of a forest by their numbers: their nodes, where they begin, and their edges.
-use Rattle.std.specs.Prelude.{Bool, true, false, ℕ, ◌+◌, ◌*◌, List}
+use Rattle.std.specs.Prelude.{Bool, true, false, ℕ, ◌+◌, ◌*◌, List, Option, Some, None}
 use Rattle.tpl_tree.specs.Forests.{ForestData, tree_at}
 use Rattle.tpl_tree.specs.Trees.{NodesData, nodes_size}
 use Rattle.tpl_paths.specs.Edges.{Edge, Point, begins, calls, edges_of, fills, finish, nodes_of_tree, passes, picks, writes}
+use Rattle.tpl_paths.specs.declared.choice.Choice.{Choice}
 use Rattle.tpl_paths.specs.declared.point.Point.TheVariants as point
 
 abbrev pub nodes_at : ForestData → ℕ → NodesData
@@ -31,3 +32,10 @@ is_call_edge (fills n pipe to) = false
 is_call_edge (calls n name to) = true
 is_call_edge (picks from choice to) = false
 is_call_edge (passes from to) = false
+
+abbrev pub choice_of : Edge → Option Choice
+choice_of (writes n bytes to) = None
+choice_of (fills n pipe to) = None
+choice_of (calls n name to) = None
+choice_of (picks from choice to) = Some choice
+choice_of (passes from to) = None

@@ -1,13 +1,13 @@
 ghost use Rattle.std.specs.Prelude.{◌≡◌, IfOk, length, option_map, slice_get, Some};
 ghost use Rattle.tpl_paths.specs.EdgeViews.{edge_at, read_edges};
 ghost use Rattle.tpl_paths.specs.Edges.{Edge as SpecEdge, begins, finish, from_of, to_of};
-ghost use Rattle.place_flow.specs.Flows.{edges_at, is_call_edge, nodes_at, points_of, start_at};
+ghost use Rattle.place_flow.specs.Flows.{choice_of, edges_at, is_call_edge, nodes_at, points_of, start_at};
 
 use crate::points::{edge_ends, point_count};
 use page_io::Memory;
 use std::alloc::Global;
 use std::marker::Model;
-use tpl_paths::{Edge, Point, edges_of};
+use tpl_paths::{Choice, Edge, Point, edges_of};
 use tpl_tree::{Forest, Tree};
 
 /// A forest with the edges of each of its templates. Contracts see it as the forest.
@@ -98,6 +98,16 @@ impl<'f> Flows<'f> {
         }
     }
 
+    /// What an edge of a template, by its number, chooses: nothing where it is no choice, and past the last one.
+    pub fn choice(&self, template: u32, number: usize) -> Option<Choice>
+        ensures { (e : SpecEdge) → slice_get (edges_at self.now template) number ≡ Some e → result ≡ choice_of e }
+    {
+        match self.edge(template, number) {
+            Some(edge) => chooses(edge),
+            None => None,
+        }
+    }
+
     // An edge of a template, by its number.
     pub(crate) fn edge(&self, template: u32, number: usize) -> Option<Edge>
         ensures { result ≡ option_map edge_at (slice_get (edges_at self.now template) number) }
@@ -126,6 +136,16 @@ fn calls(edge: Edge) -> bool
     match edge {
         Edge::Calls(_, _) => true,
         _ => false,
+    }
+}
+
+// What an edge chooses.
+fn chooses(edge: Edge) -> Option<Choice>
+    ensures { (e : SpecEdge) → edge_at e ≡ edge → result ≡ choice_of e }
+{
+    match edge {
+        Edge::Picks(_, choice, _) => Some(choice),
+        _ => None,
     }
 }
 

@@ -72,8 +72,8 @@ fn use_of(tree: &Tree, node: u32) -> EscaperUse
     escaper_use(tree.kind(node))
 }
 
-// Whether such a use may stand in a place.
-fn may_use(place: Place, used: EscaperUse) -> bool
+/// Whether a use of the predefined escapers may stand in a place. Takes no memory.
+pub fn may_use(place: Place, used: EscaperUse) -> bool
     ensures { result ≡ may_use_of place used }
 {
     match used {

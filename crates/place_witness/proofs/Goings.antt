@@ -18,12 +18,12 @@ pub record Goes (forest : ForestData) (a : Standing) (s : State ValueState) (b :
   pub stands : reached forest a moves ≡ b
   pub reads : read_moves html moves s ≡ r
 
-read-append : (ms ns : List Move) (s : State ValueState) → read_moves html (ms ++ ns) s ≡ read_moves html ns (read_moves html ms s)
+pub read-append : (ms ns : List Move) (s : State ValueState) → read_moves html (ms ++ ns) s ≡ read_moves html ns (read_moves html ms s)
 read-append [] ns s = refl
 read-append (along e ∷ ms) ns s = read-append ms ns (edge_read html e s)
 read-append (back ∷ ms) ns s = read-append ms ns s
 
-clear-append : (forest : ForestData) (a : Standing) (s : State ValueState) (ms ns : List Move) → IsClear forest a s ms → IsClear forest (reached forest a ms) (read_moves html ms s) ns → IsClear forest a s (ms ++ ns)
+pub clear-append : (forest : ForestData) (a : Standing) (s : State ValueState) (ms ns : List Move) → IsClear forest a s ms → IsClear forest (reached forest a ms) (read_moves html ms s) ns → IsClear forest a s (ms ++ ns)
 clear-append forest a s [] ns h k = k
 clear-append forest a s (along e ∷ ms) ns h k = (h.0, clear-append forest (along_edge forest a e) (edge_read html e s) ms ns h.1 k)
 clear-append forest a s (back ∷ ms) ns h k = clear-append forest (left a.open_calls a) s ms ns h k
