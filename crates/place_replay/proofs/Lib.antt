@@ -1,0 +1,4 @@
+pub mod OpenCalls
+pub mod OwnPlaces
+pub mod Replaying
+pub mod Tellings
