@@ -1,0 +1,10 @@
+pub mod Clash
+pub mod Elsewhere
+pub mod HoleRefused
+pub mod Makings
+pub mod Mapped
+pub mod Misuse
+pub mod Missing
+pub mod TextRefused
+pub mod Torn
+pub mod Within

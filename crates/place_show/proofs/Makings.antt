@@ -1,0 +1,89 @@
+-- A showing that is made of paths is shown by them.
+use Rattle.std.proofs.Common.{◌≡◌, ℕ, List, Option, Some, None, sym, ap, ◌∙◌, map}
+use Rattle.place_core.specs.declared.code.Code.{Code}
+use Rattle.place_core.specs.declared.place.Place.{Place}
+use Rattle.place_flow.specs.Flows.{nodes_at}
+use Rattle.place_replay.specs.Replays.{IsWalker, name_or_none}
+use Rattle.place_replay.specs.declared.walker.OpenCall.{OpenCall}
+use Rattle.place_replay.specs.declared.walker.Walker.{Walker}
+use Rattle.place_show.specs.Showings.{IsMade, IsMadeOne, IsMadeTwo, IsNodeShown, IsSeenAt, IsShownBy, Meet, OneError, ShowsOne, kind_of_node, state_of}
+use Rattle.place_show.specs.declared.showing.Seen.{Seen}
+use Rattle.place_show.specs.declared.showing.Showing.{Showing}
+use Rattle.tpl_paths.specs.Edges.{before}
+use Rattle.tpl_tree.specs.Forests.{ForestData, name_at}
+use Rattle.tpl_tree.specs.Trees.{NodesData, head_kind, head_line, nodes_from}
+use Rattle.tpl_tree.specs.declared.node_kind.NodeKind.{NodeKind}
+
+pub named : (o : Option (List ℕ)) (name x : List ℕ) → o ≡ Some name → x ≡ name_or_none o → o ≡ Some x
+named (Some a) name x h e = ap Some (sym e)
+named None name x h e = cc
+
+abbrev pub shown-by : (forest : ForestData) (w : Walker) (c : Code) (line n byte : ℕ) (at : Place) (sh : Showing) (seen : Seen) → IsMade forest w c line n byte sh → IsSeenAt forest w at seen → IsWalker forest w → IsShownBy forest sh seen w
+shown-by forest w c line n byte at sh seen m s is = record {
+  is = is;
+  root = named (name_at forest w.root) is.root_name sh.root is.root_is m.root;
+  template = named (name_at forest w.template) is.name sh.template is.name_is m.template;
+  calls = sym m.calls;
+  path = s.path;
+}
+
+-- .. and by a path that meets it
+abbrev pub shown-by-other : (forest : ForestData) (w v : Walker) (at : Place) (sh : Showing) (seen other : Seen) → IsShownBy forest sh seen w → Meet w v → IsSeenAt forest v at other → IsWalker forest v → IsShownBy forest sh other v
+shown-by-other forest w v at sh seen other by meet s is = record {
+  is = is;
+  root = ap (name_at forest) meet.root ∙ by.root;
+  template = ap (name_at forest) meet.template ∙ by.template;
+  calls = ap (map (λ (o : OpenCall). o.node)) meet.open_calls ∙ by.calls;
+  path = s.path;
+}
+
+pub meets : (w v : Walker) → w.root ≡ v.root → w.template ≡ v.template → w.point ≡ v.point → w.open_calls.items ≡ v.open_calls.items → Meet w v
+meets w v root template point calls = record { root = sym root; template = sym template; point = sym point; open_calls = sym calls }
+
+pub shows-one : (forest : ForestData) (w : Walker) (c : Code) (line n byte : ℕ) (at : Place) (sh : Showing) (m : IsMadeOne forest w c line n byte at sh) (is : IsWalker forest w) → OneError forest sh m.seen w (state_of is) → ShowsOne forest sh
+shows-one forest w c line n byte at sh m is error = record {
+  walker = w;
+  seen = m.seen;
+  paths = m.paths;
+  by = shown-by forest w c line n byte at sh m.seen m.made m.is is;
+  error = error;
+}
+
+module _ (forest : ForestData) (w : Walker) (nodes : NodesData) (n : ℕ) (sh : Showing) (there : nodes_at forest w.template ≡ nodes) where
+  pub kind-shown : (k : NodeKind) → sh.node ≡ n → head_kind (nodes_from nodes n) ≡ Some k → kind_of_node forest w.template sh.node ≡ Some k
+  kind-shown k e h = rw (e, there) h
+
+  pub node-shown : (c : Code) (m : IsMadeOne forest w c (head_line (nodes_from nodes n)) n 0 w.place sh) → w.point ≡ before n → IsNodeShown forest sh m.seen w
+  node-shown c m p = record {
+    point = p ∙ sym (ap before m.made.node_is);
+    at = m.is.place;
+    line = rw (m.made.node_is, there) m.made.line_is;
+    byte = m.made.byte_is;
+  }
+
+-- what is made is made as well by equals
+made-as : (forest : ForestData) (w : Walker) (c d : Code) (line ine n i byte b : ℕ) (sh : Showing) → c ≡ d → line ≡ ine → n ≡ i → byte ≡ b → IsMade forest w c line n byte sh → IsMade forest w d ine i b sh
+made-as forest w c d line ine n i byte b sh e f g h m = record {
+  code = m.code ∙ e;
+  template = m.template;
+  line_is = m.line_is ∙ f;
+  root = m.root;
+  calls = m.calls;
+  node_is = m.node_is ∙ g;
+  byte_is = m.byte_is ∙ h;
+}
+
+pub made-one-as : (forest : ForestData) (w : Walker) (c d : Code) (line ine n i byte b : ℕ) (at : Place) (sh : Showing) → c ≡ d → line ≡ ine → n ≡ i → byte ≡ b → IsMadeOne forest w c line n byte at sh → IsMadeOne forest w d ine i b at sh
+made-one-as forest w c d line ine n i byte b at sh e f g h m =
+    record { made = made-as forest w c d line ine n i byte b sh e f g h m.made; seen = m.seen; paths = m.paths; is = m.is }
+
+pub made-two-as : (forest : ForestData) (w v : Walker) (c d : Code) (line ine n i byte b : ℕ) (at to other beside : Place) (sh : Showing) → c ≡ d → line ≡ ine → n ≡ i → byte ≡ b → at ≡ to → other ≡ beside
+    → IsMadeTwo forest w v c line n byte at other sh → IsMadeTwo forest w v d ine i b to beside sh
+made-two-as forest w v c d line ine n i byte b at to other beside sh e f g h a o m = record {
+  made = made-as forest w c d line ine n i byte b sh e f g h m.made;
+  seen = m.seen;
+  other = m.other;
+  paths = m.paths;
+  is = record { path = m.is.path; place = m.is.place ∙ a };
+  other_is = record { path = m.other_is.path; place = m.other_is.place ∙ o };
+}

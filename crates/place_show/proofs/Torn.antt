@@ -1,0 +1,39 @@
+-- Two paths that meet in places that do not join are shown.
+use Rattle.std.proofs.Common.{◌≡◌, ℕ, false, Option, Some, None, is_some, refl, inr}
+use Rattle.place_core.specs.Places.{joined}
+use Rattle.place_core.specs.declared.code.Code.{Code}
+use Rattle.place_core.specs.declared.place.Place.{Place}
+use Rattle.place_replay.specs.Replays.{IsWalker}
+use Rattle.place_replay.specs.declared.walker.Walker.{Walker}
+use Rattle.place_show.proofs.Makings.{shown-by, shown-by-other}
+use Rattle.place_show.specs.Showings.{DoNotJoin, IsMadeTwo, IsShownBy, JoinsAt, Meet, ShowsTwo, line_of_node}
+use Rattle.place_show.specs.declared.showing.Showing.{Showing}
+use Rattle.tpl_tree.specs.Forests.{ForestData}
+
+pub none-joined : (o : Option Place) → false ≡ is_some o → o ≡ None
+none-joined (Some p) h = cc
+none-joined None h = refl
+
+pub torn-shown : (forest : ForestData) (w v : Walker) (c : Code) (n : ℕ) (sh : Showing) → Meet w v → joined w.place v.place ≡ None → JoinsAt c w.point n
+    → IsMadeTwo forest w v c (line_of_node forest w.template n) n 0 w.place v.place sh → IsWalker forest w → IsWalker forest v → ShowsTwo forest sh
+torn-shown forest w v c n sh meet torn at m is other =
+    let by : IsShownBy forest sh m.seen w = shown-by forest w c (line_of_node forest w.template n) n 0 w.place sh m.seen m.made m.is is in
+    let error : DoNotJoin forest sh m.seen m.other w v = record {
+      point = rw (m.made.code, m.made.node_is) at;
+      at = m.is.place;
+      other_at = m.other_is.place;
+      torn = torn;
+      line = rw m.made.node_is m.made.line_is;
+      byte = m.made.byte_is;
+    } in
+    record {
+      walker = w;
+      other = v;
+      seen = m.seen;
+      other_seen = m.other;
+      paths = m.paths;
+      by = by;
+      other_by = shown-by-other forest w v v.place sh m.seen m.other by meet m.other_is other;
+      meet = meet;
+      error = inr error;
+    }

@@ -1,0 +1,51 @@
+-- A text is refused at one of its bytes, or at its end.
+use Rattle.std.proofs.Common.{◌≡◌, ℕ, ◌+◌, ◌-◌, ◌≤◌, true, List, [], ◌∷◌, length, Option, Some, None, Result, Ok, Err, is_ok, refl, sym, ap, ◌∙◌, arith}
+use Rattle.html_front.specs.Fronts.{At, Front, front_cut_error, front_error, front_next, front_place}
+use Rattle.html_step.specs.Steps.{after_text, place_before, stepped, unless_refused, with_place_before}
+use Rattle.place_core.specs.Classes.{class_of}
+use Rattle.place_core.specs.Errors.{Cause, Refusal}
+use Rattle.place_core.specs.declared.place.Place.{Place}
+use Rattle.place_core.specs.declared.step_err.StepErr.{StepErr}
+
+one-refusal : (x y : Refusal) (o : Result Place Refusal) → o ≡ Err x → o ≡ Err y → x ≡ y
+one-refusal x y o e f = cc
+
+unless-within : (k n : ℕ) (o : Option Cause) (r : Result Place Refusal) (x : Refusal) → ((y : Refusal) → r ≡ Err y → y.at ≤ k + n) → unless_refused k o r ≡ Err x → x.at ≤ k + n
+unless-within k n None r x f h = f x h
+unless-within k n (Some e) r x f h =
+    let here : Refusal = record { code = e.code; at = k - e.back } in
+    let at : k - e.back ≡ x.at = ap (λ (y : Refusal). y.at) (one-refusal here x (unless_refused k (Some e) r) refl h) in
+    omega (arith, at)
+
+not-both : (q : Place) (x : Refusal) → Ok q ≡ Err x → (k : ℕ) → x.at ≤ k
+not-both q x h k = cc
+
+stepped-within : (k : ℕ) (bytes : List ℕ) (f : Front) (x : Refusal) → stepped k bytes f ≡ Err x → x.at ≤ k + length bytes
+stepped-within k [] f x h = unless-within k 0 (front_cut_error f) (Ok (front_place f)) x (λ y e. not-both (front_place f) y e (k + 0)) h
+stepped-within k (b ∷ bs) f x h =
+    unless-within k (length (b ∷ bs)) (front_error f (class_of b)) (stepped (k + 1) bs (front_next f (class_of b) b)) x
+    (λ y e. (let w = stepped-within (k + 1) bs (front_next f (class_of b) b) y e in omega (arith, w))) h
+
+one-error : (x y : StepErr Place) (o : Result Place (StepErr Place)) → o ≡ Err x → o ≡ Err y → x ≡ y
+one-error x y o e f = cc
+
+none-error : (q : Place) (x : StepErr Place) → Ok q ≡ Err x → (k : ℕ) → x.at ≤ k
+none-error q x h k = cc
+
+answer-within : (bytes : List ℕ) (p : Place) (o : Result Place Refusal) (e : StepErr Place) → stepped 0 bytes (At p) ≡ o → with_place_before bytes p o ≡ Err e → e.at ≤ length bytes
+answer-within bytes p (Ok q) e s h = none-error q e h (length bytes)
+answer-within bytes p (Err r) e s h =
+    let here : StepErr Place = record { code = r.code; at = r.at; before = place_before bytes r.at p } in
+    let at : r.at ≡ e.at = ap (λ (y : StepErr Place). y.at) (one-error here e (with_place_before bytes p (Err r)) refl h) in
+    let w = stepped-within 0 bytes (At p) r s in
+    omega (arith, w, at)
+
+pub refused-within : (bytes : List ℕ) (p : Place) (e : StepErr Place) → after_text bytes p ≡ Err e → e.at ≤ length bytes
+refused-within bytes p e h = answer-within bytes p (stepped 0 bytes (At p)) e refl h
+
+-- what is answered of a text is answered of an equal one
+pub at-text : (bytes text : List ℕ) (p : Place) (e : StepErr Place) → bytes ≡ text → Err e ≡ after_text bytes p → after_text text p ≡ Err e
+at-text bytes text p e s h = ap (λ (b : List ℕ). after_text b p) (sym s) ∙ sym h
+
+pub taken-text : (bytes text : List ℕ) (p : Place) → bytes ≡ text → true ≡ is_ok (after_text bytes p) → is_ok (after_text text p) ≡ true
+taken-text bytes text p s h = ap (λ (b : List ℕ). is_ok (after_text b p)) (sym s) ∙ sym h

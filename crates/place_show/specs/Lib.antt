@@ -1,0 +1,3 @@
+pub mod AtNodes
+pub mod Ends
+pub mod Showings

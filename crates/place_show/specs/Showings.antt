@@ -1,0 +1,190 @@
+-- An error that stands on a path, or on two that meet, as it is shown.
+use Rattle.std.specs.Prelude.{◌≡◌, ◌≢◌, ℕ, false, List, [], ◌∷◌, Option, Some, None, map, take, ◌⊎◌}
+use Rattle.place_charts.specs.Charts.{read_moves}
+use Rattle.place_charts.specs.Html.{html}
+use Rattle.place_core.specs.Errors.{Clashes, Refuses, RefusesHole, node}
+use Rattle.place_core.specs.Html.{start}
+use Rattle.place_core.specs.Places.{joined}
+use Rattle.place_core.specs.StatePlaces.{placed}
+use Rattle.place_core.specs.States.{State}
+use Rattle.place_core.specs.Tags.{ValueState}
+use Rattle.place_core.specs.declared.code.Code.{Code}
+use Rattle.place_core.specs.declared.code.Code.TheVariants as code
+use Rattle.place_core.specs.declared.place.Place.{Place}
+use Rattle.place_core.specs.declared.place.Place.TheVariants as place
+use Rattle.place_flow.specs.Flows.{nodes_at}
+use Rattle.place_flow.specs.Leaving.{may_use, use_at}
+use Rattle.place_replay.specs.Replays.{IsWalker, name_or_none}
+use Rattle.place_replay.specs.declared.chosen.Chosen.{Chosen}
+use Rattle.place_replay.specs.declared.walker.Walker.{Walker}
+use Rattle.place_show.specs.declared.showing.Seen.{Seen}
+use Rattle.place_show.specs.declared.showing.SeenChoice.{SeenChoice}
+use Rattle.place_show.specs.declared.showing.Showing.{Showing}
+use Rattle.tpl_paths.specs.Edges.{Point, before, finish, head, past}
+use Rattle.tpl_tree.specs.Forests.{ForestData, name_at, number_named, tree_at}
+use Rattle.tpl_tree.specs.Trees.{TreeData, head_kind, head_line, head_seams, nodes_from, text_line}
+use Rattle.tpl_tree.specs.declared.node_kind.NodeKind.{NodeKind}
+use Rattle.tpl_tree.specs.declared.node_kind.NodeKind.TheVariants as kind
+use Rattle.tpl_tree.specs.declared.pipe.Pipe.{Pipe}
+
+-- what a node of a template is, and its line
+abbrev pub kind_of_node : ForestData → ℕ → ℕ → Option NodeKind
+kind_of_node forest t n = head_kind (nodes_from (nodes_at forest t) n)
+
+abbrev pub line_of_node : ForestData → ℕ → ℕ → ℕ
+line_of_node forest t n = head_line (nodes_from (nodes_at forest t) n)
+
+-- the line of a byte of a text
+abbrev pub line_of_byte : ForestData → ℕ → ℕ → List ℕ → ℕ → ℕ
+line_of_byte forest t n bytes at = text_line bytes (line_of_node forest t n) (head_seams (nodes_from (nodes_at forest t) n)) at
+
+-- the line on which a template ends
+abbrev pub end_of : Option TreeData → ℕ
+end_of None = 0
+end_of (Some tree) = tree.end_line
+
+-- what a path chose, as it is shown
+abbrev pub seen_choice : ForestData → Chosen → SeenChoice
+seen_choice forest c = record { template = name_or_none (name_at forest c.template); line = line_of_node forest c.template c.node; way = c.way }
+
+-- what a path has read
+abbrev pub state_of : {forest : ForestData} {w : Walker} → IsWalker forest w → State ValueState
+state_of is = read_moves html is.moves start.at
+
+-- A path of the root of a showing stands in its template, with its calls open.
+pub record IsShownBy (forest : ForestData) (sh : Showing) (seen : Seen) (w : Walker) : Type 0 where
+  pub is : IsWalker forest w
+  pub root : name_at forest w.root ≡ Some sh.root
+  pub template : name_at forest w.template ≡ Some sh.template
+  pub calls : map (λ o. o.node) w.open_calls.items ≡ sh.calls
+  pub path : seen.path ≡ map (seen_choice forest) w.chosen.items
+
+-- An error of one path. A text is refused at a byte, before which the path is at the place that is shown.
+pub record IsTextRefused (forest : ForestData) (sh : Showing) (seen : Seen) (w : Walker) (s : State ValueState) : Type 0 where
+  pub bytes : List ℕ
+  pub point : w.point ≡ before sh.node
+  pub text : kind_of_node forest w.template sh.node ≡ Some (kind.Text bytes)
+  pub refused : Refuses bytes s (record { code = sh.code; at = sh.byte; before = seen.at })
+  pub line : sh.line ≡ line_of_byte forest w.template sh.node bytes sh.byte
+
+-- .. the path is at the place that is shown, and the node may not stand there
+pub record IsNodeShown (forest : ForestData) (sh : Showing) (seen : Seen) (w : Walker) : Type 0 where
+  pub point : w.point ≡ before sh.node
+  pub at : seen.at ≡ w.place
+  pub line : sh.line ≡ line_of_node forest w.template sh.node
+  pub byte : sh.byte ≡ 0
+
+-- a hole
+pub record IsHoleRefused (forest : ForestData) (sh : Showing) (seen : Seen) (w : Walker) (s : State ValueState) : Type 0 where
+  pub pipe : Pipe
+  pub hole : kind_of_node forest w.template sh.node ≡ Some (kind.Action pipe)
+  pub shown : IsNodeShown forest sh seen w
+  pub refused : RefusesHole s sh.code
+
+-- a predefined escaper
+pub record IsMisused (forest : ForestData) (sh : Showing) (seen : Seen) (w : Walker) : Type 0 where
+  pub code : sh.code ≡ code.PredefinedEscaper
+  pub shown : IsNodeShown forest sh seen w
+  pub misused : may_use w.place (use_at forest w.template (before sh.node)) ≡ false
+
+-- a call of a template that the forest lacks
+pub record IsMissing (forest : ForestData) (sh : Showing) (seen : Seen) (w : Walker) : Type 0 where
+  pub name : List ℕ
+  pub pipe : Option Pipe
+  pub code : sh.code ≡ code.NoSuchTemplate
+  pub call : kind_of_node forest w.template sh.node ≡ Some (kind.Template name pipe)
+  pub shown : IsNodeShown forest sh seen w
+  pub missing : number_named name forest ≡ None
+
+-- the path ends its root in another place than text
+pub record IsEndElsewhere (forest : ForestData) (sh : Showing) (seen : Seen) (w : Walker) : Type 0 where
+  pub code : sh.code ≡ code.EndContext
+  pub root : w.template ≡ w.root
+  pub closed : w.open_calls.items ≡ []
+  pub point : w.point ≡ finish
+  pub at : seen.at ≡ w.place
+  pub elsewhere : w.place ≢ place.Text
+  pub line : sh.line ≡ end_of (tree_at forest w.root)
+
+abbrev pub OneError : ForestData → Showing → Seen → Walker → State ValueState → Type 0
+OneError forest sh seen w s = IsTextRefused forest sh seen w s ⊎ (IsHoleRefused forest sh seen w s ⊎ (IsMisused forest sh seen w ⊎ (IsMissing forest sh seen w ⊎ IsEndElsewhere forest sh seen w)))
+
+pub record ShowsOne (forest : ForestData) (sh : Showing) : Type 0 where
+  pub walker : Walker
+  pub seen : Seen
+  pub paths : sh.paths ≡ seen ∷ []
+  pub by : IsShownBy forest sh seen walker
+  pub error : OneError forest sh seen walker (state_of by.is)
+
+-- An error of two paths that meet: of one root, at one point, with the same calls open. A text is refused on both together, at a byte before
+-- which each is at its place.
+pub record TextClashes (forest : ForestData) (sh : Showing) (a b : Seen) (w v : Walker) (s r : State ValueState) : Type 0 where
+  pub bytes : List ℕ
+  pub point : w.point ≡ before sh.node
+  pub text : kind_of_node forest w.template sh.node ≡ Some (kind.Text bytes)
+  pub clash : Clashes bytes s r sh.code sh.byte ⊎ Clashes bytes r s sh.code sh.byte
+  pub at : placed (node (take sh.byte bytes) s) ≡ Some a.at
+  pub other_at : placed (node (take sh.byte bytes) r) ≡ Some b.at
+  pub line : sh.line ≡ line_of_byte forest w.template sh.node bytes sh.byte
+
+-- the code of places that do not join: at the head of a range, and behind the parts of a control
+abbrev pub JoinsAt : Code → Point → ℕ → Type 0
+JoinsAt c k n = ((c ≡ code.RangeLoopReentry) × (k ≡ head n)) ⊎ ((c ≡ code.BranchEnd) × (k ≡ past n))
+
+-- their places do not join
+pub record DoNotJoin (forest : ForestData) (sh : Showing) (a b : Seen) (w v : Walker) : Type 0 where
+  pub point : JoinsAt sh.code w.point sh.node
+  pub at : a.at ≡ w.place
+  pub other_at : b.at ≡ v.place
+  pub torn : joined w.place v.place ≡ None
+  pub line : sh.line ≡ line_of_node forest w.template sh.node
+  pub byte : sh.byte ≡ 0
+
+pub record Meet (w v : Walker) : Type 0 where
+  pub root : v.root ≡ w.root
+  pub template : v.template ≡ w.template
+  pub point : v.point ≡ w.point
+  pub open_calls : v.open_calls.items ≡ w.open_calls.items
+
+pub record ShowsTwo (forest : ForestData) (sh : Showing) : Type 0 where
+  pub walker : Walker
+  pub other : Walker
+  pub seen : Seen
+  pub other_seen : Seen
+  pub paths : sh.paths ≡ seen ∷ other_seen ∷ []
+  pub by : IsShownBy forest sh seen walker
+  pub other_by : IsShownBy forest sh other_seen other
+  pub meet : Meet walker other
+  pub error : TextClashes forest sh seen other_seen walker other (state_of by.is) (state_of other_by.is) ⊎ DoNotJoin forest sh seen other_seen walker other
+
+-- A refusal shows an error that stands on its paths.
+abbrev pub Shows : ForestData → Showing → Type 0
+Shows forest sh = ShowsOne forest sh ⊎ ShowsTwo forest sh
+
+-- a showing of one path, and of two, as it is made
+pub record IsSeenAt (forest : ForestData) (w : Walker) (at : Place) (seen : Seen) : Type 0 where
+  pub path : seen.path ≡ map (seen_choice forest) w.chosen.items
+  pub place : seen.at ≡ at
+
+pub record IsMade (forest : ForestData) (w : Walker) (c : Code) (line number byte : ℕ) (sh : Showing) : Type 0 where
+  pub code : sh.code ≡ c
+  pub template : sh.template ≡ name_or_none (name_at forest w.template)
+  pub line_is : sh.line ≡ line
+  pub root : sh.root ≡ name_or_none (name_at forest w.root)
+  pub calls : sh.calls ≡ map (λ o. o.node) w.open_calls.items
+  pub node_is : sh.node ≡ number
+  pub byte_is : sh.byte ≡ byte
+
+pub record IsMadeOne (forest : ForestData) (w : Walker) (c : Code) (line number byte : ℕ) (at : Place) (sh : Showing) : Type 0 where
+  pub made : IsMade forest w c line number byte sh
+  pub seen : Seen
+  pub paths : sh.paths ≡ seen ∷ []
+  pub is : IsSeenAt forest w at seen
+
+pub record IsMadeTwo (forest : ForestData) (w v : Walker) (c : Code) (line number byte : ℕ) (at other_at : Place) (sh : Showing) : Type 0 where
+  pub made : IsMade forest w c line number byte sh
+  pub seen : Seen
+  pub other : Seen
+  pub paths : sh.paths ≡ seen ∷ other ∷ []
+  pub is : IsSeenAt forest w at seen
+  pub other_is : IsSeenAt forest v other_at other

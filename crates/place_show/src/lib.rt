@@ -1,0 +1,16 @@
+// Refusals that show the paths on which their error stands.
+#![tactic(auto)]
+
+mod clashing;
+mod ending;
+mod joining;
+mod making;
+mod nodes;
+mod seen;
+mod showing;
+
+pub use clashing::text_clash;
+pub use ending::end_error;
+pub use joining::join_error;
+pub use nodes::node_error;
+pub use showing::{Seen, SeenChoice, Showing};

@@ -1,0 +1,111 @@
+ghost use Rattle.std.specs.Prelude.{◌≡◌, ◌<◌, ◌^◌, IfOk, IfSome, Some, length};
+ghost use Rattle.place_replay.specs.Replays.{IsWalker};
+ghost use Rattle.place_show.specs.AtNodes.{ShowsOneAt};
+ghost use Rattle.place_show.specs.Showings.{IsMadeOne, ShowsOne};
+ghost use Rattle.tpl_tree.specs.Trees.{head_kind, head_line, nodes_from, nodes_size};
+ghost use Rattle.tpl_tree.specs.declared.node_kind.NodeKind.TheVariants as kind;
+
+use crate::making::{Mark, made_one, text_mark};
+use crate::showing::Showing;
+use html_step::{after_hole, after_text};
+use page_io::{Memory, Text};
+use place_core::Code;
+use place_flow::may_use;
+use place_replay::Walker;
+use std::alloc::Global;
+use tpl_escapers::escaper_use;
+use tpl_paths::Point;
+use tpl_tree::{Forest, NodeKind, Tree};
+
+/// The error that a path meets at the node before which it stands, if it meets one there: a text or a hole is refused, a predefined escaper
+/// may not stand there, or the template that is called is not there. The error is out of memory.
+pub fn node_error(
+    alloc: Global,
+    forest: &Forest,
+    walker: &Walker,
+) -> Result<Option<Showing>, Memory>
+    ensures { IfOk result (λ found. IfSome found (λ sh. IsWalker forest.now walker.now → ShowsOne forest.now sh)) }
+{
+    if walker.template as usize >= forest.count() {
+        return Ok(None);
+    }
+    match walker.point {
+        Point::Before(node) => in_tree(alloc, forest, forest.tree(walker.template), walker, node),
+        _ => Ok(None),
+    }
+}
+
+// .. in the tree of its template.
+fn in_tree(
+    alloc: Global,
+    forest: &Forest,
+    tree: &Tree,
+    walker: &Walker,
+    node: u32,
+) -> Result<Option<Showing>, Memory>
+    ensures { IfOk result (λ found. IfSome found (ShowsOneAt forest.now walker.now tree.now.nodes node)) }
+{
+    if node >= tree.count() {
+        return Ok(None);
+    }
+    let kind = tree.kind(node);
+    if !may_use(walker.place, escaper_use(kind)) {
+        return at_node(alloc, forest, tree, walker, Code::PredefinedEscaper, node);
+    }
+    match kind {
+        NodeKind::Text(text) => text_error(alloc, forest, tree, walker, node, text),
+        NodeKind::Action(_) => match after_hole(walker.place) {
+            Err(code) => at_node(alloc, forest, tree, walker, code, node),
+            Ok(_) => Ok(None),
+        },
+        NodeKind::Template(name, _) => match forest.find(name.as_str()) {
+            None => at_node(alloc, forest, tree, walker, Code::NoSuchTemplate, node),
+            Some(_) => Ok(None),
+        },
+        _ => Ok(None),
+    }
+}
+
+// An error of a node, at the path's place.
+fn at_node(
+    alloc: Global,
+    forest: &Forest,
+    tree: &Tree,
+    walker: &Walker,
+    code: Code,
+    node: u32,
+) -> Result<Option<Showing>, Memory>
+    requires { node < nodes_size tree.now.nodes }
+    ensures { IfOk result (λ found. IfSome found (IsMadeOne forest.now walker.now code (head_line (nodes_from tree.now.nodes node)) node 0 walker.now.place)) }
+{
+    let mark = Mark {
+        code,
+        line: tree.line(node),
+        node,
+        byte: 0,
+    };
+    Ok(Some(made_one(alloc, forest, walker, mark, walker.place)?))
+}
+
+// A text that the path's place refuses.
+fn text_error(
+    alloc: Global,
+    forest: &Forest,
+    tree: &Tree,
+    walker: &Walker,
+    node: u32,
+    text: &Text,
+) -> Result<Option<Showing>, Memory>
+    requires node { node < nodes_size tree.now.nodes }
+    requires text { Some (kind.Text text.now) ≡ head_kind (nodes_from tree.now.nodes node) }
+    requires length { length text.now < 2 ^ 32 }
+    ensures { IfOk result (λ found. IfSome found (ShowsOneAt forest.now walker.now tree.now.nodes node)) }
+{
+    match after_text(walker.place, text.as_str()) {
+        Err(refused) => {
+            let mark = text_mark(tree, node, text, refused);
+            Ok(Some(made_one(alloc, forest, walker, mark, refused.before)?))
+        }
+        Ok(_) => Ok(None),
+    }
+}
