@@ -1,16 +1,20 @@
 use crate::pairs::tell_chart;
+use crate::showings::tell_shown;
 use case_table::{Row, Stop, Told, pair_of, text_of};
 use case_trees::forest_of;
 use page_datum::Datum;
 use page_io::{List, Names, Text};
+use place_core::Code;
 use place_infer::{SetRefused, infer};
+use place_show::Showing;
 use std::alloc::Global;
 use tpl_tree::Forest;
 
 /// Tells of a call of `place_infer`: the `chart` of files, each a list of a name and a text, whose own templates are the roots; or
-/// that the set is refused, for one path or two (`torn`), for the `end` of a root, or for `too many` pairs.
+/// that the set is refused, for one path or two (`torn`), for the `end` of a root, or for `too many` pairs; `shown` tells
+/// the refusal with its paths.
 pub fn tell_charts(out: &mut Told, call: &str, row: &Row) -> Result<(), Stop> {
-    if call != "chart" {
+    if call != "chart" && call != "shown" {
         return Err(Stop::Form);
     }
     let files = row.list(0)?;
@@ -21,7 +25,8 @@ pub fn tell_charts(out: &mut Told, call: &str, row: &Row) -> Result<(), Stop> {
     let roots = roots_of(out.alloc(), &forest, files)?;
     match infer(out.alloc(), &forest, &roots) {
         Ok(chart) => tell_chart(out, &forest, &chart),
-        Err(why) => tell_refusal(out, &forest, why),
+        Err(why) if call == "shown" => tell_shown(out, why),
+        Err(why) => tell_refusal(out, why),
     }
     Ok(())
 }
@@ -49,19 +54,21 @@ fn is_file(files: &[Datum], wanted: &str) -> Result<bool, Stop> {
     Ok(false)
 }
 
-fn tell_refusal(out: &mut Told, forest: &Forest, why: SetRefused) {
+fn tell_refusal(out: &mut Told, why: SetRefused) {
     match why {
-        SetRefused::Torn(_) => out.put("torn"),
-        SetRefused::EndContext(root) => tell_end(out, forest, root),
+        SetRefused::Shows(showing) => tell_kind(out, &showing),
         SetRefused::TooManyDerived => out.put("too many"),
         SetRefused::Memory => out.lose(),
     }
 }
 
-// Tells that a root may end in another place than text, by the number of its template.
-fn tell_end(out: &mut Told, forest: &Forest, root: u32) {
-    out.put("end ");
-    if (root as usize) < forest.count() {
-        out.put(forest.name(root));
+// Tells whether a path ends a root elsewhere, and which root, or that another error stands.
+fn tell_kind(out: &mut Told, showing: &Showing) {
+    match showing.code {
+        Code::EndContext => {
+            out.put("end ");
+            out.put(showing.root.as_str());
+        }
+        _ => out.put("torn"),
     }
 }

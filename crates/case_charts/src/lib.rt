@@ -3,5 +3,6 @@
 
 mod charts;
 mod pairs;
+mod showings;
 
 pub use charts::tell_charts;

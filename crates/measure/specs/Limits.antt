@@ -3,7 +3,7 @@ use Rattle.std.specs.Prelude.{ℕ}
 use Rattle.tpl_token.specs.Answers.{max_text}
 use Rattle.page_datum.specs.Reading.{max_length}
 use Rattle.measure.specs.declared.request.Call.{Call}
-use Rattle.measure.specs.declared.request.Call.TheVariants.{Tokens, Parse, Html, AttrNospace, Characters, Steps, Written, Data, Turns, Calls, Keys}
+use Rattle.measure.specs.declared.request.Call.TheVariants.{Tokens, Parse, Gather, Infer, Html, AttrNospace, Characters, Steps, Written, Data, Turns, Calls, Keys}
 
 abbrev pub most_of : Call → ℕ
 most_of Data = max_length
@@ -12,6 +12,8 @@ most_of Calls = max_length
 most_of Keys = max_length
 most_of Tokens = max_text
 most_of Parse = max_text
+most_of Gather = max_text
+most_of Infer = max_text
 most_of Html = max_text
 most_of AttrNospace = max_text
 most_of Characters = max_text

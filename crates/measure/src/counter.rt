@@ -1,11 +1,10 @@
 ghost use Rattle.std.specs.Prelude.{◌≤◌, length};
 ghost use Rattle.tpl_token.specs.Answers.{max_text};
 
+use crate::forest::{NAME, forest_of};
 use page_datum::{DataRefused, Datum, read_datum};
-use page_io::{List, Memory};
 use std::alloc::{AllocError, Global};
 use tpl_exec::{ExecStop, HoleSink, HoleStop, execute};
-use tpl_parse::{gather, parse_file};
 use tpl_tree::Forest;
 
 /// A sink that counts the events that it is given.
@@ -74,24 +73,6 @@ pub fn executed_counted(alloc: Global, template: &str, text: &str) -> Result<Str
     }
 }
 
-// The templates of one file, which is well formed.
-fn forest_of(alloc: Global, template: &str) -> Result<Forest, AllocError>
-    requires { length template.now ≤ max_text }
-{
-    let file = match parse_file(alloc, NAME, template) {
-        Ok(file) => file,
-        Err(_) => return Err(AllocError),
-    };
-    let mut files = List::new(alloc);
-    if files.push(file).is_err() {
-        return Err(AllocError);
-    }
-    match gather(alloc, files) {
-        Ok(forest) => Ok(forest),
-        Err(Memory) => Err(AllocError),
-    }
-}
-
 // Executes the body of that file.
 fn run(
     alloc: Global,
@@ -104,5 +85,3 @@ fn run(
         None => Ok(0),
     }
 }
-
-const NAME: &str = "file";

@@ -1,7 +1,10 @@
 ghost use Rattle.std.specs.Prelude.{◌≤◌, ◌+◌, ◌<◌, IfOk, OnOk, length, string_bytes};
 ghost use Rattle.page_datum.specs.Reading.{max_length};
 
+use crate::nests::{Nest, nests};
 use crate::request::Input;
+use crate::template_sets::{chain, pairs};
+use crate::units::push_units;
 use std::alloc::{AllocError, Global};
 
 /// An input of at most so many bytes.
@@ -22,8 +25,32 @@ pub fn input_of(alloc: Global, input: Input, size: usize) -> Result<String, Allo
         Input::Texts => repeated(alloc, "[\"", "a", "\"]", size),
         Input::Lists => repeated(alloc, "[", "[],", "[]]", size),
         Input::Objects => objects(alloc, size),
+        Input::Sections => repeated(alloc, "", SECTION, "", size),
+        Input::Chain => chain(alloc, size),
+        Input::Pairs => pairs(alloc, size),
+        Input::Nests => nests(alloc, TAGS, size),
+        Input::Values => nests(alloc, VALUES, size),
     }
 }
+
+// A section of a page.
+const SECTION: &str = "<p title=\"{{.a}}\">{{if .b}}x{{else}}<b>{{end}}</p>\n";
+
+// Each level has a tag.
+const TAGS: Nest = Nest {
+    front: "",
+    begin: "{{range .a}}<b title=\"{{.b}}\">",
+    end: "</b>{{end}}",
+    back: "",
+};
+
+// All levels are in a value without quotes.
+const VALUES: Nest = Nest {
+    front: "<p x=",
+    begin: "{{range .a}}{{.b}}",
+    end: "{{end}}",
+    back: ">",
+};
 
 // As many definitions as fit, each with a name and a body of its own.
 fn definitions(alloc: Global, size: usize) -> Result<String, AllocError>
@@ -73,7 +100,7 @@ fn repeated(
     size: usize,
 ) -> Result<String, AllocError>
     requires unit { 0 < length unit.now }
-    requires unit_short { length unit.now ≤ 8 }
+    requires unit_short { length unit.now ≤ 64 }
     requires prefix { length prefix.now ≤ 8 }
     requires end { length end.now ≤ 8 }
     requires size { size ≤ max_length }
@@ -91,16 +118,4 @@ fn repeated(
     push_units(&mut text, unit, room)?;
     text.push_str(end)?;
     Ok(text)
-}
-
-// Pushes a unit as often as the text stays within its room.
-fn push_units(text: &mut String, unit: &str, room: usize) -> Result<(), AllocError>
-    requires unit { 0 < length unit.now }
-    requires within { length (string_bytes text.old) ≤ room }
-    ensures { OnOk result (length (string_bytes text.new) ≤ room) }
-{
-    while text.len() + unit.len() <= room {
-        text.push_str(unit)?;
-    }
-    Ok(())
 }

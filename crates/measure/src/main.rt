@@ -7,10 +7,16 @@ ghost use Rattle.tpl_token.specs.Answers.{max_text};
 ghost use Rattle.measure.specs.Limits.{most_of};
 
 mod counter;
+mod forest;
+mod inference;
 mod input;
+mod nests;
 mod request;
+mod template_sets;
+mod units;
 
 use crate::counter::executed_counted;
+use crate::inference::{pairs_counted, templates_counted};
 use crate::input::input_of;
 use crate::request::{Call, Input, Request, most, size_named, words_named};
 use html_step::{after_text, print_place};
@@ -34,6 +40,10 @@ fn main(rt: HostRuntime) -> ExitCode {
             let _ = eprintln!(&rt; "usage: measure WORD BYTES");
             let _ = eprintln!(&rt; "WORD: tokens-text tokens-open tokens-string tokens-actions");
             let _ = eprintln!(&rt; "      parse-text parse-actions parse-definitions");
+            let _ = eprintln!(&rt; "      gather-sections gather-chain gather-pairs gather-nested");
+            let _ = eprintln!(&rt; "      gather-values");
+            let _ = eprintln!(&rt; "      infer-sections infer-chain infer-pairs infer-nested");
+            let _ = eprintln!(&rt; "      infer-values");
             let _ = eprintln!(&rt; "      html-text html-markup nospace-text nospace-markup");
             let _ = eprintln!(&rt; "      characters-text characters-references");
             let _ = eprintln!(&rt; "      steps-text steps-tags written-text written-tags");
@@ -81,6 +91,8 @@ fn counted(alloc: Global, call: Call, input: Input, size: usize) -> Result<Strin
     match call {
         Call::Tokens => tokens_counted(alloc, text.as_str()),
         Call::Parse => definitions_counted(alloc, text.as_str()),
+        Call::Gather => templates_counted(alloc, text.as_str()),
+        Call::Infer => pairs_counted(alloc, text.as_str()),
         Call::Html => written_counted(alloc, text.as_str(), html(alloc, text.as_str())),
         Call::AttrNospace => written_counted(
             alloc,

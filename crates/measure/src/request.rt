@@ -11,6 +11,10 @@ pub enum Call {
     Tokens,
     /// It is parsed, as a template file.
     Parse,
+    /// It is parsed and its templates are gathered.
+    Gather,
+    /// The same, and then the chart of its templates is inferred.
+    Infer,
     /// It is sanitized for text.
     Html,
     /// It is sanitized for an unquoted value.
@@ -58,6 +62,16 @@ pub enum Input {
     Lists,
     /// An object, whose keys differ.
     Objects,
+    /// Sections of a page, each with a hole in a value and with a choice.
+    Sections,
+    /// Templates, each of which calls the next one in eight places.
+    Chain,
+    /// Templates, each of which calls the next one where it stands, and of which the first one is called in eight places.
+    Pairs,
+    /// Ranges in ranges, each with a tag of its own.
+    Nests,
+    /// Ranges in ranges in a value without quotes, so that each has one place before its first turn and another one behind it.
+    Values,
 }
 
 /// What the words ask for.
@@ -79,6 +93,16 @@ pub fn words_named(word: &str) -> Option<(Call, Input)> {
         "parse-text" => Some((Call::Parse, Input::Text)),
         "parse-actions" => Some((Call::Parse, Input::Actions)),
         "parse-definitions" => Some((Call::Parse, Input::Definitions)),
+        "gather-sections" => Some((Call::Gather, Input::Sections)),
+        "gather-chain" => Some((Call::Gather, Input::Chain)),
+        "gather-pairs" => Some((Call::Gather, Input::Pairs)),
+        "gather-nested" => Some((Call::Gather, Input::Nests)),
+        "gather-values" => Some((Call::Gather, Input::Values)),
+        "infer-sections" => Some((Call::Infer, Input::Sections)),
+        "infer-chain" => Some((Call::Infer, Input::Chain)),
+        "infer-pairs" => Some((Call::Infer, Input::Pairs)),
+        "infer-nested" => Some((Call::Infer, Input::Nests)),
+        "infer-values" => Some((Call::Infer, Input::Values)),
         "html-text" => Some((Call::Html, Input::Text)),
         "html-markup" => Some((Call::Html, Input::Markup)),
         "nospace-text" => Some((Call::AttrNospace, Input::Text)),
@@ -108,6 +132,8 @@ pub fn most(call: Call) -> usize
         Call::Data | Call::Turns | Call::Calls | Call::Keys => MAX_LENGTH,
         Call::Tokens
         | Call::Parse
+        | Call::Gather
+        | Call::Infer
         | Call::Html
         | Call::AttrNospace
         | Call::Characters

@@ -1,14 +1,13 @@
 -- What inferring the chart of a set of roots answers.
-use Rattle.std.specs.Prelude.{◌≡◌, ◌≢◌, ◌<◌, ◌≤◌, ℕ, List, [], ◌∷◌, All, Option, Some, None, Result, Ok, Err, Contains, length, slice_get, slice_index_or, ⊤}
+use Rattle.std.specs.Prelude.{◌≡◌, ◌<◌, ◌≤◌, ◌⊎◌, Bool, true, false, ℕ, List, [], ◌∷◌, All, Option, Some, None, Result, Ok, Err, Contains, length, slice_get, slice_index_or, ⊤}
 use Rattle.place_charts.specs.Charts.{IsCovered, pair, pairs_along, read_moves}
 use Rattle.place_charts.specs.Html.{html}
 use Rattle.place_core.specs.Html.{start}
-use Rattle.place_core.specs.StatePlaces.{placed}
-use Rattle.place_core.specs.declared.place.Place.{Place}
+use Rattle.place_core.specs.declared.code.Code.{Code}
+use Rattle.place_core.specs.declared.code.Code.TheVariants as code
 use Rattle.place_core.specs.declared.place.Place.TheVariants as place
 use Rattle.place_flow.specs.declared.spot.Spot.{Spot}
 use Rattle.place_flow.specs.declared.spot.Spot.TheVariants.{Off, On, Torn}
-use Rattle.place_growth.specs.declared.tear.Tear.{Tear}
 use Rattle.place_infer.specs.ChartViews.{AreCalls, ChartData}
 use Rattle.place_infer.specs.declared.set_refused.SetRefused.{SetRefused}
 use Rattle.place_infer.specs.declared.set_refused.SetRefused.TheVariants as refused
@@ -16,7 +15,8 @@ use Rattle.place_least.specs.Exact.{places_of}
 use Rattle.place_rows.specs.Least.{IsLeastChart, IsTorn}
 use Rattle.place_rows.specs.Rows.{IsRowWhole, chart_of}
 use Rattle.place_rows.specs.declared.row.Row.{Row}
-use Rattle.place_witness.specs.Witness.{PathTo, TearStands, state_of}
+use Rattle.place_show.specs.Showings.{Shows}
+use Rattle.place_show.specs.declared.showing.Showing.{Showing}
 use Rattle.tpl_paths.specs.Edges.{Point, finish}
 use Rattle.tpl_paths.specs.Walks.{IsWalk, Move, at_root, reached, signs_of}
 use Rattle.tpl_tree.specs.Forests.{ForestData, number_named}
@@ -61,31 +61,37 @@ pub record IsChartOfSet (forest : ForestData) (names : List (List ℕ)) (chart :
   pub covers : (name : List ℕ) (t : ℕ) → Contains names name → number_named name forest ≡ Some t → CoversPaths forest chart.rows name
   pub calls : AreCalls forest chart.rows chart.calls
 
--- The least chart is torn, and an error stands on a path or on two paths that meet.
-pub record IsTornSet (forest : ForestData) (names : List (List ℕ)) (tear : Tear) : Type 0 where
-  pub rows : List Row
-  pub least : IsLeastChart forest (root_numbers forest names) place.Text rows
-  pub few : length rows ≤ most_pairs
+-- the error of a root's end
+abbrev pub is_end_code : Code → Bool
+is_end_code code.EndContext = true
+is_end_code _ = false
+
+-- a point of the chart is torn, and the error is none of a root's end
+pub record IsTornBy (rows : List Row) (sh : Showing) : Type 0 where
   pub row : ℕ
   pub point : Point
   pub torn : IsTorn rows row point
-  pub stands : TearStands forest (root_numbers forest names) tear
+  pub code : is_end_code sh.code ≡ false
 
--- a path of a root ends it in another place than text
-pub record EndsElsewhere (forest : ForestData) (root : ℕ) : Type 0 where
-  pub path : PathTo forest root [] root finish
-  pub own : Place
-  pub stands : placed (state_of path) ≡ Some own
-  pub elsewhere : own ≢ place.Text
+-- nothing is torn, and the error is that of a root's end
+pub record EndsBy (rows : List Row) (sh : Showing) : Type 0 where
+  pub whole : All IsRowWhole rows
+  pub code : is_end_code sh.code ≡ true
 
--- The least chart is not torn, but a root can end elsewhere.
-pub record IsEndRefused (forest : ForestData) (names : List (List ℕ)) (root : ℕ) : Type 0 where
+-- The least chart is torn, or a root can end elsewhere; and an error stands on the paths that are shown, which are those of a root.
+pub record IsRefusedSet (forest : ForestData) (names : List (List ℕ)) (sh : Showing) : Type 0 where
   pub rows : List Row
   pub least : IsLeastChart forest (root_numbers forest names) place.Text rows
-  pub whole : All IsRowWhole rows
   pub few : length rows ≤ most_pairs
-  pub is_root : Contains (root_numbers forest names) root
-  pub ends : EndsElsewhere forest root
+  pub cause : IsTornBy rows sh ⊎ EndsBy rows sh
+  pub root : Contains names sh.root
+  pub shows : Shows forest sh
+
+-- .. as it is found
+abbrev pub IsRefusal : ForestData → List (List ℕ) → Bool → SetRefused → Type 0
+IsRefusal forest names ends (refused.Shows sh) = Shows forest sh × Contains names sh.root × (is_end_code sh.code ≡ ends)
+IsRefusal forest names ends refused.TooManyDerived = ⊥
+IsRefusal forest names ends refused.Memory = ⊤
 
 -- The least chart has too many pairs, whatever is torn.
 pub record HasTooMany (forest : ForestData) (names : List (List ℕ)) : Type 0 where
@@ -94,22 +100,10 @@ pub record HasTooMany (forest : ForestData) (names : List (List ℕ)) : Type 0 w
   pub many : most_pairs < length rows
 
 abbrev pub Refuses : ForestData → List (List ℕ) → SetRefused → Type 0
-Refuses forest names (refused.Torn tear) = IsTornSet forest names tear
-Refuses forest names (refused.EndContext root) = IsEndRefused forest names root
+Refuses forest names (refused.Shows sh) = IsRefusedSet forest names sh
 Refuses forest names refused.TooManyDerived = HasTooMany forest names
 Refuses forest names refused.Memory = ⊤
 
 abbrev pub Infers : ForestData → List (List ℕ) → Result ChartData SetRefused → Type 0
 Infers forest names (Ok chart) = IsChartOfSet forest names chart
 Infers forest names (Err e) = Refuses forest names e
-
--- What was found before it is judged: the least chart; it is whole, or an error stands where something was torn first; and where a root's end
--- has another place than text, a path comes to that.
-abbrev pub StandsOrWhole : Option Tear → ForestData → List ℕ → List Row → Type 0
-StandsOrWhole None forest roots rows = All IsRowWhole rows
-StandsOrWhole (Some tear) forest roots rows = TearStands forest roots tear
-
-pub record IsFound (forest : ForestData) (roots : List ℕ) (rows : List Row) (tear : Option Tear) : Type 0 where
-  pub least : IsLeastChart forest roots place.Text rows
-  pub stands : StandsOrWhole tear forest roots rows
-  pub ends : (t : ℕ) (p : Place) → Contains roots t → chart_of rows t place.Text finish ≡ On p → (p ≡ place.Text → ⊥) → EndsElsewhere forest t

@@ -9,9 +9,13 @@ mod growing;
 mod inferring;
 mod kept;
 mod leaving;
+mod order;
 mod queue;
+mod refusal;
+mod replaying;
 mod roots;
 mod set_refused;
+mod showing;
 mod torn;
 
 pub use chart::Chart;

@@ -1,13 +1,11 @@
 use page_io::Memory;
-use place_growth::Tear;
+use place_show::Showing;
 
 /// Why a set of templates has no chart.
 #[derive(Debug, Drop)]
 pub enum SetRefused {
-    /// A step on a path is refused, or places in which paths meet do not join: where that was seen first.
-    Torn(Tear),
-    /// A path ends this root, which is given by its template's number, in another place than text.
-    EndContext(u32),
+    /// An error stands on a path of a root, or on two that meet.
+    Shows(Showing),
     /// The chart would have more than 8,192 pairs of a template and a place in which it is entered.
     TooManyDerived,
     /// There is not enough memory.

@@ -1,6 +1,6 @@
-use Rattle.place_infer.proofs.FoundCharts.{is-found}
+use Rattle.place_infer.proofs.FoundCharts.{is-least}
 use Rattle.place_infer.proofs.finding.find_chart.Goals as goal
 
 pub returns-then-are_entered : goal.returns-then-are_entered
-returns-then-are_entered c = λ up are. is-found c.args.flows.now c.args.roots.now c.in_ok-grown.grown.rows c.in_ok-rows.rows c.in_ok-grown.grown.log.items c.in_ok-grown.grown.tear up are
+returns-then-are_entered c = is-least c.args.flows.now c.args.roots.now c.in_ok-grown.grown.rows c.in_ok-rows.rows c.in_ok-grown.grown.log.items c.in_ok-grown.grown.tear
     c.in_ok-grown.ensures c.in_ok-rows.ensures (c.are_closed.ensures c.if-are_closed.true) (c.are_entered.ensures c.if-are_entered.true)

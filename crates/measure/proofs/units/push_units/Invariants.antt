@@ -1,5 +1,5 @@
 use Rattle.std.proofs.Common.{◌-◌, ◌≤◌, length, string_bytes}
-use Rattle.measure.proofs.input.push_units.Given as goal
+use Rattle.measure.proofs.units.push_units.Given as goal
 
 abbrev pub invariant-loop-text : goal.invariant-loop-text
 invariant-loop-text l = length (string_bytes l.text) ≤ l.room

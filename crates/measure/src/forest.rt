@@ -1,0 +1,28 @@
+ghost use Rattle.std.specs.Prelude.{◌≤◌, length};
+ghost use Rattle.tpl_token.specs.Answers.{max_text};
+
+use page_io::{List, Memory};
+use std::alloc::{AllocError, Global};
+use tpl_parse::{gather, parse_file};
+use tpl_tree::Forest;
+
+/// The name of the file of a forest.
+pub const NAME: &str = "file";
+
+/// The templates of one file, which is well formed.
+pub fn forest_of(alloc: Global, template: &str) -> Result<Forest, AllocError>
+    requires { length template.now ≤ max_text }
+{
+    let file = match parse_file(alloc, NAME, template) {
+        Ok(file) => file,
+        Err(_) => return Err(AllocError),
+    };
+    let mut files = List::new(alloc);
+    if files.push(file).is_err() {
+        return Err(AllocError);
+    }
+    match gather(alloc, files) {
+        Ok(forest) => Ok(forest),
+        Err(Memory) => Err(AllocError),
+    }
+}
