@@ -1,0 +1,6 @@
+pub mod Calls
+pub mod Histories
+pub mod Looks
+pub mod Publishing
+pub mod Showing
+pub mod Values

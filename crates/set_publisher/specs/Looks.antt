@@ -1,0 +1,21 @@
+-- What a look answers, and a comparison of what is known.
+use Rattle.std.specs.Prelude.{◌≡◌, ℕ, ◌<◌, ◌⊎◌, Bool, List, length, MatchBool}
+use mathlib.Core.List.{IsPrefix}
+use Rattle.page_io.specs.Causes.{Rose}
+use Rattle.set_publisher.specs.Values.{IsSetOf}
+
+-- the number is the length of the list that is now seen, and the set its last one
+abbrev pub Finds : {V : Type 0} → List V → ℕ → V → Type 0
+Finds sets number set = (number ≡ length sets) × IsSetOf sets number set
+
+-- nothing was found: what is seen is as it was, and the misses rose
+abbrev pub Misses : {V : Type 0} → List V → List V → ℕ → ℕ → Type 0
+Misses old now before after = (now ≡ old) × Rose before after
+
+-- a look either found the list, or missed it
+abbrev pub LooksOnce : {V : Type 0} → List V → List V → ℕ → ℕ → Type 0
+LooksOnce old now before after = (after ≡ before) ⊎ (Rose before after × (now ≡ old))
+
+-- of two first parts of one list, the other one begins this one, or is longer and begins with it
+abbrev pub IsBegun : {V : Type 0} → List V → List V → Bool → Type 0
+IsBegun this other begun = MatchBool begun (IsPrefix other this) ((length this < length other) × IsPrefix this other)
