@@ -4,6 +4,7 @@ use case_devices::{is_of_system, tell_devices, tell_system};
 use case_executions::tell_executions;
 use case_pages::{tell_commands, tell_pages};
 use case_places::{tell_places, tell_written};
+use case_sets::tell_cores;
 use case_table::{Row, Stop, Subject, Told};
 use case_trees::{tell_files, tell_printed, tell_symbols, tell_tokens, tell_trees};
 use case_words::{tell_replaced, tell_sanitized, tell_text, tell_words};
@@ -35,6 +36,9 @@ impl<'r> Subject for Engine<'r> {
         if library.starts_with("page_") {
             return tell_of_pages(out, library, call, row);
         }
+        if library.starts_with("set_") {
+            return tell_of_sets(out, library, call, row);
+        }
         tell_of_html(out, library, call, row)
     }
 }
@@ -61,6 +65,14 @@ fn tell_of_pages(out: &mut Told, library: &str, call: &str, row: &Row) -> Result
         "page_datum" => tell_data(out, call, row),
         "page_set" => tell_pages(out, call, row),
         "page_tool" => tell_commands(out, call, row),
+        _ => Err(Stop::Form),
+    }
+}
+
+// Tells of a call of a library of published sets.
+fn tell_of_sets(out: &mut Told, library: &str, call: &str, row: &Row) -> Result<(), Stop> {
+    match library {
+        "set_core" => tell_cores(out, call, row),
         _ => Err(Stop::Form),
     }
 }
