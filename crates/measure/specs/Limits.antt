@@ -3,13 +3,15 @@ use Rattle.std.specs.Prelude.{ℕ}
 use Rattle.tpl_token.specs.Answers.{max_text}
 use Rattle.page_datum.specs.Reading.{max_length}
 use Rattle.measure.specs.declared.request.Call.{Call}
-use Rattle.measure.specs.declared.request.Call.TheVariants.{Tokens, Parse, Gather, Infer, Html, AttrNospace, Characters, Steps, Written, Data, Turns, Calls, Keys}
+use Rattle.measure.specs.declared.request.Call.TheVariants.{Tokens, Parse, Gather, Infer, Html, AttrNospace, Characters, Steps, Written, Data, Turns, Calls, Keys, Looks, Locks}
 
 abbrev pub most_of : Call → ℕ
 most_of Data = max_length
 most_of Turns = max_length
 most_of Calls = max_length
 most_of Keys = max_length
+most_of Looks = max_length
+most_of Locks = max_length
 most_of Tokens = max_text
 most_of Parse = max_text
 most_of Gather = max_text

@@ -10,6 +10,8 @@ mod counter;
 mod forest;
 mod inference;
 mod input;
+mod locks;
+mod looks;
 mod nests;
 mod request;
 mod template_sets;
@@ -18,6 +20,8 @@ mod units;
 use crate::counter::executed_counted;
 use crate::inference::{pairs_counted, templates_counted};
 use crate::input::input_of;
+use crate::locks::{four_lock, one_locks};
+use crate::looks::{four_look, one_looks};
 use crate::request::{Call, Input, Request, most, size_named, words_named};
 use html_step::{after_text, print_place};
 use html_words::RefChars;
@@ -29,6 +33,8 @@ use std::alloc::{AllocError, Global};
 use std::env;
 use std::io::ErrorKind;
 use std::process::ExitCode;
+use std::sync::Wait;
+use std::thread::Threads;
 use text_norm::write_text;
 use tpl_parse::{FileRefused, parse_file};
 use tpl_token::{TokenRefused, tokens};
@@ -49,11 +55,12 @@ fn main(rt: HostRuntime) -> ExitCode {
             let _ = eprintln!(&rt; "      steps-text steps-tags written-text written-tags");
             let _ = eprintln!(&rt; "      data-numbers data-text data-lists data-objects");
             let _ = eprintln!(&rt; "      execute-turns execute-calls execute-keys");
+            let _ = eprintln!(&rt; "      looks-1 looks-4 locks-1 locks-4");
             return ExitCode::from(2);
         }
         Err(_) => return ExitCode::from(11),
     };
-    match counted(rt.alloc(), request.call, request.input, request.size) {
+    match counted(&rt, rt.alloc(), request.call, request.input, request.size) {
         Ok(line) => match println!(&rt; "{line}") {
             Ok(()) => ExitCode::SUCCESS,
             Err(_) => ExitCode::from(6),
@@ -84,7 +91,13 @@ fn requested<R: env::Env + AllocGlobal>(rt: &R) -> Result<Option<Request>, Alloc
 }
 
 // The counts of a call on an input.
-fn counted(alloc: Global, call: Call, input: Input, size: usize) -> Result<String, AllocError>
+fn counted<R: Threads + Wait + Sync>(
+    rt: &R,
+    alloc: Global,
+    call: Call,
+    input: Input,
+    size: usize,
+) -> Result<String, AllocError>
     requires { size ≤ most_of call }
 {
     let text = input_of(alloc, input, size)?;
@@ -118,6 +131,10 @@ fn counted(alloc: Global, call: Call, input: Input, size: usize) -> Result<Strin
             "{{range $key, $value := .}}{{index $ $key}}{{end}}",
             text.as_str(),
         ),
+        Call::Looks if input == Input::One => one_looks(rt, alloc, size),
+        Call::Looks => four_look(rt, alloc, size),
+        Call::Locks if input == Input::One => one_locks(rt, alloc, size),
+        Call::Locks => four_lock(rt, alloc, size),
     }
 }
 

@@ -33,6 +33,10 @@ pub enum Call {
     Calls,
     /// A template that looks up each key of it is executed.
     Keys,
+    /// Viewers look at a desk that publishes sets, each as often as the input may have bytes.
+    Looks,
+    /// The same, but the set is behind a lock.
+    Locks,
 }
 
 /// What an input is made of.
@@ -72,6 +76,10 @@ pub enum Input {
     Nests,
     /// Ranges in ranges in a value without quotes, so that each has one place before its first turn and another one behind it.
     Values,
+    /// Nothing; one thread looks.
+    One,
+    /// Nothing; four threads look.
+    Four,
 }
 
 /// What the words ask for.
@@ -79,7 +87,7 @@ pub enum Input {
 pub struct Request {
     pub call: Call,
     pub input: Input,
-    /// The most bytes that the input may have.
+    /// The most bytes that the input may have, or how often each thread looks.
     pub size: usize,
 }
 
@@ -120,6 +128,10 @@ pub fn words_named(word: &str) -> Option<(Call, Input)> {
         "execute-turns" => Some((Call::Turns, Input::Numbers)),
         "execute-calls" => Some((Call::Calls, Input::Numbers)),
         "execute-keys" => Some((Call::Keys, Input::Objects)),
+        "looks-1" => Some((Call::Looks, Input::One)),
+        "looks-4" => Some((Call::Looks, Input::Four)),
+        "locks-1" => Some((Call::Locks, Input::One)),
+        "locks-4" => Some((Call::Locks, Input::Four)),
         _ => None,
     }
 }
@@ -129,7 +141,8 @@ pub fn most(call: Call) -> usize
     ensures { result ≡ most_of call }
 {
     match call {
-        Call::Data | Call::Turns | Call::Calls | Call::Keys => MAX_LENGTH,
+        Call::Data | Call::Turns | Call::Calls | Call::Keys | Call::Looks | Call::Locks =>
+            MAX_LENGTH,
         Call::Tokens
         | Call::Parse
         | Call::Gather
