@@ -1,2 +1,3 @@
 pub mod NoErrors
+pub mod NoRefusal
 pub mod TakenEdges

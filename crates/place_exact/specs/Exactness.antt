@@ -10,7 +10,9 @@ use Rattle.place_core.specs.Tags.{ValueState}
 use Rattle.place_core.specs.declared.place.Place.{Place}
 use Rattle.place_core.specs.declared.place.Place.TheVariants as place
 use Rattle.place_infer.specs.ChartViews.{ChartData}
-use Rattle.place_infer.specs.Inferring.{IsChartOfSet}
+use Rattle.place_infer.specs.Inferring.{IsChartOfSet, Refuses}
+use Rattle.place_infer.specs.declared.set_refused.SetRefused.{SetRefused}
+use Rattle.place_infer.specs.declared.set_refused.SetRefused.TheVariants as refused
 use Rattle.place_witness.specs.Errors.{EdgeClashes, Errs}
 use Rattle.tpl_paths.specs.Edges.{Edge, Within, edges_in, finish, from_of}
 use Rattle.tpl_paths.specs.Walks.{IsWalk, Move, Standing, at_root, reached, standing}
@@ -39,3 +41,7 @@ pub record HasNoError (forest : ForestData) (name : List ℕ) : Type 0 where
 abbrev pub ChartedSetsHaveNoError : Type 0
 ChartedSetsHaveNoError = (forest : ForestData) (names : List (List ℕ)) (chart : ChartData) (name : List ℕ) (t : ℕ) → IsChartOfSet forest names chart
     → Contains names name → number_named name forest ≡ Some t → HasNoError forest name
+
+-- A set that has a chart is not refused, but for want of memory.
+abbrev pub ChartedSetsAreNotRefused : Type 0
+ChartedSetsAreNotRefused = (forest : ForestData) (names : List (List ℕ)) (chart : ChartData) (why : SetRefused) → IsChartOfSet forest names chart → Refuses forest names why → why ≡ refused.Memory

@@ -3,4 +3,4 @@
 
 mod laws;
 
-pub use laws::charted_sets_have_no_error;
+pub use laws::{charted_sets_are_not_refused, charted_sets_have_no_error};

@@ -74,17 +74,21 @@ torn-refused forest names roots rows n number same least few torn refused.TooMan
 torn-refused forest names roots rows n number same least few torn refused.Memory i = tt
 
 pub end-refused : (forest : ForestData) (names : List (List ℕ)) (roots : List ℕ) (rows : List Row) → roots ≡ root_numbers forest names → IsLeastChart forest roots place.Text rows → All IsRowWhole rows → length rows ≤ most_pairs
-    → (r : SetRefused) → IsRefusal forest names true r → Refuses forest names r
-end-refused forest names roots rows same least whole few (refused.Shows sh) i = record {
+    → (t : ℕ) → Contains roots t → (EndsInText (chart_of rows t place.Text finish) → ⊥) → (r : SetRefused) → IsRefusal forest names true r → Refuses forest names r
+end-refused forest names roots rows same least whole few t among elsewhere (refused.Shows sh) i = record {
   rows = rows;
   least = subst (λ (r : List ℕ). IsLeastChart forest r place.Text rows) same least;
   few = few;
-  cause = inr (record { whole = whole; code = i.2 });
+  cause = inr (record {
+    whole = whole;
+    elsewhere = λ all. elsewhere (All-contains (λ (u : ℕ). EndsInText (chart_of rows u place.Text finish)) (root_numbers forest names) t all (subst (λ (ts : List ℕ). Contains ts t) same among));
+    code = i.2;
+  });
   root = i.1;
   shows = i.0;
 }
-end-refused forest names roots rows same least whole few refused.TooManyDerived i = absurd i
-end-refused forest names roots rows same least whole few refused.Memory i = tt
+end-refused forest names roots rows same least whole few t among elsewhere refused.TooManyDerived i = absurd i
+end-refused forest names roots rows same least whole few t among elsewhere refused.Memory i = tt
 
 pub too-many : (forest : ForestData) (names : List (List ℕ)) (roots : List ℕ) (rows : List Row) → roots ≡ root_numbers forest names → IsLeastChart forest roots place.Text rows → most_pairs < length rows → HasTooMany forest names
 too-many forest names roots rows same least many = record { rows = rows; least = subst (λ (r : List ℕ). IsLeastChart forest r place.Text rows) same least; many = many }

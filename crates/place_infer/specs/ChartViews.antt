@@ -50,7 +50,9 @@ called_by forest rows (Some what) None = None
 called_by forest rows (Some what) (Some p) = called_at forest rows what p
 
 abbrev pub call_of : ForestData → List Row → Row → ℕ → Option ℕ
-call_of forest rows row node = called_by forest rows (head_kind (nodes_from (nodes_at forest row.template) node)) (place_of (spot_in row (before node)))
+call_of forest rows row node =
+    called_by forest rows (head_kind (nodes_from (nodes_at forest row.template) node))
+    (place_of (spot_in row (before node)))
 
 -- .. as it is kept
 abbrev pub kept_call : Option (List (Option ℕ)) → ℕ → Option ℕ
@@ -61,4 +63,6 @@ abbrev pub call_in : List (List (Option ℕ)) → ℕ → ℕ → Option ℕ
 call_in calls n node = kept_call (slice_get calls n) node
 
 abbrev pub AreCalls : ForestData → List Row → List (List (Option ℕ)) → Type 0
-AreCalls forest rows calls = (n node : ℕ) (row : Row) → slice_get rows n ≡ Some row → call_in calls n node ≡ call_of forest rows row node
+AreCalls forest rows calls =
+    (n node : ℕ) (row : Row) → slice_get rows n ≡ Some row
+    → call_in calls n node ≡ call_of forest rows row node

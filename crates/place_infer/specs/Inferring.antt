@@ -28,7 +28,8 @@ with_number (Some t) roots = t ∷ roots
 
 abbrev pub root_numbers : ForestData → List (List ℕ) → List ℕ
 root_numbers forest [] = []
-root_numbers forest (name ∷ names) = with_number (number_named name forest) (root_numbers forest names)
+root_numbers forest (name ∷ names) =
+    with_number (number_named name forest) (root_numbers forest names)
 
 -- the most pairs that a chart may have
 abbrev pub most_pairs : ℕ
@@ -49,16 +50,22 @@ pub record IsTornAt (rows : List Row) (n number : ℕ) : Type 0 where
 -- On every path of a root, the place of the chart at the path's end, in the pair to which its calls lead, stands for what the path has read.
 abbrev pub CoversPaths : ForestData → List Row → List ℕ → Type 0
 CoversPaths forest rows name = (ms : List Move) → IsWalk forest (at_root forest name) ms
-    → IsCovered html forest (places_of forest rows) place.Text (reached forest (at_root forest name) ms) (pairs_along forest (places_of forest rows) (signs_of ms) (pair name place.Text ∷ [])) (read_moves html ms start.at)
+    → IsCovered html forest (places_of forest rows) place.Text
+    (reached forest (at_root forest name) ms)
+    (pairs_along forest (places_of forest rows) (signs_of ms) (pair name place.Text ∷ []))
+    (read_moves html ms start.at)
 
 -- The chart of a set: the least one, not torn, within the limit; each root ends in text; every path of each root is covered; and each call
 -- has its pair.
-pub record IsChartOfSet (forest : ForestData) (names : List (List ℕ)) (chart : ChartData) : Type 0 where
+pub record IsChartOfSet (forest : ForestData) (names : List (List ℕ)) (chart : ChartData)
+    : Type 0 where
   pub least : IsLeastChart forest (root_numbers forest names) place.Text chart.rows
   pub whole : All IsRowWhole chart.rows
   pub few : length chart.rows ≤ most_pairs
-  pub ends : All (λ t. EndsInText (chart_of chart.rows t place.Text finish)) (root_numbers forest names)
-  pub covers : (name : List ℕ) (t : ℕ) → Contains names name → number_named name forest ≡ Some t → CoversPaths forest chart.rows name
+  pub ends : All (λ t. EndsInText (chart_of chart.rows t place.Text finish))
+      (root_numbers forest names)
+  pub covers : (name : List ℕ) (t : ℕ) → Contains names name → number_named name forest ≡ Some t
+      → CoversPaths forest chart.rows name
   pub calls : AreCalls forest chart.rows chart.calls
 
 -- the error of a root's end
@@ -73,9 +80,10 @@ pub record IsTornBy (rows : List Row) (sh : Showing) : Type 0 where
   pub torn : IsTorn rows row point
   pub code : is_end_code sh.code ≡ false
 
--- nothing is torn, and the error is that of a root's end
-pub record EndsBy (rows : List Row) (sh : Showing) : Type 0 where
+-- nothing is torn, a root ends elsewhere in the chart, and the error is that of a root's end
+pub record EndsBy (forest : ForestData) (names : List (List ℕ)) (rows : List Row) (sh : Showing) : Type 0 where
   pub whole : All IsRowWhole rows
+  pub elsewhere : All (λ t. EndsInText (chart_of rows t place.Text finish)) (root_numbers forest names) → ⊥
   pub code : is_end_code sh.code ≡ true
 
 -- The least chart is torn, or a root can end elsewhere; and an error stands on the paths that are shown, which are those of a root.
@@ -83,13 +91,14 @@ pub record IsRefusedSet (forest : ForestData) (names : List (List ℕ)) (sh : Sh
   pub rows : List Row
   pub least : IsLeastChart forest (root_numbers forest names) place.Text rows
   pub few : length rows ≤ most_pairs
-  pub cause : IsTornBy rows sh ⊎ EndsBy rows sh
+  pub cause : IsTornBy rows sh ⊎ EndsBy forest names rows sh
   pub root : Contains names sh.root
   pub shows : Shows forest sh
 
 -- .. as it is found
 abbrev pub IsRefusal : ForestData → List (List ℕ) → Bool → SetRefused → Type 0
-IsRefusal forest names ends (refused.Shows sh) = Shows forest sh × Contains names sh.root × (is_end_code sh.code ≡ ends)
+IsRefusal forest names ends (refused.Shows sh) =
+    Shows forest sh × Contains names sh.root × (is_end_code sh.code ≡ ends)
 IsRefusal forest names ends refused.TooManyDerived = ⊥
 IsRefusal forest names ends refused.Memory = ⊤
 

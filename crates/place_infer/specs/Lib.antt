@@ -1,3 +1,4 @@
+pub mod Answers
 pub mod ChartViews
 pub mod Inferring
 pub mod Kept

@@ -36,7 +36,8 @@ fn called_from(forest: &Forest, rows: &Rows, kind: &NodeKind, place: Place) -> O
 fn called(forest: &Forest, rows: &Rows, tree: &Tree, row: &Row, node: u32) -> Option<u32>
     requires node { node < nodes_size tree.now.nodes }
     requires few { length rows.now ≤ most_pairs }
-    ensures { nodes_at forest.now row.now.template ≡ tree.now.nodes → result ≡ call_of forest.now rows.now row.now node }
+    ensures { nodes_at forest.now row.now.template ≡ tree.now.nodes
+        → result ≡ call_of forest.now rows.now row.now node }
 {
     match spot_at(row, Point::Before(node)) {
         Spot::On(place) => called_from(forest, rows, tree.kind(node), place),
@@ -53,7 +54,9 @@ fn calls_of_tree(
     row: &Row,
 ) -> Result<Vec<Option<u32>>, Memory>
     requires { length rows.now ≤ most_pairs }
-    ensures { IfOk result (λ calls. nodes_at forest.now row.now.template ≡ tree.now.nodes → (node : ℕ) → slice_index_or calls.items node None ≡ call_of forest.now rows.now row.now node) }
+    ensures { IfOk result (λ calls. nodes_at forest.now row.now.template ≡ tree.now.nodes
+        → (node : ℕ)
+        → slice_index_or calls.items node None ≡ call_of forest.now rows.now row.now node) }
 {
     let mut calls = Vec::new(alloc);
     for node in 0..tree.count() {
@@ -70,7 +73,8 @@ fn calls_of_row(
     row: &Row,
 ) -> Result<Vec<Option<u32>>, Memory>
     requires { length rows.now ≤ most_pairs }
-    ensures { IfOk result (λ calls. (node : ℕ) → slice_index_or calls.items node None ≡ call_of forest.now rows.now row.now node) }
+    ensures { IfOk result (λ calls. (node : ℕ)
+        → slice_index_or calls.items node None ≡ call_of forest.now rows.now row.now node) }
 {
     if row.template as usize >= forest.count() {
         return Ok(Vec::new(alloc));

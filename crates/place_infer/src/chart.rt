@@ -58,7 +58,8 @@ impl Chart {
     /// A pair: the number of its template in the forest, and the place in which that is entered.
     pub fn pair(&self, n: u32) -> (u32, Place)
         requires { n < length self.now.rows }
-        ensures { option_map (λ row. (row.template, row.entry)) (slice_get self.now.rows n) ≡ Some result }
+        ensures { option_map (λ row. (row.template, row.entry)) (slice_get self.now.rows n)
+            ≡ Some result }
     {
         let row = self.rows.row(n as usize);
         (row.template, row.entry)

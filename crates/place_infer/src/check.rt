@@ -38,8 +38,10 @@ fn step_leads(flows: &Flows, rows: &Rows, step: Step, to: Spot) -> bool
 
 // Whether an edge of a row leads, by its number.
 fn leads(flows: &Flows, rows: &Rows, row: &Row, number: usize) -> bool
-    ensures { IsTrue result → (e : SpecEdge) → slice_get (edges_at flows.now row.now.template) number ≡ Some e
-        → Leads flows.now (chart_of rows.now) row.now.template e (spot_in row.now (from_of e)) (spot_in row.now (to_of e)) }
+    ensures { IsTrue result → (e : SpecEdge)
+        → slice_get (edges_at flows.now row.now.template) number ≡ Some e
+        → Leads flows.now (chart_of rows.now) row.now.template e
+        (spot_in row.now (from_of e)) (spot_in row.now (to_of e)) }
 {
     match flows.ends(row.template, number) {
         Some((from, to)) => match spot_at(row, from) {

@@ -81,7 +81,9 @@ fn follow_edge(
     number: usize,
 ) -> Result<(), Memory>
     requires { task.row < length rows.old }
-    ensures traced { OnOk result ((roots : List ℕ) (first : SpecPlace) → IsTraced flows.now roots first rows.old log.old.items tear.old → IsTraced flows.now roots first rows.new log.new.items tear.new) }
+    ensures traced { OnOk result ((roots : List ℕ) (first : SpecPlace)
+        → IsTraced flows.now roots first rows.old log.old.items tear.old
+        → IsTraced flows.now roots first rows.new log.new.items tear.new) }
     ensures length { length rows.old ≤ length rows.new }
 {
     let traced = trace(alloc, flows, rows, log, tear, task.row, number)?;
@@ -113,7 +115,9 @@ fn follow_point(
     task: Task,
 ) -> Result<(), Memory>
     requires { task.row < length rows.old }
-    ensures traced { OnOk result ((roots : List ℕ) (first : SpecPlace) → IsTraced flows.now roots first rows.old log.old.items tear.old → IsTraced flows.now roots first rows.new log.new.items tear.new) }
+    ensures traced { OnOk result ((roots : List ℕ) (first : SpecPlace)
+        → IsTraced flows.now roots first rows.old log.old.items tear.old
+        → IsTraced flows.now roots first rows.new log.new.items tear.new) }
     ensures length { length rows.old ≤ length rows.new }
 {
     let mut next = leaving.first(task.point);
@@ -140,7 +144,9 @@ fn follow(
     queue: &mut Queue,
     task: Task,
 ) -> Result<(), Memory>
-    ensures traced { OnOk result ((roots : List ℕ) (first : SpecPlace) → IsTraced flows.now roots first rows.old log.old.items tear.old → IsTraced flows.now roots first rows.new log.new.items tear.new) }
+    ensures traced { OnOk result ((roots : List ℕ) (first : SpecPlace)
+        → IsTraced flows.now roots first rows.old log.old.items tear.old
+        → IsTraced flows.now roots first rows.new log.new.items tear.new) }
 {
     if task.row >= rows.count() {
         return Ok(());
@@ -160,7 +166,9 @@ fn enter_roots(
     log: &mut Vec<Growth>,
     queue: &mut Queue,
 ) -> Result<(), Memory>
-    ensures traced { OnOk result ((tear : Option SpecTear) → IsTraced flows.now roots.now place.Text rows.old log.old.items tear → IsTraced flows.now roots.now place.Text rows.new log.new.items tear) }
+    ensures traced { OnOk result ((tear : Option SpecTear)
+        → IsTraced flows.now roots.now place.Text rows.old log.old.items tear
+        → IsTraced flows.now roots.now place.Text rows.new log.new.items tear) }
 {
     for root in roots {
         if enter_root(alloc, flows, rows, log, *root, TEXT)? {

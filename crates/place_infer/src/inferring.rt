@@ -26,7 +26,9 @@ fn judged(
     roots: &[u32],
     found: Found,
 ) -> Result<Chart, SetRefused>
-    ensures { flows.now ≡ forest.now → roots.now ≡ numbers_of_roots forest.now names.now → IsLeastChart forest.now roots.now place.Text found.rows → Infers forest.now names.now result }
+    ensures { flows.now ≡ forest.now → roots.now ≡ numbers_of_roots forest.now names.now
+        → IsLeastChart forest.now roots.now place.Text found.rows
+        → Infers forest.now names.now result }
 {
     if found.rows.count() > LIMIT {
         return Err(SetRefused::TooManyDerived);

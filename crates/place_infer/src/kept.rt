@@ -27,7 +27,8 @@ fn copied(alloc: Global, spots: &[Spot]) -> Result<Vec<Spot>, Memory>
 fn taken(alloc: Global, rows: &Rows, template: u32, entry: Place) -> Result<Row, Memory>
     ensures template { IfOk result (λ row. row.template ≡ template) }
     ensures entry { IfOk result (λ row. row.entry ≡ entry) }
-    ensures same { IfOk result (λ row. (k : SpecPoint) → spot_in row k ≡ chart_of rows.now template entry k) }
+    ensures same { IfOk result (λ row. (k : SpecPoint)
+        → spot_in row k ≡ chart_of rows.now template entry k) }
 {
     match rows.find(template, entry) {
         Some(n) => Ok(Row {
@@ -51,8 +52,10 @@ fn keep_pair(
     template: u32,
     entry: Place,
 ) -> Result<(), Memory>
-    ensures kept { OnOk result ((forest : ForestData) (roots : List ℕ) (first : SpecPlace) → IsKept forest roots first all.now kept.old →
-        IsReached forest roots first kept.old template entry → IsKept forest roots first all.now kept.new) }
+    ensures kept { OnOk result ((forest : ForestData) (roots : List ℕ) (first : SpecPlace)
+        → IsKept forest roots first all.now kept.old
+        → IsReached forest roots first kept.old template entry
+        → IsKept forest roots first all.now kept.new) }
     ensures length { length kept.old ≤ length kept.new }
 {
     if kept.find(template, entry).is_some() {
@@ -73,7 +76,9 @@ fn keep_call(
     number: usize,
 ) -> Result<(), Memory>
     requires { n < length kept.old }
-    ensures kept { OnOk result ((roots : List ℕ) (first : SpecPlace) → IsKept flows.now roots first all.now kept.old → IsKept flows.now roots first all.now kept.new) }
+    ensures kept { OnOk result ((roots : List ℕ) (first : SpecPlace)
+        → IsKept flows.now roots first all.now kept.old
+        → IsKept flows.now roots first all.now kept.new) }
     ensures length { length kept.old ≤ length kept.new }
 {
     let row = kept.row(n);
@@ -102,7 +107,9 @@ fn keep_calls(
     n: usize,
 ) -> Result<(), Memory>
     requires { n < length kept.old }
-    ensures kept { OnOk result ((roots : List ℕ) (first : SpecPlace) → IsKept flows.now roots first all.now kept.old → IsKept flows.now roots first all.now kept.new) }
+    ensures kept { OnOk result ((roots : List ℕ) (first : SpecPlace)
+        → IsKept flows.now roots first all.now kept.old
+        → IsKept flows.now roots first all.now kept.new) }
     ensures length { length kept.old ≤ length kept.new }
 {
     for number in 0..flows.edge_count(kept.row(n).template) {

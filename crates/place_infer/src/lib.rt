@@ -9,7 +9,6 @@ mod growing;
 mod inferring;
 mod kept;
 mod leaving;
-mod order;
 mod queue;
 mod refusal;
 mod replaying;

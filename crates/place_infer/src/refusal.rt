@@ -1,5 +1,6 @@
-ghost use Rattle.std.specs.Prelude.{◌≡◌, IfOk, IfSome, IsTrue, Contains, false, true};
+ghost use Rattle.std.specs.Prelude.{◌≡◌, IsTrue, Contains, false, true};
 ghost use Rattle.place_infer.specs.Inferring.{IsRefusal, is_end_code};
+ghost use Rattle.place_show.specs.Answers.{IfFound};
 ghost use Rattle.place_show.specs.Showings.{Shows};
 ghost use Rattle.tpl_tree.specs.Forests.{ForestData};
 
@@ -37,7 +38,8 @@ fn is_end(code: Code) -> bool
 
 // An error that was shown as a refusal, where it is of a root, and of a root's end exactly where that is wanted.
 fn refusal(names: &Names, ends: bool, shown: Result<Option<Showing>, Memory>) -> SetRefused
-    ensures { (forest : ForestData) → IfOk shown (λ found. IfSome found (Shows forest)) → IsRefusal forest names.now ends result }
+    ensures { (forest : ForestData) → IfFound (Shows forest) shown
+        → IsRefusal forest names.now ends result }
 {
     match shown {
         Ok(Some(showing)) => of_root(names, ends, showing),
@@ -46,7 +48,8 @@ fn refusal(names: &Names, ends: bool, shown: Result<Option<Showing>, Memory>) ->
 }
 
 fn of_root(names: &Names, ends: bool, showing: Showing) -> SetRefused
-    ensures { (forest : ForestData) → Shows forest showing → IsRefusal forest names.now ends result }
+    ensures { (forest : ForestData) → Shows forest showing
+        → IsRefusal forest names.now ends result }
 {
     if is_among(names.as_slice(), showing.root.as_str()) && is_end(showing.code) == ends {
         return SetRefused::Shows(showing);

@@ -1,8 +1,5 @@
-ghost use Rattle.std.specs.Prelude.{◌≡◌, IfOk, IfSome};
-ghost use Rattle.place_replay.specs.Replays.{IsWalker};
-ghost use Rattle.place_show.specs.Showings.{Shows};
+ghost use Rattle.place_infer.specs.Answers.{ShowsIn, ShowsOnEither};
 
-use crate::order::comes_before;
 use crate::replaying::replayed;
 use page_io::Memory;
 use place_flow::Flows;
@@ -13,29 +10,14 @@ use place_trail::{Candidate, candidate_of_end, candidates_of_tear};
 use std::alloc::Global;
 use tpl_tree::Forest;
 
-// What stands on two paths together, the one first whose printed choices come first.
-fn ordered_error(
-    alloc: Global,
-    forest: &Forest,
-    walker: &Walker,
-    other: &Walker,
-) -> Result<Option<Showing>, Memory>
-    ensures { IfOk result (λ found. IfSome found (λ sh. IsWalker forest.now walker.now → IsWalker forest.now other.now → Shows forest.now sh)) }
-{
-    if comes_before(alloc, forest, other, walker)? {
-        return error_of_two(alloc, forest, other, walker);
-    }
-    error_of_two(alloc, forest, walker, other)
-}
-
-// .. in this order.
+// What stands on two paths: on both where they meet, or on one of them.
 fn error_of_two(
     alloc: Global,
     forest: &Forest,
     walker: &Walker,
     other: &Walker,
 ) -> Result<Option<Showing>, Memory>
-    ensures { IfOk result (λ found. IfSome found (λ sh. IsWalker forest.now walker.now → IsWalker forest.now other.now → Shows forest.now sh)) }
+    ensures { ShowsOnEither forest.now walker.now other.now result }
 {
     if let Some(showing) = join_error(alloc, forest, walker, other)? {
         return Ok(Some(showing));
@@ -46,14 +28,14 @@ fn error_of_two(
     error_of_either(alloc, forest, walker, other)
 }
 
-// .. where one of them is refused alone, further on in the text.
+// .. on one of them alone.
 fn error_of_either(
     alloc: Global,
     forest: &Forest,
     walker: &Walker,
     other: &Walker,
 ) -> Result<Option<Showing>, Memory>
-    ensures { IfOk result (λ found. IfSome found (λ sh. IsWalker forest.now walker.now → IsWalker forest.now other.now → Shows forest.now sh)) }
+    ensures { ShowsOnEither forest.now walker.now other.now result }
 {
     if let Some(showing) = node_error(alloc, forest, walker)? {
         return Ok(Some(showing));
@@ -69,10 +51,10 @@ fn shown_by_two(
     one: &Candidate,
     other: &Candidate,
 ) -> Result<Option<Showing>, Memory>
-    ensures { IfOk result (λ found. IfSome found (λ sh. flows.now ≡ forest.now → Shows forest.now sh)) }
+    ensures { ShowsIn flows.now forest.now result }
 {
     match (replayed(alloc, flows, one)?, replayed(alloc, flows, other)?) {
-        (Some(walker), Some(other)) => ordered_error(alloc, forest, &walker, &other),
+        (Some(walker), Some(other)) => error_of_two(alloc, forest, &walker, &other),
         _ => Ok(None),
     }
 }
@@ -84,7 +66,7 @@ fn shown_by_one(
     flows: &Flows,
     candidate: &Candidate,
 ) -> Result<Option<Showing>, Memory>
-    ensures { IfOk result (λ found. IfSome found (λ sh. flows.now ≡ forest.now → Shows forest.now sh)) }
+    ensures { ShowsIn flows.now forest.now result }
 {
     match replayed(alloc, flows, candidate)? {
         Some(walker) => node_error(alloc, forest, &walker),
@@ -101,7 +83,7 @@ pub fn shown_tear(
     log: &[Growth],
     tear: &Tear,
 ) -> Result<Option<Showing>, Memory>
-    ensures { IfOk result (λ found. IfSome found (λ sh. flows.now ≡ forest.now → Shows forest.now sh)) }
+    ensures { ShowsIn flows.now forest.now result }
 {
     let candidates = candidates_of_tear(alloc, forest, flows, log, tear)?;
     match (candidates.get(0), candidates.get(1)) {
@@ -120,7 +102,7 @@ pub fn shown_end(
     log: &[Growth],
     root: u32,
 ) -> Result<Option<Showing>, Memory>
-    ensures { IfOk result (λ found. IfSome found (λ sh. flows.now ≡ forest.now → Shows forest.now sh)) }
+    ensures { ShowsIn flows.now forest.now result }
 {
     match candidate_of_end(alloc, flows, log, root)? {
         Some(candidate) => match replayed(alloc, flows, &candidate)? {

@@ -24,7 +24,8 @@ fn is_torn(at: Spot) -> bool
 
 // The number of a torn point of a row.
 fn torn_point(row: &Row) -> Option<usize>
-    ensures { MatchOption result (IsRowWhole row.now) (λ m. slice_index_or row.now.spots.items m spot.Off ≡ spot.Torn) }
+    ensures { MatchOption result (IsRowWhole row.now)
+        (λ m. slice_index_or row.now.spots.items m spot.Off ≡ spot.Torn) }
 {
     for number in 0..row.spots.len() {
         if is_torn(row.spots[number]) {
@@ -60,7 +61,8 @@ fn ends_in_text(at: Spot) -> bool
 
 /// The first root that can end in another place than text.
 pub fn ends_elsewhere(rows: &Rows, roots: &[u32]) -> Option<u32>
-    ensures { MatchOption result (All (λ t. EndsInText (chart_of rows.now t place.Text finish)) roots.now)
+    ensures { MatchOption result
+        (All (λ t. EndsInText (chart_of rows.now t place.Text finish)) roots.now)
         (λ t. Contains roots.now t × (EndsInText (chart_of rows.now t place.Text finish) → ⊥)) }
 {
     for root in roots {

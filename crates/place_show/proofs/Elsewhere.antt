@@ -7,8 +7,9 @@ use Rattle.place_replay.specs.Replays.{IsWalker}
 use Rattle.place_replay.specs.declared.walker.OpenCall.{OpenCall}
 use Rattle.place_replay.specs.declared.walker.Walker.{Walker}
 use Rattle.place_show.proofs.Makings.{shows-one}
-use Rattle.place_show.specs.Ends.{is_text_place}
-use Rattle.place_show.specs.Showings.{IsEndElsewhere, IsMadeOne, ShowsOne, end_of}
+use Rattle.place_show.specs.Ends.{is_text_place, last_of}
+use Rattle.place_show.specs.Made.{IsMadeOne}
+use Rattle.place_show.specs.Showings.{IsEndElsewhere, ShowsOne, end_of}
 use Rattle.place_show.specs.declared.showing.Showing.{Showing}
 use Rattle.tpl_paths.specs.Edges.{finish}
 use Rattle.tpl_tree.specs.Forests.{ForestData, tree_at}
@@ -21,7 +22,7 @@ none-open [] h = refl
 none-open (o ∷ calls) h = absurd (omega (arith, h))
 
 pub end-shown : (forest : ForestData) (w : Walker) (sh : Showing) → w.template ≡ w.root → w.open_calls.items ≡ [] → w.point ≡ finish → w.place ≢ place.Text
-    → IsMadeOne forest w code.EndContext (end_of (tree_at forest w.root)) 0 0 w.place sh → IsWalker forest w → ShowsOne forest sh
+    → IsMadeOne forest w code.EndContext (end_of (tree_at forest w.root)) (last_of (tree_at forest w.root)) 0 w.place sh → IsWalker forest w → ShowsOne forest sh
 end-shown forest w sh root closed point elsewhere m is =
     let error : IsEndElsewhere forest sh m.seen w = record {
       code = m.made.code;
@@ -31,5 +32,7 @@ end-shown forest w sh root closed point elsewhere m is =
       at = m.is.place;
       elsewhere = elsewhere;
       line = m.made.line_is;
+      last = m.made.node_is;
+      byte = m.made.byte_is;
     } in
-    shows-one forest w code.EndContext (end_of (tree_at forest w.root)) 0 0 w.place sh m is (inr (inr (inr (inr error))))
+    shows-one forest w code.EndContext (end_of (tree_at forest w.root)) (last_of (tree_at forest w.root)) 0 w.place sh m is (inr (inr (inr (inr error))))

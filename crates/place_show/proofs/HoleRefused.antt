@@ -6,7 +6,8 @@ use Rattle.place_core.specs.declared.code.Code.{Code}
 use Rattle.place_replay.specs.declared.walker.Walker.{Walker}
 use Rattle.place_show.proofs.Makings.{kind-shown, node-shown, shows-one}
 use Rattle.place_show.specs.AtNodes.{ShowsOneAt}
-use Rattle.place_show.specs.Showings.{IsHoleRefused, IsMadeOne, state_of}
+use Rattle.place_show.specs.Made.{IsMadeOne}
+use Rattle.place_show.specs.Showings.{IsHoleRefused, state_of}
 use Rattle.place_show.specs.declared.showing.Showing.{Showing}
 use Rattle.tpl_tree.specs.Forests.{ForestData}
 use Rattle.tpl_tree.specs.Trees.{NodesData, head_kind, head_line, nodes_from}

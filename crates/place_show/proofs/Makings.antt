@@ -6,7 +6,8 @@ use Rattle.place_flow.specs.Flows.{nodes_at}
 use Rattle.place_replay.specs.Replays.{IsWalker, name_or_none}
 use Rattle.place_replay.specs.declared.walker.OpenCall.{OpenCall}
 use Rattle.place_replay.specs.declared.walker.Walker.{Walker}
-use Rattle.place_show.specs.Showings.{IsMade, IsMadeOne, IsMadeTwo, IsNodeShown, IsSeenAt, IsShownBy, Meet, OneError, ShowsOne, kind_of_node, state_of}
+use Rattle.place_show.specs.Made.{IsMade, IsMadeOne, IsMadeTwo, IsSeenAt}
+use Rattle.place_show.specs.Showings.{IsNodeShown, IsShownBy, Meet, OneError, ShowsOne, kind_of_node, state_of}
 use Rattle.place_show.specs.declared.showing.Seen.{Seen}
 use Rattle.place_show.specs.declared.showing.Showing.{Showing}
 use Rattle.tpl_paths.specs.Edges.{before}
@@ -25,6 +26,7 @@ shown-by forest w c line n byte at sh seen m s is = record {
   template = named (name_at forest w.template) is.name sh.template is.name_is m.template;
   calls = sym m.calls;
   path = s.path;
+  named = s.named;
 }
 
 -- .. and by a path that meets it
@@ -35,6 +37,7 @@ shown-by-other forest w v at sh seen other by meet s is = record {
   template = ap (name_at forest) meet.template ∙ by.template;
   calls = ap (map (λ (o : OpenCall). o.node)) meet.open_calls ∙ by.calls;
   path = s.path;
+  named = s.named;
 }
 
 pub meets : (w v : Walker) → w.root ≡ v.root → w.template ≡ v.template → w.point ≡ v.point → w.open_calls.items ≡ v.open_calls.items → Meet w v
@@ -84,6 +87,6 @@ made-two-as forest w v c d line ine n i byte b at to other beside sh e f g h a o
   seen = m.seen;
   other = m.other;
   paths = m.paths;
-  is = record { path = m.is.path; place = m.is.place ∙ a };
-  other_is = record { path = m.other_is.path; place = m.other_is.place ∙ o };
+  is = record { path = m.is.path; named = m.is.named; place = m.is.place ∙ a };
+  other_is = record { path = m.other_is.path; named = m.other_is.named; place = m.other_is.place ∙ o };
 }

@@ -5,7 +5,8 @@ use Rattle.place_flow.specs.Leaving.{may_use, use_of_node}
 use Rattle.place_replay.specs.declared.walker.Walker.{Walker}
 use Rattle.place_show.proofs.Makings.{kind-shown, node-shown, shows-one}
 use Rattle.place_show.specs.AtNodes.{ShowsOneAt}
-use Rattle.place_show.specs.Showings.{IsMadeOne, IsMisused}
+use Rattle.place_show.specs.Made.{IsMadeOne}
+use Rattle.place_show.specs.Showings.{IsMisused}
 use Rattle.place_show.specs.declared.showing.Showing.{Showing}
 use Rattle.tpl_escapers.specs.Uses.{kind_use}
 use Rattle.tpl_tree.specs.Forests.{ForestData}

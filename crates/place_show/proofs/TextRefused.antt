@@ -7,7 +7,8 @@ use Rattle.place_core.specs.declared.step_err.StepErr.{StepErr}
 use Rattle.place_replay.specs.declared.walker.Walker.{Walker}
 use Rattle.place_show.proofs.Makings.{kind-shown, shows-one}
 use Rattle.place_show.specs.AtNodes.{ShowsOneAt}
-use Rattle.place_show.specs.Showings.{IsMadeOne, IsTextRefused, state_of}
+use Rattle.place_show.specs.Made.{IsMadeOne}
+use Rattle.place_show.specs.Showings.{IsTextRefused, state_of}
 use Rattle.place_show.specs.declared.showing.Showing.{Showing}
 use Rattle.tpl_paths.specs.Edges.{before}
 use Rattle.tpl_tree.specs.Forests.{ForestData}

@@ -6,7 +6,9 @@ use Rattle.place_core.specs.declared.place.Place.{Place}
 use Rattle.place_replay.specs.Replays.{IsWalker}
 use Rattle.place_replay.specs.declared.walker.Walker.{Walker}
 use Rattle.place_show.proofs.Makings.{shown-by, shown-by-other}
-use Rattle.place_show.specs.Showings.{DoNotJoin, IsMadeTwo, IsShownBy, JoinsAt, Meet, ShowsTwo, line_of_node}
+use Rattle.place_show.proofs.TwoShown.{two-shown}
+use Rattle.place_show.specs.Made.{IsMadeTwo}
+use Rattle.place_show.specs.Showings.{DoNotJoin, IsShownBy, JoinsAt, Meet, ShowsTwo, line_of_node}
 use Rattle.place_show.specs.declared.showing.Showing.{Showing}
 use Rattle.tpl_tree.specs.Forests.{ForestData}
 
@@ -18,6 +20,7 @@ pub torn-shown : (forest : ForestData) (w v : Walker) (c : Code) (n : ℕ) (sh :
     → IsMadeTwo forest w v c (line_of_node forest w.template n) n 0 w.place v.place sh → IsWalker forest w → IsWalker forest v → ShowsTwo forest sh
 torn-shown forest w v c n sh meet torn at m is other =
     let by : IsShownBy forest sh m.seen w = shown-by forest w c (line_of_node forest w.template n) n 0 w.place sh m.seen m.made m.is is in
+    let other_by : IsShownBy forest sh m.other v = shown-by-other forest w v v.place sh m.seen m.other by meet m.other_is other in
     let error : DoNotJoin forest sh m.seen m.other w v = record {
       point = rw (m.made.code, m.made.node_is) at;
       at = m.is.place;
@@ -26,14 +29,4 @@ torn-shown forest w v c n sh meet torn at m is other =
       line = rw m.made.node_is m.made.line_is;
       byte = m.made.byte_is;
     } in
-    record {
-      walker = w;
-      other = v;
-      seen = m.seen;
-      other_seen = m.other;
-      paths = m.paths;
-      by = by;
-      other_by = shown-by-other forest w v v.place sh m.seen m.other by meet m.other_is other;
-      meet = meet;
-      error = inr error;
-    }
+    two-shown forest sh w v m.seen m.other meet by other_by m.paths (inr error)

@@ -1,11 +1,12 @@
 -- A text is refused at one of its bytes, or at its end.
-use Rattle.std.proofs.Common.{◌≡◌, ℕ, ◌+◌, ◌-◌, ◌≤◌, true, List, [], ◌∷◌, length, Option, Some, None, Result, Ok, Err, is_ok, refl, sym, ap, ◌∙◌, arith}
+use Rattle.std.proofs.Common.{◌≡◌, ℕ, ◌+◌, ◌-◌, ◌≤◌, List, [], ◌∷◌, length, Option, Some, None, Result, Ok, Err, refl, sym, ap, ◌∙◌, subst, arith}
 use Rattle.html_front.specs.Fronts.{At, Front, front_cut_error, front_error, front_next, front_place}
 use Rattle.html_step.specs.Steps.{after_text, place_before, stepped, unless_refused, with_place_before}
 use Rattle.place_core.specs.Classes.{class_of}
 use Rattle.place_core.specs.Errors.{Cause, Refusal}
 use Rattle.place_core.specs.declared.place.Place.{Place}
 use Rattle.place_core.specs.declared.step_err.StepErr.{StepErr}
+use Rattle.place_show.specs.Taking.{TakesByte}
 
 one-refusal : (x y : Refusal) (o : Result Place Refusal) → o ≡ Err x → o ≡ Err y → x ≡ y
 one-refusal x y o e f = cc
@@ -47,5 +48,5 @@ refused-within bytes p e h = answer-within bytes p (stepped 0 bytes (At p)) e re
 pub at-text : (bytes text : List ℕ) (p : Place) (e : StepErr Place) → bytes ≡ text → Err e ≡ after_text bytes p → after_text text p ≡ Err e
 at-text bytes text p e s h = ap (λ (b : List ℕ). after_text b p) (sym s) ∙ sym h
 
-pub taken-text : (bytes text : List ℕ) (p : Place) → bytes ≡ text → true ≡ is_ok (after_text bytes p) → is_ok (after_text text p) ≡ true
-taken-text bytes text p s h = ap (λ (b : List ℕ). is_ok (after_text b p)) (sym s) ∙ sym h
+pub taken-text : (bytes text : List ℕ) (p : Place) (at : ℕ) → bytes ≡ text → TakesByte at (after_text bytes p) → TakesByte at (after_text text p)
+taken-text bytes text p at s h = subst (λ (b : List ℕ). TakesByte at (after_text b p)) s h

@@ -10,8 +10,11 @@ use Rattle.tpl_tree.specs.Forests.{ForestData}
 use Rattle.tpl_tree.specs.Trees.{NodesData}
 
 abbrev pub ShowsOneAt : ForestData → Walker → NodesData → ℕ → Showing → Type 0
-ShowsOneAt forest w nodes n sh = nodes_at forest w.template ≡ nodes → w.point ≡ before n → IsWalker forest w → ShowsOne forest sh
+ShowsOneAt forest w nodes n sh =
+    nodes_at forest w.template ≡ nodes → w.point ≡ before n → IsWalker forest w
+    → ShowsOne forest sh
 
 abbrev pub ShowsTwoAt : ForestData → Walker → Walker → NodesData → ℕ → Showing → Type 0
 ShowsTwoAt forest w v nodes n sh =
-    nodes_at forest w.template ≡ nodes → w.point ≡ before n → Meet w v → IsWalker forest w → IsWalker forest v → ShowsTwo forest sh
+    nodes_at forest w.template ≡ nodes → w.point ≡ before n → Meet w v → IsWalker forest w
+    → IsWalker forest v → ShowsTwo forest sh

@@ -1,3 +1,7 @@
+pub mod Answers
 pub mod AtNodes
 pub mod Ends
+pub mod Made
+pub mod PathTexts
 pub mod Showings
+pub mod Taking

@@ -1,5 +1,5 @@
 -- An error that stands on a path, or on two that meet, as it is shown.
-use Rattle.std.specs.Prelude.{◌≡◌, ◌≢◌, ℕ, false, List, [], ◌∷◌, Option, Some, None, map, take, ◌⊎◌}
+use Rattle.std.specs.Prelude.{◌≡◌, ◌≢◌, ℕ, false, List, [], ◌∷◌, All, Option, Some, None, map, take, ◌⊎◌}
 use Rattle.place_charts.specs.Charts.{read_moves}
 use Rattle.place_charts.specs.Html.{html}
 use Rattle.place_core.specs.Errors.{Clashes, Refuses, RefusesHole, node}
@@ -10,13 +10,14 @@ use Rattle.place_core.specs.States.{State}
 use Rattle.place_core.specs.Tags.{ValueState}
 use Rattle.place_core.specs.declared.code.Code.{Code}
 use Rattle.place_core.specs.declared.code.Code.TheVariants as code
-use Rattle.place_core.specs.declared.place.Place.{Place}
 use Rattle.place_core.specs.declared.place.Place.TheVariants as place
 use Rattle.place_flow.specs.Flows.{nodes_at}
 use Rattle.place_flow.specs.Leaving.{may_use, use_at}
 use Rattle.place_replay.specs.Replays.{IsWalker, name_or_none}
 use Rattle.place_replay.specs.declared.chosen.Chosen.{Chosen}
 use Rattle.place_replay.specs.declared.walker.Walker.{Walker}
+use Rattle.place_show.specs.Ends.{last_of}
+use Rattle.place_show.specs.PathTexts.{ComesFirst}
 use Rattle.place_show.specs.declared.showing.Seen.{Seen}
 use Rattle.place_show.specs.declared.showing.SeenChoice.{SeenChoice}
 use Rattle.place_show.specs.declared.showing.Showing.{Showing}
@@ -36,7 +37,8 @@ line_of_node forest t n = head_line (nodes_from (nodes_at forest t) n)
 
 -- the line of a byte of a text
 abbrev pub line_of_byte : ForestData → ℕ → ℕ → List ℕ → ℕ → ℕ
-line_of_byte forest t n bytes at = text_line bytes (line_of_node forest t n) (head_seams (nodes_from (nodes_at forest t) n)) at
+line_of_byte forest t n bytes at =
+    text_line bytes (line_of_node forest t n) (head_seams (nodes_from (nodes_at forest t) n)) at
 
 -- the line on which a template ends
 abbrev pub end_of : Option TreeData → ℕ
@@ -45,7 +47,15 @@ end_of (Some tree) = tree.end_line
 
 -- what a path chose, as it is shown
 abbrev pub seen_choice : ForestData → Chosen → SeenChoice
-seen_choice forest c = record { template = name_or_none (name_at forest c.template); line = line_of_node forest c.template c.node; way = c.way }
+seen_choice forest c = record {
+  template = name_or_none (name_at forest c.template);
+  line = line_of_node forest c.template c.node;
+  way = c.way;
+}
+
+-- .. in a template of the forest, which has the name that is shown
+abbrev pub IsNamed : ForestData → Chosen → Type 0
+IsNamed forest c = name_at forest c.template ≡ Some (seen_choice forest c).template
 
 -- what a path has read
 abbrev pub state_of : {forest : ForestData} {w : Walker} → IsWalker forest w → State ValueState
@@ -58,9 +68,11 @@ pub record IsShownBy (forest : ForestData) (sh : Showing) (seen : Seen) (w : Wal
   pub template : name_at forest w.template ≡ Some sh.template
   pub calls : map (λ o. o.node) w.open_calls.items ≡ sh.calls
   pub path : seen.path ≡ map (seen_choice forest) w.chosen.items
+  pub named : All (IsNamed forest) w.chosen.items
 
 -- An error of one path. A text is refused at a byte, before which the path is at the place that is shown.
-pub record IsTextRefused (forest : ForestData) (sh : Showing) (seen : Seen) (w : Walker) (s : State ValueState) : Type 0 where
+pub record IsTextRefused (forest : ForestData) (sh : Showing) (seen : Seen) (w : Walker)
+    (s : State ValueState) : Type 0 where
   pub bytes : List ℕ
   pub point : w.point ≡ before sh.node
   pub text : kind_of_node forest w.template sh.node ≡ Some (kind.Text bytes)
@@ -68,14 +80,16 @@ pub record IsTextRefused (forest : ForestData) (sh : Showing) (seen : Seen) (w :
   pub line : sh.line ≡ line_of_byte forest w.template sh.node bytes sh.byte
 
 -- .. the path is at the place that is shown, and the node may not stand there
-pub record IsNodeShown (forest : ForestData) (sh : Showing) (seen : Seen) (w : Walker) : Type 0 where
+pub record IsNodeShown (forest : ForestData) (sh : Showing) (seen : Seen) (w : Walker)
+    : Type 0 where
   pub point : w.point ≡ before sh.node
   pub at : seen.at ≡ w.place
   pub line : sh.line ≡ line_of_node forest w.template sh.node
   pub byte : sh.byte ≡ 0
 
 -- a hole
-pub record IsHoleRefused (forest : ForestData) (sh : Showing) (seen : Seen) (w : Walker) (s : State ValueState) : Type 0 where
+pub record IsHoleRefused (forest : ForestData) (sh : Showing) (seen : Seen) (w : Walker)
+    (s : State ValueState) : Type 0 where
   pub pipe : Pipe
   pub hole : kind_of_node forest w.template sh.node ≡ Some (kind.Action pipe)
   pub shown : IsNodeShown forest sh seen w
@@ -96,8 +110,9 @@ pub record IsMissing (forest : ForestData) (sh : Showing) (seen : Seen) (w : Wal
   pub shown : IsNodeShown forest sh seen w
   pub missing : number_named name forest ≡ None
 
--- the path ends its root in another place than text
-pub record IsEndElsewhere (forest : ForestData) (sh : Showing) (seen : Seen) (w : Walker) : Type 0 where
+-- The path ends its root in another place than text. The node is the last one at top level of the root.
+pub record IsEndElsewhere (forest : ForestData) (sh : Showing) (seen : Seen) (w : Walker)
+    : Type 0 where
   pub code : sh.code ≡ code.EndContext
   pub root : w.template ≡ w.root
   pub closed : w.open_calls.items ≡ []
@@ -105,9 +120,16 @@ pub record IsEndElsewhere (forest : ForestData) (sh : Showing) (seen : Seen) (w 
   pub at : seen.at ≡ w.place
   pub elsewhere : w.place ≢ place.Text
   pub line : sh.line ≡ end_of (tree_at forest w.root)
+  pub last : sh.node ≡ last_of (tree_at forest w.root)
+  pub byte : sh.byte ≡ 0
 
 abbrev pub OneError : ForestData → Showing → Seen → Walker → State ValueState → Type 0
-OneError forest sh seen w s = IsTextRefused forest sh seen w s ⊎ (IsHoleRefused forest sh seen w s ⊎ (IsMisused forest sh seen w ⊎ (IsMissing forest sh seen w ⊎ IsEndElsewhere forest sh seen w)))
+OneError forest sh seen w s =
+    IsTextRefused forest sh seen w s
+    ⊎ (IsHoleRefused forest sh seen w s
+    ⊎ (IsMisused forest sh seen w
+    ⊎ (IsMissing forest sh seen w
+    ⊎ IsEndElsewhere forest sh seen w)))
 
 pub record ShowsOne (forest : ForestData) (sh : Showing) : Type 0 where
   pub walker : Walker
@@ -116,9 +138,10 @@ pub record ShowsOne (forest : ForestData) (sh : Showing) : Type 0 where
   pub by : IsShownBy forest sh seen walker
   pub error : OneError forest sh seen walker (state_of by.is)
 
--- An error of two paths that meet: of one root, at one point, with the same calls open. A text is refused on both together, at a byte before
--- which each is at its place.
-pub record TextClashes (forest : ForestData) (sh : Showing) (a b : Seen) (w v : Walker) (s r : State ValueState) : Type 0 where
+-- An error of two paths that meet: of one root, at one point, with the same calls open. A text is refused on
+-- both together, at a byte before which each is at its place.
+pub record TextClashes (forest : ForestData) (sh : Showing) (a b : Seen) (w v : Walker)
+    (s r : State ValueState) : Type 0 where
   pub bytes : List ℕ
   pub point : w.point ≡ before sh.node
   pub text : kind_of_node forest w.template sh.node ≡ Some (kind.Text bytes)
@@ -129,7 +152,9 @@ pub record TextClashes (forest : ForestData) (sh : Showing) (a b : Seen) (w v : 
 
 -- the code of places that do not join: at the head of a range, and behind the parts of a control
 abbrev pub JoinsAt : Code → Point → ℕ → Type 0
-JoinsAt c k n = ((c ≡ code.RangeLoopReentry) × (k ≡ head n)) ⊎ ((c ≡ code.BranchEnd) × (k ≡ past n))
+JoinsAt c k n =
+    ((c ≡ code.RangeLoopReentry) × (k ≡ head n))
+    ⊎ ((c ≡ code.BranchEnd) × (k ≡ past n))
 
 -- their places do not join
 pub record DoNotJoin (forest : ForestData) (sh : Showing) (a b : Seen) (w v : Walker) : Type 0 where
@@ -140,51 +165,32 @@ pub record DoNotJoin (forest : ForestData) (sh : Showing) (a b : Seen) (w v : Wa
   pub line : sh.line ≡ line_of_node forest w.template sh.node
   pub byte : sh.byte ≡ 0
 
+-- they stand at one point, with the same calls open
 pub record Meet (w v : Walker) : Type 0 where
   pub root : v.root ≡ w.root
   pub template : v.template ≡ w.template
   pub point : v.point ≡ w.point
   pub open_calls : v.open_calls.items ≡ w.open_calls.items
 
+-- an error of two paths that meet
+abbrev pub TwoErrors : ForestData → Showing → Seen → Seen → Walker → Walker → State ValueState
+    → State ValueState → Type 0
+TwoErrors forest sh a b w v s r = TextClashes forest sh a b w v s r ⊎ DoNotJoin forest sh a b w v
+
+-- The paths are in the order in which they come as they are printed.
 pub record ShowsTwo (forest : ForestData) (sh : Showing) : Type 0 where
   pub walker : Walker
   pub other : Walker
   pub seen : Seen
   pub other_seen : Seen
   pub paths : sh.paths ≡ seen ∷ other_seen ∷ []
+  pub order : ComesFirst seen.path other_seen.path
   pub by : IsShownBy forest sh seen walker
   pub other_by : IsShownBy forest sh other_seen other
   pub meet : Meet walker other
-  pub error : TextClashes forest sh seen other_seen walker other (state_of by.is) (state_of other_by.is) ⊎ DoNotJoin forest sh seen other_seen walker other
+  pub error : TwoErrors forest sh seen other_seen walker other
+      (state_of by.is) (state_of other_by.is)
 
 -- A refusal shows an error that stands on its paths.
 abbrev pub Shows : ForestData → Showing → Type 0
 Shows forest sh = ShowsOne forest sh ⊎ ShowsTwo forest sh
-
--- a showing of one path, and of two, as it is made
-pub record IsSeenAt (forest : ForestData) (w : Walker) (at : Place) (seen : Seen) : Type 0 where
-  pub path : seen.path ≡ map (seen_choice forest) w.chosen.items
-  pub place : seen.at ≡ at
-
-pub record IsMade (forest : ForestData) (w : Walker) (c : Code) (line number byte : ℕ) (sh : Showing) : Type 0 where
-  pub code : sh.code ≡ c
-  pub template : sh.template ≡ name_or_none (name_at forest w.template)
-  pub line_is : sh.line ≡ line
-  pub root : sh.root ≡ name_or_none (name_at forest w.root)
-  pub calls : sh.calls ≡ map (λ o. o.node) w.open_calls.items
-  pub node_is : sh.node ≡ number
-  pub byte_is : sh.byte ≡ byte
-
-pub record IsMadeOne (forest : ForestData) (w : Walker) (c : Code) (line number byte : ℕ) (at : Place) (sh : Showing) : Type 0 where
-  pub made : IsMade forest w c line number byte sh
-  pub seen : Seen
-  pub paths : sh.paths ≡ seen ∷ []
-  pub is : IsSeenAt forest w at seen
-
-pub record IsMadeTwo (forest : ForestData) (w v : Walker) (c : Code) (line number byte : ℕ) (at other_at : Place) (sh : Showing) : Type 0 where
-  pub made : IsMade forest w c line number byte sh
-  pub seen : Seen
-  pub other : Seen
-  pub paths : sh.paths ≡ seen ∷ other ∷ []
-  pub is : IsSeenAt forest w at seen
-  pub other_is : IsSeenAt forest v other_at other

@@ -1,8 +1,9 @@
-ghost use Rattle.std.specs.Prelude.{◌≡◌, IfOk, IfSome};
+ghost use Rattle.std.specs.Prelude.{◌≡◌};
 ghost use Rattle.place_core.specs.declared.code.Code.TheVariants as code;
-ghost use Rattle.place_replay.specs.Replays.{IsWalker};
-ghost use Rattle.place_show.specs.Ends.{is_text_place};
-ghost use Rattle.place_show.specs.Showings.{IsMadeOne, ShowsOne, end_of};
+ghost use Rattle.place_show.specs.Answers.{IfFound, ShowsOn};
+ghost use Rattle.place_show.specs.Ends.{is_text_place, last_number, last_of};
+ghost use Rattle.place_show.specs.Made.{IsMadeOne};
+ghost use Rattle.place_show.specs.Showings.{end_of};
 ghost use Rattle.tpl_tree.specs.Forests.{tree_at};
 
 use crate::making::{Mark, made_one};
@@ -12,11 +13,11 @@ use place_core::{Code, Place};
 use place_replay::Walker;
 use std::alloc::Global;
 use tpl_paths::Point;
-use tpl_tree::Forest;
+use tpl_tree::{Forest, Tree};
 
 /// That a path ends its root in another place than text, if it does. The error is out of memory.
 pub fn end_error(alloc: Global, forest: &Forest, walker: &Walker) -> Result<Option<Showing>, Memory>
-    ensures { IfOk result (λ found. IfSome found (λ sh. IsWalker forest.now walker.now → ShowsOne forest.now sh)) }
+    ensures { ShowsOn forest.now walker.now result }
 {
     if walker.template != walker.root || walker.open_calls.len() > 0 {
         return Ok(None);
@@ -40,16 +41,33 @@ fn is_text(place: Place) -> bool
 }
 
 fn ended(alloc: Global, forest: &Forest, walker: &Walker) -> Result<Option<Showing>, Memory>
-    ensures { IfOk result (λ found. IfSome found (IsMadeOne forest.now walker.now code.EndContext (end_of (tree_at forest.now walker.now.root)) 0 0 walker.now.place)) }
+    ensures { let w = walker.now in
+        let root = tree_at forest.now w.root in
+        let is_made = IsMadeOne forest.now w code.EndContext (end_of root) (last_of root) 0 in
+        IfFound (is_made w.place) result }
 {
     if walker.root as usize >= forest.count() {
         return Ok(None);
     }
+    let tree = forest.tree(walker.root);
     let mark = Mark {
         code: Code::EndContext,
-        line: forest.tree(walker.root).end_line(),
-        node: 0,
+        line: tree.end_line(),
+        node: last_node(tree),
         byte: 0,
     };
-    Ok(Some(made_one(alloc, forest, walker, mark, walker.place)?))
+    made_one(alloc, forest, walker, mark, walker.place)
+}
+
+// The number of the last node at top level; 0 where there is none.
+fn last_node(tree: &Tree) -> u32
+    ensures { result ≡ last_number tree.now.nodes }
+{
+    let mut last = 0;
+    let mut next = tree.first();
+    while let Some(node) = next {
+        last = node;
+        next = tree.next(node);
+    }
+    last
 }

@@ -1,6 +1,6 @@
-ghost use Rattle.std.specs.Prelude.{IfOk, IfSome};
-ghost use Rattle.place_replay.specs.Replays.{IsWalker};
-ghost use Rattle.place_show.specs.Showings.{IsMadeTwo, ShowsTwo, line_of_node};
+ghost use Rattle.place_show.specs.Answers.{IfFound, ShowsOnBoth};
+ghost use Rattle.place_show.specs.Made.{IsMadeTwo};
+ghost use Rattle.place_show.specs.Showings.{line_of_node};
 
 use crate::making::{Mark, made_two};
 use crate::seen::line_of;
@@ -20,7 +20,7 @@ pub fn join_error(
     walker: &Walker,
     other: &Walker,
 ) -> Result<Option<Showing>, Memory>
-    ensures { IfOk result (λ found. IfSome found (λ sh. IsWalker forest.now walker.now → IsWalker forest.now other.now → ShowsTwo forest.now sh)) }
+    ensures { ShowsOnBoth forest.now walker.now other.now result }
 {
     if !walker.stands_with(other) || join(walker.place, other.place).is_some() {
         return Ok(None);
@@ -40,7 +40,10 @@ fn torn(
     code: Code,
     node: u32,
 ) -> Result<Option<Showing>, Memory>
-    ensures { IfOk result (λ found. IfSome found (IsMadeTwo forest.now walker.now other.now code (line_of_node forest.now walker.now.template node) node 0 walker.now.place other.now.place)) }
+    ensures { let w = walker.now in
+        let v = other.now in
+        let line = line_of_node forest.now w.template node in
+        IfFound (IsMadeTwo forest.now w v code line node 0 w.place v.place) result }
 {
     let mark = Mark {
         code,
@@ -48,7 +51,7 @@ fn torn(
         node,
         byte: 0,
     };
-    Ok(Some(made_two(
+    made_two(
         alloc,
         forest,
         walker,
@@ -56,5 +59,5 @@ fn torn(
         mark,
         walker.place,
         other.place,
-    )?))
+    )
 }

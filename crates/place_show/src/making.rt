@@ -1,9 +1,11 @@
-ghost use Rattle.std.specs.Prelude.{◌≡◌, ◌<◌, ◌≤◌, IfOk, Some, length};
-ghost use Rattle.place_show.specs.Showings.{IsMade, IsMadeOne, IsMadeTwo, IsSeenAt};
+ghost use Rattle.std.specs.Prelude.{◌≡◌, ◌<◌, ◌≤◌, IfOk, IfSome, Some, length};
+ghost use Rattle.place_show.specs.Answers.{IfFound};
+ghost use Rattle.place_show.specs.Made.{IsMade, IsMadeOne, IsMadeTwo, IsSeenAt};
 ghost use Rattle.tpl_tree.specs.Trees.{head_kind, head_line, head_seams, nodes_from, nodes_size, text_line};
 ghost use Rattle.tpl_tree.specs.declared.node_kind.NodeKind.TheVariants as kind;
 
-use crate::seen::{call_nodes, name_of, seen_path};
+use crate::ordering::in_order;
+use crate::seen::{are_named, call_nodes, name_of, seen_path};
 use crate::showing::{Seen, Showing};
 use page_io::{List, Memory, Text};
 use place_core::{Code, Place, StepErr};
@@ -39,14 +41,22 @@ pub(crate) fn text_mark(tree: &Tree, node: u32, text: &Text, refused: StepErr<Pl
     }
 }
 
-// A path as it is shown, at a place.
-fn seen_at(alloc: Global, forest: &Forest, walker: &Walker, at: Place) -> Result<Seen, Memory>
-    ensures { IfOk result (λ seen. IsSeenAt forest.now walker.now at seen) }
+// A path as it is shown, at a place. None where it chose in a template that the forest lacks.
+fn seen_at(
+    alloc: Global,
+    forest: &Forest,
+    walker: &Walker,
+    at: Place,
+) -> Result<Option<Seen>, Memory>
+    ensures { IfOk result (λ found. IfSome found (IsSeenAt forest.now walker.now at)) }
 {
-    Ok(Seen {
+    if !are_named(forest, &walker.chosen) {
+        return Ok(None);
+    }
+    Ok(Some(Seen {
         path: seen_path(alloc, forest, &walker.chosen)?,
         at,
-    })
+    }))
 }
 
 // A showing of some paths, which stand where one does.
@@ -57,7 +67,8 @@ fn made(
     mark: Mark,
     paths: List<Seen>,
 ) -> Result<Showing, Memory>
-    ensures made { IfOk result (λ sh. IsMade forest.now walker.now mark.code mark.line mark.node mark.byte sh) }
+    ensures made { let w = walker.now in
+        IfOk result (IsMade forest.now w mark.code mark.line mark.node mark.byte) }
     ensures paths { IfOk result (λ sh. sh.paths ≡ paths) }
 {
     Ok(Showing {
@@ -72,22 +83,27 @@ fn made(
     })
 }
 
-/// A showing of one path. The error is out of memory.
+/// A showing of one path. None where it chose in a template that the forest lacks. The error is out of memory.
 pub(crate) fn made_one(
     alloc: Global,
     forest: &Forest,
     walker: &Walker,
     mark: Mark,
     at: Place,
-) -> Result<Showing, Memory>
-    ensures { IfOk result (IsMadeOne forest.now walker.now mark.code mark.line mark.node mark.byte at) }
+) -> Result<Option<Showing>, Memory>
+    ensures { let w = walker.now in
+        IfFound (IsMadeOne forest.now w mark.code mark.line mark.node mark.byte at) result }
 {
+    let Some(seen) = seen_at(alloc, forest, walker, at)? else {
+        return Ok(None);
+    };
     let mut paths = List::new(alloc);
-    paths.push(seen_at(alloc, forest, walker, at)?)?;
-    made(alloc, forest, walker, mark, paths)
+    paths.push(seen)?;
+    Ok(Some(made(alloc, forest, walker, mark, paths)?))
 }
 
-/// A showing of two paths, in this order. The error is out of memory.
+/// A showing of two paths, the one first that comes first as they are printed. None where one chose in a template that the forest lacks. The
+/// error is out of memory.
 pub(crate) fn made_two(
     alloc: Global,
     forest: &Forest,
@@ -96,11 +112,18 @@ pub(crate) fn made_two(
     mark: Mark,
     at: Place,
     other_at: Place,
-) -> Result<Showing, Memory>
-    ensures { IfOk result (IsMadeTwo forest.now walker.now other.now mark.code mark.line mark.node mark.byte at other_at) }
+) -> Result<Option<Showing>, Memory>
+    ensures { let w = walker.now in
+        let v = other.now in
+        let is_made = IsMadeTwo forest.now w v mark.code mark.line mark.node mark.byte in
+        IfFound (is_made at other_at) result }
 {
-    let mut paths = List::new(alloc);
-    paths.push(seen_at(alloc, forest, walker, at)?)?;
-    paths.push(seen_at(alloc, forest, other, other_at)?)?;
-    made(alloc, forest, walker, mark, paths)
+    let Some(seen) = seen_at(alloc, forest, walker, at)? else {
+        return Ok(None);
+    };
+    let Some(other_seen) = seen_at(alloc, forest, other, other_at)? else {
+        return Ok(None);
+    };
+    let paths = in_order(alloc, seen, other_seen)?;
+    Ok(Some(made(alloc, forest, walker, mark, paths)?))
 }

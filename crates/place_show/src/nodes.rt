@@ -1,7 +1,7 @@
-ghost use Rattle.std.specs.Prelude.{◌≡◌, ◌<◌, ◌^◌, IfOk, IfSome, Some, length};
-ghost use Rattle.place_replay.specs.Replays.{IsWalker};
+ghost use Rattle.std.specs.Prelude.{◌≡◌, ◌<◌, ◌^◌, Some, length};
+ghost use Rattle.place_show.specs.Answers.{IfFound, ShowsOn};
 ghost use Rattle.place_show.specs.AtNodes.{ShowsOneAt};
-ghost use Rattle.place_show.specs.Showings.{IsMadeOne, ShowsOne};
+ghost use Rattle.place_show.specs.Made.{IsMadeOne};
 ghost use Rattle.tpl_tree.specs.Trees.{head_kind, head_line, nodes_from, nodes_size};
 ghost use Rattle.tpl_tree.specs.declared.node_kind.NodeKind.TheVariants as kind;
 
@@ -24,7 +24,7 @@ pub fn node_error(
     forest: &Forest,
     walker: &Walker,
 ) -> Result<Option<Showing>, Memory>
-    ensures { IfOk result (λ found. IfSome found (λ sh. IsWalker forest.now walker.now → ShowsOne forest.now sh)) }
+    ensures { ShowsOn forest.now walker.now result }
 {
     if walker.template as usize >= forest.count() {
         return Ok(None);
@@ -43,7 +43,7 @@ fn in_tree(
     walker: &Walker,
     node: u32,
 ) -> Result<Option<Showing>, Memory>
-    ensures { IfOk result (λ found. IfSome found (ShowsOneAt forest.now walker.now tree.now.nodes node)) }
+    ensures { IfFound (ShowsOneAt forest.now walker.now tree.now.nodes node) result }
 {
     if node >= tree.count() {
         return Ok(None);
@@ -76,7 +76,9 @@ fn at_node(
     node: u32,
 ) -> Result<Option<Showing>, Memory>
     requires { node < nodes_size tree.now.nodes }
-    ensures { IfOk result (λ found. IfSome found (IsMadeOne forest.now walker.now code (head_line (nodes_from tree.now.nodes node)) node 0 walker.now.place)) }
+    ensures { let w = walker.now in
+        let line = head_line (nodes_from tree.now.nodes node) in
+        IfFound (IsMadeOne forest.now w code line node 0 w.place) result }
 {
     let mark = Mark {
         code,
@@ -84,7 +86,7 @@ fn at_node(
         node,
         byte: 0,
     };
-    Ok(Some(made_one(alloc, forest, walker, mark, walker.place)?))
+    made_one(alloc, forest, walker, mark, walker.place)
 }
 
 // A text that the path's place refuses.
@@ -99,12 +101,12 @@ fn text_error(
     requires node { node < nodes_size tree.now.nodes }
     requires text { Some (kind.Text text.now) ≡ head_kind (nodes_from tree.now.nodes node) }
     requires length { length text.now < 2 ^ 32 }
-    ensures { IfOk result (λ found. IfSome found (ShowsOneAt forest.now walker.now tree.now.nodes node)) }
+    ensures { IfFound (ShowsOneAt forest.now walker.now tree.now.nodes node) result }
 {
     match after_text(walker.place, text.as_str()) {
         Err(refused) => {
             let mark = text_mark(tree, node, text, refused);
-            Ok(Some(made_one(alloc, forest, walker, mark, refused.before)?))
+            made_one(alloc, forest, walker, mark, refused.before)
         }
         Ok(_) => Ok(None),
     }

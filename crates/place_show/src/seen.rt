@@ -1,6 +1,6 @@
-ghost use Rattle.std.specs.Prelude.{◌≡◌, IfOk, map};
+ghost use Rattle.std.specs.Prelude.{◌≡◌, All, IfOk, IsTrue, map};
 ghost use Rattle.place_replay.specs.Replays.{name_or_none};
-ghost use Rattle.place_show.specs.Showings.{line_of_node, seen_choice};
+ghost use Rattle.place_show.specs.Showings.{IsNamed, line_of_node, seen_choice};
 ghost use Rattle.tpl_tree.specs.Forests.{name_at};
 ghost use Rattle.tpl_tree.specs.Trees.{head_line, nodes_from};
 
@@ -37,6 +37,18 @@ fn line_in(tree: &Tree, node: u32) -> u32
         return 0;
     }
     tree.line(node)
+}
+
+/// Whether the templates of some choices are all of the forest.
+pub(crate) fn are_named(forest: &Forest, chosen: &[Chosen]) -> bool
+    ensures { IsTrue result → All (IsNamed forest.now) chosen.now }
+{
+    for choice in chosen {
+        if choice.template as usize >= forest.count() {
+            return false;
+        }
+    }
+    true
 }
 
 /// What a path chose, as it is shown. The error is out of memory.

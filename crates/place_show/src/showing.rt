@@ -35,10 +35,10 @@ pub struct Showing {
     pub root: Text,
     /// The nodes of the calls that are open, the outermost first.
     pub calls: List<u32>,
-    /// The node; of `EndContext` 0.
+    /// The node; of `EndContext` the last one at top level of the root, and 0 where that has none.
     pub node: u32,
     /// The byte of the node's text; 0 where the error is not of a byte.
     pub byte: u32,
-    /// The paths: one, or two that meet.
+    /// The paths: one, or two that meet, of which the one comes first whose text does (`path_text`).
     pub paths: List<Seen>,
 }

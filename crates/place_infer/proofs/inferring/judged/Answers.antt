@@ -20,7 +20,8 @@ returns-in-Some c = λ flows same least.
 pub returns-in-Some-ends_elsewhere : goal.returns-in-Some-ends_elsewhere
 returns-in-Some-ends_elsewhere c = λ flows same least.
     let count = c.count.ensures in let few = c.if-count-gt-LIMIT.false in
-    end-refused c.args.forest.now c.args.names.now c.args.roots.now c.args.found.rows same least c.in_default.ensures (omega (arith, count, few)) c.refusal_by_end.result (c.refusal_by_end.ensures flows)
+    end-refused c.args.forest.now c.args.names.now c.args.roots.now c.args.found.rows same least c.in_default.ensures (omega (arith, count, few)) c.in-Some-ends_elsewhere.root c.in-Some-ends_elsewhere.ensures.0 c.in-Some-ends_elsewhere.ensures.1
+    c.refusal_by_end.result (c.refusal_by_end.ensures flows)
 
 pub returns : goal.returns
 returns c = λ flows same least.

@@ -13,5 +13,5 @@ returns-in-Some-Some c =
     let w = c.in-Some-Some.walker in let v = c.in-Some-Some.other in
     let iw = of_some (IsWalker flows) c.in_ok-replayed.field-0 w c.in_ok-replayed.ensures c.in-Some-Some.is-0 in
     let iv = of_some (IsWalker flows) c.in_ok-other.field-0 v c.in_ok-other.ensures c.in-Some-Some.is-1 in
-    if-shown (λ (sh : Showing). IsWalker forest w → IsWalker forest v → Shows forest sh) (λ (sh : Showing). flows ≡ forest → Shows forest sh) c.ordered_error.result
-    (λ sh f same. f (subst (λ (x : ForestData). IsWalker x w) same iw) (subst (λ (x : ForestData). IsWalker x v) same iv)) c.ordered_error.ensures
+    if-shown (λ (sh : Showing). IsWalker forest w → IsWalker forest v → Shows forest sh) (λ (sh : Showing). flows ≡ forest → Shows forest sh) c.error_of_two.result
+    (λ sh f same. f (subst (λ (x : ForestData). IsWalker x w) same iw) (subst (λ (x : ForestData). IsWalker x v) same iv)) c.error_of_two.ensures

@@ -1,8 +1,11 @@
-use Rattle.std.proofs.Common.{List, ℕ, sym, ap, ◌∙◌}
+use Rattle.std.proofs.Common.{List, ℕ, refl, sym, ap, ◌∙◌}
 use Rattle.html_step.specs.Steps.{place_before}
 use Rattle.place_show.proofs.Clash.{clash-shown}
 use Rattle.place_show.proofs.Makings.{made-two-as}
+use Rattle.place_show.proofs.Mapped.{if-shown}
 use Rattle.place_show.proofs.Within.{at-text, refused-within, taken-text}
+use Rattle.place_show.specs.AtNodes.{ShowsTwoAt}
+use Rattle.place_show.specs.Made.{IsMadeTwo}
 use Rattle.tpl_tree.specs.Trees.{head_line, head_seams, nodes_from, text_line}
 use Rattle.place_show.proofs.clashing.clash.Goals as goal
 
@@ -11,8 +14,8 @@ text_mark-mark-requires-clause-within c =
     let both = c.in-Some.both in
     refused-within c.args.text.now both c.in-Err.refused (at-text c.as_str-bytes.result.now c.args.text.now both c.in-Err.refused c.as_str-bytes.ensures c.in-Err.ensures)
 
-pub returns-in_ok-made_two-in-Err : goal.returns-in_ok-made_two-in-Err
-returns-in_ok-made_two-in-Err c =
+pub returns-else-not-takes-2 : goal.returns-else-not-takes-2
+returns-else-not-takes-2 c =
     let forest = c.args.forest.now in
     let w = c.args.walker.now in
     let v = c.args.other.now in
@@ -25,13 +28,15 @@ returns-in_ok-made_two-in-Err c =
     let e = c.in-Err.refused in
     let mark = c.text_mark-mark.result in
     let is = c.text_mark-mark.ensures in
-    let sh = c.in_ok-made_two-in-Err.field-0 in
+    let line = text_line text (head_line (nodes_from nodes n)) (head_seams (nodes_from nodes n)) e.at in
+    let at = c.place_before-at.result in
+    let other_at = c.place_before-other_at.result in
     let refused = at-text bytes text both e same c.in-Err.ensures in
-    let made = made-two-as forest w v mark.code e.code mark.line (text_line text (head_line (nodes_from nodes n)) (head_seams (nodes_from nodes n)) e.at) mark.node n mark.byte e.at
-    c.place_before-at.result (place_before text e.at w.place) c.place_before-other_at.result (place_before text e.at v.place) sh
-    is.code is.line is.node is.byte
-    (c.place_before-at.ensures ∙ ap (λ (b : List ℕ). place_before b e.at w.place) same)
-    (c.place_before-other_at.ensures ∙ ap (λ (b : List ℕ). place_before b e.at v.place) same)
-    c.in_ok-made_two-in-Err.ensures in
-    clash-shown forest w v nodes n text both e sh (sym c.requires.text) (taken-text bytes text w.place same c.if-not-accepts.ensures) (taken-text bytes text v.place same c.if-not-accepts-2.ensures)
-    (sym c.in-Some.ensures) refused made
+    let taken = taken-text bytes text w.place e.at same (c.if-not-takes.ensures refl) in
+    let other_taken = taken-text bytes text v.place e.at same (c.if-not-takes-2.ensures refl) in
+    let at_is = c.place_before-at.ensures ∙ ap (λ (b : List ℕ). place_before b e.at w.place) same in
+    let other_is = c.place_before-other_at.ensures ∙ ap (λ (b : List ℕ). place_before b e.at v.place) same in
+    if-shown (IsMadeTwo forest w v mark.code mark.line mark.node mark.byte at other_at) (ShowsTwoAt forest w v nodes n) c.made_two.result
+    (λ sh m. clash-shown forest w v nodes n text both e sh (sym c.requires.text) taken other_taken (sym c.in-Some.ensures) refused
+    (made-two-as forest w v mark.code e.code mark.line line mark.node n mark.byte e.at at (place_before text e.at w.place) other_at (place_before text e.at v.place) sh
+    is.code is.line is.node is.byte at_is other_is m)) c.made_two.ensures

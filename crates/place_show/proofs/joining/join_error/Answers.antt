@@ -4,7 +4,8 @@ use Rattle.place_replay.specs.Replays.{IsWalker}
 use Rattle.place_show.proofs.Makings.{meets}
 use Rattle.place_show.proofs.Mapped.{if-shown}
 use Rattle.place_show.proofs.Torn.{none-joined, torn-shown}
-use Rattle.place_show.specs.Showings.{IsMadeTwo, ShowsTwo, line_of_node}
+use Rattle.place_show.specs.Made.{IsMadeTwo}
+use Rattle.place_show.specs.Showings.{ShowsTwo, line_of_node}
 use Rattle.place_show.proofs.joining.join_error.Goals as goal
 
 pub returns-in-Head : goal.returns-in-Head

@@ -6,7 +6,7 @@ use Rattle.place_show.proofs.Mapped.{if-shown}
 use Rattle.place_show.proofs.Missing.{missing-shown}
 use Rattle.place_show.proofs.Misuse.{misuse-shown}
 use Rattle.place_show.specs.AtNodes.{ShowsOneAt}
-use Rattle.place_show.specs.Showings.{IsMadeOne}
+use Rattle.place_show.specs.Made.{IsMadeOne}
 use Rattle.tpl_tree.specs.Forests.{number_named}
 use Rattle.tpl_tree.specs.Trees.{head_line, nodes_from}
 use Rattle.tpl_tree.specs.declared.node_kind.NodeKind.{NodeKind}

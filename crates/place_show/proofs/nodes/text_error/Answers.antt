@@ -1,7 +1,10 @@
 use Rattle.std.proofs.Common.{sym}
 use Rattle.place_show.proofs.Makings.{made-one-as}
+use Rattle.place_show.proofs.Mapped.{if-shown}
 use Rattle.place_show.proofs.TextRefused.{text-shown}
 use Rattle.place_show.proofs.Within.{at-text, refused-within}
+use Rattle.place_show.specs.AtNodes.{ShowsOneAt}
+use Rattle.place_show.specs.Made.{IsMadeOne}
 use Rattle.tpl_tree.specs.Trees.{head_line, head_seams, nodes_from, text_line}
 use Rattle.place_show.proofs.nodes.text_error.Goals as goal
 
@@ -10,8 +13,8 @@ text_mark-mark-requires-clause-within c =
     let p = c.args.walker.now.place in
     refused-within c.args.text.now p c.in-Err.refused (at-text c.as_str.result.now c.args.text.now p c.in-Err.refused c.as_str.ensures c.in-Err.ensures)
 
-pub returns-in_ok-made_one-in-Err : goal.returns-in_ok-made_one-in-Err
-returns-in_ok-made_one-in-Err c =
+pub returns-in-Err : goal.returns-in-Err
+returns-in-Err c =
     let forest = c.args.forest.now in
     let w = c.args.walker.now in
     let nodes = c.args.tree.now.nodes in
@@ -20,8 +23,7 @@ returns-in_ok-made_one-in-Err c =
     let e = c.in-Err.refused in
     let mark = c.text_mark-mark.result in
     let is = c.text_mark-mark.ensures in
-    let sh = c.in_ok-made_one-in-Err.field-0 in
+    let line = text_line text (head_line (nodes_from nodes n)) (head_seams (nodes_from nodes n)) e.at in
     let refused = at-text c.as_str.result.now text w.place e c.as_str.ensures c.in-Err.ensures in
-    let made = made-one-as forest w mark.code e.code mark.line (text_line text (head_line (nodes_from nodes n)) (head_seams (nodes_from nodes n)) e.at) mark.node n mark.byte e.at e.before sh
-    is.code is.line is.node is.byte c.in_ok-made_one-in-Err.ensures in
-    text-shown forest w nodes n text e sh (sym c.requires.text) refused made
+    if-shown (IsMadeOne forest w mark.code mark.line mark.node mark.byte e.before) (ShowsOneAt forest w nodes n) c.made_one.result
+    (λ sh m. text-shown forest w nodes n text e sh (sym c.requires.text) refused (made-one-as forest w mark.code e.code mark.line line mark.node n mark.byte e.at e.before sh is.code is.line is.node is.byte m)) c.made_one.ensures
