@@ -31,8 +31,8 @@ pub fn tell_charts(out: &mut Told, call: &str, row: &Row) -> Result<(), Stop> {
     Ok(())
 }
 
-// The names of files, in the order of a forest of these files.
-fn roots_of(alloc: Global, forest: &Forest, files: &[Datum]) -> Result<Names, Stop> {
+/// The names of files, in the order of a forest of these files.
+pub fn roots_of(alloc: Global, forest: &Forest, files: &[Datum]) -> Result<Names, Stop> {
     let mut roots = List::new(alloc);
     for n in 0..forest.count() {
         let name = forest.name(n as u32);

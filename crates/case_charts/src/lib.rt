@@ -1,8 +1,10 @@
-// What is told of the charts of sets of templates, for tables of cases.
+// What is told of the charts of sets of templates and of their explanations, for tables of cases.
 #![tactic(auto)]
 
 mod charts;
+mod explained;
 mod pairs;
 mod showings;
 
 pub use charts::tell_charts;
+pub use explained::tell_explained;

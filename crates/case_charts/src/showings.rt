@@ -1,8 +1,7 @@
 use case_places::tell_place;
 use case_table::Told;
 use place_infer::SetRefused;
-use place_show::{Seen, SeenChoice, Showing};
-use tpl_paths::Choice;
+use place_show::{Seen, Showing, path_text};
 
 /// Tells why a set is refused: the error, the template and its line, and each path with its place.
 pub fn tell_shown(out: &mut Told, why: SetRefused) {
@@ -24,27 +23,8 @@ fn tell_showing(out: &mut Told, showing: &Showing) {
 }
 
 fn tell_seen(out: &mut Told, seen: &Seen) {
-    out.put(" | path");
-    let path = seen.path.as_slice();
-    if path.len() == 0 {
-        out.put(" start");
-    }
-    for choice in path {
-        tell_choice(out, choice);
-    }
+    out.put(" | path ");
+    out.put_text(path_text(out.alloc(), &seen.path));
     out.put(" at ");
     tell_place(out, seen.at);
-}
-
-fn tell_choice(out: &mut Told, choice: &SeenChoice) {
-    out.put(" ");
-    out.put(choice.template.as_str());
-    let line = choice.line;
-    out.put_made(format!(in out.alloc(); ":{line}:"));
-    out.put(match choice.way {
-        Choice::Then => "then",
-        Choice::Else => "else",
-        Choice::Turn => "turn",
-        Choice::Done => "done",
-    });
 }

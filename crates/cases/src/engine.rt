@@ -1,4 +1,4 @@
-use case_charts::tell_charts;
+use case_charts::{tell_charts, tell_explained};
 use case_data::{tell_data, tell_formats, tell_values};
 use case_devices::{is_of_system, tell_devices, tell_system};
 use case_executions::tell_executions;
@@ -84,6 +84,7 @@ fn tell_of_html(out: &mut Told, library: &str, call: &str, row: &Row) -> Result<
         "html_words" => tell_words(out, call, row),
         "html_step" => tell_places(out, call, row),
         "place_infer" => tell_charts(out, call, row),
+        "place_explain" => tell_explained(out, call, row),
         "text_norm" => tell_written(out, call, row),
         "san_html" => tell_sanitized(out, call, row),
         "esc_table" => tell_replaced(out, call, row),
