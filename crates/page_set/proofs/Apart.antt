@@ -3,12 +3,12 @@ use Rattle.std.proofs.Common.{◌≡◌, ◌≢◌, ℕ, Bool, true, false, List
 use Rattle.std.proofs.lemmas.List.{drop_at}
 use Rattle.std.specs.Char.{is_ascii_alphanumeric}
 use Rattle.std.specs.List.{list_all, prefix_len}
+use Rattle.page_check.specs.declared.refused.MakeRefused.{MakeRefused}
+use Rattle.page_check.specs.declared.refused.MakeRefused.TheVariants.{TooLarge, NotUtf8, File, TooManyTemplates, NoTemplates, Set, NotBuilt, Memory}
 use Rattle.page_datum.specs.declared.files.NamedFile.{NamedFile}
 use Rattle.page_set.specs.Forms.{Form, start_tag, end_tag, hole, character, is_word_byte, Begins, AreForms, IsStuck}
 use Rattle.page_set.specs.Making.{IsMade, IsRefused, Refuses}
 use Rattle.page_set.specs.declared.node.Node.{Node}
-use Rattle.page_set.specs.declared.refused.MakeRefused.{MakeRefused}
-use Rattle.page_set.specs.declared.refused.MakeRefused.TheVariants.{TooLarge, NotUtf8, NoTemplates, NotBuilt, Memory}
 use Rattle.page_set.proofs.FormLaws.{heads, tails, slash_first, tag_name_bytes, field_name_bytes}
 use Rattle.page_set.proofs.NameLaws.{prefix_len-run}
 
@@ -67,6 +67,9 @@ cause [] nodes refused made known why = made.set
 cause (file ∷ second ∷ files) nodes refused made known why = made.set
 cause (file ∷ []) nodes (TooLarge name) made known why = omega (arith, made.set.0.fits, why.1)
 cause (file ∷ []) nodes (NotUtf8 name) made known why = why.2 made.set.0.utf8
+cause (file ∷ []) nodes (File name w) made known why = why
+cause (file ∷ []) nodes TooManyTemplates made known why = why
+cause (file ∷ []) nodes (Set w) made known why = why
 cause (file ∷ []) nodes NoTemplates made known why = true≢false (sym why.1 ∙ made.set.1)
 cause (file ∷ []) nodes (NotBuilt name line) made known why = apart file.bytes made.set.2.forms why.3.front why.3.rest made.set.2.built why.3.built why.3.stuck
 cause (file ∷ []) nodes Memory made known why = known refl

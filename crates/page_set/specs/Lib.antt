@@ -7,7 +7,6 @@ pub mod Making
 pub mod Names
 pub mod Nodes
 pub mod Picked
-pub mod Refusals
 pub mod Running
 pub mod Scanned
 pub mod SetValue

@@ -1,6 +1,11 @@
 -- Which files are a set of pages, and which are refused and why.
 use Rattle.std.specs.Prelude.{◌≡◌, ◌≢◌, ℕ, ◌<◌, ◌≤◌, true, false, List, [], ◌∷◌, length, ⊤}
 use Rattle.std.specs.Str.{IsUtf8}
+pub use Rattle.page_check.specs.Texts.{IsText, max_file}
+use Rattle.page_check.specs.declared.refused.MakeRefused.{MakeRefused}
+use Rattle.page_check.specs.declared.refused.MakeRefused.TheVariants.{TooLarge, NotUtf8, File}
+use Rattle.page_check.specs.declared.refused.MakeRefused.TheVariants.{TooManyTemplates, NoTemplates}
+use Rattle.page_check.specs.declared.refused.MakeRefused.TheVariants.{Set, NotBuilt, Memory}
 use Rattle.page_datum.specs.Data.{Data}
 use Rattle.page_datum.specs.Execution.{Execution}
 use Rattle.page_datum.specs.declared.files.Files.{Files}
@@ -8,18 +13,6 @@ use Rattle.page_datum.specs.declared.files.NamedFile.{NamedFile}
 use Rattle.page_set.specs.Nodes.{IsTemplate, IsStuckAt}
 use Rattle.page_set.specs.Running.{is_partial, execution_of}
 use Rattle.page_set.specs.declared.node.Node.{Node}
-use Rattle.page_set.specs.declared.refused.MakeRefused.{MakeRefused}
-use Rattle.page_set.specs.declared.refused.MakeRefused.TheVariants.{TooLarge, NotUtf8, NoTemplates}
-use Rattle.page_set.specs.declared.refused.MakeRefused.TheVariants.{NotBuilt, Memory}
-
--- the most bytes that a file may have
-abbrev pub max_file : ℕ
-max_file = 1048576
-
--- a file within the limit, of UTF-8
-pub record IsText (file : NamedFile) : Type 0 where
-  pub fits : length file.bytes ≤ max_file
-  pub utf8 : IsUtf8 file.bytes
 
 -- one file, which is a root and a template of these nodes
 abbrev pub IsSet : List NamedFile → List Node → Type 0
@@ -27,7 +20,8 @@ IsSet [] nodes = ⊥
 IsSet (file ∷ []) nodes = IsText file × (is_partial file.name ≡ false) × IsTemplate file.bytes nodes
 IsSet (file ∷ second ∷ files) nodes = ⊥
 
--- why files are refused. Two or more are not built yet, before any is looked at
+-- why files are refused. Two or more are not built yet, before any is looked at; what `check_files`
+-- alone answers never comes
 abbrev pub IsRefused : MakeRefused → List NamedFile → Type 0
 IsRefused Memory files = ⊤
 IsRefused NoTemplates [] = ⊤
@@ -38,6 +32,9 @@ IsRefused (TooLarge name) _ = ⊥
 IsRefused (NotUtf8 name) (file ∷ []) =
     (name ≡ file.name) × (length file.bytes ≤ max_file) × (IsUtf8 file.bytes → ⊥)
 IsRefused (NotUtf8 name) _ = ⊥
+IsRefused (File name why) files = ⊥
+IsRefused TooManyTemplates files = ⊥
+IsRefused (Set why) files = ⊥
 IsRefused (NotBuilt name line) [] = ⊥
 IsRefused (NotBuilt name line) (file ∷ []) =
     (name ≡ file.name) × IsText file × (is_partial file.name ≡ false) × IsStuckAt file.bytes line

@@ -1,14 +1,13 @@
 -- What executing a template with a datum gives: its pieces, its steps, and its end.
-use Rattle.std.specs.Prelude.{ℕ, ◌+◌, Bool, false, not, ◌&&◌, ◌||◌, ◌==◌, nat_eq, if◌then◌else◌}
+use Rattle.std.specs.Prelude.{ℕ, ◌+◌, if◌then◌else◌}
 use Rattle.std.specs.Prelude.{List, [], ◌∷◌, ◌++◌, Result, Ok, Err, unwrap_or}
-use Rattle.std.specs.Cmp.Lexicographic.{pointwise}
+pub use Rattle.page_check.specs.Roots.{is_partial, is_root}
 use Rattle.page_datum.specs.Data.{Data, null, dict, value_at}
 use Rattle.page_datum.specs.Execution.{Ending, done, no_root, faulted, Execution}
 use Rattle.page_datum.specs.Printed.{printed}
 use Rattle.page_datum.specs.declared.fault.FaultKind.{FaultKind}
 use Rattle.page_datum.specs.declared.fault.FaultKind.TheVariants.{NoField, NilField}
 use Rattle.page_datum.specs.declared.files.NamedFile.{NamedFile}
-use Rattle.page_set.specs.Forms.{begins_with}
 use Rattle.page_set.specs.Escapes.{html}
 use Rattle.page_set.specs.declared.node.Node.{Node}
 use Rattle.page_set.specs.declared.node.Node.TheVariants.{Text, Hole}
@@ -62,16 +61,6 @@ written (hole_piece value) = html (printed value)
 abbrev pub page_of : List Piece → List ℕ
 page_of [] = []
 page_of (piece ∷ pieces) = written piece ++ page_of pieces
-
--- a name that begins with `_` is no root
-abbrev pub is_partial : List ℕ → Bool
-is_partial name = begins_with (λ b. b == 95) name
-
--- a root of files: the name of a file that is not partial
-abbrev pub is_root : List NamedFile → List ℕ → Bool
-is_root [] root = false
-is_root (file ∷ files) root =
-    (pointwise nat_eq file.name root && not (is_partial file.name)) || is_root files root
 
 -- what executing a root with a datum gives, for files with one template of these nodes
 abbrev pub execution_of : List NamedFile → List Node → List ℕ → Data → Execution

@@ -8,10 +8,9 @@ mod html;
 mod make;
 mod names;
 mod node;
-mod refused;
 mod set;
 mod template;
 
 pub use node::Node;
-pub use refused::{MAX_FILE, MakeRefused};
+pub use page_check::{Checked, MAX_FILE, MakeRefused, check_files};
 pub use set::PageSet;

@@ -1,10 +1,9 @@
 ghost use Rattle.std.specs.Prelude.{◌≡◌, [], ◌∷◌};
 ghost use Rattle.page_set.specs.Made.{NodesOfAnswers, IsNotBuilt};
-ghost use Rattle.page_set.specs.Running.{is_partial as is_partial_of};
 
 use crate::node::Node;
-use crate::refused::{MAX_FILE, MakeRefused};
 use crate::template::scan;
+use page_check::{MAX_FILE, MakeRefused, is_partial};
 use page_datum::NamedFile;
 use page_io::{Memory, Stop, Text};
 use std::alloc::Global;
@@ -56,15 +55,5 @@ fn not_built(alloc: Global, name: &Text, line: u32) -> MakeRefused
     match Text::copy_of(alloc, name.as_str()) {
         Ok(name) => MakeRefused::NotBuilt(name, line),
         Err(Memory) => MakeRefused::Memory,
-    }
-}
-
-/// Whether a name is of a file that is no root, since it begins with `_`.
-pub fn is_partial(name: &str) -> bool
-    ensures { result ≡ is_partial_of name.now }
-{
-    match name.as_bytes().first() {
-        Some(byte) => *byte == b'_',
-        None => false,
     }
 }

@@ -4,9 +4,9 @@ ghost use Rattle.page_datum.specs.View.{view};
 ghost use Rattle.page_set.specs.Running.{is_root as is_root_of};
 
 use crate::compose::compose;
-use crate::make::{is_partial, nodes_of};
+use crate::make::nodes_of;
 use crate::node::Node;
-use crate::refused::MakeRefused;
+use page_check::{MakeRefused, is_partial};
 use page_datum::{Datum, Files, PageEnd, PageStop, Pages, Shared};
 use page_io::{Failed, List, Sink, write_all};
 use std::alloc::Global;
@@ -63,7 +63,9 @@ impl Pages for PageSet {
 
     ghost is_sound = { IsSound };
 
-    /// The set of these files. Each refusal comes exactly where `MakeRefused` says.
+    /// The set of these files. The first refusal that holds is told: that there is no file; of two or more files the second, which is not
+    /// built yet; then the file's size, its bytes and its name, and the first `<`, `&` or `{{` that begins no plain tag and no hole, which is
+    /// not built. Each comes exactly where it holds.
     fn make(alloc: Global, files: Files) -> Result<PageSet, MakeRefused>
         ensures made { IfOk result (λ set. set.files ≡ files) }
         ensures accepted { IfOk result (λ _. Refuses files.list → ⊥) }

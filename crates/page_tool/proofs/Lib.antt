@@ -1,5 +1,9 @@
+pub mod CheckStatuses
+pub mod Endings
 pub mod Exacts
-pub mod FirstFiles
+pub mod ExplainStatuses
 pub mod Inputs
 pub mod Pages
+pub mod Parsing
+pub mod SetLaws
 pub mod Statuses

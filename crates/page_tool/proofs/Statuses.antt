@@ -3,7 +3,7 @@ use Rattle.std.proofs.Common.{◌≡◌, ℕ, List, Option, None, Some, Err, ref
 use Rattle.std.specs.Prelude.{IfSome, ◌⊎◌}
 use Rattle.page_io.specs.Held.{Held}
 use Rattle.page_datum.specs.declared.fault.ExecFault.{ExecFault}
-use Rattle.page_set.specs.declared.refused.MakeRefused.{MakeRefused}
+use Rattle.page_check.specs.declared.refused.MakeRefused.{MakeRefused}
 use Rattle.page_tool.specs.declared.input.InputRefused.{InputRefused}
 use Rattle.page_tool.specs.Codes.{status_for}
 use Rattle.page_tool.specs.Input.{IsNoInput}
@@ -17,6 +17,11 @@ use Rattle.page_tool.specs.declared.stop.Stop.TheVariants as stop
 -- a stop's own status, or out of memory
 abbrev pub IsReported : Stop → Status → Type 0
 IsReported why s = (s ≡ status_for why) ⊎ (s ≡ status.Memory)
+
+-- what holds of a stop's own status and of out of memory holds of what was reported
+pub reported : (P : Status → Type 0) (why : Stop) (s : Status) → IsReported why s → P (status_for why) → P status.Memory → P s
+reported P why s (inl e) own memory = subst P (sym e) own
+reported P why s (inr e) own memory = subst P (sym e) memory
 
 refused_set : (held : Option Held) (dir : List ℕ) (why : MakeRefused) → IfSome held (λ h. IsRefusedSet h dir why) → IfSome held (λ h. (w : MakeRefused) × IsRefusedSet h dir w)
 refused_set None dir why c = tt

@@ -26,7 +26,3 @@ files_in held dir (name ∷ names) =
 -- the template files of a directory, in the order of its names
 abbrev pub files_of : Held → List ℕ → Files
 files_of held dir = record { dir = dir; list = files_in held dir (held.names dir) }
-
--- the first two of them, which tell whether all are a set, since two are none
-abbrev pub first_files : Held → List ℕ → Files
-first_files held dir = record { dir = dir; list = take 2 (files_in held dir (held.names dir)) }

@@ -1,11 +1,17 @@
+pub mod Asking
+pub mod Checking
 pub mod Codes
 pub mod Command
 pub mod Devices
 pub mod Exact
+pub mod Explaining
 pub mod Files
 pub mod Input
 pub mod Lines
+pub mod LoadedSets
 pub mod Output
+pub mod Program
 pub mod Runs
+pub mod SetTexts
 pub mod Sets
 pub mod Words

@@ -2,7 +2,7 @@
 use Rattle.std.specs.Prelude.{◌≡◌, ℕ, codes, List, [], ◌∷◌, ◌++◌, Option, IfSome, ◌⊎◌}
 use Rattle.std.specs.Io.KnownBytes.{Appends}
 use Rattle.page_io.specs.Held.{Held}
-use Rattle.page_set.specs.declared.refused.MakeRefused.{MakeRefused}
+use Rattle.page_check.specs.declared.refused.MakeRefused.{MakeRefused}
 use Rattle.page_tool.specs.Codes.{status_for}
 use Rattle.page_tool.specs.Output.{IsRefusedSet, IsRendering, Told}
 use Rattle.page_tool.specs.declared.status.Status.{Status}
@@ -15,13 +15,14 @@ use Rattle.page_datum.specs.Legible.{legible}
 use Rattle.page_tool.specs.Input.{IsNoInput}
 use Rattle.page_tool.specs.declared.input.InputRefused.{InputRefused}
 use Rattle.page_tool.specs.declared.input.InputRefused.TheVariants as input_refused
-use Rattle.page_set.specs.Refusals.{refusal_text}
+use Rattle.page_check.specs.RefusalTexts.{refusal_text}
 use Rattle.page_tool.specs.declared.stop.Stop.{Stop}
 use Rattle.page_tool.specs.declared.stop.Stop.TheVariants as stop
 
 -- the line for words that are no command
 abbrev pub usage_text : List ℕ
-usage_text = codes "usage: render DIR NAME" ++ 10 ∷ []
+usage_text =
+    codes "usage: check DIR | render DIR NAME | explain DIR NAME" ++ 10 ∷ []
 
 -- the line of an input that is refused
 abbrev pub data_text : InputRefused → List ℕ

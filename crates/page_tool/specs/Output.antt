@@ -9,8 +9,8 @@ use Rattle.page_datum.specs.Execution.{Execution, done, faulted}
 use Rattle.page_set.specs.Making.{IsExecution, IsRefused, Refuses}
 use Rattle.page_set.specs.Running.{is_root}
 use Rattle.page_set.specs.Soundness.{IsSound}
-use Rattle.page_set.specs.declared.refused.MakeRefused.{MakeRefused}
-use Rattle.page_set.specs.declared.refused.MakeRefused.TheVariants as make
+use Rattle.page_check.specs.declared.refused.MakeRefused.{MakeRefused}
+use Rattle.page_check.specs.declared.refused.MakeRefused.TheVariants as make
 use Rattle.page_datum.specs.declared.fault.ExecFault.{ExecFault}
 use Rattle.page_tool.specs.declared.input.InputRefused.{InputRefused}
 use Rattle.page_tool.specs.declared.status.Status.{Status}

@@ -2,8 +2,9 @@
 use Rattle.std.specs.Prelude.{◌≡◌, ◌≤◌, ◌⊎◌, ℕ, List}
 use Rattle.std.specs.Io.KnownBytes.{Appends}
 use Rattle.page_io.specs.Causes.{Rose}
-use Rattle.page_tool.specs.Command.{Command, Writes, Reads, IsInOrder, IsCaused, IsDecided, Lines}
+use Rattle.page_tool.specs.Command.{Writes, Reads, IsInOrder, IsCaused, IsDecided, Lines}
 use Rattle.page_tool.specs.Devices.{Devices}
+use Rattle.page_tool.specs.Words.{Command}
 use Rattle.page_tool.specs.declared.status.Status.{Status}
 use Rattle.page_tool.specs.declared.status.Status.TheVariants as status
 

@@ -1,10 +1,16 @@
 // The commands of the program, over any devices.
 #![tactic(auto)]
 
+mod asked;
+mod check;
+mod commands;
+mod explain;
 mod input;
 mod load;
+mod program;
 mod render;
 mod report;
+mod set;
 mod status;
 mod stop;
 mod top;

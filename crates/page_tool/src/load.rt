@@ -1,22 +1,22 @@
-ghost use Rattle.std.specs.Prelude.{◌≡◌, ◌≤◌, ◌+◌, ◌++◌, ◌∷◌, [], length, take, IfOk, IfSome, OnOk};
+ghost use Rattle.std.specs.Prelude.{◌≡◌, ◌++◌, ◌∷◌, [], IfOk, IfSome, OnOk};
 ghost use Rattle.page_io.specs.Causes.{HasStop};
-ghost use Rattle.page_tool.specs.Files.{files_in, first_files, is_template as is_template_of};
+ghost use Rattle.page_tool.specs.Files.{files_in, files_of, is_template as is_template_of};
 
 use page_datum::{Files, NamedFile};
 use page_io::{Folder, IoStop, List, Text};
 use page_set::MAX_FILE;
 use std::alloc::Global;
 
-/// The first two template files of a directory, in the order of their names: those whose names end
-/// in `.html`. No file after them is read, since two files are no set of pages.
+/// The template files of a directory, in the order of their names: those whose names end in `.html`,
+/// each with no more bytes than tell that it is too large.
 pub fn load<F: Folder>(alloc: Global, folder: &mut F, dir: &str) -> Result<Files, IoStop>
     ensures files { IfOk result (λ files.
-        IfSome (F.held folder.old) (λ held. files ≡ first_files held dir.now)) }
+        IfSome (F.held folder.old) (λ held. files ≡ files_of held dir.now)) }
     ensures kept { F.held folder.new ≡ F.held folder.old }
     ensures cause { HasStop (F.faults folder.old) (F.faults folder.new) result }
 {
     let names = folder.list(alloc, dir)?;
-    let list = match first_two(alloc, folder, dir, names.as_slice()) {
+    let list = match files_with(alloc, folder, dir, names.as_slice()) {
         Ok(list) => list,
         Err(stop) => return Err(stop),
     };
@@ -26,23 +26,20 @@ pub fn load<F: Folder>(alloc: Global, folder: &mut F, dir: &str) -> Result<Files
     })
 }
 
-// The first two template files of a directory with these names.
-fn first_two<F: Folder>(
+// The template files of a directory with these names.
+fn files_with<F: Folder>(
     alloc: Global,
     folder: &mut F,
     dir: &str,
     names: &[Text],
 ) -> Result<List<NamedFile>, IoStop>
     ensures files { IfOk result (λ list. IfSome (F.held folder.old)
-        (λ held. list ≡ take 2 (files_in held dir.now names.now))) }
+        (λ held. list ≡ files_in held dir.now names.now)) }
     ensures kept { F.held folder.new ≡ F.held folder.old }
     ensures cause { HasStop (F.faults folder.old) (F.faults folder.new) result }
 {
     let mut list = List::new(alloc);
     for name in names {
-        if list.as_slice().len() > 1 {
-            return Ok(list);
-        }
         match push_file(alloc, folder, dir, name, &mut list) {
             Ok(()) => {}
             Err(stop) => return Err(stop),
@@ -61,7 +58,6 @@ fn push_file<F: Folder>(
 ) -> Result<(), IoStop>
     ensures files { OnOk result (IfSome (F.held folder.old)
         (λ held. list.new ≡ list.old ++ files_in held dir.now (name.now ∷ []))) }
-    ensures count { OnOk result (length list.new ≤ length list.old + 1) }
     ensures kept { F.held folder.new ≡ F.held folder.old }
     ensures cause { HasStop (F.faults folder.old) (F.faults folder.new) result }
 {

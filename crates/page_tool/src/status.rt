@@ -8,7 +8,7 @@ use crate::stop::Stop;
 pub enum Status {
     /// The command did all of its work.
     Ok,
-    /// The files of the directory are no set of pages.
+    /// The files of the directory are no set.
     SetRefused,
     /// The words are those of no command.
     Usage,

@@ -1,11 +1,11 @@
 use crate::input::InputRefused;
+use page_check::MakeRefused;
 use page_datum::ExecFault;
-use page_set::MakeRefused;
 
 /// Why a command stopped.
 #[derive(Debug, Drop)]
 pub enum Stop {
-    /// The files are no set of pages, for another cause than memory.
+    /// The files are no set, for another cause than memory.
     Set(MakeRefused),
     /// The execution met a fault.
     Fault(ExecFault),

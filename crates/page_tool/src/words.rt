@@ -1,33 +1,25 @@
-ghost use Rattle.std.specs.Prelude.{◌≡◌, option_map};
-ghost use Rattle.page_tool.specs.Words.{texts, render_of, is_option as is_option_of};
+ghost use Rattle.std.specs.Prelude.{◌≡◌, []};
+ghost use Rattle.page_tool.specs.Words.{texts, command_at, command_of, is_command};
+ghost use Rattle.page_tool.specs.Words.{is_option as is_option_of};
 
-/// The words of `render DIR NAME`.
-#[derive(Clone, Copy)]
-pub struct Render<'a> {
-    pub dir: &'a str,
-    pub name: &'a str,
-}
-
-/// The command that words are, if they are one: `render` and two words that do not begin with `-`.
-pub fn render_words(words: &[String]) -> Option<Render<'_>>
-    ensures { option_map (λ r. (r.dir.now, r.name.now)) result ≡ render_of (texts words.now) }
+/// Whether words are a command: its name, and its directory or a root of one, none of which begins
+/// with `-`.
+pub fn are_command(words: &[String]) -> bool
+    ensures { result ≡ is_command (command_of (texts words.now)) }
 {
     match words {
-        [command, dir, name] => {
-            if command.as_str() == "render"
-                && !is_option(dir.as_str())
-                && !is_option(name.as_str())
-            {
-                Some(Render {
-                    dir: dir.as_str(),
-                    name: name.as_str(),
-                })
-            } else {
-                None
-            }
+        [name, dir] => !is_option(dir.as_str()) && name.as_str() == "check",
+        [name, dir, root] => {
+            !is_option(dir.as_str()) && !is_option(root.as_str()) && takes_root(name.as_str())
         }
-        _ => None,
+        _ => false,
     }
+}
+
+fn takes_root(name: &str) -> bool
+    ensures { result ≡ is_command (command_at name.now [] []) }
+{
+    name == "render" || name == "explain"
 }
 
 // Whether a word begins with `-`.

@@ -1,0 +1,6 @@
+pub mod GatheredDefs
+pub mod NotRefused
+pub mod OneForest
+pub mod OneList
+pub mod RootStarts
+pub mod RootTemplates

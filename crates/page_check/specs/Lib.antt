@@ -1,0 +1,9 @@
+pub mod CauseNames
+pub mod CheckedSets
+pub mod Definitions
+pub mod PathLines
+pub mod Reading
+pub mod RefusalTexts
+pub mod Refusing
+pub mod Roots
+pub mod Texts

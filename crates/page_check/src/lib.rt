@@ -1,0 +1,16 @@
+// The files of a directory, checked: the templates of all of them, and the chart of their roots.
+#![tactic(auto)]
+
+mod cause_names;
+mod checked;
+mod checking;
+mod names;
+mod path_lines;
+mod reading;
+mod refusal_lines;
+mod refused;
+
+pub use checked::Checked;
+pub use checking::check_files;
+pub use names::is_partial;
+pub use refused::{MAX_FILE, MakeRefused};
