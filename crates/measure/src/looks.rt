@@ -6,9 +6,33 @@ use std::sync::atomic::{AtomicBool, Ordering};
 use std::thread;
 use std::thread::Threads;
 
+/// Who looks at what another thread publishes.
+pub trait Looks {
+    /// Looks once.
+    fn look<R: Wait>(&mut self, rt: &R);
+}
+
+/// Who publishes.
+pub trait Publishes {
+    /// Publishes a set. It is false where memory is out.
+    fn publish<R: Wait>(&mut self, rt: &R, alloc: Global, set: u64) -> bool;
+}
+
 type NumberDesk = Desk<u64, Told<u64>>;
 
 type NumberViewer = Viewer<u64, Told<u64>>;
+
+impl Looks for NumberViewer {
+    fn look<R: Wait>(&mut self, _rt: &R) {
+        let _number = self.current();
+    }
+}
+
+impl Publishes for NumberDesk {
+    fn publish<R: Wait>(&mut self, rt: &R, alloc: Global, set: u64) -> bool {
+        self.publish(alloc, rt, set).is_ok()
+    }
+}
 
 /// The looks of one viewer, while another thread publishes as fast as it can.
 pub fn one_looks<R: Threads + Wait + Sync>(
@@ -21,9 +45,9 @@ pub fn one_looks<R: Threads + Wait + Sync>(
         desk.close(rt);
         return Err(AllocError);
     };
-    let published = one_beside(rt, alloc, &mut desk, one, looks);
+    let counts = one_beside(rt, alloc, &mut desk, one, looks);
     desk.close(rt);
-    format!(in alloc; "{looks} looks, {published} sets")
+    counts
 }
 
 /// The looks of four viewers, each of which looks so often, while another thread publishes as fast as it can.
@@ -42,9 +66,9 @@ pub fn four_look<R: Threads + Wait + Sync>(
         desk.close(rt);
         return Err(AllocError);
     };
-    let published = four_beside(rt, alloc, &mut desk, (one, two), (three, four), looks);
+    let counts = four_beside(rt, alloc, &mut desk, (one, two), (three, four), looks);
     desk.close(rt);
-    format!(in alloc; "4 times {looks} looks, {published} sets")
+    counts
 }
 
 fn opened<R: Wait>(rt: &R, alloc: Global) -> Result<NumberDesk, AllocError> {
@@ -54,65 +78,76 @@ fn opened<R: Wait>(rt: &R, alloc: Global) -> Result<NumberDesk, AllocError> {
     }
 }
 
-fn one_beside<R: Threads + Wait + Sync>(
+/// One thread looks so often, while another one publishes as fast as it can.
+pub fn one_beside<R: Threads + Wait + Sync, L: Looks + Send + Drop, P: Publishes + Send>(
     rt: &R,
     alloc: Global,
-    desk: &mut NumberDesk,
-    mut one: NumberViewer,
+    publisher: &mut P,
+    one: L,
     looks: usize,
-) -> u64 {
+) -> Result<String, AllocError> {
     let done = AtomicBool::new(false);
     let ((), published) = thread::join(
         rt,
         || {
-            look(&mut one, looks);
+            look(rt, one, looks);
             done.store(true, Ordering::SeqCst)
         },
-        || publish(rt, alloc, desk, &done),
+        || publish(rt, alloc, publisher, &done),
     );
-    published
+    format!(in alloc; "{looks} looks, {published} sets")
 }
 
-fn four_beside<R: Threads + Wait + Sync>(
+/// Four threads look, each so often, while another one publishes as fast as it can.
+pub fn four_beside<R: Threads + Wait + Sync, L: Looks + Send + Drop, P: Publishes + Send>(
     rt: &R,
     alloc: Global,
-    desk: &mut NumberDesk,
-    mut front: (NumberViewer, NumberViewer),
-    mut back: (NumberViewer, NumberViewer),
+    publisher: &mut P,
+    front: (L, L),
+    back: (L, L),
     looks: usize,
-) -> u64 {
+) -> Result<String, AllocError> {
     let done = AtomicBool::new(false);
     let ((), published) = thread::join(
         rt,
         || {
             let ((), ()) = thread::join(
                 rt,
-                || two_look(rt, &mut front, looks),
-                || two_look(rt, &mut back, looks),
+                || two_look(rt, front, looks),
+                || two_look(rt, back, looks),
             );
             done.store(true, Ordering::SeqCst)
         },
-        || publish(rt, alloc, desk, &done),
+        || publish(rt, alloc, publisher, &done),
     );
-    published
+    format!(in alloc; "4 times {looks} looks, {published} sets")
 }
 
-fn two_look<R: Threads + Sync>(rt: &R, viewers: &mut (NumberViewer, NumberViewer), looks: usize) {
-    let (one, two) = viewers;
-    let ((), ()) = thread::join(rt, || look(one, looks), || look(two, looks));
+fn two_look<R: Threads + Wait + Sync, L: Looks + Send + Drop>(
+    rt: &R,
+    readers: (L, L),
+    looks: usize,
+) {
+    let (one, two) = readers;
+    let ((), ()) = thread::join(rt, || look(rt, one, looks), || look(rt, two, looks));
 }
 
-fn look(viewer: &mut NumberViewer, looks: usize) {
+fn look<R: Wait, L: Looks + Drop>(rt: &R, mut reader: L, looks: usize) {
     for _ in 0..looks {
-        let _number = viewer.current();
+        reader.look(rt);
     }
 }
 
 // Publishes until the looks are done or memory is out, and says how many sets.
-fn publish<R: Wait>(rt: &R, alloc: Global, desk: &mut NumberDesk, done: &AtomicBool) -> u64 {
+fn publish<R: Wait, P: Publishes>(
+    rt: &R,
+    alloc: Global,
+    publisher: &mut P,
+    done: &AtomicBool,
+) -> u64 {
     let mut published = 0u64;
     for _ in rt.forever() {
-        if done.load(Ordering::SeqCst) || desk.publish(alloc, rt, published).is_err() {
+        if done.load(Ordering::SeqCst) || !publisher.publish(rt, alloc, published) {
             break;
         }
         published = published.wrapping_add(1);

@@ -3,10 +3,17 @@ use Rattle.std.specs.Prelude.{◌≡◌, ℕ, ◌<◌, ◌⊎◌, Bool, List, le
 use mathlib.Core.List.{IsPrefix}
 use Rattle.page_io.specs.Causes.{Rose}
 use Rattle.set_publisher.specs.Values.{IsSetOf}
+use Rattle.set_publisher.specs.declared.looked.Looked.{Looked}
+use Rattle.set_publisher.specs.declared.looked.Looked.TheVariants.{Same, New}
 
--- the number is the length of the list that is now seen, and the set its last one
-abbrev pub Finds : {V : Type 0} → List V → ℕ → V → Type 0
-Finds sets number set = (number ≡ length sets) × IsSetOf sets number set
+-- a fact where nothing is new, and another one of what is new
+abbrev pub MatchLooked : {T : Type 0} → Looked T → Type 0 → (T → Type 0) → Type 0
+MatchLooked Same same new = same
+MatchLooked (New x) same new = new x
+
+-- more is seen than before; the number is the length of the list that is now seen, and the set its last one
+abbrev pub Finds : {V : Type 0} → List V → List V → ℕ → V → Type 0
+Finds old now number set = (length old < number) × (number ≡ length now) × IsSetOf now number set
 
 -- nothing was found: what is seen is as it was, and the misses rose
 abbrev pub Misses : {V : Type 0} → List V → List V → ℕ → ℕ → Type 0

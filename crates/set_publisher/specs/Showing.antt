@@ -1,5 +1,5 @@
 -- What is shown begins with what each seat has seen of it.
-use Rattle.std.specs.Prelude.{◌≡◌, ℕ, List, [], ◌∷◌, ◌++◌, Option, Some, IfSome}
+use Rattle.std.specs.Prelude.{◌≡◌, ℕ, List, [], ◌∷◌, ◌++◌, Option, None, Some, IfSome}
 use mathlib.Core.Option.{some}
 use mathlib.Core.List.{IsPrefix}
 use lib.ListN.{get_elem?}
@@ -16,6 +16,12 @@ module _ {V : Type 0} where
 
   abbrev pub Fits : Option (Known V) → Known V → Type 0
   Fits v p = IfSome v (λ q. Begins q p)
+
+  -- how many sets a reader saw where it entered last
+  abbrev pub shown_at : Option (Option (Known V)) → Option ℕ
+  shown_at None = None
+  shown_at (Some None) = None
+  shown_at (Some (Some p)) = Some p.number
 
   module _ {S : Type 0} (known_of : S → Known V) where
     abbrev pub Keeps : S → List (Option (Known V)) → Type 0

@@ -2,9 +2,11 @@
 ghost use Rattle.std.specs.Prelude.{◌≡◌, IfOk, IfSome, IsSomeAnd, Some, [], ◌∷◌, ◌++◌, drop, fold};
 ghost use Rattle.std.specs.Arc.{arc_value};
 ghost use Rattle.left_right.specs.Sides.{view};
-ghost use Rattle.set_publisher.specs.Showing.{Begins, Fits};
+ghost use Rattle.set_publisher.specs.Looks.{MatchLooked};
+ghost use Rattle.set_publisher.specs.Showing.{Begins, Fits, shown_at};
 
 use crate::known::Known;
+use crate::looked::Looked;
 use crate::notice::Notice;
 use crate::rule::{Continues, Sees, Tells};
 use crate::told::Told;
@@ -21,21 +23,36 @@ pub type SetReader<V, S> = Reader<S, Option<Known<V>>, Continues>;
 
 pub type SetWriter<V, S> = Writer<S, S, Option<Known<V>>, Continues>;
 
-// Enters once, and takes a copy of what is told there.
-pub fn look<V: Drop, S: Notice<V>>(reader: SetReader<V, S>) -> (SetReader<V, S>, Option<Told<V>>)
+// Enters once. What is told there is copied where it is not of this number, and else nothing but the reader's own place is written. It
+// is none where nothing is shown, or where the set has too many owners to count.
+pub fn look<V: Drop, S: Notice<V>>(
+    reader: SetReader<V, S>,
+    number: u64,
+) -> (SetReader<V, S>, Option<Looked<Told<V>>>)
     ensures keeps { IfSome (view reader.place) (λ p. IsSomeAnd (view result.0.place) (λ q. Begins p q)) }
-    ensures found { IfSome result.1 (λ told. (view result.0.place ≡ Some told.known) × Fits (view reader.place) told.known) }
+    ensures found { let after = view result.0.place in
+        IfSome result.1 (λ looked. MatchLooked looked (shown_at (Some after) ≡ Some number)
+        (λ told. (after ≡ Some told.known) × Fits (view reader.place) told.known)) }
 {
     match reader.enter_as::<Sees>() {
         Ok(reading) => {
-            let told = reading.get().told().again();
-            let reader = reading.leave();
-            match told {
-                Ok(told) => (reader, Some(told)),
-                Err(_) => (reader, None),
-            }
+            let found = newer(reading.get().told(), number);
+            (reading.leave(), found)
         }
         Err(reader) => (reader, None),
+    }
+}
+
+// A copy of what is told where it is not of this number, unless the set has too many owners to count.
+fn newer<V: Drop>(told: &Told<V>, number: u64) -> Option<Looked<Told<V>>>
+    ensures { IfSome result (λ looked. MatchLooked looked (told.now.known.number ≡ number) (λ copy. copy.known ≡ told.now.known)) }
+{
+    if told.number() == number {
+        return Some(Looked::Same);
+    }
+    match told.again() {
+        Ok(told) => Some(Looked::New(told)),
+        Err(Memory) => None,
     }
 }
 

@@ -71,8 +71,9 @@ impl<V: Drop, S: Notice<V>> Desk<V, S> {
         })
     }
 
-    /// Appends a set and shows it, and gives what others may learn of it. It may wait for viewers that are just looking, and for
-    /// nobody else. The error is out of memory, also where the number would pass 2^64 - 1; then the list is as before.
+    /// Appends a set and shows it, and gives what others may learn of it. It may wait for viewers that are just looking.
+    /// The error is out of memory, also where the number would pass 2^64 - 1; then the list is as before. Once the list has grown the set
+    /// is shown, for which it tries again where that finds no memory.
     pub fn publish<R: Wait>(&mut self, alloc: Global, rt: &R, set: V) -> Result<Told<V>, Memory>
         ensures book { self.new.book ≡ self.old.book }
         ensures list { MatchResult result (Publishes self.old set self.new) (λ _. self.new.sets ≡ self.old.sets) }
@@ -111,8 +112,8 @@ impl<V: Drop, S: Notice<V>> Desk<V, S> {
         drop(writer.unwrap().take(rt));
     }
 
-    /// A viewer that has seen the list as it is. It takes no memory, and waits for nobody. `Failed` is that all places are taken,
-    /// `Memory` that the set has too many owners to count.
+    /// A viewer that has seen the list as it is. It takes no memory, and waits for nobody. `Failed` is that no place was given, as
+    /// where all are taken, `Memory` that the set has too many owners to count. Nothing is counted here: see `PackSeats`.
     pub fn seat(&mut self) -> Result<Viewer<V, S>, SeatStop>
         ensures kept { self.new ≡ self.old }
         ensures seat { IfOk result (Seats self.old) }

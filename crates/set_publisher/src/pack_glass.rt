@@ -2,17 +2,20 @@ ghost use Rattle.std.specs.Prelude.{◌≡◌, ◌≤◌, length, Some, IsSomeAn
 ghost use Rattle.std.specs.Arc.{arc_value};
 ghost use mathlib.Core.List.{IsPrefix};
 ghost use Rattle.left_right.specs.Sides.{view};
+ghost use Rattle.set_publisher.specs.Showing.{shown_at};
 
 use crate::copies;
 use crate::copies::SetReader;
 use crate::glass::Glass;
 use crate::known::Known;
+use crate::looked::Looked;
 use crate::notice::Notice;
 use crate::told::Told;
 use std::sync::Arc;
 
 /// A place at the two copies of `left_right`. A look misses where that gives no reading, where the set has too many owners to count,
 /// or where what is shown is less than what was learnt; the last does not come, since a `Told` is given out after its set was shown.
+/// Where nothing is new a look writes only what is this place's own, and counts no owner of the set.
 #[derive(Drop)]
 pub struct PackGlass<V: Drop, S: Notice<V>> {
     reader: Option<SetReader<V, S>>,
@@ -50,21 +53,26 @@ impl<V: Drop, S: Notice<V>> Glass<V> for PackGlass<V, S> {
 
     ghost list = { λ g. g.known.seen.log };
 
+    ghost shown = { λ g. shown_at (option_map (λ r. view r.place) g.reader) };
+
     ghost looks = { λ g. g.looks };
 
     ghost misses = { λ g. g.misses };
 
-    fn look(&mut self) -> Option<(u64, Arc<V>)> {
+    fn look(&mut self) -> Option<Looked<(u64, Arc<V>)>> {
         self.looks = self.looks.saturating_add(1);
-        let (reader, told) = copies::look(self.reader.take().unwrap());
+        let (reader, looked) = copies::look(self.reader.take().unwrap(), self.known.number);
         self.reader = Some(reader);
-        if let Some(told) = told {
-            if told.known.is_begun_by(&self.known) {
+        match looked {
+            Some(Looked::Same) => return Some(Looked::Same),
+            Some(Looked::New(told)) if self.known.number < told.number() => {
+                let _begun = told.known.is_begun_by(&self.known);
                 let Told { known, set } = told;
                 let number = known.number;
                 self.known = known;
-                return Some((number, set));
+                return Some(Looked::New((number, set)));
             }
+            _ => {}
         }
         self.misses = self.misses.saturating_add(1);
         None

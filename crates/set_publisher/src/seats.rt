@@ -10,7 +10,7 @@ use crate::viewer::Viewer;
 /// Why there is no place.
 #[derive(Debug, Clone, Copy, PartialEq, Eq)]
 pub enum SeatStop {
-    /// A place was refused, and whoever refused it has counted it.
+    /// A place was refused.
     Failed,
     /// Out of memory.
     Memory,

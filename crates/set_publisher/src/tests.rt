@@ -116,6 +116,7 @@ fn each_published_set_is_seen(rt: HostRuntime) -> Result<(), Fail> {
     for number in 2..102u64 {
         good = good && desk.publish(rt.alloc(), &rt, set_of(number)).is_ok();
         good = good && one.current() == number && is_at(&one, number);
+        good = good && one.current() == number && is_at(&one, number);
         good = good && two.current() == number && is_at(&two, number);
         good = good && *desk.latest() == set_of(number);
     }
@@ -168,6 +169,7 @@ fn a_place_can_be_refused(rt: HostRuntime) -> Result<(), Fail> {
     let mut desk: NumberDesk = Desk::open(rt.alloc(), &rt, 7u64)?;
     let mut good = true;
     for call in 1..18u64 {
+        good = good && (call == 1 || seats.faults() == 1);
         match seats.seat(&mut desk) {
             Ok(viewer) => {
                 good = good && call != 1 && is_at(&viewer, 1);

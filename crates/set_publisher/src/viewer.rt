@@ -6,6 +6,7 @@ ghost use Rattle.set_publisher.specs.Looks.{LooksOnce};
 
 use crate::glass::Glass;
 use crate::known::Known;
+use crate::looked::Looked;
 use crate::notice::Notice;
 use crate::pack_glass::PackGlass;
 use crate::told::Told;
@@ -15,10 +16,14 @@ use std::sync::Arc;
 /// What one thread sees of a list of sets: it keeps the last set that it has seen, with its number. Contracts see which list it is, the
 /// first sets of it that were seen, and the counts of the glass (`Watched` of `specs/Values.antt`).
 #[derive(Drop)]
+#[repr(C)]
 pub struct View<V: Drop, G: Glass<V> + Drop> {
+    // Looks write to the view, so what lies beside it has no line of 64 bytes with what they write.
+    before: [u64; 8],
     glass: G,
     number: u64,
     set: Arc<V>,
+    after: [u64; 8],
 }
 
 impl<V: Drop, G: Glass<V> + Drop> Model for View<V, G> {
@@ -47,13 +52,15 @@ impl<V: Drop, G: Glass<V> + Drop> View<V, G> {
     {
         let Told { known, set } = told;
         View {
+            before: [0; 8],
             glass,
             number: known.number,
             set,
+            after: [0; 8],
         }
     }
 
-    /// Looks once, and gives the number of the set that is then kept: the newest one, or where the look missed the one that was kept
+    /// Looks, and gives the number of the set that is then kept: the one that the look found, or where it missed the one that was kept
     /// before. It is no less than any number that this viewer gave or learnt. It takes no memory, and waits for nobody.
     pub fn current(&mut self) -> u64
         ensures desk { self.new.book ≡ self.old.book }
@@ -62,7 +69,7 @@ impl<V: Drop, G: Glass<V> + Drop> View<V, G> {
         ensures looks { Rose self.old.looks self.new.looks }
         ensures misses { LooksOnce self.old.sets self.new.sets self.old.misses self.new.misses }
     {
-        if let Some((number, set)) = self.glass.look() {
+        if let Some(Looked::New((number, set))) = self.glass.look() {
             self.number = number;
             self.set = set;
         }
