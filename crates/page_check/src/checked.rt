@@ -1,10 +1,12 @@
-ghost use Rattle.std.specs.Prelude.{◌≡◌, length, MatchOption, false};
-ghost use Rattle.page_check.specs.CheckedSets.{StartsAt};
+ghost use Rattle.std.specs.Prelude.{◌≡◌, length, IfOk, MatchOption, false};
+ghost use Rattle.page_check.specs.CheckedSets.{ExplainRootAnswers, StartsAt};
 ghost use Rattle.page_check.specs.Roots.{is_root as is_root_of, roots_of};
 
 use crate::names::{count_roots, is_partial};
 use page_datum::Files;
+use page_io::{Memory, Text};
 use place_infer::Chart;
+use std::alloc::Global;
 use std::marker::Model;
 use tpl_tree::Forest;
 
@@ -56,6 +58,22 @@ impl Checked {
         match forest.find(root) {
             Some(template) => chart.start(template),
             None => None,
+        }
+    }
+
+    /// The explanation of a root, as `explain` of `place_explain` tells it: the pairs that the root reaches, with their places and what is
+    /// done in their holes. None exactly where no root has the name. The error is out of memory.
+    pub fn explain(&self, alloc: Global, root: &str) -> Result<Option<Text>, Memory>
+        ensures { IfOk result (ExplainRootAnswers self.now root.now) }
+    {
+        match self.start(root) {
+            Some(start) => {
+                match place_explain::explain(alloc, &self.forest, &self.chart, start) {
+                    Ok(text) => Ok(Some(text)),
+                    Err(memory) => Err(memory),
+                }
+            }
+            None => Ok(None),
         }
     }
 

@@ -21,7 +21,7 @@ use Rattle.page_tool.proofs.SetLaws.{accepted, refused_for}
 use Rattle.page_tool.proofs.Statuses.{IsReported, reported}
 
 explained_set : (h : Held) (dir root text : List ℕ) → IsExplanation h dir root text → IsSetWith h dir root
-explained_set h dir root text e = record { set = (e.set, e.made); known = ap (λ (f : Files). is_root f.list root) (sym e.made.files) ∙ e.starts.is }
+explained_set h dir root text e = record { set = (e.set, e.made); known = ap (λ (f : Files). is_root f.list root) (sym e.made.files) ∙ e.told.starts.is }
 
 part_set : (held : Option Held) (dir root : List ℕ) (old new : Option (List ℕ)) → WritesTextPart held (λ h. IsExplanation h dir root) old new → IfSome held (λ h. IsSetWith h dir root)
 part_set None dir root old new w = tt

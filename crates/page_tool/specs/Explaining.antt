@@ -1,7 +1,7 @@
 -- What `explain DIR NAME` writes, and why it stops.
 use Rattle.std.specs.Prelude.{◌≡◌, ◌⊎◌, ℕ, List, Option, IfSome, Result, Ok, Err, ⊤}
 use Rattle.std.specs.Io.KnownBytes.{Appends}
-use Rattle.page_check.specs.CheckedSets.{CheckedData, StartsAt}
+use Rattle.page_check.specs.CheckedSets.{CheckedData, IsRootText}
 use Rattle.page_check.specs.Refusing.{Refuses}
 use Rattle.page_io.specs.Held.{Held}
 use Rattle.page_tool.specs.Checking.{CheckCause, CheckLines}
@@ -14,15 +14,12 @@ use Rattle.page_tool.specs.declared.status.Status.{Status}
 use Rattle.page_tool.specs.declared.status.Status.TheVariants as status
 use Rattle.page_tool.specs.declared.stop.Stop.{Stop}
 use Rattle.page_tool.specs.declared.stop.Stop.TheVariants as stop
-use Rattle.place_explain.specs.Explaining.{Explains}
 
 -- what there is to say of a root of the set that the files of a directory are
 pub record IsExplanation (held : Held) (dir root : List ℕ) (text : List ℕ) : Type 0 where
   pub set : CheckedData
   pub made : IsSetOf held dir set
-  pub pair : ℕ
-  pub starts : StartsAt set root pair
-  pub explains : Explains set.forest set.chart pair text
+  pub told : IsRootText set root text
 
 -- how explaining answers
 abbrev pub ExplainAnswers : Option Held → List ℕ → List ℕ → Option (List ℕ) → Option (List ℕ)

@@ -28,12 +28,9 @@ pub fn explain<F: Folder, O: Sink>(
         Ok(set) => set,
         Err(stop) => return Err(stop),
     };
-    let Some(start) = set.start(root) else {
-        return Err(Stop::NoTemplate);
-    };
-    let text = match place_explain::explain(alloc, set.forest(), set.chart(), start) {
-        Ok(text) => text,
-        Err(Memory) => return Err(Stop::Memory),
-    };
-    write_text(out, &text)
+    match set.explain(alloc, root) {
+        Ok(Some(text)) => write_text(out, &text),
+        Ok(None) => Err(Stop::NoTemplate),
+        Err(Memory) => Err(Stop::Memory),
+    }
 }
