@@ -29,7 +29,8 @@ pub fn look<V: Drop, S: Notice<V>>(
     reader: SetReader<V, S>,
     number: u64,
 ) -> (SetReader<V, S>, Option<Looked<Told<V>>>)
-    ensures keeps { IfSome (view reader.place) (λ p. IsSomeAnd (view result.0.place) (λ q. Begins p q)) }
+    ensures keeps { IfSome (view reader.place)
+        (λ p. IsSomeAnd (view result.0.place) (λ q. Begins p q)) }
     ensures found { let after = view result.0.place in
         IfSome result.1 (λ looked. MatchLooked looked (shown_at (Some after) ≡ Some number)
         (λ told. (after ≡ Some told.known) × Fits (view reader.place) told.known)) }
@@ -45,7 +46,8 @@ pub fn look<V: Drop, S: Notice<V>>(
 
 // A copy of what is told where it is not of this number, unless the set has too many owners to count.
 fn newer<V: Drop>(told: &Told<V>, number: u64) -> Option<Looked<Told<V>>>
-    ensures { IfSome result (λ looked. MatchLooked looked (told.now.known.number ≡ number) (λ copy. copy.known ≡ told.now.known)) }
+    ensures { IfSome result (λ looked. MatchLooked looked (told.now.known.number ≡ number)
+        (λ copy. copy.known ≡ told.now.known)) }
 {
     if told.number() == number {
         return Some(Looked::Same);
@@ -82,7 +84,8 @@ pub fn open<V: Drop, S: Notice<V>, R: Wait>(
     rt: &R,
     told: &Told<V>,
 ) -> Result<SetWriter<V, S>, Memory>
-    ensures { IfOk result (λ w. (S.known_of w.desk.shown.value ≡ told.now.known) × (view w.desk.place ≡ Some told.now.known)) }
+    ensures { IfOk result (λ w. (S.known_of w.desk.shown.value ≡ told.now.known)
+        × (view w.desk.place ≡ Some told.now.known)) }
 {
     let one = S::make(told.again()?);
     let two = S::make(told.again()?);
@@ -113,7 +116,8 @@ pub fn seat<V: Drop, S: Notice<V>>(writer: &mut SetWriter<V, S>) -> Result<SetRe
 // Lays a notice at the end of those that are pending. Where there is no memory it tries again.
 fn add<V: Drop, S: Notice<V>, R: Wait>(rt: &R, writer: &mut SetWriter<V, S>, notice: S)
     ensures desk { writer.new.desk ≡ writer.old.desk }
-    ensures pending { drop writer.new.behind writer.new.log.items ≡ drop writer.old.behind writer.old.log.items ++ notice ∷ [] }
+    ensures pending { drop writer.new.behind writer.new.log.items
+        ≡ drop writer.old.behind writer.old.log.items ++ notice ∷ [] }
 {
     let mut notice = notice;
     for _ in rt.forever() {
@@ -128,7 +132,9 @@ fn add<V: Drop, S: Notice<V>, R: Wait>(rt: &R, writer: &mut SetWriter<V, S>, not
 // Shows what is pending. Where it cannot be absorbed it tries again.
 fn show<V: Drop, S: Notice<V>, R: Wait>(rt: &R, writer: SetWriter<V, S>) -> SetWriter<V, S>
     requires { let shown = writer.desk.shown.value in
-        (next : S) → S.state next ≡ fold S.applied (S.state shown) (drop writer.behind writer.log.items) → Begins (S.known_of shown) (S.known_of next) }
+        (next : S)
+        → S.state next ≡ fold S.applied (S.state shown) (drop writer.behind writer.log.items)
+        → Begins (S.known_of shown) (S.known_of next) }
     ensures state { let pending = drop writer.behind writer.log.items in
         S.state result.desk.shown.value ≡ fold S.applied (S.state writer.desk.shown.value) pending }
     ensures view { view result.desk.place ≡ Some (S.known_of result.desk.shown.value) }
@@ -151,7 +157,8 @@ pub fn publish<V: Drop, S: Notice<V>, R: Wait>(
     told: Told<V>,
 ) -> SetWriter<V, S>
     requires { Begins (S.known_of writer.desk.shown.value) told.known }
-    ensures shown { (S.known_of result.desk.shown.value ≡ told.known) × (S.set_of result.desk.shown.value ≡ arc_value told.set) }
+    ensures shown { (S.known_of result.desk.shown.value ≡ told.known)
+        × (S.set_of result.desk.shown.value ≡ arc_value told.set) }
     ensures view { view result.desk.place ≡ Some told.known }
 {
     add(rt, &mut writer, S::make(told));

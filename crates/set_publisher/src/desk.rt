@@ -76,7 +76,8 @@ impl<V: Drop, S: Notice<V>> Desk<V, S> {
     /// is shown, for which it tries again where that finds no memory.
     pub fn publish<R: Wait>(&mut self, alloc: Global, rt: &R, set: V) -> Result<Told<V>, Memory>
         ensures book { self.new.book ≡ self.old.book }
-        ensures list { MatchResult result (Publishes self.old set self.new) (λ _. self.new.sets ≡ self.old.sets) }
+        ensures list { MatchResult result (Publishes self.old set self.new)
+            (λ _. self.new.sets ≡ self.old.sets) }
     {
         if self.told.known.number == u64::MAX {
             return Err(Memory);

@@ -35,7 +35,8 @@ pub trait Glass<V: Drop> {
             let kept = misses self.new ≡ misses self.old in
             let same = list self.new ≡ list self.old in
             MatchOption result missed
-            (λ looked. MatchLooked looked same (λ p. Finds (list self.old) (list self.new) p.0 (arc_value p.1)) × kept) }
+            (λ looked. MatchLooked looked same
+            (λ p. Finds (list self.old) (list self.new) p.0 (arc_value p.1)) × kept) }
         ensures shown { IfSome result (λ _. shown self.new ≡ Some (length (list self.new))) };
 
     /// Learns what was told, which is no less than what is seen, and gives the told set. It takes no memory, and waits for nobody.

@@ -33,7 +33,8 @@ impl<V: Drop> Told<V> {
 
     /// A copy, to be told to someone else. The error is that the set has too many owners to count.
     pub fn again(&self) -> Result<Told<V>, Memory>
-        ensures { IfOk result (λ told. (told.known ≡ self.now.known) × (arc_value told.set ≡ arc_value self.now.set)) }
+        ensures { IfOk result (λ told. (told.known ≡ self.now.known)
+            × (arc_value told.set ≡ arc_value self.now.set)) }
     {
         Ok(Told {
             known: self.known.again(),

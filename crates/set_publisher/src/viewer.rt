@@ -35,9 +35,15 @@ impl<V: Drop, G: Glass<V> + Drop> Model for View<V, G> {
 
     ghost coded = { watched_code V.code };
 
-    ghost view = { λ v. record { book = G.desk v.glass; sets = G.list v.glass; looks = G.looks v.glass; misses = G.misses v.glass } };
+    ghost view = { λ v. record {
+      book = G.desk v.glass;
+      sets = G.list v.glass;
+      looks = G.looks v.glass;
+      misses = G.misses v.glass;
+    } };
 
-    ghost invariant = { λ v. (v.number ≡ length (G.list v.glass)) × IsSetOf (G.list v.glass) v.number (arc_value v.set) };
+    ghost invariant = { λ v. (v.number ≡ length (G.list v.glass))
+        × IsSetOf (G.list v.glass) v.number (arc_value v.set) };
 }
 
 /// A viewer at a desk over `left_right`.
@@ -89,7 +95,8 @@ impl<V: Drop, G: Glass<V> + Drop> View<V, G> {
         requires { told.known.seen.book ≡ self.old.book }
         ensures desk { self.new.book ≡ self.old.book }
         ensures grows { IsPrefix self.old.sets self.new.sets }
-        ensures more { length self.old.sets < told.known.number → self.new.sets ≡ told.known.seen.log }
+        ensures more { length self.old.sets < told.known.number
+            → self.new.sets ≡ told.known.seen.log }
         ensures less { told.known.number ≤ length self.old.sets → self.new.sets ≡ self.old.sets }
         ensures counts { (self.new.looks ≡ self.old.looks) × (self.new.misses ≡ self.old.misses) }
     {
