@@ -11,7 +11,7 @@ use Rattle.std.proofs.lemmas.List.Sums.{prefix_len_stops}
 use Rattle.std.proofs.lemmas.Str.{chars-nil, chars_past_char, IsUtf8-take, length-encode, len_utf8_bounds}
 use Rattle.esc_table.specs.Kept.{characters_of, first_byte, is_kept, kept_of, kept_by}
 use Rattle.esc_table.specs.Rows.{Row, found, rows_of}
-use Rattle.esc_table.specs.Replaced.{written, replaced, replaced_all}
+use Rattle.esc_table.specs.Replaced.{Writes, written, replaced, replaced_all}
 use Rattle.esc_table.proofs.Runs.{replaced-append, replaced-encodes}
 
 -- a byte that is taken out is not kept, and what is kept was kept before
@@ -126,9 +126,9 @@ first_written rows text rest before after c u is e =
     ap (λ (bytes : List ℕ). bytes ++ replaced rows rest) e ∙ append_assoc before (written rows c) (replaced rows rest) ∙ ap (λ (bytes : List ℕ). before ++ bytes) whole
 
 -- where nothing is left, all is written
-pub all_written : (rows : List Row) (text rest out : List ℕ) → length rest ≡ 0 → out ++ replaced rows rest ≡ replaced rows text → out ≡ replaced rows text
-all_written rows text [] out none e = sym (append-nil out) ∙ ap (λ (cs : List ℕ). out ++ replaced_all rows cs) (sym chars-nil) ∙ e
-all_written rows text (b ∷ bs) out none e = absurd (omega (arith, none))
+pub all_written : (rows : List Row) (text rest before after : List ℕ) → length rest ≡ 0 → Writes rows text rest before after → after ≡ before ++ replaced rows text
+all_written rows text [] before after none e = sym (append-nil after) ∙ ap (λ (cs : List ℕ). after ++ replaced_all rows cs) (sym chars-nil) ∙ e
+all_written rows text (b ∷ bs) before after none e = absurd (omega (arith, none))
 
 -- the run that the code finds
 pub run_by : (rows : List Row) (kept : List Bool) (bytes text : List ℕ) (run : ℕ) → run ≡ prefix_len (is_kept kept) bytes → bytes ≡ text → kept ≡ kept_by rows → run ≡ prefix_len (is_kept (kept_by rows)) text

@@ -5,5 +5,5 @@ mod replacing;
 mod run;
 mod table;
 
-pub use replacing::replace;
+pub use replacing::{push_replaced, replace};
 pub use table::Table;

@@ -12,13 +12,26 @@ use std::alloc::Global;
 pub fn replace<const N: usize>(alloc: Global, table: &Table<N>, text: &str) -> Result<Text, Memory>
     ensures { IfOk result (λ written. written ≡ replaced table.now text.now) }
 {
-    let kept = table.kept();
     let mut out = String::new(alloc);
+    push_replaced(&mut out, table, text)?;
+    Ok(Text::from(out))
+}
+
+/// Appends what `replace` gives. The error is out of memory, and then a part of it may be there.
+pub fn push_replaced<const N: usize>(
+    out: &mut String,
+    table: &Table<N>,
+    text: &str,
+) -> Result<(), Memory>
+    ensures { OnOk result (string_bytes out.new
+        ≡ string_bytes out.old ++ replaced table.now text.now) }
+{
+    let kept = table.kept();
     let mut rest = text;
     while !rest.is_empty() {
-        rest = push_run(&mut out, table, &kept, rest)?;
+        rest = push_run(out, table, &kept, rest)?;
     }
-    Ok(Text::from(out))
+    Ok(())
 }
 
 // Appends the run of bytes at the beginning of a text that stand for themselves, and what is written for the character

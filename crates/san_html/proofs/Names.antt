@@ -1,10 +1,10 @@
 -- Names that `attr_name` writes, where a name may begin.
-use Rattle.std.proofs.Common.{◌≡◌, ◌≢◌, ℕ, ◌<◌, ◌==◌, ◌&&◌, ◌||◌, not, Bool, true, false, List, [], ◌∷◌, ◌++◌, Result, Ok, Err, IfOk, refl, sym, ap, ◌∙◌, subst, inl, inr, length, arith, append_assoc, append-nil, cond, get_or, nat_lt, ◌+◌, ◌↔◌}
+use Rattle.std.proofs.Common.{◌≡◌, ◌≢◌, ℕ, ◌<◌, ◌==◌, ◌&&◌, ◌||◌, not, Bool, true, false, List, [], ◌∷◌, ◌++◌, refl, sym, ap, ◌∙◌, subst, inl, inr, length, arith, append_assoc, append-nil, cond, get_or, nat_lt, ◌+◌, ◌↔◌}
 use Rattle.std.specs.Int.{is_in_range}
 use Rattle.std.specs.Char.{is_ascii_alphanumeric, to_ascii_lowercase}
 use Rattle.std.specs.List.{list_all}
 use Rattle.std.specs.Str.{str_to_ascii_lowercase}
-use Rattle.std.proofs.lemmas.Bool.{cases_lt, and_parts, agree_below, agree_below_at, true≢false, false≢true, or_from, cond_both, eqb-true, eqb-false, not-true, ltb-true, ltb-false}
+use Rattle.std.proofs.lemmas.Bool.{cases_Bool, cases_lt, and_parts, agree_below, agree_below_at, true≢false, false≢true, or_from, cond_both, eqb-true, eqb-false, not-true, ltb-true, ltb-false}
 use Rattle.place_core.specs.Classes.{class_of}
 use Rattle.place_core.specs.Events.{Event, AttributeBegins, AttributeNameByte, attribute_name_bytes}
 use Rattle.place_core.specs.Html.{read}
@@ -16,7 +16,7 @@ use Rattle.place_core.specs.Words.{is_special, is_plain, kind_on, is_among, spec
 use Rattle.place_core.proofs.Bytes.{range-high}
 use Rattle.place_core.proofs.Readings.{is_name_class, first-name-byte, name-byte, after-name-byte, solidus-byte}
 use Rattle.san_html.specs.ReadBack.{as_name, BeginsName, IsBackInTag}
-use Rattle.san_html.specs.Sanitizers.{failsafe, is_name}
+use Rattle.san_html.specs.Sanitizers.{attr_name, failsafe, is_name}
 
 -- a letter or a digit is read as a byte of a name, and stays one in lower case
 abbrev is_word_byte : ℕ → Bool
@@ -132,13 +132,11 @@ name-back text e =
 failsafe-back : (text : List ℕ) → is_name text ≡ false → IsBackInTag text failsafe
 failsafe-back text e = back-word text failsafe (λ n. cc) refl refl (ap (λ (b : Bool). str_to_ascii_lowercase (cond b text failsafe)) (sym e))
 
-pub name-result : {E : Type 0} (text : List ℕ) → is_name text ≡ true → (result : Result (List ℕ) E) → IfOk result (λ bytes. bytes ≡ str_to_ascii_lowercase text) → IfOk result (IsBackInTag text)
-name-result text n (Ok bytes) e = subst (IsBackInTag text) (sym e) (name-back text n)
-name-result text n (Err r) e = tt
-
-pub failsafe-result : {E : Type 0} (text : List ℕ) → is_name text ≡ false → (result : Result (List ℕ) E) → IfOk result (λ bytes. bytes ≡ failsafe) → IfOk result (IsBackInTag text)
-failsafe-result text n (Ok bytes) e = subst (IsBackInTag text) (sym e) (failsafe-back text n)
-failsafe-result text n (Err r) e = tt
+pub tag-back : (text : List ℕ) → IsBackInTag text (attr_name text)
+tag-back text = elim (cases_Bool (is_name text)) [
+  | inl e ↦ subst (λ (b : Bool). IsBackInTag text (cond b (str_to_ascii_lowercase text) failsafe)) (sym e) (name-back text e)
+  | inr e ↦ subst (λ (b : Bool). IsBackInTag text (cond b (str_to_ascii_lowercase text) failsafe)) (sym e) (failsafe-back text e)
+]
 
 -- a name in lower case is not the failsafe, which begins with a capital
 no-capital : (b : ℕ) → to_ascii_lowercase b ≢ 90
@@ -149,6 +147,8 @@ not-failsafe : (text : List ℕ) → str_to_ascii_lowercase text ≢ failsafe
 not-failsafe [] e = cc
 not-failsafe (b ∷ bs) e = no-capital b (ap (λ (xs : List ℕ). get_or xs 0 0) e)
 
-pub name-exact : {E : Type 0} (text : List ℕ) → is_name text ≡ true → (result : Result (List ℕ) E) → IfOk result (λ bytes. bytes ≡ str_to_ascii_lowercase text) → IfOk result (λ bytes. (bytes ≡ failsafe) ↔ (is_name text ≡ false))
-name-exact text n (Ok bytes) e = (λ f. absurd (not-failsafe text (sym e ∙ f)), λ f. absurd (true≢false (sym n ∙ f)))
-name-exact text n (Err r) e = tt
+pub name-exact : (text : List ℕ) → (attr_name text ≡ failsafe) ↔ (is_name text ≡ false)
+name-exact text = elim (cases_Bool (is_name text)) [
+  | inl e ↦ subst (λ (b : Bool). (cond b (str_to_ascii_lowercase text) failsafe ≡ failsafe) ↔ (b ≡ false)) (sym e) (λ f. absurd (not-failsafe text f), λ f. absurd (true≢false f))
+  | inr e ↦ subst (λ (b : Bool). (cond b (str_to_ascii_lowercase text) failsafe ≡ failsafe) ↔ (b ≡ false)) (sym e) (λ f. refl, λ f. refl)
+]

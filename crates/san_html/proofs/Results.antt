@@ -10,6 +10,7 @@ for-text P rows all text u =
     subst (λ (bytes : List ℕ). P bytes (replaced rows bytes)) u.1.1
     (subst (P (encode_utf8_all u.0)) (sym (replaced-encodes rows u.0 u.1.0)) (all u.0))
 
-pub for-result : {E : Type 0} (P : List ℕ → List ℕ → Type 0) (rows : List Row) → ((cs : List ℕ) → P (encode_utf8_all cs) (replaced_all rows cs)) → (text : List ℕ) → IsUtf8 text → (result : Result (List ℕ) E) → IfOk result (λ bytes. bytes ≡ replaced rows text) → IfOk result (P text)
-for-result P rows all text u (Ok bytes) e = subst (P text) (sym e) (for-text P rows all text u)
-for-result P rows all text u (Err r) e = tt
+-- what holds of the text that a call writes holds of its result
+pub for-result : {E : Type 0} (P : List ℕ → Type 0) (written : List ℕ) → P written → (result : Result (List ℕ) E) → IfOk result (λ bytes. bytes ≡ written) → IfOk result P
+for-result P written p (Ok bytes) e = subst P (sym e) p
+for-result P written p (Err r) e = tt

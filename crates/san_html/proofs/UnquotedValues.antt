@@ -1,10 +1,10 @@
 -- Text that `attr_nospace` writes, in unquoted values and where one is to begin.
-use Rattle.std.proofs.Common.{◌≡◌, ◌≢◌, ℕ, ◌<◌, ◌==◌, ◌&&◌, not, Bool, true, false, List, [], ◌∷◌, ◌++◌, Result, Ok, Err, IfOk, IsUtf8, refl, sym, ap, ◌∙◌, subst, encode_utf8, inl, inr, length, arith}
+use Rattle.std.proofs.Common.{◌≡◌, ◌≢◌, ℕ, ◌<◌, ◌==◌, ◌&&◌, not, Bool, true, false, List, [], ◌∷◌, ◌++◌, IsUtf8, refl, sym, ap, ◌∙◌, subst, encode_utf8, inl, inr, length, arith}
 use Rattle.std.specs.Char.{is_ascii_whitespace}
 use Rattle.std.specs.Str.{encode_utf8_all}
-use Rattle.std.proofs.lemmas.Bool.{cases_lt, cases_Bool, and_parts, agree_below, eqb-true, eqb-false, true≢false}
+use Rattle.std.proofs.lemmas.Bool.{cases_lt, cases_Bool, and_parts, agree_below, true≢false}
 use Rattle.std.proofs.lemmas.Str.{encode_ascii, length-encode, len_utf8_bounds}
-use Rattle.esc_table.specs.Replaced.{written, replaced, replaced_all}
+use Rattle.esc_table.specs.Replaced.{written, replaced_all}
 use Rattle.place_core.specs.Classes.{Class, White, QuotationMark, Ampersand, Apostrophe, GreaterThan, class_of}
 use Rattle.place_core.specs.Events.{Event, ValueByte}
 use Rattle.place_core.specs.Html.{read}
@@ -17,7 +17,7 @@ use Rattle.place_core.specs.declared.kind.Kind.TheVariants as kind
 use Rattle.place_core.proofs.Bytes.{class-high, class-white}
 use Rattle.place_core.proofs.Readings.{is_own_in_unquoted, begins_unquoted, unquoted-byte, unbegun-byte, told_bytes-append}
 use Rattle.san_html.specs.ReadBack.{as_byte, as_text, as_unquoted, in_value, after_text, IsBackInUnquoted}
-use Rattle.san_html.specs.Sanitizers.{attr_nospace_rows, failsafe}
+use Rattle.san_html.specs.Sanitizers.{attr_nospace, attr_nospace_rows, failsafe}
 use Rattle.san_html.proofs.EscapedText.{same-kind, only-value}
 use Rattle.san_html.proofs.Results.{for-text}
 use Rattle.san_html.proofs.Rows.{AllRows, written-has}
@@ -129,10 +129,6 @@ back-some : (cs : List ℕ) → BackSome (encode_utf8_all cs) (replaced_all attr
 back-some [] n = absurd (n refl)
 back-some (c ∷ cs) n = back (encode_utf8_all (c ∷ cs)) (replaced_all attr_nospace_rows (c ∷ cs)) n (begins-append (written attr_nospace_rows c) (replaced_all attr_nospace_rows cs) (written-begins c)) (λ tag v t. unquoted-reads tag v (c ∷ cs) t)
 
-pub some-result : {E : Type 0} (text : List ℕ) → IsUtf8 text → text ≢ [] → (result : Result (List ℕ) E) → IfOk result (λ bytes. bytes ≡ replaced attr_nospace_rows text) → IfOk result (IsBackInUnquoted text)
-some-result text u n (Ok bytes) e = subst (IsBackInUnquoted text) (sym e) (for-text BackSome attr_nospace_rows back-some text u n)
-some-result text u n (Err r) e = tt
-
 -- the empty text
 back-failsafe : IsBackInUnquoted [] failsafe
 unfolding class_of
@@ -143,13 +139,6 @@ back-failsafe = record {
   reads_unbegun = λ tag k t. refl;
 }
 
-pub none-result : {E : Type 0} (text : List ℕ) → text ≡ [] → (result : Result (List ℕ) E) → IfOk result (λ bytes. bytes ≡ failsafe) → IfOk result (IsBackInUnquoted text)
-none-result text n (Ok bytes) e = rw (e, n) back-failsafe
-none-result text n (Err r) e = tt
-
-pub is-empty : (text : List ℕ) → (length text == 0) ≡ true → text ≡ []
-is-empty [] e = refl
-is-empty (b ∷ bs) e = absurd (omega (arith, eqb-true (length (b ∷ bs)) 0 e))
-
-pub not-empty : (text : List ℕ) → (length text == 0) ≡ false → text ≢ []
-not-empty text e n = eqb-false (length text) 0 e (ap length n)
+pub unquoted-back : (text : List ℕ) → IsUtf8 text → IsBackInUnquoted text (attr_nospace text)
+unquoted-back [] u = back-failsafe
+unquoted-back (b ∷ bs) u = for-text BackSome attr_nospace_rows back-some (b ∷ bs) u (λ e. cc)

@@ -1,8 +1,8 @@
-ghost use Rattle.std.specs.Prelude.{◌≡◌, IfOk};
+ghost use Rattle.std.specs.Prelude.{◌≡◌, ◌++◌, IfOk, OnOk, string_bytes};
 ghost use Rattle.san_html.specs.ReadBack.{IsBackInText, IsBackInRcdata, IsBackInBlock, IsBackInQuoted};
 ghost use Rattle.san_html.specs.Sanitizers.{html as html_of};
 
-use esc_table::{replace, table};
+use esc_table::{push_replaced, table};
 use page_io::{Memory, Text};
 use std::alloc::Global;
 
@@ -32,6 +32,15 @@ pub fn attr(alloc: Global, text: &str) -> Result<Text, Memory>
 fn escape(alloc: Global, text: &str) -> Result<Text, Memory>
     ensures { IfOk result (λ bytes. bytes ≡ html_of text.now) }
 {
+    let mut out = String::new(alloc);
+    push_html(&mut out, text)?;
+    Ok(Text::from(out))
+}
+
+/// Appends what `html` and `attr` give. The error is out of memory, and then a part of it may be there.
+pub fn push_html(out: &mut String, text: &str) -> Result<(), Memory>
+    ensures { OnOk result (string_bytes out.new ≡ string_bytes out.old ++ html_of text.now) }
+{
     let table = table! {
         '\0' => "\u{FFFD}",
         '"' => "&#34;",
@@ -41,5 +50,5 @@ fn escape(alloc: Global, text: &str) -> Result<Text, Memory>
         '<' => "&lt;",
         '>' => "&gt;",
     };
-    replace(alloc, &table, text)
+    push_replaced(out, &table, text)
 }

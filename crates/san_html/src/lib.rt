@@ -6,7 +6,7 @@ mod failsafe;
 mod name;
 mod unquoted;
 
-pub use escape::{attr, html};
+pub use escape::{attr, html, push_html};
 pub use failsafe::FAILSAFE;
-pub use name::attr_name;
-pub use unquoted::attr_nospace;
+pub use name::{attr_name, push_attr_name};
+pub use unquoted::{attr_nospace, push_attr_nospace};

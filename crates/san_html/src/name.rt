@@ -1,4 +1,4 @@
-ghost use Rattle.std.specs.Prelude.{◌≡◌, ◌↔◌, false, IfOk};
+ghost use Rattle.std.specs.Prelude.{◌≡◌, ◌++◌, ◌↔◌, false, IfOk, OnOk, string_bytes};
 ghost use Rattle.std.specs.Char.{is_ascii_alphanumeric};
 ghost use Rattle.std.specs.List.{list_all};
 ghost use Rattle.std.specs.Str.{str_to_ascii_lowercase};
@@ -19,10 +19,20 @@ pub fn attr_name(alloc: Global, text: &str) -> Result<Text, Memory>
     ensures failsafe { IfOk result (λ bytes. (bytes ≡ failsafe) ↔ (is_name_of text.now ≡ false)) }
     ensures in_tag { IfOk result (λ bytes. IsBackInTag text.now bytes) }
 {
+    let mut out = String::new(alloc);
+    push_attr_name(&mut out, text)?;
+    Ok(Text::from(out))
+}
+
+/// Appends what `attr_name` gives. The error is out of memory, and then a part of it may be there.
+pub fn push_attr_name(out: &mut String, text: &str) -> Result<(), Memory>
+    ensures { OnOk result (string_bytes out.new ≡ string_bytes out.old ++ attr_name_of text.now) }
+{
     if !is_name(text) {
-        return Text::copy_of(alloc, FAILSAFE);
+        out.push_str(FAILSAFE)?;
+        return Ok(());
     }
-    lower_case(alloc, text)
+    push_lower_case(out, text)
 }
 
 // Whether a text is the name of an attribute that data may make.
@@ -38,8 +48,11 @@ fn is_alphanumeric(bytes: &[u8]) -> bool
     bytes.iter().all(|byte| byte.is_ascii_alphanumeric())
 }
 
-fn lower_case(alloc: Global, text: &str) -> Result<Text, Memory>
-    ensures { IfOk result (λ bytes. bytes ≡ str_to_ascii_lowercase text.now) }
+fn push_lower_case(out: &mut String, text: &str) -> Result<(), Memory>
+    ensures { OnOk result (string_bytes out.new
+        ≡ string_bytes out.old ++ str_to_ascii_lowercase text.now) }
 {
-    Ok(Text::from(text.to_ascii_lowercase(alloc)?))
+    let lower = text.to_ascii_lowercase(*out.allocator())?;
+    out.push_str(lower.as_str())?;
+    Ok(())
 }

@@ -1,10 +1,10 @@
-ghost use Rattle.std.specs.Prelude.{◌≡◌, IfOk};
+ghost use Rattle.std.specs.Prelude.{◌≡◌, ◌++◌, IfOk, OnOk, string_bytes};
 ghost use Rattle.esc_table.specs.Replaced.{replaced};
 ghost use Rattle.san_html.specs.ReadBack.{IsBackInUnquoted};
 ghost use Rattle.san_html.specs.Sanitizers.{attr_nospace as attr_nospace_of, attr_nospace_rows};
 
 use crate::failsafe::FAILSAFE;
-use esc_table::{replace, table};
+use esc_table::{push_replaced, table};
 use page_io::{Memory, Text};
 use std::alloc::Global;
 
@@ -17,14 +17,26 @@ pub fn attr_nospace(alloc: Global, text: &str) -> Result<Text, Memory>
     ensures written { IfOk result (λ bytes. bytes ≡ attr_nospace_of text.now) }
     ensures in_unquoted { IfOk result (λ bytes. IsBackInUnquoted text.now bytes) }
 {
-    if text.is_empty() {
-        return Text::copy_of(alloc, FAILSAFE);
-    }
-    escape_all(alloc, text)
+    let mut out = String::new(alloc);
+    push_attr_nospace(&mut out, text)?;
+    Ok(Text::from(out))
 }
 
-fn escape_all(alloc: Global, text: &str) -> Result<Text, Memory>
-    ensures { IfOk result (λ bytes. bytes ≡ replaced attr_nospace_rows text.now) }
+/// Appends what `attr_nospace` gives. The error is out of memory, and then a part of it may be there.
+pub fn push_attr_nospace(out: &mut String, text: &str) -> Result<(), Memory>
+    ensures { OnOk result (string_bytes out.new
+        ≡ string_bytes out.old ++ attr_nospace_of text.now) }
+{
+    if text.is_empty() {
+        out.push_str(FAILSAFE)?;
+        return Ok(());
+    }
+    push_escaped(out, text)
+}
+
+fn push_escaped(out: &mut String, text: &str) -> Result<(), Memory>
+    ensures { OnOk result (string_bytes out.new
+        ≡ string_bytes out.old ++ replaced attr_nospace_rows text.now) }
 {
     let table = table! {
         '\0' => "&#xfffd;",
@@ -43,5 +55,5 @@ fn escape_all(alloc: Global, text: &str) -> Result<Text, Memory>
         '<' => "&lt;",
         '>' => "&gt;",
     };
-    replace(alloc, &table, text)
+    push_replaced(out, &table, text)
 }

@@ -1,12 +1,17 @@
-use Rattle.std.proofs.Common.{sym}
-use Rattle.san_html.proofs.Names.{name-result, failsafe-result, name-exact}
+use Rattle.std.proofs.Common.{◌∙◌, ◌↔◌, ◌≡◌, ◌++◌, ℕ, List, false, ap, sym, subst}
+use Rattle.san_html.specs.ReadBack.{IsBackInTag}
+use Rattle.san_html.specs.Sanitizers.{attr_name, failsafe, is_name}
+use Rattle.san_html.proofs.Names.{name-exact, tag-back}
 use Rattle.san_html.proofs.name.attr_name.Goals as goal
 
-pub returns-then-not-is_name-clause-in_tag : goal.returns-then-not-is_name-clause-in_tag
-returns-then-not-is_name-clause-in_tag c = failsafe-result c.args.text.now (sym c.if-not-is_name.ensures) c.copy_of.result c.copy_of.ensures
-
 pub returns-clause-failsafe : goal.returns-clause-failsafe
-returns-clause-failsafe c = name-exact c.args.text.now (sym c.if-not-is_name.ensures) c.lower_case.result c.lower_case.ensures
+returns-clause-failsafe c =
+    let text = c.args.text.now in
+    let written = c.from.ensures ∙ c.in_ok-push_attr_name.ensures ∙ ap (λ (bytes : List ℕ). bytes ++ attr_name text) c.new-out.ensures.bytes in
+    subst (λ (bytes : List ℕ). (bytes ≡ failsafe) ↔ (is_name text ≡ false)) (sym written) (name-exact text)
 
 pub returns-clause-in_tag : goal.returns-clause-in_tag
-returns-clause-in_tag c = name-result c.args.text.now (sym c.if-not-is_name.ensures) c.lower_case.result c.lower_case.ensures
+returns-clause-in_tag c =
+    let text = c.args.text.now in
+    let written = c.from.ensures ∙ c.in_ok-push_attr_name.ensures ∙ ap (λ (bytes : List ℕ). bytes ++ attr_name text) c.new-out.ensures.bytes in
+    subst (IsBackInTag text) (sym written) (tag-back text)
