@@ -1,0 +1,92 @@
+-- Small pages, by the definition alone, and pages that are none.
+use Rattle.std.proofs.Common.{◌≡◌, ℕ, codes, List, [], ◌∷◌, length, refl, ap, ◌∙◌, arith}
+use Rattle.esc_table.proofs.Runs.{replaced-encodes}
+use Rattle.page_datum.specs.Data.{text}
+use Rattle.page_path.specs.Pages.{Piece, page_bytes, pieces_of, value, value_pieces, words}
+use Rattle.page_path.specs.Soundness.{IsSound, ReadBack, read_filled}
+use Rattle.place_core.specs.Classes.{class_of}
+use Rattle.place_core.specs.Html.{read, start}
+use Rattle.place_core.specs.Paths.{Hole, Written}
+use Rattle.place_core.specs.References.{Closed, meaning}
+use Rattle.place_core.specs.States.{Config, Page, State, TagOpen, Text}
+use Rattle.place_core.specs.Tags.{ValueState}
+use Rattle.place_core.specs.declared.san.San.TheVariants as san
+use Rattle.san_html.specs.Sanitizers.{html, html_rows}
+use Rattle.tpl_tree.specs.Forests.{ForestData}
+use Rattle.tpl_tree.specs.Pipes.{command, dot, no_commands, single, with_fields}
+use Rattle.tpl_tree.specs.Trees.{NodesData, no_nodes, node}
+use Rattle.tpl_tree.specs.declared.node_kind.NodeKind.{NodeKind}
+use Rattle.tpl_tree.specs.declared.node_kind.NodeKind.TheVariants as kind
+
+abbrev name : List ℕ
+name = codes "a.html"
+
+abbrev alone : NodeKind → NodesData → NodesData
+alone what rest = node what 1 [] no_nodes no_nodes rest
+
+-- a text, {{.}}, and another text
+abbrev around : List ℕ → List ℕ → ForestData
+around before behind =
+    (let hole = kind.Action (record { commands = command (single (with_fields dot [])) no_commands }) in
+    (name, record { nodes = alone (kind.Text before) (alone hole (alone (kind.Text behind) no_nodes)); end_line = 1 }) ∷ [])
+
+abbrev pieces : List ℕ → List ℕ → List ℕ → List Piece
+pieces before datum behind = pieces_of (around before behind) name (text datum)
+
+less : html (codes "<") ≡ codes "&lt;"
+unfolding lib.Utf8.encode
+less = replaced-encodes html_rows (codes "<") refl
+
+in_a_tag : pieces (codes "<b>") (codes "<") (codes "</b>")
+    ≡ words (codes "<b>") ∷ value (codes "<") (codes "&lt;") ∷ words (codes "</b>") ∷ []
+unfolding class_of
+in_a_tag = ap (λ (bytes : List ℕ). words (codes "<b>") ∷ value (codes "<") bytes ∷ words (codes "</b>") ∷ []) less
+
+in_an_empty_value : page_bytes (pieces (codes "<a title=") [] (codes ">")) ≡ codes "<a title=ZgotmplZ>"
+unfolding class_of
+in_an_empty_value = refl
+
+-- with another sanitizer behind Drop the value is not left out
+dropped_first : value_pieces (record { count = 2; sans = san.Drop ∷ san.AttrNospace ∷ san.AttrNospace ∷ [] }) (codes "a")
+    ≡ value (codes "a") (codes "ZgotmplZ") ∷ []
+dropped_first = refl
+
+in_a_comment : pieces (codes "a<!-- ") (codes "-->") (codes " -->b") ≡ words (codes "a") ∷ words (codes "b") ∷ []
+unfolding class_of
+in_a_comment = refl
+
+-- a value as it is makes no page of the set, and is read as something else
+as_it_is : IsSound (around (codes "<b>") (codes "</b>")) name (text (codes "<")) (codes "<b><</b>") → ⊥
+as_it_is h = let same = ap length (h.bytes ∙ ap page_bytes in_a_tag) in omega (arith, same)
+
+in_another_state : (c d : State ValueState) → c ≡ TagOpen Closed → d ≡ Text Closed → c ≡ d → ⊥
+in_another_state c d e f g = cc
+
+not_back : ReadBack (words (codes "<b>") ∷ value (codes "<") (codes "<") ∷ words (codes "</b>") ∷ []) start → ⊥
+unfolding class_of
+not_back h = in_another_state (TagOpen Closed) (Text Closed) refl refl h.0.1.0
+
+-- the same pages read as bytes alone, and their paths with the texts in their holes
+abbrev with_text : List ℕ → List ℕ → List ℕ → Config ValueState
+with_text before datum behind = read_filled (Written before ∷ Hole ∷ Written behind ∷ []) (datum ∷ []) start
+
+raw_in_a_tag : read Page (codes "<b>&lt;</b>") start ≡ with_text (codes "<b>") (codes "<") (codes "</b>")
+unfolding class_of meaning lib.Utf8.encode
+raw_in_a_tag = refl
+
+raw_in_an_empty_value : read Page (codes "<a title=ZgotmplZ>") start ≡ with_text (codes "<a title=") [] (codes ">")
+unfolding class_of
+raw_in_an_empty_value = refl
+
+raw_in_a_name : read Page (codes "<a ab=c>") start ≡ with_text (codes "<a ") (codes "aB") (codes "=c>")
+unfolding class_of
+raw_in_a_name = refl
+
+raw_in_a_comment : read Page (codes "ab") start ≡ with_text (codes "a<!-- ") (codes "-->") (codes " -->b")
+unfolding class_of
+raw_in_a_comment = refl
+
+-- a value as it is reads as more than its text
+not_raw : read Page (codes "<b><i a></b>") start ≡ with_text (codes "<b>") (codes "<i a>") (codes "</b>") → ⊥
+unfolding class_of
+not_raw h = let same = ap (λ (c : Config ValueState). length c.told) h in omega (arith, same)

@@ -1,0 +1,13 @@
+pub mod EventsFilled
+pub mod Examples
+pub mod Finding
+pub mod HolesBack
+pub mod OneShape
+pub mod OwnPieces
+pub mod PiecesFilled
+pub mod PiecesRead
+pub mod Retold
+pub mod Signs
+pub mod Sound
+pub mod Together
+pub mod Walked

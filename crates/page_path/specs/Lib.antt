@@ -1,0 +1,4 @@
+pub mod ByChart
+pub mod Laws
+pub mod Pages
+pub mod Soundness

@@ -1,0 +1,6 @@
+pub mod KeptOutputs
+pub mod OpenPairs
+pub mod PairOutputs
+pub mod RootPairs
+pub mod WholePages
+pub mod WrittenPages

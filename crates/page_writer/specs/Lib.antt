@@ -1,0 +1,3 @@
+pub mod Composing
+pub mod Outputs
+pub mod Writing

@@ -1,0 +1,15 @@
+use page_io::Text;
+use place_core::San;
+
+/// What a page gets at a node of a pair.
+#[derive(Debug, Drop)]
+pub enum Output {
+    /// Nothing: the node is a choice, or no path comes there.
+    Nothing,
+    /// A text, as it is written there.
+    Text(Text),
+    /// The text of a value, by this sanitizer.
+    Value(San),
+    /// What another pair gives, by its number.
+    Call(u32),
+}

@@ -1,0 +1,183 @@
+ghost use Rattle.std.specs.Prelude.{◌≡◌, ◌++◌, ◌≤◌, IfErr, IfOk, MatchOption, OnOk};
+ghost use Rattle.std.specs.Prelude.{length, map, string_bytes};
+ghost use Rattle.std.specs.Str.{IsUtf8};
+ghost use Rattle.page_datum.specs.Printed.{printed};
+ghost use Rattle.page_datum.specs.View.{view};
+ghost use Rattle.page_path.specs.Pages.{max_page, san_bytes};
+ghost use Rattle.page_writer.specs.Writing.{IsAppended, IsTooLong, IsUnfit};
+ghost use Rattle.page_writer.specs.Writing.{open_output as open_output_of};
+ghost use Rattle.page_writer.specs.declared.output.Output.TheVariants.{Nothing};
+
+use crate::output::Output;
+use page_datum::{Datum, print_datum};
+use page_io::{Memory, Stack};
+use place_core::San;
+use san_html::{push_attr_name, push_attr_nospace, push_html};
+use std::alloc::Global;
+use tpl_events::{HoleSink, HoleStop};
+
+// The most bytes that a page may have.
+const MAX_PAGE: usize = 16_777_216;
+
+/// A page that is written from the outputs of the pairs of a chart, as an execution gives its events.
+#[derive(Drop)]
+pub struct PageWriter<'o> {
+    outputs: &'o [Vec<Output>],
+    // the pairs that are open, the innermost on top
+    pairs: Stack<u32>,
+    page: String,
+}
+
+impl<'o> PageWriter<'o> {
+    ghost use Rattle.page_writer.specs.Writing.{IsBegun};
+
+    /// A page without bytes, where the pair of a root is open. The error is out of memory.
+    pub fn new(
+        alloc: Global,
+        outputs: &'o [Vec<Output>],
+        root: u32,
+    ) -> Result<PageWriter<'o>, Memory>
+        ensures { IfOk result (λ writer. IsBegun outputs.now root writer) }
+    {
+        let mut pairs = Stack::new(alloc);
+        pairs.push(root)?;
+        Ok(PageWriter {
+            outputs,
+            pairs,
+            page: String::new(alloc),
+        })
+    }
+
+    /// The page, taking no memory.
+    pub fn into_page(self) -> String
+        ensures { result ≡ self.entry.page }
+    {
+        self.page
+    }
+}
+
+impl<'o> HoleSink for PageWriter<'o> {
+    ghost use Rattle.page_writer.specs.Writing.{Declines, May, Takes};
+
+    ghost may = { May };
+
+    ghost takes = { Takes };
+
+    ghost refuses = { Declines };
+
+    fn text(&mut self, node: u32) -> Result<(), HoleStop> {
+        match open_output(self.outputs, &self.pairs, node) {
+            Some(Output::Text(text)) => push_text(&mut self.page, text.as_str()),
+            _ => unreachable!(),
+        }
+    }
+
+    fn hole(&mut self, node: u32, datum: &Datum) -> Result<(), HoleStop> {
+        match open_output(self.outputs, &self.pairs, node) {
+            Some(Output::Value(san)) => push_datum(&mut self.page, *san, datum),
+            _ => unreachable!(),
+        }
+    }
+
+    fn call(&mut self, node: u32) -> Result<(), HoleStop> {
+        match open_output(self.outputs, &self.pairs, node) {
+            Some(Output::Call(pair)) => match self.pairs.push(*pair) {
+                Ok(()) => Ok(()),
+                Err(Memory) => Err(HoleStop::Memory),
+            },
+            _ => unreachable!(),
+        }
+    }
+
+    fn leave(&mut self) {
+        self.pairs.pop();
+    }
+}
+
+// The output of a node of the pair that was opened last and is not left, where there is one.
+fn open_output<'o>(outputs: &'o [Vec<Output>], pairs: &Stack<u32>, node: u32) -> Option<&'o Output>
+    ensures { let output = open_output_of (map (λ row. row.items) outputs.now) pairs.now node in
+        MatchOption result (output ≡ Nothing) (λ found. output ≡ found.now) }
+{
+    match pairs.top() {
+        Some(pair) => match outputs.get(*pair as usize) {
+            Some(row) => row.get(node as usize),
+            None => None,
+        },
+        None => None,
+    }
+}
+
+// Refuses a page that is longer than it may be.
+fn fits(page: &String) -> Result<(), HoleStop>
+    ensures ok { OnOk result (length (string_bytes page.now) ≤ max_page) }
+    ensures err { IfErr result (λ why. IsTooLong page.now why) }
+{
+    if page.len() > MAX_PAGE {
+        return Err(HoleStop::TooLong);
+    }
+    Ok(())
+}
+
+// Appends a text to a page.
+fn push_text(page: &mut String, text: &str) -> Result<(), HoleStop>
+    ensures ok { OnOk result (IsAppended page.old text.now page.new) }
+    ensures err { IfErr result (λ why. IsUnfit page.old text.now why) }
+{
+    match page.push_str(text) {
+        Ok(()) => fits(page),
+        Err(_) => Err(HoleStop::Memory),
+    }
+}
+
+// Appends the text of a value to a page, by a sanitizer.
+fn push_value(page: &mut String, san: San, text: &str) -> Result<(), HoleStop>
+    ensures ok { OnOk result (IsAppended page.old (san_bytes san text.now) page.new) }
+    ensures err { IfErr result (λ why. IsUnfit page.old (san_bytes san text.now) why) }
+    ensures textual { IsUtf8 text.now }
+{
+    match push_escaped(page, san, text) {
+        Ok(()) => fits(page),
+        Err(Memory) => Err(HoleStop::Memory),
+    }
+}
+
+// Appends a value to a page, by a sanitizer. A text is what is printed for it, and no copy of it is made.
+fn push_datum(page: &mut String, san: San, datum: &Datum) -> Result<(), HoleStop>
+    ensures ok { let bytes = san_bytes san (printed (view datum.now)) in
+        OnOk result (IsAppended page.old bytes page.new) }
+    ensures err { let bytes = san_bytes san (printed (view datum.now)) in
+        IfErr result (λ why. IsUnfit page.old bytes why) }
+    ensures textual { OnOk result (IsUtf8 (printed (view datum.now))) }
+{
+    match datum {
+        Datum::Text(text) => push_value(page, san, text.as_str()),
+        _ => match print_datum(*page.allocator(), datum) {
+            Ok(text) => push_value(page, san, text.as_str()),
+            Err(Memory) => Err(HoleStop::Memory),
+        },
+    }
+}
+
+// Appends what a sanitizer gives for a text; only of a name a copy is made. The error is out of memory, and then a part of it may be
+// there.
+fn push_escaped(out: &mut String, san: San, text: &str) -> Result<(), Memory>
+    ensures { OnOk result (string_bytes out.new
+        ≡ string_bytes out.old ++ san_bytes san text.now) }
+{
+    match san {
+        San::Html | San::Attr => push_html(out, text),
+        San::AttrNospace => push_attr_nospace(out, text),
+        San::AttrName => push_attr_name(out, text),
+        San::JsValue
+        | San::JsString
+        | San::JsRegexp
+        | San::CssValue
+        | San::CssString
+        | San::UrlFilter
+        | San::UrlOpen
+        | San::UrlNorm
+        | San::UrlQuery
+        | San::Drop => Ok(()),
+    }
+}
