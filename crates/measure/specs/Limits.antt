@@ -3,7 +3,7 @@ use Rattle.std.specs.Prelude.{ℕ}
 use Rattle.tpl_token.specs.Answers.{max_text}
 use Rattle.page_datum.specs.Reading.{max_length}
 use Rattle.measure.specs.declared.request.Call.{Call}
-use Rattle.measure.specs.declared.request.Call.TheVariants.{Tokens, Parse, Gather, Infer, Html, AttrNospace, Characters, Steps, Written, Data, Turns, Calls, Keys, Looks, Locks}
+use Rattle.measure.specs.declared.request.Call.TheVariants.{Tokens, Parse, Gather, Infer, Html, AttrNospace, Characters, Steps, Written, Data, Turns, Calls, Keys, Page, Pages, Looks, Locks}
 
 abbrev pub most_of : Call → ℕ
 most_of Data = max_length
@@ -21,3 +21,5 @@ most_of AttrNospace = max_text
 most_of Characters = max_text
 most_of Steps = max_text
 most_of Written = max_text
+most_of Page = max_text
+most_of Pages = max_text

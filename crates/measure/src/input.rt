@@ -4,7 +4,7 @@ ghost use Rattle.page_datum.specs.Reading.{max_length};
 use crate::nests::{Nest, nests};
 use crate::request::Input;
 use crate::template_sets::{chain, pairs};
-use crate::units::push_units;
+use crate::units::{push_units, push_within};
 use std::alloc::{AllocError, Global};
 
 /// An input of at most so many bytes.
@@ -26,6 +26,7 @@ pub fn input_of(alloc: Global, input: Input, size: usize) -> Result<String, Allo
         Input::Lists => repeated(alloc, "[", "[],", "[]]", size),
         Input::Objects => objects(alloc, size),
         Input::Sections => repeated(alloc, "", SECTION, "", size),
+        Input::PageSections => page_sections(alloc, size),
         Input::Chain => chain(alloc, size),
         Input::Pairs => pairs(alloc, size),
         Input::Nests => nests(alloc, TAGS, size),
@@ -36,6 +37,13 @@ pub fn input_of(alloc: Global, input: Input, size: usize) -> Result<String, Allo
 
 // A section of a page.
 const SECTION: &str = "<p title=\"{{.a}}\">{{if .b}}x{{else}}<b>{{end}}</p>\n";
+
+// A section of a page with a hole.
+const PAGE_HOLE: &str = "<p>{{.v}}</p>\n";
+
+// The same, and then a section with a list.
+const PAGE_HOLE_AND_LIST: &str =
+    "<p>{{.v}}</p>\n<ul>{{range .l}}<li title={{.}}>{{.}}</li>{{end}}</ul>\n";
 
 // Each level has a tag.
 const TAGS: Nest = Nest {
@@ -52,6 +60,16 @@ const VALUES: Nest = Nest {
     end: "{{end}}",
     back: ">",
 };
+
+// As many sections as fit, in turn of the two kinds.
+fn page_sections(alloc: Global, size: usize) -> Result<String, AllocError>
+    requires { size ≤ max_length }
+    ensures { IfOk result (λ text. length (string_bytes text) ≤ size) }
+{
+    let mut text = repeated(alloc, "", PAGE_HOLE_AND_LIST, "", size)?;
+    push_within(&mut text, PAGE_HOLE, size)?;
+    Ok(text)
+}
 
 // As many definitions as fit, each with a name and a body of its own.
 fn definitions(alloc: Global, size: usize) -> Result<String, AllocError>
@@ -101,7 +119,7 @@ fn repeated(
     size: usize,
 ) -> Result<String, AllocError>
     requires unit { 0 < length unit.now }
-    requires unit_short { length unit.now ≤ 64 }
+    requires unit_short { length unit.now ≤ 128 }
     requires prefix { length prefix.now ≤ 8 }
     requires end { length end.now ≤ 8 }
     requires size { size ≤ max_length }

@@ -6,6 +6,7 @@ ghost use Rattle.std.specs.Prelude.{◌≤◌, IfOk, IfSome, length};
 ghost use Rattle.tpl_token.specs.Answers.{max_text};
 ghost use Rattle.measure.specs.Limits.{most_of};
 
+mod byte_counter;
 mod counter;
 mod forest;
 mod inference;
@@ -16,6 +17,7 @@ mod nests;
 mod request;
 mod template_sets;
 mod units;
+mod whole_page;
 
 use crate::counter::executed_counted;
 use crate::inference::{pairs_counted, templates_counted};
@@ -23,6 +25,7 @@ use crate::input::input_of;
 use crate::locks::{four_lock, one_locks};
 use crate::looks::{four_look, one_looks};
 use crate::request::{Call, Input, Request, most, size_named, words_named};
+use crate::whole_page::page_counted;
 use html_step::{after_text, print_place};
 use html_words::RefChars;
 use page_datum::{DataRefused, print_datum, read_datum};
@@ -55,6 +58,7 @@ fn main(rt: HostRuntime) -> ExitCode {
             let _ = eprintln!(&rt; "      steps-text steps-tags written-text written-tags");
             let _ = eprintln!(&rt; "      data-numbers data-text data-lists data-objects");
             let _ = eprintln!(&rt; "      execute-turns execute-calls execute-keys");
+            let _ = eprintln!(&rt; "      page-sections page-text pages-sections pages-text");
             let _ = eprintln!(&rt; "      looks-1 looks-4 locks-1 locks-4");
             return ExitCode::from(2);
         }
@@ -131,6 +135,8 @@ fn counted<R: Threads + Wait + Sync>(
             "{{range $key, $value := .}}{{index $ $key}}{{end}}",
             text.as_str(),
         ),
+        Call::Page => page_counted(alloc, input, text.as_str(), 1),
+        Call::Pages => page_counted(alloc, input, text.as_str(), 101),
         Call::Looks if input == Input::One => one_looks(rt, alloc, size),
         Call::Looks => four_look(rt, alloc, size),
         Call::Locks if input == Input::One => one_locks(rt, alloc, size),

@@ -33,6 +33,10 @@ pub enum Call {
     Calls,
     /// A template that looks up each key of it is executed.
     Keys,
+    /// A set of pages is made of it, as its only file, and its page is made once.
+    Page,
+    /// The same, but the page is made 101 times.
+    Pages,
     /// Viewers look at a desk that publishes sets, each as often as the input may have bytes.
     Looks,
     /// The same, but the set is behind a lock.
@@ -68,6 +72,8 @@ pub enum Input {
     Objects,
     /// Sections of a page, each with a hole in a value and with a choice.
     Sections,
+    /// Sections of a page of two kinds in turn, one with a hole, one with a list.
+    PageSections,
     /// Templates, each of which calls the next one in eight places.
     Chain,
     /// Templates, each of which calls the next one where it stands, and of which the first one is called in eight places.
@@ -128,6 +134,10 @@ pub fn words_named(word: &str) -> Option<(Call, Input)> {
         "execute-turns" => Some((Call::Turns, Input::Numbers)),
         "execute-calls" => Some((Call::Calls, Input::Numbers)),
         "execute-keys" => Some((Call::Keys, Input::Objects)),
+        "page-sections" => Some((Call::Page, Input::PageSections)),
+        "page-text" => Some((Call::Page, Input::Text)),
+        "pages-sections" => Some((Call::Pages, Input::PageSections)),
+        "pages-text" => Some((Call::Pages, Input::Text)),
         "looks-1" => Some((Call::Looks, Input::One)),
         "looks-4" => Some((Call::Looks, Input::Four)),
         "locks-1" => Some((Call::Locks, Input::One)),
@@ -151,7 +161,9 @@ pub fn most(call: Call) -> usize
         | Call::AttrNospace
         | Call::Characters
         | Call::Steps
-        | Call::Written => MAX_TEXT,
+        | Call::Written
+        | Call::Page
+        | Call::Pages => MAX_TEXT,
     }
 }
 

@@ -5,7 +5,7 @@ use Rattle.page_check.specs.CheckedSets.{CheckedData, IsChecked}
 use Rattle.page_check.specs.Refusing.{HasTooMany, IsFirstRefused, IsRefused, IsSetRefused, Refuses}
 use Rattle.page_check.specs.Roots.{roots_of}
 use Rattle.page_check.specs.declared.refused.MakeRefused.{MakeRefused}
-use Rattle.page_check.specs.declared.refused.MakeRefused.TheVariants.{TooLarge, NotUtf8, File, TooManyTemplates, NoTemplates, Set, NotBuilt, Memory}
+use Rattle.page_check.specs.declared.refused.MakeRefused.TheVariants.{TooLarge, NotUtf8, File, TooManyTemplates, NoTemplates, Set, Memory}
 use Rattle.place_exact.proofs.NoRefusal.{no-refusal}
 use Rattle.place_infer.specs.Inferring as infer
 use Rattle.place_infer.specs.declared.set_refused.SetRefused.{SetRefused}
@@ -33,7 +33,6 @@ only_memory c (File name why) is r = absurd (no_first c (File name why) is r)
 only_memory c TooManyTemplates is r = absurd (not_many c is r)
 only_memory c NoTemplates is r = absurd (is.some r.roots)
 only_memory c (Set why) is r = absurd (charted c why is r)
-only_memory c (NotBuilt name line) is r = absurd r
 only_memory c Memory is r = refl
 
 -- so they have no cause to be refused

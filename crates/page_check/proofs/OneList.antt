@@ -4,7 +4,7 @@ use Rattle.page_check.proofs.OneForest.{one_forest}
 use Rattle.page_check.specs.Definitions.{HasDefs, HaveDefs, IsForestOf}
 use Rattle.page_check.specs.Refusing.{IsFileRefused, IsFirstRefused}
 use Rattle.page_check.specs.declared.refused.MakeRefused.{MakeRefused}
-use Rattle.page_check.specs.declared.refused.MakeRefused.TheVariants.{TooLarge, NotUtf8, File, TooManyTemplates, NoTemplates, Set, NotBuilt, Memory}
+use Rattle.page_check.specs.declared.refused.MakeRefused.TheVariants.{TooLarge, NotUtf8, File, TooManyTemplates, NoTemplates, Set, Memory}
 use Rattle.page_datum.specs.declared.files.NamedFile.{NamedFile}
 use Rattle.tpl_parse.proofs.OneFile.{file_not_refused, one_of}
 use Rattle.tpl_parse.specs.Gathering.{standing}
@@ -34,7 +34,6 @@ one_fine file defs (File name why) h r = file_not_refused file.name file.bytes d
 one_fine file defs TooManyTemplates h r = r
 one_fine file defs NoTemplates h r = r
 one_fine file defs (Set why) h r = r
-one_fine file defs (NotBuilt name line) h r = r
 one_fine file defs Memory h r = r
 
 -- files that have definitions are not refused

@@ -32,7 +32,7 @@ listed_at file files root true false e h rest = rest h
 listed_at file files root false true e h rest = (0, omega arith, (bytes_decides file.name root).0 e)
 listed_at file files root false false e h rest = more_in file.name (roots_of files) root (rest h)
 
-root_listed : (files : List NamedFile) (root : List ℕ) → is_root files root ≡ true → Contains (roots_of files) root
+pub root_listed : (files : List NamedFile) (root : List ℕ) → is_root files root ≡ true → Contains (roots_of files) root
 root_listed [] root h = cc
 root_listed (file ∷ files) root h = listed_at file files root (is_partial file.name) (pointwise nat_eq file.name root) refl h (root_listed files root)
 

@@ -4,7 +4,7 @@ use Rattle.std.specs.Fmt.{decimal}
 use Rattle.page_check.specs.CauseNames.{code_name, parse_name, token_name}
 use Rattle.page_check.specs.PathLines.{seen_lines}
 use Rattle.page_check.specs.declared.refused.MakeRefused.{MakeRefused}
-use Rattle.page_check.specs.declared.refused.MakeRefused.TheVariants.{TooLarge, NotUtf8, File, TooManyTemplates, NoTemplates, Set, NotBuilt, Memory}
+use Rattle.page_check.specs.declared.refused.MakeRefused.TheVariants.{TooLarge, NotUtf8, File, TooManyTemplates, NoTemplates, Set, Memory}
 use Rattle.page_datum.specs.Legible.{legible}
 use Rattle.place_infer.specs.declared.set_refused.SetRefused.{SetRefused}
 use Rattle.place_infer.specs.declared.set_refused.SetRefused.TheVariants as set
@@ -44,7 +44,6 @@ refusal_text (File name why) = file_text name why
 refusal_text TooManyTemplates = codes "refused TooManyTemplates" ++ 10 ∷ []
 refusal_text NoTemplates = codes "refused NoTemplates" ++ 10 ∷ []
 refusal_text (Set why) = set_text why
-refusal_text (NotBuilt name line) = cause_line (codes "NotBuilt") name line
 refusal_text Memory = []
 
 -- whether a refusal is out of memory
@@ -55,5 +54,4 @@ is_memory (File name why) = false
 is_memory TooManyTemplates = false
 is_memory NoTemplates = false
 is_memory (Set why) = false
-is_memory (NotBuilt name line) = false
 is_memory Memory = true

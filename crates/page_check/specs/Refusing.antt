@@ -5,7 +5,7 @@ use Rattle.page_check.specs.Definitions.{HaveDefs, IsForestOf}
 use Rattle.page_check.specs.Roots.{roots_of}
 use Rattle.page_check.specs.Texts.{IsText, max_file}
 use Rattle.page_check.specs.declared.refused.MakeRefused.{MakeRefused}
-use Rattle.page_check.specs.declared.refused.MakeRefused.TheVariants.{TooLarge, NotUtf8, File, TooManyTemplates, NoTemplates, Set, NotBuilt, Memory}
+use Rattle.page_check.specs.declared.refused.MakeRefused.TheVariants.{TooLarge, NotUtf8, File, TooManyTemplates, NoTemplates, Set, Memory}
 use Rattle.page_datum.specs.declared.files.NamedFile.{NamedFile}
 use Rattle.place_infer.specs.Inferring as infer
 use Rattle.place_infer.specs.declared.set_refused.SetRefused.{SetRefused}
@@ -26,7 +26,6 @@ IsFileRefused file (File name why) = (name ≡ file.name) × IsText file × pars
 IsFileRefused file TooManyTemplates = ⊥
 IsFileRefused file NoTemplates = ⊥
 IsFileRefused file (Set why) = ⊥
-IsFileRefused file (NotBuilt name line) = ⊥
 IsFileRefused file Memory = ⊥
 
 -- a file is refused, and those before it have definitions
@@ -69,7 +68,6 @@ IsRefused files (File name why) = IsFirstRefused files (File name why)
 IsRefused files TooManyTemplates = HasTooMany files
 IsRefused files NoTemplates = HasNoRoot files
 IsRefused files (Set why) = IsSetRefused files why
-IsRefused files (NotBuilt name line) = ⊥
 IsRefused files Memory = ⊤
 
 -- refused for another cause than memory

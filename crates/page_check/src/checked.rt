@@ -1,5 +1,5 @@
 ghost use Rattle.std.specs.Prelude.{◌≡◌, length, IfOk, MatchOption, false};
-ghost use Rattle.page_check.specs.CheckedSets.{ExplainRootAnswers, StartsAt};
+ghost use Rattle.page_check.specs.CheckedSets.{ExplainRootAnswers, IsChecked, StartsAt};
 ghost use Rattle.page_check.specs.Roots.{is_root as is_root_of, roots_of};
 
 use crate::names::{count_roots, is_partial};
@@ -99,7 +99,8 @@ impl Checked {
 
     /// The templates that stand.
     pub fn forest(&self) -> &Forest
-        ensures { result.now ≡ self.now.forest }
+        ensures forest { result.now ≡ self.now.forest }
+        ensures checked { IsChecked self.now }
     {
         &self.forest
     }

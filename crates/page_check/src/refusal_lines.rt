@@ -24,7 +24,6 @@ pub fn lines_of(alloc: Global, refused: &MakeRefused) -> Result<Text, Memory>
         MakeRefused::TooManyTemplates => Text::copy_of(alloc, "refused TooManyTemplates\n"),
         MakeRefused::NoTemplates => Text::copy_of(alloc, "refused NoTemplates\n"),
         MakeRefused::Set(why) => set_text(alloc, why),
-        MakeRefused::NotBuilt(name, line) => cause_line(alloc, "NotBuilt", name, *line),
         MakeRefused::Memory => Ok(Text::new(alloc)),
     }
 }

@@ -24,8 +24,6 @@ pub enum MakeRefused {
     NoTemplates,
     /// The set has no chart: an error stands on the paths of a root, or there would be too many pairs.
     Set(SetRefused),
-    /// A file and a line of it where something stands that is not built yet. `check_files` never answers it.
-    NotBuilt(Text, u32),
     /// Out of memory.
     Memory,
 }

@@ -1,11 +1,3 @@
-pub mod Apart
-pub mod Bytes
-pub mod Examples
-pub mod FormLaws
-pub mod Fronts
-pub mod HoleLaws
-pub mod NameLaws
-pub mod ReadingExamples
-pub mod Readings
-pub mod Sound
-pub mod Wholes
+pub mod ChartedRoots
+pub mod OneExecution
+pub mod SetPages

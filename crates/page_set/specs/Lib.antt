@@ -1,13 +1,3 @@
-pub mod Composing
-pub mod Escapes
-pub mod Forms
-pub mod Found
-pub mod Made
-pub mod Making
-pub mod Names
-pub mod Nodes
-pub mod Picked
-pub mod Running
-pub mod Scanned
-pub mod SetValue
-pub mod Soundness
+pub mod Executions
+pub mod Laws
+pub mod RootPages

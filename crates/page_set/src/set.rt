@@ -1,102 +1,150 @@
-ghost use Rattle.std.specs.Prelude.{◌≡◌, ◌≤◌, IfOk, IfErr, OnOk};
-ghost use Rattle.page_io.specs.Causes.{Rose};
+ghost use Rattle.std.specs.Prelude.{◌≡◌, ◌≤◌, length, Err, IfOk, IfErr, OnOk};
+ghost use Rattle.page_check.specs.CheckedSets.{ExplainRootAnswers, IsChecked, OnlyForMemory};
+ghost use Rattle.page_check.specs.Refusing.{IsRefused, Refuses as RefusesFiles};
+ghost use Rattle.page_check.specs.Roots.{is_root as is_root_of, roots_of};
+ghost use Rattle.page_datum.specs.Execution.{PageAnswers};
 ghost use Rattle.page_datum.specs.View.{view};
-ghost use Rattle.page_set.specs.Running.{is_root as is_root_of};
+ghost use Rattle.page_io.specs.Causes.{Rose};
+ghost use Rattle.page_set.specs.Executions.{IsExecution, IsSound, execution_of};
+ghost use Rattle.page_set.specs.RootPages.{Unwritten};
 
-use crate::compose::compose;
-use crate::make::nodes_of;
-use crate::node::Node;
-use page_check::{MakeRefused, is_partial};
+use crate::root_page::root_page;
+use page_check::{Checked, MakeRefused, check_files};
 use page_datum::{Datum, Files, PageEnd, PageStop, Pages, Shared};
-use page_io::{Failed, List, Sink, write_all};
+use page_io::{Failed, Memory, Sink, Text, write_all};
+use page_writer::{Output, outputs_of};
 use std::alloc::Global;
 use std::marker::Model;
 
-/// A set of pages: the files that it was made of, and the nodes of their template.
+/// A set of pages: checked files, and what a page gets at each node of their templates. Contracts see it as the checked files are seen:
+/// `CheckedData`, the files with their templates and the chart of their roots.
 #[derive(Debug, Drop)]
 pub struct PageSet {
-    files: Files,
-    nodes: List<Node>,
+    checked: Checked,
+    outputs: Vec<Vec<Output>>,
 }
 
 impl Model for PageSet {
-    ghost use Rattle.page_set.specs.SetValue.{SetValue};
-    ghost use Rattle.page_set.specs.Making.{IsMade};
+    ghost use Rattle.std.specs.Coded.{codes};
+    ghost use Rattle.std.specs.Prelude.{map};
+    ghost use Rattle.page_check.specs.CheckedSets.{CheckedData};
+    ghost use Rattle.page_writer.specs.Outputs.{AreOutputs};
+    ghost use Rattle.tpl_tree.specs.NodesCode.{tree_code};
 
-    ghost Value = { SetValue };
+    ghost Value = { CheckedData };
 
-    ghost view = { λ s. record { files = s.files; nodes = s.nodes } };
+    ghost coded = { Prim.hlevel (codes, tree_code) };
 
-    ghost invariant = { λ s. IsMade s.files.list s.nodes };
+    ghost view = { λ s. s.checked };
+
+    ghost invariant = { λ s.
+        AreOutputs s.checked.forest s.checked.chart (map (λ row. row.items) s.outputs.items) };
 }
 
 impl Shared for PageSet {}
 
 impl PageSet {
+    /// The set of checked files. The error is out of memory.
+    pub fn of(alloc: Global, checked: Checked) -> Result<PageSet, Memory>
+        ensures { IfOk result (λ set. set ≡ checked) }
+    {
+        let outputs = outputs_of(alloc, checked.forest(), checked.chart())?;
+        Ok(PageSet { checked, outputs })
+    }
+
+    /// The checked files.
+    pub fn checked(&self) -> &Checked
+        ensures { result.now ≡ self.now }
+    {
+        &self.checked
+    }
+
     /// Whether a name is that of a root: of a file whose name does not begin with `_`.
     pub fn is_root(&self, name: &str) -> bool
         ensures { result ≡ is_root_of self.now.files.list name.now }
     {
-        for file in self.files.list.as_slice() {
-            if file.name.as_str() == name && !is_partial(file.name.as_str()) {
-                return true;
-            }
-        }
-        false
+        self.checked.is_root(name)
+    }
+
+    /// The explanation of a root: the pairs that it reaches, with their places and what is done in their holes. None exactly where no root
+    /// has the name. The error is out of memory.
+    pub fn explain(&self, alloc: Global, root: &str) -> Result<Option<Text>, Memory>
+        ensures { IfOk result (ExplainRootAnswers self.now root.now) }
+    {
+        self.checked.explain(alloc, root)
+    }
+
+    /// How many roots there are, how many templates, and how many pairs of a template and a place in which it is entered.
+    pub fn counts(&self) -> (usize, usize, usize)
+        ensures roots { result.0 ≡ length (roots_of self.now.files.list) }
+        ensures templates { result.1 ≡ length self.now.forest }
+        ensures pairs { result.2 ≡ length self.now.chart.rows }
+    {
+        self.checked.counts()
     }
 }
 
 impl Pages for PageSet {
     type Refused = MakeRefused;
 
-    ghost use Rattle.page_set.specs.Making.{Refuses, IsRefused, IsExecution};
-    ghost use Rattle.page_set.specs.Running.{execution_of};
-    ghost use Rattle.page_set.specs.Soundness.{IsSound};
+    ghost use Rattle.page_check.specs.Refusing.{Refuses};
 
     ghost made_of = { λ s. s.files };
 
     ghost refuses = { λ files. Refuses files.list };
 
-    ghost execution = { λ s root datum. execution_of s.files.list s.nodes root datum };
+    ghost execution = { λ s root datum. execution_of s.files.list s.forest root datum };
 
     ghost is_execution = { IsExecution };
 
     ghost is_sound = { IsSound };
 
-    /// The set of these files. The first refusal that holds is told: that there is no file; of two or more files the second, which is not
-    /// built yet; then the file's size, its bytes and its name, and the first `<`, `&` or `{{` that begins no plain tag and no hole, which is
-    /// not built. Each comes exactly where it holds.
+    /// The set of these files, or why they are refused: as `check_files` answers.
     fn make(alloc: Global, files: Files) -> Result<PageSet, MakeRefused>
         ensures made { IfOk result (λ set. set.files ≡ files) }
-        ensures accepted { IfOk result (λ _. Refuses files.list → ⊥) }
-        ensures refused { IfErr result (λ refused. IsRefused refused files.list) }
+        ensures checked { IfOk result IsChecked }
+        ensures accepted { IfOk result (λ _. RefusesFiles files.list → ⊥) }
+        ensures refused { IfErr result (IsRefused files.list) }
+        ensures sets { IfErr result (OnlyForMemory files) }
     {
-        match nodes_of(alloc, files.list.as_slice()) {
-            Ok(nodes) => Ok(PageSet {
-                files,
-                nodes: List::from(nodes),
-            }),
-            Err(refused) => Err(refused),
+        let checked = match check_files(alloc, files) {
+            Ok(checked) => checked,
+            Err(why) => return Err(why),
+        };
+        match PageSet::of(alloc, checked) {
+            Ok(set) => Ok(set),
+            Err(Memory) => Err(MakeRefused::Memory),
         }
     }
 
-    #[tactic(auto, using(crate::proofs::Sound::sound))]
+    /// Writes the page of a root with a datum. The page is gathered before it is written, so where the execution meets a fault nothing was
+    /// written.
     fn page<K: Sink>(
         &self,
         alloc: Global,
         root: &str,
         datum: &Datum,
         out: &mut K,
-    ) -> Result<PageEnd, PageStop> {
-        let nodes = self.nodes.as_slice();
-        if !self.is_root(root) {
-            return Err(PageStop::NoTemplate);
-        }
-        let made = match compose(alloc, root, nodes, datum) {
+    ) -> Result<PageEnd, PageStop>
+        ensures answers { PageAnswers
+            (execution_of self.now.files.list self.now.forest root.now (view datum.now))
+            (K.taken out.old) (K.taken out.new) result }
+        ensures meant { IsExecution self.now.files root.now (view datum.now)
+            (execution_of self.now.files.list self.now.forest root.now (view datum.now)) }
+        ensures later { K.faults out.old ≤ K.faults out.new }
+        ensures sink { result ≡ Err PageStop.SinkStop
+            → Rose (K.faults out.old) (K.faults out.new) }
+        ensures sound { OnOk result (IsSound self.now.files root.now (view datum.now)
+            (execution_of self.now.files.list self.now.forest root.now (view datum.now)).bytes) }
+        // Where the sink did not stop, nothing was written unless all was.
+        ensures gathered { IfErr result (λ stop.
+            Unwritten stop (K.taken out.new ≡ K.taken out.old)) }
+    {
+        let made = match root_page(alloc, &self.checked, self.outputs.as_slice(), root, datum) {
             Ok(made) => made,
             Err(stop) => return Err(stop),
         };
-        match write_all(out, made.page.as_slice()) {
+        match write_all(out, made.page.as_bytes()) {
             Ok(()) => Ok(PageEnd {
                 bytes: made.page.len() as u64,
                 steps: made.steps,

@@ -1,5 +1,5 @@
 -- The status of `check`, its causes and its lines.
-use Rattle.std.proofs.Common.{◌≡◌, ℕ, List, [], Option, None, Some, Err, refl, sym, subst, inl, inr}
+use Rattle.std.proofs.Common.{◌≡◌, ◌≢◌, ℕ, List, [], Option, None, Some, Err, refl, sym, subst, inl, inr}
 use Rattle.std.specs.Prelude.{IfSome, ◌⊎◌}
 use Rattle.page_check.specs.Refusing.{Refuses}
 use Rattle.page_check.specs.declared.refused.MakeRefused.{MakeRefused}
@@ -15,8 +15,8 @@ use Rattle.page_tool.specs.declared.status.Status.{Status}
 use Rattle.page_tool.specs.declared.status.Status.TheVariants as status
 use Rattle.page_tool.specs.declared.stop.Stop.{Stop}
 use Rattle.page_tool.specs.declared.stop.Stop.TheVariants as stop
-use Rattle.page_tool.proofs.SetLaws.{accepted, refused_for}
-use Rattle.page_tool.proofs.Statuses.{IsReported, reported}
+use Rattle.page_tool.proofs.SetLaws.{accepted, refused_for, refuses}
+use Rattle.page_tool.proofs.Statuses.{IsPlain, IsReported, reported, reported_plain}
 
 part_set : (held : Option Held) (dir : List ℕ) (old new : Option (List ℕ)) → WritesTextPart held (λ h. IsSetText h dir) old new → IfSome held (λ h. IsSet h dir)
 part_set None dir old new w = tt
@@ -34,19 +34,20 @@ own_output held dir old new (stop.Data why) a = absurd a
 own_output held dir old new stop.Read a = a
 own_output held dir old new stop.Write a = a
 own_output held dir old new stop.NoTemplate a = absurd a
-own_output held dir old new stop.Memory a = inl a
+own_output held dir old new stop.Memory a = a
 
-memory_output : (held : Option Held) (dir : List ℕ) (old new : Option (List ℕ)) (why : Stop) → CheckAnswers held dir old new (Err why) → CheckOutput held dir old new status.Memory
-memory_output held dir old new (stop.Set why) a = inl a.0
-memory_output held dir old new (stop.Fault fault) a = absurd a
-memory_output held dir old new (stop.Data why) a = absurd a
-memory_output held dir old new stop.Read a = inl a
-memory_output held dir old new stop.Write a = inr a
-memory_output held dir old new stop.NoTemplate a = absurd a
-memory_output held dir old new stop.Memory a = inl a
+unwritten : (held : Option Held) (dir : List ℕ) (old new : Option (List ℕ)) (why : Stop) → CheckAnswers held dir old new (Err why) → why ≢ stop.Write → new ≡ old
+unwritten held dir old new (stop.Set why) a not = a.0
+unwritten held dir old new (stop.Fault fault) a not = absurd a
+unwritten held dir old new (stop.Data why) a not = absurd a
+unwritten held dir old new stop.Read a not = a
+unwritten held dir old new stop.Write a not = absurd (not refl)
+unwritten held dir old new stop.NoTemplate a not = absurd a
+unwritten held dir old new stop.Memory a not = a
 
-pub check_output : (held : Option Held) (dir : List ℕ) (old new : Option (List ℕ)) (why : Stop) (s : Status) → CheckAnswers held dir old new (Err why) → IsReported why s → CheckOutput held dir old new s
-check_output held dir old new why s a r = reported (CheckOutput held dir old new) why s r (own_output held dir old new why a) (memory_output held dir old new why a)
+pub check_output : (held : Option Held) (dir : List ℕ) (old new : Option (List ℕ)) (why : Stop) (s : Status) → CheckAnswers held dir old new (Err why) → IsReported why s → IsPlain why s → CheckOutput held dir old new s
+check_output held dir old new why s a r plain =
+    reported_plain (CheckOutput held dir old new) why s r plain (own_output held dir old new why a) (unwritten held dir old new why a)
 
 own_cause : (held : Option Held) (dir : List ℕ) (old new : Option (List ℕ)) (why : Stop) → CheckAnswers held dir old new (Err why) → CheckCause held dir (status_for why)
 own_cause held dir old new (stop.Set why) a = refused_for held dir why a.1
@@ -98,7 +99,7 @@ complete : (held : Option Held) (dir : List ℕ) (f o : Type 0) (s : Status) →
     → IfSome held (λ h. IsSet h dir → Ends status.Ok f s ⊎ ((s ≡ status.WriteFault) × o))
 complete None dir f o s c r w = tt
 complete (Some h) dir f o status.Ok c r w = λ is. inl (inl refl)
-complete (Some h) dir f o status.SetRefused c r w = λ is. absurd (accepted h dir is (record { refused = c.0; known = c.1.known; cause = c.1.cause }))
+complete (Some h) dir f o status.SetRefused c r w = λ is. absurd (accepted h dir is (refuses h dir c.0 c.1))
 complete (Some h) dir f o status.Usage c r w = absurd c
 complete (Some h) dir f o status.ExecFault c r w = absurd c
 complete (Some h) dir f o status.DataRefused c r w = absurd c

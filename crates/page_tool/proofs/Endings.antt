@@ -27,9 +27,6 @@ memory_write e = absurd (parted e)
     parted : status.Memory ≡ status.WriteFault → ⊥
     parted h = cc
 
-memory_fault : status.Memory ≡ status.ExecFault → ⊥
-memory_fault e = cc
-
 memory_ok : {A : Type 0} → status.Memory ≡ status.Ok → A
 memory_ok e = absurd (parted e)
   where
@@ -52,7 +49,7 @@ pub ran_out : (asked : Command) (before : Devices) (said : Option (List ℕ)) (f
     → Runs asked before (later before said faults) status.Memory
 ran_out no_command before said faults is more m = absurd (true≢false (sym is))
 ran_out (check dir) before said faults is more m = record {
-  output = inl refl;
+  output = refl;
   end = tt;
   in_order = (refl, refl);
   cause = tt;
@@ -67,13 +64,13 @@ ran_out (check dir) before said faults is more m = record {
   people_later = more;
 }
 ran_out (render dir root) before said faults is more m = record {
-  output = inl refl;
+  output = refl;
   end = memory_ok;
   in_order = inl (refl, refl);
   cause = tt;
   read = memory_read;
   write = memory_write;
-  exact = exact _ _ _ _ _ _ _ _ tt memory_read memory_read memory_write memory_fault;
+  exact = exact _ _ _ _ _ _ _ _ tt memory_read memory_read memory_write;
   lines = lines (render dir root) before said faults refl m;
   kept = refl;
   folder_later = omega arith;
@@ -82,7 +79,7 @@ ran_out (render dir root) before said faults is more m = record {
   people_later = more;
 }
 ran_out (explain dir root) before said faults is more m = record {
-  output = inl refl;
+  output = refl;
   end = tt;
   in_order = (refl, refl);
   cause = tt;

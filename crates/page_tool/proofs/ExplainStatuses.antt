@@ -1,5 +1,5 @@
 -- The status of `explain`, its causes and its lines.
-use Rattle.std.proofs.Common.{◌≡◌, ℕ, List, Option, None, Some, Err, true≢false, refl, sym, ap, ◌∙◌, subst, inl, inr}
+use Rattle.std.proofs.Common.{◌≡◌, ◌≢◌, ℕ, List, Option, None, Some, Err, refl, sym, ap, ◌∙◌, subst, inl, inr}
 use Rattle.std.specs.Prelude.{IfSome, ◌⊎◌}
 use Rattle.page_check.specs.Refusing.{Refuses}
 use Rattle.page_check.specs.declared.refused.MakeRefused.{MakeRefused}
@@ -17,8 +17,8 @@ use Rattle.page_tool.specs.declared.status.Status.{Status}
 use Rattle.page_tool.specs.declared.status.Status.TheVariants as status
 use Rattle.page_tool.specs.declared.stop.Stop.{Stop}
 use Rattle.page_tool.specs.declared.stop.Stop.TheVariants as stop
-use Rattle.page_tool.proofs.SetLaws.{accepted, refused_for}
-use Rattle.page_tool.proofs.Statuses.{IsReported, reported}
+use Rattle.page_tool.proofs.SetLaws.{accepted, apart, refused_for, refuses}
+use Rattle.page_tool.proofs.Statuses.{IsPlain, IsReported, reported, reported_plain}
 
 explained_set : (h : Held) (dir root text : List ℕ) → IsExplanation h dir root text → IsSetWith h dir root
 explained_set h dir root text e = record { set = (e.set, e.made); known = ap (λ (f : Files). is_root f.list root) (sym e.made.files) ∙ e.told.starts.is }
@@ -39,19 +39,20 @@ own_output held dir root old new (stop.Data why) a = absurd a
 own_output held dir root old new stop.Read a = a
 own_output held dir root old new stop.Write a = a
 own_output held dir root old new stop.NoTemplate a = a.0
-own_output held dir root old new stop.Memory a = inl a
+own_output held dir root old new stop.Memory a = a
 
-memory_output : (held : Option Held) (dir root : List ℕ) (old new : Option (List ℕ)) (why : Stop) → ExplainAnswers held dir root old new (Err why) → ExplainOutput held dir root old new status.Memory
-memory_output held dir root old new (stop.Set why) a = inl a.0
-memory_output held dir root old new (stop.Fault fault) a = absurd a
-memory_output held dir root old new (stop.Data why) a = absurd a
-memory_output held dir root old new stop.Read a = inl a
-memory_output held dir root old new stop.Write a = inr a
-memory_output held dir root old new stop.NoTemplate a = inl a.0
-memory_output held dir root old new stop.Memory a = inl a
+unwritten : (held : Option Held) (dir root : List ℕ) (old new : Option (List ℕ)) (why : Stop) → ExplainAnswers held dir root old new (Err why) → why ≢ stop.Write → new ≡ old
+unwritten held dir root old new (stop.Set why) a not = a.0
+unwritten held dir root old new (stop.Fault fault) a not = absurd a
+unwritten held dir root old new (stop.Data why) a not = absurd a
+unwritten held dir root old new stop.Read a not = a
+unwritten held dir root old new stop.Write a not = absurd (not refl)
+unwritten held dir root old new stop.NoTemplate a not = a.0
+unwritten held dir root old new stop.Memory a not = a
 
-pub explain_output : (held : Option Held) (dir root : List ℕ) (old new : Option (List ℕ)) (why : Stop) (s : Status) → ExplainAnswers held dir root old new (Err why) → IsReported why s → ExplainOutput held dir root old new s
-explain_output held dir root old new why s a r = reported (ExplainOutput held dir root old new) why s r (own_output held dir root old new why a) (memory_output held dir root old new why a)
+pub explain_output : (held : Option Held) (dir root : List ℕ) (old new : Option (List ℕ)) (why : Stop) (s : Status) → ExplainAnswers held dir root old new (Err why) → IsReported why s → IsPlain why s → ExplainOutput held dir root old new s
+explain_output held dir root old new why s a r plain =
+    reported_plain (ExplainOutput held dir root old new) why s r plain (own_output held dir root old new why a) (unwritten held dir root old new why a)
 
 own_cause : (held : Option Held) (dir root : List ℕ) (old new : Option (List ℕ)) (why : Stop) → ExplainAnswers held dir root old new (Err why) → ExplainCause held dir root (status_for why)
 own_cause held dir root old new (stop.Set why) a = refused_for held dir why a.1
@@ -87,9 +88,6 @@ pub explain_says : (held : Option Held) (dir root : List ℕ) (old new said told
 explain_says held dir root old new said told why s rose a (inl r) = inl r
 explain_says held dir root old new said told why s rose a (inr e) = inr (says held dir root old new said told why s a e)
 
-apart : {A : Type 0} (h : Held) (dir root : List ℕ) → IsSetWith h dir root → IsSetWithout h dir root → A
-apart h dir root has lacks = absurd (true≢false (sym has.known ∙ lacks.unknown))
-
 refused : (held : Option Held) (dir root : List ℕ) (f : Type 0) (s : Status) → ExplainCause held dir root s → (s ≡ status.ReadFault → f) → IfSome held (λ h. Refuses (files_of h dir).list → Ends status.SetRefused f s)
 refused None dir root f s c r = tt
 refused (Some h) dir root f status.Ok c r = λ why. absurd (accepted h dir c.set why)
@@ -105,7 +103,7 @@ refused (Some h) dir root f status.Memory c r = λ why. inr (inr refl)
 unknown : (held : Option Held) (dir root : List ℕ) (f : Type 0) (s : Status) → ExplainCause held dir root s → (s ≡ status.ReadFault → f) → IfSome held (λ h. IsSetWithout h dir root → Ends status.NoTemplate f s)
 unknown None dir root f s c r = tt
 unknown (Some h) dir root f status.Ok c r = λ is. apart h dir root c is
-unknown (Some h) dir root f status.SetRefused c r = λ is. absurd (accepted h dir is.set (record { refused = c.0; known = c.1.known; cause = c.1.cause }))
+unknown (Some h) dir root f status.SetRefused c r = λ is. absurd (accepted h dir is.set (refuses h dir c.0 c.1))
 unknown (Some h) dir root f status.Usage c r = absurd c
 unknown (Some h) dir root f status.ExecFault c r = absurd c
 unknown (Some h) dir root f status.DataRefused c r = absurd c
@@ -118,7 +116,7 @@ complete : (held : Option Held) (dir root : List ℕ) (f o : Type 0) (s : Status
     → IfSome held (λ h. IsSetWith h dir root → Ends status.Ok f s ⊎ ((s ≡ status.WriteFault) × o))
 complete None dir root f o s c r w = tt
 complete (Some h) dir root f o status.Ok c r w = λ is. inl (inl refl)
-complete (Some h) dir root f o status.SetRefused c r w = λ is. absurd (accepted h dir is.set (record { refused = c.0; known = c.1.known; cause = c.1.cause }))
+complete (Some h) dir root f o status.SetRefused c r w = λ is. absurd (accepted h dir is.set (refuses h dir c.0 c.1))
 complete (Some h) dir root f o status.Usage c r w = absurd c
 complete (Some h) dir root f o status.ExecFault c r w = absurd c
 complete (Some h) dir root f o status.DataRefused c r w = absurd c

@@ -2,8 +2,8 @@ pub mod CheckStatuses
 pub mod Endings
 pub mod Exacts
 pub mod ExplainStatuses
-pub mod Inputs
 pub mod Pages
 pub mod Parsing
+pub mod Renderings
 pub mod SetLaws
 pub mod Statuses

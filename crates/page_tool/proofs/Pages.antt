@@ -1,122 +1,117 @@
--- What was written, where the folder and the input tell what they hold.
-use Rattle.std.proofs.Common.{◌≡◌, ℕ, true, List, [], ◌∷◌, Option, None, Some, Result, Ok, Err, refl, inr, subst, sym, ap, ◌∙◌}
+-- What was written, and why, where the folder and the input tell what they hold.
+use Rattle.std.proofs.Common.{◌≡◌, ℕ, true, false, List, Option, None, Some, Result, Ok, Err, sym, ap, ◌∙◌, subst}
 use Rattle.std.specs.Prelude.{IfSome, OnOk, ⊤}
 use Rattle.std.specs.Io.KnownBytes.{Appends}
+use Rattle.page_check.specs.CheckedSets.{CheckedData}
+use Rattle.page_check.specs.Roots.{is_root}
 use Rattle.page_io.specs.Held.{Held}
 use Rattle.page_io.specs.Whole.{AppendsPart}
-use Rattle.page_datum.specs.Data.{Data, dict, DataDict, IsDict}
-use Rattle.page_datum.specs.Execution.{Execution, done, no_root, faulted}
+use Rattle.page_datum.specs.Data.{Data}
+use Rattle.page_datum.specs.Execution.{Ending, Execution, done, faulted, no_root}
+use Rattle.page_datum.specs.Reading.{IsDatum}
 use Rattle.page_datum.specs.declared.fault.ExecFault.{ExecFault}
-use Rattle.page_datum.specs.declared.fault.FaultKind.{FaultKind}
 use Rattle.page_datum.specs.declared.files.Files.{Files}
 use Rattle.page_datum.specs.declared.files.NamedFile.{NamedFile}
-use Rattle.page_set.specs.Making.{IsExecution, Refuses}
-use Rattle.page_set.specs.Running.{Run, hole_run, field_of, run, is_root, execution_of}
-use Rattle.page_set.specs.declared.node.Node.{Node}
-use Rattle.page_set.specs.declared.node.Node.TheVariants as node
-use Rattle.page_set.proofs.Sound.{sound}
-use Rattle.page_tool.proofs.Inputs.{built_dict}
+use Rattle.page_path.specs.Pages.{ended}
+use Rattle.page_set.specs.Executions.{IsExecution, IsSound, execution_of}
 use Rattle.page_tool.specs.Files.{files_of}
-use Rattle.page_tool.specs.Input.{IsInput, is_built}
-use Rattle.page_tool.specs.Output.{WritePageAnswers, WritesPart, WritesAll, WritesSound, WritesToFault, RenderOutput, RenderCause, HasRoot, HasInput}
+use Rattle.page_tool.specs.LoadedSets.{IsSetOf, IsSetWith, IsSetWithout}
+use Rattle.page_tool.specs.Output.{EndsWith, HasInput, IsRendering, RenderCause, RenderOutput, WritePageAnswers, WritesAll, WritesPart, WritesSound}
 use Rattle.page_tool.specs.declared.stop.Stop.{Stop}
 use Rattle.page_tool.specs.declared.stop.Stop.TheVariants as stop
+use Rattle.tpl_events.specs.Events.{Emission}
+use Rattle.tpl_exec.specs.Meaning.{Finish, finished, stopped}
+use Rattle.tpl_tree.specs.Forests.{ForestData}
 
--- the files are those of the directory, which make a set
-abbrev pub IsLoaded : Option Held → List ℕ → Files → Type 0
-IsLoaded held dir files = IfSome held (λ h. (files ≡ files_of h dir) × (Refuses (files_of h dir).list → ⊥))
+-- the set is that of the directory
+abbrev pub IsLoaded : Option Held → List ℕ → CheckedData → Type 0
+IsLoaded held dir set = IfSome held (λ h. IsSetOf h dir set)
 
-told_part : (held : Option Held) (input : Option (List ℕ)) (dir root : List ℕ) (files : Files) (d : Data) (e : Execution) (old new : Option (List ℕ))
-    → IsLoaded held dir files → IfSome input (λ i. IsInput i d) → IsExecution files root d e → AppendsPart old new e.bytes → WritesPart held input dir root old new
-told_part None input dir root files d e old new s r x w = tt
-told_part (Some h) None dir root files d e old new s r x w = tt
-told_part (Some h) (Some i) dir root files d e old new s r x w = (e, record { datum = d; read = r; execution = subst (λ (f : Files). IsExecution f root d e) s.0 x }, w)
+-- a set that is kept as it was loaded
+pub kept : (held : Option Held) (dir : List ℕ) (set loaded : CheckedData) → set ≡ loaded → IsLoaded held dir loaded → IsLoaded held dir set
+kept held dir set loaded e s = subst (λ (x : CheckedData). IsLoaded held dir x) (sym e) s
 
-told_all : (held : Option Held) (input : Option (List ℕ)) (dir root : List ℕ) (files : Files) (d : Data) (e : Execution) (old new : Option (List ℕ))
-    → IsLoaded held dir files → IfSome input (λ i. IsInput i d) → IsExecution files root d e → e.ending ≡ done → Appends old new e.bytes → WritesAll held input dir root old new
-told_all None input dir root files d e old new s r x is w = tt
-told_all (Some h) None dir root files d e old new s r x is w = tt
-told_all (Some h) (Some i) dir root files d e old new s r x is w =
-    (e, record { datum = d; read = r; execution = subst (λ (f : Files). IsExecution f root d e) s.0 x }, is, w)
+-- the input is this datum, where it is told
+abbrev pub IsReadAs : Option (List ℕ) → Data → Type 0
+IsReadAs input d = IfSome input (λ i. IsDatum i d)
 
-told_sound : (held : Option Held) (input : Option (List ℕ)) (dir root : List ℕ) (files : Files) (d : Data) (e : Execution) (old new : Option (List ℕ))
-    → IsLoaded held dir files → IfSome input (λ i. IsInput i d) → IsExecution files root d e → e.ending ≡ done → Appends old new e.bytes → WritesSound held input dir root old new
-told_sound None input dir root files d e old new s r x is w = tt
-told_sound (Some h) None dir root files d e old new s r x is w = tt
-told_sound (Some h) (Some i) dir root files d e old new s r x is w =
-    let of : IsExecution (files_of h dir) root d e = subst (λ (f : Files). IsExecution f root d e) s.0 x in
-    (e.bytes, record { datum = d; read = r; sound = sound (files_of h dir) root d e of is }, w)
+rendering : (h : Held) (dir root i : List ℕ) (set : CheckedData) (d : Data) (e : Execution) → IsSetOf h dir set → IsDatum i d → IsExecution set.files root d e → IsRendering h dir root i e
+rendering h dir root i set d e s r x = record { datum = d; read = r; execution = subst (λ (f : Files). IsExecution f root d e) s.files x }
+
+told_part : (held : Option Held) (input : Option (List ℕ)) (dir root : List ℕ) (set : CheckedData) (d : Data) (e : Execution) (old new : Option (List ℕ))
+    → IsLoaded held dir set → IsReadAs input d → IsExecution set.files root d e → AppendsPart old new e.bytes → WritesPart held input dir root old new
+told_part None input dir root set d e old new s r x w = tt
+told_part (Some h) None dir root set d e old new s r x w = tt
+told_part (Some h) (Some i) dir root set d e old new s r x w = (e, rendering h dir root i set d e s r x, w)
+
+told_all : (held : Option Held) (input : Option (List ℕ)) (dir root : List ℕ) (set : CheckedData) (d : Data) (e : Execution) (old new : Option (List ℕ))
+    → IsLoaded held dir set → IsReadAs input d → IsExecution set.files root d e → e.ending ≡ done → Appends old new e.bytes → WritesAll held input dir root old new
+told_all None input dir root set d e old new s r x is w = tt
+told_all (Some h) None dir root set d e old new s r x is w = tt
+told_all (Some h) (Some i) dir root set d e old new s r x is w = (e, rendering h dir root i set d e s r x, is, w)
+
+told_end : (held : Option Held) (input : Option (List ℕ)) (dir root : List ℕ) (set : CheckedData) (d : Data) (e : Execution) (ending : Ending)
+    → IsLoaded held dir set → IsReadAs input d → IsExecution set.files root d e → e.ending ≡ ending → EndsWith held input dir root ending
+told_end None input dir root set d e ending s r x is = tt
+told_end (Some h) None dir root set d e ending s r x is = tt
+told_end (Some h) (Some i) dir root set d e ending s r x is = (e, rendering h dir root i set d e s r x, is)
+
+told_sound : (held : Option Held) (input : Option (List ℕ)) (dir root : List ℕ) (set : CheckedData) (d : Data) (e : Execution) (old new : Option (List ℕ))
+    → IsLoaded held dir set → IsReadAs input d → IsSound set.files root d e.bytes → Appends old new e.bytes → WritesSound held input dir root old new
+told_sound None input dir root set d e old new s r x w = tt
+told_sound (Some h) None dir root set d e old new s r x w = tt
+told_sound (Some h) (Some i) dir root set d e old new s r x w =
+    (e.bytes, record { datum = d; read = r; sound = subst (λ (f : Files). IsSound f root d e.bytes) s.files x }, w)
 
 -- what was written of an execution that is done is sound
-pub sound_output : (held : Option Held) (input : Option (List ℕ)) (dir root : List ℕ) (files : Files) (d : Data) (e : Execution) (old new : Option (List ℕ)) (r : Result ⊤ Stop)
-    → IsLoaded held dir files → IfSome input (λ i. IsInput i d) → IsExecution files root d e → WritePageAnswers e old new r → OnOk r (WritesSound held input dir root old new)
-sound_output held input dir root files d e old new (Ok _) s r x w = told_sound held input dir root files d e old new s r x w.0 w.1
-sound_output held input dir root files d e old new (Err _) s r x w = tt
-
-told_fault : (held : Option Held) (input : Option (List ℕ)) (dir root : List ℕ) (files : Files) (d : Data) (e : Execution) (fault : ExecFault) (old new : Option (List ℕ))
-    → IsLoaded held dir files → IfSome input (λ i. IsInput i d) → IsExecution files root d e → e.ending ≡ faulted fault → AppendsPart old new e.bytes → WritesToFault held input dir root old new
-told_fault None input dir root files d e fault old new s r x is w = tt
-told_fault (Some h) None dir root files d e fault old new s r x is w = tt
-told_fault (Some h) (Some i) dir root files d e fault old new s r x is w = (e, fault, record { datum = d; read = r; execution = subst (λ (f : Files). IsExecution f root d e) s.0 x }, is, w)
+pub sound_output : (held : Option Held) (input : Option (List ℕ)) (dir root : List ℕ) (set : CheckedData) (d : Data) (e : Execution) (old new : Option (List ℕ)) (r : Result ⊤ Stop)
+    → IsLoaded held dir set → IsReadAs input d → OnOk r (IsSound set.files root d e.bytes) → WritePageAnswers e old new r → OnOk r (WritesSound held input dir root old new)
+sound_output held input dir root set d e old new (Ok _) s r x w = told_sound held input dir root set d e old new s r x w.1
+sound_output held input dir root set d e old new (Err _) s r x w = tt
 
 -- what was written of an execution was written of the page
-pub output : (held : Option Held) (input : Option (List ℕ)) (dir root : List ℕ) (files : Files) (d : Data) (e : Execution) (old new : Option (List ℕ)) (r : Result ⊤ Stop)
-    → IsLoaded held dir files → IfSome input (λ i. IsInput i d) → IsExecution files root d e → WritePageAnswers e old new r → RenderOutput held input dir root old new r
-output held input dir root files d e old new (Ok _) s r x w = told_all held input dir root files d e old new s r x w.0 w.1
-output held input dir root files d e old new (Err (stop.Fault fault)) s r x w = told_fault held input dir root files d e fault old new s r x w.0 w.1
-output held input dir root files d e old new (Err stop.Write) s r x w = told_part held input dir root files d e old new s r x w
-output held input dir root files d e old new (Err stop.Memory) s r x w = inr (told_part held input dir root files d e old new s r x w)
-output held input dir root files d e old new (Err (stop.Set why)) s r x w = absurd w
-output held input dir root files d e old new (Err (stop.Data why)) s r x w = absurd w
-output held input dir root files d e old new (Err stop.Read) s r x w = absurd w
-output held input dir root files d e old new (Err stop.NoTemplate) s r x w = absurd w
+pub output : (held : Option Held) (input : Option (List ℕ)) (dir root : List ℕ) (set : CheckedData) (d : Data) (e : Execution) (old new : Option (List ℕ)) (r : Result ⊤ Stop)
+    → IsLoaded held dir set → IsReadAs input d → IsExecution set.files root d e → WritePageAnswers e old new r → RenderOutput held input dir root old new r
+output held input dir root set d e old new (Ok _) s r x w = told_all held input dir root set d e old new s r x w.0 w.1
+output held input dir root set d e old new (Err (stop.Fault fault)) s r x w = (w.1, told_end held input dir root set d e (faulted fault) s r x w.0)
+output held input dir root set d e old new (Err stop.Write) s r x w = told_part held input dir root set d e old new s r x w
+output held input dir root set d e old new (Err stop.Memory) s r x w = w
+output held input dir root set d e old new (Err (stop.Set why)) s r x w = absurd w
+output held input dir root set d e old new (Err (stop.Data why)) s r x w = absurd w
+output held input dir root set d e old new (Err stop.Read) s r x w = absurd w
+output held input dir root set d e old new (Err stop.NoTemplate) s r x w = absurd w
 
-hole_has_root : (template : List ℕ) (line : ℕ) (r : Result Data FaultKind) (rest : Run) → (rest.ending ≡ no_root → ⊥) → (hole_run template line r rest).ending ≡ no_root → ⊥
-hole_has_root template line (Ok value) rest h e = h e
-hole_has_root template line (Err kind) rest h e = cc
+-- no execution lacks its root
+ends : (page : List ℕ) (over : Option Emission) (end : Finish) → (ended page over end).ending ≡ no_root → ⊥
+ends page None (finished steps) e = cc
+ends page None (stopped why) e = cc
+ends page (Some g) end e = cc
 
--- a template that runs is a root
-run_has_root : (template : List ℕ) (nodes : List Node) (d : Data) → (run template nodes d).ending ≡ no_root → ⊥
-run_has_root template [] d e = cc
-run_has_root template (node.Text text ∷ nodes) d e = run_has_root template nodes d e
-run_has_root template (node.Hole name line ∷ nodes) d e = hole_has_root template line (field_of name d) (run template nodes d) (run_has_root template nodes d) e
-
-pub has_root : (files : List NamedFile) (nodes : List Node) (root : List ℕ) (d : Data) → is_root files root ≡ true → (execution_of files nodes root d).ending ≡ no_root → ⊥
-has_root files nodes root d is e = run_has_root root nodes d (rw is at e)
+pub has_root : (files : List NamedFile) (forest : ForestData) (root : List ℕ) (d : Data) → is_root files root ≡ true → (execution_of files forest root d).ending ≡ no_root → ⊥
+has_root files forest root d is e = ends _ _ _ (rw is at e)
 
 -- the set of the directory has the root
-pub loaded_root : (held : Option Held) (dir root : List ℕ) (files : Files) → IsLoaded held dir files → is_root files.list root ≡ true → IfSome held (λ h. HasRoot h dir root)
-loaded_root None dir root files s is = tt
-loaded_root (Some h) dir root files s is = record { set = s.1; known = ap (λ (f : Files). is_root f.list root) (sym s.0) ∙ is }
+pub loaded_root : (held : Option Held) (dir root : List ℕ) (set : CheckedData) → IsLoaded held dir set → is_root set.files.list root ≡ true → IfSome held (λ h. IsSetWith h dir root)
+loaded_root None dir root set s is = tt
+loaded_root (Some h) dir root set s is = record { set = (set, s); known = ap (λ (f : Files). is_root f.list root) (sym s.files) ∙ is }
 
-has_input : (input : Option (List ℕ)) (d : Data) → IfSome input (λ i. IsInput i d) → IfSome input HasInput
+-- .. or lacks it
+pub lacks_root : (held : Option Held) (dir root : List ℕ) (set : CheckedData) → IsLoaded held dir set → is_root set.files.list root ≡ false → IfSome held (λ h. IsSetWithout h dir root)
+lacks_root None dir root set s is = tt
+lacks_root (Some h) dir root set s is = record { set = (set, s); unknown = ap (λ (f : Files). is_root f.list root) (sym s.files) ∙ is }
+
+has_input : (input : Option (List ℕ)) (d : Data) → IsReadAs input d → IfSome input HasInput
 has_input None d r = tt
 has_input (Some i) d r = (d, r)
 
 -- why writing the page of a root ended so
-pub written_cause : (held : Option Held) (input : Option (List ℕ)) (dir root : List ℕ) (files : Files) (d : Data) (e : Execution) (old new : Option (List ℕ)) (r : Result ⊤ Stop)
-    → IsLoaded held dir files → is_root files.list root ≡ true → IfSome input (λ i. IsInput i d) → WritePageAnswers e old new r → RenderCause held input dir root r
-written_cause held input dir root files d e old new (Ok _) s is r w = (loaded_root held dir root files s is, has_input input d r)
-written_cause held input dir root files d e old new (Err (stop.Fault fault)) s is r w = (loaded_root held dir root files s is, has_input input d r)
-written_cause held input dir root files d e old new (Err stop.Write) s is r w = (loaded_root held dir root files s is, has_input input d r)
-written_cause held input dir root files d e old new (Err stop.Memory) s is r w = tt
-written_cause held input dir root files d e old new (Err (stop.Set why)) s is r w = absurd w
-written_cause held input dir root files d e old new (Err (stop.Data why)) s is r w = absurd w
-written_cause held input dir root files d e old new (Err stop.Read) s is r w = absurd w
-written_cause held input dir root files d e old new (Err stop.NoTemplate) s is r w = absurd w
-
-parted : (fault : ExecFault) → done ≡ faulted fault → ⊥
-parted fault e = cc
-
--- a template that runs with a dictionary is done
-run_done : (template : List ℕ) (nodes : List Node) (entries : DataDict) → (run template nodes (dict entries)).ending ≡ done
-run_done template [] entries = refl
-run_done template (node.Text text ∷ nodes) entries = run_done template nodes entries
-run_done template (node.Hole name line ∷ nodes) entries = run_done template nodes entries
-
-pub no_fault : (files : List NamedFile) (nodes : List Node) (root : List ℕ) (d : Data) (fault : ExecFault) → is_root files root ≡ true → is_built d ≡ true → (execution_of files nodes root d).ending ≡ faulted fault → ⊥
-no_fault files nodes root d fault is given e =
-    let ran : (run root nodes d).ending ≡ faulted fault = rw is at e in
-    let dictionary : IsDict d = built_dict d given in
-    let finished : (run root nodes d).ending ≡ done = ap (λ (x : Data). (run root nodes x).ending) dictionary.1 ∙ run_done root nodes dictionary.0 in
-    parted fault (sym finished ∙ ran)
+pub written_cause : (held : Option Held) (input : Option (List ℕ)) (dir root : List ℕ) (set : CheckedData) (d : Data) (e : Execution) (old new : Option (List ℕ)) (r : Result ⊤ Stop)
+    → IsLoaded held dir set → is_root set.files.list root ≡ true → IsReadAs input d → IsExecution set.files root d e → WritePageAnswers e old new r → RenderCause held input dir root r
+written_cause held input dir root set d e old new (Ok _) s is r x w = ((loaded_root held dir root set s is, has_input input d r), told_end held input dir root set d e done s r x w.0)
+written_cause held input dir root set d e old new (Err (stop.Fault fault)) s is r x w = ((loaded_root held dir root set s is, has_input input d r), told_end held input dir root set d e (faulted fault) s r x w.0)
+written_cause held input dir root set d e old new (Err stop.Write) s is r x w = (loaded_root held dir root set s is, has_input input d r)
+written_cause held input dir root set d e old new (Err stop.Memory) s is r x w = tt
+written_cause held input dir root set d e old new (Err (stop.Set why)) s is r x w = absurd w
+written_cause held input dir root set d e old new (Err (stop.Data why)) s is r x w = absurd w
+written_cause held input dir root set d e old new (Err stop.Read) s is r x w = absurd w
+written_cause held input dir root set d e old new (Err stop.NoTemplate) s is r x w = absurd w

@@ -6,7 +6,8 @@ use Rattle.page_tool.specs.Devices.{Devices, IsUnread}
 use Rattle.page_tool.specs.Exact.{IsExact}
 use Rattle.page_tool.specs.Explaining.{ExplainCause, ExplainExact, ExplainLines, ExplainOutput}
 use Rattle.page_tool.specs.Lines.{usage_text, StatusText}
-use Rattle.page_tool.specs.Output.{HasRoot, StatusOutput, StatusCause, WritesSound}
+use Rattle.page_tool.specs.LoadedSets.{IsSetWith}
+use Rattle.page_tool.specs.Output.{StatusOutput, StatusCause, WritesSound}
 use Rattle.page_tool.specs.Words.{Command, no_command, check, render, explain}
 use Rattle.page_tool.specs.declared.status.Status.{Status}
 use Rattle.page_tool.specs.declared.status.Status.TheVariants as status
@@ -47,7 +48,7 @@ IsInOrder (check dir) before after =
     IsUnread before.left before.input_faults after.left after.input_faults
 IsInOrder (render dir root) before after =
     IsUnread before.left before.input_faults after.left after.input_faults
-    ⊎ IfSome before.held (λ h. HasRoot h dir root)
+    ⊎ IfSome before.held (λ h. IsSetWith h dir root)
 IsInOrder (explain dir root) before after =
     IsUnread before.left before.input_faults after.left after.input_faults
 

@@ -1,12 +1,14 @@
 -- When a command has to end in a status, unless a device failed or memory ran out.
 use Rattle.std.specs.Prelude.{◌≡◌, ℕ, List, Option, IfSome, ◌⊎◌}
 use Rattle.page_io.specs.Held.{Held}
-use Rattle.page_datum.specs.Data.{Data}
-use Rattle.page_tool.specs.declared.input.InputRefused.{InputRefused}
-use Rattle.page_set.specs.Making.{Refuses}
+use Rattle.page_check.specs.Refusing.{Refuses}
+use Rattle.page_datum.specs.Execution.{Execution, done, faulted}
+use Rattle.page_datum.specs.Reading.{IsNoDatum}
+use Rattle.page_datum.specs.declared.fault.ExecFault.{ExecFault}
+use Rattle.page_datum.specs.declared.refused.DataRefused.{DataRefused}
 use Rattle.page_tool.specs.Files.{files_of}
-use Rattle.page_tool.specs.Input.{IsInput, IsNoInput}
-use Rattle.page_tool.specs.Output.{HasRoot, LacksRoot, Told}
+use Rattle.page_tool.specs.LoadedSets.{IsSetWith, IsSetWithout}
+use Rattle.page_tool.specs.Output.{IsRendering, Told}
 use Rattle.page_tool.specs.declared.status.Status.{Status}
 use Rattle.page_tool.specs.declared.status.Status.TheVariants as status
 
@@ -15,20 +17,23 @@ abbrev pub Ends : Status → Type 0 → Status → Type 0
 Ends expected read_rose s =
     (s ≡ expected) ⊎ ((s ≡ status.ReadFault) × read_rose) ⊎ (s ≡ status.Memory)
 
--- refused files, an unknown root, an input that pages are not made with, and else the whole page; a
--- read fault is the input's only where the files are a set that has the root; and no execution meets
--- a fault yet
+-- refused files, an unknown root, an input that is no datum, an execution that meets a fault, and
+-- else the whole page; and a read fault is the input's only where the files are a set that has the
+-- root
 pub record IsExact
     (held : Option Held) (input : Option (List ℕ)) (dir root : List ℕ)
     (folder_rose input_rose out_rose : Type 0) (s : Status) : Type 0 where
   pub refused : IfSome held (λ h.
       Refuses (files_of h dir).list → Ends status.SetRefused folder_rose s)
-  pub unknown : IfSome held (λ h. LacksRoot h dir root → Ends status.NoTemplate folder_rose s)
+  pub unknown : IfSome held (λ h. IsSetWithout h dir root → Ends status.NoTemplate folder_rose s)
   pub no_input : Told held input (λ h i.
-      HasRoot h dir root → (why : InputRefused) → IsNoInput why i
+      IsSetWith h dir root → (why : DataRefused) → IsNoDatum why i
       → Ends status.DataRefused (folder_rose ⊎ input_rose) s)
+  pub faults : Told held input (λ h i.
+      IsSetWith h dir root → (e : Execution) → IsRendering h dir root i e
+      → (fault : ExecFault) → e.ending ≡ faulted fault
+      → Ends status.ExecFault (folder_rose ⊎ input_rose) s ⊎ ((s ≡ status.WriteFault) × out_rose))
   pub complete : Told held input (λ h i.
-      HasRoot h dir root → (datum : Data) → IsInput i datum
+      IsSetWith h dir root → (e : Execution) → IsRendering h dir root i e → e.ending ≡ done
       → Ends status.Ok (folder_rose ⊎ input_rose) s ⊎ ((s ≡ status.WriteFault) × out_rose))
-  pub in_order : s ≡ status.ReadFault → IfSome held (λ h. folder_rose ⊎ HasRoot h dir root)
-  pub never_faults : s ≡ status.ExecFault → ⊥
+  pub in_order : s ≡ status.ReadFault → IfSome held (λ h. folder_rose ⊎ IsSetWith h dir root)

@@ -5,7 +5,7 @@ use Rattle.std.specs.List.{ends_with}
 use Rattle.page_io.specs.Held.{Held}
 use Rattle.page_datum.specs.declared.files.Files.{Files}
 use Rattle.page_datum.specs.declared.files.NamedFile.{NamedFile}
-use Rattle.page_set.specs.Making.{max_file}
+use Rattle.page_check.specs.Texts.{max_file}
 
 -- a name that ends in `.html`
 abbrev pub is_template : List ℕ → Bool

@@ -13,5 +13,4 @@ pub mod Output
 pub mod Program
 pub mod Runs
 pub mod SetTexts
-pub mod Sets
 pub mod Words

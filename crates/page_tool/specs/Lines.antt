@@ -4,7 +4,8 @@ use Rattle.std.specs.Io.KnownBytes.{Appends}
 use Rattle.page_io.specs.Held.{Held}
 use Rattle.page_check.specs.declared.refused.MakeRefused.{MakeRefused}
 use Rattle.page_tool.specs.Codes.{status_for}
-use Rattle.page_tool.specs.Output.{IsRefusedSet, IsRendering, Told}
+use Rattle.page_tool.specs.LoadedSets.{IsRefusedFor}
+use Rattle.page_tool.specs.Output.{IsRendering, Told}
 use Rattle.page_tool.specs.declared.status.Status.{Status}
 use Rattle.page_tool.specs.declared.status.Status.TheVariants as status
 use Rattle.std.specs.Fmt.{decimal}
@@ -12,9 +13,8 @@ use Rattle.page_datum.specs.Execution.{Execution, faulted}
 use Rattle.page_datum.specs.declared.fault.ExecFault.{ExecFault}
 use Rattle.page_datum.specs.Kinds.{fault_kind, data_refusal}
 use Rattle.page_datum.specs.Legible.{legible}
-use Rattle.page_tool.specs.Input.{IsNoInput}
-use Rattle.page_tool.specs.declared.input.InputRefused.{InputRefused}
-use Rattle.page_tool.specs.declared.input.InputRefused.TheVariants as input_refused
+use Rattle.page_datum.specs.Reading.{IsNoDatum}
+use Rattle.page_datum.specs.declared.refused.DataRefused.{DataRefused}
 use Rattle.page_check.specs.RefusalTexts.{refusal_text}
 use Rattle.page_tool.specs.declared.stop.Stop.{Stop}
 use Rattle.page_tool.specs.declared.stop.Stop.TheVariants as stop
@@ -25,9 +25,8 @@ usage_text =
     codes "usage: check DIR | render DIR NAME | explain DIR NAME" ++ 10 ∷ []
 
 -- the line of an input that is refused
-abbrev pub data_text : InputRefused → List ℕ
-data_text (input_refused.Data why) = codes "data " ++ (data_refusal why ++ 10 ∷ [])
-data_text input_refused.NotBuilt = codes "data NotBuilt" ++ 10 ∷ []
+abbrev pub data_text : DataRefused → List ℕ
+data_text why = codes "data " ++ (data_refusal why ++ 10 ∷ [])
 
 -- the place of a fault, at the end of its line
 abbrev pub place_text : ExecFault → List ℕ
@@ -58,9 +57,9 @@ StatusText held input dir name status.ExecFault text =
     Told held input (λ h i. (e : Execution) × (fault : ExecFault) × IsRendering h dir name i e
     × (e.ending ≡ faulted fault) × (text ≡ stop_text (stop.Fault fault) name))
 StatusText held input dir name status.SetRefused text =
-    IfSome held (λ h. (why : MakeRefused) × IsRefusedSet h dir why × (text ≡ refusal_text why))
+    IfSome held (λ h. (why : MakeRefused) × IsRefusedFor h dir why × (text ≡ refusal_text why))
 StatusText held input dir name status.DataRefused text =
-    IfSome input (λ i. (why : InputRefused) × IsNoInput why i
+    IfSome input (λ i. (why : DataRefused) × IsNoDatum why i
     × (text ≡ stop_text (stop.Data why) name))
 StatusText held input dir name status.ReadFault text = text ≡ stop_text stop.Read name
 StatusText held input dir name status.WriteFault text = text ≡ stop_text stop.Write name

@@ -1,5 +1,5 @@
 -- A text of the set of a directory that a command writes.
-use Rattle.std.specs.Prelude.{◌≡◌, ◌⊎◌, ℕ, List, Option, IfSome, Result, Ok, Err, ⊤}
+use Rattle.std.specs.Prelude.{◌≡◌, ℕ, List, Option, IfSome, Result, Ok, Err, ⊤}
 use Rattle.std.specs.Io.KnownBytes.{Appends}
 use Rattle.page_io.specs.Held.{Held}
 use Rattle.page_io.specs.Whole.{AppendsPart}
@@ -25,7 +25,6 @@ abbrev pub TextOutput : Option Held → (Held → List ℕ → Type 0) → Optio
     → Option (List ℕ) → Status → Type 0
 TextOutput held IsText old new status.Ok = WritesText held IsText old new
 TextOutput held IsText old new status.WriteFault = WritesTextPart held IsText old new
-TextOutput held IsText old new status.Memory = (new ≡ old) ⊎ WritesTextPart held IsText old new
 TextOutput held IsText old new _ = new ≡ old
 
 -- how writing a text answers

@@ -9,7 +9,8 @@ ghost use Rattle.page_tool.specs.Exact.{IsExact};
 ghost use Rattle.page_tool.specs.Explaining.{ExplainCause, ExplainExact, ExplainOutput};
 ghost use Rattle.page_tool.specs.Explaining.{SaysExplain};
 ghost use Rattle.page_tool.specs.Lines.{Says, SaysStatus};
-ghost use Rattle.page_tool.specs.Output.{HasRoot, StatusOutput, StatusCause, WritesSound};
+ghost use Rattle.page_tool.specs.LoadedSets.{IsSetWith};
+ghost use Rattle.page_tool.specs.Output.{StatusOutput, StatusCause, WritesSound};
 
 use crate::check::check;
 use crate::explain::explain;
@@ -74,7 +75,7 @@ pub fn render_and_report<F: Folder, I: Source, O: Sink, E: Sink>(
     ensures end { result ≡ Status.Ok → IsAtEnd (I.left input.new) }
     ensures in_order { IsUnread (I.left input.old) (I.faults input.old)
         (I.left input.new) (I.faults input.new)
-        ⊎ IfSome (F.held folder.old) (λ h. HasRoot h dir.now name.now) }
+        ⊎ IfSome (F.held folder.old) (λ h. IsSetWith h dir.now name.now) }
     ensures read { result ≡ Status.ReadFault
         → Rose (F.faults folder.old) (F.faults folder.new)
         ⊎ Rose (I.faults input.old) (I.faults input.new) }
@@ -127,6 +128,7 @@ fn report<E: Sink>(alloc: Global, err: &mut E, stop: &Stop, name: &str) -> Statu
     ensures said { Rose (E.faults err.old) (E.faults err.new)
         ⊎ Says stop.now name.now result (E.taken err.old) (E.taken err.new) }
     ensures status { (result ≡ status_for stop.now) ⊎ (result ≡ Status.Memory) }
+    ensures write { stop.now ≡ Stop.Write → result ≡ Status.WriteFault }
     ensures later { E.faults err.old ≤ E.faults err.new }
 {
     match lines_of(alloc, stop, name) {

@@ -2,9 +2,9 @@ ghost use Rattle.std.specs.Prelude.{◌≡◌, ◌++◌, ◌∷◌, [], IfOk, If
 ghost use Rattle.page_io.specs.Causes.{HasStop};
 ghost use Rattle.page_tool.specs.Files.{files_in, files_of, is_template as is_template_of};
 
+use page_check::MAX_FILE;
 use page_datum::{Files, NamedFile};
 use page_io::{Folder, IoStop, List, Text};
-use page_set::MAX_FILE;
 use std::alloc::Global;
 
 /// The template files of a directory, in the order of their names: those whose names end in `.html`,

@@ -14,7 +14,7 @@ pub enum Status {
     Usage,
     /// The execution met a fault.
     ExecFault,
-    /// The input is no data that pages are made with.
+    /// The input is no data.
     DataRefused,
     /// The folder or the input failed.
     ReadFault,

@@ -1,6 +1,5 @@
-use crate::input::InputRefused;
 use page_check::MakeRefused;
-use page_datum::ExecFault;
+use page_datum::{DataRefused, ExecFault};
 
 /// Why a command stopped.
 #[derive(Debug, Drop)]
@@ -9,8 +8,8 @@ pub enum Stop {
     Set(MakeRefused),
     /// The execution met a fault.
     Fault(ExecFault),
-    /// The input is no data that pages are made with, for another cause than memory.
-    Data(InputRefused),
+    /// The input is no data, for another cause than memory.
+    Data(DataRefused),
     /// The folder or the input failed.
     Read,
     /// The output failed.

@@ -12,7 +12,8 @@ use page_io::{Folder, Sink, Source};
 use std::alloc::Global;
 
 /// Does the command that the words are, over these devices, and gives back how it ended, and the
-/// folder. What a command makes goes to `out`, and the lines for people to `err`, whose faults
+/// folder. Templates may have all that their language has, and data is any JSON text within its
+/// limits. What a command makes goes to `out`, and the lines for people to `err`, whose faults
 /// change nothing.
 pub fn run<F: Folder, I: Source, O: Sink, E: Sink>(
     alloc: Global,
@@ -22,9 +23,9 @@ pub fn run<F: Folder, I: Source, O: Sink, E: Sink>(
     out: &mut O,
     err: &mut E,
 ) -> (Status, F)
-    // At status 0 of `render DIR NAME` a whole page was written. Whatever the data, it has the
-    // structure of its template, and each value is text where its hole stands, and reads back
-    // there.
+    // At status 0 of `render DIR NAME` a whole page was written. It has the shape of the path that
+    // the execution took through its templates, whatever the values, and each value is plain where
+    // its hole stands, and reads back there.
     ensures sound { result.0 ≡ Status.Ok → WritesSoundly (command_of (texts words.now))
         (devices (F.held folder) (F.faults folder) (I.left input.old) (I.faults input.old)
         (O.taken out.old) (O.faults out.old) (E.taken err.old) (E.faults err.old))

@@ -10,7 +10,7 @@ pub returns-in-Ok-clause-exact : goal.returns-in-Ok-clause-exact
 returns-in-Ok-clause-exact g c = check_exact _ _ _ _ _ (whole_set _ _ _ _ c.in-Ok.ensures.answers) ok_read ok_write
 
 pub returns-in-Err-clause-output : goal.returns-in-Err-clause-output
-returns-in-Err-clause-output g c = check_output _ _ _ _ _ _ c.in-Err.ensures.answers c.report.ensures.status
+returns-in-Err-clause-output g c = check_output _ _ _ _ _ _ c.in-Err.ensures.answers c.report.ensures.status c.report.ensures.write
 
 pub returns-in-Err-clause-cause : goal.returns-in-Err-clause-cause
 returns-in-Err-clause-cause g c = check_cause _ _ _ _ _ _ c.in-Err.ensures.answers c.report.ensures.status

@@ -1,10 +1,16 @@
 use Rattle.std.proofs.Common.{Err, ap}
 use Rattle.page_tool.proofs.Exacts.{exact}
-use Rattle.page_tool.proofs.Statuses.{status_cause, was_read, was_write, was_fault, says_or, ok_read, ok_write, ok_fault, read_of_two, read_in_order}
+use Rattle.page_tool.proofs.Statuses.{status_cause, status_output, was_read, was_write, says_or, ok_read, ok_write, read_of_two, read_in_order}
 use Rattle.page_tool.proofs.commands.render_and_report.Goals as goal
 
 pub returns-in-Ok-clause-exact : goal.returns-in-Ok-clause-exact
-returns-in-Ok-clause-exact g c = exact _ _ _ _ _ _ _ _ c.in-Ok.ensures.cause ok_read ok_read ok_write ok_fault
+returns-in-Ok-clause-exact g c = exact _ _ _ _ _ _ _ _ c.in-Ok.ensures.cause ok_read ok_read ok_write
+
+pub returns-in-Err-clause-output : goal.returns-in-Err-clause-output
+returns-in-Err-clause-output g c = status_output _ _ _ _ _ _ _ _ c.in-Err.ensures.output c.report.ensures.status c.report.ensures.write
+
+pub returns-in-Err-clause-cause : goal.returns-in-Err-clause-cause
+returns-in-Err-clause-cause g c = status_cause _ _ _ _ _ _ c.in-Err.ensures.cause c.report.ensures.status
 
 pub returns-in-Err-clause-exact : goal.returns-in-Err-clause-exact
 returns-in-Err-clause-exact g c =
@@ -15,7 +21,6 @@ returns-in-Err-clause-exact g c =
     (λ e. read_of_two _ _ _ (c.in-Err.ensures.read (ap Err (was_read why s was e))))
     (λ e. read_in_order _ _ _ _ _ (c.in-Err.ensures.read (ap Err (was_read why s was e))))
     (λ e. c.in-Err.ensures.write (ap Err (was_write why s was e)))
-    (λ e. let f = was_fault why s was e in c.in-Err.ensures.never_faults f.0 (ap Err f.1))
 
 pub returns-in-Err-clause-lines : goal.returns-in-Err-clause-lines
-returns-in-Err-clause-lines g c = says_or _ _ _ _ _ _ _ _ _ c.in-Err.ensures.cause (λ fault e. c.in-Err.ensures.never_faults fault (ap Err e)) c.report.ensures.said
+returns-in-Err-clause-lines g c = says_or _ _ _ _ _ _ _ _ _ c.in-Err.ensures.cause c.report.ensures.said
