@@ -12,7 +12,7 @@ use Rattle.page_datum.specs.declared.pages.PageStop.TheVariants.{Fault, Memory, 
 use Rattle.page_io.specs.Whole.{AppendsPart}
 use Rattle.page_path.specs.Pages.{execution}
 use Rattle.page_set.specs.Executions.{IsExecution, IsSound, execution_of, no_page}
-use Rattle.page_set.specs.RootPages.{RootPageAnswers}
+use Rattle.page_set.specs.RootPages.{RootPageAnswers, Unwritten}
 use Rattle.page_writer.specs.Composing.{IsComposed}
 use Rattle.page_writer.specs.declared.composing.Composed.{Composed}
 
@@ -57,6 +57,20 @@ pub part : (c : CheckedData) (root : List ℕ) (datum : Data) (made : Composed) 
 part c root datum made old new h some =
     subst (λ (e : Execution). PageAnswers e old new (Err SinkStop)) (sym (rooted c root datum h.0))
     ((λ e. other_ending (sym h.1.done ∙ e)), subst (AppendsPart old new) h.1.page some)
+
+-- whose execution is done
+pub finishes : (c : CheckedData) (root : List ℕ) (datum : Data) (made : Composed)
+    → is_root c.files.list root ≡ true × IsComposed c.forest root datum made
+    → (execution_of c.files.list c.forest root datum).ending ≡ done
+finishes c root datum made h = ap (λ (e : Execution). e.ending) (rooted c root datum h.0) ∙ h.1.done
+
+-- where there is no page, that nothing is written is all
+pub unmade : (c : CheckedData) (root : List ℕ) (datum : Data) (stop : PageStop) (whole : Type 0) (old : Option (List ℕ))
+    → RootPageAnswers c root datum (Err stop) → Unwritten stop whole (old ≡ old)
+unmade c root datum NoTemplate whole old h = refl
+unmade c root datum (Fault fault) whole old h = refl
+unmade c root datum SinkStop whole old h = absurd h
+unmade c root datum Memory whole old h = refl
 
 -- and it is sound
 pub sound : (c : CheckedData) (root : List ℕ) (datum : Data) (made : Composed) → IsChecked c → is_root c.files.list root ≡ true × IsComposed c.forest root datum made

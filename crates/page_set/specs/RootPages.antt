@@ -1,5 +1,5 @@
 -- How composing the page of a root of a set answers.
-use Rattle.std.specs.Prelude.{◌≡◌, ℕ, true, false, List, Result, Ok, Err, ⊤}
+use Rattle.std.specs.Prelude.{◌≡◌, ℕ, true, false, List, Result, Ok, Err}
 use Rattle.page_check.specs.CheckedSets.{CheckedData}
 use Rattle.page_check.specs.Roots.{is_root}
 use Rattle.page_datum.specs.Data.{Data}
@@ -21,7 +21,7 @@ RootPageAnswers set root datum (Err (Fault fault)) =
 RootPageAnswers set root datum (Err SinkStop) = ⊥
 RootPageAnswers set root datum (Err Memory) = is_root set.files.list root ≡ true
 
--- where the page could not be written to its end a part of it may be, and else nothing is
-abbrev pub Unwritten : PageStop → Type 0 → Type 0
-Unwritten SinkStop same = ⊤
-Unwritten _ same = same
+-- where the sink stopped the page was there, and is written in part; and else nothing is written
+abbrev pub Unwritten : PageStop → Type 0 → Type 0 → Type 0
+Unwritten SinkStop whole same = whole
+Unwritten _ whole same = same

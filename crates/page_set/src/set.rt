@@ -2,7 +2,7 @@ ghost use Rattle.std.specs.Prelude.{◌≡◌, ◌≤◌, length, Err, IfOk, IfE
 ghost use Rattle.page_check.specs.CheckedSets.{ExplainRootAnswers, IsChecked, OnlyForMemory};
 ghost use Rattle.page_check.specs.Refusing.{IsRefused, Refuses as RefusesFiles};
 ghost use Rattle.page_check.specs.Roots.{is_root as is_root_of, roots_of};
-ghost use Rattle.page_datum.specs.Execution.{PageAnswers};
+ghost use Rattle.page_datum.specs.Execution.{PageAnswers, done};
 ghost use Rattle.page_datum.specs.View.{view};
 ghost use Rattle.page_io.specs.Causes.{Rose};
 ghost use Rattle.page_set.specs.Executions.{IsExecution, IsSound, execution_of};
@@ -136,9 +136,10 @@ impl Pages for PageSet {
             → Rose (K.faults out.old) (K.faults out.new) }
         ensures sound { OnOk result (IsSound self.now.files root.now (view datum.now)
             (execution_of self.now.files.list self.now.forest root.now (view datum.now)).bytes) }
-        // Where the sink did not stop, nothing was written unless all was.
-        ensures gathered { IfErr result (λ stop.
-            Unwritten stop (K.taken out.new ≡ K.taken out.old)) }
+        // Where the sink stopped, the execution is done; else nothing was written unless all was.
+        ensures gathered { IfErr result (λ stop. Unwritten stop
+            ((execution_of self.now.files.list self.now.forest root.now (view datum.now)).ending
+            ≡ done) (K.taken out.new ≡ K.taken out.old)) }
     {
         let made = match root_page(alloc, &self.checked, self.outputs.as_slice(), root, datum) {
             Ok(made) => made,

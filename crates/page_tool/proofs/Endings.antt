@@ -8,7 +8,6 @@ use Rattle.page_tool.specs.Devices.{Devices}
 use Rattle.page_tool.specs.Lines.{stop_text}
 use Rattle.page_tool.specs.Runs.{Runs, SaysLines}
 use Rattle.page_tool.specs.Words.{Command, no_command, check, render, explain, is_command}
-use Rattle.page_tool.specs.declared.status.Status.{Status}
 use Rattle.page_tool.specs.declared.status.Status.TheVariants as status
 use Rattle.page_tool.specs.declared.stop.Stop.TheVariants as stop
 use Rattle.page_tool.proofs.CheckStatuses.{check_exact}
@@ -40,12 +39,14 @@ SaysMemory before said faults = Rose before.people_faults faults ⊎ Appends bef
 abbrev later : Devices → Option (List ℕ) → ℕ → Devices
 later before said faults = record before { said = said; people_faults = faults }
 
-lines : (asked : Command) (before : Devices) (said : Option (List ℕ)) (faults : ℕ) → Lines asked before status.Memory (stop_text stop.Memory []) → SaysMemory before said faults
+lines : (asked : Command) (before : Devices) (said : Option (List ℕ)) (faults : ℕ)
+    → Lines asked before status.Memory (stop_text stop.Memory []) → SaysMemory before said faults
     → Rose before.people_faults faults ⊎ SaysLines asked before (later before said faults) status.Memory
 lines asked before said faults l (inl r) = inl r
 lines asked before said faults l (inr a) = inr (stop_text stop.Memory [], l, a)
 
-pub ran_out : (asked : Command) (before : Devices) (said : Option (List ℕ)) (faults : ℕ) → is_command asked ≡ true → before.people_faults ≤ faults → SaysMemory before said faults
+pub ran_out : (asked : Command) (before : Devices) (said : Option (List ℕ)) (faults : ℕ) → is_command asked ≡ true
+    → before.people_faults ≤ faults → SaysMemory before said faults
     → Runs asked before (later before said faults) status.Memory
 ran_out no_command before said faults is more m = absurd (true≢false (sym is))
 ran_out (check dir) before said faults is more m = record {

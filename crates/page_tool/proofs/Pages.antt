@@ -9,14 +9,13 @@ use Rattle.page_io.specs.Whole.{AppendsPart}
 use Rattle.page_datum.specs.Data.{Data}
 use Rattle.page_datum.specs.Execution.{Ending, Execution, done, faulted, no_root}
 use Rattle.page_datum.specs.Reading.{IsDatum}
-use Rattle.page_datum.specs.declared.fault.ExecFault.{ExecFault}
 use Rattle.page_datum.specs.declared.files.Files.{Files}
 use Rattle.page_datum.specs.declared.files.NamedFile.{NamedFile}
 use Rattle.page_path.specs.Pages.{ended}
 use Rattle.page_set.specs.Executions.{IsExecution, IsSound, execution_of}
-use Rattle.page_tool.specs.Files.{files_of}
 use Rattle.page_tool.specs.LoadedSets.{IsSetOf, IsSetWith, IsSetWithout}
-use Rattle.page_tool.specs.Output.{EndsWith, HasInput, IsRendering, RenderCause, RenderOutput, WritePageAnswers, WritesAll, WritesPart, WritesSound}
+use Rattle.page_tool.specs.Output.{EndsWith, HasInput, IsRendering, RenderCause, RenderOutput, WritePageAnswers, WritesAll, WritesPart}
+use Rattle.page_tool.specs.Output.{WritesSound}
 use Rattle.page_tool.specs.declared.stop.Stop.{Stop}
 use Rattle.page_tool.specs.declared.stop.Stop.TheVariants as stop
 use Rattle.tpl_events.specs.Events.{Emission}
@@ -35,46 +34,59 @@ kept held dir set loaded e s = subst (λ (x : CheckedData). IsLoaded held dir x)
 abbrev pub IsReadAs : Option (List ℕ) → Data → Type 0
 IsReadAs input d = IfSome input (λ i. IsDatum i d)
 
-rendering : (h : Held) (dir root i : List ℕ) (set : CheckedData) (d : Data) (e : Execution) → IsSetOf h dir set → IsDatum i d → IsExecution set.files root d e → IsRendering h dir root i e
+rendering : (h : Held) (dir root i : List ℕ) (set : CheckedData) (d : Data) (e : Execution) → IsSetOf h dir set → IsDatum i d
+    → IsExecution set.files root d e → IsRendering h dir root i e
 rendering h dir root i set d e s r x = record { datum = d; read = r; execution = subst (λ (f : Files). IsExecution f root d e) s.files x }
 
-told_part : (held : Option Held) (input : Option (List ℕ)) (dir root : List ℕ) (set : CheckedData) (d : Data) (e : Execution) (old new : Option (List ℕ))
-    → IsLoaded held dir set → IsReadAs input d → IsExecution set.files root d e → AppendsPart old new e.bytes → WritesPart held input dir root old new
+told_part : (held : Option Held) (input : Option (List ℕ)) (dir root : List ℕ) (set : CheckedData) (d : Data) (e : Execution)
+    (old new : Option (List ℕ))
+    → IsLoaded held dir set → IsReadAs input d → IsExecution set.files root d e → AppendsPart old new e.bytes
+    → WritesPart held input dir root old new
 told_part None input dir root set d e old new s r x w = tt
 told_part (Some h) None dir root set d e old new s r x w = tt
 told_part (Some h) (Some i) dir root set d e old new s r x w = (e, rendering h dir root i set d e s r x, w)
 
-told_all : (held : Option Held) (input : Option (List ℕ)) (dir root : List ℕ) (set : CheckedData) (d : Data) (e : Execution) (old new : Option (List ℕ))
-    → IsLoaded held dir set → IsReadAs input d → IsExecution set.files root d e → e.ending ≡ done → Appends old new e.bytes → WritesAll held input dir root old new
+told_all : (held : Option Held) (input : Option (List ℕ)) (dir root : List ℕ) (set : CheckedData) (d : Data) (e : Execution)
+    (old new : Option (List ℕ))
+    → IsLoaded held dir set → IsReadAs input d → IsExecution set.files root d e → e.ending ≡ done → Appends old new e.bytes
+    → WritesAll held input dir root old new
 told_all None input dir root set d e old new s r x is w = tt
 told_all (Some h) None dir root set d e old new s r x is w = tt
 told_all (Some h) (Some i) dir root set d e old new s r x is w = (e, rendering h dir root i set d e s r x, is, w)
 
-told_end : (held : Option Held) (input : Option (List ℕ)) (dir root : List ℕ) (set : CheckedData) (d : Data) (e : Execution) (ending : Ending)
+told_end : (held : Option Held) (input : Option (List ℕ)) (dir root : List ℕ) (set : CheckedData) (d : Data) (e : Execution)
+    (ending : Ending)
     → IsLoaded held dir set → IsReadAs input d → IsExecution set.files root d e → e.ending ≡ ending → EndsWith held input dir root ending
 told_end None input dir root set d e ending s r x is = tt
 told_end (Some h) None dir root set d e ending s r x is = tt
 told_end (Some h) (Some i) dir root set d e ending s r x is = (e, rendering h dir root i set d e s r x, is)
 
-told_sound : (held : Option Held) (input : Option (List ℕ)) (dir root : List ℕ) (set : CheckedData) (d : Data) (e : Execution) (old new : Option (List ℕ))
-    → IsLoaded held dir set → IsReadAs input d → IsSound set.files root d e.bytes → Appends old new e.bytes → WritesSound held input dir root old new
+told_sound : (held : Option Held) (input : Option (List ℕ)) (dir root : List ℕ) (set : CheckedData) (d : Data) (e : Execution)
+    (old new : Option (List ℕ))
+    → IsLoaded held dir set → IsReadAs input d → IsSound set.files root d e.bytes → Appends old new e.bytes
+    → WritesSound held input dir root old new
 told_sound None input dir root set d e old new s r x w = tt
 told_sound (Some h) None dir root set d e old new s r x w = tt
 told_sound (Some h) (Some i) dir root set d e old new s r x w =
     (e.bytes, record { datum = d; read = r; sound = subst (λ (f : Files). IsSound f root d e.bytes) s.files x }, w)
 
 -- what was written of an execution that is done is sound
-pub sound_output : (held : Option Held) (input : Option (List ℕ)) (dir root : List ℕ) (set : CheckedData) (d : Data) (e : Execution) (old new : Option (List ℕ)) (r : Result ⊤ Stop)
-    → IsLoaded held dir set → IsReadAs input d → OnOk r (IsSound set.files root d e.bytes) → WritePageAnswers e old new r → OnOk r (WritesSound held input dir root old new)
+pub sound_output : (held : Option Held) (input : Option (List ℕ)) (dir root : List ℕ) (set : CheckedData) (d : Data) (e : Execution)
+    (old new : Option (List ℕ)) (r : Result ⊤ Stop)
+    → IsLoaded held dir set → IsReadAs input d → OnOk r (IsSound set.files root d e.bytes) → WritePageAnswers e old new r
+    → OnOk r (WritesSound held input dir root old new)
 sound_output held input dir root set d e old new (Ok _) s r x w = told_sound held input dir root set d e old new s r x w.1
 sound_output held input dir root set d e old new (Err _) s r x w = tt
 
 -- what was written of an execution was written of the page
-pub output : (held : Option Held) (input : Option (List ℕ)) (dir root : List ℕ) (set : CheckedData) (d : Data) (e : Execution) (old new : Option (List ℕ)) (r : Result ⊤ Stop)
-    → IsLoaded held dir set → IsReadAs input d → IsExecution set.files root d e → WritePageAnswers e old new r → RenderOutput held input dir root old new r
+pub output : (held : Option Held) (input : Option (List ℕ)) (dir root : List ℕ) (set : CheckedData) (d : Data) (e : Execution)
+    (old new : Option (List ℕ)) (r : Result ⊤ Stop)
+    → IsLoaded held dir set → IsReadAs input d → IsExecution set.files root d e → WritePageAnswers e old new r
+    → RenderOutput held input dir root old new r
 output held input dir root set d e old new (Ok _) s r x w = told_all held input dir root set d e old new s r x w.0 w.1
-output held input dir root set d e old new (Err (stop.Fault fault)) s r x w = (w.1, told_end held input dir root set d e (faulted fault) s r x w.0)
-output held input dir root set d e old new (Err stop.Write) s r x w = told_part held input dir root set d e old new s r x w
+output held input dir root set d e old new (Err (stop.Fault fault)) s r x w =
+    (w.1, told_end held input dir root set d e (faulted fault) s r x w.0)
+output held input dir root set d e old new (Err stop.Write) s r x w = told_part held input dir root set d e old new s r x w.1
 output held input dir root set d e old new (Err stop.Memory) s r x w = w
 output held input dir root set d e old new (Err (stop.Set why)) s r x w = absurd w
 output held input dir root set d e old new (Err (stop.Data why)) s r x w = absurd w
@@ -87,16 +99,19 @@ ends page None (finished steps) e = cc
 ends page None (stopped why) e = cc
 ends page (Some g) end e = cc
 
-pub has_root : (files : List NamedFile) (forest : ForestData) (root : List ℕ) (d : Data) → is_root files root ≡ true → (execution_of files forest root d).ending ≡ no_root → ⊥
+pub has_root : (files : List NamedFile) (forest : ForestData) (root : List ℕ) (d : Data) → is_root files root ≡ true
+    → (execution_of files forest root d).ending ≡ no_root → ⊥
 has_root files forest root d is e = ends _ _ _ (rw is at e)
 
 -- the set of the directory has the root
-pub loaded_root : (held : Option Held) (dir root : List ℕ) (set : CheckedData) → IsLoaded held dir set → is_root set.files.list root ≡ true → IfSome held (λ h. IsSetWith h dir root)
+pub loaded_root : (held : Option Held) (dir root : List ℕ) (set : CheckedData) → IsLoaded held dir set
+    → is_root set.files.list root ≡ true → IfSome held (λ h. IsSetWith h dir root)
 loaded_root None dir root set s is = tt
 loaded_root (Some h) dir root set s is = record { set = (set, s); known = ap (λ (f : Files). is_root f.list root) (sym s.files) ∙ is }
 
 -- .. or lacks it
-pub lacks_root : (held : Option Held) (dir root : List ℕ) (set : CheckedData) → IsLoaded held dir set → is_root set.files.list root ≡ false → IfSome held (λ h. IsSetWithout h dir root)
+pub lacks_root : (held : Option Held) (dir root : List ℕ) (set : CheckedData) → IsLoaded held dir set
+    → is_root set.files.list root ≡ false → IfSome held (λ h. IsSetWithout h dir root)
 lacks_root None dir root set s is = tt
 lacks_root (Some h) dir root set s is = record { set = (set, s); unknown = ap (λ (f : Files). is_root f.list root) (sym s.files) ∙ is }
 
@@ -105,11 +120,16 @@ has_input None d r = tt
 has_input (Some i) d r = (d, r)
 
 -- why writing the page of a root ended so
-pub written_cause : (held : Option Held) (input : Option (List ℕ)) (dir root : List ℕ) (set : CheckedData) (d : Data) (e : Execution) (old new : Option (List ℕ)) (r : Result ⊤ Stop)
-    → IsLoaded held dir set → is_root set.files.list root ≡ true → IsReadAs input d → IsExecution set.files root d e → WritePageAnswers e old new r → RenderCause held input dir root r
-written_cause held input dir root set d e old new (Ok _) s is r x w = ((loaded_root held dir root set s is, has_input input d r), told_end held input dir root set d e done s r x w.0)
-written_cause held input dir root set d e old new (Err (stop.Fault fault)) s is r x w = ((loaded_root held dir root set s is, has_input input d r), told_end held input dir root set d e (faulted fault) s r x w.0)
-written_cause held input dir root set d e old new (Err stop.Write) s is r x w = (loaded_root held dir root set s is, has_input input d r)
+pub written_cause : (held : Option Held) (input : Option (List ℕ)) (dir root : List ℕ) (set : CheckedData) (d : Data) (e : Execution)
+    (old new : Option (List ℕ)) (r : Result ⊤ Stop)
+    → IsLoaded held dir set → is_root set.files.list root ≡ true → IsReadAs input d → IsExecution set.files root d e
+    → WritePageAnswers e old new r → RenderCause held input dir root r
+written_cause held input dir root set d e old new (Ok _) s is r x w =
+    ((loaded_root held dir root set s is, has_input input d r), told_end held input dir root set d e done s r x w.0)
+written_cause held input dir root set d e old new (Err (stop.Fault fault)) s is r x w =
+    ((loaded_root held dir root set s is, has_input input d r), told_end held input dir root set d e (faulted fault) s r x w.0)
+written_cause held input dir root set d e old new (Err stop.Write) s is r x w =
+    ((loaded_root held dir root set s is, has_input input d r), told_end held input dir root set d e done s r x w.0)
 written_cause held input dir root set d e old new (Err stop.Memory) s is r x w = tt
 written_cause held input dir root set d e old new (Err (stop.Set why)) s is r x w = absurd w
 written_cause held input dir root set d e old new (Err (stop.Data why)) s is r x w = absurd w

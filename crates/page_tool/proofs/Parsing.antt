@@ -1,5 +1,6 @@
 -- What `clap` reads of the words of each command.
-use Rattle.std.proofs.Common.{◌≡◌, ℕ, Bool, true, false, true≢false, codes, List, [], ◌∷◌, Option, Some, None, option_map, unwrap_or, ◌||◌, cond, refl, sym, ap, ap₂, ◌∙◌}
+use Rattle.std.proofs.Common.{◌≡◌, Bool, true, false, true≢false, codes, List, [], ◌∷◌, Option, Some, None, option_map, unwrap_or, ◌||◌}
+use Rattle.std.proofs.Common.{cond, refl, sym, ap, ap₂, ◌∙◌}
 use Rattle.std.specs.Str.{bytes_eq}
 use Rattle.std.proofs.lemmas.Slice.Eq.{bytes_eq-Decides}
 use Rattle.clap.specs.Lexer.{long_of, short_of}
@@ -42,7 +43,8 @@ render_taken : (dir root : Text) → IsPlain dir → IsPlain root → takes prog
 unfolding clap_on_literals
 render_taken dir root d r = rw (d.dashes, d.long, d.short, r.dashes, r.long, r.short) refl
 
-render_read : (dir root : Text) → IsPlain dir → IsPlain root → command_in (subcommand_of program_app (codes "render" ∷ dir ∷ root ∷ [])) ≡ render dir root
+render_read : (dir root : Text) → IsPlain dir → IsPlain root
+    → command_in (subcommand_of program_app (codes "render" ∷ dir ∷ root ∷ [])) ≡ render dir root
 unfolding clap_on_literals
 render_read dir root d r = rw (d.dashes, d.long, d.short, r.dashes, r.long, r.short) refl
 
@@ -50,7 +52,8 @@ explain_taken : (dir root : Text) → IsPlain dir → IsPlain root → takes pro
 unfolding clap_on_literals
 explain_taken dir root d r = rw (d.dashes, d.long, d.short, r.dashes, r.long, r.short) refl
 
-explain_read : (dir root : Text) → IsPlain dir → IsPlain root → command_in (subcommand_of program_app (codes "explain" ∷ dir ∷ root ∷ [])) ≡ explain dir root
+explain_read : (dir root : Text) → IsPlain dir → IsPlain root
+    → command_in (subcommand_of program_app (codes "explain" ∷ dir ∷ root ∷ [])) ≡ explain dir root
 unfolding clap_on_literals
 explain_read dir root d r = rw (d.dashes, d.long, d.short, r.dashes, r.long, r.short) refl
 
@@ -58,14 +61,17 @@ explain_read dir root d r = rw (d.dashes, d.long, d.short, r.dashes, r.long, r.s
 named : (name word : Text) → bytes_eq name word ≡ true → name ≡ word
 named name word e = (bytes_eq-Decides name word).0 e
 
-on_check : (name dir : Text) (b : Bool) → bytes_eq name (codes "check") ≡ b → IsPlain dir → is_command (cond b (check dir) no_command) ≡ true
+on_check : (name dir : Text) (b : Bool) → bytes_eq name (codes "check") ≡ b → IsPlain dir
+    → is_command (cond b (check dir) no_command) ≡ true
     → IsRead (name ∷ dir ∷ []) (cond b (check dir) no_command)
 on_check name dir true e d is = rw (named name _ e) (record { taken = check_taken dir d; read = check_read dir d })
 on_check name dir false e d is = absurd (true≢false (sym is))
 
-on_explain : (name dir root : Text) (b : Bool) → bytes_eq name (codes "explain") ≡ b → IsPlain dir → IsPlain root → is_command (cond b (explain dir root) no_command) ≡ true
+on_explain : (name dir root : Text) (b : Bool) → bytes_eq name (codes "explain") ≡ b → IsPlain dir → IsPlain root
+    → is_command (cond b (explain dir root) no_command) ≡ true
     → IsRead (name ∷ dir ∷ root ∷ []) (cond b (explain dir root) no_command)
-on_explain name dir root true e d r is = rw (named name _ e) (record { taken = explain_taken dir root d r; read = explain_read dir root d r })
+on_explain name dir root true e d r is =
+    rw (named name _ e) (record { taken = explain_taken dir root d r; read = explain_read dir root d r })
 on_explain name dir root false e d r is = absurd (true≢false (sym is))
 
 at_root : (name dir root : Text) (b : Bool) → bytes_eq name (codes "render") ≡ b → IsPlain dir → IsPlain root
@@ -79,7 +85,8 @@ one_word : (name dir : Text) (b : Bool) → is_option dir ≡ b → is_command (
 one_word name dir true e is = absurd (true≢false (sym is))
 one_word name dir false e is = on_check name dir (bytes_eq name (codes "check")) refl (plain dir e) is
 
-two_words : (name dir root : Text) (b c : Bool) → is_option dir ≡ b → is_option root ≡ c → is_command (cond (b || c) no_command (command_at name dir root)) ≡ true
+two_words : (name dir root : Text) (b c : Bool) → is_option dir ≡ b → is_option root ≡ c
+    → is_command (cond (b || c) no_command (command_at name dir root)) ≡ true
     → IsRead (name ∷ dir ∷ root ∷ []) (cond (b || c) no_command (command_at name dir root))
 two_words name dir root true c e f is = absurd (true≢false (sym is))
 two_words name dir root false true e f is = absurd (true≢false (sym is))
@@ -98,9 +105,12 @@ pub command_taken : (a : App) (words : List Text) → a ≡ program_app → is_c
 command_taken a words same is = ap (λ (b : App). takes b words) same ∙ (command_read words is).taken
 
 -- and its matches are the command
-pub command_matched : (a : App) (words : List Text) (m : ArgMatches) → a ≡ program_app → is_command (command_of words) ≡ true → HasMatchesOf a words m
+pub command_matched : (a : App) (words : List Text) (m : ArgMatches) → a ≡ program_app → is_command (command_of words) ≡ true
+    → HasMatchesOf a words m
     → command_in (subcommand_rows_of m) ≡ command_of words
-command_matched a words m same is has = ap command_in ((has (ap is_simple same ∙ is_simple_program)).1 ∙ ap (λ (b : App). subcommand_of b words) same) ∙ (command_read words is).read
+command_matched a words m same is has =
+    ap command_in ((has (ap is_simple same ∙ is_simple_program)).1 ∙ ap (λ (b : App). subcommand_of b words) same)
+    ∙ (command_read words is).read
 
 -- an option that has this first part, and this second part of a pair, has the pair
 pub pair_some : {X A B : Type 0} (o : Option X) (f : X → A) (g : X → B) (a : A) (b : B) → Some a ≡ option_map f o

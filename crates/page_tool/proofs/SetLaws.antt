@@ -1,5 +1,5 @@
 -- A set has no cause to be refused.
-use Rattle.std.proofs.Common.{◌≡◌, ℕ, List, Option, None, Some, true≢false, sym, ◌∙◌, subst}
+use Rattle.std.proofs.Common.{ℕ, List, Option, None, Some, true≢false, sym, ◌∙◌, subst}
 use Rattle.std.specs.Prelude.{IfSome}
 use Rattle.page_check.specs.Refusing.{Refuses}
 use Rattle.page_check.specs.declared.refused.MakeRefused.{MakeRefused}
@@ -15,7 +15,8 @@ accepted h dir is why = no_cause is.0 is.1.checked (subst (λ (f : Files). Refus
 pub refuses : (h : Held) (dir : List ℕ) (why : MakeRefused) → IsRefusedFor h dir why → Refuses (files_of h dir).list
 refuses h dir why is = record { refused = why; known = is.known; cause = is.cause }
 
-pub refused_for : (held : Option Held) (dir : List ℕ) (why : MakeRefused) → IfSome held (λ h. IsRefusedFor h dir why) → IfSome held (λ h. (w : MakeRefused) × IsRefusedFor h dir w)
+pub refused_for : (held : Option Held) (dir : List ℕ) (why : MakeRefused) → IfSome held (λ h. IsRefusedFor h dir why)
+    → IfSome held (λ h. (w : MakeRefused) × IsRefusedFor h dir w)
 refused_for None dir why c = tt
 refused_for (Some h) dir why c = (why, c)
 

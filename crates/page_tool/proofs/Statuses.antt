@@ -33,16 +33,19 @@ not_plain : (why : Stop) → IsPlain why status.Memory → why ≢ stop.Write
 not_plain why plain is = let h : status.Memory ≡ status.WriteFault = plain is in cc
 
 -- so what holds of out of memory is wanted for no failed output
-pub reported_plain : (P : Status → Type 0) (why : Stop) (s : Status) → IsReported why s → IsPlain why s → P (status_for why) → (why ≢ stop.Write → P status.Memory) → P s
+pub reported_plain : (P : Status → Type 0) (why : Stop) (s : Status) → IsReported why s → IsPlain why s → P (status_for why)
+    → (why ≢ stop.Write → P status.Memory) → P s
 reported_plain P why s (inl e) plain own memory = subst P (sym e) own
 reported_plain P why s (inr e) plain own memory = subst P (sym e) (memory (not_plain why (subst (λ (x : Status). IsPlain why x) e plain)))
 
-some_fault : (held : Option Held) (input : Option (List ℕ)) (dir root : List ℕ) (fault : ExecFault) → FaultsWith held input dir root fault → Faults held input dir root
+some_fault : (held : Option Held) (input : Option (List ℕ)) (dir root : List ℕ) (fault : ExecFault) → FaultsWith held input dir root fault
+    → Faults held input dir root
 some_fault None input dir root fault f = tt
 some_fault (Some h) None dir root fault f = tt
 some_fault (Some h) (Some i) dir root fault f = (f.0, fault, f.1, f.2)
 
-own_output : (held : Option Held) (input : Option (List ℕ)) (dir root : List ℕ) (old new : Option (List ℕ)) (why : Stop) → RenderOutput held input dir root old new (Err why) → StatusOutput held input dir root old new (status_for why)
+own_output : (held : Option Held) (input : Option (List ℕ)) (dir root : List ℕ) (old new : Option (List ℕ)) (why : Stop)
+    → RenderOutput held input dir root old new (Err why) → StatusOutput held input dir root old new (status_for why)
 own_output held input dir root old new (stop.Set why) o = o
 own_output held input dir root old new (stop.Fault fault) o = (o.0, some_fault held input dir root fault o.1)
 own_output held input dir root old new (stop.Data why) o = o
@@ -51,7 +54,8 @@ own_output held input dir root old new stop.Write o = o
 own_output held input dir root old new stop.NoTemplate o = o
 own_output held input dir root old new stop.Memory o = o
 
-unwritten : (held : Option Held) (input : Option (List ℕ)) (dir root : List ℕ) (old new : Option (List ℕ)) (why : Stop) → RenderOutput held input dir root old new (Err why) → why ≢ stop.Write → new ≡ old
+unwritten : (held : Option Held) (input : Option (List ℕ)) (dir root : List ℕ) (old new : Option (List ℕ)) (why : Stop)
+    → RenderOutput held input dir root old new (Err why) → why ≢ stop.Write → new ≡ old
 unwritten held input dir root old new (stop.Set why) o not = o
 unwritten held input dir root old new (stop.Fault fault) o not = o.0
 unwritten held input dir root old new (stop.Data why) o not = o
@@ -60,16 +64,20 @@ unwritten held input dir root old new stop.Write o not = absurd (not refl)
 unwritten held input dir root old new stop.NoTemplate o not = o
 unwritten held input dir root old new stop.Memory o not = o
 
-pub status_output : (held : Option Held) (input : Option (List ℕ)) (dir root : List ℕ) (old new : Option (List ℕ)) (why : Stop) (s : Status) → RenderOutput held input dir root old new (Err why) → IsReported why s → IsPlain why s
+pub status_output : (held : Option Held) (input : Option (List ℕ)) (dir root : List ℕ) (old new : Option (List ℕ)) (why : Stop)
+    (s : Status) → RenderOutput held input dir root old new (Err why) → IsReported why s → IsPlain why s
     → StatusOutput held input dir root old new s
 status_output held input dir root old new why s o r plain =
-    reported_plain (StatusOutput held input dir root old new) why s r plain (own_output held input dir root old new why o) (unwritten held input dir root old new why o)
+    reported_plain (StatusOutput held input dir root old new) why s r plain (own_output held input dir root old new why o)
+    (unwritten held input dir root old new why o)
 
-no_data : (input : Option (List ℕ)) (why : DataRefused) → IfSome input (IsNoDatum why) → IfSome input (λ i. (w : DataRefused) × IsNoDatum w i)
+no_data : (input : Option (List ℕ)) (why : DataRefused) → IfSome input (IsNoDatum why)
+    → IfSome input (λ i. (w : DataRefused) × IsNoDatum w i)
 no_data None why c = tt
 no_data (Some i) why c = (why, c)
 
-own_cause : (held : Option Held) (input : Option (List ℕ)) (dir root : List ℕ) (why : Stop) → RenderCause held input dir root (Err why) → StatusCause held input dir root (status_for why)
+own_cause : (held : Option Held) (input : Option (List ℕ)) (dir root : List ℕ) (why : Stop) → RenderCause held input dir root (Err why)
+    → StatusCause held input dir root (status_for why)
 own_cause held input dir root (stop.Set why) c = refused_for held dir why c
 own_cause held input dir root (stop.Fault fault) c = (c.0, some_fault held input dir root fault c.1)
 own_cause held input dir root (stop.Data why) c = (c.0, no_data input why c.1)
@@ -78,7 +86,8 @@ own_cause held input dir root stop.Write c = c
 own_cause held input dir root stop.NoTemplate c = c
 own_cause held input dir root stop.Memory c = tt
 
-pub status_cause : (held : Option Held) (input : Option (List ℕ)) (dir root : List ℕ) (why : Stop) (s : Status) → RenderCause held input dir root (Err why) → IsReported why s → StatusCause held input dir root s
+pub status_cause : (held : Option Held) (input : Option (List ℕ)) (dir root : List ℕ) (why : Stop) (s : Status)
+    → RenderCause held input dir root (Err why) → IsReported why s → StatusCause held input dir root s
 status_cause held input dir root why s c r = reported (StatusCause held input dir root) why s r (own_cause held input dir root why c) tt
 
 own_read : (why : Stop) → status_for why ≡ status.ReadFault → why ≡ stop.Read
@@ -107,20 +116,24 @@ pub was_write : (why : Stop) (s : Status) → IsReported why s → s ≡ status.
 was_write why s (inl e) is = own_write why (sym e ∙ is)
 was_write why s (inr e) is = let h : status.Memory ≡ status.WriteFault = sym e ∙ is in cc
 
-text_set : (held : Option Held) (dir name : List ℕ) (why : MakeRefused) → IfSome held (λ h. IsRefusedFor h dir why) → IfSome held (λ h. (w : MakeRefused) × IsRefusedFor h dir w × (stop_text (stop.Set why) name ≡ stop_text (stop.Set w) name))
+text_set : (held : Option Held) (dir name : List ℕ) (why : MakeRefused) → IfSome held (λ h. IsRefusedFor h dir why)
+    → IfSome held (λ h. (w : MakeRefused) × IsRefusedFor h dir w × (stop_text (stop.Set why) name ≡ stop_text (stop.Set w) name))
 text_set None dir name why c = tt
 text_set (Some h) dir name why c = (why, c, refl)
 
-text_data : (input : Option (List ℕ)) (name : List ℕ) (why : DataRefused) → IfSome input (IsNoDatum why) → IfSome input (λ i. (w : DataRefused) × IsNoDatum w i × (stop_text (stop.Data why) name ≡ stop_text (stop.Data w) name))
+text_data : (input : Option (List ℕ)) (name : List ℕ) (why : DataRefused) → IfSome input (IsNoDatum why)
+    → IfSome input (λ i. (w : DataRefused) × IsNoDatum w i × (stop_text (stop.Data why) name ≡ stop_text (stop.Data w) name))
 text_data None name why c = tt
 text_data (Some i) name why c = (why, c, refl)
 
-text_fault : (held : Option Held) (input : Option (List ℕ)) (dir name : List ℕ) (fault : ExecFault) → FaultsWith held input dir name fault → StatusText held input dir name status.ExecFault (stop_text (stop.Fault fault) name)
+text_fault : (held : Option Held) (input : Option (List ℕ)) (dir name : List ℕ) (fault : ExecFault) → FaultsWith held input dir name fault
+    → StatusText held input dir name status.ExecFault (stop_text (stop.Fault fault) name)
 text_fault None input dir name fault f = tt
 text_fault (Some h) None dir name fault f = tt
 text_fault (Some h) (Some i) dir name fault f = (f.0, fault, f.1, f.2, refl)
 
-own_text : (held : Option Held) (input : Option (List ℕ)) (dir name : List ℕ) (why : Stop) → RenderCause held input dir name (Err why) → StatusText held input dir name (status_for why) (stop_text why name)
+own_text : (held : Option Held) (input : Option (List ℕ)) (dir name : List ℕ) (why : Stop) → RenderCause held input dir name (Err why)
+    → StatusText held input dir name (status_for why) (stop_text why name)
 own_text held input dir name (stop.Set why) c = text_set held dir name why c
 own_text held input dir name (stop.Fault fault) c = text_fault held input dir name fault c.1
 own_text held input dir name (stop.Data why) c = text_data input name why c.1
@@ -129,11 +142,19 @@ own_text held input dir name stop.Write c = refl
 own_text held input dir name stop.NoTemplate c = refl
 own_text held input dir name stop.Memory c = refl
 
-says : (held : Option Held) (input : Option (List ℕ)) (dir name : List ℕ) (why : Stop) (s : Status) (old new : Option (List ℕ)) → RenderCause held input dir name (Err why) → Says why name s old new → SaysStatus held input dir name s old new
-says held input dir name why s old new c (inl e) = (stop_text why name, subst (λ (x : Status). StatusText held input dir name x (stop_text why name)) (sym e.0) (own_text held input dir name why c), e.1)
-says held input dir name why s old new c (inr e) = (stop_text stop.Memory name, subst (λ (x : Status). StatusText held input dir name x (stop_text stop.Memory name)) (sym e.0) refl, e.1)
+says : (held : Option Held) (input : Option (List ℕ)) (dir name : List ℕ) (why : Stop) (s : Status) (old new : Option (List ℕ))
+    → RenderCause held input dir name (Err why) → Says why name s old new → SaysStatus held input dir name s old new
+says held input dir name why s old new c (inl e) =
+    let said = own_text held input dir name why c in
+    (stop_text why name, subst (λ (x : Status). StatusText held input dir name x (stop_text why name)) (sym e.0) said, e.1)
+says held input dir name why s old new c (inr e) = (
+  stop_text stop.Memory name,
+  subst (λ (x : Status). StatusText held input dir name x (stop_text stop.Memory name)) (sym e.0) refl,
+  e.1,
+)
 
-pub says_or : (held : Option Held) (input : Option (List ℕ)) (dir name : List ℕ) (why : Stop) (s : Status) (old new : Option (List ℕ)) (rose : Type 0) → RenderCause held input dir name (Err why) → rose ⊎ Says why name s old new
+pub says_or : (held : Option Held) (input : Option (List ℕ)) (dir name : List ℕ) (why : Stop) (s : Status) (old new : Option (List ℕ))
+    (rose : Type 0) → RenderCause held input dir name (Err why) → rose ⊎ Says why name s old new
     → rose ⊎ SaysStatus held input dir name s old new
 says_or held input dir name why s old new rose c (inl r) = inl r
 says_or held input dir name why s old new rose c (inr e) = inr (says held input dir name why s old new c e)
@@ -156,7 +177,8 @@ read_of_two f i x (inl r) = inl r
 read_of_two f i x (inr r) = inr r.0
 
 -- the folder failed, or the input did after a set with the root
-pub read_in_order : (held : Option Held) (dir root : List ℕ) (f i : Type 0) → f ⊎ (i × IfSome held (λ h. IsSetWith h dir root)) → IfSome held (λ h. f ⊎ IsSetWith h dir root)
+pub read_in_order : (held : Option Held) (dir root : List ℕ) (f i : Type 0) → f ⊎ (i × IfSome held (λ h. IsSetWith h dir root))
+    → IfSome held (λ h. f ⊎ IsSetWith h dir root)
 read_in_order None dir root f i r = tt
 read_in_order (Some h) dir root f i (inl r) = inl r
 read_in_order (Some h) dir root f i (inr r) = inr r.1

@@ -32,7 +32,7 @@ pub record IsExact
   pub faults : Told held input (λ h i.
       IsSetWith h dir root → (e : Execution) → IsRendering h dir root i e
       → (fault : ExecFault) → e.ending ≡ faulted fault
-      → Ends status.ExecFault (folder_rose ⊎ input_rose) s ⊎ ((s ≡ status.WriteFault) × out_rose))
+      → Ends status.ExecFault (folder_rose ⊎ input_rose) s)
   pub complete : Told held input (λ h i.
       IsSetWith h dir root → (e : Execution) → IsRendering h dir root i e → e.ending ≡ done
       → Ends status.Ok (folder_rose ⊎ input_rose) s ⊎ ((s ≡ status.WriteFault) × out_rose))

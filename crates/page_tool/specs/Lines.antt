@@ -1,21 +1,21 @@
 -- The lines for people.
 use Rattle.std.specs.Prelude.{◌≡◌, ℕ, codes, List, [], ◌∷◌, ◌++◌, Option, IfSome, ◌⊎◌}
+use Rattle.std.specs.Fmt.{decimal}
 use Rattle.std.specs.Io.KnownBytes.{Appends}
 use Rattle.page_io.specs.Held.{Held}
+use Rattle.page_check.specs.RefusalTexts.{refusal_text}
 use Rattle.page_check.specs.declared.refused.MakeRefused.{MakeRefused}
+use Rattle.page_datum.specs.Execution.{Execution, faulted}
+use Rattle.page_datum.specs.Kinds.{fault_kind, data_refusal}
+use Rattle.page_datum.specs.Legible.{legible}
+use Rattle.page_datum.specs.Reading.{IsNoDatum}
+use Rattle.page_datum.specs.declared.fault.ExecFault.{ExecFault}
+use Rattle.page_datum.specs.declared.refused.DataRefused.{DataRefused}
 use Rattle.page_tool.specs.Codes.{status_for}
 use Rattle.page_tool.specs.LoadedSets.{IsRefusedFor}
 use Rattle.page_tool.specs.Output.{IsRendering, Told}
 use Rattle.page_tool.specs.declared.status.Status.{Status}
 use Rattle.page_tool.specs.declared.status.Status.TheVariants as status
-use Rattle.std.specs.Fmt.{decimal}
-use Rattle.page_datum.specs.Execution.{Execution, faulted}
-use Rattle.page_datum.specs.declared.fault.ExecFault.{ExecFault}
-use Rattle.page_datum.specs.Kinds.{fault_kind, data_refusal}
-use Rattle.page_datum.specs.Legible.{legible}
-use Rattle.page_datum.specs.Reading.{IsNoDatum}
-use Rattle.page_datum.specs.declared.refused.DataRefused.{DataRefused}
-use Rattle.page_check.specs.RefusalTexts.{refusal_text}
 use Rattle.page_tool.specs.declared.stop.Stop.{Stop}
 use Rattle.page_tool.specs.declared.stop.Stop.TheVariants as stop
 

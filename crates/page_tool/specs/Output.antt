@@ -75,7 +75,7 @@ Faults held input dir root =
 abbrev pub WritePageAnswers : Execution → Option (List ℕ) → Option (List ℕ) → Result ⊤ Stop → Type 0
 WritePageAnswers e old new (Ok _) = (e.ending ≡ done) × Appends old new e.bytes
 WritePageAnswers e old new (Err (stop.Fault fault)) = (e.ending ≡ faulted fault) × (new ≡ old)
-WritePageAnswers e old new (Err stop.Write) = AppendsPart old new e.bytes
+WritePageAnswers e old new (Err stop.Write) = (e.ending ≡ done) × AppendsPart old new e.bytes
 WritePageAnswers e old new (Err stop.Memory) = new ≡ old
 WritePageAnswers e old new (Err _) = ⊥
 
@@ -92,9 +92,9 @@ RenderOutput held input dir root old new (Err _) = new ≡ old
 abbrev pub HasInput : List ℕ → Type 0
 HasInput input = (datum : Data) × IsDatum input datum
 
--- the files of a directory are a set with this root, and the input is a datum
-abbrev pub HasAll : Option Held → Option (List ℕ) → List ℕ → List ℕ → Type 0
-HasAll held input dir root = IfSome held (λ h. IsSetWith h dir root) × IfSome input HasInput
+-- all that a page is made of is there: a set that has the root, and a datum
+abbrev pub IsReady : Option Held → Option (List ℕ) → List ℕ → List ℕ → Type 0
+IsReady held input dir root = IfSome held (λ h. IsSetWith h dir root) × IfSome input HasInput
 
 -- why rendering ended so
 abbrev pub RenderCause : Option Held → Option (List ℕ) → List ℕ → List ℕ → Result ⊤ Stop → Type 0
@@ -105,10 +105,9 @@ RenderCause held input dir root (Err (stop.Data why)) =
 RenderCause held input dir root (Err stop.Read) = ⊤
 RenderCause held input dir root (Err stop.Memory) = ⊤
 RenderCause held input dir root (Err (stop.Fault fault)) =
-    HasAll held input dir root × FaultsWith held input dir root fault
-RenderCause held input dir root (Err stop.Write) = HasAll held input dir root
-RenderCause held input dir root (Ok _) =
-    HasAll held input dir root × EndsWith held input dir root done
+    IsReady held input dir root × FaultsWith held input dir root fault
+RenderCause held input dir root _ =
+    IsReady held input dir root × EndsWith held input dir root done
 
 -- what a sink has got at each status of a command
 abbrev pub StatusOutput : Option Held → Option (List ℕ) → List ℕ → List ℕ → Option (List ℕ)
@@ -131,7 +130,6 @@ StatusCause held input dir root status.Usage = ⊥
 StatusCause held input dir root status.ReadFault = ⊤
 StatusCause held input dir root status.Memory = ⊤
 StatusCause held input dir root status.ExecFault =
-    HasAll held input dir root × Faults held input dir root
-StatusCause held input dir root status.WriteFault = HasAll held input dir root
-StatusCause held input dir root status.Ok =
-    HasAll held input dir root × EndsWith held input dir root done
+    IsReady held input dir root × Faults held input dir root
+StatusCause held input dir root _ =
+    IsReady held input dir root × EndsWith held input dir root done

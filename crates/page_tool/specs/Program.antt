@@ -1,5 +1,5 @@
 -- The command line of the program as `clap` reads it.
-use Rattle.std.specs.Prelude.{ℕ, codes, List, [], ◌∷◌, Option, Some, None, true}
+use Rattle.std.specs.Prelude.{codes, List, [], Option, Some, None, true}
 use Rattle.clap.specs.Simple.{App, Shape, new_app, new_rule, new_shape, with_rule, with_subcommand}
 use Rattle.clap.specs.Walk.{Row, Rule, Text, first_of}
 use Rattle.page_tool.specs.Words.{Command, no_command, command_on, command_at}

@@ -1,4 +1,4 @@
-use Rattle.std.proofs.Common.{rules, ◌≡◌, ◌∙◌, sym, ap, ap₂, refl, List, Option, Some, option_map, codes}
+use Rattle.std.proofs.Common.{◌≡◌, ◌∙◌, sym, ap, ap₂, Some, codes}
 use Rattle.clap.specs.Words.{found_of, rows_of, subcommand_rows_of}
 use Rattle.clap.specs.declared.parser.matches.ArgMatches.TheViews.{out-ArgMatches, out-SubCommand}
 use Rattle.std.specs.Box.{box_value}
@@ -11,7 +11,9 @@ pub returns : goal.returns
 returns c =
     let values = found_of c.in_ok-name.values.now in
     let found : subcommand_rows_of c.args.matches.now ≡ Some (c.in_ok-name.name.now, rows_of values) =
-    pair_some (out-ArgMatches c.args.matches.now).subcommand (λ b. (out-SubCommand (box_value b)).name.now) (λ b. rows_of (found_of (out-SubCommand (box_value b)).matches)) _ _ c.in_ok-name.ensures.name c.in_ok-name.ensures.rows in
+    pair_some (out-ArgMatches c.args.matches.now).subcommand (λ b. (out-SubCommand (box_value b)).name.now)
+    (λ b. rows_of (found_of (out-SubCommand (box_value b)).matches)) _ _ c.in_ok-name.ensures.name c.in_ok-name.ensures.rows in
     c.asked_with.ensures
-    ∙ ap₂ (command_with c.in_ok-name.name.now) (c.get_str.ensures ∙ first_value-rows values (codes "DIR")) (c.get_str-2.ensures ∙ first_value-rows values (codes "NAME"))
+    ∙ ap₂ (command_with c.in_ok-name.name.now) (c.get_str.ensures ∙ first_value-rows values (codes "DIR"))
+    (c.get_str-2.ensures ∙ first_value-rows values (codes "NAME"))
     ∙ sym (ap command_in found)

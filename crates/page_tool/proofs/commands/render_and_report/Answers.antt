@@ -1,6 +1,7 @@
 use Rattle.std.proofs.Common.{Err, ap}
 use Rattle.page_tool.proofs.Exacts.{exact}
-use Rattle.page_tool.proofs.Statuses.{status_cause, status_output, was_read, was_write, says_or, ok_read, ok_write, read_of_two, read_in_order}
+use Rattle.page_tool.proofs.Statuses.{status_cause, status_output, was_read, was_write, says_or, ok_read, ok_write, read_of_two}
+use Rattle.page_tool.proofs.Statuses.{read_in_order}
 use Rattle.page_tool.proofs.commands.render_and_report.Goals as goal
 
 pub returns-in-Ok-clause-exact : goal.returns-in-Ok-clause-exact

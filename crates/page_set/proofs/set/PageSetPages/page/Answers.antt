@@ -3,7 +3,7 @@ use Rattle.std.specs.Io.KnownBytes.{Appends}
 use Rattle.page_check.specs.CheckedSets.{CheckedData, IsChecked}
 use Rattle.page_datum.specs.View.{view}
 use Rattle.page_io.specs.Whole.{AppendsPart}
-use Rattle.page_set.proofs.SetPages.{meant, part, sound, unwritten, whole}
+use Rattle.page_set.proofs.SetPages.{finishes, meant, part, sound, unmade, unwritten, whole}
 use Rattle.page_set.specs.RootPages.{RootPageAnswers}
 use Rattle.page_set.proofs.set.PageSetPages.page.Goals as goal
 
@@ -42,3 +42,13 @@ returns-clause-answers g c =
 
 pub returns-clause-meant : goal.returns-clause-meant
 returns-clause-meant g c = meant c.args.self.now c.args.root.now (view c.args.datum.now) (subst IsChecked c.self.view_is c.root_page.ensures.checked)
+
+pub returns-clause-gathered : goal.returns-clause-gathered
+returns-clause-gathered g c =
+    let root = c.args.root.now in let datum = view c.args.datum.now in
+    finishes c.args.self.now root datum c.in-Ok.made
+    (subst (λ (s : CheckedData). RootPageAnswers s root datum (Ok c.in-Ok.made)) c.self.view_is c.in-Ok.ensures.answers)
+
+pub returns-in-Err-clause-gathered : goal.returns-in-Err-clause-gathered
+returns-in-Err-clause-gathered g c =
+    unmade c.self.inside.checked c.args.root.now (view c.args.datum.now) c.in-Err.stop _ _ c.in-Err.ensures.answers
