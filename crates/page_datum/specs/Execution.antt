@@ -14,7 +14,7 @@ pub data Ending : Type 0 where
   no_root : Ending
   faulted : ExecFault → Ending
 
--- the page's bytes up to the end, the steps, and the end
+-- the bytes of the page, which are none where it meets a fault, the steps up to the end, and the end
 pub record Execution : Type 0 where
   pub bytes : List ℕ
   pub steps : ℕ

@@ -32,7 +32,8 @@ pub fn explain(alloc: Global, forest: &Forest, chart: &Chart, start: u32) -> Res
 
 // What is said of some pairs, which are given by their keys.
 fn text_of(alloc: Global, forest: &Forest, chart: &Chart, keys: &[Key]) -> Result<Text, Memory>
-    ensures { IfOk result (λ text. text ≡ flat_map (pair_text forest.now chart.now) (map (λ key. key.2) keys.now)) }
+    ensures { IfOk result (λ text. text ≡ flat_map (pair_text forest.now chart.now)
+        (map (λ key. key.2) keys.now)) }
 {
     let mut out = Text::new(alloc);
     for key in keys {

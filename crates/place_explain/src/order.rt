@@ -52,7 +52,8 @@ pub fn ordered_keys(
     chart: &Chart,
     pairs: &[u32],
 ) -> Result<Vec<Key>, Memory>
-    ensures { IfOk result (λ keys. AreOrdered forest.now chart.now pairs.now (map (λ key. key.2) keys.items)) }
+    ensures { IfOk result (λ keys. AreOrdered forest.now chart.now pairs.now
+        (map (λ key. key.2) keys.items)) }
 {
     let mut keys = keys(alloc, forest, chart, pairs)?;
     keys.sort_unstable();

@@ -80,7 +80,8 @@ impl<'f> Flows<'f> {
 
     /// The points from which and to which an edge of a template leads, by the edge's number.
     pub fn ends(&self, template: u32, number: usize) -> Option<(Point, Point)>
-        ensures { result ≡ option_map (λ e. (from_of e, to_of e)) (slice_get (edges_at self.now template) number) }
+        ensures { result ≡ option_map (λ e. (from_of e, to_of e))
+            (slice_get (edges_at self.now template) number) }
     {
         match self.edge(template, number) {
             Some(edge) => Some(edge_ends(edge)),
@@ -90,7 +91,8 @@ impl<'f> Flows<'f> {
 
     /// Whether an edge of a template, by its number, is a call. There is none past the last one.
     pub fn is_call(&self, template: u32, number: usize) -> bool
-        ensures { (e : SpecEdge) → slice_get (edges_at self.now template) number ≡ Some e → result ≡ is_call_edge e }
+        ensures { (e : SpecEdge) → slice_get (edges_at self.now template) number ≡ Some e
+            → result ≡ is_call_edge e }
     {
         match self.edge(template, number) {
             Some(edge) => calls(edge),
@@ -100,7 +102,8 @@ impl<'f> Flows<'f> {
 
     /// What an edge of a template, by its number, chooses: nothing where it is no choice, and past the last one.
     pub fn choice(&self, template: u32, number: usize) -> Option<Choice>
-        ensures { (e : SpecEdge) → slice_get (edges_at self.now template) number ≡ Some e → result ≡ choice_of e }
+        ensures { (e : SpecEdge) → slice_get (edges_at self.now template) number ≡ Some e
+            → result ≡ choice_of e }
     {
         match self.edge(template, number) {
             Some(edge) => chooses(edge),

@@ -29,7 +29,8 @@ use tpl_tree::{Forest, NodeKind, Tree};
 ///
 /// Takes no memory, and for a text time in proportion to its length.
 pub fn leave(flows: &Flows, template: u32, number: usize, place: Place) -> Step
-    ensures { (e : SpecEdge) → slice_get (edges_at flows.now template) number ≡ Some e → result ≡ step_of flows.now template e place }
+    ensures { (e : SpecEdge) → slice_get (edges_at flows.now template) number ≡ Some e
+        → result ≡ step_of flows.now template e place }
 {
     let forest = flows.forest();
     if template as usize >= forest.count() {
@@ -43,7 +44,8 @@ pub fn leave(flows: &Flows, template: u32, number: usize, place: Place) -> Step
 
 // Where an edge of a tree leads.
 fn step(forest: &Forest, tree: &Tree, edge: Edge, place: Place) -> Step
-    ensures { (t : ℕ) (e : SpecEdge) → nodes_at forest.now t ≡ tree.now.nodes → edge_at e ≡ edge → IsNodeAt tree.now.nodes e → result ≡ step_of forest.now t e place }
+    ensures { (t : ℕ) (e : SpecEdge) → nodes_at forest.now t ≡ tree.now.nodes → edge_at e ≡ edge
+        → IsNodeAt tree.now.nodes e → result ≡ step_of forest.now t e place }
 {
     let (from, _) = edge_ends(edge);
     if may_use(place, use_at(tree, from)) {
@@ -55,7 +57,8 @@ fn step(forest: &Forest, tree: &Tree, edge: Edge, place: Place) -> Step
 
 // How the node before which a point stands uses the predefined escapers.
 fn use_at(tree: &Tree, point: Point) -> EscaperUse
-    ensures { (forest : ForestData) (t : ℕ) → nodes_at forest t ≡ tree.now.nodes → result ≡ use_at_point forest t point }
+    ensures { (forest : ForestData) (t : ℕ) → nodes_at forest t ≡ tree.now.nodes
+        → result ≡ use_at_point forest t point }
 {
     match point {
         Point::Before(n) => use_of(tree, n),
@@ -86,7 +89,8 @@ pub fn may_use(place: Place, used: EscaperUse) -> bool
 
 // What an edge makes of a place.
 fn edge_leads(forest: &Forest, tree: &Tree, edge: Edge, place: Place) -> Step
-    ensures { (e : SpecEdge) → edge_at e ≡ edge → IsNodeAt tree.now.nodes e → result ≡ edge_step forest.now e place }
+    ensures { (e : SpecEdge) → edge_at e ≡ edge → IsNodeAt tree.now.nodes e
+        → result ≡ edge_step forest.now e place }
 {
     match edge {
         Edge::Writes(node, _) => text_leads(tree, node, place),
@@ -99,7 +103,8 @@ fn edge_leads(forest: &Forest, tree: &Tree, edge: Edge, place: Place) -> Step
 
 // What a text makes of a place.
 fn text_leads(tree: &Tree, node: u32, place: Place) -> Step
-    ensures { (bytes : List ℕ) → head_kind (nodes_from tree.now.nodes node) ≡ Some (kind.Text bytes) → result ≡ lands_or_refused (behind_text (after_text_of bytes place)) }
+    ensures { (bytes : List ℕ) → head_kind (nodes_from tree.now.nodes node) ≡ Some (kind.Text bytes)
+        → result ≡ lands_or_refused (behind_text (after_text_of bytes place)) }
 {
     if node >= tree.count() {
         return Step::Refused;
@@ -125,7 +130,9 @@ fn hole_leads(place: Place) -> Step
 
 // What a call makes of a place.
 fn call_leads(forest: &Forest, tree: &Tree, node: u32, place: Place) -> Step
-    ensures { (name : List ℕ) (pipe : Option SpecPipe) → head_kind (nodes_from tree.now.nodes node) ≡ Some (kind.Template name pipe) → result ≡ enters_or_refused (number_named name forest.now) place }
+    ensures { (name : List ℕ) (pipe : Option SpecPipe)
+        → head_kind (nodes_from tree.now.nodes node) ≡ Some (kind.Template name pipe)
+        → result ≡ enters_or_refused (number_named name forest.now) place }
 {
     if node >= tree.count() {
         return Step::Refused;

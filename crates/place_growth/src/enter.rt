@@ -24,7 +24,12 @@ pub(crate) fn enter(
     came: Came,
     source: Place,
 ) -> Result<Option<usize>, Memory>
-    ensures traced { OnOk result ((roots : List ℕ) (first : SpecPlace) (tear : Option SpecTear) → Entered came → IsGrowth flows.now roots first log.old.items (growth_entering flows.now template entry came source) came → IsTraced flows.now roots first rows.old log.old.items tear → IsTraced flows.now roots first rows.new log.new.items tear) }
+    ensures traced { OnOk result ((roots : List ℕ) (first : SpecPlace) (tear : Option SpecTear)
+        → Entered came
+        → IsGrowth flows.now roots first log.old.items
+        (growth_entering flows.now template entry came source) came
+        → IsTraced flows.now roots first rows.old log.old.items tear
+        → IsTraced flows.now roots first rows.new log.new.items tear) }
     ensures stays { OnOk result (StayIn rows.old rows.new) }
     ensures length { length rows.old ≤ length rows.new }
 {
@@ -58,7 +63,9 @@ pub fn enter_root(
     first: Place,
 ) -> Result<bool, Memory>
     requires { IsValid first }
-    ensures traced { OnOk result ((roots : List ℕ) (tear : Option SpecTear) → Contains roots root → IsTraced flows.now roots first rows.old log.old.items tear → IsTraced flows.now roots first rows.new log.new.items tear) }
+    ensures traced { OnOk result ((roots : List ℕ) (tear : Option SpecTear) → Contains roots root
+        → IsTraced flows.now roots first rows.old log.old.items tear
+        → IsTraced flows.now roots first rows.new log.new.items tear) }
     ensures length { length rows.old ≤ length rows.new }
 {
     match enter(alloc, flows, rows, log, root, first, Came::Root, first)? {

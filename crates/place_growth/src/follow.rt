@@ -39,8 +39,15 @@ fn enter_callee(
     source: Place,
     step: Step,
 ) -> Result<Option<usize>, Memory>
-    ensures traced { OnOk result ((roots : List ℕ) (first : SpecPlace) (tear : Option SpecTear) (e : SpecEdge) → IsRowEdge flows.now rows.old edge e (spot.On source) → step ≡ step_of flows.now edge.template e source → IsTraced flows.now roots first rows.old log.old.items tear → IsTraced flows.now roots first rows.new log.new.items tear) }
-    ensures stays { OnOk result ((e : SpecEdge) → IsRowEdge flows.now rows.old edge e (spot.On source) → IsRowEdge flows.now rows.new edge e (spot.On source)) }
+    ensures traced { OnOk result ((roots : List ℕ) (first : SpecPlace) (tear : Option SpecTear)
+        (e : SpecEdge)
+        → IsRowEdge flows.now rows.old edge e (spot.On source)
+        → step ≡ step_of flows.now edge.template e source
+        → IsTraced flows.now roots first rows.old log.old.items tear
+        → IsTraced flows.now roots first rows.new log.new.items tear) }
+    ensures stays { OnOk result ((e : SpecEdge)
+        → IsRowEdge flows.now rows.old edge e (spot.On source)
+        → IsRowEdge flows.now rows.new edge e (spot.On source)) }
     ensures length { length rows.old ≤ length rows.new }
 {
     match step {
@@ -69,7 +76,10 @@ fn trace_from(
     source: Place,
 ) -> Result<Traced, Memory>
     requires { edge.row < length rows.old }
-    ensures traced { OnOk result ((roots : List ℕ) (first : SpecPlace) (e : SpecEdge) → IsRowEdge flows.now rows.old edge e (spot.On source) → IsTraced flows.now roots first rows.old log.old.items tear.old → IsTraced flows.now roots first rows.new log.new.items tear.new) }
+    ensures traced { OnOk result ((roots : List ℕ) (first : SpecPlace) (e : SpecEdge)
+        → IsRowEdge flows.now rows.old edge e (spot.On source)
+        → IsTraced flows.now roots first rows.old log.old.items tear.old
+        → IsTraced flows.now roots first rows.new log.new.items tear.new) }
     ensures length { length rows.old ≤ length rows.new }
 {
     let step = leave(flows, edge.template, edge.number as usize, source);
@@ -87,7 +97,11 @@ fn trace_torn(
     edge: RowEdge,
 ) -> Result<Traced, Memory>
     requires { edge.row < length rows.old }
-    ensures traced { OnOk result ((forest : ForestData) (roots : List ℕ) (first : SpecPlace) (e : SpecEdge) → IsRowEdge forest rows.old edge e spot.Torn → IsTraced forest roots first rows.old log.old.items tear.old → IsTraced forest roots first rows.new log.new.items tear.new) }
+    ensures traced { OnOk result ((forest : ForestData) (roots : List ℕ) (first : SpecPlace)
+        (e : SpecEdge)
+        → IsRowEdge forest rows.old edge e spot.Torn
+        → IsTraced forest roots first rows.old log.old.items tear.old
+        → IsTraced forest roots first rows.new log.new.items tear.new) }
     ensures length { length rows.old ≤ length rows.new }
 {
     let point = raise_end(rows, log, tear, edge, Spot::Torn, Spot::Torn)?;
@@ -110,7 +124,9 @@ pub fn trace(
     number: usize,
 ) -> Result<Traced, Memory>
     requires { n < length rows.old }
-    ensures traced { OnOk result ((roots : List ℕ) (first : SpecPlace) → IsTraced flows.now roots first rows.old log.old.items tear.old → IsTraced flows.now roots first rows.new log.new.items tear.new) }
+    ensures traced { OnOk result ((roots : List ℕ) (first : SpecPlace)
+        → IsTraced flows.now roots first rows.old log.old.items tear.old
+        → IsTraced flows.now roots first rows.new log.new.items tear.new) }
     ensures length { length rows.old ≤ length rows.new }
 {
     if number > u32::MAX as usize {

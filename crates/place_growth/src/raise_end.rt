@@ -27,7 +27,12 @@ pub(crate) fn raise_end(
     by: Spot,
 ) -> Result<Option<Point>, Memory>
     requires { edge.row < length rows.old }
-    ensures traced { OnOk result ((forest : ForestData) (roots : List ℕ) (first : SpecPlace) (e : SpecEdge) → IsRowEdge forest rows.old edge e at → by ≡ given forest (chart_of rows.old) edge.template e at → IsTraced forest roots first rows.old log.old.items tear.old → IsTraced forest roots first rows.new log.new.items tear.new) }
+    ensures traced { OnOk result ((forest : ForestData) (roots : List ℕ) (first : SpecPlace)
+        (e : SpecEdge)
+        → IsRowEdge forest rows.old edge e at
+        → by ≡ given forest (chart_of rows.old) edge.template e at
+        → IsTraced forest roots first rows.old log.old.items tear.old
+        → IsTraced forest roots first rows.new log.new.items tear.new) }
     ensures length { length rows.old ≤ length rows.new }
 {
     let old = spot_at(rows.row(edge.row), edge.to);

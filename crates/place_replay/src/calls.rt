@@ -21,7 +21,8 @@ pub(crate) fn innermost(calls: &[OpenCall], templates: usize) -> Option<OpenCall
 
 // Takes the innermost open call away.
 pub(crate) fn close(calls: &mut Vec<OpenCall>, call: OpenCall)
-    ensures { slice_get calls.old.items (length calls.old.items - 1) ≡ Some call → calls.old.items ≡ calls.new.items ++ call ∷ [] }
+    ensures { slice_get calls.old.items (length calls.old.items - 1) ≡ Some call
+        → calls.old.items ≡ calls.new.items ++ call ∷ [] }
 {
     calls.pop();
 }

@@ -74,7 +74,10 @@ pub(crate) fn go_on(
     number: usize,
     to: Point,
 ) -> Result<bool, Memory>
-    ensures { HasAscendingNames flows.now → (e : SpecEdge) → slice_get (edges_at flows.now walker.old.template) number ≡ Some e → walker.old.point ≡ from_of e → to ≡ to_of e → OnOk result (IsWalker flows.now walker.old → IsWalker flows.now walker.new) }
+    ensures { HasAscendingNames flows.now → (e : SpecEdge)
+        → slice_get (edges_at flows.now walker.old.template) number ≡ Some e
+        → walker.old.point ≡ from_of e → to ≡ to_of e
+        → OnOk result (IsWalker flows.now walker.old → IsWalker flows.now walker.new) }
 {
     match leave(flows, walker.template, number, walker.place) {
         Step::Lands(place) => {

@@ -100,7 +100,8 @@ impl Walker {
         ensures root { IsTrue result → self.now.root ≡ other.now.root }
         ensures template { IsTrue result → self.now.template ≡ other.now.template }
         ensures point { IsTrue result → self.now.point ≡ other.now.point }
-        ensures open_calls { IsTrue result → self.now.open_calls.items ≡ other.now.open_calls.items }
+        ensures open_calls { IsTrue result
+            → self.now.open_calls.items ≡ other.now.open_calls.items }
     {
         self.root == other.root
             && self.template == other.template

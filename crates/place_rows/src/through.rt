@@ -22,7 +22,8 @@ pub fn through_step(rows: &Rows, step: Step) -> Spot
 
 /// What an edge of a template, by its number, gives to its end from what its start has.
 pub fn given_by(flows: &Flows, rows: &Rows, template: u32, number: usize, at: Spot) -> Spot
-    ensures { (e : SpecEdge) → slice_get (edges_at flows.now template) number ≡ Some e → result ≡ given flows.now (chart_of rows.now) template e at }
+    ensures { (e : SpecEdge) → slice_get (edges_at flows.now template) number ≡ Some e
+        → result ≡ given flows.now (chart_of rows.now) template e at }
 {
     match at {
         Spot::Off => Spot::Off,

@@ -31,7 +31,8 @@ pub trait Glass<V: Drop> {
         ensures desk { desk self.new ≡ desk self.old }
         ensures looks { Rose (looks self.old) (looks self.new) }
         ensures grows { IsPrefix (list self.old) (list self.new) }
-        ensures found { let missed = Misses (list self.old) (list self.new) (misses self.old) (misses self.new) in
+        ensures found { let missed =
+            Misses (list self.old) (list self.new) (misses self.old) (misses self.new) in
             let kept = misses self.new ≡ misses self.old in
             let same = list self.new ≡ list self.old in
             MatchOption result missed
