@@ -18,9 +18,28 @@ pub(crate) fn bytes_kept(characters: &[char]) -> [bool; 256]
 fn clear(kept: &mut [bool; 256], character: char)
     ensures { kept.new ≡ set kept.old (first_byte character) false }
 {
+    kept[byte_of(character) as usize] = false;
+}
+
+// The byte with which a character begins. Where the characters are constants of ASCII, so is what the loop over them makes: it is
+// small enough to be done when the program is built.
+#[inline(always)]
+fn byte_of(character: char) -> u8
+    ensures { result ≡ first_byte character }
+{
+    if character.is_ascii() {
+        return character as u8;
+    }
+    lead_byte(character)
+}
+
+// The byte with which any character begins.
+#[inline(never)]
+fn lead_byte(character: char) -> u8
+    ensures { result ≡ first_byte character }
+{
     let mut buffer = [0; 4];
-    let bytes = character.encode_utf8(&mut buffer).as_bytes();
-    kept[bytes[0] as usize] = false;
+    character.encode_utf8(&mut buffer).as_bytes()[0]
 }
 
 /// How many bytes at the beginning are kept. They are looked at eight at a time.

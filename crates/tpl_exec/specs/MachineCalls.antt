@@ -1,5 +1,5 @@
 -- What the functions of the code's machine do, over its own values.
-use Rattle.std.specs.Prelude.{ℕ, Bool, List, [], Option, Some, Result, Box}
+use Rattle.std.specs.Prelude.{ℕ, Bool, true, false, List, [], Option, Some, Result, Box}
 use Rattle.std.specs.declared.alloc.Global.{Global}
 use Rattle.page_datum.specs.View.{view}
 use Rattle.page_datum.specs.declared.datum.Datum.{Datum}
@@ -20,6 +20,8 @@ use Rattle.tpl_exec.specs.declared.stop.ExecStop.{ExecStop}
 use Rattle.tpl_exec.specs.declared.progress.Progress.{Progress as CodeProgress}
 use Rattle.tpl_exec.specs.declared.progress.Event.{Event as CodeEvent}
 use Rattle.tpl_tree.specs.Forests.{ForestData}
+use Rattle.tpl_tree.specs.declared.node_kind.NodeKind.{NodeKind}
+use Rattle.tpl_tree.specs.declared.node_kind.NodeKind.TheVariants as kind
 use Rattle.tpl_tree.specs.declared.pipe.Pipe.{Pipe}
 use Rattle.tpl_value.specs.Truth.{truth_of}
 
@@ -90,6 +92,19 @@ range_of m node header source = range_advance (machine_view m) (header_view m he
 -- a call with its argument
 abbrev pub call_of : ForestData → CodeMachine → Node → List ℕ → Stored → Progress
 call_of forest m node name value = call_advance forest (machine_view m) m.calls node.number node.line name (stored_view value) (spot_in m node.next) m.steps
+
+-- whether a node is neither a text nor a hole
+abbrev pub is_control : NodeKind → Bool
+is_control (kind.Text bytes) = false
+is_control (kind.Action pipe) = false
+is_control (kind.Declare name pipe) = true
+is_control (kind.Assign name pipe) = true
+is_control (kind.If name pipe) = true
+is_control (kind.With name pipe) = true
+is_control (kind.Range index element pipe) = true
+is_control kind.Break = true
+is_control kind.Continue = true
+is_control (kind.Template name pipe) = true
 
 -- a node, at the steps with its own
 abbrev pub node_of : ForestData → CodeMachine → Node → ℕ → Progress

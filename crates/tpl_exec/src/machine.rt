@@ -38,11 +38,11 @@ pub(crate) struct Machine<'d> {
 }
 
 impl<'d> Machine<'d> {
-    ghost use Rattle.std.specs.Prelude.{◌≡◌, ◌<◌, IfOk, Ok};
+    ghost use Rattle.std.specs.Prelude.{◌≡◌, ◌<◌, IfOk, IsTrue, Ok};
     ghost use Rattle.tpl_exec.specs.MachineCalls.{after_loop_of, broken_off_of, call_left};
     ghost use Rattle.tpl_exec.specs.MachineCalls.{control_left, emitted_of, end_of, if_of};
     ghost use Rattle.tpl_exec.specs.MachineCalls.{loop_left_of, node_of, part_left, part_of};
-    ghost use Rattle.tpl_exec.specs.MachineCalls.{start_of, turn_of};
+    ghost use Rattle.tpl_exec.specs.MachineCalls.{is_control, start_of, turn_of};
     ghost use Rattle.tpl_exec.specs.MachineCalls.{ArgumentAnswers, CallAnswers, PipeAnswers};
     ghost use Rattle.tpl_exec.specs.MachineCalls.{RangeAnswers, WithAnswers};
     ghost use Rattle.tpl_exec.specs.MachineView.{AdvanceAnswers, machine_view, next_progress};
@@ -372,31 +372,21 @@ impl<'d> Machine<'d> {
         }))
     }
 
-    // A node, given the steps with its own.
-    #[inline(always)]
-    fn node_advance(
+    // A node that is neither a text nor a hole, given the steps with its own. It is apart from these two, which are most nodes, so
+    // that they do not prepare for the answers of all the others.
+    #[inline(never)]
+    fn control_advance(
         &mut self,
         alloc: Global,
         forest: &'d Forest,
         node: Node<'d>,
         steps: u64,
     ) -> Result<Progress<'d>, ExecStop>
+        requires { IsTrue (is_control node.kind.now) }
         ensures { AdvanceAnswers (node_of forest.now self.old node.entry steps) result self.new }
     {
         match node.kind {
-            NodeKind::Text(_) => {
-                self.node = node.next;
-                self.steps = steps;
-                Ok(self.emitted(node.line, Event::Text(node.number)))
-            }
-            NodeKind::Action(pipe) => match self.evaluated(alloc, node.line, pipe, steps) {
-                Ok((value, steps)) => {
-                    self.node = node.next;
-                    self.steps = steps;
-                    Ok(self.emitted(node.line, Event::Hole(node.number, value)))
-                }
-                Err(stop) => Err(stop),
-            },
+            NodeKind::Text(_) | NodeKind::Action(_) => unreachable!(),
             NodeKind::Declare(name, pipe) => match self.evaluated(alloc, node.line, pipe, steps) {
                 Ok((value, steps)) => {
                     push(&mut self.variables, name.as_str(), value)?;
@@ -461,6 +451,35 @@ impl<'d> Machine<'d> {
                 }
                 Err(stop) => Err(stop),
             },
+        }
+    }
+
+    // A node, given the steps with its own.
+    #[inline(always)]
+    fn node_advance(
+        &mut self,
+        alloc: Global,
+        forest: &'d Forest,
+        node: Node<'d>,
+        steps: u64,
+    ) -> Result<Progress<'d>, ExecStop>
+        ensures { AdvanceAnswers (node_of forest.now self.old node.entry steps) result self.new }
+    {
+        match node.kind {
+            NodeKind::Text(_) => {
+                self.node = node.next;
+                self.steps = steps;
+                Ok(self.emitted(node.line, Event::Text(node.number)))
+            }
+            NodeKind::Action(pipe) => match self.evaluated(alloc, node.line, pipe, steps) {
+                Ok((value, steps)) => {
+                    self.node = node.next;
+                    self.steps = steps;
+                    Ok(self.emitted(node.line, Event::Hole(node.number, value)))
+                }
+                Err(stop) => Err(stop),
+            },
+            _ => self.control_advance(alloc, forest, node, steps),
         }
     }
 

@@ -161,17 +161,17 @@ fn read_field(
     }
 }
 
-// Adds an operand that is a field.
+// Adds an operand that is a field. It takes room for that field alone, since most have no other.
 fn add_own_field(alloc: Global, level: &mut Level, name: Text) -> Result<(), Memory>
     ensures { OnOk result (level.new ≡ with_own_field name level.old) }
 {
-    let mut fields = List::new(alloc);
+    let mut fields = Vec::with_capacity(alloc, 1)?;
     fields.push(name)?;
     add_operand(
         level,
         Operand {
             base: Base::Dot,
-            fields,
+            fields: List::from(fields),
         },
     )
 }

@@ -5,20 +5,20 @@ use page_io::{List, Memory};
 use std::alloc::Global;
 use tpl_symbol::Seam;
 
-// A node as trees keep it, in one vector in the order of the source.
+// A node as trees keep it, in one vector in the order of the source. What an execution reads of it stands first.
 #[derive(Debug, Drop)]
 pub(crate) struct Entry {
-    pub(crate) kind: NodeKind,
     // The line on which it begins.
     pub(crate) line: u32,
-    // The seams of a text.
-    pub(crate) seams: List<Seam>,
     // How many nodes its first part has.
     pub(crate) first: u32,
     // How many nodes its `else` part has.
     pub(crate) other: u32,
     // Whether a node follows it in the same part.
     pub(crate) more: bool,
+    pub(crate) kind: NodeKind,
+    // The seams of a text.
+    pub(crate) seams: List<Seam>,
 }
 
 impl Entry {
