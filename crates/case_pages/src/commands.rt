@@ -1,6 +1,6 @@
 use crate::settings::{fails_of, settings_of, step_of};
-use case_devices::mem_file;
-use case_table::{Row, Stop, Told, pair_of, text_of};
+use case_data::mem_file;
+use case_table::{CaseOutput, CaseRow, CaseStop, pair_of, text_of};
 use page_datum::Datum;
 use page_io::{List, MemFile, MemFolder, MemSink, MemSource};
 use page_tool::{Status, run};
@@ -19,50 +19,49 @@ const OUTPUT_STEP: u64 = 100;
 
 const LINES_STEP: u64 = 5;
 
-/// Tells of a call of `page_tool`: how a command ends and what it writes, and the number of a status.
-pub fn tell_commands(out: &mut Told, call: &str, row: &Row) -> Result<(), Stop> {
+/// Writes what a call of `page_tool` gives: how a command ends and what it writes, and the number of a status.
+pub fn put_commands(out: &mut CaseOutput, call: &str, row: &CaseRow) -> Result<(), CaseStop> {
     match call {
-        "run" => tell_run(out, row),
+        "run" => put_run(out, row),
         "code" => {
-            let code = status_of(row.text(0)?)?.code();
-            out.put_made(format!(in out.alloc(); "{code}"));
+            out.put_count(status_of(row.text(0)?)?.code() as u64);
             Ok(())
         }
-        _ => Err(Stop::Form),
+        _ => Err(CaseStop::Form),
     }
 }
 
-// Tells of a command: the row has the files, the words, the input and the settings.
-fn tell_run(out: &mut Told, row: &Row) -> Result<(), Stop> {
+// Writes what a command gives: the row has the files, the words, the input and the settings.
+fn put_run(out: &mut CaseOutput, row: &CaseRow) -> Result<(), CaseStop> {
     let alloc = out.alloc();
     let settings = settings_of(row.list(3)?)?;
     let words = words_of(alloc, row.part(1)?)?;
     let folder = folder_of(alloc, row.list(0)?, settings)?;
     let input = input_of(alloc, row, settings)?;
     let output = output_of(alloc, settings)?;
-    tell_command(out, words.as_slice(), folder, input, output)
+    put_command(out, words.as_slice(), folder, input, output)
 }
 
-// Tells how a command over these devices ends: the status with its number, the output, and the lines for people.
-fn tell_command(
-    out: &mut Told,
+// Writes how a command over these devices ends: the status with its number, the output, and the lines for people.
+fn put_command(
+    out: &mut CaseOutput,
     words: &[String],
     folder: MemFolder,
     input: MemSource,
     output: MemSink,
-) -> Result<(), Stop> {
+) -> Result<(), CaseStop> {
     let alloc = out.alloc();
     let (mut input, mut output) = (input, output);
     let mut lines = MemSink::new(alloc, ROOM, LINES_STEP, List::new(alloc))?;
     let (status, _) = run(alloc, words, folder, &mut input, &mut output, &mut lines);
     if status == Status::Memory {
-        return Err(Stop::Memory);
+        return Err(CaseStop::Memory);
     }
-    tell_end(out, status, output.taken(), lines.taken());
+    put_end(out, status, output.taken(), lines.taken());
     Ok(())
 }
 
-fn tell_end(out: &mut Told, status: Status, output: &[u8], lines: &[u8]) {
+fn put_end(out: &mut CaseOutput, status: Status, output: &[u8], lines: &[u8]) {
     let code = status.code();
     let output = std::str::from_utf8(output).unwrap_or("not UTF-8");
     let lines = std::str::from_utf8(lines).unwrap_or("not UTF-8");
@@ -70,7 +69,7 @@ fn tell_end(out: &mut Told, status: Status, output: &[u8], lines: &[u8]) {
 }
 
 // The words of a command: a list of them, or a text with blanks between them.
-fn words_of(alloc: Global, words: &Datum) -> Result<Vec<String>, Stop> {
+fn words_of(alloc: Global, words: &Datum) -> Result<Vec<String>, CaseStop> {
     let mut all = Vec::new(alloc);
     match words {
         Datum::List(words) => {
@@ -88,12 +87,12 @@ fn words_of(alloc: Global, words: &Datum) -> Result<Vec<String>, Stop> {
 }
 
 // The folder of files, each a list of its name and its bytes.
-fn folder_of(alloc: Global, files: &[Datum], settings: &[Datum]) -> Result<MemFolder, Stop> {
+fn folder_of(alloc: Global, files: &[Datum], settings: &[Datum]) -> Result<MemFolder, CaseStop> {
     let fails = fails_of(alloc, settings, "folder fails")?;
     Ok(MemFolder::new(files_of(alloc, files)?, fails))
 }
 
-fn files_of(alloc: Global, files: &[Datum]) -> Result<List<MemFile>, Stop> {
+fn files_of(alloc: Global, files: &[Datum]) -> Result<List<MemFile>, CaseStop> {
     let mut all = List::new(alloc);
     for file in files {
         let (name, bytes) = pair_of(file)?;
@@ -102,19 +101,19 @@ fn files_of(alloc: Global, files: &[Datum]) -> Result<List<MemFile>, Stop> {
     Ok(all)
 }
 
-fn input_of(alloc: Global, row: &Row, settings: &[Datum]) -> Result<MemSource, Stop> {
+fn input_of(alloc: Global, row: &CaseRow, settings: &[Datum]) -> Result<MemSource, CaseStop> {
     let step = step_of(settings, "input step", INPUT_STEP)?;
     let fails = fails_of(alloc, settings, "input fails")?;
     Ok(MemSource::new(row.bytes(alloc, 2)?, step.max(1), fails))
 }
 
-fn output_of(alloc: Global, settings: &[Datum]) -> Result<MemSink, Stop> {
+fn output_of(alloc: Global, settings: &[Datum]) -> Result<MemSink, CaseStop> {
     let step = step_of(settings, "output step", OUTPUT_STEP)?;
     let fails = fails_of(alloc, settings, "output fails")?;
     Ok(MemSink::new(alloc, ROOM, step.max(1), fails)?)
 }
 
-fn status_of(name: &str) -> Result<Status, Stop> {
+fn status_of(name: &str) -> Result<Status, CaseStop> {
     match name {
         "Ok" => Ok(Status::Ok),
         "SetRefused" => Ok(Status::SetRefused),
@@ -125,6 +124,6 @@ fn status_of(name: &str) -> Result<Status, Stop> {
         "WriteFault" => Ok(Status::WriteFault),
         "NoTemplate" => Ok(Status::NoTemplate),
         "Memory" => Ok(Status::Memory),
-        _ => Err(Stop::Form),
+        _ => Err(CaseStop::Form),
     }
 }

@@ -1,9 +1,9 @@
-// What is told of sets of pages and of whole commands, for tables of cases.
+// The calls of tables of cases on sets of pages and of whole commands.
 #![tactic(auto)]
 
 mod commands;
 mod pages;
 mod settings;
 
-pub use commands::tell_commands;
-pub use pages::tell_pages;
+pub use commands::put_commands;
+pub use pages::put_pages;

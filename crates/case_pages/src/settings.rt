@@ -1,22 +1,22 @@
-use case_table::{Stop, count_of, counts_of, list_of, pair_of, text_of};
+use case_table::{CaseStop, count_of, counts_of, list_of, pair_of, text_of};
 use page_datum::Datum;
 use page_io::List;
 use std::alloc::Global;
 
 /// The settings of a row, each a list of a name and a value, where all of the names are known.
-pub fn settings_of(settings: &[Datum]) -> Result<&[Datum], Stop> {
+pub fn settings_of(settings: &[Datum]) -> Result<&[Datum], CaseStop> {
     for setting in settings {
         let (name, _) = pair_of(setting)?;
         match text_of(name)? {
             "folder fails" | "input fails" | "output fails" | "input step" | "output step" => {}
-            _ => return Err(Stop::Form),
+            _ => return Err(CaseStop::Form),
         }
     }
     Ok(settings)
 }
 
 // The value of the first setting with a name, if there is one.
-fn setting<'a>(settings: &'a [Datum], name: &str) -> Result<Option<&'a Datum>, Stop> {
+fn setting<'a>(settings: &'a [Datum], name: &str) -> Result<Option<&'a Datum>, CaseStop> {
     for setting in settings {
         let (of, value) = pair_of(setting)?;
         if text_of(of)? == name {
@@ -27,7 +27,7 @@ fn setting<'a>(settings: &'a [Datum], name: &str) -> Result<Option<&'a Datum>, S
 }
 
 /// The calls on a device that are to fail.
-pub fn fails_of(alloc: Global, settings: &[Datum], name: &str) -> Result<List<u64>, Stop> {
+pub fn fails_of(alloc: Global, settings: &[Datum], name: &str) -> Result<List<u64>, CaseStop> {
     match setting(settings, name)? {
         Some(value) => counts_of(alloc, list_of(value)?),
         None => Ok(List::new(alloc)),
@@ -35,7 +35,7 @@ pub fn fails_of(alloc: Global, settings: &[Datum], name: &str) -> Result<List<u6
 }
 
 /// How many bytes a device gives or takes at a time, of which 0 counts as 1.
-pub fn step_of(settings: &[Datum], name: &str, usual: u64) -> Result<u64, Stop> {
+pub fn step_of(settings: &[Datum], name: &str, usual: u64) -> Result<u64, CaseStop> {
     match setting(settings, name)? {
         Some(value) => count_of(value),
         None => Ok(usual),

@@ -1,15 +1,21 @@
-// What is told of places, of the steps over texts and holes, and of the texts that are written, for tables of cases.
+// The calls of tables of cases on places, steps over texts and holes, written texts, charts and explanations.
 #![tactic(auto)]
 
-mod member;
-mod named;
-mod named_code;
-mod named_url;
-mod pieces;
-mod shown;
-mod tell;
-mod walk;
+mod charts;
+mod evidence;
+mod explanations;
+mod pairs;
+mod path;
+mod read_code;
+mod read_member;
+mod read_place;
+mod read_url;
+mod showings;
+mod splitter;
+mod steps;
 mod written;
 
-pub use tell::{tell_chain, tell_place, tell_places};
-pub use written::tell_written;
+pub use charts::put_charts;
+pub use explanations::put_explained;
+pub use steps::put_places;
+pub use written::put_written;

@@ -1,12 +1,12 @@
-use crate::row::Row;
-use crate::told::Told;
+use crate::case_row::CaseRow;
+use crate::output::CaseOutput;
 use page_datum::print_datum;
 
 // How many characters of a text are printed.
 const MOST: usize = 600;
 
-/// Tells of a case that differs: its call with what it was given, what it gave and what was wanted.
-pub fn put_difference(out: &mut Told, call: &str, row: &Row, told: &str, wanted: &str) {
+/// Writes a case that differs: its call with what it was given, what it gave and what was wanted.
+pub fn put_difference(out: &mut CaseOutput, call: &str, row: &CaseRow, given: &str, wanted: &str) {
     out.put(call);
     for part in row.as_slice() {
         out.put("\n  of     ");
@@ -16,14 +16,14 @@ pub fn put_difference(out: &mut Told, call: &str, row: &Row, told: &str, wanted:
         }
     }
     out.put("\n  gives  ");
-    put_quoted(out, told);
+    put_quoted(out, given);
     out.put("\n  wanted ");
     put_quoted(out, wanted);
     out.put("\n");
 }
 
-// Tells a text in quotes, or its first characters and two dots.
-fn put_quoted(out: &mut Told, text: &str) {
+// Writes a text in quotes, or its first characters and two dots.
+fn put_quoted(out: &mut CaseOutput, text: &str) {
     let alloc = out.alloc();
     match text.char_indices().nth(MOST) {
         Some((end, _)) => {

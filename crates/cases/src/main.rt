@@ -1,14 +1,14 @@
 // Runs tables of cases. Each word names a file in the form of `docs/CASES.md`, whose rows have what a public call of the
-// engine is given and what is wanted of it. A line is printed for each file, with the number of its cases, and before it
-// some for each case that differs.
+// engine is given and what is wanted of it. A line is printed for each file that holds, and for another one each case that
+// differs and each group that has not as many cases as it says.
 #![tactic(auto)]
 
 mod engine;
 
 use crate::engine::Engine;
-use case_table::{Report, Stop, report_of};
+use case_table::{CaseStop, report_of};
 use page_datum::read_datum;
-use page_io::{Bytes, IoStop, ReadSource, read_up_to};
+use page_io::{Bytes, IoStop, ReadSource, Text, read_up_to};
 use std::process::ExitCode;
 use std::{env, fs, io};
 
@@ -19,24 +19,28 @@ fn main(rt: HostRuntime) -> ExitCode {
     let Ok(words) = env::args(&rt) else {
         return ExitCode::from(1);
     };
-    let mut same = true;
+    let mut holds = true;
     for file in words.skip(1) {
-        match said(&rt, file.as_str()) {
+        match is_held(&rt, file.as_str()) {
             Ok(true) => {}
-            Ok(false) => same = false,
+            Ok(false) => holds = false,
             Err(_) => return ExitCode::from(6),
         }
     }
-    ExitCode::from(if same { 0 } else { 1 })
+    ExitCode::from(if holds { 0 } else { 1 })
 }
 
-// Prints what there is to say of a file, and tells whether none of its cases differs.
-fn said(rt: &HostRuntime, name: &str) -> io::Result<bool> {
+// Prints the report of a file, and says whether the file holds.
+fn is_held(rt: &HostRuntime, name: &str) -> io::Result<bool> {
     match report(rt, name) {
+        Ok(report) if report.is_empty() => {
+            println!(rt; "{name}: holds")?;
+            Ok(true)
+        }
         Ok(report) => {
-            let (differences, cases) = (report.differences.as_str(), report.cases);
-            println!(rt; "{differences}{name}: {cases} cases")?;
-            Ok(differences.is_empty())
+            let report = report.as_str();
+            print!(rt; "{report}")?;
+            Ok(false)
         }
         Err(why) => {
             println!(rt; "{name}: {why}")?;
@@ -45,18 +49,18 @@ fn said(rt: &HostRuntime, name: &str) -> io::Result<bool> {
     }
 }
 
-// What becomes of the cases of a file, or why they cannot be run.
-fn report(rt: &HostRuntime, name: &str) -> Result<Report, &'static str> {
+// The report of a file, or why its cases cannot be run.
+fn report(rt: &HostRuntime, name: &str) -> Result<Text, &'static str> {
     let Ok(bytes) = bytes_of(rt, name) else {
         return Err("the file cannot be read");
     };
     let Ok(table) = read_datum(rt.alloc(), bytes.as_slice()) else {
         return Err("no JSON");
     };
-    match report_of(rt.alloc(), &table, &Engine::new(rt)) {
+    match report_of(rt.alloc(), name, &table, &Engine::new(rt)) {
         Ok(report) => Ok(report),
-        Err(Stop::Form) => Err("not the form of a table of cases"),
-        Err(Stop::Memory) => Err("out of memory"),
+        Err(CaseStop::Form) => Err("not the form of a table of cases"),
+        Err(CaseStop::Memory) => Err("out of memory"),
     }
 }
 

@@ -9,27 +9,27 @@ use Rattle.std.proofs.lemmas.List.{get_or-set_same, get_or-set_other, get_or-rep
 use Rattle.std.proofs.lemmas.List.Folds.{list_all-append}
 use Rattle.std.proofs.lemmas.List.Sums.{prefix_len_stops}
 use Rattle.std.proofs.lemmas.Str.{chars-nil, chars_past_char, IsUtf8-take, length-encode, len_utf8_bounds}
-use Rattle.esc_table.specs.Kept.{characters_of, first_byte, is_kept, kept_of, kept_by}
-use Rattle.esc_table.specs.Rows.{Row, found, rows_of}
-use Rattle.esc_table.specs.Replaced.{Writes, written, replaced, replaced_all}
+use Rattle.esc_table.specs.Kept.{characters_of, first_byte, is_kept_byte, kept_of, kept_by}
+use Rattle.esc_table.specs.Rows.{EscapeRow, found, rows_of}
+use Rattle.esc_table.specs.Replaced.{StepWrites, row_written, replaced, replaced_all}
 use Rattle.esc_table.proofs.Runs.{replaced-append, replaced-encodes}
 
 -- a byte that is taken out is not kept, and what is kept was kept before
-set_other : (kept : List Bool) (i b : ℕ) → is_kept (set kept i false) b ≡ true → b ≢ i
+set_other : (kept : List Bool) (i b : ℕ) → is_kept_byte (set kept i false) b ≡ true → b ≢ i
 set_other kept i b e same = elim (cases_lt i (length kept)) [
-  | inl inside ↦ absurd (true≢false (sym e ∙ ap (is_kept (set kept i false)) same ∙ get_or-set_same kept i false false inside))
+  | inl inside ↦ absurd (true≢false (sym e ∙ ap (is_kept_byte (set kept i false)) same ∙ get_or-set_same kept i false false inside))
   | inr outside ↦ absurd (true≢false (sym e ∙ get_or-eq_default (set kept i false) false (omega (arith, length-set kept i false, outside, same))))
 ]
 
-set_kept : (kept : List Bool) (i b : ℕ) → is_kept (set kept i false) b ≡ true → is_kept kept b ≡ true
+set_kept : (kept : List Bool) (i b : ℕ) → is_kept_byte (set kept i false) b ≡ true → is_kept_byte kept b ≡ true
 set_kept kept i b e = sym (get_or-set_other kept i b false false (set_other kept i b e)) ∙ e
 
-was_kept : (characters : List ℕ) (kept : List Bool) (b : ℕ) → is_kept (kept_of kept characters) b ≡ true → is_kept kept b ≡ true
+was_kept : (characters : List ℕ) (kept : List Bool) (b : ℕ) → is_kept_byte (kept_of kept characters) b ≡ true → is_kept_byte kept b ≡ true
 was_kept [] kept b e = e
 was_kept (c ∷ cs) kept b e = set_kept kept (first_byte c) b (was_kept cs (set kept (first_byte c) false) b e)
 
 -- a character that begins with a byte that is kept has no row
-none_found : (rows : List Row) (kept : List Bool) (c : ℕ) → is_kept (kept_of kept (characters_of rows)) (first_byte c) ≡ true → found rows c ≡ None
+none_found : (rows : List EscapeRow) (kept : List Bool) (c : ℕ) → is_kept_byte (kept_of kept (characters_of rows)) (first_byte c) ≡ true → found rows c ≡ None
 none_found [] kept c e = refl
 none_found (row ∷ rows) kept c e = elim (cases_Bool (row.character == c)) [
   | inl same ↦ absurd (set_other kept (first_byte row.character) (first_byte c) (was_kept (characters_of rows) (set kept (first_byte row.character) false) (first_byte c) e) (ap first_byte (sym (eqb-true row.character c same))))
@@ -40,7 +40,7 @@ differs : (a b : ℕ) → (a == b) ≡ false → b ≢ a
 differs a b e same = grind (arith, nat_tests)
 
 -- a byte that is not kept was not, or a character begins with it
-none_kept : (characters : List ℕ) (kept : List Bool) (b : ℕ) → is_kept (kept_of kept characters) b ≡ false → (is_kept kept b ≡ false) ⊎ ((c : ℕ) × (first_byte c ≡ b))
+none_kept : (characters : List ℕ) (kept : List Bool) (b : ℕ) → is_kept_byte (kept_of kept characters) b ≡ false → (is_kept_byte kept b ≡ false) ⊎ ((c : ℕ) × (first_byte c ≡ b))
 none_kept [] kept b e = inl e
 none_kept (c ∷ cs) kept b e = elim (none_kept cs (set kept (first_byte c) false) b e) [
   | inl now ↦ elim (cases_Bool (first_byte c == b)) [
@@ -60,11 +60,11 @@ leads c =
     (λ e h. omega arith)))
 
 -- a text may be cut after a run of bytes that are kept
-pub cut_behind : (rows : List Row) (text : List ℕ) (run : ℕ) → run ≡ prefix_len (is_kept (kept_by rows)) text → run ≤ length text → IsCharBoundary text run
+pub cut_behind : (rows : List EscapeRow) (text : List ℕ) (run : ℕ) → run ≡ prefix_len (is_kept_byte (kept_by rows)) text → run ≤ length text → IsCharBoundary text run
 cut_behind rows text run is fits = (
   fits,
   λ inside high.
-      let stops : is_kept (kept_by rows) (get_or text run 0) ≡ false = ap (λ (i : ℕ). is_kept (kept_by rows) (get_or text i 0)) is ∙ prefix_len_stops (is_kept (kept_by rows)) text 0 (omega (arith, is, inside)) in
+      let stops : is_kept_byte (kept_by rows) (get_or text run 0) ≡ false = ap (λ (i : ℕ). is_kept_byte (kept_by rows) (get_or text i 0)) is ∙ prefix_len_stops (is_kept_byte (kept_by rows)) text 0 (omega (arith, is, inside)) in
       elim (none_kept (characters_of rows) (replicate 256 true) (get_or text run 0) stops) [
         | inl out ↦ elim (cases_lt (get_or text run 0) 256) [
           | inl small ↦ absurd (true≢false (sym (get_or-replicate 256 (get_or text run 0) true false small) ∙ out))
@@ -81,19 +81,19 @@ first_passes p (b ∷ bs) some all = (and_parts (p b) (list_all p bs) all).0
 begins_some : (c : ℕ) → 0 < length (encode_utf8 c)
 begins_some c = omega (arith, length-encode c, (len_utf8_bounds c).0)
 
-stands : (rows : List Row) (c : ℕ) → list_all (is_kept (kept_by rows)) (encode_utf8 c) ≡ true → written rows c ≡ encode_utf8 c
-stands rows c all = ap (λ (o : Option (List ℕ)). unwrap_or o (encode_utf8 c)) (none_found rows (replicate 256 true) c (first_passes (is_kept (kept_by rows)) (encode_utf8 c) (begins_some c) all))
+stands : (rows : List EscapeRow) (c : ℕ) → list_all (is_kept_byte (kept_by rows)) (encode_utf8 c) ≡ true → row_written rows c ≡ encode_utf8 c
+stands rows c all = ap (λ (o : Option (List ℕ)). unwrap_or o (encode_utf8 c)) (none_found rows (replicate 256 true) c (first_passes (is_kept_byte (kept_by rows)) (encode_utf8 c) (begins_some c) all))
 
 -- characters of bytes that are kept stand for themselves
-all_stand : (rows : List Row) (cs : List ℕ) → list_all (is_kept (kept_by rows)) (encode_utf8_all cs) ≡ true → replaced_all rows cs ≡ encode_utf8_all cs
+all_stand : (rows : List EscapeRow) (cs : List ℕ) → list_all (is_kept_byte (kept_by rows)) (encode_utf8_all cs) ≡ true → replaced_all rows cs ≡ encode_utf8_all cs
 all_stand rows [] all = refl
 all_stand rows (c ∷ cs) all =
-    let parts = and_parts (list_all (is_kept (kept_by rows)) (encode_utf8 c)) (list_all (is_kept (kept_by rows)) (encode_utf8_all cs)) (sym (list_all-append (is_kept (kept_by rows)) (encode_utf8 c) (encode_utf8_all cs)) ∙ all) in
+    let parts = and_parts (list_all (is_kept_byte (kept_by rows)) (encode_utf8 c)) (list_all (is_kept_byte (kept_by rows)) (encode_utf8_all cs)) (sym (list_all-append (is_kept_byte (kept_by rows)) (encode_utf8 c) (encode_utf8_all cs)) ∙ all) in
     rw (stands rows c parts.0, all_stand rows cs parts.1) refl
 
-text_stands : (rows : List Row) (text : List ℕ) → IsUtf8 text → list_all (is_kept (kept_by rows)) text ≡ true → replaced rows text ≡ text
+text_stands : (rows : List EscapeRow) (text : List ℕ) → IsUtf8 text → list_all (is_kept_byte (kept_by rows)) text ≡ true → replaced rows text ≡ text
 text_stands rows text u all =
-    subst (λ (bytes : List ℕ). list_all (is_kept (kept_by rows)) bytes ≡ true → replaced rows bytes ≡ bytes) u.1.1
+    subst (λ (bytes : List ℕ). list_all (is_kept_byte (kept_by rows)) bytes ≡ true → replaced rows bytes ≡ bytes) u.1.1
     (λ all. replaced-encodes rows u.0 u.1.0 ∙ all_stand rows u.0 all) all
 
 one_more : (n : ℕ) → 1 + n ≡ suc n
@@ -107,32 +107,32 @@ run_kept p (b ∷ bs) = elim (cases_Bool (p b)) [
 ]
 
 -- a text is replaced by the run at its prefix, and then as what is after it is
-pub run_then : (rows : List Row) (text : List ℕ) (run : ℕ) → IsUtf8 text → run ≡ prefix_len (is_kept (kept_by rows)) text → run ≤ length text → replaced rows text ≡ take run text ++ replaced rows (drop run text)
+pub run_then : (rows : List EscapeRow) (text : List ℕ) (run : ℕ) → IsUtf8 text → run ≡ prefix_len (is_kept_byte (kept_by rows)) text → run ≤ length text → replaced rows text ≡ take run text ++ replaced rows (drop run text)
 run_then rows text run u is fits =
     let front : IsUtf8 (take run text) = IsUtf8-take text run u (cut_behind rows text run is fits) in
-    let all : list_all (is_kept (kept_by rows)) (take run text) ≡ true = ap (λ (n : ℕ). list_all (is_kept (kept_by rows)) (take n text)) is ∙ run_kept (is_kept (kept_by rows)) text in
+    let all : list_all (is_kept_byte (kept_by rows)) (take run text) ≡ true = ap (λ (n : ℕ). list_all (is_kept_byte (kept_by rows)) (take n text)) is ∙ run_kept (is_kept_byte (kept_by rows)) text in
     ap (replaced rows) (sym (take-append-drop run text)) ∙ replaced-append rows (take run text) (drop run text) front ∙ ap (λ (bytes : List ℕ). bytes ++ replaced rows (drop run text)) (text_stands rows (take run text) front all)
 
 -- the same, of what was written before and after the run
-pub run_written : (rows : List Row) (text : List ℕ) (run : ℕ) (before front behind after : List ℕ) → IsUtf8 text → run ≡ prefix_len (is_kept (kept_by rows)) text → run ≤ length text → front ≡ take run text → behind ≡ drop run text → after ≡ before ++ front → after ++ replaced rows behind ≡ before ++ replaced rows text
+pub run_written : (rows : List EscapeRow) (text : List ℕ) (run : ℕ) (before front behind after : List ℕ) → IsUtf8 text → run ≡ prefix_len (is_kept_byte (kept_by rows)) text → run ≤ length text → front ≡ take run text → behind ≡ drop run text → after ≡ before ++ front → after ++ replaced rows behind ≡ before ++ replaced rows text
 run_written rows text run before front behind after u is fits f b e =
     let whole : front ++ replaced rows behind ≡ replaced rows text = ap (λ (bytes : List ℕ). bytes ++ replaced rows behind) f ∙ ap (λ (bytes : List ℕ). take run text ++ replaced rows bytes) b ∙ sym (run_then rows text run u is fits) in
     ap (λ (bytes : List ℕ). bytes ++ replaced rows behind) e ∙ append_assoc before front (replaced rows behind) ∙ ap (λ (bytes : List ℕ). before ++ bytes) whole
 
 -- and of the character at the beginning
-pub first_written : (rows : List Row) (text rest before after : List ℕ) (c : ℕ) → IsUtf8 text → text ≡ encode_utf8 c ++ rest → after ≡ before ++ written rows c → after ++ replaced rows rest ≡ before ++ replaced rows text
+pub first_written : (rows : List EscapeRow) (text rest before after : List ℕ) (c : ℕ) → IsUtf8 text → text ≡ encode_utf8 c ++ rest → after ≡ before ++ row_written rows c → after ++ replaced rows rest ≡ before ++ replaced rows text
 first_written rows text rest before after c u is e =
-    let whole : written rows c ++ replaced rows rest ≡ replaced rows text = ap (replaced_all rows) (sym (chars_past_char text rest c u is)) in
-    ap (λ (bytes : List ℕ). bytes ++ replaced rows rest) e ∙ append_assoc before (written rows c) (replaced rows rest) ∙ ap (λ (bytes : List ℕ). before ++ bytes) whole
+    let whole : row_written rows c ++ replaced rows rest ≡ replaced rows text = ap (replaced_all rows) (sym (chars_past_char text rest c u is)) in
+    ap (λ (bytes : List ℕ). bytes ++ replaced rows rest) e ∙ append_assoc before (row_written rows c) (replaced rows rest) ∙ ap (λ (bytes : List ℕ). before ++ bytes) whole
 
 -- where nothing is left, all is written
-pub all_written : (rows : List Row) (text rest before after : List ℕ) → length rest ≡ 0 → Writes rows text rest before after → after ≡ before ++ replaced rows text
+pub all_written : (rows : List EscapeRow) (text rest before after : List ℕ) → length rest ≡ 0 → StepWrites rows text rest before after → after ≡ before ++ replaced rows text
 all_written rows text [] before after none e = sym (append-nil after) ∙ ap (λ (cs : List ℕ). after ++ replaced_all rows cs) (sym chars-nil) ∙ e
 all_written rows text (b ∷ bs) before after none e = absurd (omega (arith, none))
 
 -- the run that the code finds
-pub run_by : (rows : List Row) (kept : List Bool) (bytes text : List ℕ) (run : ℕ) → run ≡ prefix_len (is_kept kept) bytes → bytes ≡ text → kept ≡ kept_by rows → run ≡ prefix_len (is_kept (kept_by rows)) text
-run_by rows kept bytes text run is same by = is ∙ ap (prefix_len (is_kept kept)) same ∙ ap (λ (k : List Bool). prefix_len (is_kept k) text) by
+pub run_by : (rows : List EscapeRow) (kept : List Bool) (bytes text : List ℕ) (run : ℕ) → run ≡ prefix_len (is_kept_byte kept) bytes → bytes ≡ text → kept ≡ kept_by rows → run ≡ prefix_len (is_kept_byte (kept_by rows)) text
+run_by rows kept bytes text run is same by = is ∙ ap (prefix_len (is_kept_byte kept)) same ∙ ap (λ (k : List Bool). prefix_len (is_kept_byte k) text) by
 
 -- a table has its characters
 pub characters_are : (characters : List ℕ) (replacements : List (Bor (List ℕ))) → length characters ≤ length replacements → characters_of (rows_of characters replacements) ≡ characters

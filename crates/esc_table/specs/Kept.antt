@@ -1,6 +1,6 @@
 -- The bytes with which no character of a table begins: a text of such bytes is left as it is.
 use Rattle.std.specs.Prelude.{ℕ, Bool, true, false, List, [], ◌∷◌, map, get_or, set, replicate, encode_utf8}
-use Rattle.esc_table.specs.Rows.{Row}
+use Rattle.esc_table.specs.Rows.{EscapeRow}
 
 -- the byte with which a character begins
 abbrev pub first_byte : ℕ → ℕ
@@ -11,13 +11,13 @@ abbrev pub kept_of : List Bool → List ℕ → List Bool
 kept_of kept [] = kept
 kept_of kept (character ∷ characters) = kept_of (set kept (first_byte character) false) characters
 
-abbrev pub characters_of : List Row → List ℕ
+abbrev pub characters_of : List EscapeRow → List ℕ
 characters_of rows = map (λ row. row.character) rows
 
 -- of all bytes, those with which no character of a table begins
-abbrev pub kept_by : List Row → List Bool
+abbrev pub kept_by : List EscapeRow → List Bool
 kept_by rows = kept_of (replicate 256 true) (characters_of rows)
 
 -- whether a byte is kept
-abbrev pub is_kept : List Bool → ℕ → Bool
-is_kept kept byte = get_or kept byte false
+abbrev pub is_kept_byte : List Bool → ℕ → Bool
+is_kept_byte kept byte = get_or kept byte false

@@ -4,31 +4,31 @@ use Rattle.std.specs.Borrow.{Bor}
 use Prim.Native.String.{String}
 
 -- a character, and the bytes that are written for it
-pub record Row : Type 0 where
+pub record EscapeRow : Type 0 where
   pub character : ℕ
   pub replacement : List ℕ
 
 -- a row whose replacement is ASCII
-abbrev pub row : ℕ → String → Row
-row character replacement = record { character = character; replacement = codes replacement }
+abbrev pub escape_row : ℕ → String → EscapeRow
+escape_row character replacement = record { character = character; replacement = codes replacement }
 
 -- the rows of some characters, each with the replacement at its place
-abbrev pub rows_of : List ℕ → List (Bor (List ℕ)) → List Row
+abbrev pub rows_of : List ℕ → List (Bor (List ℕ)) → List EscapeRow
 rows_of [] replacements = []
 rows_of (character ∷ characters) [] = []
 rows_of (character ∷ characters) (replacement ∷ replacements) =
     record { character = character; replacement = replacement.now } ∷ rows_of characters replacements
 
 -- the replacement of a character, if it has a row
-abbrev pub found : List Row → ℕ → Option (List ℕ)
+abbrev pub found : List EscapeRow → ℕ → Option (List ℕ)
 found [] character = None
-found (row ∷ rows) character =
-    if row.character == character then Some row.replacement else found rows character
+found (escape_row ∷ rows) character =
+    if escape_row.character == character then Some escape_row.replacement else found rows character
 
 -- no character stands in two rows
-abbrev pub is_distinct : List Row → Bool
+abbrev pub is_distinct : List EscapeRow → Bool
 is_distinct [] = true
-is_distinct (row ∷ rows) = not (is_some (found rows row.character)) && is_distinct rows
+is_distinct (escape_row ∷ rows) = not (is_some (found rows escape_row.character)) && is_distinct rows
 
 -- the parts of a table: so many characters, a replacement for each, and no character twice
 pub record IsTable (count : ℕ) (characters : List ℕ) (replacements : List (Bor (List ℕ))) : Type 0 where

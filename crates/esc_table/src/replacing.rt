@@ -1,6 +1,6 @@
 ghost use Rattle.std.specs.Prelude.{◌≡◌, ◌<◌, ◌≤◌, ◌-◌, ◌++◌, IfOk, OnOk, length, string_bytes};
 ghost use Rattle.esc_table.specs.Kept.{kept_by};
-ghost use Rattle.esc_table.specs.Replaced.{written, replaced, Writes};
+ghost use Rattle.esc_table.specs.Replaced.{row_written, replaced, StepWrites};
 
 use crate::Table;
 use crate::run::run_len;
@@ -8,16 +8,16 @@ use page_io::{Memory, Text};
 use std::alloc::Global;
 
 /// The text with each character that has a row in the table replaced by what the row says. Every other character stays
-/// as it is, and what was written for one character is not looked at again. The error is out of memory.
+/// as it is, and what was written for one character is not looked at again. Fails only if allocation fails.
 pub fn replace<const N: usize>(alloc: Global, table: &Table<N>, text: &str) -> Result<Text, Memory>
-    ensures { IfOk result (λ written. written ≡ replaced table.now text.now) }
+    ensures { IfOk result (λ row_written. row_written ≡ replaced table.now text.now) }
 {
     let mut out = String::new(alloc);
     push_replaced(&mut out, table, text)?;
     Ok(Text::from(out))
 }
 
-/// Appends what `replace` gives. The error is out of memory, and then a part of it may be there.
+/// Appends what `replace` gives. Fails only if allocation fails, and then a part of it may be there.
 pub fn push_replaced<const N: usize>(
     out: &mut String,
     table: &Table<N>,
@@ -45,7 +45,7 @@ fn push_run<'a, const N: usize>(
     requires some { 0 < length text.now }
     requires kept { kept.now ≡ kept_by table.now }
     ensures written { IfOk result (λ rest.
-        Writes table.now text.now rest.now (string_bytes out.old) (string_bytes out.new)) }
+        StepWrites table.now text.now rest.now (string_bytes out.old) (string_bytes out.new)) }
     ensures shorter { IfOk result (λ rest. length rest.now < length text.now) }
 {
     let (run, behind) = text.split_at(run_len(kept, text.as_bytes()));
@@ -60,7 +60,7 @@ fn push_first<'a, const N: usize>(
     text: &'a str,
 ) -> Result<&'a str, Memory>
     ensures written { IfOk result (λ rest.
-        Writes table.now text.now rest.now (string_bytes out.old) (string_bytes out.new)) }
+        StepWrites table.now text.now rest.now (string_bytes out.old) (string_bytes out.new)) }
     ensures shorter { IfOk result (λ rest. length rest.now ≤ length text.now - 1) }
 {
     let mut characters = text.chars();
@@ -80,7 +80,7 @@ fn push_written<const N: usize>(
     character: char,
 ) -> Result<(), Memory>
     ensures { OnOk result (string_bytes out.new
-        ≡ string_bytes out.old ++ written table.now character) }
+        ≡ string_bytes out.old ++ row_written table.now character) }
 {
     match table.find(character) {
         Some(replacement) => out.push_str(replacement)?,

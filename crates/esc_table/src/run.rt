@@ -1,7 +1,7 @@
 // The run of bytes at the beginning of a text that stands for itself, whatever a table has.
 ghost use Rattle.std.specs.Prelude.{◌≡◌, ◌≤◌, false, true, length, replicate, set};
 ghost use Rattle.std.specs.List.{list_all, prefix_len};
-ghost use Rattle.esc_table.specs.Kept.{first_byte, is_kept, kept_of};
+ghost use Rattle.esc_table.specs.Kept.{first_byte, is_kept_byte, kept_of};
 
 /// The bytes with which none of some characters begins.
 pub(crate) fn bytes_kept(characters: &[char]) -> [bool; 256]
@@ -44,7 +44,7 @@ fn lead_byte(character: char) -> u8
 
 /// How many bytes at the beginning are kept. They are looked at eight at a time.
 pub(crate) fn run_len(kept: &[bool; 256], bytes: &[u8]) -> usize
-    ensures len { result ≡ prefix_len (is_kept kept.now) bytes.now }
+    ensures len { result ≡ prefix_len (is_kept_byte kept.now) bytes.now }
     ensures bound { result ≤ length bytes.now }
 {
     let mut at = 0;
@@ -60,7 +60,7 @@ pub(crate) fn run_len(kept: &[bool; 256], bytes: &[u8]) -> usize
 }
 
 fn run_by_one(kept: &[bool; 256], bytes: &[u8]) -> usize
-    ensures len { result ≡ prefix_len (is_kept kept.now) bytes.now }
+    ensures len { result ≡ prefix_len (is_kept_byte kept.now) bytes.now }
     ensures bound { result ≤ length bytes.now }
 {
     bytes
@@ -70,7 +70,7 @@ fn run_by_one(kept: &[bool; 256], bytes: &[u8]) -> usize
 }
 
 fn all_kept(kept: &[bool; 256], bytes: &[u8; 8]) -> bool
-    ensures { result ≡ list_all (is_kept kept.now) bytes.now }
+    ensures { result ≡ list_all (is_kept_byte kept.now) bytes.now }
 {
     let mut all = true;
     for byte in bytes {

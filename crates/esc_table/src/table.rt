@@ -15,9 +15,9 @@ pub struct Table<const N: usize> {
 
 impl<const N: usize> Model for Table<N> {
     ghost use Rattle.std.specs.Prelude.{List};
-    ghost use Rattle.esc_table.specs.Rows.{Row, IsTable, rows_of};
+    ghost use Rattle.esc_table.specs.Rows.{EscapeRow, IsTable, rows_of};
 
-    ghost Value = { List Row };
+    ghost Value = { List EscapeRow };
 
     ghost view = { λ table. rows_of table.characters.now table.replacements.now };
 

@@ -1,11 +1,11 @@
 -- White space where one path is in a value without quotes and another one before a value.
 use Rattle.std.proofs.Common.{◌≡◌, true, ◌&&◌, Option, Some, None, refl, sym, ◌∙◌, subst, ◌⊎◌, inl, inr}
 use Rattle.std.specs.Prelude.{⊤}
-use Rattle.place_core.specs.Classes.{Class, White}
-use Rattle.place_core.specs.Errors.{body_error, byte_clash, quotes_error, value_error}
-use Rattle.place_core.specs.Places.{Has, quotes_have}
-use Rattle.place_core.specs.States.{State, Text, TagOpen, EndTagOpen, DeclarationOpen, InComment, Inside, Broken, BogusComment, InDoctype, TagName, WholeTagName, BeforeAttributeName, AttributeName, WholeAttributeName, AfterAttributeName, BeforeAttributeValue, AttributeValue, AfterAttributeValue, SelfClosingStartTag, Characters, Bytes, Nothing, HeldLess, HeldName, HeldBang, HeldBangDash, InContent, Unread}
-use Rattle.place_core.specs.Tags.{ValueOf, TypeSoFar, ValueState, DoubleQuoted, SingleQuoted, Unquoted}
+use Rattle.place_core.specs.page.Classes.{Class, White}
+use Rattle.place_core.specs.place.Errors.{body_error, byte_clash, quotes_error, value_error}
+use Rattle.place_core.specs.place.Places.{Has, quotes_have}
+use Rattle.place_core.specs.page.States.{LexState, Text, TagOpen, EndTagOpen, DeclarationOpen, InComment, Inside, Broken, BogusComment, InDoctype, TagName, WholeTagName, BeforeAttributeName, AttributeName, WholeAttributeName, AfterAttributeName, BeforeAttributeValue, AttributeValue, AfterAttributeValue, SelfClosingStartTag, Characters, Bytes, Nothing, PendingLess, PendingName, PendingBang, PendingBangDash, InContent, Unread}
+use Rattle.place_core.specs.page.Tags.{ValueOf, TypeSoFar, ValueState, DoubleQuoted, SingleQuoted, Unquoted}
 use Rattle.place_core.specs.declared.code.Code.{Code}
 use Rattle.place_core.specs.declared.code.Code.TheVariants as code
 use Rattle.place_core.specs.declared.element.Element.TheVariants as element
@@ -19,26 +19,26 @@ use Rattle.place_core.specs.declared.quotes.Quotes.TheVariants as quotes
 use Rattle.place_core.specs.declared.tag_of.TagOf.{TagOf}
 use Rattle.place_core.specs.declared.value_place.ValuePlace.{ValuePlace}
 use Rattle.place_core.proofs.JoinMembers.{the_has_grows}
-use Rattle.html_front.specs.Fronts.{Front, At, AfterLess, AfterLessSolidus, InDeclaration, InTagName, InAttributeName, InCommentEnd, InContentEnd, front_error}
+use Rattle.html_scan.specs.Scans.{Scan, At, AfterLess, AfterLessSolidus, InDeclaration, InTagName, InAttributeName, InCommentEnd, InContentEnd, scan_error}
 use Rattle.html_step.proofs.FromSteps.{no}
-use Rattle.html_step.proofs.FrontOrder.{FrontBelow, FrontHas, first-none, if-none}
-use Rattle.html_step.proofs.OnePath.{WhereFronted, fronted, none-at-hand, some}
+use Rattle.html_step.proofs.ScanOrder.{ScanBelow, ScanHas, first-none, if-none}
+use Rattle.html_step.proofs.OnePath.{WhereScanned, scanned, none-at-hand, some}
 use Rattle.html_step.proofs.ShownSteps.{none-some, plain-quotes}
 
-abbrev pub IsUnquoted : State ValueState → Type 0
+abbrev pub IsUnquoted : LexState ValueState → Type 0
 IsUnquoted (AttributeValue Unquoted t v r) = ⊤
 IsUnquoted s = ⊥
 
-abbrev pub IsUnbegun : State ValueState → Type 0
+abbrev pub IsUnbegun : LexState ValueState → Type 0
 IsUnbegun (BeforeAttributeValue t k) = ⊤
 IsUnbegun s = ⊥
 
 -- which paths bear these members
-unquoted-in : (s : State ValueState) → WhereFronted (fronted s) (λ f. FrontHas f member.UnquotedValue → IsUnquoted s)
+unquoted-in : (s : LexState ValueState) → WhereScanned (scanned s) (λ f. ScanHas f member.UnquotedValue → IsUnquoted s)
 unquoted-in (Text r) = λ h. absurd (no h)
 unquoted-in (TagOpen r) = λ h. absurd (no h)
 unquoted-in (EndTagOpen r) = λ h. absurd (no h)
-unquoted-in (DeclarationOpen r held) = λ h. absurd (no h)
+unquoted-in (DeclarationOpen r pending) = λ h. absurd (no h)
 unquoted-in (InComment Inside) = λ h. absurd (no h)
 unquoted-in (InComment Broken) = λ h. absurd (no h)
 unquoted-in (InComment _) = λ h. absurd (no h)
@@ -64,24 +64,24 @@ unquoted-in (AttributeValue q t (TypeSoFar before) r) = tt
 unquoted-in (AfterAttributeValue t) = λ h. absurd (no h)
 unquoted-in (SelfClosingStartTag t) = λ h. absurd (no h)
 unquoted-in (InContent element.Title (Characters r) Nothing) = λ h. absurd (no h)
-unquoted-in (InContent element.Title (Characters r) HeldLess) = λ h. absurd (no h)
-unquoted-in (InContent element.Title (Characters r) (HeldName l)) = λ h. absurd (no h)
+unquoted-in (InContent element.Title (Characters r) PendingLess) = λ h. absurd (no h)
+unquoted-in (InContent element.Title (Characters r) (PendingName l)) = λ h. absurd (no h)
 unquoted-in (InContent element.Textarea (Characters r) Nothing) = λ h. absurd (no h)
-unquoted-in (InContent element.Textarea (Characters r) HeldLess) = λ h. absurd (no h)
-unquoted-in (InContent element.Textarea (Characters r) (HeldName l)) = λ h. absurd (no h)
-unquoted-in (InContent e (Characters r) HeldBang) = tt
-unquoted-in (InContent e (Characters r) HeldBangDash) = tt
+unquoted-in (InContent element.Textarea (Characters r) PendingLess) = λ h. absurd (no h)
+unquoted-in (InContent element.Textarea (Characters r) (PendingName l)) = λ h. absurd (no h)
+unquoted-in (InContent e (Characters r) PendingBang) = tt
+unquoted-in (InContent e (Characters r) PendingBangDash) = tt
 unquoted-in (InContent _ (Characters r) Nothing) = tt
-unquoted-in (InContent _ (Characters r) HeldLess) = tt
-unquoted-in (InContent _ (Characters r) (HeldName l)) = tt
+unquoted-in (InContent _ (Characters r) PendingLess) = tt
+unquoted-in (InContent _ (Characters r) (PendingName l)) = tt
 unquoted-in (InContent e Bytes h) = tt
 unquoted-in Unread = tt
 
-unbegun-in : (s : State ValueState) → WhereFronted (fronted s) (λ f. FrontHas f member.UnbegunValue → IsUnbegun s)
+unbegun-in : (s : LexState ValueState) → WhereScanned (scanned s) (λ f. ScanHas f member.UnbegunValue → IsUnbegun s)
 unbegun-in (Text r) = λ h. absurd (no h)
 unbegun-in (TagOpen r) = λ h. absurd (no h)
 unbegun-in (EndTagOpen r) = λ h. absurd (no h)
-unbegun-in (DeclarationOpen r held) = λ h. absurd (no h)
+unbegun-in (DeclarationOpen r pending) = λ h. absurd (no h)
 unbegun-in (InComment Inside) = λ h. absurd (no h)
 unbegun-in (InComment Broken) = λ h. absurd (no h)
 unbegun-in (InComment _) = λ h. absurd (no h)
@@ -107,55 +107,55 @@ unbegun-in (AttributeValue q t (TypeSoFar before) r) = tt
 unbegun-in (AfterAttributeValue t) = λ h. absurd (no h)
 unbegun-in (SelfClosingStartTag t) = λ h. absurd (no h)
 unbegun-in (InContent element.Title (Characters r) Nothing) = λ h. absurd (no h)
-unbegun-in (InContent element.Title (Characters r) HeldLess) = λ h. absurd (no h)
-unbegun-in (InContent element.Title (Characters r) (HeldName l)) = λ h. absurd (no h)
+unbegun-in (InContent element.Title (Characters r) PendingLess) = λ h. absurd (no h)
+unbegun-in (InContent element.Title (Characters r) (PendingName l)) = λ h. absurd (no h)
 unbegun-in (InContent element.Textarea (Characters r) Nothing) = λ h. absurd (no h)
-unbegun-in (InContent element.Textarea (Characters r) HeldLess) = λ h. absurd (no h)
-unbegun-in (InContent element.Textarea (Characters r) (HeldName l)) = λ h. absurd (no h)
-unbegun-in (InContent e (Characters r) HeldBang) = tt
-unbegun-in (InContent e (Characters r) HeldBangDash) = tt
+unbegun-in (InContent element.Textarea (Characters r) PendingLess) = λ h. absurd (no h)
+unbegun-in (InContent element.Textarea (Characters r) (PendingName l)) = λ h. absurd (no h)
+unbegun-in (InContent e (Characters r) PendingBang) = tt
+unbegun-in (InContent e (Characters r) PendingBangDash) = tt
 unbegun-in (InContent _ (Characters r) Nothing) = tt
-unbegun-in (InContent _ (Characters r) HeldLess) = tt
-unbegun-in (InContent _ (Characters r) (HeldName l)) = tt
+unbegun-in (InContent _ (Characters r) PendingLess) = tt
+unbegun-in (InContent _ (Characters r) (PendingName l)) = tt
 unbegun-in (InContent e Bytes h) = tt
 unbegun-in Unread = tt
 
-pub is-unquoted : (s : State ValueState) (g : Front) → fronted s ≡ Some g → FrontHas g member.UnquotedValue → IsUnquoted s
-is-unquoted s g e h = subst (λ (o : Option Front). WhereFronted o (λ f. FrontHas f member.UnquotedValue → IsUnquoted s)) e (unquoted-in s) h
+pub is-unquoted : (s : LexState ValueState) (g : Scan) → scanned s ≡ Some g → ScanHas g member.UnquotedValue → IsUnquoted s
+is-unquoted s g e h = subst (λ (o : Option Scan). WhereScanned o (λ f. ScanHas f member.UnquotedValue → IsUnquoted s)) e (unquoted-in s) h
 
-pub is-unbegun : (s : State ValueState) (g : Front) → fronted s ≡ Some g → FrontHas g member.UnbegunValue → IsUnbegun s
-is-unbegun s g e h = subst (λ (o : Option Front). WhereFronted o (λ f. FrontHas f member.UnbegunValue → IsUnbegun s)) e (unbegun-in s) h
+pub is-unbegun : (s : LexState ValueState) (g : Scan) → scanned s ≡ Some g → ScanHas g member.UnbegunValue → IsUnbegun s
+is-unbegun s g e h = subst (λ (o : Option Scan). WhereScanned o (λ f. ScanHas f member.UnbegunValue → IsUnbegun s)) e (unbegun-in s) h
 
 -- two such paths clash
-unbegun-clash : (s : State ValueState) (t : _) (v : _) (x : _) → IsUnbegun s → byte_clash (AttributeValue Unquoted t v x) s White ≡ Some code.AmbigContext
+unbegun-clash : (s : LexState ValueState) (t : _) (v : _) (x : _) → IsUnbegun s → byte_clash (AttributeValue Unquoted t v x) s White ≡ Some code.AmbigContext
 unbegun-clash (BeforeAttributeValue u k) t v x a = refl
 unbegun-clash _ t v x a = absurd a
 
-pub clash : (s r : State ValueState) → IsUnquoted s → IsUnbegun r → byte_clash s r White ≡ Some code.AmbigContext
+pub clash : (s r : LexState ValueState) → IsUnquoted s → IsUnbegun r → byte_clash s r White ≡ Some code.AmbigContext
 clash (AttributeValue Unquoted t v x) r a b = unbegun-clash r t v x b
 clash (AttributeValue _ t v x) r a b = absurd a
 clash _ r a b = absurd a
 
 -- and no others
-before-clash : (t : _) (k : _) (r : State ValueState) (c : Class) (e : Code) → byte_clash (BeforeAttributeValue t k) r c ≡ Some e → (c ≡ White) × IsUnquoted r
+before-clash : (t : _) (k : _) (r : LexState ValueState) (c : Class) (e : Code) → byte_clash (BeforeAttributeValue t k) r c ≡ Some e → (c ≡ White) × IsUnquoted r
 before-clash t k (AttributeValue Unquoted u v x) White e h = (refl, tt)
 before-clash t k (AttributeValue Unquoted u v x) _ e h = absurd (none-some e h)
 before-clash t k (AttributeValue _ u v x) c e h = absurd (none-some e h)
 before-clash t k _ c e h = absurd (none-some e h)
 
-unquoted-clash : (t : _) (v : _) (x : _) (r : State ValueState) (c : Class) (e : Code) → byte_clash (AttributeValue Unquoted t v x) r c ≡ Some e → (c ≡ White) × IsUnbegun r
+unquoted-clash : (t : _) (v : _) (x : _) (r : LexState ValueState) (c : Class) (e : Code) → byte_clash (AttributeValue Unquoted t v x) r c ≡ Some e → (c ≡ White) × IsUnbegun r
 unquoted-clash t v x (BeforeAttributeValue u k) White e h = (refl, tt)
 unquoted-clash t v x (BeforeAttributeValue u k) _ e h = absurd (none-some e h)
 unquoted-clash t v x _ c e h = absurd (none-some e h)
 
-pub clash-is : (s r : State ValueState) (c : Class) (e : Code) → byte_clash s r c ≡ Some e → (c ≡ White) × ((IsUnbegun s × IsUnquoted r) ⊎ (IsUnquoted s × IsUnbegun r))
+pub clash-is : (s r : LexState ValueState) (c : Class) (e : Code) → byte_clash s r c ≡ Some e → (c ≡ White) × ((IsUnbegun s × IsUnquoted r) ⊎ (IsUnquoted s × IsUnbegun r))
 clash-is (BeforeAttributeValue t k) r c e h = let p = before-clash t k r c e h in (p.0, inl (tt, p.1))
 clash-is (AttributeValue Unquoted t v x) r c e h = let p = unquoted-clash t v x r c e h in (p.0, inr (tt, p.1))
 clash-is (AttributeValue _ t v x) r c e h = absurd (none-some e h)
 clash-is _ r c e h = absurd (none-some e h)
 
 -- what these paths bear
-unquoted-bears : (s : State ValueState) → IsUnquoted s → WhereFronted (fronted s) (λ f. FrontHas f member.UnquotedValue)
+unquoted-bears : (s : LexState ValueState) → IsUnquoted s → WhereScanned (scanned s) (λ f. ScanHas f member.UnquotedValue)
 unquoted-bears (AttributeValue Unquoted t (ValueOf kind.Plain) r) a = refl
 unquoted-bears (AttributeValue Unquoted t (ValueOf kind.NoHole) r) a = refl
 unquoted-bears (AttributeValue Unquoted t (ValueOf _) r) a = tt
@@ -163,20 +163,20 @@ unquoted-bears (AttributeValue Unquoted t (TypeSoFar before) r) a = tt
 unquoted-bears (AttributeValue _ t v r) a = absurd a
 unquoted-bears _ a = absurd a
 
-unbegun-bears : (s : State ValueState) → IsUnbegun s → WhereFronted (fronted s) (λ f. FrontHas f member.UnbegunValue)
+unbegun-bears : (s : LexState ValueState) → IsUnbegun s → WhereScanned (scanned s) (λ f. ScanHas f member.UnbegunValue)
 unbegun-bears (BeforeAttributeValue t kind.Plain) a = refl
 unbegun-bears (BeforeAttributeValue t kind.NoHole) a = refl
 unbegun-bears (BeforeAttributeValue t _) a = tt
 unbegun-bears _ a = absurd a
 
-pub has-unquoted : (s : State ValueState) (g : Front) → fronted s ≡ Some g → IsUnquoted s → FrontHas g member.UnquotedValue
-has-unquoted s g e a = subst (λ (o : Option Front). WhereFronted o (λ f. FrontHas f member.UnquotedValue)) e (unquoted-bears s a)
+pub has-unquoted : (s : LexState ValueState) (g : Scan) → scanned s ≡ Some g → IsUnquoted s → ScanHas g member.UnquotedValue
+has-unquoted s g e a = subst (λ (o : Option Scan). WhereScanned o (λ f. ScanHas f member.UnquotedValue)) e (unquoted-bears s a)
 
-pub has-unbegun : (s : State ValueState) (g : Front) → fronted s ≡ Some g → IsUnbegun s → FrontHas g member.UnbegunValue
-has-unbegun s g e a = subst (λ (o : Option Front). WhereFronted o (λ f. FrontHas f member.UnbegunValue)) e (unbegun-bears s a)
+pub has-unbegun : (s : LexState ValueState) (g : Scan) → scanned s ≡ Some g → IsUnbegun s → ScanHas g member.UnbegunValue
+has-unbegun s g e a = subst (λ (o : Option Scan). WhereScanned o (λ f. ScanHas f member.UnbegunValue)) e (unbegun-bears s a)
 
--- a larger front has the members of a smaller one
-at-grows : (a : Place) (f : Front) (m : Member) → FrontBelow (At a) f → Has a m → FrontHas f m
+-- a larger scan state has the members of a smaller one
+at-grows : (a : Place) (f : Scan) (m : Member) → ScanBelow (At a) f → Has a m → ScanHas f m
 at-grows a (At b) m l h = the_has_grows a b m l h
 at-grows a AfterLess m l h = absurd l
 at-grows a AfterLessSolidus m l h = absurd l
@@ -186,11 +186,11 @@ at-grows a (InAttributeName t x y) m l h = absurd l
 at-grows a (InCommentEnd x) m l h = absurd l
 at-grows a (InContentEnd x y) m l h = absurd l
 
-pub begun-grows : (g f : Front) → FrontBelow g f → FrontHas g member.UnquotedValue → FrontHas f member.UnquotedValue
+pub begun-grows : (g f : Scan) → ScanBelow g f → ScanHas g member.UnquotedValue → ScanHas f member.UnquotedValue
 begun-grows (At a) f l h = at-grows a f member.UnquotedValue l h
 begun-grows _ f l h = absurd (no h)
 
-pub unbegun-grows : (g f : Front) → FrontBelow g f → FrontHas g member.UnbegunValue → FrontHas f member.UnbegunValue
+pub unbegun-grows : (g f : Scan) → ScanBelow g f → ScanHas g member.UnbegunValue → ScanHas f member.UnbegunValue
 unbegun-grows (At a) f l h = at-grows a f member.UnbegunValue l h
 unbegun-grows _ f l h = absurd (no h)
 
@@ -200,12 +200,12 @@ bare-both t (quotes.Bare b) h k n = no (sym (if-none (b.uq && b.unbegun) code.Am
 bare-both t quotes.Dq h k n = no h
 bare-both t quotes.Sq h k n = no h
 
-value-both : (v : ValuePlace) → FrontHas (At (place.Value v)) member.UnquotedValue → FrontHas (At (place.Value v)) member.UnbegunValue → value_error v White ≡ None → ⊥
+value-both : (v : ValuePlace) → ScanHas (At (place.Value v)) member.UnquotedValue → ScanHas (At (place.Value v)) member.UnbegunValue → value_error v White ≡ None → ⊥
 value-both v h k n =
     let f = first-none (body_error v.body) (quotes_error v.tag v.quotes White) n in
     bare-both v.tag v.quotes (plain-quotes v.body v.quotes member.UnquotedValue f.0 h) (plain-quotes v.body v.quotes member.UnbegunValue f.0 k) f.1
 
-pub both-refuse : (f : Front) → FrontHas f member.UnquotedValue → FrontHas f member.UnbegunValue → front_error f White ≡ None → ⊥
+pub both-refuse : (f : Scan) → ScanHas f member.UnquotedValue → ScanHas f member.UnbegunValue → scan_error f White ≡ None → ⊥
 both-refuse (At (place.Value v)) h k n = value-both v h k (none-at-hand (value_error v White) n)
 both-refuse (At (place.Script j)) h k n = some _ n
 both-refuse (At (place.Style j)) h k n = some _ n

@@ -1,7 +1,8 @@
 -- Where a template may name an escaper, over the order of places.
 use Rattle.std.proofs.Common.{◌≡◌, Bool, true, false, ◌||◌, ◌&&◌, not, Option, Some, None, refl, sym, ap, ◌∙◌, subst}
 use Rattle.std.specs.Option.{is_some, is_none}
-use Rattle.place_core.specs.Places.{Below, Has, IsValid, IsValidBody, IsValidCss, both_parts, both_prefixes, joined_bodies, joined_css, joined_quotes, parts_have, quotes_have, body_has, typed_has, css_has, is_whole, some_part}
+use Rattle.place_core.specs.place.Places.{Below, Has, IsValid, IsValidBody, joined_bodies, joined_quotes, quotes_have, body_has, typed_has, is_whole}
+use Rattle.place_core.specs.place.NotBuiltPlaces.{IsValidCss, both_parts, both_prefixes, joined_css, parts_have, css_has, some_part}
 use Rattle.place_core.specs.declared.body.Body.{Body}
 use Rattle.place_core.specs.declared.body.Body.TheVariants as body
 use Rattle.place_core.specs.declared.css.Css.{Css}
@@ -18,13 +19,13 @@ use Rattle.place_core.specs.declared.value_place.ValuePlace.{ValuePlace}
 use Rattle.place_core.proofs.Joins.{places_Style}
 use Rattle.place_core.proofs.JoinMembers.{or_true}
 use Rattle.place_core.proofs.Semilattices.{none_some, one_value, row_value}
-use Rattle.html_front.specs.Fronts.{Front, front_place}
-use Rattle.html_step.specs.HoleLaws.{GrowsEscape, IsEscapeShown, ShownEscape}
+use Rattle.html_scan.specs.Scans.{Scan, scan_place}
+use Rattle.html_step.specs.HoleLaws.{GrowsEscape, IsEscapeEvidence, EscapeEvidence}
 use Rattle.html_step.specs.HoleOrigins.{body_shows, css_shows, escape_shows, parts_show, query_shows}
 use Rattle.html_step.specs.Holes.{as_text, may_escape, body_query, css_query, in_query, is_only_query, is_quoted, plain_text}
 use Rattle.html_step.specs.declared.escaper.Escaper.{Escaper}
 use Rattle.html_step.specs.declared.escaper.Escaper.TheVariants as escaper
-use Rattle.html_step.proofs.BelowFronts.{value-place}
+use Rattle.html_step.proofs.BelowScans.{value-place}
 use Rattle.html_step.proofs.FromSteps.{no}
 use Rattle.html_step.proofs.PlaceParts.{Under, ValueBelow, below-value, under-false}
 
@@ -279,7 +280,7 @@ value-elsewhere v m i e h f = record {
   bears = m;
   is = i;
   there = value-of-part v.typed v.quotes v.body m h;
-  leads = λ a l o. value-place (λ (g : Front). Has (front_place g) m → in_query (front_place g) ≡ false) v (λ u b o. f u.body b.body (part-of-value u.typed u.quotes u.body m e o)) a l o;
+  leads = λ a l o. value-place (λ (g : Scan). Has (scan_place g) m → in_query (scan_place g) ≡ false) v (λ u b o. f u.body b.body (part-of-value u.typed u.quotes u.body m e o)) a l o;
 }
 
 value-whole : (v : ValuePlace) → body_shows v.body ≡ member.Whole → ((b : Body) → joined_bodies b v.body ≡ Some v.body → body_query b ≡ false) → ShownQuery (place.Value v)
@@ -287,7 +288,7 @@ value-whole v i f = record {
   bears = member.Whole;
   is = i;
   there = refl;
-  leads = λ a l o. value-place (λ (g : Front). in_query (front_place g) ≡ false) v (λ u b. f u.body b.body) a l;
+  leads = λ a l o. value-place (λ (g : Scan). in_query (scan_place g) ≡ false) v (λ u b. f u.body b.body) a l;
 }
 
 url-elsewhere : (p : Parts) (e : Elsewhere p) (b : Body) → joined_bodies b (body.Url p) ≡ Some (body.Url p) → body_has b e.bears ≡ true → body_query b ≡ false
@@ -328,16 +329,16 @@ css-never c (css.UrlDq s) h e = absurd (none_some c h)
 css-never (css.UrlSq p) (css.UrlSq s) h e = absurd (no (sym e))
 css-never c (css.UrlSq s) h e = absurd (none_some c h)
 
-css-shown : (c : Css) → IsValidCss c → css_query c ≡ false → CssShown c
-css-shown (css.Url p) v n = (let e = parts-elsewhere p v.0 n in css_part e.bears e.is e.part e.there (λ d h o. css-url p e d h o))
-css-shown (css.UrlDq p) v n = (let e = parts-elsewhere p v.0 n in css_part e.bears e.is e.part e.there (λ d h o. css-dq p e d h o))
-css-shown (css.UrlSq p) v n = (let e = parts-elsewhere p v.0 n in css_part e.bears e.is e.part e.there (λ d h o. css-sq p e d h o))
-css-shown (css.Code x) v n = css_never refl (λ d h. css-never (css.Code x) d h refl)
-css-shown css.Dq v n = css_never refl (λ d h. css-never css.Dq d h refl)
-css-shown css.Sq v n = css_never refl (λ d h. css-never css.Sq d h refl)
-css-shown css.UrlFresh v n = css_never refl (λ d h. css-never css.UrlFresh d h refl)
-css-shown css.UrlEnd v n = css_never refl (λ d h. css-never css.UrlEnd d h refl)
-css-shown (css.Comment x) v n = css_never refl (λ d h. css-never (css.Comment x) d h refl)
+css-evidence : (c : Css) → IsValidCss c → css_query c ≡ false → CssShown c
+css-evidence (css.Url p) v n = (let e = parts-elsewhere p v.0 n in css_part e.bears e.is e.part e.there (λ d h o. css-url p e d h o))
+css-evidence (css.UrlDq p) v n = (let e = parts-elsewhere p v.0 n in css_part e.bears e.is e.part e.there (λ d h o. css-dq p e d h o))
+css-evidence (css.UrlSq p) v n = (let e = parts-elsewhere p v.0 n in css_part e.bears e.is e.part e.there (λ d h o. css-sq p e d h o))
+css-evidence (css.Code x) v n = css_never refl (λ d h. css-never (css.Code x) d h refl)
+css-evidence css.Dq v n = css_never refl (λ d h. css-never css.Dq d h refl)
+css-evidence css.Sq v n = css_never refl (λ d h. css-never css.Sq d h refl)
+css-evidence css.UrlFresh v n = css_never refl (λ d h. css-never css.UrlFresh d h refl)
+css-evidence css.UrlEnd v n = css_never refl (λ d h. css-never css.UrlEnd d h refl)
+css-evidence (css.Comment x) v n = css_never refl (λ d h. css-never (css.Comment x) d h refl)
 
 css-body : (P : Body → Type 0) (c : Css) → ((d : Css) → joined_css d c ≡ Some c → P (body.Css d)) → (b : Body) → joined_bodies b (body.Css c) ≡ Some (body.Css c) → P b
 css-body P c f (body.Css d) h = f d (row_value body.Css css-body-one (joined_css d c) c h)
@@ -355,20 +356,20 @@ never-body c (body.Url s) h e = absurd (none_some c h)
 never-body (body.Css p) (body.Css s) h e = absurd (no (sym e))
 never-body c (body.Css s) h e = absurd (none_some c h)
 
-css-value-shown : (v : ValuePlace) (c : Css) → v.body ≡ body.Css c → CssShown c → ShownQuery (place.Value v)
-css-value-shown v c e (css_never i f) = value-whole v (ap body_shows e ∙ i) (λ b h. css-body (λ (x : Body). body_query x ≡ false) c f b (subst (λ (x : Body). joined_bodies b x ≡ Some x) e h))
-css-value-shown v c e (css_part m i p h f) =
+css-value-evidence : (v : ValuePlace) (c : Css) → v.body ≡ body.Css c → CssShown c → ShownQuery (place.Value v)
+css-value-evidence v c e (css_never i f) = value-whole v (ap body_shows e ∙ i) (λ b h. css-body (λ (x : Body). body_query x ≡ false) c f b (subst (λ (x : Body). joined_bodies b x ≡ Some x) e h))
+css-value-evidence v c e (css_part m i p h f) =
     value-elsewhere v m (ap body_shows e ∙ i) p (subst (λ (x : Body). body_has x m ≡ true) (sym e) h)
     (λ b j o. css-body (λ (x : Body). body_has x m ≡ true → body_query x ≡ false) c f b (subst (λ (x : Body). joined_bodies b x ≡ Some x) e j) o)
 
-value-shown : (v : ValuePlace) (b : Body) → v.body ≡ b → IsValidBody b → body_query b ≡ false → ShownQuery (place.Value v)
-value-shown v (body.Url p) e w n =
+value-evidence : (v : ValuePlace) (b : Body) → v.body ≡ b → IsValidBody b → body_query b ≡ false → ShownQuery (place.Value v)
+value-evidence v (body.Url p) e w n =
     (let x = parts-elsewhere p w.0 n in
     value-elsewhere v x.bears (ap body_shows e ∙ x.is) x.part (subst (λ (y : Body). body_has y x.bears ≡ true) (sym e) x.there) (λ b h o. url-elsewhere p x b (subst (λ (y : Body). joined_bodies b y ≡ Some y) e h) o))
-value-shown v (body.Css c) e w n = css-value-shown v c e (css-shown c w n)
-value-shown v body.Plain e w n = value-whole v (ap body_shows e) (λ b h. never-body v.body b h (ap is_query_body e))
-value-shown v body.NoHole e w n = value-whole v (ap body_shows e) (λ b h. never-body v.body b h (ap is_query_body e))
-value-shown v (body.Js j) e w n = value-whole v (ap body_shows e) (λ b h. never-body v.body b h (ap is_query_body e))
+value-evidence v (body.Css c) e w n = css-value-evidence v c e (css-evidence c w n)
+value-evidence v body.Plain e w n = value-whole v (ap body_shows e) (λ b h. never-body v.body b h (ap is_query_body e))
+value-evidence v body.NoHole e w n = value-whole v (ap body_shows e) (λ b h. never-body v.body b h (ap is_query_body e))
+value-evidence v (body.Js j) e w n = value-whole v (ap body_shows e) (λ b h. never-body v.body b h (ap is_query_body e))
 
 -- a style element
 css-place : (P : Place → Type 0) (c : Css) → ((d : Css) → joined_css d c ≡ Some c → P (place.Style d)) → (a : Place) → Below a (place.Style c) → P a
@@ -379,26 +380,26 @@ not-whole : (m : Member) (x : Bool) → is_part m ≡ true → (is_whole m || x)
 not-whole member.Whole x e h = absurd (no e)
 not-whole _ x e h = h
 
-style-shown : (c : Css) → CssShown c → ShownQuery (place.Style c)
-style-shown c (css_never i f) = record { bears = member.Whole; is = i; there = refl; leads = λ a l o. css-place (λ (p : Place). in_query p ≡ false) c f a l }
-style-shown c (css_part m i p h f) = record {
+style-evidence : (c : Css) → CssShown c → ShownQuery (place.Style c)
+style-evidence c (css_never i f) = record { bears = member.Whole; is = i; there = refl; leads = λ a l o. css-place (λ (p : Place). in_query p ≡ false) c f a l }
+style-evidence c (css_part m i p h f) = record {
   bears = m;
   is = i;
   there = rw h (or_true (is_whole m));
   leads = λ a l o. css-place (λ (x : Place). Has x m → in_query x ≡ false) c (λ d j k. f d j (not-whole m (css_has d m) p k)) a l o;
 }
 
-whole-shown : (p : Place) → query_shows p ≡ member.Whole → is_row p ≡ true → ShownQuery p
-whole-shown p i e = record { bears = member.Whole; is = i; there = refl; leads = λ a l o. row-query a p l e }
+whole-evidence : (p : Place) → query_shows p ≡ member.Whole → is_row p ≡ true → ShownQuery p
+whole-evidence p i e = record { bears = member.Whole; is = i; there = refl; leads = λ a l o. row-query a p l e }
 
-query-shown : (p : Place) → IsValid p → in_query p ≡ false → ShownQuery p
-query-shown (place.Value v) w n = value-shown v v.body refl w.1 n
-query-shown (place.Style c) w n = style-shown c (css-shown c w n)
-query-shown p w n = whole-shown p refl refl
+query-evidence : (p : Place) → IsValid p → in_query p ≡ false → ShownQuery p
+query-evidence (place.Value v) w n = value-evidence v v.body refl w.1 n
+query-evidence (place.Style c) w n = style-evidence c (css-evidence c w n)
+query-evidence p w n = whole-evidence p refl refl
 
-pub escape-shown : (x : Escaper) (p : Place) → IsValid p → may_escape p x ≡ false → IsEscapeShown p x (escape_shows p x)
-escape-shown escaper.Html p v n = (refl, λ a w l o. same-text a p l ∙ n)
-escape-shown escaper.Urlquery p v n = (let x = query-shown p v n in subst (IsEscapeShown p escaper.Urlquery) (sym x.is) (x.there, λ a w l o. x.leads a l o))
+pub escape-evidence : (x : Escaper) (p : Place) → IsValid p → may_escape p x ≡ false → IsEscapeEvidence p x (escape_shows p x)
+escape-evidence escaper.Html p v n = (refl, λ a w l o. same-text a p l ∙ n)
+escape-evidence escaper.Urlquery p v n = (let x = query-evidence p v n in subst (IsEscapeEvidence p escaper.Urlquery) (sym x.is) (x.there, λ a w l o. x.leads a l o))
 
-pub shown-escape : ShownEscape
-shown-escape x p v n = (escape_shows p x, escape-shown x p v n)
+pub evidence-escape : EscapeEvidence
+evidence-escape x p v n = (escape_shows p x, escape-evidence x p v n)

@@ -1,49 +1,49 @@
 -- Members through whole texts.
 use Rattle.std.proofs.Common.{◌≡◌, ℕ, ◌+◌, List, [], ◌∷◌, Ok, refl, sym, ◌∙◌, subst}
-use Rattle.place_core.specs.Classes.{class_of}
-use Rattle.place_core.specs.Membership.{IsIn, Bears}
-use Rattle.place_core.specs.Places.{Has, IsValid}
-use Rattle.place_core.specs.States.{State}
-use Rattle.place_core.specs.Tags.{ValueState}
+use Rattle.place_core.specs.page.Classes.{class_of}
+use Rattle.place_core.specs.place.Membership.{IsIn, Bears}
+use Rattle.place_core.specs.place.Places.{Has, IsValid}
+use Rattle.place_core.specs.page.States.{LexState}
+use Rattle.place_core.specs.page.Tags.{ValueState}
 use Rattle.place_core.specs.declared.member.Member.{Member}
 use Rattle.place_core.specs.declared.place.Place.{Place}
 use Rattle.place_core.proofs.Semilattices.{one_value}
-use Rattle.html_front.specs.Fronts.{Front, At, front_cut_error, front_error, front_next, front_place}
+use Rattle.html_scan.specs.Scans.{Scan, At, scan_cut_error, scan_error, scan_next, scan_place}
 use Rattle.html_step.specs.Laws.{FromText, IsOrigin}
 use Rattle.html_step.specs.Origins.{origin}
 use Rattle.html_step.specs.Steps.{after_text, stepped}
 use Rattle.html_step.proofs.FromSteps.{from-byte, from-end}
-use Rattle.html_step.proofs.FrontOrder.{FrontBelow, FrontHas, FrontValid, front-grows}
+use Rattle.html_step.proofs.ScanOrder.{ScanBelow, ScanHas, ScanValid, scan-grows}
 use Rattle.html_step.proofs.OneTexts.{one-text}
-use Rattle.html_step.proofs.ValidSteps.{front-valid}
+use Rattle.html_step.proofs.ValidSteps.{scan-valid}
 use Rattle.html_step.proofs.WholeTexts.{grows-text, not-refused, one-ok, text-steps}
 
 -- a member after the bytes comes from this one
-pub record FromBytes (k : ℕ) (bytes : List ℕ) (f : Front) (y x : Member) : Type 0 where
-  pub there : FrontHas f x
-  pub leads : (g : Front) (a : Place) → FrontValid g → FrontBelow g f → FrontHas g x → stepped k bytes g ≡ Ok a → Has a y
+pub record FromBytes (k : ℕ) (bytes : List ℕ) (f : Scan) (y x : Member) : Type 0 where
+  pub there : ScanHas f x
+  pub leads : (g : Scan) (a : Place) → ScanValid g → ScanBelow g f → ScanHas g x → stepped k bytes g ≡ Ok a → Has a y
 
-pub from-bytes : (bytes : List ℕ) (k : ℕ) (f : Front) (q : Place) (y : Member) → FrontValid f → stepped k bytes f ≡ Ok q → Has q y → FromBytes k bytes f y (origin bytes f y)
+pub from-bytes : (bytes : List ℕ) (k : ℕ) (f : Scan) (q : Place) (y : Member) → ScanValid f → stepped k bytes f ≡ Ok q → Has q y → FromBytes k bytes f y (origin bytes f y)
 from-bytes [] k f q y v e h =
-    let n = not-refused k (front_cut_error f) (Ok (front_place f)) q e in
-    let x = from-end f y (subst (λ (p : Place). Has p y) (one-ok q (front_place f) (Ok (front_place f)) n.1 refl) h) in
+    let n = not-refused k (scan_cut_error f) (Ok (scan_place f)) q e in
+    let x = from-end f y (subst (λ (p : Place). Has p y) (one-ok q (scan_place f) (Ok (scan_place f)) n.1 refl) h) in
     record {
       there = x.there;
-      leads = λ g a w l o d. let m = not-refused k (front_cut_error g) (Ok (front_place g)) a d in
-          subst (λ (p : Place). Has p y) (one-ok (front_place g) a (Ok (front_place g)) refl m.1) (x.leads g l o);
+      leads = λ g a w l o d. let m = not-refused k (scan_cut_error g) (Ok (scan_place g)) a d in
+          subst (λ (p : Place). Has p y) (one-ok (scan_place g) a (Ok (scan_place g)) refl m.1) (x.leads g l o);
     }
 from-bytes (b ∷ bs) k f q y v e h =
-    let n = not-refused k (front_error f (class_of b)) (stepped (k + 1) bs (front_next f (class_of b) b)) q e in
-    let r = from-bytes bs (k + 1) (front_next f (class_of b) b) q y (front-valid f (class_of b) b v) n.1 h in
-    let x = from-byte f (class_of b) b (origin bs (front_next f (class_of b) b) y) v n.0 r.there in
+    let n = not-refused k (scan_error f (class_of b)) (stepped (k + 1) bs (scan_next f (class_of b) b)) q e in
+    let r = from-bytes bs (k + 1) (scan_next f (class_of b) b) q y (scan-valid f (class_of b) b v) n.1 h in
+    let x = from-byte f (class_of b) b (origin bs (scan_next f (class_of b) b) y) v n.0 r.there in
     record {
       there = x.there;
-      leads = λ g a w l o d. let m = not-refused k (front_error g (class_of b)) (stepped (k + 1) bs (front_next g (class_of b) b)) a d in
-          r.leads (front_next g (class_of b) b) a (front-valid g (class_of b) b w) (front-grows g f (class_of b) b w l n.0).1 (x.leads g w l o) m.1;
+      leads = λ g a w l o d. let m = not-refused k (scan_error g (class_of b)) (stepped (k + 1) bs (scan_next g (class_of b) b)) a d in
+          r.leads (scan_next g (class_of b) b) a (scan-valid g (class_of b) b w) (scan-grows g f (class_of b) b w l n.0).1 (x.leads g w l o) m.1;
     }
 
 -- what a path bears, its own place has
-pub own-has : (p : Place) (s : State ValueState) (x : Member) (i : IsIn p s) → Bears s x → Has i.own x
+pub own-has : (p : Place) (s : LexState ValueState) (x : Member) (i : IsIn p s) → Bears s x → Has i.own x
 own-has p s x i h = subst (λ (a : Place). Has a x) (one_value h.own i.own (sym h.stands ∙ i.stands)) h.has
 
 -- on the paths that a place stands for

@@ -1,8 +1,8 @@
 -- Holes and escapers, over the order of places.
 use Rattle.std.proofs.Common.{◌≡◌, Bool, true, false, ◌||◌, Some, None, Ok, Err, if◌then◌else◌, refl, sym, ap, ◌∙◌, subst, ◌⊎◌, inl, inr}
-use Rattle.place_core.specs.Errors.{body_error, body_hole_error, hole_error}
-use Rattle.place_core.specs.Places.{Below, Has, IsValid, body_has, is_whole, joined_bodies, joined_quotes, quotes_have, typed_has}
-use Rattle.place_core.specs.StatePlaces.{only_inside}
+use Rattle.place_core.specs.place.Errors.{body_error, body_hole_error, hole_error}
+use Rattle.place_core.specs.place.Places.{Below, Has, IsValid, body_has, is_whole, joined_bodies, joined_quotes, quotes_have, typed_has}
+use Rattle.place_core.specs.place.StatePlaces.{only_inside}
 use Rattle.place_core.specs.declared.body.Body.{Body}
 use Rattle.place_core.specs.declared.body.Body.TheVariants as body
 use Rattle.place_core.specs.declared.chain.Chain.{Chain}
@@ -18,16 +18,16 @@ use Rattle.place_core.specs.declared.quotes.Quotes.TheVariants as quotes
 use Rattle.place_core.specs.declared.tag_place.TagPlace.{TagPlace}
 use Rattle.place_core.specs.declared.value_place.ValuePlace.{ValuePlace}
 use Rattle.place_core.proofs.Semilattices.{none_some, one_value}
-use Rattle.html_front.specs.Fronts.{Front, begun, front_place}
+use Rattle.html_scan.specs.Scans.{Scan, bare_begun, scan_place}
 use Rattle.html_step.specs.Laws.{one}
 use Rattle.html_step.specs.HoleOrigins.{hole_origin, hole_shows, quotes_origin}
 use Rattle.html_step.specs.Origins.{typed_origin}
-use Rattle.html_step.specs.HoleLaws.{IsHoleOrigin, IsHoleShown, AcceptsHole, CoversHole, FromHole, GrowsHole, OneHole, ShownHole, ValidHole}
+use Rattle.html_step.specs.HoleLaws.{IsHoleOrigin, IsHoleEvidence, AcceptsHole, CoversHole, FromHole, GrowsHole, OneHole, HoleEvidence, ValidHole}
 use Rattle.html_step.specs.Holes.{Holed, after_hole, named_by_data, plain_hole, value_hole}
-use Rattle.html_step.proofs.BelowFronts.{tag-place, value-place}
+use Rattle.html_step.proofs.BelowScans.{tag-place, value-place}
 use Rattle.html_step.proofs.FromSteps.{false-or, no, or-false, plain-typed}
 use Rattle.html_step.proofs.FromTexts.{own-has}
-use Rattle.html_step.proofs.FrontOrder.{built-same, one-spot, value-from}
+use Rattle.html_step.proofs.ScanOrder.{built-same, one-spot, value-from}
 use Rattle.html_step.proofs.HoleSteps.{OwnHole, own-at}
 use Rattle.html_step.proofs.PlaceParts.{TagBelow, Under, ValueBelow, below-tag, below-value, value-below, under-both, under-false}
 use Rattle.html_step.proofs.ShownSteps.{none-some}
@@ -50,9 +50,9 @@ plain-grows : (x y : ValuePlace) (q r : Quotes) → ValueBelow x y → x.quotes 
 plain-grows x y quotes.Dq quotes.Dq h e j f b = (place.Value x, ap (λ (z : Body). value_hole z x) b ∙ ap (λ (z : Quotes). plain_hole z x) e, value-below x y h)
 plain-grows x y quotes.Sq quotes.Sq h e j f b = (place.Value x, ap (λ (z : Body). value_hole z x) b ∙ ap (λ (z : Quotes). plain_hole z x) e, value-below x y h)
 plain-grows x y (quotes.Bare s) (quotes.Bare r) h e j f b = (
-  place.Value (record { tag = x.tag; typed = x.typed; quotes = begun; body = x.body }),
+  place.Value (record { tag = x.tag; typed = x.typed; quotes = bare_begun; body = x.body }),
   ap (λ (z : Body). value_hole z x) b ∙ ap (λ (z : Quotes). plain_hole z x) e,
-  value-from x.tag y.tag x.typed y.typed begun begun x.body y.body h.tag h.typed refl h.body,
+  value-from x.tag y.tag x.typed y.typed bare_begun bare_begun x.body y.body h.tag h.typed refl h.body,
 )
 plain-grows x y quotes.Dq r h e j f b = absurd (none_some r j)
 plain-grows x y quotes.Sq r h e j f b = absurd (none_some r j)
@@ -177,7 +177,7 @@ named-has u false y h = h
 from-tag : (t : TagPlace) (y x : Member) → Has (place.Tag t) x → ((u : TagPlace) → TagBelow u t → Has (place.Tag u) x → Has (place.Tag (record { tag = u.tag; typed = u.typed; spots = only_inside; kind = Some kind.Plain })) y) → FromPlace (place.Tag t) y x
 from-tag t y x h f = record {
   there = h;
-  leads = λ a l o. tag-place (λ (g : Front). Has (front_place g) x → HasAfter (after_hole (front_place g)) y) t (λ u b o. named-has u (u.spots.name || u.spots.inside) y (f u b o)) a l o;
+  leads = λ a l o. tag-place (λ (g : Scan). Has (scan_place g) x → HasAfter (after_hole (scan_place g)) y) t (λ u b o. named-has u (u.spots.name || u.spots.inside) y (f u b o)) a l o;
 }
 
 tag-from : (t : TagPlace) (n : Bool) (y : Member) → FromTo (named_by_data n t) (place.Tag t) y (typed_origin y)
@@ -191,7 +191,7 @@ tag-from t false _ = λ h. absurd (no h)
 from-value : (t : ValuePlace) (y x : Member) → Has (place.Value t) x → ((u : ValuePlace) → ValueBelow u t → Has (place.Value u) x → HasAfter (value_hole u.body u) y) → FromPlace (place.Value t) y x
 from-value t y x h f = record {
   there = h;
-  leads = λ a l o. value-place (λ (g : Front). Has (front_place g) x → HasAfter (after_hole (front_place g)) y) t (λ u b o. f u b o) a l o;
+  leads = λ a l o. value-place (λ (g : Scan). Has (scan_place g) x → HasAfter (after_hole (scan_place g)) y) t (λ u b o. f u b o) a l o;
 }
 
 abbrev is_begun_member : Member → Bool
@@ -200,7 +200,7 @@ is_begun_member member.UnquotedValue = true
 is_begun_member _ = false
 
 begun-value : ValuePlace → Place
-begun-value u = place.Value (record { tag = u.tag; typed = u.typed; quotes = begun; body = u.body })
+begun-value u = place.Value (record { tag = u.tag; typed = u.typed; quotes = bare_begun; body = u.body })
 
 plain-of : (u t : ValuePlace) → ValueBelow u t → t.body ≡ body.Plain → u.body ≡ body.Plain
 plain-of u t l e = built-same u.body body.Plain refl (subst (λ (z : Body). joined_bodies u.body z ≡ Some z) e l.body)
@@ -221,10 +221,10 @@ quoted-from t r y e d b h =
 
 -- a value without quotes has begun
 abbrev Begun : ValuePlace → Member → Type 0
-Begun u y = (is_whole y || (typed_has u.typed y || (quotes_have begun y || body_has body.Plain y))) ≡ true
+Begun u y = (is_whole y || (typed_has u.typed y || (quotes_have bare_begun y || body_has body.Plain y))) ≡ true
 
 bare-after : (u : ValuePlace) (q : Quotes) (s : _) (y : Member) → joined_quotes q (quotes.Bare s) ≡ Some (quotes.Bare s) → u.body ≡ body.Plain → Begun u y → HasAfter (plain_hole q u) y
-bare-after u (quotes.Bare r) s y j b h = subst (λ (z : Body). (is_whole y || (typed_has u.typed y || (quotes_have begun y || body_has z y))) ≡ true) (sym b) h
+bare-after u (quotes.Bare r) s y j b h = subst (λ (z : Body). (is_whole y || (typed_has u.typed y || (quotes_have bare_begun y || body_has z y))) ≡ true) (sym b) h
 bare-after u quotes.Dq s y j b h = absurd (none_some (quotes.Bare s) j)
 bare-after u quotes.Sq s y j b h = absurd (none_some (quotes.Bare s) j)
 
@@ -245,7 +245,7 @@ bare-from t s _ e b h = absurd (no h)
 plain-from : (t : ValuePlace) (q : Quotes) (y : Member) → t.quotes ≡ q → t.body ≡ body.Plain → FromTo (plain_hole q t) (place.Value t) y (quotes_origin q y)
 plain-from t quotes.Dq y e b = λ h. quoted-from t quotes.Dq y e (inl refl) b h
 plain-from t quotes.Sq y e b = λ h. quoted-from t quotes.Sq y e (inr refl) b h
-plain-from t (quotes.Bare s) y e b = λ h. bare-from t s y e b (subst (λ (z : Body). (is_whole y || (typed_has t.typed y || (quotes_have begun y || body_has z y))) ≡ true) b h)
+plain-from t (quotes.Bare s) y e b = λ h. bare-from t s y e b (subst (λ (z : Body). (is_whole y || (typed_has t.typed y || (quotes_have bare_begun y || body_has z y))) ≡ true) b h)
 
 value-from-to : (t : ValuePlace) (b : Body) (y : Member) → t.body ≡ b → FromTo (value_hole b t) (place.Value t) y (quotes_origin t.quotes y)
 value-from-to t body.Plain y e = plain-from t t.quotes y refl e
@@ -290,20 +290,20 @@ abbrev ShownTo : Holed → Place → Member → Type 0
 ShownTo (Ok h) p x = Unit {0}
 ShownTo (Err e) p x = ShownPlace p e x
 
-shown-tag : (t : TagPlace) (x : Member) → Has (place.Tag t) x → ((u : TagPlace) → TagBelow u t → Has (place.Tag u) x → (u.spots.name || u.spots.inside) ≡ true) → ShownPlace (place.Tag t) code.SplitToken x
-shown-tag t x h f = record {
+evidence-tag : (t : TagPlace) (x : Member) → Has (place.Tag t) x → ((u : TagPlace) → TagBelow u t → Has (place.Tag u) x → (u.spots.name || u.spots.inside) ≡ true) → ShownPlace (place.Tag t) code.SplitToken x
+evidence-tag t x h f = record {
   there = h;
-  refuses = λ a l o. tag-place (λ (g : Front). Has (front_place g) x → hole_error (front_place g) ≡ Some code.SplitToken) t (λ u b o. ap (λ (z : Bool). if z then Some code.SplitToken else None) (f u b o)) a l o;
+  refuses = λ a l o. tag-place (λ (g : Scan). Has (scan_place g) x → hole_error (scan_place g) ≡ Some code.SplitToken) t (λ u b o. ap (λ (z : Bool). if z then Some code.SplitToken else None) (f u b o)) a l o;
 }
 
 or-last : (x y : Bool) → y ≡ true → (x || y) ≡ true
 or-last true y h = refl
 or-last false y h = h
 
-tag-shown : (t : TagPlace) (n i : Bool) → t.spots.name ≡ n → t.spots.inside ≡ i → ShownTo (named_by_data (n || i) t) (place.Tag t) (if n then member.NameSpot else member.InsideSpot)
-tag-shown t true i n j = shown-tag t member.NameSpot n (λ u b o. ap (λ (z : Bool). z || u.spots.inside) o)
-tag-shown t false true n j = shown-tag t member.InsideSpot j (λ u b o. or-last u.spots.name u.spots.inside o)
-tag-shown t false false n j = tt
+tag-evidence : (t : TagPlace) (n i : Bool) → t.spots.name ≡ n → t.spots.inside ≡ i → ShownTo (named_by_data (n || i) t) (place.Tag t) (if n then member.NameSpot else member.InsideSpot)
+tag-evidence t true i n j = evidence-tag t member.NameSpot n (λ u b o. ap (λ (z : Bool). z || u.spots.inside) o)
+tag-evidence t false true n j = evidence-tag t member.InsideSpot j (λ u b o. or-last u.spots.name u.spots.inside o)
+tag-evidence t false false n j = tt
 
 same-hole-error : (b c : Body) → joined_bodies b c ≡ Some c → body_hole_error b ≡ body_hole_error c
 same-hole-error body.Plain body.Plain h = refl
@@ -317,23 +317,23 @@ same-hole-error (body.Url p) c h = absurd (none_some c h)
 same-hole-error (body.Js p) c h = absurd (none_some c h)
 same-hole-error (body.Css p) c h = absurd (none_some c h)
 
-shown-value : (t : ValuePlace) (e : Code) → body_hole_error t.body ≡ Some e → ShownPlace (place.Value t) e member.Whole
-shown-value t e n = record {
+evidence-value : (t : ValuePlace) (e : Code) → body_hole_error t.body ≡ Some e → ShownPlace (place.Value t) e member.Whole
+evidence-value t e n = record {
   there = refl;
-  refuses = λ a l o. value-place (λ (g : Front). hole_error (front_place g) ≡ Some e) t (λ u b. same-hole-error u.body t.body b.body ∙ n) a l;
+  refuses = λ a l o. value-place (λ (g : Scan). hole_error (scan_place g) ≡ Some e) t (λ u b. same-hole-error u.body t.body b.body ∙ n) a l;
 }
 
-plain-shown : (t : ValuePlace) (q : Quotes) → ShownTo (plain_hole q t) (place.Value t) member.Whole
-plain-shown t quotes.Dq = tt
-plain-shown t quotes.Sq = tt
-plain-shown t (quotes.Bare b) = tt
+plain-evidence : (t : ValuePlace) (q : Quotes) → ShownTo (plain_hole q t) (place.Value t) member.Whole
+plain-evidence t quotes.Dq = tt
+plain-evidence t quotes.Sq = tt
+plain-evidence t (quotes.Bare b) = tt
 
-value-shown : (t : ValuePlace) (b : Body) → t.body ≡ b → ShownTo (value_hole b t) (place.Value t) member.Whole
-value-shown t body.Plain e = plain-shown t t.quotes
-value-shown t body.NoHole e = shown-value t code.BadHTML (ap body_hole_error e)
-value-shown t (body.Url p) e = shown-value t code.NotBuilt (ap body_hole_error e)
-value-shown t (body.Js p) e = shown-value t code.NotBuilt (ap body_hole_error e)
-value-shown t (body.Css p) e = shown-value t code.NotBuilt (ap body_hole_error e)
+value-evidence : (t : ValuePlace) (b : Body) → t.body ≡ b → ShownTo (value_hole b t) (place.Value t) member.Whole
+value-evidence t body.Plain e = plain-evidence t t.quotes
+value-evidence t body.NoHole e = evidence-value t code.BadHTML (ap body_hole_error e)
+value-evidence t (body.Url p) e = evidence-value t code.NotBuilt (ap body_hole_error e)
+value-evidence t (body.Js p) e = evidence-value t code.NotBuilt (ap body_hole_error e)
+value-evidence t (body.Css p) e = evidence-value t code.NotBuilt (ap body_hole_error e)
 
 doctype-refuses : (a : Place) → Below a place.Doctype → hole_error a ≡ Some code.BadHTML
 doctype-refuses place.Doctype h = refl
@@ -351,21 +351,21 @@ block-refuses : (j : Bool) (a : Place) → Below a (place.Block j) → hole_erro
 block-refuses j (place.Block i) h = refl
 block-refuses j a h = absurd (none_some (place.Block j) h)
 
-shown-to : (p : Place) → ShownTo (after_hole p) p (hole_shows p)
-shown-to place.Text = tt
-shown-to place.Doctype = record { there = refl; refuses = λ a l o. doctype-refuses a l }
-shown-to (place.Comment d) = tt
-shown-to (place.Rcdata e) = tt
-shown-to (place.Tag t) = tag-shown t t.spots.name t.spots.inside refl refl
-shown-to (place.Value t) = value-shown t t.body refl
-shown-to (place.Script j) = record { there = refl; refuses = λ a l o. script-refuses j a l }
-shown-to (place.Style j) = record { there = refl; refuses = λ a l o. style-refuses j a l }
-shown-to (place.Block b) = record { there = refl; refuses = λ a l o. block-refuses b a l }
+evidence-to : (p : Place) → ShownTo (after_hole p) p (hole_shows p)
+evidence-to place.Text = tt
+evidence-to place.Doctype = record { there = refl; refuses = λ a l o. doctype-refuses a l }
+evidence-to (place.Comment d) = tt
+evidence-to (place.Rcdata e) = tt
+evidence-to (place.Tag t) = tag-evidence t t.spots.name t.spots.inside refl refl
+evidence-to (place.Value t) = value-evidence t t.body refl
+evidence-to (place.Script j) = record { there = refl; refuses = λ a l o. script-refuses j a l }
+evidence-to (place.Style j) = record { there = refl; refuses = λ a l o. style-refuses j a l }
+evidence-to (place.Block b) = record { there = refl; refuses = λ a l o. block-refuses b a l }
 
-pub shown-hole-at : (p : Place) (e : Code) → IsValid p → after_hole p ≡ Err e → IsHoleShown p e (one (hole_shows p))
-shown-hole-at p e v h =
-    let x = subst (λ (o : Holed). ShownTo o p (hole_shows p)) h (shown-to p) in
+pub evidence-hole-at : (p : Place) (e : Code) → IsValid p → after_hole p ≡ Err e → IsHoleEvidence p e (one (hole_shows p))
+evidence-hole-at p e v h =
+    let x = subst (λ (o : Holed). ShownTo o p (hole_shows p)) h (evidence-to p) in
     (x.there, λ s i o. record { own = i.own; stands = i.stands; refused = x.refuses i.own i.below (own-has p s (hole_shows p) i o) })
 
-pub shown-hole : ShownHole
-shown-hole p e v h = (one (hole_shows p), shown-hole-at p e v h)
+pub evidence-hole : HoleEvidence
+evidence-hole p e v h = (one (hole_shows p), evidence-hole-at p e v h)

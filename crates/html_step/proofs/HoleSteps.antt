@@ -1,11 +1,11 @@
 -- Holes, place by place.
 use Rattle.std.proofs.Common.{◌≡◌, Option, Some, None, Ok, Err, refl, subst}
-use Rattle.place_core.specs.Errors.{hole_error}
-use Rattle.place_core.specs.Paths.{at_hole}
-use Rattle.place_core.specs.References.{Closed, Open}
-use Rattle.place_core.specs.StatePlaces.{placed}
-use Rattle.place_core.specs.States.{State, Text, TagOpen, EndTagOpen, DeclarationOpen, InComment, Started, StartedDash, Inside, Dash, DashDash, Bang, Broken, BogusComment, InDoctype, TagName, WholeTagName, BeforeAttributeName, AttributeName, WholeAttributeName, AfterAttributeName, BeforeAttributeValue, AttributeValue, AfterAttributeValue, SelfClosingStartTag, Characters, Bytes, Nothing, HeldLess, HeldName, HeldBang, HeldBangDash, InContent, Unread}
-use Rattle.place_core.specs.Tags.{Tag, ValueOf, TypeSoFar, ValueState, languages, Quoting, DoubleQuoted, SingleQuoted, Unquoted}
+use Rattle.place_core.specs.place.Errors.{hole_error}
+use Rattle.place_core.specs.page.Paths.{at_hole}
+use Rattle.place_core.specs.page.References.{Closed, Open}
+use Rattle.place_core.specs.place.StatePlaces.{placed}
+use Rattle.place_core.specs.page.States.{LexState, Text, TagOpen, EndTagOpen, DeclarationOpen, InComment, Started, StartedDash, Inside, Dash, DashDash, Bang, Broken, BogusComment, InDoctype, TagName, WholeTagName, BeforeAttributeName, AttributeName, WholeAttributeName, AfterAttributeName, BeforeAttributeValue, AttributeValue, AfterAttributeValue, SelfClosingStartTag, Characters, Bytes, Nothing, PendingLess, PendingName, PendingBang, PendingBangDash, InContent, Unread}
+use Rattle.place_core.specs.page.Tags.{Tag, ValueOf, TypeSoFar, ValueState, languages, Quoting, DoubleQuoted, SingleQuoted, Unquoted}
 use Rattle.place_core.specs.declared.element.Element.TheVariants as element
 use Rattle.place_core.specs.declared.kind.Kind.{Kind}
 use Rattle.place_core.specs.declared.kind.Kind.TheVariants as kind
@@ -14,12 +14,12 @@ use Rattle.html_step.specs.Holes.{Holed, after_hole}
 use Rattle.html_step.proofs.OnePath.{same-tag}
 
 -- the answer at the place of a path
-abbrev pub OwnHole : Holed → Place → State ValueState → Type 0
+abbrev pub OwnHole : Holed → Place → LexState ValueState → Type 0
 OwnHole (Ok h) p s = (hole_error p ≡ None) × (placed (at_hole languages s) ≡ Some h.0)
 OwnHole (Err e) p s = hole_error p ≡ Some e
 
 -- where a place is that of a state
-abbrev WherePlaced : Option Place → State ValueState → Type 0
+abbrev WherePlaced : Option Place → LexState ValueState → Type 0
 WherePlaced None s = Unit {0}
 WherePlaced (Some p) s = OwnHole (after_hole p) p s
 
@@ -44,12 +44,12 @@ before-own t kind.ScriptType = tt
 after-own : (t : Tag) (k : Kind) → WherePlaced (placed (AfterAttributeName t k)) (AfterAttributeName t k)
 after-own t k = (refl, rw (same-tag t k) refl)
 
-own-hole : (s : State ValueState) → WherePlaced (placed s) s
+own-hole : (s : LexState ValueState) → WherePlaced (placed s) s
 own-hole (Text Closed) = (refl, refl)
 own-hole (Text (Open f bytes)) = tt
 own-hole (TagOpen r) = tt
 own-hole (EndTagOpen r) = tt
-own-hole (DeclarationOpen r held) = tt
+own-hole (DeclarationOpen r pending) = tt
 own-hole (InComment Inside) = (refl, refl)
 own-hole (InComment Broken) = (refl, refl)
 own-hole (InComment Started) = tt
@@ -79,11 +79,11 @@ own-hole (InContent element.Style (Characters Closed) Nothing) = tt
 own-hole (InContent element.Other (Characters Closed) Nothing) = tt
 own-hole (InContent x (Characters (Open f bytes)) Nothing) = tt
 own-hole (InContent x Bytes Nothing) = tt
-own-hole (InContent x y HeldLess) = tt
-own-hole (InContent x y (HeldName letters)) = tt
-own-hole (InContent x y HeldBang) = tt
-own-hole (InContent x y HeldBangDash) = tt
+own-hole (InContent x y PendingLess) = tt
+own-hole (InContent x y (PendingName letters)) = tt
+own-hole (InContent x y PendingBang) = tt
+own-hole (InContent x y PendingBangDash) = tt
 own-hole Unread = tt
 
-pub own-at : (p : Place) (s : State ValueState) → placed s ≡ Some p → OwnHole (after_hole p) p s
+pub own-at : (p : Place) (s : LexState ValueState) → placed s ≡ Some p → OwnHole (after_hole p) p s
 own-at p s e = subst (λ (o : Option Place). WherePlaced o s) e (own-hole s)

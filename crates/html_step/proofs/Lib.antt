@@ -1,9 +1,8 @@
-pub mod BelowFronts
+pub mod BelowScans
 pub mod Clashing
 pub mod EscapeOrder
 pub mod FromSteps
 pub mod FromTexts
-pub mod FrontOrder
 pub mod HoleOrder
 pub mod HoleSteps
 pub mod MetApart
@@ -11,8 +10,9 @@ pub mod OnePath
 pub mod OneTexts
 pub mod OriginSteps
 pub mod PlaceParts
+pub mod ScanOrder
 pub mod ShownSteps
-pub mod ShownTexts
+pub mod TextEvidences
 pub mod ValidSteps
 pub mod WholeTexts
 pub mod WorkedSteps

@@ -2,31 +2,31 @@
 use Rattle.std.proofs.Common.{◌≡◌, ◌≤◌, ℕ, ◌+◌, ◌-◌, zero, suc, List, [], ◌∷◌, take, Option, Some, None, Result, Ok, Err, refl, sym, ap, ◌∙◌, subst, arith}
 use Rattle.std.specs.Prelude.{⊤}
 use Rattle.std.specs.Option.{option_map}
-use Rattle.place_core.specs.Classes.{class_of}
-use Rattle.place_core.specs.Errors.{Cause, Refusal, Refuses, byte_error, cut_error, refusal_from, standing_at, node}
-use Rattle.place_core.specs.Html.{next}
-use Rattle.place_core.specs.References.{Closed, Open}
-use Rattle.place_core.specs.StatePlaces.{placed}
-use Rattle.place_core.specs.States.{Template, State, Text, TagOpen, EndTagOpen, DeclarationOpen, Started, StartedDash, Inside, Dash, DashDash, Bang, Broken, InComment, BogusComment, InDoctype, TagName, WholeTagName, BeforeAttributeName, AttributeName, WholeAttributeName, AfterAttributeName, BeforeAttributeValue, AttributeValue, AfterAttributeValue, SelfClosingStartTag, Characters, Bytes, Nothing, HeldLess, HeldName, HeldBang, HeldBangDash, InContent, Unread}
-use Rattle.place_core.specs.Tags.{ValueState, languages}
+use Rattle.place_core.specs.page.Classes.{class_of}
+use Rattle.place_core.specs.place.Errors.{PathCause, PathRefusal, PathRefuses, byte_error, cut_error, refusal_from, standing_at, node}
+use Rattle.place_core.specs.page.Html.{next}
+use Rattle.place_core.specs.page.References.{Closed, Open}
+use Rattle.place_core.specs.place.StatePlaces.{placed}
+use Rattle.place_core.specs.page.States.{Template, LexState, Text, TagOpen, EndTagOpen, DeclarationOpen, Started, StartedDash, Inside, Dash, DashDash, Bang, Broken, InComment, BogusComment, InDoctype, TagName, WholeTagName, BeforeAttributeName, AttributeName, WholeAttributeName, AfterAttributeName, BeforeAttributeValue, AttributeValue, AfterAttributeValue, SelfClosingStartTag, Characters, Bytes, Nothing, PendingLess, PendingName, PendingBang, PendingBangDash, InContent, Unread}
+use Rattle.place_core.specs.page.Tags.{ValueState, languages}
 use Rattle.place_core.specs.declared.element.Element.TheVariants as element
 use Rattle.place_core.specs.declared.place.Place.{Place}
 use Rattle.place_core.specs.declared.step_err.StepErr.{StepErr}
-use Rattle.html_front.specs.Fronts.{Front, At, front_next, front_error, front_place, front_cut_error}
+use Rattle.html_scan.specs.Scans.{Scan, At, scan_next, scan_error, scan_place, scan_cut_error}
 use Rattle.html_step.specs.Laws.{OneBefore, OneText}
-use Rattle.html_step.specs.Steps.{after_text, stepped, unless_refused, front_after, place_before, with_place_before}
-use Rattle.html_step.proofs.OnePath.{fronted, Agrees, Ends, WhereFronted, agrees, ends-agree}
+use Rattle.html_step.specs.Steps.{after_text, stepped, unless_refused, scan_after, place_before, with_place_before}
+use Rattle.html_step.proofs.OnePath.{scanned, Agrees, Ends, WhereScanned, agrees, ends-agree}
 
 pub none : {A : Type 0} {x : A} → None ≡ Some x → ⊥
 none e = cc
 
 -- a state that has a place is at it
-pub at-place : (s : State ValueState) (p : Place) → placed s ≡ Some p → fronted s ≡ Some (At p)
+pub at-place : (s : LexState ValueState) (p : Place) → placed s ≡ Some p → scanned s ≡ Some (At p)
 at-place (Text Closed) p e = ap (option_map At) e
 at-place (Text (Open f bytes)) p e = absurd (none e)
 at-place (TagOpen r) p e = absurd (none e)
 at-place (EndTagOpen r) p e = absurd (none e)
-at-place (DeclarationOpen r held) p e = absurd (none e)
+at-place (DeclarationOpen r pending) p e = absurd (none e)
 at-place (InComment Inside) p e = ap (option_map At) e
 at-place (InComment Broken) p e = ap (option_map At) e
 at-place (InComment Started) p e = absurd (none e)
@@ -55,76 +55,76 @@ at-place (InContent element.Style (Characters Closed) Nothing) p e = absurd (non
 at-place (InContent element.Other (Characters Closed) Nothing) p e = absurd (none e)
 at-place (InContent x (Characters (Open f bytes)) Nothing) p e = absurd (none e)
 at-place (InContent x Bytes Nothing) p e = absurd (none e)
-at-place (InContent x y HeldLess) p e = absurd (none e)
-at-place (InContent x y (HeldName letters)) p e = absurd (none e)
-at-place (InContent x y HeldBang) p e = absurd (none e)
-at-place (InContent x y HeldBangDash) p e = absurd (none e)
+at-place (InContent x y PendingLess) p e = absurd (none e)
+at-place (InContent x y (PendingName letters)) p e = absurd (none e)
+at-place (InContent x y PendingBang) p e = absurd (none e)
+at-place (InContent x y PendingBangDash) p e = absurd (none e)
 at-place Unread p e = absurd (none e)
 
-pub agrees-at : (s : State ValueState) (f : Front) (b : ℕ) → fronted s ≡ Some f → Agrees s f (class_of b) b
-agrees-at s f b e = subst (λ (o : Option Front). WhereFronted o (λ g. Agrees s g (class_of b) b)) e (agrees s (class_of b) b)
+pub agrees-at : (s : LexState ValueState) (f : Scan) (b : ℕ) → scanned s ≡ Some f → Agrees s f (class_of b) b
+agrees-at s f b e = subst (λ (o : Option Scan). WhereScanned o (λ g. Agrees s g (class_of b) b)) e (agrees s (class_of b) b)
 
-pub ends-at : (s : State ValueState) (f : Front) → fronted s ≡ Some f → Ends s f
-ends-at s f e = subst (λ (o : Option Front). WhereFronted o (Ends s)) e (ends-agree s)
+pub ends-at : (s : LexState ValueState) (f : Scan) → scanned s ≡ Some f → Ends s f
+ends-at s f e = subst (λ (o : Option Scan). WhereScanned o (Ends s)) e (ends-agree s)
 
--- what stepping from the front of a path's state says of the path
-abbrev pub Says : Result Place Refusal → ℕ → List ℕ → State ValueState → Type 0
+-- what stepping from the scan state of a path's state says of the path
+abbrev pub Says : Result Place PathRefusal → ℕ → List ℕ → LexState ValueState → Type 0
 Says (Ok q) k bytes s = (refusal_from k bytes s ≡ None) × (placed (node bytes s) ≡ Some q)
 Says (Err r) k bytes s = refusal_from k bytes s ≡ Some r
 
-end-says : (k : ℕ) (o : Option Cause) (s : State ValueState) (q : Place) → cut_error s ≡ o → placed (node [] s) ≡ Some q → Says (unless_refused k o (Ok q)) k [] s
-end-says k None s q e p = (ap (λ (o : Option Cause). standing_at k o None) e, p)
-end-says k (Some x) s q e p = ap (λ (o : Option Cause). standing_at k o None) e
+end-says : (k : ℕ) (o : Option PathCause) (s : LexState ValueState) (q : Place) → cut_error s ≡ o → placed (node [] s) ≡ Some q → Says (unless_refused k o (Ok q)) k [] s
+end-says k None s q e p = (ap (λ (o : Option PathCause). standing_at k o None) e, p)
+end-says k (Some x) s q e p = ap (λ (o : Option PathCause). standing_at k o None) e
 
-byte-says : (k b : ℕ) (bs : List ℕ) (o : Option Cause) (s : State ValueState) (r : Result Place Refusal) → byte_error s (class_of b) ≡ o → (o ≡ None → Says r (k + 1) bs (next languages Template s (class_of b) b)) → Says (unless_refused k o r) k (b ∷ bs) s
-byte-says k b bs None s (Ok q) e more = (ap (λ (o : Option Cause). standing_at k o (refusal_from (k + 1) bs (next languages Template s (class_of b) b))) e ∙ (more refl).0, (more refl).1)
-byte-says k b bs None s (Err r) e more = ap (λ (o : Option Cause). standing_at k o (refusal_from (k + 1) bs (next languages Template s (class_of b) b))) e ∙ more refl
-byte-says k b bs (Some x) s r e more = ap (λ (o : Option Cause). standing_at k o (refusal_from (k + 1) bs (next languages Template s (class_of b) b))) e
+byte-says : (k b : ℕ) (bs : List ℕ) (o : Option PathCause) (s : LexState ValueState) (r : Result Place PathRefusal) → byte_error s (class_of b) ≡ o → (o ≡ None → Says r (k + 1) bs (next languages Template s (class_of b) b)) → Says (unless_refused k o r) k (b ∷ bs) s
+byte-says k b bs None s (Ok q) e more = (ap (λ (o : Option PathCause). standing_at k o (refusal_from (k + 1) bs (next languages Template s (class_of b) b))) e ∙ (more refl).0, (more refl).1)
+byte-says k b bs None s (Err r) e more = ap (λ (o : Option PathCause). standing_at k o (refusal_from (k + 1) bs (next languages Template s (class_of b) b))) e ∙ more refl
+byte-says k b bs (Some x) s r e more = ap (λ (o : Option PathCause). standing_at k o (refusal_from (k + 1) bs (next languages Template s (class_of b) b))) e
 
-pub says : (bytes : List ℕ) (k : ℕ) (s : State ValueState) (f : Front) → fronted s ≡ Some f → Says (stepped k bytes f) k bytes s
-says [] k s f e = let a = ends-at s f e in end-says k (front_cut_error f) s (front_place f) a.errors a.place
+pub says : (bytes : List ℕ) (k : ℕ) (s : LexState ValueState) (f : Scan) → scanned s ≡ Some f → Says (stepped k bytes f) k bytes s
+says [] k s f e = let a = ends-at s f e in end-says k (scan_cut_error f) s (scan_place f) a.errors a.place
 says (b ∷ bs) k s f e =
     let a = agrees-at s f b e in
-    byte-says k b bs (front_error f (class_of b)) s (stepped (k + 1) bs (front_next f (class_of b) b)) a.errors
-    (λ n. says bs (k + 1) (next languages Template s (class_of b) b) (front_next f (class_of b) b) (a.steps n))
+    byte-says k b bs (scan_error f (class_of b)) s (stepped (k + 1) bs (scan_next f (class_of b) b)) a.errors
+    (λ n. says bs (k + 1) (next languages Template s (class_of b) b) (scan_next f (class_of b) b) (a.steps n))
 
 -- the place before a byte, up to the one that is refused
 refused-late : (k n back : ℕ) → k + suc n ≤ k - back → ⊥
 refused-late k n back e = omega (arith, e)
 
-abbrev pub Reaches : ℕ → Result Place Refusal → Type 0
+abbrev pub Reaches : ℕ → Result Place PathRefusal → Type 0
 Reaches at (Ok q) = ⊤
 Reaches at (Err r) = at ≤ r.at
 
-not-late : (k n : ℕ) (o : Option Cause) (r : Result Place Refusal) → Reaches (k + suc n) (unless_refused k o r) → (o ≡ None) × Reaches (k + suc n) r
+not-late : (k n : ℕ) (o : Option PathCause) (r : Result Place PathRefusal) → Reaches (k + suc n) (unless_refused k o r) → (o ≡ None) × Reaches (k + suc n) r
 not-late k n None r h = (refl, h)
 not-late k n (Some x) r h = absurd (refused-late k n x.back h)
 
-later : (k n : ℕ) (r : Result Place Refusal) → Reaches (k + suc n) r → Reaches (k + 1 + n) r
+later : (k n : ℕ) (r : Result Place PathRefusal) → Reaches (k + suc n) r → Reaches (k + 1 + n) r
 later k n (Ok q) h = tt
 later k n (Err r) h = omega (arith, h)
 
-pub place-there : (n : ℕ) (bytes : List ℕ) (k : ℕ) (s : State ValueState) (f : Front) → fronted s ≡ Some f → Reaches (k + n) (stepped k bytes f) → placed (node (take n bytes) s) ≡ Some (front_place (front_after (take n bytes) f))
+pub place-there : (n : ℕ) (bytes : List ℕ) (k : ℕ) (s : LexState ValueState) (f : Scan) → scanned s ≡ Some f → Reaches (k + n) (stepped k bytes f) → placed (node (take n bytes) s) ≡ Some (scan_place (scan_after (take n bytes) f))
 place-there zero bytes k s f e h = (ends-at s f e).place
 place-there (suc n) [] k s f e h = (ends-at s f e).place
 place-there (suc n) (b ∷ bs) k s f e h =
     let a = agrees-at s f b e in
-    let l = not-late k n (front_error f (class_of b)) (stepped (k + 1) bs (front_next f (class_of b) b)) h in
-    place-there n bs (k + 1) (next languages Template s (class_of b) b) (front_next f (class_of b) b) (a.steps l.0) (later k n (stepped (k + 1) bs (front_next f (class_of b) b)) l.1)
+    let l = not-late k n (scan_error f (class_of b)) (stepped (k + 1) bs (scan_next f (class_of b) b)) h in
+    place-there n bs (k + 1) (next languages Template s (class_of b) b) (scan_next f (class_of b) b) (a.steps l.0) (later k n (stepped (k + 1) bs (scan_next f (class_of b) b)) l.1)
 
 -- the whole answer
-abbrev pub Whole : Result Place (StepErr Place) → List ℕ → State ValueState → Type 0
+abbrev pub Whole : Result Place (StepErr Place) → List ℕ → LexState ValueState → Type 0
 Whole (Ok q) bytes s = (refusal_from 0 bytes s ≡ None) × (placed (node bytes s) ≡ Some q)
-Whole (Err e) bytes s = Refuses bytes s e
+Whole (Err e) bytes s = PathRefuses bytes s e
 
-whole-of : (bytes : List ℕ) (p : Place) (s : State ValueState) (r : Result Place Refusal) → Says r 0 bytes s
+whole-of : (bytes : List ℕ) (p : Place) (s : LexState ValueState) (r : Result Place PathRefusal) → Says r 0 bytes s
     → ((at : ℕ) → Reaches (0 + at) r → placed (node (take at bytes) s) ≡ Some (place_before bytes at p)) → Whole (with_place_before bytes p r) bytes s
 whole-of bytes p s (Ok q) h before = h
 whole-of bytes p s (Err r) h before = record { stands = h; before = before r.at (let e : 0 + r.at ≤ r.at = omega arith in e) }
 
-pub whole : (bytes : List ℕ) (p : Place) (s : State ValueState) → placed s ≡ Some p → Whole (after_text bytes p) bytes s
+pub whole : (bytes : List ℕ) (p : Place) (s : LexState ValueState) → placed s ≡ Some p → Whole (after_text bytes p) bytes s
 whole bytes p s e =
-    let f : fronted s ≡ Some (At p) = at-place s p e in
+    let f : scanned s ≡ Some (At p) = at-place s p e in
     whole-of bytes p s (stepped 0 bytes (At p)) (says bytes 0 s (At p) f) (λ at h. place-there at bytes 0 s (At p) f h)
 
 pub one-text : OneText
@@ -137,11 +137,11 @@ abbrev ReachesAnswer : ℕ → Result Place (StepErr Place) → Type 0
 ReachesAnswer at (Ok q) = ⊤
 ReachesAnswer at (Err e) = at ≤ e.at
 
-reaches : (bytes : List ℕ) (p : Place) (at : ℕ) (r : Result Place Refusal) (o : Result Place (StepErr Place)) → with_place_before bytes p r ≡ o → ReachesAnswer at o → Reaches (0 + at) r
+reaches : (bytes : List ℕ) (p : Place) (at : ℕ) (r : Result Place PathRefusal) (o : Result Place (StepErr Place)) → with_place_before bytes p r ≡ o → ReachesAnswer at o → Reaches (0 + at) r
 reaches bytes p at (Ok q) o e h = tt
 reaches bytes p at (Err r) o e h = (let l : at ≤ r.at = subst (ReachesAnswer at) (sym e) h in omega (arith, l))
 
-one-there : (bytes : List ℕ) (p : Place) (s : State ValueState) (at : ℕ) (o : Result Place (StepErr Place)) → placed s ≡ Some p → after_text bytes p ≡ o → ReachesAnswer at o
+one-there : (bytes : List ℕ) (p : Place) (s : LexState ValueState) (at : ℕ) (o : Result Place (StepErr Place)) → placed s ≡ Some p → after_text bytes p ≡ o → ReachesAnswer at o
     → placed (node (take at bytes) s) ≡ Some (place_before bytes at p)
 one-there bytes p s at o h e r = place-there at bytes 0 s (At p) (at-place s p h) (reaches bytes p at (stepped 0 bytes (At p)) o e r)
 

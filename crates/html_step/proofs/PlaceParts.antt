@@ -1,6 +1,6 @@
 -- What it says of the parts of two places in tags, or in values, that one is below the other.
 use Rattle.std.proofs.Common.{◌≡◌, Bool, true, false, ◌||◌, Option, Some, None, if◌then◌else◌, refl, sym, ap, ◌∙◌}
-use Rattle.place_core.specs.Places.{Below, both_spots, joined_bodies, joined_elements, joined_kinds, joined_quotes, joined_tag_places, joined_tags, joined_value_places, same_element, same_kind, tag_place, value_place}
+use Rattle.place_core.specs.place.Places.{Below, both_spots, joined_bodies, joined_elements, joined_kinds, joined_quotes, joined_tag_places, joined_tags, joined_value_places, same_element, same_kind, tag_place, value_place}
 use Rattle.place_core.specs.declared.body.Body.{Body}
 use Rattle.place_core.specs.declared.element.Element.{Element}
 use Rattle.place_core.specs.declared.kind.Kind.{Kind}

@@ -1,6 +1,6 @@
 -- Small texts, stepped from text and printed.
 use Rattle.std.proofs.Common.{◌≡◌, codes, refl, Result, Ok, Err, List, ℕ}
-use Rattle.place_core.specs.Classes.{class_of}
+use Rattle.place_core.specs.page.Classes.{class_of}
 use Rattle.place_core.specs.declared.code.Code.{Code}
 use Rattle.place_core.specs.declared.code.Code.TheVariants as code
 use Rattle.place_core.specs.declared.place.Place.{Place}
@@ -10,16 +10,16 @@ use Rattle.html_step.specs.PlaceText.{place_text}
 use Rattle.html_step.specs.Steps.{after_text}
 
 -- the place after a text, or the code and the place before what is refused
-data Told : Type 0 where
-  after : List ℕ → Told
-  refused : Code → ℕ → List ℕ → Told
+data Emitted : Type 0 where
+  after : List ℕ → Emitted
+  refused : Code → ℕ → List ℕ → Emitted
 
-abbrev told : Result Place (StepErr Place) → Told
-told (Ok p) = after (place_text p)
-told (Err e) = refused e.code e.at (place_text e.before)
+abbrev emitted : Result Place (StepErr Place) → Emitted
+emitted (Ok p) = after (place_text p)
+emitted (Err e) = refused e.code e.at (place_text e.before)
 
-abbrev step : List ℕ → Told
-step bytes = told (after_text bytes place.Text)
+abbrev step : List ℕ → Emitted
+step bytes = emitted (after_text bytes place.Text)
 
 -- Places: in a value, after a name, in names that the text's end ends, in a comment, in a title
 in_a_value : step (codes "<b TITLE=\"x") ≡ after (codes "value other dq plain")

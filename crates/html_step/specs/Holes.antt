@@ -1,6 +1,6 @@
 -- A value of data at a place: what is done to it, and the place after it, or why none may stand there; and where a template may name an escaper.
 use Rattle.std.specs.Prelude.{Bool, true, false, not, is_none, ◌||◌, ◌&&◌, [], ◌∷◌, Some, Result, Ok, Err}
-use Rattle.place_core.specs.StatePlaces.{only_inside}
+use Rattle.place_core.specs.place.StatePlaces.{only_inside}
 use Rattle.place_core.specs.declared.body.Body.{Body}
 use Rattle.place_core.specs.declared.body.Body.TheVariants as body
 use Rattle.place_core.specs.declared.chain.Chain.{Chain}
@@ -18,7 +18,7 @@ use Rattle.place_core.specs.declared.san.San.{San}
 use Rattle.place_core.specs.declared.san.San.TheVariants as san
 use Rattle.place_core.specs.declared.tag_place.TagPlace.{TagPlace}
 use Rattle.place_core.specs.declared.value_place.ValuePlace.{ValuePlace}
-use Rattle.html_front.specs.Fronts.{begun}
+use Rattle.html_scan.specs.Scans.{bare_begun}
 use Rattle.html_step.specs.declared.escaper.Escaper.{Escaper}
 use Rattle.html_step.specs.declared.escaper.Escaper.TheVariants as escaper
 
@@ -38,7 +38,7 @@ named_by_data false t = Ok (place.Tag (record { tag = t.tag; typed = t.typed; sp
 abbrev pub plain_hole : Quotes → ValuePlace → Holed
 plain_hole quotes.Dq v = Ok (place.Value v, only san.Attr)
 plain_hole quotes.Sq v = Ok (place.Value v, only san.Attr)
-plain_hole (quotes.Bare b) v = Ok (place.Value (record { tag = v.tag; typed = v.typed; quotes = begun; body = v.body }), only san.AttrNospace)
+plain_hole (quotes.Bare b) v = Ok (place.Value (record { tag = v.tag; typed = v.typed; quotes = bare_begun; body = v.body }), only san.AttrNospace)
 
 abbrev pub value_hole : Body → ValuePlace → Holed
 value_hole body.Plain v = plain_hole v.quotes v

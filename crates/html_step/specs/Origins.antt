@@ -1,7 +1,7 @@
 -- Which member of a place a member after a text comes from, and which one shows that a text is refused.
 use Rattle.std.specs.Prelude.{ℕ, Bool, List, [], ◌∷◌, Option, Some, None, if◌then◌else◌}
-use Rattle.place_core.specs.Classes.{Class, White, QuotationMark, Apostrophe, Solidus, LessThan, EqualsSign, GreaterThan, class_of}
-use Rattle.place_core.specs.Errors.{Cause, body_error}
+use Rattle.place_core.specs.page.Classes.{Class, White, QuotationMark, Apostrophe, Solidus, LessThan, EqualsSign, GreaterThan, class_of}
+use Rattle.place_core.specs.place.Errors.{PathCause, body_error}
 use Rattle.place_core.specs.declared.code.Code.{Code}
 use Rattle.place_core.specs.declared.member.Member.{Member}
 use Rattle.place_core.specs.declared.member.Member.TheVariants as member
@@ -10,8 +10,8 @@ use Rattle.place_core.specs.declared.place.Place.TheVariants as place
 use Rattle.place_core.specs.declared.quotes.Quotes.{Quotes}
 use Rattle.place_core.specs.declared.quotes.Quotes.TheVariants as quotes
 use Rattle.place_core.specs.declared.spots.Spots.{Spots}
-use Rattle.html_front.specs.Fronts.{Front, At, InAttributeName, front_error, front_next}
-use Rattle.html_step.specs.Laws.{Shown, one, two, apart}
+use Rattle.html_scan.specs.Scans.{Scan, At, InAttributeName, scan_error, scan_next}
+use Rattle.html_step.specs.Laws.{EvidenceData, one, two, apart}
 
 -- White space in a tag leads from a name to before one, and from in a name to after one.
 abbrev pub white_origin : Spots → Member → Member
@@ -38,21 +38,21 @@ place_origin (place.Tag t) c y = tag_origin c t.spots y
 place_origin (place.Value v) c y = typed_origin y
 place_origin _ c y = member.Whole
 
-abbrev pub byte_origin : Front → Class → Member → Member
+abbrev pub byte_origin : Scan → Class → Member → Member
 byte_origin (At p) c y = place_origin p c y
 byte_origin (InAttributeName t typed name) c y = name_origin typed
 byte_origin f c y = member.Whole
 
 -- the one before the end of a text
-abbrev pub end_origin : Front → Member → Member
+abbrev pub end_origin : Scan → Member → Member
 end_origin (At p) y = y
 end_origin (InAttributeName t typed name) y = name_origin typed
 end_origin f y = member.Whole
 
 -- the one before a text
-abbrev pub origin : List ℕ → Front → Member → Member
+abbrev pub origin : List ℕ → Scan → Member → Member
 origin [] f y = end_origin f y
-origin (b ∷ bs) f y = byte_origin f (class_of b) (origin bs (front_next f (class_of b) b) y)
+origin (b ∷ bs) f y = byte_origin f (class_of b) (origin bs (scan_next f (class_of b) b) y)
 
 -- The member that shows why a byte is refused in a tag: the spot at which it is; else each path is refused.
 abbrev pub tag_shows : Class → Spots → Member
@@ -65,44 +65,44 @@ tag_shows Apostrophe s = if s.name then member.NameSpot else member.Whole
 tag_shows LessThan s = if s.name then member.NameSpot else member.Whole
 tag_shows c s = if s.name then member.NameSpot else member.InsideSpot
 
--- .. and in a value without quotes: a quotation mark is refused where the value has begun, white space where paths stand at both
-abbrev pub bare_shows : Class → Shown
+-- likewise, and in a value without quotes: a quotation mark is refused where the value has begun, white space where paths stand at both
+abbrev pub bare_shows : Class → EvidenceData
 bare_shows White = two member.UnquotedValue member.UnbegunValue
 bare_shows QuotationMark = one member.UnquotedValue
 bare_shows Apostrophe = one member.UnquotedValue
 bare_shows c = one member.Whole
 
-abbrev pub value_shows : Option Code → Quotes → Class → Shown
+abbrev pub value_shows : Option Code → Quotes → Class → EvidenceData
 value_shows (Some e) q c = one member.Whole
 value_shows None (quotes.Bare b) c = bare_shows c
 value_shows None q c = one member.Whole
 
-abbrev pub place_shows : Place → Class → Shown
+abbrev pub place_shows : Place → Class → EvidenceData
 place_shows (place.Comment dash) c = one member.CommentDash
 place_shows (place.Tag t) c = one (tag_shows c t.spots)
 place_shows (place.Value v) c = value_shows (body_error v.body) v.quotes c
 place_shows _ c = one member.Whole
 
-abbrev pub byte_shows : Front → Class → Shown
+abbrev pub byte_shows : Scan → Class → EvidenceData
 byte_shows (At p) c = place_shows p c
 byte_shows (InAttributeName t typed name) c = one (name_origin typed)
 byte_shows f c = one member.Whole
 
 -- the end of a text is refused in a name alone
-abbrev pub end_shows : Front → Member
+abbrev pub end_shows : Scan → Member
 end_shows (InAttributeName t typed name) = name_origin typed
 end_shows f = member.Whole
 
 -- what shows the refusal of a text, by members before it
-abbrev pub back_by : Front → Class → Shown → Shown
+abbrev pub back_by : Scan → Class → EvidenceData → EvidenceData
 back_by f c (one x) = one (byte_origin f c x)
 back_by f c (two x y) = two (byte_origin f c x) (byte_origin f c y)
 back_by f c apart = apart
 
-abbrev pub unless_shown : Option Cause → Shown → Shown → Shown
+abbrev pub unless_shown : Option PathCause → EvidenceData → EvidenceData → EvidenceData
 unless_shown (Some e) here later = here
 unless_shown None here later = later
 
-abbrev pub shows : List ℕ → Front → Shown
+abbrev pub shows : List ℕ → Scan → EvidenceData
 shows [] f = one (end_shows f)
-shows (b ∷ bs) f = unless_shown (front_error f (class_of b)) (byte_shows f (class_of b)) (back_by f (class_of b) (shows bs (front_next f (class_of b) b)))
+shows (b ∷ bs) f = unless_shown (scan_error f (class_of b)) (byte_shows f (class_of b)) (back_by f (class_of b) (shows bs (scan_next f (class_of b) b)))

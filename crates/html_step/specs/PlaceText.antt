@@ -26,24 +26,24 @@ use Rattle.place_core.specs.declared.tag_of.TagOf.{TagOf}
 use Rattle.place_core.specs.declared.tag_of.TagOf.TheVariants as tag
 use Rattle.place_core.specs.declared.tag_place.TagPlace.{TagPlace}
 use Rattle.place_core.specs.declared.value_place.ValuePlace.{ValuePlace}
-use Rattle.html_step.specs.Sets.{member, set_text, flag_text}
+use Rattle.html_step.specs.Sets.{member, member_set_text, flag_text}
 
 -- sets
 abbrev pub spots_text : Spots → List ℕ
-spots_text s = set_text true (member s.name (codes "name") ∷ member s.before (codes "before") ∷ member s.inside (codes "in") ∷ member s.after (codes "after") ∷ [])
+spots_text s = member_set_text true (member s.name (codes "name") ∷ member s.before (codes "before") ∷ member s.inside (codes "in") ∷ member s.after (codes "after") ∷ [])
 
 abbrev pub bare_text : Bare → List ℕ
-bare_text b = set_text true (member b.uq (codes "uq") ∷ member b.unbegun (codes "unbegun") ∷ [])
+bare_text b = member_set_text true (member b.uq (codes "uq") ∷ member b.unbegun (codes "unbegun") ∷ [])
 
 abbrev pub senses_text : Senses → List ℕ
-senses_text s = set_text true (member s.re (codes "re") ∷ member s.div (codes "div") ∷ member s.brace (codes "brace") ∷ [])
+senses_text s = member_set_text true (member s.re (codes "re") ∷ member s.div (codes "div") ∷ member s.brace (codes "brace") ∷ [])
 
 abbrev pub js_tails_text : JsTails → List ℕ
 js_tails_text t =
-    set_text true (member t.word (codes "word") ∷ member t.num (codes "num") ∷ member t.lt (codes "lt") ∷ member t.slash (codes "slash") ∷ member t.plus (codes "plus") ∷ member t.minus (codes "minus") ∷ member t.hash (codes "hash") ∷ [])
+    member_set_text true (member t.word (codes "word") ∷ member t.num (codes "num") ∷ member t.lt (codes "lt") ∷ member t.slash (codes "slash") ∷ member t.plus (codes "plus") ∷ member t.minus (codes "minus") ∷ member t.hash (codes "hash") ∷ [])
 
 abbrev pub css_tails_text : CssTails → List ℕ
-css_tails_text t = set_text true (member t.word (codes "word") ∷ member t.slash (codes "slash") ∷ member t.lt (codes "lt") ∷ [])
+css_tails_text t = member_set_text true (member t.word (codes "word") ∷ member t.slash (codes "slash") ∷ member t.lt (codes "lt") ∷ [])
 
 -- The beginning of a URL, with the letters that it spells of the name of a scheme that runs code.
 abbrev pub spelled : List ℕ → ℕ → List ℕ
@@ -62,7 +62,7 @@ open_text (Some p) = prefix_text p
 
 abbrev pub parts_text : Parts → List ℕ
 parts_text p =
-    set_text true (member p.start (codes "start") ∷ member (is_some p.opened) (open_text p.opened) ∷ member p.openhole (codes "openhole") ∷ member p.prequery (codes "prequery") ∷ member p.query (codes "query") ∷ member p.bad (codes "bad") ∷ [])
+    member_set_text true (member p.start (codes "start") ∷ member (is_some p.opened) (open_text p.opened) ∷ member p.openhole (codes "openhole") ∷ member p.prequery (codes "prequery") ∷ member p.query (codes "query") ∷ member p.bad (codes "bad") ∷ [])
 
 -- scripts and styles
 abbrev pub js_text : Js → List ℕ

@@ -18,9 +18,9 @@ abbrev pub member_text : Bool → Bool → List ℕ → List ℕ
 member_text true first word = separator first ++ word
 member_text false first word = []
 
-abbrev pub set_text : Bool → List Member → List ℕ
-set_text first [] = []
-set_text first (m ∷ ms) = member_text m.there first m.word ++ set_text (first && not m.there) ms
+abbrev pub member_set_text : Bool → List Member → List ℕ
+member_set_text first [] = []
+member_set_text first (m ∷ ms) = member_text m.there first m.word ++ member_set_text (first && not m.there) ms
 
 -- what is printed only where something holds
 abbrev pub flag_text : Bool → List ℕ → List ℕ

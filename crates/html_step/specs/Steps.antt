@@ -1,30 +1,30 @@
 -- The place after a text and after a hole, or what refuses them there.
 use Rattle.std.specs.Prelude.{ℕ, ◌+◌, ◌-◌, List, [], ◌∷◌, take, Option, Some, None, Result, Ok, Err}
-use Rattle.place_core.specs.Classes.{class_of}
-use Rattle.place_core.specs.Errors.{Cause, Refusal}
+use Rattle.place_core.specs.page.Classes.{class_of}
+use Rattle.place_core.specs.place.Errors.{PathCause, PathRefusal}
 use Rattle.place_core.specs.declared.place.Place.{Place}
 use Rattle.place_core.specs.declared.step_err.StepErr.{StepErr}
-use Rattle.html_front.specs.Fronts.{Front, At, front_next, front_error, front_place, front_cut_error}
+use Rattle.html_scan.specs.Scans.{Scan, At, scan_next, scan_error, scan_place, scan_cut_error}
 
 -- what a text leads to, whatever is refused
-abbrev pub front_after : List ℕ → Front → Front
-front_after [] f = f
-front_after (b ∷ bs) f = front_after bs (front_next f (class_of b) b)
+abbrev pub scan_after : List ℕ → Scan → Scan
+scan_after [] f = f
+scan_after (b ∷ bs) f = scan_after bs (scan_next f (class_of b) b)
 
 -- the place after bytes that stand at a place of their text, or the refusal with the least place
-abbrev pub unless_refused : ℕ → Option Cause → Result Place Refusal → Result Place Refusal
+abbrev pub unless_refused : ℕ → Option PathCause → Result Place PathRefusal → Result Place PathRefusal
 unless_refused k None r = r
 unless_refused k (Some e) r = Err (record { code = e.code; at = k - e.back })
 
-abbrev pub stepped : ℕ → List ℕ → Front → Result Place Refusal
-stepped k [] f = unless_refused k (front_cut_error f) (Ok (front_place f))
-stepped k (b ∷ bs) f = unless_refused k (front_error f (class_of b)) (stepped (k + 1) bs (front_next f (class_of b) b))
+abbrev pub stepped : ℕ → List ℕ → Scan → Result Place PathRefusal
+stepped k [] f = unless_refused k (scan_cut_error f) (Ok (scan_place f))
+stepped k (b ∷ bs) f = unless_refused k (scan_error f (class_of b)) (stepped (k + 1) bs (scan_next f (class_of b) b))
 
 -- the place before a byte of a text
 abbrev pub place_before : List ℕ → ℕ → Place → Place
-place_before bytes at p = front_place (front_after (take at bytes) (At p))
+place_before bytes at p = scan_place (scan_after (take at bytes) (At p))
 
-abbrev pub with_place_before : List ℕ → Place → Result Place Refusal → Result Place (StepErr Place)
+abbrev pub with_place_before : List ℕ → Place → Result Place PathRefusal → Result Place (StepErr Place)
 with_place_before bytes p (Ok q) = Ok q
 with_place_before bytes p (Err r) = Err (record { code = r.code; at = r.at; before = place_before bytes r.at p })
 

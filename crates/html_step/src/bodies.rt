@@ -1,6 +1,7 @@
 ghost use Rattle.std.specs.Prelude.{◌≡◌, ◌++◌, ◌≤◌, IfOk, OnOk};
 ghost use Rattle.std.specs.Str.{IsAscii};
-ghost use Rattle.html_step.specs.PlaceText.{body_text, css_text, js_text, open_text, parts_text, prefix_text, spelled as spelled_of};
+ghost use Rattle.html_step.specs.PlaceText.{body_text, css_text, js_text, open_text, parts_text, prefix_text};
+ghost use Rattle.html_step.specs.PlaceText as spec;
 
 use crate::sets::{push_css_tails, push_flag, push_flagged, push_js_tails, push_senses, push_set};
 use page_io::{Memory, Text};
@@ -119,7 +120,7 @@ fn push_prefix(out: &mut Text, prefix: Prefix) -> Result<(), Memory>
 // So many letters of a word.
 fn push_spelled(out: &mut Text, word: &str, count: u8) -> Result<(), Memory>
     requires { IsAscii word.now }
-    ensures { OnOk result (out.new ≡ out.old ++ spelled_of word.now count) }
+    ensures { OnOk result (out.new ≡ out.old ++ spec.spelled word.now count) }
 {
     let (letters, _) = word.split_at(usize::from(count).min(word.len()));
     out.push_str("open(")?;

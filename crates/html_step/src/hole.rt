@@ -1,7 +1,7 @@
 ghost use Rattle.std.specs.Prelude.{◌≡◌, ◌||◌};
-ghost use Rattle.html_step.specs.Holes.{after_hole as after_hole_of, named_by_data as named_by_data_of, only as only_of, plain_hole as plain_hole_of, value_hole as value_hole_of};
+ghost use Rattle.html_step.specs.Holes as spec;
 
-use html_front::{BEGUN, INSIDE};
+use html_scan::{BEGUN, INSIDE};
 use place_core::{Body, Chain, Code, Kind, Place, Quotes, San, TagPlace, ValuePlace};
 
 /// What is done to a value of data at a place, and the place after it; or why no value may stand there. (HTML Standard, section
@@ -11,9 +11,9 @@ use place_core::{Body, Chain, Code, Kind, Place, Quotes, San, TagPlace, ValuePla
 /// - `SplitToken`: in the name of a tag or of an attribute, which the value would go on with.
 /// - `NotBuilt`: in a script, a style, a block of data, and a value that is a URL, a script or a style.
 ///
-/// Takes no memory.
+/// Does not allocate.
 pub fn after_hole(place: Place) -> Result<(Place, Chain), Code>
-    ensures { result ≡ after_hole_of place }
+    ensures { result ≡ spec.after_hole place }
 {
     match place {
         Place::Text | Place::Rcdata(_) => Ok((place, only(San::Html))),
@@ -27,7 +27,7 @@ pub fn after_hole(place: Place) -> Result<(Place, Chain), Code>
 
 // In a tag: the value is the name of an attribute, or would go on with one.
 fn named_by_data(goes_on: bool, place: TagPlace) -> Result<(Place, Chain), Code>
-    ensures { result ≡ named_by_data_of goes_on place }
+    ensures { result ≡ spec.named_by_data goes_on place }
 {
     if goes_on {
         return Err(Code::SplitToken);
@@ -42,7 +42,7 @@ fn named_by_data(goes_on: bool, place: TagPlace) -> Result<(Place, Chain), Code>
 }
 
 fn in_value(place: ValuePlace) -> Result<(Place, Chain), Code>
-    ensures { result ≡ value_hole_of place.body place }
+    ensures { result ≡ spec.value_hole place.body place }
 {
     match place.body {
         Body::Plain => in_plain_value(place),
@@ -53,7 +53,7 @@ fn in_value(place: ValuePlace) -> Result<(Place, Chain), Code>
 
 // In a value that is read as text; without quotes, the value has begun.
 fn in_plain_value(place: ValuePlace) -> Result<(Place, Chain), Code>
-    ensures { result ≡ plain_hole_of place.quotes place }
+    ensures { result ≡ spec.plain_hole place.quotes place }
 {
     match place.quotes {
         Quotes::Dq | Quotes::Sq => Ok((Place::Value(place), only(San::Attr))),
@@ -68,7 +68,7 @@ fn in_plain_value(place: ValuePlace) -> Result<(Place, Chain), Code>
 }
 
 fn only(san: San) -> Chain
-    ensures { result ≡ only_of san }
+    ensures { result ≡ spec.only san }
 {
     Chain {
         count: 1,

@@ -2,11 +2,12 @@
 #![tactic(auto)]
 
 mod bodies;
-mod escape_showing;
+mod escape_evidences;
 mod escaper;
+mod evidence;
 mod hole;
+mod hole_evidences;
 mod hole_laws;
-mod hole_showing;
 mod laws;
 mod origins;
 mod predefined;
@@ -14,24 +15,23 @@ mod printed;
 mod refusal;
 mod sets;
 mod showing;
-mod shown;
 mod steps;
 
-pub use escape_showing::escape_shown;
+pub use escape_evidences::escape_evidence;
 pub use escaper::Escaper;
+pub use evidence::Evidence;
 pub use hole::after_hole;
+pub use hole_evidences::{hole_evidence, hole_from};
 pub use hole_laws::{
     accepts_hole_on_all_paths, escapers_keep_order, hole_covers_paths, hole_keeps_order,
-    hole_keeps_valid, hole_members_come_from_one, hole_of_one_path, refused_escaper_is_shown,
-    refused_hole_is_shown,
+    hole_keeps_valid, hole_members_come_from_one, hole_of_one_path, refused_escaper_has_evidence,
+    refused_hole_has_evidence,
 };
-pub use hole_showing::{hole_from, hole_shown};
 pub use laws::{
     accepts_all_paths, covers_paths, keeps_order, keeps_valid, members_come_from_one, one_path,
-    one_path_before, paths_that_met_apart, refused_is_shown,
+    one_path_before, paths_that_met_apart, refusal_has_evidence,
 };
 pub use predefined::may_escape;
 pub use printed::print_place;
-pub use showing::{text_from, text_shown};
-pub use shown::Shown;
+pub use showing::{text_evidence, text_from};
 pub use steps::{after_text, place_before};

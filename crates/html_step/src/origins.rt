@@ -1,11 +1,12 @@
 ghost use Rattle.std.specs.Prelude.{◌≡◌, ℕ, List};
-ghost use Rattle.html_front.specs.ClassViews.{class_at};
-ghost use Rattle.html_front.specs.FrontViews.{front_at};
-ghost use Rattle.html_step.specs.Origins.{byte_origin, end_origin as end_origin_of, name_origin as name_origin_of, place_origin as place_origin_of, tag_origin as tag_origin_of, typed_origin as typed_origin_of, white_origin as white_origin_of};
-ghost use Rattle.html_step.specs.OriginViews.{origin_at, shown_at, shown_through};
+ghost use Rattle.html_scan.specs.ClassViews.{class_at};
+ghost use Rattle.html_scan.specs.ScanViews.{scan_at};
+ghost use Rattle.html_step.specs.Origins.{byte_origin};
+ghost use Rattle.html_step.specs.OriginViews.{origin_at, evidence_at, evidence_through};
+ghost use Rattle.html_step.specs.Origins as spec;
 
-use crate::shown::Shown;
-use html_front::{Class, Front};
+use crate::evidence::Evidence;
+use html_scan::{Class, Scan};
 use place_core::{Member, Place, Spots};
 
 /// Which member before some bytes each member after them comes from: before any byte each from itself.
@@ -42,44 +43,44 @@ impl Origins {
     }
 
     /// The members that show the same, before the bytes.
-    pub fn of_shown(self, shown: Shown) -> Shown
-        ensures { shown_at result ≡ shown_through (origin_at self) (shown_at shown) }
+    pub fn of_evidence(self, evidence: Evidence) -> Evidence
+        ensures { evidence_at result ≡ evidence_through (origin_at self) (evidence_at evidence) }
     {
-        match shown {
-            Shown::One(member) => Shown::One(self.of(member)),
-            Shown::Two(one, other) => Shown::Two(self.of(one), self.of(other)),
-            Shown::Apart => Shown::Apart,
+        match evidence {
+            Evidence::One(member) => Evidence::One(self.of(member)),
+            Evidence::Two(one, other) => Evidence::Two(self.of(one), self.of(other)),
+            Evidence::Apart => Evidence::Apart,
         }
     }
 
-    /// The same with one byte more, which is read at a front.
-    pub fn then(self, front: Front, class: Class) -> Origins
+    /// The same with one byte more, which is read at a scan state.
+    pub fn then(self, scan: Scan, class: Class) -> Origins
         ensures { (text : List ℕ) (k : ℕ) (y : Member) → origin_at result y
-            ≡ origin_at self (byte_origin (front_at text k front) (class_at class) y) }
+            ≡ origin_at self (byte_origin (scan_at text k scan) (class_at class) y) }
     {
         Origins::From {
-            typed: self.of(origin(front, class, Member::Typed)),
-            before: self.of(origin(front, class, Member::BeforeSpot)),
-            after: self.of(origin(front, class, Member::AfterSpot)),
-            others: self.of(origin(front, class, Member::Whole)),
+            typed: self.of(origin(scan, class, Member::Typed)),
+            before: self.of(origin(scan, class, Member::BeforeSpot)),
+            after: self.of(origin(scan, class, Member::AfterSpot)),
+            others: self.of(origin(scan, class, Member::Whole)),
         }
     }
 }
 
 // The member before a byte that a member after it comes from.
-fn origin(front: Front, class: Class, member: Member) -> Member
+fn origin(scan: Scan, class: Class, member: Member) -> Member
     ensures { (text : List ℕ) (k : ℕ) → result
-        ≡ byte_origin (front_at text k front) (class_at class) member }
+        ≡ byte_origin (scan_at text k scan) (class_at class) member }
 {
-    match front {
-        Front::At(place) => place_origin(place, class, member),
-        Front::InAttributeName { typed, .. } => name_origin(typed),
+    match scan {
+        Scan::At(place) => place_origin(place, class, member),
+        Scan::InAttributeName { typed, .. } => name_origin(typed),
         _ => Member::Whole,
     }
 }
 
 fn place_origin(place: Place, class: Class, member: Member) -> Member
-    ensures { result ≡ place_origin_of place (class_at class) member }
+    ensures { result ≡ spec.place_origin place (class_at class) member }
 {
     match place {
         Place::Tag(tag) => tag_origin(class, tag.spots, member),
@@ -89,7 +90,7 @@ fn place_origin(place: Place, class: Class, member: Member) -> Member
 }
 
 fn tag_origin(class: Class, spots: Spots, member: Member) -> Member
-    ensures { result ≡ tag_origin_of (class_at class) spots member }
+    ensures { result ≡ spec.tag_origin (class_at class) spots member }
 {
     match class {
         Class::White => white_origin(spots, member),
@@ -99,7 +100,7 @@ fn tag_origin(class: Class, spots: Spots, member: Member) -> Member
 
 // White space leads from a name to before one, and from in a name to after one.
 fn white_origin(spots: Spots, member: Member) -> Member
-    ensures { result ≡ white_origin_of spots member }
+    ensures { result ≡ spec.white_origin spots member }
 {
     match member {
         Member::Typed => Member::Typed,
@@ -113,7 +114,7 @@ fn white_origin(spots: Spots, member: Member) -> Member
 
 /// Where nothing but that a `type` may have been seen stays as it is: the member that this one comes from.
 pub fn typed_origin(member: Member) -> Member
-    ensures { result ≡ typed_origin_of member }
+    ensures { result ≡ spec.typed_origin member }
 {
     match member {
         Member::Typed => Member::Typed,
@@ -123,19 +124,19 @@ pub fn typed_origin(member: Member) -> Member
 
 /// The member of paths in a name of an attribute that shows how it is read.
 pub fn name_origin(typed: bool) -> Member
-    ensures { result ≡ name_origin_of typed }
+    ensures { result ≡ spec.name_origin typed }
 {
     if typed { Member::Typed } else { Member::Whole }
 }
 
 /// The member before the end of a text that a member after it comes from.
-pub fn end_origin(front: Front, member: Member) -> Member
+pub fn end_origin(scan: Scan, member: Member) -> Member
     ensures { (text : List ℕ) (k : ℕ)
-        → result ≡ end_origin_of (front_at text k front) member }
+        → result ≡ spec.end_origin (scan_at text k scan) member }
 {
-    match front {
-        Front::At(_) => member,
-        Front::InAttributeName { typed, .. } => name_origin(typed),
+    match scan {
+        Scan::At(_) => member,
+        Scan::InAttributeName { typed, .. } => name_origin(typed),
         _ => Member::Whole,
     }
 }

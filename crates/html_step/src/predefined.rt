@@ -1,14 +1,14 @@
 ghost use Rattle.std.specs.Prelude.{◌≡◌};
-ghost use Rattle.html_step.specs.Holes.{as_text as as_text_of, body_query as body_query_of, css_query as css_query_of, in_query as in_query_of, is_only_query as is_only_query_of, may_escape as may_escape_of, plain_text as plain_text_of};
+ghost use Rattle.html_step.specs.Holes as spec;
 
 use crate::escaper::Escaper;
 use place_core::{Body, Css, Parts, Place, Quotes};
 
 /// Whether a template may name an escaper at a place: `html` in text, in a title, in a textarea, in a block of data, and in a
 /// value with quotes that is read as text; `urlquery` where all paths stand in the query of a URL. (In the manner of Go's
-/// `html/template`.) Takes no memory.
+/// `html/template`.) Does not allocate.
 pub fn may_escape(place: Place, escaper: Escaper) -> bool
-    ensures { result ≡ may_escape_of place escaper }
+    ensures { result ≡ spec.may_escape place escaper }
 {
     match escaper {
         Escaper::Html => as_text(place),
@@ -17,7 +17,7 @@ pub fn may_escape(place: Place, escaper: Escaper) -> bool
 }
 
 fn as_text(place: Place) -> bool
-    ensures { result ≡ as_text_of place }
+    ensures { result ≡ spec.as_text place }
 {
     match place {
         Place::Text | Place::Rcdata(_) | Place::Block(_) => true,
@@ -27,7 +27,7 @@ fn as_text(place: Place) -> bool
 }
 
 fn plain_text(body: Body, quotes: Quotes) -> bool
-    ensures { result ≡ plain_text_of body quotes }
+    ensures { result ≡ spec.plain_text body quotes }
 {
     match (body, quotes) {
         (Body::Plain, Quotes::Dq | Quotes::Sq) => true,
@@ -36,7 +36,7 @@ fn plain_text(body: Body, quotes: Quotes) -> bool
 }
 
 fn in_query(place: Place) -> bool
-    ensures { result ≡ in_query_of place }
+    ensures { result ≡ spec.in_query place }
 {
     match place {
         Place::Value(value) => body_query(value.body),
@@ -46,7 +46,7 @@ fn in_query(place: Place) -> bool
 }
 
 fn body_query(body: Body) -> bool
-    ensures { result ≡ body_query_of body }
+    ensures { result ≡ spec.body_query body }
 {
     match body {
         Body::Url(parts) => is_only_query(parts),
@@ -56,7 +56,7 @@ fn body_query(body: Body) -> bool
 }
 
 fn css_query(css: Css) -> bool
-    ensures { result ≡ css_query_of css }
+    ensures { result ≡ spec.css_query css }
 {
     match css {
         Css::Url(parts) | Css::UrlDq(parts) | Css::UrlSq(parts) => is_only_query(parts),
@@ -66,7 +66,7 @@ fn css_query(css: Css) -> bool
 
 // Whether all paths stand in the query.
 fn is_only_query(parts: Parts) -> bool
-    ensures { result ≡ is_only_query_of parts }
+    ensures { result ≡ spec.is_only_query parts }
 {
     parts.query
         && !parts.start

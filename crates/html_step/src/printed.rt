@@ -9,7 +9,7 @@ use place_core::{Element, Kind, Place, Quotes, TagOf, TagPlace, ValuePlace};
 use std::alloc::Global;
 
 /// The text of a place: what it is, and then its parts, with a blank before each, as `tag script before typed` and `value other
-/// dq plain`. A set is its members, joined by `+`, and nothing where it has none. The error is out of memory.
+/// dq plain`. A set is its members, joined by `+`, and nothing where it has none. Fails only if allocation fails.
 pub fn print_place(alloc: Global, place: Place) -> Result<Text, Memory>
     ensures { IfOk result (λ text. text ≡ place_text place) }
 {

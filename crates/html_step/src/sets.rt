@@ -1,6 +1,7 @@
 ghost use Rattle.std.specs.Prelude.{◌≡◌, ◌++◌, OnOk, map, true};
 ghost use Rattle.html_step.specs.PlaceText.{bare_text, css_tails_text, js_tails_text, senses_text, spots_text};
-ghost use Rattle.html_step.specs.Sets.{flag_text, member, member_text, separator as separator_of, set_text};
+ghost use Rattle.html_step.specs.Sets.{flag_text, member, member_text, member_set_text};
+ghost use Rattle.html_step.specs.Sets as spec;
 
 use page_io::{Memory, Text};
 use place_core::{Bare, CssTails, JsTails, Senses, Spots};
@@ -8,7 +9,7 @@ use place_core::{Bare, CssTails, JsTails, Senses, Spots};
 /// Prints a set: a blank, and the members that it has, joined by `+`; nothing where it has none.
 pub fn push_set(out: &mut Text, members: &[(bool, &str)]) -> Result<(), Memory>
     ensures { OnOk result (out.new
-        ≡ out.old ++ set_text true (map (λ m. member m.0 m.1.now) members.now)) }
+        ≡ out.old ++ member_set_text true (map (λ m. member m.0 m.1.now) members.now)) }
 {
     let mut first = true;
     for row in members {
@@ -29,7 +30,7 @@ fn push_member(out: &mut Text, there: bool, first: bool, word: &str) -> Result<(
 }
 
 fn separator(first: bool) -> &'static str
-    ensures { result.now ≡ separator_of first }
+    ensures { result.now ≡ spec.separator first }
 {
     if first { " " } else { "+" }
 }

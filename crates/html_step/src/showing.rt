@@ -1,126 +1,127 @@
 ghost use Rattle.std.specs.Prelude.{◌≡◌, ◌<◌, ◌^◌, ℕ, List, Some, None, Ok, Err, length, Option};
-ghost use Rattle.place_core.specs.Errors.{body_error};
-ghost use Rattle.place_core.specs.Places.{Has, IsValid};
+ghost use Rattle.place_core.specs.place.Errors.{body_error};
+ghost use Rattle.place_core.specs.place.Places.{Has, IsValid};
 ghost use Rattle.place_core.specs.declared.step_err.StepErr.{StepErr};
-ghost use Rattle.html_front.specs.ClassViews.{class_at};
-ghost use Rattle.html_front.specs.FrontViews.{front_at};
-ghost use Rattle.html_front.specs.Fronts.{At};
-ghost use Rattle.html_step.specs.Laws.{IsOrigin, IsShown};
-ghost use Rattle.html_step.specs.OriginViews.{shown_at};
-ghost use Rattle.html_step.specs.Origins.{bare_shows as bare_shows_of, byte_shows as byte_shows_of, end_shows as end_shows_of, origin as origin_of_text, place_shows as place_shows_of, shows, tag_shows as tag_shows_of, value_shows};
-ghost use Rattle.html_step.specs.Steps.{after_text as after_text_of};
+ghost use Rattle.html_scan.specs.ClassViews.{class_at};
+ghost use Rattle.html_scan.specs.ScanViews.{scan_at};
+ghost use Rattle.html_scan.specs.Scans.{At};
+ghost use Rattle.html_step.specs.Laws.{IsOrigin, IsEvidence};
+ghost use Rattle.html_step.specs.OriginViews.{evidence_at};
+ghost use Rattle.html_step.specs.Origins.{shows, value_shows};
+ghost use Rattle.html_step.specs.Origins as spec;
+ghost use Rattle.html_step.specs.Steps as steps;
 
+use crate::evidence::Evidence;
 use crate::origins::{Origins, end_origin, name_origin};
-use crate::shown::Shown;
-use html_front::{Class, Front, at_byte, class_of, next};
+use html_scan::{Class, Scan, at_byte, class_of, next};
 use place_core::{Body, Member, Place, Quotes, Spots, ValuePlace};
 
 /// A member of a place that a member of the place after a text comes from: every path that bears the one comes to bear the other.
-/// Takes no memory.
+/// Does not allocate.
 pub fn text_from(place: Place, text: &str, member: Member) -> Member
     requires valid { IsValid place }
     requires length { length text.now < 2 ^ 32 }
-    requires accepted { (q : Place) × (after_text_of text.now place ≡ Ok q) × Has q member }
+    requires accepted { (q : Place) × (steps.after_text text.now place ≡ Ok q) × Has q member }
     ensures { IsOrigin text.now place member result }
 {
     origin(text.as_bytes(), place, member)
 }
 
 /// What shows that a text is refused: a member of the place, every path of which is refused by the same code at the same byte, or two,
-/// any two paths of which are refused together there. Where the text is accepted the answer says nothing. Takes no memory.
-pub fn text_shown(place: Place, text: &str) -> Shown
+/// any two paths of which are refused together there. Where the text is accepted the answer says nothing. Does not allocate.
+pub fn text_evidence(place: Place, text: &str) -> Evidence
     requires valid { IsValid place }
     requires length { length text.now < 2 ^ 32 }
-    ensures { (e : StepErr Place) → after_text_of text.now place ≡ Err e
-        → IsShown text.now place e (shown_at result) }
+    ensures { (e : StepErr Place) → steps.after_text text.now place ≡ Err e
+        → IsEvidence text.now place e (evidence_at result) }
 {
-    shown(text.as_bytes(), place)
+    evidence(text.as_bytes(), place)
 }
 
 fn origin(text: &[u8], place: Place, member: Member) -> Member
-    ensures { result ≡ origin_of_text text.now (At place) member }
+    ensures { result ≡ spec.origin text.now (At place) member }
 {
-    let mut front = Front::At(place);
+    let mut scan = Scan::At(place);
     let mut origins = Origins::Same;
     for index in 0..text.len() {
         let class = class_of(text[index]);
-        origins = origins.then(front, class);
-        front = next(text, index, class, front);
+        origins = origins.then(scan, class);
+        scan = next(text, index, class, scan);
     }
-    origins.of(end_origin(front, member))
+    origins.of(end_origin(scan, member))
 }
 
-fn shown(text: &[u8], place: Place) -> Shown
-    ensures { shown_at result ≡ shows text.now (At place) }
+fn evidence(text: &[u8], place: Place) -> Evidence
+    ensures { evidence_at result ≡ shows text.now (At place) }
 {
-    let mut front = Front::At(place);
+    let mut scan = Scan::At(place);
     let mut origins = Origins::Same;
     for index in 0..text.len() {
         let class = class_of(text[index]);
-        if at_byte(text, index, class, front).is_some() {
-            return origins.of_shown(byte_shows(front, class));
+        if at_byte(text, index, class, scan).is_some() {
+            return origins.of_evidence(byte_shows(scan, class));
         }
-        origins = origins.then(front, class);
-        front = next(text, index, class, front);
+        origins = origins.then(scan, class);
+        scan = next(text, index, class, scan);
     }
-    Shown::One(origins.of(end_shows(front)))
+    Evidence::One(origins.of(end_shows(scan)))
 }
 
 // What shows that a byte is refused.
-fn byte_shows(front: Front, class: Class) -> Shown
-    ensures { (text : List ℕ) (k : ℕ) → shown_at result
-        ≡ byte_shows_of (front_at text k front) (class_at class) }
+fn byte_shows(scan: Scan, class: Class) -> Evidence
+    ensures { (text : List ℕ) (k : ℕ) → evidence_at result
+        ≡ spec.byte_shows (scan_at text k scan) (class_at class) }
 {
-    match front {
-        Front::At(place) => place_shows(place, class),
-        Front::InAttributeName { typed, .. } => Shown::One(name_origin(typed)),
-        _ => Shown::One(Member::Whole),
+    match scan {
+        Scan::At(place) => place_shows(place, class),
+        Scan::InAttributeName { typed, .. } => Evidence::One(name_origin(typed)),
+        _ => Evidence::One(Member::Whole),
     }
 }
 
-fn place_shows(place: Place, class: Class) -> Shown
-    ensures { shown_at result ≡ place_shows_of place (class_at class) }
+fn place_shows(place: Place, class: Class) -> Evidence
+    ensures { evidence_at result ≡ spec.place_shows place (class_at class) }
 {
     match place {
-        Place::Comment(_) => Shown::One(Member::CommentDash),
-        Place::Tag(tag) => Shown::One(tag_shows(class, tag.spots)),
+        Place::Comment(_) => Evidence::One(Member::CommentDash),
+        Place::Tag(tag) => Evidence::One(tag_shows(class, tag.spots)),
         Place::Value(value) => in_value(value, class),
-        _ => Shown::One(Member::Whole),
+        _ => Evidence::One(Member::Whole),
     }
 }
 
-fn in_value(place: ValuePlace, class: Class) -> Shown
-    ensures { shown_at result
+fn in_value(place: ValuePlace, class: Class) -> Evidence
+    ensures { evidence_at result
         ≡ value_shows (body_error place.body) place.quotes (class_at class) }
 {
     match place.body {
         Body::Plain | Body::NoHole => in_quotes(place.quotes, class),
-        Body::Url(_) | Body::Js(_) | Body::Css(_) => Shown::One(Member::Whole),
+        Body::Url(_) | Body::Js(_) | Body::Css(_) => Evidence::One(Member::Whole),
     }
 }
 
-fn in_quotes(quotes: Quotes, class: Class) -> Shown
-    ensures { shown_at result ≡ value_shows None quotes (class_at class) }
+fn in_quotes(quotes: Quotes, class: Class) -> Evidence
+    ensures { evidence_at result ≡ value_shows None quotes (class_at class) }
 {
     match quotes {
         Quotes::Bare(_) => bare_shows(class),
-        Quotes::Dq | Quotes::Sq => Shown::One(Member::Whole),
+        Quotes::Dq | Quotes::Sq => Evidence::One(Member::Whole),
     }
 }
 
-fn bare_shows(class: Class) -> Shown
-    ensures { shown_at result ≡ bare_shows_of (class_at class) }
+fn bare_shows(class: Class) -> Evidence
+    ensures { evidence_at result ≡ spec.bare_shows (class_at class) }
 {
     match class {
-        Class::White => Shown::Two(Member::UnquotedValue, Member::UnbegunValue),
-        Class::QuotationMark | Class::Apostrophe => Shown::One(Member::UnquotedValue),
-        _ => Shown::One(Member::Whole),
+        Class::White => Evidence::Two(Member::UnquotedValue, Member::UnbegunValue),
+        Class::QuotationMark | Class::Apostrophe => Evidence::One(Member::UnquotedValue),
+        _ => Evidence::One(Member::Whole),
     }
 }
 
 // The spot in a tag at which a byte is refused.
 fn tag_shows(class: Class, spots: Spots) -> Member
-    ensures { result ≡ tag_shows_of (class_at class) spots }
+    ensures { result ≡ spec.tag_shows (class_at class) spots }
 {
     match class {
         Class::White | Class::Solidus | Class::GreaterThan => Member::Whole,
@@ -134,11 +135,11 @@ fn tag_shows(class: Class, spots: Spots) -> Member
 }
 
 // What shows that the end of a text is refused.
-fn end_shows(front: Front) -> Member
-    ensures { (text : List ℕ) (k : ℕ) → result ≡ end_shows_of (front_at text k front) }
+fn end_shows(scan: Scan) -> Member
+    ensures { (text : List ℕ) (k : ℕ) → result ≡ spec.end_shows (scan_at text k scan) }
 {
-    match front {
-        Front::InAttributeName { typed, .. } => name_origin(typed),
+    match scan {
+        Scan::InAttributeName { typed, .. } => name_origin(typed),
         _ => Member::Whole,
     }
 }

@@ -1,11 +1,11 @@
 ghost use Rattle.std.specs.Prelude.{◌≡◌, ◌<◌, ◌≤◌, ◌-◌, ◌^◌, IfErr, length};
-ghost use Rattle.html_front.specs.FrontViews.{front_at, held_from};
-ghost use Rattle.html_front.specs.Fronts.{At};
+ghost use Rattle.html_scan.specs.ScanViews.{scan_at, pending_from};
+ghost use Rattle.html_scan.specs.Scans.{At};
 ghost use Rattle.html_step.specs.StepViews.{stepped_at};
-ghost use Rattle.html_step.specs.Steps.{after_text as after_text_of, front_after as front_after_of, place_before as place_before_of, stepped as stepped_of};
+ghost use Rattle.html_step.specs.Steps as spec;
 
 use crate::refusal::Refusal;
-use html_front::{Cause, Front, at_byte, at_end, class_of, end_place, next};
+use html_scan::{Cause, Scan, at_byte, at_end, class_of, end_place, next};
 use place_core::{Place, StepErr};
 
 /// The place after a text of a template, from the place before it; or why the text is refused and at which of its bytes, with
@@ -22,7 +22,7 @@ use place_core::{Place, StepErr};
 /// Takes no memory, and time in proportion to the length of the text.
 pub fn after_text(place: Place, text: &str) -> Result<Place, StepErr<Place>>
     requires { length text.now < 2 ^ 32 }
-    ensures { result ≡ after_text_of text.now place }
+    ensures { result ≡ spec.after_text text.now place }
 {
     match stepped(text.as_bytes(), place) {
         Ok(after) => Ok(after),
@@ -41,29 +41,29 @@ pub fn after_text(place: Place, text: &str) -> Result<Place, StepErr<Place>>
 /// place in the text, in bytes; from the text's end on it is the place after the text. (HTML Standard, section 13.2.5.) Takes
 /// no memory, and time in proportion to the length of the text.
 pub fn place_before(place: Place, text: &str, at: u32) -> Place
-    ensures { result ≡ place_before_of text.now at place }
+    ensures { result ≡ spec.place_before text.now at place }
 {
     let text = text.as_bytes();
     let (before, _) = text.split_at((at as usize).min(text.len()));
-    end_place(before, front_after(before, place))
+    end_place(before, scan_after(before, place))
 }
 
 // The place after a text, or what is refused there first.
 fn stepped(text: &[u8], place: Place) -> Result<Place, Refusal>
-    ensures place { stepped_at result ≡ stepped_of 0 text.now (At place) }
+    ensures place { stepped_at result ≡ spec.stepped 0 text.now (At place) }
     ensures bound { IfErr result (λ refusal. refusal.at ≤ length text.now) }
 {
-    let mut front = Front::At(place);
+    let mut scan = Scan::At(place);
     for index in 0..text.len() {
         let class = class_of(text[index]);
-        match at_byte(text, index, class, front) {
+        match at_byte(text, index, class, scan) {
             Some(cause) => return Err(refused(cause, index)),
-            None => front = next(text, index, class, front),
+            None => scan = next(text, index, class, scan),
         }
     }
-    match at_end(text, front) {
+    match at_end(text, scan) {
         Some(cause) => Err(refused(cause, text.len())),
-        None => Ok(end_place(text, front)),
+        None => Ok(end_place(text, scan)),
     }
 }
 
@@ -81,14 +81,14 @@ fn refused(cause: Cause, index: usize) -> Refusal
 }
 
 // What a text leads to, whatever is refused.
-fn front_after(text: &[u8], place: Place) -> Front
-    ensures front { front_at text.now (length text.now) result
-        ≡ front_after_of text.now (At place) }
-    ensures held { held_from result ≤ length text.now }
+fn scan_after(text: &[u8], place: Place) -> Scan
+    ensures scan { scan_at text.now (length text.now) result
+        ≡ spec.scan_after text.now (At place) }
+    ensures pending { pending_from result ≤ length text.now }
 {
-    let mut front = Front::At(place);
+    let mut scan = Scan::At(place);
     for index in 0..text.len() {
-        front = next(text, index, class_of(text[index]), front);
+        scan = next(text, index, class_of(text[index]), scan);
     }
-    front
+    scan
 }

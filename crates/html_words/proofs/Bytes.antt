@@ -4,8 +4,8 @@ use Rattle.std.proofs.lemmas.Bool.{cases_lt, and_right, lt-leb, ltb-true, eqb-tr
 use Rattle.std.proofs.lemmas.Bool.Decides.{nat_tests}
 use Rattle.std.specs.Char.{is_ascii_alphanumeric, is_ascii_digit, is_ascii_hexdigit}
 use Rattle.std.specs.Int.{is_in_range}
-use Rattle.place_core.specs.Classes.{Class, White, ExclamationMark, QuotationMark, NumberSign, Ampersand, Apostrophe, HyphenMinus, Solidus, Digit, Semicolon, LessThan, EqualsSign, GreaterThan, QuestionMark, GraveAccent, Letter, OtherByte, class_of, is_equals_sign}
-use Rattle.place_core.specs.References.{Reference, Open, Form, Begun, Named, Hashed, Decimal, HexMark, Hexadecimal, ReferenceStep, Grows, Closes, Breaks, turn, Closed, begin_reference, plain_bytes, flushed, undone_byte, next_reference}
+use Rattle.place_core.specs.page.Classes.{Class, White, ExclamationMark, QuotationMark, NumberSign, Ampersand, Apostrophe, HyphenMinus, Solidus, Digit, Semicolon, LessThan, EqualsSign, GreaterThan, QuestionMark, GraveAccent, Letter, OtherByte, class_of, is_equals_sign}
+use Rattle.place_core.specs.page.References.{Reference, Open, Form, Begun, Named, Hashed, Decimal, HexMark, Hexadecimal, ReferenceStep, Grows, Closes, Breaks, turn, Closed, begin_reference, plain_bytes, flushed, undone_byte, next_reference}
 
 -- what a byte does to an open reference
 abbrev pub turn_at : Form → ℕ → ReferenceStep

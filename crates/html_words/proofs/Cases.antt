@@ -4,7 +4,7 @@ use Rattle.std.proofs.lemmas.Bool.Decides.{nat_tests}
 use Rattle.std.proofs.lemmas.List.{take-map, drop-map, nil_from_length}
 use Rattle.std.specs.Char.{to_ascii_lowercase}
 use Rattle.std.specs.Str.{str_to_ascii_lowercase}
-use Rattle.place_core.specs.Words.{prefix_length, kind_after_prefix, kind_of_name}
+use Rattle.place_core.specs.page.Words.{prefix_length, kind_after_prefix, kind_of_name}
 
 -- no other byte is a colon in lower case
 colon_stays : (b : ℕ) → (to_ascii_lowercase b == 58) ≡ (b == 58)

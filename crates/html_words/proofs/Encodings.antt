@@ -5,7 +5,7 @@ use Rattle.std.proofs.lemmas.Bool.Decides.{nat_tests}
 use Rattle.std.specs.Int.{is_in_range}
 use Rattle.std.specs.Str.Lossy.{second_byte_min, second_byte_max}
 use Rattle.std.specs.Str.{continuation_len, lead_bits}
-use Rattle.place_core.specs.Utf8.{Partial, Before, Within, begun, gone_on, is_lead, decoded, more_bits}
+use Rattle.place_core.specs.page.Utf8.{Partial, Before, Within, partial_begun, gone_on, is_lead, decoded, more_bits}
 
 -- a number that is the code of a character
 pub record IsCode (c : ℕ) : Type 0 where
@@ -16,7 +16,7 @@ pub in_range : (least most b : ℕ) → least ≤ b → b ≤ most → is_in_ran
 in_range least most b h k = and_from _ _ (le-leb least b h) (le-leb b most k)
 
 -- a lead byte, by how many bytes follow it
-pub leads : (b : ℕ) (ys : List ℕ) → 194 ≤ b → b ≤ 244 → decoded Before (b ∷ ys) ≡ decoded (Within (begun b)) ys
+pub leads : (b : ℕ) (ys : List ℕ) → 194 ≤ b → b ≤ 244 → decoded Before (b ∷ ys) ≡ decoded (Within (partial_begun b)) ys
 leads b ys h k = rw (le-ltb b 128 (omega arith), in_range 194 244 b h k) refl
 
 -- a byte that goes on, and is not the last
@@ -44,7 +44,7 @@ two_bytes x y c ys h k l m e =
     let one : continuation_len x ≡ 1 = grind (arith, nat_tests) in
     let bits : lead_bits x ≡ x - 192 = grind (arith, nat_tests) in
     leads x (y ∷ ys) h (omega arith)
-    ∙ ends (begun x) y ys (least_of x y l (λ e. absurd (omega arith)) (λ e. absurd (omega arith))) (most_of x y m (λ e. absurd (omega arith)) (λ e. absurd (omega arith))) one
+    ∙ ends (partial_begun x) y ys (least_of x y l (λ e. absurd (omega arith)) (λ e. absurd (omega arith))) (most_of x y m (λ e. absurd (omega arith)) (λ e. absurd (omega arith))) one
     ∙ rw (bits, e) refl
 
 three_bytes : (x y z c : ℕ) (ys : List ℕ) → 224 ≤ x → x < 240 → second_byte_min x ≤ y → y ≤ second_byte_max x → 128 ≤ z → z ≤ 191 → ((x - 224) * 64 + (y - 128)) * 64 + (z - 128) ≡ c → decoded Before (x ∷ y ∷ z ∷ ys) ≡ c ∷ decoded Before ys
@@ -52,8 +52,8 @@ three_bytes x y z c ys h k l m i j e =
     let two : continuation_len x ≡ 2 = grind (arith, nat_tests) in
     let bits : lead_bits x ≡ x - 224 = grind (arith, nat_tests) in
     leads x (y ∷ z ∷ ys) (omega arith) (omega arith)
-    ∙ goes (begun x) y (z ∷ ys) l m (λ e. omega (arith, two))
-    ∙ ends (gone_on (begun x) y) z ys i j (omega (arith, two))
+    ∙ goes (partial_begun x) y (z ∷ ys) l m (λ e. omega (arith, two))
+    ∙ ends (gone_on (partial_begun x) y) z ys i j (omega (arith, two))
     ∙ rw (bits, e) refl
 
 four_bytes : (x y z w c : ℕ) (ys : List ℕ) → 240 ≤ x → x ≤ 244 → second_byte_min x ≤ y → y ≤ second_byte_max x → 128 ≤ z → z ≤ 191 → 128 ≤ w → w ≤ 191 → (((x - 240) * 64 + (y - 128)) * 64 + (z - 128)) * 64 + (w - 128) ≡ c → decoded Before (x ∷ y ∷ z ∷ w ∷ ys) ≡ c ∷ decoded Before ys
@@ -61,9 +61,9 @@ four_bytes x y z w c ys h k l m i j g n e =
     let three : continuation_len x ≡ 3 = grind (arith, nat_tests) in
     let bits : lead_bits x ≡ x - 240 = grind (arith, nat_tests) in
     leads x (y ∷ z ∷ w ∷ ys) (omega arith) (omega arith)
-    ∙ goes (begun x) y (z ∷ w ∷ ys) l m (λ e. omega (arith, three))
-    ∙ goes (gone_on (begun x) y) z (w ∷ ys) i j (λ e. omega (arith, three))
-    ∙ ends (gone_on (gone_on (begun x) y) z) w ys g n (omega (arith, three))
+    ∙ goes (partial_begun x) y (z ∷ w ∷ ys) l m (λ e. omega (arith, three))
+    ∙ goes (gone_on (partial_begun x) y) z (w ∷ ys) i j (λ e. omega (arith, three))
+    ∙ ends (gone_on (gone_on (partial_begun x) y) z) w ys g n (omega (arith, three))
     ∙ rw (bits, e) refl
 
 -- the parts of a number in base 64

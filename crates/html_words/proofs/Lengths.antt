@@ -6,11 +6,11 @@ use Rattle.std.proofs.lemmas.Slice.Eq.{bytes_eq-Decides}
 use Rattle.std.specs.Char.{is_ascii_alphanumeric, is_ascii_digit, is_ascii_hexdigit}
 use Rattle.std.specs.List.{starts_with, prefix_len}
 use Rattle.std.specs.Option.{unwrap_or}
-use Rattle.place_core.specs.Characters.{begins_at, whole_at, short_at, name_at, semicolon_len, number_from, hashed_at, reference_at, character_at, char_at, characters_within, characters_at, run, after_run, is_broken_off}
-use Rattle.place_core.specs.References.{Row, short_names, replacement}
-use Rattle.place_core.specs.Utf8.{Partial, followed, first_character, begun, goes_on, gone_on, is_lead}
+use Rattle.place_core.specs.page.Characters.{begins_at, whole_at, short_at, reference_name_at, semicolon_len, number_from, hashed_at, reference_at, character_at, char_at, characters_within, characters_at, letter_run, after_run, is_broken_off}
+use Rattle.place_core.specs.page.References.{ReferenceRow, short_names, replacement}
+use Rattle.place_core.specs.page.Utf8.{Partial, utf8_followed, first_character, partial_begun, utf8_goes_on, gone_on, is_lead}
 
--- of so many bytes, some and not too many
+-- of that many bytes, some and not too many
 pub record IsWithin (n : ℕ) (found : ℕ × ℕ) : Type 0 where
   pub some : 1 ≤ found.1
   pub most : found.1 ≤ n
@@ -26,13 +26,13 @@ either_within false x y f g = g refl
 pub front_fits : (key name : List ℕ) → bytes_eq key (take (length key) name) ≡ true → length key ≤ length name
 front_fits key name e = omega (arith, ap length ((bytes_eq-Decides key (take (length key) name)).0 e), length-take (length key) name)
 
-begins_within : (rows : List (Row (List ℕ))) (name : List ℕ) → IsWithin (suc (length name)) (begins_at rows name)
+begins_within : (rows : List (ReferenceRow (List ℕ))) (name : List ℕ) → IsWithin (suc (length name)) (begins_at rows name)
 begins_within [] name = one_of (length name) _
 begins_within (r ∷ rows) name = either_within (starts_with nat_eq name r.key) _ _
     (λ t. record { some = omega arith; most = omega (arith, front_fits r.key name t) })
     (λ f. begins_within rows name)
 
-whole_within : (rows : List (Row (List ℕ))) (name : List ℕ) → IsWithin (suc (length name)) (whole_at rows name)
+whole_within : (rows : List (ReferenceRow (List ℕ))) (name : List ℕ) → IsWithin (suc (length name)) (whole_at rows name)
 whole_within [] name = one_of (length name) _
 whole_within (r ∷ rows) name = either_within (bytes_eq r.key name) _ _ (λ t. record { some = omega arith; most = omega arith }) (λ f. whole_within rows name)
 
@@ -44,7 +44,7 @@ short_within false equals name = begins_within short_names name
 wider : {m n : ℕ} {found : ℕ × ℕ} → IsWithin m found → m ≤ n → IsWithin n found
 wider h le = record { some = h.some; most = omega (arith, h.most, le) }
 
-name_within : (attribute : Bool) (name rest : List ℕ) → IsWithin (suc (length name + length rest)) (name_at attribute name rest)
+name_within : (attribute : Bool) (name rest : List ℕ) → IsWithin (suc (length name + length rest)) (reference_name_at attribute name rest)
 name_within attribute name [] = wider (short_within attribute false name) (omega arith)
 name_within attribute name (b ∷ rest) = either_within (b == 59) _ _
     (λ t. record { some = omega arith; most = omega arith })
@@ -58,24 +58,24 @@ number_within : (base front : ℕ) (digits rest : List ℕ) → 1 ≤ front → 
 number_within base front [] rest h = record { some = omega arith; most = omega arith }
 number_within base front (d ∷ ds) rest h = record { some = omega arith; most = omega (arith, semicolon_within rest) }
 
-run_rest : (p : ℕ → Bool) (bytes : List ℕ) → length (run p bytes) + length (after_run p bytes) ≡ length bytes
+run_rest : (p : ℕ → Bool) (bytes : List ℕ) → length (letter_run p bytes) + length (after_run p bytes) ≡ length bytes
 run_rest p bytes = omega (arith, length-take (prefix_len p bytes) bytes, length-drop (prefix_len p bytes) bytes, prefix_len-le-length p bytes)
 
 hashed_within : (bytes : List ℕ) → IsWithin (suc (suc (length bytes))) (hashed_at bytes)
 hashed_within [] = record { some = omega arith; most = omega arith }
 hashed_within (b ∷ bs) = either_within (b == 88 || b == 120) _ _
-    (λ t. wider (number_within 16 3 (run is_ascii_hexdigit bs) (after_run is_ascii_hexdigit bs) (omega arith)) (omega (arith, run_rest is_ascii_hexdigit bs)))
-    (λ f. wider (number_within 10 2 (run is_ascii_digit (b ∷ bs)) (after_run is_ascii_digit (b ∷ bs)) (omega arith)) (omega (arith, run_rest is_ascii_digit (b ∷ bs))))
+    (λ t. wider (number_within 16 3 (letter_run is_ascii_hexdigit bs) (after_run is_ascii_hexdigit bs) (omega arith)) (omega (arith, run_rest is_ascii_hexdigit bs)))
+    (λ f. wider (number_within 10 2 (letter_run is_ascii_digit (b ∷ bs)) (after_run is_ascii_digit (b ∷ bs)) (omega arith)) (omega (arith, run_rest is_ascii_digit (b ∷ bs))))
 
 pub reference_within : (attribute : Bool) (bytes : List ℕ) → IsWithin (suc (length bytes)) (reference_at attribute bytes)
 reference_within attribute [] = one_of 0 _
 reference_within attribute (b ∷ bs) = either_within (b == 35) _ _
     (λ t. hashed_within bs)
     (λ f. either_within (is_ascii_alphanumeric b) _ _
-    (λ t. wider (name_within attribute (run is_ascii_alphanumeric (b ∷ bs)) (after_run is_ascii_alphanumeric (b ∷ bs))) (omega (arith, run_rest is_ascii_alphanumeric (b ∷ bs))))
+    (λ t. wider (name_within attribute (letter_run is_ascii_alphanumeric (b ∷ bs)) (after_run is_ascii_alphanumeric (b ∷ bs))) (omega (arith, run_rest is_ascii_alphanumeric (b ∷ bs))))
     (λ f. one_of (suc (length bs)) _))
 
--- a character that is followed, after so many bytes of it
+-- a character that is followed, after that many bytes of it
 abbrev pub Fits : ℕ → ℕ → Option (ℕ × ℕ) → Type 0
 Fits seen n None = Unit {0}
 Fits seen n (Some found) = (seen + 1 ≤ found.1) × (found.1 ≤ seen + n)
@@ -88,10 +88,10 @@ fits_longer : (seen n : ℕ) (found : Option (ℕ × ℕ)) → Fits (seen + 1) n
 fits_longer seen n None h = tt
 fits_longer seen n (Some found) h = (omega (arith, h.0), omega (arith, h.1))
 
-pub followed_fits : (p : Partial) (bs : List ℕ) → Fits p.seen (length bs) (followed p bs)
+pub followed_fits : (p : Partial) (bs : List ℕ) → Fits p.seen (length bs) (utf8_followed p bs)
 followed_fits p [] = tt
-followed_fits p (b ∷ bs) = fits_if p.seen (suc (length bs)) (goes_on p b) _ None
-    (fits_if p.seen (suc (length bs)) (p.needed == 1) _ _ (omega arith, omega arith) (fits_longer p.seen (length bs) (followed (gone_on p b) bs) (followed_fits (gone_on p b) bs)))
+followed_fits p (b ∷ bs) = fits_if p.seen (suc (length bs)) (utf8_goes_on p b) _ None
+    (fits_if p.seen (suc (length bs)) (p.needed == 1) _ _ (omega arith, omega arith) (fits_longer p.seen (length bs) (utf8_followed (gone_on p b) bs) (followed_fits (gone_on p b) bs)))
     tt
 
 unwrapped : (n : ℕ) (found : Option (ℕ × ℕ)) (otherwise : ℕ × ℕ) → Fits 1 n found → IsWithin (suc n) otherwise → IsWithin (suc n) (unwrap_or found otherwise)
@@ -102,7 +102,7 @@ first_within : (b : ℕ) (bs : List ℕ) → IsWithin (suc (length bs)) (first_c
 first_within b bs = either_within (nat_lt b 128) _ _
     (λ t. one_of (length bs) _)
     (λ f. either_within (is_lead b) _ _
-    (λ t. unwrapped (length bs) (followed (begun b) bs) (replacement, 1) (followed_fits (begun b) bs) (one_of (length bs) _))
+    (λ t. unwrapped (length bs) (utf8_followed (partial_begun b) bs) (replacement, 1) (followed_fits (partial_begun b) bs) (one_of (length bs) _))
     (λ f. one_of (length bs) _))
 
 pub character_within : (attribute cut : Bool) (b : ℕ) (bs : List ℕ) → IsWithin (suc (length bs)) (character_at attribute cut b bs)

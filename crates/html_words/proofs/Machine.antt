@@ -5,9 +5,9 @@ use Rattle.std.proofs.lemmas.Bool.Decides.{nat_tests}
 use Rattle.std.proofs.lemmas.List.{drop-drop, drop_at, take-append-drop, drop-append-le}
 use Rattle.std.specs.Char.{is_ascii_alphanumeric, is_ascii_digit, is_ascii_hexdigit}
 use Rattle.std.specs.List.{list_all, prefix_len, starts_with}
-use Rattle.place_core.specs.Characters.{itself, begins_at, whole_at, short_at, name_at, semicolon_len, number_from, hashed_at, reference_at, run, after_run, is_broken_number, is_broken_off}
-use Rattle.place_core.specs.Classes.{class_of}
-use Rattle.place_core.specs.References.{Row, names, short_names, named_in, whole_in, begins_in, numbered, number_in, Form, Begun, Named, Hashed, Decimal, HexMark, Hexadecimal, Grows, Closes, Breaks, meaning, flushed, flushed_name, Closed, Open, begin_reference, plain_bytes}
+use Rattle.place_core.specs.page.Characters.{itself, begins_at, whole_at, short_at, reference_name_at, semicolon_len, number_from, hashed_at, reference_at, letter_run, after_run, is_broken_number, is_broken_off}
+use Rattle.place_core.specs.page.Classes.{class_of}
+use Rattle.place_core.specs.page.References.{ReferenceRow, names, short_names, named_in, whole_in, begins_in, numbered_reference, number_in_reference, Form, Begun, Named, Hashed, Decimal, HexMark, Hexadecimal, Grows, Closes, Breaks, meaning, flushed, flushed_name, Closed, Open, begin_reference, plain_bytes}
 use Rattle.html_words.proofs.Bytes.{turn_at, turns, undone_at, plain, equals}
 use Rattle.html_words.proofs.Lengths.{front_fits}
 
@@ -20,19 +20,19 @@ either false f g = g refl
 one_more : (n : ℕ) → 1 + n ≡ suc n
 one_more n = omega arith
 
-run_more : (p : ℕ → Bool) (b : ℕ) (bs : List ℕ) → p b ≡ true → run p (b ∷ bs) ≡ b ∷ run p bs
+run_more : (p : ℕ → Bool) (b : ℕ) (bs : List ℕ) → p b ≡ true → letter_run p (b ∷ bs) ≡ b ∷ letter_run p bs
 run_more p b bs e = rw (e, one_more (prefix_len p bs)) refl
 
 behind_more : (p : ℕ → Bool) (b : ℕ) (bs : List ℕ) → p b ≡ true → after_run p (b ∷ bs) ≡ after_run p bs
 behind_more p b bs e = rw (e, one_more (prefix_len p bs)) refl
 
-run_none : (p : ℕ → Bool) (b : ℕ) (bs : List ℕ) → p b ≡ false → run p (b ∷ bs) ≡ []
+run_none : (p : ℕ → Bool) (b : ℕ) (bs : List ℕ) → p b ≡ false → letter_run p (b ∷ bs) ≡ []
 run_none p b bs e = rw e refl
 
 behind_none : (p : ℕ → Bool) (b : ℕ) (bs : List ℕ) → p b ≡ false → after_run p (b ∷ bs) ≡ b ∷ bs
 behind_none p b bs e = rw e refl
 
-run-behind : (p : ℕ → Bool) (bytes : List ℕ) → run p bytes ++ after_run p bytes ≡ bytes
+run-behind : (p : ℕ → Bool) (bytes : List ℕ) → letter_run p bytes ++ after_run p bytes ≡ bytes
 run-behind p bytes = take-append-drop (prefix_len p bytes) bytes
 
 abbrev first_is : (ℕ → Bool) → List ℕ → Bool
@@ -43,7 +43,7 @@ run_stops : (p : ℕ → Bool) (bytes : List ℕ) → first_is p (after_run p by
 run_stops p [] = refl
 run_stops p (b ∷ bs) = either (p b) (λ t. rw (t, one_more (prefix_len p bs)) (run_stops p bs)) (λ f. rw f f)
 
-run_passes : (p : ℕ → Bool) (bytes : List ℕ) → list_all p (run p bytes) ≡ true
+run_passes : (p : ℕ → Bool) (bytes : List ℕ) → list_all p (letter_run p bytes) ≡ true
 run_passes p [] = refl
 run_passes p (b ∷ bs) = either (p b) (λ t. rw (t, one_more (prefix_len p bs)) (rw t (run_passes p bs))) (λ f. rw f refl)
 
@@ -91,12 +91,12 @@ break : (cut attribute : Bool) (f : Form) (held rest : List ℕ) → Broken cut 
 break cut attribute f held [] h = rw h (sym (append-nil (flushed attribute false f held)))
 break cut attribute f held (b ∷ bs) h = rw (turns f b ∙ h, equals b) (append_assoc (flushed attribute (b == 61) f held) (plain_bytes (class_of b) b) (undone_at cut attribute (begin_reference (class_of b)) bs))
 
-grow_run : (cut attribute : Bool) (f : Form) (p : ℕ → Bool) → ((b : ℕ) → p b ≡ true → turn_at f b ≡ Grows f) → (held bytes : List ℕ) → undone_at cut attribute (Open f held) bytes ≡ undone_at cut attribute (Open f (held ++ run p bytes)) (after_run p bytes)
+grow_run : (cut attribute : Bool) (f : Form) (p : ℕ → Bool) → ((b : ℕ) → p b ≡ true → turn_at f b ≡ Grows f) → (held bytes : List ℕ) → undone_at cut attribute (Open f held) bytes ≡ undone_at cut attribute (Open f (held ++ letter_run p bytes)) (after_run p bytes)
 grow_run cut attribute f p h held [] = ap (λ (xs : List ℕ). undone_at cut attribute (Open f xs) []) (sym (append-nil held))
 grow_run cut attribute f p h held (b ∷ bs) = either (p b)
     (λ t. grow cut attribute f f held b bs (h b t)
     ∙ grow_run cut attribute f p h (held ++ b ∷ []) bs
-    ∙ rw (run_more p b bs t, behind_more p b bs t) (ap (λ (xs : List ℕ). undone_at cut attribute (Open f xs) (after_run p bs)) (append_assoc held (b ∷ []) (run p bs))))
+    ∙ rw (run_more p b bs t, behind_more p b bs t) (ap (λ (xs : List ℕ). undone_at cut attribute (Open f xs) (after_run p bs)) (append_assoc held (b ∷ []) (letter_run p bs))))
     (λ e. rw (run_none p b bs e, behind_none p b bs e) (ap (λ (xs : List ℕ). undone_at cut attribute (Open f xs) (b ∷ bs)) (sym (append-nil held))))
 
 -- letters and digits are plain
@@ -127,13 +127,13 @@ as_itself cut attribute out bytes e = rw ampersand e
 
 -- Names.
 
-whole_undone : (rows : List (Row (List ℕ))) (cut attribute : Bool) (name rest : List ℕ) → list_all is_ascii_alphanumeric name ≡ true → Undone cut attribute (whole_in rows name ++ undone_at cut attribute Closed rest) (name ++ rest) (whole_at rows name)
+whole_undone : (rows : List (ReferenceRow (List ℕ))) (cut attribute : Bool) (name rest : List ℕ) → list_all is_ascii_alphanumeric name ≡ true → Undone cut attribute (whole_in rows name ++ undone_at cut attribute Closed rest) (name ++ rest) (whole_at rows name)
 whole_undone [] cut attribute name rest all = as_itself cut attribute _ (name ++ rest) (ap (λ (xs : List ℕ). 38 ∷ xs) (sym (plain_all cut attribute name rest all)))
 whole_undone (r ∷ rows) cut attribute name rest all = either (bytes_eq r.key name)
     (λ t. rw t (ap (λ (xs : List ℕ). encode_utf8 r.code ++ undone_at cut attribute Closed xs) (sym (behind_all name rest 0 (length name + 1 - 1) (omega arith)))))
     (λ f. rw f (whole_undone rows cut attribute name rest all))
 
-begins_undone : (rows : List (Row (List ℕ))) (cut attribute : Bool) (name rest : List ℕ) → list_all is_ascii_alphanumeric name ≡ true → Undone cut attribute (begins_in rows name ++ undone_at cut attribute Closed rest) (name ++ rest) (begins_at rows name)
+begins_undone : (rows : List (ReferenceRow (List ℕ))) (cut attribute : Bool) (name rest : List ℕ) → list_all is_ascii_alphanumeric name ≡ true → Undone cut attribute (begins_in rows name ++ undone_at cut attribute Closed rest) (name ++ rest) (begins_at rows name)
 begins_undone [] cut attribute name rest all = as_itself cut attribute _ (name ++ rest) (ap (λ (xs : List ℕ). 38 ∷ xs) (sym (plain_all cut attribute name rest all)))
 begins_undone (r ∷ rows) cut attribute name rest all = either (starts_with nat_eq name r.key)
     (λ t.
@@ -153,7 +153,7 @@ name_breaks b e f = rw (e, f) refl
 name_closes : (b : ℕ) → is_ascii_alphanumeric b ≡ false → (b == 59) ≡ true → turn_at Named b ≡ Closes
 name_closes b e f = rw (e, f) refl
 
-name_undone : (cut attribute : Bool) (name rest : List ℕ) → list_all is_ascii_alphanumeric name ≡ true → first_is is_ascii_alphanumeric rest ≡ false → Whole cut rest → Undone cut attribute (undone_at cut attribute (Open Named name) rest) (name ++ rest) (name_at attribute name rest)
+name_undone : (cut attribute : Bool) (name rest : List ℕ) → list_all is_ascii_alphanumeric name ≡ true → first_is is_ascii_alphanumeric rest ≡ false → Whole cut rest → Undone cut attribute (undone_at cut attribute (Open Named name) rest) (name ++ rest) (reference_name_at attribute name rest)
 unfolding meaning flushed
 name_undone cut attribute name [] all ends whole = break cut attribute Named name [] whole ∙ short_undone cut attribute false name [] all
 name_undone cut attribute name (b ∷ bs) all ends whole = either (b == 59)
@@ -169,53 +169,53 @@ number_ends cut attribute f held p (b ∷ bs) code m g h ends whole = either (b 
     (λ t. rw t (close cut attribute f held b bs (rw t at (h b ends)) ∙ ap (λ (c : ℕ). encode_utf8 c ++ undone_at cut attribute Closed bs) m))
     (λ e. rw e (break cut attribute f held (b ∷ bs) (rw e at (h b ends)) ∙ ap (λ (xs : List ℕ). xs ++ undone_at cut attribute Closed (b ∷ bs)) (g (b == 61))))
 
-decimal_ends : (cut attribute : Bool) (digits rest : List ℕ) → first_is is_ascii_digit rest ≡ false → Whole cut rest → undone_at cut attribute (Open Decimal (35 ∷ digits)) rest ≡ encode_utf8 (numbered (number_in 10 0 digits)) ++ undone_at cut attribute Closed (drop (semicolon_len rest) rest)
+decimal_ends : (cut attribute : Bool) (digits rest : List ℕ) → first_is is_ascii_digit rest ≡ false → Whole cut rest → undone_at cut attribute (Open Decimal (35 ∷ digits)) rest ≡ encode_utf8 (numbered_reference (number_in_reference 10 0 digits)) ++ undone_at cut attribute Closed (drop (semicolon_len rest) rest)
 unfolding meaning flushed
-decimal_ends cut attribute digits rest ends whole = number_ends cut attribute Decimal (35 ∷ digits) is_ascii_digit rest (numbered (number_in 10 0 digits)) refl (λ e. refl) (λ b e. rw e refl) ends whole
+decimal_ends cut attribute digits rest ends whole = number_ends cut attribute Decimal (35 ∷ digits) is_ascii_digit rest (numbered_reference (number_in_reference 10 0 digits)) refl (λ e. refl) (λ b e. rw e refl) ends whole
 
-hexadecimal_ends : (cut attribute : Bool) (x : ℕ) (digits rest : List ℕ) → first_is is_ascii_hexdigit rest ≡ false → Whole cut rest → undone_at cut attribute (Open Hexadecimal (35 ∷ x ∷ digits)) rest ≡ encode_utf8 (numbered (number_in 16 0 digits)) ++ undone_at cut attribute Closed (drop (semicolon_len rest) rest)
+hexadecimal_ends : (cut attribute : Bool) (x : ℕ) (digits rest : List ℕ) → first_is is_ascii_hexdigit rest ≡ false → Whole cut rest → undone_at cut attribute (Open Hexadecimal (35 ∷ x ∷ digits)) rest ≡ encode_utf8 (numbered_reference (number_in_reference 16 0 digits)) ++ undone_at cut attribute Closed (drop (semicolon_len rest) rest)
 unfolding meaning flushed
-hexadecimal_ends cut attribute x digits rest ends whole = number_ends cut attribute Hexadecimal (35 ∷ x ∷ digits) is_ascii_hexdigit rest (numbered (number_in 16 0 digits)) refl (λ e. refl) (λ b e. rw e refl) ends whole
+hexadecimal_ends cut attribute x digits rest ends whole = number_ends cut attribute Hexadecimal (35 ∷ x ∷ digits) is_ascii_hexdigit rest (numbered_reference (number_in_reference 16 0 digits)) refl (λ e. refl) (λ b e. rw e refl) ends whole
 
 -- a number is told, where its digits and what stands after them are all of the bytes after what stands before the digits
-number_told : (cut attribute : Bool) (base front d : ℕ) (ds rest before all out : List ℕ) → front ≡ length before + 1 → before ++ ((d ∷ ds) ++ rest) ≡ all → out ≡ encode_utf8 (numbered (number_in base 0 (d ∷ ds))) ++ undone_at cut attribute Closed (drop (semicolon_len rest) rest) → Undone cut attribute out all (number_from base front (d ∷ ds) rest)
+number_told : (cut attribute : Bool) (base front d : ℕ) (ds rest before all out : List ℕ) → front ≡ length before + 1 → before ++ ((d ∷ ds) ++ rest) ≡ all → out ≡ encode_utf8 (numbered_reference (number_in_reference base 0 (d ∷ ds))) ++ undone_at cut attribute Closed (drop (semicolon_len rest) rest) → Undone cut attribute out all (number_from base front (d ∷ ds) rest)
 number_told cut attribute base front d ds rest before all out size e told =
     let len : front + (length (d ∷ ds) + semicolon_len rest) - 1 ≡ length before + (suc (length ds) + semicolon_len rest) = omega arith in
-    rw (← e, len) (told ∙ ap (λ (xs : List ℕ). encode_utf8 (numbered (number_in base 0 (d ∷ ds))) ++ undone_at cut attribute Closed xs)
+    rw (← e, len) (told ∙ ap (λ (xs : List ℕ). encode_utf8 (numbered_reference (number_in_reference base 0 (d ∷ ds))) ++ undone_at cut attribute Closed xs)
     (sym (behind_all before ((d ∷ ds) ++ rest) (suc (length ds) + semicolon_len rest) (length before + (suc (length ds) + semicolon_len rest)) refl
     ∙ behind_all (d ∷ ds) rest (semicolon_len rest) (suc (length ds) + semicolon_len rest) refl)))
 
-from_run : (base front : ℕ) (p : ℕ → Bool) (b : ℕ) (bs : List ℕ) → p b ≡ true → number_from base front (run p (b ∷ bs)) (after_run p (b ∷ bs)) ≡ number_from base front (b ∷ run p bs) (after_run p bs)
-from_run base front p b bs e = ap (λ (xs : List ℕ). number_from base front xs (after_run p (b ∷ bs))) (run_more p b bs e) ∙ ap (λ (xs : List ℕ). number_from base front (b ∷ run p bs) xs) (behind_more p b bs e)
+from_run : (base front : ℕ) (p : ℕ → Bool) (b : ℕ) (bs : List ℕ) → p b ≡ true → number_from base front (letter_run p (b ∷ bs)) (after_run p (b ∷ bs)) ≡ number_from base front (b ∷ letter_run p bs) (after_run p bs)
+from_run base front p b bs e = ap (λ (xs : List ℕ). number_from base front xs (after_run p (b ∷ bs))) (run_more p b bs e) ∙ ap (λ (xs : List ℕ). number_from base front (b ∷ letter_run p bs) xs) (behind_more p b bs e)
 
-from_none : (base front : ℕ) (p : ℕ → Bool) (b : ℕ) (bs : List ℕ) → p b ≡ false → number_from base front (run p (b ∷ bs)) (after_run p (b ∷ bs)) ≡ itself
+from_none : (base front : ℕ) (p : ℕ → Bool) (b : ℕ) (bs : List ℕ) → p b ≡ false → number_from base front (letter_run p (b ∷ bs)) (after_run p (b ∷ bs)) ≡ itself
 from_none base front p b bs e = ap (λ (xs : List ℕ). number_from base front xs (after_run p (b ∷ bs))) (run_none p b bs e)
 
-decimal_undone : (cut attribute : Bool) (b : ℕ) (bs : List ℕ) → (b == 88 || b == 120) ≡ false → (cut && list_all is_ascii_digit (b ∷ bs)) ≡ false → Undone cut attribute (undone_at cut attribute (Open Hashed (35 ∷ [])) (b ∷ bs)) (35 ∷ b ∷ bs) (number_from 10 2 (run is_ascii_digit (b ∷ bs)) (after_run is_ascii_digit (b ∷ bs)))
+decimal_undone : (cut attribute : Bool) (b : ℕ) (bs : List ℕ) → (b == 88 || b == 120) ≡ false → (cut && list_all is_ascii_digit (b ∷ bs)) ≡ false → Undone cut attribute (undone_at cut attribute (Open Hashed (35 ∷ [])) (b ∷ bs)) (35 ∷ b ∷ bs) (number_from 10 2 (letter_run is_ascii_digit (b ∷ bs)) (after_run is_ascii_digit (b ∷ bs)))
 unfolding flushed
 decimal_undone cut attribute b bs other whole = either (is_ascii_digit b)
     (λ t. otherwise cut attribute _ (35 ∷ b ∷ bs) _ _ (from_run 10 2 is_ascii_digit b bs t)
-    (number_told cut attribute 10 2 b (run is_ascii_digit bs) (after_run is_ascii_digit bs) (35 ∷ []) (35 ∷ b ∷ bs) _ (omega arith)
+    (number_told cut attribute 10 2 b (letter_run is_ascii_digit bs) (after_run is_ascii_digit bs) (35 ∷ []) (35 ∷ b ∷ bs) _ (omega arith)
     (ap (λ (xs : List ℕ). 35 ∷ b ∷ xs) (run-behind is_ascii_digit bs))
     (grow cut attribute Hashed Decimal (35 ∷ []) b bs (rw (other, t) refl)
     ∙ grow_run cut attribute Decimal is_ascii_digit (λ d e. rw e refl) (35 ∷ b ∷ []) bs
-    ∙ decimal_ends cut attribute (b ∷ run is_ascii_digit bs) (after_run is_ascii_digit bs) (run_stops is_ascii_digit bs) (whole_run cut is_ascii_digit bs (rw t at whole)))))
+    ∙ decimal_ends cut attribute (b ∷ letter_run is_ascii_digit bs) (after_run is_ascii_digit bs) (run_stops is_ascii_digit bs) (whole_run cut is_ascii_digit bs (rw t at whole)))))
     (λ f. otherwise cut attribute _ (35 ∷ b ∷ bs) _ _ (from_none 10 2 is_ascii_digit b bs f)
     (as_itself cut attribute _ (35 ∷ b ∷ bs) (break cut attribute Hashed (35 ∷ []) (b ∷ bs) (rw (other, f) refl) ∙ ap (λ (xs : List ℕ). 38 ∷ xs) (sym (plain cut attribute 35 (b ∷ bs) refl)))))
 
 mark_is_plain : (x : ℕ) → (x == 88 || x == 120) ≡ true → (x == 38) ≡ false
 mark_is_plain x e = grind (arith, nat_tests)
 
-hexadecimal_undone : (cut attribute : Bool) (x : ℕ) (bs : List ℕ) → (x == 88 || x == 120) ≡ true → (cut && list_all is_ascii_hexdigit bs) ≡ false → Undone cut attribute (undone_at cut attribute (Open HexMark (35 ∷ x ∷ [])) bs) (35 ∷ x ∷ bs) (number_from 16 3 (run is_ascii_hexdigit bs) (after_run is_ascii_hexdigit bs))
+hexadecimal_undone : (cut attribute : Bool) (x : ℕ) (bs : List ℕ) → (x == 88 || x == 120) ≡ true → (cut && list_all is_ascii_hexdigit bs) ≡ false → Undone cut attribute (undone_at cut attribute (Open HexMark (35 ∷ x ∷ [])) bs) (35 ∷ x ∷ bs) (number_from 16 3 (letter_run is_ascii_hexdigit bs) (after_run is_ascii_hexdigit bs))
 unfolding flushed
 hexadecimal_undone cut attribute x [] mark whole = as_itself cut attribute _ (35 ∷ x ∷ []) (break cut attribute HexMark (35 ∷ x ∷ []) [] (uncut cut whole) ∙ ap (λ (xs : List ℕ). 38 ∷ xs) (sym (plain cut attribute 35 (x ∷ []) refl ∙ ap (λ (xs : List ℕ). 35 ∷ xs) (plain cut attribute x [] (mark_is_plain x mark)))))
 hexadecimal_undone cut attribute x (b ∷ bs) mark whole = either (is_ascii_hexdigit b)
     (λ t. otherwise cut attribute _ (35 ∷ x ∷ b ∷ bs) _ _ (from_run 16 3 is_ascii_hexdigit b bs t)
-    (number_told cut attribute 16 3 b (run is_ascii_hexdigit bs) (after_run is_ascii_hexdigit bs) (35 ∷ x ∷ []) (35 ∷ x ∷ b ∷ bs) _ (omega arith)
+    (number_told cut attribute 16 3 b (letter_run is_ascii_hexdigit bs) (after_run is_ascii_hexdigit bs) (35 ∷ x ∷ []) (35 ∷ x ∷ b ∷ bs) _ (omega arith)
     (ap (λ (xs : List ℕ). 35 ∷ x ∷ b ∷ xs) (run-behind is_ascii_hexdigit bs))
     (grow cut attribute HexMark Hexadecimal (35 ∷ x ∷ []) b bs (rw t refl)
     ∙ grow_run cut attribute Hexadecimal is_ascii_hexdigit (λ d e. rw e refl) (35 ∷ x ∷ b ∷ []) bs
-    ∙ hexadecimal_ends cut attribute x (b ∷ run is_ascii_hexdigit bs) (after_run is_ascii_hexdigit bs) (run_stops is_ascii_hexdigit bs) (whole_run cut is_ascii_hexdigit bs (rw t at whole)))))
+    ∙ hexadecimal_ends cut attribute x (b ∷ letter_run is_ascii_hexdigit bs) (after_run is_ascii_hexdigit bs) (run_stops is_ascii_hexdigit bs) (whole_run cut is_ascii_hexdigit bs (rw t at whole)))))
     (λ f. otherwise cut attribute _ (35 ∷ x ∷ b ∷ bs) _ _ (from_none 16 3 is_ascii_hexdigit b bs f)
     (as_itself cut attribute _ (35 ∷ x ∷ b ∷ bs) (break cut attribute HexMark (35 ∷ x ∷ []) (b ∷ bs) (rw f refl)
     ∙ ap (λ (xs : List ℕ). 38 ∷ xs) (sym (plain cut attribute 35 (x ∷ b ∷ bs) refl ∙ ap (λ (xs : List ℕ). 35 ∷ xs) (plain cut attribute x (b ∷ bs) (mark_is_plain x mark)))))))
@@ -230,18 +230,18 @@ hashed_undone cut attribute (b ∷ bs) whole = either (b == 88 || b == 120)
 -- References.
 
 -- a name of all letters and digits that stand there
-named_at : (attribute : Bool) (b : ℕ) (bs : List ℕ) → (b == 35) ≡ false → is_ascii_alphanumeric b ≡ true → reference_at attribute (b ∷ bs) ≡ name_at attribute (b ∷ run is_ascii_alphanumeric bs) (after_run is_ascii_alphanumeric bs)
+named_at : (attribute : Bool) (b : ℕ) (bs : List ℕ) → (b == 35) ≡ false → is_ascii_alphanumeric b ≡ true → reference_at attribute (b ∷ bs) ≡ reference_name_at attribute (b ∷ letter_run is_ascii_alphanumeric bs) (after_run is_ascii_alphanumeric bs)
 named_at attribute b bs f t =
     cond-false (b == 35) _ _ f
     ∙ cond-true (is_ascii_alphanumeric b) _ _ t
-    ∙ ap (λ (xs : List ℕ). name_at attribute xs (after_run is_ascii_alphanumeric (b ∷ bs))) (run_more is_ascii_alphanumeric b bs t)
-    ∙ ap (λ (xs : List ℕ). name_at attribute (b ∷ run is_ascii_alphanumeric bs) xs) (behind_more is_ascii_alphanumeric b bs t)
+    ∙ ap (λ (xs : List ℕ). reference_name_at attribute xs (after_run is_ascii_alphanumeric (b ∷ bs))) (run_more is_ascii_alphanumeric b bs t)
+    ∙ ap (λ (xs : List ℕ). reference_name_at attribute (b ∷ letter_run is_ascii_alphanumeric bs) xs) (behind_more is_ascii_alphanumeric b bs t)
 
-name_all : (cut attribute : Bool) (b : ℕ) (bs : List ℕ) → is_ascii_alphanumeric b ≡ true → Whole cut (after_run is_ascii_alphanumeric bs) → Undone cut attribute (undone_at cut attribute (Open Named (b ∷ run is_ascii_alphanumeric bs)) (after_run is_ascii_alphanumeric bs)) (b ∷ bs) (name_at attribute (b ∷ run is_ascii_alphanumeric bs) (after_run is_ascii_alphanumeric bs))
+name_all : (cut attribute : Bool) (b : ℕ) (bs : List ℕ) → is_ascii_alphanumeric b ≡ true → Whole cut (after_run is_ascii_alphanumeric bs) → Undone cut attribute (undone_at cut attribute (Open Named (b ∷ letter_run is_ascii_alphanumeric bs)) (after_run is_ascii_alphanumeric bs)) (b ∷ bs) (reference_name_at attribute (b ∷ letter_run is_ascii_alphanumeric bs) (after_run is_ascii_alphanumeric bs))
 name_all cut attribute b bs t whole =
-    subst (λ (all : List ℕ). Undone cut attribute (undone_at cut attribute (Open Named (b ∷ run is_ascii_alphanumeric bs)) (after_run is_ascii_alphanumeric bs)) all (name_at attribute (b ∷ run is_ascii_alphanumeric bs) (after_run is_ascii_alphanumeric bs)))
+    subst (λ (all : List ℕ). Undone cut attribute (undone_at cut attribute (Open Named (b ∷ letter_run is_ascii_alphanumeric bs)) (after_run is_ascii_alphanumeric bs)) all (reference_name_at attribute (b ∷ letter_run is_ascii_alphanumeric bs) (after_run is_ascii_alphanumeric bs)))
     (ap (λ (xs : List ℕ). b ∷ xs) (run-behind is_ascii_alphanumeric bs))
-    (name_undone cut attribute (b ∷ run is_ascii_alphanumeric bs) (after_run is_ascii_alphanumeric bs) (rw t (run_passes is_ascii_alphanumeric bs)) (run_stops is_ascii_alphanumeric bs) whole)
+    (name_undone cut attribute (b ∷ letter_run is_ascii_alphanumeric bs) (after_run is_ascii_alphanumeric bs) (rw t (run_passes is_ascii_alphanumeric bs)) (run_stops is_ascii_alphanumeric bs) whole)
 
 reference_undone : (cut attribute : Bool) (bs : List ℕ) → (cut && is_broken_off bs) ≡ false → Undone cut attribute (undone_at cut attribute (Open Begun []) bs) bs (reference_at attribute bs)
 unfolding flushed

@@ -4,10 +4,10 @@ use Rattle.std.proofs.lemmas.Bool.{and_parts, ltb-true, ltb-false, leb-true, eqb
 use Rattle.std.proofs.lemmas.Bool.Decides.{nat_tests}
 use Rattle.std.proofs.lemmas.List.{length-drop}
 use Rattle.std.specs.Option.{unwrap_or}
-use Rattle.place_core.specs.Characters.{is_broken_off, character_at, characters_within}
-use Rattle.place_core.specs.Classes.{class_of}
-use Rattle.place_core.specs.References.{Reference, Open, undone_byte, next_reference, Closed, undone, replacement}
-use Rattle.place_core.specs.Utf8.{Before, begun, is_lead, decoded, followed, first_character}
+use Rattle.place_core.specs.page.Characters.{is_broken_off, character_at, characters_within}
+use Rattle.place_core.specs.page.Classes.{class_of}
+use Rattle.place_core.specs.page.References.{Reference, Open, undone_byte, next_reference, Closed, undone, replacement}
+use Rattle.place_core.specs.page.Utf8.{Before, partial_begun, is_lead, decoded, utf8_followed, first_character}
 use Rattle.html_words.proofs.Bytes.{plain, undone_at}
 use Rattle.html_words.proofs.Codes.{HasCode, has_if, is_itself, reference_code}
 use Rattle.html_words.proofs.Decoding.{Follows, IsMiddle, follows, lone}
@@ -35,10 +35,10 @@ ampersand_tells cut attribute bs =
     rw (drop_some found.1 38 bs (ampersand_within cut attribute bs).some)
     (ap (decoded Before) (undone_ampersand cut attribute bs) ∙ encoded found.0 (undone_at cut attribute Closed (drop (found.1 - 1) bs)) (ampersand_code cut attribute bs).code)
 
-begun_in_middle : (b : ℕ) → IsMiddle (begun b)
+begun_in_middle : (b : ℕ) → IsMiddle (partial_begun b)
 begun_in_middle b = record { least = grind (arith, nat_tests); most = grind (arith, nat_tests) }
 
-lead_tells : (cut attribute : Bool) (b : ℕ) (bs : List ℕ) (found : Option (ℕ × ℕ)) → (b == 38) ≡ false → 194 ≤ b → b ≤ 244 → Fits 1 (length bs) found → Follows cut attribute (begun b) bs found → Tells cut attribute b bs (unwrap_or found (replacement, 1))
+lead_tells : (cut attribute : Bool) (b : ℕ) (bs : List ℕ) (found : Option (ℕ × ℕ)) → (b == 38) ≡ false → 194 ≤ b → b ≤ 244 → Fits 1 (length bs) found → Follows cut attribute (partial_begun b) bs found → Tells cut attribute b bs (unwrap_or found (replacement, 1))
 lead_tells cut attribute b bs None other least most fits f = rw (plain cut attribute b bs other) (leads b (undone_at cut attribute Closed bs) least most ∙ f)
 lead_tells cut attribute b bs (Some found) other least most fits f =
     rw (drop_some found.1 b bs (omega (arith, fits.0)), plain cut attribute b bs other) (leads b (undone_at cut attribute Closed bs) least most ∙ f)
@@ -50,7 +50,7 @@ first_tells cut attribute b bs other = either (nat_lt b 128)
     (λ t.
     let range = and_parts _ _ t in
     subst (Tells cut attribute b bs) (sym (cond-false (nat_lt b 128) _ _ f ∙ cond-true (is_lead b) _ _ t))
-    (lead_tells cut attribute b bs (followed (begun b) bs) other (leb-true 194 b range.0) (leb-true b 244 range.1) (followed_fits (begun b) bs) (follows cut attribute (begun b) bs (begun_in_middle b))))
+    (lead_tells cut attribute b bs (utf8_followed (partial_begun b) bs) other (leb-true 194 b range.0) (leb-true b 244 range.1) (followed_fits (partial_begun b) bs) (follows cut attribute (partial_begun b) bs (begun_in_middle b))))
     (λ g. subst (Tells cut attribute b bs) (sym (cond-false (nat_lt b 128) _ _ f ∙ cond-false (is_lead b) _ _ g))
     (rw (plain cut attribute b bs other) (lone b (undone_at cut attribute Closed bs) (ltb-false b 128 f) g))))
 

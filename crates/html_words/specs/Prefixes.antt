@@ -1,6 +1,6 @@
 -- The kind of an attribute's name with a prefix.
 use Rattle.std.specs.Prelude.{ℕ, List, drop}
-use Rattle.place_core.specs.Words.{kind_after_prefix, prefix_length}
+use Rattle.place_core.specs.page.Words.{kind_after_prefix, prefix_length}
 use Rattle.place_core.specs.declared.kind.Kind.{Kind}
 
 -- the kind of a name, which is read up to its first colon

@@ -1,20 +1,21 @@
 ghost use Rattle.std.specs.Prelude.{◌≡◌, ◌≤◌, length};
 ghost use Rattle.std.specs.Str.{str_to_ascii_lowercase as lower};
-ghost use Rattle.place_core.specs.Words.{is_script as is_script_of, is_among as is_among_of, kind_of, kind_of_name as kind_of_name_of, kind_with_prefix as kind_with_prefix_of, no_hole_names, prefix_length, url_names};
+ghost use Rattle.place_core.specs.page.Words.{kind_of, no_hole_names, prefix_length, url_names};
 ghost use Rattle.html_words.specs.Prefixes.{kind_by_prefix};
+ghost use Rattle.place_core.specs.page.Words as spec;
 
 use crate::words::{begins, has_part, is_among, same};
 use place_core::{Element, Kind};
 
 /// How the value of an attribute is read: by its name, in any case, and the element on which it stands. (HTML Standard, sections
-/// 3.2.6, 4.12.1 and 8.1.8.1; Go's `html/template` for the kinds.) Takes no memory.
+/// 3.2.6, 4.12.1 and 8.1.8.1; Go's `html/template` for the kinds.) Does not allocate.
 pub fn attr_kind(name: &str, element: Element) -> Kind
     ensures { result ≡ kind_of element name.now }
 {
     name_kind(name.as_bytes(), element)
 }
 
-/// The same of a name that is given by its bytes. Takes no memory.
+/// The same of a name that is given by its bytes. Does not allocate.
 pub fn name_kind(name: &[u8], element: Element) -> Kind
     ensures { result ≡ kind_of element name.now }
 {
@@ -26,14 +27,14 @@ pub fn name_kind(name: &[u8], element: Element) -> Kind
 
 // A data block is a script element too.
 fn is_script(element: Element) -> bool
-    ensures { result ≡ is_script_of element }
+    ensures { result ≡ spec.is_script element }
 {
     matches!(element, Element::Script | Element::DataBlock)
 }
 
 // The kind of a name with its prefix; `data-` does not matter.
 fn kind_with_prefix(name: &[u8]) -> Kind
-    ensures { result ≡ kind_with_prefix_of (lower name.now) }
+    ensures { result ≡ spec.kind_with_prefix (lower name.now) }
 {
     if begins(name, b"data-") {
         let (_, rest) = name.split_at(5);
@@ -69,7 +70,7 @@ fn prefix_len(name: &[u8]) -> usize
 
 // The kind of a name without a prefix.
 fn kind_of_name(name: &[u8]) -> Kind
-    ensures { result ≡ kind_of_name_of (lower name.now) }
+    ensures { result ≡ spec.kind_of_name (lower name.now) }
 {
     if same(name, b"style") {
         return Kind::Style;
@@ -90,13 +91,13 @@ fn kind_of_name(name: &[u8]) -> Kind
 }
 
 fn is_no_hole_name(name: &[u8]) -> bool
-    ensures { result ≡ is_among_of no_hole_names (lower name.now) }
+    ensures { result ≡ spec.is_among no_hole_names (lower name.now) }
 {
     is_among(name, &[b"srcdoc", b"srcset", b"imagesrcset"])
 }
 
 fn is_url_name(name: &[u8]) -> bool
-    ensures { result ≡ is_among_of url_names (lower name.now) }
+    ensures { result ≡ spec.is_among url_names (lower name.now) }
 {
     is_among(
         name,

@@ -1,7 +1,8 @@
 // The characters that have names, in the profile (HTML Standard, section 13.5).
 ghost use Rattle.std.specs.Prelude.{◌≡◌, map};
-ghost use Rattle.place_core.specs.Characters.{begins_at, whole_at};
-ghost use Rattle.place_core.specs.References.{named_in as named_in_of, names, row, short_names};
+ghost use Rattle.place_core.specs.page.Characters.{begins_at, whole_at};
+ghost use Rattle.place_core.specs.page.References.{names, reference_row, short_names};
+ghost use Rattle.place_core.specs.page.References as spec;
 
 use crate::number::REPLACEMENT;
 use crate::reference::ITSELF;
@@ -21,7 +22,7 @@ const SHORT_NAMES: [(&[u8], u32); 9] = [
 
 /// The character of a name that a semicolon ends.
 pub fn named(name: &[u8]) -> u32
-    ensures { result ≡ named_in_of names name.now }
+    ensures { result ≡ spec.named_in names name.now }
 {
     named_in(
         name,
@@ -91,7 +92,7 @@ pub fn short_whole(name: &[u8]) -> (u32, usize)
 }
 
 fn named_in(name: &[u8], rows: &[(&[u8], u32)]) -> u32
-    ensures { result ≡ named_in_of (map (λ r. row r.0.now r.1) rows.now) name.now }
+    ensures { result ≡ spec.named_in (map (λ r. reference_row r.0.now r.1) rows.now) name.now }
 {
     for row in rows {
         if row.0 == name {
@@ -102,7 +103,7 @@ fn named_in(name: &[u8], rows: &[(&[u8], u32)]) -> u32
 }
 
 fn prefix_in(name: &[u8], rows: &[(&[u8], u32)]) -> (u32, usize)
-    ensures { result ≡ begins_at (map (λ r. row r.0.now r.1) rows.now) name.now }
+    ensures { result ≡ begins_at (map (λ r. reference_row r.0.now r.1) rows.now) name.now }
 {
     for row in rows {
         if name.starts_with(row.0) {
@@ -113,7 +114,7 @@ fn prefix_in(name: &[u8], rows: &[(&[u8], u32)]) -> (u32, usize)
 }
 
 fn whole_in(name: &[u8], rows: &[(&[u8], u32)]) -> (u32, usize)
-    ensures { result ≡ whole_at (map (λ r. row r.0.now r.1) rows.now) name.now }
+    ensures { result ≡ whole_at (map (λ r. reference_row r.0.now r.1) rows.now) name.now }
 {
     for row in rows {
         if row.0 == name {

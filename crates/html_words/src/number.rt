@@ -1,6 +1,7 @@
 // The characters of numbers (HTML Standard, section 13.2.5.80).
 ghost use Rattle.std.specs.Prelude.{◌≡◌, ◌≤◌, length, map, min};
-ghost use Rattle.place_core.specs.References.{digit_of as digit_of_by, number_at as number_at_of, number_in as number_in_of, numbered as numbered_of, numbers, row};
+ghost use Rattle.place_core.specs.page.References.{numbers, reference_row};
+ghost use Rattle.place_core.specs.page.References as spec;
 
 /// U+FFFD, the character for what stands for none.
 pub const REPLACEMENT: u32 = 0xFFFD;
@@ -12,14 +13,14 @@ const PAST: u32 = 0x11_0000;
 pub fn numbered_in(base: u32, digits: &[u8]) -> u32
     requires base { 1 ≤ base }
     requires most { base ≤ 16 }
-    ensures { result ≡ numbered_of (number_in_of base 0 digits.now) }
+    ensures { result ≡ spec.numbered_reference (spec.number_in_reference base 0 digits.now) }
 {
     numbered(number_in(base, digits))
 }
 
 // The character of a number.
 fn numbered(number: u32) -> u32
-    ensures { result ≡ numbered_of number }
+    ensures { result ≡ spec.numbered_reference number }
 {
     if number == 0 || number >= PAST || (0xD800 <= number && number <= 0xDFFF) {
         return REPLACEMENT;
@@ -31,7 +32,7 @@ fn numbered(number: u32) -> u32
 fn number_in(base: u32, digits: &[u8]) -> u32
     requires base { 1 ≤ base }
     requires most { base ≤ 16 }
-    ensures { result ≡ min (number_in_of base 0 digits.now) 0x110000 }
+    ensures { result ≡ min (spec.number_in_reference base 0 digits.now) 0x110000 }
 {
     let mut number = 0;
     for digit in digits {
@@ -41,7 +42,7 @@ fn number_in(base: u32, digits: &[u8]) -> u32
 }
 
 fn digit_of(byte: u8) -> u32
-    ensures value { result ≡ digit_of_by byte }
+    ensures value { result ≡ spec.digit_of byte }
     ensures bound { result ≤ 255 }
 {
     if byte <= b'9' {
@@ -55,7 +56,7 @@ fn digit_of(byte: u8) -> u32
 
 // The numbers that stand for another character than their own: those of windows-1252.
 fn in_windows_1252(number: u32) -> u32
-    ensures { result ≡ number_at_of numbers number }
+    ensures { result ≡ spec.number_at numbers number }
 {
     number_at(
         number,
@@ -92,7 +93,7 @@ fn in_windows_1252(number: u32) -> u32
 }
 
 fn number_at(number: u32, rows: &[(u32, u32)]) -> u32
-    ensures { result ≡ number_at_of (map (λ r. row r.0 r.1) rows.now) number }
+    ensures { result ≡ spec.number_at (map (λ r. reference_row r.0 r.1) rows.now) number }
 {
     for row in rows {
         if row.0 == number {

@@ -1,5 +1,5 @@
 ghost use Rattle.std.specs.Prelude.{◌≡◌, ◌+◌, ◌<◌, ◌^◌, length, true};
-ghost use Rattle.place_core.specs.Characters.{characters_at};
+ghost use Rattle.place_core.specs.page.Characters.{characters_at};
 
 use crate::character::next_in_value;
 use place_core::Chars;
@@ -15,7 +15,7 @@ pub struct RefChars<'a> {
 
 impl<'a> RefChars<'a> {
     /// The characters of a value that stands at a place of its node, in bytes. Where the node ends in the value, it is cut: what is
-    /// a reference only because it ends there is read as it is. Takes no memory.
+    /// a reference only because it ends there is read as it is. Does not allocate.
     pub fn new(value: &'a str, at: u32, cut: bool) -> RefChars<'a>
         requires { at + length value.now < 2 ^ 32 }
         ensures { ⟦<RefChars<'a> as Chars>⟧.left result ≡ characters_at true cut at value.now }

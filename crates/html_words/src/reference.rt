@@ -2,7 +2,7 @@
 ghost use Rattle.std.specs.Prelude.{◌≡◌, ◌≤◌, length};
 ghost use Rattle.std.specs.Char.{is_ascii_alphanumeric, is_ascii_digit, is_ascii_hexdigit};
 ghost use Rattle.std.specs.List.{list_all, prefix_len};
-ghost use Rattle.place_core.specs.Characters.{hashed_at as hashed_at_of, is_broken_number as is_broken_number_of, is_broken_off as is_broken_off_of, name_at as name_at_of, number_from as number_from_of, reference_at as reference_at_of, semicolon_len as semicolon_len_of, short_at as short_at_of};
+ghost use Rattle.place_core.specs.page.Characters as spec;
 
 use crate::names::{named, short_prefix, short_whole};
 use crate::number::numbered_in;
@@ -13,7 +13,7 @@ pub const ITSELF: (u32, usize) = ('&' as u32, 1);
 /// The character of the reference before whose bytes an ampersand stands, in the value of an attribute or in text, and how
 /// many bytes it takes with the ampersand.
 pub fn reference_at(attribute: bool, bytes: &[u8]) -> (u32, usize)
-    ensures { result ≡ reference_at_of attribute bytes.now }
+    ensures { result ≡ spec.reference_at attribute bytes.now }
 {
     match bytes.split_first() {
         None => ITSELF,
@@ -32,7 +32,7 @@ pub fn reference_at(attribute: bool, bytes: &[u8]) -> (u32, usize)
 
 /// Whether all that stands after an ampersand is a reference that only the end of the bytes breaks off.
 pub fn is_broken_off(bytes: &[u8]) -> bool
-    ensures { result ≡ is_broken_off_of bytes.now }
+    ensures { result ≡ spec.is_broken_off bytes.now }
 {
     match bytes.split_first() {
         None => true,
@@ -46,7 +46,7 @@ pub fn is_broken_off(bytes: &[u8]) -> bool
 }
 
 fn is_broken_number(bytes: &[u8]) -> bool
-    ensures { result ≡ is_broken_number_of bytes.now }
+    ensures { result ≡ spec.is_broken_number bytes.now }
 {
     match bytes.split_first() {
         None => true,
@@ -61,7 +61,7 @@ fn is_broken_number(bytes: &[u8]) -> bool
 
 // A name, and what stands after it.
 fn name_at(attribute: bool, name: &[u8], after: &[u8]) -> (u32, usize)
-    ensures { result ≡ name_at_of attribute name.now after.now }
+    ensures { result ≡ spec.reference_name_at attribute name.now after.now }
 {
     match after.split_first() {
         None => short_at(attribute, false, name),
@@ -76,7 +76,7 @@ fn name_at(attribute: bool, name: &[u8], after: &[u8]) -> (u32, usize)
 
 // A name that no semicolon ends, before an equals sign or not.
 fn short_at(attribute: bool, equals: bool, name: &[u8]) -> (u32, usize)
-    ensures { result ≡ short_at_of attribute equals name.now }
+    ensures { result ≡ spec.short_at attribute equals name.now }
 {
     if !attribute {
         return short_prefix(name);
@@ -89,7 +89,7 @@ fn short_at(attribute: bool, equals: bool, name: &[u8]) -> (u32, usize)
 
 // What stands after `&#`.
 fn hashed_at(bytes: &[u8]) -> (u32, usize)
-    ensures { result ≡ hashed_at_of bytes.now }
+    ensures { result ≡ spec.hashed_at bytes.now }
 {
     match bytes.split_first() {
         None => ITSELF,
@@ -109,7 +109,7 @@ fn number_from(base: u32, prefix: usize, digits: &[u8], after: &[u8]) -> (u32, u
     requires base { 1 ≤ base }
     requires most { base ≤ 16 }
     requires prefix { prefix ≤ 3 }
-    ensures { result ≡ number_from_of base prefix digits.now after.now }
+    ensures { result ≡ spec.number_from base prefix digits.now after.now }
 {
     match digits.split_first() {
         None => ITSELF,
@@ -121,7 +121,7 @@ fn number_from(base: u32, prefix: usize, digits: &[u8], after: &[u8]) -> (u32, u
 }
 
 fn semicolon_len(bytes: &[u8]) -> usize
-    ensures len { result ≡ semicolon_len_of bytes.now }
+    ensures len { result ≡ spec.semicolon_len bytes.now }
     ensures bound { result ≤ 1 }
 {
     match bytes.split_first() {

@@ -2,12 +2,13 @@ ghost use Rattle.std.specs.Prelude.{◌≡◌, ◌≤◌, ◌==◌, not, length}
 ghost use Rattle.std.specs.Char.{is_ascii_whitespace};
 ghost use Rattle.std.specs.List.{prefix_len, suffix_len};
 ghost use Rattle.std.specs.Str.{str_to_ascii_lowercase};
-ghost use Rattle.place_core.specs.Words.{is_among as is_among_of, is_script_type, script_types, trimmed_end as trimmed_end_of, trimmed_start as trimmed_start_of, without_parameters as without_parameters_of};
+ghost use Rattle.place_core.specs.page.Words.{is_script_type, script_types};
+ghost use Rattle.place_core.specs.page.Words as spec;
 
 use crate::words::is_among;
 
 /// Whether a script element with this `type` holds a script or JSON; with any other it holds data. (HTML Standard, section 4.12.1.)
-/// Takes no memory.
+/// Does not allocate.
 pub fn script_type(value: &str) -> bool
     ensures { result ≡ is_script_type value.now }
 {
@@ -16,7 +17,7 @@ pub fn script_type(value: &str) -> bool
 
 // What stands before the first semicolon.
 fn without_parameters(value: &[u8]) -> &[u8]
-    ensures { result.now ≡ without_parameters_of value.now }
+    ensures { result.now ≡ spec.without_parameters value.now }
 {
     let (prefix, _) = value.split_at(type_len(value));
     prefix
@@ -24,7 +25,7 @@ fn without_parameters(value: &[u8]) -> &[u8]
 
 // Without white space at the beginning.
 fn trimmed_start(value: &[u8]) -> &[u8]
-    ensures { result.now ≡ trimmed_start_of value.now }
+    ensures { result.now ≡ spec.trimmed_start value.now }
 {
     let (_, rest) = value.split_at(white_len(value));
     rest
@@ -32,7 +33,7 @@ fn trimmed_start(value: &[u8]) -> &[u8]
 
 // Without white space at the end.
 fn trimmed_end(value: &[u8]) -> &[u8]
-    ensures { result.now ≡ trimmed_end_of value.now }
+    ensures { result.now ≡ spec.trimmed_end value.now }
 {
     let (prefix, _) = value.split_at(value.len() - white_end_len(value));
     prefix
@@ -70,7 +71,7 @@ fn white_end_len(value: &[u8]) -> usize
 }
 
 fn is_type(value: &[u8]) -> bool
-    ensures { result ≡ is_among_of script_types (str_to_ascii_lowercase value.now) }
+    ensures { result ≡ spec.is_among script_types (str_to_ascii_lowercase value.now) }
 {
     is_among(
         value,

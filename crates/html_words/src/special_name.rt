@@ -1,13 +1,14 @@
 ghost use Rattle.std.specs.Prelude.{◌≡◌};
 ghost use Rattle.std.specs.Str.{str_to_ascii_lowercase};
-ghost use Rattle.place_core.specs.Words.{is_among as is_among_of, is_plain as is_plain_of, is_special, special_names};
+ghost use Rattle.place_core.specs.page.Words.{is_special, special_names};
+ghost use Rattle.place_core.specs.page.Words as spec;
 
 use crate::kind::attr_kind;
 use crate::words::is_among;
 use place_core::{Element, Kind};
 
 /// Whether no data may make this name of an attribute, in any case: one that is not plain on some element, or decides what a page
-/// does. (HTML Standard, sections 3.2.6, 4.12.1 and 8.1.8.1.) Takes no memory.
+/// does. (HTML Standard, sections 3.2.6, 4.12.1 and 8.1.8.1.) Does not allocate.
 pub fn special(name: &str) -> bool
     ensures { result ≡ is_special name.now }
 {
@@ -18,14 +19,14 @@ pub fn special(name: &str) -> bool
 }
 
 fn is_plain(kind: Kind) -> bool
-    ensures { result ≡ is_plain_of kind }
+    ensures { result ≡ spec.is_plain_name kind }
 {
     matches!(kind, Kind::Plain)
 }
 
 // Whether a plain name decides what a page does.
 fn is_special_name(name: &[u8]) -> bool
-    ensures { result ≡ is_among_of special_names (str_to_ascii_lowercase name.now) }
+    ensures { result ≡ spec.is_among special_names (str_to_ascii_lowercase name.now) }
 {
     is_among(
         name,

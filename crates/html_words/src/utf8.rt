@@ -1,16 +1,17 @@
 // The first character of bytes as UTF-8 (Encoding Standard, section 8.1.1).
 ghost use Rattle.std.specs.Prelude.{◌≡◌};
-ghost use Rattle.place_core.specs.Utf8.{begun, first_character as first_character_of, followed as followed_of, is_lead as is_lead_of};
+ghost use Rattle.place_core.specs.page.Utf8.{partial_begun};
 ghost use Rattle.std.specs.Str.{continuation_len as continuation_len_of, lead_bits as lead_bits_of};
 ghost use Rattle.std.specs.Str.Lossy.{second_byte_max as second_byte_max_of, second_byte_min as second_byte_min_of};
 ghost use Rattle.std.specs.Prelude.{IsTrue};
+ghost use Rattle.place_core.specs.page.Utf8 as spec;
 
 use crate::number::REPLACEMENT;
 
 /// The first character of bytes, of which the first stands apart, and how many bytes it takes. A byte with which no well formed
 /// character begins is U+FFFD.
 pub fn first_character(byte: u8, rest: &[u8]) -> (u32, usize)
-    ensures { result ≡ first_character_of byte rest.now }
+    ensures { result ≡ spec.first_character byte rest.now }
 {
     if byte < 128 {
         return (u32::from(byte), 1);
@@ -26,15 +27,15 @@ pub fn first_character(byte: u8, rest: &[u8]) -> (u32, usize)
 
 // Whether a character of several bytes begins with this byte.
 fn is_lead(byte: u8) -> bool
-    ensures { result ≡ is_lead_of byte }
+    ensures { result ≡ spec.is_lead byte }
 {
     194 <= byte && byte <= 244
 }
 
 // The character that a byte begins with those after it, where they go on with it.
 fn followed(lead: u8, rest: &[u8]) -> Option<(u32, usize)>
-    requires { IsTrue (is_lead_of lead) }
-    ensures { result ≡ followed_of (begun lead) rest.now }
+    requires { IsTrue (spec.is_lead lead) }
+    ensures { result ≡ spec.utf8_followed (partial_begun lead) rest.now }
 {
     let mut needed = continuation_len(lead);
     let mut lower = second_byte_min(lead);

@@ -2,7 +2,7 @@
 ghost use Rattle.std.specs.Prelude.{◌≡◌, nat_eq, map};
 ghost use Rattle.std.specs.List.{starts_with};
 ghost use Rattle.std.specs.Str.{str_eq_ignore_ascii_case, str_to_ascii_lowercase as lower};
-ghost use Rattle.place_core.specs.Words.{has_part as has_part_of, is_among as is_among_of};
+ghost use Rattle.place_core.specs.page.Words as spec;
 
 /// Whether two names are the same, in any case.
 pub fn same(one: &[u8], other: &[u8]) -> bool
@@ -13,7 +13,7 @@ pub fn same(one: &[u8], other: &[u8]) -> bool
 
 /// Whether a name is one of these words.
 pub fn is_among(name: &[u8], words: &[&[u8]]) -> bool
-    ensures { result ≡ is_among_of (map (λ word. lower word.now) words.now) (lower name.now) }
+    ensures { result ≡ spec.is_among (map (λ word. lower word.now) words.now) (lower name.now) }
 {
     for word in words {
         if same(name, word) {
@@ -36,7 +36,7 @@ pub fn begins(name: &[u8], word: &[u8]) -> bool
 
 /// Whether a word stands somewhere in a name.
 pub fn has_part(name: &[u8], part: &[u8]) -> bool
-    ensures { result ≡ has_part_of (lower part.now) (lower name.now) }
+    ensures { result ≡ spec.has_part (lower part.now) (lower name.now) }
 {
     let mut rest = name;
     while let Some((_, after)) = rest.split_first() {

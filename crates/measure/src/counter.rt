@@ -1,5 +1,5 @@
 ghost use Rattle.std.specs.Prelude.{◌≤◌, length};
-ghost use Rattle.tpl_token.specs.Answers.{max_text};
+ghost use Rattle.tpl_token.specs.Answers.{max_template_text};
 
 use crate::forest::{NAME, forest_of};
 use page_datum::{DataRefused, Datum, read_datum};
@@ -50,7 +50,7 @@ impl HoleSink for Counter {
 
 /// The events and the steps of a template with the data that a text is.
 pub fn executed_counted(alloc: Global, template: &str, text: &str) -> Result<String, AllocError>
-    requires { length template.now ≤ max_text }
+    requires { length template.now ≤ max_template_text }
 {
     let bytes = text.len();
     let datum = match read_datum(alloc, text.as_bytes()) {

@@ -1,5 +1,5 @@
 ghost use Rattle.std.specs.Prelude.{◌≤◌, length};
-ghost use Rattle.tpl_token.specs.Answers.{max_text};
+ghost use Rattle.tpl_token.specs.Answers.{max_template_text};
 
 use page_io::{List, Memory};
 use std::alloc::{AllocError, Global};
@@ -11,7 +11,7 @@ pub const NAME: &str = "file";
 
 /// The templates of one file, which is well formed.
 pub fn forest_of(alloc: Global, template: &str) -> Result<Forest, AllocError>
-    requires { length template.now ≤ max_text }
+    requires { length template.now ≤ max_template_text }
 {
     let file = match parse_file(alloc, NAME, template) {
         Ok(file) => file,

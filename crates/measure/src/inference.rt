@@ -1,5 +1,5 @@
 ghost use Rattle.std.specs.Prelude.{◌≤◌, length};
-ghost use Rattle.tpl_token.specs.Answers.{max_text};
+ghost use Rattle.tpl_token.specs.Answers.{max_template_text};
 
 use crate::forest::{NAME, forest_of};
 use page_io::{List, Memory, Names, Text};
@@ -8,7 +8,7 @@ use std::alloc::{AllocError, Global};
 
 /// The templates of a file.
 pub fn templates_counted(alloc: Global, text: &str) -> Result<String, AllocError>
-    requires { length text.now ≤ max_text }
+    requires { length text.now ≤ max_template_text }
 {
     let bytes = text.len();
     let forest = forest_of(alloc, text)?;
@@ -18,7 +18,7 @@ pub fn templates_counted(alloc: Global, text: &str) -> Result<String, AllocError
 
 /// The pairs of the chart of a file, whose own template is the root.
 pub fn pairs_counted(alloc: Global, text: &str) -> Result<String, AllocError>
-    requires { length text.now ≤ max_text }
+    requires { length text.now ≤ max_template_text }
 {
     let bytes = text.len();
     let forest = forest_of(alloc, text)?;

@@ -7,7 +7,7 @@ use crate::template_sets::{chain, pairs};
 use crate::units::{push_units, push_within};
 use std::alloc::{AllocError, Global};
 
-/// An input of at most so many bytes.
+/// An input of at most that many bytes.
 pub fn input_of(alloc: Global, input: Input, size: usize) -> Result<String, AllocError>
     requires { size ≤ max_length }
     ensures { IfOk result (λ text. length (string_bytes text) ≤ size) }

@@ -18,17 +18,17 @@ pub trait Publishes {
     fn publish<R: Wait>(&mut self, rt: &R, alloc: Global, set: u64) -> bool;
 }
 
-type NumberDesk = Desk<u64, Told<u64>>;
+type CountingDesk = Desk<u64, Told<u64>>;
 
-type NumberViewer = Viewer<u64, Told<u64>>;
+type CountingViewer = Viewer<u64, Told<u64>>;
 
-impl Looks for NumberViewer {
+impl Looks for CountingViewer {
     fn look<R: Wait>(&mut self, _rt: &R) {
         let _number = self.current();
     }
 }
 
-impl Publishes for NumberDesk {
+impl Publishes for CountingDesk {
     fn publish<R: Wait>(&mut self, rt: &R, alloc: Global, set: u64) -> bool {
         self.publish(alloc, rt, set).is_ok()
     }
@@ -71,7 +71,7 @@ pub fn four_look<R: Threads + Wait + Sync>(
     counts
 }
 
-fn opened<R: Wait>(rt: &R, alloc: Global) -> Result<NumberDesk, AllocError> {
+fn opened<R: Wait>(rt: &R, alloc: Global) -> Result<CountingDesk, AllocError> {
     match Desk::open(alloc, rt, 0u64) {
         Ok(desk) => Ok(desk),
         Err(Memory) => Err(AllocError),

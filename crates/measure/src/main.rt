@@ -3,7 +3,7 @@
 #![tactic(auto)]
 
 ghost use Rattle.std.specs.Prelude.{◌≤◌, IfOk, IfSome, length};
-ghost use Rattle.tpl_token.specs.Answers.{max_text};
+ghost use Rattle.tpl_token.specs.Answers.{max_template_text};
 ghost use Rattle.measure.specs.Limits.{most_of};
 
 mod byte_counter;
@@ -24,7 +24,7 @@ use crate::inference::{pairs_counted, templates_counted};
 use crate::input::input_of;
 use crate::locks::{four_lock, one_locks};
 use crate::looks::{four_look, one_looks};
-use crate::request::{Call, Input, Request, most, size_named, words_named};
+use crate::request::{Input, Measured, Request, most, size_named, words_named};
 use crate::whole_page::page_counted;
 use html_step::{after_text, print_place};
 use html_words::RefChars;
@@ -98,7 +98,7 @@ fn requested<R: env::Env + AllocGlobal>(rt: &R) -> Result<Option<Request>, Alloc
 fn counted<R: Threads + Wait + Sync>(
     rt: &R,
     alloc: Global,
-    call: Call,
+    call: Measured,
     input: Input,
     size: usize,
 ) -> Result<String, AllocError>
@@ -106,46 +106,46 @@ fn counted<R: Threads + Wait + Sync>(
 {
     let text = input_of(alloc, input, size)?;
     match call {
-        Call::Tokens => tokens_counted(alloc, text.as_str()),
-        Call::Parse => definitions_counted(alloc, text.as_str()),
-        Call::Gather => templates_counted(alloc, text.as_str()),
-        Call::Infer => pairs_counted(alloc, text.as_str()),
-        Call::Html => written_counted(alloc, text.as_str(), html(alloc, text.as_str())),
-        Call::AttrNospace => written_counted(
+        Measured::Tokens => tokens_counted(alloc, text.as_str()),
+        Measured::Parse => definitions_counted(alloc, text.as_str()),
+        Measured::Gather => templates_counted(alloc, text.as_str()),
+        Measured::Infer => pairs_counted(alloc, text.as_str()),
+        Measured::Html => written_counted(alloc, text.as_str(), html(alloc, text.as_str())),
+        Measured::AttrNospace => written_counted(
             alloc,
             text.as_str(),
             attr_nospace(alloc, text.as_str()),
         ),
-        Call::Characters => characters_counted(alloc, text.as_str()),
-        Call::Steps => place_told(alloc, text.as_str()),
-        Call::Written => written_counted(
+        Measured::Characters => characters_counted(alloc, text.as_str()),
+        Measured::Steps => place_told(alloc, text.as_str()),
+        Measured::Written => written_counted(
             alloc,
             text.as_str(),
             write_text(alloc, TEXT, text.as_str()),
         ),
-        Call::Data => printed_counted(alloc, text.as_str()),
-        Call::Turns => executed_counted(alloc, "{{range .}}{{.}}{{end}}", text.as_str()),
-        Call::Calls => executed_counted(
+        Measured::Data => printed_counted(alloc, text.as_str()),
+        Measured::Turns => executed_counted(alloc, "{{range .}}{{.}}{{end}}", text.as_str()),
+        Measured::Calls => executed_counted(
             alloc,
             "{{define \"t\"}}{{template \"t\"}}{{end}}{{template \"t\"}}",
             text.as_str(),
         ),
-        Call::Keys => executed_counted(
+        Measured::Keys => executed_counted(
             alloc,
             "{{range $key, $value := .}}{{index $ $key}}{{end}}",
             text.as_str(),
         ),
-        Call::Page => page_counted(alloc, input, text.as_str(), 1),
-        Call::Pages => page_counted(alloc, input, text.as_str(), 101),
-        Call::Looks if input == Input::One => one_looks(rt, alloc, size),
-        Call::Looks => four_look(rt, alloc, size),
-        Call::Locks if input == Input::One => one_locks(rt, alloc, size),
-        Call::Locks => four_lock(rt, alloc, size),
+        Measured::Page => page_counted(alloc, input, text.as_str(), 1),
+        Measured::Pages => page_counted(alloc, input, text.as_str(), 101),
+        Measured::Looks if input == Input::One => one_looks(rt, alloc, size),
+        Measured::Looks => four_look(rt, alloc, size),
+        Measured::Locks if input == Input::One => one_locks(rt, alloc, size),
+        Measured::Locks => four_lock(rt, alloc, size),
     }
 }
 
 fn tokens_counted(alloc: Global, text: &str) -> Result<String, AllocError>
-    requires { length text.now ≤ max_text }
+    requires { length text.now ≤ max_template_text }
 {
     let bytes = text.len();
     match tokens(alloc, text) {
@@ -159,7 +159,7 @@ fn tokens_counted(alloc: Global, text: &str) -> Result<String, AllocError>
 }
 
 fn definitions_counted(alloc: Global, text: &str) -> Result<String, AllocError>
-    requires { length text.now ≤ max_text }
+    requires { length text.now ≤ max_template_text }
 {
     let bytes = text.len();
     match parse_file(alloc, "file", text) {
@@ -189,7 +189,7 @@ fn written_counted(
 }
 
 fn characters_counted(alloc: Global, text: &str) -> Result<String, AllocError>
-    requires { length text.now ≤ max_text }
+    requires { length text.now ≤ max_template_text }
 {
     let bytes = text.len();
     let mut characters = RefChars::new(text, 0, false);
@@ -203,7 +203,7 @@ fn characters_counted(alloc: Global, text: &str) -> Result<String, AllocError>
 
 // The place after a text, from text.
 fn place_told(alloc: Global, text: &str) -> Result<String, AllocError>
-    requires { length text.now ≤ max_text }
+    requires { length text.now ≤ max_template_text }
 {
     let bytes = text.len();
     match after_text(TEXT, text) {

@@ -13,7 +13,7 @@ pub struct Nest<'t> {
     pub begin: &'t str,
     /// Its end.
     pub end: &'t str,
-    /// What stands behind the last level.
+    /// What stands after the last level.
     pub back: &'t str,
 }
 

@@ -6,7 +6,7 @@ use tpl_token::MAX_TEXT;
 
 /// What is done with an input.
 #[derive(Clone, Copy, Debug, PartialEq, Eq)]
-pub enum Call {
+pub enum Measured {
     /// Its tokens are read.
     Tokens,
     /// It is parsed, as a template file.
@@ -80,7 +80,7 @@ pub enum Input {
     Pairs,
     /// Ranges in ranges, each with a tag of its own.
     Nests,
-    /// Ranges in ranges in a value without quotes, so that each has one place before its first turn and another one behind it.
+    /// Ranges in ranges in a value without quotes, so that each has one place before its first turn and another one after it.
     Values,
     /// Nothing; one thread looks.
     One,
@@ -91,79 +91,83 @@ pub enum Input {
 /// What the words ask for.
 #[derive(Clone, Copy, Debug, PartialEq, Eq)]
 pub struct Request {
-    pub call: Call,
+    pub call: Measured,
     pub input: Input,
     /// The most bytes that the input may have, or how often each thread looks.
     pub size: usize,
 }
 
 /// What a word asks for: a call, and an input.
-pub fn words_named(word: &str) -> Option<(Call, Input)> {
+pub fn words_named(word: &str) -> Option<(Measured, Input)> {
     match word {
-        "tokens-text" => Some((Call::Tokens, Input::Text)),
-        "tokens-open" => Some((Call::Tokens, Input::Open)),
-        "tokens-string" => Some((Call::Tokens, Input::String)),
-        "tokens-actions" => Some((Call::Tokens, Input::Actions)),
-        "parse-text" => Some((Call::Parse, Input::Text)),
-        "parse-actions" => Some((Call::Parse, Input::Actions)),
-        "parse-definitions" => Some((Call::Parse, Input::Definitions)),
-        "gather-sections" => Some((Call::Gather, Input::Sections)),
-        "gather-chain" => Some((Call::Gather, Input::Chain)),
-        "gather-pairs" => Some((Call::Gather, Input::Pairs)),
-        "gather-nested" => Some((Call::Gather, Input::Nests)),
-        "gather-values" => Some((Call::Gather, Input::Values)),
-        "infer-sections" => Some((Call::Infer, Input::Sections)),
-        "infer-chain" => Some((Call::Infer, Input::Chain)),
-        "infer-pairs" => Some((Call::Infer, Input::Pairs)),
-        "infer-nested" => Some((Call::Infer, Input::Nests)),
-        "infer-values" => Some((Call::Infer, Input::Values)),
-        "html-text" => Some((Call::Html, Input::Text)),
-        "html-markup" => Some((Call::Html, Input::Markup)),
-        "nospace-text" => Some((Call::AttrNospace, Input::Text)),
-        "nospace-markup" => Some((Call::AttrNospace, Input::Markup)),
-        "characters-text" => Some((Call::Characters, Input::Text)),
-        "characters-references" => Some((Call::Characters, Input::References)),
-        "steps-text" => Some((Call::Steps, Input::Text)),
-        "steps-tags" => Some((Call::Steps, Input::Tags)),
-        "written-text" => Some((Call::Written, Input::Text)),
-        "written-tags" => Some((Call::Written, Input::Tags)),
-        "data-numbers" => Some((Call::Data, Input::Numbers)),
-        "data-text" => Some((Call::Data, Input::Texts)),
-        "data-lists" => Some((Call::Data, Input::Lists)),
-        "data-objects" => Some((Call::Data, Input::Objects)),
-        "execute-turns" => Some((Call::Turns, Input::Numbers)),
-        "execute-calls" => Some((Call::Calls, Input::Numbers)),
-        "execute-keys" => Some((Call::Keys, Input::Objects)),
-        "page-sections" => Some((Call::Page, Input::PageSections)),
-        "page-text" => Some((Call::Page, Input::Text)),
-        "pages-sections" => Some((Call::Pages, Input::PageSections)),
-        "pages-text" => Some((Call::Pages, Input::Text)),
-        "looks-1" => Some((Call::Looks, Input::One)),
-        "looks-4" => Some((Call::Looks, Input::Four)),
-        "locks-1" => Some((Call::Locks, Input::One)),
-        "locks-4" => Some((Call::Locks, Input::Four)),
+        "tokens-text" => Some((Measured::Tokens, Input::Text)),
+        "tokens-open" => Some((Measured::Tokens, Input::Open)),
+        "tokens-string" => Some((Measured::Tokens, Input::String)),
+        "tokens-actions" => Some((Measured::Tokens, Input::Actions)),
+        "parse-text" => Some((Measured::Parse, Input::Text)),
+        "parse-actions" => Some((Measured::Parse, Input::Actions)),
+        "parse-definitions" => Some((Measured::Parse, Input::Definitions)),
+        "gather-sections" => Some((Measured::Gather, Input::Sections)),
+        "gather-chain" => Some((Measured::Gather, Input::Chain)),
+        "gather-pairs" => Some((Measured::Gather, Input::Pairs)),
+        "gather-nested" => Some((Measured::Gather, Input::Nests)),
+        "gather-values" => Some((Measured::Gather, Input::Values)),
+        "infer-sections" => Some((Measured::Infer, Input::Sections)),
+        "infer-chain" => Some((Measured::Infer, Input::Chain)),
+        "infer-pairs" => Some((Measured::Infer, Input::Pairs)),
+        "infer-nested" => Some((Measured::Infer, Input::Nests)),
+        "infer-values" => Some((Measured::Infer, Input::Values)),
+        "html-text" => Some((Measured::Html, Input::Text)),
+        "html-markup" => Some((Measured::Html, Input::Markup)),
+        "nospace-text" => Some((Measured::AttrNospace, Input::Text)),
+        "nospace-markup" => Some((Measured::AttrNospace, Input::Markup)),
+        "characters-text" => Some((Measured::Characters, Input::Text)),
+        "characters-references" => Some((Measured::Characters, Input::References)),
+        "steps-text" => Some((Measured::Steps, Input::Text)),
+        "steps-tags" => Some((Measured::Steps, Input::Tags)),
+        "written-text" => Some((Measured::Written, Input::Text)),
+        "written-tags" => Some((Measured::Written, Input::Tags)),
+        "data-numbers" => Some((Measured::Data, Input::Numbers)),
+        "data-text" => Some((Measured::Data, Input::Texts)),
+        "data-lists" => Some((Measured::Data, Input::Lists)),
+        "data-objects" => Some((Measured::Data, Input::Objects)),
+        "execute-turns" => Some((Measured::Turns, Input::Numbers)),
+        "execute-calls" => Some((Measured::Calls, Input::Numbers)),
+        "execute-keys" => Some((Measured::Keys, Input::Objects)),
+        "page-sections" => Some((Measured::Page, Input::PageSections)),
+        "page-text" => Some((Measured::Page, Input::Text)),
+        "pages-sections" => Some((Measured::Pages, Input::PageSections)),
+        "pages-text" => Some((Measured::Pages, Input::Text)),
+        "looks-1" => Some((Measured::Looks, Input::One)),
+        "looks-4" => Some((Measured::Looks, Input::Four)),
+        "locks-1" => Some((Measured::Locks, Input::One)),
+        "locks-4" => Some((Measured::Locks, Input::Four)),
         _ => None,
     }
 }
 
 /// The most bytes that an input of a call may have.
-pub fn most(call: Call) -> usize
+pub fn most(call: Measured) -> usize
     ensures { result ≡ most_of call }
 {
     match call {
-        Call::Data | Call::Turns | Call::Calls | Call::Keys | Call::Looks | Call::Locks =>
-            MAX_LENGTH,
-        Call::Tokens
-        | Call::Parse
-        | Call::Gather
-        | Call::Infer
-        | Call::Html
-        | Call::AttrNospace
-        | Call::Characters
-        | Call::Steps
-        | Call::Written
-        | Call::Page
-        | Call::Pages => MAX_TEXT,
+        Measured::Data
+        | Measured::Turns
+        | Measured::Calls
+        | Measured::Keys
+        | Measured::Looks
+        | Measured::Locks => MAX_LENGTH,
+        Measured::Tokens
+        | Measured::Parse
+        | Measured::Gather
+        | Measured::Infer
+        | Measured::Html
+        | Measured::AttrNospace
+        | Measured::Characters
+        | Measured::Steps
+        | Measured::Written
+        | Measured::Page
+        | Measured::Pages => MAX_TEXT,
     }
 }
 

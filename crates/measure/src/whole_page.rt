@@ -6,7 +6,7 @@ use page_io::{Bytes, List, Memory, Text};
 use page_set::{MakeRefused, PageSet};
 use std::alloc::{AllocError, Global};
 
-/// The bytes of the page of a file, which is made so many times from one set and one datum.
+/// The bytes of the page of a file, which is made that many times from one set and one datum.
 pub fn page_counted(
     alloc: Global,
     input: Input,
@@ -56,7 +56,7 @@ fn one_file(alloc: Global, template: &str) -> Result<Files, Memory> {
     })
 }
 
-// Makes the page so many times and says how many bytes the last one had.
+// Makes the page that many times and says how many bytes the last one had.
 fn made(alloc: Global, set: &PageSet, datum: &Datum, times: usize) -> Result<u64, PageStop> {
     let mut count = 0;
     for _ in 0..times {

@@ -7,9 +7,9 @@ use Rattle.page_check.specs.Definitions.{HasDefs, HaveDefs}
 use Rattle.page_check.specs.Refusing.{IsFileRefused, IsFirstRefused}
 use Rattle.page_check.specs.declared.refused.MakeRefused.{MakeRefused}
 use Rattle.page_datum.specs.declared.files.NamedFile.{NamedFile}
-use Rattle.tpl_parse.specs.Gathering.{all_defs}
-use Rattle.tpl_parse.specs.declared.definition.Def.{Def}
-use Rattle.tpl_parse.specs.declared.definition.File.{File}
+use Rattle.tpl_build.specs.Gathering.{all_defs}
+use Rattle.tpl_build.specs.declared.definition.Def.{Def}
+use Rattle.tpl_build.specs.declared.definition.File.{File}
 
 have_more : (files : List NamedFile) (file : NamedFile) (all defs : List Def) → HaveDefs files all → HasDefs file defs → HaveDefs (files ++ file ∷ []) (all ++ defs)
 have_more [] file all defs e h = (defs, [], h, refl, ap (λ (ds : List Def). ds ++ defs) e ∙ sym (append-nil defs))
@@ -24,7 +24,7 @@ read_more files file i read one lt is have h =
     let all : all_defs (read ++ one ∷ []) ≡ all_defs read ++ one.defs = flat_map-append (λ (f : File). f.defs) read (one ∷ []) ∙ ap (λ (ds : List Def). all_defs read ++ ds) (append-nil one.defs) in
     rw (front, all) (have_more (take i files) file (all_defs read) one.defs have h)
 
--- .. in which the file is refused
+-- likewise, in which the file is refused
 pub refused_there : (files : List NamedFile) (file : NamedFile) (i : ℕ) (all : List Def) (why : MakeRefused) → i < length files → get_or files i file ≡ file → HaveDefs (take i files) all → IsFileRefused file why → IsFirstRefused files why
 refused_there files file i all why lt is have cause =
     let rest : drop i files ≡ file ∷ drop (suc i) files = drop-cons files i file lt ∙ ap (λ (x : NamedFile). x ∷ drop (suc i) files) is in

@@ -7,8 +7,8 @@ use Rattle.page_check.specs.declared.refused.MakeRefused.{MakeRefused}
 use Rattle.page_check.specs.declared.refused.MakeRefused.TheVariants.{TooLarge, NotUtf8, File, TooManyTemplates, NoTemplates, Set, Memory}
 use Rattle.page_datum.specs.declared.files.NamedFile.{NamedFile}
 use Rattle.tpl_parse.proofs.OneFile.{file_not_refused, one_of}
-use Rattle.tpl_parse.specs.Gathering.{standing}
-use Rattle.tpl_parse.specs.declared.definition.Def.{Def}
+use Rattle.tpl_build.specs.Gathering.{standing_definitions}
+use Rattle.tpl_build.specs.declared.definition.Def.{Def}
 use Rattle.tpl_tree.specs.Forests.{ForestData}
 
 pub one_list : (files : List NamedFile) (a b : List Def) → HaveDefs files a → HaveDefs files b → a ≡ b
@@ -18,9 +18,9 @@ one_list (file ∷ files) a b h k =
     let more : h.1 ≡ k.1 = one_list files h.1 k.1 h.3 k.3 in
     h.4 ∙ ap (λ (ds : List Def). ds ++ h.1) first ∙ ap (λ (ds : List Def). k.0 ++ ds) more ∙ sym k.4
 
--- .. and so one forest
+-- likewise, and so one forest
 pub one_set : (files : List NamedFile) (f g : ForestData) → IsForestOf files f → IsForestOf files g → f ≡ g
-one_set files f g a b = one_forest f g a.ascend b.ascend (λ name. a.standing name ∙ ap (standing name) (one_list files a.defs b.defs a.have b.have) ∙ sym (b.standing name))
+one_set files f g a b = one_forest f g a.ascend b.ascend (λ name. a.standing name ∙ ap (standing_definitions name) (one_list files a.defs b.defs a.have b.have) ∙ sym (b.standing name))
 
 -- each file among others has its definitions
 defs_at : (before after : List NamedFile) (file : NamedFile) (all : List Def) → HaveDefs (before ++ file ∷ after) all → (defs : List Def) × HasDefs file defs

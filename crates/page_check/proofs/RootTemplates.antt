@@ -8,12 +8,12 @@ use Rattle.std.specs.Option.{option_or, is_some}
 use Rattle.page_check.specs.Definitions.{HaveDefs, IsForestOf}
 use Rattle.page_check.specs.Roots.{is_partial, is_root}
 use Rattle.page_datum.specs.declared.files.NamedFile.{NamedFile}
-use Rattle.tpl_parse.specs.Building.{def_of, found_of}
+use Rattle.tpl_build.specs.Building.{def_of, found_of}
 use Rattle.tpl_parse.specs.Endings.{defs_of}
-use Rattle.tpl_parse.specs.Files.{IsFile, last_line}
-use Rattle.tpl_parse.specs.Forms.{found_in, is_blank, nodes_of}
-use Rattle.tpl_parse.specs.Gathering.{first_named, has_name, last_full}
-use Rattle.tpl_parse.specs.declared.definition.Def.{Def}
+use Rattle.tpl_parse.specs.Files.{IsFile, file_last_line}
+use Rattle.tpl_parse.specs.Forms.{found_in, is_blank, form_nodes}
+use Rattle.tpl_build.specs.Gathering.{first_named, has_name, last_full}
+use Rattle.tpl_build.specs.declared.definition.Def.{Def}
 use Rattle.tpl_tree.specs.Forests.{ForestData, number_named, tree_named}
 use Rattle.tpl_tree.specs.Trees.{TreeData}
 
@@ -41,7 +41,7 @@ own_name d = rw (nat_list_eq_equiv.refl d.name) refl
 -- a file defines its own name
 own_body : (name text : List ℕ) (defs : List Def) → IsFile name text defs → IsDefined name defs
 own_body name text defs f =
-    let own : Def = def_of name (is_blank f.forms) (nodes_of f.forms) (last_line text) in
+    let own : Def = def_of name (is_blank f.forms) (form_nodes f.forms) (file_last_line text) in
     let all : defs_of (found_in f.forms) ++ own ∷ [] ≡ defs = sym (map-append (λ d. d.def) (found_in f.forms) (found_of own 1 ∷ [])) ∙ f.all in
     subst (IsDefined name) all (defined_right name (defs_of (found_in f.forms)) (own ∷ []) (own_name own))
 

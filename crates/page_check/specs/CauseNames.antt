@@ -4,19 +4,6 @@ use Rattle.place_core.specs.declared.code.Code.{Code}
 use Rattle.place_core.specs.declared.code.Code.TheVariants as code
 use Rattle.tpl_pipe.specs.declared.refused.ParseRefused.{ParseRefused}
 use Rattle.tpl_pipe.specs.declared.refused.ParseRefused.TheVariants as parse
-use Rattle.tpl_token.specs.declared.refused.TokenRefused.{TokenRefused}
-use Rattle.tpl_token.specs.declared.refused.TokenRefused.TheVariants as token
-
--- why a text has no tokens; out of memory is printed nowhere
-abbrev pub token_name : TokenRefused → List ℕ
-token_name (token.UnclosedAction place) = codes "UnclosedAction"
-token_name (token.BadCharacter place) = codes "BadCharacter"
-token_name (token.UnclosedString place) = codes "UnclosedString"
-token_name (token.UnclosedComment place) = codes "UnclosedComment"
-token_name (token.BadNumber place) = codes "BadNumber"
-token_name (token.BadDelimiter place) = codes "BadDelimiter"
-token_name (token.BadEscape place) = codes "BadEscape"
-token_name token.Memory = []
 
 -- why tokens are no templates
 abbrev pub parse_name : ParseRefused → List ℕ
@@ -32,7 +19,7 @@ parse_name parse.MultipleDefinition = codes "MultipleDefinition"
 parse_name parse.EmptyPipeline = codes "EmptyPipeline"
 parse_name parse.TooNested = codes "TooNested"
 
--- which error stands on a path
+-- the error of a path
 abbrev pub code_name : Code → List ℕ
 code_name code.AmbigContext = codes "AmbigContext"
 code_name code.BadHTML = codes "BadHTML"

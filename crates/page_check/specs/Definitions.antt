@@ -1,15 +1,15 @@
 -- The definitions of files, and the templates that stand.
 use Rattle.std.specs.Prelude.{◌≡◌, List, [], ◌∷◌, ◌++◌}
-use Rattle.page_check.specs.Texts.{IsText}
+use Rattle.page_check.specs.Texts.{IsFileText}
 use Rattle.page_datum.specs.declared.files.NamedFile.{NamedFile}
 use Rattle.tpl_parse.specs.Files.{IsFile}
-use Rattle.tpl_parse.specs.Gathering.{HasStanding}
-use Rattle.tpl_parse.specs.declared.definition.Def.{Def}
+use Rattle.tpl_build.specs.Gathering.{HasStanding}
+use Rattle.tpl_build.specs.declared.definition.Def.{Def}
 use Rattle.tpl_tree.specs.Forests.{ForestData, HasAscendingNames}
 
 -- a file is a text that has these definitions
 pub record HasDefs (file : NamedFile) (defs : List Def) : Type 0 where
-  pub text : IsText file
+  pub text : IsFileText file
   pub is : IsFile file.name file.bytes defs
 
 -- each file has its definitions, and these are all of them, in the order of the files

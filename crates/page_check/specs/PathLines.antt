@@ -1,4 +1,4 @@
--- The lines of the paths on which an error stands.
+-- The lines of the paths that have an error.
 use Rattle.std.specs.Prelude.{ℕ, codes, List, [], ◌∷◌, ◌++◌}
 use Rattle.html_step.specs.PlaceText.{place_text}
 use Rattle.place_show.specs.PathTexts.{path_text}

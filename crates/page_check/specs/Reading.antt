@@ -8,8 +8,8 @@ use Rattle.page_check.specs.declared.refused.MakeRefused.TheVariants as make
 use Rattle.page_datum.specs.declared.files.NamedFile.{NamedFile}
 use Rattle.place_infer.specs.ChartViews.{ChartData}
 use Rattle.place_infer.specs.Inferring.{IsChartOfSet}
-use Rattle.tpl_parse.specs.Gathering.{all_defs}
-use Rattle.tpl_parse.specs.declared.definition.File.{File}
+use Rattle.tpl_build.specs.Gathering.{all_defs}
+use Rattle.tpl_build.specs.declared.definition.File.{File}
 use Rattle.tpl_tree.specs.Forests.{ForestData}
 
 -- refused so, or out of memory

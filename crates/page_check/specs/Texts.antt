@@ -8,6 +8,6 @@ abbrev pub max_file : ℕ
 max_file = 1048576
 
 -- a file within the limit, of UTF-8
-pub record IsText (file : NamedFile) : Type 0 where
+pub record IsFileText (file : NamedFile) : Type 0 where
   pub fits : length file.bytes ≤ max_file
   pub utf8 : IsUtf8 file.bytes

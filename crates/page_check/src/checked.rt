@@ -1,8 +1,10 @@
 ghost use Rattle.std.specs.Prelude.{◌≡◌, length, IfOk, MatchOption, false};
-ghost use Rattle.page_check.specs.CheckedSets.{ExplainRootAnswers, IsChecked, StartsAt};
-ghost use Rattle.page_check.specs.Roots.{is_root as is_root_of, roots_of};
+ghost use Rattle.page_check.specs.CheckedSets.{ExplainRootAnswers, IsChecked, StartsAt, start_of_template};
+ghost use Rattle.page_check.specs.Roots.{roots_of};
+ghost use Rattle.page_check.specs.Roots as spec;
 
 use crate::names::{count_roots, is_partial};
+use crate::root_start::RootStart;
 use page_datum::Files;
 use page_io::{Memory, Text};
 use place_infer::Chart;
@@ -36,7 +38,7 @@ impl Model for Checked {
 impl Checked {
     /// Whether a name is that of a root: of a file whose name does not begin with `_`.
     pub fn is_root(&self, name: &str) -> bool
-        ensures { result ≡ is_root_of self.now.files.list name.now }
+        ensures { result ≡ spec.is_root self.now.files.list name.now }
     {
         for file in self.files.list.as_slice() {
             if file.name.as_str() == name && !is_partial(file.name.as_str()) {
@@ -46,9 +48,10 @@ impl Checked {
         false
     }
 
-    /// The pair of the chart at which a root starts: of its template, entered in text. None exactly where no root has the name.
-    pub fn start(&self, root: &str) -> Option<u32>
-        ensures { MatchOption result (is_root_of self.now.files.list root.now ≡ false)
+    /// Where a root starts: its template, and the pair of the chart of that template, entered in text. None exactly where no root has
+    /// the name.
+    pub fn start(&self, root: &str) -> Option<RootStart>
+        ensures { MatchOption result (spec.is_root self.now.files.list root.now ≡ false)
             (StartsAt self.now root.now) }
     {
         let (forest, chart) = (&self.forest, &self.chart);
@@ -56,19 +59,19 @@ impl Checked {
             return None;
         }
         match forest.find(root) {
-            Some(template) => chart.start(template),
+            Some(template) => start_of(chart, template),
             None => None,
         }
     }
 
-    /// The explanation of a root, as `explain` of `place_explain` tells it: the pairs that the root reaches, with their places and what is
-    /// done in their holes. None exactly where no root has the name. The error is out of memory.
+    /// The explanation of a root, as `explain` of `place_explain` writes it: the pairs that the root reaches, with their places and what
+    /// is done in their holes. None exactly where no root has the name. Fails only if allocation fails.
     pub fn explain(&self, alloc: Global, root: &str) -> Result<Option<Text>, Memory>
         ensures { IfOk result (ExplainRootAnswers self.now root.now) }
     {
         match self.start(root) {
             Some(start) => {
-                match place_explain::explain(alloc, &self.forest, &self.chart, start) {
+                match place_explain::explain(alloc, &self.forest, &self.chart, start.pair) {
                     Ok(text) => Ok(Some(text)),
                     Err(memory) => Err(memory),
                 }
@@ -81,7 +84,7 @@ impl Checked {
     pub fn counts(&self) -> (usize, usize, usize)
         ensures roots { result.0 ≡ length (roots_of self.now.files.list) }
         ensures templates { result.1 ≡ length self.now.forest }
-        ensures pairs { result.2 ≡ length self.now.chart.rows }
+        ensures pairs { result.2 ≡ length self.now.chart.summaries }
     {
         (
             count_roots(self.files.list.as_slice()),
@@ -111,4 +114,12 @@ impl Checked {
     {
         &self.chart
     }
+}
+
+// Where a template starts, if it has a pair entered in text.
+fn start_of(chart: &Chart, template: u32) -> Option<RootStart>
+    ensures { result ≡ start_of_template chart.now template }
+{
+    let pair = chart.start(template)?;
+    Some(RootStart { template, pair })
 }

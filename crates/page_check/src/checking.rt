@@ -2,7 +2,7 @@ ghost use Rattle.std.specs.Prelude.{◌≡◌, IfOk, IfErr};
 ghost use Rattle.page_check.specs.CheckedSets.{IsChecked, OnlyForMemory};
 ghost use Rattle.page_check.specs.Definitions.{IsForestOf};
 ghost use Rattle.page_check.specs.Reading.{ChartRootsAnswers};
-ghost use Rattle.page_check.specs.Refusing.{IsRefused, Refuses};
+ghost use Rattle.page_check.specs.Refusing.{IsRefused, FilesRefuse};
 
 use crate::checked::Checked;
 use crate::names::root_names;
@@ -24,7 +24,7 @@ pub fn check_files(alloc: Global, files: Files) -> Result<Checked, MakeRefused>
     ensures made { IfOk result (λ checked. checked.files ≡ files) }
     ensures checked { IfOk result IsChecked }
     // What is accepted has no cause to be refused.
-    ensures accepted { IfOk result (λ _. Refuses files.list → ⊥) }
+    ensures accepted { IfOk result (λ _. FilesRefuse files.list → ⊥) }
     // A refusal has its cause.
     ensures refused { IfErr result (IsRefused files.list) }
     // What could be accepted is refused for want of memory alone.
@@ -36,7 +36,7 @@ pub fn check_files(alloc: Global, files: Files) -> Result<Checked, MakeRefused>
     }
 }
 
-// The same, in the order in which causes are told.
+// As `check_files`: the first cause of the order of `MakeRefused` is reported.
 fn checked_set(alloc: Global, files: Files) -> Result<Checked, MakeRefused>
     ensures made { IfOk result (λ checked. checked.files ≡ files) }
     ensures checked { IfOk result IsChecked }

@@ -9,8 +9,10 @@ mod path_lines;
 mod reading;
 mod refusal_lines;
 mod refused;
+mod root_start;
 
 pub use checked::Checked;
 pub use checking::check_files;
 pub use names::is_partial;
 pub use refused::{MAX_FILE, MakeRefused};
+pub use root_start::RootStart;

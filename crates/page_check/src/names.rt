@@ -1,5 +1,6 @@
 ghost use Rattle.std.specs.Prelude.{◌≡◌, IfOk, length};
-ghost use Rattle.page_check.specs.Roots.{is_partial as is_partial_of, roots_of};
+ghost use Rattle.page_check.specs.Roots.{roots_of};
+ghost use Rattle.page_check.specs.Roots as spec;
 
 use page_datum::NamedFile;
 use page_io::{List, Memory, Names, Text};
@@ -7,7 +8,7 @@ use std::alloc::Global;
 
 /// Whether a name is of a file that is no root, since it begins with `_`.
 pub fn is_partial(name: &str) -> bool
-    ensures { result ≡ is_partial_of name.now }
+    ensures { result ≡ spec.is_partial name.now }
 {
     match name.as_bytes().first() {
         Some(byte) => *byte == b'_',
@@ -15,7 +16,7 @@ pub fn is_partial(name: &str) -> bool
     }
 }
 
-/// The names of the files that are roots, in their order. The error is out of memory.
+/// The names of the files that are roots, in their order. Fails only if allocation fails.
 pub fn root_names(alloc: Global, files: &[NamedFile]) -> Result<Names, Memory>
     ensures { IfOk result (λ names. names ≡ roots_of files.now) }
 {

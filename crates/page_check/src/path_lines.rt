@@ -5,7 +5,7 @@ use html_step::print_place;
 use page_io::{Memory, Text};
 use place_show::{Seen, path_text};
 
-/// Appends a line for each path on which an error stands, with its place. The error is out of memory.
+/// Appends a line for each path that has the error, with the place there. Fails only if allocation fails.
 pub fn push_seen_lines(out: &mut Text, paths: &[Seen]) -> Result<(), Memory>
     ensures { OnOk result (out.new ≡ out.old ++ seen_lines paths.now) }
 {

@@ -1,9 +1,8 @@
 ghost use Rattle.std.specs.Prelude.{◌≡◌, IfOk};
-ghost use Rattle.page_check.specs.RefusalTexts.{cause_line as cause_line_of, file_line as file_line_of};
-ghost use Rattle.page_check.specs.RefusalTexts.{file_text as file_text_of, refusal_text};
-ghost use Rattle.page_check.specs.RefusalTexts.{set_text as set_text_of, showing_text as showing_text_of};
+ghost use Rattle.page_check.specs.RefusalTexts.{refusal_text};
+ghost use Rattle.page_check.specs.RefusalTexts as spec;
 
-use crate::cause_names::{code_name, parse_name, token_name};
+use crate::cause_names::{code_name, parse_name};
 use crate::path_lines::push_seen_lines;
 use crate::refused::MakeRefused;
 use page_datum::legible;
@@ -13,7 +12,7 @@ use place_show::Showing;
 use std::alloc::Global;
 use tpl_parse::FileRefused;
 
-/// The lines of a refusal. The error is out of memory.
+/// The lines of a refusal. Fails only if allocation fails.
 pub fn lines_of(alloc: Global, refused: &MakeRefused) -> Result<Text, Memory>
     ensures { IfOk result (λ lines. lines ≡ refusal_text refused.now) }
 {
@@ -30,16 +29,16 @@ pub fn lines_of(alloc: Global, refused: &MakeRefused) -> Result<Text, Memory>
 
 // A cause and a file.
 fn file_line(alloc: Global, cause: &str, name: &Text) -> Result<Text, Memory>
-    ensures { IfOk result (λ line. line ≡ file_line_of cause.now name.now) }
+    ensures { IfOk result (λ line. line ≡ spec.file_line cause.now name.now) }
 {
     let name = legible(alloc, name.as_str())?;
     let name = name.as_str();
     Ok(Text::from(format!(in alloc; "refused {cause} {name}\n")?))
 }
 
-// A cause and where it stands.
+// A cause, with the file and the line where it is.
 fn cause_line(alloc: Global, cause: &str, name: &Text, line: u32) -> Result<Text, Memory>
-    ensures { IfOk result (λ text. text ≡ cause_line_of cause.now name.now line) }
+    ensures { IfOk result (λ text. text ≡ spec.cause_line cause.now name.now line) }
 {
     let name = legible(alloc, name.as_str())?;
     let name = name.as_str();
@@ -48,10 +47,10 @@ fn cause_line(alloc: Global, cause: &str, name: &Text, line: u32) -> Result<Text
 
 // Why a file is refused.
 fn file_text(alloc: Global, name: &Text, why: &FileRefused) -> Result<Text, Memory>
-    ensures { IfOk result (λ text. text ≡ file_text_of name.now why.now) }
+    ensures { IfOk result (λ text. text ≡ spec.file_text name.now why.now) }
 {
     match why {
-        FileRefused::Token(why, line) => cause_line(alloc, token_name(*why), name, *line),
+        FileRefused::Token(why, line) => cause_line(alloc, why.name(), name, *line),
         FileRefused::Parse(why, line) => cause_line(alloc, parse_name(*why), name, *line),
         FileRefused::Memory => Ok(Text::new(alloc)),
     }
@@ -59,7 +58,7 @@ fn file_text(alloc: Global, name: &Text, why: &FileRefused) -> Result<Text, Memo
 
 // Why a set has no chart.
 fn set_text(alloc: Global, why: &SetRefused) -> Result<Text, Memory>
-    ensures { IfOk result (λ text. text ≡ set_text_of why.now) }
+    ensures { IfOk result (λ text. text ≡ spec.refused_set_text why.now) }
 {
     match why {
         SetRefused::Shows(showing) => showing_text(alloc, showing),
@@ -68,9 +67,9 @@ fn set_text(alloc: Global, why: &SetRefused) -> Result<Text, Memory>
     }
 }
 
-// An error that stands on paths, and the paths.
+// An error, and the paths that have it.
 fn showing_text(alloc: Global, showing: &Showing) -> Result<Text, Memory>
-    ensures { IfOk result (λ text. text ≡ showing_text_of showing.now) }
+    ensures { IfOk result (λ text. text ≡ spec.showing_text showing.now) }
 {
     let mut text = cause_line(
         alloc,

@@ -7,9 +7,9 @@ use tpl_parse::FileRefused;
 /// The most bytes that a file may have.
 pub const MAX_FILE: usize = 1_048_576;
 
-/// Why files are refused. The first that holds is told: of the first file, in the order of the files, that has a cause, its size, its
-/// bytes, its tokens, and then the tokens as a template; and then that there are too many names, that there is no root, and why the
-/// set has no chart.
+/// Why files are refused. The first cause that holds is reported: of the first file, in the order of the files, that has a cause,
+/// its size, its bytes, its tokens, and then the tokens as a template; and then that there are too many names, that there is no root,
+/// and why the set has no chart.
 #[derive(Debug, Drop)]
 pub enum MakeRefused {
     /// A file has more bytes than `MAX_FILE`.
@@ -22,7 +22,7 @@ pub enum MakeRefused {
     TooManyTemplates,
     /// There is no root: no file, or only such whose names begin with `_`.
     NoTemplates,
-    /// The set has no chart: an error stands on the paths of a root, or there would be too many pairs.
+    /// The set has no chart: a path of a root has an error, or there would be too many pairs.
     Set(SetRefused),
     /// Out of memory.
     Memory,

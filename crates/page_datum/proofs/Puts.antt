@@ -8,7 +8,7 @@ use Rattle.std.specs.List.Sorted.{IsStrictlySortedBy}
 use Rattle.std.specs.Map.{keys_of}
 use Rattle.std.specs.Ordering.{nat_cmp, match_ordering, is_eq}
 use Rattle.page_datum.specs.Data.{Data, DataDict, no_entries, entry, keys, HasAscendingKeys, value_at}
-use Rattle.page_datum.specs.Putting.{put, put_all, last_from}
+use Rattle.page_datum.specs.Putting.{put_entry, put_all, last_entry_from}
 use Rattle.page_datum.specs.View.{view, entries_view}
 use Rattle.page_datum.specs.declared.datum.Datum.{Datum}
 
@@ -20,7 +20,7 @@ entries_view-match_ordering Greater a b c = refl
 
 -- an entry that is inserted is put
 pub entries_view-insert_entry : (es : List (List ℕ × Datum)) (key : List ℕ) (value : Datum)
-    → entries_view (insert_entry (slice_cmp nat_cmp) es key value) ≡ put key (view value) (entries_view es)
+    → entries_view (insert_entry (slice_cmp nat_cmp) es key value) ≡ put_entry key (view value) (entries_view es)
 entries_view-insert_entry [] key value = refl
 entries_view-insert_entry (e ∷ es) key value =
     entries_view-match_ordering (slice_cmp nat_cmp key e.0) _ _ _ ∙ rw (entries_view-insert_entry es key value)
@@ -30,9 +30,9 @@ pub pair_put : (left rest old new : List (List ℕ × Datum)) (key : List ℕ) (
     → left ≡ (key, value) ∷ rest → new ≡ insert_entry (slice_cmp nat_cmp) old key value
     → put_all (entries_view left) (entries_view old) ≡ all → put_all (entries_view rest) (entries_view new) ≡ all
 pair_put left rest old new key value all first inserted h =
-    let same : entries_view new ≡ put key (view value) (entries_view old) =
+    let same : entries_view new ≡ put_entry key (view value) (entries_view old) =
     ap entries_view inserted ∙ entries_view-insert_entry old key value in
-    let step : put_all (entries_view left) (entries_view old) ≡ put_all (entries_view rest) (put key (view value) (entries_view old)) = rw first refl in
+    let step : put_all (entries_view left) (entries_view old) ≡ put_all (entries_view rest) (put_entry key (view value) (entries_view old)) = rw first refl in
     rw same (sym step ∙ h)
 
 -- the dictionary has the map's keys
@@ -57,8 +57,8 @@ swapped false false x y z apart = refl
 
 put_at : (o : Ordering) (key k other : List ℕ) (d value : Data) (rest : DataDict)
     → slice_cmp nat_cmp k other ≡ o
-    → value_at key (put k d rest) ≡ (if bytes_eq k key then Some d else value_at key rest)
-    → value_at key (match_ordering o (entry k d (entry other value rest)) (entry other d rest) (entry other value (put k d rest)))
+    → value_at key (put_entry k d rest) ≡ (if bytes_eq k key then Some d else value_at key rest)
+    → value_at key (match_ordering o (entry k d (entry other value rest)) (entry other d rest) (entry other value (put_entry k d rest)))
     ≡ (if bytes_eq k key then Some d else (if bytes_eq other key then Some value else value_at key rest))
 put_at Less key k other d value rest is later = refl
 put_at Equal key k other d value rest is later =
@@ -74,14 +74,14 @@ put_at Greater key k other d value rest is later =
 
 -- what stands at a key, where an entry is put
 value_at-put : (key k : List ℕ) (d : Data) (es : DataDict)
-    → value_at key (put k d es) ≡ (if bytes_eq k key then Some d else value_at key es)
+    → value_at key (put_entry k d es) ≡ (if bytes_eq k key then Some d else value_at key es)
 value_at-put key k d no_entries = refl
 value_at-put key k d (entry other value rest) =
     put_at (slice_cmp nat_cmp k other) key k other d value rest refl (value_at-put key k d rest)
 
 -- and where pairs are put
 pub value_at-put_all : (key : List ℕ) (pairs es : DataDict)
-    → value_at key (put_all pairs es) ≡ last_from key (value_at key es) pairs
+    → value_at key (put_all pairs es) ≡ last_entry_from key (value_at key es) pairs
 value_at-put_all key no_entries es = refl
 value_at-put_all key (entry k d pairs) es =
-    value_at-put_all key pairs (put k d es) ∙ ap (λ (found : Option Data). last_from key found pairs) (value_at-put key k d es)
+    value_at-put_all key pairs (put_entry k d es) ∙ ap (λ (found : Option Data). last_entry_from key found pairs) (value_at-put key k d es)

@@ -10,7 +10,7 @@ use Rattle.serde_json.specs.Data as json
 use Rattle.serde_json.specs.View as json_view
 use Rattle.serde_json.specs.declared.value.Value as value
 use Rattle.page_datum.specs.Data.{Data, DataList, no_items, item, DataDict, no_entries, entry, keys}
-use Rattle.page_datum.specs.Reading.{Path, data_of, items_of, entries_of, with_item, with_entry, within}
+use Rattle.page_datum.specs.Reading.{Path, data_of, items_of, entries_of, with_item, with_entry, within_part}
 use Rattle.page_datum.specs.View.{view, items_view, entries_view}
 use Rattle.page_datum.specs.declared.datum.Datum.{Datum}
 
@@ -68,9 +68,9 @@ item_taken ds d n m v left rest all first is count next h =
 -- an item with a number that is not whole
 pub item_not_whole : (taken : DataList) (n : ℕ) (v : value.Value) (left rest : List value.Value) (path : Path) (all : Result DataList Path)
     → left ≡ v ∷ rest → data_of (json_view.view v) ≡ Err path
-    → items_then taken (items_of n (json_view.items_view left)) ≡ all → all ≡ Err (within (decimal n) path)
+    → items_then taken (items_of n (json_view.items_view left)) ≡ all → all ≡ Err (within_part (decimal n) path)
 item_not_whole taken n v left rest path all first is h =
-    let step : items_of n (json_view.items_view left) ≡ Err (within (decimal n) path) = rw (first, is) refl in
+    let step : items_of n (json_view.items_view left) ≡ Err (within_part (decimal n) path) = rw (first, is) refl in
     sym h ∙ ap (items_then taken) step
 
 pub none_left : {A : Type 0} (xs : List A) → length xs ≡ 0 → xs ≡ []
@@ -96,9 +96,9 @@ entry_taken es e k v left rest all first key is h =
 -- an entry with a number that is not whole
 pub entry_not_whole : (taken : DataDict) (k : String Global) (v : value.Value) (left rest : List (String Global × value.Value)) (path : Path) (all : Result DataDict Path)
     → left ≡ (k, v) ∷ rest → data_of (json_view.view v) ≡ Err path
-    → entries_then taken (entries_of (json_view.members_view left)) ≡ all → all ≡ Err (within (string_bytes k) path)
+    → entries_then taken (entries_of (json_view.members_view left)) ≡ all → all ≡ Err (within_part (string_bytes k) path)
 entry_not_whole taken k v left rest path all first is h =
-    let step : entries_of (json_view.members_view left) ≡ Err (within (string_bytes k) path) = rw (first, is) refl in
+    let step : entries_of (json_view.members_view left) ≡ Err (within_part (string_bytes k) path) = rw (first, is) refl in
     sym h ∙ ap (entries_then taken) step
 
 -- all entries were taken

@@ -3,20 +3,9 @@ use Rattle.std.specs.Prelude.{◌≡◌, refl, ℕ, zero, suc, pos, negsuc, true
 use Rattle.std.specs.Coded.{Coded, code_by}
 use Rattle.page_datum.specs.Data.{Data, null, truth, int, text, list, dict, DataList, no_items}
 use Rattle.page_datum.specs.Data.{item, DataDict, no_entries, entry}
+use Rattle.page_io.specs.BytesCode.{bytes_tree, bytes_from, bytes_from-bytes_tree}
 use base.Stored.{Gv, gnil, gnum, gcons}
 use denote.Struct.Codes.{itself}
-
-abbrev pub bytes_tree : List ℕ → Gv
-bytes_tree [] = gnil
-bytes_tree (b ∷ bs) = gcons (gnum b) (bytes_tree bs)
-
-abbrev pub bytes_from : Gv → List ℕ
-bytes_from (gcons (gnum b) bs) = b ∷ bytes_from bs
-bytes_from _ = []
-
-bytes_from-bytes_tree : (bs : List ℕ) → bytes_from (bytes_tree bs) ≡ bs
-bytes_from-bytes_tree [] = refl
-bytes_from-bytes_tree (b ∷ bs) = λ i. b ∷ bytes_from-bytes_tree bs i
 
 abbrev mutual
   pub data_tree : Data → Gv

@@ -32,8 +32,8 @@ Path = List ℕ
 
 -- a path within the value of a key or an item: a dot, the key or the number of the item, and the
 -- path there
-abbrev pub within : List ℕ → Path → Path
-within step path = 46 ∷ (step ++ path)
+abbrev pub within_part : List ℕ → Path → Path
+within_part step path = 46 ∷ (step ++ path)
 
 -- a whole number, or the path here, which is empty
 abbrev pub whole_of : Option ℤ → Result Data Path
@@ -44,12 +44,12 @@ whole_of None = Err []
 abbrev pub with_item : List ℕ → Result Data Path → Result DataList Path → Result DataList Path
 with_item number (Ok d) (Ok rest) = Ok (item d rest)
 with_item number (Ok d) (Err path) = Err path
-with_item number (Err path) rest = Err (within number path)
+with_item number (Err path) rest = Err (within_part number path)
 
 abbrev pub with_entry : List ℕ → Result Data Path → Result DataDict Path → Result DataDict Path
 with_entry key (Ok d) (Ok rest) = Ok (entry key d rest)
 with_entry key (Ok d) (Err path) = Err path
-with_entry key (Err path) rest = Err (within key path)
+with_entry key (Err path) rest = Err (within_part key path)
 
 abbrev pub as_list : Result DataList Path → Result Data Path
 as_list (Ok items) = Ok (list items)

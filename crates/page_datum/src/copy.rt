@@ -6,7 +6,7 @@ use page_io::{Memory, Text};
 use std::alloc::Global;
 
 impl Datum {
-    /// An equal datum. The error is out of memory.
+    /// An equal datum. Fails only if allocation fails.
     pub fn copy(&self, alloc: Global) -> Result<Datum, Memory>
         ensures { IfOk result (λ copy. view copy ≡ view self.now) }
     {

@@ -128,7 +128,7 @@ impl Entries {
         self.entries.len()
     }
 
-    /// The value at a key. It takes no memory, and time like the logarithm of the number of
+    /// The value at a key. It does not allocate, and time like the logarithm of the number of
     /// entries, which no clause says.
     pub fn get(&self, key: &str) -> Option<&Datum>
         ensures { option_map (λ d. view d.now) result ≡ value_at key.now self.now }

@@ -1,7 +1,5 @@
 ghost use Rattle.std.specs.Prelude.{◌≡◌, ◌<◌};
-ghost use Rattle.page_datum.specs.Depth.{state_after as place_after_of, opens as opens_of};
-ghost use Rattle.page_datum.specs.Depth.{closes as closes_of, open_after as open_after_of};
-ghost use Rattle.page_datum.specs.Depth.{is_too_deep as is_too_deep_of};
+ghost use Rattle.page_datum.specs.Depth as spec;
 
 /// The most brackets and braces that may be open at once in data.
 pub const MAX_DEPTH: usize = 100;
@@ -19,7 +17,7 @@ pub(crate) enum StringState {
 
 // Whether more than `MAX_DEPTH` brackets and braces are open at once somewhere, outside of strings.
 pub(crate) fn is_too_deep(bytes: &[u8]) -> bool
-    ensures { result ≡ is_too_deep_of bytes.now }
+    ensures { result ≡ spec.is_too_deep bytes.now }
 {
     let mut place = StringState::Outside;
     let mut opened = 0;
@@ -34,7 +32,7 @@ pub(crate) fn is_too_deep(bytes: &[u8]) -> bool
 }
 
 fn state_after(place: StringState, byte: u8) -> StringState
-    ensures { result ≡ place_after_of place byte }
+    ensures { result ≡ spec.state_after place byte }
 {
     match place {
         StringState::Outside => if byte == b'"' {
@@ -55,7 +53,7 @@ fn state_after(place: StringState, byte: u8) -> StringState
 
 fn open_after(place: StringState, opened: usize, byte: u8) -> usize
     requires { opened < 101 }
-    ensures { result ≡ open_after_of place opened byte }
+    ensures { result ≡ spec.open_after place opened byte }
 {
     match place {
         StringState::Outside => if opens(byte) {
@@ -70,13 +68,13 @@ fn open_after(place: StringState, opened: usize, byte: u8) -> usize
 }
 
 fn opens(byte: u8) -> bool
-    ensures { result ≡ opens_of byte }
+    ensures { result ≡ spec.opens byte }
 {
     byte == b'[' || byte == b'{'
 }
 
 fn closes(byte: u8) -> bool
-    ensures { result ≡ closes_of byte }
+    ensures { result ≡ spec.closes byte }
 {
     byte == b']' || byte == b'}'
 }

@@ -1,10 +1,9 @@
 ghost use Rattle.std.specs.Prelude.{◌≡◌, ◌<◌, ◌++◌, Some, IfOk, length, take, codes};
 ghost use Rattle.std.specs.Fmt.{WritesOnOk};
 ghost use Rattle.std.specs.Fmt.Cut.{floor_char_boundary};
-ghost use Rattle.page_datum.specs.Legible.{legible as legible_of, legible_path as legible_path_of};
 ghost use Rattle.page_datum.specs.Legible.{legible_character, hex_digits};
-ghost use Rattle.page_datum.specs.Legible.{is_hidden as is_hidden_of};
 ghost use Rattle.std.specs.Char.{digit_char};
+ghost use Rattle.page_datum.specs.Legible as spec;
 
 use page_io::{Memory, Text};
 use std::alloc::Global;
@@ -15,18 +14,18 @@ const MAX_PATH: usize = 1000;
 
 /// A text as it stands in a line for people, so that it can neither end the line nor act on a
 /// terminal: control characters, line ends and bidirectional controls as `\u` with four digits, a
-/// backslash twice, every other character as it is. The error is out of memory.
+/// backslash twice, every other character as it is. Fails only if allocation fails.
 pub fn legible(alloc: Global, text: &str) -> Result<Text, Memory>
-    ensures { IfOk result (λ shown. shown ≡ legible_of text.now) }
+    ensures { IfOk result (λ shown. shown ≡ spec.legible text.now) }
 {
     let shown = PrintedText { text };
     Ok(Text::from(format!(in alloc; "{shown}")?))
 }
 
 /// A path of data as it stands in a line for people: where it has more than 1,000 bytes, its first
-/// characters within these, and `..`. The error is out of memory.
+/// characters within these, and `..`. Fails only if allocation fails.
 pub fn legible_path(alloc: Global, path: &str) -> Result<Text, Memory>
-    ensures { IfOk result (λ shown. shown ≡ legible_path_of path.now) }
+    ensures { IfOk result (λ shown. shown ≡ spec.legible_path path.now) }
 {
     let shown = PrintedPath { path };
     Ok(Text::from(format!(in alloc; "{shown}")?))
@@ -39,7 +38,7 @@ struct PrintedText<'a> {
 }
 
 impl fmt::Display for PrintedText<'_> {
-    ghost output = { λ shown. Some (legible_of shown.text.now) };
+    ghost output = { λ shown. Some (spec.legible shown.text.now) };
 
     fn fmt<W: fmt::Write>(&self, f: &mut fmt::Formatter<W>) -> fmt::Result {
         write_text(f, self.text)
@@ -61,7 +60,7 @@ impl<'a> PrintedPath<'a> {
 }
 
 impl fmt::Display for PrintedPath<'_> {
-    ghost output = { λ shown. Some (legible_path_of shown.path.now) };
+    ghost output = { λ shown. Some (spec.legible_path shown.path.now) };
 
     fn fmt<W: fmt::Write>(&self, f: &mut fmt::Formatter<W>) -> fmt::Result {
         if self.path.len() <= MAX_PATH {
@@ -75,7 +74,7 @@ impl fmt::Display for PrintedPath<'_> {
     }
 }
 
-// The first characters of a text, within so many bytes.
+// The first characters of a text, within that many bytes.
 fn prefix(text: &str, most: usize) -> &str
     requires { most < length text.now }
     ensures { result.now ≡ take (floor_char_boundary text.now most) text.now }
@@ -91,7 +90,7 @@ fn prefix(text: &str, most: usize) -> &str
 }
 
 fn write_text<W: fmt::Write>(f: &mut fmt::Formatter<W>, text: &str) -> fmt::Result
-    ensures { WritesOnOk W.write_str_gives f.old result (legible_of text.now) f.new }
+    ensures { WritesOnOk W.write_str_gives f.old result (spec.legible text.now) f.new }
 {
     for character in text.chars() {
         write_character(f, character)?;
@@ -112,7 +111,7 @@ fn write_character<W: fmt::Write>(f: &mut fmt::Formatter<W>, character: char) ->
 }
 
 fn is_hidden(character: char) -> bool
-    ensures { result ≡ is_hidden_of character }
+    ensures { result ≡ spec.is_hidden character }
 {
     matches!(
         character,

@@ -13,8 +13,7 @@ use std::collections::BTreeMap;
 
 impl Entries {
     /// The entries with these keys and values, put in one after another: of the values of a key the
-    /// last stands. The time, like the number of pairs times its logarithm, is in no clause. The
-    /// error is out of memory.
+    /// last stands. The time, like the number of pairs times its logarithm, is in no clause. Fails only if allocation fails.
     pub fn from_pairs(alloc: Global, pairs: Vec<(Text, Datum)>) -> Result<Entries, Memory>
         ensures made { IfOk result (λ made.
             made ≡ put_all (entries_view pairs.items) no_entries) }

@@ -8,8 +8,7 @@ use page_io::{Memory, Text};
 use std::alloc::Global;
 
 /// A datum as text: a text itself, a number in decimal, `true` or `false`, a list as `[1 2]`, a
-/// dictionary as `map[a:1 b:2]`. Null by itself is the empty text, and inside others `<nil>`. The
-/// error is out of memory.
+/// dictionary as `map[a:1 b:2]`. Null by itself is the empty text, and inside others `<nil>`. Fails only if allocation fails.
 pub fn print_datum(alloc: Global, datum: &Datum) -> Result<Text, Memory>
     ensures { IfOk result (λ text. text ≡ printed (view datum.now)) }
 {
@@ -21,7 +20,7 @@ pub fn print_datum(alloc: Global, datum: &Datum) -> Result<Text, Memory>
     Ok(text)
 }
 
-/// Appends a datum as it stands inside others, where null is `<nil>`. The error is out of memory.
+/// Appends a datum as it stands inside others, where null is `<nil>`. Fails only if allocation fails.
 pub fn show_datum(alloc: Global, datum: &Datum, out: &mut Text) -> Result<(), Memory>
     ensures { OnOk result (out.new ≡ out.old ++ shown (view datum.now)) }
 {

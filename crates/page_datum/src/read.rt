@@ -1,5 +1,6 @@
 ghost use Rattle.std.specs.Prelude.{◌≡◌, IfOk};
-ghost use Rattle.page_datum.specs.Reading.{ReadDatumAnswers, shown_path as shown_path_of};
+ghost use Rattle.page_datum.specs.Reading.{ReadDatumAnswers};
+ghost use Rattle.page_datum.specs.Reading as spec;
 
 use crate::datum::Datum;
 use crate::depth::is_too_deep;
@@ -41,7 +42,7 @@ pub fn read_datum(alloc: Global, bytes: &[u8]) -> Result<Datum, DataRefused>
 
 // A path as it is shown: the root is a dot.
 fn shown_path(alloc: Global, path: Text) -> Result<Text, Memory>
-    ensures { IfOk result (λ shown. shown ≡ shown_path_of path) }
+    ensures { IfOk result (λ shown. shown ≡ spec.shown_path path) }
 {
     if path.is_empty() {
         return Text::copy_of(alloc, ".");

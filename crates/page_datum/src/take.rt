@@ -1,10 +1,10 @@
 ghost use Rattle.std.specs.Prelude.{◌≡◌, IfOk};
 ghost use Rattle.std.specs.Fmt.{decimal};
-ghost use Rattle.serde_json.specs.View.{view as json_view, items_view as json_items};
-ghost use Rattle.serde_json.specs.View.{members_view as json_members};
-ghost use Rattle.page_datum.specs.Reading.{data_of, items_of, entries_of, within as within_path};
-ghost use Rattle.page_io.specs.Stops.{Answers};
+ghost use Rattle.page_datum.specs.Reading.{data_of, items_of, entries_of};
+ghost use Rattle.page_io.specs.Stops.{StopAnswers};
 ghost use Rattle.page_datum.specs.View.{view};
+ghost use Rattle.serde_json.specs.View as view_spec;
+ghost use Rattle.page_datum.specs.Reading as spec;
 
 use crate::datum::{Datum, Entries, Items};
 use page_io::{Memory, Stop, Text};
@@ -15,7 +15,7 @@ use std::alloc::Global;
 // The datum that a JSON value stands for, or the path of the first number that is not whole.
 #[cycle(take)]
 pub(crate) fn take(alloc: Global, value: Value) -> Result<Datum, Stop<Text>>
-    ensures { Answers view result (data_of (json_view value)) }
+    ensures { StopAnswers view result (data_of (view_spec.view value)) }
 {
     match value {
         Value::Null => Ok(Datum::Null),
@@ -38,7 +38,7 @@ pub(crate) fn take(alloc: Global, value: Value) -> Result<Datum, Stop<Text>>
 
 #[cycle(take)]
 fn take_items(alloc: Global, items: Vec<Value>) -> Result<Items, Stop<Text>>
-    ensures { Answers (λ items. items) result (items_of 0 (json_items items.items)) }
+    ensures { StopAnswers (λ items. items) result (items_of 0 (view_spec.items_view items.items)) }
 {
     let mut taken = Vec::new(alloc);
     for item in items {
@@ -56,7 +56,7 @@ fn take_items(alloc: Global, items: Vec<Value>) -> Result<Items, Stop<Text>>
 
 #[cycle(take)]
 fn take_members(alloc: Global, members: Map<String, Value>) -> Result<Entries, Stop<Text>>
-    ensures { Answers (λ made. made) result (entries_of (json_members members.entries)) }
+    ensures { StopAnswers (λ made. made) result (entries_of (view_spec.members_view members.entries)) }
 {
     let mut taken = Vec::new(alloc);
     for (key, value) in members {
@@ -74,7 +74,7 @@ fn take_members(alloc: Global, members: Map<String, Value>) -> Result<Entries, S
 
 // The path of what has a path within the item with a number.
 fn numbered(alloc: Global, number: usize, path: &Text) -> Result<Text, Memory>
-    ensures { IfOk result (λ whole. whole ≡ within_path (decimal number) path.now) }
+    ensures { IfOk result (λ whole. whole ≡ spec.within_part (decimal number) path.now) }
 {
     let digits = format!(in alloc; "{number}")?;
     within(alloc, digits.as_str(), path)
@@ -82,7 +82,7 @@ fn numbered(alloc: Global, number: usize, path: &Text) -> Result<Text, Memory>
 
 // The path of what has a path within the value of a key.
 fn within(alloc: Global, step: &str, path: &Text) -> Result<Text, Memory>
-    ensures { IfOk result (λ whole. whole ≡ within_path step.now path.now) }
+    ensures { IfOk result (λ whole. whole ≡ spec.within_part step.now path.now) }
 {
     let mut whole = Text::copy_of(alloc, ".")?;
     whole.push_str(step)?;

@@ -1,5 +1,6 @@
+pub mod BytesCode
 pub mod Causes
-pub mod Held
+pub mod FolderContents
 pub mod Keys
 pub mod Lines
 pub mod Stacks

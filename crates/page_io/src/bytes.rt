@@ -28,7 +28,7 @@ impl Bytes {
         }
     }
 
-    /// A copy of bytes. The error is out of memory.
+    /// A copy of bytes. Fails only if allocation fails.
     pub fn copy_of(alloc: Global, bytes: &[u8]) -> Result<Bytes, Memory>
         ensures { IfOk result (λ copy. copy ≡ bytes.now) }
     {

@@ -3,7 +3,7 @@ ghost use Rattle.std.specs.Prelude.{◌≡◌, ◌+◌, [], take, IfOk, IfSome, 
 ghost use Rattle.std.specs.Cmp.Lexicographic.{slice_cmp};
 ghost use Rattle.std.specs.Ordering.{nat_cmp};
 ghost use Rattle.std.specs.List.Sorted.{IsStrictlySortedBy};
-ghost use Rattle.page_io.specs.Held.{names_in as names_of, content_in as content_of};
+ghost use Rattle.page_io.specs.FolderContents as spec;
 
 use crate::bytes::Bytes;
 use crate::list::{List, Names};
@@ -27,7 +27,7 @@ pub fn in_order(alloc: Global, names: BTreeSet<Text>) -> Result<Names, Memory>
 
 /// The names of the files of a directory, in byte order, each once.
 pub fn names_in(alloc: Global, files: &[MemFile], dir: &str) -> Result<Names, Memory>
-    ensures names { IfOk result (λ names. names ≡ names_of files.now dir.now []) }
+    ensures names { IfOk result (λ names. names ≡ spec.names_in files.now dir.now []) }
     ensures order { IfOk result (IsStrictlySortedBy (slice_cmp nat_cmp)) }
 {
     let mut names = BTreeSet::new(alloc);
@@ -41,7 +41,7 @@ pub fn names_in(alloc: Global, files: &[MemFile], dir: &str) -> Result<Names, Me
 
 /// The bytes of the first file with this directory and name.
 pub fn content_in<'a>(files: &'a [MemFile], dir: &str, name: &str) -> Option<&'a [u8]>
-    ensures { option_copied result ≡ content_of files.now dir.now name.now }
+    ensures { option_copied result ≡ spec.content_in files.now dir.now name.now }
 {
     for file in files {
         if file.dir.as_str() == dir && file.name.as_str() == name {

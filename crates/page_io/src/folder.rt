@@ -3,7 +3,7 @@ ghost use Rattle.std.specs.Cmp.Lexicographic.{slice_cmp};
 ghost use Rattle.std.specs.Ordering.{nat_cmp};
 ghost use Rattle.std.specs.List.Sorted.{IsStrictlySortedBy};
 ghost use Rattle.page_io.specs.Causes.{HasStop};
-ghost use Rattle.page_io.specs.Held.{Held};
+ghost use Rattle.page_io.specs.FolderContents.{FolderContents};
 
 use crate::bytes::Bytes;
 use crate::list::Names;
@@ -13,7 +13,7 @@ use std::alloc::Global;
 /// Directories with files.
 pub trait Folder {
     // The names of the files of each directory and the bytes of each file, where the folder tells them.
-    ghost held: { Self → Option Held };
+    ghost held: { Self → Option FolderContents };
 
     // How many calls failed.
     ghost faults: { Self → ℕ };

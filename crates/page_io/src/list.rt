@@ -23,7 +23,7 @@ impl<T> Model for List<T> {
 }
 
 impl<T> List<T> {
-    /// The empty list, which takes no memory.
+    /// The empty list, which does not allocate.
     pub fn new(alloc: Global) -> List<T>
         ensures { result ≡ [] }
     {

@@ -3,7 +3,7 @@ ghost use Rattle.std.specs.Cmp.Lexicographic.{slice_cmp};
 ghost use Rattle.std.specs.Ordering.{nat_cmp};
 ghost use Rattle.std.specs.List.Sorted.{IsStrictlySortedBy};
 ghost use Rattle.page_io.specs.Causes.{HasStop};
-ghost use Rattle.page_io.specs.Held.{names_in as names_of, content_in as content_of};
+ghost use Rattle.page_io.specs.FolderContents as spec;
 
 use crate::bytes::Bytes;
 use crate::calls::Calls;
@@ -30,7 +30,7 @@ pub struct MemFolder {
 }
 
 impl MemFolder {
-    ghost use Rattle.page_io.specs.Held.{held_of};
+    ghost use Rattle.page_io.specs.FolderContents.{held_of};
 
     /// A folder of these files. `fail` has the numbers of the calls that are to fail, counted from 1.
     pub fn new(files: List<MemFile>, fail: List<u64>) -> MemFolder
@@ -47,7 +47,7 @@ impl MemFolder {
 
 impl Folder for MemFolder {
     ghost use Rattle.std.specs.Prelude.{Some};
-    ghost use Rattle.page_io.specs.Held.{held_of};
+    ghost use Rattle.page_io.specs.FolderContents.{held_of};
 
     ghost held = { λ f. Some (held_of f.files) };
 
@@ -55,7 +55,7 @@ impl Folder for MemFolder {
 
     /// Fails exactly at the stated calls.
     fn list(&mut self, alloc: Global, dir: &str) -> Result<Names, IoStop>
-        ensures names { IfOk result (λ names. names ≡ names_of self.old.files dir.now []) }
+        ensures names { IfOk result (λ names. names ≡ spec.names_in self.old.files dir.now []) }
         ensures order { IfOk result (IsStrictlySortedBy (slice_cmp nat_cmp)) }
         ensures kept { self.new.files ≡ self.old.files }
         ensures cause { HasStop self.old.calls.faults self.new.calls.faults result }
@@ -73,7 +73,7 @@ impl Folder for MemFolder {
     /// Fails exactly at the stated calls, and where the file is not there.
     fn read(&mut self, alloc: Global, dir: &str, name: &str, max: u64) -> Result<Bytes, IoStop>
         ensures bytes { IfOk result (λ bytes.
-            IsSomeAnd (content_of self.old.files dir.now name.now)
+            IsSomeAnd (spec.content_in self.old.files dir.now name.now)
             (λ all. bytes ≡ take (max + 1) all)) }
         ensures kept { self.new.files ≡ self.old.files }
         ensures cause { HasStop self.old.calls.faults self.new.calls.faults result }
@@ -81,7 +81,7 @@ impl Folder for MemFolder {
         ensures fail { self.new.calls.fail ≡ self.old.calls.fail }
         ensures failed { IsErrOf result IoStop.Failed →
             Contains self.old.calls.fail self.new.calls.made
-            ⊎ (content_of self.old.files dir.now name.now ≡ None) }
+            ⊎ (spec.content_in self.old.files dir.now name.now ≡ None) }
         ensures told { Contains self.old.calls.fail self.new.calls.made
             → IsErrOf result IoStop.Failed }
     {

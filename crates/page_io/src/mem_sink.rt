@@ -23,7 +23,7 @@ pub struct MemSink {
 
 impl MemSink {
     /// A sink with room for `room` bytes that takes at most `step` at a time. `fail` has the numbers of the calls that
-    /// are to fail, counted from 1. The error is out of memory.
+    /// are to fail, counted from 1. Fails only if allocation fails.
     pub fn new(alloc: Global, room: u64, step: u64, fail: List<u64>) -> Result<MemSink, Memory>
         requires { 0 < step }
         ensures taken { IfOk result (λ sink. ⟦<MemSink as Sink>⟧.taken sink ≡ Some []) }

@@ -20,7 +20,7 @@ impl<T> Model for Stack<T> {
 }
 
 impl<T> Stack<T> {
-    /// The empty stack, which takes no memory.
+    /// The empty stack, which does not allocate.
     pub fn new(alloc: Global) -> Stack<T>
         ensures { result ≡ [] }
     {
@@ -36,7 +36,7 @@ impl<T> Stack<T> {
         self.items.is_empty()
     }
 
-    /// Puts a value on top. The error is out of memory, and then the stack is as it was.
+    /// Puts a value on top. Fails only if allocation fails, and then the stack is as it was.
     #[inline(always)]
     pub fn push(&mut self, value: T) -> Result<(), Memory>
     where

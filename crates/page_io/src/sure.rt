@@ -85,7 +85,7 @@ pub struct SureFolder {
 }
 
 impl SureFolder {
-    ghost use Rattle.page_io.specs.Held.{filled_by};
+    ghost use Rattle.page_io.specs.FolderContents.{filled_by};
 
     /// A folder of these files.
     pub fn new(files: List<MemFile>) -> SureFolder
@@ -97,7 +97,7 @@ impl SureFolder {
 
 impl Folder for SureFolder {
     ghost use Rattle.std.specs.Prelude.{Some};
-    ghost use Rattle.page_io.specs.Held.{filled_by};
+    ghost use Rattle.page_io.specs.FolderContents.{filled_by};
 
     ghost held = { λ f. Some (filled_by f.files) };
 

@@ -20,7 +20,7 @@ impl Model for Text {
 }
 
 impl Text {
-    /// The empty text, which takes no memory.
+    /// The empty text, which does not allocate.
     pub fn new(alloc: Global) -> Text
         ensures { result ≡ [] }
     {
@@ -29,7 +29,7 @@ impl Text {
         }
     }
 
-    /// A copy of a text. The error is out of memory.
+    /// A copy of a text. Fails only if allocation fails.
     pub fn copy_of(alloc: Global, text: &str) -> Result<Text, Memory>
         ensures { IfOk result (λ copy. copy ≡ text.now) }
     {

@@ -7,34 +7,34 @@ use Rattle.page_path.proofs.Finding.{AllFind, Finds, event_symbols, symbols_from
 use Rattle.page_path.proofs.PiecesFilled.{IsFilled, hole-filled, text-filled}
 use Rattle.page_path.specs.Pages.{bytes_in, event_pieces, kind_in, open_behind, page_bytes, pieces_from, state_behind}
 use Rattle.page_path.specs.Soundness.{AreTextual, IsTextual, event_texts, texts_of}
-use Rattle.place_charts.specs.Charts.{Chart, Pair, sign_pairs}
-use Rattle.place_core.specs.Errors.{node}
-use Rattle.place_core.specs.Events.{Event as Told}
-use Rattle.place_core.specs.Paths.{at_hole}
-use Rattle.place_core.specs.States.{Config, State}
-use Rattle.place_core.specs.Tags.{ValueState, languages}
+use Rattle.place_flow.specs.Covering.{ChartByName, Pair, sign_pairs}
+use Rattle.place_core.specs.place.Errors.{node}
+use Rattle.place_core.specs.page.Events.{LexEvent}
+use Rattle.place_core.specs.page.Paths.{at_hole}
+use Rattle.place_core.specs.page.States.{Config, LexState}
+use Rattle.place_core.specs.page.Tags.{ValueState, languages}
 use Rattle.place_core.specs.declared.place.Place.{Place}
-use Rattle.text_norm.specs.Standing.{Stands}
-use Rattle.tpl_events.specs.Events.{Emission, Event, enters, gives_hole, gives_text, leaves}
-use Rattle.tpl_taken.specs.Taken.{sign_of}
+use Rattle.text_norm.specs.Standing.{TextStands}
+use Rattle.tpl_events.specs.Events.{Emission, ExecEvent, enters, gives_hole, gives_text, leaves}
+use Rattle.page_path.specs.Taken.{move_sign}
 use Rattle.tpl_tree.specs.Forests.{ForestData}
 use Rattle.tpl_tree.specs.declared.node_kind.NodeKind.{NodeKind}
 
-module _ (forest : ForestData) (chart : Chart Place) where
+module _ (forest : ForestData) (chart : ChartByName Place) where
   -- the bytes of events, and the symbols and the texts of their path
-  abbrev FilledFrom : List Emission → List (List ℕ) → State ValueState → List Told → Config ValueState → Type 0
+  abbrev FilledFrom : List Emission → List (List ℕ) → LexState ValueState → List LexEvent → Config ValueState → Type 0
   FilledFrom gs ts s t d = IsFilled (symbols_from forest gs ts) (texts_of gs) (page_bytes (pieces_from forest gs ts s)) s t d
 
-  abbrev FilledAt : Event → List Emission → List (List ℕ) → State ValueState → List Told → Config ValueState → Type 0
+  abbrev FilledAt : ExecEvent → List Emission → List (List ℕ) → LexState ValueState → List LexEvent → Config ValueState → Type 0
   FilledAt e gs ts s t d =
       (let us = open_behind forest e ts in
       IsFilled (event_symbols forest e ts (symbols_from forest gs us)) (event_texts e (texts_of gs))
       (page_bytes (event_pieces forest e ts s ++ pieces_from forest gs us (state_behind forest e ts s))) s t d)
 
-  event-filled : (e : Event) (gs : List Emission) (ps : List (Pair Place)) (ts : List (List ℕ)) (s : State ValueState) (t : List Told)
-      (d : Config ValueState) → Finds forest chart e ps ts s → IsTextual e → Stands languages s t d
+  event-filled : (e : ExecEvent) (gs : List Emission) (ps : List (Pair Place)) (ts : List (List ℕ)) (s : LexState ValueState) (t : List LexEvent)
+      (d : Config ValueState) → Finds forest chart e ps ts s → IsTextual e → TextStands languages s t d
       → (let r = state_behind forest e ts s in
-      (u : List Told) (c : Config ValueState) → Stands languages r u c → FilledFrom gs (open_behind forest e ts) r u c)
+      (u : List LexEvent) (c : Config ValueState) → TextStands languages r u c → FilledFrom gs (open_behind forest e ts) r u c)
       → FilledAt e gs ts s t d
   event-filled e gs [] ts s t d f u l rest = absurd f
   event-filled (gives_text n) gs (p ∷ ps) ts s t d f u l rest =
@@ -50,11 +50,11 @@ module _ (forest : ForestData) (chart : Chart Place) where
   event-filled (enters n) gs (p ∷ ps) ts s t d f u l rest = rest t d l
   event-filled leaves gs (p ∷ ps) ts s t d f u l rest = rest t d l
 
-  pub events-filled : (gs : List Emission) (ps : List (Pair Place)) (ts : List (List ℕ)) (s : State ValueState) (t : List Told)
-      (d : Config ValueState) → AllFind forest chart gs ps ts s → AreTextual gs → Stands languages s t d → FilledFrom gs ts s t d
+  pub events-filled : (gs : List Emission) (ps : List (Pair Place)) (ts : List (List ℕ)) (s : LexState ValueState) (t : List LexEvent)
+      (d : Config ValueState) → AllFind forest chart gs ps ts s → AreTextual gs → TextStands languages s t d → FilledFrom gs ts s t d
   events-filled [] ps ts s t d f u l = record { stands = l; same = λ v. refl }
   events-filled (g ∷ gs) ps ts s t d f u l =
       let e = g.event in
-      let qs = sign_pairs forest chart (sign_of e) ps in
+      let qs = sign_pairs forest chart (move_sign e) ps in
       event-filled e gs ps ts s t d f.0 u.0 l
       (λ v c k. events-filled gs qs (open_behind forest e ts) (state_behind forest e ts s) v c f.1 u.1 k)

@@ -2,14 +2,14 @@
 use Rattle.std.proofs.Common.{◌≡◌, ℕ, codes, List, [], ◌∷◌, length, refl, ap, ◌∙◌, arith}
 use Rattle.esc_table.proofs.Runs.{replaced-encodes}
 use Rattle.page_datum.specs.Data.{text}
-use Rattle.page_path.specs.Pages.{Piece, page_bytes, pieces_of, value, value_pieces, words}
+use Rattle.page_path.specs.Pages.{PagePiece, page_bytes, pieces_of, value, value_pieces, words}
 use Rattle.page_path.specs.Soundness.{IsSound, ReadBack, read_filled}
-use Rattle.place_core.specs.Classes.{class_of}
-use Rattle.place_core.specs.Html.{read, start}
-use Rattle.place_core.specs.Paths.{Hole, Written}
-use Rattle.place_core.specs.References.{Closed, meaning}
-use Rattle.place_core.specs.States.{Config, Page, State, TagOpen, Text}
-use Rattle.place_core.specs.Tags.{ValueState}
+use Rattle.place_core.specs.page.Classes.{class_of}
+use Rattle.place_core.specs.page.Html.{read, start}
+use Rattle.place_core.specs.page.Paths.{Hole, Written}
+use Rattle.place_core.specs.page.References.{Closed, meaning}
+use Rattle.place_core.specs.page.States.{Config, Page, LexState, TagOpen, Text}
+use Rattle.place_core.specs.page.Tags.{ValueState}
 use Rattle.place_core.specs.declared.san.San.TheVariants as san
 use Rattle.san_html.specs.Sanitizers.{html, html_rows}
 use Rattle.tpl_tree.specs.Forests.{ForestData}
@@ -30,7 +30,7 @@ around before behind =
     (let hole = kind.Action (record { commands = command (single (with_fields dot [])) no_commands }) in
     (name, record { nodes = alone (kind.Text before) (alone hole (alone (kind.Text behind) no_nodes)); end_line = 1 }) ∷ [])
 
-abbrev pieces : List ℕ → List ℕ → List ℕ → List Piece
+abbrev pieces : List ℕ → List ℕ → List ℕ → List PagePiece
 pieces before datum behind = pieces_of (around before behind) name (text datum)
 
 less : html (codes "<") ≡ codes "&lt;"
@@ -46,7 +46,7 @@ in_an_empty_value : page_bytes (pieces (codes "<a title=") [] (codes ">")) ≡ c
 unfolding class_of
 in_an_empty_value = refl
 
--- with another sanitizer behind Drop the value is not left out
+-- with another sanitizer after Drop the value is not left out
 dropped_first : value_pieces (record { count = 2; sans = san.Drop ∷ san.AttrNospace ∷ san.AttrNospace ∷ [] }) (codes "a")
     ≡ value (codes "a") (codes "ZgotmplZ") ∷ []
 dropped_first = refl
@@ -59,7 +59,7 @@ in_a_comment = refl
 as_it_is : IsSound (around (codes "<b>") (codes "</b>")) name (text (codes "<")) (codes "<b><</b>") → ⊥
 as_it_is h = let same = ap length (h.bytes ∙ ap page_bytes in_a_tag) in omega (arith, same)
 
-in_another_state : (c d : State ValueState) → c ≡ TagOpen Closed → d ≡ Text Closed → c ≡ d → ⊥
+in_another_state : (c d : LexState ValueState) → c ≡ TagOpen Closed → d ≡ Text Closed → c ≡ d → ⊥
 in_another_state c d e f g = cc
 
 not_back : ReadBack (words (codes "<b>") ∷ value (codes "<") (codes "<") ∷ words (codes "</b>") ∷ []) start → ⊥
@@ -89,4 +89,4 @@ raw_in_a_comment = refl
 -- a value as it is reads as more than its text
 not_raw : read Page (codes "<b><i a></b>") start ≡ with_text (codes "<b>") (codes "<i a>") (codes "</b>") → ⊥
 unfolding class_of
-not_raw h = let same = ap (λ (c : Config ValueState). length c.told) h in omega (arith, same)
+not_raw h = let same = ap (λ (c : Config ValueState). length c.emitted) h in omega (arith, same)

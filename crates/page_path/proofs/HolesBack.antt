@@ -4,16 +4,16 @@ use Rattle.html_step.proofs.HoleOrder.{covers-hole}
 use Rattle.html_step.specs.Holes.{Holed, after_hole, only}
 use Rattle.page_path.specs.Pages.{san_bytes}
 use Rattle.page_path.proofs.Retold.{IsRetold}
-use Rattle.page_path.specs.Soundness.{IsBack, IsNameBack, filled, name_filled}
-use Rattle.place_core.specs.Events.{Event}
-use Rattle.place_core.specs.Html.{read}
-use Rattle.place_core.specs.Membership.{IsIn}
-use Rattle.place_core.specs.Paths.{at_hole, mark_in}
-use Rattle.place_core.specs.Places.{IsValid}
-use Rattle.place_core.specs.References.{Closed, Reference}
-use Rattle.place_core.specs.StatePlaces.{content_spot, placed, quotes_at, value_body, value_spot, where_closed}
-use Rattle.place_core.specs.States.{AfterAttributeName, AfterAttributeValue, AttributeName, AttributeValue, BeforeAttributeName, BeforeAttributeValue, Broken, Characters, CommentState, Config, Content, Held, InComment, InContent, Inside, Nothing, Page, SelfClosingStartTag, State, Text, WholeAttributeName, config}
-use Rattle.place_core.specs.Tags.{DoubleQuoted, Quoting, SingleQuoted, Tag, Unquoted, Value, ValueOf, ValueState, languages, with_bytes, without_value}
+use Rattle.page_path.specs.Soundness.{IsBack, IsNameBack, holes_filled, name_filled}
+use Rattle.place_core.specs.page.Events.{LexEvent}
+use Rattle.place_core.specs.page.Html.{read}
+use Rattle.place_core.specs.place.Membership.{IsIn}
+use Rattle.place_core.specs.page.Paths.{at_hole, mark_in}
+use Rattle.place_core.specs.place.Places.{IsValid}
+use Rattle.place_core.specs.page.References.{Closed, Reference}
+use Rattle.place_core.specs.place.StatePlaces.{content_spot, placed, quotes_at, value_body, value_spot, where_closed}
+use Rattle.place_core.specs.page.States.{AfterAttributeName, AfterAttributeValue, AttributeName, AttributeValue, BeforeAttributeName, BeforeAttributeValue, Broken, Characters, CommentState, Config, Content, Pending, InComment, InContent, Inside, Nothing, Page, SelfClosingStartTag, LexState, Text, WholeAttributeName, config}
+use Rattle.place_core.specs.page.Tags.{DoubleQuoted, Quoting, SingleQuoted, Tag, Unquoted, Value, ValueOf, ValueState, languages, with_bytes, without_value}
 use Rattle.place_core.specs.declared.chain.Chain.{Chain}
 use Rattle.place_core.specs.declared.element.Element.{Element}
 use Rattle.place_core.specs.declared.element.Element.TheVariants as element
@@ -26,38 +26,38 @@ use Rattle.san_html.proofs.EscapedText.{back-in-quoted, back-in-rcdata, back-in-
 use Rattle.san_html.proofs.Names.{tag-back}
 use Rattle.san_html.proofs.Results.{for-text}
 use Rattle.san_html.proofs.UnquotedValues.{unquoted-back}
-use Rattle.san_html.specs.ReadBack.{BeginsName, IsBackInQuoted, IsBackInRcdata, IsBackInText, as_name, as_text, as_unquoted, in_rcdata, in_value}
+use Rattle.san_html.specs.ReadBack.{BeginsName, IsBackInQuoted, IsBackInRcdata, IsBackInText, as_name, read_as_text, as_unquoted, in_rcdata, in_value}
 use Rattle.san_html.specs.Sanitizers.{attr_name, attr_nospace, html, html_rows}
 use Rattle.text_norm.specs.HoleLaws.{IsBackBy}
 use Rattle.text_norm.specs.StandsLaws.{holds_nothing}
 
 -- Nothing is held back, and bytes read back as a text. In a comment there are none.
-abbrev pub BackIn : San → State ValueState → List ℕ → List ℕ → Type 0
+abbrev pub BackIn : San → LexState ValueState → List ℕ → List ℕ → Type 0
 BackIn san.Drop s text bytes = Unit {0}
 BackIn x s text bytes = (holds_nothing s ≡ true) × IsBack s text bytes
 
 -- The reading of bytes goes on with a text where the path does with its mark. A hole in a comment has no mark, and no text.
-pub record IsToldAs (s : State ValueState) (text bytes : List ℕ) : Type 0 where
+pub record IsToldAs (s : LexState ValueState) (text bytes : List ℕ) : Type 0 where
   pub free : holds_nothing s ≡ true
   pub behind : IsRetold (at_hole languages s)
-  pub at : (t : List Event) → (filled s text t).at ≡ at_hole languages s
-  pub reads : (t : List Event) → read Page bytes (config s t) ≡ config (read Page bytes (config s [])).at (filled s text t).told
+  pub at : (t : List LexEvent) → (holes_filled s text t).at ≡ at_hole languages s
+  pub reads : (t : List LexEvent) → read Page bytes (config s t) ≡ config (read Page bytes (config s [])).at (holes_filled s text t).emitted
 
-abbrev pub Fills : San → State ValueState → List ℕ → List ℕ → Type 0
-Fills san.Drop s text bytes = (t : List Event) → filled s text t ≡ config (at_hole languages s) (mark_in s t)
+abbrev pub Fills : San → LexState ValueState → List ℕ → List ℕ → Type 0
+Fills san.Drop s text bytes = (t : List LexEvent) → holes_filled s text t ≡ config (at_hole languages s) (mark_in s t)
 Fills x s text bytes = IsToldAs s text bytes
 
 -- so where each time the bytes lead to one state
-told-as : (s : State ValueState) (text bytes : List ℕ) → holds_nothing s ≡ true → IsRetold (at_hole languages s)
-    → ((t : List Event) → (filled s text t).at ≡ at_hole languages s)
-    → (a : State ValueState) → ((t : List Event) → read Page bytes (config s t) ≡ config a (filled s text t).told) → IsToldAs s text bytes
-told-as s text bytes free behind at a reads = record {
+emitted-as : (s : LexState ValueState) (text bytes : List ℕ) → holds_nothing s ≡ true → IsRetold (at_hole languages s)
+    → ((t : List LexEvent) → (holes_filled s text t).at ≡ at_hole languages s)
+    → (a : LexState ValueState) → ((t : List LexEvent) → read Page bytes (config s t) ≡ config a (holes_filled s text t).emitted) → IsToldAs s text bytes
+emitted-as s text bytes free behind at a reads = record {
   free = free;
   behind = behind;
   at = at;
   reads = λ t.
       let led = ap (λ (c : Config ValueState). c.at) (reads []) in
-      reads t ∙ ap (λ (z : State ValueState). config z (filled s text t).told) (sym led);
+      reads t ∙ ap (λ (z : LexState ValueState). config z (holes_filled s text t).emitted) (sym led);
 }
 
 -- a value of a kind goes on as one
@@ -70,18 +70,18 @@ value-goes-on : (q : Quoting) (tag : Tag) (text : List ℕ)
 value-goes-on q tag text = ap (in_value q tag) (goes-on kind.Plain text)
 
 -- a chain is one sanitizer, which keeps what it promises, and what it writes reads back, also as a part of the whole page
-pub record IsSafe (c : Chain) (s : State ValueState) : Type 0 where
+pub record IsSafe (c : Chain) (s : LexState ValueState) : Type 0 where
   pub one : San
   pub is : c ≡ only one
   pub promised : (text : List ℕ) → IsUtf8 text → IsBackBy one text (san_bytes one text)
   pub back : (text : List ℕ) → IsUtf8 text → BackIn one s text (san_bytes one text)
   pub fills : (text : List ℕ) → IsUtf8 text → Fills one s text (san_bytes one text)
 
-abbrev SafeBy : State ValueState → Holed → Type 0
+abbrev SafeBy : LexState ValueState → Holed → Type 0
 SafeBy s (Ok h) = IsSafe h.1 s
 SafeBy s (Err e) = Unit {0}
 
-abbrev SafeAt : State ValueState → Option Place → Type 0
+abbrev SafeAt : LexState ValueState → Option Place → Type 0
 SafeAt s (Some p) = SafeBy s (after_hole p)
 SafeAt s None = Unit {0}
 
@@ -101,7 +101,7 @@ in-text = record {
   is = refl;
   promised = λ text u. (text-back text u, rcdata-back text u);
   back = λ text u. (refl, (text-back text u).reads []);
-  fills = λ text u. told-as (Text Closed) text (html text) refl tt (λ t. refl) (Text Closed) (text-back text u).reads;
+  fills = λ text u. emitted-as (Text Closed) text (html text) refl tt (λ t. refl) (Text Closed) (text-back text u).reads;
 }
 
 in-content : (e : Element) → IsSafe (only san.Html) (in_rcdata e)
@@ -110,7 +110,7 @@ in-content e = record {
   is = refl;
   promised = λ text u. (text-back text u, rcdata-back text u);
   back = λ text u. (refl, (rcdata-back text u).reads e []);
-  fills = λ text u. told-as (in_rcdata e) text (html text) refl tt (λ t. refl) (in_rcdata e) ((rcdata-back text u).reads e);
+  fills = λ text u. emitted-as (in_rcdata e) text (html text) refl tt (λ t. refl) (in_rcdata e) ((rcdata-back text u).reads e);
 }
 
 in-comment : (s : CommentState) → IsSafe (only san.Drop) (InComment s)
@@ -122,9 +122,9 @@ in-double tag = record {
   is = refl;
   promised = quoted-back;
   back = λ text u. (refl, (quoted-back text u).reads DoubleQuoted tag (ValueOf kind.Plain) [] refl);
-  fills = λ text u. told-as (in_value DoubleQuoted tag (ValueOf kind.Plain)) text (html text) refl tt
-      (λ t. value-goes-on DoubleQuoted tag (as_text text))
-      (in_value DoubleQuoted tag (with_bytes languages (ValueOf kind.Plain) (as_text text)))
+  fills = λ text u. emitted-as (in_value DoubleQuoted tag (ValueOf kind.Plain)) text (html text) refl tt
+      (λ t. value-goes-on DoubleQuoted tag (read_as_text text))
+      (in_value DoubleQuoted tag (with_bytes languages (ValueOf kind.Plain) (read_as_text text)))
       (λ t. (quoted-back text u).reads DoubleQuoted tag (ValueOf kind.Plain) t refl);
 }
 
@@ -134,9 +134,9 @@ in-single tag = record {
   is = refl;
   promised = quoted-back;
   back = λ text u. (refl, (quoted-back text u).reads SingleQuoted tag (ValueOf kind.Plain) [] refl);
-  fills = λ text u. told-as (in_value SingleQuoted tag (ValueOf kind.Plain)) text (html text) refl tt
-      (λ t. value-goes-on SingleQuoted tag (as_text text))
-      (in_value SingleQuoted tag (with_bytes languages (ValueOf kind.Plain) (as_text text)))
+  fills = λ text u. emitted-as (in_value SingleQuoted tag (ValueOf kind.Plain)) text (html text) refl tt
+      (λ t. value-goes-on SingleQuoted tag (read_as_text text))
+      (in_value SingleQuoted tag (with_bytes languages (ValueOf kind.Plain) (read_as_text text)))
       (λ t. (quoted-back text u).reads SingleQuoted tag (ValueOf kind.Plain) t refl);
 }
 
@@ -146,7 +146,7 @@ in-unquoted tag = record {
   is = refl;
   promised = unquoted-back;
   back = λ text u. (refl, (unquoted-back text u).reads tag (ValueOf kind.Plain) []);
-  fills = λ text u. told-as (in_value Unquoted tag (ValueOf kind.Plain)) text (attr_nospace text) refl tt
+  fills = λ text u. emitted-as (in_value Unquoted tag (ValueOf kind.Plain)) text (attr_nospace text) refl tt
       (λ t. value-goes-on Unquoted tag (as_unquoted text))
       (in_value Unquoted tag (with_bytes languages (ValueOf kind.Plain) (as_unquoted text)))
       ((unquoted-back text u).reads tag (ValueOf kind.Plain));
@@ -158,29 +158,29 @@ before-value tag = record {
   is = refl;
   promised = unquoted-back;
   back = λ text u. (refl, (unquoted-back text u).reads_unbegun tag kind.Plain []);
-  fills = λ text u. told-as (BeforeAttributeValue tag kind.Plain) text (attr_nospace text) refl tt
+  fills = λ text u. emitted-as (BeforeAttributeValue tag kind.Plain) text (attr_nospace text) refl tt
       (λ t. value-goes-on Unquoted tag (as_unquoted text))
       (in_value Unquoted tag (with_bytes languages (ValueOf kind.Plain) (as_unquoted text)))
       ((unquoted-back text u).reads_unbegun tag kind.Plain);
 }
 
-before-name : (s : State ValueState) (tag : Tag) → BeginsName s tag → holds_nothing s ≡ true
+before-name : (s : LexState ValueState) (tag : Tag) → BeginsName s tag → holds_nothing s ≡ true
     → ((text bytes : List ℕ) → IsNameBack tag s text bytes → IsBack s text bytes)
-    → ((text : List ℕ) (t : List Event) → filled s text t ≡ name_filled tag text t)
+    → ((text : List ℕ) (t : List LexEvent) → holes_filled s text t ≡ name_filled tag text t)
     → at_hole languages s ≡ WholeAttributeName tag kind.Plain → IsSafe (only san.AttrName) s
 before-name s tag begins free same fill hole = record {
   one = san.AttrName;
   is = refl;
   promised = λ text u. tag-back text;
   back = λ text u. (free, same text (san_bytes san.AttrName text) ((tag-back text).reads s tag [] begins));
-  fills = λ text u. told-as s text (attr_name text) free (subst IsRetold (sym hole) tt)
+  fills = λ text u. emitted-as s text (attr_name text) free (subst IsRetold (sym hole) tt)
       (λ t. ap (λ (c : Config ValueState). c.at) (fill text t) ∙ sym hole) (AttributeName tag (as_name text))
       (λ t. (tag-back text).reads s tag t begins
-      ∙ ap (λ (c : Config ValueState). config (AttributeName tag (as_name text)) c.told) (sym (fill text t)));
+      ∙ ap (λ (c : Config ValueState). config (AttributeName tag (as_name text)) c.emitted) (sym (fill text t)));
 }
 
--- .. and so wherever a hole is accepted
-content-safe : (h : Held) (x : Content) (e : Element) → SafeAt (InContent e x h) (content_spot h x e)
+-- likewise, and so wherever a hole is accepted
+content-safe : (h : Pending) (x : Content) (e : Element) → SafeAt (InContent e x h) (content_spot h x e)
 content-safe Nothing (Characters Closed) element.Title = in-content element.Title
 content-safe Nothing (Characters Closed) element.Textarea = in-content element.Textarea
 content-safe _ _ _ = tt
@@ -192,7 +192,7 @@ value-safe Closed (ValueOf kind.Plain) SingleQuoted tag = in-single tag
 value-safe Closed (ValueOf kind.Plain) Unquoted tag = in-unquoted tag
 value-safe _ _ _ tag = tt
 
-safe-at : (s : State ValueState) → SafeAt s (placed s)
+safe-at : (s : LexState ValueState) → SafeAt s (placed s)
 safe-at (Text Closed) = in-text
 safe-at (InComment Inside) = in-comment Inside
 safe-at (InComment Broken) = in-comment Broken
@@ -207,7 +207,7 @@ safe-at (InContent e x h) = content-safe h x e
 safe-at _ = tt
 
 -- a place that accepts a hole has such a chain, on each path for which it stands
-pub is-safe : (p q : Place) (c : Chain) (s : State ValueState) → IsValid p → IsIn p s → after_hole p ≡ Ok (q, c) → IsSafe c s
+pub is-safe : (p q : Place) (c : Chain) (s : LexState ValueState) → IsValid p → IsIn p s → after_hole p ≡ Ok (q, c) → IsSafe c s
 is-safe p q c s v i accepted =
     let own = (covers-hole p q c s v i accepted).1 i.own i.stands in
     subst (SafeBy s) own.1 (subst (SafeAt s) i.stands (safe-at s))

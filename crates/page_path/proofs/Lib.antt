@@ -4,9 +4,11 @@ pub mod Finding
 pub mod HolesBack
 pub mod OneShape
 pub mod OwnPieces
+pub mod Paths
 pub mod PiecesFilled
 pub mod PiecesRead
 pub mod Retold
+pub mod Runs
 pub mod Signs
 pub mod Sound
 pub mod Together

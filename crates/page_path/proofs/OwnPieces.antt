@@ -3,11 +3,11 @@ use Rattle.std.proofs.Common.{◌≡◌, ℕ, List, Option, Some, Ok, ap, ◌∙
 use Rattle.html_step.proofs.HoleOrder.{covers-hole}
 use Rattle.html_step.specs.Holes.{Holed, after_hole}
 use Rattle.page_path.specs.Pages.{hole_pieces, holed_pieces, value_pieces}
-use Rattle.place_core.specs.Membership.{IsIn}
-use Rattle.place_core.specs.Places.{IsValid}
-use Rattle.place_core.specs.StatePlaces.{placed}
-use Rattle.place_core.specs.States.{State}
-use Rattle.place_core.specs.Tags.{ValueState}
+use Rattle.place_core.specs.place.Membership.{IsIn}
+use Rattle.place_core.specs.place.Places.{IsValid}
+use Rattle.place_core.specs.place.StatePlaces.{placed}
+use Rattle.place_core.specs.page.States.{LexState}
+use Rattle.place_core.specs.page.Tags.{ValueState}
 use Rattle.place_core.specs.declared.chain.Chain.{Chain}
 use Rattle.place_core.specs.declared.place.Place.{Place}
 
@@ -18,7 +18,7 @@ at-place o p q c text there accepted =
     ap (λ (x : Option Place). hole_pieces x text) there ∙ ap (λ (r : Holed). holed_pieces r text) accepted
 
 -- the path's own place has that chain too
-pub on-path : (p q : Place) (c : Chain) (s : State ValueState) (text : List ℕ) → IsValid p → IsIn p s → after_hole p ≡ Ok (q, c)
+pub on-path : (p q : Place) (c : Chain) (s : LexState ValueState) (text : List ℕ) → IsValid p → IsIn p s → after_hole p ≡ Ok (q, c)
     → hole_pieces (placed s) text ≡ value_pieces c text
 on-path p q c s text v i accepted =
     let own = (covers-hole p q c s v i accepted).1 i.own i.stands in

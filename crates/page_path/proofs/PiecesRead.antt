@@ -4,19 +4,19 @@ use Rattle.html_step.specs.Holes.{after_hole, only}
 use Rattle.html_step.specs.Steps.{after_text}
 use Rattle.page_path.proofs.HolesBack.{BackIn, is-safe}
 use Rattle.page_path.proofs.OwnPieces.{on-path}
-use Rattle.page_path.specs.Pages.{Piece, hole_pieces, parts_of, san_bytes, value_pieces, words}
+use Rattle.page_path.specs.Pages.{PagePiece, hole_pieces, page_parts, san_bytes, value_pieces, words}
 use Rattle.page_path.specs.Soundness.{IsBack, ReadBack}
-use Rattle.place_core.specs.Classes.{class_of}
-use Rattle.place_core.specs.Errors.{node, states}
-use Rattle.place_core.specs.Events.{Event}
-use Rattle.place_core.specs.Html.{next, read, read_over, tells}
-use Rattle.place_core.specs.Membership.{IsIn}
-use Rattle.place_core.specs.Paths.{Hole, Symbol, Written, at_cut, at_hole, mark_in, read_node, read_path}
-use Rattle.place_core.specs.Places.{IsValid}
-use Rattle.place_core.specs.Shape.{HolePart, Part, Reads, TextPart, marked}
-use Rattle.place_core.specs.StatePlaces.{placed}
-use Rattle.place_core.specs.States.{Config, Page, State, Template, config}
-use Rattle.place_core.specs.Tags.{ValueState, languages}
+use Rattle.place_core.specs.page.Classes.{class_of}
+use Rattle.place_core.specs.place.Errors.{node, states}
+use Rattle.place_core.specs.page.Events.{LexEvent}
+use Rattle.place_core.specs.page.Html.{next, read, read_over, emits}
+use Rattle.place_core.specs.place.Membership.{IsIn}
+use Rattle.place_core.specs.page.Paths.{Hole, Symbol, Written, at_cut, at_hole, mark_in, read_node, read_path}
+use Rattle.place_core.specs.place.Places.{IsValid}
+use Rattle.place_core.specs.page.Shape.{HolePart, ShapePart, PageReads, TextPart, marked}
+use Rattle.place_core.specs.place.StatePlaces.{placed}
+use Rattle.place_core.specs.page.States.{Config, Page, LexState, Template, config}
+use Rattle.place_core.specs.page.Tags.{ValueState, languages}
 use Rattle.place_core.specs.declared.chain.Chain.{Chain}
 use Rattle.place_core.specs.declared.place.Place.{Place}
 use Rattle.place_core.specs.declared.san.San.{San}
@@ -24,40 +24,40 @@ use Rattle.place_core.specs.declared.san.San.TheVariants as san
 use Rattle.text_norm.proofs.HoleKeeps.{keeps-hole}
 use Rattle.text_norm.proofs.Keeps.{keeps-shape}
 use Rattle.text_norm.proofs.Same.{written-on-paths}
-use Rattle.text_norm.proofs.Tells.{same-state}
-use Rattle.text_norm.specs.HoleLaws.{ArePlain, parts_of as hole_parts}
-use Rattle.text_norm.specs.Standing.{Stands, page}
+use Rattle.text_norm.proofs.Emits.{same-state}
+use Rattle.text_norm.specs.HoleLaws.{ArePlain, hole_parts}
+use Rattle.text_norm.specs.Standing.{TextStands, page}
 use Rattle.text_norm.specs.Written.{written}
 
 -- pieces that are read to an end, and whose values read back
-pub record AreRead (pieces : List Piece) (d end : Config ValueState) : Type 0 where
-  pub reads : Reads (parts_of pieces) d end
+pub record AreRead (pieces : List PagePiece) (d end : Config ValueState) : Type 0 where
+  pub reads : PageReads (page_parts pieces) d end
   pub back : ReadBack pieces d
 
 -- the page's reading stands for the path
 abbrev pub StandsFor : Config ValueState → Config ValueState → Type 0
-StandsFor c d = Stands languages c.at c.told d
+StandsFor c d = TextStands languages c.at c.emitted d
 
--- pieces that are read to where it stands for the path behind these symbols
-pub record IsReadTo (pieces : List Piece) (symbols : List Symbol) (s : State ValueState) (t : List Event) (d : Config ValueState)
+-- pieces that are read to where it stands for the path after these symbols
+pub record IsReadTo (pieces : List PagePiece) (symbols : List Symbol) (s : LexState ValueState) (t : List LexEvent) (d : Config ValueState)
     : Type 0 where
   pub end : Config ValueState
   pub are : AreRead pieces d end
   pub stands : StandsFor (read_path languages symbols (config s t)) end
 
--- the state behind a text is that of its bytes
-same-states : (bytes : List ℕ) (s : State ValueState) (t : List Event)
+-- the state after a text is that of its bytes
+same-states : (bytes : List ℕ) (s : LexState ValueState) (t : List LexEvent)
     → (read_over languages Template bytes (config s t)).at ≡ states bytes s
 same-states [] s t = refl
-same-states (b ∷ bs) s t = same-states bs (next languages Template s (class_of b) b) (tells languages Template s (class_of b) b t)
+same-states (b ∷ bs) s t = same-states bs (next languages Template s (class_of b) b) (emits languages Template s (class_of b) b t)
 
-pub node-state : (bytes : List ℕ) (s : State ValueState) (t : List Event) → (read_node languages bytes (config s t)).at ≡ node bytes s
+pub node-state : (bytes : List ℕ) (s : LexState ValueState) (t : List LexEvent) → (read_node languages bytes (config s t)).at ≡ node bytes s
 node-state bytes s t = ap (at_cut languages) (same-states bytes s t)
 
 -- a text
-pub text-read : (bytes : List ℕ) (p q : Place) (s : State ValueState) (t : List Event) (d : Config ValueState) (pieces : List Piece)
-    (symbols : List Symbol) → IsValid p → IsIn p s → after_text bytes p ≡ Ok q → Stands languages s t d
-    → ((u : List Event) (e : Config ValueState) → Stands languages (node bytes s) u e → IsReadTo pieces symbols (node bytes s) u e)
+pub text-read : (bytes : List ℕ) (p q : Place) (s : LexState ValueState) (t : List LexEvent) (d : Config ValueState) (pieces : List PagePiece)
+    (symbols : List Symbol) → IsValid p → IsIn p s → after_text bytes p ≡ Ok q → TextStands languages s t d
+    → ((u : List LexEvent) (e : Config ValueState) → TextStands languages (node bytes s) u e → IsReadTo pieces symbols (node bytes s) u e)
     → IsReadTo (words (written languages bytes s) ∷ pieces) (Written bytes ∷ symbols) s t d
 text-read bytes p q s t d pieces symbols v i accepted l rest =
     let c = read_node languages bytes (config s t) in
@@ -65,17 +65,17 @@ text-read bytes p q s t d pieces symbols v i accepted l rest =
     let same = node-state bytes s t in
     let own = sym (written-on-paths bytes p q s v i accepted) in
     let here = subst (λ (z : List ℕ). StandsFor c (page languages z d)) own (keeps-shape bytes p q s t d v i accepted l).1 in
-    let r = rest c.told e (subst (λ (z : State ValueState). Stands languages z c.told e) same here) in
+    let r = rest c.emitted e (subst (λ (z : LexState ValueState). TextStands languages z c.emitted e) same here) in
     record {
       end = r.end;
       are = record { reads = r.are.reads; back = r.are.back };
-      stands = subst (λ (z : State ValueState). StandsFor (read_path languages symbols (config z c.told)) r.end) (sym same) r.stands;
+      stands = subst (λ (z : LexState ValueState). StandsFor (read_path languages symbols (config z c.emitted)) r.end) (sym same) r.stands;
     }
 
 -- what a hole has before more pieces, by its sanitizer
-plain-read : (x : San) (text : List ℕ) (s : State ValueState) (t : List Event) (d e end : Config ValueState) (pieces : List Piece)
-    → ArePlain x (san_bytes x text) d → Reads (hole_parts x (san_bytes x text)) d e
-    → BackIn x s text (san_bytes x text) → Stands languages s t d → AreRead pieces e end
+plain-read : (x : San) (text : List ℕ) (s : LexState ValueState) (t : List LexEvent) (d e end : Config ValueState) (pieces : List PagePiece)
+    → ArePlain x (san_bytes x text) d → PageReads (hole_parts x (san_bytes x text)) d e
+    → BackIn x s text (san_bytes x text) → TextStands languages s t d → AreRead pieces e end
     → AreRead (value_pieces (only x) text ++ pieces) d end
 plain-read san.Drop text s t d e end pieces p r b l h = subst (λ (z : Config ValueState). AreRead pieces z end) r h
 plain-read x text s t d e end pieces p (inl r) b l h =
@@ -83,16 +83,16 @@ plain-read x text s t d e end pieces p (inl r) b l h =
     let at = sym (ap (λ (c : Config ValueState). c.at) (same-state s t d b.0 l)) in
     record {
       reads = inl (p, there.reads);
-      back = (p, subst (λ (z : State ValueState). IsBack z text (san_bytes x text)) at b.1, there.back);
+      back = (p, subst (λ (z : LexState ValueState). IsBack z text (san_bytes x text)) at b.1, there.back);
     }
 plain-read x text s t d e end pieces p (inr r) b l h = absurd (r.0 p)
 
 -- a hole
-pub hole-read : (p q : Place) (c : Chain) (text : List ℕ) (s : State ValueState) (t : List Event) (d : Config ValueState)
-    (pieces : List Piece) (symbols : List Symbol)
-    → IsValid p → IsIn p s → after_hole p ≡ Ok (q, c) → IsUtf8 text → Stands languages s t d
-    → ((u : List Event)
-    (e : Config ValueState) → Stands languages (at_hole languages s) u e → IsReadTo pieces symbols (at_hole languages s) u e)
+pub hole-read : (p q : Place) (c : Chain) (text : List ℕ) (s : LexState ValueState) (t : List LexEvent) (d : Config ValueState)
+    (pieces : List PagePiece) (symbols : List Symbol)
+    → IsValid p → IsIn p s → after_hole p ≡ Ok (q, c) → IsUtf8 text → TextStands languages s t d
+    → ((u : List LexEvent)
+    (e : Config ValueState) → TextStands languages (at_hole languages s) u e → IsReadTo pieces symbols (at_hole languages s) u e)
     → IsReadTo (hole_pieces (placed s) text ++ pieces) (Hole ∷ symbols) s t d
 hole-read p q c text s t d pieces symbols v i accepted u l rest =
     let safe = is-safe p q c s v i accepted in
@@ -104,12 +104,12 @@ hole-read p q c text s t d pieces symbols v i accepted u l rest =
     let whole = plain-read x text s t d e r.end pieces kept.1 kept.2.1 (safe.back text u) l r.are in
     record {
       end = r.end;
-      are = subst (λ (z : List Piece). AreRead (z ++ pieces) d r.end) (sym (on-path p q (only x) s text v i alone)) whole;
+      are = subst (λ (z : List PagePiece). AreRead (z ++ pieces) d r.end) (sym (on-path p q (only x) s text v i alone)) whole;
       stands = r.stands;
     }
 
 -- parts are read to one end at most
-pub one-end : (parts : List Part) (from e f : Config ValueState) → Reads parts from e → Reads parts from f → e ≡ f
+pub one-end : (parts : List ShapePart) (from e f : Config ValueState) → PageReads parts from e → PageReads parts from f → e ≡ f
 one-end [] from e f p q = p ∙ sym q
 one-end (TextPart bytes ∷ parts) from e f p q = one-end parts (read Page bytes from) e f p q
 one-end (HolePart bytes ∷ parts) from e f (inl p) (inl q) = one-end parts (marked bytes from) e f p.1 q.1

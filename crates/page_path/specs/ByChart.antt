@@ -3,49 +3,49 @@ use Rattle.std.specs.Prelude.{◌≡◌, ℕ, List, [], ◌∷◌, Option, Some,
 use Rattle.html_step.specs.Holes.{after_hole}
 use Rattle.html_step.specs.Steps.{after_text}
 use Rattle.page_datum.specs.Printed.{printed}
-use Rattle.page_path.specs.Pages.{Piece, bytes_in, hole_pieces, words}
-use Rattle.place_charts.specs.Charts.{Chart, Pair}
+use Rattle.page_path.specs.Pages.{PagePiece, bytes_in, hole_pieces, words}
+use Rattle.place_flow.specs.Covering.{ChartByName, Pair}
 use Rattle.place_core.specs.declared.chain.Chain.{Chain}
 use Rattle.place_core.specs.declared.place.Place.{Place}
-use Rattle.text_norm.specs.Fronted.{written_at}
-use Rattle.tpl_events.specs.Events.{Event, enters, gives_hole, gives_text, leaves}
-use Rattle.tpl_paths.specs.Edges.{before, kind_at, start_in}
+use Rattle.text_norm.specs.Scanned.{written_at}
+use Rattle.tpl_events.specs.Events.{ExecEvent, enters, gives_hole, gives_text, leaves}
+use Rattle.tpl_paths.specs.Edges.{before, node_kind_at, start_in}
 use Rattle.tpl_tree.specs.Forests.{ForestData}
 use Rattle.tpl_tree.specs.declared.node_kind.NodeKind.TheVariants as kind
 use Rattle.tpl_tree.specs.declared.pipe.Pipe.{Pipe}
 
 -- the node of a pair is a text, and the chart's place there accepts it
-pub record MayText (forest : ForestData) (chart : Chart Place) (p : Pair Place) (n : ℕ) : Type 0 where
+pub record MayText (forest : ForestData) (chart : ChartByName Place) (p : Pair Place) (n : ℕ) : Type 0 where
   pub bytes : List ℕ
   pub place : Place
   pub next : Place
-  pub is : kind_at forest p.template n ≡ Some (kind.Text bytes)
+  pub is : node_kind_at forest p.template n ≡ Some (kind.Text bytes)
   pub there : chart p.template p.entry (before n) ≡ Some place
   pub accepted : after_text bytes place ≡ Ok next
 
--- .. a hole
-pub record MayHole (forest : ForestData) (chart : Chart Place) (p : Pair Place) (n : ℕ) : Type 0 where
+-- likewise, a hole
+pub record MayHole (forest : ForestData) (chart : ChartByName Place) (p : Pair Place) (n : ℕ) : Type 0 where
   pub pipe : Pipe
   pub place : Place
   pub next : Place
   pub chain : Chain
-  pub is : kind_at forest p.template n ≡ Some (kind.Action pipe)
+  pub is : node_kind_at forest p.template n ≡ Some (kind.Action pipe)
   pub there : chart p.template p.entry (before n) ≡ Some place
   pub accepted : after_hole place ≡ Ok (next, chain)
 
 -- a template begins in a place that is entered
-pub record Begins (forest : ForestData) (chart : Chart Place) (name : List ℕ) (entry : Place) : Type 0 where
+pub record BeginsByChart (forest : ForestData) (chart : ChartByName Place) (name : List ℕ) (entry : Place) : Type 0 where
   pub place : Place
   pub there : chart name entry (start_in forest name) ≡ Some place
 
--- .. a call, and the template that it calls has a place where it begins
-pub record MayEnter (forest : ForestData) (chart : Chart Place) (p : Pair Place) (n : ℕ) : Type 0 where
+-- likewise, a call, and the template that it calls has a place where it begins
+pub record PairMayEnter (forest : ForestData) (chart : ChartByName Place) (p : Pair Place) (n : ℕ) : Type 0 where
   pub name : List ℕ
   pub argument : Option Pipe
   pub place : Place
-  pub is : kind_at forest p.template n ≡ Some (kind.Template name argument)
+  pub is : node_kind_at forest p.template n ≡ Some (kind.Template name argument)
   pub there : chart p.template p.entry (before n) ≡ Some place
-  pub begins : Begins forest chart name place
+  pub begins : BeginsByChart forest chart name place
 
 -- some pair is open
 abbrev pub HasPair : List (Pair Place) → Type 0
@@ -53,23 +53,23 @@ HasPair [] = ⊥
 HasPair (p ∷ ps) = ⊤
 
 -- what may be given where these pairs are open, the innermost first
-abbrev pub May : ForestData → Chart Place → Event → List (Pair Place) → Type 0
-May forest chart e [] = ⊥
-May forest chart (gives_text n) (p ∷ ps) = MayText forest chart p n
-May forest chart (gives_hole n datum) (p ∷ ps) = MayHole forest chart p n
-May forest chart (enters n) (p ∷ ps) = MayEnter forest chart p n
-May forest chart leaves (p ∷ ps) = HasPair ps
+abbrev pub ChartMay : ForestData → ChartByName Place → ExecEvent → List (Pair Place) → Type 0
+ChartMay forest chart e [] = ⊥
+ChartMay forest chart (gives_text n) (p ∷ ps) = MayText forest chart p n
+ChartMay forest chart (gives_hole n datum) (p ∷ ps) = MayHole forest chart p n
+ChartMay forest chart (enters n) (p ∷ ps) = PairMayEnter forest chart p n
+ChartMay forest chart leaves (p ∷ ps) = HasPair ps
 
 -- a text is written for the place before it
-abbrev pub text_pieces : Option Place → List ℕ → List Piece
+abbrev pub text_pieces : Option Place → List ℕ → List PagePiece
 text_pieces (Some p) bytes = words (written_at bytes p) ∷ []
 text_pieces None bytes = []
 
 -- what is written for an event where these pairs are open: by the chart's place at the node, in the innermost pair
-abbrev pub pair_pieces : ForestData → Chart Place → Event → List (Pair Place) → List Piece
+abbrev pub pair_pieces : ForestData → ChartByName Place → ExecEvent → List (Pair Place) → List PagePiece
 pair_pieces forest chart e [] = []
 pair_pieces forest chart (gives_text n) (p ∷ ps) =
-    text_pieces (chart p.template p.entry (before n)) (bytes_in (kind_at forest p.template n))
+    text_pieces (chart p.template p.entry (before n)) (bytes_in (node_kind_at forest p.template n))
 pair_pieces forest chart (gives_hole n datum) (p ∷ ps) = hole_pieces (chart p.template p.entry (before n)) (printed datum)
 pair_pieces forest chart (enters n) (p ∷ ps) = []
 pair_pieces forest chart leaves (p ∷ ps) = []

@@ -1,22 +1,22 @@
 -- What holds of the pages of every set of templates that has a chart.
 use Rattle.std.specs.Prelude.{◌≡◌, ℕ, List, [], ◌∷◌, Some, Contains, ⊤}
 use Rattle.page_datum.specs.Data.{Data}
-use Rattle.page_path.specs.ByChart.{May, pair_pieces}
-use Rattle.page_path.specs.Pages.{event_pieces, open_behind, page_bytes, parts_of, pieces_of, state_behind}
-use Rattle.page_path.specs.Soundness.{AreTextual, IsDone, IsSound}
-use Rattle.place_charts.specs.Charts.{Chart, Pair, pair, sign_pairs}
-use Rattle.place_core.specs.Html.{start}
-use Rattle.place_core.specs.Shape.{Reads, shape_of}
-use Rattle.place_core.specs.States.{Config, State}
-use Rattle.place_core.specs.Tags.{ValueState}
+use Rattle.page_path.specs.ByChart.{ChartMay, pair_pieces}
+use Rattle.page_path.specs.Pages.{event_pieces, open_behind, page_bytes, page_parts, pieces_of, state_behind}
+use Rattle.page_path.specs.Soundness.{AreTextual, IsDone, IsSound, path_read}
+use Rattle.place_flow.specs.Covering.{ChartByName, Pair, pair, sign_pairs}
+use Rattle.place_core.specs.page.Html.{start}
+use Rattle.place_core.specs.page.Shape.{PageReads, shape_of}
+use Rattle.place_core.specs.page.States.{Config, LexState}
+use Rattle.place_core.specs.page.Tags.{ValueState}
 use Rattle.place_core.specs.declared.place.Place.{Place}
 use Rattle.place_core.specs.declared.place.Place.TheVariants as place
 use Rattle.place_infer.specs.ChartViews.{ChartData}
 use Rattle.place_infer.specs.Inferring.{IsChartOfSet}
-use Rattle.place_least.specs.Exact.{places_of}
+use Rattle.place_chart.specs.Exact.{places_of}
 use Rattle.tpl_events.specs.Events.{Emission}
 use Rattle.tpl_exec.specs.Meaning.{meaning}
-use Rattle.tpl_taken.specs.Taken.{choices, sign_of}
+use Rattle.page_path.specs.Taken.{choices, move_sign}
 use Rattle.tpl_tree.specs.Forests.{ForestData, HasAscendingNames, number_named}
 
 -- a root of a set that has a chart
@@ -33,20 +33,27 @@ PagesAreSound = (forest : ForestData) (names : List (List ℕ)) (chart : ChartDa
     → IsRootOf forest names chart root → IsDone (meaning forest root datum).end → AreTextual (meaning forest root datum).events
     → IsSound forest root datum (page_bytes (pieces_of forest root datum))
 
+-- A page that is sound has, however it is read with a mark in the place of each value, the shape of the path that its execution takes.
+abbrev pub SoundPagesHaveTheShapeOfTheirPath : Type 0
+SoundPagesHaveTheShapeOfTheirPath = (forest : ForestData) (root : List ℕ) (datum : Data) (page : List ℕ)
+    → (sound : IsSound forest root datum page) (end : Config ValueState)
+    → PageReads (page_parts (pieces_of forest root datum)) start end
+    → shape_of end ≡ shape_of (path_read sound.takes.path)
+
 -- Along events each may be given to a writer that goes by the chart, and what that writes, where these pairs are open, is what is written
 -- by the path.
-abbrev pub GoTogether : ForestData → Chart Place → List Emission → List (Pair Place) → List (List ℕ) → State ValueState → Type 0
+abbrev pub GoTogether : ForestData → ChartByName Place → List Emission → List (Pair Place) → List (List ℕ) → LexState ValueState → Type 0
 GoTogether forest chart [] ps ts s = ⊤
 GoTogether forest chart (g ∷ gs) ps ts s =
-    May forest chart g.event ps × (pair_pieces forest chart g.event ps ≡ event_pieces forest g.event ts s)
-    × GoTogether forest chart gs (sign_pairs forest chart (sign_of g.event) ps) (open_behind forest g.event ts)
+    ChartMay forest chart g.event ps × (pair_pieces forest chart g.event ps ≡ event_pieces forest g.event ts s)
+    × GoTogether forest chart gs (sign_pairs forest chart (move_sign g.event) ps) (open_behind forest g.event ts)
     (state_behind forest g.event ts s)
 
 -- So the chart gives what the page is, for every execution of a root, up to its end or its fault.
 abbrev pub PagesGoByTheChart : Type 0
 PagesGoByTheChart = (forest : ForestData) (names : List (List ℕ)) (chart : ChartData) (root : List ℕ) (datum : Data)
     → IsRootOf forest names chart root
-    → GoTogether forest (places_of forest chart.rows) (meaning forest root datum).events (pair root place.Text ∷ []) (root ∷ []) start.at
+    → GoTogether forest (places_of forest chart.summaries) (meaning forest root datum).events (pair root place.Text ∷ []) (root ∷ []) start.at
 
 -- Two data with which the executions of a root come to their end and make the same choices have pages of one shape, whatever their values.
 abbrev pub PagesOfOnePathHaveOneShape : Type 0
@@ -55,5 +62,5 @@ PagesOfOnePathHaveOneShape = (forest : ForestData) (names : List (List ℕ)) (ch
     → IsDone (meaning forest root a).end → AreTextual (meaning forest root a).events
     → IsDone (meaning forest root b).end → AreTextual (meaning forest root b).events
     → choices (meaning forest root a).choices ≡ choices (meaning forest root b).choices
-    → (c d : Config ValueState) → Reads (parts_of (pieces_of forest root a)) start c → Reads (parts_of (pieces_of forest root b)) start d
+    → (c d : Config ValueState) → PageReads (page_parts (pieces_of forest root a)) start c → PageReads (page_parts (pieces_of forest root b)) start d
     → shape_of c ≡ shape_of d

@@ -2,3 +2,4 @@ pub mod ByChart
 pub mod Laws
 pub mod Pages
 pub mod Soundness
+pub mod Taken

@@ -4,13 +4,13 @@ use Rattle.std.specs.Prelude.{ℕ, ◌+◌, List, [], ◌∷◌, ◌++◌, lengt
 use Rattle.page_datum.specs.Data.{Data}
 use Rattle.page_datum.specs.Execution.{Execution, done, faulted}
 use Rattle.page_datum.specs.Printed.{printed}
-use Rattle.place_core.specs.Errors.{node}
-use Rattle.place_core.specs.Html.{start}
-use Rattle.place_core.specs.Paths.{at_hole}
-use Rattle.place_core.specs.Shape.{Part, TextPart, HolePart, bytes_of}
-use Rattle.place_core.specs.StatePlaces.{placed}
-use Rattle.place_core.specs.States.{State}
-use Rattle.place_core.specs.Tags.{ValueState, languages}
+use Rattle.place_core.specs.place.Errors.{node}
+use Rattle.place_core.specs.page.Html.{start}
+use Rattle.place_core.specs.page.Paths.{at_hole}
+use Rattle.place_core.specs.page.Shape.{ShapePart, TextPart, HolePart, event_bytes}
+use Rattle.place_core.specs.place.StatePlaces.{placed}
+use Rattle.place_core.specs.page.States.{LexState}
+use Rattle.place_core.specs.page.Tags.{ValueState, languages}
 use Rattle.place_core.specs.declared.chain.Chain.{Chain}
 use Rattle.place_core.specs.declared.place.Place.{Place}
 use Rattle.place_core.specs.declared.san.San.{San}
@@ -18,10 +18,10 @@ use Rattle.place_core.specs.declared.san.San.TheVariants as san
 use Rattle.html_step.specs.Holes.{Holed, after_hole}
 use Rattle.san_html.specs.Sanitizers.{html, attr_nospace, attr_name}
 use Rattle.text_norm.specs.Written.{written}
-use Rattle.tpl_events.specs.Events.{Emission, Event, enters, gives_hole, gives_text, leaves}
+use Rattle.tpl_events.specs.Events.{Emission, ExecEvent, enters, gives_hole, gives_text, leaves}
 use Rattle.tpl_exec.specs.Executing.{too_long}
 use Rattle.tpl_exec.specs.Meaning.{Finish, finish_of, finished, meaning, stopped}
-use Rattle.tpl_paths.specs.Edges.{kind_at}
+use Rattle.tpl_paths.specs.Edges.{node_kind_at}
 use Rattle.tpl_tree.specs.Forests.{ForestData}
 use Rattle.tpl_tree.specs.declared.node_kind.NodeKind.{NodeKind}
 use Rattle.tpl_tree.specs.declared.node_kind.NodeKind.TheVariants as kind
@@ -35,11 +35,11 @@ san_bytes san.AttrNospace text = attr_nospace text
 san_bytes san.AttrName text = attr_name text
 san_bytes x text = []
 
--- .. and a chain of them, one after the other
+-- likewise, and a chain of them, one after the other
 abbrev pub chain_bytes : Chain → List ℕ → List ℕ
 chain_bytes c text = fold (λ so_far x. san_bytes x so_far) text (take c.count c.sans)
 
--- A chain leaves the value out where it is the sanitizer Drop alone. With another sanitizer behind Drop the value is what that one gives
+-- A chain leaves the value out where it is the sanitizer Drop alone. With another sanitizer after Drop the value is what that one gives
 -- for no bytes, as the failsafe in a value without quotes.
 abbrev pub is_drop : San → Bool
 is_drop san.Drop = true
@@ -54,20 +54,20 @@ abbrev pub leaves_out : Chain → Bool
 leaves_out c = drops_alone (take c.count c.sans)
 
 -- a piece of a page: the bytes of a text; or the text of a value, with the bytes that are written for it
-pub data Piece : Type 0 where
-  words : List ℕ → Piece
-  value : List ℕ → List ℕ → Piece
+pub data PagePiece : Type 0 where
+  words : List ℕ → PagePiece
+  value : List ℕ → List ℕ → PagePiece
 
-abbrev pub piece_part : Piece → Part
+abbrev pub piece_part : PagePiece → ShapePart
 piece_part (words bytes) = TextPart bytes
 piece_part (value text bytes) = HolePart bytes
 
-abbrev pub parts_of : List Piece → List Part
-parts_of [] = []
-parts_of (p ∷ ps) = piece_part p ∷ parts_of ps
+abbrev pub page_parts : List PagePiece → List ShapePart
+page_parts [] = []
+page_parts (p ∷ ps) = piece_part p ∷ page_parts ps
 
-abbrev pub page_bytes : List Piece → List ℕ
-page_bytes ps = bytes_of (parts_of ps)
+abbrev pub page_bytes : List PagePiece → List ℕ
+page_bytes ps = event_bytes (page_parts ps)
 
 -- the bytes of a text of a template, and the template that one calls
 abbrev pub bytes_in : Option NodeKind → List ℕ
@@ -81,61 +81,61 @@ callee_in _ = []
 -- A node is one of the template that was entered last and has not been left. These are the templates that are open, the innermost first.
 abbrev pub kind_in : ForestData → List (List ℕ) → ℕ → Option NodeKind
 kind_in forest [] n = None
-kind_in forest (t ∷ ts) n = kind_at forest t n
+kind_in forest (t ∷ ts) n = node_kind_at forest t n
 
 abbrev pub left_open : List (List ℕ) → List (List ℕ)
 left_open [] = []
 left_open (t ∷ ts) = ts
 
-abbrev pub open_behind : ForestData → Event → List (List ℕ) → List (List ℕ)
+abbrev pub open_behind : ForestData → ExecEvent → List (List ℕ) → List (List ℕ)
 open_behind forest (gives_text n) ts = ts
 open_behind forest (gives_hole n datum) ts = ts
 open_behind forest (enters n) ts = callee_in (kind_in forest ts n) ∷ ts
 open_behind forest leaves ts = left_open ts
 
--- what the path has read behind an event
-abbrev pub state_behind : ForestData → Event → List (List ℕ) → State ValueState → State ValueState
+-- what the path has read after an event
+abbrev pub state_behind : ForestData → ExecEvent → List (List ℕ) → LexState ValueState → LexState ValueState
 state_behind forest (gives_text n) ts s = node (bytes_in (kind_in forest ts n)) s
 state_behind forest (gives_hole n datum) ts s = at_hole languages s
 state_behind forest (enters n) ts s = s
 state_behind forest leaves ts s = s
 
 -- what is written for a value of data: by the chain of the path's place. In a comment nothing is, which is no piece.
-abbrev pub value_pieces : Chain → List ℕ → List Piece
+abbrev pub value_pieces : Chain → List ℕ → List PagePiece
 value_pieces c text = if leaves_out c then [] else value text (chain_bytes c text) ∷ []
 
 -- A place that takes no value, and a path that is at no place, are refused before a hole, so the lines for them are not reached.
-abbrev pub holed_pieces : Holed → List ℕ → List Piece
+abbrev pub holed_pieces : Holed → List ℕ → List PagePiece
 holed_pieces (Ok h) text = value_pieces h.1 text
 holed_pieces (Err e) text = []
 
-abbrev pub hole_pieces : Option Place → List ℕ → List Piece
+abbrev pub hole_pieces : Option Place → List ℕ → List PagePiece
 hole_pieces (Some p) text = holed_pieces (after_hole p) text
 hole_pieces None text = []
 
 -- what is written for an event, by what the path has read: a text as such a path's texts are written, a value by the chain of its place
-abbrev pub event_pieces : ForestData → Event → List (List ℕ) → State ValueState → List Piece
+abbrev pub event_pieces : ForestData → ExecEvent → List (List ℕ) → LexState ValueState → List PagePiece
 event_pieces forest (gives_text n) ts s = words (written languages (bytes_in (kind_in forest ts n)) s) ∷ []
 event_pieces forest (gives_hole n datum) ts s = hole_pieces (placed s) (printed datum)
 event_pieces forest (enters n) ts s = []
 event_pieces forest leaves ts s = []
 
 -- the pieces of all events, in order
-abbrev pub pieces_from : ForestData → List Emission → List (List ℕ) → State ValueState → List Piece
+abbrev pub pieces_from : ForestData → List Emission → List (List ℕ) → LexState ValueState → List PagePiece
 pieces_from forest [] ts s = []
 pieces_from forest (g ∷ gs) ts s =
     event_pieces forest g.event ts s ++ pieces_from forest gs (open_behind forest g.event ts) (state_behind forest g.event ts s)
 
 -- the pieces of the page of a root with a datum
-abbrev pub pieces_of : ForestData → List ℕ → Data → List Piece
+abbrev pub pieces_of : ForestData → List ℕ → Data → List PagePiece
 pieces_of forest root datum = pieces_from forest (meaning forest root datum).events (root ∷ []) start.at
 
 -- the most bytes that a page may have
 abbrev pub max_page : ℕ
 max_page = 16777216
 
--- The first event with which the page would be longer than that, after so many bytes of it, where there is one.
-abbrev pub over_from : ℕ → ForestData → List Emission → List (List ℕ) → State ValueState → Option Emission
+-- The first event with which the page would be longer than that, after that many bytes of it, where there is one.
+abbrev pub over_from : ℕ → ForestData → List Emission → List (List ℕ) → LexState ValueState → Option Emission
 over_from count forest [] ts s = None
 over_from count forest (g ∷ gs) ts s =
     (let bytes = page_bytes (event_pieces forest g.event ts s) in
@@ -145,13 +145,13 @@ over_from count forest (g ∷ gs) ts s =
 
 -- How a page ends: it is done; or by the fault of the execution; or where it would be too long, by that. A page is written as a whole, so
 -- at a fault there is none.
-abbrev pub ended : List ℕ → Option Emission → Finish → Execution
-ended page None (finished steps) = record { bytes = page; steps = steps; ending = done }
-ended page None (stopped why) = record { bytes = []; steps = 0; ending = faulted why }
-ended page (Some g) end = record { bytes = []; steps = 0; ending = faulted (too_long g) }
+abbrev pub page_ended : List ℕ → Option Emission → Finish → Execution
+page_ended page None (finished steps) = record { bytes = page; steps = steps; ending = done }
+page_ended page None (stopped why) = record { bytes = []; steps = 0; ending = faulted why }
+page_ended page (Some g) end = record { bytes = []; steps = 0; ending = faulted (too_long g) }
 
 -- the execution of a root with a datum
 abbrev pub execution : ForestData → List ℕ → Data → Execution
 execution forest root datum =
     (let run = meaning forest root datum in
-    ended (page_bytes (pieces_of forest root datum)) (over_from 0 forest run.events (root ∷ []) start.at) (finish_of run.end))
+    page_ended (page_bytes (pieces_of forest root datum)) (over_from 0 forest run.events (root ∷ []) start.at) (finish_of run.end))

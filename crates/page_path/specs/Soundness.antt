@@ -4,23 +4,23 @@ use Rattle.std.specs.Prelude.{◌≡◌, ℕ, false, List, [], ◌∷◌, ⊤}
 use Rattle.std.specs.Str.{IsUtf8}
 use Rattle.page_datum.specs.Data.{Data}
 use Rattle.page_datum.specs.Printed.{printed}
-use Rattle.page_path.specs.Pages.{Piece, page_bytes, parts_of, pieces_of, value, words}
-use Rattle.place_core.specs.Events.{AttributeBegins, Event as Told, attribute_name_bytes, text_bytes}
-use Rattle.place_core.specs.Html.{read, start}
-use Rattle.place_core.specs.Paths.{Hole, Symbol, Written, read_node, read_path}
-use Rattle.place_core.specs.Plain.{IsPlain, settled_config}
-use Rattle.place_core.specs.References.{Closed, undone}
-use Rattle.place_core.specs.Shape.{Reads, marked, shape_of}
-use Rattle.place_core.specs.States.{AfterAttributeName, AfterAttributeValue, AttributeName, AttributeValue, BeforeAttributeName, BeforeAttributeValue, Bytes, Characters, Config, InContent, Nothing, Page, SelfClosingStartTag, State, Text, WholeAttributeName, config}
-use Rattle.place_core.specs.Tags.{Quoting, Tag, Unquoted, ValueState, languages, value_of, without_value}
+use Rattle.page_path.specs.Pages.{PagePiece, page_bytes, page_parts, pieces_of, value, words}
+use Rattle.place_core.specs.page.Events.{AttributeBegins, LexEvent, attribute_name_bytes, event_text_bytes}
+use Rattle.place_core.specs.page.Html.{read, start}
+use Rattle.place_core.specs.page.Paths.{Hole, Symbol, Written, read_node, read_path}
+use Rattle.place_core.specs.page.Plain.{IsPlain, settled_config}
+use Rattle.place_core.specs.page.References.{Closed, undone}
+use Rattle.place_core.specs.page.Shape.{PageReads, ShapePart, marked}
+use Rattle.place_core.specs.page.States.{AfterAttributeName, AfterAttributeValue, AttributeName, AttributeValue, BeforeAttributeName, BeforeAttributeValue, Bytes, Characters, Config, InContent, Nothing, Page, SelfClosingStartTag, LexState, Text, WholeAttributeName, config}
+use Rattle.place_core.specs.page.Tags.{Quoting, Tag, Unquoted, ValueState, languages, attribute_value_of, without_value}
 use Rattle.place_core.specs.declared.kind.Kind.TheVariants as kind
-use Rattle.san_html.specs.ReadBack.{after_text, as_name, as_text, as_unquoted}
-use Rattle.tpl_events.specs.Events.{Emission, Event, enters, gives_hole, gives_text, leaves}
+use Rattle.san_html.specs.ReadBack.{read_value, as_name, read_as_text, as_unquoted}
+use Rattle.tpl_events.specs.Events.{Emission, ExecEvent, enters, gives_hole, gives_text, leaves}
 use Rattle.tpl_exec.specs.Meaning.{Finish, finish_of, finished, meaning, stopped}
 use Rattle.tpl_exec.specs.Runs.{End}
-use Rattle.tpl_paths.specs.Edges.{Edge, calls, fills, finish, passes, picks, writes}
-use Rattle.tpl_paths.specs.Walks.{IsWalk, Move, along, at_root, back, choices_of, reached, signs_of, standing}
-use Rattle.tpl_taken.specs.Taken.{choices, signs}
+use Rattle.tpl_paths.specs.Edges.{Edge, calls, fills, finish_point, passes, picks, writes}
+use Rattle.tpl_paths.specs.Paths.{IsPath, Move, along, at_root, back, choices_of, reached, signs_of, open_standing}
+use Rattle.page_path.specs.Taken.{choices, signs}
 use Rattle.tpl_tree.specs.Forests.{ForestData}
 
 -- what a path has for a reader: its texts, and its holes
@@ -31,10 +31,10 @@ edge_symbols (calls n name to) rest = rest
 edge_symbols (picks from choice to) rest = rest
 edge_symbols (passes from to) rest = rest
 
-abbrev pub symbols_of : List Move → List Symbol
-symbols_of [] = []
-symbols_of (along e ∷ ms) = edge_symbols e (symbols_of ms)
-symbols_of (back ∷ ms) = symbols_of ms
+abbrev pub path_symbols : List Move → List Symbol
+path_symbols [] = []
+path_symbols (along e ∷ ms) = edge_symbols e (path_symbols ms)
+path_symbols (back ∷ ms) = path_symbols ms
 
 -- A value reads back in its place. In text, title and textarea its bytes, with references undone, are the text of the value, with NUL as
 -- U+FFFD. In a data block the same, where they are undone by themselves. In a value of an attribute they go on with that text, and where
@@ -42,59 +42,59 @@ symbols_of (back ∷ ms) = symbols_of ms
 -- the failsafe, where data may not make that name.
 abbrev pub value_text : Quoting → List ℕ → List ℕ
 value_text Unquoted text = as_unquoted text
-value_text q text = as_text text
+value_text q text = read_as_text text
 
-abbrev pub IsNameBack : Tag → State ValueState → List ℕ → List ℕ → Type 0
+abbrev pub IsNameBack : Tag → LexState ValueState → List ℕ → List ℕ → Type 0
 IsNameBack tag s text bytes =
     read Page bytes (config s []) ≡ config (AttributeName tag (as_name text)) (attribute_name_bytes (as_name text) (AttributeBegins ∷ []))
 
-abbrev pub IsBack : State ValueState → List ℕ → List ℕ → Type 0
-IsBack (Text r) text bytes = read Page bytes (config (Text r) []) ≡ config (Text Closed) (text_bytes (as_text text) [])
+abbrev pub IsBack : LexState ValueState → List ℕ → List ℕ → Type 0
+IsBack (Text r) text bytes = read Page bytes (config (Text r) []) ≡ config (Text Closed) (event_text_bytes (read_as_text text) [])
 IsBack (InContent e (Characters r) Nothing) text bytes =
     read Page bytes (config (InContent e (Characters r) Nothing) [])
-    ≡ config (InContent e (Characters Closed) Nothing) (text_bytes (as_text text) [])
-IsBack (InContent e Bytes Nothing) text bytes = undone false Closed bytes ≡ as_text text
+    ≡ config (InContent e (Characters Closed) Nothing) (event_text_bytes (read_as_text text) [])
+IsBack (InContent e Bytes Nothing) text bytes = undone false Closed bytes ≡ read_as_text text
 IsBack (AttributeValue q tag v r) text bytes =
-    read Page bytes (config (AttributeValue q tag v r) []) ≡ after_text q tag v (value_text q text) []
+    read Page bytes (config (AttributeValue q tag v r) []) ≡ read_value q tag v (value_text q text) []
 IsBack (BeforeAttributeValue tag k) text bytes =
-    read Page bytes (config (BeforeAttributeValue tag k) []) ≡ after_text Unquoted tag (value_of languages k) (as_unquoted text) []
+    read Page bytes (config (BeforeAttributeValue tag k) []) ≡ read_value Unquoted tag (attribute_value_of languages k) (as_unquoted text) []
 IsBack (BeforeAttributeName tag) text bytes = IsNameBack tag (BeforeAttributeName tag) text bytes
 IsBack (AfterAttributeName tag k) text bytes = IsNameBack (without_value tag k) (AfterAttributeName tag k) text bytes
 IsBack (AfterAttributeValue tag) text bytes = IsNameBack tag (AfterAttributeValue tag) text bytes
 IsBack (SelfClosingStartTag tag) text bytes = IsNameBack tag (SelfClosingStartTag tag) text bytes
 IsBack s text bytes = ⊥
 
--- along the pieces of a page, each value is plain where it stands and reads back there
-abbrev pub ReadBack : List Piece → Config ValueState → Type 0
+-- along the pieces of a page, each value is plain in its place and reads back there
+abbrev pub ReadBack : List PagePiece → Config ValueState → Type 0
 ReadBack [] c = ⊤
 ReadBack (words bytes ∷ ps) c = ReadBack ps (read Page bytes c)
 ReadBack (value text bytes ∷ ps) c = IsPlain bytes c × IsBack (settled_config c).at text bytes × ReadBack ps (marked bytes c)
 
--- The path read with a text in each hole, as the texts of templates stand on it: a hole tells its text where it tells a mark otherwise. A
--- hole in a comment tells nothing; one in a data block, a script or a style is refused, so none is reached there.
-abbrev pub name_filled : Tag → List ℕ → List Told → Config ValueState
+-- The path read with a text in each hole: a hole emits its text in the place of a mark. A hole in a comment emits nothing; one in a data
+-- block, a script or a style is refused, so no path comes there.
+abbrev pub name_filled : Tag → List ℕ → List LexEvent → Config ValueState
 name_filled tag text t = config (WholeAttributeName tag kind.Plain) (attribute_name_bytes (as_name text) (AttributeBegins ∷ t))
 
-abbrev pub filled : State ValueState → List ℕ → List Told → Config ValueState
-filled (Text r) text t = config (Text r) (text_bytes (as_text text) t)
-filled (InContent e (Characters r) Nothing) text t = config (InContent e (Characters r) Nothing) (text_bytes (as_text text) t)
-filled (AttributeValue q tag v r) text t = after_text q tag v (value_text q text) t
-filled (BeforeAttributeValue tag k) text t = after_text Unquoted tag (value_of languages k) (as_unquoted text) t
-filled (BeforeAttributeName tag) text t = name_filled tag text t
-filled (AfterAttributeName tag k) text t = name_filled (without_value tag k) text t
-filled (AfterAttributeValue tag) text t = name_filled tag text t
-filled (SelfClosingStartTag tag) text t = name_filled tag text t
-filled s text t = config s t
+abbrev pub holes_filled : LexState ValueState → List ℕ → List LexEvent → Config ValueState
+holes_filled (Text r) text t = config (Text r) (event_text_bytes (read_as_text text) t)
+holes_filled (InContent e (Characters r) Nothing) text t = config (InContent e (Characters r) Nothing) (event_text_bytes (read_as_text text) t)
+holes_filled (AttributeValue q tag v r) text t = read_value q tag v (value_text q text) t
+holes_filled (BeforeAttributeValue tag k) text t = read_value Unquoted tag (attribute_value_of languages k) (as_unquoted text) t
+holes_filled (BeforeAttributeName tag) text t = name_filled tag text t
+holes_filled (AfterAttributeName tag k) text t = name_filled (without_value tag k) text t
+holes_filled (AfterAttributeValue tag) text t = name_filled tag text t
+holes_filled (SelfClosingStartTag tag) text t = name_filled tag text t
+holes_filled s text t = config s t
 
 -- where the texts run out the reading stops, and spare texts are not read
 abbrev pub read_filled : List Symbol → List (List ℕ) → Config ValueState → Config ValueState
 read_filled [] texts c = c
 read_filled (Written bytes ∷ symbols) texts c = read_filled symbols texts (read_node languages bytes c)
 read_filled (Hole ∷ symbols) [] c = c
-read_filled (Hole ∷ symbols) (text ∷ texts) c = read_filled symbols texts (filled c.at text c.told)
+read_filled (Hole ∷ symbols) (text ∷ texts) c = read_filled symbols texts (holes_filled c.at text c.emitted)
 
 -- the texts of the values that an execution gives, in order
-abbrev pub event_texts : Event → List (List ℕ) → List (List ℕ)
+abbrev pub event_texts : ExecEvent → List (List ℕ) → List (List ℕ)
 event_texts (gives_text n) rest = rest
 event_texts (gives_hole n datum) rest = printed datum ∷ rest
 event_texts (enters n) rest = rest
@@ -113,7 +113,7 @@ abbrev pub IsDone : End → Type 0
 IsDone end = IsFinished (finish_of end)
 
 -- the text of each value is UTF-8, as all texts of data are
-abbrev pub IsTextual : Event → Type 0
+abbrev pub IsTextual : ExecEvent → Type 0
 IsTextual (gives_text n) = ⊤
 IsTextual (gives_hole n datum) = IsUtf8 (printed datum)
 IsTextual (enters n) = ⊤
@@ -123,24 +123,38 @@ abbrev pub AreTextual : List Emission → Type 0
 AreTextual [] = ⊤
 AreTextual (g ∷ gs) = IsTextual g.event × AreTextual gs
 
--- The page of a root with a datum is sound. There is a path of the root whose choices the execution took, and which has the texts, holes
--- and calls of the execution, to the root's end. Read with a mark in the place of each value, the page comes to where the path comes, and
--- to nothing else: so its shape is the path's own. It ends in text. Each value is plain in its place, and reads back there. So the whole
--- page, read as bytes alone, without knowing where values stand in it, comes to where the path comes with each value's own text in its
--- hole.
+-- What a reader of a path comes to: its texts are read as they are, and each of its holes is a mark.
+abbrev pub path_read : List Move → Config ValueState
+path_read path = read_path languages (path_symbols path) start
+
+-- The path that an execution takes: it is one of the root's, it makes the choices of the execution, it has its texts, holes and calls, and it
+-- comes to the root's end.
+pub record TakesPath (forest : ForestData) (root : List ℕ) (datum : Data) : Type 0 where
+  pub path : List Move
+  pub walk : IsPath forest (at_root forest root) path
+  pub taken : choices_of path ≡ choices (meaning forest root datum).choices
+  pub same : signs_of path ≡ signs (meaning forest root datum).events
+  pub whole : reached forest (at_root forest root) path ≡ open_standing [] root finish_point
+
+-- Parts of a page read as a path, with a mark in the place of each value: they come to where the path comes, and to nothing else, and the
+-- path ends in text.
+pub record ReadsAs (parts : List ShapePart) (path : List Move) : Type 0 where
+  pub reads : PageReads parts start (path_read path)
+  pub no_other : (end : Config ValueState) → PageReads parts start end → end ≡ path_read path
+  pub in_text : (path_read path).at ≡ Text Closed
+
+-- The page of a root with a datum is sound.
+-- 1. The execution comes to the end of its root.
+-- 2. The page is the bytes of the execution's pieces.
+-- 3. The execution takes a path of its templates.
+-- 4. Read with a mark in the place of each value, the page comes to where that path comes, so its shape is the path's own.
+-- 5. Each value is plain in its place, and reads back there.
+-- 6. The whole page, read as bytes alone, without knowing where values begin and end, comes to where the path comes with each value's own
+--    text in its hole.
 pub record IsSound (forest : ForestData) (root : List ℕ) (datum : Data) (page : List ℕ) : Type 0 where
   pub finished : IsDone (meaning forest root datum).end
   pub bytes : page ≡ page_bytes (pieces_of forest root datum)
-  pub path : List Move
-  pub walk : IsWalk forest (at_root forest root) path
-  pub taken : choices_of path ≡ choices (meaning forest root datum).choices
-  pub same : signs_of path ≡ signs (meaning forest root datum).events
-  pub whole : reached forest (at_root forest root) path ≡ standing [] root finish
-  pub reads : Reads (parts_of (pieces_of forest root datum)) start (read_path languages (symbols_of path) start)
-  pub no_other : (end : Config ValueState) → Reads (parts_of (pieces_of forest root datum)) start end
-      → end ≡ read_path languages (symbols_of path) start
-  pub shape : (end : Config ValueState) → Reads (parts_of (pieces_of forest root datum)) start end
-      → shape_of end ≡ shape_of (read_path languages (symbols_of path) start)
-  pub in_text : (read_path languages (symbols_of path) start).at ≡ Text Closed
+  pub takes : TakesPath forest root datum
+  pub reads : ReadsAs (page_parts (pieces_of forest root datum)) takes.path
   pub values : ReadBack (pieces_of forest root datum) start
-  pub raw : read Page page start ≡ read_filled (symbols_of path) (texts_of (meaning forest root datum).events) start
+  pub raw : read Page page start ≡ read_filled (path_symbols takes.path) (texts_of (meaning forest root datum).events) start

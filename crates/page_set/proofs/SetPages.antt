@@ -11,7 +11,7 @@ use Rattle.page_datum.specs.declared.pages.PageStop.{PageStop}
 use Rattle.page_datum.specs.declared.pages.PageStop.TheVariants.{Fault, Memory, NoTemplate, SinkStop}
 use Rattle.page_io.specs.Whole.{AppendsPart}
 use Rattle.page_path.specs.Pages.{execution}
-use Rattle.page_set.specs.Executions.{IsExecution, IsSound, execution_of, no_page}
+use Rattle.page_set.specs.Executions.{IsExecution, IsSoundPageOfFiles, execution_of, no_page}
 use Rattle.page_set.specs.RootPages.{RootPageAnswers, Unwritten}
 use Rattle.page_writer.specs.Composing.{IsComposed}
 use Rattle.page_writer.specs.declared.composing.Composed.{Composed}
@@ -51,7 +51,7 @@ whole c root datum made old new end h all bytes steps =
 other_ending : done ≡ no_root → ⊥
 other_ending e = cc
 
--- .. or a part of it, where the sink stopped
+-- likewise, or a part of it, where the sink stopped
 pub part : (c : CheckedData) (root : List ℕ) (datum : Data) (made : Composed) (old new : Option (List ℕ)) → is_root c.files.list root ≡ true × IsComposed c.forest root datum made
     → AppendsPart old new (string_bytes made.page) → PageAnswers (execution_of c.files.list c.forest root datum) old new (Err SinkStop)
 part c root datum made old new h some =
@@ -74,7 +74,7 @@ unmade c root datum Memory whole old h = refl
 
 -- and it is sound
 pub sound : (c : CheckedData) (root : List ℕ) (datum : Data) (made : Composed) → IsChecked c → is_root c.files.list root ≡ true × IsComposed c.forest root datum made
-    → IsSound c.files root datum (execution_of c.files.list c.forest root datum).bytes
+    → IsSoundPageOfFiles c.files root datum (execution_of c.files.list c.forest root datum).bytes
 sound c root datum made is h =
-    subst (IsSound c.files root datum) (h.1.page ∙ ap (λ (e : Execution). e.bytes) (sym (rooted c root datum h.0)))
+    subst (IsSoundPageOfFiles c.files root datum) (h.1.page ∙ ap (λ (e : Execution). e.bytes) (sym (rooted c root datum h.0)))
     (record { known = h.0; forest = c.forest; templates = is.templates; sound = h.1.sound })

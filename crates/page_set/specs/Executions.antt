@@ -19,7 +19,7 @@ abbrev pub execution_of : List NamedFile → ForestData → List ℕ → Data �
 execution_of files forest root datum =
     if is_root files root then execution forest root datum else no_page
 
--- .. by the files alone
+-- likewise, by the files alone
 pub record IsExecution (files : Files) (root : List ℕ) (datum : Data) (e : Execution) : Type 0 where
   pub forest : ForestData
   pub templates : IsForestOf files.list forest
@@ -28,7 +28,7 @@ pub record IsExecution (files : Files) (root : List ℕ) (datum : Data) (e : Exe
 -- The root is one of the files', and its page is sound for their templates: it has the shape of the
 -- path that the execution took, whatever the data, and each value is plain in its place and reads
 -- back there.
-pub record IsSound (files : Files) (root : List ℕ) (datum : Data) (bytes : List ℕ) : Type 0 where
+pub record IsSoundPageOfFiles (files : Files) (root : List ℕ) (datum : Data) (bytes : List ℕ) : Type 0 where
   pub known : is_root files.list root ≡ true
   pub forest : ForestData
   pub templates : IsForestOf files.list forest

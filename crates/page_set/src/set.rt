@@ -1,12 +1,14 @@
 ghost use Rattle.std.specs.Prelude.{◌≡◌, ◌≤◌, length, Err, IfOk, IfErr, OnOk};
 ghost use Rattle.page_check.specs.CheckedSets.{ExplainRootAnswers, IsChecked, OnlyForMemory};
-ghost use Rattle.page_check.specs.Refusing.{IsRefused, Refuses as RefusesFiles};
-ghost use Rattle.page_check.specs.Roots.{is_root as is_root_of, roots_of};
+ghost use Rattle.page_check.specs.Refusing.{IsRefused};
+ghost use Rattle.page_check.specs.Roots.{roots_of};
 ghost use Rattle.page_datum.specs.Execution.{PageAnswers, done};
 ghost use Rattle.page_datum.specs.View.{view};
 ghost use Rattle.page_io.specs.Causes.{Rose};
-ghost use Rattle.page_set.specs.Executions.{IsExecution, IsSound, execution_of};
+ghost use Rattle.page_set.specs.Executions.{IsExecution, IsSoundPageOfFiles, execution_of};
 ghost use Rattle.page_set.specs.RootPages.{Unwritten};
+ghost use Rattle.page_check.specs.Refusing as spec;
+ghost use Rattle.page_check.specs.Roots as roots_spec;
 
 use crate::root_page::root_page;
 use page_check::{Checked, MakeRefused, check_files};
@@ -44,7 +46,7 @@ impl Model for PageSet {
 impl Shared for PageSet {}
 
 impl PageSet {
-    /// The set of checked files. The error is out of memory.
+    /// The set of checked files. Fails only if allocation fails.
     pub fn of(alloc: Global, checked: Checked) -> Result<PageSet, Memory>
         ensures { IfOk result (λ set. set ≡ checked) }
     {
@@ -61,13 +63,13 @@ impl PageSet {
 
     /// Whether a name is that of a root: of a file whose name does not begin with `_`.
     pub fn is_root(&self, name: &str) -> bool
-        ensures { result ≡ is_root_of self.now.files.list name.now }
+        ensures { result ≡ roots_spec.is_root self.now.files.list name.now }
     {
         self.checked.is_root(name)
     }
 
     /// The explanation of a root: the pairs that it reaches, with their places and what is done in their holes. None exactly where no root
-    /// has the name. The error is out of memory.
+    /// has the name. Fails only if allocation fails.
     pub fn explain(&self, alloc: Global, root: &str) -> Result<Option<Text>, Memory>
         ensures { IfOk result (ExplainRootAnswers self.now root.now) }
     {
@@ -78,7 +80,7 @@ impl PageSet {
     pub fn counts(&self) -> (usize, usize, usize)
         ensures roots { result.0 ≡ length (roots_of self.now.files.list) }
         ensures templates { result.1 ≡ length self.now.forest }
-        ensures pairs { result.2 ≡ length self.now.chart.rows }
+        ensures pairs { result.2 ≡ length self.now.chart.summaries }
     {
         self.checked.counts()
     }
@@ -87,23 +89,23 @@ impl PageSet {
 impl Pages for PageSet {
     type Refused = MakeRefused;
 
-    ghost use Rattle.page_check.specs.Refusing.{Refuses};
+    ghost use Rattle.page_check.specs.Refusing.{FilesRefuse};
 
     ghost made_of = { λ s. s.files };
 
-    ghost refuses = { λ files. Refuses files.list };
+    ghost refuses = { λ files. FilesRefuse files.list };
 
     ghost execution = { λ s root datum. execution_of s.files.list s.forest root datum };
 
     ghost is_execution = { IsExecution };
 
-    ghost is_sound = { IsSound };
+    ghost is_sound = { IsSoundPageOfFiles };
 
     /// The set of these files, or why they are refused: as `check_files` answers.
     fn make(alloc: Global, files: Files) -> Result<PageSet, MakeRefused>
         ensures made { IfOk result (λ set. set.files ≡ files) }
         ensures checked { IfOk result IsChecked }
-        ensures accepted { IfOk result (λ _. RefusesFiles files.list → ⊥) }
+        ensures accepted { IfOk result (λ _. spec.FilesRefuse files.list → ⊥) }
         ensures refused { IfErr result (IsRefused files.list) }
         ensures sets { IfErr result (OnlyForMemory files) }
     {
@@ -134,7 +136,7 @@ impl Pages for PageSet {
         ensures later { K.faults out.old ≤ K.faults out.new }
         ensures sink { result ≡ Err PageStop.SinkStop
             → Rose (K.faults out.old) (K.faults out.new) }
-        ensures sound { OnOk result (IsSound self.now.files root.now (view datum.now)
+        ensures sound { OnOk result (IsSoundPageOfFiles self.now.files root.now (view datum.now)
             (execution_of self.now.files.list self.now.forest root.now (view datum.now)).bytes) }
         // Where the sink stopped, the execution is done; else nothing was written unless all was.
         ensures gathered { IfErr result (λ stop. Unwritten stop

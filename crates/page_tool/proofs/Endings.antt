@@ -9,7 +9,7 @@ use Rattle.page_tool.specs.Lines.{stop_text}
 use Rattle.page_tool.specs.Runs.{Runs, SaysLines}
 use Rattle.page_tool.specs.Words.{Command, no_command, check, render, explain, is_command}
 use Rattle.page_tool.specs.declared.status.Status.TheVariants as status
-use Rattle.page_tool.specs.declared.stop.Stop.TheVariants as stop
+use Rattle.page_tool.specs.declared.stop.CommandStop.TheVariants as stop
 use Rattle.page_tool.proofs.CheckStatuses.{check_exact}
 use Rattle.page_tool.proofs.Exacts.{exact}
 use Rattle.page_tool.proofs.ExplainStatuses.{explain_exact}

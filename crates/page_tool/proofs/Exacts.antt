@@ -1,8 +1,8 @@
 -- A status that has its cause excludes each other cause.
 use Rattle.std.proofs.Common.{◌≡◌, ℕ, List, Option, None, Some, inl, inr, refl}
 use Rattle.std.specs.Prelude.{IfSome, ◌⊎◌}
-use Rattle.page_io.specs.Held.{Held}
-use Rattle.page_check.specs.Refusing.{Refuses}
+use Rattle.page_io.specs.FolderContents.{FolderContents}
+use Rattle.page_check.specs.Refusing.{FilesRefuse}
 use Rattle.page_datum.proofs.OneDatum.{no_cause}
 use Rattle.page_datum.specs.Execution.{Execution, done, faulted}
 use Rattle.page_datum.specs.Reading.{IsNoDatum}
@@ -13,16 +13,16 @@ use Rattle.page_tool.proofs.SetLaws.{accepted, apart, refuses}
 use Rattle.page_tool.specs.Exact.{Ends, IsExact}
 use Rattle.page_tool.specs.Files.{files_of}
 use Rattle.page_tool.specs.LoadedSets.{IsSetWith, IsSetWithout}
-use Rattle.page_tool.specs.Output.{HasInput, IsRendering, Told, StatusCause}
+use Rattle.page_tool.specs.Output.{HasInput, IsRendering, WhenKnown, StatusCause}
 use Rattle.page_tool.specs.declared.status.Status.{Status}
 use Rattle.page_tool.specs.declared.status.Status.TheVariants as status
 
 -- a read fault, in order: the folder failed, or the input did after a set with the root
-abbrev ReadInOrder : Option Held → List ℕ → List ℕ → Type 0 → Status → Type 0
+abbrev ReadInOrder : Option FolderContents → List ℕ → List ℕ → Type 0 → Status → Type 0
 ReadInOrder held dir root folder_rose s = s ≡ status.ReadFault → IfSome held (λ h. folder_rose ⊎ IsSetWith h dir root)
 
-refused : (held : Option Held) (input : Option (List ℕ)) (dir root : List ℕ) (f : Type 0) (s : Status) → StatusCause held input dir root s
-    → ReadInOrder held dir root f s → IfSome held (λ h. Refuses (files_of h dir).list → Ends status.SetRefused f s)
+refused : (held : Option FolderContents) (input : Option (List ℕ)) (dir root : List ℕ) (f : Type 0) (s : Status) → StatusCause held input dir root s
+    → ReadInOrder held dir root f s → IfSome held (λ h. FilesRefuse (files_of h dir).list → Ends status.SetRefused f s)
 refused None input dir root f s c r = tt
 refused (Some h) input dir root f status.Ok c r = λ why. absurd (accepted h dir c.0.0.set why)
 refused (Some h) input dir root f status.SetRefused c r = λ why. inl refl
@@ -35,7 +35,7 @@ refused (Some h) input dir root f status.WriteFault c r = λ why. absurd (accept
 refused (Some h) input dir root f status.NoTemplate c r = λ why. absurd (accepted h dir c.set why)
 refused (Some h) input dir root f status.Memory c r = λ why. inr (inr refl)
 
-unknown : (held : Option Held) (input : Option (List ℕ)) (dir root : List ℕ) (f : Type 0) (s : Status) → StatusCause held input dir root s
+unknown : (held : Option FolderContents) (input : Option (List ℕ)) (dir root : List ℕ) (f : Type 0) (s : Status) → StatusCause held input dir root s
     → ReadInOrder held dir root f s → IfSome held (λ h. IsSetWithout h dir root → Ends status.NoTemplate f s)
 unknown None input dir root f s c r = tt
 unknown (Some h) input dir root f status.Ok c r = λ lacks. apart h dir root c.0.0 lacks
@@ -52,9 +52,9 @@ unknown (Some h) input dir root f status.Memory c r = λ lacks. inr (inr refl)
 no_datum : {A : Type 0} (why : DataRefused) (x : List ℕ) → HasInput x → IsNoDatum why x → A
 no_datum why x has w = absurd (no_cause why x has.0 has.1 w)
 
-no_input : (held : Option Held) (input : Option (List ℕ)) (dir root : List ℕ) (f i : Type 0) (s : Status)
+no_input : (held : Option FolderContents) (input : Option (List ℕ)) (dir root : List ℕ) (f i : Type 0) (s : Status)
     → StatusCause held input dir root s → (s ≡ status.ReadFault → f ⊎ i)
-    → Told held input (λ h x. IsSetWith h dir root → (why : DataRefused) → IsNoDatum why x → Ends status.DataRefused (f ⊎ i) s)
+    → WhenKnown held input (λ h x. IsSetWith h dir root → (why : DataRefused) → IsNoDatum why x → Ends status.DataRefused (f ⊎ i) s)
 no_input None input dir root f i s c r = tt
 no_input (Some h) None dir root f i s c r = tt
 no_input (Some h) (Some x) dir root f i status.Ok c r = λ has why w. no_datum why x c.0.1 w
@@ -67,12 +67,12 @@ no_input (Some h) (Some x) dir root f i status.WriteFault c r = λ has why w. no
 no_input (Some h) (Some x) dir root f i status.NoTemplate c r = λ has why w. apart h dir root has c
 no_input (Some h) (Some x) dir root f i status.Memory c r = λ has why w. inr (inr refl)
 
-has_input : (h : Held) (dir root x : List ℕ) (e : Execution) → IsRendering h dir root x e → HasInput x
+has_input : (h : FolderContents) (dir root x : List ℕ) (e : Execution) → IsRendering h dir root x e → HasInput x
 has_input h dir root x e is = (is.datum, is.read)
 
-faults : (held : Option Held) (input : Option (List ℕ)) (dir root : List ℕ) (f i : Type 0) (s : Status)
+faults : (held : Option FolderContents) (input : Option (List ℕ)) (dir root : List ℕ) (f i : Type 0) (s : Status)
     → StatusCause held input dir root s → (s ≡ status.ReadFault → f ⊎ i)
-    → Told held input (λ h x. IsSetWith h dir root → (e : Execution) → IsRendering h dir root x e
+    → WhenKnown held input (λ h x. IsSetWith h dir root → (e : Execution) → IsRendering h dir root x e
     → (fault : ExecFault) → e.ending ≡ faulted fault → Ends status.ExecFault (f ⊎ i) s)
 faults None input dir root f i s c r = tt
 faults (Some h) None dir root f i s c r = tt
@@ -89,9 +89,9 @@ faults (Some h) (Some x) dir root f i status.WriteFault c r =
 faults (Some h) (Some x) dir root f i status.NoTemplate c r = λ has e is fault meets. apart h dir root has c
 faults (Some h) (Some x) dir root f i status.Memory c r = λ has e is fault meets. inr (inr refl)
 
-complete : (held : Option Held) (input : Option (List ℕ)) (dir root : List ℕ) (f i o : Type 0) (s : Status)
+complete : (held : Option FolderContents) (input : Option (List ℕ)) (dir root : List ℕ) (f i o : Type 0) (s : Status)
     → StatusCause held input dir root s → (s ≡ status.ReadFault → f ⊎ i) → (s ≡ status.WriteFault → o)
-    → Told held input (λ h x. IsSetWith h dir root → (e : Execution) → IsRendering h dir root x e
+    → WhenKnown held input (λ h x. IsSetWith h dir root → (e : Execution) → IsRendering h dir root x e
     → e.ending ≡ done → Ends status.Ok (f ⊎ i) s ⊎ ((s ≡ status.WriteFault) × o))
 complete None input dir root f i o s c r w = tt
 complete (Some h) None dir root f i o s c r w = tt
@@ -106,7 +106,7 @@ complete (Some h) (Some x) dir root f i o status.WriteFault c r w = λ has e is 
 complete (Some h) (Some x) dir root f i o status.NoTemplate c r w = λ has e is ends. apart h dir root has c
 complete (Some h) (Some x) dir root f i o status.Memory c r w = λ has e is ends. inl (inr (inr refl))
 
-pub exact : (held : Option Held) (input : Option (List ℕ)) (dir root : List ℕ) (f i o : Type 0) (s : Status)
+pub exact : (held : Option FolderContents) (input : Option (List ℕ)) (dir root : List ℕ) (f i o : Type 0) (s : Status)
     → StatusCause held input dir root s → (s ≡ status.ReadFault → f ⊎ i) → ReadInOrder held dir root f s → (s ≡ status.WriteFault → o)
     → IsExact held input dir root f i o s
 exact held input dir root f i o s c r q w = record {

@@ -1,3 +1,4 @@
+pub mod AskedRuns
 pub mod CheckStatuses
 pub mod Endings
 pub mod Exacts

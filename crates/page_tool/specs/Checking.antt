@@ -2,22 +2,21 @@
 use Rattle.std.specs.Prelude.{◌≡◌, ◌⊎◌, ℕ, codes, length, List, [], ◌∷◌, ◌++◌, Option, IfSome}
 use Rattle.std.specs.Prelude.{Result, Ok, Err, ⊤}
 use Rattle.std.specs.Fmt.{decimal}
-use Rattle.std.specs.Io.KnownBytes.{Appends}
 use Rattle.page_check.specs.CheckedSets.{CheckedData}
 use Rattle.page_check.specs.RefusalTexts.{refusal_text}
-use Rattle.page_check.specs.Refusing.{Refuses}
+use Rattle.page_check.specs.Refusing.{FilesRefuse}
 use Rattle.page_check.specs.Roots.{roots_of}
 use Rattle.page_check.specs.declared.refused.MakeRefused.{MakeRefused}
-use Rattle.page_io.specs.Held.{Held}
+use Rattle.page_io.specs.FolderContents.{FolderContents}
 use Rattle.page_tool.specs.Exact.{Ends}
 use Rattle.page_tool.specs.Files.{files_of}
 use Rattle.page_tool.specs.Lines.{stop_text}
-use Rattle.page_tool.specs.LoadedSets.{IsRefusedFor, IsSet, IsSetOf}
+use Rattle.page_tool.specs.LoadedSets.{IsRefusedFor, IsSet, IsLoadedSetOf}
 use Rattle.page_tool.specs.SetTexts.{TextOutput, WritesText, WritesTextPart}
 use Rattle.page_tool.specs.declared.status.Status.{Status}
 use Rattle.page_tool.specs.declared.status.Status.TheVariants as status
-use Rattle.page_tool.specs.declared.stop.Stop.{Stop}
-use Rattle.page_tool.specs.declared.stop.Stop.TheVariants as stop
+use Rattle.page_tool.specs.declared.stop.CommandStop.{CommandStop}
+use Rattle.page_tool.specs.declared.stop.CommandStop.TheVariants as stop
 
 -- how many roots, templates and places there are
 abbrev pub counts_text : ℕ → ℕ → ℕ → List ℕ
@@ -26,19 +25,19 @@ counts_text roots templates places =
     ++ (codes " templates " ++ (decimal places ++ (codes " places" ++ 10 ∷ []))))))
 
 -- the line of a set: each pair of its chart is a template in one place
-abbrev pub set_text : CheckedData → List ℕ
-set_text set =
-    counts_text (length (roots_of set.files.list)) (length set.forest) (length set.chart.rows)
+abbrev pub checked_set_text : CheckedData → List ℕ
+checked_set_text set =
+    counts_text (length (roots_of set.files.list)) (length set.forest) (length set.chart.summaries)
 
 -- the line of the set that the files of a directory are
-pub record IsSetText (held : Held) (dir : List ℕ) (text : List ℕ) : Type 0 where
+pub record IsSetText (held : FolderContents) (dir : List ℕ) (text : List ℕ) : Type 0 where
   pub set : CheckedData
-  pub made : IsSetOf held dir set
-  pub line : text ≡ set_text set
+  pub made : IsLoadedSetOf held dir set
+  pub line : text ≡ checked_set_text set
 
 -- how checking answers
-abbrev pub CheckAnswers : Option Held → List ℕ → Option (List ℕ) → Option (List ℕ)
-    → Result ⊤ Stop → Type 0
+abbrev pub CheckAnswers : Option FolderContents → List ℕ → Option (List ℕ) → Option (List ℕ)
+    → Result ⊤ CommandStop → Type 0
 CheckAnswers held dir old new (Ok _) = WritesText held (λ h. IsSetText h dir) old new
 CheckAnswers held dir old new (Err stop.Write) =
     WritesTextPart held (λ h. IsSetText h dir) old new
@@ -49,11 +48,11 @@ CheckAnswers held dir old new (Err stop.Memory) = new ≡ old
 CheckAnswers held dir old new (Err _) = ⊥
 
 -- what the output has got at each status
-abbrev pub CheckOutput : Option Held → List ℕ → Option (List ℕ) → Option (List ℕ) → Status → Type 0
+abbrev pub CheckOutput : Option FolderContents → List ℕ → Option (List ℕ) → Option (List ℕ) → Status → Type 0
 CheckOutput held dir = TextOutput held (λ h. IsSetText h dir)
 
 -- why checking ends in each status
-abbrev pub CheckCause : Option Held → List ℕ → Status → Type 0
+abbrev pub CheckCause : Option FolderContents → List ℕ → Status → Type 0
 CheckCause held dir status.Ok = IfSome held (λ h. IsSet h dir)
 CheckCause held dir status.WriteFault = IfSome held (λ h. IsSet h dir)
 CheckCause held dir status.SetRefused =
@@ -65,15 +64,15 @@ CheckCause held dir _ = ⊥
 -- which causes lead to which status, where the folder or the output failed in this call: refused
 -- files, and else the whole line; and a read fault is the folder's
 pub record CheckExact
-    (held : Option Held) (dir : List ℕ) (folder_rose out_rose : Type 0) (s : Status) : Type 0 where
+    (held : Option FolderContents) (dir : List ℕ) (folder_rose out_rose : Type 0) (s : Status) : Type 0 where
   pub refused : IfSome held (λ h.
-      Refuses (files_of h dir).list → Ends status.SetRefused folder_rose s)
+      FilesRefuse (files_of h dir).list → Ends status.SetRefused folder_rose s)
   pub complete : IfSome held (λ h.
       IsSet h dir → Ends status.Ok folder_rose s ⊎ ((s ≡ status.WriteFault) × out_rose))
   pub read : s ≡ status.ReadFault → folder_rose
 
 -- the lines for people at each status
-abbrev pub CheckLines : Option Held → List ℕ → Status → List ℕ → Type 0
+abbrev pub CheckLines : Option FolderContents → List ℕ → Status → List ℕ → Type 0
 CheckLines held dir status.Ok text = text ≡ []
 CheckLines held dir status.SetRefused text =
     IfSome held (λ h. (why : MakeRefused) × IsRefusedFor h dir why × (text ≡ refusal_text why))
@@ -81,8 +80,3 @@ CheckLines held dir status.ReadFault text = text ≡ stop_text stop.Read []
 CheckLines held dir status.WriteFault text = text ≡ stop_text stop.Write []
 CheckLines held dir status.Memory text = text ≡ stop_text stop.Memory []
 CheckLines held dir _ text = ⊥
-
--- the lines of the status were written
-abbrev pub SaysCheck : Option Held → List ℕ → Status → Option (List ℕ) → Option (List ℕ) → Type 0
-SaysCheck held dir s old new =
-    (text : List ℕ) × CheckLines held dir s text × Appends old new text

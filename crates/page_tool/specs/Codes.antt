@@ -2,8 +2,8 @@
 use Rattle.std.specs.Prelude.{ℕ}
 use Rattle.page_tool.specs.declared.status.Status.{Status}
 use Rattle.page_tool.specs.declared.status.Status.TheVariants as status
-use Rattle.page_tool.specs.declared.stop.Stop.{Stop}
-use Rattle.page_tool.specs.declared.stop.Stop.TheVariants as stop
+use Rattle.page_tool.specs.declared.stop.CommandStop.{CommandStop}
+use Rattle.page_tool.specs.declared.stop.CommandStop.TheVariants as stop
 
 abbrev pub code_of : Status → ℕ
 code_of status.Ok = 0
@@ -16,7 +16,7 @@ code_of status.WriteFault = 6
 code_of status.NoTemplate = 10
 code_of status.Memory = 11
 
-abbrev pub status_for : Stop → Status
+abbrev pub status_for : CommandStop → Status
 status_for (stop.Set why) = status.SetRefused
 status_for (stop.Fault fault) = status.ExecFault
 status_for (stop.Data why) = status.DataRefused

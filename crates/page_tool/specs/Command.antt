@@ -13,12 +13,12 @@ use Rattle.page_tool.specs.declared.status.Status.{Status}
 use Rattle.page_tool.specs.declared.status.Status.TheVariants as status
 
 -- what the output has got at this status
-abbrev pub Writes : Command → Devices → Status → Option (List ℕ) → Type 0
-Writes no_command before s taken = taken ≡ before.taken
-Writes (check dir) before s taken = CheckOutput before.held dir before.taken taken s
-Writes (render dir root) before s taken =
+abbrev pub CommandWrites : Command → Devices → Status → Option (List ℕ) → Type 0
+CommandWrites no_command before s taken = taken ≡ before.taken
+CommandWrites (check dir) before s taken = CheckOutput before.held dir before.taken taken s
+CommandWrites (render dir root) before s taken =
     StatusOutput before.held before.left dir root before.taken taken s
-Writes (explain dir root) before s taken =
+CommandWrites (explain dir root) before s taken =
     ExplainOutput before.held dir root before.taken taken s
 
 -- what was written is sound: of a page that was written, the structure is its template's, whatever
@@ -31,11 +31,11 @@ WritesSoundly (render dir root) before taken =
 WritesSoundly (explain dir root) before taken = ⊤
 
 -- how much of its input a command has read at this status
-abbrev pub Reads : Command → Status → Option (List ℕ) → Type 0
-Reads no_command s left = ⊤
-Reads (check dir) s left = ⊤
-Reads (render dir root) s left = s ≡ status.Ok → IsAtEnd left
-Reads (explain dir root) s left = ⊤
+abbrev pub CommandReads : Command → Status → Option (List ℕ) → Type 0
+CommandReads no_command s left = ⊤
+CommandReads (check dir) s left = ⊤
+CommandReads (render dir root) s left = s ≡ status.Ok → IsAtEnd left
+CommandReads (explain dir root) s left = ⊤
 
 -- that no device is asked too early: words that are no command ask neither the folder nor the input,
 -- `check` and `explain` ask no input, and of the input of a page nothing is read before the files

@@ -1,10 +1,10 @@
--- What the devices of a command tell at one moment.
+-- What the devices of a command reveal at one moment.
 use Rattle.std.specs.Prelude.{◌≡◌, ℕ, List, Option}
-use Rattle.page_io.specs.Held.{Held}
+use Rattle.page_io.specs.FolderContents.{FolderContents}
 
 pub record Devices : Type 0 where
   -- the files that the folder holds, and how many of its calls failed
-  pub held : Option Held
+  pub held : Option FolderContents
   pub folder_faults : ℕ
   -- the bytes that the input has left
   pub left : Option (List ℕ)
@@ -16,7 +16,7 @@ pub record Devices : Type 0 where
   pub said : Option (List ℕ)
   pub people_faults : ℕ
 
-abbrev pub devices : Option Held → ℕ → Option (List ℕ) → ℕ → Option (List ℕ) → ℕ → Option (List ℕ)
+abbrev pub devices : Option FolderContents → ℕ → Option (List ℕ) → ℕ → Option (List ℕ) → ℕ → Option (List ℕ)
     → ℕ → Devices
 devices held folder_faults left input_faults taken output_faults said people_faults = record {
   held = held;

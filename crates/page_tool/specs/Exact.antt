@@ -1,14 +1,14 @@
 -- When a command has to end in a status, unless a device failed or memory ran out.
 use Rattle.std.specs.Prelude.{◌≡◌, ℕ, List, Option, IfSome, ◌⊎◌}
-use Rattle.page_io.specs.Held.{Held}
-use Rattle.page_check.specs.Refusing.{Refuses}
+use Rattle.page_io.specs.FolderContents.{FolderContents}
+use Rattle.page_check.specs.Refusing.{FilesRefuse}
 use Rattle.page_datum.specs.Execution.{Execution, done, faulted}
 use Rattle.page_datum.specs.Reading.{IsNoDatum}
 use Rattle.page_datum.specs.declared.fault.ExecFault.{ExecFault}
 use Rattle.page_datum.specs.declared.refused.DataRefused.{DataRefused}
 use Rattle.page_tool.specs.Files.{files_of}
 use Rattle.page_tool.specs.LoadedSets.{IsSetWith, IsSetWithout}
-use Rattle.page_tool.specs.Output.{IsRendering, Told}
+use Rattle.page_tool.specs.Output.{IsRendering, WhenKnown}
 use Rattle.page_tool.specs.declared.status.Status.{Status}
 use Rattle.page_tool.specs.declared.status.Status.TheVariants as status
 
@@ -21,19 +21,19 @@ Ends expected read_rose s =
 -- else the whole page; and a read fault is the input's only where the files are a set that has the
 -- root
 pub record IsExact
-    (held : Option Held) (input : Option (List ℕ)) (dir root : List ℕ)
+    (held : Option FolderContents) (input : Option (List ℕ)) (dir root : List ℕ)
     (folder_rose input_rose out_rose : Type 0) (s : Status) : Type 0 where
   pub refused : IfSome held (λ h.
-      Refuses (files_of h dir).list → Ends status.SetRefused folder_rose s)
+      FilesRefuse (files_of h dir).list → Ends status.SetRefused folder_rose s)
   pub unknown : IfSome held (λ h. IsSetWithout h dir root → Ends status.NoTemplate folder_rose s)
-  pub no_input : Told held input (λ h i.
+  pub no_input : WhenKnown held input (λ h i.
       IsSetWith h dir root → (why : DataRefused) → IsNoDatum why i
       → Ends status.DataRefused (folder_rose ⊎ input_rose) s)
-  pub faults : Told held input (λ h i.
+  pub faults : WhenKnown held input (λ h i.
       IsSetWith h dir root → (e : Execution) → IsRendering h dir root i e
       → (fault : ExecFault) → e.ending ≡ faulted fault
       → Ends status.ExecFault (folder_rose ⊎ input_rose) s)
-  pub complete : Told held input (λ h i.
+  pub complete : WhenKnown held input (λ h i.
       IsSetWith h dir root → (e : Execution) → IsRendering h dir root i e → e.ending ≡ done
       → Ends status.Ok (folder_rose ⊎ input_rose) s ⊎ ((s ≡ status.WriteFault) × out_rose))
   pub in_order : s ≡ status.ReadFault → IfSome held (λ h. folder_rose ⊎ IsSetWith h dir root)

@@ -2,7 +2,7 @@
 use Rattle.std.specs.Prelude.{ℕ, ◌+◌, Bool, nat_eq, codes, List, [], ◌∷◌, take, unwrap_or}
 use Rattle.std.specs.Prelude.{if◌then◌else◌}
 use Rattle.std.specs.List.{ends_with}
-use Rattle.page_io.specs.Held.{Held}
+use Rattle.page_io.specs.FolderContents.{FolderContents}
 use Rattle.page_datum.specs.declared.files.Files.{Files}
 use Rattle.page_datum.specs.declared.files.NamedFile.{NamedFile}
 use Rattle.page_check.specs.Texts.{max_file}
@@ -12,7 +12,7 @@ abbrev pub is_template : List ℕ → Bool
 is_template name = ends_with nat_eq name (codes ".html")
 
 -- the template files among names, each with the bytes that a read within the limit of a file gives
-abbrev pub files_in : Held → List ℕ → List (List ℕ) → List NamedFile
+abbrev pub files_in : FolderContents → List ℕ → List (List ℕ) → List NamedFile
 files_in held dir [] = []
 files_in held dir (name ∷ names) =
     if is_template name
@@ -24,5 +24,5 @@ files_in held dir (name ∷ names) =
     else files_in held dir names
 
 -- the template files of a directory, in the order of its names
-abbrev pub files_of : Held → List ℕ → Files
+abbrev pub files_of : FolderContents → List ℕ → Files
 files_of held dir = record { dir = dir; list = files_in held dir (held.names dir) }

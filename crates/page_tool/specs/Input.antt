@@ -3,10 +3,10 @@ use Rattle.std.specs.Prelude.{ℕ, List, Option, IfSome, Result, Ok, Err, ⊤}
 use Rattle.page_datum.specs.Reading.{IsDatum, IsNoDatum}
 use Rattle.page_datum.specs.View.{view}
 use Rattle.page_datum.specs.declared.datum.Datum.{Datum}
-use Rattle.page_tool.specs.declared.stop.Stop.{Stop}
-use Rattle.page_tool.specs.declared.stop.Stop.TheVariants as stop
+use Rattle.page_tool.specs.declared.stop.CommandStop.{CommandStop}
+use Rattle.page_tool.specs.declared.stop.CommandStop.TheVariants as stop
 
-abbrev pub ReadDataAnswers : Option (List ℕ) → Result Datum Stop → Type 0
+abbrev pub ReadDataAnswers : Option (List ℕ) → Result Datum CommandStop → Type 0
 ReadDataAnswers left (Ok datum) = IfSome left (λ input. IsDatum input (view datum))
 ReadDataAnswers left (Err (stop.Data why)) = IfSome left (IsNoDatum why)
 ReadDataAnswers left (Err stop.Read) = ⊤

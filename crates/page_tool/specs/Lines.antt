@@ -2,7 +2,7 @@
 use Rattle.std.specs.Prelude.{◌≡◌, ℕ, codes, List, [], ◌∷◌, ◌++◌, Option, IfSome, ◌⊎◌}
 use Rattle.std.specs.Fmt.{decimal}
 use Rattle.std.specs.Io.KnownBytes.{Appends}
-use Rattle.page_io.specs.Held.{Held}
+use Rattle.page_io.specs.FolderContents.{FolderContents}
 use Rattle.page_check.specs.RefusalTexts.{refusal_text}
 use Rattle.page_check.specs.declared.refused.MakeRefused.{MakeRefused}
 use Rattle.page_datum.specs.Execution.{Execution, faulted}
@@ -13,11 +13,11 @@ use Rattle.page_datum.specs.declared.fault.ExecFault.{ExecFault}
 use Rattle.page_datum.specs.declared.refused.DataRefused.{DataRefused}
 use Rattle.page_tool.specs.Codes.{status_for}
 use Rattle.page_tool.specs.LoadedSets.{IsRefusedFor}
-use Rattle.page_tool.specs.Output.{IsRendering, Told}
+use Rattle.page_tool.specs.Output.{IsRendering, WhenKnown}
 use Rattle.page_tool.specs.declared.status.Status.{Status}
 use Rattle.page_tool.specs.declared.status.Status.TheVariants as status
-use Rattle.page_tool.specs.declared.stop.Stop.{Stop}
-use Rattle.page_tool.specs.declared.stop.Stop.TheVariants as stop
+use Rattle.page_tool.specs.declared.stop.CommandStop.{CommandStop}
+use Rattle.page_tool.specs.declared.stop.CommandStop.TheVariants as stop
 
 -- the line for words that are no command
 abbrev pub usage_text : List ℕ
@@ -29,14 +29,14 @@ abbrev pub data_text : DataRefused → List ℕ
 data_text why = codes "data " ++ (data_refusal why ++ 10 ∷ [])
 
 -- the place of a fault, at the end of its line
-abbrev pub place_text : ExecFault → List ℕ
-place_text fault = legible fault.template ++ 58 ∷ (decimal fault.line ++ 10 ∷ [])
+abbrev pub data_path_text : ExecFault → List ℕ
+data_path_text fault = legible fault.template ++ 58 ∷ (decimal fault.line ++ 10 ∷ [])
 
 -- the lines of a stop, for a root of this name
-abbrev pub stop_text : Stop → List ℕ → List ℕ
+abbrev pub stop_text : CommandStop → List ℕ → List ℕ
 stop_text (stop.Set why) name = refusal_text why
 stop_text (stop.Fault fault) name =
-    codes "fault " ++ (fault_kind fault.kind ++ 32 ∷ place_text fault)
+    codes "fault " ++ (fault_kind fault.kind ++ 32 ∷ data_path_text fault)
 stop_text (stop.Data why) name = data_text why
 stop_text stop.Read name = codes "read fault" ++ 10 ∷ []
 stop_text stop.Write name = codes "write fault" ++ 10 ∷ []
@@ -44,17 +44,17 @@ stop_text stop.NoTemplate name = codes "no template " ++ (legible name ++ 10 ∷
 stop_text stop.Memory name = codes "memory" ++ 10 ∷ []
 
 -- a stop was reported with this status, and its lines were written, or that of out of memory was
-abbrev pub Says : Stop → List ℕ → Status → Option (List ℕ) → Option (List ℕ) → Type 0
+abbrev pub Says : CommandStop → List ℕ → Status → Option (List ℕ) → Option (List ℕ) → Type 0
 Says why name s old new =
     ((s ≡ status_for why) × Appends old new (stop_text why name))
     ⊎ ((s ≡ status.Memory) × Appends old new (stop_text stop.Memory name))
 
--- the lines of a command's status, for what the folder holds and the input has, where they are told
-abbrev pub StatusText : Option Held → Option (List ℕ) → List ℕ → List ℕ → Status → List ℕ → Type 0
+-- the lines of a command's status, for what the folder holds and the input has, where these are known
+abbrev pub StatusText : Option FolderContents → Option (List ℕ) → List ℕ → List ℕ → Status → List ℕ → Type 0
 StatusText held input dir name status.Ok text = text ≡ []
 StatusText held input dir name status.Usage text = ⊥
 StatusText held input dir name status.ExecFault text =
-    Told held input (λ h i. (e : Execution) × (fault : ExecFault) × IsRendering h dir name i e
+    WhenKnown held input (λ h i. (e : Execution) × (fault : ExecFault) × IsRendering h dir name i e
     × (e.ending ≡ faulted fault) × (text ≡ stop_text (stop.Fault fault) name))
 StatusText held input dir name status.SetRefused text =
     IfSome held (λ h. (why : MakeRefused) × IsRefusedFor h dir why × (text ≡ refusal_text why))
@@ -65,9 +65,3 @@ StatusText held input dir name status.ReadFault text = text ≡ stop_text stop.R
 StatusText held input dir name status.WriteFault text = text ≡ stop_text stop.Write name
 StatusText held input dir name status.NoTemplate text = text ≡ stop_text stop.NoTemplate name
 StatusText held input dir name status.Memory text = text ≡ stop_text stop.Memory name
-
--- the lines of a command's status were written
-abbrev pub SaysStatus : Option Held → Option (List ℕ) → List ℕ → List ℕ → Status → Option (List ℕ)
-    → Option (List ℕ) → Type 0
-SaysStatus held input dir name s old new =
-    (text : List ℕ) × StatusText held input dir name s text × Appends old new text

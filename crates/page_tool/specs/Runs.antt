@@ -1,8 +1,8 @@
--- What `run` promises for every command alike.
+-- What each command promises, and `run` of all of them.
 use Rattle.std.specs.Prelude.{◌≡◌, ◌≤◌, ◌⊎◌, ℕ, List}
 use Rattle.std.specs.Io.KnownBytes.{Appends}
 use Rattle.page_io.specs.Causes.{Rose}
-use Rattle.page_tool.specs.Command.{Writes, Reads, IsInOrder, IsCaused, IsDecided, Lines}
+use Rattle.page_tool.specs.Command.{CommandWrites, CommandReads, IsInOrder, IsCaused, IsDecided, Lines}
 use Rattle.page_tool.specs.Devices.{Devices}
 use Rattle.page_tool.specs.Words.{Command}
 use Rattle.page_tool.specs.declared.status.Status.{Status}
@@ -16,8 +16,8 @@ SaysLines command before after s =
 -- a command ended in a status, with its devices as they were before and as they are after
 pub record Runs (command : Command) (before after : Devices) (s : Status) : Type 0 where
   -- the output has got what the status says, and the input was read as far as it says
-  pub output : Writes command before s after.taken
-  pub end : Reads command s after.left
+  pub output : CommandWrites command before s after.taken
+  pub end : CommandReads command s after.left
   pub in_order : IsInOrder command before after
   -- each status has its cause
   pub cause : IsCaused command before s

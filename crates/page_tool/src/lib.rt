@@ -3,7 +3,6 @@
 
 mod asked;
 mod check;
-mod commands;
 mod explain;
 mod input;
 mod load;

@@ -1,6 +1,7 @@
 ghost use Rattle.std.specs.Prelude.{◌≡◌, ◌++◌, ◌∷◌, [], IfOk, IfSome, OnOk};
 ghost use Rattle.page_io.specs.Causes.{HasStop};
-ghost use Rattle.page_tool.specs.Files.{files_in, files_of, is_template as is_template_of};
+ghost use Rattle.page_tool.specs.Files.{files_in, files_of};
+ghost use Rattle.page_tool.specs.Files as spec;
 
 use page_check::MAX_FILE;
 use page_datum::{Files, NamedFile};
@@ -72,7 +73,7 @@ fn push_file<F: Folder>(
 
 // Whether a name ends in `.html`.
 fn is_template(name: &str) -> bool
-    ensures { result ≡ is_template_of name.now }
+    ensures { result ≡ spec.is_template name.now }
 {
     name.as_bytes().ends_with(b".html")
 }

@@ -1,7 +1,7 @@
 ghost use Rattle.std.specs.Prelude.{◌≡◌};
 ghost use Rattle.page_tool.specs.Codes.{code_of, status_for};
 
-use crate::stop::Stop;
+use crate::stop::CommandStop;
 
 /// How a command ended.
 #[derive(Clone, Copy, Debug, PartialEq, Eq)]
@@ -46,16 +46,16 @@ impl Status {
 }
 
 /// The status of a command that stopped.
-pub fn status_of(stop: &Stop) -> Status
+pub fn status_of(stop: &CommandStop) -> Status
     ensures { result ≡ status_for stop.now }
 {
     match stop {
-        Stop::Set(_) => Status::SetRefused,
-        Stop::Fault(_) => Status::ExecFault,
-        Stop::Data(_) => Status::DataRefused,
-        Stop::Read => Status::ReadFault,
-        Stop::Write => Status::WriteFault,
-        Stop::NoTemplate => Status::NoTemplate,
-        Stop::Memory => Status::Memory,
+        CommandStop::Set(_) => Status::SetRefused,
+        CommandStop::Fault(_) => Status::ExecFault,
+        CommandStop::Data(_) => Status::DataRefused,
+        CommandStop::Read => Status::ReadFault,
+        CommandStop::Write => Status::WriteFault,
+        CommandStop::NoTemplate => Status::NoTemplate,
+        CommandStop::Memory => Status::Memory,
     }
 }

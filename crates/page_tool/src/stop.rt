@@ -3,7 +3,7 @@ use page_datum::{DataRefused, ExecFault};
 
 /// Why a command stopped.
 #[derive(Debug, Drop)]
-pub enum Stop {
+pub enum CommandStop {
     /// The files are no set, for another cause than memory.
     Set(MakeRefused),
     /// The execution met a fault.

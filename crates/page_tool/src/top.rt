@@ -1,11 +1,14 @@
 ghost use Rattle.std.specs.Prelude.{◌≡◌, ◌↔◌};
+ghost use Rattle.page_tool.specs.Asking.{command_asked};
 ghost use Rattle.page_tool.specs.Command.{WritesSoundly};
 ghost use Rattle.page_tool.specs.Devices.{devices};
 ghost use Rattle.page_tool.specs.Runs.{Runs};
 ghost use Rattle.page_tool.specs.Words.{texts, command_of, no_command};
 
 use crate::asked::{Asked, WordsRefused, read_words};
-use crate::commands::{check_and_report, explain_and_report, render_and_report};
+use crate::check::check;
+use crate::explain::explain;
+use crate::render::render;
 use crate::report::say;
 use crate::status::Status;
 use page_io::{Folder, Sink, Source};
@@ -25,7 +28,11 @@ pub fn run<F: Folder, I: Source, O: Sink, E: Sink>(
 ) -> (Status, F)
     // At status 0 of `render DIR NAME` a whole page was written. It has the shape of the path that
     // the execution took through its templates, whatever the values, and each value is plain where
-    // its hole stands, and reads back there.
+    // its hole stands, and reads back there. Over real files and streams the clause says nothing by
+    // itself: their devices reveal no bytes to the contract (held, left and taken are None), so that
+    // WritesSound holds of them trivially. It holds for users because the same generic code runs
+    // over devices in memory, which reveal theirs. That two data with the same choices give pages of
+    // one shape is the law pages_of_one_path_have_one_shape of page_path.
     ensures sound { result.0 ≡ Status.Ok → WritesSoundly (command_of (texts words.now))
         (devices (F.held folder) (F.faults folder) (I.left input.old) (I.faults input.old)
         (O.taken out.old) (O.faults out.old) (E.taken err.old) (E.faults err.old))
@@ -58,18 +65,32 @@ pub fn run<F: Folder, I: Source, O: Sink, E: Sink>(
             return (Status::Memory, folder);
         }
     };
+    let status = run_asked(alloc, asked, &mut folder, input, out, err);
+    (status, folder)
+}
+
+// Does a command over these devices.
+fn run_asked<F: Folder, I: Source, O: Sink, E: Sink>(
+    alloc: Global,
+    asked: Asked,
+    folder: &mut F,
+    input: &mut I,
+    out: &mut O,
+    err: &mut E,
+) -> Status
+    ensures sound { result ≡ Status.Ok → WritesSoundly (command_asked asked.entry)
+        (devices (F.held folder.old) (F.faults folder.old) (I.left input.old) (I.faults input.old)
+        (O.taken out.old) (O.faults out.old) (E.taken err.old) (E.faults err.old))
+        (O.taken out.new) }
+    ensures runs { Runs (command_asked asked.entry)
+        (devices (F.held folder.old) (F.faults folder.old) (I.left input.old) (I.faults input.old)
+        (O.taken out.old) (O.faults out.old) (E.taken err.old) (E.faults err.old))
+        (devices (F.held folder.new) (F.faults folder.new) (I.left input.new) (I.faults input.new)
+        (O.taken out.new) (O.faults out.new) (E.taken err.new) (E.faults err.new)) result }
+{
     match asked {
-        Asked::Check { dir } => {
-            let status = check_and_report(alloc, &mut folder, out, err, dir);
-            (status, folder)
-        }
-        Asked::Render { dir, root } => {
-            let status = render_and_report(alloc, &mut folder, input, out, err, dir, root);
-            (status, folder)
-        }
-        Asked::Explain { dir, root } => {
-            let status = explain_and_report(alloc, &mut folder, out, err, dir, root);
-            (status, folder)
-        }
+        Asked::Check { dir } => check(alloc, folder, out, err, dir),
+        Asked::Render { dir, root } => render(alloc, folder, input, out, err, dir, root),
+        Asked::Explain { dir, root } => explain(alloc, folder, out, err, dir, root),
     }
 }

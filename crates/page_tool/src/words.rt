@@ -1,6 +1,6 @@
 ghost use Rattle.std.specs.Prelude.{◌≡◌, []};
 ghost use Rattle.page_tool.specs.Words.{texts, command_at, command_of, is_command};
-ghost use Rattle.page_tool.specs.Words.{is_option as is_option_of};
+ghost use Rattle.page_tool.specs.Words as spec;
 
 /// Whether words are a command: its name, and its directory or a root of one, none of which begins
 /// with `-`.
@@ -24,7 +24,7 @@ fn takes_root(name: &str) -> bool
 
 // Whether a word begins with `-`.
 fn is_option(word: &str) -> bool
-    ensures { result ≡ is_option_of word.now }
+    ensures { result ≡ spec.is_option word.now }
 {
     match word.as_bytes().first() {
         Some(byte) => *byte == b'-',

@@ -10,20 +10,20 @@ use Rattle.page_writer.specs.declared.output.Output.TheVariants as output
 use Rattle.place_flow.proofs.AtNodes.{nodes-past}
 use Rattle.place_flow.specs.Flows.{nodes_at}
 use Rattle.place_infer.specs.ChartViews.{ChartData, call_in}
-use Rattle.place_least.specs.Exact.{place_of}
-use Rattle.place_rows.specs.Rows.{spot_in}
-use Rattle.place_rows.specs.declared.row.Row.{Row}
+use Rattle.place_chart.specs.Exact.{point_place}
+use Rattle.place_chart.specs.Summaries.{point_state_in}
+use Rattle.place_chart.specs.declared.summary.Summary.{Summary}
 use Rattle.tpl_paths.specs.Edges.{before}
 use Rattle.tpl_tree.specs.Forests.{ForestData}
 use Rattle.tpl_tree.specs.Trees.{NodesData, head_kind, nodes_size}
 
 -- past the last node there is nothing
-pub no-output : (forest : ForestData) (chart : ChartData) (row : Row) (n node : ℕ) (nodes : NodesData)
-    → nodes_at forest row.template ≡ nodes → nodes_size nodes ≤ node → output_of forest chart row n node ≡ output.Nothing
-no-output forest chart row n node nodes is l =
-    let past : nodes_size (nodes_at forest row.template) ≤ node = subst (λ (m : NodesData). nodes_size m ≤ node) (sym is) l in
-    ap (λ (m : NodesData). output_at (head_kind m) (place_of (spot_in row (before node))) (call_in chart.calls n node))
-    (nodes-past (nodes_at forest row.template) node past)
+pub no-output : (forest : ForestData) (chart : ChartData) (summary : Summary) (n node : ℕ) (nodes : NodesData)
+    → nodes_at forest summary.template ≡ nodes → nodes_size nodes ≤ node → output_of forest chart summary n node ≡ output.Nothing
+no-output forest chart summary n node nodes is l =
+    let past : nodes_size (nodes_at forest summary.template) ≤ node = subst (λ (m : NodesData). nodes_size m ≤ node) (sym is) l in
+    ap (λ (m : NodesData). output_at (head_kind m) (point_place (point_state_in summary (before node))) (call_in chart.calls n node))
+    (nodes-past (nodes_at forest summary.template) node past)
 
 last-output : (xs : List (List Output)) (v : List Output) (node : ℕ)
     → output_in (xs ++ v ∷ []) (length xs) node ≡ slice_index_or v node output.Nothing

@@ -1,40 +1,40 @@
 -- The pairs that are open, by their numbers.
 use Rattle.std.proofs.Common.{◌≡◌, ℕ, zero, suc, ◌<◌, List, [], ◌∷◌, Option, Some, None, refl, sym, ap, ◌∙◌, subst, length, arith}
 use Rattle.std.specs.Prelude.{IfSome, slice_get}
-use Rattle.place_charts.specs.Charts.{Pair}
+use Rattle.place_flow.specs.Covering.{Pair}
 use Rattle.place_core.proofs.Semilattices.{none_some}
 use Rattle.place_core.specs.declared.place.Place.{Place}
 use Rattle.place_flow.specs.Flows.{nodes_at}
 use Rattle.place_infer.specs.ChartViews.{pair_at}
-use Rattle.place_least.proofs.NamedTemplates.{nodes_at-named}
-use Rattle.place_least.specs.Exact.{place_of, places_at, places_of}
-use Rattle.place_rows.proofs.Pairs.{chart_found, chart_none, found_is, number_within}
-use Rattle.place_rows.specs.Rows.{pair_number, spot_in}
-use Rattle.place_rows.specs.declared.row.Row.{Row}
-use Rattle.tpl_paths.specs.Edges.{Point, kind_at}
+use Rattle.place_chart.proofs.NamedTemplates.{nodes_at-named}
+use Rattle.place_chart.specs.Exact.{point_place, places_at, places_of}
+use Rattle.place_chart.proofs.Pairs.{chart_found, chart_none, found_is, number_within}
+use Rattle.place_chart.specs.Summaries.{pair_number, point_state_in}
+use Rattle.place_chart.specs.declared.summary.Summary.{Summary}
+use Rattle.tpl_paths.specs.Edges.{Point, node_kind_at}
 use Rattle.tpl_tree.specs.Forests.{ForestData, number_named}
 use Rattle.tpl_tree.specs.Trees.{NodesData, head_kind, nodes_from}
 
 -- each number is that of its pair
-abbrev pub AreNumbers : ForestData → List Row → List ℕ → List (Pair Place) → Type 0
+abbrev pub AreNumbers : ForestData → List Summary → List ℕ → List (Pair Place) → Type 0
 AreNumbers forest rows [] [] = Unit {0}
 AreNumbers forest rows [] (p ∷ ps) = ⊥
 AreNumbers forest rows (n ∷ ns) [] = ⊥
 AreNumbers forest rows (n ∷ ns) (p ∷ ps) = (pair_at rows (number_named p.template forest) p.entry ≡ Some n) × AreNumbers forest rows ns ps
 
 -- the row of a pair's number has the nodes of its template, and what the chart has in the pair
-pub record IsRowAt (forest : ForestData) (rows : List Row) (name : List ℕ) (entry : Place) (n : ℕ) : Type 0 where
-  pub row : Row
-  pub is : slice_get rows n ≡ Some row
-  pub nodes : (node : ℕ) → head_kind (nodes_from (nodes_at forest row.template) node) ≡ kind_at forest name node
-  pub places : (k : Point) → place_of (spot_in row k) ≡ places_of forest rows name entry k
+pub record IsRowAt (forest : ForestData) (rows : List Summary) (name : List ℕ) (entry : Place) (n : ℕ) : Type 0 where
+  pub summary : Summary
+  pub is : slice_get rows n ≡ Some summary
+  pub nodes : (node : ℕ) → head_kind (nodes_from (nodes_at forest summary.template) node) ≡ node_kind_at forest name node
+  pub places : (k : Point) → point_place (point_state_in summary k) ≡ places_of forest rows name entry k
 
-got : (rows : List Row) (n : ℕ) → n < length rows → (row : Row) × (slice_get rows n ≡ Some row)
+got : (rows : List Summary) (n : ℕ) → n < length rows → (summary : Summary) × (slice_get rows n ≡ Some summary)
 got [] n lt = absurd (omega (arith, lt))
-got (row ∷ rows) zero lt = (row, refl)
-got (row ∷ rows) (suc n) lt = got rows n (omega (arith, lt))
+got (summary ∷ rows) zero lt = (summary, refl)
+got (summary ∷ rows) (suc n) lt = got rows n (omega (arith, lt))
 
-module _ (forest : ForestData) (rows : List Row) (name : List ℕ) (entry : Place) where
+module _ (forest : ForestData) (rows : List Summary) (name : List ℕ) (entry : Place) where
   row_by : (n : ℕ) (o : Option ℕ) → number_named name forest ≡ o → pair_at rows o entry ≡ Some n → IsRowAt forest rows name entry n
   row_by n None is at = absurd (none_some n at)
   row_by n (Some t) is at =
@@ -42,11 +42,11 @@ module _ (forest : ForestData) (rows : List Row) (name : List ℕ) (entry : Plac
       let g = got rows n within in
       let found = found_is rows t entry n g.0 at g.1 in
       record {
-        row = g.0;
+        summary = g.0;
         is = g.1;
         nodes = λ node. ap (λ (nodes : NodesData). head_kind (nodes_from nodes node))
             (ap (nodes_at forest) found.0 ∙ nodes_at-named forest name t is);
-        places = λ k. ap place_of (sym (chart_found rows t entry n g.0 k at g.1))
+        places = λ k. ap point_place (sym (chart_found rows t entry n g.0 k at g.1))
             ∙ ap (λ (o : Option ℕ). places_at rows o entry k) (sym is);
       }
 
@@ -57,7 +57,7 @@ module _ (forest : ForestData) (rows : List Row) (name : List ℕ) (entry : Plac
   number_of_row : (t : ℕ) (k : Point) (place : Place) (o : Option ℕ) → pair_number rows t entry ≡ o
       → places_at rows (Some t) entry k ≡ Some place → (n : ℕ) × (o ≡ Some n)
   number_of_row t k place (Some n) is there = (n, refl)
-  number_of_row t k place None is there = absurd (none_some place (sym (ap place_of (chart_none rows t entry k is)) ∙ there))
+  number_of_row t k place None is there = absurd (none_some place (sym (ap point_place (chart_none rows t entry k is)) ∙ there))
 
   number_by : (k : Point) (place : Place) (o : Option ℕ) → places_at rows o entry k ≡ Some place → (n : ℕ) × (pair_at rows o entry ≡ Some n)
   number_by k place None there = absurd (none_some place there)

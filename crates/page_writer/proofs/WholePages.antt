@@ -6,21 +6,21 @@ use Rattle.page_datum.specs.Execution.{Execution, faulted}
 use Rattle.page_path.proofs.Sound.{pages-are-sound}
 use Rattle.page_path.proofs.Together.{pages-go-by-the-chart}
 use Rattle.page_path.specs.Laws.{IsRootOf}
-use Rattle.page_path.specs.Pages.{ended, execution, max_page, page_bytes, pieces_of}
+use Rattle.page_path.specs.Pages.{page_ended, execution, max_page, page_bytes, pieces_of}
 use Rattle.page_path.specs.Soundness.{IsFinished, IsSound}
 use Rattle.page_writer.proofs.WrittenPages.{Goes, IsAt, IsWritten, Stand, allowed, over, refused, size, written}
 use Rattle.page_writer.specs.Composing.{ComposeAnswers, IsComposed}
 use Rattle.page_writer.specs.Outputs.{AreOutputs}
-use Rattle.page_writer.specs.Writing.{Declines, May, Takes}
+use Rattle.page_writer.specs.Writing.{WriterDeclines, WriterMay, Takes}
 use Rattle.page_writer.specs.declared.composing.Composed.{Composed}
 use Rattle.page_writer.specs.declared.output.Output.{Output}
 use Rattle.page_writer.specs.declared.writer.PageWriter.{PageWriter}
-use Rattle.place_charts.specs.Charts.{pair}
-use Rattle.place_core.specs.Html.{start}
+use Rattle.place_flow.specs.Covering.{pair}
+use Rattle.place_core.specs.page.Html.{start}
 use Rattle.place_core.specs.declared.place.Place.TheVariants as place
 use Rattle.place_infer.specs.ChartViews.{ChartData}
 use Rattle.tpl_events.specs.Events.{Emission}
-use Rattle.tpl_events.specs.Sinks.{Allows, Leads, Refuses}
+use Rattle.tpl_events.specs.Sinks.{Allows, SinkLeads, SinkRefuses}
 use Rattle.tpl_events.specs.declared.sink.HoleStop.TheVariants as stop
 use Rattle.tpl_exec.specs.Executing.{RunAnswers}
 use Rattle.tpl_exec.specs.Meaning.{Finish, finish_of, finished, meaning, stopped}
@@ -51,14 +51,14 @@ module _ (forest : ForestData) (chart : ChartData) (root : List ℕ) (outputs : 
   few : size w ≤ max_page
   few = (let none = ap length b.page in omega (arith, none))
 
-  pub may_write : Allows May Takes w run.events
+  pub may_write : Allows WriterMay Takes w run.events
   may_write = allowed forest chart outputs b.is.is.calls b.are w run.events (first root) b.at goes
 
   -- where the writer took all events, and where it refused one
-  taken : (v : PageWriter) → Leads Takes w run.events v → IsWritten forest w v run.events (first root)
+  taken : (v : PageWriter) → SinkLeads Takes w run.events v → IsWritten forest w v run.events (first root)
   taken v led = written forest chart outputs b.is.is.calls b.are w v run.events (first root) b.at goes few led
 
-  stops : (v : PageWriter) (g : Emission) → Refuses Takes Declines run.events g stop.TooLong w v
+  stops : (v : PageWriter) (g : Emission) → SinkRefuses Takes WriterDeclines run.events g stop.TooLong w v
       → over forest (size w) run.events (first root) ≡ Some g
   stops v g r =
       ap (λ (gs : List Emission). over forest (size w) gs (first root)) r.3
@@ -67,14 +67,14 @@ module _ (forest : ForestData) (chart : ChartData) (root : List ℕ) (outputs : 
 
   -- how the execution ends
   ends : (o : Option Emission) (end : Finish) → over forest (size w) run.events (first root) ≡ o → finish_of run.end ≡ end
-      → execution forest root datum ≡ ended (page_bytes (pieces_of forest root datum)) o end
+      → execution forest root datum ≡ page_ended (page_bytes (pieces_of forest root datum)) o end
   ends o end is e =
       let from_none : over forest 0 run.events (first root) ≡ o =
       subst (λ (bytes : List ℕ). over forest (length bytes) run.events (first root) ≡ o) b.page is in
-      ap (λ (x : Option Emission). ended (page_bytes (pieces_of forest root datum)) x (finish_of run.end)) from_none
-      ∙ ap (ended (page_bytes (pieces_of forest root datum)) o) e
+      ap (λ (x : Option Emission). page_ended (page_bytes (pieces_of forest root datum)) x (finish_of run.end)) from_none
+      ∙ ap (page_ended (page_bytes (pieces_of forest root datum)) o) e
 
-  pub composed : (v : PageWriter) (made : Composed) → made.page ≡ v.page → RunAnswers Takes Declines run w v (Ok made.steps)
+  pub composed : (v : PageWriter) (made : Composed) → made.page ≡ v.page → RunAnswers Takes WriterDeclines run w v (Ok made.steps)
       → IsComposed forest root datum made
   composed v made same r =
       let bytes = page_bytes (pieces_of forest root datum) in
@@ -90,7 +90,7 @@ module _ (forest : ForestData) (chart : ChartData) (root : List ℕ) (outputs : 
             (pages-are-sound forest b.names chart root datum b.is (subst IsFinished (sym r.1) tt) all.textual);
       }
 
-  pub broken_off : (v : PageWriter) (e : ExecStop) → RunAnswers Takes Declines run w v (Err e) → ComposeAnswers forest root datum (Err e)
+  pub broken_off : (v : PageWriter) (e : ExecStop) → RunAnswers Takes WriterDeclines run w v (Err e) → ComposeAnswers forest root datum (Err e)
   broken_off v (Fault why) (inl r) = ap (λ (x : Execution). x.ending) (ends None (stopped why) (taken v r.0).under (ap finish_of r.1))
   broken_off v (Fault why) (inr r) =
       ap (λ (x : Execution). x.ending) (ends (Some r.0) (finish_of run.end) (stops v r.0 r.1) refl) ∙ ap faulted (sym r.2)

@@ -1,48 +1,48 @@
--- What a writer has written behind events that it took.
+-- What a writer has written after events that it took.
 use Rattle.std.proofs.Common.{◌≡◌, ℕ, ◌+◌, ◌<◌, ◌≤◌, false, List, [], ◌∷◌, ◌++◌, Option, Some, None, append_assoc, append-nil, length}
 use Rattle.std.proofs.Common.{length-append, map, nat_le, refl, string_bytes, sym, ap, ◌∙◌, subst, arith}
 use Rattle.std.proofs.lemmas.Bool.{le-leb}
 use Rattle.std.proofs.lemmas.Bool.Decides.{nat_tests}
 use Rattle.std.specs.Prelude.{if◌then◌else◌}
 use Rattle.page_path.specs.Laws.{GoTogether}
-use Rattle.page_path.specs.Pages.{Piece, event_pieces, max_page, open_behind, over_from, page_bytes, parts_of, pieces_from, state_behind}
+use Rattle.page_path.specs.Pages.{PagePiece, event_pieces, max_page, open_behind, over_from, page_bytes, page_parts, pieces_from, state_behind}
 use Rattle.page_path.specs.Pages.{value, words}
 use Rattle.page_path.specs.Soundness.{AreTextual}
 use Rattle.page_writer.proofs.OpenPairs.{AreNumbers}
 use Rattle.page_writer.proofs.PairOutputs.{IsFollowed, followed}
 use Rattle.page_writer.specs.Outputs.{AreOutputs}
-use Rattle.page_writer.specs.Writing.{May, MayGive, Takes, open_after, output_pieces, outputs_in}
+use Rattle.page_writer.specs.Writing.{WriterMay, MayGive, Takes, page_open_after, output_pieces, outputs_in}
 use Rattle.page_writer.specs.declared.output.Output.{Output}
 use Rattle.page_writer.specs.declared.writer.PageWriter.{PageWriter}
-use Rattle.place_charts.specs.Charts.{Pair, sign_pairs}
-use Rattle.place_core.specs.Shape.{HolePart, Part, TextPart, bytes_of}
-use Rattle.place_core.specs.States.{State}
-use Rattle.place_core.specs.Tags.{ValueState}
+use Rattle.place_flow.specs.Covering.{Pair, sign_pairs}
+use Rattle.place_core.specs.page.Shape.{HolePart, ShapePart, TextPart, event_bytes}
+use Rattle.place_core.specs.page.States.{LexState}
+use Rattle.place_core.specs.page.Tags.{ValueState}
 use Rattle.place_core.specs.declared.place.Place.{Place}
-use Rattle.place_infer.specs.ChartViews.{AreCalls, ChartData}
-use Rattle.place_least.specs.Exact.{places_of}
+use Rattle.place_infer.specs.ChartViews.{ArePairCalls, ChartData}
+use Rattle.place_chart.specs.Exact.{places_of}
 use Rattle.tpl_events.specs.Events.{Emission}
-use Rattle.tpl_events.specs.Sinks.{Allows, Leads}
-use Rattle.tpl_taken.specs.Taken.{sign_of}
+use Rattle.tpl_events.specs.Sinks.{Allows, SinkLeads}
+use Rattle.page_path.specs.Taken.{move_sign}
 use Rattle.tpl_tree.specs.Forests.{ForestData}
 
 -- the bytes of pieces one after another
 
-parts_of-append : (xs ys : List Piece) → parts_of (xs ++ ys) ≡ parts_of xs ++ parts_of ys
+parts_of-append : (xs ys : List PagePiece) → page_parts (xs ++ ys) ≡ page_parts xs ++ page_parts ys
 parts_of-append [] ys = refl
-parts_of-append (words bytes ∷ xs) ys = ap (λ (ps : List Part). TextPart bytes ∷ ps) (parts_of-append xs ys)
-parts_of-append (value text bytes ∷ xs) ys = ap (λ (ps : List Part). HolePart bytes ∷ ps) (parts_of-append xs ys)
+parts_of-append (words bytes ∷ xs) ys = ap (λ (ps : List ShapePart). TextPart bytes ∷ ps) (parts_of-append xs ys)
+parts_of-append (value text bytes ∷ xs) ys = ap (λ (ps : List ShapePart). HolePart bytes ∷ ps) (parts_of-append xs ys)
 
 behind : (bytes more rest both : List ℕ) → both ≡ more ++ rest → bytes ++ both ≡ (bytes ++ more) ++ rest
 behind bytes more rest both e = ap (λ (bs : List ℕ). bytes ++ bs) e ∙ sym (append_assoc bytes more rest)
 
-bytes_of-append : (xs ys : List Part) → bytes_of (xs ++ ys) ≡ bytes_of xs ++ bytes_of ys
+bytes_of-append : (xs ys : List ShapePart) → event_bytes (xs ++ ys) ≡ event_bytes xs ++ event_bytes ys
 bytes_of-append [] ys = refl
-bytes_of-append (TextPart bytes ∷ xs) ys = behind bytes (bytes_of xs) (bytes_of ys) (bytes_of (xs ++ ys)) (bytes_of-append xs ys)
-bytes_of-append (HolePart bytes ∷ xs) ys = behind bytes (bytes_of xs) (bytes_of ys) (bytes_of (xs ++ ys)) (bytes_of-append xs ys)
+bytes_of-append (TextPart bytes ∷ xs) ys = behind bytes (event_bytes xs) (event_bytes ys) (event_bytes (xs ++ ys)) (bytes_of-append xs ys)
+bytes_of-append (HolePart bytes ∷ xs) ys = behind bytes (event_bytes xs) (event_bytes ys) (event_bytes (xs ++ ys)) (bytes_of-append xs ys)
 
-page_bytes-append : (xs ys : List Piece) → page_bytes (xs ++ ys) ≡ page_bytes xs ++ page_bytes ys
-page_bytes-append xs ys = ap bytes_of (parts_of-append xs ys) ∙ bytes_of-append (parts_of xs) (parts_of ys)
+page_bytes-append : (xs ys : List PagePiece) → page_bytes (xs ++ ys) ≡ page_bytes xs ++ page_bytes ys
+page_bytes-append xs ys = ap event_bytes (parts_of-append xs ys) ∙ bytes_of-append (page_parts xs) (page_parts ys)
 
 -- whether a page is longer than it may be
 
@@ -59,29 +59,29 @@ size w = length (string_bytes w.page)
 pub record Stand : Type 0 where
   pub pairs : List (Pair Place)
   pub templates : List (List ℕ)
-  pub state : State ValueState
+  pub state : LexState ValueState
 
 abbrev next : ForestData → ChartData → Emission → Stand → Stand
 next forest chart g x = record {
-  pairs = sign_pairs forest (places_of forest chart.rows) (sign_of g.event) x.pairs;
+  pairs = sign_pairs forest (places_of forest chart.summaries) (move_sign g.event) x.pairs;
   templates = open_behind forest g.event x.templates;
   state = state_behind forest g.event x.templates x.state;
 }
 
 abbrev pub Goes : ForestData → ChartData → List Emission → Stand → Type 0
-Goes forest chart gs x = GoTogether forest (places_of forest chart.rows) gs x.pairs x.templates x.state
+Goes forest chart gs x = GoTogether forest (places_of forest chart.summaries) gs x.pairs x.templates x.state
 
 -- the pieces of one event and of all, and the first event with which a page would be too long
-abbrev one : ForestData → Emission → Stand → List Piece
+abbrev one : ForestData → Emission → Stand → List PagePiece
 one forest g x = event_pieces forest g.event x.templates x.state
 
-abbrev all : ForestData → List Emission → Stand → List Piece
+abbrev all : ForestData → List Emission → Stand → List PagePiece
 all forest gs x = pieces_from forest gs x.templates x.state
 
 abbrev pub over : ForestData → ℕ → List Emission → Stand → Option Emission
 over forest n gs x = over_from n forest gs x.templates x.state
 
--- a page has the pieces of events behind what it had, which are none too many
+-- a page has the pieces of events after what it had, which are none too many
 pub record IsWritten (forest : ForestData) (w v : PageWriter) (gs : List Emission) (x : Stand) : Type 0 where
   pub page : string_bytes v.page ≡ string_bytes w.page ++ page_bytes (all forest gs x)
   pub under : over forest (size w) gs x ≡ None
@@ -90,9 +90,9 @@ pub record IsWritten (forest : ForestData) (w v : PageWriter) (gs : List Emissio
 -- a writer goes by these outputs, and its numbers are those of the pairs that are open
 pub record IsAt (forest : ForestData) (chart : ChartData) (outputs : List (List Output)) (w : PageWriter) (x : Stand) : Type 0 where
   pub goes_by : outputs_in w ≡ outputs
-  pub numbers : AreNumbers forest chart.rows w.pairs x.pairs
+  pub numbers : AreNumbers forest chart.summaries w.pairs x.pairs
 
-module _ (forest : ForestData) (chart : ChartData) (outputs : List (List Output)) (calls : AreCalls forest chart.rows chart.calls)
+module _ (forest : ForestData) (chart : ChartData) (outputs : List (List Output)) (calls : ArePairCalls forest chart.summaries chart.calls)
     (are : AreOutputs forest chart outputs) where
   abbrev At : PageWriter → Stand → Type 0
   At w x = IsAt forest chart outputs w x
@@ -102,7 +102,7 @@ module _ (forest : ForestData) (chart : ChartData) (outputs : List (List Output)
     follows : IsFollowed forest chart outputs g.event w.pairs x.pairs
     follows = followed forest chart outputs calls are g.event w.pairs x.pairs at.numbers go.0
 
-    may_be_given : May w g.event
+    may_be_given : WriterMay w g.event
     may_be_given = subst (λ (os : List (List Output)). MayGive os w.pairs g.event) (sym at.goes_by) follows.may
 
     -- what is written for it is what is written by the path
@@ -113,14 +113,14 @@ module _ (forest : ForestData) (chart : ChartData) (outputs : List (List Output)
     module _ (u : PageWriter) (took : Takes w g.event u) where
       moved : At u (next forest chart g x)
       moved =
-          let opens = took.pairs ∙ ap (λ (os : List (List Output)). open_after os w.pairs g.event) at.goes_by in
+          let opens = took.pairs ∙ ap (λ (os : List (List Output)). page_open_after os w.pairs g.event) at.goes_by in
           record {
             goes_by = ap (map (λ row. row.items)) took.outputs ∙ at.goes_by;
-            numbers = subst (λ (ns : List ℕ). AreNumbers forest chart.rows ns (next forest chart g x).pairs) (sym opens) follows.numbers;
+            numbers = subst (λ (ns : List ℕ). AreNumbers forest chart.summaries ns (next forest chart g x).pairs) (sym opens) follows.numbers;
           }
 
       longer : string_bytes u.page ≡ string_bytes w.page ++ page_bytes (one forest g x)
-      longer = took.page ∙ ap (λ (pieces : List Piece). string_bytes w.page ++ page_bytes pieces) same_pieces
+      longer = took.page ∙ ap (λ (pieces : List PagePiece). string_bytes w.page ++ page_bytes pieces) same_pieces
 
       count : size u ≡ size w + length (page_bytes (one forest g x))
       count = ap length longer ∙ length-append (string_bytes w.page) (page_bytes (one forest g x))
@@ -137,16 +137,16 @@ module _ (forest : ForestData) (chart : ChartData) (outputs : List (List Output)
         → over forest (size w) (g ∷ gs) x ≡ Some g
     too_long long =
         beyond (size w + length (page_bytes (one forest g x))) _ (Some g)
-        (subst (λ (pieces : List Piece). max_page < size w + length (page_bytes pieces)) same_pieces long)
+        (subst (λ (pieces : List PagePiece). max_page < size w + length (page_bytes pieces)) same_pieces long)
 
   -- with all of them
-  pub allowed : (w : PageWriter) (gs : List Emission) (x : Stand) → At w x → Goes forest chart gs x → Allows May Takes w gs
+  pub allowed : (w : PageWriter) (gs : List Emission) (x : Stand) → At w x → Goes forest chart gs x → Allows WriterMay Takes w gs
   allowed w [] x at go = tt
   allowed w (g ∷ gs) x at go =
       (may_be_given w g gs x at go, λ u took. allowed u gs (next forest chart g x) (moved w g gs x at go u took) go.2)
 
   pub written : (w v : PageWriter) (gs : List Emission) (x : Stand) → At w x → Goes forest chart gs x → size w ≤ max_page
-      → Leads Takes w gs v
+      → SinkLeads Takes w gs v
       → IsWritten forest w v gs x
   written w v [] x at go few led = record {
     page = ap (λ (y : PageWriter). string_bytes y.page) led ∙ sym (append-nil (string_bytes w.page));
@@ -167,7 +167,7 @@ module _ (forest : ForestData) (chart : ChartData) (outputs : List (List Output)
   -- the event that is refused is the first with which the page would be too long
   pub refused : (w u : PageWriter) (prefix rest : List Emission) (g : Emission) (x : Stand) → At w x
       → Goes forest chart (prefix ++ g ∷ rest) x
-      → size w ≤ max_page → Leads Takes w prefix u
+      → size w ≤ max_page → SinkLeads Takes w prefix u
       → max_page < size u + length (page_bytes (output_pieces (outputs_in u) u.pairs g.event))
       → over forest (size w) (prefix ++ g ∷ rest) x ≡ Some g
   refused w u [] rest g x at go few led long =

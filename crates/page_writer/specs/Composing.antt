@@ -22,7 +22,7 @@ pub record IsComposed (forest : ForestData) (root : List ℕ) (datum : Data) (ma
   pub steps : made.steps ≡ (execution forest root datum).steps
   pub sound : IsSound forest root datum (string_bytes made.page)
 
--- .. or the fault of the execution, or out of memory
+-- likewise, or the fault of the execution, or out of memory
 abbrev pub ComposeAnswers : ForestData → List ℕ → Data → Result Composed ExecStop → Type 0
 ComposeAnswers forest root datum (Ok made) = IsComposed forest root datum made
 ComposeAnswers forest root datum (Err (Fault why)) = (execution forest root datum).ending ≡ faulted why

@@ -1,17 +1,18 @@
 -- What a writer may be given and what it writes, by the outputs of the pair that is open.
-use Rattle.std.specs.Prelude.{◌≡◌, ℕ, ◌+◌, ◌<◌, ◌≤◌, List, [], ◌∷◌, ◌++◌, String, Vec, length, map, string_bytes, ⊤}
+use Rattle.std.specs.Prelude.{◌≡◌, ℕ, ◌+◌, ◌<◌, ◌≤◌, List, [], ◌∷◌, ◌++◌, String, Vec, length, map, string_bytes, take, ⊤}
 use Rattle.std.specs.declared.alloc.Global.{Global}
 use Rattle.page_datum.specs.Data.{Data}
 use Rattle.page_datum.specs.Printed.{printed}
-use Rattle.page_path.specs.Pages.{Piece, max_page, page_bytes, san_bytes, value, words}
+use Rattle.page_path.specs.Pages.{PagePiece, max_page, page_bytes, value_pieces, words}
 use Rattle.page_path.specs.Soundness.{IsTextual}
 use Rattle.page_writer.specs.Outputs.{output_in}
 use Rattle.page_writer.specs.declared.output.Output.{Output}
 use Rattle.page_writer.specs.declared.output.Output.TheVariants as output
 use Rattle.page_writer.specs.declared.writer.PageWriter.{PageWriter}
+use Rattle.place_core.specs.declared.chain.Chain.{Chain}
 use Rattle.place_core.specs.declared.san.San.{San}
 use Rattle.place_core.specs.declared.san.San.TheVariants as san
-use Rattle.tpl_events.specs.Events.{Event, enters, gives_hole, gives_text, leaves}
+use Rattle.tpl_events.specs.Events.{ExecEvent, enters, gives_hole, gives_text, leaves}
 use Rattle.tpl_events.specs.declared.sink.HoleStop.{HoleStop}
 use Rattle.tpl_events.specs.declared.sink.HoleStop.TheVariants as stop
 
@@ -20,99 +21,118 @@ abbrev pub open_output : List (List Output) → List ℕ → ℕ → Output
 open_output outputs [] node = output.Nothing
 open_output outputs (n ∷ ns) node = output_in outputs n node
 
-abbrev pub IsText : Output → Type 0
-IsText (output.Text bytes) = ⊤
-IsText _ = ⊥
+abbrev pub IsTextNode : Output → Type 0
+IsTextNode (output.Text bytes) = ⊤
+IsTextNode _ = ⊥
+
+-- a chain as places have it: one sanitizer, which is built. Those of scripts, styles and URLs are not.
+abbrev pub IsBuilt : San → Type 0
+IsBuilt san.Html = ⊤
+IsBuilt san.Attr = ⊤
+IsBuilt san.AttrNospace = ⊤
+IsBuilt san.AttrName = ⊤
+IsBuilt san.Drop = ⊤
+IsBuilt _ = ⊥
+
+abbrev pub IsOneBuilt : List San → Type 0
+IsOneBuilt [] = ⊥
+IsOneBuilt (x ∷ []) = IsBuilt x
+IsOneBuilt (x ∷ y ∷ xs) = ⊥
+
+abbrev pub sanitizers : Chain → List San
+sanitizers c = take c.count c.sans
+
+abbrev pub IsBuiltChain : Chain → Type 0
+IsBuiltChain c = IsOneBuilt (sanitizers c)
 
 abbrev pub IsValue : Output → Type 0
-IsValue (output.Value x) = ⊤
+IsValue (output.Value c) = IsBuiltChain c
 IsValue _ = ⊥
 
-abbrev pub IsCall : Output → Type 0
-IsCall (output.Call m) = ⊤
-IsCall _ = ⊥
+abbrev pub IsCallNode : Output → Type 0
+IsCallNode (output.Call m) = ⊤
+IsCallNode _ = ⊥
 
--- what may be given where these pairs are open: a text, a value or a call where that is the node's output
-abbrev pub MayGive : List (List Output) → List ℕ → Event → Type 0
-MayGive outputs ns (gives_text n) = IsText (open_output outputs ns n)
+-- what may be given where these pairs are open: a text, a value or a call where that is the node's output, a value by a chain that is built
+abbrev pub MayGive : List (List Output) → List ℕ → ExecEvent → Type 0
+MayGive outputs ns (gives_text n) = IsTextNode (open_output outputs ns n)
 MayGive outputs ns (gives_hole n datum) = IsValue (open_output outputs ns n)
-MayGive outputs ns (enters n) = IsCall (open_output outputs ns n)
+MayGive outputs ns (enters n) = IsCallNode (open_output outputs ns n)
 MayGive outputs ns leaves = ⊤
 
--- what is written for a value; where it is left out, no piece
-abbrev pub value_by : San → Data → List Piece
-value_by san.Drop datum = []
-value_by x datum = value (printed datum) (san_bytes x (printed datum)) ∷ []
+-- the bytes that are written for the text of a value by a chain
+abbrev pub value_written : Chain → List ℕ → List ℕ
+value_written c text = page_bytes (value_pieces c text)
 
-abbrev pub text_output : Output → List Piece
+abbrev pub text_output : Output → List PagePiece
 text_output (output.Text bytes) = words bytes ∷ []
 text_output _ = []
 
-abbrev pub value_output : Output → Data → List Piece
-value_output (output.Value x) datum = value_by x datum
+abbrev pub value_output : Output → Data → List PagePiece
+value_output (output.Value c) datum = value_pieces c (printed datum)
 value_output _ datum = []
 
-abbrev pub output_pieces : List (List Output) → List ℕ → Event → List Piece
+abbrev pub output_pieces : List (List Output) → List ℕ → ExecEvent → List PagePiece
 output_pieces outputs ns (gives_text n) = text_output (open_output outputs ns n)
 output_pieces outputs ns (gives_hole n datum) = value_output (open_output outputs ns n) datum
 output_pieces outputs ns (enters n) = []
 output_pieces outputs ns leaves = []
 
--- the pairs that are open behind an event, the innermost first
-abbrev pub opened : Output → List ℕ → List ℕ
-opened (output.Call m) ns = m ∷ ns
-opened _ ns = ns
+-- the pairs that are open after an event, the innermost first
+abbrev pub page_opened : Output → List ℕ → List ℕ
+page_opened (output.Call m) ns = m ∷ ns
+page_opened _ ns = ns
 
-abbrev pub left : List ℕ → List ℕ
-left [] = []
-left (n ∷ ns) = ns
+abbrev pub page_left : List ℕ → List ℕ
+page_left [] = []
+page_left (n ∷ ns) = ns
 
-abbrev pub open_after : List (List Output) → List ℕ → Event → List ℕ
-open_after outputs ns (gives_text n) = ns
-open_after outputs ns (gives_hole n datum) = ns
-open_after outputs ns (enters n) = opened (open_output outputs ns n) ns
-open_after outputs ns leaves = left ns
+abbrev pub page_open_after : List (List Output) → List ℕ → ExecEvent → List ℕ
+page_open_after outputs ns (gives_text n) = ns
+page_open_after outputs ns (gives_hole n datum) = ns
+page_open_after outputs ns (enters n) = page_opened (open_output outputs ns n) ns
+page_open_after outputs ns leaves = page_left ns
 
 -- the outputs that a writer goes by: by the pairs, and in each by the nodes
 abbrev pub outputs_in : PageWriter → List (List Output)
 outputs_in w = map (λ row. row.items) w.outputs.now
 
 -- a writer of a page without bytes, where this pair is open
-pub record IsBegun (given : List (Vec Output Global)) (pair : ℕ) (w : PageWriter) : Type 0 where
+pub record IsPageBegun (given : List (Vec Output Global)) (pair : ℕ) (w : PageWriter) : Type 0 where
   pub outputs : w.outputs.now ≡ given
   pub pairs : w.pairs ≡ pair ∷ []
   pub page : string_bytes w.page ≡ []
 
--- bytes stand behind those of a page, which is no longer than it may be
+-- bytes stand after those of a page, which is no longer than it may be
 pub record IsAppended (old : String Global) (bytes : List ℕ) (new : String Global) : Type 0 where
   pub page : string_bytes new ≡ string_bytes old ++ bytes
   pub fits : length (string_bytes new) ≤ max_page
 
--- .. or the page is longer
+-- likewise, or the page is longer
 abbrev pub IsTooLong : String Global → HoleStop → Type 0
 IsTooLong page stop.SinkStop = ⊥
 IsTooLong page stop.TooLong = max_page < length (string_bytes page)
 IsTooLong page stop.Memory = ⊥
 
--- .. or it would be, or memory ran out
+-- likewise, or it would be, or memory ran out
 abbrev pub IsUnfit : String Global → List ℕ → HoleStop → Type 0
 IsUnfit page bytes stop.SinkStop = ⊥
 IsUnfit page bytes stop.TooLong = max_page < length (string_bytes page) + length bytes
 IsUnfit page bytes stop.Memory = ⊤
 
--- An event is taken: its pieces stand behind the page, which is no longer than it may be.
-pub record Takes (w : PageWriter) (e : Event) (v : PageWriter) : Type 0 where
+-- An event is taken: its pieces stand after the page, which is no longer than it may be.
+pub record Takes (w : PageWriter) (e : ExecEvent) (v : PageWriter) : Type 0 where
   pub outputs : v.outputs.now ≡ w.outputs.now
-  pub pairs : v.pairs ≡ open_after (outputs_in w) w.pairs e
+  pub pairs : v.pairs ≡ page_open_after (outputs_in w) w.pairs e
   pub page : string_bytes v.page ≡ string_bytes w.page ++ page_bytes (output_pieces (outputs_in w) w.pairs e)
   pub fits : length (string_bytes w.page) ≤ max_page → length (string_bytes v.page) ≤ max_page
   pub textual : IsTextual e
 
--- .. or refused: the page would be longer, or memory ran out
-abbrev pub Declines : PageWriter → Event → HoleStop → PageWriter → Type 0
-Declines w e stop.SinkStop v = ⊥
-Declines w e stop.TooLong v = max_page < length (string_bytes w.page) + length (page_bytes (output_pieces (outputs_in w) w.pairs e))
-Declines w e stop.Memory v = ⊤
+-- likewise, or refused: the page would be longer, or memory ran out
+abbrev pub WriterDeclines : PageWriter → ExecEvent → HoleStop → PageWriter → Type 0
+WriterDeclines w e stop.SinkStop v = ⊥
+WriterDeclines w e stop.TooLong v = max_page < length (string_bytes w.page) + length (page_bytes (output_pieces (outputs_in w) w.pairs e))
+WriterDeclines w e stop.Memory v = ⊤
 
-abbrev pub May : PageWriter → Event → Type 0
-May w e = MayGive (outputs_in w) w.pairs e
+abbrev pub WriterMay : PageWriter → ExecEvent → Type 0
+WriterMay w e = MayGive (outputs_in w) w.pairs e

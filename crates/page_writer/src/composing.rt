@@ -2,7 +2,7 @@ ghost use Rattle.std.specs.Prelude.{◌<◌, length, map, unwrap_or, []};
 ghost use Rattle.page_datum.specs.View.{view};
 ghost use Rattle.page_writer.specs.Composing.{ComposeAnswers, IsCharted};
 ghost use Rattle.page_writer.specs.Outputs.{AreOutputs};
-ghost use Rattle.tpl_tree.specs.Forests.{name_at};
+ghost use Rattle.tpl_tree.specs.Forests.{tree_name_at};
 
 use crate::output::Output;
 use crate::writer::PageWriter;
@@ -32,9 +32,9 @@ pub fn compose(
     datum: &Datum,
 ) -> Result<Composed, ExecStop>
     requires root { root < length forest.now }
-    requires set { IsCharted forest.now chart.now (unwrap_or (name_at forest.now root) []) }
+    requires set { IsCharted forest.now chart.now (unwrap_or (tree_name_at forest.now root) []) }
     requires outputs { AreOutputs forest.now chart.now (map (λ row. row.items) outputs.now) }
-    ensures { ComposeAnswers forest.now (unwrap_or (name_at forest.now root) [])
+    ensures { ComposeAnswers forest.now (unwrap_or (tree_name_at forest.now root) [])
         (view datum.now) result }
 {
     let pair = match chart.start(root) {

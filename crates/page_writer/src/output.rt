@@ -1,5 +1,5 @@
 use page_io::Text;
-use place_core::San;
+use place_core::Chain;
 
 /// What a page gets at a node of a pair.
 #[derive(Debug, Drop)]
@@ -8,8 +8,8 @@ pub enum Output {
     Nothing,
     /// A text, as it is written there.
     Text(Text),
-    /// The text of a value, by this sanitizer.
-    Value(San),
+    /// The text of a value, by this chain.
+    Value(Chain),
     /// What another pair gives, by its number.
     Call(u32),
 }

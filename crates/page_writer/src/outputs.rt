@@ -1,47 +1,34 @@
 ghost use Rattle.std.specs.Prelude.{◌≡◌, ◌<◌, ℕ, IfOk, Some, length, map};
-ghost use Rattle.std.specs.Prelude.{slice_get, slice_index_or, take};
-ghost use Rattle.html_step.specs.Holes.{after_hole as after_hole_of};
-ghost use Rattle.page_writer.specs.Outputs.{AreOutputs, by_call as by_call_of, by_chain};
-ghost use Rattle.page_writer.specs.Outputs.{by_first as by_first_of, output_of};
-ghost use Rattle.page_writer.specs.Outputs.{node_output as node_output_of};
+ghost use Rattle.std.specs.Prelude.{slice_get, slice_index_or, ◌^◌};
+ghost use Rattle.page_writer.specs.Outputs.{AreOutputs, output_of};
 ghost use Rattle.page_writer.specs.declared.output.Output.TheVariants.{Nothing};
 ghost use Rattle.place_flow.specs.Flows.{nodes_at};
-ghost use Rattle.place_rows.specs.declared.row.Row.{Row};
+ghost use Rattle.place_chart.specs.declared.summary.Summary.{Summary};
 ghost use Rattle.tpl_tree.specs.Forests.{ForestData};
-ghost use Rattle.tpl_tree.specs.Trees.{IsTextInBounds, nodes_size};
+ghost use Rattle.tpl_tree.specs.Trees.{nodes_size};
+ghost use Rattle.page_writer.specs.Outputs as spec;
 
 use crate::output::Output;
-use html_step::after_hole;
-use page_io::Memory;
+use page_io::{Memory, Text};
 use place_core::{Chain, Place};
 use place_infer::Chart;
 use std::alloc::Global;
 use text_norm::write_text;
 use tpl_tree::{Forest, NodeKind, Tree};
 
-// A value, by the first sanitizer of a chain.
-fn by_first(chain: Chain) -> Output
-    ensures { result ≡ by_first_of (take chain.count chain.sans) }
+// A value, by its chain.
+fn by_chain(chain: Option<Chain>) -> Output
+    ensures { result ≡ spec.by_chain chain }
 {
-    if chain.count == 0 {
-        return Output::Nothing;
-    }
-    Output::Value(chain.sans[0])
-}
-
-// A value in a place.
-fn by_place(place: Place) -> Output
-    ensures { result ≡ by_chain (after_hole_of place) }
-{
-    match after_hole(place) {
-        Ok((_, chain)) => by_first(chain),
-        Err(_) => Output::Nothing,
+    match chain {
+        Some(chain) => Output::Value(chain),
+        None => Output::Nothing,
     }
 }
 
 // A call, by the pair that it enters.
 fn by_call(call: Option<u32>) -> Output
-    ensures { result ≡ by_call_of call }
+    ensures { result ≡ spec.by_call call }
 {
     match call {
         Some(pair) => Output::Call(pair),
@@ -49,25 +36,18 @@ fn by_call(call: Option<u32>) -> Output
     }
 }
 
-// A node, from the place before it.
-fn node_output(
-    alloc: Global,
-    kind: &NodeKind,
-    place: Place,
-    call: Option<u32>,
-) -> Result<Output, Memory>
-    requires { IsTextInBounds kind.now }
-    ensures { IfOk result (λ output. output ≡ node_output_of kind.now place call) }
+// A text, by the place before it.
+fn by_place(alloc: Global, place: Option<Place>, text: &Text) -> Result<Output, Memory>
+    requires { length text.now < 2 ^ 32 }
+    ensures { IfOk result (λ output. output ≡ spec.by_place place text.now) }
 {
-    match kind {
-        NodeKind::Text(text) => Ok(Output::Text(write_text(alloc, place, text.as_str())?)),
-        NodeKind::Action(_) => Ok(by_place(place)),
-        NodeKind::Template(_, _) => Ok(by_call(call)),
-        _ => Ok(Output::Nothing),
+    match place {
+        Some(place) => Ok(Output::Text(write_text(alloc, place, text.as_str())?)),
+        None => Ok(Output::Nothing),
     }
 }
 
-// A node of a pair.
+// A node of a pair, by what the chart has for it.
 fn pair_output(
     alloc: Global,
     chart: &Chart,
@@ -76,24 +56,26 @@ fn pair_output(
     node: u32,
 ) -> Result<Output, Memory>
     requires { node < nodes_size tree.now.nodes }
-    ensures { IfOk result (λ output. (forest : ForestData) (row : Row)
-        → slice_get chart.now.rows n ≡ Some row
-        → nodes_at forest row.template ≡ tree.now.nodes
-        → output ≡ output_of forest chart.now row n node) }
+    ensures { IfOk result (λ output. (forest : ForestData) (summary : Summary)
+        → slice_get chart.now.summaries n ≡ Some summary
+        → nodes_at forest summary.template ≡ tree.now.nodes
+        → output ≡ output_of forest chart.now summary n node) }
 {
-    match chart.place(n, node) {
-        Some(place) => node_output(alloc, tree.kind(node), place, chart.call(n, node)),
-        None => Ok(Output::Nothing),
+    match tree.kind(node) {
+        NodeKind::Text(text) => by_place(alloc, chart.place(n, node), text),
+        NodeKind::Action(_) => Ok(by_chain(chart.chain(n, node))),
+        NodeKind::Template(_, _) => Ok(by_call(chart.call(n, node))),
+        _ => Ok(Output::Nothing),
     }
 }
 
 // The nodes of a pair, of a template with this tree.
 fn outputs_of_tree(alloc: Global, chart: &Chart, tree: &Tree, n: u32) -> Result<Vec<Output>, Memory>
-    ensures { IfOk result (λ outputs. (forest : ForestData) (row : Row)
-        → slice_get chart.now.rows n ≡ Some row
-        → nodes_at forest row.template ≡ tree.now.nodes
+    ensures { IfOk result (λ outputs. (forest : ForestData) (summary : Summary)
+        → slice_get chart.now.summaries n ≡ Some summary
+        → nodes_at forest summary.template ≡ tree.now.nodes
         → (node : ℕ)
-        → slice_index_or outputs.items node Nothing ≡ output_of forest chart.now row n node) }
+        → slice_index_or outputs.items node Nothing ≡ output_of forest chart.now summary n node) }
 {
     let mut outputs = Vec::new(alloc);
     for node in 0..tree.count() {
@@ -109,11 +91,11 @@ fn outputs_of_pair(
     chart: &Chart,
     n: u32,
 ) -> Result<Vec<Output>, Memory>
-    requires { n < length chart.now.rows }
-    ensures { IfOk result (λ outputs. (row : Row)
-        → slice_get chart.now.rows n ≡ Some row
+    requires { n < length chart.now.summaries }
+    ensures { IfOk result (λ outputs. (summary : Summary)
+        → slice_get chart.now.summaries n ≡ Some summary
         → (node : ℕ)
-        → slice_index_or outputs.items node Nothing ≡ output_of forest.now chart.now row n node) }
+        → slice_index_or outputs.items node Nothing ≡ output_of forest.now chart.now summary n node) }
 {
     let (template, _) = chart.pair(n);
     if template as usize >= forest.count() {
@@ -123,10 +105,10 @@ fn outputs_of_pair(
 }
 
 /// What a page gets at each node of each pair of a chart: by the numbers of the pairs, and in each by those of the nodes. Each text is
-/// written once for each pair. The error is out of memory.
+/// written once for each pair. Fails only if allocation fails.
 pub fn outputs_of(alloc: Global, forest: &Forest, chart: &Chart) -> Result<Vec<Vec<Output>>, Memory>
     ensures { IfOk result (λ outputs.
-        AreOutputs forest.now chart.now (map (λ row. row.items) outputs.items)) }
+        AreOutputs forest.now chart.now (map (λ summary. summary.items) outputs.items)) }
 {
     let mut outputs = Vec::new(alloc);
     for n in 0..chart.pairs() {

@@ -1,17 +1,18 @@
-ghost use Rattle.std.specs.Prelude.{◌≡◌, ◌++◌, ◌≤◌, IfErr, IfOk, MatchOption, OnOk};
+ghost use Rattle.std.specs.Prelude.{◌≡◌, ◌++◌, ◌∷◌, ◌≤◌, [], IfErr, IfOk, MatchOption, OnOk};
 ghost use Rattle.std.specs.Prelude.{length, map, string_bytes};
 ghost use Rattle.std.specs.Str.{IsUtf8};
 ghost use Rattle.page_datum.specs.Printed.{printed};
 ghost use Rattle.page_datum.specs.View.{view};
 ghost use Rattle.page_path.specs.Pages.{max_page, san_bytes};
-ghost use Rattle.page_writer.specs.Writing.{IsAppended, IsTooLong, IsUnfit};
-ghost use Rattle.page_writer.specs.Writing.{open_output as open_output_of};
+ghost use Rattle.page_writer.specs.Writing.{IsAppended, IsBuilt, IsBuiltChain, IsTooLong, IsUnfit};
+ghost use Rattle.page_writer.specs.Writing.{sanitizers, value_written};
 ghost use Rattle.page_writer.specs.declared.output.Output.TheVariants.{Nothing};
+ghost use Rattle.page_writer.specs.Writing as spec;
 
 use crate::output::Output;
 use page_datum::{Datum, print_datum};
 use page_io::{Memory, Stack};
-use place_core::San;
+use place_core::{Chain, San};
 use san_html::{push_attr_name, push_attr_nospace, push_html};
 use std::alloc::Global;
 use tpl_events::{HoleSink, HoleStop};
@@ -29,15 +30,15 @@ pub struct PageWriter<'o> {
 }
 
 impl<'o> PageWriter<'o> {
-    ghost use Rattle.page_writer.specs.Writing.{IsBegun};
+    ghost use Rattle.page_writer.specs.Writing.{IsPageBegun};
 
-    /// A page without bytes, where the pair of a root is open. The error is out of memory.
+    /// A page without bytes, where the pair of a root is open. Fails only if allocation fails.
     pub fn new(
         alloc: Global,
         outputs: &'o [Vec<Output>],
         root: u32,
     ) -> Result<PageWriter<'o>, Memory>
-        ensures { IfOk result (λ writer. IsBegun outputs.now root writer) }
+        ensures { IfOk result (λ writer. IsPageBegun outputs.now root writer) }
     {
         let mut pairs = Stack::new(alloc);
         pairs.push(root)?;
@@ -48,7 +49,7 @@ impl<'o> PageWriter<'o> {
         })
     }
 
-    /// The page, taking no memory.
+    /// The page. Does not allocate.
     pub fn into_page(self) -> String
         ensures { result ≡ self.entry.page }
     {
@@ -57,13 +58,13 @@ impl<'o> PageWriter<'o> {
 }
 
 impl<'o> HoleSink for PageWriter<'o> {
-    ghost use Rattle.page_writer.specs.Writing.{Declines, May, Takes};
+    ghost use Rattle.page_writer.specs.Writing.{WriterDeclines, WriterMay, Takes};
 
-    ghost may = { May };
+    ghost may = { WriterMay };
 
     ghost takes = { Takes };
 
-    ghost refuses = { Declines };
+    ghost refuses = { WriterDeclines };
 
     fn text(&mut self, node: u32) -> Result<(), HoleStop> {
         match open_output(self.outputs, &self.pairs, node) {
@@ -74,7 +75,7 @@ impl<'o> HoleSink for PageWriter<'o> {
 
     fn hole(&mut self, node: u32, datum: &Datum) -> Result<(), HoleStop> {
         match open_output(self.outputs, &self.pairs, node) {
-            Some(Output::Value(san)) => push_datum(&mut self.page, *san, datum),
+            Some(Output::Value(chain)) => push_datum(&mut self.page, *chain, datum),
             _ => unreachable!(),
         }
     }
@@ -96,7 +97,7 @@ impl<'o> HoleSink for PageWriter<'o> {
 
 // The output of a node of the pair that was opened last and is not left, where there is one.
 fn open_output<'o>(outputs: &'o [Vec<Output>], pairs: &Stack<u32>, node: u32) -> Option<&'o Output>
-    ensures { let output = open_output_of (map (λ row. row.items) outputs.now) pairs.now node in
+    ensures { let output = spec.open_output (map (λ row. row.items) outputs.now) pairs.now node in
         MatchOption result (output ≡ Nothing) (λ found. output ≡ found.now) }
 {
     match pairs.top() {
@@ -130,38 +131,59 @@ fn push_text(page: &mut String, text: &str) -> Result<(), HoleStop>
     }
 }
 
-// Appends the text of a value to a page, by a sanitizer.
-fn push_value(page: &mut String, san: San, text: &str) -> Result<(), HoleStop>
-    ensures ok { OnOk result (IsAppended page.old (san_bytes san text.now) page.new) }
-    ensures err { IfErr result (λ why. IsUnfit page.old (san_bytes san text.now) why) }
+// Appends the text of a value to a page, by a chain.
+fn push_value(page: &mut String, chain: Chain, text: &str) -> Result<(), HoleStop>
+    requires { IsBuiltChain chain }
+    ensures ok { OnOk result (IsAppended page.old (value_written chain text.now) page.new) }
+    ensures err { IfErr result (λ why. IsUnfit page.old (value_written chain text.now) why) }
     ensures textual { IsUtf8 text.now }
 {
-    match push_escaped(page, san, text) {
+    match push_chain(page, chain, text) {
         Ok(()) => fits(page),
         Err(Memory) => Err(HoleStop::Memory),
     }
 }
 
-// Appends a value to a page, by a sanitizer. A text is what is printed for it, and no copy of it is made.
-fn push_datum(page: &mut String, san: San, datum: &Datum) -> Result<(), HoleStop>
-    ensures ok { let bytes = san_bytes san (printed (view datum.now)) in
+// Appends a value to a page, by a chain. A text is what is printed for it, and no copy of it is made.
+fn push_datum(page: &mut String, chain: Chain, datum: &Datum) -> Result<(), HoleStop>
+    requires { IsBuiltChain chain }
+    ensures ok { let bytes = value_written chain (printed (view datum.now)) in
         OnOk result (IsAppended page.old bytes page.new) }
-    ensures err { let bytes = san_bytes san (printed (view datum.now)) in
+    ensures err { let bytes = value_written chain (printed (view datum.now)) in
         IfErr result (λ why. IsUnfit page.old bytes why) }
     ensures textual { OnOk result (IsUtf8 (printed (view datum.now))) }
 {
     match datum {
-        Datum::Text(text) => push_value(page, san, text.as_str()),
+        Datum::Text(text) => push_value(page, chain, text.as_str()),
         _ => match print_datum(*page.allocator(), datum) {
-            Ok(text) => push_value(page, san, text.as_str()),
+            Ok(text) => push_value(page, chain, text.as_str()),
             Err(Memory) => Err(HoleStop::Memory),
         },
     }
 }
 
-// Appends what a sanitizer gives for a text; only of a name a copy is made. The error is out of memory, and then a part of it may be
+// Appends what a chain gives for a text. Fails only if allocation fails, and then a part of it may be there.
+fn push_chain(out: &mut String, chain: Chain, text: &str) -> Result<(), Memory>
+    requires { IsBuiltChain chain }
+    ensures { OnOk result (string_bytes out.new
+        ≡ string_bytes out.old ++ value_written chain text.now) }
+{
+    push_sanitized(out, only_sanitizer(chain), text)
+}
+
+// The sanitizer of a chain that has one.
+fn only_sanitizer(chain: Chain) -> San
+    requires { IsBuiltChain chain }
+    ensures only { sanitizers chain ≡ result ∷ [] }
+    ensures built { IsBuilt result }
+{
+    chain.sans[0]
+}
+
+// Appends what a sanitizer gives for a text; only of a name a copy is made. Fails only if allocation fails, and then a part of it may be
 // there.
-fn push_escaped(out: &mut String, san: San, text: &str) -> Result<(), Memory>
+fn push_sanitized(out: &mut String, san: San, text: &str) -> Result<(), Memory>
+    requires { IsBuilt san }
     ensures { OnOk result (string_bytes out.new
         ≡ string_bytes out.old ++ san_bytes san text.now) }
 {
@@ -169,6 +191,7 @@ fn push_escaped(out: &mut String, san: San, text: &str) -> Result<(), Memory>
         San::Html | San::Attr => push_html(out, text),
         San::AttrNospace => push_attr_nospace(out, text),
         San::AttrName => push_attr_name(out, text),
+        San::Drop => Ok(()),
         San::JsValue
         | San::JsString
         | San::JsRegexp
@@ -177,7 +200,6 @@ fn push_escaped(out: &mut String, san: San, text: &str) -> Result<(), Memory>
         | San::UrlFilter
         | San::UrlOpen
         | San::UrlNorm
-        | San::UrlQuery
-        | San::Drop => Ok(()),
+        | San::UrlQuery => unreachable!(),
     }
 }

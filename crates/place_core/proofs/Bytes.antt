@@ -3,7 +3,7 @@ use Rattle.std.proofs.Common.{◌≡◌, ℕ, ◌≤◌, ◌<◌, ◌==◌, true
 use Rattle.std.proofs.lemmas.Bool.{ne_eqb, lt-leb, and_right}
 use Rattle.std.specs.Char.{is_ascii_whitespace}
 use Rattle.std.specs.Int.{is_in_range}
-use Rattle.place_core.specs.Classes.{White, OtherByte, class_of}
+use Rattle.place_core.specs.page.Classes.{White, OtherByte, class_of}
 
 pub eq-high : (b k : ℕ) → 128 ≤ b → k < 128 → (b == k) ≡ false
 eq-high b k h l = ne_eqb b k (λ e. omega (arith, e, h, l))

@@ -1,19 +1,19 @@
 -- Worked examples of how pages are read, by computing.
 use Rattle.std.proofs.Common.{◌≡◌, [], ◌∷◌, codes, refl, true, false, Some}
-use Rattle.place_core.specs.Characters.{char_at, characters_at}
-use Rattle.place_core.specs.Classes.{class_of}
-use Rattle.place_core.specs.Events.{Escape, StartTagBegins, EndTagBegins, AttributeBegins, AttributeNameEnds, TagEnds, Comment, DoctypeBegins, DoctypeEnds, text_bytes, block_bytes, value_bytes, attribute_name_bytes, doctype_bytes, tag_name_bytes}
-use Rattle.place_core.specs.Html.{read, start}
-use Rattle.place_core.specs.References.{Closed, Open, Named, meaning, flushed, undone}
-use Rattle.place_core.specs.States.{Page, Template, Text, InComment, Inside, Unread, AttributeValue, BeforeAttributeValue, config}
-use Rattle.place_core.specs.Tags.{StartTag, ValueOf, Unquoted}
-use Rattle.place_core.specs.Utf8.{Before, decoded}
-use Rattle.place_core.specs.Words.{kind_of, is_special, is_script_type}
+use Rattle.place_core.specs.page.Characters.{char_at, characters_at}
+use Rattle.place_core.specs.page.Classes.{class_of}
+use Rattle.place_core.specs.page.Events.{Escape, StartTagBegins, EndTagBegins, AttributeBegins, AttributeNameEnds, TagEnds, Comment, DoctypeBegins, DoctypeEnds, event_text_bytes, block_bytes, value_bytes, attribute_name_bytes, doctype_bytes, tag_name_bytes}
+use Rattle.place_core.specs.page.Html.{read, start}
+use Rattle.place_core.specs.page.References.{Closed, Open, Named, meaning, flushed, undone}
+use Rattle.place_core.specs.page.States.{Page, Template, Text, InComment, Inside, Unread, AttributeValue, BeforeAttributeValue, config}
+use Rattle.place_core.specs.page.Tags.{StartTag, ValueOf, Unquoted}
+use Rattle.place_core.specs.page.Utf8.{Before, decoded}
+use Rattle.place_core.specs.page.Words.{kind_of, is_special, is_script_type}
 use Rattle.place_core.specs.declared.element.Element.TheVariants as element
 use Rattle.place_core.specs.declared.kind.Kind.TheVariants as kind
 
 -- a tag, a text with a reference, and a tag in upper case
-paragraph : read Page (codes "<p>a&lt;b</P>") start ≡ config (Text Closed) (TagEnds false ∷ tag_name_bytes (codes "p") (EndTagBegins ∷ text_bytes (codes "a<b") (TagEnds false ∷ tag_name_bytes (codes "p") (StartTagBegins ∷ []))))
+paragraph : read Page (codes "<p>a&lt;b</P>") start ≡ config (Text Closed) (TagEnds false ∷ tag_name_bytes (codes "p") (EndTagBegins ∷ event_text_bytes (codes "a<b") (TagEnds false ∷ tag_name_bytes (codes "p") (StartTagBegins ∷ []))))
 unfolding class_of meaning flushed lib.Utf8.encode
 paragraph = refl
 
@@ -28,12 +28,12 @@ unfolding class_of meaning flushed lib.Utf8.encode
 end_tag_attributes = refl
 
 -- in a title other tags are text, and its own end tag, in any case, ends it
-title : read Page (codes "<title><b>&amp</titl></TITLE >") start ≡ config (Text Closed) (TagEnds false ∷ tag_name_bytes (codes "title") (EndTagBegins ∷ text_bytes (codes "<b>&</titl>") (TagEnds false ∷ tag_name_bytes (codes "title") (StartTagBegins ∷ []))))
+title : read Page (codes "<title><b>&amp</titl></TITLE >") start ≡ config (Text Closed) (TagEnds false ∷ tag_name_bytes (codes "title") (EndTagBegins ∷ event_text_bytes (codes "<b>&</titl>") (TagEnds false ∷ tag_name_bytes (codes "title") (StartTagBegins ∷ []))))
 unfolding class_of meaning flushed lib.Utf8.encode
 title = refl
 
 -- a script with the type of data: its content is bytes, references too
-block : (read Page (codes "<script type=text/plain>a&lt;<!--</b></script>") start).told ≡ TagEnds false ∷ tag_name_bytes (codes "script") (EndTagBegins ∷ block_bytes (codes "</b>") (Escape ∷ block_bytes (codes "a&lt;<!--") (TagEnds false ∷ value_bytes (codes "text/plain") (AttributeNameEnds kind.ScriptType ∷ attribute_name_bytes (codes "type") (AttributeBegins ∷ tag_name_bytes (codes "script") (StartTagBegins ∷ []))))))
+block : (read Page (codes "<script type=text/plain>a&lt;<!--</b></script>") start).emitted ≡ TagEnds false ∷ tag_name_bytes (codes "script") (EndTagBegins ∷ block_bytes (codes "</b>") (Escape ∷ block_bytes (codes "a&lt;<!--") (TagEnds false ∷ value_bytes (codes "text/plain") (AttributeNameEnds kind.ScriptType ∷ attribute_name_bytes (codes "type") (AttributeBegins ∷ tag_name_bytes (codes "script") (StartTagBegins ∷ []))))))
 unfolding class_of meaning flushed lib.Utf8.encode
 block = refl
 
@@ -56,20 +56,20 @@ unfolding class_of meaning flushed lib.Utf8.encode
 unquoted = refl
 
 -- `<` before what is no name is text; in a template `<?` and `</1` are too
-no_tag : read Page (codes "1 < 2") start ≡ config (Text Closed) (text_bytes (codes "1 < 2") [])
+no_tag : read Page (codes "1 < 2") start ≡ config (Text Closed) (event_text_bytes (codes "1 < 2") [])
 unfolding class_of meaning flushed lib.Utf8.encode
 no_tag = refl
 
-template_text : read Template (codes "<?</1") start ≡ config (Text Closed) (text_bytes (codes "<?</1") [])
+template_text : read Template (codes "<?</1") start ≡ config (Text Closed) (event_text_bytes (codes "<?</1") [])
 unfolding class_of meaning flushed lib.Utf8.encode
 template_text = refl
 
-page_comment : read Page (codes "<?a>b</1>") start ≡ config (Text Closed) (Comment ∷ text_bytes (codes "b") (Comment ∷ []))
+page_comment : read Page (codes "<?a>b</1>") start ≡ config (Text Closed) (Comment ∷ event_text_bytes (codes "b") (Comment ∷ []))
 unfolding class_of meaning flushed lib.Utf8.encode
 page_comment = refl
 
 -- comments: each of their ends, and what ends none
-comments : read Page (codes "<!-->a<!--->b<!-- -- --->c<!--x--!>d<!>") start ≡ config (Text Closed) (Comment ∷ text_bytes (codes "d") (Comment ∷ text_bytes (codes "c") (Comment ∷ text_bytes (codes "b") (Comment ∷ text_bytes (codes "a") (Comment ∷ [])))))
+comments : read Page (codes "<!-->a<!--->b<!-- -- --->c<!--x--!>d<!>") start ≡ config (Text Closed) (Comment ∷ event_text_bytes (codes "d") (Comment ∷ event_text_bytes (codes "c") (Comment ∷ event_text_bytes (codes "b") (Comment ∷ event_text_bytes (codes "a") (Comment ∷ [])))))
 unfolding class_of meaning flushed lib.Utf8.encode
 comments = refl
 
@@ -78,16 +78,16 @@ unfolding class_of meaning flushed lib.Utf8.encode
 no_end = refl
 
 -- in a template a comment tells nothing and leaves the reference before it as it stands, and a `<!` that opens nothing is text
-template_comment : read Template (codes "&lt<!--a-->b<!docx<!-c") start ≡ config (Text Closed) (text_bytes (codes "&ltb<!docx<!-c") [])
+template_comment : read Template (codes "&lt<!--a-->b<!docx<!-c") start ≡ config (Text Closed) (event_text_bytes (codes "&ltb<!docx<!-c") [])
 unfolding class_of meaning flushed lib.Utf8.encode
 template_comment = refl
 
-doctype : read Page (codes "&lt<!DocType html>") start ≡ config (Text Closed) (DoctypeEnds ∷ doctype_bytes (codes "DocType html") (DoctypeBegins ∷ text_bytes (codes "<") []))
+doctype : read Page (codes "&lt<!DocType html>") start ≡ config (Text Closed) (DoctypeEnds ∷ doctype_bytes (codes "DocType html") (DoctypeBegins ∷ event_text_bytes (codes "<") []))
 unfolding class_of meaning flushed lib.Utf8.encode
 doctype = refl
 
 -- numbers: of windows-1252, zero, a surrogate, past the last code point, and in base 16
-euro : read Page (codes "&#128;") start ≡ config (Text Closed) (text_bytes (226 ∷ 130 ∷ 172 ∷ []) [])
+euro : read Page (codes "&#128;") start ≡ config (Text Closed) (event_text_bytes (226 ∷ 130 ∷ 172 ∷ []) [])
 unfolding class_of meaning flushed lib.Utf8.encode
 euro = refl
 

@@ -1,10 +1,13 @@
 -- A join has the members of both places, and no others.
 use Rattle.std.proofs.Common.{◌≡◌, Bool, true, false, ◌||◌, ◌⊎◌, inl, inr, Option, Some, None, is_some, option_map, refl, sym, ap, ap₂, ◌∙◌}
 use Rattle.std.specs.Prelude.{IfSome}
-use Rattle.place_core.specs.JoinLaws.{JoinHas, HasGrows}
-use Rattle.place_core.specs.Places.{both_spots, both_bare, both_senses, both_js_tails, both_css_tails, both_prefixes, both_parts}
-use Rattle.place_core.specs.Places.{joined, joined_elements, joined_tags, joined_kinds, joined_js, joined_css, joined_quotes, joined_bodies, tag_place, value_place, joined_tag_places, joined_value_places}
-use Rattle.place_core.specs.Places.{spots_have, bare_has, senses_have, js_tails_have, css_tails_have, parts_have, regexp_has, js_star_has, css_star_has, dash_has, block_has, typed_has, js_has, css_has, quotes_have, body_has, part_has, is_whole}
+use Rattle.place_core.specs.place.JoinLaws.{JoinHas, HasGrows}
+use Rattle.place_core.specs.place.Places.{both_spots, both_bare}
+use Rattle.place_core.specs.place.NotBuiltPlaces.{both_senses, both_js_tails, both_css_tails, both_prefixes, both_parts}
+use Rattle.place_core.specs.place.Places.{joined, joined_elements, joined_tags, joined_kinds, joined_quotes, joined_bodies, tag_place, value_place, joined_tag_places, joined_value_places}
+use Rattle.place_core.specs.place.NotBuiltPlaces.{joined_js, joined_css}
+use Rattle.place_core.specs.place.Places.{spots_have, bare_has, dash_has, block_has, typed_has, quotes_have, body_has, part_has, is_whole}
+use Rattle.place_core.specs.place.NotBuiltPlaces.{senses_have, js_tails_have, css_tails_have, parts_have, regexp_has, js_star_has, css_star_has, js_has, css_has}
 use Rattle.place_core.specs.declared.bare.Bare.{Bare}
 use Rattle.place_core.specs.declared.body.Body.{Body}
 use Rattle.place_core.specs.declared.body.Body.TheVariants as body

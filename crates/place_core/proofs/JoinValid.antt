@@ -1,10 +1,13 @@
 -- The join of places that paths can come to is one too.
 use Rattle.std.proofs.Common.{◌≡◌, Bool, true, false, ◌||◌, Option, Some, None, is_some, option_map, if◌then◌else◌, refl, ap, ap₂, ◌∙◌}
 use Rattle.std.specs.Prelude.{IfSome}
-use Rattle.place_core.specs.JoinLaws.{JoinKeepsValid}
-use Rattle.place_core.specs.Places.{both_spots, both_bare, both_senses, both_prefixes, both_parts, same_prefix, same_kind, same_element}
-use Rattle.place_core.specs.Places.{joined, joined_tags, joined_kinds, joined_js, joined_css, joined_quotes, joined_bodies, tag_place, value_place, joined_tag_places, joined_value_places}
-use Rattle.place_core.specs.Places.{some_spot, some_bare, some_sense, some_part, is_rcdata, IsValid, IsValidPrefix, IsValidParts, IsValidJs, IsValidCss, IsValidQuotes, IsValidBody, IsValidTag}
+use Rattle.place_core.specs.place.JoinLaws.{JoinKeepsValid}
+use Rattle.place_core.specs.place.Places.{both_spots, both_bare, same_kind, same_element}
+use Rattle.place_core.specs.place.NotBuiltPlaces.{both_senses, both_prefixes, both_parts, same_prefix}
+use Rattle.place_core.specs.place.Places.{joined, joined_tags, joined_kinds, joined_quotes, joined_bodies, tag_place, value_place, joined_tag_places, joined_value_places}
+use Rattle.place_core.specs.place.NotBuiltPlaces.{joined_js, joined_css}
+use Rattle.place_core.specs.place.Places.{some_spot, some_bare, is_rcdata, IsValid, IsValidQuotes, IsValidBody, IsValidTag}
+use Rattle.place_core.specs.place.NotBuiltPlaces.{some_sense, some_part, IsValidPrefix, IsValidParts, IsValidJs, IsValidCss}
 use Rattle.place_core.specs.declared.bare.Bare.{Bare}
 use Rattle.place_core.specs.declared.body.Body.{Body}
 use Rattle.place_core.specs.declared.body.Body.TheVariants as body

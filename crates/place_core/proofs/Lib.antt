@@ -11,4 +11,4 @@ pub mod PlaceExamples
 pub mod Readings
 pub mod Semilattices
 pub mod Texts
-pub mod TornPlaces
+pub mod ConflictPlaces

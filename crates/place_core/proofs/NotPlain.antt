@@ -1,10 +1,10 @@
 -- Worked examples of bytes that are not plain in their place.
 use Rattle.std.proofs.Common.{false, [], codes}
-use Rattle.place_core.specs.Classes.{class_of}
-use Rattle.place_core.specs.Plain.{IsPlain}
-use Rattle.place_core.specs.References.{Closed, meaning, flushed}
-use Rattle.place_core.specs.States.{Text, TagOpen, BeforeAttributeName, BeforeAttributeValue, AttributeValue, InContent, Characters, Bytes, Nothing, HeldName, config}
-use Rattle.place_core.specs.Tags.{StartTag, ValueOf, DoubleQuoted, Unquoted}
+use Rattle.place_core.specs.page.Classes.{class_of}
+use Rattle.place_core.specs.page.Plain.{IsPlain}
+use Rattle.place_core.specs.page.References.{Closed, meaning, flushed}
+use Rattle.place_core.specs.page.States.{Text, TagOpen, BeforeAttributeName, BeforeAttributeValue, AttributeValue, InContent, Characters, Bytes, Nothing, PendingName, config}
+use Rattle.place_core.specs.page.Tags.{StartTag, ValueOf, DoubleQuoted, Unquoted}
 use Rattle.place_core.specs.declared.element.Element.TheVariants as element
 use Rattle.place_core.specs.declared.kind.Kind.TheVariants as kind
 
@@ -32,7 +32,7 @@ end_of_block : IsPlain (codes "</script >") (config (InContent element.DataBlock
 unfolding class_of meaning flushed lib.Utf8.encode
 end_of_block p = cc
 
-in_end_tag : IsPlain (codes "ript>") (config (InContent element.DataBlock Bytes (HeldName (codes "sc"))) []) → ⊥
+in_end_tag : IsPlain (codes "ript>") (config (InContent element.DataBlock Bytes (PendingName (codes "sc"))) []) → ⊥
 unfolding class_of meaning flushed lib.Utf8.encode
 in_end_tag p = p.1
 

@@ -1,15 +1,15 @@
 -- Worked examples of how paths are read: nodes with their cuts, holes, places, and what is refused, by computing.
 use Rattle.std.proofs.Common.{◌≡◌, [], ◌∷◌, codes, refl, true, false, Some, None}
-use Rattle.place_core.specs.Classes.{White, class_of}
-use Rattle.place_core.specs.Errors.{byte_clash, node, refusal_from, states}
-use Rattle.place_core.specs.Events.{TextByte, StartTagBegins, AttributeBegins, AttributeNameEnds, TagEnds, Mark, text_bytes, value_bytes, attribute_name_bytes, tag_name_bytes}
-use Rattle.place_core.specs.Html.{read, start}
-use Rattle.place_core.specs.Paths.{Written, Hole, at_hole, read_path}
-use Rattle.place_core.specs.References.{Closed, meaning, flushed}
-use Rattle.place_core.specs.Shape.{TextToken, shape_of}
-use Rattle.place_core.specs.StatePlaces.{only_name, only_inside, placed, unbegun}
-use Rattle.place_core.specs.States.{Page, Text, InContent, Characters, HeldName, config}
-use Rattle.place_core.specs.Tags.{languages}
+use Rattle.place_core.specs.page.Classes.{White, class_of}
+use Rattle.place_core.specs.place.Errors.{byte_clash, node, refusal_from, states}
+use Rattle.place_core.specs.page.Events.{TextByte, StartTagBegins, AttributeBegins, AttributeNameEnds, TagEnds, Mark, event_text_bytes, value_bytes, attribute_name_bytes, tag_name_bytes}
+use Rattle.place_core.specs.page.Html.{read, start}
+use Rattle.place_core.specs.page.Paths.{Written, Hole, at_hole, read_path}
+use Rattle.place_core.specs.page.References.{Closed, meaning, flushed}
+use Rattle.place_core.specs.page.Shape.{TextToken, shape_of}
+use Rattle.place_core.specs.place.StatePlaces.{only_name, only_inside, placed, unbegun}
+use Rattle.place_core.specs.page.States.{Page, Text, InContent, Characters, PendingName, config}
+use Rattle.place_core.specs.page.Tags.{languages}
 use Rattle.place_core.specs.declared.body.Body.TheVariants as body
 use Rattle.place_core.specs.declared.code.Code.TheVariants as code
 use Rattle.place_core.specs.declared.element.Element.TheVariants as element
@@ -22,12 +22,12 @@ quoted : read Page (codes "<p a=\"b'&gt;\">") start ≡ config (Text Closed) (Ta
 unfolding class_of meaning flushed lib.Utf8.encode
 quoted = refl
 
-textarea : (read Page (codes "<textarea></title></texta") start).at ≡ InContent element.Textarea (Characters Closed) (HeldName (codes "texta"))
+textarea : (read Page (codes "<textarea></title></texta") start).at ≡ InContent element.Textarea (Characters Closed) (PendingName (codes "texta"))
 unfolding class_of meaning flushed lib.Utf8.encode
 textarea = refl
 
 -- a value without quotes that begins with a hole, and goes on after it
-value_path : read_path languages (Written (codes "<p title=") ∷ Hole ∷ Written (codes "a>b") ∷ []) start ≡ config (Text Closed) (text_bytes (codes "b") (TagEnds false ∷ value_bytes (codes "a") (Mark ∷ AttributeNameEnds kind.Plain ∷ attribute_name_bytes (codes "title") (AttributeBegins ∷ tag_name_bytes (codes "p") (StartTagBegins ∷ [])))))
+value_path : read_path languages (Written (codes "<p title=") ∷ Hole ∷ Written (codes "a>b") ∷ []) start ≡ config (Text Closed) (event_text_bytes (codes "b") (TagEnds false ∷ value_bytes (codes "a") (Mark ∷ AttributeNameEnds kind.Plain ∷ attribute_name_bytes (codes "title") (AttributeBegins ∷ tag_name_bytes (codes "p") (StartTagBegins ∷ [])))))
 unfolding class_of meaning flushed lib.Utf8.encode
 value_path = refl
 
@@ -41,12 +41,12 @@ comment_path : shape_of (read_path languages (Written (codes "a<!--") ∷ Hole �
 unfolding class_of meaning flushed lib.Utf8.encode
 comment_path = refl
 
--- what a node's end leaves behind: text, and a whole name
+-- what a node's end leaves after: text, and a whole name
 less_cut : node (codes "a &lt<") (Text Closed) ≡ Text Closed
 unfolding class_of meaning flushed lib.Utf8.encode
 less_cut = refl
 
-declaration_cut : read_path languages (Written (codes "<!doc") ∷ Written (codes "type>") ∷ []) start ≡ config (Text Closed) (text_bytes (codes "<!doctype>") [])
+declaration_cut : read_path languages (Written (codes "<!doc") ∷ Written (codes "type>") ∷ []) start ≡ config (Text Closed) (event_text_bytes (codes "<!doctype>") [])
 unfolding class_of meaning flushed lib.Utf8.encode
 declaration_cut = refl
 

@@ -1,6 +1,6 @@
 -- Worked examples of joining, by computing.
 use Rattle.std.proofs.Common.{◌≡◌, Bool, true, false, Option, Some, None, refl}
-use Rattle.place_core.specs.Places.{joined}
+use Rattle.place_core.specs.place.Places.{joined}
 use Rattle.place_core.specs.declared.body.Body.{Body}
 use Rattle.place_core.specs.declared.body.Body.TheVariants as body
 use Rattle.place_core.specs.declared.element.Element.TheVariants as element
@@ -27,7 +27,7 @@ bare uq unbegun = quotes.Bare (record { uq = uq; unbegun = unbegun })
 opening : Prefix → Place
 opening p = value quotes.Dq (body.Url (record { start = false; opened = Some p; openhole = false; prequery = false; query = false; bad = false }))
 
--- behind a slash with one meaning
+-- after a slash with one meaning
 script : Bool → Bool → Place
 script re div = place.Script (js.Code (record { re = re; div = div; brace = false })
     (record { word = false; num = false; lt = false; slash = false; plus = false; minus = false; hash = false }))
@@ -51,7 +51,7 @@ two_schemes : joined (opening (prefix.Javascript 4)) (opening (prefix.Vbscript 2
 unfolding opening value
 two_schemes = refl
 
--- .. also where one has more letters of the same word
+-- likewise, also where one has more letters of the same word
 two_lengths : joined (opening (prefix.Javascript 4)) (opening (prefix.Javascript 5)) ≡ Some (opening prefix.Differs)
 unfolding opening value
 two_lengths = refl

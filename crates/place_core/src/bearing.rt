@@ -1,5 +1,7 @@
 ghost use Rattle.std.specs.Prelude.{◌≡◌, ◌↔◌, ◌||◌, IsTrue};
-ghost use Rattle.place_core.specs.Places.{bare_has, body_has, css_has, css_tails_have, is_whole as is_the_whole, js_has, js_tails_have, part_has, parts_have, quotes_have, senses_have, spots_have, Has};
+ghost use Rattle.place_core.specs.place.Places.{bare_has, body_has, part_has, quotes_have, spots_have, Has};
+ghost use Rattle.place_core.specs.place.NotBuiltPlaces.{css_has, css_tails_have, js_has, js_tails_have, parts_have, senses_have};
+ghost use Rattle.place_core.specs.place.Places as spec;
 
 use crate::bare::Bare;
 use crate::body::Body;
@@ -29,13 +31,13 @@ pub fn has(place: Place, member: Member) -> bool
 }
 
 fn bears(place: Place, member: Member) -> bool
-    ensures { result ≡ (is_the_whole member || part_has place member) }
+    ensures { result ≡ (spec.is_whole member || part_has place member) }
 {
     is_whole(member) || bears_part(place, member)
 }
 
 fn is_whole(member: Member) -> bool
-    ensures { result ≡ is_the_whole member }
+    ensures { result ≡ spec.is_whole member }
 {
     match member {
         Member::Whole => true,

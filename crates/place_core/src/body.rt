@@ -5,14 +5,14 @@ use crate::parts::Parts;
 /// What an attribute's value is read as, and how far it has come.
 #[derive(Clone, Copy, Debug, Drop, PartialEq, Eq)]
 pub enum Body {
-    /// Text, as behind `<b title="`.
+    /// Text, as after `<b title="`.
     Plain,
-    /// Text in which no value of data may stand, as behind `<iframe srcdoc="`.
+    /// Text in which no value of data may stand, as after `<iframe srcdoc="`.
     NoHole,
-    /// A URL, as behind `<a href="`.
+    /// A URL, as after `<a href="`.
     Url(Parts),
-    /// A script, as behind `<b onclick="`.
+    /// A script, as after `<b onclick="`.
     Js(Js),
-    /// Declarations of a style, as behind `<b style="`.
+    /// Declarations of a style, as after `<b style="`.
     Css(Css),
 }

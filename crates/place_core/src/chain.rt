@@ -5,6 +5,6 @@ use crate::san::San;
 pub struct Chain {
     /// How many of `sans` count.
     pub count: u8,
-    /// The sanitizers, the first one first; behind those that count, the last of them stands again.
+    /// The sanitizers, the first one first; after those that count, the last of them stands again.
     pub sans: [San; 3],
 }

@@ -6,7 +6,7 @@ pub trait Chars: Copy {
     ghost left: { Self → List (ℕ × ℕ) };
 
     /// The next character as its code point, and the place of its first byte in the node, in bytes from the node's
-    /// start. None at the end. Takes no memory.
+    /// start. None at the end. Does not allocate.
     fn next(&mut self) -> Option<(u32, u32)>
         ensures next { MatchOption result (left self.old ≡ [])
             (λ character. left self.old ≡ character ∷ left self.new) }

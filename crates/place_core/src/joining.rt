@@ -1,10 +1,9 @@
 ghost use Rattle.std.specs.Prelude.{◌≡◌};
-ghost use Rattle.place_core.specs.Places.{both_spots as united_spots, both_bare as united_bare, both_senses as united_senses};
-ghost use Rattle.place_core.specs.Places.{both_js_tails as united_js_tails, both_css_tails as united_css_tails};
-ghost use Rattle.place_core.specs.Places.{same_prefix as equal_prefix, both_prefixes as united_prefixes};
-ghost use Rattle.place_core.specs.Places.{both_parts as united_parts, same_element as equal_element, same_kind as equal_kind};
-ghost use Rattle.place_core.specs.Places.{joined, joined_bodies, joined_css, joined_elements, joined_js, joined_kinds};
-ghost use Rattle.place_core.specs.Places.{joined_quotes, joined_tag_places, joined_tags, joined_value_places};
+ghost use Rattle.place_core.specs.place.Places.{joined, joined_bodies, joined_elements, joined_kinds};
+ghost use Rattle.place_core.specs.place.NotBuiltPlaces.{joined_css, joined_js};
+ghost use Rattle.place_core.specs.place.Places.{joined_quotes, joined_tag_places, joined_tags, joined_value_places};
+ghost use Rattle.place_core.specs.place.Places as spec;
+ghost use Rattle.place_core.specs.place.NotBuiltPlaces as not_built;
 
 use crate::bare::Bare;
 use crate::body::Body;
@@ -61,7 +60,7 @@ pub fn join(a: Place, b: Place) -> Option<Place>
 }
 
 fn both_spots(s: Spots, t: Spots) -> Spots
-    ensures { result ≡ united_spots s t }
+    ensures { result ≡ spec.both_spots s t }
 {
     Spots {
         name: s.name || t.name,
@@ -72,7 +71,7 @@ fn both_spots(s: Spots, t: Spots) -> Spots
 }
 
 fn both_bare(s: Bare, t: Bare) -> Bare
-    ensures { result ≡ united_bare s t }
+    ensures { result ≡ spec.both_bare s t }
 {
     Bare {
         uq: s.uq || t.uq,
@@ -81,7 +80,7 @@ fn both_bare(s: Bare, t: Bare) -> Bare
 }
 
 fn both_senses(s: Senses, t: Senses) -> Senses
-    ensures { result ≡ united_senses s t }
+    ensures { result ≡ not_built.both_senses s t }
 {
     Senses {
         re: s.re || t.re,
@@ -91,7 +90,7 @@ fn both_senses(s: Senses, t: Senses) -> Senses
 }
 
 fn both_js_tails(s: JsTails, t: JsTails) -> JsTails
-    ensures { result ≡ united_js_tails s t }
+    ensures { result ≡ not_built.both_js_tails s t }
 {
     JsTails {
         word: s.word || t.word,
@@ -105,7 +104,7 @@ fn both_js_tails(s: JsTails, t: JsTails) -> JsTails
 }
 
 fn both_css_tails(s: CssTails, t: CssTails) -> CssTails
-    ensures { result ≡ united_css_tails s t }
+    ensures { result ≡ not_built.both_css_tails s t }
 {
     CssTails {
         word: s.word || t.word,
@@ -115,7 +114,7 @@ fn both_css_tails(s: CssTails, t: CssTails) -> CssTails
 }
 
 fn same_prefix(p: Prefix, q: Prefix) -> bool
-    ensures { result ≡ equal_prefix p q }
+    ensures { result ≡ not_built.same_prefix p q }
 {
     match (p, q) {
         (Prefix::Off, Prefix::Off) => true,
@@ -128,7 +127,7 @@ fn same_prefix(p: Prefix, q: Prefix) -> bool
 }
 
 fn both_prefixes(p: Option<Prefix>, q: Option<Prefix>) -> Option<Prefix>
-    ensures { result ≡ united_prefixes p q }
+    ensures { result ≡ not_built.both_prefixes p q }
 {
     match (p, q) {
         (None, _) => q,
@@ -142,7 +141,7 @@ fn both_prefixes(p: Option<Prefix>, q: Option<Prefix>) -> Option<Prefix>
 }
 
 fn both_parts(s: Parts, t: Parts) -> Parts
-    ensures { result ≡ united_parts s t }
+    ensures { result ≡ not_built.both_parts s t }
 {
     Parts {
         start: s.start || t.start,
@@ -155,7 +154,7 @@ fn both_parts(s: Parts, t: Parts) -> Parts
 }
 
 fn same_element(e: Element, f: Element) -> bool
-    ensures { result ≡ equal_element e f }
+    ensures { result ≡ spec.same_element e f }
 {
     match (e, f) {
         (Element::Other, Element::Other) => true,
@@ -169,7 +168,7 @@ fn same_element(e: Element, f: Element) -> bool
 }
 
 fn same_kind(k: Kind, l: Kind) -> bool
-    ensures { result ≡ equal_kind k l }
+    ensures { result ≡ spec.same_kind k l }
 {
     match (k, l) {
         (Kind::Plain, Kind::Plain) => true,

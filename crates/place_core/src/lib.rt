@@ -11,8 +11,8 @@ mod code;
 mod css;
 mod css_tails;
 mod element;
-mod join_showing;
 mod joining;
+mod joins_shown;
 mod js;
 mod js_tails;
 mod kind;
@@ -41,14 +41,14 @@ pub use code::Code;
 pub use css::Css;
 pub use css_tails::CssTails;
 pub use element::Element;
-pub use join_showing::join_shown;
 pub use joining::join;
+pub use joins_shown::join_evidence;
 pub use js::Js;
 pub use js_tails::JsTails;
 pub use kind::Kind;
 pub use laws::{
-    below_is_order, has_grows, join_has, join_is_above, join_is_least, join_keeps_valid, join_same,
-    join_swapped, torn,
+    below_is_order, conflict, has_grows, join_has, join_is_above, join_is_least, join_keeps_valid,
+    join_same, join_swapped,
 };
 pub use member::Member;
 pub use parts::Parts;

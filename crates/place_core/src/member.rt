@@ -26,13 +26,13 @@ pub enum Member {
     PartStart,
     /// In the beginning of a URL, whatever that beginning spells.
     PartOpen,
-    /// In the beginning of a URL, behind a value of data.
+    /// In the beginning of a URL, after a value of data.
     PartOpenhole,
     /// In a URL, where no scheme can end any more.
     PartPrequery,
-    /// Behind the `?` or `#` of a URL.
+    /// After the `?` or `#` of a URL.
     PartQuery,
-    /// Behind a scheme that runs code.
+    /// After a scheme that runs code.
     PartBad,
     /// A slash would begin a regular expression.
     SenseRe,

@@ -1,3 +1,6 @@
+ghost use Rattle.std.specs.Prelude.{◌≡◌};
+ghost use Rattle.place_core.specs.Names as spec;
+
 /// What is done to a value of data before it is written. (The escapers of Go's `html/template`.)
 #[derive(Clone, Copy, Debug, Drop, PartialEq, Eq)]
 pub enum San {
@@ -29,4 +32,28 @@ pub enum San {
     UrlQuery,
     /// Left out.
     Drop,
+}
+
+impl San {
+    /// The name under which `explain` prints it.
+    pub fn name(self) -> &'static str
+        ensures { result.now ≡ spec.sanitizer_name self }
+    {
+        match self {
+            San::Html => "html",
+            San::Attr => "attr",
+            San::AttrNospace => "attr_nospace",
+            San::AttrName => "attr_name",
+            San::JsValue => "js_value",
+            San::JsString => "js_string",
+            San::JsRegexp => "js_regexp",
+            San::CssValue => "css_value",
+            San::CssString => "css_string",
+            San::UrlFilter => "url_filter",
+            San::UrlOpen => "url_open",
+            San::UrlNorm => "url_norm",
+            San::UrlQuery => "url_query",
+            San::Drop => "drop",
+        }
+    }
 }

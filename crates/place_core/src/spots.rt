@@ -1,12 +1,12 @@
 /// Where in a tag, outside the values of its attributes: a set, since several paths may lead to one point of a template.
 #[derive(Clone, Copy, Debug, Drop, PartialEq, Eq)]
 pub struct Spots {
-    /// In the tag's name, as behind `<b`.
+    /// In the tag's name, as after `<b`.
     pub name: bool,
-    /// Before an attribute, as behind `<b ` and behind `<b x=1 `.
+    /// Before an attribute, as after `<b ` and after `<b x=1 `.
     pub before: bool,
-    /// In an attribute's name, as behind `<b x`.
+    /// In an attribute's name, as after `<b x`.
     pub inside: bool,
-    /// After an attribute's name and a blank, as behind `<b x `.
+    /// After an attribute's name and a blank, as after `<b x `.
     pub after: bool,
 }

@@ -1,7 +1,7 @@
 ghost use Rattle.std.specs.Prelude.{◌≡◌, ◌+◌, ◌<◌, ◌^◌, ◌∷◌, [], MatchOption, length};
 ghost use Rattle.std.specs.Char.{len_utf8};
 ghost use Rattle.std.specs.Str.{chars};
-ghost use Rattle.place_core.specs.Placed.{placed};
+ghost use Rattle.place_core.specs.page.Offsets.{with_offsets};
 
 use crate::chars::Chars;
 
@@ -14,17 +14,17 @@ pub struct StrChars<'a> {
 }
 
 impl<'a> StrChars<'a> {
-    /// The characters of a text that stands at a place of its node, in bytes. Takes no memory.
+    /// The characters of a text that stands at a place of its node, in bytes. Does not allocate.
     pub fn new(text: &'a str, at: u32) -> StrChars<'a>
         requires { at + length text.now < 2 ^ 32 }
-        ensures { ⟦<StrChars<'a> as Chars>⟧.left result ≡ placed at (chars text.now) }
+        ensures { ⟦<StrChars<'a> as Chars>⟧.left result ≡ with_offsets at (chars text.now) }
     {
         StrChars { rest: text, at }
     }
 }
 
 impl<'a> Chars for StrChars<'a> {
-    ghost left = { λ s. placed s.at (chars s.rest.now) };
+    ghost left = { λ s. with_offsets s.at (chars s.rest.now) };
 
     fn next(&mut self) -> Option<(u32, u32)> {
         match split_first(self.rest) {

@@ -2,12 +2,12 @@ use crate::kind::Kind;
 use crate::spots::Spots;
 use crate::tag_of::TagOf;
 
-/// A place in a tag, outside the values of its attributes, as behind `<a hr`.
+/// A place in a tag, outside the values of its attributes, as after `<a hr`.
 #[derive(Clone, Copy, Debug, Drop, PartialEq, Eq)]
 pub struct TagPlace {
     /// The tag.
     pub tag: TagOf,
-    /// Whether the tag, which is a script's, may have had a `type`, as behind `<script type=module `.
+    /// Whether the tag, which is a script's, may have had a `type`, as after `<script type=module `.
     pub typed: bool,
     /// Where in the tag.
     pub spots: Spots,

@@ -1,6 +1,8 @@
 ghost use Rattle.std.specs.Prelude.{◌≡◌, ◌↔◌, IsTrue};
-ghost use Rattle.place_core.specs.Places.{is_rcdata as is_rcdata_of, some_bare as some_bare_of, some_part as some_part_of, some_sense as some_sense_of, some_spot as some_spot_of};
-ghost use Rattle.place_core.specs.Places.{IsValid, IsValidBody, IsValidCss, IsValidJs, IsValidParts, IsValidPrefix, IsValidQuotes, IsValidTag};
+ghost use Rattle.place_core.specs.place.Places.{IsValid, IsValidBody, IsValidQuotes, IsValidTag};
+ghost use Rattle.place_core.specs.place.NotBuiltPlaces.{IsValidCss, IsValidJs, IsValidParts, IsValidPrefix};
+ghost use Rattle.place_core.specs.place.Places as spec;
+ghost use Rattle.place_core.specs.place.NotBuiltPlaces as not_built;
 
 use crate::bare::Bare;
 use crate::body::Body;
@@ -32,7 +34,7 @@ pub fn is_valid(place: Place) -> bool
 }
 
 fn is_rcdata(element: Element) -> bool
-    ensures { result ≡ is_rcdata_of element }
+    ensures { result ≡ spec.is_rcdata element }
 {
     match element {
         Element::Title | Element::Textarea => true,
@@ -104,25 +106,25 @@ fn is_valid_prefix(prefix: Option<Prefix>) -> bool
 }
 
 fn some_spot(s: Spots) -> bool
-    ensures { result ≡ some_spot_of s }
+    ensures { result ≡ spec.some_spot s }
 {
     s.name || s.before || s.inside || s.after
 }
 
 fn some_bare(s: Bare) -> bool
-    ensures { result ≡ some_bare_of s }
+    ensures { result ≡ spec.some_bare s }
 {
     s.uq || s.unbegun
 }
 
 fn some_sense(s: Senses) -> bool
-    ensures { result ≡ some_sense_of s }
+    ensures { result ≡ not_built.some_sense s }
 {
     s.re || s.div || s.brace
 }
 
 fn some_part(s: Parts) -> bool
-    ensures { result ≡ some_part_of s }
+    ensures { result ≡ not_built.some_part s }
 {
     s.start || s.opened.is_some() || s.openhole || s.prequery || s.query || s.bad
 }

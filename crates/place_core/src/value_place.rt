@@ -2,7 +2,7 @@ use crate::body::Body;
 use crate::quotes::Quotes;
 use crate::tag_of::TagOf;
 
-/// A place in an attribute's value, as behind `<a href="`.
+/// A place in an attribute's value, as after `<a href="`.
 #[derive(Clone, Copy, Debug, Drop, PartialEq, Eq)]
 pub struct ValuePlace {
     /// The tag.

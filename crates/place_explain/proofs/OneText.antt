@@ -13,7 +13,7 @@ use Rattle.std.specs.List.Sorted.{IsStrictlySortedBy}
 use Rattle.std.specs.Ordering.{is_lt, ordering_reverse, ordering_then}
 use Rattle.std.specs.Prelude.{Contains, IsSortedByKey, flat_map, nat_eq, slice_get}
 use Rattle.place_explain.proofs.Orders.{own_number}
-use Rattle.place_explain.specs.Explaining.{Key, key_cmp, key_of}
+use Rattle.place_explain.specs.Explaining.{Key, key_cmp, pair_key_of}
 use Rattle.place_explain.specs.Laws.{HaveOneText}
 use Rattle.place_explain.specs.PairText.{pair_text}
 use Rattle.place_infer.specs.ChartViews.{ChartData}
@@ -29,16 +29,16 @@ last_ties Equal p e = e
 last_ties Greater p e = cc
 
 abbrev pair_cmp : ForestData → ChartData → ℕ → ℕ → Ordering
-pair_cmp forest chart n m = key_cmp (key_of forest chart n) (key_of forest chart m)
+pair_cmp forest chart n m = key_cmp (pair_key_of forest chart n) (pair_key_of forest chart m)
 
 one_pair : (forest : ForestData) (chart : ChartData) (n m : ℕ) → pair_cmp forest chart n m ≡ Equal → n ≡ m
 one_pair forest chart n m e =
-    sym (own_number forest (slice_get chart.rows n) n)
-    ∙ nat_cmp-IsAntisymmetric (key_of forest chart n).2 (key_of forest chart m).2 (last_ties _ _ e)
-    ∙ own_number forest (slice_get chart.rows m) m
+    sym (own_number forest (slice_get chart.summaries n) n)
+    ∙ nat_cmp-IsAntisymmetric (pair_key_of forest chart n).2 (pair_key_of forest chart m).2 (last_ties _ _ e)
+    ∙ own_number forest (slice_get chart.summaries m) m
 
 pair_total : (forest : ForestData) (chart : ChartData) → IsTotalOrder (pair_cmp forest chart)
-pair_total forest chart = on_total (key_of forest chart) key_total
+pair_total forest chart = on_total (pair_key_of forest chart) key_total
 
 -- so pairs in order, each once, ascend
 less_by : (o p : Ordering) → o ≡ ordering_reverse p → is_lt p ≡ false → (p ≡ Equal → ⊥) → o ≡ Less
@@ -46,7 +46,7 @@ less_by o Less e not_less apart = absurd (let wrong : true ≡ false = not_less 
 less_by o Equal e not_less apart = absurd (apart refl)
 less_by o Greater e not_less apart = e
 
-ascend : (forest : ForestData) (chart : ChartData) (pairs : List ℕ) → IsDistinct nat_eq pairs → IsSortedByKey (key_of forest chart) key_cmp pairs → IsStrictlySortedBy (pair_cmp forest chart) pairs
+ascend : (forest : ForestData) (chart : ChartData) (pairs : List ℕ) → IsDistinct nat_eq pairs → IsSortedByKey (pair_key_of forest chart) key_cmp pairs → IsStrictlySortedBy (pair_cmp forest chart) pairs
 ascend forest chart pairs once sorted = sorted_from_all_adjacent (pair_total forest chart) pairs 0 (λ k lt.
     let n = get_or pairs k 0 in let m = get_or pairs (k + 1) 0 in
     less_by (pair_cmp forest chart n m) (pair_cmp forest chart m n) ((pair_total forest chart).antisymm n m) (sorted k 0 (omega arith) lt)

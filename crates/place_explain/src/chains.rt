@@ -1,10 +1,11 @@
 ghost use Rattle.std.specs.Prelude.{◌≡◌, ◌++◌, OnOk, take, true};
-ghost use Rattle.place_explain.specs.ChainText.{bar_text, chain_text, san_text, sans_text};
+ghost use Rattle.place_core.specs.Names.{sanitizer_name};
+ghost use Rattle.place_explain.specs.ChainText.{bar_text, chain_text, sans_text};
 
 use page_io::{Memory, Text};
 use place_core::{Chain, San};
 
-/// Appends the sanitizers of a chain by their names, the first one first, with bars between: `html | attr`. The error is out of memory.
+/// Appends the sanitizers of a chain by their names, the first one first, with bars between: `html | attr`. Fails only if allocation fails.
 pub fn push_chain(out: &mut Text, chain: Chain) -> Result<(), Memory>
     ensures { OnOk result (out.new ≡ out.old ++ chain_text chain) }
 {
@@ -34,36 +35,15 @@ fn push_sans(out: &mut Text, sans: &[San]) -> Result<(), Memory>
 }
 
 fn push_san(out: &mut Text, first: bool, san: San) -> Result<(), Memory>
-    ensures { OnOk result (out.new ≡ out.old ++ (bar_text first ++ san_text san)) }
+    ensures { OnOk result (out.new ≡ out.old ++ (bar_text first ++ sanitizer_name san)) }
 {
     out.push_str(bar(first))?;
-    out.push_str(name_of(san))
+    out.push_str(san.name())
 }
 
-// What stands before a sanitizer, which is the first one or not.
+// What comes before a sanitizer: a bar, unless it is the first.
 fn bar(first: bool) -> &'static str
     ensures { result.now ≡ bar_text first }
 {
     if first { "" } else { " | " }
-}
-
-fn name_of(san: San) -> &'static str
-    ensures { result.now ≡ san_text san }
-{
-    match san {
-        San::Html => "html",
-        San::Attr => "attr",
-        San::AttrNospace => "attr_nospace",
-        San::AttrName => "attr_name",
-        San::JsValue => "js_value",
-        San::JsString => "js_string",
-        San::JsRegexp => "js_regexp",
-        San::CssValue => "css_value",
-        San::CssString => "css_string",
-        San::UrlFilter => "url_filter",
-        San::UrlOpen => "url_open",
-        San::UrlNorm => "url_norm",
-        San::UrlQuery => "url_query",
-        San::Drop => "drop",
-    }
 }

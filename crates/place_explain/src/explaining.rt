@@ -13,7 +13,7 @@ use tpl_tree::Forest;
 /// The text that explains a pair of a chart: of each pair that it reaches, itself and those to which calls lead from it, a line with the
 /// template, the place in which that is entered and the place at its end, and below it a line for each hole to which a path comes, with
 /// what is done to its values. The pairs are ordered by the template's name and then by the printed place, in byte order. Where there is
-/// no such pair, the text is empty. The error is out of memory.
+/// no such pair, the text is empty. Fails only if allocation fails.
 ///
 /// ```text
 /// template "a.html" at text -> text

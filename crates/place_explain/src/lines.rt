@@ -1,6 +1,6 @@
 ghost use Rattle.std.specs.Prelude.{◌≡◌, ◌<◌, ◌++◌, OnOk};
-ghost use Rattle.place_explain.specs.PairText.{done_text, end_text, head_text, hole_text, holes_text};
-ghost use Rattle.place_explain.specs.PairText.{line_text, node_text, pair_text};
+ghost use Rattle.place_explain.specs.PairText.{done_text, end_text, pair_head_text, hole_text, holes_text};
+ghost use Rattle.place_explain.specs.PairText.{line_text, pair_node_text, pair_text};
 ghost use Rattle.tpl_tree.specs.Trees.{nodes_size};
 
 use crate::chains::push_chain;
@@ -12,8 +12,8 @@ use place_infer::Chart;
 use std::alloc::Global;
 use tpl_tree::{Forest, NodeKind, Tree};
 
-/// Appends what is said of a pair: its places, and what is done in its holes. Nothing where there is no such pair. The error is out of
-/// memory.
+/// Appends what is said of a pair: its places, and what is done in its holes. Nothing where there is no such pair. Fails only if
+/// allocation fails.
 pub fn push_pair(
     alloc: Global,
     forest: &Forest,
@@ -42,7 +42,7 @@ fn push_head(
     entry: Place,
     end: Option<Place>,
 ) -> Result<(), Memory>
-    ensures { OnOk result (out.new ≡ out.old ++ head_text name.now entry end) }
+    ensures { OnOk result (out.new ≡ out.old ++ pair_head_text name.now entry end) }
 {
     out.push_str("template \"")?;
     out.push_str(legible(alloc, name)?.as_str())?;
@@ -89,7 +89,7 @@ fn push_node(
     node: u32,
 ) -> Result<(), Memory>
     requires { node < nodes_size tree.now.nodes }
-    ensures { OnOk result (out.new ≡ out.old ++ node_text chart.now n tree.now.nodes node) }
+    ensures { OnOk result (out.new ≡ out.old ++ pair_node_text chart.now n tree.now.nodes node) }
 {
     match tree.kind(node) {
         NodeKind::Action(_) => push_hole(

@@ -1,6 +1,6 @@
 ghost use Rattle.std.specs.List.{IsDistinct};
 ghost use Rattle.std.specs.Prelude.{◌≡◌, ◌<◌, ◌≤◌, [], All, IfOk, OnOk, Some, length, nat_eq, slice_get};
-ghost use Rattle.place_explain.specs.Numbers.{IsAdded};
+ghost use Rattle.place_explain.specs.Numbers.{IsNumberAdded};
 
 use page_io::Memory;
 use std::alloc::Global;
@@ -26,7 +26,7 @@ impl Model for Numbers {
 }
 
 impl Numbers {
-    /// No numbers, below a limit. The error is out of memory.
+    /// No numbers, below a limit. Fails only if allocation fails.
     pub fn new(alloc: Global, limit: usize) -> Result<Numbers, Memory>
         ensures list { IfOk result (λ numbers. numbers.list ≡ []) }
         ensures limit { IfOk result (λ numbers. numbers.limit ≡ limit) }
@@ -53,9 +53,9 @@ impl Numbers {
         self.list[at]
     }
 
-    /// Adds a number behind the others, if it is below the limit and not among them. The error is out of memory.
+    /// Adds a number after the others, if it is below the limit and not among them. Fails only if allocation fails.
     pub fn add(&mut self, n: u32) -> Result<(), Memory>
-        ensures { OnOk result (IsAdded self.old self.new n) }
+        ensures { OnOk result (IsNumberAdded self.old self.new n) }
     {
         let at = n as usize;
         if at >= self.marks.len() {

@@ -1,7 +1,7 @@
 ghost use Rattle.std.specs.Prelude.{◌≡◌, IfOk, map};
-ghost use Rattle.place_explain.specs.Explaining.{AreOrdered, key_of};
-ghost use Rattle.place_replay.specs.Replays.{name_or_none};
-ghost use Rattle.tpl_tree.specs.Forests.{name_at};
+ghost use Rattle.place_explain.specs.Explaining.{AreOrdered, pair_key_of};
+ghost use Rattle.place_trace.specs.Replays.{name_or_none};
+ghost use Rattle.tpl_tree.specs.Forests.{tree_name_at};
 
 use html_step::print_place;
 use page_io::{Memory, Text};
@@ -14,7 +14,7 @@ pub type Key = (Text, Text, u32);
 
 // The key of a pair.
 fn key(alloc: Global, forest: &Forest, chart: &Chart, n: u32) -> Result<Key, Memory>
-    ensures { IfOk result (λ key. key ≡ key_of forest.now chart.now n) }
+    ensures { IfOk result (λ key. key ≡ pair_key_of forest.now chart.now n) }
 {
     if n as usize >= chart.pairs() {
         return Ok((Text::new(alloc), Text::new(alloc), n));
@@ -26,7 +26,7 @@ fn key(alloc: Global, forest: &Forest, chart: &Chart, n: u32) -> Result<Key, Mem
 
 // The name of a template; none where the forest has not the template.
 fn name_of(forest: &Forest, template: u32) -> &str
-    ensures { result.now ≡ name_or_none (name_at forest.now template) }
+    ensures { result.now ≡ name_or_none (tree_name_at forest.now template) }
 {
     if template as usize >= forest.count() {
         return "";
@@ -36,7 +36,7 @@ fn name_of(forest: &Forest, template: u32) -> &str
 
 // The keys of pairs.
 fn keys(alloc: Global, forest: &Forest, chart: &Chart, pairs: &[u32]) -> Result<Vec<Key>, Memory>
-    ensures { IfOk result (λ keys. keys.items ≡ map (key_of forest.now chart.now) pairs.now) }
+    ensures { IfOk result (λ keys. keys.items ≡ map (pair_key_of forest.now chart.now) pairs.now) }
 {
     let mut keys = Vec::new(alloc);
     for n in pairs {
@@ -45,7 +45,7 @@ fn keys(alloc: Global, forest: &Forest, chart: &Chart, pairs: &[u32]) -> Result<
     Ok(keys)
 }
 
-/// The keys of pairs, in order. The error is out of memory.
+/// The keys of pairs, in order. Fails only if allocation fails.
 pub fn ordered_keys(
     alloc: Global,
     forest: &Forest,

@@ -1,5 +1,5 @@
 ghost use Rattle.std.specs.Prelude.{◌≡◌, IfOk, OnOk, slice_get};
-ghost use Rattle.place_explain.specs.Explaining.{AreReached, nodes_of_row};
+ghost use Rattle.place_explain.specs.Explaining.{AreReached, nodes_of_summary};
 ghost use Rattle.place_explain.specs.Numbers.{AreCallsAdded};
 ghost use Rattle.tpl_tree.specs.Trees.{nodes_size};
 
@@ -9,7 +9,7 @@ use place_infer::Chart;
 use std::alloc::Global;
 use tpl_tree::Forest;
 
-/// The pairs that a pair reaches, each once: itself, and those to which calls lead from it. The error is out of memory.
+/// The pairs that a pair reaches, each once: itself, and those to which calls lead from it. Fails only if allocation fails.
 pub fn reached_pairs(
     alloc: Global,
     forest: &Forest,
@@ -31,7 +31,7 @@ pub fn reached_pairs(
 
 // Adds the pairs that the nodes of a pair call.
 fn add_called(forest: &Forest, chart: &Chart, n: u32, met: &mut Numbers) -> Result<(), Memory>
-    ensures { let nodes = nodes_size (nodes_of_row forest.now (slice_get chart.now.rows n)) in
+    ensures { let nodes = nodes_size (nodes_of_summary forest.now (slice_get chart.now.summaries n)) in
         OnOk result (AreCallsAdded forest.now chart.now n nodes met.old met.new) }
 {
     for node in 0..node_count(forest, chart, n) {
@@ -44,7 +44,7 @@ fn add_called(forest: &Forest, chart: &Chart, n: u32, met: &mut Numbers) -> Resu
 
 // How many nodes the template of a pair has; none where there is no such pair.
 fn node_count(forest: &Forest, chart: &Chart, n: u32) -> u32
-    ensures { result ≡ nodes_size (nodes_of_row forest.now (slice_get chart.now.rows n)) }
+    ensures { result ≡ nodes_size (nodes_of_summary forest.now (slice_get chart.now.summaries n)) }
 {
     if n as usize >= chart.pairs() {
         return 0;

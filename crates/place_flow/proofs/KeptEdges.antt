@@ -4,7 +4,7 @@ use Rattle.std.proofs.lemmas.List.{map-append}
 use Rattle.std.specs.Global.{Vec}
 use Rattle.std.specs.Prelude.{slice_get}
 use Rattle.tpl_paths.specs.EdgeViews.{edge_at, read_edges}
-use Rattle.tpl_paths.specs.Edges.{Edge, edges_of, finish}
+use Rattle.tpl_paths.specs.Edges.{Edge, edges_of, finish_point}
 use Rattle.tpl_paths.specs.declared.edge.Edge.{Edge as ReadEdge}
 use Rattle.tpl_tree.specs.Forests.{ForestData, tree_at}
 use Rattle.tpl_tree.specs.Trees.{TreeData}
@@ -40,16 +40,16 @@ read-edge (e ∷ es) (suc n) = read-edge es n
 
 -- the edges of one more template
 one-more : (forest : ForestData) (t : ℕ) (tree : TreeData) → Some tree ≡ tree_at forest t
-    → map edges_of_tree (take (suc t) forest) ≡ map edges_of_tree (take t forest) ++ read_edges (edges_of tree.nodes 0 finish finish finish) ∷ []
+    → map edges_of_tree (take (suc t) forest) ≡ map edges_of_tree (take t forest) ++ read_edges (edges_of tree.nodes 0 finish_point finish_point finish_point) ∷ []
 one-more [] zero tree e = cc
 one-more [] (suc t) tree e = cc
 one-more (f ∷ fs) zero tree e =
     let same : tree ≡ f.1 = cc in
-    ap (λ (d : TreeData). read_edges (edges_of d.nodes 0 finish finish finish) ∷ []) (sym same)
+    ap (λ (d : TreeData). read_edges (edges_of d.nodes 0 finish_point finish_point finish_point) ∷ []) (sym same)
 one-more (f ∷ fs) (suc t) tree e = ap (λ (es : List (List ReadEdge)). edges_of_tree f ∷ es) (one-more fs t tree e)
 
 pub push-edges : (forest : ForestData) (es : List (Vec ReadEdge)) (t : ℕ) (v : Vec ReadEdge) (tree : TreeData) → map (λ w. w.items) es ≡ map edges_of_tree (take t forest) → Some tree ≡ tree_at forest t
-    → v.items ≡ read_edges (edges_of tree.nodes 0 finish finish finish) → map (λ w. w.items) (es ++ v ∷ []) ≡ map edges_of_tree (take (t + 1) forest)
+    → v.items ≡ read_edges (edges_of tree.nodes 0 finish_point finish_point finish_point) → map (λ w. w.items) (es ++ v ∷ []) ≡ map edges_of_tree (take (t + 1) forest)
 push-edges forest es t v tree h is e =
     let next : t + 1 ≡ suc t = omega arith in
     map-append (λ (w : Vec ReadEdge). w.items) es (v ∷ [])

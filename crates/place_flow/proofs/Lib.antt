@@ -1,4 +1,13 @@
 pub mod AtNodes
+pub mod ClearSteps
+pub mod Counts
+pub mod Covers
+pub mod Examples
+pub mod Goings
+pub mod HtmlCovers
 pub mod KeptEdges
-pub mod SpotLaws
+pub mod Lasts
+pub mod NamedParts
+pub mod PointStateLaws
+pub mod StepEdges
 pub mod StepLaws

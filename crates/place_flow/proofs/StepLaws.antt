@@ -1,7 +1,7 @@
 -- A step along an edge keeps the order of places and valid places, and covers the paths.
 use Rattle.std.proofs.Common.{◌≡◌, ℕ, Bool, true, false, List, Option, Some, None, Result, Ok, Err, refl, sym, subst, if◌then◌else◌}
-use Rattle.place_charts.specs.Html.{behind_hole, behind_text}
-use Rattle.place_core.specs.Places.{Below, IsValid}
+use Rattle.place_flow.specs.HtmlCovering.{behind_hole, behind_text}
+use Rattle.place_core.specs.place.Places.{Below, IsValid}
 use Rattle.place_core.specs.declared.place.Place.{Place}
 use Rattle.place_core.specs.declared.step_err.StepErr.{StepErr}
 use Rattle.html_step.specs.Holes.{Holed, after_hole}
@@ -11,16 +11,16 @@ use Rattle.html_step.proofs.EscapeOrder.{grows-escape}
 use Rattle.html_step.proofs.FromTexts.{from-text}
 use Rattle.html_step.proofs.HoleOrder.{covers-hole, from-hole, grows-hole, valid-hole}
 use Rattle.html_step.proofs.WholeTexts.{covers-text, grows-text, valid-text}
-use Rattle.tpl_escapers.specs.declared.predefined.Predefined.TheVariants as predefined
-use Rattle.tpl_escapers.specs.declared.uses.EscaperUse.{EscaperUse}
-use Rattle.tpl_escapers.specs.declared.uses.EscaperUse.TheVariants as uses
+use Rattle.place_flow.specs.declared.predefined.Predefined.TheVariants as predefined
+use Rattle.place_flow.specs.declared.uses.EscaperUse.{EscaperUse}
+use Rattle.place_flow.specs.declared.uses.EscaperUse.TheVariants as uses
 use Rattle.tpl_paths.specs.Edges.{Edge, Point, calls, fills, from_of, passes, picks, writes}
 use Rattle.tpl_tree.specs.Forests.{ForestData, number_named}
 use Rattle.tpl_tree.specs.declared.pipe.Pipe.{Pipe}
 use Rattle.place_flow.specs.Laws.{EachStepCovers, IsValidStep, StepBelow, StepCovers, StepKeepsOrder, StepKeepsValid}
-use Rattle.place_flow.specs.Leaving.{edge_step, enters_or_refused, lands_or_refused, may_use, use_at}
+use Rattle.place_flow.specs.Transfer.{edge_step, enters_or_refused, reaches_or_refused, may_use, use_at}
 use Rattle.place_flow.specs.declared.step.Step.{Step}
-use Rattle.place_flow.specs.declared.step.Step.TheVariants.{Lands, Enters, Refused}
+use Rattle.place_flow.specs.declared.step.Step.TheVariants.{Reaches, Enters, Refused}
 
 no : false ≡ true → ⊥
 no e = cc
@@ -33,7 +33,7 @@ may-keeps (uses.Last predefined.Urlquery) p q v b h = grows-escape escaper.Urlqu
 may-keeps uses.Misused p q v b h = h
 
 below_refused : (s : Step) → StepBelow s Refused
-below_refused (Lands p) = tt
+below_refused (Reaches p) = tt
 below_refused (Enters c p) = tt
 below_refused Refused = tt
 
@@ -44,18 +44,18 @@ guard-keeps true false s r f h = below_refused s
 guard-keeps false false s r f h = tt
 
 text-keeps : (bytes : List ℕ) (p q : Place) → IsValid p → IsValid q → Below p q → (r : Result Place (StepErr Place)) → after_text bytes q ≡ r
-    → StepBelow (lands_or_refused (behind_text (after_text bytes p))) (lands_or_refused (behind_text r))
+    → StepBelow (reaches_or_refused (behind_text (after_text bytes p))) (reaches_or_refused (behind_text r))
 text-keeps bytes p q v w b (Ok c) e =
     let g = grows-text bytes p q c v w b e in
-    subst (λ (o : Result Place (StepErr Place)). StepBelow (lands_or_refused (behind_text o)) (Lands c)) (sym g.1) g.2
-text-keeps bytes p q v w b (Err x) e = below_refused (lands_or_refused (behind_text (after_text bytes p)))
+    subst (λ (o : Result Place (StepErr Place)). StepBelow (reaches_or_refused (behind_text o)) (Reaches c)) (sym g.1) g.2
+text-keeps bytes p q v w b (Err x) e = below_refused (reaches_or_refused (behind_text (after_text bytes p)))
 
 hole-keeps : (p q : Place) → IsValid p → IsValid q → Below p q → (r : Holed) → after_hole q ≡ r
-    → StepBelow (lands_or_refused (behind_hole (after_hole p))) (lands_or_refused (behind_hole r))
+    → StepBelow (reaches_or_refused (behind_hole (after_hole p))) (reaches_or_refused (behind_hole r))
 hole-keeps p q v w b (Ok c) e =
     let g = grows-hole p q c.0 c.1 v w b e in
-    subst (λ (o : Holed). StepBelow (lands_or_refused (behind_hole o)) (Lands c.0)) (sym g.1) g.2
-hole-keeps p q v w b (Err x) e = below_refused (lands_or_refused (behind_hole (after_hole p)))
+    subst (λ (o : Holed). StepBelow (reaches_or_refused (behind_hole o)) (Reaches c.0)) (sym g.1) g.2
+hole-keeps p q v w b (Err x) e = below_refused (reaches_or_refused (behind_hole (after_hole p)))
 
 call-keeps : (o : Option ℕ) (p q : Place) → Below p q → StepBelow (enters_or_refused o p) (enters_or_refused o q)
 call-keeps (Some c) p q b = (refl, b)
@@ -77,11 +77,11 @@ guard-valid : (a : Bool) (s : Step) → IsValidStep s → IsValidStep (if a then
 guard-valid true s h = h
 guard-valid false s h = tt
 
-text-valid : (bytes : List ℕ) (p : Place) → IsValid p → (r : Result Place (StepErr Place)) → after_text bytes p ≡ r → IsValidStep (lands_or_refused (behind_text r))
+text-valid : (bytes : List ℕ) (p : Place) → IsValid p → (r : Result Place (StepErr Place)) → after_text bytes p ≡ r → IsValidStep (reaches_or_refused (behind_text r))
 text-valid bytes p v (Ok q) e = valid-text bytes p q v e
 text-valid bytes p v (Err x) e = tt
 
-hole-valid : (p : Place) → IsValid p → (r : Holed) → after_hole p ≡ r → IsValidStep (lands_or_refused (behind_hole r))
+hole-valid : (p : Place) → IsValid p → (r : Holed) → after_hole p ≡ r → IsValidStep (reaches_or_refused (behind_hole r))
 hole-valid p v (Ok q) e = valid-hole p q.0 q.1 v e
 hole-valid p v (Err x) e = tt
 
@@ -104,13 +104,13 @@ guard-covers true s e p h = h
 guard-covers false s e p h = tt
 
 text-covers : (n : ℕ) (bytes : List ℕ) (to : Point) (p : Place) → IsValid p → (r : Result Place (StepErr Place)) → after_text bytes p ≡ r
-    → StepCovers (lands_or_refused (behind_text r)) (writes n bytes to) p
+    → StepCovers (reaches_or_refused (behind_text r)) (writes n bytes to) p
 text-covers n bytes to p v (Ok q) e = λ y h. (let x = from-text bytes p q y v e h in
     (x.0, record { has = x.1.0; bears = x.1.1; is_in = λ s i. covers-text bytes p q s v i e }))
 text-covers n bytes to p v (Err x) e = tt
 
 hole-covers : (n : ℕ) (pipe : Pipe) (to : Point) (p : Place) → IsValid p → (r : Holed) → after_hole p ≡ r
-    → StepCovers (lands_or_refused (behind_hole r)) (fills n pipe to) p
+    → StepCovers (reaches_or_refused (behind_hole r)) (fills n pipe to) p
 hole-covers n pipe to p v (Ok q) e = λ y h. (let x = from-hole p q.0 q.1 y v e h in
     (x.0, record { has = x.1.0; bears = x.1.1; is_in = λ s i. (covers-hole p q.0 q.1 s v i e).0 }))
 hole-covers n pipe to p v (Err x) e = tt

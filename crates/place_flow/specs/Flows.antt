@@ -2,18 +2,18 @@
 use Rattle.std.specs.Prelude.{Bool, true, false, ℕ, ◌+◌, ◌*◌, List, Option, Some, None}
 use Rattle.tpl_tree.specs.Forests.{ForestData, tree_at}
 use Rattle.tpl_tree.specs.Trees.{NodesData, nodes_size}
-use Rattle.tpl_paths.specs.Edges.{Edge, Point, begins, calls, edges_of, fills, finish, nodes_of_tree, passes, picks, writes}
-use Rattle.tpl_paths.specs.declared.choice.Choice.{Choice}
+use Rattle.tpl_paths.specs.Edges.{Edge, Point, part_begins, calls, edges_of, fills, finish_point, path_nodes_of_tree, passes, picks, writes}
+use Rattle.tpl_paths.specs.declared.choice.Way.{Way}
 use Rattle.tpl_paths.specs.declared.point.Point.TheVariants as point
 
 abbrev pub nodes_at : ForestData → ℕ → NodesData
-nodes_at forest t = nodes_of_tree (tree_at forest t)
+nodes_at forest t = path_nodes_of_tree (tree_at forest t)
 
 abbrev pub start_at : ForestData → ℕ → Point
-start_at forest t = begins (nodes_at forest t) 0 finish
+start_at forest t = part_begins (nodes_at forest t) 0 finish_point
 
 abbrev pub edges_at : ForestData → ℕ → List Edge
-edges_at forest t = edges_of (nodes_at forest t) 0 finish finish finish
+edges_at forest t = edges_of (nodes_at forest t) 0 finish_point finish_point finish_point
 
 -- the points of a template by numbers: its end is 0, and each node has four
 abbrev pub point_number : Point → ℕ
@@ -33,7 +33,7 @@ is_call_edge (calls n name to) = true
 is_call_edge (picks from choice to) = false
 is_call_edge (passes from to) = false
 
-abbrev pub choice_of : Edge → Option Choice
+abbrev pub choice_of : Edge → Option Way
 choice_of (writes n bytes to) = None
 choice_of (fills n pipe to) = None
 choice_of (calls n name to) = None

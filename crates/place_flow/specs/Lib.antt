@@ -1,5 +1,10 @@
+pub mod Covering
+pub mod Errors
 pub mod FlowViews
 pub mod Flows
+pub mod HtmlCovering
 pub mod Laws
-pub mod Leaving
-pub mod Spots
+pub mod Naming
+pub mod PointStates
+pub mod Transfer
+pub mod Uses

@@ -1,13 +1,14 @@
 ghost use Rattle.std.specs.Prelude.{◌≡◌, IfOk, length, option_map, slice_get, Some};
 ghost use Rattle.tpl_paths.specs.EdgeViews.{edge_at, read_edges};
-ghost use Rattle.tpl_paths.specs.Edges.{Edge as SpecEdge, begins, finish, from_of, to_of};
+ghost use Rattle.tpl_paths.specs.Edges.{part_begins, finish_point, from_of, to_of};
 ghost use Rattle.place_flow.specs.Flows.{choice_of, edges_at, is_call_edge, nodes_at, points_of, start_at};
+ghost use Rattle.tpl_paths.specs.Edges as spec;
 
 use crate::points::{edge_ends, point_count};
 use page_io::Memory;
 use std::alloc::Global;
 use std::marker::Model;
-use tpl_paths::{Choice, Edge, Point, edges_of};
+use tpl_paths::{Edge, Point, Way, edges_of};
 use tpl_tree::{Forest, Tree};
 
 /// A forest with the edges of each of its templates. Contracts see it as the forest.
@@ -32,7 +33,7 @@ impl<'f> Model for Flows<'f> {
     ghost invariant = { λ f. AreEdgesOf f.forest.now f.edges.items };
 }
 
-/// The flows of a forest. The error is out of memory.
+/// The flows of a forest. Fails only if allocation fails.
 pub fn flows_of(alloc: Global, forest: &Forest) -> Result<Flows<'_>, Memory>
     ensures { IfOk result (λ flows. flows ≡ forest.now) }
 {
@@ -91,7 +92,7 @@ impl<'f> Flows<'f> {
 
     /// Whether an edge of a template, by its number, is a call. There is none past the last one.
     pub fn is_call(&self, template: u32, number: usize) -> bool
-        ensures { (e : SpecEdge) → slice_get (edges_at self.now template) number ≡ Some e
+        ensures { (e : spec.Edge) → slice_get (edges_at self.now template) number ≡ Some e
             → result ≡ is_call_edge e }
     {
         match self.edge(template, number) {
@@ -101,8 +102,8 @@ impl<'f> Flows<'f> {
     }
 
     /// What an edge of a template, by its number, chooses: nothing where it is no choice, and past the last one.
-    pub fn choice(&self, template: u32, number: usize) -> Option<Choice>
-        ensures { (e : SpecEdge) → slice_get (edges_at self.now template) number ≡ Some e
+    pub fn choice(&self, template: u32, number: usize) -> Option<Way>
+        ensures { (e : spec.Edge) → slice_get (edges_at self.now template) number ≡ Some e
             → result ≡ choice_of e }
     {
         match self.edge(template, number) {
@@ -134,7 +135,7 @@ impl<'f> Flows<'f> {
 
 // Whether an edge is a call.
 fn calls(edge: Edge) -> bool
-    ensures { (e : SpecEdge) → edge_at e ≡ edge → result ≡ is_call_edge e }
+    ensures { (e : spec.Edge) → edge_at e ≡ edge → result ≡ is_call_edge e }
 {
     match edge {
         Edge::Calls(_, _) => true,
@@ -143,8 +144,8 @@ fn calls(edge: Edge) -> bool
 }
 
 // What an edge chooses.
-fn chooses(edge: Edge) -> Option<Choice>
-    ensures { (e : SpecEdge) → edge_at e ≡ edge → result ≡ choice_of e }
+fn chooses(edge: Edge) -> Option<Way>
+    ensures { (e : spec.Edge) → edge_at e ≡ edge → result ≡ choice_of e }
 {
     match edge {
         Edge::Picks(_, choice, _) => Some(choice),
@@ -154,7 +155,7 @@ fn chooses(edge: Edge) -> Option<Choice>
 
 // Where a tree begins.
 fn start_of(tree: &Tree) -> Point
-    ensures { result ≡ begins tree.now.nodes 0 finish }
+    ensures { result ≡ part_begins tree.now.nodes 0 finish_point }
 {
     match tree.first() {
         Some(first) => Point::Before(first),

@@ -1,16 +1,23 @@
-// Flows: what leads a place from point to point of a template, and what its points have.
+// The transfer of places along the edges of templates, what makes it right, and the errors of a path.
 #![tactic(auto)]
 
+mod covering_laws;
 mod flows;
 mod laws;
-mod leaving;
+mod naming;
+mod point_state;
 mod points;
-mod spot;
+mod predefined;
 mod step;
+mod transferring;
+mod uses;
 
+pub use covering_laws::chart_covers;
 pub use flows::{Flows, flows_of};
 pub use laws::{step_covers, step_keeps_order, step_keeps_valid};
-pub use leaving::{leave, may_use};
+pub use point_state::{PointState, is_point_state_below, join_point_states};
 pub use points::{point_count, point_number};
-pub use spot::{Spot, is_spot_below, join_spots};
+pub use predefined::Predefined;
 pub use step::Step;
+pub use transferring::{may_use, transfer};
+pub use uses::{EscaperUse, escaper_use};

@@ -1,14 +1,16 @@
 ghost use Rattle.std.specs.Prelude.{◌≡◌};
 ghost use Rattle.tpl_paths.specs.EdgeViews.{edge_at};
-ghost use Rattle.tpl_paths.specs.Edges.{Edge as SpecEdge, from_of, to_of};
-ghost use Rattle.place_flow.specs.Flows.{point_number as number_of_point, points_of};
+ghost use Rattle.tpl_paths.specs.Edges.{from_of, to_of};
+ghost use Rattle.place_flow.specs.Flows.{points_of};
+ghost use Rattle.tpl_paths.specs.Edges as edges;
+ghost use Rattle.place_flow.specs.Flows as spec;
 
 use tpl_paths::{Edge, Point};
 use tpl_tree::Tree;
 
 /// The number of a point in its template: its end is 0, and each node has four.
 pub fn point_number(point: Point) -> usize
-    ensures { result ≡ number_of_point point }
+    ensures { result ≡ spec.point_number point }
 {
     match point {
         Point::Finish => 0,
@@ -28,7 +30,7 @@ pub fn point_count(tree: &Tree) -> usize
 
 // The points from which and to which an edge leads.
 pub(crate) fn edge_ends(edge: Edge) -> (Point, Point)
-    ensures { (e : SpecEdge) → edge ≡ edge_at e → result ≡ (from_of e, to_of e) }
+    ensures { (e : edges.Edge) → edge ≡ edge_at e → result ≡ (from_of e, to_of e) }
 {
     match edge {
         Edge::Writes(n, to) => (Point::Before(n), to),

@@ -4,7 +4,7 @@ use place_core::Place;
 #[derive(Clone, Copy, Debug)]
 pub enum Step {
     /// To the edge's end, in a place.
-    Lands(Place),
+    Reaches(Place),
     /// Into a template, by its number in the forest, in a place.
     Enters(u32, Place),
     /// Nowhere: it is refused.

@@ -2,22 +2,22 @@
 use Rattle.std.proofs.Common.{◌≡◌, true, false, ℕ, zero, suc, ◌+◌, ◌*◌, ◌<◌, ◌≤◌, List, [], ◌∷◌, All, length, refl, sym, ap, ◌∙◌, subst, Option, Some, None, inl, inr, ◌⊎◌, arith}
 use Rattle.std.proofs.lemmas.List.Elements.{All-contains}
 use Rattle.std.specs.Prelude.{Contains, true, false, slice_index_or}
-use Rattle.place_charts.proofs.HtmlCovers.{chart-covers}
+use Rattle.place_flow.proofs.HtmlCovers.{chart-covers}
 use Rattle.place_core.specs.declared.place.Place.TheVariants as place
-use Rattle.place_core.specs.Html.{start}
+use Rattle.place_core.specs.page.Html.{start}
 use Rattle.place_flow.specs.Flows.{point_number}
-use Rattle.place_flow.specs.declared.spot.Spot.TheVariants.{Off}
-use Rattle.place_infer.specs.ChartViews.{AreCalls, ChartData}
-use Rattle.place_infer.specs.Inferring.{EndsInText, HasTooMany, IsChartOfSet, IsRefusal, IsTornAt, Refuses, most_pairs, root_numbers, with_number}
+use Rattle.place_flow.specs.declared.point_state.PointState.TheVariants.{Unreached}
+use Rattle.place_infer.specs.ChartViews.{ArePairCalls, ChartData}
+use Rattle.place_infer.specs.Inferring.{EndsInText, HasTooManyPairs, IsChartOfSet, IsRefusal, IsInConflictAt, SetRefuses, most_pairs, root_numbers, with_number}
 use Rattle.place_infer.specs.declared.set_refused.SetRefused.{SetRefused}
 use Rattle.place_infer.specs.declared.set_refused.SetRefused.TheVariants as refused
-use Rattle.place_least.proofs.WholeCharts.{root-is-chart}
-use Rattle.place_least.specs.Exact.{places_of}
-use Rattle.place_rows.specs.Charts.{IsEntered}
-use Rattle.place_rows.specs.Least.{IsLeastChart}
-use Rattle.place_rows.specs.Rows.{IsRowWhole, chart_of}
-use Rattle.place_rows.specs.declared.row.Row.{Row}
-use Rattle.tpl_paths.specs.Edges.{Point, finish}
+use Rattle.place_chart.proofs.ConflictFreeCharts.{root-is-chart}
+use Rattle.place_chart.specs.Exact.{places_of}
+use Rattle.place_chart.specs.Charts.{IsEntered}
+use Rattle.place_chart.specs.Least.{IsLeastChart}
+use Rattle.place_chart.specs.Summaries.{IsConflictFreeSummary, chart_of}
+use Rattle.place_chart.specs.declared.summary.Summary.{Summary}
+use Rattle.tpl_paths.specs.Edges.{Point, finish_point}
 use Rattle.tpl_paths.specs.declared.point.Point.TheVariants as point
 use Rattle.tpl_tree.specs.Forests.{ForestData, number_named}
 
@@ -53,47 +53,47 @@ point_at (suc m) = (let q = quarter m in elim q.1 [
   ]
 ])
 
-pub torn-refused : (forest : ForestData) (names : List (List ℕ)) (roots : List ℕ) (rows : List Row) (n number : ℕ) → roots ≡ root_numbers forest names → IsLeastChart forest roots place.Text rows → length rows ≤ most_pairs
-    → IsTornAt rows n number → (r : SetRefused) → IsRefusal forest names false r → Refuses forest names r
-torn-refused forest names roots rows n number same least few torn (refused.Shows sh) i =
+pub conflict-refused : (forest : ForestData) (names : List (List ℕ)) (roots : List ℕ) (summaries : List Summary) (n number : ℕ) → roots ≡ root_numbers forest names → IsLeastChart forest roots place.Text summaries → length summaries ≤ most_pairs
+    → IsInConflictAt summaries n number → (r : SetRefused) → IsRefusal forest names false r → SetRefuses forest names r
+conflict-refused forest names roots summaries n number same least few conflict (refused.Shows sh) i =
     let k = point_at number in
     record {
-      rows = rows;
-      least = subst (λ (r : List ℕ). IsLeastChart forest r place.Text rows) same least;
+      summaries = summaries;
+      least = subst (λ (r : List ℕ). IsLeastChart forest r place.Text summaries) same least;
       few = few;
       cause = inl (record {
-        row = n;
+        summary = n;
         point = k.0;
-        torn = record { row = torn.row; is = torn.is; torn = ap (λ (m : ℕ). slice_index_or torn.row.spots.items m Off) k.1 ∙ torn.torn };
+        conflict = record { summary = conflict.summary; is = conflict.is; conflict = ap (λ (m : ℕ). slice_index_or conflict.summary.point_states.items m Unreached) k.1 ∙ conflict.conflict };
         code = i.2;
       });
       root = i.1;
       shows = i.0;
     }
-torn-refused forest names roots rows n number same least few torn refused.TooManyDerived i = absurd i
-torn-refused forest names roots rows n number same least few torn refused.Memory i = tt
+conflict-refused forest names roots summaries n number same least few conflict refused.TooManyDerived i = absurd i
+conflict-refused forest names roots summaries n number same least few conflict refused.Memory i = tt
 
-pub end-refused : (forest : ForestData) (names : List (List ℕ)) (roots : List ℕ) (rows : List Row) → roots ≡ root_numbers forest names → IsLeastChart forest roots place.Text rows → All IsRowWhole rows → length rows ≤ most_pairs
-    → (t : ℕ) → Contains roots t → (EndsInText (chart_of rows t place.Text finish) → ⊥) → (r : SetRefused) → IsRefusal forest names true r → Refuses forest names r
-end-refused forest names roots rows same least whole few t among elsewhere (refused.Shows sh) i = record {
-  rows = rows;
-  least = subst (λ (r : List ℕ). IsLeastChart forest r place.Text rows) same least;
+pub end-refused : (forest : ForestData) (names : List (List ℕ)) (roots : List ℕ) (summaries : List Summary) → roots ≡ root_numbers forest names → IsLeastChart forest roots place.Text summaries → All IsConflictFreeSummary summaries → length summaries ≤ most_pairs
+    → (t : ℕ) → Contains roots t → (EndsInText (chart_of summaries t place.Text finish_point) → ⊥) → (r : SetRefused) → IsRefusal forest names true r → SetRefuses forest names r
+end-refused forest names roots summaries same least conflict_free few t among elsewhere (refused.Shows sh) i = record {
+  summaries = summaries;
+  least = subst (λ (r : List ℕ). IsLeastChart forest r place.Text summaries) same least;
   few = few;
   cause = inr (record {
-    whole = whole;
-    elsewhere = λ all. elsewhere (All-contains (λ (u : ℕ). EndsInText (chart_of rows u place.Text finish)) (root_numbers forest names) t all (subst (λ (ts : List ℕ). Contains ts t) same among));
+    conflict_free = conflict_free;
+    elsewhere = λ all. elsewhere (All-contains (λ (u : ℕ). EndsInText (chart_of summaries u place.Text finish_point)) (root_numbers forest names) t all (subst (λ (ts : List ℕ). Contains ts t) same among));
     code = i.2;
   });
   root = i.1;
   shows = i.0;
 }
-end-refused forest names roots rows same least whole few t among elsewhere refused.TooManyDerived i = absurd i
-end-refused forest names roots rows same least whole few t among elsewhere refused.Memory i = tt
+end-refused forest names roots summaries same least conflict_free few t among elsewhere refused.TooManyDerived i = absurd i
+end-refused forest names roots summaries same least conflict_free few t among elsewhere refused.Memory i = tt
 
-pub too-many : (forest : ForestData) (names : List (List ℕ)) (roots : List ℕ) (rows : List Row) → roots ≡ root_numbers forest names → IsLeastChart forest roots place.Text rows → most_pairs < length rows → HasTooMany forest names
-too-many forest names roots rows same least many = record { rows = rows; least = subst (λ (r : List ℕ). IsLeastChart forest r place.Text rows) same least; many = many }
+pub too-many : (forest : ForestData) (names : List (List ℕ)) (roots : List ℕ) (summaries : List Summary) → roots ≡ root_numbers forest names → IsLeastChart forest roots place.Text summaries → most_pairs < length summaries → HasTooManyPairs forest names
+too-many forest names roots summaries same least many = record { summaries = summaries; least = subst (λ (r : List ℕ). IsLeastChart forest r place.Text summaries) same least; many = many }
 
--- an element behind others, and the first one
+-- an element after others, and the first one
 more-in : (x : ℕ) (xs : List ℕ) (t : ℕ) → Contains xs t → Contains (x ∷ xs) t
 more-in x xs t c = (let lt = c.1 in (suc c.0, omega (arith, lt), c.2))
 
@@ -114,18 +114,18 @@ root-from forest (x ∷ names) name t (suc k) lt is e = with-in (number_named x 
 pub root-in : (forest : ForestData) (names : List (List ℕ)) (name : List ℕ) (t : ℕ) → Contains names name → number_named name forest ≡ Some t → Contains (root_numbers forest names) t
 root-in forest names name t is e = root-from forest names name t is.0 is.1 is.2 e
 
-pub chart-of-set : (forest : ForestData) (names : List (List ℕ)) (roots : List ℕ) (chart : ChartData) → roots ≡ root_numbers forest names → IsLeastChart forest roots place.Text chart.rows → All IsRowWhole chart.rows
-    → length chart.rows ≤ most_pairs → All (λ t. EndsInText (chart_of chart.rows t place.Text finish)) roots → AreCalls forest chart.rows chart.calls → IsChartOfSet forest names chart
-chart-of-set forest names roots chart same found whole few ends calls =
-    let least = subst (λ (r : List ℕ). IsLeastChart forest r place.Text chart.rows) same found in
+pub chart-of-set : (forest : ForestData) (names : List (List ℕ)) (roots : List ℕ) (chart : ChartData) → roots ≡ root_numbers forest names → IsLeastChart forest roots place.Text chart.summaries → All IsConflictFreeSummary chart.summaries
+    → length chart.summaries ≤ most_pairs → All (λ t. EndsInText (chart_of chart.summaries t place.Text finish_point)) roots → ArePairCalls forest chart.summaries chart.calls → IsChartOfSet forest names chart
+chart-of-set forest names roots chart same found conflict_free few ends calls =
+    let least = subst (λ (r : List ℕ). IsLeastChart forest r place.Text chart.summaries) same found in
     record {
       least = least;
-      whole = whole;
+      conflict_free = conflict_free;
       few = few;
-      ends = subst (All (λ t. EndsInText (chart_of chart.rows t place.Text finish))) same ends;
+      ends = subst (All (λ t. EndsInText (chart_of chart.summaries t place.Text finish_point))) same ends;
       covers = λ name t is e ms walk.
-          chart-covers forest (places_of forest chart.rows) name place.Text start.at
-          (root-is-chart forest chart.rows name t place.Text least.valid least.closed whole e (All-contains (λ (r : ℕ). IsEntered forest (chart_of chart.rows) r place.Text) (root_numbers forest names) t least.entered (root-in forest names name t is e)))
+          chart-covers forest (places_of forest chart.summaries) name place.Text start.at
+          (root-is-chart forest chart.summaries name t place.Text least.valid least.closed conflict_free e (All-contains (λ (r : ℕ). IsEntered forest (chart_of chart.summaries) r place.Text) (root_numbers forest names) t least.entered (root-in forest names name t is e)))
           (tt, record { own = place.Text; stands = refl; valid = tt; below = refl }) ms walk;
       calls = calls;
     }

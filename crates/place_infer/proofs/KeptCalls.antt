@@ -1,23 +1,23 @@
--- The calls of rows, as they are kept.
+-- The calls of summaries, as they are kept.
 use Rattle.std.proofs.Common.{◌≡◌, ℕ, zero, suc, ◌<◌, ◌≤◌, List, [], ◌∷◌, ◌++◌, Option, None, refl, sym, ap, ◌∙◌, subst, length, map, arith}
 use Rattle.std.proofs.lemmas.List.{map-append}
 use Rattle.std.specs.Global.{Vec}
 use Rattle.std.specs.Prelude.{slice_index_or}
 use Rattle.place_flow.specs.Flows.{nodes_at}
 use Rattle.place_flow.proofs.AtNodes.{nodes-past}
-use Rattle.place_infer.specs.ChartViews.{call_in, call_of, called_by}
-use Rattle.place_least.specs.Exact.{place_of}
-use Rattle.place_rows.specs.Rows.{spot_in}
-use Rattle.place_rows.specs.declared.row.Row.{Row}
+use Rattle.place_infer.specs.ChartViews.{call_in, chart_call, called_by}
+use Rattle.place_chart.specs.Exact.{point_place}
+use Rattle.place_chart.specs.Summaries.{point_state_in}
+use Rattle.place_chart.specs.declared.summary.Summary.{Summary}
 use Rattle.tpl_paths.specs.Edges.{before}
 use Rattle.tpl_tree.specs.Forests.{ForestData}
 use Rattle.tpl_tree.specs.Trees.{NodesData, head_kind, nodes_size}
 
 -- past the last node there is no call
-pub no-call : (forest : ForestData) (rows : List Row) (row : Row) (node : ℕ) (nodes : NodesData) → nodes_at forest row.template ≡ nodes → nodes_size nodes ≤ node → call_of forest rows row node ≡ None
-no-call forest rows row node nodes is l =
-    let past : nodes_size (nodes_at forest row.template) ≤ node = subst (λ (m : NodesData). nodes_size m ≤ node) (sym is) l in
-    ap (λ (m : NodesData). called_by forest rows (head_kind m) (place_of (spot_in row (before node)))) (nodes-past (nodes_at forest row.template) node past)
+pub no-call : (forest : ForestData) (summaries : List Summary) (summary : Summary) (node : ℕ) (nodes : NodesData) → nodes_at forest summary.template ≡ nodes → nodes_size nodes ≤ node → chart_call forest summaries summary node ≡ None
+no-call forest summaries summary node nodes is l =
+    let past : nodes_size (nodes_at forest summary.template) ≤ node = subst (λ (m : NodesData). nodes_size m ≤ node) (sym is) l in
+    ap (λ (m : NodesData). called_by forest summaries (head_kind m) (point_place (point_state_in summary (before node)))) (nodes-past (nodes_at forest summary.template) node past)
 
 last-call : (xs : List (List (Option ℕ))) (v : List (Option ℕ)) (node : ℕ) → call_in (xs ++ v ∷ []) (length xs) node ≡ slice_index_or v node None
 last-call [] v node = refl

@@ -1,19 +1,19 @@
 -- The pairs that are reached, of all that were made.
 use Rattle.std.specs.Prelude.{◌≡◌, ℕ, List, Some, slice_get, take}
 use Rattle.place_core.specs.declared.place.Place.{Place}
-use Rattle.place_rows.specs.Least.{IsReached}
-use Rattle.place_rows.specs.Rows.{chart_of, spot_in}
-use Rattle.place_rows.specs.declared.row.Row.{Row}
+use Rattle.place_chart.specs.Least.{IsReached}
+use Rattle.place_chart.specs.Summaries.{chart_of, point_state_in}
+use Rattle.place_chart.specs.declared.summary.Summary.{Summary}
 use Rattle.tpl_paths.specs.Edges.{Point}
 use Rattle.tpl_tree.specs.Forests.{ForestData}
 
--- Rows that have what all rows have of their pairs, each of a pair of its own, and each that of a root or called by one before it.
-pub record IsKept (forest : ForestData) (roots : List ℕ) (first : Place) (all kept : List Row)
+-- Summaries that have what all summaries have of their pairs, each of a pair of its own, and each that of a root or called by one before it.
+pub record IsKeptPair (forest : ForestData) (roots : List ℕ) (first : Place) (all kept : List Summary)
     : Type 0 where
-  pub same : (i : ℕ) (row : Row) → slice_get kept i ≡ Some row → (k : Point)
-      → spot_in row k ≡ chart_of all row.template row.entry k
-  pub apart : (i j : ℕ) (row other : Row) → slice_get kept i ≡ Some row
-      → slice_get kept j ≡ Some other → row.template ≡ other.template → row.entry ≡ other.entry
+  pub same : (i : ℕ) (summary : Summary) → slice_get kept i ≡ Some summary → (k : Point)
+      → point_state_in summary k ≡ chart_of all summary.template summary.entry k
+  pub apart : (i j : ℕ) (summary other : Summary) → slice_get kept i ≡ Some summary
+      → slice_get kept j ≡ Some other → summary.template ≡ other.template → summary.entry ≡ other.entry
       → i ≡ j
-  pub reached : (i : ℕ) (row : Row) → slice_get kept i ≡ Some row
-      → IsReached forest roots first (take i kept) row.template row.entry
+  pub reached : (i : ℕ) (summary : Summary) → slice_get kept i ≡ Some summary
+      → IsReached forest roots first (take i kept) summary.template summary.entry

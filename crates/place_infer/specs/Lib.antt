@@ -1,4 +1,3 @@
-pub mod Answers
 pub mod ChartViews
 pub mod Inferring
 pub mod Kept

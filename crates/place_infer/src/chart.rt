@@ -1,16 +1,16 @@
 ghost use Rattle.std.specs.Prelude.{◌≡◌, ◌<◌, ◌≤◌, IfOk, Some, None, length, option_map, slice_get};
 ghost use Rattle.place_core.specs.declared.place.Place.TheVariants as place;
-ghost use Rattle.place_infer.specs.ChartViews.{AreCalls, call_in, chain_in, place_in};
+ghost use Rattle.place_infer.specs.ChartViews.{ArePairCalls, call_in, chain_in, place_in};
 ghost use Rattle.place_infer.specs.Inferring.{most_pairs};
-ghost use Rattle.place_rows.specs.Rows.{pair_number};
-ghost use Rattle.tpl_paths.specs.Edges.{before, finish, head};
+ghost use Rattle.place_chart.specs.Summaries.{pair_number};
+ghost use Rattle.tpl_paths.specs.Edges.{before, finish_point, head};
 
 use crate::calls::calls_of;
 use html_step::after_hole;
 use page_io::Memory;
+use place_chart::{Summaries, point_state_at};
 use place_core::{Chain, Place, TEXT};
-use place_flow::Spot;
-use place_rows::{Rows, spot_at};
+use place_flow::PointState;
 use std::alloc::Global;
 use std::marker::Model;
 use tpl_paths::Point;
@@ -20,7 +20,7 @@ use tpl_tree::Forest;
 /// `ChartData` of `specs/ChartViews.antt`.
 #[derive(Debug, Drop)]
 pub struct Chart {
-    rows: Rows,
+    summaries: Summaries,
     calls: Vec<Vec<Option<u32>>>,
 }
 
@@ -31,77 +31,82 @@ impl Model for Chart {
 
     ghost Value = { ChartData };
 
-    ghost view = { λ c. record { rows = c.rows; calls = map (λ v. v.items) c.calls.items } };
+    ghost view = { λ c. record { summaries = c.summaries; calls = map (λ v. v.items) c.calls.items } };
 
-    ghost invariant = { λ c. length c.rows ≤ most_pairs };
+    ghost invariant = { λ c. length c.summaries ≤ most_pairs };
 }
 
-/// The chart of some rows. The error is out of memory.
-pub fn chart_of_rows(alloc: Global, forest: &Forest, rows: Rows) -> Result<Chart, Memory>
-    requires { length rows ≤ most_pairs }
-    ensures rows { IfOk result (λ chart. chart.rows ≡ rows) }
-    ensures calls { IfOk result (λ chart. AreCalls forest.now rows chart.calls) }
+/// The chart of some summaries. Fails only if allocation fails.
+pub fn chart_of_summaries(
+    alloc: Global,
+    forest: &Forest,
+    summaries: Summaries,
+) -> Result<Chart, Memory>
+    requires { length summaries ≤ most_pairs }
+    ensures summaries { IfOk result (λ chart. chart.summaries ≡ summaries) }
+    ensures calls { IfOk result (λ chart. ArePairCalls forest.now summaries chart.calls) }
 {
-    let calls = calls_of(alloc, forest, &rows)?;
-    Ok(Chart { rows, calls })
+    let calls = calls_of(alloc, forest, &summaries)?;
+    Ok(Chart { summaries, calls })
 }
 
 impl Chart {
     /// How many pairs there are.
     pub fn pairs(&self) -> usize
-        ensures count { result ≡ length self.now.rows }
+        ensures count { result ≡ length self.now.summaries }
         ensures few { result ≤ most_pairs }
     {
-        self.rows.count()
+        self.summaries.count()
     }
 
     /// A pair: the number of its template in the forest, and the place in which that is entered.
     pub fn pair(&self, n: u32) -> (u32, Place)
-        requires { n < length self.now.rows }
-        ensures { option_map (λ row. (row.template, row.entry)) (slice_get self.now.rows n)
+        requires { n < length self.now.summaries }
+        ensures { option_map (λ summary. (summary.template, summary.entry))
+            (slice_get self.now.summaries n)
             ≡ Some result }
     {
-        let row = self.rows.row(n as usize);
-        (row.template, row.entry)
+        let summary = self.summaries.summary(n as usize);
+        (summary.template, summary.entry)
     }
 
     // The place at a point of a pair.
     fn place_at(&self, n: u32, point: Point) -> Option<Place>
-        ensures { result ≡ place_in self.now.rows n point }
+        ensures { result ≡ place_in self.now.summaries n point }
     {
-        if n as usize >= self.rows.count() {
+        if n as usize >= self.summaries.count() {
             return None;
         }
-        match spot_at(self.rows.row(n as usize), point) {
-            Spot::On(place) => Some(place),
+        match point_state_at(self.summaries.summary(n as usize), point) {
+            PointState::At(place) => Some(place),
             _ => None,
         }
     }
 
     /// The place before a node of a pair; of a range, before its first turn. None where no path comes there.
     pub fn place(&self, n: u32, node: u32) -> Option<Place>
-        ensures { result ≡ place_in self.now.rows n (before node) }
+        ensures { result ≡ place_in self.now.summaries n (before node) }
     {
         self.place_at(n, Point::Before(node))
     }
 
     /// The place before each turn of a range of a pair, which stands for the first and for further ones. None where no path comes there.
     pub fn head(&self, n: u32, node: u32) -> Option<Place>
-        ensures { result ≡ place_in self.now.rows n (head node) }
+        ensures { result ≡ place_in self.now.summaries n (head node) }
     {
         self.place_at(n, Point::Head(node))
     }
 
     /// The place at the end of a pair's template. None where no path comes there.
     pub fn after(&self, n: u32) -> Option<Place>
-        ensures { result ≡ place_in self.now.rows n finish }
+        ensures { result ≡ place_in self.now.summaries n finish_point }
     {
         self.place_at(n, Point::Finish)
     }
 
     /// What is done to the values of a hole, which is a node of a pair: by the place before it. None where no path comes there.
     pub fn chain(&self, n: u32, node: u32) -> Option<Chain>
-        ensures { result ≡ chain_in (place_in self.now.rows n (before node)) }
+        ensures { result ≡ chain_in (place_in self.now.summaries n (before node)) }
     {
         match self.place(n, node) {
             Some(place) => match after_hole(place) {
@@ -128,9 +133,9 @@ impl Chart {
 
     /// The pair of a root: its template, entered in text. None for other templates.
     pub fn start(&self, root: u32) -> Option<u32>
-        ensures { result ≡ pair_number self.now.rows root place.Text }
+        ensures { result ≡ pair_number self.now.summaries root place.Text }
     {
-        match self.rows.find(root, TEXT) {
+        match self.summaries.find(root, TEXT) {
             Some(n) => Some(n as u32),
             None => None,
         }

@@ -1,15 +1,17 @@
 ghost use Rattle.std.specs.Prelude.{◌≡◌};
 ghost use Rattle.place_core.specs.declared.place.Place.TheVariants as place;
-ghost use Rattle.place_infer.specs.Inferring.{Infers, root_numbers as numbers_of_roots};
-ghost use Rattle.place_rows.specs.Least.{IsLeastChart};
+ghost use Rattle.place_infer.specs.Inferring.{Infers};
+ghost use Rattle.place_chart.specs.Least.{IsLeastChart};
+ghost use Rattle.place_infer.specs.Inferring as spec;
 
-use crate::chart::{Chart, chart_of_rows};
-use crate::finding::{Found, find_chart};
-use crate::refusal::{refusal_by_end, refusal_by_tear};
+use crate::chart::{Chart, chart_of_summaries};
+use crate::conflict::{conflict_in_summary, ends_elsewhere};
+use crate::finding::find_chart;
+use crate::refusal::{refusal_by_conflict, refusal_by_end};
 use crate::roots::root_numbers;
 use crate::set_refused::SetRefused;
-use crate::torn::{ends_elsewhere, torn_row};
 use page_io::Names;
+use place_derive::Derived;
 use place_flow::{Flows, flows_of};
 use std::alloc::Global;
 use tpl_tree::Forest;
@@ -24,22 +26,22 @@ fn judged(
     flows: &Flows,
     names: &Names,
     roots: &[u32],
-    found: Found,
+    found: Derived,
 ) -> Result<Chart, SetRefused>
-    ensures { flows.now ≡ forest.now → roots.now ≡ numbers_of_roots forest.now names.now
-        → IsLeastChart forest.now roots.now place.Text found.rows
+    ensures { flows.now ≡ forest.now → roots.now ≡ spec.root_numbers forest.now names.now
+        → IsLeastChart forest.now roots.now place.Text found.summaries
         → Infers forest.now names.now result }
 {
-    if found.rows.count() > LIMIT {
+    if found.summaries.count() > LIMIT {
         return Err(SetRefused::TooManyDerived);
     }
-    if let Some(_) = torn_row(&found.rows) {
-        return Err(refusal_by_tear(alloc, forest, flows, names, &found.log, &found.tear));
+    if let Some(_) = conflict_in_summary(&found.summaries) {
+        return Err(refusal_by_conflict(alloc, forest, flows, names, &found.log, &found.conflict));
     }
-    if let Some(root) = ends_elsewhere(&found.rows, roots) {
+    if let Some(root) = ends_elsewhere(&found.summaries, roots) {
         return Err(refusal_by_end(alloc, forest, flows, names, &found.log, root));
     }
-    Ok(chart_of_rows(alloc, forest, found.rows)?)
+    Ok(chart_of_summaries(alloc, forest, found.summaries)?)
 }
 
 /// The chart of a set of templates: the places at the nodes of each template that a root reaches, for each place in which it is entered. A

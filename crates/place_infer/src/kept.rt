@@ -1,45 +1,50 @@
 ghost use Rattle.std.specs.Prelude.{◌≡◌, ◌<◌, ◌≤◌, ℕ, List, IfOk, OnOk, length};
 ghost use Rattle.place_core.specs.declared.place.Place.{Place as SpecPlace};
-ghost use Rattle.place_infer.specs.Kept.{IsKept};
-ghost use Rattle.place_rows.specs.Least.{IsReached};
-ghost use Rattle.place_rows.specs.Rows.{chart_of, spot_in};
-ghost use Rattle.tpl_paths.specs.Edges.{Point as SpecPoint};
+ghost use Rattle.place_infer.specs.Kept.{IsKeptPair};
+ghost use Rattle.place_chart.specs.Least.{IsReached};
+ghost use Rattle.place_chart.specs.Summaries.{chart_of, point_state_in};
 ghost use Rattle.tpl_tree.specs.Forests.{ForestData};
+ghost use Rattle.tpl_paths.specs.Edges as spec;
 
 use page_io::Memory;
+use place_chart::{Summaries, Summary, point_state_at};
 use place_core::Place;
-use place_flow::{Flows, Spot, Step, leave};
-use place_rows::{Row, Rows, spot_at};
+use place_flow::{Flows, PointState, Step, transfer};
 use std::alloc::Global;
 
 // The same spots once more.
-fn copied(alloc: Global, spots: &[Spot]) -> Result<Vec<Spot>, Memory>
-    ensures { IfOk result (λ copies. copies.items ≡ spots.now) }
+fn copied(alloc: Global, point_states: &[PointState]) -> Result<Vec<PointState>, Memory>
+    ensures { IfOk result (λ copies. copies.items ≡ point_states.now) }
 {
     let mut copies = Vec::new(alloc);
-    for spot in spots {
-        copies.push(*spot)?;
+    for point_state in point_states {
+        copies.push(*point_state)?;
     }
     Ok(copies)
 }
 
-// What rows have of a pair, as a row of its own.
-fn taken(alloc: Global, rows: &Rows, template: u32, entry: Place) -> Result<Row, Memory>
-    ensures template { IfOk result (λ row. row.template ≡ template) }
-    ensures entry { IfOk result (λ row. row.entry ≡ entry) }
-    ensures same { IfOk result (λ row. (k : SpecPoint)
-        → spot_in row k ≡ chart_of rows.now template entry k) }
+// What summaries have of a pair, as a summary of its own.
+fn taken(
+    alloc: Global,
+    summaries: &Summaries,
+    template: u32,
+    entry: Place,
+) -> Result<Summary, Memory>
+    ensures template { IfOk result (λ summary. summary.template ≡ template) }
+    ensures entry { IfOk result (λ summary. summary.entry ≡ entry) }
+    ensures same { IfOk result (λ summary. (k : spec.Point)
+        → point_state_in summary k ≡ chart_of summaries.now template entry k) }
 {
-    match rows.find(template, entry) {
-        Some(n) => Ok(Row {
+    match summaries.find(template, entry) {
+        Some(n) => Ok(Summary {
             template,
             entry,
-            spots: copied(alloc, &rows.row(n).spots)?,
+            point_states: copied(alloc, &summaries.summary(n).point_states)?,
         }),
-        None => Ok(Row {
+        None => Ok(Summary {
             template,
             entry,
-            spots: Vec::new(alloc),
+            point_states: Vec::new(alloc),
         }),
     }
 }
@@ -47,48 +52,48 @@ fn taken(alloc: Global, rows: &Rows, template: u32, entry: Place) -> Result<Row,
 // Keeps a pair that is not kept yet.
 fn keep_pair(
     alloc: Global,
-    all: &Rows,
-    kept: &mut Rows,
+    all: &Summaries,
+    kept: &mut Summaries,
     template: u32,
     entry: Place,
 ) -> Result<(), Memory>
     ensures kept { OnOk result ((forest : ForestData) (roots : List ℕ) (first : SpecPlace)
-        → IsKept forest roots first all.now kept.old
+        → IsKeptPair forest roots first all.now kept.old
         → IsReached forest roots first kept.old template entry
-        → IsKept forest roots first all.now kept.new) }
+        → IsKeptPair forest roots first all.now kept.new) }
     ensures length { length kept.old ≤ length kept.new }
 {
     if kept.find(template, entry).is_some() {
         return Ok(());
     }
-    let row = taken(alloc, all, template, entry)?;
-    kept.push(row)?;
+    let summary = taken(alloc, all, template, entry)?;
+    kept.push(summary)?;
     Ok(())
 }
 
-// Where an edge of a kept row is a call, keeps its pair.
+// Where an edge of a kept summary is a call, keeps its pair.
 fn keep_call(
     alloc: Global,
     flows: &Flows,
-    all: &Rows,
-    kept: &mut Rows,
+    all: &Summaries,
+    kept: &mut Summaries,
     n: usize,
     number: usize,
 ) -> Result<(), Memory>
     requires { n < length kept.old }
     ensures kept { OnOk result ((roots : List ℕ) (first : SpecPlace)
-        → IsKept flows.now roots first all.now kept.old
-        → IsKept flows.now roots first all.now kept.new) }
+        → IsKeptPair flows.now roots first all.now kept.old
+        → IsKeptPair flows.now roots first all.now kept.new) }
     ensures length { length kept.old ≤ length kept.new }
 {
-    let row = kept.row(n);
-    let template = row.template;
+    let summary = kept.summary(n);
+    let template = summary.template;
     if !flows.is_call(template, number) {
         return Ok(());
     }
     match flows.ends(template, number) {
-        Some((from, _)) => match spot_at(row, from) {
-            Spot::On(place) => match leave(flows, template, number, place) {
+        Some((from, _)) => match point_state_at(summary, from) {
+            PointState::At(place) => match transfer(flows, template, number, place) {
                 Step::Enters(callee, entry) => keep_pair(alloc, all, kept, callee, entry),
                 _ => Ok(()),
             },
@@ -98,38 +103,37 @@ fn keep_call(
     }
 }
 
-// Keeps the pairs that a kept row calls.
+// Keeps the pairs that a kept summary calls.
 fn keep_calls(
     alloc: Global,
     flows: &Flows,
-    all: &Rows,
-    kept: &mut Rows,
+    all: &Summaries,
+    kept: &mut Summaries,
     n: usize,
 ) -> Result<(), Memory>
     requires { n < length kept.old }
     ensures kept { OnOk result ((roots : List ℕ) (first : SpecPlace)
-        → IsKept flows.now roots first all.now kept.old
-        → IsKept flows.now roots first all.now kept.new) }
+        → IsKeptPair flows.now roots first all.now kept.old
+        → IsKeptPair flows.now roots first all.now kept.new) }
     ensures length { length kept.old ≤ length kept.new }
 {
-    for number in 0..flows.edge_count(kept.row(n).template) {
+    for number in 0..flows.edge_count(kept.summary(n).template) {
         keep_call(alloc, flows, all, kept, n, number)?;
     }
     Ok(())
 }
 
-/// The rows of the pairs that are reached from the roots: the roots in order, and then what each row calls, in the order of the nodes. The
-/// error is out of memory.
+/// The summaries of the pairs that are reached from the roots: the roots in order, and then what each summary calls, in the order of the nodes. Fails only if allocation fails.
 pub fn reached(
     alloc: Global,
     flows: &Flows,
     roots: &[u32],
     first: Place,
-    all: &Rows,
-) -> Result<Rows, Memory>
-    ensures { IfOk result (λ kept. IsKept flows.now roots.now first all.now kept) }
+    all: &Summaries,
+) -> Result<Summaries, Memory>
+    ensures { IfOk result (λ kept. IsKeptPair flows.now roots.now first all.now kept) }
 {
-    let mut kept = Rows::new(alloc);
+    let mut kept = Summaries::new(alloc);
     for root in roots {
         keep_pair(alloc, all, &mut kept, *root, first)?;
     }

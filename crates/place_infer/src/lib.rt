@@ -4,18 +4,16 @@
 mod calls;
 mod chart;
 mod check;
+mod conflict;
 mod finding;
-mod growing;
 mod inferring;
 mod kept;
-mod leaving;
+mod outgoing;
 mod queue;
 mod refusal;
-mod replaying;
 mod roots;
 mod set_refused;
-mod showing;
-mod torn;
+mod solver;
 
 pub use chart::Chart;
 pub use inferring::{LIMIT, infer};

@@ -4,16 +4,16 @@ use std::alloc::Global;
 use std::collections::VecDeque;
 use tpl_paths::Point;
 
-/// A point of a row, by the row's number.
+/// A point of a summary, by the summary's number.
 #[derive(Clone, Copy, Debug)]
 pub struct Task {
-    /// The row's number.
-    pub row: usize,
+    /// The summary's number.
+    pub summary: usize,
     /// The point.
     pub point: Point,
 }
 
-// What is to be known of a row: which of its points wait, by their numbers, and the points from which it is called.
+// What is to be known of a summary: which of its points wait, by their numbers, and the points from which it is called.
 #[derive(Debug, Drop)]
 struct Waiting {
     waits: Vec<bool>,
@@ -24,7 +24,7 @@ struct Waiting {
 #[derive(Debug, Drop)]
 pub struct Queue {
     tasks: VecDeque<Task>,
-    rows: Vec<Waiting>,
+    summaries: Vec<Waiting>,
 }
 
 impl Queue {
@@ -32,24 +32,24 @@ impl Queue {
     pub fn new(alloc: Global) -> Queue {
         Queue {
             tasks: VecDeque::new(alloc),
-            rows: Vec::new(alloc),
+            summaries: Vec::new(alloc),
         }
     }
 
-    /// One more row, whose points have so many numbers. The error is out of memory.
-    pub fn add_row(&mut self, alloc: Global, points: usize) -> Result<(), Memory> {
+    /// One more summary, whose points have so many numbers. Fails only if allocation fails.
+    pub fn add_summary(&mut self, alloc: Global, points: usize) -> Result<(), Memory> {
         let mut waits = Vec::new(alloc);
         for _point in 0..points {
             waits.push(false)?;
         }
-        self.rows.push(Waiting {
+        self.summaries.push(Waiting {
             waits,
             callers: Vec::new(alloc),
         })?;
         Ok(())
     }
 
-    /// Lets a point wait, where it does not yet. The error is out of memory.
+    /// Lets a point wait, where it does not yet. Fails only if allocation fails.
     pub fn push(&mut self, task: Task) -> Result<(), Memory> {
         if self.mark(task, true) {
             self.tasks.push_back(task)?;
@@ -68,42 +68,42 @@ impl Queue {
         }
     }
 
-    // Sets whether a point waits, and tells whether that is new.
+    // Sets whether a point waits, and reports whether that is new.
     fn mark(&mut self, task: Task, waits: bool) -> bool {
-        if task.row >= self.rows.len() {
+        if task.summary >= self.summaries.len() {
             return false;
         }
-        mark_point(&mut self.rows[task.row].waits, task.point, waits)
+        mark_point(&mut self.summaries[task.summary].waits, task.point, waits)
     }
 
-    /// A row is called from a point of another row. The error is out of memory.
-    pub fn add_caller(&mut self, row: usize, caller: Task) -> Result<(), Memory> {
-        if row >= self.rows.len() {
+    /// A summary is called from a point of another summary. Fails only if allocation fails.
+    pub fn add_caller(&mut self, summary: usize, caller: Task) -> Result<(), Memory> {
+        if summary >= self.summaries.len() {
             return Ok(());
         }
-        self.rows[row].callers.push(caller)?;
+        self.summaries[summary].callers.push(caller)?;
         Ok(())
     }
 
-    /// Lets the points wait from which a row is called. The error is out of memory.
-    pub fn push_callers(&mut self, row: usize) -> Result<(), Memory> {
-        for n in 0..self.caller_count(row) {
-            if let Some(caller) = self.caller(row, n) {
+    /// Lets the points wait from which a summary is called. Fails only if allocation fails.
+    pub fn push_callers(&mut self, summary: usize) -> Result<(), Memory> {
+        for n in 0..self.caller_count(summary) {
+            if let Some(caller) = self.caller(summary, n) {
                 self.push(caller)?;
             }
         }
         Ok(())
     }
 
-    fn caller_count(&self, row: usize) -> usize {
-        match self.rows.get(row) {
+    fn caller_count(&self, summary: usize) -> usize {
+        match self.summaries.get(summary) {
             Some(waiting) => waiting.callers.len(),
             None => 0,
         }
     }
 
-    fn caller(&self, row: usize, n: usize) -> Option<Task> {
-        match self.rows.get(row) {
+    fn caller(&self, summary: usize, n: usize) -> Option<Task> {
+        match self.summaries.get(summary) {
             Some(waiting) => match waiting.callers.get(n) {
                 Some(caller) => Some(*caller),
                 None => None,

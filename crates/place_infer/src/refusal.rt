@@ -5,12 +5,11 @@ ghost use Rattle.place_show.specs.Showings.{Shows};
 ghost use Rattle.tpl_tree.specs.Forests.{ForestData};
 
 use crate::set_refused::SetRefused;
-use crate::showing::{shown_end, shown_tear};
 use page_io::{Memory, Names, Text};
 use place_core::Code;
+use place_derive::{Derivation, FirstConflict};
 use place_flow::Flows;
-use place_growth::{Growth, Tear};
-use place_show::Showing;
+use place_show::{Showing, shown_conflict, shown_end};
 use std::alloc::Global;
 use tpl_tree::Forest;
 
@@ -57,19 +56,23 @@ fn of_root(names: &Names, ends: bool, showing: Showing) -> SetRefused
     SetRefused::Memory
 }
 
-/// Why a chart that is torn is refused.
-pub fn refusal_by_tear(
+/// Why a chart that is in conflict is refused.
+pub fn refusal_by_conflict(
     alloc: Global,
     forest: &Forest,
     flows: &Flows,
     names: &Names,
-    log: &[Growth],
-    tear: &Option<Tear>,
+    log: &[Derivation],
+    conflict: &Option<FirstConflict>,
 ) -> SetRefused
     ensures { flows.now ≡ forest.now → IsRefusal forest.now names.now false result }
 {
-    match tear {
-        Some(tear) => refusal(names, false, shown_tear(alloc, forest, flows, log, tear)),
+    match conflict {
+        Some(conflict) => refusal(
+            names,
+            false,
+            shown_conflict(alloc, forest, flows, log, conflict),
+        ),
         None => SetRefused::Memory,
     }
 }
@@ -80,7 +83,7 @@ pub fn refusal_by_end(
     forest: &Forest,
     flows: &Flows,
     names: &Names,
-    log: &[Growth],
+    log: &[Derivation],
     root: u32,
 ) -> SetRefused
     ensures { flows.now ≡ forest.now → IsRefusal forest.now names.now true result }

@@ -1,14 +1,14 @@
 pub mod Clash
+pub mod Conflict
 pub mod Elsewhere
 pub mod HoleRefused
 pub mod LastNodes
 pub mod Makings
 pub mod Mapped
-pub mod Misuse
 pub mod Missing
+pub mod Misuse
 pub mod Named
 pub mod Orders
 pub mod TextRefused
-pub mod Torn
 pub mod TwoShown
 pub mod Within

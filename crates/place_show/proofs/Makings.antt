@@ -3,15 +3,15 @@ use Rattle.std.proofs.Common.{◌≡◌, ℕ, List, Option, Some, None, sym, ap,
 use Rattle.place_core.specs.declared.code.Code.{Code}
 use Rattle.place_core.specs.declared.place.Place.{Place}
 use Rattle.place_flow.specs.Flows.{nodes_at}
-use Rattle.place_replay.specs.Replays.{IsWalker, name_or_none}
-use Rattle.place_replay.specs.declared.walker.OpenCall.{OpenCall}
-use Rattle.place_replay.specs.declared.walker.Walker.{Walker}
-use Rattle.place_show.specs.Made.{IsMade, IsMadeOne, IsMadeTwo, IsSeenAt}
-use Rattle.place_show.specs.Showings.{IsNodeShown, IsShownBy, Meet, OneError, ShowsOne, kind_of_node, state_of}
+use Rattle.place_trace.specs.Replays.{IsPathReplay, name_or_none}
+use Rattle.place_trace.specs.declared.replay.ReplayedCall.{ReplayedCall}
+use Rattle.place_trace.specs.declared.replay.PathReplay.{PathReplay}
+use Rattle.place_show.specs.Made.{IsShowingMade, IsMadeOne, IsMadeTwo, IsSeenAt}
+use Rattle.place_show.specs.Showings.{IsNodeShown, IsShownBy, Meet, OneError, ShowsOne, kind_of_node, shown_state}
 use Rattle.place_show.specs.declared.showing.Seen.{Seen}
 use Rattle.place_show.specs.declared.showing.Showing.{Showing}
 use Rattle.tpl_paths.specs.Edges.{before}
-use Rattle.tpl_tree.specs.Forests.{ForestData, name_at}
+use Rattle.tpl_tree.specs.Forests.{ForestData, tree_name_at}
 use Rattle.tpl_tree.specs.Trees.{NodesData, head_kind, head_line, nodes_from}
 use Rattle.tpl_tree.specs.declared.node_kind.NodeKind.{NodeKind}
 
@@ -19,40 +19,40 @@ pub named : (o : Option (List ℕ)) (name x : List ℕ) → o ≡ Some name → 
 named (Some a) name x h e = ap Some (sym e)
 named None name x h e = cc
 
-abbrev pub shown-by : (forest : ForestData) (w : Walker) (c : Code) (line n byte : ℕ) (at : Place) (sh : Showing) (seen : Seen) → IsMade forest w c line n byte sh → IsSeenAt forest w at seen → IsWalker forest w → IsShownBy forest sh seen w
+abbrev pub shown-by : (forest : ForestData) (w : PathReplay) (c : Code) (line n byte : ℕ) (at : Place) (sh : Showing) (seen : Seen) → IsShowingMade forest w c line n byte sh → IsSeenAt forest w at seen → IsPathReplay forest w → IsShownBy forest sh seen w
 shown-by forest w c line n byte at sh seen m s is = record {
   is = is;
-  root = named (name_at forest w.root) is.root_name sh.root is.root_is m.root;
-  template = named (name_at forest w.template) is.name sh.template is.name_is m.template;
+  root = named (tree_name_at forest w.root) is.root_name sh.root is.root_is m.root;
+  template = named (tree_name_at forest w.template) is.name sh.template is.name_is m.template;
   calls = sym m.calls;
   path = s.path;
   named = s.named;
 }
 
--- .. and by a path that meets it
-abbrev pub shown-by-other : (forest : ForestData) (w v : Walker) (at : Place) (sh : Showing) (seen other : Seen) → IsShownBy forest sh seen w → Meet w v → IsSeenAt forest v at other → IsWalker forest v → IsShownBy forest sh other v
+-- likewise, and by a path that meets it
+abbrev pub shown-by-other : (forest : ForestData) (w v : PathReplay) (at : Place) (sh : Showing) (seen other : Seen) → IsShownBy forest sh seen w → Meet w v → IsSeenAt forest v at other → IsPathReplay forest v → IsShownBy forest sh other v
 shown-by-other forest w v at sh seen other by meet s is = record {
   is = is;
-  root = ap (name_at forest) meet.root ∙ by.root;
-  template = ap (name_at forest) meet.template ∙ by.template;
-  calls = ap (map (λ (o : OpenCall). o.node)) meet.open_calls ∙ by.calls;
+  root = ap (tree_name_at forest) meet.root ∙ by.root;
+  template = ap (tree_name_at forest) meet.template ∙ by.template;
+  calls = ap (map (λ (o : ReplayedCall). o.node)) meet.open_calls ∙ by.calls;
   path = s.path;
   named = s.named;
 }
 
-pub meets : (w v : Walker) → w.root ≡ v.root → w.template ≡ v.template → w.point ≡ v.point → w.open_calls.items ≡ v.open_calls.items → Meet w v
+pub meets : (w v : PathReplay) → w.root ≡ v.root → w.template ≡ v.template → w.point ≡ v.point → w.open_calls.items ≡ v.open_calls.items → Meet w v
 meets w v root template point calls = record { root = sym root; template = sym template; point = sym point; open_calls = sym calls }
 
-pub shows-one : (forest : ForestData) (w : Walker) (c : Code) (line n byte : ℕ) (at : Place) (sh : Showing) (m : IsMadeOne forest w c line n byte at sh) (is : IsWalker forest w) → OneError forest sh m.seen w (state_of is) → ShowsOne forest sh
+pub shows-one : (forest : ForestData) (w : PathReplay) (c : Code) (line n byte : ℕ) (at : Place) (sh : Showing) (m : IsMadeOne forest w c line n byte at sh) (is : IsPathReplay forest w) → OneError forest sh m.seen w (shown_state is) → ShowsOne forest sh
 shows-one forest w c line n byte at sh m is error = record {
-  walker = w;
+  replay = w;
   seen = m.seen;
   paths = m.paths;
   by = shown-by forest w c line n byte at sh m.seen m.made m.is is;
   error = error;
 }
 
-module _ (forest : ForestData) (w : Walker) (nodes : NodesData) (n : ℕ) (sh : Showing) (there : nodes_at forest w.template ≡ nodes) where
+module _ (forest : ForestData) (w : PathReplay) (nodes : NodesData) (n : ℕ) (sh : Showing) (there : nodes_at forest w.template ≡ nodes) where
   pub kind-shown : (k : NodeKind) → sh.node ≡ n → head_kind (nodes_from nodes n) ≡ Some k → kind_of_node forest w.template sh.node ≡ Some k
   kind-shown k e h = rw (e, there) h
 
@@ -65,7 +65,7 @@ module _ (forest : ForestData) (w : Walker) (nodes : NodesData) (n : ℕ) (sh : 
   }
 
 -- what is made is made as well by equals
-made-as : (forest : ForestData) (w : Walker) (c d : Code) (line ine n i byte b : ℕ) (sh : Showing) → c ≡ d → line ≡ ine → n ≡ i → byte ≡ b → IsMade forest w c line n byte sh → IsMade forest w d ine i b sh
+made-as : (forest : ForestData) (w : PathReplay) (c d : Code) (line ine n i byte b : ℕ) (sh : Showing) → c ≡ d → line ≡ ine → n ≡ i → byte ≡ b → IsShowingMade forest w c line n byte sh → IsShowingMade forest w d ine i b sh
 made-as forest w c d line ine n i byte b sh e f g h m = record {
   code = m.code ∙ e;
   template = m.template;
@@ -76,11 +76,11 @@ made-as forest w c d line ine n i byte b sh e f g h m = record {
   byte_is = m.byte_is ∙ h;
 }
 
-pub made-one-as : (forest : ForestData) (w : Walker) (c d : Code) (line ine n i byte b : ℕ) (at : Place) (sh : Showing) → c ≡ d → line ≡ ine → n ≡ i → byte ≡ b → IsMadeOne forest w c line n byte at sh → IsMadeOne forest w d ine i b at sh
+pub made-one-as : (forest : ForestData) (w : PathReplay) (c d : Code) (line ine n i byte b : ℕ) (at : Place) (sh : Showing) → c ≡ d → line ≡ ine → n ≡ i → byte ≡ b → IsMadeOne forest w c line n byte at sh → IsMadeOne forest w d ine i b at sh
 made-one-as forest w c d line ine n i byte b at sh e f g h m =
     record { made = made-as forest w c d line ine n i byte b sh e f g h m.made; seen = m.seen; paths = m.paths; is = m.is }
 
-pub made-two-as : (forest : ForestData) (w v : Walker) (c d : Code) (line ine n i byte b : ℕ) (at to other beside : Place) (sh : Showing) → c ≡ d → line ≡ ine → n ≡ i → byte ≡ b → at ≡ to → other ≡ beside
+pub made-two-as : (forest : ForestData) (w v : PathReplay) (c d : Code) (line ine n i byte b : ℕ) (at to other beside : Place) (sh : Showing) → c ≡ d → line ≡ ine → n ≡ i → byte ≡ b → at ≡ to → other ≡ beside
     → IsMadeTwo forest w v c line n byte at other sh → IsMadeTwo forest w v d ine i b to beside sh
 made-two-as forest w v c d line ine n i byte b at to other beside sh e f g h a o m = record {
   made = made-as forest w c d line ine n i byte b sh e f g h m.made;

@@ -1,25 +1,25 @@
 -- An error of two paths that meet is shown by the two, in whichever order they come.
 use Rattle.std.proofs.Common.{ℕ, sym, ap, ◌∙◌, subst, ◌⊎◌, inl, inr}
 use Rattle.place_core.proofs.Joins.{places_partial}
-use Rattle.place_core.specs.States.{State}
-use Rattle.place_core.specs.Tags.{ValueState}
-use Rattle.place_replay.specs.declared.walker.Walker.{Walker}
+use Rattle.place_core.specs.page.States.{LexState}
+use Rattle.place_core.specs.page.Tags.{ValueState}
+use Rattle.place_trace.specs.declared.replay.PathReplay.{PathReplay}
 use Rattle.place_show.specs.Made.{InOrder}
-use Rattle.place_show.specs.Showings.{DoNotJoin, IsShownBy, JoinsAt, Meet, ShowsTwo, TextClashes, TwoErrors, kind_of_node, line_of_byte, line_of_node, state_of}
+use Rattle.place_show.specs.Showings.{DoNotJoin, IsShownBy, JoinsAt, Meet, ShowsTwo, TextClashes, TwoErrors, kind_of_node, line_of_byte, line_of_node, shown_state}
 use Rattle.place_show.specs.declared.showing.Seen.{Seen}
 use Rattle.place_show.specs.declared.showing.Showing.{Showing}
 use Rattle.tpl_paths.specs.Edges.{Point}
 use Rattle.tpl_tree.specs.Forests.{ForestData}
 
-swapped-meet : (w v : Walker) → Meet w v → Meet v w
+swapped-meet : (w v : PathReplay) → Meet w v → Meet v w
 swapped-meet w v m = record { root = sym m.root; template = sym m.template; point = sym m.point; open_calls = sym m.open_calls }
 
 swapped-sides : {A B : Type 0} → A ⊎ B → B ⊎ A
 swapped-sides (inl a) = inr a
 swapped-sides (inr b) = inl b
 
-module _ (forest : ForestData) (sh : Showing) (w v : Walker) (a b : Seen) (meet : Meet w v) where
-  swapped-clash : (s r : State ValueState) → TextClashes forest sh a b w v s r → TextClashes forest sh b a v w r s
+module _ (forest : ForestData) (sh : Showing) (w v : PathReplay) (a b : Seen) (meet : Meet w v) where
+  swapped-clash : (s r : LexState ValueState) → TextClashes forest sh a b w v s r → TextClashes forest sh b a v w r s
   swapped-clash s r t = record {
     bytes = t.bytes;
     point = meet.point ∙ t.point;
@@ -35,18 +35,18 @@ module _ (forest : ForestData) (sh : Showing) (w v : Walker) (a b : Seen) (meet 
     point = subst (λ (k : Point). JoinsAt sh.code k sh.node) (sym meet.point) d.point;
     at = d.other_at;
     other_at = d.at;
-    torn = (places_partial).swapped v.place w.place ∙ d.torn;
+    conflict = (places_partial).swapped v.place w.place ∙ d.conflict;
     line = d.line ∙ sym (ap (λ (u : ℕ). line_of_node forest u sh.node) meet.template);
     byte = d.byte;
   }
 
-  swapped-error : (s r : State ValueState) → TwoErrors forest sh a b w v s r → TwoErrors forest sh b a v w r s
+  swapped-error : (s r : LexState ValueState) → TwoErrors forest sh a b w v s r → TwoErrors forest sh b a v w r s
   swapped-error s r (inl t) = inl (swapped-clash s r t)
   swapped-error s r (inr d) = inr (swapped-join d)
 
-  pub two-shown : (by : IsShownBy forest sh a w) (other_by : IsShownBy forest sh b v) → InOrder a b sh.paths → TwoErrors forest sh a b w v (state_of by.is) (state_of other_by.is) → ShowsTwo forest sh
+  pub two-shown : (by : IsShownBy forest sh a w) (other_by : IsShownBy forest sh b v) → InOrder a b sh.paths → TwoErrors forest sh a b w v (shown_state by.is) (shown_state other_by.is) → ShowsTwo forest sh
   two-shown by other_by (inl p) error = record {
-    walker = w;
+    replay = w;
     other = v;
     seen = a;
     other_seen = b;
@@ -58,7 +58,7 @@ module _ (forest : ForestData) (sh : Showing) (w v : Walker) (a b : Seen) (meet 
     error = error;
   }
   two-shown by other_by (inr p) error = record {
-    walker = v;
+    replay = v;
     other = w;
     seen = b;
     other_seen = a;
@@ -67,5 +67,5 @@ module _ (forest : ForestData) (sh : Showing) (w v : Walker) (a b : Seen) (meet 
     by = other_by;
     other_by = by;
     meet = swapped-meet w v meet;
-    error = swapped-error (state_of by.is) (state_of other_by.is) error;
+    error = swapped-error (shown_state by.is) (shown_state other_by.is) error;
   }

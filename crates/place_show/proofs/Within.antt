@@ -1,31 +1,31 @@
 -- A text is refused at one of its bytes, or at its end.
 use Rattle.std.proofs.Common.{◌≡◌, ℕ, ◌+◌, ◌-◌, ◌≤◌, List, [], ◌∷◌, length, Option, Some, None, Result, Ok, Err, refl, sym, ap, ◌∙◌, subst, arith}
-use Rattle.html_front.specs.Fronts.{At, Front, front_cut_error, front_error, front_next, front_place}
+use Rattle.html_scan.specs.Scans.{At, Scan, scan_cut_error, scan_error, scan_next, scan_place}
 use Rattle.html_step.specs.Steps.{after_text, place_before, stepped, unless_refused, with_place_before}
-use Rattle.place_core.specs.Classes.{class_of}
-use Rattle.place_core.specs.Errors.{Cause, Refusal}
+use Rattle.place_core.specs.page.Classes.{class_of}
+use Rattle.place_core.specs.place.Errors.{PathCause, PathRefusal}
 use Rattle.place_core.specs.declared.place.Place.{Place}
 use Rattle.place_core.specs.declared.step_err.StepErr.{StepErr}
 use Rattle.place_show.specs.Taking.{TakesByte}
 
-one-refusal : (x y : Refusal) (o : Result Place Refusal) → o ≡ Err x → o ≡ Err y → x ≡ y
+one-refusal : (x y : PathRefusal) (o : Result Place PathRefusal) → o ≡ Err x → o ≡ Err y → x ≡ y
 one-refusal x y o e f = cc
 
-unless-within : (k n : ℕ) (o : Option Cause) (r : Result Place Refusal) (x : Refusal) → ((y : Refusal) → r ≡ Err y → y.at ≤ k + n) → unless_refused k o r ≡ Err x → x.at ≤ k + n
+unless-within : (k n : ℕ) (o : Option PathCause) (r : Result Place PathRefusal) (x : PathRefusal) → ((y : PathRefusal) → r ≡ Err y → y.at ≤ k + n) → unless_refused k o r ≡ Err x → x.at ≤ k + n
 unless-within k n None r x f h = f x h
 unless-within k n (Some e) r x f h =
-    let here : Refusal = record { code = e.code; at = k - e.back } in
-    let at : k - e.back ≡ x.at = ap (λ (y : Refusal). y.at) (one-refusal here x (unless_refused k (Some e) r) refl h) in
+    let here : PathRefusal = record { code = e.code; at = k - e.back } in
+    let at : k - e.back ≡ x.at = ap (λ (y : PathRefusal). y.at) (one-refusal here x (unless_refused k (Some e) r) refl h) in
     omega (arith, at)
 
-not-both : (q : Place) (x : Refusal) → Ok q ≡ Err x → (k : ℕ) → x.at ≤ k
+not-both : (q : Place) (x : PathRefusal) → Ok q ≡ Err x → (k : ℕ) → x.at ≤ k
 not-both q x h k = cc
 
-stepped-within : (k : ℕ) (bytes : List ℕ) (f : Front) (x : Refusal) → stepped k bytes f ≡ Err x → x.at ≤ k + length bytes
-stepped-within k [] f x h = unless-within k 0 (front_cut_error f) (Ok (front_place f)) x (λ y e. not-both (front_place f) y e (k + 0)) h
+stepped-within : (k : ℕ) (bytes : List ℕ) (f : Scan) (x : PathRefusal) → stepped k bytes f ≡ Err x → x.at ≤ k + length bytes
+stepped-within k [] f x h = unless-within k 0 (scan_cut_error f) (Ok (scan_place f)) x (λ y e. not-both (scan_place f) y e (k + 0)) h
 stepped-within k (b ∷ bs) f x h =
-    unless-within k (length (b ∷ bs)) (front_error f (class_of b)) (stepped (k + 1) bs (front_next f (class_of b) b)) x
-    (λ y e. (let w = stepped-within (k + 1) bs (front_next f (class_of b) b) y e in omega (arith, w))) h
+    unless-within k (length (b ∷ bs)) (scan_error f (class_of b)) (stepped (k + 1) bs (scan_next f (class_of b) b)) x
+    (λ y e. (let w = stepped-within (k + 1) bs (scan_next f (class_of b) b) y e in omega (arith, w))) h
 
 one-error : (x y : StepErr Place) (o : Result Place (StepErr Place)) → o ≡ Err x → o ≡ Err y → x ≡ y
 one-error x y o e f = cc
@@ -33,7 +33,7 @@ one-error x y o e f = cc
 none-error : (q : Place) (x : StepErr Place) → Ok q ≡ Err x → (k : ℕ) → x.at ≤ k
 none-error q x h k = cc
 
-answer-within : (bytes : List ℕ) (p : Place) (o : Result Place Refusal) (e : StepErr Place) → stepped 0 bytes (At p) ≡ o → with_place_before bytes p o ≡ Err e → e.at ≤ length bytes
+answer-within : (bytes : List ℕ) (p : Place) (o : Result Place PathRefusal) (e : StepErr Place) → stepped 0 bytes (At p) ≡ o → with_place_before bytes p o ≡ Err e → e.at ≤ length bytes
 answer-within bytes p (Ok q) e s h = none-error q e h (length bytes)
 answer-within bytes p (Err r) e s h =
     let here : StepErr Place = record { code = r.code; at = r.at; before = place_before bytes r.at p } in

@@ -9,21 +9,21 @@ is_text_place place.Text = true
 is_text_place _ = false
 
 -- the number of the last of some nodes at their top level, the first of which has this number; another number where there are none
-abbrev pub last_from : ℕ → ℕ → NodesData → ℕ
-last_from none n no_nodes = none
-last_from none n (node kind line seams first other rest) =
-    last_from n (n + 1 + nodes_size first + nodes_size other) rest
+abbrev pub last_node_from : ℕ → ℕ → NodesData → ℕ
+last_node_from none n no_nodes = none
+last_node_from none n (node kind line seams first other rest) =
+    last_node_from n (n + 1 + nodes_size first + nodes_size other) rest
 
 -- the number of the last node at top level; 0 where there is none
 abbrev pub last_number : NodesData → ℕ
-last_number nodes = last_from 0 0 nodes
+last_number nodes = last_node_from 0 0 nodes
 
--- .. from the node of a number on, where there is one
+-- likewise, from the node of a number on, where there is one
 abbrev pub last_on : NodesData → ℕ → Option ℕ → ℕ
 last_on nodes none None = none
-last_on nodes none (Some n) = last_from none n (nodes_from nodes n)
+last_on nodes none (Some n) = last_node_from none n (nodes_from nodes n)
 
--- .. of a template
+-- likewise, of a template
 abbrev pub last_of : Option TreeData → ℕ
 last_of None = 0
 last_of (Some tree) = last_number tree.nodes

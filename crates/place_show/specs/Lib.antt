@@ -1,5 +1,6 @@
 pub mod Answers
 pub mod AtNodes
+pub mod Conflicts
 pub mod Ends
 pub mod Made
 pub mod PathTexts

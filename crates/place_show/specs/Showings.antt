@@ -1,28 +1,28 @@
 -- An error that stands on a path, or on two that meet, as it is shown.
 use Rattle.std.specs.Prelude.{◌≡◌, ◌≢◌, ℕ, false, List, [], ◌∷◌, All, Option, Some, None, map, take, ◌⊎◌}
-use Rattle.place_charts.specs.Charts.{read_moves}
-use Rattle.place_charts.specs.Html.{html}
-use Rattle.place_core.specs.Errors.{Clashes, Refuses, RefusesHole, node}
-use Rattle.place_core.specs.Html.{start}
-use Rattle.place_core.specs.Places.{joined}
-use Rattle.place_core.specs.StatePlaces.{placed}
-use Rattle.place_core.specs.States.{State}
-use Rattle.place_core.specs.Tags.{ValueState}
+use Rattle.place_flow.specs.Covering.{read_moves}
+use Rattle.place_flow.specs.HtmlCovering.{html_language}
+use Rattle.place_core.specs.place.Errors.{Clashes, PathRefuses, RefusesHole, node}
+use Rattle.place_core.specs.page.Html.{start}
+use Rattle.place_core.specs.place.Places.{joined}
+use Rattle.place_core.specs.place.StatePlaces.{placed}
+use Rattle.place_core.specs.page.States.{LexState}
+use Rattle.place_core.specs.page.Tags.{ValueState}
 use Rattle.place_core.specs.declared.code.Code.{Code}
 use Rattle.place_core.specs.declared.code.Code.TheVariants as code
 use Rattle.place_core.specs.declared.place.Place.TheVariants as place
 use Rattle.place_flow.specs.Flows.{nodes_at}
-use Rattle.place_flow.specs.Leaving.{may_use, use_at}
-use Rattle.place_replay.specs.Replays.{IsWalker, name_or_none}
-use Rattle.place_replay.specs.declared.chosen.Chosen.{Chosen}
-use Rattle.place_replay.specs.declared.walker.Walker.{Walker}
+use Rattle.place_flow.specs.Transfer.{may_use, use_at}
+use Rattle.place_trace.specs.Replays.{IsPathReplay, name_or_none}
+use Rattle.place_trace.specs.declared.chosen.Chosen.{Chosen}
+use Rattle.place_trace.specs.declared.replay.PathReplay.{PathReplay}
 use Rattle.place_show.specs.Ends.{last_of}
 use Rattle.place_show.specs.PathTexts.{ComesFirst}
 use Rattle.place_show.specs.declared.showing.Seen.{Seen}
-use Rattle.place_show.specs.declared.showing.SeenChoice.{SeenChoice}
+use Rattle.place_show.specs.declared.showing.Choice.{Choice}
 use Rattle.place_show.specs.declared.showing.Showing.{Showing}
-use Rattle.tpl_paths.specs.Edges.{Point, before, finish, head, past}
-use Rattle.tpl_tree.specs.Forests.{ForestData, name_at, number_named, tree_at}
+use Rattle.tpl_paths.specs.Edges.{Point, before, finish_point, head, past_point}
+use Rattle.tpl_tree.specs.Forests.{ForestData, tree_name_at, number_named, tree_at}
 use Rattle.tpl_tree.specs.Trees.{TreeData, head_kind, head_line, head_seams, nodes_from, text_line}
 use Rattle.tpl_tree.specs.declared.node_kind.NodeKind.{NodeKind}
 use Rattle.tpl_tree.specs.declared.node_kind.NodeKind.TheVariants as kind
@@ -41,46 +41,46 @@ line_of_byte forest t n bytes at =
     text_line bytes (line_of_node forest t n) (head_seams (nodes_from (nodes_at forest t) n)) at
 
 -- the line on which a template ends
-abbrev pub end_of : Option TreeData → ℕ
-end_of None = 0
-end_of (Some tree) = tree.end_line
+abbrev pub template_end : Option TreeData → ℕ
+template_end None = 0
+template_end (Some tree) = tree.end_line
 
 -- what a path chose, as it is shown
-abbrev pub seen_choice : ForestData → Chosen → SeenChoice
+abbrev pub seen_choice : ForestData → Chosen → Choice
 seen_choice forest c = record {
-  template = name_or_none (name_at forest c.template);
+  template = name_or_none (tree_name_at forest c.template);
   line = line_of_node forest c.template c.node;
   way = c.way;
 }
 
--- .. in a template of the forest, which has the name that is shown
-abbrev pub IsNamed : ForestData → Chosen → Type 0
-IsNamed forest c = name_at forest c.template ≡ Some (seen_choice forest c).template
+-- likewise, in a template of the forest, which has the name that is shown
+abbrev pub IsNamedTemplate : ForestData → Chosen → Type 0
+IsNamedTemplate forest c = tree_name_at forest c.template ≡ Some (seen_choice forest c).template
 
 -- what a path has read
-abbrev pub state_of : {forest : ForestData} {w : Walker} → IsWalker forest w → State ValueState
-state_of is = read_moves html is.moves start.at
+abbrev pub shown_state : {forest : ForestData} {w : PathReplay} → IsPathReplay forest w → LexState ValueState
+shown_state is = read_moves html_language is.moves start.at
 
 -- A path of the root of a showing stands in its template, with its calls open.
-pub record IsShownBy (forest : ForestData) (sh : Showing) (seen : Seen) (w : Walker) : Type 0 where
-  pub is : IsWalker forest w
-  pub root : name_at forest w.root ≡ Some sh.root
-  pub template : name_at forest w.template ≡ Some sh.template
+pub record IsShownBy (forest : ForestData) (sh : Showing) (seen : Seen) (w : PathReplay) : Type 0 where
+  pub is : IsPathReplay forest w
+  pub root : tree_name_at forest w.root ≡ Some sh.root
+  pub template : tree_name_at forest w.template ≡ Some sh.template
   pub calls : map (λ o. o.node) w.open_calls.items ≡ sh.calls
   pub path : seen.path ≡ map (seen_choice forest) w.chosen.items
-  pub named : All (IsNamed forest) w.chosen.items
+  pub named : All (IsNamedTemplate forest) w.chosen.items
 
 -- An error of one path. A text is refused at a byte, before which the path is at the place that is shown.
-pub record IsTextRefused (forest : ForestData) (sh : Showing) (seen : Seen) (w : Walker)
-    (s : State ValueState) : Type 0 where
+pub record IsTextRefused (forest : ForestData) (sh : Showing) (seen : Seen) (w : PathReplay)
+    (s : LexState ValueState) : Type 0 where
   pub bytes : List ℕ
   pub point : w.point ≡ before sh.node
   pub text : kind_of_node forest w.template sh.node ≡ Some (kind.Text bytes)
-  pub refused : Refuses bytes s (record { code = sh.code; at = sh.byte; before = seen.at })
+  pub refused : PathRefuses bytes s (record { code = sh.code; at = sh.byte; before = seen.at })
   pub line : sh.line ≡ line_of_byte forest w.template sh.node bytes sh.byte
 
--- .. the path is at the place that is shown, and the node may not stand there
-pub record IsNodeShown (forest : ForestData) (sh : Showing) (seen : Seen) (w : Walker)
+-- likewise, the path is at the place that is shown, and the node may not stand there
+pub record IsNodeShown (forest : ForestData) (sh : Showing) (seen : Seen) (w : PathReplay)
     : Type 0 where
   pub point : w.point ≡ before sh.node
   pub at : seen.at ≡ w.place
@@ -88,21 +88,21 @@ pub record IsNodeShown (forest : ForestData) (sh : Showing) (seen : Seen) (w : W
   pub byte : sh.byte ≡ 0
 
 -- a hole
-pub record IsHoleRefused (forest : ForestData) (sh : Showing) (seen : Seen) (w : Walker)
-    (s : State ValueState) : Type 0 where
+pub record IsHoleRefused (forest : ForestData) (sh : Showing) (seen : Seen) (w : PathReplay)
+    (s : LexState ValueState) : Type 0 where
   pub pipe : Pipe
   pub hole : kind_of_node forest w.template sh.node ≡ Some (kind.Action pipe)
   pub shown : IsNodeShown forest sh seen w
   pub refused : RefusesHole s sh.code
 
 -- a predefined escaper
-pub record IsMisused (forest : ForestData) (sh : Showing) (seen : Seen) (w : Walker) : Type 0 where
+pub record IsMisused (forest : ForestData) (sh : Showing) (seen : Seen) (w : PathReplay) : Type 0 where
   pub code : sh.code ≡ code.PredefinedEscaper
   pub shown : IsNodeShown forest sh seen w
   pub misused : may_use w.place (use_at forest w.template (before sh.node)) ≡ false
 
 -- a call of a template that the forest lacks
-pub record IsMissing (forest : ForestData) (sh : Showing) (seen : Seen) (w : Walker) : Type 0 where
+pub record IsMissing (forest : ForestData) (sh : Showing) (seen : Seen) (w : PathReplay) : Type 0 where
   pub name : List ℕ
   pub pipe : Option Pipe
   pub code : sh.code ≡ code.NoSuchTemplate
@@ -111,19 +111,19 @@ pub record IsMissing (forest : ForestData) (sh : Showing) (seen : Seen) (w : Wal
   pub missing : number_named name forest ≡ None
 
 -- The path ends its root in another place than text. The node is the last one at top level of the root.
-pub record IsEndElsewhere (forest : ForestData) (sh : Showing) (seen : Seen) (w : Walker)
+pub record IsEndElsewhere (forest : ForestData) (sh : Showing) (seen : Seen) (w : PathReplay)
     : Type 0 where
   pub code : sh.code ≡ code.EndContext
   pub root : w.template ≡ w.root
   pub closed : w.open_calls.items ≡ []
-  pub point : w.point ≡ finish
+  pub point : w.point ≡ finish_point
   pub at : seen.at ≡ w.place
   pub elsewhere : w.place ≢ place.Text
-  pub line : sh.line ≡ end_of (tree_at forest w.root)
+  pub line : sh.line ≡ template_end (tree_at forest w.root)
   pub last : sh.node ≡ last_of (tree_at forest w.root)
   pub byte : sh.byte ≡ 0
 
-abbrev pub OneError : ForestData → Showing → Seen → Walker → State ValueState → Type 0
+abbrev pub OneError : ForestData → Showing → Seen → PathReplay → LexState ValueState → Type 0
 OneError forest sh seen w s =
     IsTextRefused forest sh seen w s
     ⊎ (IsHoleRefused forest sh seen w s
@@ -132,16 +132,16 @@ OneError forest sh seen w s =
     ⊎ IsEndElsewhere forest sh seen w)))
 
 pub record ShowsOne (forest : ForestData) (sh : Showing) : Type 0 where
-  pub walker : Walker
+  pub replay : PathReplay
   pub seen : Seen
   pub paths : sh.paths ≡ seen ∷ []
-  pub by : IsShownBy forest sh seen walker
-  pub error : OneError forest sh seen walker (state_of by.is)
+  pub by : IsShownBy forest sh seen replay
+  pub error : OneError forest sh seen replay (shown_state by.is)
 
 -- An error of two paths that meet: of one root, at one point, with the same calls open. A text is refused on
 -- both together, at a byte before which each is at its place.
-pub record TextClashes (forest : ForestData) (sh : Showing) (a b : Seen) (w v : Walker)
-    (s r : State ValueState) : Type 0 where
+pub record TextClashes (forest : ForestData) (sh : Showing) (a b : Seen) (w v : PathReplay)
+    (s r : LexState ValueState) : Type 0 where
   pub bytes : List ℕ
   pub point : w.point ≡ before sh.node
   pub text : kind_of_node forest w.template sh.node ≡ Some (kind.Text bytes)
@@ -150,46 +150,46 @@ pub record TextClashes (forest : ForestData) (sh : Showing) (a b : Seen) (w v : 
   pub other_at : placed (node (take sh.byte bytes) r) ≡ Some b.at
   pub line : sh.line ≡ line_of_byte forest w.template sh.node bytes sh.byte
 
--- the code of places that do not join: at the head of a range, and behind the parts of a control
+-- the code of places that do not join: at the head of a range, and after the parts of a control
 abbrev pub JoinsAt : Code → Point → ℕ → Type 0
 JoinsAt c k n =
     ((c ≡ code.RangeLoopReentry) × (k ≡ head n))
-    ⊎ ((c ≡ code.BranchEnd) × (k ≡ past n))
+    ⊎ ((c ≡ code.BranchEnd) × (k ≡ past_point n))
 
 -- their places do not join
-pub record DoNotJoin (forest : ForestData) (sh : Showing) (a b : Seen) (w v : Walker) : Type 0 where
+pub record DoNotJoin (forest : ForestData) (sh : Showing) (a b : Seen) (w v : PathReplay) : Type 0 where
   pub point : JoinsAt sh.code w.point sh.node
   pub at : a.at ≡ w.place
   pub other_at : b.at ≡ v.place
-  pub torn : joined w.place v.place ≡ None
+  pub conflict : joined w.place v.place ≡ None
   pub line : sh.line ≡ line_of_node forest w.template sh.node
   pub byte : sh.byte ≡ 0
 
 -- they stand at one point, with the same calls open
-pub record Meet (w v : Walker) : Type 0 where
+pub record Meet (w v : PathReplay) : Type 0 where
   pub root : v.root ≡ w.root
   pub template : v.template ≡ w.template
   pub point : v.point ≡ w.point
   pub open_calls : v.open_calls.items ≡ w.open_calls.items
 
 -- an error of two paths that meet
-abbrev pub TwoErrors : ForestData → Showing → Seen → Seen → Walker → Walker → State ValueState
-    → State ValueState → Type 0
+abbrev pub TwoErrors : ForestData → Showing → Seen → Seen → PathReplay → PathReplay → LexState ValueState
+    → LexState ValueState → Type 0
 TwoErrors forest sh a b w v s r = TextClashes forest sh a b w v s r ⊎ DoNotJoin forest sh a b w v
 
 -- The paths are in the order in which they come as they are printed.
 pub record ShowsTwo (forest : ForestData) (sh : Showing) : Type 0 where
-  pub walker : Walker
-  pub other : Walker
+  pub replay : PathReplay
+  pub other : PathReplay
   pub seen : Seen
   pub other_seen : Seen
   pub paths : sh.paths ≡ seen ∷ other_seen ∷ []
   pub order : ComesFirst seen.path other_seen.path
-  pub by : IsShownBy forest sh seen walker
+  pub by : IsShownBy forest sh seen replay
   pub other_by : IsShownBy forest sh other_seen other
-  pub meet : Meet walker other
-  pub error : TwoErrors forest sh seen other_seen walker other
-      (state_of by.is) (state_of other_by.is)
+  pub meet : Meet replay other
+  pub error : TwoErrors forest sh seen other_seen replay other
+      (shown_state by.is) (shown_state other_by.is)
 
 -- A refusal shows an error that stands on its paths.
 abbrev pub Shows : ForestData → Showing → Type 0

@@ -1,7 +1,8 @@
-// Refusals that show the paths on which their error stands.
+// Counterexamples: the error of a set of templates, with the paths on which it stands.
 #![tactic(auto)]
 
 mod clashing;
+mod conflicts;
 mod ending;
 mod joining;
 mod making;
@@ -11,9 +12,6 @@ mod printing;
 mod seen;
 mod showing;
 
-pub use clashing::text_clash;
-pub use ending::end_error;
-pub use joining::join_error;
-pub use nodes::node_error;
+pub use conflicts::{shown_conflict, shown_end};
 pub use printing::{choice_text, path_text};
-pub use showing::{Seen, SeenChoice, Showing};
+pub use showing::{Choice, Seen, Showing};

@@ -1,6 +1,6 @@
 ghost use Rattle.std.specs.Prelude.{◌≡◌, ◌<◌, ◌≤◌, IfOk, IfSome, Some, length};
 ghost use Rattle.place_show.specs.Answers.{IfFound};
-ghost use Rattle.place_show.specs.Made.{IsMade, IsMadeOne, IsMadeTwo, IsSeenAt};
+ghost use Rattle.place_show.specs.Made.{IsShowingMade, IsMadeOne, IsMadeTwo, IsSeenAt};
 ghost use Rattle.tpl_tree.specs.Trees.{head_kind, head_line, head_seams, nodes_from, nodes_size, text_line};
 ghost use Rattle.tpl_tree.specs.declared.node_kind.NodeKind.TheVariants as kind;
 
@@ -9,7 +9,7 @@ use crate::seen::{are_named, call_nodes, name_of, seen_path};
 use crate::showing::{Seen, Showing};
 use page_io::{List, Memory, Text};
 use place_core::{Code, Place, StepErr};
-use place_replay::Walker;
+use place_trace::PathReplay;
 use std::alloc::Global;
 use tpl_tree::{Forest, Tree};
 
@@ -45,16 +45,16 @@ pub(crate) fn text_mark(tree: &Tree, node: u32, text: &Text, refused: StepErr<Pl
 fn seen_at(
     alloc: Global,
     forest: &Forest,
-    walker: &Walker,
+    replay: &PathReplay,
     at: Place,
 ) -> Result<Option<Seen>, Memory>
-    ensures { IfOk result (λ found. IfSome found (IsSeenAt forest.now walker.now at)) }
+    ensures { IfOk result (λ found. IfSome found (IsSeenAt forest.now replay.now at)) }
 {
-    if !are_named(forest, &walker.chosen) {
+    if !are_named(forest, &replay.chosen) {
         return Ok(None);
     }
     Ok(Some(Seen {
-        path: seen_path(alloc, forest, &walker.chosen)?,
+        path: seen_path(alloc, forest, &replay.chosen)?,
         at,
     }))
 }
@@ -63,67 +63,66 @@ fn seen_at(
 fn made(
     alloc: Global,
     forest: &Forest,
-    walker: &Walker,
+    replay: &PathReplay,
     mark: Mark,
     paths: List<Seen>,
 ) -> Result<Showing, Memory>
-    ensures made { let w = walker.now in
-        IfOk result (IsMade forest.now w mark.code mark.line mark.node mark.byte) }
+    ensures made { let w = replay.now in
+        IfOk result (IsShowingMade forest.now w mark.code mark.line mark.node mark.byte) }
     ensures paths { IfOk result (λ sh. sh.paths ≡ paths) }
 {
     Ok(Showing {
         code: mark.code,
-        template: name_of(alloc, forest, walker.template)?,
+        template: name_of(alloc, forest, replay.template)?,
         line: mark.line,
-        root: name_of(alloc, forest, walker.root)?,
-        calls: call_nodes(alloc, &walker.open_calls)?,
+        root: name_of(alloc, forest, replay.root)?,
+        calls: call_nodes(alloc, &replay.open_calls)?,
         node: mark.node,
         byte: mark.byte,
         paths,
     })
 }
 
-/// A showing of one path. None where it chose in a template that the forest lacks. The error is out of memory.
+/// A showing of one path. None where it chose in a template that the forest lacks. Fails only if allocation fails.
 pub(crate) fn made_one(
     alloc: Global,
     forest: &Forest,
-    walker: &Walker,
+    replay: &PathReplay,
     mark: Mark,
     at: Place,
 ) -> Result<Option<Showing>, Memory>
-    ensures { let w = walker.now in
+    ensures { let w = replay.now in
         IfFound (IsMadeOne forest.now w mark.code mark.line mark.node mark.byte at) result }
 {
-    let Some(seen) = seen_at(alloc, forest, walker, at)? else {
+    let Some(seen) = seen_at(alloc, forest, replay, at)? else {
         return Ok(None);
     };
     let mut paths = List::new(alloc);
     paths.push(seen)?;
-    Ok(Some(made(alloc, forest, walker, mark, paths)?))
+    Ok(Some(made(alloc, forest, replay, mark, paths)?))
 }
 
-/// A showing of two paths, the one first that comes first as they are printed. None where one chose in a template that the forest lacks. The
-/// error is out of memory.
+/// A showing of two paths, the one first that comes first as they are printed. None where one chose in a template that the forest lacks. Fails only if allocation fails.
 pub(crate) fn made_two(
     alloc: Global,
     forest: &Forest,
-    walker: &Walker,
-    other: &Walker,
+    replay: &PathReplay,
+    other: &PathReplay,
     mark: Mark,
     at: Place,
     other_at: Place,
 ) -> Result<Option<Showing>, Memory>
-    ensures { let w = walker.now in
+    ensures { let w = replay.now in
         let v = other.now in
         let is_made = IsMadeTwo forest.now w v mark.code mark.line mark.node mark.byte in
         IfFound (is_made at other_at) result }
 {
-    let Some(seen) = seen_at(alloc, forest, walker, at)? else {
+    let Some(seen) = seen_at(alloc, forest, replay, at)? else {
         return Ok(None);
     };
     let Some(other_seen) = seen_at(alloc, forest, other, other_at)? else {
         return Ok(None);
     };
     let paths = in_order(alloc, seen, other_seen)?;
-    Ok(Some(made(alloc, forest, walker, mark, paths)?))
+    Ok(Some(made(alloc, forest, replay, mark, paths)?))
 }

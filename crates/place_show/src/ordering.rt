@@ -3,11 +3,11 @@ ghost use Rattle.place_show.specs.Made.{InOrder};
 ghost use Rattle.place_show.specs.PathTexts.{ComesFirst};
 
 use crate::printing::path_text;
-use crate::showing::{Seen, SeenChoice};
+use crate::showing::{Choice, Seen};
 use page_io::{List, Memory};
 use std::alloc::Global;
 
-/// Two paths, the one first that comes first as they are printed. The error is out of memory.
+/// Two paths, the one first that comes first as they are printed. Fails only if allocation fails.
 pub(crate) fn in_order(alloc: Global, one: Seen, other: Seen) -> Result<List<Seen>, Memory>
     ensures { IfOk result (InOrder one other) }
 {
@@ -23,12 +23,8 @@ pub(crate) fn in_order(alloc: Global, one: Seen, other: Seen) -> Result<List<See
     Ok(paths)
 }
 
-// Whether a path comes behind another one as they are printed. The error is out of memory.
-fn comes_behind(
-    alloc: Global,
-    path: &List<SeenChoice>,
-    other: &List<SeenChoice>,
-) -> Result<bool, Memory>
+// Whether a path comes after another one as they are printed. Fails only if allocation fails.
+fn comes_behind(alloc: Global, path: &List<Choice>, other: &List<Choice>) -> Result<bool, Memory>
     ensures behind { IfOk result (λ behind. behind ≡ true → ComesFirst other.now path.now) }
     ensures first { IfOk result (λ behind. behind ≡ false → ComesFirst path.now other.now) }
 {

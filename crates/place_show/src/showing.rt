@@ -1,23 +1,23 @@
 use page_io::{List, Text};
 use place_core::{Code, Place};
-use tpl_paths::Choice;
+use tpl_paths::Way;
 
 /// A choice of a path, as it is told.
 #[derive(Debug, Drop)]
-pub struct SeenChoice {
+pub struct Choice {
     /// The template's name.
     pub template: Text,
     /// The line of the `if`, `with` or `range`.
     pub line: u32,
     /// Which way the path goes there.
-    pub way: Choice,
+    pub way: Way,
 }
 
 /// A path, and the place at which it shows the error.
 #[derive(Debug, Drop)]
 pub struct Seen {
     /// What it chooses, in order, from the start of its root.
-    pub path: List<SeenChoice>,
+    pub path: List<Choice>,
     /// Its place before the byte, the hole or the call; or where it comes together with the other path, or ends the root.
     pub at: Place,
 }

@@ -4,55 +4,55 @@ use Rattle.std.specs.List.{list_all}
 use Rattle.std.specs.Str.{encode_utf8_all}
 use Rattle.std.proofs.lemmas.Bool.{cases_lt, and_parts, and_from, agree_below, not-true}
 use Rattle.std.proofs.lemmas.Str.{encode_ascii}
-use Rattle.esc_table.specs.Replaced.{written, replaced_all}
-use Rattle.place_core.specs.Classes.{class_of}
-use Rattle.place_core.specs.Events.{Event, TextByte, BlockByte, ValueByte, text_bytes, block_bytes}
-use Rattle.place_core.specs.Html.{read}
-use Rattle.place_core.specs.Plain.{only_text, only_block, only_value, IsPlain}
-use Rattle.place_core.specs.References.{Closed, meaning, flushed, undone}
-use Rattle.place_core.specs.States.{Page, Text, config}
-use Rattle.place_core.specs.Tags.{Tag, Value, ValueOf, ValueState, languages, with_bytes, told_bytes, Quoting, DoubleQuoted, SingleQuoted, Unquoted}
+use Rattle.esc_table.specs.Replaced.{row_written, replaced_all}
+use Rattle.place_core.specs.page.Classes.{class_of}
+use Rattle.place_core.specs.page.Events.{LexEvent, TextByte, BlockByte, ValueByte, event_text_bytes, block_bytes}
+use Rattle.place_core.specs.page.Html.{read}
+use Rattle.place_core.specs.page.Plain.{only_text, only_block, only_value, IsPlain}
+use Rattle.place_core.specs.page.References.{Closed, meaning, flushed, undone}
+use Rattle.place_core.specs.page.States.{Page, Text, config}
+use Rattle.place_core.specs.page.Tags.{Tag, Value, ValueOf, ValueState, languages, with_bytes, emitted_bytes, Quoting, DoubleQuoted, SingleQuoted, Unquoted}
 use Rattle.place_core.specs.declared.element.Element.{Element}
 use Rattle.place_core.specs.declared.element.Element.TheVariants as element
 use Rattle.place_core.specs.declared.kind.Kind.{Kind}
 use Rattle.place_core.specs.declared.kind.Kind.TheVariants as kind
 use Rattle.place_core.proofs.Bytes.{class-high}
-use Rattle.place_core.proofs.Readings.{is_own_in_text, is_own_in_block, is_own_in_quoted, text-byte, rcdata-byte, block-byte, double-byte, single-byte, undone-byte, text_bytes-append, told_bytes-append}
-use Rattle.san_html.specs.ReadBack.{as_text, is_quoted, in_rcdata, in_block, in_value, after_text, IsBackInText, IsBackInRcdata, IsBackInBlock, IsBackInQuoted}
+use Rattle.place_core.proofs.Readings.{is_own_in_text, is_own_in_block, is_own_in_quoted, text-byte, rcdata-byte, block-byte, double-byte, single-byte, undone-byte, text_bytes-append, emitted_bytes-append}
+use Rattle.san_html.specs.ReadBack.{read_as_text, reads_quoted, in_rcdata, in_block, in_value, read_value, IsBackInText, IsBackInRcdata, IsBackInBlock, IsBackInQuoted}
 use Rattle.san_html.specs.Sanitizers.{html_rows}
 use Rattle.san_html.proofs.Rows.{AllRows, written-has}
-use Rattle.san_html.proofs.Takes.{AllHigh, encode-high, as_text-append, Telling, Place, Takes, is_covered, all_true, covered, takes-text, high-text}
+use Rattle.san_html.proofs.Takes.{AllHigh, encode-high, as_text-append, Emitting, Place, Takes, is_covered, all_true, covered, takes-text, high-text}
 
 -- bytes that stand for themselves
-abbrev telling_text : Telling
-telling_text v = text_bytes
+abbrev emitting_text : Emitting
+emitting_text v = event_text_bytes
 
-text-place : Place (λ (v : Value ValueState). Text Closed) telling_text is_own_in_text
+text-place : Place (λ (v : Value ValueState). Text Closed) emitting_text is_own_in_text
 text-place = record { byte = λ b v t h. text-byte b t h; none = λ v t. refl; more = λ v. text_bytes-append; high = refl }
 
-rcdata-place : (e : Element) → Place (λ (v : Value ValueState). in_rcdata e) telling_text is_own_in_text
+rcdata-place : (e : Element) → Place (λ (v : Value ValueState). in_rcdata e) emitting_text is_own_in_text
 rcdata-place e = record { byte = λ b v t h. rcdata-byte b e t h; none = λ v t. refl; more = λ v. text_bytes-append; high = refl }
 
-double-place : (tag : Tag) → Place (in_value DoubleQuoted tag) (told_bytes languages) is_own_in_quoted
-double-place tag = record { byte = λ b v t h. double-byte languages b tag v t h; none = λ v t. refl; more = told_bytes-append languages; high = refl }
+double-place : (tag : Tag) → Place (in_value DoubleQuoted tag) (emitted_bytes languages) is_own_in_quoted
+double-place tag = record { byte = λ b v t h. double-byte languages b tag v t h; none = λ v t. refl; more = emitted_bytes-append languages; high = refl }
 
-single-place : (tag : Tag) → Place (in_value SingleQuoted tag) (told_bytes languages) is_own_in_quoted
-single-place tag = record { byte = λ b v t h. single-byte languages b tag v t h; none = λ v t. refl; more = told_bytes-append languages; high = refl }
+single-place : (tag : Tag) → Place (in_value SingleQuoted tag) (emitted_bytes languages) is_own_in_quoted
+single-place tag = record { byte = λ b v t h. single-byte languages b tag v t h; none = λ v t. refl; more = emitted_bytes-append languages; high = refl }
 
 -- the rows are read as their characters
-text-rows : AllRows (Takes (λ (v : Value ValueState). Text Closed) telling_text) html_rows
+text-rows : AllRows (Takes (λ (v : Value ValueState). Text Closed) emitting_text) html_rows
 unfolding class_of meaning flushed lib.Utf8.encode
 text-rows = (λ v t. refl, (λ v t. refl, (λ v t. refl, (λ v t. refl, (λ v t. refl, (λ v t. refl, (λ v t. refl, tt)))))))
 
-rcdata-rows : (e : Element) → AllRows (Takes (λ (v : Value ValueState). in_rcdata e) telling_text) html_rows
+rcdata-rows : (e : Element) → AllRows (Takes (λ (v : Value ValueState). in_rcdata e) emitting_text) html_rows
 unfolding class_of meaning flushed lib.Utf8.encode
 rcdata-rows e = (λ v t. refl, (λ v t. refl, (λ v t. refl, (λ v t. refl, (λ v t. refl, (λ v t. refl, (λ v t. refl, tt)))))))
 
-double-rows : (tag : Tag) → AllRows (Takes (in_value DoubleQuoted tag) (told_bytes languages)) html_rows
+double-rows : (tag : Tag) → AllRows (Takes (in_value DoubleQuoted tag) (emitted_bytes languages)) html_rows
 unfolding class_of meaning flushed lib.Utf8.encode
 double-rows tag = (λ v t. refl, (λ v t. refl, (λ v t. refl, (λ v t. refl, (λ v t. refl, (λ v t. refl, (λ v t. refl, tt)))))))
 
-single-rows : (tag : Tag) → AllRows (Takes (in_value SingleQuoted tag) (told_bytes languages)) html_rows
+single-rows : (tag : Tag) → AllRows (Takes (in_value SingleQuoted tag) (emitted_bytes languages)) html_rows
 unfolding class_of meaning flushed lib.Utf8.encode
 single-rows tag = (λ v t. refl, (λ v t. refl, (λ v t. refl, (λ v t. refl, (λ v t. refl, (λ v t. refl, (λ v t. refl, tt)))))))
 
@@ -66,11 +66,11 @@ unfolding class_of
 quoted-covered = refl
 
 -- what is told is bytes of that place alone
-only-text : (bs : List ℕ) (t : List Event) → only_text t ≡ true → only_text (text_bytes bs t) ≡ true
+only-text : (bs : List ℕ) (t : List LexEvent) → only_text t ≡ true → only_text (event_text_bytes bs t) ≡ true
 only-text [] t e = e
 only-text (b ∷ bs) t e = only-text bs (TextByte b ∷ t) e
 
-only-block : (bs : List ℕ) (t : List Event) → only_block t ≡ true → only_block (block_bytes bs t) ≡ true
+only-block : (bs : List ℕ) (t : List LexEvent) → only_block t ≡ true → only_block (block_bytes bs t) ≡ true
 only-block [] t e = e
 only-block (b ∷ bs) t e = only-block bs (BlockByte b ∷ t) e
 
@@ -79,21 +79,21 @@ pub same-kind : (k : Kind) (bs : List ℕ) → with_bytes languages (ValueOf k) 
 same-kind k [] = refl
 same-kind k (b ∷ bs) = same-kind k bs
 
-pub only-value : (k : Kind) (bs : List ℕ) (t : List Event) → only_value t ≡ true → only_value (told_bytes languages (ValueOf k) bs t) ≡ true
+pub only-value : (k : Kind) (bs : List ℕ) (t : List LexEvent) → only_value t ≡ true → only_value (emitted_bytes languages (ValueOf k) bs t) ≡ true
 only-value k [] t e = e
 only-value k (b ∷ bs) t e = only-value k bs (ValueByte b ∷ t) e
 
 -- bytes that tell nothing but a text are plain
-text-plain : (text bytes : List ℕ) (t : List Event) → read Page bytes (config (Text Closed) []) ≡ config (Text Closed) (text_bytes text []) → IsPlain bytes (config (Text Closed) t)
+text-plain : (text bytes : List ℕ) (t : List LexEvent) → read Page bytes (config (Text Closed) []) ≡ config (Text Closed) (event_text_bytes text []) → IsPlain bytes (config (Text Closed) t)
 text-plain text bytes t e = (refl, rw e (refl, only-text text [] refl))
 
-rcdata-plain : (x : Element) (text bytes : List ℕ) (t : List Event) → read Page bytes (config (in_rcdata x) []) ≡ config (in_rcdata x) (text_bytes text []) → IsPlain bytes (config (in_rcdata x) t)
+rcdata-plain : (x : Element) (text bytes : List ℕ) (t : List LexEvent) → read Page bytes (config (in_rcdata x) []) ≡ config (in_rcdata x) (event_text_bytes text []) → IsPlain bytes (config (in_rcdata x) t)
 rcdata-plain x text bytes t e = (refl, rw e (refl, only-text text [] refl))
 
-block-plain : (text bytes : List ℕ) (t : List Event) → read Page bytes (config in_block []) ≡ config in_block (block_bytes text []) → IsPlain bytes (config in_block t)
+block-plain : (text bytes : List ℕ) (t : List LexEvent) → read Page bytes (config in_block []) ≡ config in_block (block_bytes text []) → IsPlain bytes (config in_block t)
 block-plain text bytes t e = (refl, rw e (refl, only-block text [] refl))
 
-quoted-plain : (q : Quoting) (tag : Tag) (text bytes : List ℕ) (t : List Event) → is_quoted q ≡ true → read Page bytes (config (in_value q tag (ValueOf kind.Plain)) []) ≡ after_text q tag (ValueOf kind.Plain) text [] → IsPlain bytes (config (in_value q tag (ValueOf kind.Plain)) t)
+quoted-plain : (q : Quoting) (tag : Tag) (text bytes : List ℕ) (t : List LexEvent) → reads_quoted q ≡ true → read Page bytes (config (in_value q tag (ValueOf kind.Plain)) []) ≡ read_value q tag (ValueOf kind.Plain) text [] → IsPlain bytes (config (in_value q tag (ValueOf kind.Plain)) t)
 quoted-plain DoubleQuoted tag text bytes t q e = (refl, rw e (ap (in_value DoubleQuoted tag) (same-kind kind.Plain text), only-value kind.Plain text [] refl))
 quoted-plain SingleQuoted tag text bytes t q e = (refl, rw e (ap (in_value SingleQuoted tag) (same-kind kind.Plain text), only-value kind.Plain text [] refl))
 quoted-plain Unquoted tag text bytes t q e = cc
@@ -102,32 +102,32 @@ quoted-plain Unquoted tag text bytes t q e = cc
 abbrev no_value : Value ValueState
 no_value = ValueOf kind.Plain
 
-text-reads : (cs : List ℕ) (t : List Event) → read Page (replaced_all html_rows cs) (config (Text Closed) t) ≡ config (Text Closed) (text_bytes (as_text (encode_utf8_all cs)) t)
-text-reads cs t = takes-text (λ (v : Value ValueState). Text Closed) telling_text is_own_in_text html_rows text-place text-rows text-covered cs no_value t
+text-reads : (cs : List ℕ) (t : List LexEvent) → read Page (replaced_all html_rows cs) (config (Text Closed) t) ≡ config (Text Closed) (event_text_bytes (read_as_text (encode_utf8_all cs)) t)
+text-reads cs t = takes-text (λ (v : Value ValueState). Text Closed) emitting_text is_own_in_text html_rows text-place text-rows text-covered cs no_value t
 
-rcdata-reads : (e : Element) (cs : List ℕ) (t : List Event) → read Page (replaced_all html_rows cs) (config (in_rcdata e) t) ≡ config (in_rcdata e) (text_bytes (as_text (encode_utf8_all cs)) t)
-rcdata-reads e cs t = takes-text (λ (v : Value ValueState). in_rcdata e) telling_text is_own_in_text html_rows (rcdata-place e) (rcdata-rows e) text-covered cs no_value t
+rcdata-reads : (e : Element) (cs : List ℕ) (t : List LexEvent) → read Page (replaced_all html_rows cs) (config (in_rcdata e) t) ≡ config (in_rcdata e) (event_text_bytes (read_as_text (encode_utf8_all cs)) t)
+rcdata-reads e cs t = takes-text (λ (v : Value ValueState). in_rcdata e) emitting_text is_own_in_text html_rows (rcdata-place e) (rcdata-rows e) text-covered cs no_value t
 
-quoted-reads : (q : Quoting) (tag : Tag) (v : Value ValueState) (cs : List ℕ) (t : List Event) → is_quoted q ≡ true → read Page (replaced_all html_rows cs) (config (in_value q tag v) t) ≡ after_text q tag v (as_text (encode_utf8_all cs)) t
-quoted-reads DoubleQuoted tag v cs t q = takes-text (in_value DoubleQuoted tag) (told_bytes languages) is_own_in_quoted html_rows (double-place tag) (double-rows tag) quoted-covered cs v t
-quoted-reads SingleQuoted tag v cs t q = takes-text (in_value SingleQuoted tag) (told_bytes languages) is_own_in_quoted html_rows (single-place tag) (single-rows tag) quoted-covered cs v t
+quoted-reads : (q : Quoting) (tag : Tag) (v : Value ValueState) (cs : List ℕ) (t : List LexEvent) → reads_quoted q ≡ true → read Page (replaced_all html_rows cs) (config (in_value q tag v) t) ≡ read_value q tag v (read_as_text (encode_utf8_all cs)) t
+quoted-reads DoubleQuoted tag v cs t q = takes-text (in_value DoubleQuoted tag) (emitted_bytes languages) is_own_in_quoted html_rows (double-place tag) (double-rows tag) quoted-covered cs v t
+quoted-reads SingleQuoted tag v cs t q = takes-text (in_value SingleQuoted tag) (emitted_bytes languages) is_own_in_quoted html_rows (single-place tag) (single-rows tag) quoted-covered cs v t
 quoted-reads Unquoted tag v cs t q = cc
 
 pub back-in-text : (cs : List ℕ) → IsBackInText (encode_utf8_all cs) (replaced_all html_rows cs)
 back-in-text cs = record {
-  plain = λ t. text-plain (as_text (encode_utf8_all cs)) (replaced_all html_rows cs) t (text-reads cs []);
+  plain = λ t. text-plain (read_as_text (encode_utf8_all cs)) (replaced_all html_rows cs) t (text-reads cs []);
   reads = text-reads cs;
 }
 
 pub back-in-rcdata : (cs : List ℕ) → IsBackInRcdata (encode_utf8_all cs) (replaced_all html_rows cs)
 back-in-rcdata cs = record {
-  plain = λ e t. rcdata-plain e (as_text (encode_utf8_all cs)) (replaced_all html_rows cs) t (rcdata-reads e cs []);
+  plain = λ e t. rcdata-plain e (read_as_text (encode_utf8_all cs)) (replaced_all html_rows cs) t (rcdata-reads e cs []);
   reads = λ e t. rcdata-reads e cs t;
 }
 
 pub back-in-quoted : (cs : List ℕ) → IsBackInQuoted (encode_utf8_all cs) (replaced_all html_rows cs)
 back-in-quoted cs = record {
-  plain = λ q tag t h. quoted-plain q tag (as_text (encode_utf8_all cs)) (replaced_all html_rows cs) t h (quoted-reads q tag (ValueOf kind.Plain) cs [] h);
+  plain = λ q tag t h. quoted-plain q tag (read_as_text (encode_utf8_all cs)) (replaced_all html_rows cs) t h (quoted-reads q tag (ValueOf kind.Plain) cs [] h);
   reads = λ q tag v t h. quoted-reads q tag v cs t h;
 }
 
@@ -150,13 +150,13 @@ own-high (b ∷ bs) h = rw (class-high b h.0) (own-high bs h.1)
 own-low : (c : ℕ) → c < 128 → (is_own_in_block (class_of c) && not (c == 0)) ≡ true → IsOwn c (encode_utf8 c)
 own-low c h e = rw (encode_ascii c h, (and_parts (is_own_in_block (class_of c)) (not (c == 0)) e).0) refl
 
-own-written : (c : ℕ) → IsOwn c (written html_rows c)
+own-written : (c : ℕ) → IsOwn c (row_written html_rows c)
 own-written c = written-has IsOwn html_rows c own-rows (λ none. elim (cases_lt c 128) [
   | inl low ↦ own-low c low (covered html_rows is_own_in_block c own-covered low none)
   | inr high ↦ own-high (encode_utf8 c) (encode-high c high)
 ])
 
-block-bytes-read : (bs : List ℕ) (t : List Event) → list_all (λ b. is_own_in_block (class_of b)) bs ≡ true → read Page bs (config in_block t) ≡ config in_block (block_bytes bs t)
+block-bytes-read : (bs : List ℕ) (t : List LexEvent) → list_all (λ b. is_own_in_block (class_of b)) bs ≡ true → read Page bs (config in_block t) ≡ config in_block (block_bytes bs t)
 block-bytes-read [] t h = refl
 block-bytes-read (b ∷ bs) t h =
     let parts = and_parts (is_own_in_block (class_of b)) (list_all (λ b. is_own_in_block (class_of b)) bs) h in
@@ -168,14 +168,14 @@ all-append p (x ∷ xs) ys h k = and_from (p x) (list_all p (xs ++ ys)) (and_par
 
 replaced-own : (cs : List ℕ) → list_all (λ b. is_own_in_block (class_of b)) (replaced_all html_rows cs) ≡ true
 replaced-own [] = refl
-replaced-own (c ∷ cs) = all-append (λ b. is_own_in_block (class_of b)) (written html_rows c) (replaced_all html_rows cs) (own-written c) (replaced-own cs)
+replaced-own (c ∷ cs) = all-append (λ b. is_own_in_block (class_of b)) (row_written html_rows c) (replaced_all html_rows cs) (own-written c) (replaced-own cs)
 
-block-reads : (cs : List ℕ) (t : List Event) → read Page (replaced_all html_rows cs) (config in_block t) ≡ config in_block (block_bytes (replaced_all html_rows cs) t)
+block-reads : (cs : List ℕ) (t : List LexEvent) → read Page (replaced_all html_rows cs) (config in_block t) ≡ config in_block (block_bytes (replaced_all html_rows cs) t)
 block-reads cs t = block-bytes-read (replaced_all html_rows cs) t (replaced-own cs)
 
 -- with references undone the bytes of a character are the character
 abbrev Undoes : ℕ → List ℕ → Type 0
-Undoes c bytes = (ys : List ℕ) → undone false Closed (bytes ++ ys) ≡ as_text (encode_utf8 c) ++ undone false Closed ys
+Undoes c bytes = (ys : List ℕ) → undone false Closed (bytes ++ ys) ≡ read_as_text (encode_utf8 c) ++ undone false Closed ys
 
 undoes-rows : AllRows Undoes html_rows
 unfolding class_of meaning flushed lib.Utf8.encode
@@ -188,23 +188,23 @@ undone-high (b ∷ bs) h ys = undone-byte false b (bs ++ ys) (ap is_own_in_text 
 undoes-low : (c : ℕ) → c < 128 → (is_own_in_text (class_of c) && not (c == 0)) ≡ true → Undoes c (encode_utf8 c)
 undoes-low c h e ys =
     let parts = and_parts (is_own_in_text (class_of c)) (not (c == 0)) e in
-    let kept : as_text (c ∷ []) ≡ c ∷ [] = rw (not-true (c == 0) parts.1) refl in
+    let kept : read_as_text (c ∷ []) ≡ c ∷ [] = rw (not-true (c == 0) parts.1) refl in
     rw (encode_ascii c h) (undone-byte false c ys parts.0 ∙ ap (λ (xs : List ℕ). xs ++ undone false Closed ys) (sym kept))
 
 undoes-high : (c : ℕ) → 128 ≤ c → Undoes c (encode_utf8 c)
 undoes-high c h ys = undone-high (encode_utf8 c) (encode-high c h) ys ∙ ap (λ (xs : List ℕ). xs ++ undone false Closed ys) (sym (high-text (encode_utf8 c) (encode-high c h)))
 
-undoes-written : (c : ℕ) → Undoes c (written html_rows c)
+undoes-written : (c : ℕ) → Undoes c (row_written html_rows c)
 undoes-written c = written-has Undoes html_rows c undoes-rows (λ none. elim (cases_lt c 128) [
   | inl low ↦ undoes-low c low (covered html_rows is_own_in_text c text-covered low none)
   | inr high ↦ undoes-high c high
 ])
 
-undoes-all : (cs : List ℕ) → undone false Closed (replaced_all html_rows cs) ≡ as_text (encode_utf8_all cs)
+undoes-all : (cs : List ℕ) → undone false Closed (replaced_all html_rows cs) ≡ read_as_text (encode_utf8_all cs)
 undoes-all [] = refl
 undoes-all (c ∷ cs) =
     undoes-written c (replaced_all html_rows cs)
-    ∙ ap (λ (xs : List ℕ). as_text (encode_utf8 c) ++ xs) (undoes-all cs)
+    ∙ ap (λ (xs : List ℕ). read_as_text (encode_utf8 c) ++ xs) (undoes-all cs)
     ∙ sym (as_text-append (encode_utf8 c) (encode_utf8_all cs))
 
 pub back-in-block : (cs : List ℕ) → IsBackInBlock (encode_utf8_all cs) (replaced_all html_rows cs)

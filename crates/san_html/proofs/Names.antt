@@ -5,18 +5,18 @@ use Rattle.std.specs.Char.{is_ascii_alphanumeric, to_ascii_lowercase}
 use Rattle.std.specs.List.{list_all}
 use Rattle.std.specs.Str.{str_to_ascii_lowercase}
 use Rattle.std.proofs.lemmas.Bool.{cases_Bool, cases_lt, and_parts, agree_below, agree_below_at, true≢false, false≢true, or_from, cond_both, eqb-true, eqb-false, not-true, ltb-true, ltb-false}
-use Rattle.place_core.specs.Classes.{class_of}
-use Rattle.place_core.specs.Events.{Event, AttributeBegins, AttributeNameByte, attribute_name_bytes}
-use Rattle.place_core.specs.Html.{read}
-use Rattle.place_core.specs.Plain.{IsPlainName, IsPlain}
-use Rattle.place_core.specs.States.{Page, State, BeforeAttributeName, AttributeName, AfterAttributeName, AfterAttributeValue, SelfClosingStartTag, Config, config}
-use Rattle.place_core.specs.Tags.{Tag, ValueState, without_value}
+use Rattle.place_core.specs.page.Classes.{class_of}
+use Rattle.place_core.specs.page.Events.{LexEvent, AttributeBegins, AttributeNameByte, attribute_name_bytes}
+use Rattle.place_core.specs.page.Html.{read}
+use Rattle.place_core.specs.page.Plain.{IsPlainName, IsPlain}
+use Rattle.place_core.specs.page.States.{Page, LexState, BeforeAttributeName, AttributeName, AfterAttributeName, AfterAttributeValue, SelfClosingStartTag, Config, config}
+use Rattle.place_core.specs.page.Tags.{Tag, ValueState, without_value}
 use Rattle.place_core.specs.declared.element.Element.TheVariants as element
-use Rattle.place_core.specs.Words.{is_special, is_plain, kind_on, is_among, special_names}
+use Rattle.place_core.specs.page.Words.{is_special, is_plain_name, kind_on, is_among, special_names}
 use Rattle.place_core.proofs.Bytes.{range-high}
 use Rattle.place_core.proofs.Readings.{is_name_class, first-name-byte, name-byte, after-name-byte, solidus-byte}
 use Rattle.san_html.specs.ReadBack.{as_name, BeginsName, IsBackInTag}
-use Rattle.san_html.specs.Sanitizers.{attr_name, failsafe, is_name}
+use Rattle.san_html.specs.Sanitizers.{attr_name, failsafe, is_attribute_name}
 
 -- a letter or a digit is read as a byte of a name, and stays one in lower case
 abbrev is_word_byte : ℕ → Bool
@@ -62,13 +62,13 @@ lower-all (b ∷ bs) h =
 
 -- being special does not depend on case
 abbrev is_special_in_lower : List ℕ → Bool
-is_special_in_lower name = not (is_plain (kind_on element.Other name)) || (not (is_plain (kind_on element.Script name)) || is_among special_names name)
+is_special_in_lower name = not (is_plain_name (kind_on element.Other name)) || (not (is_plain_name (kind_on element.Script name)) || is_among special_names name)
 
 special-lower : (bs : List ℕ) → list_all is_ascii_alphanumeric bs ≡ true → is_special (str_to_ascii_lowercase bs) ≡ is_special bs
 special-lower bs h = ap is_special_in_lower (lower-twice bs h)
 
 -- a word is read as a name
-rest-reads : (tag : Tag) (bs name : List ℕ) (t : List Event) → list_all is_ascii_alphanumeric bs ≡ true → read Page bs (config (AttributeName tag name) t) ≡ config (AttributeName tag (name ++ str_to_ascii_lowercase bs)) (attribute_name_bytes (str_to_ascii_lowercase bs) t)
+rest-reads : (tag : Tag) (bs name : List ℕ) (t : List LexEvent) → list_all is_ascii_alphanumeric bs ≡ true → read Page bs (config (AttributeName tag name) t) ≡ config (AttributeName tag (name ++ str_to_ascii_lowercase bs)) (attribute_name_bytes (str_to_ascii_lowercase bs) t)
 rest-reads tag [] name t h = ap (λ (n : List ℕ). config (AttributeName tag n) t) (sym (append-nil name))
 rest-reads tag (b ∷ bs) name t h =
     let parts = and_parts (is_ascii_alphanumeric b) (list_all is_ascii_alphanumeric bs) h in
@@ -76,24 +76,24 @@ rest-reads tag (b ∷ bs) name t h =
     ∙ rest-reads tag bs (name ++ to_ascii_lowercase b ∷ []) (AttributeNameByte (to_ascii_lowercase b) ∷ t) parts.1
     ∙ ap (λ (n : List ℕ). config (AttributeName tag n) (attribute_name_bytes (str_to_ascii_lowercase (b ∷ bs)) t)) (append_assoc name (to_ascii_lowercase b ∷ []) (str_to_ascii_lowercase bs))
 
-abbrev Whole : State ValueState → Tag → List ℕ → List Event → Type 0
+abbrev Whole : LexState ValueState → Tag → List ℕ → List LexEvent → Type 0
 Whole s tag bytes t = read Page bytes (config s t) ≡ config (AttributeName tag (str_to_ascii_lowercase bytes)) (attribute_name_bytes (str_to_ascii_lowercase bytes) (AttributeBegins ∷ t))
 
-word-reads : (tag : Tag) (b : ℕ) (bs : List ℕ) (t : List Event) → list_all is_ascii_alphanumeric (b ∷ bs) ≡ true → Whole (BeforeAttributeName tag) tag (b ∷ bs) t
+word-reads : (tag : Tag) (b : ℕ) (bs : List ℕ) (t : List LexEvent) → list_all is_ascii_alphanumeric (b ∷ bs) ≡ true → Whole (BeforeAttributeName tag) tag (b ∷ bs) t
 word-reads tag b bs t h =
     let parts = and_parts (is_ascii_alphanumeric b) (list_all is_ascii_alphanumeric bs) h in
     ap (read Page bs) (first-name-byte b tag t (word b parts.0).class)
     ∙ rest-reads tag bs (to_ascii_lowercase b ∷ []) (AttributeNameByte (to_ascii_lowercase b) ∷ AttributeBegins ∷ t) parts.1
 
 -- wherever a name may begin
-begun : (s : State ValueState) (tag : Tag) (b : ℕ) (bs : List ℕ) (t : List Event) → BeginsName s tag → list_all is_ascii_alphanumeric (b ∷ bs) ≡ true → Whole s tag (b ∷ bs) t
+begun : (s : LexState ValueState) (tag : Tag) (b : ℕ) (bs : List ℕ) (t : List LexEvent) → BeginsName s tag → list_all is_ascii_alphanumeric (b ∷ bs) ≡ true → Whole s tag (b ∷ bs) t
 begun (BeforeAttributeName before) tag b bs t i h = rw i (word-reads before b bs t h)
 begun (AfterAttributeName before k) tag b bs t i h = rw i (after-name-byte b bs before k t (word b (and_parts (is_ascii_alphanumeric b) (list_all is_ascii_alphanumeric bs) h).0).class ∙ word-reads (without_value before k) b bs t h)
 begun (AfterAttributeValue before) tag b bs t i h = rw i (word-reads before b bs t h)
 begun (SelfClosingStartTag before) tag b bs t i h = rw i (solidus-byte b bs before t (word b (and_parts (is_ascii_alphanumeric b) (list_all is_ascii_alphanumeric bs) h).0).class ∙ word-reads before b bs t h)
 begun _ tag b bs t i h = absurd i
 
-whole : (s : State ValueState) (tag : Tag) (bytes : List ℕ) (t : List Event) → BeginsName s tag → bytes ≢ [] → list_all is_ascii_alphanumeric bytes ≡ true → Whole s tag bytes t
+whole : (s : LexState ValueState) (tag : Tag) (bytes : List ℕ) (t : List LexEvent) → BeginsName s tag → bytes ≢ [] → list_all is_ascii_alphanumeric bytes ≡ true → Whole s tag bytes t
 whole s tag [] t i n h = absurd (n refl)
 whole s tag (b ∷ bs) t i n h = begun s tag b bs t i h
 
@@ -103,9 +103,9 @@ lower-some [] n e = n refl
 lower-some (b ∷ bs) n e = cc
 
 named : (tag : Tag) (bytes : List ℕ) (d : Config ValueState) → bytes ≢ [] → list_all is_ascii_alphanumeric bytes ≡ true → is_special bytes ≡ false → d ≡ config (AttributeName tag (str_to_ascii_lowercase bytes)) (attribute_name_bytes (str_to_ascii_lowercase bytes) (AttributeBegins ∷ [])) → IsPlainName tag bytes d
-named tag bytes d n h s e = rw e (record { within = refl; told = refl; some = n; letters = h; harmless = s })
+named tag bytes d n h s e = rw e (record { within = refl; emitted = refl; some = n; letters = h; harmless = s })
 
-plain : (s : State ValueState) (tag : Tag) (bytes : List ℕ) (t : List Event) → BeginsName s tag → bytes ≢ [] → list_all is_ascii_alphanumeric bytes ≡ true → is_special bytes ≡ false → IsPlain bytes (config s t)
+plain : (s : LexState ValueState) (tag : Tag) (bytes : List ℕ) (t : List LexEvent) → BeginsName s tag → bytes ≢ [] → list_all is_ascii_alphanumeric bytes ≡ true → is_special bytes ≡ false → IsPlain bytes (config s t)
 plain (BeforeAttributeName before) tag bytes t i n h f = (refl, named before bytes _ n h f (whole (BeforeAttributeName before) before bytes [] refl n h))
 plain (AfterAttributeName before k) tag bytes t i n h f = (refl, named (without_value before k) bytes _ n h f (whole (AfterAttributeName before k) (without_value before k) bytes [] refl n h))
 plain (AfterAttributeValue before) tag bytes t i n h f = (refl, named before bytes _ n h f (whole (AfterAttributeValue before) before bytes [] refl n h))
@@ -122,18 +122,18 @@ back-word text bytes n h f e = record {
 some-length : (bs : List ℕ) → not (length bs == 0) ≡ true → bs ≢ []
 some-length bs h e = eqb-false (length bs) 0 (not-true (length bs == 0) h) (ap length e)
 
-name-back : (text : List ℕ) → is_name text ≡ true → IsBackInTag text (str_to_ascii_lowercase text)
+name-back : (text : List ℕ) → is_attribute_name text ≡ true → IsBackInTag text (str_to_ascii_lowercase text)
 name-back text e =
     let parts = and_parts (not (length text == 0)) (list_all is_ascii_alphanumeric text && not (is_special text)) e in
     let more = and_parts (list_all is_ascii_alphanumeric text) (not (is_special text)) parts.1 in
     back-word text (str_to_ascii_lowercase text) (lower-some text (some-length text parts.0)) (lower-all text more.0) (special-lower text more.0 ∙ not-true (is_special text) more.1)
     (lower-twice text more.0 ∙ ap (λ (b : Bool). str_to_ascii_lowercase (cond b text failsafe)) (sym e))
 
-failsafe-back : (text : List ℕ) → is_name text ≡ false → IsBackInTag text failsafe
+failsafe-back : (text : List ℕ) → is_attribute_name text ≡ false → IsBackInTag text failsafe
 failsafe-back text e = back-word text failsafe (λ n. cc) refl refl (ap (λ (b : Bool). str_to_ascii_lowercase (cond b text failsafe)) (sym e))
 
 pub tag-back : (text : List ℕ) → IsBackInTag text (attr_name text)
-tag-back text = elim (cases_Bool (is_name text)) [
+tag-back text = elim (cases_Bool (is_attribute_name text)) [
   | inl e ↦ subst (λ (b : Bool). IsBackInTag text (cond b (str_to_ascii_lowercase text) failsafe)) (sym e) (name-back text e)
   | inr e ↦ subst (λ (b : Bool). IsBackInTag text (cond b (str_to_ascii_lowercase text) failsafe)) (sym e) (failsafe-back text e)
 ]
@@ -147,8 +147,8 @@ not-failsafe : (text : List ℕ) → str_to_ascii_lowercase text ≢ failsafe
 not-failsafe [] e = cc
 not-failsafe (b ∷ bs) e = no-capital b (ap (λ (xs : List ℕ). get_or xs 0 0) e)
 
-pub name-exact : (text : List ℕ) → (attr_name text ≡ failsafe) ↔ (is_name text ≡ false)
-name-exact text = elim (cases_Bool (is_name text)) [
+pub name-exact : (text : List ℕ) → (attr_name text ≡ failsafe) ↔ (is_attribute_name text ≡ false)
+name-exact text = elim (cases_Bool (is_attribute_name text)) [
   | inl e ↦ subst (λ (b : Bool). (cond b (str_to_ascii_lowercase text) failsafe ≡ failsafe) ↔ (b ≡ false)) (sym e) (λ f. absurd (not-failsafe text f), λ f. absurd (true≢false f))
   | inr e ↦ subst (λ (b : Bool). (cond b (str_to_ascii_lowercase text) failsafe ≡ failsafe) ↔ (b ≡ false)) (sym e) (λ f. refl, λ f. refl)
 ]

@@ -1,11 +1,11 @@
 -- Worked examples of bytes that are not a text in its place, and of the type of a script, which goes on with a text.
 use Rattle.std.proofs.Common.{◌≡◌, zero, suc, IsTrue, false, [], ◌∷◌, codes, refl, ap, length, true≢false}
-use Rattle.place_core.specs.Classes.{class_of}
-use Rattle.place_core.specs.Events.{ValueByte}
-use Rattle.place_core.specs.Html.{read}
-use Rattle.place_core.specs.References.{meaning, flushed}
-use Rattle.place_core.specs.States.{Page, AfterAttributeValue, BeforeAttributeName, Config, config}
-use Rattle.place_core.specs.Tags.{EndTag, ValueOf, ValueState, TypeSoFar, DoubleQuoted}
+use Rattle.place_core.specs.page.Classes.{class_of}
+use Rattle.place_core.specs.page.Events.{ValueByte}
+use Rattle.place_core.specs.page.Html.{read}
+use Rattle.place_core.specs.page.References.{meaning, flushed}
+use Rattle.place_core.specs.page.States.{Page, AfterAttributeValue, BeforeAttributeName, Config, config}
+use Rattle.place_core.specs.page.Tags.{EndTag, ValueOf, ValueState, TypeSoFar, DoubleQuoted}
 use Rattle.place_core.specs.declared.element.Element.TheVariants as element
 use Rattle.place_core.specs.declared.kind.Kind.TheVariants as kind
 use Rattle.san_html.specs.ReadBack.{in_value, IsBackInText, IsBackInRcdata, IsBackInBlock, IsBackInQuoted, IsBackInUnquoted, IsBackInTag}
@@ -22,7 +22,7 @@ one_is_four e = cc
 
 reference : IsBackInText (codes "&lt;") (codes "&lt;") → ⊥
 unfolding class_of meaning flushed lib.Utf8.encode
-reference h = one_is_four (ap (λ (c : Config ValueState). length c.told) (h.reads []))
+reference h = one_is_four (ap (λ (c : Config ValueState). length c.emitted) (h.reads []))
 
 end_of_title : IsBackInRcdata (codes "</title>") (codes "</title>") → ⊥
 unfolding class_of meaning flushed lib.Utf8.encode
@@ -41,7 +41,7 @@ quote h = after_and_in (h.plain DoubleQuoted EndTag [] refl).1.0
 
 blank : IsBackInUnquoted (codes "a b") (codes "a b") → ⊥
 unfolding class_of meaning flushed lib.Utf8.encode
-blank h = no (h.plain EndTag []).1.told
+blank h = no (h.plain EndTag []).1.emitted
 
 empty : IsBackInUnquoted [] [] → ⊥
 empty h = (h.plain EndTag []).1.some refl

@@ -1,10 +1,10 @@
 -- What holds of each row of a table, and of each character without a row, holds of what is written for any character.
 use Rattle.std.proofs.Common.{◌≡◌, ℕ, ◌==◌, Bool, List, [], ◌∷◌, Option, None, Some, refl, sym, ap, subst, cond, encode_utf8, inl, inr, unwrap_or}
 use Rattle.std.proofs.lemmas.Bool.{cases_Bool, eqb-true}
-use Rattle.esc_table.specs.Rows.{Row, found}
-use Rattle.esc_table.specs.Replaced.{written}
+use Rattle.esc_table.specs.Rows.{EscapeRow, found}
+use Rattle.esc_table.specs.Replaced.{row_written}
 
-abbrev pub AllRows : (ℕ → List ℕ → Type 0) → List Row → Type 0
+abbrev pub AllRows : (ℕ → List ℕ → Type 0) → List EscapeRow → Type 0
 AllRows P [] = Unit {0}
 AllRows P (r ∷ rs) = P r.character r.replacement × AllRows P rs
 
@@ -13,7 +13,7 @@ abbrev Is : (ℕ → List ℕ → Type 0) → ℕ → Option (List ℕ) → Type
 Is P c None = Unit {0}
 Is P c (Some bytes) = P c bytes
 
-found-is : (P : ℕ → List ℕ → Type 0) (rows : List Row) (c : ℕ) → AllRows P rows → Is P c (found rows c)
+found-is : (P : ℕ → List ℕ → Type 0) (rows : List EscapeRow) (c : ℕ) → AllRows P rows → Is P c (found rows c)
 found-is P [] c all = tt
 found-is P (r ∷ rs) c all = elim (cases_Bool (r.character == c)) [
   | inl e ↦ subst (Is P c) (ap (λ (b : Bool). cond b (Some r.replacement) (found rs c)) (sym e)) (subst (λ (n : ℕ). P n r.replacement) (eqb-true r.character c e) all.0)
@@ -24,5 +24,5 @@ given : (P : ℕ → List ℕ → Type 0) (o : Option (List ℕ)) (c : ℕ) → 
 given P None c is own = own refl
 given P (Some bytes) c is own = is
 
-pub written-has : (P : ℕ → List ℕ → Type 0) (rows : List Row) (c : ℕ) → AllRows P rows → (found rows c ≡ None → P c (encode_utf8 c)) → P c (written rows c)
+pub written-has : (P : ℕ → List ℕ → Type 0) (rows : List EscapeRow) (c : ℕ) → AllRows P rows → (found rows c ≡ None → P c (encode_utf8 c)) → P c (row_written rows c)
 written-has P rows c all own = given P (found rows c) c (found-is P rows c all) own

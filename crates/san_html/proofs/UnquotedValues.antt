@@ -4,29 +4,29 @@ use Rattle.std.specs.Char.{is_ascii_whitespace}
 use Rattle.std.specs.Str.{encode_utf8_all}
 use Rattle.std.proofs.lemmas.Bool.{cases_lt, cases_Bool, and_parts, agree_below, true≢false}
 use Rattle.std.proofs.lemmas.Str.{encode_ascii, length-encode, len_utf8_bounds}
-use Rattle.esc_table.specs.Replaced.{written, replaced_all}
-use Rattle.place_core.specs.Classes.{Class, White, QuotationMark, Ampersand, Apostrophe, GreaterThan, class_of}
-use Rattle.place_core.specs.Events.{Event, ValueByte}
-use Rattle.place_core.specs.Html.{read}
-use Rattle.place_core.specs.Plain.{IsPlainUnquoted, begins_at_once}
-use Rattle.place_core.specs.References.{meaning, flushed}
-use Rattle.place_core.specs.States.{Page, BeforeAttributeValue, config}
-use Rattle.place_core.specs.Tags.{Tag, Value, ValueOf, ValueState, languages, value_of, told_bytes, Unquoted}
+use Rattle.esc_table.specs.Replaced.{row_written, replaced_all}
+use Rattle.place_core.specs.page.Classes.{Class, White, QuotationMark, Ampersand, Apostrophe, GreaterThan, class_of}
+use Rattle.place_core.specs.page.Events.{LexEvent, ValueByte}
+use Rattle.place_core.specs.page.Html.{read}
+use Rattle.place_core.specs.page.Plain.{IsPlainUnquoted, begins_at_once}
+use Rattle.place_core.specs.page.References.{meaning, flushed}
+use Rattle.place_core.specs.page.States.{Page, BeforeAttributeValue, config}
+use Rattle.place_core.specs.page.Tags.{Tag, Value, ValueOf, ValueState, languages, attribute_value_of, emitted_bytes, Unquoted}
 use Rattle.place_core.specs.declared.kind.Kind.{Kind}
 use Rattle.place_core.specs.declared.kind.Kind.TheVariants as kind
 use Rattle.place_core.proofs.Bytes.{class-high, class-white}
-use Rattle.place_core.proofs.Readings.{is_own_in_unquoted, begins_unquoted, unquoted-byte, unbegun-byte, told_bytes-append}
-use Rattle.san_html.specs.ReadBack.{as_byte, as_text, as_unquoted, in_value, after_text, IsBackInUnquoted}
+use Rattle.place_core.proofs.Readings.{is_own_in_unquoted, begins_unquoted, unquoted-byte, unbegun-byte, emitted_bytes-append}
+use Rattle.san_html.specs.ReadBack.{as_byte, read_as_text, as_unquoted, in_value, read_value, IsBackInUnquoted}
 use Rattle.san_html.specs.Sanitizers.{attr_nospace, attr_nospace_rows, failsafe}
 use Rattle.san_html.proofs.EscapedText.{same-kind, only-value}
 use Rattle.san_html.proofs.Results.{for-text}
 use Rattle.san_html.proofs.Rows.{AllRows, written-has}
 use Rattle.san_html.proofs.Takes.{AllHigh, encode-high, Place, Takes, is_covered, all_true, covered, takes-text}
 
-unquoted-place : (tag : Tag) → Place (in_value Unquoted tag) (told_bytes languages) is_own_in_unquoted
-unquoted-place tag = record { byte = λ b v t h. unquoted-byte languages b tag v t h; none = λ v t. refl; more = told_bytes-append languages; high = refl }
+unquoted-place : (tag : Tag) → Place (in_value Unquoted tag) (emitted_bytes languages) is_own_in_unquoted
+unquoted-place tag = record { byte = λ b v t h. unquoted-byte languages b tag v t h; none = λ v t. refl; more = emitted_bytes-append languages; high = refl }
 
-unquoted-rows : (tag : Tag) → AllRows (Takes (in_value Unquoted tag) (told_bytes languages)) attr_nospace_rows
+unquoted-rows : (tag : Tag) → AllRows (Takes (in_value Unquoted tag) (emitted_bytes languages)) attr_nospace_rows
 unfolding class_of meaning flushed lib.Utf8.encode
 unquoted-rows tag = (λ v t. refl, (λ v t. refl, (λ v t. refl, (λ v t. refl, (λ v t. refl, (λ v t. refl, (λ v t. refl, (λ v t. refl, (λ v t. refl, (λ v t. refl, (λ v t. refl, (λ v t. refl, (λ v t. refl, (λ v t. refl, (λ v t. refl, tt)))))))))))))))
 
@@ -34,8 +34,8 @@ unquoted-covered : agree_below (is_covered attr_nospace_rows is_own_in_unquoted)
 unfolding class_of
 unquoted-covered = refl
 
-unquoted-reads : (tag : Tag) (v : Value ValueState) (cs : List ℕ) (t : List Event) → read Page (replaced_all attr_nospace_rows cs) (config (in_value Unquoted tag v) t) ≡ after_text Unquoted tag v (as_text (encode_utf8_all cs)) t
-unquoted-reads tag v cs t = takes-text (in_value Unquoted tag) (told_bytes languages) is_own_in_unquoted attr_nospace_rows (unquoted-place tag) (unquoted-rows tag) unquoted-covered cs v t
+unquoted-reads : (tag : Tag) (v : Value ValueState) (cs : List ℕ) (t : List LexEvent) → read Page (replaced_all attr_nospace_rows cs) (config (in_value Unquoted tag v) t) ≡ read_value Unquoted tag v (read_as_text (encode_utf8_all cs)) t
+unquoted-reads tag v cs t = takes-text (in_value Unquoted tag) (emitted_bytes languages) is_own_in_unquoted attr_nospace_rows (unquoted-place tag) (unquoted-rows tag) unquoted-covered cs v t
 
 -- what is written for a character begins with a byte that begins an unquoted value
 abbrev begins : List ℕ → Bool
@@ -67,7 +67,7 @@ bytes-begin (b ∷ bs) h n = ap begins_unquoted (class-high b h.0)
 encode-some : (c : ℕ) → encode_utf8 c ≢ []
 encode-some c e = omega (arith, ap length e, length-encode c, (len_utf8_bounds c).0)
 
-written-begins : (c : ℕ) → begins (written attr_nospace_rows c) ≡ true
+written-begins : (c : ℕ) → begins (row_written attr_nospace_rows c) ≡ true
 written-begins c = written-has Begins attr_nospace_rows c begins-rows (λ none. elim (cases_lt c 128) [
   | inl low ↦ low-begins c low (covered attr_nospace_rows is_own_in_unquoted c unquoted-covered low none)
   | inr high ↦ bytes-begin (encode_utf8 c) (encode-high c high) (encode-some c)
@@ -77,11 +77,11 @@ begins-append : (xs ys : List ℕ) → begins xs ≡ true → begins (xs ++ ys) 
 begins-append [] ys h = cc
 begins-append (x ∷ xs) ys h = h
 
-unbegun : (bytes : List ℕ) (tag : Tag) (k : Kind) (t : List Event) → begins bytes ≡ true → read Page bytes (config (BeforeAttributeValue tag k) t) ≡ read Page bytes (config (in_value Unquoted tag (value_of languages k)) t)
+unbegun : (bytes : List ℕ) (tag : Tag) (k : Kind) (t : List LexEvent) → begins bytes ≡ true → read Page bytes (config (BeforeAttributeValue tag k) t) ≡ read Page bytes (config (in_value Unquoted tag (attribute_value_of languages k)) t)
 unbegun [] tag k t h = cc
 unbegun (b ∷ bs) tag k t h = unbegun-byte languages b bs tag k t h
 
--- .. and is no white space
+-- likewise, and is no white space
 no-white : (b : ℕ) → begins_unquoted (class_of b) ≡ true → not (is_ascii_whitespace b) ≡ true
 no-white b h = elim (cases_Bool (is_ascii_whitespace b)) [
   | inl e ↦ absurd (true≢false (sym h ∙ ap begins_unquoted (class-white b e)))
@@ -93,33 +93,33 @@ at-once [] h = h
 at-once (b ∷ bs) h = no-white b h
 
 -- a text that is not empty
-unquoted-some : (text : List ℕ) → text ≢ [] → as_unquoted text ≡ as_text text
+unquoted-some : (text : List ℕ) → text ≢ [] → as_unquoted text ≡ read_as_text text
 unquoted-some [] n = absurd (n refl)
 unquoted-some (b ∷ bs) n = refl
 
-told-some : (bs : List ℕ) (e : Event) (t : List Event) → told_bytes languages (ValueOf kind.Plain) bs (e ∷ t) ≢ []
-told-some [] e t h = cc
-told-some (b ∷ bs) e t h = told-some bs (ValueByte b) (e ∷ t) h
+emitted-some : (bs : List ℕ) (e : LexEvent) (t : List LexEvent) → emitted_bytes languages (ValueOf kind.Plain) bs (e ∷ t) ≢ []
+emitted-some [] e t h = cc
+emitted-some (b ∷ bs) e t h = emitted-some bs (ValueByte b) (e ∷ t) h
 
-byte-some : (b : ℕ) (bs : List ℕ) → told_bytes languages (ValueOf kind.Plain) (as_byte b ++ bs) [] ≢ []
+byte-some : (b : ℕ) (bs : List ℕ) → emitted_bytes languages (ValueOf kind.Plain) (as_byte b ++ bs) [] ≢ []
 byte-some b bs = elim (cases_Bool (b == 0)) [
-  | inl e ↦ rw e (told-some (191 ∷ 189 ∷ bs) (ValueByte 239) [])
-  | inr e ↦ rw e (told-some bs (ValueByte b) [])
+  | inl e ↦ rw e (emitted-some (191 ∷ 189 ∷ bs) (ValueByte 239) [])
+  | inr e ↦ rw e (emitted-some bs (ValueByte b) [])
 ]
 
-text-some : (text : List ℕ) → text ≢ [] → told_bytes languages (ValueOf kind.Plain) (as_text text) [] ≢ []
+text-some : (text : List ℕ) → text ≢ [] → emitted_bytes languages (ValueOf kind.Plain) (read_as_text text) [] ≢ []
 text-some [] n = absurd (n refl)
-text-some (b ∷ bs) n = byte-some b (as_text bs)
+text-some (b ∷ bs) n = byte-some b (read_as_text bs)
 
-unquoted-plain : (tag : Tag) (text bytes : List ℕ) → text ≢ [] → read Page bytes (config (in_value Unquoted tag (ValueOf kind.Plain)) []) ≡ after_text Unquoted tag (ValueOf kind.Plain) (as_text text) [] → IsPlainUnquoted tag (read Page bytes (config (in_value Unquoted tag (ValueOf kind.Plain)) []))
-unquoted-plain tag text bytes n e = rw e (record { within = ap (in_value Unquoted tag) (same-kind kind.Plain (as_text text)); told = only-value kind.Plain (as_text text) [] refl; some = text-some text n })
+unquoted-plain : (tag : Tag) (text bytes : List ℕ) → text ≢ [] → read Page bytes (config (in_value Unquoted tag (ValueOf kind.Plain)) []) ≡ read_value Unquoted tag (ValueOf kind.Plain) (read_as_text text) [] → IsPlainUnquoted tag (read Page bytes (config (in_value Unquoted tag (ValueOf kind.Plain)) []))
+unquoted-plain tag text bytes n e = rw e (record { within = ap (in_value Unquoted tag) (same-kind kind.Plain (read_as_text text)); emitted = only-value kind.Plain (read_as_text text) [] refl; some = text-some text n })
 
-back : (text bytes : List ℕ) → text ≢ [] → begins bytes ≡ true → ((tag : Tag) (v : Value ValueState) (t : List Event) → read Page bytes (config (in_value Unquoted tag v) t) ≡ after_text Unquoted tag v (as_text text) t) → IsBackInUnquoted text bytes
+back : (text bytes : List ℕ) → text ≢ [] → begins bytes ≡ true → ((tag : Tag) (v : Value ValueState) (t : List LexEvent) → read Page bytes (config (in_value Unquoted tag v) t) ≡ read_value Unquoted tag v (read_as_text text) t) → IsBackInUnquoted text bytes
 back text bytes n h reads = record {
   plain = λ tag t. (refl, unquoted-plain tag text bytes n (reads tag (ValueOf kind.Plain) []));
   reads = λ tag v t. rw (unquoted-some text n) (reads tag v t);
   plain_unbegun = λ tag t. (refl, (at-once bytes h, subst (IsPlainUnquoted tag) (sym (unbegun bytes tag kind.Plain [] h)) (unquoted-plain tag text bytes n (reads tag (ValueOf kind.Plain) []))));
-  reads_unbegun = λ tag k t. unbegun bytes tag k t h ∙ rw (unquoted-some text n) (reads tag (value_of languages k) t);
+  reads_unbegun = λ tag k t. unbegun bytes tag k t h ∙ rw (unquoted-some text n) (reads tag (attribute_value_of languages k) t);
 }
 
 abbrev BackSome : List ℕ → List ℕ → Type 0
@@ -127,15 +127,15 @@ BackSome text bytes = text ≢ [] → IsBackInUnquoted text bytes
 
 back-some : (cs : List ℕ) → BackSome (encode_utf8_all cs) (replaced_all attr_nospace_rows cs)
 back-some [] n = absurd (n refl)
-back-some (c ∷ cs) n = back (encode_utf8_all (c ∷ cs)) (replaced_all attr_nospace_rows (c ∷ cs)) n (begins-append (written attr_nospace_rows c) (replaced_all attr_nospace_rows cs) (written-begins c)) (λ tag v t. unquoted-reads tag v (c ∷ cs) t)
+back-some (c ∷ cs) n = back (encode_utf8_all (c ∷ cs)) (replaced_all attr_nospace_rows (c ∷ cs)) n (begins-append (row_written attr_nospace_rows c) (replaced_all attr_nospace_rows cs) (written-begins c)) (λ tag v t. unquoted-reads tag v (c ∷ cs) t)
 
 -- the empty text
 back-failsafe : IsBackInUnquoted [] failsafe
 unfolding class_of
 back-failsafe = record {
-  plain = λ tag t. (refl, record { within = refl; told = refl; some = λ e. cc });
+  plain = λ tag t. (refl, record { within = refl; emitted = refl; some = λ e. cc });
   reads = λ tag v t. refl;
-  plain_unbegun = λ tag t. (refl, (refl, record { within = refl; told = refl; some = λ e. cc }));
+  plain_unbegun = λ tag t. (refl, (refl, record { within = refl; emitted = refl; some = λ e. cc }));
   reads_unbegun = λ tag k t. refl;
 }
 

@@ -3,7 +3,8 @@ ghost use Rattle.std.specs.Char.{is_ascii_alphanumeric};
 ghost use Rattle.std.specs.List.{list_all};
 ghost use Rattle.std.specs.Str.{str_to_ascii_lowercase};
 ghost use Rattle.san_html.specs.ReadBack.{IsBackInTag};
-ghost use Rattle.san_html.specs.Sanitizers.{attr_name as attr_name_of, failsafe, is_name as is_name_of};
+ghost use Rattle.san_html.specs.Sanitizers.{failsafe};
+ghost use Rattle.san_html.specs.Sanitizers as spec;
 
 use crate::failsafe::FAILSAFE;
 use html_words::special;
@@ -13,10 +14,10 @@ use std::alloc::Global;
 /// What is written for a text where the name of an attribute is to stand: the text in lower case if it is letters and
 /// digits of ASCII, one at least, and no special name (one whose value is a URL, a script or a style, or that decides
 /// what the page does), and `ZgotmplZ` exactly for every other text. There it begins a name and is all of it, whatever
-/// the text, if what ends a name stands after it. The error is out of memory. (HTML Standard, section 13.1.2.3.)
+/// the text, if what ends a name stands after it. Fails only if allocation fails. (HTML Standard, section 13.1.2.3.)
 pub fn attr_name(alloc: Global, text: &str) -> Result<Text, Memory>
-    ensures written { IfOk result (λ bytes. bytes ≡ attr_name_of text.now) }
-    ensures failsafe { IfOk result (λ bytes. (bytes ≡ failsafe) ↔ (is_name_of text.now ≡ false)) }
+    ensures written { IfOk result (λ bytes. bytes ≡ spec.attr_name text.now) }
+    ensures failsafe { IfOk result (λ bytes. (bytes ≡ failsafe) ↔ (spec.is_attribute_name text.now ≡ false)) }
     ensures in_tag { IfOk result (λ bytes. IsBackInTag text.now bytes) }
 {
     let mut out = String::new(alloc);
@@ -24,9 +25,9 @@ pub fn attr_name(alloc: Global, text: &str) -> Result<Text, Memory>
     Ok(Text::from(out))
 }
 
-/// Appends what `attr_name` gives. The error is out of memory, and then a part of it may be there.
+/// Appends what `attr_name` gives. Fails only if allocation fails, and then a part of it may be there.
 pub fn push_attr_name(out: &mut String, text: &str) -> Result<(), Memory>
-    ensures { OnOk result (string_bytes out.new ≡ string_bytes out.old ++ attr_name_of text.now) }
+    ensures { OnOk result (string_bytes out.new ≡ string_bytes out.old ++ spec.attr_name text.now) }
 {
     if !is_name(text) {
         out.push_str(FAILSAFE)?;
@@ -37,7 +38,7 @@ pub fn push_attr_name(out: &mut String, text: &str) -> Result<(), Memory>
 
 // Whether a text is the name of an attribute that data may make.
 fn is_name(text: &str) -> bool
-    ensures { result ≡ is_name_of text.now }
+    ensures { result ≡ spec.is_attribute_name text.now }
 {
     !text.is_empty() && is_alphanumeric(text.as_bytes()) && !special(text)
 }

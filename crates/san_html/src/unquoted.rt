@@ -1,7 +1,8 @@
 ghost use Rattle.std.specs.Prelude.{◌≡◌, ◌++◌, IfOk, OnOk, string_bytes};
 ghost use Rattle.esc_table.specs.Replaced.{replaced};
 ghost use Rattle.san_html.specs.ReadBack.{IsBackInUnquoted};
-ghost use Rattle.san_html.specs.Sanitizers.{attr_nospace as attr_nospace_of, attr_nospace_rows};
+ghost use Rattle.san_html.specs.Sanitizers.{attr_nospace_rows};
+ghost use Rattle.san_html.specs.Sanitizers as spec;
 
 use crate::failsafe::FAILSAFE;
 use esc_table::{push_replaced, table};
@@ -14,7 +15,7 @@ use std::alloc::Global;
 /// reference is open before it, and is read back as the text, NUL as U+FFFD, or as that word. The error is want of
 /// memory. (HTML Standard, section 13.1.2.3.)
 pub fn attr_nospace(alloc: Global, text: &str) -> Result<Text, Memory>
-    ensures written { IfOk result (λ bytes. bytes ≡ attr_nospace_of text.now) }
+    ensures written { IfOk result (λ bytes. bytes ≡ spec.attr_nospace text.now) }
     ensures in_unquoted { IfOk result (λ bytes. IsBackInUnquoted text.now bytes) }
 {
     let mut out = String::new(alloc);
@@ -22,10 +23,10 @@ pub fn attr_nospace(alloc: Global, text: &str) -> Result<Text, Memory>
     Ok(Text::from(out))
 }
 
-/// Appends what `attr_nospace` gives. The error is out of memory, and then a part of it may be there.
+/// Appends what `attr_nospace` gives. Fails only if allocation fails, and then a part of it may be there.
 pub fn push_attr_nospace(out: &mut String, text: &str) -> Result<(), Memory>
     ensures { OnOk result (string_bytes out.new
-        ≡ string_bytes out.old ++ attr_nospace_of text.now) }
+        ≡ string_bytes out.old ++ spec.attr_nospace text.now) }
 {
     if text.is_empty() {
         out.push_str(FAILSAFE)?;

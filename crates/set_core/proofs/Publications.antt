@@ -3,14 +3,14 @@ use Rattle.std.proofs.Common.{◌≡◌, ℕ, zero, suc, ◌+◌, ◌-◌, ◌<�
 use Rattle.std.proofs.lemmas.List.{get_or_append_left, get_or-set_same}
 use Rattle.std.proofs.lemmas.List.Elements.{All-weaker, All-set, All-push}
 use Rattle.set_core.specs.Publications.{Publication, IsPublication, IsViewer, seen_by}
-use Rattle.set_core.specs.Acts.{Act, publish, refuse, add_viewer, enter, tell, learn, May, after, Leads}
-use Rattle.set_core.specs.Laws.{Keeps, ActsKeep, NumbersNeverFall, LearntIsLeast, KeyStays, LastMayEnter}
+use Rattle.set_core.specs.Acts.{Act, publish, refuse, add_viewer, enter, tell, learn, ActMay, after_act, ActLeads}
+use Rattle.set_core.specs.Laws.{ActKeeps, ActsKeep, NumbersNeverFall, LearntIsLeast, KeyStays, LastMayEnter}
 use Rattle.set_core.proofs.Prefixes.{begins_self, begins_trans, begins_get, is_there}
 
 number_seen : {K : Type 0} (p : Publication K) (viewer : ℕ) → IsPublication p → IsViewer p viewer → (0 < seen_by p viewer) × (seen_by p viewer ≤ length p.keys)
 number_seen p viewer is v = is.numbers viewer 0 v
 
-keeps_itself : {K : Type 0} (p : Publication K) → IsPublication p → Keeps p p
+keeps_itself : {K : Type 0} (p : Publication K) → IsPublication p → ActKeeps p p
 keeps_itself p is = record { is = is; keys = begins_self p.keys; viewers = omega arith; seen = λ viewer v. omega arith }
 
 seen_more : (seen : List ℕ) (viewer number other : ℕ) → viewer < length seen → slice_index seen viewer ≤ number → slice_index seen other ≤ slice_index (slice_set seen viewer number) other
@@ -22,7 +22,7 @@ seen_more (n ∷ seen) (suc viewer) number (suc other) v more = seen_more seen v
 
 -- a viewer has now seen a greater number
 sees : {K : Type 0} (p : Publication K) (viewer number : ℕ) → IsPublication p → IsViewer p viewer → seen_by p viewer ≤ number → number ≤ length p.keys
-    → Keeps p (record { keys = p.keys; seen = slice_set p.seen viewer number })
+    → ActKeeps p (record { keys = p.keys; seen = slice_set p.seen viewer number })
 sees p viewer number is v more most =
     let mine = number_seen p viewer is v in
     record {
@@ -32,7 +32,7 @@ sees p viewer number is v more most =
       seen = λ other o. seen_more p.seen viewer number other v more;
     }
 
-pub keeps_one : {K : Type 0} (p : Publication K) (act : Act K) → IsPublication p → May p act → Keeps p (after p act)
+pub keeps_one : {K : Type 0} (p : Publication K) (act : Act K) → IsPublication p → ActMay p act → ActKeeps p (after_act p act)
 keeps_one p (publish key) is may =
     let more : length (p.keys ++ key ∷ []) ≡ length p.keys + 1 = length-append p.keys (key ∷ []) in
     record {
@@ -57,7 +57,7 @@ keeps_one p tell is may = keeps_itself p is
 keeps_one p (learn viewer number) is may =
     sees p viewer (max (seen_by p viewer) number) is may.0 (omega arith) (omega (arith, (number_seen p viewer is may.0).1, may.1))
 
-keeps_both : {K : Type 0} (p q r : Publication K) → Keeps p q → Keeps q r → Keeps p r
+keeps_both : {K : Type 0} (p q r : Publication K) → ActKeeps p q → ActKeeps q r → ActKeeps p r
 keeps_both p q r one two = record {
   is = two.is;
   keys = begins_trans p.keys q.keys r.keys one.keys two.keys;
@@ -66,14 +66,14 @@ keeps_both p q r one two = record {
 }
 
 pub the_acts_keep : {K : Type 0} → ActsKeep K
-the_acts_keep p q [] is leads = subst (λ r. Keeps p r) leads (keeps_itself p is)
+the_acts_keep p q [] is leads = subst (λ r. ActKeeps p r) leads (keeps_itself p is)
 the_acts_keep p q (act ∷ acts) is leads =
     let one = keeps_one p act is leads.0 in
-    keeps_both p (after p act) q one (the_acts_keep (after p act) q acts one.is leads.1)
+    keeps_both p (after_act p act) q one (the_acts_keep (after_act p act) q acts one.is leads.1)
 
 -- what a viewer has seen after acts that begin with one of its own
 seen_later : {K : Type 0} (p q : Publication K) (viewer number : ℕ) (acts : List (Act K)) → IsPublication p → IsViewer p viewer
-    → Keeps p (record { keys = p.keys; seen = slice_set p.seen viewer number }) → Leads (record { keys = p.keys; seen = slice_set p.seen viewer number }) acts q → number ≤ seen_by q viewer
+    → ActKeeps p (record { keys = p.keys; seen = slice_set p.seen viewer number }) → ActLeads (record { keys = p.keys; seen = slice_set p.seen viewer number }) acts q → number ≤ seen_by q viewer
 seen_later {K} p q viewer number acts is v keeps leads =
     let r : Publication K = record { keys = p.keys; seen = slice_set p.seen viewer number } in
     let here : slice_index (slice_set p.seen viewer number) viewer ≡ number = get_or-set_same p.seen viewer number 0 v in

@@ -13,8 +13,8 @@ pub record IsPublication {K : Type 0} (p : Publication K) : Type 0 where
   pub numbers : All (λ n. (0 < n) × (n ≤ length p.keys)) p.seen
 
 -- one key, and no viewer
-abbrev pub opened : {K : Type 0} → K → Publication K
-opened first = record { keys = first ∷ []; seen = [] }
+abbrev pub publication_opened : {K : Type 0} → K → Publication K
+publication_opened first = record { keys = first ∷ []; seen = [] }
 
 -- viewers are named from 0
 abbrev pub IsViewer : {K : Type 0} → Publication K → ℕ → Type 0

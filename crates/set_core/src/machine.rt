@@ -1,7 +1,7 @@
 ghost use Rattle.std.specs.Prelude.{◌≡◌, ◌↔◌, ◌<◌, ◌≤◌, length, IsTrue, IfOk, OnErr, MatchBool, MatchOption};
-ghost use Rattle.set_core.specs.Publications.{IsViewer, opened};
-ghost use Rattle.set_core.specs.Acts.{MayEnter, after, publish, refuse, add_viewer};
-ghost use Rattle.set_core.specs.Answers.{Entered, NotEntered, Learns, LearnsNot};
+ghost use Rattle.set_core.specs.Publications.{IsViewer, publication_opened};
+ghost use Rattle.set_core.specs.Acts.{ViewerMayEnter, after_act, publish, refuse, add_viewer};
+ghost use Rattle.set_core.specs.Answers.{ViewerEntered, NotEntered, Learns, LearnsNot};
 
 use page_io::Memory;
 use std::alloc::Global;
@@ -27,9 +27,9 @@ impl Model for Core {
 }
 
 impl Core {
-    /// A list with one key, and no viewer. The error is out of memory.
+    /// A list with one key, and no viewer. Fails only if allocation fails.
     pub fn new(alloc: Global, first: u64) -> Result<Core, Memory>
-        ensures { IfOk result (λ core. core ≡ opened first) }
+        ensures { IfOk result (λ core. core ≡ publication_opened first) }
     {
         let mut keys = Vec::new(alloc);
         keys.push(first)?;
@@ -39,9 +39,9 @@ impl Core {
         })
     }
 
-    /// Appends a key, and gives its number. The error is out of memory; then nothing has changed.
+    /// Appends a key, and gives its number. Fails only if allocation fails; then nothing has changed.
     pub fn publish(&mut self, key: u64) -> Result<u64, Memory>
-        ensures key { IfOk result (λ _. self.new ≡ after self.old (publish key)) }
+        ensures key { IfOk result (λ _. self.new ≡ after_act self.old (publish key)) }
         ensures number { IfOk result (λ number. number ≡ length self.new.keys) }
         ensures err { OnErr result (self.new ≡ self.old) }
     {
@@ -51,16 +51,16 @@ impl Core {
 
     /// Notes that a set was refused, which changes nothing.
     pub fn refuse(&mut self)
-        ensures act { self.new ≡ after self.old refuse }
+        ensures act { self.new ≡ after_act self.old refuse }
         ensures keeps { self.new ≡ self.old }
     {}
 
-    /// Adds a viewer that has seen the first key, and gives its name; names count from 0. The error is out of memory; then nothing
+    /// Adds a viewer that has seen the first key, and gives its name; names count from 0. Fails only if allocation fails; then nothing
     /// has changed.
     pub fn add_viewer(&mut self) -> Result<u32, Memory>
         requires { length self.old.seen < 4294967295 }
         ensures viewer { IfOk result (λ viewer. viewer ≡ length self.old.seen) }
-        ensures act { IfOk result (λ _. self.new ≡ after self.old add_viewer) }
+        ensures act { IfOk result (λ _. self.new ≡ after_act self.old add_viewer) }
         ensures err { OnErr result (self.new ≡ self.old) }
     {
         let viewer = self.seen.len() as u32;
@@ -71,7 +71,7 @@ impl Core {
     /// Whether a viewer may enter at a number: it lies from what the viewer has seen to the length of the list.
     pub fn may_enter(&self, viewer: u32, number: u64) -> bool
         requires { IsViewer self.now viewer }
-        ensures { IsTrue result ↔ MayEnter self.now viewer number }
+        ensures { IsTrue result ↔ ViewerMayEnter self.now viewer number }
     {
         self.seen[viewer as usize] <= number && number <= self.keys.len() as u64
     }
@@ -80,7 +80,8 @@ impl Core {
     /// then nothing has changed.
     pub fn enter(&mut self, viewer: u32, number: u64) -> Option<u64>
         requires { IsViewer self.old viewer }
-        ensures { MatchOption result (NotEntered self.old viewer number self.new) (Entered self.old viewer number self.new) }
+        ensures { MatchOption result (NotEntered self.old viewer number self.new)
+            (ViewerEntered self.old viewer number self.new) }
     {
         if !self.may_enter(viewer, number) {
             return None;
@@ -108,7 +109,8 @@ impl Core {
     /// yet, and then nothing has changed.
     pub fn learn(&mut self, viewer: u32, number: u64) -> bool
         requires { IsViewer self.old viewer }
-        ensures { MatchBool result (Learns self.old viewer number self.new) (LearnsNot self.old number self.new) }
+        ensures { MatchBool result (Learns self.old viewer number self.new)
+            (LearnsNot self.old number self.new) }
     {
         if number > self.keys.len() as u64 {
             return false;

@@ -3,7 +3,7 @@ use Rattle.std.proofs.Common.{◌≡◌, ℕ, zero, suc, ◌-◌, ◌<◌, ◌�
 use Rattle.std.proofs.lemmas.List.{get_or-map, length-map, map-append, map-set}
 use Rattle.std.proofs.lemmas.List.Elements.{All-weaker, All-set, All-push}
 use mathlib.Core.List.{IsPrefix}
-use Rattle.set_core.specs.Acts.{Leads, publish, add_viewer, enter, learn}
+use Rattle.set_core.specs.Acts.{ActLeads, publish, add_viewer, enter, learn}
 use Rattle.set_publisher.specs.Calls.{publication, AreSeen, seen_of, CallsAreActs}
 use Rattle.set_core.proofs.Prefixes.{begins_self, begins_trans, begins_length, begins_get}
 
@@ -19,12 +19,12 @@ or_less (suc a) (suc b) = ⊎_elim (λ (h : a < b). inl (omega (arith, h))) (λ 
 
 module _ {V : Type 0} where
   publishing : (sets : List V) (seen : List (List V)) (set : V) → AreSeen sets seen
-      → AreSeen (sets ++ set ∷ []) seen × Leads (publication sets seen) (publish set ∷ []) (publication (sets ++ set ∷ []) seen)
+      → AreSeen (sets ++ set ∷ []) seen × ActLeads (publication sets seen) (publish set ∷ []) (publication (sets ++ set ∷ []) seen)
   publishing sets seen set are =
       (All-weaker (λ mine. IsPrefix mine sets × (0 < length mine)) (λ mine. IsPrefix mine (sets ++ set ∷ []) × (0 < length mine)) (λ mine h. (begins_trans mine sets (sets ++ set ∷ []) h.0 (set ∷ [], refl), h.1)) seen are, (tt, refl))
 
   seating : (sets : List V) (seen : List (List V)) → 0 < length sets → AreSeen sets seen
-      → AreSeen sets (seen ++ sets ∷ []) × Leads (publication sets seen) (add_viewer ∷ learn (length seen) (length sets) ∷ []) (publication sets (seen ++ sets ∷ []))
+      → AreSeen sets (seen ++ sets ∷ []) × ActLeads (publication sets seen) (add_viewer ∷ learn (length seen) (length sets) ∷ []) (publication sets (seen ++ sets ∷ []))
   seating sets seen some are =
       let there : length seen < length (map length seen ++ 1 ∷ []) = omega (arith, length-append (map length seen) (1 ∷ []), length-map seen length) in
       let all : slice_set (map length seen ++ 1 ∷ []) (length seen) (max (slice_index (map length seen ++ 1 ∷ []) (length seen)) (length sets)) ≡ map length (seen ++ sets ∷ [])
@@ -38,7 +38,7 @@ module _ {V : Type 0} where
   mine_is seen viewer v = get_or-map length seen viewer [] 0 v
 
   looking : (sets : List V) (seen : List (List V)) (viewer : ℕ) (now : List V) → AreSeen sets seen → viewer < length seen → IsPrefix (seen_of seen viewer) now → IsPrefix now sets
-      → AreSeen sets (slice_set seen viewer now) × Leads (publication sets seen) (enter viewer (length now) ∷ []) (publication sets (slice_set seen viewer now)) × (slice_get sets (length now - 1) ≡ slice_get now (length now - 1))
+      → AreSeen sets (slice_set seen viewer now) × ActLeads (publication sets seen) (enter viewer (length now) ∷ []) (publication sets (slice_set seen viewer now)) × (slice_get sets (length now - 1) ≡ slice_get now (length now - 1))
   looking sets seen viewer now are v grows whole =
       let before = are viewer [] v in
       let more : length (seen_of seen viewer) ≤ length now = begins_length (seen_of seen viewer) now grows in
@@ -61,7 +61,7 @@ module _ {V : Type 0} where
 
   learning : (sets : List V) (seen : List (List V)) (viewer : ℕ) (told now : List V) → AreSeen sets seen → viewer < length seen → IsPrefix told sets
       → (length (seen_of seen viewer) < length told → now ≡ told) → (length told ≤ length (seen_of seen viewer) → now ≡ seen_of seen viewer)
-      → AreSeen sets (slice_set seen viewer now) × Leads (publication sets seen) (learn viewer (length told) ∷ []) (publication sets (slice_set seen viewer now))
+      → AreSeen sets (slice_set seen viewer now) × ActLeads (publication sets seen) (learn viewer (length told) ∷ []) (publication sets (slice_set seen viewer now))
   learning sets seen viewer told now are v whole more less =
       let before = are viewer [] v in
       let there : viewer < length (map length seen) = omega (arith, length-map seen length, v) in

@@ -26,5 +26,5 @@ module _ {V : Type 0} (set : Coded V) where
       (λ w. (w.book, (w.sets, (w.looks, w.misses)))) (λ t. record { book = t.0; sets = t.1.0; looks = t.1.1.0; misses = t.1.1.1 }) (λ _. refl)
 
 -- sets are numbered from 1
-abbrev pub IsSetOf : {V : Type 0} → List V → ℕ → V → Type 0
-IsSetOf sets number set = slice_get sets (number - 1) ≡ Some set
+abbrev pub IsPublishedSetOf : {V : Type 0} → List V → ℕ → V → Type 0
+IsPublishedSetOf sets number set = slice_get sets (number - 1) ≡ Some set

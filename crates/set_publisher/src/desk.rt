@@ -1,6 +1,6 @@
 ghost use Rattle.std.specs.Prelude.{◌≡◌, ◌∷◌, [], length, Some, None, IfOk, MatchResult};
 ghost use Rattle.std.specs.Arc.{arc_value};
-ghost use Rattle.set_publisher.specs.Values.{IsSetOf};
+ghost use Rattle.set_publisher.specs.Values.{IsPublishedSetOf};
 ghost use Rattle.set_publisher.specs.Publishing.{Publishes, Seats};
 
 use crate::copies;
@@ -53,7 +53,7 @@ fn put_back<T>(slot: &mut Option<T>, value: T)
 }
 
 impl<V: Drop, S: Notice<V>> Desk<V, S> {
-    /// A desk whose list has one set. The error is out of memory.
+    /// A desk whose list has one set. Fails only if allocation fails.
     pub fn open<R: Wait>(alloc: Global, rt: &R, first: V) -> Result<Desk<V, S>, Memory>
         ensures { IfOk result (λ desk. desk.sets ≡ first ∷ []) }
     {
@@ -98,7 +98,7 @@ impl<V: Drop, S: Notice<V>> Desk<V, S> {
 
     /// The last set.
     pub fn latest(&self) -> &V
-        ensures { IsSetOf self.now.sets (length self.now.sets) result.now }
+        ensures { IsPublishedSetOf self.now.sets (length self.now.sets) result.now }
     {
         &self.told.set
     }
@@ -113,7 +113,7 @@ impl<V: Drop, S: Notice<V>> Desk<V, S> {
         drop(writer.unwrap().take(rt));
     }
 
-    /// A viewer that has seen the list as it is. It takes no memory, and waits for nobody. `Failed` is that no place was given, as
+    /// A viewer that has seen the list as it is. It does not allocate, and waits for nobody. `Failed` is that no place was given, as
     /// where all are taken, `Memory` that the set has too many owners to count. Nothing is counted here: see `PackSeats`.
     pub fn seat(&mut self) -> Result<Viewer<V, S>, SeatStop>
         ensures kept { self.new ≡ self.old }

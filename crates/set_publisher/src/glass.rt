@@ -2,7 +2,7 @@ ghost use Rattle.std.specs.Prelude.{◌≡◌, ℕ, ◌≤◌, length, IfSome, M
 ghost use Rattle.std.specs.Arc.{arc_value};
 ghost use mathlib.Core.List.{IsPrefix};
 ghost use Rattle.page_io.specs.Causes.{Rose};
-ghost use Rattle.set_publisher.specs.Looks.{Finds, MatchLooked, Misses};
+ghost use Rattle.set_publisher.specs.Looks.{Finds, MatchLooked, LookMisses};
 
 use crate::looked::Looked;
 use crate::told::Told;
@@ -32,7 +32,7 @@ pub trait Glass<V: Drop> {
         ensures looks { Rose (looks self.old) (looks self.new) }
         ensures grows { IsPrefix (list self.old) (list self.new) }
         ensures found { let missed =
-            Misses (list self.old) (list self.new) (misses self.old) (misses self.new) in
+            LookMisses (list self.old) (list self.new) (misses self.old) (misses self.new) in
             let kept = misses self.new ≡ misses self.old in
             let same = list self.new ≡ list self.old in
             MatchOption result missed
@@ -40,7 +40,7 @@ pub trait Glass<V: Drop> {
             (λ p. Finds (list self.old) (list self.new) p.0 (arc_value p.1)) × kept) }
         ensures shown { IfSome result (λ _. shown self.new ≡ Some (length (list self.new))) };
 
-    /// Learns what was told, which is no less than what is seen, and gives the told set. It takes no memory, and waits for nobody.
+    /// Learns what was told, which is no less than what is seen, and gives the told set. It does not allocate, and waits for nobody.
     fn learn(&mut self, told: Told<V>) -> Arc<V>
         requires desk { told.known.seen.book ≡ desk self.old }
         requires longer { length (list self.old) ≤ told.known.number }

@@ -1,5 +1,5 @@
 ghost use Rattle.std.specs.Prelude.{◌≡◌, length};
-ghost use Rattle.set_publisher.specs.Looks.{IsBegun};
+ghost use Rattle.set_publisher.specs.Looks.{IsReaderBegun};
 
 use crate::counted::Counted;
 use logbook::Seen;
@@ -16,7 +16,7 @@ pub struct Known<V> {
 }
 
 impl<V> Known<V> {
-    /// A copy, which takes no memory.
+    /// A copy, which does not allocate.
     pub fn again(&self) -> Known<V>
         ensures { result ≡ self.now }
     {
@@ -29,7 +29,7 @@ impl<V> Known<V> {
     /// Whether as much is known here as there, both of one list. What is less begins what is more.
     pub fn is_begun_by(&self, other: &Known<V>) -> bool
         requires { other.now.seen.book ≡ self.now.seen.book }
-        ensures { IsBegun self.now.seen.log other.now.seen.log result }
+        ensures { IsReaderBegun self.now.seen.log other.now.seen.log result }
     {
         let mut both = self.seen.again();
         both.learn(&other.seen);

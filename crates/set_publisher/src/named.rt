@@ -1,7 +1,7 @@
 use std::marker::Brand;
 
 /// The name of a desk. It has no call: a type parameter with this bound says which desk's list is meant where the desk itself is not at
-/// hand, as behind a lock.
+/// hand, as after a lock.
 pub trait Named {
     ghost use Rattle.logbook.specs.Pages.{Book};
 

@@ -1,7 +1,7 @@
 ghost use Rattle.std.specs.Prelude.{◌≡◌, ℕ, ◌≤◌, IfOk, IsErrOf};
 ghost use Rattle.page_io.specs.Causes.{Rose};
-ghost use Rattle.set_publisher.specs.Publishing.{Seats as SeatsViewer};
 ghost use Rattle.set_publisher.specs.declared.seats.SeatStop.TheVariants.{Failed};
+ghost use Rattle.set_publisher.specs.Publishing as spec;
 
 use crate::desk::Desk;
 use crate::notice::Notice;
@@ -28,7 +28,7 @@ pub trait Seats {
         desk: &mut Desk<V, S>,
     ) -> Result<Viewer<V, S>, SeatStop>
         ensures kept { desk.new ≡ desk.old }
-        ensures seat { IfOk result (SeatsViewer desk.old) }
+        ensures seat { IfOk result (spec.Seats desk.old) }
         ensures counts { faults self.old ≤ faults self.new }
         ensures cause { IsErrOf result Failed → Rose (faults self.old) (faults self.new) };
 }

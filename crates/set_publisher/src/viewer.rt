@@ -1,7 +1,7 @@
 ghost use Rattle.std.specs.Prelude.{◌≡◌, ◌<◌, ◌≤◌, length};
 ghost use mathlib.Core.List.{IsPrefix};
 ghost use Rattle.page_io.specs.Causes.{Rose};
-ghost use Rattle.set_publisher.specs.Values.{IsSetOf};
+ghost use Rattle.set_publisher.specs.Values.{IsPublishedSetOf};
 ghost use Rattle.set_publisher.specs.Looks.{LooksOnce};
 
 use crate::glass::Glass;
@@ -29,7 +29,7 @@ pub struct View<V: Drop, G: Glass<V> + Drop> {
 impl<V: Drop, G: Glass<V> + Drop> Model for View<V, G> {
     ghost use Rattle.std.specs.Prelude.{◌≡◌, length};
     ghost use Rattle.std.specs.Arc.{arc_value};
-    ghost use Rattle.set_publisher.specs.Values.{Watched, watched_code, IsSetOf};
+    ghost use Rattle.set_publisher.specs.Values.{Watched, watched_code, IsPublishedSetOf};
 
     ghost Value = { Watched V };
 
@@ -43,7 +43,7 @@ impl<V: Drop, G: Glass<V> + Drop> Model for View<V, G> {
     } };
 
     ghost invariant = { λ v. (v.number ≡ length (G.list v.glass))
-        × IsSetOf (G.list v.glass) v.number (arc_value v.set) };
+        × IsPublishedSetOf (G.list v.glass) v.number (arc_value v.set) };
 }
 
 /// A viewer at a desk over `left_right`.
@@ -67,7 +67,7 @@ impl<V: Drop, G: Glass<V> + Drop> View<V, G> {
     }
 
     /// Looks, and gives the number of the set that is then kept: the one that the look found, or where it missed the one that was kept
-    /// before. It is no less than any number that this viewer gave or learnt. It takes no memory, and waits for nobody.
+    /// before. It is no less than any number that this viewer gave or learnt. It does not allocate, and waits for nobody.
     pub fn current(&mut self) -> u64
         ensures desk { self.new.book ≡ self.old.book }
         ensures grows { IsPrefix self.old.sets self.new.sets }
@@ -82,15 +82,15 @@ impl<V: Drop, G: Glass<V> + Drop> View<V, G> {
         self.number
     }
 
-    /// The set that is kept: the last one that was seen. It takes no memory, and waits for nobody.
+    /// The set that is kept: the last one that was seen. It does not allocate, and waits for nobody.
     pub fn set(&self) -> &V
-        ensures { IsSetOf self.now.sets (length self.now.sets) result.now }
+        ensures { IsPublishedSetOf self.now.sets (length self.now.sets) result.now }
     {
         &self.set
     }
 
     /// Learns what a publish at the viewer's own desk told, where that is more than what it has seen, and keeps the told set then. It
-    /// takes no memory, and waits for nobody.
+    /// does not allocate, and waits for nobody.
     pub fn learn(&mut self, told: Told<V>)
         requires { told.known.seen.book ≡ self.old.book }
         ensures desk { self.new.book ≡ self.old.book }
@@ -106,7 +106,7 @@ impl<V: Drop, G: Glass<V> + Drop> View<V, G> {
         }
     }
 
-    /// The number of the set that is kept. It takes no memory, and waits for nobody.
+    /// The number of the set that is kept. It does not allocate, and waits for nobody.
     pub fn number(&self) -> u64
         ensures { result ≡ length self.now.sets }
     {
@@ -116,7 +116,7 @@ impl<V: Drop, G: Glass<V> + Drop> View<V, G> {
 
 impl<V: Drop, S: Notice<V>> View<V, PackGlass<V, S>> {
     /// What is known of the list where that is what the viewer has seen. It can be compared with what another viewer of its desk knows, or
-    /// with what was told, and says which begins the other. It takes no memory, and waits for nobody.
+    /// with what was told, and says which begins the other. It does not allocate, and waits for nobody.
     pub fn known(&self) -> &Known<V>
         ensures sets { result.now.seen.log ≡ self.now.sets }
         ensures desk { result.now.seen.book ≡ self.now.book }

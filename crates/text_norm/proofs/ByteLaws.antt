@@ -1,14 +1,14 @@
--- What a byte does to what is held back: a law for each front.
+-- What a byte does to what is pending back: a law for each scan state.
 use Rattle.std.proofs.Common.{◌≡◌, ℕ, Bool, true, false, codes, List, [], ◌∷◌, ◌++◌, refl, sym, ap, ◌∙◌}
 use Rattle.std.proofs.lemmas.List.{append_assoc, append-nil}
-use Rattle.place_core.specs.Classes.{Class, White, ExclamationMark, QuotationMark, NumberSign, Ampersand, Apostrophe, HyphenMinus, Solidus, Digit, Semicolon, LessThan, EqualsSign, GreaterThan, QuestionMark, GraveAccent, Letter, OtherByte}
-use Rattle.place_core.specs.Comments.{Declaration, OpensComment, OpensDoctype, Undecided, OpensNothing, declared_by, next_comment, closes_comment}
-use Rattle.place_core.specs.Contents.{may_be_name_of, is_name_of}
-use Rattle.place_core.specs.References.{Reference, Closed, Open, ReferenceStep, Grows, Closes, Breaks, turn, turned, as_it_stands, begin_reference, next_reference, plain_bytes}
-use Rattle.place_core.specs.States.{CommentState, Started, StartedDash, Inside, Dash, DashDash, Bang, Broken, Nothing, HeldLess, HeldName, HeldBang, HeldBangDash}
-use Rattle.place_core.specs.StatePlaces.{tag_of}
-use Rattle.place_core.specs.Tags.{tag_named}
-use Rattle.place_core.specs.Words.{kind_of}
+use Rattle.place_core.specs.page.Classes.{Class, White, ExclamationMark, QuotationMark, NumberSign, Ampersand, Apostrophe, HyphenMinus, Solidus, Digit, Semicolon, LessThan, EqualsSign, GreaterThan, QuestionMark, GraveAccent, Letter, OtherByte}
+use Rattle.place_core.specs.page.Comments.{Declaration, OpensComment, OpensDoctype, Undecided, OpensNothing, declared_by, next_comment, closes_comment}
+use Rattle.place_core.specs.page.Contents.{may_be_name_of, is_name_of}
+use Rattle.place_core.specs.page.References.{Reference, Closed, Open, ReferenceStep, Grows, Closes, Breaks, turn, reference_turned, as_it_stands, begin_reference, next_reference, plain_bytes}
+use Rattle.place_core.specs.page.States.{CommentState, Started, StartedDash, Inside, Dash, DashDash, Bang, Broken, Nothing, PendingLess, PendingName, PendingBang, PendingBangDash}
+use Rattle.place_core.specs.place.StatePlaces.{tag_of}
+use Rattle.place_core.specs.page.Tags.{tag_named}
+use Rattle.place_core.specs.page.Words.{kind_of}
 use Rattle.place_core.specs.declared.body.Body.{Body}
 use Rattle.place_core.specs.declared.element.Element.{Element}
 use Rattle.place_core.specs.declared.element.Element.TheVariants as element
@@ -22,12 +22,12 @@ use Rattle.place_core.specs.declared.tag_of.TagOf.TheVariants as tag
 use Rattle.place_core.specs.declared.tag_place.TagPlace.{TagPlace}
 use Rattle.place_core.specs.declared.value_place.ValuePlace.{ValuePlace}
 use Rattle.std.proofs.Common.{Option, Some, None}
-use Rattle.html_front.specs.Fronts.{Front, At, AfterLess, AfterLessSolidus, InDeclaration, InTagName, InAttributeName, InCommentEnd, InContentEnd, attribute_name_next, bare_next, bare_white, comment_closed, comment_front, comment_next, comment_state, content_front, content_next, declaration_next, doctype_next, end_name_next, front_next, kind_body, quoted_next, tag_element, tag_name_next, tag_next, text_front, value_front}
-use Rattle.text_norm.specs.Fronted.{declaration_open, front_open, front_out}
-use Rattle.text_norm.specs.Kept.{bears, change_of, front_kept, hides, less_kept, reference_kept, stays}
-use Rattle.text_norm.specs.Written.{declaration_out, end_name_out, escaped, loose_out, reference_out, text_out, turn_out}
-use Rattle.text_norm.specs.declared.change.Change.{Change}
-use Rattle.text_norm.specs.declared.change.Change.TheVariants as change
+use Rattle.html_scan.specs.Scans.{Scan, At, AfterLess, AfterLessSolidus, InDeclaration, InTagName, InAttributeName, InCommentEnd, InContentEnd, attribute_name_next, bare_next, bare_white, comment_closed, comment_scan, comment_next, comment_state, content_scan, content_next, declaration_next, doctype_next, end_name_next, scan_next, kind_body, quoted_next, tag_element, tag_name_next, tag_next, text_scan, value_scan}
+use Rattle.text_norm.specs.Scanned.{declaration_open, scan_open, scan_out}
+use Rattle.text_norm.specs.Kept.{bears, change_of, scan_kept, hides, less_kept, reference_kept, stays}
+use Rattle.text_norm.specs.Written.{declaration_out, end_name_out, text_escaped, loose_out, reference_out, text_out, turn_out}
+use Rattle.text_norm.specs.declared.pending.Change.{Change}
+use Rattle.text_norm.specs.declared.pending.Change.TheVariants as change
 
 no : false ≡ true → ⊥
 no h = cc
@@ -43,11 +43,11 @@ Spelled Solidus b = b ≡ 47
 Spelled ExclamationMark b = b ≡ 33
 Spelled c b = b ≡ b
 
-pub record IsLoose (g : Front) : Type 0 where
+pub record IsLoose (g : Scan) : Type 0 where
   pub less : less_kept g ≡ []
   pub shown : hides g ≡ false
 
-pub record KeepsBytes (f g : Front) (r s : Reference) (c : Class) (b : ℕ) (written : List ℕ) : Type 0 where
+pub record KeepsBytes (f g : Scan) (r s : Reference) (c : Class) (b : ℕ) (written : List ℕ) : Type 0 where
   pub bytes : as_it_stands r ++ (less_kept f ++ b ∷ []) ≡ written ++ (as_it_stands s ++ less_kept g)
   pub closed : bears g ≡ false → s ≡ Closed
   pub shown : hides g ≡ false
@@ -56,7 +56,7 @@ pub record KeepsBytes (f g : Front) (r s : Reference) (c : Class) (b : ℕ) (wri
   pub out : stays f g ≡ true → written ≡ []
   pub alone : stays f g ≡ false → c ≡ Ampersand → less_kept g ≡ []
 
-pub record EscapesBytes (f g : Front) (r s : Reference) (c : Class) (b : ℕ) (written : List ℕ) : Type 0 where
+pub record EscapesBytes (f g : Scan) (r s : Reference) (c : Class) (b : ℕ) (written : List ℕ) : Type 0 where
   pub more : List ℕ
   pub again : List ℕ
   pub less : less_kept f ≡ 60 ∷ more
@@ -68,29 +68,29 @@ pub record EscapesBytes (f g : Front) (r s : Reference) (c : Class) (b : ℕ) (w
   pub shown : hides g ≡ false
   pub before : hides f ≡ false
 
-pub record OpensBytes (f g : Front) (r s : Reference) (c : Class) (b : ℕ) (written : List ℕ) : Type 0 where
+pub record OpensBytes (f g : Scan) (r s : Reference) (c : Class) (b : ℕ) (written : List ℕ) : Type 0 where
   pub more : List ℕ
   pub less : less_kept f ≡ 60 ∷ more
-  pub out : written ≡ escaped r
+  pub out : written ≡ text_escaped r
   pub reference : s ≡ Closed
   pub loose : less_kept g ≡ []
   pub hidden : hides g ≡ true
   pub before : hides f ≡ false
 
-pub record LeavesBytes (f g : Front) (r s : Reference) (c : Class) (b : ℕ) (written : List ℕ) : Type 0 where
+pub record LeavesBytes (f g : Scan) (r s : Reference) (c : Class) (b : ℕ) (written : List ℕ) : Type 0 where
   pub out : written ≡ []
   pub reference : s ≡ Closed
   pub loose : less_kept g ≡ []
   pub ends : hides g ≡ false → c ≡ GreaterThan
   pub before : hides f ≡ true
 
-abbrev pub LawOf : Change → Front → Front → Reference → Reference → Class → ℕ → List ℕ → Type 0
+abbrev pub LawOf : Change → Scan → Scan → Reference → Reference → Class → ℕ → List ℕ → Type 0
 LawOf change.Keeps f g r s c b out = KeepsBytes f g r s c b out
 LawOf change.EscapesLess f g r s c b out = EscapesBytes f g r s c b out
 LawOf change.OpensComment f g r s c b out = OpensBytes f g r s c b out
 LawOf change.LeavesOut f g r s c b out = LeavesBytes f g r s c b out
 
-abbrev pub Law : Front → Front → Reference → Reference → Class → ℕ → List ℕ → Type 0
+abbrev pub Law : Scan → Scan → Reference → Reference → Class → ℕ → List ℕ → Type 0
 Law f g r s c b out = LawOf (change_of f g) f g r s c b out
 
 plain_law : (c : Class) (b : ℕ) → Spelled c b → b ∷ [] ≡ plain_bytes c b ++ as_it_stands (begin_reference c)
@@ -112,7 +112,7 @@ plain_law GraveAccent b p = refl
 plain_law (Letter l) b p = refl
 plain_law OtherByte b p = refl
 
-turn_law : (t : ReferenceStep) (bytes : List ℕ) (c : Class) (b : ℕ) → Spelled c b → (38 ∷ bytes) ++ b ∷ [] ≡ turn_out t bytes c b ++ as_it_stands (turned t bytes c b)
+turn_law : (t : ReferenceStep) (bytes : List ℕ) (c : Class) (b : ℕ) → Spelled c b → (38 ∷ bytes) ++ b ∷ [] ≡ turn_out t bytes c b ++ as_it_stands (reference_turned t bytes c b)
 turn_law (Grows g) bytes c b p = refl
 turn_law Closes bytes c b p = sym (append-nil ((38 ∷ bytes) ++ b ∷ []))
 turn_law Breaks bytes c b p = ap (λ (xs : List ℕ). (38 ∷ bytes) ++ xs) (plain_law c b p) ∙ sym (append_assoc (38 ∷ bytes) (plain_bytes c b) (as_it_stands (begin_reference c)))
@@ -122,7 +122,7 @@ reference_law Closed c b p = plain_law c b p
 reference_law (Open f bytes) c b p = turn_law (turn c f) bytes c b p
 
 -- in text with references
-with_references : (f g : Front) (r : Reference) (c : Class) (b : ℕ) → Spelled c b → less_kept f ≡ [] → less_kept g ≡ [] → (bears g ≡ false → next_reference r c b ≡ Closed) → hides g ≡ false → hides f ≡ false → stays f g ≡ false → front_kept f c b r ≡ next_reference r c b → KeepsBytes f g r (next_reference r c b) c b (reference_out r c b)
+with_references : (f g : Scan) (r : Reference) (c : Class) (b : ℕ) → Spelled c b → less_kept f ≡ [] → less_kept g ≡ [] → (bears g ≡ false → next_reference r c b ≡ Closed) → hides g ≡ false → hides f ≡ false → stays f g ≡ false → scan_kept f c b r ≡ next_reference r c b → KeepsBytes f g r (next_reference r c b) c b (reference_out r c b)
 with_references f g r c b p less_f less_g closed shown before moves kept = record {
   bytes = rw (less_f, less_g, append-nil (as_it_stands (next_reference r c b))) (reference_law r c b p);
   closed = closed;
@@ -134,7 +134,7 @@ with_references f g r c b p less_f less_g closed shown before moves kept = recor
 }
 
 -- and without
-without_references : (f g : Front) (r : Reference) (c : Class) (b : ℕ) → less_kept f ≡ [] → IsLoose g → hides f ≡ false → stays f g ≡ false → front_kept f c b r ≡ Closed → r ≡ Closed → KeepsBytes f g r Closed c b (b ∷ [])
+without_references : (f g : Scan) (r : Reference) (c : Class) (b : ℕ) → less_kept f ≡ [] → IsLoose g → hides f ≡ false → stays f g ≡ false → scan_kept f c b r ≡ Closed → r ≡ Closed → KeepsBytes f g r Closed c b (b ∷ [])
 without_references f g r c b less loose before moves kept closed = record {
   bytes = rw (less, loose.less, closed) refl;
   closed = λ h. refl;
@@ -145,7 +145,7 @@ without_references f g r c b less loose before moves kept closed = record {
   alone = λ h k. loose.less;
 }
 
-in_text : (c : Class) (b : ℕ) (r : Reference) → Spelled c b → Law (At place.Text) (text_front c) r (front_open (At place.Text) c b r) c b (text_out c b r)
+in_text : (c : Class) (b : ℕ) (r : Reference) → Spelled c b → Law (At place.Text) (text_scan c) r (scan_open (At place.Text) c b r) c b (text_out c b r)
 in_text White b r p = with_references (At place.Text) (At place.Text) r White b p refl refl (λ h. absurd (yes h)) refl refl refl refl
 in_text ExclamationMark b r p = with_references (At place.Text) (At place.Text) r ExclamationMark b p refl refl (λ h. absurd (yes h)) refl refl refl refl
 in_text QuotationMark b r p = with_references (At place.Text) (At place.Text) r QuotationMark b p refl refl (λ h. absurd (yes h)) refl refl refl refl
@@ -203,7 +203,7 @@ ends_at_greater : (r : Reference) (b : ℕ) → next_reference r GreaterThan b �
 ends_at_greater Closed b = refl
 ends_at_greater (Open f bytes) b = refl
 
-loose-content : (t : TagOf) → IsLoose (content_front t)
+loose-content : (t : TagOf) → IsLoose (content_scan t)
 loose-content tag.End = record { less = refl; shown = refl }
 loose-content (tag.Start element.Title) = record { less = refl; shown = refl }
 loose-content (tag.Start element.Textarea) = record { less = refl; shown = refl }
@@ -212,7 +212,7 @@ loose-content (tag.Start element.Script) = record { less = refl; shown = refl }
 loose-content (tag.Start element.DataBlock) = record { less = refl; shown = refl }
 loose-content (tag.Start element.Other) = record { less = refl; shown = refl }
 
-loose-value : (t : TagOf) (typed : Bool) (o : Option Body) → IsLoose (value_front t typed o)
+loose-value : (t : TagOf) (typed : Bool) (o : Option Body) → IsLoose (value_scan t typed o)
 loose-value t typed None = record { less = refl; shown = refl }
 loose-value t typed (Some b) = record { less = refl; shown = refl }
 
@@ -271,7 +271,7 @@ in_bare Digit b v uq r p = with_references (At (place.Value v)) (bare_next v uq 
 in_bare Semicolon b v uq r p = with_references (At (place.Value v)) (bare_next v uq Semicolon) r Semicolon b p refl refl (λ h. absurd (yes h)) refl refl refl refl
 in_bare LessThan b v uq r p = with_references (At (place.Value v)) (bare_next v uq LessThan) r LessThan b p refl refl (λ h. absurd (yes h)) refl refl refl refl
 in_bare EqualsSign b v uq r p = with_references (At (place.Value v)) (bare_next v uq EqualsSign) r EqualsSign b p refl refl (λ h. absurd (yes h)) refl refl refl refl
-in_bare GreaterThan b v uq r p = with_references (At (place.Value v)) (content_front v.tag) r GreaterThan b p refl (loose-content v.tag).less (λ h. ends_at_greater r b) (loose-content v.tag).shown refl refl refl
+in_bare GreaterThan b v uq r p = with_references (At (place.Value v)) (content_scan v.tag) r GreaterThan b p refl (loose-content v.tag).less (λ h. ends_at_greater r b) (loose-content v.tag).shown refl refl refl
 in_bare QuestionMark b v uq r p = with_references (At (place.Value v)) (bare_next v uq QuestionMark) r QuestionMark b p refl refl (λ h. absurd (yes h)) refl refl refl refl
 in_bare GraveAccent b v uq r p = with_references (At (place.Value v)) (bare_next v uq GraveAccent) r GraveAccent b p refl refl (λ h. absurd (yes h)) refl refl refl refl
 in_bare (Letter l) b v uq r p = with_references (At (place.Value v)) (bare_next v uq (Letter l)) r (Letter l) b p refl refl (λ h. absurd (yes h)) refl refl refl refl
@@ -358,7 +358,7 @@ loose-doctype GraveAccent = record { less = refl; shown = refl }
 loose-doctype (Letter l) = record { less = refl; shown = refl }
 loose-doctype OtherByte = record { less = refl; shown = refl }
 
-again_text : (c : Class) (b : ℕ) → Spelled c b → text_out c b Closed ++ (as_it_stands (begin_reference c) ++ less_kept (text_front c)) ≡ b ∷ []
+again_text : (c : Class) (b : ℕ) → Spelled c b → text_out c b Closed ++ (as_it_stands (begin_reference c) ++ less_kept (text_scan c)) ≡ b ∷ []
 again_text White b p = refl
 again_text ExclamationMark b p = refl
 again_text QuotationMark b p = refl
@@ -396,7 +396,7 @@ again_content GraveAccent b e p = refl
 again_content (Letter l) b e p = refl
 again_content OtherByte b e p = refl
 
-shown-text : (c : Class) → hides (text_front c) ≡ false
+shown-text : (c : Class) → hides (text_scan c) ≡ false
 shown-text White = refl
 shown-text ExclamationMark = refl
 shown-text QuotationMark = refl
@@ -434,7 +434,7 @@ shown-content GraveAccent e = refl
 shown-content (Letter l) e = refl
 shown-content OtherByte e = refl
 
-alone-text : (c : Class) → c ≡ Ampersand → less_kept (text_front c) ≡ []
+alone-text : (c : Class) → c ≡ Ampersand → less_kept (text_scan c) ≡ []
 alone-text White h = refl
 alone-text ExclamationMark h = refl
 alone-text QuotationMark h = refl
@@ -472,7 +472,7 @@ alone-content GraveAccent e h = refl
 alone-content (Letter l) e h = refl
 alone-content OtherByte e h = refl
 
-closed-text : (c : Class) → bears (text_front c) ≡ false → begin_reference c ≡ Closed
+closed-text : (c : Class) → bears (text_scan c) ≡ false → begin_reference c ≡ Closed
 closed-text White h = absurd (yes h)
 closed-text ExclamationMark h = absurd (yes h)
 closed-text QuotationMark h = absurd (yes h)
@@ -510,13 +510,13 @@ closed-content GraveAccent e h = absurd (yes h)
 closed-content (Letter l) e h = absurd (yes h)
 closed-content OtherByte e h = absurd (yes h)
 
-escapes_text : (f : Front) (r : Reference) (c : Class) (b : ℕ) (more out : List ℕ) → Spelled c b → less_kept f ≡ 60 ∷ more → hides f ≡ false → out ≡ (as_it_stands r ++ codes "&lt;") ++ (more ++ text_out c b Closed) → EscapesBytes f (text_front c) r (begin_reference c) c b out
+escapes_text : (f : Scan) (r : Reference) (c : Class) (b : ℕ) (more out : List ℕ) → Spelled c b → less_kept f ≡ 60 ∷ more → hides f ≡ false → out ≡ (as_it_stands r ++ codes "&lt;") ++ (more ++ text_out c b Closed) → EscapesBytes f (text_scan c) r (begin_reference c) c b out
 escapes_text f r c b more out p less before written = record {
   more = more;
   again = more ++ text_out c b Closed;
   less = less;
   out = written ∙ append_assoc (as_it_stands r) (codes "&lt;") (more ++ text_out c b Closed);
-  bytes = append_assoc more (text_out c b Closed) (as_it_stands (begin_reference c) ++ less_kept (text_front c)) ∙ ap (λ (xs : List ℕ). more ++ xs) (again_text c b p);
+  bytes = append_assoc more (text_out c b Closed) (as_it_stands (begin_reference c) ++ less_kept (text_scan c)) ∙ ap (λ (xs : List ℕ). more ++ xs) (again_text c b p);
   reference = refl;
   alone = alone-text c;
   closed = closed-text c;
@@ -524,7 +524,7 @@ escapes_text f r c b more out p less before written = record {
   before = before;
 }
 
-escapes_content : (f : Front) (r : Reference) (c : Class) (b : ℕ) (e : Element) (more out : List ℕ) → r ≡ Closed → Spelled c b → less_kept f ≡ 60 ∷ more → hides f ≡ false → out ≡ codes "&lt;" ++ (more ++ loose_out c b Closed) → EscapesBytes f (content_next c e) r (begin_reference c) c b out
+escapes_content : (f : Scan) (r : Reference) (c : Class) (b : ℕ) (e : Element) (more out : List ℕ) → r ≡ Closed → Spelled c b → less_kept f ≡ 60 ∷ more → hides f ≡ false → out ≡ codes "&lt;" ++ (more ++ loose_out c b Closed) → EscapesBytes f (content_next c e) r (begin_reference c) c b out
 escapes_content f r c b e more out none p less before written = record {
   more = more;
   again = more ++ loose_out c b Closed;
@@ -538,7 +538,7 @@ escapes_content f r c b e more out none p less before written = record {
   before = before;
 }
 
-after_less : (c : Class) (b : ℕ) (r : Reference) → Spelled c b → Law AfterLess (front_next AfterLess c b) r (front_open AfterLess c b r) c b (front_out AfterLess c b r)
+after_less : (c : Class) (b : ℕ) (r : Reference) → Spelled c b → Law AfterLess (scan_next AfterLess c b) r (scan_open AfterLess c b r) c b (scan_out AfterLess c b r)
 after_less White b r p = escapes_text AfterLess r White b [] ((as_it_stands r ++ codes "&lt;") ++ text_out White b Closed) p refl refl refl
 after_less ExclamationMark b r p = record { bytes = rw p refl; closed = λ h. absurd (yes h); shown = refl; before = refl; kept = refl; out = λ h. refl; alone = λ h k. absurd (yes h) }
 after_less QuotationMark b r p = escapes_text AfterLess r QuotationMark b [] ((as_it_stands r ++ codes "&lt;") ++ text_out QuotationMark b Closed) p refl refl refl
@@ -557,7 +557,7 @@ after_less GraveAccent b r p = escapes_text AfterLess r GraveAccent b [] ((as_it
 after_less (Letter l) b r p = record { bytes = sym (append_assoc (as_it_stands r) (codes "<") (b ∷ [])) ∙ sym (append-nil ((as_it_stands r ++ codes "<") ++ b ∷ [])); closed = λ h. refl; shown = refl; before = refl; kept = refl; out = λ h. absurd (no h); alone = λ h k. refl }
 after_less OtherByte b r p = escapes_text AfterLess r OtherByte b [] ((as_it_stands r ++ codes "&lt;") ++ text_out OtherByte b Closed) p refl refl refl
 
-after_solidus : (c : Class) (b : ℕ) (r : Reference) → Spelled c b → Law AfterLessSolidus (front_next AfterLessSolidus c b) r (front_open AfterLessSolidus c b r) c b (front_out AfterLessSolidus c b r)
+after_solidus : (c : Class) (b : ℕ) (r : Reference) → Spelled c b → Law AfterLessSolidus (scan_next AfterLessSolidus c b) r (scan_open AfterLessSolidus c b r) c b (scan_out AfterLessSolidus c b r)
 after_solidus White b r p = escapes_text AfterLessSolidus r White b (codes "/") ((as_it_stands r ++ codes "&lt;") ++ (codes "/" ++ text_out White b Closed)) p refl refl refl
 after_solidus ExclamationMark b r p = escapes_text AfterLessSolidus r ExclamationMark b (codes "/") ((as_it_stands r ++ codes "&lt;") ++ (codes "/" ++ text_out ExclamationMark b Closed)) p refl refl refl
 after_solidus QuotationMark b r p = escapes_text AfterLessSolidus r QuotationMark b (codes "/") ((as_it_stands r ++ codes "&lt;") ++ (codes "/" ++ text_out QuotationMark b Closed)) p refl refl refl
@@ -576,7 +576,7 @@ after_solidus GraveAccent b r p = escapes_text AfterLessSolidus r GraveAccent b 
 after_solidus (Letter l) b r p = record { bytes = sym (append_assoc (as_it_stands r) (codes "</") (b ∷ [])) ∙ sym (append-nil ((as_it_stands r ++ codes "</") ++ b ∷ [])); closed = λ h. refl; shown = refl; before = refl; kept = refl; out = λ h. absurd (no h); alone = λ h k. refl }
 after_solidus OtherByte b r p = escapes_text AfterLessSolidus r OtherByte b (codes "/") ((as_it_stands r ++ codes "&lt;") ++ (codes "/" ++ text_out OtherByte b Closed)) p refl refl refl
 
-opens_nothing : (c : Class) (b : ℕ) (bytes : List ℕ) (r : Reference) → Spelled c b → Law (InDeclaration bytes) (text_front c) r (begin_reference c) c b (declaration_out OpensNothing c b r bytes)
+opens_nothing : (c : Class) (b : ℕ) (bytes : List ℕ) (r : Reference) → Spelled c b → Law (InDeclaration bytes) (text_scan c) r (begin_reference c) c b (declaration_out OpensNothing c b r bytes)
 opens_nothing White b bytes r p = escapes_text (InDeclaration bytes) r White b (codes "!" ++ bytes) (declaration_out OpensNothing White b r bytes) p refl refl refl
 opens_nothing ExclamationMark b bytes r p = escapes_text (InDeclaration bytes) r ExclamationMark b (codes "!" ++ bytes) (declaration_out OpensNothing ExclamationMark b r bytes) p refl refl refl
 opens_nothing QuotationMark b bytes r p = escapes_text (InDeclaration bytes) r QuotationMark b (codes "!" ++ bytes) (declaration_out OpensNothing QuotationMark b r bytes) p refl refl refl
@@ -601,96 +601,96 @@ in_declared OpensDoctype c b bytes r p = record { bytes = sym (append_assoc (as_
 in_declared Undecided c b bytes r p = record { bytes = refl; closed = λ h. absurd (yes h); shown = refl; before = refl; kept = refl; out = λ h. refl; alone = λ h k. absurd (yes h) }
 in_declared OpensNothing c b bytes r p = opens_nothing c b bytes r p
 
-after_content_less : (c : Class) (b : ℕ) (e : Element) (r : Reference) → Spelled c b → r ≡ Closed → Law (InContentEnd e HeldLess) (front_next (InContentEnd e HeldLess) c b) r (begin_reference c) c b (front_out (InContentEnd e HeldLess) c b r)
-after_content_less White b e r p h = escapes_content (InContentEnd e HeldLess) r White b e [] (codes "&lt;" ++ loose_out White b Closed) h p refl refl refl
-after_content_less ExclamationMark b e r p h = escapes_content (InContentEnd e HeldLess) r ExclamationMark b e [] (codes "&lt;" ++ loose_out ExclamationMark b Closed) h p refl refl refl
-after_content_less QuotationMark b e r p h = escapes_content (InContentEnd e HeldLess) r QuotationMark b e [] (codes "&lt;" ++ loose_out QuotationMark b Closed) h p refl refl refl
-after_content_less NumberSign b e r p h = escapes_content (InContentEnd e HeldLess) r NumberSign b e [] (codes "&lt;" ++ loose_out NumberSign b Closed) h p refl refl refl
-after_content_less Ampersand b e r p h = escapes_content (InContentEnd e HeldLess) r Ampersand b e [] (codes "&lt;" ++ loose_out Ampersand b Closed) h p refl refl refl
-after_content_less Apostrophe b e r p h = escapes_content (InContentEnd e HeldLess) r Apostrophe b e [] (codes "&lt;" ++ loose_out Apostrophe b Closed) h p refl refl refl
-after_content_less HyphenMinus b e r p h = escapes_content (InContentEnd e HeldLess) r HyphenMinus b e [] (codes "&lt;" ++ loose_out HyphenMinus b Closed) h p refl refl refl
+after_content_less : (c : Class) (b : ℕ) (e : Element) (r : Reference) → Spelled c b → r ≡ Closed → Law (InContentEnd e PendingLess) (scan_next (InContentEnd e PendingLess) c b) r (begin_reference c) c b (scan_out (InContentEnd e PendingLess) c b r)
+after_content_less White b e r p h = escapes_content (InContentEnd e PendingLess) r White b e [] (codes "&lt;" ++ loose_out White b Closed) h p refl refl refl
+after_content_less ExclamationMark b e r p h = escapes_content (InContentEnd e PendingLess) r ExclamationMark b e [] (codes "&lt;" ++ loose_out ExclamationMark b Closed) h p refl refl refl
+after_content_less QuotationMark b e r p h = escapes_content (InContentEnd e PendingLess) r QuotationMark b e [] (codes "&lt;" ++ loose_out QuotationMark b Closed) h p refl refl refl
+after_content_less NumberSign b e r p h = escapes_content (InContentEnd e PendingLess) r NumberSign b e [] (codes "&lt;" ++ loose_out NumberSign b Closed) h p refl refl refl
+after_content_less Ampersand b e r p h = escapes_content (InContentEnd e PendingLess) r Ampersand b e [] (codes "&lt;" ++ loose_out Ampersand b Closed) h p refl refl refl
+after_content_less Apostrophe b e r p h = escapes_content (InContentEnd e PendingLess) r Apostrophe b e [] (codes "&lt;" ++ loose_out Apostrophe b Closed) h p refl refl refl
+after_content_less HyphenMinus b e r p h = escapes_content (InContentEnd e PendingLess) r HyphenMinus b e [] (codes "&lt;" ++ loose_out HyphenMinus b Closed) h p refl refl refl
 after_content_less Solidus b e r p h = record { bytes = rw (p, h) refl; closed = λ k. refl; shown = refl; before = refl; kept = refl; out = λ k. absurd (no k); alone = λ a k. cc }
-after_content_less Digit b e r p h = escapes_content (InContentEnd e HeldLess) r Digit b e [] (codes "&lt;" ++ loose_out Digit b Closed) h p refl refl refl
-after_content_less Semicolon b e r p h = escapes_content (InContentEnd e HeldLess) r Semicolon b e [] (codes "&lt;" ++ loose_out Semicolon b Closed) h p refl refl refl
-after_content_less LessThan b e r p h = escapes_content (InContentEnd e HeldLess) r LessThan b e [] (codes "&lt;" ++ loose_out LessThan b Closed) h p refl refl refl
-after_content_less EqualsSign b e r p h = escapes_content (InContentEnd e HeldLess) r EqualsSign b e [] (codes "&lt;" ++ loose_out EqualsSign b Closed) h p refl refl refl
-after_content_less GreaterThan b e r p h = escapes_content (InContentEnd e HeldLess) r GreaterThan b e [] (codes "&lt;" ++ loose_out GreaterThan b Closed) h p refl refl refl
-after_content_less QuestionMark b e r p h = escapes_content (InContentEnd e HeldLess) r QuestionMark b e [] (codes "&lt;" ++ loose_out QuestionMark b Closed) h p refl refl refl
-after_content_less GraveAccent b e r p h = escapes_content (InContentEnd e HeldLess) r GraveAccent b e [] (codes "&lt;" ++ loose_out GraveAccent b Closed) h p refl refl refl
-after_content_less (Letter l) b e r p h = escapes_content (InContentEnd e HeldLess) r (Letter l) b e [] (codes "&lt;" ++ loose_out (Letter l) b Closed) h p refl refl refl
-after_content_less OtherByte b e r p h = escapes_content (InContentEnd e HeldLess) r OtherByte b e [] (codes "&lt;" ++ loose_out OtherByte b Closed) h p refl refl refl
+after_content_less Digit b e r p h = escapes_content (InContentEnd e PendingLess) r Digit b e [] (codes "&lt;" ++ loose_out Digit b Closed) h p refl refl refl
+after_content_less Semicolon b e r p h = escapes_content (InContentEnd e PendingLess) r Semicolon b e [] (codes "&lt;" ++ loose_out Semicolon b Closed) h p refl refl refl
+after_content_less LessThan b e r p h = escapes_content (InContentEnd e PendingLess) r LessThan b e [] (codes "&lt;" ++ loose_out LessThan b Closed) h p refl refl refl
+after_content_less EqualsSign b e r p h = escapes_content (InContentEnd e PendingLess) r EqualsSign b e [] (codes "&lt;" ++ loose_out EqualsSign b Closed) h p refl refl refl
+after_content_less GreaterThan b e r p h = escapes_content (InContentEnd e PendingLess) r GreaterThan b e [] (codes "&lt;" ++ loose_out GreaterThan b Closed) h p refl refl refl
+after_content_less QuestionMark b e r p h = escapes_content (InContentEnd e PendingLess) r QuestionMark b e [] (codes "&lt;" ++ loose_out QuestionMark b Closed) h p refl refl refl
+after_content_less GraveAccent b e r p h = escapes_content (InContentEnd e PendingLess) r GraveAccent b e [] (codes "&lt;" ++ loose_out GraveAccent b Closed) h p refl refl refl
+after_content_less (Letter l) b e r p h = escapes_content (InContentEnd e PendingLess) r (Letter l) b e [] (codes "&lt;" ++ loose_out (Letter l) b Closed) h p refl refl refl
+after_content_less OtherByte b e r p h = escapes_content (InContentEnd e PendingLess) r OtherByte b e [] (codes "&lt;" ++ loose_out OtherByte b Closed) h p refl refl refl
 
-in_end_name : (grows whole : Bool) (c : Class) (b : ℕ) (e : Element) (letters : List ℕ) (r : Reference) → Spelled c b → r ≡ Closed → Law (InContentEnd e (HeldName letters)) (end_name_next grows whole c b e letters) r (begin_reference c) c b (end_name_out grows whole c b letters)
+in_end_name : (grows whole : Bool) (c : Class) (b : ℕ) (e : Element) (letters : List ℕ) (r : Reference) → Spelled c b → r ≡ Closed → Law (InContentEnd e (PendingName letters)) (end_name_next grows whole c b e letters) r (begin_reference c) c b (end_name_out grows whole c b letters)
 in_end_name true true White b e letters r p h = record { bytes = rw (h, append-nil (letters ++ b ∷ [])) refl; closed = λ k. refl; shown = refl; before = refl; kept = refl; out = λ k. absurd (no k); alone = λ a k. cc }
-in_end_name true true ExclamationMark b e letters r p h = escapes_content (InContentEnd e (HeldName letters)) r ExclamationMark b e (codes "/" ++ letters) (codes "&lt;" ++ ((codes "/" ++ letters) ++ loose_out ExclamationMark b Closed)) h p refl refl refl
-in_end_name true true QuotationMark b e letters r p h = escapes_content (InContentEnd e (HeldName letters)) r QuotationMark b e (codes "/" ++ letters) (codes "&lt;" ++ ((codes "/" ++ letters) ++ loose_out QuotationMark b Closed)) h p refl refl refl
-in_end_name true true NumberSign b e letters r p h = escapes_content (InContentEnd e (HeldName letters)) r NumberSign b e (codes "/" ++ letters) (codes "&lt;" ++ ((codes "/" ++ letters) ++ loose_out NumberSign b Closed)) h p refl refl refl
-in_end_name true true Ampersand b e letters r p h = escapes_content (InContentEnd e (HeldName letters)) r Ampersand b e (codes "/" ++ letters) (codes "&lt;" ++ ((codes "/" ++ letters) ++ loose_out Ampersand b Closed)) h p refl refl refl
-in_end_name true true Apostrophe b e letters r p h = escapes_content (InContentEnd e (HeldName letters)) r Apostrophe b e (codes "/" ++ letters) (codes "&lt;" ++ ((codes "/" ++ letters) ++ loose_out Apostrophe b Closed)) h p refl refl refl
-in_end_name true true HyphenMinus b e letters r p h = escapes_content (InContentEnd e (HeldName letters)) r HyphenMinus b e (codes "/" ++ letters) (codes "&lt;" ++ ((codes "/" ++ letters) ++ loose_out HyphenMinus b Closed)) h p refl refl refl
+in_end_name true true ExclamationMark b e letters r p h = escapes_content (InContentEnd e (PendingName letters)) r ExclamationMark b e (codes "/" ++ letters) (codes "&lt;" ++ ((codes "/" ++ letters) ++ loose_out ExclamationMark b Closed)) h p refl refl refl
+in_end_name true true QuotationMark b e letters r p h = escapes_content (InContentEnd e (PendingName letters)) r QuotationMark b e (codes "/" ++ letters) (codes "&lt;" ++ ((codes "/" ++ letters) ++ loose_out QuotationMark b Closed)) h p refl refl refl
+in_end_name true true NumberSign b e letters r p h = escapes_content (InContentEnd e (PendingName letters)) r NumberSign b e (codes "/" ++ letters) (codes "&lt;" ++ ((codes "/" ++ letters) ++ loose_out NumberSign b Closed)) h p refl refl refl
+in_end_name true true Ampersand b e letters r p h = escapes_content (InContentEnd e (PendingName letters)) r Ampersand b e (codes "/" ++ letters) (codes "&lt;" ++ ((codes "/" ++ letters) ++ loose_out Ampersand b Closed)) h p refl refl refl
+in_end_name true true Apostrophe b e letters r p h = escapes_content (InContentEnd e (PendingName letters)) r Apostrophe b e (codes "/" ++ letters) (codes "&lt;" ++ ((codes "/" ++ letters) ++ loose_out Apostrophe b Closed)) h p refl refl refl
+in_end_name true true HyphenMinus b e letters r p h = escapes_content (InContentEnd e (PendingName letters)) r HyphenMinus b e (codes "/" ++ letters) (codes "&lt;" ++ ((codes "/" ++ letters) ++ loose_out HyphenMinus b Closed)) h p refl refl refl
 in_end_name true true Solidus b e letters r p h = record { bytes = rw (h, append-nil (letters ++ b ∷ [])) refl; closed = λ k. refl; shown = refl; before = refl; kept = refl; out = λ k. absurd (no k); alone = λ a k. cc }
-in_end_name true true Digit b e letters r p h = escapes_content (InContentEnd e (HeldName letters)) r Digit b e (codes "/" ++ letters) (codes "&lt;" ++ ((codes "/" ++ letters) ++ loose_out Digit b Closed)) h p refl refl refl
-in_end_name true true Semicolon b e letters r p h = escapes_content (InContentEnd e (HeldName letters)) r Semicolon b e (codes "/" ++ letters) (codes "&lt;" ++ ((codes "/" ++ letters) ++ loose_out Semicolon b Closed)) h p refl refl refl
-in_end_name true true LessThan b e letters r p h = escapes_content (InContentEnd e (HeldName letters)) r LessThan b e (codes "/" ++ letters) (codes "&lt;" ++ ((codes "/" ++ letters) ++ loose_out LessThan b Closed)) h p refl refl refl
-in_end_name true true EqualsSign b e letters r p h = escapes_content (InContentEnd e (HeldName letters)) r EqualsSign b e (codes "/" ++ letters) (codes "&lt;" ++ ((codes "/" ++ letters) ++ loose_out EqualsSign b Closed)) h p refl refl refl
+in_end_name true true Digit b e letters r p h = escapes_content (InContentEnd e (PendingName letters)) r Digit b e (codes "/" ++ letters) (codes "&lt;" ++ ((codes "/" ++ letters) ++ loose_out Digit b Closed)) h p refl refl refl
+in_end_name true true Semicolon b e letters r p h = escapes_content (InContentEnd e (PendingName letters)) r Semicolon b e (codes "/" ++ letters) (codes "&lt;" ++ ((codes "/" ++ letters) ++ loose_out Semicolon b Closed)) h p refl refl refl
+in_end_name true true LessThan b e letters r p h = escapes_content (InContentEnd e (PendingName letters)) r LessThan b e (codes "/" ++ letters) (codes "&lt;" ++ ((codes "/" ++ letters) ++ loose_out LessThan b Closed)) h p refl refl refl
+in_end_name true true EqualsSign b e letters r p h = escapes_content (InContentEnd e (PendingName letters)) r EqualsSign b e (codes "/" ++ letters) (codes "&lt;" ++ ((codes "/" ++ letters) ++ loose_out EqualsSign b Closed)) h p refl refl refl
 in_end_name true true GreaterThan b e letters r p h = record { bytes = rw (h, append-nil (letters ++ b ∷ [])) refl; closed = λ k. refl; shown = refl; before = refl; kept = refl; out = λ k. absurd (no k); alone = λ a k. cc }
-in_end_name true true QuestionMark b e letters r p h = escapes_content (InContentEnd e (HeldName letters)) r QuestionMark b e (codes "/" ++ letters) (codes "&lt;" ++ ((codes "/" ++ letters) ++ loose_out QuestionMark b Closed)) h p refl refl refl
-in_end_name true true GraveAccent b e letters r p h = escapes_content (InContentEnd e (HeldName letters)) r GraveAccent b e (codes "/" ++ letters) (codes "&lt;" ++ ((codes "/" ++ letters) ++ loose_out GraveAccent b Closed)) h p refl refl refl
+in_end_name true true QuestionMark b e letters r p h = escapes_content (InContentEnd e (PendingName letters)) r QuestionMark b e (codes "/" ++ letters) (codes "&lt;" ++ ((codes "/" ++ letters) ++ loose_out QuestionMark b Closed)) h p refl refl refl
+in_end_name true true GraveAccent b e letters r p h = escapes_content (InContentEnd e (PendingName letters)) r GraveAccent b e (codes "/" ++ letters) (codes "&lt;" ++ ((codes "/" ++ letters) ++ loose_out GraveAccent b Closed)) h p refl refl refl
 in_end_name true true (Letter l) b e letters r p h = record { bytes = rw h refl; closed = λ k. refl; shown = refl; before = refl; kept = refl; out = λ k. absurd (no k); alone = λ a k. cc }
-in_end_name true true OtherByte b e letters r p h = escapes_content (InContentEnd e (HeldName letters)) r OtherByte b e (codes "/" ++ letters) (codes "&lt;" ++ ((codes "/" ++ letters) ++ loose_out OtherByte b Closed)) h p refl refl refl
-in_end_name true false White b e letters r p h = escapes_content (InContentEnd e (HeldName letters)) r White b e (codes "/" ++ letters) (codes "&lt;" ++ ((codes "/" ++ letters) ++ loose_out White b Closed)) h p refl refl refl
-in_end_name true false ExclamationMark b e letters r p h = escapes_content (InContentEnd e (HeldName letters)) r ExclamationMark b e (codes "/" ++ letters) (codes "&lt;" ++ ((codes "/" ++ letters) ++ loose_out ExclamationMark b Closed)) h p refl refl refl
-in_end_name true false QuotationMark b e letters r p h = escapes_content (InContentEnd e (HeldName letters)) r QuotationMark b e (codes "/" ++ letters) (codes "&lt;" ++ ((codes "/" ++ letters) ++ loose_out QuotationMark b Closed)) h p refl refl refl
-in_end_name true false NumberSign b e letters r p h = escapes_content (InContentEnd e (HeldName letters)) r NumberSign b e (codes "/" ++ letters) (codes "&lt;" ++ ((codes "/" ++ letters) ++ loose_out NumberSign b Closed)) h p refl refl refl
-in_end_name true false Ampersand b e letters r p h = escapes_content (InContentEnd e (HeldName letters)) r Ampersand b e (codes "/" ++ letters) (codes "&lt;" ++ ((codes "/" ++ letters) ++ loose_out Ampersand b Closed)) h p refl refl refl
-in_end_name true false Apostrophe b e letters r p h = escapes_content (InContentEnd e (HeldName letters)) r Apostrophe b e (codes "/" ++ letters) (codes "&lt;" ++ ((codes "/" ++ letters) ++ loose_out Apostrophe b Closed)) h p refl refl refl
-in_end_name true false HyphenMinus b e letters r p h = escapes_content (InContentEnd e (HeldName letters)) r HyphenMinus b e (codes "/" ++ letters) (codes "&lt;" ++ ((codes "/" ++ letters) ++ loose_out HyphenMinus b Closed)) h p refl refl refl
-in_end_name true false Solidus b e letters r p h = escapes_content (InContentEnd e (HeldName letters)) r Solidus b e (codes "/" ++ letters) (codes "&lt;" ++ ((codes "/" ++ letters) ++ loose_out Solidus b Closed)) h p refl refl refl
-in_end_name true false Digit b e letters r p h = escapes_content (InContentEnd e (HeldName letters)) r Digit b e (codes "/" ++ letters) (codes "&lt;" ++ ((codes "/" ++ letters) ++ loose_out Digit b Closed)) h p refl refl refl
-in_end_name true false Semicolon b e letters r p h = escapes_content (InContentEnd e (HeldName letters)) r Semicolon b e (codes "/" ++ letters) (codes "&lt;" ++ ((codes "/" ++ letters) ++ loose_out Semicolon b Closed)) h p refl refl refl
-in_end_name true false LessThan b e letters r p h = escapes_content (InContentEnd e (HeldName letters)) r LessThan b e (codes "/" ++ letters) (codes "&lt;" ++ ((codes "/" ++ letters) ++ loose_out LessThan b Closed)) h p refl refl refl
-in_end_name true false EqualsSign b e letters r p h = escapes_content (InContentEnd e (HeldName letters)) r EqualsSign b e (codes "/" ++ letters) (codes "&lt;" ++ ((codes "/" ++ letters) ++ loose_out EqualsSign b Closed)) h p refl refl refl
-in_end_name true false GreaterThan b e letters r p h = escapes_content (InContentEnd e (HeldName letters)) r GreaterThan b e (codes "/" ++ letters) (codes "&lt;" ++ ((codes "/" ++ letters) ++ loose_out GreaterThan b Closed)) h p refl refl refl
-in_end_name true false QuestionMark b e letters r p h = escapes_content (InContentEnd e (HeldName letters)) r QuestionMark b e (codes "/" ++ letters) (codes "&lt;" ++ ((codes "/" ++ letters) ++ loose_out QuestionMark b Closed)) h p refl refl refl
-in_end_name true false GraveAccent b e letters r p h = escapes_content (InContentEnd e (HeldName letters)) r GraveAccent b e (codes "/" ++ letters) (codes "&lt;" ++ ((codes "/" ++ letters) ++ loose_out GraveAccent b Closed)) h p refl refl refl
+in_end_name true true OtherByte b e letters r p h = escapes_content (InContentEnd e (PendingName letters)) r OtherByte b e (codes "/" ++ letters) (codes "&lt;" ++ ((codes "/" ++ letters) ++ loose_out OtherByte b Closed)) h p refl refl refl
+in_end_name true false White b e letters r p h = escapes_content (InContentEnd e (PendingName letters)) r White b e (codes "/" ++ letters) (codes "&lt;" ++ ((codes "/" ++ letters) ++ loose_out White b Closed)) h p refl refl refl
+in_end_name true false ExclamationMark b e letters r p h = escapes_content (InContentEnd e (PendingName letters)) r ExclamationMark b e (codes "/" ++ letters) (codes "&lt;" ++ ((codes "/" ++ letters) ++ loose_out ExclamationMark b Closed)) h p refl refl refl
+in_end_name true false QuotationMark b e letters r p h = escapes_content (InContentEnd e (PendingName letters)) r QuotationMark b e (codes "/" ++ letters) (codes "&lt;" ++ ((codes "/" ++ letters) ++ loose_out QuotationMark b Closed)) h p refl refl refl
+in_end_name true false NumberSign b e letters r p h = escapes_content (InContentEnd e (PendingName letters)) r NumberSign b e (codes "/" ++ letters) (codes "&lt;" ++ ((codes "/" ++ letters) ++ loose_out NumberSign b Closed)) h p refl refl refl
+in_end_name true false Ampersand b e letters r p h = escapes_content (InContentEnd e (PendingName letters)) r Ampersand b e (codes "/" ++ letters) (codes "&lt;" ++ ((codes "/" ++ letters) ++ loose_out Ampersand b Closed)) h p refl refl refl
+in_end_name true false Apostrophe b e letters r p h = escapes_content (InContentEnd e (PendingName letters)) r Apostrophe b e (codes "/" ++ letters) (codes "&lt;" ++ ((codes "/" ++ letters) ++ loose_out Apostrophe b Closed)) h p refl refl refl
+in_end_name true false HyphenMinus b e letters r p h = escapes_content (InContentEnd e (PendingName letters)) r HyphenMinus b e (codes "/" ++ letters) (codes "&lt;" ++ ((codes "/" ++ letters) ++ loose_out HyphenMinus b Closed)) h p refl refl refl
+in_end_name true false Solidus b e letters r p h = escapes_content (InContentEnd e (PendingName letters)) r Solidus b e (codes "/" ++ letters) (codes "&lt;" ++ ((codes "/" ++ letters) ++ loose_out Solidus b Closed)) h p refl refl refl
+in_end_name true false Digit b e letters r p h = escapes_content (InContentEnd e (PendingName letters)) r Digit b e (codes "/" ++ letters) (codes "&lt;" ++ ((codes "/" ++ letters) ++ loose_out Digit b Closed)) h p refl refl refl
+in_end_name true false Semicolon b e letters r p h = escapes_content (InContentEnd e (PendingName letters)) r Semicolon b e (codes "/" ++ letters) (codes "&lt;" ++ ((codes "/" ++ letters) ++ loose_out Semicolon b Closed)) h p refl refl refl
+in_end_name true false LessThan b e letters r p h = escapes_content (InContentEnd e (PendingName letters)) r LessThan b e (codes "/" ++ letters) (codes "&lt;" ++ ((codes "/" ++ letters) ++ loose_out LessThan b Closed)) h p refl refl refl
+in_end_name true false EqualsSign b e letters r p h = escapes_content (InContentEnd e (PendingName letters)) r EqualsSign b e (codes "/" ++ letters) (codes "&lt;" ++ ((codes "/" ++ letters) ++ loose_out EqualsSign b Closed)) h p refl refl refl
+in_end_name true false GreaterThan b e letters r p h = escapes_content (InContentEnd e (PendingName letters)) r GreaterThan b e (codes "/" ++ letters) (codes "&lt;" ++ ((codes "/" ++ letters) ++ loose_out GreaterThan b Closed)) h p refl refl refl
+in_end_name true false QuestionMark b e letters r p h = escapes_content (InContentEnd e (PendingName letters)) r QuestionMark b e (codes "/" ++ letters) (codes "&lt;" ++ ((codes "/" ++ letters) ++ loose_out QuestionMark b Closed)) h p refl refl refl
+in_end_name true false GraveAccent b e letters r p h = escapes_content (InContentEnd e (PendingName letters)) r GraveAccent b e (codes "/" ++ letters) (codes "&lt;" ++ ((codes "/" ++ letters) ++ loose_out GraveAccent b Closed)) h p refl refl refl
 in_end_name true false (Letter l) b e letters r p h = record { bytes = rw h refl; closed = λ k. refl; shown = refl; before = refl; kept = refl; out = λ k. absurd (no k); alone = λ a k. cc }
-in_end_name true false OtherByte b e letters r p h = escapes_content (InContentEnd e (HeldName letters)) r OtherByte b e (codes "/" ++ letters) (codes "&lt;" ++ ((codes "/" ++ letters) ++ loose_out OtherByte b Closed)) h p refl refl refl
+in_end_name true false OtherByte b e letters r p h = escapes_content (InContentEnd e (PendingName letters)) r OtherByte b e (codes "/" ++ letters) (codes "&lt;" ++ ((codes "/" ++ letters) ++ loose_out OtherByte b Closed)) h p refl refl refl
 in_end_name false true White b e letters r p h = record { bytes = rw (h, append-nil (letters ++ b ∷ [])) refl; closed = λ k. refl; shown = refl; before = refl; kept = refl; out = λ k. absurd (no k); alone = λ a k. cc }
-in_end_name false true ExclamationMark b e letters r p h = escapes_content (InContentEnd e (HeldName letters)) r ExclamationMark b e (codes "/" ++ letters) (codes "&lt;" ++ ((codes "/" ++ letters) ++ loose_out ExclamationMark b Closed)) h p refl refl refl
-in_end_name false true QuotationMark b e letters r p h = escapes_content (InContentEnd e (HeldName letters)) r QuotationMark b e (codes "/" ++ letters) (codes "&lt;" ++ ((codes "/" ++ letters) ++ loose_out QuotationMark b Closed)) h p refl refl refl
-in_end_name false true NumberSign b e letters r p h = escapes_content (InContentEnd e (HeldName letters)) r NumberSign b e (codes "/" ++ letters) (codes "&lt;" ++ ((codes "/" ++ letters) ++ loose_out NumberSign b Closed)) h p refl refl refl
-in_end_name false true Ampersand b e letters r p h = escapes_content (InContentEnd e (HeldName letters)) r Ampersand b e (codes "/" ++ letters) (codes "&lt;" ++ ((codes "/" ++ letters) ++ loose_out Ampersand b Closed)) h p refl refl refl
-in_end_name false true Apostrophe b e letters r p h = escapes_content (InContentEnd e (HeldName letters)) r Apostrophe b e (codes "/" ++ letters) (codes "&lt;" ++ ((codes "/" ++ letters) ++ loose_out Apostrophe b Closed)) h p refl refl refl
-in_end_name false true HyphenMinus b e letters r p h = escapes_content (InContentEnd e (HeldName letters)) r HyphenMinus b e (codes "/" ++ letters) (codes "&lt;" ++ ((codes "/" ++ letters) ++ loose_out HyphenMinus b Closed)) h p refl refl refl
+in_end_name false true ExclamationMark b e letters r p h = escapes_content (InContentEnd e (PendingName letters)) r ExclamationMark b e (codes "/" ++ letters) (codes "&lt;" ++ ((codes "/" ++ letters) ++ loose_out ExclamationMark b Closed)) h p refl refl refl
+in_end_name false true QuotationMark b e letters r p h = escapes_content (InContentEnd e (PendingName letters)) r QuotationMark b e (codes "/" ++ letters) (codes "&lt;" ++ ((codes "/" ++ letters) ++ loose_out QuotationMark b Closed)) h p refl refl refl
+in_end_name false true NumberSign b e letters r p h = escapes_content (InContentEnd e (PendingName letters)) r NumberSign b e (codes "/" ++ letters) (codes "&lt;" ++ ((codes "/" ++ letters) ++ loose_out NumberSign b Closed)) h p refl refl refl
+in_end_name false true Ampersand b e letters r p h = escapes_content (InContentEnd e (PendingName letters)) r Ampersand b e (codes "/" ++ letters) (codes "&lt;" ++ ((codes "/" ++ letters) ++ loose_out Ampersand b Closed)) h p refl refl refl
+in_end_name false true Apostrophe b e letters r p h = escapes_content (InContentEnd e (PendingName letters)) r Apostrophe b e (codes "/" ++ letters) (codes "&lt;" ++ ((codes "/" ++ letters) ++ loose_out Apostrophe b Closed)) h p refl refl refl
+in_end_name false true HyphenMinus b e letters r p h = escapes_content (InContentEnd e (PendingName letters)) r HyphenMinus b e (codes "/" ++ letters) (codes "&lt;" ++ ((codes "/" ++ letters) ++ loose_out HyphenMinus b Closed)) h p refl refl refl
 in_end_name false true Solidus b e letters r p h = record { bytes = rw (h, append-nil (letters ++ b ∷ [])) refl; closed = λ k. refl; shown = refl; before = refl; kept = refl; out = λ k. absurd (no k); alone = λ a k. cc }
-in_end_name false true Digit b e letters r p h = escapes_content (InContentEnd e (HeldName letters)) r Digit b e (codes "/" ++ letters) (codes "&lt;" ++ ((codes "/" ++ letters) ++ loose_out Digit b Closed)) h p refl refl refl
-in_end_name false true Semicolon b e letters r p h = escapes_content (InContentEnd e (HeldName letters)) r Semicolon b e (codes "/" ++ letters) (codes "&lt;" ++ ((codes "/" ++ letters) ++ loose_out Semicolon b Closed)) h p refl refl refl
-in_end_name false true LessThan b e letters r p h = escapes_content (InContentEnd e (HeldName letters)) r LessThan b e (codes "/" ++ letters) (codes "&lt;" ++ ((codes "/" ++ letters) ++ loose_out LessThan b Closed)) h p refl refl refl
-in_end_name false true EqualsSign b e letters r p h = escapes_content (InContentEnd e (HeldName letters)) r EqualsSign b e (codes "/" ++ letters) (codes "&lt;" ++ ((codes "/" ++ letters) ++ loose_out EqualsSign b Closed)) h p refl refl refl
+in_end_name false true Digit b e letters r p h = escapes_content (InContentEnd e (PendingName letters)) r Digit b e (codes "/" ++ letters) (codes "&lt;" ++ ((codes "/" ++ letters) ++ loose_out Digit b Closed)) h p refl refl refl
+in_end_name false true Semicolon b e letters r p h = escapes_content (InContentEnd e (PendingName letters)) r Semicolon b e (codes "/" ++ letters) (codes "&lt;" ++ ((codes "/" ++ letters) ++ loose_out Semicolon b Closed)) h p refl refl refl
+in_end_name false true LessThan b e letters r p h = escapes_content (InContentEnd e (PendingName letters)) r LessThan b e (codes "/" ++ letters) (codes "&lt;" ++ ((codes "/" ++ letters) ++ loose_out LessThan b Closed)) h p refl refl refl
+in_end_name false true EqualsSign b e letters r p h = escapes_content (InContentEnd e (PendingName letters)) r EqualsSign b e (codes "/" ++ letters) (codes "&lt;" ++ ((codes "/" ++ letters) ++ loose_out EqualsSign b Closed)) h p refl refl refl
 in_end_name false true GreaterThan b e letters r p h = record { bytes = rw (h, append-nil (letters ++ b ∷ [])) refl; closed = λ k. refl; shown = refl; before = refl; kept = refl; out = λ k. absurd (no k); alone = λ a k. cc }
-in_end_name false true QuestionMark b e letters r p h = escapes_content (InContentEnd e (HeldName letters)) r QuestionMark b e (codes "/" ++ letters) (codes "&lt;" ++ ((codes "/" ++ letters) ++ loose_out QuestionMark b Closed)) h p refl refl refl
-in_end_name false true GraveAccent b e letters r p h = escapes_content (InContentEnd e (HeldName letters)) r GraveAccent b e (codes "/" ++ letters) (codes "&lt;" ++ ((codes "/" ++ letters) ++ loose_out GraveAccent b Closed)) h p refl refl refl
-in_end_name false true (Letter l) b e letters r p h = escapes_content (InContentEnd e (HeldName letters)) r (Letter l) b e (codes "/" ++ letters) (codes "&lt;" ++ ((codes "/" ++ letters) ++ loose_out (Letter l) b Closed)) h p refl refl refl
-in_end_name false true OtherByte b e letters r p h = escapes_content (InContentEnd e (HeldName letters)) r OtherByte b e (codes "/" ++ letters) (codes "&lt;" ++ ((codes "/" ++ letters) ++ loose_out OtherByte b Closed)) h p refl refl refl
-in_end_name false false White b e letters r p h = escapes_content (InContentEnd e (HeldName letters)) r White b e (codes "/" ++ letters) (codes "&lt;" ++ ((codes "/" ++ letters) ++ loose_out White b Closed)) h p refl refl refl
-in_end_name false false ExclamationMark b e letters r p h = escapes_content (InContentEnd e (HeldName letters)) r ExclamationMark b e (codes "/" ++ letters) (codes "&lt;" ++ ((codes "/" ++ letters) ++ loose_out ExclamationMark b Closed)) h p refl refl refl
-in_end_name false false QuotationMark b e letters r p h = escapes_content (InContentEnd e (HeldName letters)) r QuotationMark b e (codes "/" ++ letters) (codes "&lt;" ++ ((codes "/" ++ letters) ++ loose_out QuotationMark b Closed)) h p refl refl refl
-in_end_name false false NumberSign b e letters r p h = escapes_content (InContentEnd e (HeldName letters)) r NumberSign b e (codes "/" ++ letters) (codes "&lt;" ++ ((codes "/" ++ letters) ++ loose_out NumberSign b Closed)) h p refl refl refl
-in_end_name false false Ampersand b e letters r p h = escapes_content (InContentEnd e (HeldName letters)) r Ampersand b e (codes "/" ++ letters) (codes "&lt;" ++ ((codes "/" ++ letters) ++ loose_out Ampersand b Closed)) h p refl refl refl
-in_end_name false false Apostrophe b e letters r p h = escapes_content (InContentEnd e (HeldName letters)) r Apostrophe b e (codes "/" ++ letters) (codes "&lt;" ++ ((codes "/" ++ letters) ++ loose_out Apostrophe b Closed)) h p refl refl refl
-in_end_name false false HyphenMinus b e letters r p h = escapes_content (InContentEnd e (HeldName letters)) r HyphenMinus b e (codes "/" ++ letters) (codes "&lt;" ++ ((codes "/" ++ letters) ++ loose_out HyphenMinus b Closed)) h p refl refl refl
-in_end_name false false Solidus b e letters r p h = escapes_content (InContentEnd e (HeldName letters)) r Solidus b e (codes "/" ++ letters) (codes "&lt;" ++ ((codes "/" ++ letters) ++ loose_out Solidus b Closed)) h p refl refl refl
-in_end_name false false Digit b e letters r p h = escapes_content (InContentEnd e (HeldName letters)) r Digit b e (codes "/" ++ letters) (codes "&lt;" ++ ((codes "/" ++ letters) ++ loose_out Digit b Closed)) h p refl refl refl
-in_end_name false false Semicolon b e letters r p h = escapes_content (InContentEnd e (HeldName letters)) r Semicolon b e (codes "/" ++ letters) (codes "&lt;" ++ ((codes "/" ++ letters) ++ loose_out Semicolon b Closed)) h p refl refl refl
-in_end_name false false LessThan b e letters r p h = escapes_content (InContentEnd e (HeldName letters)) r LessThan b e (codes "/" ++ letters) (codes "&lt;" ++ ((codes "/" ++ letters) ++ loose_out LessThan b Closed)) h p refl refl refl
-in_end_name false false EqualsSign b e letters r p h = escapes_content (InContentEnd e (HeldName letters)) r EqualsSign b e (codes "/" ++ letters) (codes "&lt;" ++ ((codes "/" ++ letters) ++ loose_out EqualsSign b Closed)) h p refl refl refl
-in_end_name false false GreaterThan b e letters r p h = escapes_content (InContentEnd e (HeldName letters)) r GreaterThan b e (codes "/" ++ letters) (codes "&lt;" ++ ((codes "/" ++ letters) ++ loose_out GreaterThan b Closed)) h p refl refl refl
-in_end_name false false QuestionMark b e letters r p h = escapes_content (InContentEnd e (HeldName letters)) r QuestionMark b e (codes "/" ++ letters) (codes "&lt;" ++ ((codes "/" ++ letters) ++ loose_out QuestionMark b Closed)) h p refl refl refl
-in_end_name false false GraveAccent b e letters r p h = escapes_content (InContentEnd e (HeldName letters)) r GraveAccent b e (codes "/" ++ letters) (codes "&lt;" ++ ((codes "/" ++ letters) ++ loose_out GraveAccent b Closed)) h p refl refl refl
-in_end_name false false (Letter l) b e letters r p h = escapes_content (InContentEnd e (HeldName letters)) r (Letter l) b e (codes "/" ++ letters) (codes "&lt;" ++ ((codes "/" ++ letters) ++ loose_out (Letter l) b Closed)) h p refl refl refl
-in_end_name false false OtherByte b e letters r p h = escapes_content (InContentEnd e (HeldName letters)) r OtherByte b e (codes "/" ++ letters) (codes "&lt;" ++ ((codes "/" ++ letters) ++ loose_out OtherByte b Closed)) h p refl refl refl
+in_end_name false true QuestionMark b e letters r p h = escapes_content (InContentEnd e (PendingName letters)) r QuestionMark b e (codes "/" ++ letters) (codes "&lt;" ++ ((codes "/" ++ letters) ++ loose_out QuestionMark b Closed)) h p refl refl refl
+in_end_name false true GraveAccent b e letters r p h = escapes_content (InContentEnd e (PendingName letters)) r GraveAccent b e (codes "/" ++ letters) (codes "&lt;" ++ ((codes "/" ++ letters) ++ loose_out GraveAccent b Closed)) h p refl refl refl
+in_end_name false true (Letter l) b e letters r p h = escapes_content (InContentEnd e (PendingName letters)) r (Letter l) b e (codes "/" ++ letters) (codes "&lt;" ++ ((codes "/" ++ letters) ++ loose_out (Letter l) b Closed)) h p refl refl refl
+in_end_name false true OtherByte b e letters r p h = escapes_content (InContentEnd e (PendingName letters)) r OtherByte b e (codes "/" ++ letters) (codes "&lt;" ++ ((codes "/" ++ letters) ++ loose_out OtherByte b Closed)) h p refl refl refl
+in_end_name false false White b e letters r p h = escapes_content (InContentEnd e (PendingName letters)) r White b e (codes "/" ++ letters) (codes "&lt;" ++ ((codes "/" ++ letters) ++ loose_out White b Closed)) h p refl refl refl
+in_end_name false false ExclamationMark b e letters r p h = escapes_content (InContentEnd e (PendingName letters)) r ExclamationMark b e (codes "/" ++ letters) (codes "&lt;" ++ ((codes "/" ++ letters) ++ loose_out ExclamationMark b Closed)) h p refl refl refl
+in_end_name false false QuotationMark b e letters r p h = escapes_content (InContentEnd e (PendingName letters)) r QuotationMark b e (codes "/" ++ letters) (codes "&lt;" ++ ((codes "/" ++ letters) ++ loose_out QuotationMark b Closed)) h p refl refl refl
+in_end_name false false NumberSign b e letters r p h = escapes_content (InContentEnd e (PendingName letters)) r NumberSign b e (codes "/" ++ letters) (codes "&lt;" ++ ((codes "/" ++ letters) ++ loose_out NumberSign b Closed)) h p refl refl refl
+in_end_name false false Ampersand b e letters r p h = escapes_content (InContentEnd e (PendingName letters)) r Ampersand b e (codes "/" ++ letters) (codes "&lt;" ++ ((codes "/" ++ letters) ++ loose_out Ampersand b Closed)) h p refl refl refl
+in_end_name false false Apostrophe b e letters r p h = escapes_content (InContentEnd e (PendingName letters)) r Apostrophe b e (codes "/" ++ letters) (codes "&lt;" ++ ((codes "/" ++ letters) ++ loose_out Apostrophe b Closed)) h p refl refl refl
+in_end_name false false HyphenMinus b e letters r p h = escapes_content (InContentEnd e (PendingName letters)) r HyphenMinus b e (codes "/" ++ letters) (codes "&lt;" ++ ((codes "/" ++ letters) ++ loose_out HyphenMinus b Closed)) h p refl refl refl
+in_end_name false false Solidus b e letters r p h = escapes_content (InContentEnd e (PendingName letters)) r Solidus b e (codes "/" ++ letters) (codes "&lt;" ++ ((codes "/" ++ letters) ++ loose_out Solidus b Closed)) h p refl refl refl
+in_end_name false false Digit b e letters r p h = escapes_content (InContentEnd e (PendingName letters)) r Digit b e (codes "/" ++ letters) (codes "&lt;" ++ ((codes "/" ++ letters) ++ loose_out Digit b Closed)) h p refl refl refl
+in_end_name false false Semicolon b e letters r p h = escapes_content (InContentEnd e (PendingName letters)) r Semicolon b e (codes "/" ++ letters) (codes "&lt;" ++ ((codes "/" ++ letters) ++ loose_out Semicolon b Closed)) h p refl refl refl
+in_end_name false false LessThan b e letters r p h = escapes_content (InContentEnd e (PendingName letters)) r LessThan b e (codes "/" ++ letters) (codes "&lt;" ++ ((codes "/" ++ letters) ++ loose_out LessThan b Closed)) h p refl refl refl
+in_end_name false false EqualsSign b e letters r p h = escapes_content (InContentEnd e (PendingName letters)) r EqualsSign b e (codes "/" ++ letters) (codes "&lt;" ++ ((codes "/" ++ letters) ++ loose_out EqualsSign b Closed)) h p refl refl refl
+in_end_name false false GreaterThan b e letters r p h = escapes_content (InContentEnd e (PendingName letters)) r GreaterThan b e (codes "/" ++ letters) (codes "&lt;" ++ ((codes "/" ++ letters) ++ loose_out GreaterThan b Closed)) h p refl refl refl
+in_end_name false false QuestionMark b e letters r p h = escapes_content (InContentEnd e (PendingName letters)) r QuestionMark b e (codes "/" ++ letters) (codes "&lt;" ++ ((codes "/" ++ letters) ++ loose_out QuestionMark b Closed)) h p refl refl refl
+in_end_name false false GraveAccent b e letters r p h = escapes_content (InContentEnd e (PendingName letters)) r GraveAccent b e (codes "/" ++ letters) (codes "&lt;" ++ ((codes "/" ++ letters) ++ loose_out GraveAccent b Closed)) h p refl refl refl
+in_end_name false false (Letter l) b e letters r p h = escapes_content (InContentEnd e (PendingName letters)) r (Letter l) b e (codes "/" ++ letters) (codes "&lt;" ++ ((codes "/" ++ letters) ++ loose_out (Letter l) b Closed)) h p refl refl refl
+in_end_name false false OtherByte b e letters r p h = escapes_content (InContentEnd e (PendingName letters)) r OtherByte b e (codes "/" ++ letters) (codes "&lt;" ++ ((codes "/" ++ letters) ++ loose_out OtherByte b Closed)) h p refl refl refl
 
-hidden-comment : (s : CommentState) → hides (comment_front s) ≡ true
+hidden-comment : (s : CommentState) → hides (comment_scan s) ≡ true
 hidden-comment Started = refl
 hidden-comment StartedDash = refl
 hidden-comment Inside = refl
@@ -699,7 +699,7 @@ hidden-comment DashDash = refl
 hidden-comment Bang = refl
 hidden-comment Broken = refl
 
-less-comment : (s : CommentState) → less_kept (comment_front s) ≡ []
+less-comment : (s : CommentState) → less_kept (comment_scan s) ≡ []
 less-comment Started = refl
 less-comment StartedDash = refl
 less-comment Inside = refl
@@ -712,7 +712,7 @@ less-closed : (x : Bool) → less_kept (comment_closed x) ≡ []
 less-closed true = refl
 less-closed false = refl
 
-leaves : (c : Class) (s : CommentState) (f : Front) (r : Reference) (b : ℕ) → hides f ≡ true → LeavesBytes f (comment_next c s) r Closed c b []
+leaves : (c : Class) (s : CommentState) (f : Scan) (r : Reference) (b : ℕ) → hides f ≡ true → LeavesBytes f (comment_next c s) r Closed c b []
 leaves White s f r b before = record { out = refl; reference = refl; loose = less-comment (next_comment s White); ends = λ h. absurd (no (sym h ∙ hidden-comment (next_comment s White))); before = before }
 leaves ExclamationMark s f r b before = record { out = refl; reference = refl; loose = less-comment (next_comment s ExclamationMark); ends = λ h. absurd (no (sym h ∙ hidden-comment (next_comment s ExclamationMark))); before = before }
 leaves QuotationMark s f r b before = record { out = refl; reference = refl; loose = less-comment (next_comment s QuotationMark); ends = λ h. absurd (no (sym h ∙ hidden-comment (next_comment s QuotationMark))); before = before }
@@ -731,15 +731,15 @@ leaves GraveAccent s f r b before = record { out = refl; reference = refl; loose
 leaves (Letter l) s f r b before = record { out = refl; reference = refl; loose = less-comment (next_comment s (Letter l)); ends = λ h. absurd (no (sym h ∙ hidden-comment (next_comment s (Letter l)))); before = before }
 leaves OtherByte s f r b before = record { out = refl; reference = refl; loose = less-comment (next_comment s OtherByte); ends = λ h. absurd (no (sym h ∙ hidden-comment (next_comment s OtherByte))); before = before }
 
--- the fronts of the code
-abbrev pub IsRead : Front → Type 0
+-- the scan states of the code
+abbrev pub IsRead : Scan → Type 0
 IsRead (InContentEnd e Nothing) = ⊥
-IsRead (InContentEnd e HeldBang) = ⊥
-IsRead (InContentEnd e HeldBangDash) = ⊥
+IsRead (InContentEnd e PendingBang) = ⊥
+IsRead (InContentEnd e PendingBangDash) = ⊥
 IsRead f = f ≡ f
 
-abbrev LawAt : Front → Class → ℕ → Reference → Type 0
-LawAt f c b r = Law f (front_next f c b) r (front_open f c b r) c b (front_out f c b r)
+abbrev LawAt : Scan → Class → ℕ → Reference → Type 0
+LawAt f c b r = Law f (scan_next f c b) r (scan_open f c b r) c b (scan_out f c b r)
 
 at_place : (p : Place) (c : Class) (b : ℕ) (r : Reference) → Spelled c b → (bears (At p) ≡ false → r ≡ Closed) → LawAt (At p) c b r
 at_place place.Text c b r p closed = in_text c b r p
@@ -752,7 +752,7 @@ at_place (place.Script j) c b r p closed = without_references (At (place.Script 
 at_place (place.Style j) c b r p closed = without_references (At (place.Style j)) (At (place.Style j)) r c b refl (record { less = refl; shown = refl }) refl refl refl (closed refl)
 at_place (place.Block j) c b r p closed = without_references (At (place.Block j)) (At (place.Block j)) r c b refl (record { less = refl; shown = refl }) refl refl refl (closed refl)
 
-pub law : (f : Front) (c : Class) (b : ℕ) (r : Reference) → IsRead f → Spelled c b → (bears f ≡ false → r ≡ Closed) → LawAt f c b r
+pub law : (f : Scan) (c : Class) (b : ℕ) (r : Reference) → IsRead f → Spelled c b → (bears f ≡ false → r ≡ Closed) → LawAt f c b r
 law (At q) c b r i p closed = at_place q c b r p closed
 law AfterLess c b r i p closed = after_less c b r p
 law AfterLessSolidus c b r i p closed = after_solidus c b r p
@@ -761,7 +761,7 @@ law (InTagName ends name) c b r i p closed = without_references (InTagName ends 
 law (InAttributeName t typed name) c b r i p closed = without_references (InAttributeName t typed name) (attribute_name_next c b t typed (kind_of (tag_element t) name) name) r c b refl (loose-attribute_name c b t typed (kind_of (tag_element t) name) name) refl refl refl (closed refl)
 law (InCommentEnd s) c b r i p closed = leaves c s (InCommentEnd s) r b refl
 law (InContentEnd e Nothing) c b r i p closed = absurd i
-law (InContentEnd e HeldLess) c b r i p closed = after_content_less c b e r p (closed refl)
-law (InContentEnd e (HeldName letters)) c b r i p closed = in_end_name (may_be_name_of e (letters ++ b ∷ [])) (is_name_of e letters) c b e letters r p (closed refl)
-law (InContentEnd e HeldBang) c b r i p closed = absurd i
-law (InContentEnd e HeldBangDash) c b r i p closed = absurd i
+law (InContentEnd e PendingLess) c b r i p closed = after_content_less c b e r p (closed refl)
+law (InContentEnd e (PendingName letters)) c b r i p closed = in_end_name (may_be_name_of e (letters ++ b ∷ [])) (is_name_of e letters) c b e letters r p (closed refl)
+law (InContentEnd e PendingBang) c b r i p closed = absurd i
+law (InContentEnd e PendingBangDash) c b r i p closed = absurd i

@@ -1,19 +1,19 @@
--- A byte behind a `<` that begins nothing, a byte that begins a comment, and one in a comment.
+-- A byte after a `<` that begins nothing, a byte that begins a comment, and one in a comment.
 use Rattle.std.proofs.Common.{◌≡◌, ℕ, ◌+◌, ◌-◌, ◌<◌, ◌≤◌, true, false, codes, List, [], ◌∷◌, ◌++◌, length, get_or, Option, Some, None, IfSome, refl, sym, ap, ◌∙◌, subst, arith}
 use Rattle.std.proofs.lemmas.List.{append_assoc, append-nil, length-append}
 use Rattle.std.proofs.lemmas.Str.{IsCharBoundary-after_ascii, IsCharBoundary-before_ascii}
 use Rattle.std.specs.Str.{IsCharBoundary, IsUtf8}
-use Rattle.place_core.specs.Classes.{class_of}
-use Rattle.place_core.specs.References.{Reference, as_it_stands, begin_reference}
-use Rattle.html_front.proofs.HeldNames.{held_grows, held_nothing}
-use Rattle.html_front.specs.FrontViews.{held_from}
-use Rattle.html_front.specs.Slices.{held}
-use Rattle.text_norm.specs.Kept.{IsEnd, IsKept, IsPlaced, IsReadTo, Reads, change_of, front_of, hides, less_kept, reference_of}
-use Rattle.text_norm.specs.ReferenceViews.{reference_at}
-use Rattle.text_norm.specs.Written.{escaped}
-use Rattle.text_norm.specs.declared.change.Change.TheVariants as change
-use Rattle.text_norm.specs.declared.opened.Opened.{Opened}
-use Rattle.text_norm.specs.declared.reading.Reading.{Reading}
+use Rattle.place_core.specs.page.Classes.{class_of}
+use Rattle.place_core.specs.page.References.{Reference, as_it_stands, begin_reference}
+use Rattle.html_scan.proofs.PendingNames.{pending_grows, pending_nothing}
+use Rattle.html_scan.specs.ScanViews.{pending_from}
+use Rattle.html_scan.specs.Slices.{pending}
+use Rattle.text_norm.specs.Kept.{IsWriteEnd, IsProgressKept, IsPlaced, IsReadTo, ProgressReads, change_of, scan_of, hides, less_kept, reference_of}
+use Rattle.text_norm.specs.ReferenceViews.{reference_view}
+use Rattle.text_norm.specs.Written.{text_escaped}
+use Rattle.text_norm.specs.declared.pending.Change.TheVariants as change
+use Rattle.text_norm.specs.declared.reference.Opened.{Opened}
+use Rattle.text_norm.specs.declared.pending.WriteProgress.{WriteProgress}
 use Rattle.text_norm.proofs.Kept.{less_parted}
 use Rattle.text_norm.proofs.Slices.{behind_first, first_byte}
 use Rattle.text_norm.proofs.Spelled.{greater_ascii}
@@ -25,18 +25,18 @@ no h = cc
 nothing : (o : Opened) → None ≡ Some o → ⊥
 nothing o h = cc
 
--- where a `<` stands that is held back
-pub record IsLessAt (text : List ℕ) (index at : ℕ) (x : Reading) (free more : List ℕ) : Type 0 where
+-- where a `<` stands that is pending back
+pub record IsLessAt (text : List ℕ) (index at : ℕ) (x : WriteProgress) (free more : List ℕ) : Type 0 where
   pub order : x.done ≤ at
   pub end : at + (1 + length more) ≡ index
   pub byte : get_or text at 0 ≡ 60
-  pub before : held text x.done at ≡ free ++ as_it_stands (reference_of text x)
-  pub behind : held text (at + 1) index ≡ more
+  pub before : pending text x.done at ≡ free ++ as_it_stands (reference_of text x)
+  pub behind : pending text (at + 1) index ≡ more
 
-pub less_at : (text : List ℕ) (index : ℕ) (x : Reading) (more : List ℕ) (kept : IsKept text index x) → index ≤ length text → less_kept (front_of text index x) ≡ 60 ∷ more → IsLessAt text index (index - length (less_kept (front_of text index x))) x kept.free more
+pub less_at : (text : List ℕ) (index : ℕ) (x : WriteProgress) (more : List ℕ) (kept : IsProgressKept text index x) → index ≤ length text → less_kept (scan_of text index x) ≡ 60 ∷ more → IsLessAt text index (index - length (less_kept (scan_of text index x))) x kept.free more
 less_at text index x more kept inside less =
     let p = less_parted text index x kept inside in
-    let at = index - length (less_kept (front_of text index x)) in
+    let at = index - length (less_kept (scan_of text index x)) in
     record {
       order = omega (arith, p.start);
       end = omega (arith, p.end, ap length less);
@@ -45,12 +45,12 @@ less_at text index x more kept inside less =
       behind = behind_first text at index 60 more (p.behind ∙ less);
     }
 
-pub ends_at_less : (text : List ℕ) (index : ℕ) (x : Reading) (more : List ℕ) (kept : IsKept text index x) → index ≤ length text → less_kept (front_of text index x) ≡ 60 ∷ more → hides (front_of text index x) ≡ false → IsEnd text index x
+pub ends_at_less : (text : List ℕ) (index : ℕ) (x : WriteProgress) (more : List ℕ) (kept : IsProgressKept text index x) → index ≤ length text → less_kept (scan_of text index x) ≡ 60 ∷ more → hides (scan_of text index x) ≡ false → IsWriteEnd text index x
 ends_at_less text index x more kept inside less shown =
     let l = less_at text index x more kept inside less in
     record {
       shown = shown;
-      cut = IsCharBoundary-before_ascii text (index - length (less_kept (front_of text index x))) (omega (arith, l.end, inside)) (omega (arith, l.byte));
+      cut = IsCharBoundary-before_ascii text (index - length (less_kept (scan_of text index x))) (omega (arith, l.end, inside)) (omega (arith, l.byte));
     }
 
 escape_bytes : (old new free r again out : List ℕ) → new ≡ old ++ ((free ++ r) ++ codes "&lt;") → out ≡ r ++ (codes "&lt;" ++ again) → new ++ again ≡ old ++ (free ++ out)
@@ -59,29 +59,29 @@ escape_bytes old new free r again out wrote is =
     ∙ append_assoc old ((free ++ r) ++ codes "&lt;") again
     ∙ ap (λ (xs : List ℕ). old ++ xs) (append_assoc (free ++ r) (codes "&lt;") again ∙ append_assoc free r (codes "&lt;" ++ again) ∙ ap (λ (xs : List ℕ). free ++ xs) (sym is))
 
-pub escapes : (text : List ℕ) (index less : ℕ) (x y : Reading) (old new : List ℕ) (kept : IsKept text index x) → index < length text → IsUtf8 text → front_of text (index + 1) y ≡ next_of text index x → change.EscapesLess ≡ change_of (front_of text index x) (front_of text (index + 1) y) → reference_of text y ≡ begin_reference (class_of (byte_at text index)) → IfSome y.reference (IsReadTo (class_of (byte_at text index)) index None) → held_from y.front ≤ index + 1 → less ≡ index - length (less_kept (front_of text index x)) → y.done ≡ less + 1 → new ≡ old ++ (held text x.done less ++ codes "&lt;") → Reads text index x y kept.free old new
-escapes text index less x y old new kept inside utf8 front is reference so named where_less done wrote =
-    let here = law_here change.EscapesLess text index x y kept front is in
-    let f = front_of text index x in
-    let g = front_of text (index + 1) y in
+pub escapes : (text : List ℕ) (index less : ℕ) (x y : WriteProgress) (old new : List ℕ) (kept : IsProgressKept text index x) → index < length text → IsUtf8 text → scan_of text (index + 1) y ≡ next_of text index x → change.EscapesLess ≡ change_of (scan_of text index x) (scan_of text (index + 1) y) → reference_of text y ≡ begin_reference (class_of (byte_at text index)) → IfSome y.reference (IsReadTo (class_of (byte_at text index)) index None) → pending_from y.scan ≤ index + 1 → less ≡ index - length (less_kept (scan_of text index x)) → y.done ≡ less + 1 → new ≡ old ++ (pending text x.done less ++ codes "&lt;") → ProgressReads text index x y kept.free old new
+escapes text index less x y old new kept inside utf8 scan is reference so named where_less done wrote =
+    let here = law_here change.EscapesLess text index x y kept scan is in
+    let f = scan_of text index x in
+    let g = scan_of text (index + 1) y in
     let z = as_it_stands (open_of text index x) in
     let same : reference_of text y ≡ open_of text index x = reference ∙ sym here.reference in
     let l = subst (λ (at : ℕ). IsLessAt text index at x kept.free here.more) (sym where_less) (less_at text index x here.more kept (omega (arith, inside)) here.less) in
     let lengths : length here.again + (length z + length (less_kept g)) ≡ length here.more + 1 = omega (arith, ap length here.bytes, length-append here.more (byte_at text index ∷ []), length-append here.again (z ++ less_kept g), length-append z (less_kept g)) in
     record {
-      front = front;
+      scan = scan;
       reference = same;
       kept = record {
         free = here.again;
         parts = ap (λ (r : Reference). here.again ++ (as_it_stands r ++ less_kept g)) same
             ∙ here.bytes
             ∙ ap (λ (xs : List ℕ). xs ++ byte_at text index ∷ []) (sym l.behind)
-            ∙ sym (held_grows text (less + 1) index (omega (arith, l.end)) inside)
-            ∙ ap (λ (d : ℕ). held text d (index + 1)) (sym done);
+            ∙ sym (pending_grows text (less + 1) index (omega (arith, l.end)) inside)
+            ∙ ap (λ (d : ℕ). pending text d (index + 1)) (sym done);
         placed = placed_after false (class_of (byte_at text index)) 0 (y.done + length here.again) index None y.reference so tt
             (λ h. absurd (no h))
             (λ o moves is to begun.
-            let zs : length z ≡ 1 + (o.to - o.from) = ap (λ (r : Reference). length (as_it_stands r)) (sym same) ∙ ap (λ (q : Option Opened). length (as_it_stands (reference_at text q))) is ∙ length-open text o (omega (arith, to, inside)) in
+            let zs : length z ≡ 1 + (o.to - o.from) = ap (λ (r : Reference). length (as_it_stands r)) (sym same) ∙ ap (λ (q : Option Opened). length (as_it_stands (reference_view text q))) is ∙ length-open text o (omega (arith, to, inside)) in
             omega (arith, done, lengths, zs, to, begun.from, ap length (here.alone begun.by), l.end))
             (λ o p was. absurd (nothing p was));
         named = named;
@@ -94,24 +94,24 @@ escapes text index less x y old new kept inside utf8 front is reference so named
     }
 
 -- after a byte that is left out
-abbrev left_out : (text : List ℕ) (index : ℕ) (y : Reading) → index < length text → y.reference ≡ None → y.done ≡ index + 1 → held_from y.front ≤ index + 1 → less_kept (front_of text (index + 1) y) ≡ [] → (hides (front_of text (index + 1) y) ≡ false → IsCharBoundary text (index + 1)) → IsKept text (index + 1) y
+abbrev left_out : (text : List ℕ) (index : ℕ) (y : WriteProgress) → index < length text → y.reference ≡ None → y.done ≡ index + 1 → pending_from y.scan ≤ index + 1 → less_kept (scan_of text (index + 1) y) ≡ [] → (hides (scan_of text (index + 1) y) ≡ false → IsCharBoundary text (index + 1)) → IsProgressKept text (index + 1) y
 left_out text index y inside reference done named loose cut = record {
   free = [];
-  parts = ap (λ (o : Option Opened). as_it_stands (reference_at text o) ++ less_kept (front_of text (index + 1) y)) reference ∙ loose ∙ sym (held_nothing text (index + 1)) ∙ ap (λ (d : ℕ). held text d (index + 1)) (sym done);
+  parts = ap (λ (o : Option Opened). as_it_stands (reference_view text o) ++ less_kept (scan_of text (index + 1) y)) reference ∙ loose ∙ sym (pending_nothing text (index + 1)) ∙ ap (λ (d : ℕ). pending text d (index + 1)) (sym done);
   placed = subst (λ (o : Option Opened). IfSome o (IsPlaced (y.done + 0) (index + 1))) (sym reference) tt;
   named = named;
   done = omega (arith, done);
-  closed = λ h. ap (reference_at text) reference;
+  closed = λ h. ap (reference_view text) reference;
   hidden = λ h. done;
   cut = λ h. subst (IsCharBoundary text) (sym done) (cut h);
 }
 
-pub opens : (text : List ℕ) (index : ℕ) (x y : Reading) (old new : List ℕ) (kept : IsKept text index x) → index < length text → front_of text (index + 1) y ≡ next_of text index x → change.OpensComment ≡ change_of (front_of text index x) (front_of text (index + 1) y) → y.reference ≡ None → held_from y.front ≤ index + 1 → y.done ≡ index + 1 → new ≡ old ++ (kept.free ++ escaped (reference_of text x)) → Reads text index x y kept.free old new
-opens text index x y old new kept inside front is reference named done wrote =
-    let here = law_here change.OpensComment text index x y kept front is in
+pub opens : (text : List ℕ) (index : ℕ) (x y : WriteProgress) (old new : List ℕ) (kept : IsProgressKept text index x) → index < length text → scan_of text (index + 1) y ≡ next_of text index x → change.OpensComment ≡ change_of (scan_of text index x) (scan_of text (index + 1) y) → y.reference ≡ None → pending_from y.scan ≤ index + 1 → y.done ≡ index + 1 → new ≡ old ++ (kept.free ++ text_escaped (reference_of text x)) → ProgressReads text index x y kept.free old new
+opens text index x y old new kept inside scan is reference named done wrote =
+    let here = law_here change.OpensComment text index x y kept scan is in
     record {
-      front = front;
-      reference = ap (reference_at text) reference ∙ sym here.reference;
+      scan = scan;
+      reference = ap (reference_view text) reference ∙ sym here.reference;
       kept = left_out text index y inside reference done named here.loose (λ h. absurd (no (sym h ∙ here.hidden)));
       bytes = append-nil new ∙ wrote ∙ ap (λ (xs : List ℕ). old ++ (kept.free ++ xs)) (sym here.out);
     }
@@ -120,13 +120,13 @@ empty : (xs ys : List ℕ) → xs ++ ys ≡ [] → xs ≡ []
 empty [] ys h = refl
 empty (a ∷ xs) ys h = cc
 
-pub leaves : (text : List ℕ) (index : ℕ) (x y : Reading) (out : List ℕ) (kept : IsKept text index x) → index < length text → IsUtf8 text → front_of text (index + 1) y ≡ next_of text index x → change.LeavesOut ≡ change_of (front_of text index x) (front_of text (index + 1) y) → y.reference ≡ None → held_from y.front ≤ index + 1 → y.done ≡ index + 1 → Reads text index x y kept.free out out
-leaves text index x y out kept inside utf8 front is reference named done =
-    let here = law_here change.LeavesOut text index x y kept front is in
-    let none : kept.free ≡ [] = empty kept.free (as_it_stands (reference_of text x) ++ less_kept (front_of text index x)) (kept.parts ∙ ap (λ (d : ℕ). held text d index) (kept.hidden here.before) ∙ held_nothing text index) in
+pub leaves : (text : List ℕ) (index : ℕ) (x y : WriteProgress) (out : List ℕ) (kept : IsProgressKept text index x) → index < length text → IsUtf8 text → scan_of text (index + 1) y ≡ next_of text index x → change.LeavesOut ≡ change_of (scan_of text index x) (scan_of text (index + 1) y) → y.reference ≡ None → pending_from y.scan ≤ index + 1 → y.done ≡ index + 1 → ProgressReads text index x y kept.free out out
+leaves text index x y out kept inside utf8 scan is reference named done =
+    let here = law_here change.LeavesOut text index x y kept scan is in
+    let none : kept.free ≡ [] = empty kept.free (as_it_stands (reference_of text x) ++ less_kept (scan_of text index x)) (kept.parts ∙ ap (λ (d : ℕ). pending text d index) (kept.hidden here.before) ∙ pending_nothing text index) in
     record {
-      front = front;
-      reference = ap (reference_at text) reference ∙ sym here.reference;
+      scan = scan;
+      reference = ap (reference_view text) reference ∙ sym here.reference;
       kept = left_out text index y inside reference done named here.loose (λ h. IsCharBoundary-after_ascii text index utf8 inside (greater_ascii (byte_at text index) (here.ends h)));
       bytes = ap (λ (xs : List ℕ). out ++ xs) (sym (ap (λ (xs : List ℕ). xs ++ out_of text index x) none ∙ here.out));
     }

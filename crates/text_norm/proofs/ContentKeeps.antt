@@ -1,80 +1,80 @@
 -- What is written of a title and a textarea leads the page's reading where the path's leads.
 use Rattle.std.proofs.Common.{◌≡◌, ℕ, Bool, true, false, codes, List, [], ◌∷◌, ◌++◌, refl, sym, ap, ◌∙◌}
-use Rattle.place_core.specs.Classes.{LetterClass, Class, White, ExclamationMark, Solidus, LessThan, GreaterThan, Letter, class_of}
-use Rattle.place_core.specs.Contents.{next_in_content, tells_in_content, next_loose, tells_loose, next_less, tells_less, next_end_name, tells_end_name, may_be_name_of, is_name_of}
-use Rattle.place_core.specs.Events.{Event, text_bytes}
-use Rattle.place_core.specs.References.{Reference, Closed, Open, as_it_stands, next_reference, settled, undone_byte}
-use Rattle.place_core.specs.States.{Characters, Held, Nothing, HeldLess, HeldName, HeldBang, HeldBangDash, InContent, Config, config}
-use Rattle.place_core.specs.Tags.{Bodies}
+use Rattle.place_core.specs.page.Classes.{LetterClass, Class, White, ExclamationMark, Solidus, LessThan, GreaterThan, Letter, class_of}
+use Rattle.place_core.specs.page.Contents.{next_in_content, emits_in_content, next_loose, emits_loose, next_less, emits_less, next_end_name, emits_end_name, may_be_name_of, is_name_of}
+use Rattle.place_core.specs.page.Events.{LexEvent, event_text_bytes}
+use Rattle.place_core.specs.page.References.{Reference, Closed, Open, as_it_stands, next_reference, settled, undone_byte}
+use Rattle.place_core.specs.page.States.{Characters, Pending, Nothing, PendingLess, PendingName, PendingBang, PendingBangDash, InContent, Config, config}
+use Rattle.place_core.specs.page.Tags.{Bodies}
 use Rattle.place_core.specs.declared.element.Element.{Element}
 use Rattle.place_core.proofs.Readings.{text_bytes-append}
-use Rattle.text_norm.specs.Standing.{HeldContentLess, HeldEndName, Stands, StandsIn, StandsInContent, content_at, page}
+use Rattle.text_norm.specs.Standing.{PendingContentLess, PendingEndName, TextStands, StandsIn, StandsInContent, standing_content, page}
 use Rattle.text_norm.specs.Written.{content_less_out, content_out, end_name_out, loose_out, reference_out}
 use Rattle.text_norm.proofs.Places.{content-run, content-since}
 use Rattle.text_norm.proofs.Runs.{follows-run, lt-read, on}
 use Rattle.text_norm.proofs.TextKeeps.{behind-amp, class_less, class_solidus}
 
-abbrev at : {B : Type 0} → Element → List Event → Config B
-at e t = content_at e t Closed []
+abbrev at : {B : Type 0} → Element → List LexEvent → Config B
+at e t = standing_content e t Closed []
 
-pub lone-content-less : {B : Type 0} (x : Bodies B) (e : Element) (r : Reference) (t : List Event) → page x (codes "&lt;") (content_at e t r []) ≡ content_at e (text_bytes (settled false r) t) Closed (codes "<")
+pub lone-content-less : {B : Type 0} (x : Bodies B) (e : Element) (r : Reference) (t : List LexEvent) → page x (codes "&lt;") (standing_content e t r []) ≡ standing_content e (event_text_bytes (settled false r) t) Closed (codes "<")
 lone-content-less x e r t =
     lt-read (content-run x e t) r []
-    ∙ ap (λ (l : List ℕ). content_at e t Closed (l ++ 60 ∷ [])) (behind-amp r)
+    ∙ ap (λ (l : List ℕ). standing_content e t Closed (l ++ 60 ∷ [])) (behind-amp r)
     ∙ ap (config (InContent e (Characters Closed) Nothing)) (text_bytes-append (settled false r) (60 ∷ []) t)
 
-less-content : {B : Type 0} (x : Bodies B) (e : Element) (r : Reference) (t : List Event) → page x (codes "</") (content_at e t r []) ≡ config (InContent e (Characters Closed) (HeldName [])) (text_bytes (settled false r) t)
+less-content : {B : Type 0} (x : Bodies B) (e : Element) (r : Reference) (t : List LexEvent) → page x (codes "</") (standing_content e t r []) ≡ config (InContent e (Characters Closed) (PendingName [])) (event_text_bytes (settled false r) t)
 less-content x e r t = rw (class_less, class_solidus) refl
 
-content-less-held : {B : Type 0} (x : Bodies B) (e : Element) (r : Reference) (t : List Event) (d : Config B) → d ≡ content_at e t r [] → HeldContentLess B x e (text_bytes (settled false r) t) d
-content-less-held x e r t d h = record {
+content-less-pending : {B : Type 0} (x : Bodies B) (e : Element) (r : Reference) (t : List LexEvent) (d : Config B) → d ≡ standing_content e t r [] → PendingContentLess B x e (event_text_bytes (settled false r) t) d
+content-less-pending x e r t d h = record {
   less = ap (page x (codes "&lt;")) h ∙ lone-content-less x e r t;
   end = ap (page x (codes "</")) h ∙ less-content x e r t;
 }
 
--- where nothing is held back
-as-it-stands : {B : Type 0} (x : Bodies B) (e : Element) (r : Reference) (t : List Event) (d : Config B) → StandsIn x (content_at e t) r d → page x (as_it_stands r) d ≡ content_at e t r []
+-- where nothing is pending back
+as-it-stands : {B : Type 0} (x : Bodies B) (e : Element) (r : Reference) (t : List LexEvent) (d : Config B) → StandsIn x (standing_content e t) r d → page x (as_it_stands r) d ≡ standing_content e t r []
 as-it-stands x e Closed t d h = h
 as-it-stands x e (Open f bytes) t d h = h.as_is
 
-pub in-loose : {B : Type 0} (x : Bodies B) (e : Element) (r : Reference) (c : Class) (b : ℕ) (t : List Event) (d : Config B) → class_of b ≡ c → StandsIn x (content_at e t) r d
-    → Stands x (next_loose c b e (Characters r)) (tells_loose c b (Characters r) t) (page x (loose_out c b r) d)
-in-loose x e r LessThan b t d k h = content-less-held x e r t (page x (as_it_stands r) d) (as-it-stands x e r t d h)
+pub in-loose : {B : Type 0} (x : Bodies B) (e : Element) (r : Reference) (c : Class) (b : ℕ) (t : List LexEvent) (d : Config B) → class_of b ≡ c → StandsIn x (standing_content e t) r d
+    → TextStands x (next_loose c b e (Characters r)) (emits_loose c b (Characters r) t) (page x (loose_out c b r) d)
+in-loose x e r LessThan b t d k h = content-less-pending x e r t (page x (as_it_stands r) d) (as-it-stands x e r t d h)
 in-loose x e r c b t d k h = content-since x e t (undone_byte false r c b) (next_reference r c b) (page x (reference_out r c b) d) (follows-run (content-run x e t) r c b d k refl h)
 
--- .. behind a `<` that begins nothing
-behind-content-less : {B : Type 0} (x : Bodies B) (e : Element) (ys : List ℕ) (d : Config B) (u v : List Event) (c : Class) (b : ℕ) → class_of b ≡ c → page x (codes "&lt;") d ≡ at e u
-    → page x ys (at e u) ≡ at e v → Stands x (next_loose c b e (Characters Closed)) (tells_loose c b (Characters Closed) v) (page x (codes "&lt;" ++ (ys ++ loose_out c b Closed)) d)
+-- likewise, after a `<` that begins nothing
+behind-content-less : {B : Type 0} (x : Bodies B) (e : Element) (ys : List ℕ) (d : Config B) (u v : List LexEvent) (c : Class) (b : ℕ) → class_of b ≡ c → page x (codes "&lt;") d ≡ at e u
+    → page x ys (at e u) ≡ at e v → TextStands x (next_loose c b e (Characters Closed)) (emits_loose c b (Characters Closed) v) (page x (codes "&lt;" ++ (ys ++ loose_out c b Closed)) d)
 behind-content-less x e ys d u v c b k h l =
     let there : page x (codes "&lt;" ++ (ys ++ loose_out c b Closed)) d ≡ page x (loose_out c b Closed) (at e v) = on x (codes "&lt;") (ys ++ loose_out c b Closed) d _ h ∙ on x ys (loose_out c b Closed) (at e u) _ l in
     rw there (in-loose x e Closed c b v (at e v) k refl)
 
-own-solidus : {B : Type 0} (x : Bodies B) (e : Element) (u : List Event) → page x (codes "/") (content_at e u Closed []) ≡ content_at e u Closed (codes "/")
+own-solidus : {B : Type 0} (x : Bodies B) (e : Element) (u : List LexEvent) → page x (codes "/") (standing_content e u Closed []) ≡ standing_content e u Closed (codes "/")
 own-solidus x e u = rw class_solidus refl
 
-in-content-less : {B : Type 0} (x : Bodies B) (e : Element) (c : Class) (b : ℕ) (t : List Event) (d : Config B) → class_of b ≡ c → HeldContentLess B x e t d
-    → Stands x (next_less c b e (Characters Closed)) (tells_less c b (Characters Closed) t) (page x (content_less_out c b) d)
+in-content-less : {B : Type 0} (x : Bodies B) (e : Element) (c : Class) (b : ℕ) (t : List LexEvent) (d : Config B) → class_of b ≡ c → PendingContentLess B x e t d
+    → TextStands x (next_less c b e (Characters Closed)) (emits_less c b (Characters Closed) t) (page x (content_less_out c b) d)
 in-content-less x e Solidus b t d k h = record { less = h.less; end = h.end; own = own-solidus x e }
-in-content-less x e LessThan b t d k h = behind-content-less x e [] d (text_bytes (codes "<") t) (text_bytes (codes "<") t) LessThan b k h.less refl
-in-content-less x e ExclamationMark b t d k h = behind-content-less x e [] d (text_bytes (codes "<") t) (text_bytes (codes "<") t) ExclamationMark b k h.less refl
-in-content-less x e c b t d k h = behind-content-less x e [] d (text_bytes (codes "<") t) (text_bytes (codes "<") t) c b k h.less refl
+in-content-less x e LessThan b t d k h = behind-content-less x e [] d (event_text_bytes (codes "<") t) (event_text_bytes (codes "<") t) LessThan b k h.less refl
+in-content-less x e ExclamationMark b t d k h = behind-content-less x e [] d (event_text_bytes (codes "<") t) (event_text_bytes (codes "<") t) ExclamationMark b k h.less refl
+in-content-less x e c b t d k h = behind-content-less x e [] d (event_text_bytes (codes "<") t) (event_text_bytes (codes "<") t) c b k h.less refl
 
-own-letter : {B : Type 0} (x : Bodies B) (e : Element) (l : LetterClass) (b : ℕ) (u : List Event) → class_of b ≡ Letter l → page x (b ∷ []) (content_at e u Closed []) ≡ content_at e u Closed (b ∷ [])
+own-letter : {B : Type 0} (x : Bodies B) (e : Element) (l : LetterClass) (b : ℕ) (u : List LexEvent) → class_of b ≡ Letter l → page x (b ∷ []) (standing_content e u Closed []) ≡ standing_content e u Closed (b ∷ [])
 own-letter x e l b u k = rw k refl
 
-not-name : {B : Type 0} (x : Bodies B) (e : Element) (letters : List ℕ) (c : Class) (b : ℕ) (t : List Event) (d : Config B) → class_of b ≡ c → HeldEndName B x e letters t d
-    → Stands x (next_loose c b e (Characters Closed)) (tells_loose c b (Characters Closed) (text_bytes (codes "</" ++ letters) t)) (page x (codes "&lt;" ++ ((codes "/" ++ letters) ++ loose_out c b Closed)) d)
-not-name x e letters c b t d k h = behind-content-less x e (codes "/" ++ letters) d (text_bytes (codes "<") t) (text_bytes (codes "</" ++ letters) t) c b k h.less (h.own (text_bytes (codes "<") t))
+not-name : {B : Type 0} (x : Bodies B) (e : Element) (letters : List ℕ) (c : Class) (b : ℕ) (t : List LexEvent) (d : Config B) → class_of b ≡ c → PendingEndName B x e letters t d
+    → TextStands x (next_loose c b e (Characters Closed)) (emits_loose c b (Characters Closed) (event_text_bytes (codes "</" ++ letters) t)) (page x (codes "&lt;" ++ ((codes "/" ++ letters) ++ loose_out c b Closed)) d)
+not-name x e letters c b t d k h = behind-content-less x e (codes "/" ++ letters) d (event_text_bytes (codes "<") t) (event_text_bytes (codes "</" ++ letters) t) c b k h.less (h.own (event_text_bytes (codes "<") t))
 
 -- whether the byte goes on with the name, and whether it is whole
-in-end-name : {B : Type 0} (x : Bodies B) (e : Element) (grows whole : Bool) (letters : List ℕ) (c : Class) (b : ℕ) (t : List Event) (d : Config B) → class_of b ≡ c
-    → may_be_name_of e (letters ++ b ∷ []) ≡ grows → is_name_of e letters ≡ whole → HeldEndName B x e letters t d
-    → Stands x (next_end_name grows whole c b e (Characters Closed) letters) (tells_end_name grows whole c b (Characters Closed) letters t) (page x (end_name_out grows whole c b letters) d)
+in-end-name : {B : Type 0} (x : Bodies B) (e : Element) (grows whole : Bool) (letters : List ℕ) (c : Class) (b : ℕ) (t : List LexEvent) (d : Config B) → class_of b ≡ c
+    → may_be_name_of e (letters ++ b ∷ []) ≡ grows → is_name_of e letters ≡ whole → PendingEndName B x e letters t d
+    → TextStands x (next_end_name grows whole c b e (Characters Closed) letters) (emits_end_name grows whole c b (Characters Closed) letters t) (page x (end_name_out grows whole c b letters) d)
 in-end-name x e true whole letters (Letter l) b t d k g w h = record {
   less = h.less;
   end = on x (codes "</" ++ letters) (b ∷ []) d _ h.end ∙ rw (k, g) refl;
-  own = λ u. on x (codes "/" ++ letters) (b ∷ []) (content_at e u Closed []) _ (h.own u)
-      ∙ own-letter x e l b (text_bytes (codes "/" ++ letters) u) k
+  own = λ u. on x (codes "/" ++ letters) (b ∷ []) (standing_content e u Closed []) _ (h.own u)
+      ∙ own-letter x e l b (event_text_bytes (codes "/" ++ letters) u) k
       ∙ sym (ap (config (InContent e (Characters Closed) Nothing)) (text_bytes-append (codes "/" ++ letters) (b ∷ []) u));
 }
 in-end-name x e grows true letters White b t d k g w h = on x (codes "</" ++ letters) (b ∷ []) d _ h.end ∙ rw (k, g, w) refl
@@ -82,12 +82,12 @@ in-end-name x e grows true letters Solidus b t d k g w h = on x (codes "</" ++ l
 in-end-name x e grows true letters GreaterThan b t d k g w h = on x (codes "</" ++ letters) (b ∷ []) d _ h.end ∙ rw (k, g, w) refl
 in-end-name x e grows whole letters c b t d k g w h = not-name x e letters c b t d k h
 
-pub in-content : {B : Type 0} (x : Bodies B) (e : Element) (r : Reference) (held : Held) (c : Class) (b : ℕ) (t : List Event) (d : Config B) → class_of b ≡ c → StandsInContent x e (Characters r) held t d
-    → Stands x (next_in_content held c b e (Characters r)) (tells_in_content held c b e (Characters r) t) (page x (content_out held c b e r) d)
+pub in-content : {B : Type 0} (x : Bodies B) (e : Element) (r : Reference) (pending : Pending) (c : Class) (b : ℕ) (t : List LexEvent) (d : Config B) → class_of b ≡ c → StandsInContent x e (Characters r) pending t d
+    → TextStands x (next_in_content pending c b e (Characters r)) (emits_in_content pending c b e (Characters r) t) (page x (content_out pending c b e r) d)
 in-content x e r Nothing c b t d k h = in-loose x e r c b t d k h
-in-content x e Closed HeldLess c b t d k h = in-content-less x e c b t d k h
-in-content x e Closed (HeldName letters) c b t d k h = in-end-name x e (may_be_name_of e (letters ++ b ∷ [])) (is_name_of e letters) letters c b t d k refl refl h
-in-content x e (Open f bytes) HeldLess c b t d k h = absurd h
-in-content x e (Open f bytes) (HeldName letters) c b t d k h = absurd h
-in-content x e r HeldBang c b t d k h = absurd h
-in-content x e r HeldBangDash c b t d k h = absurd h
+in-content x e Closed PendingLess c b t d k h = in-content-less x e c b t d k h
+in-content x e Closed (PendingName letters) c b t d k h = in-end-name x e (may_be_name_of e (letters ++ b ∷ [])) (is_name_of e letters) letters c b t d k refl refl h
+in-content x e (Open f bytes) PendingLess c b t d k h = absurd h
+in-content x e (Open f bytes) (PendingName letters) c b t d k h = absurd h
+in-content x e r PendingBang c b t d k h = absurd h
+in-content x e r PendingBangDash c b t d k h = absurd h

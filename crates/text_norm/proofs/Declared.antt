@@ -4,13 +4,13 @@ use Rattle.std.proofs.lemmas.Bool.{eqb-true}
 use Rattle.std.specs.List.{starts_with}
 use Rattle.std.specs.Char.{is_ascii_alphabetic, is_ascii_digit, is_ascii_hexdigit, is_ascii_whitespace, to_ascii_lowercase}
 use Rattle.std.specs.Str.{str_to_ascii_lowercase}
-use Rattle.place_core.specs.Classes.{Class, Ampersand, LessThan, class_of}
-use Rattle.place_core.specs.Events.{Event, TextByte}
-use Rattle.place_core.specs.References.{Closed}
-use Rattle.place_core.specs.States.{Text, config}
-use Rattle.place_core.specs.Tags.{Bodies}
+use Rattle.place_core.specs.page.Classes.{Class, Ampersand, LessThan, class_of}
+use Rattle.place_core.specs.page.Events.{LexEvent, TextByte}
+use Rattle.place_core.specs.page.References.{Closed}
+use Rattle.place_core.specs.page.States.{Text, config}
+use Rattle.place_core.specs.page.Tags.{Bodies}
 use Rattle.text_norm.specs.Standing.{page}
-use Rattle.place_core.specs.Comments.{OpensComment, OpensDoctype, OpensNothing, Undecided, declared_by}
+use Rattle.place_core.specs.page.Comments.{OpensComment, OpensDoctype, OpensNothing, Undecided, declared_by}
 
 skip : {A : Type 0} (x : Bool) (a c y : A) → (a ≡ c → ⊥) → (if x then a else y) ≡ c → y ≡ c
 skip true a c y n e = absurd (n e)
@@ -37,11 +37,11 @@ false-right : (x y : Bool) → (x || y) ≡ false → y ≡ false
 false-right true y e = cc
 false-right false y e = e
 
-not-begun : (w held : List ℕ) (b : ℕ) → has w b ≡ false → starts_with nat_eq w (held ++ b ∷ []) ≡ false
+not-begun : (w pending : List ℕ) (b : ℕ) → has w b ≡ false → starts_with nat_eq w (pending ++ b ∷ []) ≡ false
 not-begun [] [] b n = refl
-not-begun [] (x ∷ held) b n = refl
+not-begun [] (x ∷ pending) b n = refl
 not-begun (y ∷ w) [] b n = rw (false-left (nat_eq b y) (has w b) n) refl
-not-begun (y ∷ w) (x ∷ held) b n = rw (not-begun w held b (false-right (nat_eq b y) (has w b) n)) (no-and (nat_eq x y))
+not-begun (y ∷ w) (x ∷ pending) b n = rw (not-begun w pending b (false-right (nat_eq b y) (has w b) n)) (no-and (nat_eq x y))
 
 no : true ≡ false → ⊥
 no e = cc
@@ -55,22 +55,22 @@ doctype e = cc
 nothing : OpensNothing ≡ Undecided → ⊥
 nothing e = cc
 
-lower-append : (held : List ℕ) (b : ℕ) → str_to_ascii_lowercase (held ++ b ∷ []) ≡ str_to_ascii_lowercase held ++ str_to_ascii_lowercase (b ∷ [])
+lower-append : (pending : List ℕ) (b : ℕ) → str_to_ascii_lowercase (pending ++ b ∷ []) ≡ str_to_ascii_lowercase pending ++ str_to_ascii_lowercase (b ∷ [])
 lower-append [] b = refl
-lower-append (x ∷ held) b = rw (lower-append held b) refl
+lower-append (x ∷ pending) b = rw (lower-append pending b) refl
 
 is-false : (x y : Bool) → (x || y) ≡ true → x ≡ false → y ≡ false → ⊥
 is-false x y e f g = no (sym e ∙ rw (f, g) refl)
 
-neither : (held : List ℕ) (b : ℕ) → has (codes "--") b ≡ false → has (codes "doctype") (to_ascii_lowercase b) ≡ false → declared_by (held ++ b ∷ []) ≡ Undecided → ⊥
-neither held b n m e =
-    let bytes = held ++ b ∷ [] in
+neither : (pending : List ℕ) (b : ℕ) → has (codes "--") b ≡ false → has (codes "doctype") (to_ascii_lowercase b) ≡ false → declared_by (pending ++ b ∷ []) ≡ Undecided → ⊥
+neither pending b n m e =
+    let bytes = pending ++ b ∷ [] in
     let dashes = starts_with nat_eq (codes "--") bytes in
     let letters = starts_with nat_eq (codes "doctype") (str_to_ascii_lowercase bytes) in
     let one = skip (bytes_eq bytes (codes "--")) OpensComment Undecided (if bytes_eq (str_to_ascii_lowercase bytes) (codes "doctype") then OpensDoctype else (if dashes || letters then Undecided else OpensNothing)) (λ k. comment k) e in
     let two = skip (bytes_eq (str_to_ascii_lowercase bytes) (codes "doctype")) OpensDoctype Undecided (if dashes || letters then Undecided else OpensNothing) (λ k. doctype k) one in
-    is-false dashes letters (found (dashes || letters) Undecided OpensNothing (λ k. nothing k) two) (not-begun (codes "--") held b n)
-    (rw (lower-append held b) (not-begun (codes "doctype") (str_to_ascii_lowercase held) (to_ascii_lowercase b) m))
+    is-false dashes letters (found (dashes || letters) Undecided OpensNothing (λ k. nothing k) two) (not-begun (codes "--") pending b n)
+    (rw (lower-append pending b) (not-begun (codes "doctype") (str_to_ascii_lowercase pending) (to_ascii_lowercase b) m))
 
 -- the classes of `&` and of `<` are theirs alone
 next-if : {A : Type 0} (x : Bool) {a c y : A} → (a ≡ c → ⊥) → (if x then a else y) ≡ c → y ≡ c
@@ -113,16 +113,16 @@ less-only b e =
     (next-if (b == 38) (apart-less refl) (next-if (b == 35) (apart-less refl) (next-if (b == 34) (apart-less refl) (next-if (b == 33) (apart-less refl) (next-if (is_ascii_whitespace b) (apart-less refl) e))))))))))
 
 -- so a byte with which that goes on is one of text
-not-amp : (held : List ℕ) (b : ℕ) → (b == 38) ≡ true → declared_by (held ++ b ∷ []) ≡ Undecided → ⊥
-not-amp held b e u = neither held 38 refl refl (subst (λ (z : ℕ). declared_by (held ++ z ∷ []) ≡ Undecided) (eqb-true b 38 e) u)
+not-amp : (pending : List ℕ) (b : ℕ) → (b == 38) ≡ true → declared_by (pending ++ b ∷ []) ≡ Undecided → ⊥
+not-amp pending b e u = neither pending 38 refl refl (subst (λ (z : ℕ). declared_by (pending ++ z ∷ []) ≡ Undecided) (eqb-true b 38 e) u)
 
-not-less : (held : List ℕ) (b : ℕ) → (b == 60) ≡ true → declared_by (held ++ b ∷ []) ≡ Undecided → ⊥
-not-less held b e u = neither held 60 refl refl (subst (λ (z : ℕ). declared_by (held ++ z ∷ []) ≡ Undecided) (eqb-true b 60 e) u)
+not-less : (pending : List ℕ) (b : ℕ) → (b == 60) ≡ true → declared_by (pending ++ b ∷ []) ≡ Undecided → ⊥
+not-less pending b e u = neither pending 60 refl refl (subst (λ (z : ℕ). declared_by (pending ++ z ∷ []) ≡ Undecided) (eqb-true b 60 e) u)
 
-own-class : {B : Type 0} (x : Bodies B) (c : Class) (b : ℕ) (u : List Event) → class_of b ≡ c → (c ≡ Ampersand → ⊥) → (c ≡ LessThan → ⊥) → page x (b ∷ []) (config (Text Closed) u) ≡ config (Text Closed) (TextByte b ∷ u)
+own-class : {B : Type 0} (x : Bodies B) (c : Class) (b : ℕ) (u : List LexEvent) → class_of b ≡ c → (c ≡ Ampersand → ⊥) → (c ≡ LessThan → ⊥) → page x (b ∷ []) (config (Text Closed) u) ≡ config (Text Closed) (TextByte b ∷ u)
 own-class x Ampersand b u e m n = absurd (m refl)
 own-class x LessThan b u e m n = absurd (n refl)
 own-class x _ b u e m n = rw e refl
 
-pub undecided-own : {B : Type 0} (x : Bodies B) (held : List ℕ) (b : ℕ) (u : List Event) → declared_by (held ++ b ∷ []) ≡ Undecided → page x (b ∷ []) (config (Text Closed) u) ≡ config (Text Closed) (TextByte b ∷ u)
-undecided-own x held b u k = own-class x (class_of b) b u refl (λ e. not-amp held b (amp-only b e) k) (λ e. not-less held b (less-only b e) k)
+pub undecided-own : {B : Type 0} (x : Bodies B) (pending : List ℕ) (b : ℕ) (u : List LexEvent) → declared_by (pending ++ b ∷ []) ≡ Undecided → page x (b ∷ []) (config (Text Closed) u) ≡ config (Text Closed) (TextByte b ∷ u)
+undecided-own x pending b u k = own-class x (class_of b) b u refl (λ e. not-amp pending b (amp-only b e) k) (λ e. not-less pending b (less-only b e) k)

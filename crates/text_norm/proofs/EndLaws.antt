@@ -1,40 +1,40 @@
--- What is written where a text ends: a law for each front.
+-- What is written where a text ends: a law for each scan state.
 use Rattle.std.proofs.Common.{◌≡◌, true, false, codes, List, ℕ, [], ◌∷◌, ◌++◌, refl, sym, ap, ◌∙◌, subst}
 use Rattle.std.proofs.lemmas.List.{append_assoc}
-use Rattle.place_core.specs.References.{Reference, Closed, as_it_stands}
-use Rattle.place_core.specs.States.{HeldLess, HeldName, HeldBang, HeldBangDash, Nothing}
+use Rattle.place_core.specs.page.References.{Reference, Closed, as_it_stands}
+use Rattle.place_core.specs.page.States.{PendingLess, PendingName, PendingBang, PendingBangDash, Nothing}
 use Rattle.place_core.specs.declared.place.Place.TheVariants as place
-use Rattle.html_front.specs.Fronts.{Front, At, AfterLess, AfterLessSolidus, InDeclaration, InTagName, InAttributeName, InCommentEnd, InContentEnd}
-use Rattle.text_norm.specs.Fronted.{front_cut_out}
-use Rattle.text_norm.specs.Kept.{IsKept, bears, ending_of, front_of, hides, less_kept, reference_of}
-use Rattle.text_norm.specs.Written.{escaped}
-use Rattle.text_norm.specs.declared.ending.Ending.{Ending}
-use Rattle.text_norm.specs.declared.ending.Ending.TheVariants as ending
-use Rattle.text_norm.specs.declared.reading.Reading.{Reading}
+use Rattle.html_scan.specs.Scans.{Scan, At, AfterLess, AfterLessSolidus, InDeclaration, InTagName, InAttributeName, InCommentEnd, InContentEnd}
+use Rattle.text_norm.specs.Scanned.{scan_cut_out}
+use Rattle.text_norm.specs.Kept.{IsProgressKept, bears, ending_of, scan_of, hides, less_kept, reference_of}
+use Rattle.text_norm.specs.Written.{text_escaped}
+use Rattle.text_norm.specs.declared.pending.Ending.{Ending}
+use Rattle.text_norm.specs.declared.pending.Ending.TheVariants as ending
+use Rattle.text_norm.specs.declared.pending.WriteProgress.{WriteProgress}
 use Rattle.text_norm.proofs.ByteLaws.{IsRead}
 use Rattle.text_norm.proofs.Spelled.{is_read}
 
-pub record EndsLoose (f : Front) (r : Reference) : Type 0 where
-  pub out : front_cut_out f r ≡ escaped r
+pub record EndsLoose (f : Scan) (r : Reference) : Type 0 where
+  pub out : scan_cut_out f r ≡ text_escaped r
   pub less : less_kept f ≡ []
   pub shown : hides f ≡ false
 
-pub record EndsBehindLess (f : Front) (r : Reference) : Type 0 where
+pub record EndsBehindLess (f : Scan) (r : Reference) : Type 0 where
   pub more : List ℕ
   pub less : less_kept f ≡ 60 ∷ more
-  pub out : front_cut_out f r ≡ as_it_stands r ++ (codes "&lt;" ++ more)
+  pub out : scan_cut_out f r ≡ as_it_stands r ++ (codes "&lt;" ++ more)
   pub shown : hides f ≡ false
 
-pub record EndsInComment (f : Front) (r : Reference) : Type 0 where
-  pub out : front_cut_out f r ≡ []
+pub record EndsInComment (f : Scan) (r : Reference) : Type 0 where
+  pub out : scan_cut_out f r ≡ []
   pub hidden : hides f ≡ true
 
-abbrev pub EndLaw : Ending → Front → Reference → Type 0
+abbrev pub EndLaw : Ending → Scan → Reference → Type 0
 EndLaw ending.Loose f r = EndsLoose f r
 EndLaw ending.BehindLess f r = EndsBehindLess f r
 EndLaw ending.InComment f r = EndsInComment f r
 
-pub end_law : (f : Front) (r : Reference) → IsRead f → (bears f ≡ false → r ≡ Closed) → EndLaw (ending_of f) f r
+pub end_law : (f : Scan) (r : Reference) → IsRead f → (bears f ≡ false → r ≡ Closed) → EndLaw (ending_of f) f r
 end_law (At place.Text) r i h = record { out = refl; less = refl; shown = refl }
 end_law (At (place.Rcdata e)) r i h = record { out = refl; less = refl; shown = refl }
 end_law (At (place.Value v)) r i h = record { out = refl; less = refl; shown = refl }
@@ -51,13 +51,13 @@ end_law (InTagName ends name) r i h = record { out = rw (h refl) refl; less = re
 end_law (InAttributeName t typed name) r i h = record { out = rw (h refl) refl; less = refl; shown = refl }
 end_law (InCommentEnd s) r i h = record { out = refl; hidden = refl }
 end_law (InContentEnd e Nothing) r i h = absurd i
-end_law (InContentEnd e HeldLess) r i h = record { more = []; less = refl; out = rw (h refl) refl; shown = refl }
-end_law (InContentEnd e (HeldName letters)) r i h = record { more = codes "/" ++ letters; less = refl; out = rw (h refl) refl; shown = refl }
-end_law (InContentEnd e HeldBang) r i h = absurd i
-end_law (InContentEnd e HeldBangDash) r i h = absurd i
+end_law (InContentEnd e PendingLess) r i h = record { more = []; less = refl; out = rw (h refl) refl; shown = refl }
+end_law (InContentEnd e (PendingName letters)) r i h = record { more = codes "/" ++ letters; less = refl; out = rw (h refl) refl; shown = refl }
+end_law (InContentEnd e PendingBang) r i h = absurd i
+end_law (InContentEnd e PendingBangDash) r i h = absurd i
 
-pub end_here : (e : Ending) (text : List ℕ) (index : ℕ) (x : Reading) → IsKept text index x → e ≡ ending_of (front_of text index x) → EndLaw e (front_of text index x) (reference_of text x)
-end_here e text index x kept is = subst (λ (e : Ending). EndLaw e (front_of text index x) (reference_of text x)) (sym is) (end_law (front_of text index x) (reference_of text x) (is_read text index x.front) kept.closed)
+pub end_here : (e : Ending) (text : List ℕ) (index : ℕ) (x : WriteProgress) → IsProgressKept text index x → e ≡ ending_of (scan_of text index x) → EndLaw e (scan_of text index x) (reference_of text x)
+end_here e text index x kept is = subst (λ (e : Ending). EndLaw e (scan_of text index x) (reference_of text x)) (sym is) (end_law (scan_of text index x) (reference_of text x) (is_read text index x.scan) kept.closed)
 
 -- what is written there
 pub end_bytes : (old mid new free r run more out : List ℕ) → mid ≡ old ++ (run ++ codes "&lt;") → run ≡ free ++ r → new ≡ mid ++ more → out ≡ r ++ (codes "&lt;" ++ more) → new ≡ old ++ (free ++ out)

@@ -1,17 +1,17 @@
 -- The bytes of a hole lead the page's reading where the hole leads the path.
 use Rattle.std.proofs.Common.{◌≡◌, ℕ, Bool, true, false, not, ◌||◌, List, [], ◌∷◌, Option, Some, None, Ok, Err, inl, refl, sym, ap, ◌∙◌, subst}
-use Rattle.place_core.specs.Events.{Event, Mark, AttributeBegins}
-use Rattle.place_core.specs.Html.{read}
-use Rattle.place_core.specs.Paths.{at_hole, mark_in}
+use Rattle.place_core.specs.page.Events.{LexEvent, Mark, AttributeBegins}
+use Rattle.place_core.specs.page.Html.{read}
+use Rattle.place_core.specs.page.Paths.{at_hole, mark_in}
 use Rattle.std.specs.Str.{str_to_ascii_lowercase}
-use Rattle.place_core.specs.Plain.{IsPlain, IsPlainName}
-use Rattle.place_core.specs.Words.{is_plain, is_special, kind_of}
-use Rattle.html_front.proofs.Lowered.{kind_lowered}
-use Rattle.place_core.specs.References.{Closed, Open}
-use Rattle.place_core.specs.Shape.{HolePart, Reads, marked}
-use Rattle.place_core.specs.StatePlaces.{placed}
-use Rattle.place_core.specs.States.{Started, StartedDash, Inside, Dash, DashDash, Bang, Broken, Page, State, Text, TagOpen, EndTagOpen, DeclarationOpen, InComment, BogusComment, InDoctype, TagName, WholeTagName, BeforeAttributeName, AttributeName, WholeAttributeName, AfterAttributeName, BeforeAttributeValue, AttributeValue, AfterAttributeValue, SelfClosingStartTag, Characters, Bytes, Nothing, HeldLess, HeldName, HeldBang, HeldBangDash, InContent, Unread, Config, config}
-use Rattle.place_core.specs.Tags.{Tag, ValueOf, TypeSoFar, ValueState, languages, DoubleQuoted, SingleQuoted, Unquoted, element_on, without_value}
+use Rattle.place_core.specs.page.Plain.{IsPlain, IsPlainName}
+use Rattle.place_core.specs.page.Words.{is_plain_name, is_special, kind_of}
+use Rattle.html_scan.proofs.Lowered.{kind_lowered}
+use Rattle.place_core.specs.page.References.{Closed, Open}
+use Rattle.place_core.specs.page.Shape.{HolePart, PageReads, marked}
+use Rattle.place_core.specs.place.StatePlaces.{placed}
+use Rattle.place_core.specs.page.States.{Started, StartedDash, Inside, Dash, DashDash, Bang, Broken, Page, LexState, Text, TagOpen, EndTagOpen, DeclarationOpen, InComment, BogusComment, InDoctype, TagName, WholeTagName, BeforeAttributeName, AttributeName, WholeAttributeName, AfterAttributeName, BeforeAttributeValue, AttributeValue, AfterAttributeValue, SelfClosingStartTag, Characters, Bytes, Nothing, PendingLess, PendingName, PendingBang, PendingBangDash, InContent, Unread, Config, config}
+use Rattle.place_core.specs.page.Tags.{Tag, ValueOf, TypeSoFar, ValueState, languages, DoubleQuoted, SingleQuoted, Unquoted, element_on, without_value}
 use Rattle.place_core.specs.declared.element.Element.{Element}
 use Rattle.place_core.specs.declared.element.Element.TheVariants as element
 use Rattle.place_core.specs.declared.kind.Kind.{Kind}
@@ -23,16 +23,16 @@ use Rattle.place_core.specs.declared.san.San.TheVariants as san
 use Rattle.san_html.specs.ReadBack.{IsBackInQuoted, IsBackInUnquoted, IsBackInTag, BeginsName, in_value}
 use Rattle.html_step.specs.Holes.{Holed, after_hole, only}
 use Rattle.html_step.proofs.HoleOrder.{covers-hole}
-use Rattle.text_norm.specs.HoleLaws.{ArePlain, IsBackBy, KeepsHole, parts_of}
-use Rattle.text_norm.specs.Standing.{Stands, WholeAttribute}
+use Rattle.text_norm.specs.HoleLaws.{ArePlain, IsBackBy, KeepsHole, hole_parts}
+use Rattle.text_norm.specs.Standing.{TextStands, WholeAttribute}
 
--- What a hole in a state has to show: its bytes are plain, and lead to where the page stands for the state behind it.
-abbrev Kept : San → State ValueState → List ℕ → List Event → Config ValueState → Type 0
-Kept x s bytes t d = ArePlain x bytes d × ((e : Config ValueState) × Reads (parts_of x bytes) d e × Stands languages (at_hole languages s) (mark_in s t) e)
+-- What a hole in a state has to show: its bytes are plain, and lead to where the page stands for the state after it.
+abbrev Kept : San → LexState ValueState → List ℕ → List LexEvent → Config ValueState → Type 0
+Kept x s bytes t d = ArePlain x bytes d × ((e : Config ValueState) × PageReads (hole_parts x bytes) d e × TextStands languages (at_hole languages s) (mark_in s t) e)
 
 -- one that has a part
-kept : (s : State ValueState) (bytes : List ℕ) (t : List Event) (d : Config ValueState) → IsPlain bytes d → Stands languages (at_hole languages s) (mark_in s t) (marked bytes d)
-    → IsPlain bytes d × ((e : Config ValueState) × Reads (HolePart bytes ∷ []) d e × Stands languages (at_hole languages s) (mark_in s t) e)
+kept : (s : LexState ValueState) (bytes : List ℕ) (t : List LexEvent) (d : Config ValueState) → IsPlain bytes d → TextStands languages (at_hole languages s) (mark_in s t) (marked bytes d)
+    → IsPlain bytes d × ((e : Config ValueState) × PageReads (HolePart bytes ∷ []) d e × TextStands languages (at_hole languages s) (mark_in s t) e)
 kept s bytes t d p h = (p, (marked bytes d, inl (p, refl), h))
 
 -- which sanitizer a hole has
@@ -69,7 +69,7 @@ yes : true ≡ false → ⊥
 yes e = cc
 
 -- a name that data may make is of kind Plain on each element
-plain-kind : (k : Kind) → is_plain k ≡ true → k ≡ kind.Plain
+plain-kind : (k : Kind) → is_plain_name k ≡ true → k ≡ kind.Plain
 plain-kind kind.Plain e = refl
 plain-kind kind.Url e = absurd (no e)
 plain-kind kind.Script e = absurd (no e)
@@ -83,75 +83,75 @@ both-plain true false c e = absurd (yes e)
 both-plain false b c e = absurd (yes e)
 
 harmless-kind : (e : Element) (name : List ℕ) → is_special name ≡ false → kind_of e name ≡ kind.Plain
-harmless-kind element.Other name h = plain-kind (kind_of element.Other name) (both-plain (is_plain (kind_of element.Other name)) (is_plain (kind_of element.Script name)) _ h).0
-harmless-kind element.Title name h = plain-kind (kind_of element.Other name) (both-plain (is_plain (kind_of element.Other name)) (is_plain (kind_of element.Script name)) _ h).0
-harmless-kind element.Textarea name h = plain-kind (kind_of element.Other name) (both-plain (is_plain (kind_of element.Other name)) (is_plain (kind_of element.Script name)) _ h).0
-harmless-kind element.Style name h = plain-kind (kind_of element.Other name) (both-plain (is_plain (kind_of element.Other name)) (is_plain (kind_of element.Script name)) _ h).0
-harmless-kind element.Script name h = plain-kind (kind_of element.Script name) (both-plain (is_plain (kind_of element.Other name)) (is_plain (kind_of element.Script name)) _ h).1
-harmless-kind element.DataBlock name h = plain-kind (kind_of element.Script name) (both-plain (is_plain (kind_of element.Other name)) (is_plain (kind_of element.Script name)) _ h).1
+harmless-kind element.Other name h = plain-kind (kind_of element.Other name) (both-plain (is_plain_name (kind_of element.Other name)) (is_plain_name (kind_of element.Script name)) _ h).0
+harmless-kind element.Title name h = plain-kind (kind_of element.Other name) (both-plain (is_plain_name (kind_of element.Other name)) (is_plain_name (kind_of element.Script name)) _ h).0
+harmless-kind element.Textarea name h = plain-kind (kind_of element.Other name) (both-plain (is_plain_name (kind_of element.Other name)) (is_plain_name (kind_of element.Script name)) _ h).0
+harmless-kind element.Style name h = plain-kind (kind_of element.Other name) (both-plain (is_plain_name (kind_of element.Other name)) (is_plain_name (kind_of element.Script name)) _ h).0
+harmless-kind element.Script name h = plain-kind (kind_of element.Script name) (both-plain (is_plain_name (kind_of element.Other name)) (is_plain_name (kind_of element.Script name)) _ h).1
+harmless-kind element.DataBlock name h = plain-kind (kind_of element.Script name) (both-plain (is_plain_name (kind_of element.Other name)) (is_plain_name (kind_of element.Script name)) _ h).1
 
 -- a hole that is a name
-named : (tag : Tag) (bytes : List ℕ) (t : List Event) (d : Config ValueState) → IsPlainName tag bytes (config d.at d.told) → WholeAttribute ValueState tag kind.Plain t (config d.at t)
+named : (tag : Tag) (bytes : List ℕ) (t : List LexEvent) (d : Config ValueState) → IsPlainName tag bytes (config d.at d.emitted) → WholeAttribute ValueState tag kind.Plain t (config d.at t)
 named tag bytes t d p = record {
   name = str_to_ascii_lowercase bytes;
   named = sym (kind_lowered (element_on tag) bytes) ∙ harmless-kind (element_on tag) bytes p.harmless;
-  at = ap (λ (z : State ValueState). config z t) p.within;
+  at = ap (λ (z : LexState ValueState). config z t) p.within;
 }
 
-name-keeps : (s : State ValueState) (tag : Tag) (x : San) (text bytes : List ℕ) (t : List Event) (d : Config ValueState) → san.AttrName ≡ x → BeginsName s tag
-    → (IsPlain bytes (config s t) → Stands languages (at_hole languages s) (mark_in s t) (marked bytes (config s t))) → d ≡ config s t → IsBackBy x text bytes → Kept x s bytes t d
+name-keeps : (s : LexState ValueState) (tag : Tag) (x : San) (text bytes : List ℕ) (t : List LexEvent) (d : Config ValueState) → san.AttrName ≡ x → BeginsName s tag
+    → (IsPlain bytes (config s t) → TextStands languages (at_hole languages s) (mark_in s t) (marked bytes (config s t))) → d ≡ config s t → IsBackBy x text bytes → Kept x s bytes t d
 name-keeps s tag x text bytes t d e begins leads h = subst (λ (z : San). IsBackBy z text bytes → Kept z s bytes t d) e
     (λ (k : IsBackInTag text bytes). subst (λ (z : Config ValueState). Kept san.AttrName s bytes t z) (sym h) (kept s bytes t (config s t) (k.plain s tag t begins) (leads (k.plain s tag t begins))))
 
-content-keeps : (e : Element) (x : San) (text bytes : List ℕ) (t : List Event) (d : Config ValueState) → san.Html ≡ x → IsBackBy x text bytes → d ≡ config (InContent e (Characters Closed) Nothing) t
+content-keeps : (e : Element) (x : San) (text bytes : List ℕ) (t : List LexEvent) (d : Config ValueState) → san.Html ≡ x → IsBackBy x text bytes → d ≡ config (InContent e (Characters Closed) Nothing) t
     → Kept x (InContent e (Characters Closed) Nothing) bytes t d
 content-keeps e x text bytes t d h k l =
     subst (λ (z : San). IsBackBy z text bytes → Kept z (InContent e (Characters Closed) Nothing) bytes t d) h
     (λ k. subst (λ (z : Config ValueState). Kept san.Html (InContent e (Characters Closed) Nothing) bytes t z) (sym l)
-    (kept (InContent e (Characters Closed) Nothing) bytes t (config (InContent e (Characters Closed) Nothing) t) (k.1.plain e t) (ap (λ (z : State ValueState). config z (Mark ∷ t)) ((k.1.plain e t).1).0))) k
+    (kept (InContent e (Characters Closed) Nothing) bytes t (config (InContent e (Characters Closed) Nothing) t) (k.1.plain e t) (ap (λ (z : LexState ValueState). config z (Mark ∷ t)) ((k.1.plain e t).1).0))) k
 
 -- where the bytes lead that are plain in an unquoted value, and before one
-unquoted : (tag : Tag) (bytes : List ℕ) (t : List Event) → IsPlain bytes (config (in_value Unquoted tag (ValueOf kind.Plain)) t)
+unquoted : (tag : Tag) (bytes : List ℕ) (t : List LexEvent) → IsPlain bytes (config (in_value Unquoted tag (ValueOf kind.Plain)) t)
     → marked bytes (config (in_value Unquoted tag (ValueOf kind.Plain)) t) ≡ config (in_value Unquoted tag (ValueOf kind.Plain)) (Mark ∷ t)
-unquoted tag bytes t p = ap (λ (z : State ValueState). config z (Mark ∷ t)) p.1.within
+unquoted tag bytes t p = ap (λ (z : LexState ValueState). config z (Mark ∷ t)) p.1.within
 
-unbegun : (tag : Tag) (bytes : List ℕ) (t : List Event) → IsPlain bytes (config (BeforeAttributeValue tag kind.Plain) t)
+unbegun : (tag : Tag) (bytes : List ℕ) (t : List LexEvent) → IsPlain bytes (config (BeforeAttributeValue tag kind.Plain) t)
     → marked bytes (config (BeforeAttributeValue tag kind.Plain) t) ≡ config (in_value Unquoted tag (ValueOf kind.Plain)) (Mark ∷ t)
-unbegun tag bytes t p = ap (λ (z : State ValueState). config z (Mark ∷ t)) p.1.1.within
+unbegun tag bytes t p = ap (λ (z : LexState ValueState). config z (Mark ∷ t)) p.1.1.within
 
-unbegun-keeps : (tag : Tag) (x : San) (text bytes : List ℕ) (t : List Event) (d : Config ValueState) → san.AttrNospace ≡ x → IsBackBy x text bytes → d ≡ config (BeforeAttributeValue tag kind.Plain) t → Kept x (BeforeAttributeValue tag kind.Plain) bytes t d
+unbegun-keeps : (tag : Tag) (x : San) (text bytes : List ℕ) (t : List LexEvent) (d : Config ValueState) → san.AttrNospace ≡ x → IsBackBy x text bytes → d ≡ config (BeforeAttributeValue tag kind.Plain) t → Kept x (BeforeAttributeValue tag kind.Plain) bytes t d
 unbegun-keeps tag x text bytes t d e k l =
     subst (λ (z : San). IsBackBy z text bytes → Kept z (BeforeAttributeValue tag kind.Plain) bytes t d) e
     (λ (k : IsBackInUnquoted text bytes). subst (λ (z : Config ValueState). Kept san.AttrNospace (BeforeAttributeValue tag kind.Plain) bytes t z) (sym l)
     (kept (BeforeAttributeValue tag kind.Plain) bytes t (config (BeforeAttributeValue tag kind.Plain) t) (k.plain_unbegun tag t) (unbegun tag bytes t (k.plain_unbegun tag t)))) k
 
-unquoted-keeps : (tag : Tag) (x : San) (text bytes : List ℕ) (t : List Event) (d : Config ValueState) → san.AttrNospace ≡ x → IsBackBy x text bytes → d ≡ config (in_value Unquoted tag (ValueOf kind.Plain)) t → Kept x (in_value Unquoted tag (ValueOf kind.Plain)) bytes t d
+unquoted-keeps : (tag : Tag) (x : San) (text bytes : List ℕ) (t : List LexEvent) (d : Config ValueState) → san.AttrNospace ≡ x → IsBackBy x text bytes → d ≡ config (in_value Unquoted tag (ValueOf kind.Plain)) t → Kept x (in_value Unquoted tag (ValueOf kind.Plain)) bytes t d
 unquoted-keeps tag x text bytes t d e k l =
     subst (λ (z : San). IsBackBy z text bytes → Kept z (in_value Unquoted tag (ValueOf kind.Plain)) bytes t d) e
     (λ (k : IsBackInUnquoted text bytes). subst (λ (z : Config ValueState). Kept san.AttrNospace (in_value Unquoted tag (ValueOf kind.Plain)) bytes t z) (sym l)
     (kept (in_value Unquoted tag (ValueOf kind.Plain)) bytes t (config (in_value Unquoted tag (ValueOf kind.Plain)) t) (k.plain tag t) (unquoted tag bytes t (k.plain tag t)))) k
 
-double-keeps : (tag : Tag) (x : San) (text bytes : List ℕ) (t : List Event) (d : Config ValueState) → san.Attr ≡ x → IsBackBy x text bytes → d ≡ config (in_value DoubleQuoted tag (ValueOf kind.Plain)) t → Kept x (in_value DoubleQuoted tag (ValueOf kind.Plain)) bytes t d
+double-keeps : (tag : Tag) (x : San) (text bytes : List ℕ) (t : List LexEvent) (d : Config ValueState) → san.Attr ≡ x → IsBackBy x text bytes → d ≡ config (in_value DoubleQuoted tag (ValueOf kind.Plain)) t → Kept x (in_value DoubleQuoted tag (ValueOf kind.Plain)) bytes t d
 double-keeps tag x text bytes t d e k l =
     subst (λ (z : San). IsBackBy z text bytes → Kept z (in_value DoubleQuoted tag (ValueOf kind.Plain)) bytes t d) e
     (λ (k : IsBackInQuoted text bytes). subst (λ (z : Config ValueState). Kept san.Attr (in_value DoubleQuoted tag (ValueOf kind.Plain)) bytes t z) (sym l)
-    (kept (in_value DoubleQuoted tag (ValueOf kind.Plain)) bytes t (config (in_value DoubleQuoted tag (ValueOf kind.Plain)) t) (k.plain DoubleQuoted tag t refl) (ap (λ (z : State ValueState). config z (Mark ∷ t)) ((k.plain DoubleQuoted tag t refl).1).0))) k
+    (kept (in_value DoubleQuoted tag (ValueOf kind.Plain)) bytes t (config (in_value DoubleQuoted tag (ValueOf kind.Plain)) t) (k.plain DoubleQuoted tag t refl) (ap (λ (z : LexState ValueState). config z (Mark ∷ t)) ((k.plain DoubleQuoted tag t refl).1).0))) k
 
-single-keeps : (tag : Tag) (x : San) (text bytes : List ℕ) (t : List Event) (d : Config ValueState) → san.Attr ≡ x → IsBackBy x text bytes → d ≡ config (in_value SingleQuoted tag (ValueOf kind.Plain)) t → Kept x (in_value SingleQuoted tag (ValueOf kind.Plain)) bytes t d
+single-keeps : (tag : Tag) (x : San) (text bytes : List ℕ) (t : List LexEvent) (d : Config ValueState) → san.Attr ≡ x → IsBackBy x text bytes → d ≡ config (in_value SingleQuoted tag (ValueOf kind.Plain)) t → Kept x (in_value SingleQuoted tag (ValueOf kind.Plain)) bytes t d
 single-keeps tag x text bytes t d e k l =
     subst (λ (z : San). IsBackBy z text bytes → Kept z (in_value SingleQuoted tag (ValueOf kind.Plain)) bytes t d) e
     (λ (k : IsBackInQuoted text bytes). subst (λ (z : Config ValueState). Kept san.Attr (in_value SingleQuoted tag (ValueOf kind.Plain)) bytes t z) (sym l)
-    (kept (in_value SingleQuoted tag (ValueOf kind.Plain)) bytes t (config (in_value SingleQuoted tag (ValueOf kind.Plain)) t) (k.plain SingleQuoted tag t refl) (ap (λ (z : State ValueState). config z (Mark ∷ t)) ((k.plain SingleQuoted tag t refl).1).0))) k
+    (kept (in_value SingleQuoted tag (ValueOf kind.Plain)) bytes t (config (in_value SingleQuoted tag (ValueOf kind.Plain)) t) (k.plain SingleQuoted tag t refl) (ap (λ (z : LexState ValueState). config z (Mark ∷ t)) ((k.plain SingleQuoted tag t refl).1).0))) k
 
-hole-keeps : (s : State ValueState) (x : San) (text bytes : List ℕ) (t : List Event) (d : Config ValueState) → HoleOf (placed s) x → IsBackBy x text bytes → Stands languages s t d → Kept x s bytes t d
+hole-keeps : (s : LexState ValueState) (x : San) (text bytes : List ℕ) (t : List LexEvent) (d : Config ValueState) → HoleOf (placed s) x → IsBackBy x text bytes → TextStands languages s t d → Kept x s bytes t d
 hole-keeps (Text Closed) x text bytes t d h k l =
     subst (λ (z : San). IsBackBy z text bytes → Kept z (Text Closed) bytes t d) (its place.Text x h)
     (λ k. subst (λ (z : Config ValueState). Kept san.Html (Text Closed) bytes t z) (sym l)
-    (kept (Text Closed) bytes t (config (Text Closed) t) (k.0.plain t) (ap (λ (z : State ValueState). config z (Mark ∷ t)) ((k.0.plain t).1).0))) k
+    (kept (Text Closed) bytes t (config (Text Closed) t) (k.0.plain t) (ap (λ (z : LexState ValueState). config z (Mark ∷ t)) ((k.0.plain t).1).0))) k
 hole-keeps (Text (Open f b)) x text bytes t d h k l = absurd h
 hole-keeps (TagOpen r) x text bytes t d h k l = absurd h
 hole-keeps (EndTagOpen r) x text bytes t d h k l = absurd h
-hole-keeps (DeclarationOpen r held) x text bytes t d h k l = absurd h
+hole-keeps (DeclarationOpen r pending) x text bytes t d h k l = absurd h
 hole-keeps (InComment Inside) x text bytes t d h k l = subst (λ (z : San). IsBackBy z text bytes → Kept z (InComment Inside) bytes t d) (its (place.Comment false) x h) (λ k. (k, (d, refl, l))) k
 hole-keeps (InComment Broken) x text bytes t d h k l = subst (λ (z : San). IsBackBy z text bytes → Kept z (InComment Broken) bytes t d) (its (place.Comment true) x h) (λ k. (k, (d, refl, l))) k
 hole-keeps (InComment Started) x text bytes t d h k l = absurd h
@@ -196,15 +196,15 @@ hole-keeps (InContent element.Style (Characters Closed) Nothing) x text bytes t 
 hole-keeps (InContent element.Script (Characters Closed) Nothing) x text bytes t d h k l = absurd h
 hole-keeps (InContent element.DataBlock (Characters Closed) Nothing) x text bytes t d h k l = absurd h
 hole-keeps (InContent e (Characters (Open f b)) Nothing) x text bytes t d h k l = absurd h
-hole-keeps (InContent e (Characters r) HeldLess) x text bytes t d h k l = absurd h
-hole-keeps (InContent e (Characters r) (HeldName letters)) x text bytes t d h k l = absurd h
-hole-keeps (InContent e (Characters r) HeldBang) x text bytes t d h k l = absurd h
-hole-keeps (InContent e (Characters r) HeldBangDash) x text bytes t d h k l = absurd h
+hole-keeps (InContent e (Characters r) PendingLess) x text bytes t d h k l = absurd h
+hole-keeps (InContent e (Characters r) (PendingName letters)) x text bytes t d h k l = absurd h
+hole-keeps (InContent e (Characters r) PendingBang) x text bytes t d h k l = absurd h
+hole-keeps (InContent e (Characters r) PendingBangDash) x text bytes t d h k l = absurd h
 hole-keeps (InContent e Bytes Nothing) x text bytes t d h k l = absurd h
-hole-keeps (InContent e Bytes HeldLess) x text bytes t d h k l = absurd h
-hole-keeps (InContent e Bytes (HeldName letters)) x text bytes t d h k l = absurd h
-hole-keeps (InContent e Bytes HeldBang) x text bytes t d h k l = absurd h
-hole-keeps (InContent e Bytes HeldBangDash) x text bytes t d h k l = absurd h
+hole-keeps (InContent e Bytes PendingLess) x text bytes t d h k l = absurd h
+hole-keeps (InContent e Bytes (PendingName letters)) x text bytes t d h k l = absurd h
+hole-keeps (InContent e Bytes PendingBang) x text bytes t d h k l = absurd h
+hole-keeps (InContent e Bytes PendingBangDash) x text bytes t d h k l = absurd h
 hole-keeps Unread x text bytes t d h k l = absurd h
 
 pub keeps-hole : KeepsHole

@@ -1,22 +1,22 @@
 mod ByteLaws
 mod ChangedSteps
+pub mod ContentKeeps
+pub mod Declared
+pub mod Emits
 mod EndLaws
+pub mod HoleKeeps
+pub mod Keeps
 mod Kept
 mod Loops
+pub mod PiecesKeep
+pub mod Places
 mod Rests
+pub mod Runs
+pub mod Same
 mod Slices
 mod Spelled
 mod Steps
-pub mod ContentKeeps
-pub mod Declared
-pub mod HoleKeeps
-pub mod Keeps
-pub mod PiecesKeep
-pub mod Places
-pub mod Runs
-pub mod Same
 pub mod TagsKeep
-pub mod Tells
 pub mod TextKeeps
 pub mod ValuesKeep
 pub mod WorkedTexts

@@ -1,38 +1,38 @@
--- What is written by a state and by its front is the same, and so it is by a front and one above it.
+-- What is written by a state and by its scan state is the same, and so it is by a scan state and one above it.
 use Rattle.std.proofs.Common.{◌≡◌, ℕ, ◌+◌, Bool, true, false, List, [], ◌∷◌, ◌++◌, Option, Some, None, Ok, refl, sym, ap, ap₂, ◌∙◌, subst}
-use Rattle.place_core.specs.Classes.{Class, White, ExclamationMark, QuotationMark, Apostrophe, Solidus, LessThan, EqualsSign, GreaterThan, QuestionMark, Letter, class_of}
-use Rattle.place_core.specs.Comments.{Declaration, OpensComment, OpensDoctype, Undecided, OpensNothing, closes_comment, comment_ended, declared_by, next_in_comment, next_in_doctype}
-use Rattle.place_core.specs.Contents.{may_be_name_of, is_name_of, next_end_name, next_less, next_loose}
-use Rattle.place_core.specs.Html.{after_tag, ends_value, next, next_after_name, next_after_value, next_before_name, next_before_value, next_declaration, next_end_tag_open, next_name, next_tag_name, next_tag_open, next_text, next_value, next_whole_name}
-use Rattle.place_core.specs.Places.{Below}
-use Rattle.place_core.specs.References.{Reference, Closed, Open, as_it_stands, begin_reference, next_reference, settled}
-use Rattle.place_core.specs.States.{CommentState, Started, StartedDash, Inside, Dash, DashDash, Bang, Broken, Template, State, Text, TagOpen, EndTagOpen, DeclarationOpen, InComment, BogusComment, InDoctype, TagName, WholeTagName, BeforeAttributeName, AttributeName, WholeAttributeName, AfterAttributeName, BeforeAttributeValue, AttributeValue, AfterAttributeValue, SelfClosingStartTag, Characters, Bytes, Held, Nothing, HeldLess, HeldName, HeldBang, HeldBangDash, InContent, Unread}
-use Rattle.place_core.specs.Tags.{Tag, EndTag, StartTag, ValueState, languages, Quoting, DoubleQuoted, SingleQuoted, Unquoted, Value, ValueOf, TypeSoFar, element_on, tag_named, with_bytes, with_value, without_value}
+use Rattle.place_core.specs.page.Classes.{Class, White, ExclamationMark, QuotationMark, Apostrophe, Solidus, LessThan, EqualsSign, GreaterThan, QuestionMark, Letter, class_of}
+use Rattle.place_core.specs.page.Comments.{Declaration, OpensComment, OpensDoctype, Undecided, OpensNothing, closes_comment, comment_ended, declared_by, next_in_comment, next_in_doctype}
+use Rattle.place_core.specs.page.Contents.{may_be_name_of, is_name_of, next_end_name, next_less, next_loose}
+use Rattle.place_core.specs.page.Html.{after_tag, ends_value, next, next_after_name, next_after_value, next_before_name, next_before_value, next_declaration, next_end_tag_open, next_name, next_tag_name, next_tag_open, next_text, next_value, next_whole_name}
+use Rattle.place_core.specs.place.Places.{Below}
+use Rattle.place_core.specs.page.References.{Reference, Closed, Open, as_it_stands, begin_reference, next_reference, settled}
+use Rattle.place_core.specs.page.States.{CommentState, Started, StartedDash, Inside, Dash, DashDash, Bang, Broken, Template, LexState, Text, TagOpen, EndTagOpen, DeclarationOpen, InComment, BogusComment, InDoctype, TagName, WholeTagName, BeforeAttributeName, AttributeName, WholeAttributeName, AfterAttributeName, BeforeAttributeValue, AttributeValue, AfterAttributeValue, SelfClosingStartTag, Characters, Bytes, Pending, Nothing, PendingLess, PendingName, PendingBang, PendingBangDash, InContent, Unread}
+use Rattle.place_core.specs.page.Tags.{Tag, EndTag, StartTag, ValueState, languages, Quoting, DoubleQuoted, SingleQuoted, Unquoted, Value, ValueOf, TypeSoFar, element_on, tag_named, with_bytes, tag_with_value, without_value}
 use Rattle.place_core.specs.declared.element.Element.{Element}
 use Rattle.place_core.specs.declared.element.Element.TheVariants as element
-use Rattle.place_core.specs.Words.{kind_of}
+use Rattle.place_core.specs.page.Words.{kind_of}
 use Rattle.place_core.specs.declared.kind.Kind.{Kind}
 use Rattle.place_core.specs.declared.kind.Kind.TheVariants as kind
 use Rattle.place_core.specs.declared.place.Place.{Place}
 use Rattle.place_core.specs.declared.place.Place.TheVariants as place
 use Rattle.place_core.specs.declared.value_place.ValuePlace.{ValuePlace}
 use Rattle.place_core.proofs.Semilattices.{none_some, one_value}
-use Rattle.html_front.specs.Fronts.{Front, At, AfterLess, AfterLessSolidus, InDeclaration, InTagName, InAttributeName, InCommentEnd, InContentEnd, front_error, front_next}
-use Rattle.html_step.proofs.FrontOrder.{FrontBelow, FrontValid, front-grows}
-use Rattle.html_step.proofs.OnePath.{WhereFronted, content_fronted, fronted}
+use Rattle.html_scan.specs.Scans.{Scan, At, AfterLess, AfterLessSolidus, InDeclaration, InTagName, InAttributeName, InCommentEnd, InContentEnd, scan_error, scan_next}
+use Rattle.html_step.proofs.ScanOrder.{ScanBelow, ScanValid, scan-grows}
+use Rattle.html_step.proofs.OnePath.{WhereScanned, content_scanned, scanned}
 use Rattle.html_step.proofs.OneTexts.{agrees-at, at-place}
-use Rattle.html_step.proofs.ValidSteps.{front-valid}
+use Rattle.html_step.proofs.ValidSteps.{scan-valid}
 use Rattle.html_step.proofs.WholeTexts.{grows-text, not-refused, text-steps}
 use Rattle.html_step.specs.Steps.{stepped}
 use Rattle.text_norm.specs.Laws.{WrittenOnPaths}
-use Rattle.place_core.specs.StatePlaces.{placed}
-use Rattle.text_norm.specs.Fronted.{declaration_open, less_open, front_cut_out, front_open, front_out, written_from}
+use Rattle.place_core.specs.place.StatePlaces.{placed}
+use Rattle.text_norm.specs.Scanned.{declaration_open, less_open, scan_cut_out, scan_open, scan_out, written_from}
 use Rattle.text_norm.specs.Written.{cut_out, out, reference_out, value_out, written}
 
--- A front and one above it.
-record Same (f g : Front) (c : Class) (b : ℕ) (r : Reference) : Type 0 where
-  outs : front_out f c b r ≡ front_out g c b r
-  opens : front_open f c b r ≡ front_open g c b r
+-- A scan state and one above it.
+record Same (f g : Scan) (c : Class) (b : ℕ) (r : Reference) : Type 0 where
+  outs : scan_out f c b r ≡ scan_out g c b r
+  opens : scan_open f c b r ≡ scan_open g c b r
 
 place-same : (a p : Place) (c : Class) (b : ℕ) (r : Reference) → Below a p → Same (At a) (At p) c b r
 place-same place.Text place.Text c b r h = record { outs = refl; opens = refl }
@@ -54,38 +54,38 @@ place-same (place.Script x) p c b r h = absurd (none_some p h)
 place-same (place.Style x) p c b r h = absurd (none_some p h)
 place-same (place.Block x) p c b r h = absurd (none_some p h)
 
-rigid : (f g : Front) (c : Class) (b : ℕ) (r : Reference) → f ≡ g → Same f g c b r
-rigid f g c b r e = record { outs = ap (λ (z : Front). front_out z c b r) e; opens = ap (λ (z : Front). front_open z c b r) e }
+rigid : (f g : Scan) (c : Class) (b : ℕ) (r : Reference) → f ≡ g → Same f g c b r
+rigid f g c b r e = record { outs = ap (λ (z : Scan). scan_out z c b r) e; opens = ap (λ (z : Scan). scan_open z c b r) e }
 
-front-same : (f g : Front) (c : Class) (b : ℕ) (r : Reference) → FrontBelow f g → Same f g c b r
-front-same (At a) (At p) c b r h = place-same a p c b r h
-front-same (At a) AfterLess c b r h = absurd h
-front-same (At a) AfterLessSolidus c b r h = absurd h
-front-same (At a) (InDeclaration held) c b r h = absurd h
-front-same (At a) (InTagName ends name) c b r h = absurd h
-front-same (At a) (InAttributeName t x n) c b r h = absurd h
-front-same (At a) (InCommentEnd s) c b r h = absurd h
-front-same (At a) (InContentEnd e k) c b r h = absurd h
-front-same (InAttributeName t x n) (InAttributeName u y m) c b r h = record { outs = refl; opens = refl }
-front-same (InAttributeName t x n) (At p) c b r h = absurd h
-front-same (InAttributeName t x n) AfterLess c b r h = absurd h
-front-same (InAttributeName t x n) AfterLessSolidus c b r h = absurd h
-front-same (InAttributeName t x n) (InDeclaration held) c b r h = absurd h
-front-same (InAttributeName t x n) (InTagName ends name) c b r h = absurd h
-front-same (InAttributeName t x n) (InCommentEnd s) c b r h = absurd h
-front-same (InAttributeName t x n) (InContentEnd e k) c b r h = absurd h
-front-same AfterLess g c b r h = rigid AfterLess g c b r h
-front-same AfterLessSolidus g c b r h = rigid AfterLessSolidus g c b r h
-front-same (InDeclaration held) g c b r h = rigid (InDeclaration held) g c b r h
-front-same (InTagName ends name) g c b r h = rigid (InTagName ends name) g c b r h
-front-same (InCommentEnd s) g c b r h = rigid (InCommentEnd s) g c b r h
-front-same (InContentEnd e k) g c b r h = rigid (InContentEnd e k) g c b r h
+scan-same : (f g : Scan) (c : Class) (b : ℕ) (r : Reference) → ScanBelow f g → Same f g c b r
+scan-same (At a) (At p) c b r h = place-same a p c b r h
+scan-same (At a) AfterLess c b r h = absurd h
+scan-same (At a) AfterLessSolidus c b r h = absurd h
+scan-same (At a) (InDeclaration pending) c b r h = absurd h
+scan-same (At a) (InTagName ends name) c b r h = absurd h
+scan-same (At a) (InAttributeName t x n) c b r h = absurd h
+scan-same (At a) (InCommentEnd s) c b r h = absurd h
+scan-same (At a) (InContentEnd e k) c b r h = absurd h
+scan-same (InAttributeName t x n) (InAttributeName u y m) c b r h = record { outs = refl; opens = refl }
+scan-same (InAttributeName t x n) (At p) c b r h = absurd h
+scan-same (InAttributeName t x n) AfterLess c b r h = absurd h
+scan-same (InAttributeName t x n) AfterLessSolidus c b r h = absurd h
+scan-same (InAttributeName t x n) (InDeclaration pending) c b r h = absurd h
+scan-same (InAttributeName t x n) (InTagName ends name) c b r h = absurd h
+scan-same (InAttributeName t x n) (InCommentEnd s) c b r h = absurd h
+scan-same (InAttributeName t x n) (InContentEnd e k) c b r h = absurd h
+scan-same AfterLess g c b r h = rigid AfterLess g c b r h
+scan-same AfterLessSolidus g c b r h = rigid AfterLessSolidus g c b r h
+scan-same (InDeclaration pending) g c b r h = rigid (InDeclaration pending) g c b r h
+scan-same (InTagName ends name) g c b r h = rigid (InTagName ends name) g c b r h
+scan-same (InCommentEnd s) g c b r h = rigid (InCommentEnd s) g c b r h
+scan-same (InContentEnd e k) g c b r h = rigid (InContentEnd e k) g c b r h
 
-cut-same : (f g : Front) (r : Reference) → FrontBelow f g → front_cut_out f r ≡ front_cut_out g r
+cut-same : (f g : Scan) (r : Reference) → ScanBelow f g → scan_cut_out f r ≡ scan_cut_out g r
 cut-same (At a) (At p) r h = refl
 cut-same (At a) AfterLess r h = absurd h
 cut-same (At a) AfterLessSolidus r h = absurd h
-cut-same (At a) (InDeclaration held) r h = absurd h
+cut-same (At a) (InDeclaration pending) r h = absurd h
 cut-same (At a) (InTagName ends name) r h = absurd h
 cut-same (At a) (InAttributeName t x n) r h = absurd h
 cut-same (At a) (InCommentEnd s) r h = absurd h
@@ -94,23 +94,23 @@ cut-same (InAttributeName t x n) (InAttributeName u y m) r h = refl
 cut-same (InAttributeName t x n) (At p) r h = absurd h
 cut-same (InAttributeName t x n) AfterLess r h = absurd h
 cut-same (InAttributeName t x n) AfterLessSolidus r h = absurd h
-cut-same (InAttributeName t x n) (InDeclaration held) r h = absurd h
+cut-same (InAttributeName t x n) (InDeclaration pending) r h = absurd h
 cut-same (InAttributeName t x n) (InTagName ends name) r h = absurd h
 cut-same (InAttributeName t x n) (InCommentEnd s) r h = absurd h
 cut-same (InAttributeName t x n) (InContentEnd e k) r h = absurd h
-cut-same AfterLess g r h = ap (λ (z : Front). front_cut_out z r) h
-cut-same AfterLessSolidus g r h = ap (λ (z : Front). front_cut_out z r) h
-cut-same (InDeclaration held) g r h = ap (λ (z : Front). front_cut_out z r) h
-cut-same (InTagName ends name) g r h = ap (λ (z : Front). front_cut_out z r) h
-cut-same (InCommentEnd s) g r h = ap (λ (z : Front). front_cut_out z r) h
-cut-same (InContentEnd e k) g r h = ap (λ (z : Front). front_cut_out z r) h
+cut-same AfterLess g r h = ap (λ (z : Scan). scan_cut_out z r) h
+cut-same AfterLessSolidus g r h = ap (λ (z : Scan). scan_cut_out z r) h
+cut-same (InDeclaration pending) g r h = ap (λ (z : Scan). scan_cut_out z r) h
+cut-same (InTagName ends name) g r h = ap (λ (z : Scan). scan_cut_out z r) h
+cut-same (InCommentEnd s) g r h = ap (λ (z : Scan). scan_cut_out z r) h
+cut-same (InContentEnd e k) g r h = ap (λ (z : Scan). scan_cut_out z r) h
 
--- The reference that is open in a state; none is told of what no path comes to: behind a `<` in a title none is open any more.
-abbrev pub opened : State ValueState → Option Reference
+-- The reference that is open in a state; none is told of what no path comes to: after a `<` in a title none is open any more.
+abbrev pub opened : LexState ValueState → Option Reference
 opened (Text r) = Some r
 opened (TagOpen r) = Some r
 opened (EndTagOpen r) = Some r
-opened (DeclarationOpen r held) = Some r
+opened (DeclarationOpen r pending) = Some r
 opened (AttributeValue q tag v r) = Some r
 opened (InContent e (Characters r) Nothing) = Some r
 opened (InContent e (Characters Closed) h) = Some Closed
@@ -149,11 +149,11 @@ solidus-opens (Letter l) b = refl
 solidus-opens LessThan b = refl
 solidus-opens c b = refl
 
-declaration-opens : (n : Declaration) (r : Reference) (held : List ℕ) (c : Class) (b : ℕ) → class_of b ≡ c → declared_by (held ++ b ∷ []) ≡ n → opened (next_declaration n Template c b r held) ≡ Some (declaration_open n c r)
-declaration-opens OpensComment r held c b e k = refl
-declaration-opens OpensDoctype r held c b e k = refl
-declaration-opens Undecided r held c b e k = refl
-declaration-opens OpensNothing r held c b e k = text-opens c b
+declaration-opens : (n : Declaration) (r : Reference) (pending : List ℕ) (c : Class) (b : ℕ) → class_of b ≡ c → declared_by (pending ++ b ∷ []) ≡ n → opened (next_declaration n Template c b r pending) ≡ Some (declaration_open n c r)
+declaration-opens OpensComment r pending c b e k = refl
+declaration-opens OpensDoctype r pending c b e k = refl
+declaration-opens Undecided r pending c b e k = refl
+declaration-opens OpensNothing r pending c b e k = text-opens c b
 
 tag-name-opens : (c : Class) (b : ℕ) (ends : Bool) (name : List ℕ) → opened (next_tag_name c b ends name) ≡ Some Closed
 tag-name-opens White b ends name = refl
@@ -225,7 +225,7 @@ after-value-opens Unquoted c b tag = before-closed c b tag
 
 value-writes : (ends : Bool) (q : Quoting) (tag : Tag) (v : Value ValueState) (r : Reference) (c : Class) (b : ℕ) → ends_value q c ≡ ends
     → (value_out ends c b r ≡ reference_out r c b) × (opened (next_value languages ends q c b tag v r) ≡ Some (next_reference r c b))
-value-writes true q tag v r c b e = (let w = value-ends q c b r e in (w.0, after-value-opens q c b (with_value tag (with_bytes languages v (settled true r))) ∙ ap Some w.1))
+value-writes true q tag v r c b e = (let w = value-ends q c b r e in (w.0, after-value-opens q c b (tag_with_value tag (with_bytes languages v (settled true r))) ∙ ap Some w.1))
 value-writes false q tag v r c b e = (refl, refl)
 
 -- a title and a textarea
@@ -247,15 +247,15 @@ end-name-opens grows true e letters Solidus b = refl
 end-name-opens grows true e letters GreaterThan b = refl
 end-name-opens grows whole e letters c b = loose-opens e Closed c b
 
--- A state and its front: what is written at a byte, and the reference that is open behind it.
-record Writes (s : State ValueState) (f : Front) (c : Class) (b : ℕ) (r : Reference) : Type 0 where
-  outs : out s c b ≡ front_out f c b r
-  opens : opened (next languages Template s c b) ≡ Some (front_open f c b r)
+-- A state and its scan state: what is written at a byte, and the reference that is open after it.
+record Writes (s : LexState ValueState) (f : Scan) (c : Class) (b : ℕ) (r : Reference) : Type 0 where
+  outs : out s c b ≡ scan_out f c b r
+  opens : opened (next languages Template s c b) ≡ Some (scan_open f c b r)
 
-abbrev WritesAt : State ValueState → Class → ℕ → Type 0
-WritesAt s c b = WhereFronted (fronted s) (λ f. (r : Reference) → opened s ≡ Some r → Writes s f c b r)
+abbrev WritesAt : LexState ValueState → Class → ℕ → Type 0
+WritesAt s c b = WhereScanned (scanned s) (λ f. (r : Reference) → opened s ≡ Some r → Writes s f c b r)
 
-at-one : (s : State ValueState) (f : Front) (c : Class) (b : ℕ) (a r : Reference) → Some a ≡ Some r → Writes s f c b a → Writes s f c b r
+at-one : (s : LexState ValueState) (f : Scan) (c : Class) (b : ℕ) (a r : Reference) → Some a ≡ Some r → Writes s f c b a → Writes s f c b r
 at-one s f c b a r e w = subst (Writes s f c b) (one_value a r e) w
 
 text-writes : (a : Reference) (c : Class) (b : ℕ) → Writes (Text a) (At place.Text) c b a
@@ -294,50 +294,50 @@ in-value-writes q tag (TypeSoFar before) a c b = tt
 loose-writes : (e : Element) (a : Reference) (c : Class) (b : ℕ) → Writes (InContent e (Characters a) Nothing) (At (place.Rcdata e)) c b a
 loose-writes e a c b = record { outs = refl; opens = loose-opens e a c b }
 
-less-writes : (e : Element) (c : Class) (b : ℕ) → Writes (InContent e (Characters Closed) HeldLess) (InContentEnd e HeldLess) c b Closed
+less-writes : (e : Element) (c : Class) (b : ℕ) → Writes (InContent e (Characters Closed) PendingLess) (InContentEnd e PendingLess) c b Closed
 less-writes e c b = record { outs = refl; opens = content-less-opens e c b }
 
-end-writes : (e : Element) (letters : List ℕ) (c : Class) (b : ℕ) → Writes (InContent e (Characters Closed) (HeldName letters)) (InContentEnd e (HeldName letters)) c b Closed
+end-writes : (e : Element) (letters : List ℕ) (c : Class) (b : ℕ) → Writes (InContent e (Characters Closed) (PendingName letters)) (InContentEnd e (PendingName letters)) c b Closed
 end-writes e letters c b = record { outs = refl; opens = end-name-opens (may_be_name_of e (letters ++ b ∷ [])) (is_name_of e letters) e letters c b }
 
 not-open : (r : Reference) → None ≡ Some r → ⊥
 not-open r e = cc
 
-none-fronted : (e : Element) (h : Held) (a : Reference) (c : Class) (b : ℕ) → content_fronted h e ≡ None → WritesAt (InContent e (Characters a) h) c b
-none-fronted e h a c b n = subst (λ (o : Option Front). WhereFronted o (λ f. (r : Reference) → opened (InContent e (Characters a) h) ≡ Some r → Writes (InContent e (Characters a) h) f c b r)) (sym n) tt
+none-scanned : (e : Element) (h : Pending) (a : Reference) (c : Class) (b : ℕ) → content_scanned h e ≡ None → WritesAt (InContent e (Characters a) h) c b
+none-scanned e h a c b n = subst (λ (o : Option Scan). WhereScanned o (λ f. (r : Reference) → opened (InContent e (Characters a) h) ≡ Some r → Writes (InContent e (Characters a) h) f c b r)) (sym n) tt
 
-no-front : (h : Held) → (content_fronted h element.Other ≡ None) × (content_fronted h element.Style ≡ None) × (content_fronted h element.Script ≡ None) × (content_fronted h element.DataBlock ≡ None)
-no-front Nothing = (refl, refl, refl, refl)
-no-front HeldLess = (refl, refl, refl, refl)
-no-front (HeldName letters) = (refl, refl, refl, refl)
-no-front HeldBang = (refl, refl, refl, refl)
-no-front HeldBangDash = (refl, refl, refl, refl)
+no-scan : (h : Pending) → (content_scanned h element.Other ≡ None) × (content_scanned h element.Style ≡ None) × (content_scanned h element.Script ≡ None) × (content_scanned h element.DataBlock ≡ None)
+no-scan Nothing = (refl, refl, refl, refl)
+no-scan PendingLess = (refl, refl, refl, refl)
+no-scan (PendingName letters) = (refl, refl, refl, refl)
+no-scan PendingBang = (refl, refl, refl, refl)
+no-scan PendingBangDash = (refl, refl, refl, refl)
 
-content-writes : (e : Element) (a : Reference) (h : Held) (c : Class) (b : ℕ) → WritesAt (InContent e (Characters a) h) c b
+content-writes : (e : Element) (a : Reference) (h : Pending) (c : Class) (b : ℕ) → WritesAt (InContent e (Characters a) h) c b
 content-writes element.Title a Nothing c b = λ r e. at-one (InContent element.Title (Characters a) Nothing) _ c b a r e (loose-writes element.Title a c b)
 content-writes element.Textarea a Nothing c b = λ r e. at-one (InContent element.Textarea (Characters a) Nothing) _ c b a r e (loose-writes element.Textarea a c b)
-content-writes element.Title Closed HeldLess c b = λ r e. at-one (InContent element.Title (Characters Closed) HeldLess) _ c b Closed r e (less-writes element.Title c b)
-content-writes element.Textarea Closed HeldLess c b = λ r e. at-one (InContent element.Textarea (Characters Closed) HeldLess) _ c b Closed r e (less-writes element.Textarea c b)
-content-writes element.Title Closed (HeldName letters) c b = λ r e. at-one (InContent element.Title (Characters Closed) (HeldName letters)) _ c b Closed r e (end-writes element.Title letters c b)
-content-writes element.Textarea Closed (HeldName letters) c b = λ r e. at-one (InContent element.Textarea (Characters Closed) (HeldName letters)) _ c b Closed r e (end-writes element.Textarea letters c b)
-content-writes element.Title (Open f bytes) HeldLess c b = λ r e. absurd (not-open r e)
-content-writes element.Textarea (Open f bytes) HeldLess c b = λ r e. absurd (not-open r e)
-content-writes element.Title (Open f bytes) (HeldName letters) c b = λ r e. absurd (not-open r e)
-content-writes element.Textarea (Open f bytes) (HeldName letters) c b = λ r e. absurd (not-open r e)
-content-writes element.Title a HeldBang c b = tt
-content-writes element.Title a HeldBangDash c b = tt
-content-writes element.Textarea a HeldBang c b = tt
-content-writes element.Textarea a HeldBangDash c b = tt
-content-writes element.Other a h c b = none-fronted element.Other h a c b (no-front h).0
-content-writes element.Style a h c b = none-fronted element.Style h a c b (no-front h).1
-content-writes element.Script a h c b = none-fronted element.Script h a c b (no-front h).2
-content-writes element.DataBlock a h c b = none-fronted element.DataBlock h a c b (no-front h).3
+content-writes element.Title Closed PendingLess c b = λ r e. at-one (InContent element.Title (Characters Closed) PendingLess) _ c b Closed r e (less-writes element.Title c b)
+content-writes element.Textarea Closed PendingLess c b = λ r e. at-one (InContent element.Textarea (Characters Closed) PendingLess) _ c b Closed r e (less-writes element.Textarea c b)
+content-writes element.Title Closed (PendingName letters) c b = λ r e. at-one (InContent element.Title (Characters Closed) (PendingName letters)) _ c b Closed r e (end-writes element.Title letters c b)
+content-writes element.Textarea Closed (PendingName letters) c b = λ r e. at-one (InContent element.Textarea (Characters Closed) (PendingName letters)) _ c b Closed r e (end-writes element.Textarea letters c b)
+content-writes element.Title (Open f bytes) PendingLess c b = λ r e. absurd (not-open r e)
+content-writes element.Textarea (Open f bytes) PendingLess c b = λ r e. absurd (not-open r e)
+content-writes element.Title (Open f bytes) (PendingName letters) c b = λ r e. absurd (not-open r e)
+content-writes element.Textarea (Open f bytes) (PendingName letters) c b = λ r e. absurd (not-open r e)
+content-writes element.Title a PendingBang c b = tt
+content-writes element.Title a PendingBangDash c b = tt
+content-writes element.Textarea a PendingBang c b = tt
+content-writes element.Textarea a PendingBangDash c b = tt
+content-writes element.Other a h c b = none-scanned element.Other h a c b (no-scan h).0
+content-writes element.Style a h c b = none-scanned element.Style h a c b (no-scan h).1
+content-writes element.Script a h c b = none-scanned element.Script h a c b (no-scan h).2
+content-writes element.DataBlock a h c b = none-scanned element.DataBlock h a c b (no-scan h).3
 
-writes : (s : State ValueState) (c : Class) (b : ℕ) → class_of b ≡ c → WritesAt s c b
+writes : (s : LexState ValueState) (c : Class) (b : ℕ) → class_of b ≡ c → WritesAt s c b
 writes (Text a) c b k = λ r e. at-one (Text a) (At place.Text) c b a r e (text-writes a c b)
 writes (TagOpen a) c b k = λ r e. at-one (TagOpen a) AfterLess c b a r e (record { outs = refl; opens = less-opens a c b })
 writes (EndTagOpen a) c b k = λ r e. at-one (EndTagOpen a) AfterLessSolidus c b a r e (record { outs = refl; opens = solidus-opens c b })
-writes (DeclarationOpen a held) c b k = λ r e. at-one (DeclarationOpen a held) (InDeclaration held) c b a r e (record { outs = refl; opens = declaration-opens (declared_by (held ++ b ∷ [])) a held c b k refl })
+writes (DeclarationOpen a pending) c b k = λ r e. at-one (DeclarationOpen a pending) (InDeclaration pending) c b a r e (record { outs = refl; opens = declaration-opens (declared_by (pending ++ b ∷ [])) a pending c b k refl })
 writes (InComment s) c b k = comment-writes s c b
 writes BogusComment c b k = tt
 writes InDoctype c b k = λ r e. at-one InDoctype (At place.Doctype) c b Closed r e (record { outs = refl; opens = doctype-opens c })
@@ -355,35 +355,35 @@ writes (InContent x (Characters a) h) c b k = content-writes x a h c b
 writes (InContent x Bytes h) c b k = tt
 writes Unread c b k = tt
 
--- .. and at the end of a text
-abbrev CutAt : State ValueState → Type 0
-CutAt s = WhereFronted (fronted s) (λ f. (r : Reference) → opened s ≡ Some r → cut_out s ≡ front_cut_out f r)
+-- likewise, and at the end of a text
+abbrev CutAt : LexState ValueState → Type 0
+CutAt s = WhereScanned (scanned s) (λ f. (r : Reference) → opened s ≡ Some r → cut_out s ≡ scan_cut_out f r)
 
-by-one : (f : Front) (a r : Reference) (bytes : List ℕ) → Some a ≡ Some r → bytes ≡ front_cut_out f a → bytes ≡ front_cut_out f r
-by-one f a r bytes e h = subst (λ (z : Reference). bytes ≡ front_cut_out f z) (one_value a r e) h
+by-one : (f : Scan) (a r : Reference) (bytes : List ℕ) → Some a ≡ Some r → bytes ≡ scan_cut_out f a → bytes ≡ scan_cut_out f r
+by-one f a r bytes e h = subst (λ (z : Reference). bytes ≡ scan_cut_out f z) (one_value a r e) h
 
-no-cut : (e : Element) (a : Reference) (h : Held) → content_fronted h e ≡ None → CutAt (InContent e (Characters a) h)
-no-cut e a h n = subst (λ (o : Option Front). WhereFronted o (λ f. (r : Reference) → opened (InContent e (Characters a) h) ≡ Some r → cut_out {B = ValueState} (InContent e (Characters a) h) ≡ front_cut_out f r)) (sym n) tt
+no-cut : (e : Element) (a : Reference) (h : Pending) → content_scanned h e ≡ None → CutAt (InContent e (Characters a) h)
+no-cut e a h n = subst (λ (o : Option Scan). WhereScanned o (λ f. (r : Reference) → opened (InContent e (Characters a) h) ≡ Some r → cut_out {B = ValueState} (InContent e (Characters a) h) ≡ scan_cut_out f r)) (sym n) tt
 
-content-cuts : (e : Element) (a : Reference) (h : Held) → CutAt (InContent e (Characters a) h)
+content-cuts : (e : Element) (a : Reference) (h : Pending) → CutAt (InContent e (Characters a) h)
 content-cuts element.Title a Nothing = λ r e. by-one (At (place.Rcdata element.Title)) a r _ e refl
 content-cuts element.Textarea a Nothing = λ r e. by-one (At (place.Rcdata element.Textarea)) a r _ e refl
-content-cuts element.Title Closed HeldLess = λ r e. refl
-content-cuts element.Textarea Closed HeldLess = λ r e. refl
-content-cuts element.Title Closed (HeldName letters) = λ r e. refl
-content-cuts element.Textarea Closed (HeldName letters) = λ r e. refl
-content-cuts element.Title (Open f bytes) HeldLess = λ r e. refl
-content-cuts element.Textarea (Open f bytes) HeldLess = λ r e. refl
-content-cuts element.Title (Open f bytes) (HeldName letters) = λ r e. refl
-content-cuts element.Textarea (Open f bytes) (HeldName letters) = λ r e. refl
-content-cuts element.Title a HeldBang = tt
-content-cuts element.Title a HeldBangDash = tt
-content-cuts element.Textarea a HeldBang = tt
-content-cuts element.Textarea a HeldBangDash = tt
-content-cuts element.Other a h = no-cut element.Other a h (no-front h).0
-content-cuts element.Style a h = no-cut element.Style a h (no-front h).1
-content-cuts element.Script a h = no-cut element.Script a h (no-front h).2
-content-cuts element.DataBlock a h = no-cut element.DataBlock a h (no-front h).3
+content-cuts element.Title Closed PendingLess = λ r e. refl
+content-cuts element.Textarea Closed PendingLess = λ r e. refl
+content-cuts element.Title Closed (PendingName letters) = λ r e. refl
+content-cuts element.Textarea Closed (PendingName letters) = λ r e. refl
+content-cuts element.Title (Open f bytes) PendingLess = λ r e. refl
+content-cuts element.Textarea (Open f bytes) PendingLess = λ r e. refl
+content-cuts element.Title (Open f bytes) (PendingName letters) = λ r e. refl
+content-cuts element.Textarea (Open f bytes) (PendingName letters) = λ r e. refl
+content-cuts element.Title a PendingBang = tt
+content-cuts element.Title a PendingBangDash = tt
+content-cuts element.Textarea a PendingBang = tt
+content-cuts element.Textarea a PendingBangDash = tt
+content-cuts element.Other a h = no-cut element.Other a h (no-scan h).0
+content-cuts element.Style a h = no-cut element.Style a h (no-scan h).1
+content-cuts element.Script a h = no-cut element.Script a h (no-scan h).2
+content-cuts element.DataBlock a h = no-cut element.DataBlock a h (no-scan h).3
 
 value-cuts : (q : Quoting) (tag : Tag) (v : Value ValueState) (a : Reference) → CutAt (AttributeValue q tag v a)
 value-cuts q tag (ValueOf kind.Plain) a = λ r e. by-one (At place.Text) a r _ e refl
@@ -411,11 +411,11 @@ comment-cuts DashDash = λ r e. refl
 comment-cuts Bang = λ r e. refl
 comment-cuts Broken = λ r e. by-one (At place.Text) Closed r _ e refl
 
-cuts : (s : State ValueState) → CutAt s
+cuts : (s : LexState ValueState) → CutAt s
 cuts (Text a) = λ r e. by-one (At place.Text) a r _ e refl
 cuts (TagOpen a) = λ r e. by-one AfterLess a r _ e refl
 cuts (EndTagOpen a) = λ r e. by-one AfterLessSolidus a r _ e refl
-cuts (DeclarationOpen a held) = λ r e. by-one (InDeclaration held) a r _ e refl
+cuts (DeclarationOpen a pending) = λ r e. by-one (InDeclaration pending) a r _ e refl
 cuts (InComment s) = comment-cuts s
 cuts BogusComment = tt
 cuts InDoctype = λ r e. by-one (At place.Text) Closed r _ e refl
@@ -437,51 +437,51 @@ cuts Unread = tt
 no-place : (p : Place) → None ≡ Some p → ⊥
 no-place p e = cc
 
-closed-at : (s : State ValueState) (p : Place) → placed s ≡ Some p → opened s ≡ Some Closed
+closed-at : (s : LexState ValueState) (p : Place) → placed s ≡ Some p → opened s ≡ Some Closed
 closed-at (Text Closed) p e = refl
 closed-at (Text (Open f bytes)) p e = absurd (no-place p e)
 closed-at (TagOpen r) p e = absurd (no-place p e)
 closed-at (EndTagOpen r) p e = absurd (no-place p e)
-closed-at (DeclarationOpen r held) p e = absurd (no-place p e)
+closed-at (DeclarationOpen r pending) p e = absurd (no-place p e)
 closed-at (AttributeValue q t v Closed) p e = refl
 closed-at (AttributeValue q t v (Open f bytes)) p e = absurd (no-place p e)
 closed-at (InContent x (Characters Closed) Nothing) p e = refl
-closed-at (InContent x (Characters Closed) HeldLess) p e = refl
-closed-at (InContent x (Characters Closed) (HeldName letters)) p e = refl
-closed-at (InContent x (Characters Closed) HeldBang) p e = refl
-closed-at (InContent x (Characters Closed) HeldBangDash) p e = refl
+closed-at (InContent x (Characters Closed) PendingLess) p e = refl
+closed-at (InContent x (Characters Closed) (PendingName letters)) p e = refl
+closed-at (InContent x (Characters Closed) PendingBang) p e = refl
+closed-at (InContent x (Characters Closed) PendingBangDash) p e = refl
 closed-at (InContent x (Characters (Open f bytes)) Nothing) p e = absurd (no-place p e)
-closed-at (InContent x (Characters (Open f bytes)) HeldLess) p e = absurd (no-place p e)
-closed-at (InContent x (Characters (Open f bytes)) (HeldName letters)) p e = absurd (no-place p e)
-closed-at (InContent x (Characters (Open f bytes)) HeldBang) p e = absurd (no-place p e)
-closed-at (InContent x (Characters (Open f bytes)) HeldBangDash) p e = absurd (no-place p e)
+closed-at (InContent x (Characters (Open f bytes)) PendingLess) p e = absurd (no-place p e)
+closed-at (InContent x (Characters (Open f bytes)) (PendingName letters)) p e = absurd (no-place p e)
+closed-at (InContent x (Characters (Open f bytes)) PendingBang) p e = absurd (no-place p e)
+closed-at (InContent x (Characters (Open f bytes)) PendingBangDash) p e = absurd (no-place p e)
 closed-at s p e = refl
 
 -- Whole texts.
-writes-at : (s : State ValueState) (f : Front) (b : ℕ) (r : Reference) → fronted s ≡ Some f → opened s ≡ Some r → Writes s f (class_of b) b r
-writes-at s f b r e o = subst (λ (z : Option Front). WhereFronted z (λ g. (a : Reference) → opened s ≡ Some a → Writes s g (class_of b) b a)) e (writes s (class_of b) b refl) r o
+writes-at : (s : LexState ValueState) (f : Scan) (b : ℕ) (r : Reference) → scanned s ≡ Some f → opened s ≡ Some r → Writes s f (class_of b) b r
+writes-at s f b r e o = subst (λ (z : Option Scan). WhereScanned z (λ g. (a : Reference) → opened s ≡ Some a → Writes s g (class_of b) b a)) e (writes s (class_of b) b refl) r o
 
-cuts-at : (s : State ValueState) (f : Front) (r : Reference) → fronted s ≡ Some f → opened s ≡ Some r → cut_out s ≡ front_cut_out f r
-cuts-at s f r e o = subst (λ (z : Option Front). WhereFronted z (λ g. (a : Reference) → opened s ≡ Some a → cut_out s ≡ front_cut_out g a)) e (cuts s) r o
+cuts-at : (s : LexState ValueState) (f : Scan) (r : Reference) → scanned s ≡ Some f → opened s ≡ Some r → cut_out s ≡ scan_cut_out f r
+cuts-at s f r e o = subst (λ (z : Option Scan). WhereScanned z (λ g. (a : Reference) → opened s ≡ Some a → cut_out s ≡ scan_cut_out g a)) e (cuts s) r o
 
-same-from : (bytes : List ℕ) (k : ℕ) (s : State ValueState) (f : Front) (r : Reference) (q : Place) → fronted s ≡ Some f → opened s ≡ Some r → stepped k bytes f ≡ Ok q
+same-from : (bytes : List ℕ) (k : ℕ) (s : LexState ValueState) (f : Scan) (r : Reference) (q : Place) → scanned s ≡ Some f → opened s ≡ Some r → stepped k bytes f ≡ Ok q
     → written languages bytes s ≡ written_from bytes f r
 same-from [] k s f r q e o h = cuts-at s f r e o
 same-from (b ∷ bs) k s f r q e o h =
-    let n = not-refused k (front_error f (class_of b)) (stepped (k + 1) bs (front_next f (class_of b) b)) q h in
+    let n = not-refused k (scan_error f (class_of b)) (stepped (k + 1) bs (scan_next f (class_of b) b)) q h in
     let w = writes-at s f b r e o in
     ap₂ (λ (x y : List ℕ). x ++ y) w.outs
-    (same-from bs (k + 1) (next languages Template s (class_of b) b) (front_next f (class_of b) b) (front_open f (class_of b) b r) q ((agrees-at s f b e).steps n.0) w.opens n.1)
+    (same-from bs (k + 1) (next languages Template s (class_of b) b) (scan_next f (class_of b) b) (scan_open f (class_of b) b r) q ((agrees-at s f b e).steps n.0) w.opens n.1)
 
-above-from : (bytes : List ℕ) (k : ℕ) (f g : Front) (r : Reference) (q : Place) → FrontValid f → FrontBelow f g → stepped k bytes g ≡ Ok q → written_from bytes f r ≡ written_from bytes g r
+above-from : (bytes : List ℕ) (k : ℕ) (f g : Scan) (r : Reference) (q : Place) → ScanValid f → ScanBelow f g → stepped k bytes g ≡ Ok q → written_from bytes f r ≡ written_from bytes g r
 above-from [] k f g r q v h e = cut-same f g r h
 above-from (b ∷ bs) k f g r q v h e =
-    let n = not-refused k (front_error g (class_of b)) (stepped (k + 1) bs (front_next g (class_of b) b)) q e in
-    let m = front-grows f g (class_of b) b v h n.0 in
-    let w = front-same f g (class_of b) b r h in
+    let n = not-refused k (scan_error g (class_of b)) (stepped (k + 1) bs (scan_next g (class_of b) b)) q e in
+    let m = scan-grows f g (class_of b) b v h n.0 in
+    let w = scan-same f g (class_of b) b r h in
     ap₂ (λ (x y : List ℕ). x ++ y) w.outs
-    (above-from bs (k + 1) (front_next f (class_of b) b) (front_next g (class_of b) b) (front_open f (class_of b) b r) q (front-valid f (class_of b) b v) m.1 n.1
-    ∙ ap (λ (z : Reference). written_from bs (front_next g (class_of b) b) z) w.opens)
+    (above-from bs (k + 1) (scan_next f (class_of b) b) (scan_next g (class_of b) b) (scan_open f (class_of b) b r) q (scan-valid f (class_of b) b v) m.1 n.1
+    ∙ ap (λ (z : Reference). written_from bs (scan_next g (class_of b) b) z) w.opens)
 
 pub written-on-paths : WrittenOnPaths
 written-on-paths bytes p q s v i e =

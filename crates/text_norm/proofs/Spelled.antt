@@ -1,11 +1,11 @@
 -- The bytes of classes.
 use Rattle.std.proofs.Common.{◌≡◌, ℕ, ◌<◌, ◌≤◌, ◌==◌, Bool, true, List, refl, sym, ◌∙◌, inl, inr, ◌⊎◌}
 use Rattle.std.proofs.lemmas.Bool.{cases_lt, eqb-true, agree_below, agree_below_at}
-use Rattle.place_core.specs.Classes.{Class, White, ExclamationMark, QuotationMark, NumberSign, Ampersand, Apostrophe, HyphenMinus, Solidus, Digit, Semicolon, LessThan, EqualsSign, GreaterThan, QuestionMark, GraveAccent, Letter, OtherByte, class_of}
+use Rattle.place_core.specs.page.Classes.{Class, White, ExclamationMark, QuotationMark, NumberSign, Ampersand, Apostrophe, HyphenMinus, Solidus, Digit, Semicolon, LessThan, EqualsSign, GreaterThan, QuestionMark, GraveAccent, Letter, OtherByte, class_of}
 use Rattle.place_core.proofs.Bytes.{class-high}
-use Rattle.html_front.specs.FrontViews.{front_at}
-use Rattle.html_front.specs.declared.front.Front.{Front as ReadFront}
-use Rattle.html_front.specs.declared.front.Front.TheVariants as front
+use Rattle.html_scan.specs.ScanViews.{scan_at}
+use Rattle.html_scan.specs.declared.scan.Scan.{Scan as ReadScan}
+use Rattle.html_scan.specs.declared.scan.Scan.TheVariants as scan
 use Rattle.text_norm.proofs.ByteLaws.{IsRead, Spelled}
 
 not_other : OtherByte ≡ GreaterThan → ⊥
@@ -58,13 +58,13 @@ below b h (inr large) = absurd (not_other (sym (class-high b large) ∙ h))
 pub greater_ascii : (b : ℕ) → class_of b ≡ GreaterThan → b < 128
 greater_ascii b h = below b h (cases_lt b 128)
 
-pub is_read : (text : List ℕ) (k : ℕ) (f : ReadFront) → IsRead (front_at text k f)
-is_read text k (front.At p) = refl
-is_read text k front.AfterLess = refl
-is_read text k front.AfterLessSolidus = refl
-is_read text k (front.InDeclaration from) = refl
-is_read text k (front.InTagName ends from) = refl
-is_read text k (front.InAttributeName t typed from) = refl
-is_read text k (front.InCommentEnd s) = refl
-is_read text k (front.AfterContentLess e) = refl
-is_read text k (front.InContentName e from) = refl
+pub is_read : (text : List ℕ) (k : ℕ) (f : ReadScan) → IsRead (scan_at text k f)
+is_read text k (scan.At p) = refl
+is_read text k scan.AfterLess = refl
+is_read text k scan.AfterLessSolidus = refl
+is_read text k (scan.InDeclaration from) = refl
+is_read text k (scan.InTagName ends from) = refl
+is_read text k (scan.InAttributeName t typed from) = refl
+is_read text k (scan.InCommentEnd s) = refl
+is_read text k (scan.AfterContentLess e) = refl
+is_read text k (scan.InContentName e from) = refl

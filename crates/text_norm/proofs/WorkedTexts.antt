@@ -1,17 +1,17 @@
 -- Small texts, written from text.
 use Rattle.std.proofs.Common.{◌≡◌, codes, refl, List, [], ◌∷◌, ◌++◌, ℕ}
-use Rattle.place_core.specs.Classes.{class_of}
-use Rattle.place_core.specs.References.{Closed, meaning}
-use Rattle.place_core.specs.Html.{read, start}
-use Rattle.place_core.specs.Paths.{Written, read_node, read_path}
-use Rattle.place_core.specs.Shape.{shape_of}
-use Rattle.place_core.specs.States.{Page, State, Text, config}
-use Rattle.place_core.specs.Tags.{ValueState, languages}
-use Rattle.place_core.specs.Places.{Below, IsValid}
+use Rattle.place_core.specs.page.Classes.{class_of}
+use Rattle.place_core.specs.page.References.{Closed, meaning}
+use Rattle.place_core.specs.page.Html.{read, start}
+use Rattle.place_core.specs.page.Paths.{Written, read_node, read_path}
+use Rattle.place_core.specs.page.Shape.{shape_of}
+use Rattle.place_core.specs.page.States.{Page, LexState, Text, config}
+use Rattle.place_core.specs.page.Tags.{ValueState, languages}
+use Rattle.place_core.specs.place.Places.{Below, IsValid}
 use Rattle.place_core.specs.declared.place.Place.{Place}
 use Rattle.place_core.specs.declared.place.Place.TheVariants as place
 use Rattle.place_core.specs.declared.san.San.TheVariants as san
-use Rattle.text_norm.specs.Fronted.{written_at}
+use Rattle.text_norm.specs.Scanned.{written_at}
 use Rattle.text_norm.specs.HoleLaws.{IsBackBy}
 use Rattle.text_norm.specs.Pieces.{TextAt, HoleAt, AreAccepted, IsOver}
 use Rattle.text_norm.specs.Written.{written}
@@ -60,7 +60,7 @@ unfolding class_of
 all_paths = refl
 
 -- Two nodes after one another, from text: what is written of them, and that a page reads it in the path's shape.
-abbrev node_after : List ℕ → State ValueState → State ValueState
+abbrev node_after : List ℕ → LexState ValueState → LexState ValueState
 node_after bytes s = (read_node languages bytes (config s [])).at
 
 abbrev two : List ℕ → List ℕ → List ℕ

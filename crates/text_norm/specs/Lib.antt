@@ -1,10 +1,10 @@
-pub mod Fronted
 pub mod HoleLaws
 pub mod Kept
 pub mod Laws
 pub mod Pieces
 pub mod ReferenceViews
 pub mod Resting
+pub mod Scanned
 pub mod Standing
 pub mod StandsLaws
 pub mod Written

@@ -1,54 +1,54 @@
 -- Where a page's reading stands for a path, and what follows. So nobody has to trust the definition of that: it holds where both begin, it holds
--- behind all pieces that are accepted, and where it holds the page has told what the path has told.
+-- after all pieces that are accepted, and where it holds the page has told what the path has told.
 use Rattle.std.specs.Prelude.{◌≡◌, Bool, true, false, List}
-use Rattle.place_core.specs.Events.{Event}
-use Rattle.place_core.specs.Html.{start}
-use Rattle.place_core.specs.Membership.{IsIn}
-use Rattle.place_core.specs.Paths.{read_path}
-use Rattle.place_core.specs.Places.{IsValid}
-use Rattle.place_core.specs.References.{Reference, Closed, Open}
-use Rattle.place_core.specs.Shape.{Reads, shape_of}
-use Rattle.place_core.specs.States.{State, Text, TagOpen, EndTagOpen, DeclarationOpen, InComment, WholeTagName, WholeAttributeName, AttributeValue, Characters, Nothing, InContent, Config, config}
-use Rattle.place_core.specs.Tags.{ValueState, languages}
+use Rattle.place_core.specs.page.Events.{LexEvent}
+use Rattle.place_core.specs.page.Html.{start}
+use Rattle.place_core.specs.place.Membership.{IsIn}
+use Rattle.place_core.specs.page.Paths.{read_path}
+use Rattle.place_core.specs.place.Places.{IsValid}
+use Rattle.place_core.specs.page.References.{Reference, Closed, Open}
+use Rattle.place_core.specs.page.Shape.{PageReads, shape_of}
+use Rattle.place_core.specs.page.States.{LexState, Text, TagOpen, EndTagOpen, DeclarationOpen, InComment, WholeTagName, WholeAttributeName, AttributeValue, Characters, Nothing, InContent, Config, config}
+use Rattle.place_core.specs.page.Tags.{ValueState, languages}
 use Rattle.place_core.specs.declared.place.Place.{Place}
 use Rattle.place_core.specs.declared.place.Place.TheVariants as place
-use Rattle.text_norm.specs.Pieces.{Piece, AreAccepted, ArePlainIn, page_of, path_of}
-use Rattle.text_norm.specs.Standing.{Stands}
+use Rattle.text_norm.specs.Pieces.{TextPiece, AreAccepted, ArePlainIn, page_of, path_of}
+use Rattle.text_norm.specs.Standing.{TextStands}
 
 -- A path and its page begin in text, having told nothing. There the page stands for the path.
 abbrev pub StandsAtStart : Type 0
-StandsAtStart = IsIn place.Text start.at × Stands languages start.at start.told start
+StandsAtStart = IsIn place.Text start.at × TextStands languages start.at start.emitted start
 
--- behind pieces that a path and a page have read
-pub record StandsBehind (pieces : List Piece) (q : Place) (c d : Config ValueState) : Type 0 where
+-- after pieces that a path and a page have read
+pub record StandsBehind (pieces : List TextPiece) (q : Place) (c d : Config ValueState) : Type 0 where
   pub valid : IsValid q
   pub is_in : IsIn q (read_path languages (path_of pieces) c).at
   pub plain : ArePlainIn (page_of pieces) d
   pub end : Config ValueState
-  pub reads : Reads (page_of pieces) d end
-  pub stands : Stands languages (read_path languages (path_of pieces) c).at (read_path languages (path_of pieces) c).told end
+  pub reads : PageReads (page_of pieces) d end
+  pub stands : TextStands languages (read_path languages (path_of pieces) c).at (read_path languages (path_of pieces) c).emitted end
 
--- Where it stands for a path before pieces that are accepted, it stands for it behind them: the place behind them stands for the path, and each
+-- Where it stands for a path before pieces that are accepted, it stands for it after them: the place after them stands for the path, and each
 -- hole of theirs is plain.
 abbrev pub StandsSomewhere : Type 0
-StandsSomewhere = (pieces : List Piece) (p q : Place) (c d : Config ValueState) → IsValid p → IsIn p c.at → AreAccepted pieces p q
-    → Stands languages c.at c.told d → StandsBehind pieces q c d
+StandsSomewhere = (pieces : List TextPiece) (p q : Place) (c d : Config ValueState) → IsValid p → IsIn p c.at → AreAccepted pieces p q
+    → TextStands languages c.at c.emitted d → StandsBehind pieces q c d
 
 -- Where it stands for a path that is at a place, as at the end of each text, the page has told what the path has.
-abbrev pub TellsTheSame : Type 0
-TellsTheSame = (p : Place) (s : State ValueState) (t : List Event) (d : Config ValueState) → IsIn p s → Stands languages s t d → d.told ≡ t
+abbrev pub EmitsTheSame : Type 0
+EmitsTheSame = (p : Place) (s : LexState ValueState) (t : List LexEvent) (d : Config ValueState) → IsIn p s → TextStands languages s t d → d.emitted ≡ t
 
--- Whether nothing is held back from the page at a state. Held back are a reference, a `<`, a comment, and that a name is at its end: where the end
+-- Whether nothing is pending back from the page at a state. Pending back are a reference, a `<`, a comment, and that a name is at its end: where the end
 -- of a text has ended it, or it is a hole, the page is in that name still.
 abbrev pub is_closed : Reference → Bool
 is_closed Closed = true
 is_closed (Open f bytes) = false
 
-abbrev pub holds_nothing : State ValueState → Bool
+abbrev pub holds_nothing : LexState ValueState → Bool
 holds_nothing (Text r) = is_closed r
 holds_nothing (TagOpen r) = false
 holds_nothing (EndTagOpen r) = false
-holds_nothing (DeclarationOpen r held) = false
+holds_nothing (DeclarationOpen r pending) = false
 holds_nothing (InComment s) = false
 holds_nothing (WholeTagName tag) = false
 holds_nothing (WholeAttributeName tag k) = false
@@ -58,19 +58,19 @@ holds_nothing (InContent e y h) = false
 holds_nothing s = true
 
 -- There the page is in the path's very state, and has told the same. So it is at the place text, where pages end.
-abbrev pub StandsWhereNothingIsHeld : Type 0
-StandsWhereNothingIsHeld =
-    ((s : State ValueState) (t : List Event) (d : Config ValueState) → holds_nothing s ≡ true → Stands languages s t d → d ≡ config s t)
-    × ((s : State ValueState) → IsIn place.Text s → holds_nothing s ≡ true)
+abbrev pub StandsWhereNothingIsPending : Type 0
+StandsWhereNothingIsPending =
+    ((s : LexState ValueState) (t : List LexEvent) (d : Config ValueState) → holds_nothing s ≡ true → TextStands languages s t d → d ≡ config s t)
+    × ((s : LexState ValueState) → IsIn place.Text s → holds_nothing s ≡ true)
 
 -- A whole page of a path, from text to text. Its reading, each hole of it as a mark, comes to where the path comes and to nothing else; so its
 -- shape is the path's own.
-pub record IsReadAsPath (pieces : List Piece) : Type 0 where
+pub record IsReadAsPath (pieces : List TextPiece) : Type 0 where
   pub in_text : (read_path languages (path_of pieces) start).at ≡ Text Closed
   pub plain : ArePlainIn (page_of pieces) start
-  pub reads : Reads (page_of pieces) start (read_path languages (path_of pieces) start)
-  pub no_other : (end : Config ValueState) → Reads (page_of pieces) start end → end ≡ read_path languages (path_of pieces) start
-  pub shape : (end : Config ValueState) → Reads (page_of pieces) start end → shape_of end ≡ shape_of (read_path languages (path_of pieces) start)
+  pub reads : PageReads (page_of pieces) start (read_path languages (path_of pieces) start)
+  pub no_other : (end : Config ValueState) → PageReads (page_of pieces) start end → end ≡ read_path languages (path_of pieces) start
+  pub shape : (end : Config ValueState) → PageReads (page_of pieces) start end → shape_of end ≡ shape_of (read_path languages (path_of pieces) start)
 
 abbrev pub PagesReadAsPaths : Type 0
-PagesReadAsPaths = (pieces : List Piece) → AreAccepted pieces place.Text place.Text → IsReadAsPath pieces
+PagesReadAsPaths = (pieces : List TextPiece) → AreAccepted pieces place.Text place.Text → IsReadAsPath pieces

@@ -3,8 +3,8 @@ use Rattle.std.proofs.Common.{ℕ, ◌+◌, ◌≤◌, true, false, ◌&&◌, Li
 use Rattle.std.proofs.lemmas.Bool.{cond_both, ltb-false}
 use Rattle.page_datum.specs.Data.{Data}
 use Rattle.page_datum.specs.declared.fault.FaultKind.{FaultKind}
-use Rattle.tpl_eval.specs.Evaluating.{ScopeData, base_value, command_value, decides, deciding_value, dropped_value, function_value, has_one, is_escaper, is_lazy, operand_value, operand_values, pipe_value, undecided, with_piped, within}
-use Rattle.tpl_eval.specs.Functions.{Outcome, bytes_made, called, counted, eq_of, format_made, free, ge_of, gt_of, index_all, le_of, len_of, lt_of, made, max_steps, ne_of, not_of, on_ok, paid, slice_all}
+use Rattle.tpl_eval.specs.Evaluating.{ScopeData, base_value, command_value, decides, deciding_value, dropped_value, function_value, has_one_operand, is_escaper_call, is_lazy, operand_value, operand_values, pipe_value, undecided, with_piped, evaluated_within}
+use Rattle.tpl_eval.specs.Functions.{Outcome, bytes_made, function_called, counted, eq_of, format_made, free, ge_of, gt_of, index_all, le_of, len_of, lt_of, made, max_steps, ne_of, not_of, on_ok, paid, slice_all}
 use Rattle.tpl_format.specs.Formats.{formatted_args}
 use Rattle.tpl_format.specs.Prints.{printed_text}
 use Rattle.tpl_symbol.specs.declared.func.Func.{Func}
@@ -24,7 +24,7 @@ abbrev pub Grows : {A : Type 0} → ℕ → Outcome A → Type 0
 Grows least (Ok v) = Within least v.1
 Grows least (Err kind) = Unit {0}
 
--- so many steps more
+-- that many steps more
 pub counts : (more steps : ℕ) → Counts (steps + more) (counted more steps)
 counts more steps = cond_both (nat_lt max_steps (steps + more)) _ _ (Counts (steps + more)) (λ t. tt)
     (λ f. (omega arith, ltb-false max_steps (steps + more) f))
@@ -55,7 +55,7 @@ paid_grows : (n : ℕ) (found : Result Data FaultKind) → n ≤ max_steps → G
 paid_grows n (Ok x) l = counted_grows (bytes_made x) n (λ now. Ok (x, now)) (λ now k. (omega arith, k))
 paid_grows n (Err kind) l = tt
 
-called_grows : (f : Func) (args : List Data) (n : ℕ) → n ≤ max_steps → Grows n (called f args n)
+called_grows : (f : Func) (args : List Data) (n : ℕ) → n ≤ max_steps → Grows n (function_called f args n)
 called_grows func.And args n l = tt
 called_grows func.Or args n l = tt
 called_grows func.Not args n l = free_grows n (not_of args) l
@@ -81,7 +81,7 @@ undecided_grows None None n l = tt
 
 function_grows : (f : Func) (piped : Option Data) (deciding : Outcome Data) (args : Outcome (List Data)) (n : ℕ) → Grows n deciding → Grows n args → Grows n (function_value f piped deciding args)
 function_grows f piped deciding args n d a = cond_both (is_lazy f) _ _ (Grows n) (λ t. d)
-    (λ e. then_grows n args (λ v. called f (v.0 ++ with_piped piped) v.1) a (λ v l. called_grows f (v.0 ++ with_piped piped) v.1 l))
+    (λ e. then_grows n args (λ v. function_called f (v.0 ++ with_piped piped) v.1) a (λ v l. called_grows f (v.0 ++ with_piped piped) v.1 l))
 
 found_grows : {A : Type 0} (n : ℕ) (found : Result A FaultKind) → n ≤ max_steps → Grows n (on_ok found (λ x. Ok (x, n)))
 found_grows n (Ok x) l = (omega arith, l)
@@ -95,7 +95,7 @@ mutual
 
   command_grows : (s : ScopeData) (c : CommandData) (piped : Option Data) (n : ℕ) → n ≤ max_steps → Grows n (command_value s c piped n)
   command_grows s (single o) piped n l = counted_grows 1 n (λ now. operand_value s o now) (λ now k. operand_grows s o now k)
-  command_grows s (call f operands) piped n l = cond_both (is_escaper f && has_one operands piped) _ _ (Grows n)
+  command_grows s (call f operands) piped n l = cond_both (is_escaper_call f && has_one_operand operands piped) _ _ (Grows n)
       (λ t. dropped_grows s operands piped n l)
       (λ e. counted_grows 1 n (λ now. function_value f piped (deciding_value s f None operands piped now) (operand_values s operands now))
       (λ now k. function_grows f piped (deciding_value s f None operands piped now) (operand_values s operands now) now (deciding_grows s f None operands piped now k) (operands_grow s operands now k)))
@@ -116,8 +116,8 @@ mutual
       (λ v k. then_grows v.1 (operand_values s rest v.1) (λ w. Ok (v.0 ∷ w.0, w.1)) (operands_grow s rest v.1 k) (λ w j. (omega arith, j)))
 
   operand_grows : (s : ScopeData) (o : OperandData) (n : ℕ) → n ≤ max_steps → Grows n (operand_value s o n)
-  operand_grows s (with_fields base names) n l = then_grows n (base_value s base n) (λ v. on_ok (within v.0 names) (λ x. Ok (x, v.1))) (base_grows s base n l)
-      (λ v k. found_grows v.1 (within v.0 names) k)
+  operand_grows s (with_fields base names) n l = then_grows n (base_value s base n) (λ v. on_ok (evaluated_within v.0 names) (λ x. Ok (x, v.1))) (base_grows s base n l)
+      (λ v k. found_grows v.1 (evaluated_within v.0 names) k)
 
   base_grows : (s : ScopeData) (b : BaseData) (n : ℕ) → n ≤ max_steps → Grows n (base_value s b n)
   base_grows s (str bytes) n l = (omega arith, l)

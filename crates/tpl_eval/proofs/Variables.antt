@@ -2,7 +2,7 @@
 use Rattle.std.proofs.Common.{◌≡◌, ℕ, ◌+◌, ◌<◌, List, [], ◌∷◌, ◌++◌, length, get_or, take, refl, sym, ap, ◌∙◌, true, false, bytes_eq}
 use Rattle.std.proofs.lemmas.Grind.{take_at_read}
 use Rattle.page_datum.specs.Data.{Data}
-use Rattle.tpl_eval.specs.Evaluating.{Variables, value_of}
+use Rattle.tpl_eval.specs.Evaluating.{Variables, variable_value}
 use Rattle.tpl_eval.specs.Scopes.{stored_view, variables_view}
 use Rattle.tpl_eval.specs.declared.scope.Variable.{Variable}
 
@@ -19,14 +19,14 @@ variables_view-at vs n m v next inside here = ap (λ (k : ℕ). variables_view (
 
 -- the newest variable of a prefix has the name
 pub found_at : (name : List ℕ) (vs : List Variable) (n m : ℕ) (v : Variable) (x : Data) → m ≡ n + 1 → n < length vs → v ≡ get_or vs n v → bytes_eq v.name.now name ≡ true
-    → value_of name (variables_view (take m vs)) ≡ x → stored_view v.value ≡ x
+    → variable_value name (variables_view (take m vs)) ≡ x → stored_view v.value ≡ x
 found_at name vs n m v x next inside here same h =
-    let step : value_of name (variables_view (take m vs)) ≡ stored_view v.value = rw (variables_view-at vs n m v next inside here, same) refl in
+    let step : variable_value name (variables_view (take m vs)) ≡ stored_view v.value = rw (variables_view-at vs n m v next inside here, same) refl in
     sym step ∙ h
 
 -- it has not
 pub found_before : (name : List ℕ) (vs : List Variable) (n m : ℕ) (v : Variable) (x : Data) → m ≡ n + 1 → n < length vs → v ≡ get_or vs n v → bytes_eq v.name.now name ≡ false
-    → value_of name (variables_view (take m vs)) ≡ x → value_of name (variables_view (take n vs)) ≡ x
+    → variable_value name (variables_view (take m vs)) ≡ x → variable_value name (variables_view (take n vs)) ≡ x
 found_before name vs n m v x next inside here other h =
-    let step : value_of name (variables_view (take m vs)) ≡ value_of name (variables_view (take n vs)) = rw (variables_view-at vs n m v next inside here, other) refl in
+    let step : variable_value name (variables_view (take m vs)) ≡ variable_value name (variables_view (take n vs)) = rw (variables_view-at vs n m v next inside here, other) refl in
     sym step ∙ h

@@ -4,7 +4,7 @@ use Rattle.page_datum.specs.Data.{Data, null, int, text}
 use Rattle.page_datum.specs.Data as datum
 use Rattle.page_datum.specs.declared.fault.FaultKind.{FaultKind}
 use Rattle.page_datum.specs.declared.fault.FaultKind.TheVariants.{WrongCount}
-use Rattle.tpl_eval.specs.Functions.{Outcome, called, counted, on_ok, or_null}
+use Rattle.tpl_eval.specs.Functions.{Outcome, function_called, counted, on_ok, or_null}
 use Rattle.tpl_symbol.specs.declared.func.Func.{Func}
 use Rattle.tpl_symbol.specs.declared.func.Func.TheVariants as func
 use Rattle.tpl_tree.specs.Pipes.{PipeData, no_commands, command, CommandData, single, call, OperandsData, no_operands, operand, OperandData, with_fields, BaseData, str, number, truth, nil, dot, variable, paren}
@@ -21,14 +21,14 @@ pub record ScopeData : Type 0 where
   pub variables : Variables
 
 -- the value of the newest variable of a name
-abbrev pub value_of : List ℕ → Variables → Data
-value_of name [] = null
-value_of name (v ∷ vs) = if bytes_eq v.0 name then v.1 else value_of name vs
+abbrev pub variable_value : List ℕ → Variables → Data
+variable_value name [] = null
+variable_value name (v ∷ vs) = if bytes_eq v.0 name then v.1 else variable_value name vs
 
 -- the value of a field, and of that the value of the next one
-abbrev pub within : Data → List (List ℕ) → Result Data FaultKind
-within x [] = Ok x
-within x (name ∷ names) = on_ok (field_of name x) (λ part. within (or_null part) names)
+abbrev pub evaluated_within : Data → List (List ℕ) → Result Data FaultKind
+evaluated_within x [] = Ok x
+evaluated_within x (name ∷ names) = on_ok (field_of name x) (λ part. evaluated_within (or_null part) names)
 
 -- a function that does not evaluate all of its arguments
 abbrev pub is_lazy : Func → Bool
@@ -42,10 +42,10 @@ decides func.And x = not (truth_of x)
 decides f x = truth_of x
 
 -- `html` or `urlquery`
-abbrev pub is_escaper : Func → Bool
-is_escaper func.Html = true
-is_escaper func.Urlquery = true
-is_escaper f = false
+abbrev pub is_escaper_call : Func → Bool
+is_escaper_call func.Html = true
+is_escaper_call func.Urlquery = true
+is_escaper_call f = false
 
 -- the piped value as the last argument
 abbrev pub with_piped : Option Data → List Data
@@ -53,12 +53,12 @@ with_piped (Some x) = x ∷ []
 with_piped None = []
 
 -- exactly one argument, written or piped
-abbrev pub has_one : OperandsData → Option Data → Bool
-has_one no_operands (Some x) = true
-has_one no_operands None = false
-has_one (operand o no_operands) None = true
-has_one (operand o no_operands) (Some x) = false
-has_one (operand o (operand p rest)) piped = false
+abbrev pub has_one_operand : OperandsData → Option Data → Bool
+has_one_operand no_operands (Some x) = true
+has_one_operand no_operands None = false
+has_one_operand (operand o no_operands) None = true
+has_one_operand (operand o no_operands) (Some x) = false
+has_one_operand (operand o (operand p rest)) piped = false
 
 -- a pipe of one operand, and the operand that is dot itself
 abbrev pub IsAlone : OperandData → PipeData → Type 0
@@ -75,7 +75,7 @@ undecided None None steps = Err WrongCount
 
 -- what a function gives, given what its first deciding argument is, or what all of them are
 abbrev pub function_value : Func → Option Data → Outcome Data → Outcome (List Data) → Outcome Data
-function_value f piped deciding args = if is_lazy f then deciding else on_ok args (λ v. called f (v.0 ++ with_piped piped) v.1)
+function_value f piped deciding args = if is_lazy f then deciding else on_ok args (λ v. function_called f (v.0 ++ with_piped piped) v.1)
 
 abbrev mutual
   -- the commands of a pipe, each given the value of the one before it
@@ -88,7 +88,7 @@ abbrev mutual
   pub command_value : ScopeData → CommandData → Option Data → ℕ → Outcome Data
   command_value s (single o) piped steps = on_ok (counted 1 steps) (λ now. operand_value s o now)
   command_value s (call f operands) piped steps =
-      if is_escaper f && has_one operands piped then dropped_value s operands piped steps
+      if is_escaper_call f && has_one_operand operands piped then dropped_value s operands piped steps
       else on_ok (counted 1 steps) (λ now. function_value f piped (deciding_value s f None operands piped now) (operand_values s operands now))
 
   -- an escaper is dropped: its argument stands in its place, an operand as a command
@@ -109,7 +109,7 @@ abbrev mutual
 
   -- a base, and fields within it
   pub operand_value : ScopeData → OperandData → ℕ → Outcome Data
-  operand_value s (with_fields base names) steps = on_ok (base_value s base steps) (λ v. on_ok (within v.0 names) (λ x. Ok (x, v.1)))
+  operand_value s (with_fields base names) steps = on_ok (base_value s base steps) (λ v. on_ok (evaluated_within v.0 names) (λ x. Ok (x, v.1)))
 
   -- what stands first in an operand
   pub base_value : ScopeData → BaseData → ℕ → Outcome Data
@@ -118,5 +118,5 @@ abbrev mutual
   base_value s (truth b) steps = Ok (datum.truth b, steps)
   base_value s nil steps = Ok (null, steps)
   base_value s dot steps = Ok (s.dot, steps)
-  base_value s (variable name) steps = Ok (value_of name s.variables, steps)
+  base_value s (variable name) steps = Ok (variable_value name s.variables, steps)
   base_value s (paren p) steps = pipe_value s p None steps

@@ -3,7 +3,7 @@ use Rattle.std.specs.Prelude.{ℕ, ◌+◌, ℤ, pos, Bool, true, false, not, na
 use Rattle.page_datum.specs.Data.{Data, null, truth, int, text, list}
 use Rattle.page_datum.specs.declared.fault.FaultKind.{FaultKind}
 use Rattle.page_datum.specs.declared.fault.FaultKind.TheVariants.{WrongCount, KeyKind, NotIndexable, BadFormat, TooLong, Budget}
-use Rattle.tpl_format.specs.Answers.{max_text}
+use Rattle.tpl_format.specs.Answers.{max_format_text}
 use Rattle.tpl_format.specs.Formats.{formatted_args}
 use Rattle.tpl_format.specs.Prints.{printed_text}
 use Rattle.tpl_symbol.specs.declared.func.Func.{Func}
@@ -22,7 +22,7 @@ max_steps = 50000000
 abbrev pub Outcome : Type 0 → Type 0
 Outcome A = Result (A × ℕ) FaultKind
 
--- so many steps more
+-- that many steps more
 abbrev pub counted : ℕ → ℕ → Result ℕ FaultKind
 counted more steps = if nat_lt max_steps (steps + more) then Err Budget else Ok (steps + more)
 
@@ -121,7 +121,7 @@ slice_all args = Err WrongCount
 
 -- a text that was made, unless it is too long
 abbrev pub made : List ℕ → Result Data FaultKind
-made bytes = if nat_lt max_text (length bytes) then Err TooLong else Ok (text bytes)
+made bytes = if nat_lt max_format_text (length bytes) then Err TooLong else Ok (text bytes)
 
 -- the text of a format, where it fits
 abbrev pub format_made : Option (List ℕ) → Result Data FaultKind
@@ -145,21 +145,21 @@ free steps (Err kind) = Err kind
 
 -- What a function gives for its arguments. `and` and `or` are not here, since they do not evaluate all of them; `html` and
 -- `urlquery` with one argument are dropped before they are called.
-abbrev pub called : Func → List Data → ℕ → Outcome Data
-called func.And args steps = Err WrongCount
-called func.Or args steps = Err WrongCount
-called func.Not args steps = free steps (not_of args)
-called func.Eq args steps = free steps (eq_of args)
-called func.Ne args steps = free steps (ne_of args)
-called func.Lt args steps = free steps (lt_of args)
-called func.Le args steps = free steps (le_of args)
-called func.Gt args steps = free steps (gt_of args)
-called func.Ge args steps = free steps (ge_of args)
-called func.Index args steps = free steps (index_all args)
-called func.Slice args steps = paid steps (slice_all args)
-called func.Len args steps = free steps (len_of args)
-called func.Print args steps = paid steps (made (printed_text false args))
-called func.Println args steps = paid steps (made (printed_text true args))
-called func.Printf args steps = paid steps (format_made (formatted_args args))
-called func.Html args steps = Err WrongCount
-called func.Urlquery args steps = Err WrongCount
+abbrev pub function_called : Func → List Data → ℕ → Outcome Data
+function_called func.And args steps = Err WrongCount
+function_called func.Or args steps = Err WrongCount
+function_called func.Not args steps = free steps (not_of args)
+function_called func.Eq args steps = free steps (eq_of args)
+function_called func.Ne args steps = free steps (ne_of args)
+function_called func.Lt args steps = free steps (lt_of args)
+function_called func.Le args steps = free steps (le_of args)
+function_called func.Gt args steps = free steps (gt_of args)
+function_called func.Ge args steps = free steps (ge_of args)
+function_called func.Index args steps = free steps (index_all args)
+function_called func.Slice args steps = paid steps (slice_all args)
+function_called func.Len args steps = free steps (len_of args)
+function_called func.Print args steps = paid steps (made (printed_text false args))
+function_called func.Println args steps = paid steps (made (printed_text true args))
+function_called func.Printf args steps = paid steps (format_made (formatted_args args))
+function_called func.Html args steps = Err WrongCount
+function_called func.Urlquery args steps = Err WrongCount

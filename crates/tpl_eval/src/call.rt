@@ -1,7 +1,7 @@
-ghost use Rattle.tpl_eval.specs.Functions.{bytes_made as bytes_made_of, called as called_of};
 ghost use Rattle.std.specs.Prelude.{◌≡◌};
 ghost use Rattle.page_datum.specs.View.{view};
 ghost use Rattle.tpl_eval.specs.Values.{OutcomeAnswers, FreeAnswers, PaidAnswers, values_view};
+ghost use Rattle.tpl_eval.specs.Functions as spec;
 
 use crate::compare::{eq, ge, gt, le, len, lt, ne, not};
 use crate::make::{index_all, print_all, printf_all, slice_all};
@@ -20,7 +20,7 @@ pub(crate) fn called<'d, 'v>(
     args: Vec<Value<'d, 'v>>,
     steps: u64,
 ) -> Result<(Value<'d, 'v>, u64), ValueStop>
-    ensures { OutcomeAnswers (called_of func (values_view args.entry.items) steps) result }
+    ensures { OutcomeAnswers (spec.function_called func (values_view args.entry.items) steps) result }
 {
     match func {
         Func::Not => free(not(args.as_slice()), steps),
@@ -79,7 +79,7 @@ fn paid<'d, 'v>(
 
 // The bytes of a text that was made.
 fn bytes_made(datum: &Datum) -> u64
-    ensures { result ≡ bytes_made_of (view datum.now) }
+    ensures { result ≡ spec.bytes_made (view datum.now) }
 {
     match datum {
         Datum::Text(text) => text.as_str().len() as u64,

@@ -1,10 +1,10 @@
 ghost use Rattle.std.specs.Prelude.{◌≡◌};
 ghost use Rattle.page_datum.specs.View.{view};
 ghost use Rattle.tpl_eval.specs.Functions.{not_of, len_of, eq_of, ne_of, lt_of, le_of, gt_of};
-ghost use Rattle.tpl_eval.specs.Functions.{ge_of, equals_one as equals_one_of};
-ghost use Rattle.tpl_eval.specs.Functions.{as_truth as as_truth_of, as_opposite as as_opposite_of};
+ghost use Rattle.tpl_eval.specs.Functions.{ge_of};
 ghost use Rattle.tpl_eval.specs.Functions.{one_of, two_of};
 ghost use Rattle.tpl_eval.specs.Values.{OneAnswers, TwoAnswers, FunctionAnswers, values_view};
+ghost use Rattle.tpl_eval.specs.Functions as spec;
 
 use crate::value::Value;
 use page_datum::{Datum, FaultKind};
@@ -118,7 +118,7 @@ fn two<'a>(args: &'a [Value<'_, '_>]) -> Result<(&'a Datum, &'a Datum), FaultKin
 
 // Whether a value equals one of others, which are compared in their order up to the first that is equal.
 fn equals_one(x: &Datum, others: &[Value<'_, '_>]) -> Result<bool, FaultKind>
-    ensures { result ≡ equals_one_of (view x.now) (values_view others.now) }
+    ensures { result ≡ spec.equals_one (view x.now) (values_view others.now) }
 {
     for other in others {
         match equal(x, other.datum()) {
@@ -131,7 +131,7 @@ fn equals_one(x: &Datum, others: &[Value<'_, '_>]) -> Result<bool, FaultKind>
 }
 
 fn as_truth(answer: Result<bool, FaultKind>) -> Result<Datum, FaultKind>
-    ensures { FunctionAnswers (as_truth_of answer) result }
+    ensures { FunctionAnswers (spec.as_truth answer) result }
 {
     match answer {
         Ok(truth) => Ok(Datum::Bool(truth)),
@@ -140,7 +140,7 @@ fn as_truth(answer: Result<bool, FaultKind>) -> Result<Datum, FaultKind>
 }
 
 fn as_opposite(answer: Result<bool, FaultKind>) -> Result<Datum, FaultKind>
-    ensures { FunctionAnswers (as_opposite_of answer) result }
+    ensures { FunctionAnswers (spec.as_opposite answer) result }
 {
     match answer {
         Ok(truth) => Ok(Datum::Bool(!truth)),

@@ -1,12 +1,12 @@
 ghost use Rattle.std.specs.Prelude.{◌≡◌, IfOk};
 ghost use Rattle.tpl_format.specs.Answers.{datas};
-ghost use Rattle.tpl_eval.specs.Functions.{index_all as index_all_of, slice_all as slice_all_of};
 ghost use Rattle.tpl_eval.specs.Functions.{sliceable_length_of, position_of, made, format_made};
 ghost use Rattle.tpl_format.specs.Formats.{formatted_args};
 ghost use Rattle.tpl_format.specs.Prints.{printed_text};
 ghost use Rattle.tpl_eval.specs.Values.{PartAnswers, values_view};
 ghost use Rattle.tpl_value.specs.Slicing.{MadeAnswers};
 ghost use Rattle.page_datum.specs.View.{view};
+ghost use Rattle.tpl_eval.specs.Functions as spec;
 
 use crate::value::{Selector, Value, part_of};
 use page_datum::{Datum, FaultKind, ValueStop};
@@ -22,7 +22,7 @@ pub(crate) fn index_all<'d, 'v>(
     alloc: Global,
     args: Vec<Value<'d, 'v>>,
 ) -> Result<Value<'d, 'v>, ValueStop>
-    ensures { PartAnswers (index_all_of (values_view args.entry.items)) result }
+    ensures { PartAnswers (spec.index_all (values_view args.entry.items)) result }
 {
     let mut part = None;
     for arg in args {
@@ -42,7 +42,7 @@ pub(crate) fn index_all<'d, 'v>(
 
 // `slice x`, `slice x i`, `slice x i j`
 pub(crate) fn slice_all(alloc: Global, args: &[Value<'_, '_>]) -> Result<Datum, ValueStop>
-    ensures { MadeAnswers (slice_all_of (values_view args.now)) result }
+    ensures { MadeAnswers (spec.slice_all (values_view args.now)) result }
 {
     match args {
         [x] => match sliceable_length(x.datum()) {

@@ -1,14 +1,13 @@
 ghost use Rattle.std.specs.Prelude.{◌≡◌, IfOk, IfSome, IsTrue};
 ghost use Rattle.page_datum.specs.View.{view};
 ghost use Rattle.tpl_tree.specs.View.{operand_view, operands_view};
-ghost use Rattle.tpl_eval.specs.Evaluating.{decides as decides_of, has_one as has_one_of};
-ghost use Rattle.tpl_eval.specs.Evaluating.{is_escaper as is_escaper_of, is_lazy as is_lazy_of};
 ghost use Rattle.tpl_eval.specs.Evaluating.{dot_alone, IsAlone};
 ghost use Rattle.tpl_eval.specs.PipeCalls.{BaseAnswers, CommandAnswers, DecidingAnswers};
 ghost use Rattle.tpl_eval.specs.PipeCalls.{DroppedAnswers, EvaluateAnswers, FunctionCallAnswers};
 ghost use Rattle.tpl_eval.specs.PipeCalls.{IsPipedTo, OperandAnswers, OperandsAnswers};
 ghost use Rattle.tpl_eval.specs.PipeCalls.{SingleAnswers};
 ghost use Rattle.tpl_eval.specs.Scopes.{piped_view};
+ghost use Rattle.tpl_eval.specs.Evaluating as spec;
 
 use crate::call::called;
 use crate::scope::{Scope, value_of};
@@ -298,7 +297,7 @@ fn with_piped<'d, 'v>(
 
 // Whether there is exactly one argument, written or piped.
 fn has_one(operands: &[Operand], piped: &Option<Value<'_, '_>>) -> bool
-    ensures { result ≡ has_one_of (operands_view operands.now) (piped_view piped.now) }
+    ensures { result ≡ spec.has_one_operand (operands_view operands.now) (piped_view piped.now) }
 {
     match piped {
         Some(_) => operands.len() == 0,
@@ -308,7 +307,7 @@ fn has_one(operands: &[Operand], piped: &Option<Value<'_, '_>>) -> bool
 
 // Whether a function is `html` or `urlquery`.
 fn is_escaper(func: Func) -> bool
-    ensures { result ≡ is_escaper_of func }
+    ensures { result ≡ spec.is_escaper_call func }
 {
     match func {
         Func::Html | Func::Urlquery => true,
@@ -318,7 +317,7 @@ fn is_escaper(func: Func) -> bool
 
 // Whether a function does not evaluate all of its arguments.
 fn is_lazy(func: Func) -> bool
-    ensures { result ≡ is_lazy_of func }
+    ensures { result ≡ spec.is_lazy func }
 {
     match func {
         Func::And | Func::Or => true,
@@ -328,7 +327,7 @@ fn is_lazy(func: Func) -> bool
 
 // Whether an argument decides: an empty one for `and`, one that is not for `or`.
 fn decides(func: Func, datum: &Datum) -> bool
-    ensures { result ≡ decides_of func (view datum.now) }
+    ensures { result ≡ spec.decides func (view datum.now) }
 {
     match func {
         Func::And => !truth(datum),

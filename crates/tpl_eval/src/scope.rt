@@ -1,7 +1,7 @@
 ghost use Rattle.std.specs.Prelude.{◌≡◌};
-ghost use Rattle.tpl_eval.specs.Evaluating.{value_of as value_of_of};
 ghost use Rattle.tpl_eval.specs.Scopes.{variables_view};
 ghost use Rattle.tpl_eval.specs.Values.{value_view};
+ghost use Rattle.tpl_eval.specs.Evaluating as spec;
 
 use crate::stored::Stored;
 use crate::value::Value;
@@ -23,7 +23,7 @@ pub struct Scope<'d, 'v> {
 
 // The value of the newest variable of a name, and null where there is none.
 pub(crate) fn value_of<'d, 'v>(name: &str, variables: &'v [Variable<'d>]) -> Value<'d, 'v>
-    ensures { value_view result ≡ value_of_of name.now (variables_view variables.now) }
+    ensures { value_view result ≡ spec.variable_value name.now (variables_view variables.now) }
 {
     let mut left = variables.len();
     while left > 0 {

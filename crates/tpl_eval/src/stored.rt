@@ -18,7 +18,7 @@ pub enum Stored<'d> {
 }
 
 impl<'d> Stored<'d> {
-    /// One that was made. The error is out of memory.
+    /// One that was made. Fails only if allocation fails.
     pub fn made(alloc: Global, datum: Datum) -> Result<Stored<'d>, Memory>
         ensures { IfOk result (λ kept. stored_view kept ≡ view datum) }
     {

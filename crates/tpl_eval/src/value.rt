@@ -1,7 +1,7 @@
 ghost use Rattle.std.specs.Prelude.{◌≡◌, IfOk};
 ghost use Rattle.page_datum.specs.View.{view};
 ghost use Rattle.tpl_eval.specs.Values.{PartAnswers, value_view};
-ghost use Rattle.tpl_eval.specs.Evaluating.{within};
+ghost use Rattle.tpl_eval.specs.Evaluating.{evaluated_within};
 ghost use Rattle.tpl_eval.specs.Scopes.{stored_view};
 ghost use Rattle.tpl_eval.specs.Selectors.{part_by, selected_by};
 ghost use Rattle.tpl_value.specs.Picking.{PickAnswers};
@@ -110,7 +110,7 @@ pub(crate) fn fields_within<'d, 'v>(
     value: Value<'d, 'v>,
     names: &Names,
 ) -> Result<Value<'d, 'v>, ValueStop>
-    ensures { PartAnswers (within (value_view value.entry) names.now) result }
+    ensures { PartAnswers (evaluated_within (value_view value.entry) names.now) result }
 {
     let mut value = value;
     for name in names.as_slice() {

@@ -2,28 +2,28 @@
 use Rattle.std.specs.Prelude.{◌≡◌, ℕ, zero, suc, true, false, List, [], ◌∷◌, ◌++◌, ◌⊎◌, Option, Some, None, Vec}
 use Rattle.std.specs.declared.alloc.Global.{Global}
 use Rattle.page_datum.specs.View.{view}
-use Rattle.tpl_events.specs.Events.{Event, Emission, enters, events_of, gives_hole, gives_text, leaves}
+use Rattle.tpl_events.specs.Events.{ExecEvent, Emission, enters, events_of, gives_hole, gives_text, leaves}
 use Rattle.tpl_events.specs.declared.list_sink.Kept.{Kept}
 use Rattle.tpl_events.specs.declared.list_sink.Kept.TheVariants as kept
 use Rattle.tpl_events.specs.declared.list_sink.ListSink.{ListSink}
 use Rattle.tpl_events.specs.declared.sink.HoleStop.{HoleStop}
 use Rattle.tpl_events.specs.declared.sink.HoleStop.TheVariants as stop
 
-abbrev pub kept_event : Kept → Event
+abbrev pub kept_event : Kept → ExecEvent
 kept_event (kept.Text n) = gives_text n
 kept_event (kept.Hole n datum) = gives_hole n (view datum)
 kept_event (kept.Call n) = enters n
 kept_event kept.Leave = leaves
 
-abbrev pub kept_events : List Kept → List Event
+abbrev pub kept_events : List Kept → List ExecEvent
 kept_events [] = []
 kept_events (k ∷ ks) = kept_event k ∷ kept_events ks
 
 -- what a list has kept
-abbrev pub events_in : Vec Kept Global → List Event
+abbrev pub events_in : Vec Kept Global → List ExecEvent
 events_in kept = kept_events kept.items
 
-abbrev pub listed : ListSink → List Event
+abbrev pub listed : ListSink → List ExecEvent
 listed s = events_in s.kept
 
 -- Of the texts, holes and calls that it is given, a list refuses one at most. So many come before it; `None` where there is none.
@@ -40,26 +40,26 @@ passed (Some zero) = None
 passed (Some (suc n)) = Some (Some n)
 
 -- the same after an event; the end of a call is never refused
-abbrev pub past : Option ℕ → Event → Option (Option ℕ)
-past before leaves = Some before
-past before (gives_text n) = passed before
-past before (gives_hole n x) = passed before
-past before (enters n) = passed before
+abbrev pub past_limit : Option ℕ → ExecEvent → Option (Option ℕ)
+past_limit before leaves = Some before
+past_limit before (gives_text n) = passed before
+past_limit before (gives_hole n x) = passed before
+past_limit before (enters n) = passed before
 
 -- an event stands after those that were kept before
-abbrev pub IsAdded : ListSink → Event → ListSink → Type 0
-IsAdded s e t = (listed t ≡ listed s ++ e ∷ []) × (t.whole ≡ s.whole)
+abbrev pub IsEventAdded : ListSink → ExecEvent → ListSink → Type 0
+IsEventAdded s e t = (listed t ≡ listed s ++ e ∷ []) × (t.whole ≡ s.whole)
 
 -- all stays as it was, and the list is not whole
 abbrev pub IsLost : ListSink → ListSink → Type 0
 IsLost s t = (listed t ≡ listed s) × (t.whole ≡ false)
 
 -- an event is kept; when memory runs out the end of a call may be lost
-abbrev pub IsKept : ListSink → Event → ListSink → Type 0
-IsKept s leaves t = IsAdded s leaves t ⊎ IsLost s t
-IsKept s (gives_text n) t = IsAdded s (gives_text n) t
-IsKept s (gives_hole n x) t = IsAdded s (gives_hole n x) t
-IsKept s (enters n) t = IsAdded s (enters n) t
+abbrev pub IsKeptEvent : ListSink → ExecEvent → ListSink → Type 0
+IsKeptEvent s leaves t = IsEventAdded s leaves t ⊎ IsLost s t
+IsKeptEvent s (gives_text n) t = IsEventAdded s (gives_text n) t
+IsKeptEvent s (gives_hole n x) t = IsEventAdded s (gives_hole n x) t
+IsKeptEvent s (enters n) t = IsEventAdded s (enters n) t
 
 -- what comes before the one to refuse, and how that is refused, are as they were
 pub record GoesOn (s t : ListSink) : Type 0 where
@@ -67,7 +67,7 @@ pub record GoesOn (s t : ListSink) : Type 0 where
   pub stop : t.stop ≡ s.stop
 
 -- what is kept, and how one is refused, are as they were
-pub record Stays (s t : ListSink) : Type 0 where
+pub record ListStays (s t : ListSink) : Type 0 where
   pub kept : listed t ≡ listed s
   pub stop : t.stop ≡ s.stop
   pub whole : t.whole ≡ s.whole
@@ -81,31 +81,31 @@ abbrev pub IsUnkept : ListSink → HoleStop → ListSink → Type 0
 IsUnkept s why t = (why ≡ stop.Memory) × (listed t ≡ listed s) × (t.whole ≡ s.whole)
 
 -- a list takes an event: it is not the one to refuse, and it is kept
-pub record Keeps (s : ListSink) (e : Event) (t : ListSink) : Type 0 where
-  pub past : past s.before e ≡ Some t.before
+pub record ListKeeps (s : ListSink) (e : ExecEvent) (t : ListSink) : Type 0 where
+  pub past : past_limit s.before e ≡ Some t.before
   pub stop : t.stop ≡ s.stop
-  pub added : IsKept s e t
+  pub added : IsKeptEvent s e t
 
 -- why a list refuses an event: it is the one to refuse, and is refused so; or it is not, and memory runs out
-abbrev pub HasReason : ListSink → Event → HoleStop → ListSink → Type 0
-HasReason s e why t = ((past s.before e ≡ None) × (why ≡ s.stop) × (t.before ≡ None)) ⊎ ((past s.before e ≡ Some t.before) × (why ≡ stop.Memory))
+abbrev pub HasReason : ListSink → ExecEvent → HoleStop → ListSink → Type 0
+HasReason s e why t = ((past_limit s.before e ≡ None) × (why ≡ s.stop) × (t.before ≡ None)) ⊎ ((past_limit s.before e ≡ Some t.before) × (why ≡ stop.Memory))
 
 -- a list refuses an event, and what it has kept stays
-pub record Declines (s : ListSink) (e : Event) (why : HoleStop) (t : ListSink) : Type 0 where
+pub record ListDeclines (s : ListSink) (e : ExecEvent) (why : HoleStop) (t : ListSink) : Type 0 where
   pub reason : HasReason s e why t
-  pub stays : Stays s t
+  pub stays : ListStays s t
 
 -- events up to the one that a list refuses
-abbrev pub and_past : Event → Option (Option ℕ) → (Option ℕ → List Event) → List Event
+abbrev pub and_past : ExecEvent → Option (Option ℕ) → (Option ℕ → List ExecEvent) → List ExecEvent
 and_past e None rest = []
 and_past e (Some before) rest = e ∷ rest before
 
-abbrev pub up_to : Option ℕ → List Event → List Event
+abbrev pub up_to : Option ℕ → List ExecEvent → List ExecEvent
 up_to before [] = []
-up_to before (e ∷ es) = and_past e (past before e) (λ later. up_to later es)
+up_to before (e ∷ es) = and_past e (past_limit before e) (λ later. up_to later es)
 
 -- texts, holes and calls, without the ends of calls
-abbrev pub without_ends : List Event → List Event
+abbrev pub without_ends : List ExecEvent → List ExecEvent
 without_ends [] = []
 without_ends (leaves ∷ es) = without_ends es
 without_ends (gives_text n ∷ es) = gives_text n ∷ without_ends es
@@ -113,7 +113,7 @@ without_ends (gives_hole n x ∷ es) = gives_hole n x ∷ without_ends es
 without_ends (enters n ∷ es) = enters n ∷ without_ends es
 
 -- A list has these events more. Where it is whole, all of them are there, and else all but some ends of calls.
-pub record HasMore (s : ListSink) (es : List Event) (t : ListSink) : Type 0 where
+pub record HasMore (s : ListSink) (es : List ExecEvent) (t : ListSink) : Type 0 where
   pub whole : t.whole ≡ true → (s.whole ≡ true) × (listed t ≡ listed s ++ es)
   pub others : without_ends (listed t) ≡ without_ends (listed s) ++ without_ends es
 
@@ -124,13 +124,13 @@ pub record HasAll (all : List Emission) (s t : ListSink) : Type 0 where
 
 -- a list has the events of an execution up to the one that it refuses so
 pub record HasUpTo (all : List Emission) (why : HoleStop) (s t : ListSink) : Type 0 where
-  pub next : (e : Event) × (rest : List Event) × (events_of all ≡ up_to s.before (events_of all) ++ e ∷ rest)
+  pub next : (e : ExecEvent) × (rest : List ExecEvent) × (events_of all ≡ up_to s.before (events_of all) ++ e ∷ rest)
   pub so : s.stop ≡ why
   pub more : HasMore s (up_to s.before (events_of all)) t
 
 -- a list has some first events of an execution, at most up to the one that it refuses
 pub record HasSome (all : List Emission) (s t : ListSink) : Type 0 where
-  pub prefix : List Event
-  pub rest : List Event
+  pub prefix : List ExecEvent
+  pub rest : List ExecEvent
   pub events : up_to s.before (events_of all) ≡ prefix ++ rest
   pub more : HasMore s prefix t

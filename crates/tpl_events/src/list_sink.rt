@@ -1,6 +1,6 @@
 ghost use Rattle.std.specs.Prelude.{◌≡◌, ◌++◌, ◌∷◌, [], true, OnOk, OnErr, IfErr};
-ghost use Rattle.tpl_events.specs.Lists.{GoesOn, IsAdded, IsStated, IsUnkept};
-ghost use Rattle.tpl_events.specs.Lists.{Stays};
+ghost use Rattle.tpl_events.specs.Lists.{GoesOn, IsEventAdded, IsStated, IsUnkept};
+ghost use Rattle.tpl_events.specs.Lists.{ListStays};
 ghost use Rattle.tpl_events.specs.Lists.{before_number, events_in, kept_event, listed, passed};
 
 use crate::sink::{HoleSink, HoleStop};
@@ -66,7 +66,7 @@ impl ListSink {
     fn admit(&mut self) -> Result<(), HoleStop>
         ensures taken { OnOk result (passed self.old.before ≡ Some self.new.before) }
         ensures refused { IfErr result (λ why. IsStated self.old why self.new) }
-        ensures stays { Stays self.old self.new }
+        ensures stays { ListStays self.old self.new }
     {
         match self.before {
             None => Ok(()),
@@ -81,9 +81,9 @@ impl ListSink {
         }
     }
 
-    // Keeps one more event. The error is out of memory.
+    // Keeps one more event. Fails only if allocation fails.
     fn keep(&mut self, event: Kept) -> Result<(), HoleStop>
-        ensures ok { OnOk result (IsAdded self.old (kept_event event) self.new) }
+        ensures ok { OnOk result (IsEventAdded self.old (kept_event event) self.new) }
         ensures err { IfErr result (λ why. IsUnkept self.old why self.new) }
         ensures goes_on { GoesOn self.old self.new }
     {
@@ -96,13 +96,13 @@ impl ListSink {
 
 impl HoleSink for ListSink {
     ghost use Rattle.std.specs.Prelude.{⊤};
-    ghost use Rattle.tpl_events.specs.Lists.{Declines, Keeps};
+    ghost use Rattle.tpl_events.specs.Lists.{ListDeclines, ListKeeps};
 
     ghost may = { λ _ _. ⊤ };
 
-    ghost takes = { Keeps };
+    ghost takes = { ListKeeps };
 
-    ghost refuses = { Declines };
+    ghost refuses = { ListDeclines };
 
     fn text(&mut self, node: u32) -> Result<(), HoleStop> {
         match self.admit() {

@@ -1,5 +1,5 @@
 ghost use Rattle.std.specs.Prelude.{OnOk, IfErr};
-ghost use Rattle.tpl_events.specs.Events.{Event, enters, fills, gives_text, leaves};
+ghost use Rattle.tpl_events.specs.Events.{ExecEvent, enters, fills, gives_text, leaves};
 ghost use Rattle.tpl_events.specs.declared.sink.HoleStop.{HoleStop};
 
 use page_datum::Datum;
@@ -37,13 +37,13 @@ pub enum HoleStop {
 /// ```
 pub trait HoleSink {
     // Which events may be given in a state.
-    ghost may: { Self → Event → Type 0 };
+    ghost may: { Self → ExecEvent → Type 0 };
 
     // To which states an event may lead from a state where it is taken.
-    ghost takes: { Self → Event → Self → Type 0 };
+    ghost takes: { Self → ExecEvent → Self → Type 0 };
 
     // To which states it may lead where it is refused so.
-    ghost refuses: { Self → Event → HoleStop → Self → Type 0 };
+    ghost refuses: { Self → ExecEvent → HoleStop → Self → Type 0 };
 
     /// A text, by its node.
     fn text(&mut self, node: u32) -> Result<(), HoleStop>

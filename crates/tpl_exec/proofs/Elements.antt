@@ -7,14 +7,14 @@ use Rattle.page_datum.specs.Data.{Data, int, text, DataList, no_items, item, Dat
 use Rattle.page_datum.specs.View.{view, items_view, entries_view}
 use Rattle.page_datum.specs.declared.datum.Datum.{Datum}
 use Rattle.tpl_exec.specs.Elements.{is_some}
-use Rattle.tpl_exec.specs.Meaning.{keyed, numbered}
+use Rattle.tpl_exec.specs.Meaning.{keyed, numbered_elements}
 
-numbered-length : (ds : List Datum) (n : ℕ) → length (numbered n (items_view ds)) ≡ length ds
+numbered-length : (ds : List Datum) (n : ℕ) → length (numbered_elements n (items_view ds)) ≡ length ds
 numbered-length [] n = refl
 numbered-length (d ∷ ds) n = ap suc (numbered-length ds (suc n))
 
 numbered-get : (ds : List Datum) (n at sum : ℕ) (v : Datum) (d : Data × Data) → at < length ds → ((e : Datum) → v ≡ get_or ds at e) → sum ≡ n + at
-    → get_or (numbered n (items_view ds)) at d ≡ (int (pos sum), view v)
+    → get_or (numbered_elements n (items_view ds)) at d ≡ (int (pos sum), view v)
 numbered-get [] n at sum v d inside here is = absurd (omega (arith, inside))
 numbered-get (x ∷ ds) n zero sum v d inside here is =
     let same : n ≡ sum = omega (arith, is) in
@@ -33,22 +33,22 @@ keyed-get (x ∷ es) (suc at) v d inside here = keyed-get es at v d (omega (arit
 
 -- the item with a number, and none
 pub item_here : (ds : List Datum) (items : DataList) (at : ℕ) (v : Datum) → items_view ds ≡ items → at < length ds → ((e : Datum) → v ≡ get_or ds at e)
-    → drop at (numbered 0 items) ≡ (int (pos at), view v) ∷ drop (at + 1) (numbered 0 items)
-item_here ds items at v all inside here = subst (λ (w : DataList). drop at (numbered 0 w) ≡ (int (pos at), view v) ∷ drop (at + 1) (numbered 0 w)) all
-    (let within : at < length (numbered 0 (items_view ds)) = omega (arith, inside, numbered-length ds 0) in
-    drop_more (numbered 0 (items_view ds)) at (int (pos at), view v) within
-    ∙ ap (λ (e : Data × Data). e ∷ drop (at + 1) (numbered 0 (items_view ds))) (numbered-get ds 0 at at v (int (pos at), view v) inside here (omega arith)))
+    → drop at (numbered_elements 0 items) ≡ (int (pos at), view v) ∷ drop (at + 1) (numbered_elements 0 items)
+item_here ds items at v all inside here = subst (λ (w : DataList). drop at (numbered_elements 0 w) ≡ (int (pos at), view v) ∷ drop (at + 1) (numbered_elements 0 w)) all
+    (let within : at < length (numbered_elements 0 (items_view ds)) = omega (arith, inside, numbered-length ds 0) in
+    drop_more (numbered_elements 0 (items_view ds)) at (int (pos at), view v) within
+    ∙ ap (λ (e : Data × Data). e ∷ drop (at + 1) (numbered_elements 0 (items_view ds))) (numbered-get ds 0 at at v (int (pos at), view v) inside here (omega arith)))
 
-pub item_nowhere : (ds : List Datum) (items : DataList) (at : ℕ) → items_view ds ≡ items → length ds ≤ at → drop at (numbered 0 items) ≡ []
-item_nowhere ds items at all after = subst (λ (w : DataList). drop at (numbered 0 w) ≡ []) all
-    (drop_of_length-le (numbered 0 (items_view ds)) (omega (arith, after, numbered-length ds 0)))
+pub item_nowhere : (ds : List Datum) (items : DataList) (at : ℕ) → items_view ds ≡ items → length ds ≤ at → drop at (numbered_elements 0 items) ≡ []
+item_nowhere ds items at all after = subst (λ (w : DataList). drop at (numbered_elements 0 w) ≡ []) all
+    (drop_of_length-le (numbered_elements 0 (items_view ds)) (omega (arith, after, numbered-length ds 0)))
 
-count_numbered : (items : DataList) (n : ℕ) → length (numbered n items) ≡ item_count items
+count_numbered : (items : DataList) (n : ℕ) → length (numbered_elements n items) ≡ item_count items
 count_numbered no_items n = refl
 count_numbered (item value rest) n = ap suc (count_numbered rest (suc n))
 
-pub item_past : (items : DataList) (at : ℕ) → item_count items ≤ at → drop at (numbered 0 items) ≡ []
-item_past items at after = drop_of_length-le (numbered 0 items) (omega (arith, after, count_numbered items 0))
+pub item_past : (items : DataList) (at : ℕ) → item_count items ≤ at → drop at (numbered_elements 0 items) ≡ []
+item_past items at after = drop_of_length-le (numbered_elements 0 items) (omega (arith, after, count_numbered items 0))
 
 -- the entry with a number, and none
 pub entry_here : (es : List (List ℕ × Datum)) (keys : DataDict) (at : ℕ) (v : List ℕ × Datum) → entries_view es ≡ keys → at < length es → ((e : List ℕ × Datum) → v ≡ get_or es at e)
@@ -70,7 +70,7 @@ pub entry_past : (keys : DataDict) (at : ℕ) → entry_count keys ≤ at → dr
 entry_past keys at after = drop_of_length-le (keyed keys) (omega (arith, after, count_keyed keys))
 
 -- whether there are some
-pub some_items : (items : DataList) (n : ℕ) → n ≡ item_count items → nat_lt 0 n ≡ is_some (numbered 0 items)
+pub some_items : (items : DataList) (n : ℕ) → n ≡ item_count items → nat_lt 0 n ≡ is_some (numbered_elements 0 items)
 some_items no_items n is = ap (nat_lt 0) is
 some_items (item value rest) n is =
     let some : nat_lt 0 (suc (item_count rest)) ≡ true = grind (arith, nat_tests) in

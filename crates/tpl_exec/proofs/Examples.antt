@@ -4,7 +4,7 @@ use Rattle.std.specs.Prelude.{refl}
 use Rattle.page_datum.specs.Data.{Data, null, text, list, dict, DataList, no_items, item, no_entries}
 use Rattle.page_datum.specs.declared.fault.FaultKind.TheVariants as fault_kind
 use Rattle.tpl_exec.specs.Meaning.{meaning}
-use Rattle.tpl_events.specs.Events.{Event, Emission, gives_hole, gives_text}
+use Rattle.tpl_events.specs.Events.{ExecEvent, Emission, gives_hole, gives_text}
 use Rattle.tpl_exec.specs.Runs.{End, Run, done, else_part, faulted, next, then_part, turn}
 use Rattle.tpl_symbol.specs.declared.func.Func.TheVariants as func
 use Rattle.tpl_tree.specs.Forests.{ForestData}
@@ -42,7 +42,7 @@ one_template nodes = (name, record { nodes = nodes; end_line = 1 }) ∷ []
 abbrev run_of : NodesData → Data → Run
 run_of nodes datum = meaning (one_template nodes) name datum
 
-abbrev emitted : Event → Emission
+abbrev emitted : ExecEvent → Emission
 emitted event = record { event = event; template = name; line = 1 }
 
 abbrev end_of : Run → End

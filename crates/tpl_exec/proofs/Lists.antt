@@ -1,6 +1,6 @@
 -- What a list has after an execution.
 use Rattle.std.proofs.Common.{ℕ, Result, Ok, Err, inl, inr}
-use Rattle.tpl_events.specs.Lists.{Declines, Keeps}
+use Rattle.tpl_events.specs.Lists.{ListDeclines, ListKeeps}
 use Rattle.tpl_events.specs.declared.list_sink.ListSink.{ListSink}
 use Rattle.tpl_events.specs.declared.sink.HoleStop.TheVariants as stop
 use Rattle.tpl_events.proofs.Lists.{has_all, has_prefix, has_some, has_up_to}
@@ -10,7 +10,7 @@ use Rattle.tpl_exec.specs.Runs.{Run}
 use Rattle.tpl_exec.specs.declared.stop.ExecStop.{ExecStop}
 use Rattle.tpl_exec.specs.declared.stop.ExecStop.TheVariants.{Fault, SinkStop, Memory}
 
-pub lists_run : (run : Run) (s t : ListSink) (answer : Result ℕ ExecStop) → RunAnswers Keeps Declines run s t answer → Lists run s answer t
+pub lists_run : (run : Run) (s t : ListSink) (answer : Result ℕ ExecStop) → RunAnswers ListKeeps ListDeclines run s t answer → Lists run s answer t
 lists_run run s t (Ok steps) e = has_all run.events s t e.0
 lists_run run s t (Err (Fault why)) (inl e) = inl (has_all run.events s t e.0)
 lists_run run s t (Err (Fault why)) (inr e) = inr (has_up_to run.events s t e.0 stop.TooLong (λ same. cc) e.1)

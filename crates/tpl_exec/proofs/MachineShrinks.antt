@@ -3,9 +3,9 @@ use Rattle.std.proofs.Common.{ℕ, zero, suc, ◌+◌, ◌-◌, ◌*◌, ◌≤�
 use Rattle.page_datum.specs.Data.{Data}
 use Rattle.page_datum.specs.declared.fault.FaultKind.{FaultKind}
 use Rattle.tpl_eval.specs.Functions.{Outcome, counted, max_steps}
-use Rattle.tpl_exec.specs.Machine.{Spot, spot, nowhere, Loop, Frame, part, loop, call, Machine, Progress, continues, emits, finishes, fails, on_steps, on_value, next_turn, ended, leaving, broken_off, moved, if_advance, with_advance, range_advance, call_advance, node_advance, advanced, advance, turning, started}
-use Rattle.tpl_exec.specs.Meaning.{argument, at_dot, assigned, declared, elements, evaluated}
-use Rattle.tpl_exec.specs.Runs.{Site, State}
+use Rattle.tpl_exec.specs.Machine.{TreeCursor, tree_cursor, nowhere, Loop, Frame, part, loop, call, Machine, Progress, continues, emits, finishes, fails, on_steps, on_value, next_turn, machine_ended, leaving, loop_broken_off, moved, if_advance, with_advance, range_advance, call_advance, node_advance, advanced, machine_advance, turning, started}
+use Rattle.tpl_exec.specs.Meaning.{argument, at_dot, scope_assigned, scope_declared, elements, evaluated}
+use Rattle.tpl_exec.specs.Runs.{Site, RunState}
 use Rattle.tpl_eval.proofs.StepsGrow.{Counts, Grows, Within, counts, grows_from, pipe_grows}
 use Rattle.tpl_tree.specs.Forests.{ForestData}
 use Rattle.tpl_tree.specs.Trees.{NodesData, no_nodes, node, nodes_size}
@@ -64,13 +64,13 @@ steps_fall w least at line (Ok steps) adv g h = h steps g
 steps_fall w least at line (Err kind) adv g h = tt
 
 -- a `break` and a `continue`
-broken_falls : (w : ℕ) (m : Machine) (fs : List Frame) → m.state.steps ≤ max_steps → 2 * (max_steps - m.state.steps) + length fs < w → Falls w (broken_off true m fs)
+broken_falls : (w : ℕ) (m : Machine) (fs : List Frame) → m.state.steps ≤ max_steps → 2 * (max_steps - m.state.steps) + length fs < w → Falls w (loop_broken_off true m fs)
 broken_falls w m [] l h = l
 broken_falls w m (part dot rest count ∷ fs) l h = broken_falls w (leaving m dot count) fs l (omega (arith, h))
 broken_falls w m (loop dot it rest count ∷ fs) l h = (omega (arith, h), l)
 broken_falls w m (call caller line rest variables ∷ fs) l h = (omega (arith, h), l)
 
-continued_falls : (w : ℕ) (m : Machine) (fs : List Frame) → m.state.steps ≤ max_steps → 2 * (max_steps - m.state.steps) + length fs < w → Falls w (broken_off false m fs)
+continued_falls : (w : ℕ) (m : Machine) (fs : List Frame) → m.state.steps ≤ max_steps → 2 * (max_steps - m.state.steps) + length fs < w → Falls w (loop_broken_off false m fs)
 continued_falls w m [] l h = l
 continued_falls w m (part dot rest count ∷ fs) l h = continued_falls w (leaving m dot count) fs l (omega (arith, h))
 continued_falls w m (loop dot it rest count ∷ fs) l h = (h, l)
@@ -81,48 +81,48 @@ abbrev Next : Machine → ℕ → Type 0
 Next m steps = Within (m.state.steps + 1) steps
 
 -- a part, a loop or a call is open then
-if_falls : (m : Machine) (b : Bool) (first other rest : Spot) (state : State) → Next m state.steps → Falls (weight m) (continues (if_advance m b first other rest state))
+if_falls : (m : Machine) (b : Bool) (first other rest : TreeCursor) (state : RunState) → Next m state.steps → Falls (weight m) (continues (if_advance m b first other rest state))
 if_falls m true first other rest state h = (lighter max_steps m.state.steps state.steps (length m.frames) (suc (length m.frames)) h.0 h.1 (omega arith), h.1)
 if_falls m false first other rest state h = (lighter max_steps m.state.steps state.steps (length m.frames) (suc (length m.frames)) h.0 h.1 (omega arith), h.1)
 
-with_falls : (m : Machine) (b : Bool) (value : Data) (first other rest : Spot) (state : State) → Next m state.steps → Falls (weight m) (continues (with_advance m b value first other rest state))
+with_falls : (m : Machine) (b : Bool) (value : Data) (first other rest : TreeCursor) (state : RunState) → Next m state.steps → Falls (weight m) (continues (with_advance m b value first other rest state))
 with_falls m true value first other rest state h = (lighter max_steps m.state.steps state.steps (length m.frames) (suc (length m.frames)) h.0 h.1 (omega arith), h.1)
 with_falls m false value first other rest state h = (lighter max_steps m.state.steps state.steps (length m.frames) (suc (length m.frames)) h.0 h.1 (omega arith), h.1)
 
-range_falls : (m : Machine) (l : Loop) (found : Option (List (Data × Data))) (other rest : Spot) (state : State) → Next m state.steps → Falls (weight m) (range_advance m l found other rest state)
+range_falls : (m : Machine) (l : Loop) (found : Option (List (Data × Data))) (other rest : TreeCursor) (state : RunState) → Next m state.steps → Falls (weight m) (range_advance m l found other rest state)
 range_falls m l None other rest state h = tt
 range_falls m l (Some []) other rest state h = (lighter max_steps m.state.steps state.steps (length m.frames) (suc (length m.frames)) h.0 h.1 (omega arith), h.1)
 range_falls m l (Some (e ∷ es)) other rest state h = (lighter max_steps m.state.steps state.steps (length m.frames) (suc (length m.frames)) h.0 h.1 (omega arith), h.1)
 
-call_falls : (forest : ForestData) (m : Machine) (calls n line : ℕ) (name : List ℕ) (value : Data) (rest : Spot) (steps : ℕ) → Next m steps → Falls (weight m) (call_advance forest m calls n line name value rest steps)
+call_falls : (forest : ForestData) (m : Machine) (calls n line : ℕ) (name : List ℕ) (value : Data) (rest : TreeCursor) (steps : ℕ) → Next m steps → Falls (weight m) (call_advance forest m calls n line name value rest steps)
 call_falls forest m zero n line name value rest steps h = tt
 call_falls forest m (suc more) n line name value rest steps h = (lighter max_steps m.state.steps steps (length m.frames) (suc (length m.frames)) h.0 h.1 (omega arith), h.1)
 
 -- nothing more is open
-moved_falls : (m : Machine) (at : Spot) (state : State) → Next m state.steps → Falls (weight m) (continues (moved m at state))
+moved_falls : (m : Machine) (at : TreeCursor) (state : RunState) → Next m state.steps → Falls (weight m) (continues (moved m at state))
 moved_falls m at state h = (lighter max_steps m.state.steps state.steps (length m.frames) (length m.frames) h.0 h.1 (omega arith), h.1)
 
 -- the value of a pipe of a node
-evaluated_grows : (at : Site) (pipe : Pipe) (state : State) (least : ℕ) → Within least state.steps → Grows least (evaluated at pipe state)
+evaluated_grows : (at : Site) (pipe : Pipe) (state : RunState) (least : ℕ) → Within least state.steps → Grows least (evaluated at pipe state)
 evaluated_grows at pipe state least h = grows_from least state.steps (evaluated at pipe state) h.0 (pipe_grows (record { dot = at.dot; variables = state.variables }) pipe.commands None state.steps h.1)
 
-argument_grows : (at : Site) (pipe : Option Pipe) (state : State) (least : ℕ) → Within least state.steps → Grows least (argument at pipe state)
+argument_grows : (at : Site) (pipe : Option Pipe) (state : RunState) (least : ℕ) → Within least state.steps → Grows least (argument at pipe state)
 argument_grows at None state least h = h
 argument_grows at (Some pipe) state least h = evaluated_grows at pipe state least h
 
 -- a node
-node_falls : (forest : ForestData) (m : Machine) (n line : ℕ) (what : NodeKind) (first other rest : Spot) (state : State) → Next m state.steps → Falls (weight m) (node_advance forest m n line what first other rest state)
+node_falls : (forest : ForestData) (m : Machine) (n line : ℕ) (what : NodeKind) (first other rest : TreeCursor) (state : RunState) → Next m state.steps → Falls (weight m) (node_advance forest m n line what first other rest state)
 node_falls forest m n line (kind.Text bytes) first other rest state h = moved_falls m rest state h
 node_falls forest m n line (kind.Action pipe) first other rest state h = value_falls (weight m) (m.state.steps + 1) m.site line (evaluated m.site pipe state) _ (evaluated_grows m.site pipe state (m.state.steps + 1) h)
     (λ value steps k. moved_falls m rest (record { variables = state.variables; steps = steps }) k)
 node_falls forest m n line (kind.Declare name pipe) first other rest state h = value_falls (weight m) (m.state.steps + 1) m.site line (evaluated m.site pipe state) _ (evaluated_grows m.site pipe state (m.state.steps + 1) h)
     (λ value steps k. moved_falls m rest (record { variables = (name, value) ∷ state.variables; steps = steps }) k)
 node_falls forest m n line (kind.Assign name pipe) first other rest state h = value_falls (weight m) (m.state.steps + 1) m.site line (evaluated m.site pipe state) _ (evaluated_grows m.site pipe state (m.state.steps + 1) h)
-    (λ value steps k. moved_falls m rest (record { variables = assigned name value state.variables; steps = steps }) k)
+    (λ value steps k. moved_falls m rest (record { variables = scope_assigned name value state.variables; steps = steps }) k)
 node_falls forest m n line (kind.If name pipe) first other rest state h = value_falls (weight m) (m.state.steps + 1) m.site line (evaluated m.site pipe state) _ (evaluated_grows m.site pipe state (m.state.steps + 1) h)
-    (λ value steps k. if_falls m (truth_of value) first other rest (record { variables = declared name value state.variables; steps = steps }) k)
+    (λ value steps k. if_falls m (truth_of value) first other rest (record { variables = scope_declared name value state.variables; steps = steps }) k)
 node_falls forest m n line (kind.With name pipe) first other rest state h = value_falls (weight m) (m.state.steps + 1) m.site line (evaluated m.site pipe state) _ (evaluated_grows m.site pipe state (m.state.steps + 1) h)
-    (λ value steps k. with_falls m (truth_of value) value first other rest (record { variables = declared name value state.variables; steps = steps }) k)
+    (λ value steps k. with_falls m (truth_of value) value first other rest (record { variables = scope_declared name value state.variables; steps = steps }) k)
 node_falls forest m n line (kind.Range index element pipe) first other rest state h = value_falls (weight m) (m.state.steps + 1) m.site line (evaluated m.site pipe state) _ (evaluated_grows m.site pipe state (m.state.steps + 1) h)
     (λ value steps k. range_falls m (record { line = line; index = index; element = element; first = first; left = [] }) (elements value) other rest (record { variables = state.variables; steps = steps }) k)
 node_falls forest m n line kind.Break first other rest state h = broken_falls (weight m) (moved m nowhere state) m.frames h.1 (moved_falls m nowhere state h).0
@@ -131,13 +131,13 @@ node_falls forest m n line (kind.Template name pipe) first other rest state h = 
     (λ value steps k. call_falls forest m m.calls n line name value rest steps k)
 
 -- a turn of a loop, or its end
-turn_falls : (m : Machine) (dot : Data) (l : Loop) (left : List (Data × Data)) (rest : Spot) (count : ℕ) (fs : List Frame) (w : ℕ) → m.state.steps ≤ max_steps → 2 * (max_steps - m.state.steps) + suc (length fs) ≤ w → Falls w (next_turn m dot l left rest count fs)
+turn_falls : (m : Machine) (dot : Data) (l : Loop) (left : List (Data × Data)) (rest : TreeCursor) (count : ℕ) (fs : List Frame) (w : ℕ) → m.state.steps ≤ max_steps → 2 * (max_steps - m.state.steps) + suc (length fs) ≤ w → Falls w (next_turn m dot l left rest count fs)
 turn_falls m dot l [] rest count fs w b h = (omega (arith, h), b)
 turn_falls m dot l (e ∷ es) rest count fs w b h = steps_fall w (m.state.steps + 1) (at_dot m.site dot) l.line (counted 1 m.state.steps) (λ steps. continues (turning m dot l e es rest count fs steps)) (counts 1 m.state.steps)
     (λ steps k. (omega (arith, h, lighter max_steps m.state.steps steps (suc (length fs)) (suc (length fs)) k.0 k.1 (omega arith)), k.1))
 
 -- no node is next
-ended_falls : (m : Machine) (fs : List Frame) (w : ℕ) → m.state.steps ≤ max_steps → 2 * (max_steps - m.state.steps) + length fs ≤ w → Falls w (ended m fs)
+ended_falls : (m : Machine) (fs : List Frame) (w : ℕ) → m.state.steps ≤ max_steps → 2 * (max_steps - m.state.steps) + length fs ≤ w → Falls w (machine_ended m fs)
 ended_falls m [] w b h = b
 ended_falls m (part dot rest count ∷ fs) w b h = (omega (arith, h), b)
 ended_falls m (loop dot l rest count ∷ fs) w b h = turn_falls m dot l l.left rest count fs w b h
@@ -147,15 +147,15 @@ ended_falls m (call caller line rest variables ∷ fs) w b h = (omega (arith, h)
 advanced_falls : (forest : ForestData) (m : Machine) (n : ℕ) (nodes : NodesData) → m.state.steps ≤ max_steps → Falls (weight m) (advanced forest m n nodes)
 advanced_falls forest m n no_nodes b = ended_falls m m.frames (weight m) b (omega arith)
 advanced_falls forest m n (node what line seams first other rest) b = steps_fall (weight m) (m.state.steps + 1) m.site line (counted 1 m.state.steps) _ (counts 1 m.state.steps)
-    (λ steps k. node_falls forest m n line what (spot (n + 1) first) (spot (n + 1 + nodes_size first) other) (spot (n + 1 + nodes_size first + nodes_size other) rest) (record { variables = m.state.variables; steps = steps }) k)
+    (λ steps k. node_falls forest m n line what (tree_cursor (n + 1) first) (tree_cursor (n + 1 + nodes_size first) other) (tree_cursor (n + 1 + nodes_size first + nodes_size other) rest) (record { variables = m.state.variables; steps = steps }) k)
 
 -- the machine after one advance has less to do
-pub shrinks : (forest : ForestData) (m : Machine) → m.state.steps ≤ max_steps → Shrinks (weight m) (advance forest m)
-shrinks forest m b = shrinks_of (weight m) (advance forest m) (advanced_falls forest m m.at.number m.at.nodes b)
+pub shrinks : (forest : ForestData) (m : Machine) → m.state.steps ≤ max_steps → Shrinks (weight m) (machine_advance forest m)
+shrinks forest m b = shrinks_of (weight m) (machine_advance forest m) (advanced_falls forest m m.at.number m.at.nodes b)
 
 -- and no more steps than an execution may have
-pub bounded : (forest : ForestData) (m : Machine) → m.state.steps ≤ max_steps → Bounded (advance forest m)
-bounded forest m b = bounded_of (weight m) (advance forest m) (advanced_falls forest m m.at.number m.at.nodes b)
+pub bounded : (forest : ForestData) (m : Machine) → m.state.steps ≤ max_steps → Bounded (machine_advance forest m)
+bounded forest m b = bounded_of (weight m) (machine_advance forest m) (advanced_falls forest m m.at.number m.at.nodes b)
 
 -- which it has none of at its start
 pub started_bounded : (forest : ForestData) (more : ℕ) (root : List ℕ) (datum : Data) → (started forest more root datum).state.steps ≤ max_steps

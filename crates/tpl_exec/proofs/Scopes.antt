@@ -3,8 +3,8 @@ use Rattle.std.proofs.Common.{◌≡◌, ℕ, zero, suc, ◌+◌, ◌-◌, ◌<�
 use Rattle.std.proofs.lemmas.List.{drop_more, length-append, length-drop, take-append-drop}
 use Rattle.page_datum.specs.Data.{Data}
 use Rattle.tpl_eval.specs.Evaluating.{Variables}
-use Rattle.tpl_exec.specs.Meaning.{assigned}
-use Rattle.tpl_exec.specs.Runs.{cut}
+use Rattle.tpl_exec.specs.Meaning.{scope_assigned}
+use Rattle.tpl_exec.specs.Runs.{run_cut}
 use Rattle.tpl_eval.specs.Scopes.{stored_view, variables_view}
 use Rattle.tpl_eval.specs.declared.scope.Variable.{Variable}
 use Rattle.tpl_eval.proofs.Variables.{variables_view-at}
@@ -28,7 +28,7 @@ drop_prefix [] ys n is = ap (λ (k : ℕ). drop k ys) is
 drop_prefix (x ∷ xs) ys n is = ap (λ (k : ℕ). drop k (x ∷ (xs ++ ys))) is ∙ drop_prefix xs ys (length xs) refl
 
 -- the oldest ones
-pub cut_prefix : (vs : List Variable) (n : ℕ) → variables_view (take n vs) ≡ cut n (variables_view vs)
+pub cut_prefix : (vs : List Variable) (n : ℕ) → variables_view (take n vs) ≡ run_cut n (variables_view vs)
 cut_prefix vs n =
     let parts : variables_view vs ≡ variables_view (drop n vs) ++ variables_view (take n vs) = ap variables_view (sym (take-append-drop n vs)) ∙ variables_view-append (take n vs) (drop n vs) in
     let count : length (variables_view vs) - n ≡ length (variables_view (drop n vs)) = omega (arith, variables_view-length vs, variables_view-length (drop n vs), length-drop n vs) in
@@ -47,9 +47,9 @@ set_view (x ∷ vs) (suc n) m w next inside =
 
 -- the newest variable of a prefix has the name
 pub assigned_at : (name : List ℕ) (vs : List Variable) (n m : ℕ) (v w : Variable) (all : Variables) → m ≡ n + 1 → n < length vs → v ≡ get_or vs n v → bytes_eq v.name.now name ≡ true → w.name.now ≡ name
-    → variables_view (drop m vs) ++ assigned name (stored_view w.value) (variables_view (take m vs)) ≡ all → variables_view (slice_set vs n w) ≡ all
+    → variables_view (drop m vs) ++ scope_assigned name (stored_view w.value) (variables_view (take m vs)) ≡ all → variables_view (slice_set vs n w) ≡ all
 assigned_at name vs n m v w all next inside here same named h =
-    let step : assigned name (stored_view w.value) (variables_view (take m vs)) ≡ (name, stored_view w.value) ∷ variables_view (take n vs) = rw (variables_view-at vs n m v next inside here, same) refl in
+    let step : scope_assigned name (stored_view w.value) (variables_view (take m vs)) ≡ (name, stored_view w.value) ∷ variables_view (take n vs) = rw (variables_view-at vs n m v next inside here, same) refl in
     set_view vs n m w next inside
     ∙ ap (λ (k : List ℕ). variables_view (drop m vs) ++ ((k, stored_view w.value) ∷ variables_view (take n vs))) named
     ∙ ap (λ (more : Variables). variables_view (drop m vs) ++ more) (sym step)
@@ -57,11 +57,11 @@ assigned_at name vs n m v w all next inside here same named h =
 
 -- it has not
 pub assigned_before : (name : List ℕ) (x : Data) (vs : List Variable) (n m : ℕ) (v : Variable) (all : Variables) → m ≡ n + 1 → n < length vs → v ≡ get_or vs n v → bytes_eq v.name.now name ≡ false
-    → variables_view (drop m vs) ++ assigned name x (variables_view (take m vs)) ≡ all → variables_view (drop n vs) ++ assigned name x (variables_view (take n vs)) ≡ all
+    → variables_view (drop m vs) ++ scope_assigned name x (variables_view (take m vs)) ≡ all → variables_view (drop n vs) ++ scope_assigned name x (variables_view (take n vs)) ≡ all
 assigned_before name x vs n m v all next inside here other h =
-    let step : assigned name x (variables_view (take m vs)) ≡ variable_view v ∷ assigned name x (variables_view (take n vs)) = rw (variables_view-at vs n m v next inside here, other) refl in
+    let step : scope_assigned name x (variables_view (take m vs)) ≡ variable_view v ∷ scope_assigned name x (variables_view (take n vs)) = rw (variables_view-at vs n m v next inside here, other) refl in
     let first : drop n vs ≡ v ∷ drop m vs = drop_more vs n v inside ∙ ap (λ (y : Variable). y ∷ drop (n + 1) vs) (sym here) ∙ ap (λ (k : ℕ). v ∷ drop k vs) (sym next) in
-    ap (λ (ws : List Variable). variables_view ws ++ assigned name x (variables_view (take n vs))) first
-    ∙ append_assoc (variables_view (drop m vs)) (variable_view v ∷ []) (assigned name x (variables_view (take n vs)))
+    ap (λ (ws : List Variable). variables_view ws ++ scope_assigned name x (variables_view (take n vs))) first
+    ∙ append_assoc (variables_view (drop m vs)) (variable_view v ∷ []) (scope_assigned name x (variables_view (take n vs)))
     ∙ ap (λ (more : Variables). variables_view (drop m vs) ++ more) (sym step)
     ∙ h

@@ -5,10 +5,10 @@ use Rattle.std.specs.Borrow.{Bor}
 use Rattle.page_datum.specs.Data.{Data, int, text}
 use Rattle.page_datum.specs.View.{view}
 use Rattle.page_datum.specs.declared.datum.Datum.{Datum}
-use Rattle.tpl_exec.specs.Meaning.{declared, elements}
+use Rattle.tpl_exec.specs.Meaning.{scope_declared, elements}
 use Rattle.tpl_eval.specs.Scopes.{stored_view}
 use Rattle.tpl_exec.specs.Variables.{all_variables}
-use Rattle.tpl_exec.specs.declared.element.Element.{Element}
+use Rattle.tpl_exec.specs.declared.element.RangeElement.{RangeElement}
 use Rattle.tpl_exec.specs.declared.element.Index.{Index}
 use Rattle.tpl_exec.specs.declared.element.Index.TheVariants.{Number, Key}
 use Rattle.tpl_eval.specs.declared.stored.Stored.{Stored}
@@ -38,15 +38,15 @@ abbrev pub index_view : Index → Data
 index_view (Number n) = int n
 index_view (Key key) = text key.now
 
-abbrev pub element_view : Element → Data × Data
+abbrev pub element_view : RangeElement → Data × Data
 element_view e = (index_view e.index, stored_view e.value)
 
 -- one variable more, where a range declares one for the index
 abbrev pub IsIndexed : Option (List ℕ) → Index → Vec Variable Global → Vec Variable Global → Type 0
-IsIndexed name index old new = all_variables new ≡ declared name (index_view index) (all_variables old)
+IsIndexed name index old new = all_variables new ≡ scope_declared name (index_view index) (all_variables old)
 
 -- the element with a number among all, or that there are no more
-abbrev pub IsElement : Option Element → ℕ → List (Data × Data) → Type 0
+abbrev pub IsElement : Option RangeElement → ℕ → List (Data × Data) → Type 0
 IsElement None at all = drop at all ≡ []
 IsElement (Some e) at all = drop at all ≡ element_view e ∷ drop (at + 1) all
 

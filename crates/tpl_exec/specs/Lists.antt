@@ -1,7 +1,7 @@
 -- What a list has after an execution.
 use Rattle.std.specs.Prelude.{ℕ, ◌⊎◌, Result, Ok, Err}
 use Rattle.page_datum.specs.declared.datum.Datum.{Datum}
-use Rattle.tpl_events.specs.Lists.{Declines, HasAll, HasSome, HasUpTo, Keeps}
+use Rattle.tpl_events.specs.Lists.{ListDeclines, HasAll, HasSome, HasUpTo, ListKeeps}
 use Rattle.tpl_events.specs.declared.list_sink.ListSink.{ListSink}
 use Rattle.tpl_events.specs.declared.sink.HoleStop.TheVariants as stop
 use Rattle.tpl_exec.specs.Executing.{ExecuteAnswers}
@@ -19,4 +19,4 @@ Lists run s (Err Memory) t = HasSome run.events s t
 
 -- how the execution of a template into a list answers
 abbrev pub ExecuteIntoAnswers : ForestData → ℕ → Datum → ListSink → ListSink → Result ℕ ExecStop → Type 0
-ExecuteIntoAnswers forest root datum s t result = ExecuteAnswers Keeps Declines forest root datum s t result
+ExecuteIntoAnswers forest root datum s t result = ExecuteAnswers ListKeeps ListDeclines forest root datum s t result

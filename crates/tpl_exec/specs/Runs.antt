@@ -4,32 +4,32 @@ use Rattle.page_datum.specs.Data.{Data}
 use Rattle.page_datum.specs.declared.fault.ExecFault.{ExecFault}
 use Rattle.page_datum.specs.declared.fault.FaultKind.{FaultKind}
 use Rattle.tpl_eval.specs.Evaluating.{Variables}
-use Rattle.tpl_events.specs.Events.{Event, Emission}
+use Rattle.tpl_events.specs.Events.{ExecEvent, Emission}
 
 -- What is chosen: the first part of an `if` or `with`, or its `else` part, also where none is written; one more turn of a range, or
 -- that it is done, also where there is nothing to go over.
-pub data Choice : Type 0 where
-  then_part : Choice
-  else_part : Choice
-  turn : Choice
-  done : Choice
+pub data RunChoice : Type 0 where
+  then_part : RunChoice
+  else_part : RunChoice
+  turn : RunChoice
+  done : RunChoice
 
 -- the variables and the steps up to here
-pub record State : Type 0 where
+pub record RunState : Type 0 where
   pub variables : Variables
   pub steps : ℕ
 
 -- how nodes of a part end: what follows them is next, or a `break` or a `continue` was met, or a fault
 pub data End : Type 0 where
-  next : State → End
-  broken : State → End
-  continued : State → End
+  next : RunState → End
+  broken : RunState → End
+  continued : RunState → End
   faulted : ExecFault → End
 
 -- the events and the choices in their order, and the end
 pub record Run : Type 0 where
   pub events : List Emission
-  pub choices : List Choice
+  pub choices : List RunChoice
   pub end : End
 
 -- where nodes stand: their template, by its name, and dot
@@ -45,11 +45,11 @@ ends end = record { events = []; choices = []; end = end }
 abbrev pub emitting : Emission → Run → Run
 emitting event run = record { events = event ∷ run.events; choices = run.choices; end = run.end }
 
-abbrev pub choosing : Choice → Run → Run
+abbrev pub choosing : RunChoice → Run → Run
 choosing choice run = record { events = run.events; choices = choice ∷ run.choices; end = run.end }
 
 -- an event of a node of this line
-abbrev pub emission : Site → ℕ → Event → Emission
+abbrev pub emission : Site → ℕ → ExecEvent → Emission
 emission at line event = record { event = event; template = at.template; line = line }
 
 -- a fault of a node of this line
@@ -60,30 +60,30 @@ abbrev pub fault : Site → ℕ → FaultKind → Run
 fault at line kind = ends (faulted (fault_at at line kind))
 
 -- a run after these events and choices
-abbrev pub after : List Emission → List Choice → Run → Run
-after events choices run = record { events = events ++ run.events; choices = choices ++ run.choices; end = run.end }
+abbrev pub run_after : List Emission → List RunChoice → Run → Run
+run_after events choices run = record { events = events ++ run.events; choices = choices ++ run.choices; end = run.end }
 
 -- a run, and what its end leads to
-abbrev pub go_on : (End → Run) → Run → Run
-go_on more run = after run.events run.choices (more run.end)
+abbrev pub run_go_on : (End → Run) → Run → Run
+run_go_on more run = run_after run.events run.choices (more run.end)
 
 -- what follows where nothing broke off
-abbrev pub if_next : (State → Run) → End → Run
+abbrev pub if_next : (RunState → Run) → End → Run
 if_next more (next state) = more state
 if_next more (broken state) = ends (broken state)
 if_next more (continued state) = ends (continued state)
 if_next more (faulted why) = ends (faulted why)
 
 -- a run, and then another where nothing broke off
-abbrev pub and_then : Run → (State → Run) → Run
-and_then run more = go_on (if_next more) run
+abbrev pub run_and_then : Run → (RunState → Run) → Run
+run_and_then run more = run_go_on (if_next more) run
 
 -- After a part only so many variables remain, the oldest ones, with the values that they have by then.
-abbrev pub cut : ℕ → Variables → Variables
-cut count variables = drop (length variables - count) variables
+abbrev pub run_cut : ℕ → Variables → Variables
+run_cut count variables = drop (length variables - count) variables
 
-abbrev pub cut_state : ℕ → State → State
-cut_state count state = record { variables = cut count state.variables; steps = state.steps }
+abbrev pub cut_state : ℕ → RunState → RunState
+cut_state count state = record { variables = run_cut count state.variables; steps = state.steps }
 
 abbrev pub cut_end : ℕ → End → End
 cut_end count (next state) = next (cut_state count state)

@@ -6,7 +6,7 @@ use Rattle.tpl_eval.specs.Evaluating.{Variables}
 use Rattle.tpl_eval.specs.Scopes.{stored_view, variables_view}
 use Rattle.tpl_eval.specs.declared.scope.Variable.{Variable}
 use Rattle.tpl_eval.specs.declared.stored.Stored.{Stored}
-use Rattle.tpl_exec.specs.Meaning.{assigned, declared}
+use Rattle.tpl_exec.specs.Meaning.{scope_assigned, scope_declared}
 
 abbrev pub all_variables : Vec Variable Global → Variables
 all_variables variables = variables_view variables.items
@@ -18,10 +18,10 @@ abbrev pub IsPushed : List ℕ → Stored → Vec Variable Global → Vec Variab
 IsPushed name value old new = all_variables new ≡ (name, stored_view value) ∷ all_variables old
 
 abbrev pub IsDeclared : Option (List ℕ) → Stored → Vec Variable Global → Vec Variable Global → Type 0
-IsDeclared name value old new = all_variables new ≡ declared name (stored_view value) (all_variables old)
+IsDeclared name value old new = all_variables new ≡ scope_declared name (stored_view value) (all_variables old)
 
 abbrev pub IsAssigned : List ℕ → Stored → Vec Variable Global → Vec Variable Global → Type 0
-IsAssigned name value old new = all_variables new ≡ assigned name (stored_view value) (all_variables old)
+IsAssigned name value old new = all_variables new ≡ scope_assigned name (stored_view value) (all_variables old)
 
 -- a dot that holds after a control, also in a box of its own
 abbrev pub dot_view : Option Stored → Option Data

@@ -11,7 +11,7 @@ use tpl_eval::Stored;
 
 /// An element of what a range goes over, with its index.
 #[derive(Drop)]
-pub(crate) struct Element<'d, 'a> {
+pub(crate) struct RangeElement<'d, 'a> {
     pub(crate) index: Index<'a>,
     pub(crate) value: Stored<'d>,
 }
@@ -28,20 +28,20 @@ pub(crate) fn element_at<'d, 'a>(
     alloc: Global,
     source: &'a Stored<'d>,
     at: usize,
-) -> Result<Option<Element<'d, 'a>>, Memory>
+) -> Result<Option<RangeElement<'d, 'a>>, Memory>
     ensures element { IfOk result (λ found. IsElement found at (elements_in source.now)) }
     ensures bound { IfOk result (λ found. IfSome found (λ _. at < 2 ^ 63)) }
 {
     match source {
         Stored::Data(datum) => match part_at(datum, at) {
-            Some((index, value)) => Ok(Some(Element {
+            Some((index, value)) => Ok(Some(RangeElement {
                 index,
                 value: Stored::Data(value),
             })),
             None => Ok(None),
         },
         Stored::Made(datum) => match part_at(datum, at) {
-            Some((index, value)) => Ok(Some(Element {
+            Some((index, value)) => Ok(Some(RangeElement {
                 index,
                 value: Stored::made(alloc, value.copy(alloc)?)?,
             })),

@@ -3,10 +3,10 @@ ghost use Rattle.page_datum.specs.View.{view};
 ghost use Rattle.tpl_events.specs.Sinks.{Allows};
 ghost use Rattle.tpl_exec.specs.Executing.{ExecuteAnswers, run_of};
 ghost use Rattle.tpl_exec.specs.MachineView.{event_view, next_progress, emission_view};
-ghost use Rattle.tpl_exec.specs.Steps.{StepAnswers, EmitAnswers, MayEmit, RefusedAnswers};
+ghost use Rattle.tpl_exec.specs.Steps.{MachineStepAnswers, EmitAnswers, MayEmit, RefusedAnswers};
 
 use crate::machine::Machine;
-use crate::progress::{Emission, Event, Progress};
+use crate::progress::{Emission, ExecEvent, Progress};
 use crate::stop::ExecStop;
 use page_datum::{Datum, ExecFault, FaultKind};
 use page_io::{Memory, Text};
@@ -54,7 +54,8 @@ fn step<'d, K: HoleSink>(
     sink: &mut K,
 ) -> Result<bool, ExecStop>
     requires { MayEmit K.may (next_progress forest.now run.old) sink.old }
-    ensures { StepAnswers K.takes K.refuses forest.now run.old sink.old result run.new sink.new }
+    ensures { MachineStepAnswers K.takes K.refuses forest.now run.old sink.old
+        result run.new sink.new }
 {
     match run.advance(alloc, forest) {
         Ok(Progress::Continues) => Ok(true),
@@ -79,16 +80,16 @@ fn emit<K: HoleSink>(alloc: Global, sink: &mut K, emission: &Emission<'_>) -> Re
 }
 
 // Gives a sink an event.
-fn give<K: HoleSink>(sink: &mut K, event: &Event<'_>) -> Result<(), HoleStop>
+fn give<K: HoleSink>(sink: &mut K, event: &ExecEvent<'_>) -> Result<(), HoleStop>
     requires { K.may sink.old (event_view event.now) }
     ensures ok { OnOk result (K.takes sink.old (event_view event.now) sink.new) }
     ensures err { IfErr result (λ why. K.refuses sink.old (event_view event.now) why sink.new) }
 {
     match event {
-        Event::Text(node) => sink.text(*node),
-        Event::Hole(node, value) => sink.hole(*node, value.datum()),
-        Event::Enter(node) => sink.call(*node),
-        Event::Leave => {
+        ExecEvent::Text(node) => sink.text(*node),
+        ExecEvent::Hole(node, value) => sink.hole(*node, value.datum()),
+        ExecEvent::Enter(node) => sink.call(*node),
+        ExecEvent::Leave => {
             sink.leave();
             Ok(())
         }

@@ -1,7 +1,7 @@
 ghost use Rattle.std.specs.Prelude.{◌≡◌, IfOk};
 ghost use Rattle.tpl_exec.specs.Variables.{dot_view, outer_view};
 
-use crate::node::Body;
+use crate::node::NodeBody;
 use page_io::{Memory, Text};
 use std::alloc::Global;
 use tpl_eval::{Stored, Variable};
@@ -48,7 +48,7 @@ pub(crate) struct OpenLoop<'d> {
 /// The caller of a template that is executed.
 #[derive(Drop)]
 pub(crate) struct OpenCall<'d> {
-    pub(crate) body: Body<'d>,
+    pub(crate) body: NodeBody<'d>,
     pub(crate) dot: Stored<'d>,
     /// The line of the call.
     pub(crate) line: u32,
@@ -65,7 +65,7 @@ pub(crate) enum Frame<'d> {
     Call(Box<OpenCall<'d>>),
 }
 
-/// A value in a box of its own. The error is out of memory.
+/// A value in a box of its own. Fails only if allocation fails.
 pub(crate) fn boxed<T: Drop>(alloc: Global, value: T) -> Result<Box<T>, Memory>
     ensures { IfOk result (λ box. box.value ≡ value) }
 {

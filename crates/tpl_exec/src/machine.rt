@@ -5,8 +5,8 @@ ghost use Rattle.tpl_exec.specs.OpenCalls.{open_calls};
 use crate::element::{element_at, has_elements};
 use crate::fault::fault;
 use crate::frame::{Frame, LoopHeader, OpenCall, OpenLoop, OpenPart, boxed, unboxed};
-use crate::node::{Body, Node, body_named, first_of, node_at};
-use crate::progress::{Emission, Event, Progress};
+use crate::node::{Node, NodeBody, body_named, first_of, node_at};
+use crate::progress::{Emission, ExecEvent, Progress};
 use crate::stop::ExecStop;
 use crate::variables::{assign, count, cut, declare, declare_index, push, root_variable};
 use page_datum::{Datum, FaultKind, ValueStop};
@@ -23,7 +23,7 @@ pub const MAX_CALLS: u32 = 256;
 #[derive(Drop)]
 pub(crate) struct Machine<'d> {
     /// The body that is executed.
-    body: Body<'d>,
+    body: NodeBody<'d>,
     /// The node that is next.
     node: Option<u32>,
     dot: Stored<'d>,
@@ -40,12 +40,12 @@ pub(crate) struct Machine<'d> {
 impl<'d> Machine<'d> {
     ghost use Rattle.std.specs.Prelude.{◌≡◌, ◌<◌, IfOk, IsTrue, Ok};
     ghost use Rattle.tpl_exec.specs.MachineCalls.{after_loop_of, broken_off_of, call_left};
-    ghost use Rattle.tpl_exec.specs.MachineCalls.{control_left, emitted_of, end_of, if_of};
-    ghost use Rattle.tpl_exec.specs.MachineCalls.{loop_left_of, node_of, part_left, part_of};
-    ghost use Rattle.tpl_exec.specs.MachineCalls.{is_control, start_of, turn_of};
+    ghost use Rattle.tpl_exec.specs.MachineCalls.{control_left, emitted_of, machine_end, if_of};
+    ghost use Rattle.tpl_exec.specs.MachineCalls.{loop_left_of, machine_node, part_left, machine_part};
+    ghost use Rattle.tpl_exec.specs.MachineCalls.{is_control_node, machine_start, turn_of};
     ghost use Rattle.tpl_exec.specs.MachineCalls.{ArgumentAnswers, CallAnswers, PipeAnswers};
     ghost use Rattle.tpl_exec.specs.MachineCalls.{RangeAnswers, WithAnswers};
-    ghost use Rattle.tpl_exec.specs.MachineView.{AdvanceAnswers, machine_view, next_progress};
+    ghost use Rattle.tpl_exec.specs.MachineView.{MachineAdvanceAnswers, machine_view, next_progress};
 
     // After a control.
     fn after_control(&mut self, dot: Option<Stored<'d>>, next: Option<u32>, count: usize)
@@ -83,7 +83,7 @@ impl<'d> Machine<'d> {
     // After a call that was taken off what is open.
     fn after_call(&mut self, call: OpenCall<'d>) -> Progress<'d>
         requires { self.now.calls + open_calls self.now.frames < max_calls }
-        ensures { AdvanceAnswers (call_left self.old call.entry) (Ok result) self.new }
+        ensures { MachineAdvanceAnswers (call_left self.old call.entry) (Ok result) self.new }
     {
         self.body = call.body;
         self.node = call.next;
@@ -91,7 +91,7 @@ impl<'d> Machine<'d> {
         self.variables = call.variables;
         self.calls += 1;
         Progress::Emits(Emission {
-            event: Event::Leave,
+            event: ExecEvent::Leave,
             template: call.body.name,
             line: call.line,
         })
@@ -104,7 +104,7 @@ impl<'d> Machine<'d> {
         alloc: Global,
         inner: Box<OpenLoop<'d>>,
     ) -> Result<Progress<'d>, ExecStop>
-        ensures { AdvanceAnswers (turn_of self.old inner.entry.value) result self.new }
+        ensures { MachineAdvanceAnswers (turn_of self.old inner.entry.value) result self.new }
     {
         let mut inner = inner;
         let element = match element_at(alloc, &inner.source, inner.at)? {
@@ -142,7 +142,7 @@ impl<'d> Machine<'d> {
     // No node is next: the innermost open thing ends, or a loop has its next turn.
     #[inline(always)]
     fn ended(&mut self, alloc: Global) -> Result<Progress<'d>, ExecStop>
-        ensures { AdvanceAnswers (end_of self.old) result self.new }
+        ensures { MachineAdvanceAnswers (machine_end self.old) result self.new }
     {
         match self.frames.pop() {
             None => Ok(Progress::Finishes),
@@ -158,7 +158,8 @@ impl<'d> Machine<'d> {
 
     // The innermost loop, which was taken off what is open, ends, or its turn does.
     fn loop_left(&mut self, ends: bool, inner: Box<OpenLoop<'d>>) -> Result<Progress<'d>, ExecStop>
-        ensures { AdvanceAnswers (loop_left_of ends self.old inner.entry.value) result self.new }
+        ensures { MachineAdvanceAnswers (loop_left_of ends self.old inner.entry.value)
+            result self.new }
     {
         if ends {
             self.after_loop(inner);
@@ -171,7 +172,7 @@ impl<'d> Machine<'d> {
 
     // A `break` ends the innermost loop of this call, a `continue` its turn.
     fn broken_off(&mut self, ends: bool) -> Result<Progress<'d>, ExecStop>
-        ensures { AdvanceAnswers (broken_off_of ends self.old) result self.new }
+        ensures { MachineAdvanceAnswers (broken_off_of ends self.old) result self.new }
     {
         loop {
             match self.frames.pop() {
@@ -241,8 +242,9 @@ impl<'d> Machine<'d> {
     }
 
     // An event of a node of this body.
-    fn emitted(&self, line: u32, event: Event<'d>) -> Progress<'d>
-        ensures { AdvanceAnswers (emitted_of self.now line event.entry) (Ok result) self.now }
+    fn emitted(&self, line: u32, event: ExecEvent<'d>) -> Progress<'d>
+        ensures { MachineAdvanceAnswers (emitted_of self.now line event.entry)
+            (Ok result) self.now }
     {
         Progress::Emits(Emission {
             event,
@@ -259,7 +261,8 @@ impl<'d> Machine<'d> {
         next: Option<u32>,
         count: usize,
     ) -> Result<Progress<'d>, ExecStop>
-        ensures { AdvanceAnswers (part_of self.old outer.entry part next count) result self.new }
+        ensures { MachineAdvanceAnswers (machine_part self.old outer.entry part next count)
+            result self.new }
     {
         self.node = part;
         self.frames.push(Frame::Part(OpenPart {
@@ -278,7 +281,8 @@ impl<'d> Machine<'d> {
         name: &'d Option<Text>,
         value: Stored<'d>,
     ) -> Result<Progress<'d>, ExecStop>
-        ensures { AdvanceAnswers (if_of self.old node.entry name.now value.entry) result self.new }
+        ensures { MachineAdvanceAnswers (if_of self.old node.entry name.now value.entry)
+            result self.new }
     {
         let count = count(self.variables.as_slice());
         declare(alloc, &mut self.variables, name, &value)?;
@@ -366,7 +370,7 @@ impl<'d> Machine<'d> {
         self.body = body_named(forest, name);
         self.node = first_of(self.body);
         Ok(Progress::Emits(Emission {
-            event: Event::Enter(node.number),
+            event: ExecEvent::Enter(node.number),
             template: caller.name,
             line: node.line,
         }))
@@ -382,8 +386,9 @@ impl<'d> Machine<'d> {
         node: Node<'d>,
         steps: u64,
     ) -> Result<Progress<'d>, ExecStop>
-        requires { IsTrue (is_control node.kind.now) }
-        ensures { AdvanceAnswers (node_of forest.now self.old node.entry steps) result self.new }
+        requires { IsTrue (is_control_node node.kind.now) }
+        ensures { MachineAdvanceAnswers (machine_node forest.now self.old node.entry steps)
+            result self.new }
     {
         match node.kind {
             NodeKind::Text(_) | NodeKind::Action(_) => unreachable!(),
@@ -463,19 +468,20 @@ impl<'d> Machine<'d> {
         node: Node<'d>,
         steps: u64,
     ) -> Result<Progress<'d>, ExecStop>
-        ensures { AdvanceAnswers (node_of forest.now self.old node.entry steps) result self.new }
+        ensures { MachineAdvanceAnswers (machine_node forest.now self.old node.entry steps)
+            result self.new }
     {
         match node.kind {
             NodeKind::Text(_) => {
                 self.node = node.next;
                 self.steps = steps;
-                Ok(self.emitted(node.line, Event::Text(node.number)))
+                Ok(self.emitted(node.line, ExecEvent::Text(node.number)))
             }
             NodeKind::Action(pipe) => match self.evaluated(alloc, node.line, pipe, steps) {
                 Ok((value, steps)) => {
                     self.node = node.next;
                     self.steps = steps;
-                    Ok(self.emitted(node.line, Event::Hole(node.number, value)))
+                    Ok(self.emitted(node.line, ExecEvent::Hole(node.number, value)))
                 }
                 Err(stop) => Err(stop),
             },
@@ -491,7 +497,7 @@ impl<'d> Machine<'d> {
         alloc: Global,
         forest: &'d Forest,
     ) -> Result<Progress<'d>, ExecStop>
-        ensures { AdvanceAnswers (next_progress forest.now self.old) result self.new }
+        ensures { MachineAdvanceAnswers (next_progress forest.now self.old) result self.new }
     {
         let node = match node_at(self.body, self.node) {
             Some(node) => node,
@@ -503,14 +509,14 @@ impl<'d> Machine<'d> {
         }
     }
 
-    /// The machine before anything: a template by its name with a datum, which is dot and `$`. The error is out of memory.
+    /// The machine before anything: a template by its name with a datum, which is dot and `$`. Fails only if allocation fails.
     pub(crate) fn start(
         alloc: Global,
         forest: &'d Forest,
         root: &'d str,
         datum: &'d Datum,
     ) -> Result<Machine<'d>, Memory>
-        ensures { IfOk result (λ m. machine_view m ≡ start_of forest.now root.now datum.now) }
+        ensures { IfOk result (λ m. machine_view m ≡ machine_start forest.now root.now datum.now) }
     {
         let body = body_named(forest, root);
         Ok(Machine {

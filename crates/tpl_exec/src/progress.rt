@@ -2,7 +2,7 @@ use tpl_eval::Stored;
 
 /// What is given to the page. Nodes have the numbers that they have in their own tree.
 #[derive(Drop)]
-pub(crate) enum Event<'d> {
+pub(crate) enum ExecEvent<'d> {
     /// The text of a node.
     Text(u32),
     /// A value, and the node whose pipe gives it.
@@ -16,7 +16,7 @@ pub(crate) enum Event<'d> {
 /// An event, and the template and the line of its node, which for the end of a call is the call.
 #[derive(Drop)]
 pub(crate) struct Emission<'d> {
-    pub(crate) event: Event<'d>,
+    pub(crate) event: ExecEvent<'d>,
     pub(crate) template: &'d str,
     pub(crate) line: u32,
 }

@@ -1,9 +1,9 @@
 ghost use Rattle.std.specs.Prelude.{◌≡◌, length, IfOk, OnOk};
 ghost use Rattle.tpl_exec.specs.Elements.{IsIndexed};
-ghost use Rattle.tpl_exec.specs.Runs.{cut as cut_of};
 ghost use Rattle.tpl_eval.specs.Scopes.{variables_view};
 ghost use Rattle.tpl_exec.specs.Variables.{all_variables, root_variables};
 ghost use Rattle.tpl_exec.specs.Variables.{IsAssigned, IsDeclared, IsPushed};
+ghost use Rattle.tpl_exec.specs.Runs as spec;
 
 use crate::element::{Index, index_datum};
 use page_io::{Memory, Text};
@@ -93,7 +93,7 @@ pub(crate) fn assign<'d>(variables: &mut Vec<Variable<'d>>, name: &'d str, value
 
 /// Only the oldest variables, so many.
 pub(crate) fn cut(variables: &mut Vec<Variable<'_>>, count: usize)
-    ensures { all_variables variables.new ≡ cut_of count (all_variables variables.old) }
+    ensures { all_variables variables.new ≡ spec.run_cut count (all_variables variables.old) }
 {
     variables.truncate(count);
 }

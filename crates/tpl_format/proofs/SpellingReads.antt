@@ -4,15 +4,15 @@ use Rattle.std.proofs.lemmas.Bool.{ne_eqb}
 use Rattle.std.proofs.lemmas.Bool.Decides.{nat_tests}
 use Rattle.page_datum.specs.Data.{Data}
 use Rattle.tpl_format.proofs.Steps.{either, same}
-use Rattle.tpl_format.specs.Formats.{followed, formatted_from, verb_step}
+use Rattle.tpl_format.specs.Formats.{format_followed, formatted_from, verb_step}
 use Rattle.tpl_format.specs.Spelling.{are_digits, are_flags, BeginsWithZero, IsVerb, letter_of, once_if, times, value}
-use Rattle.tpl_format.specs.Verbs.{bare, read}
+use Rattle.tpl_format.specs.Verbs.{bare, read_flag}
 use Rattle.tpl_format.specs.declared.verb.Verb.{Verb}
 use Rattle.tpl_format.specs.declared.verb.Conversion.{Conversion}
 use Rattle.tpl_format.specs.declared.verb.Conversion.TheVariants.{Decimal, Hex, Itself, Truth, Any}
-use Rattle.tpl_format.specs.declared.verb.Reading.TheVariants.{More, Takes}
+use Rattle.tpl_format.specs.declared.verb.VerbState.TheVariants.{More, Takes}
 
-letter_reads : (verb : Verb) (c : Conversion) → read verb (letter_of c) ≡ Takes c
+letter_reads : (verb : Verb) (c : Conversion) → read_flag verb (letter_of c) ≡ Takes c
 letter_reads verb Decimal = refl
 letter_reads verb Hex = refl
 letter_reads verb Itself = refl
@@ -23,8 +23,8 @@ abbrev pub wide : Verb → ℕ → Verb
 wide verb width = record { left = verb.left; zeros = verb.zeros; plus = verb.plus; width = width }
 
 -- one more byte that is read as a flag or a digit
-pub more : (verb longer : Verb) (b : ℕ) (bytes : List ℕ) (left : List Data) → read verb b ≡ More longer → formatted_from (b ∷ bytes) (Some verb) left ≡ formatted_from bytes (Some longer) left
-more verb longer b bytes left e = ap (λ r. followed (formatted_from bytes) (verb_step verb r left)) e ∙ sym (same (formatted_from bytes (Some longer) left))
+pub more : (verb longer : Verb) (b : ℕ) (bytes : List ℕ) (left : List Data) → read_flag verb b ≡ More longer → formatted_from (b ∷ bytes) (Some verb) left ≡ formatted_from bytes (Some longer) left
+more verb longer b bytes left e = ap (λ r. format_followed (formatted_from bytes) (verb_step verb r left)) e ∙ sym (same (formatted_from bytes (Some longer) left))
 
 pub both : (a b : Bool) → (a && b) ≡ true → (a ≡ true) × (b ≡ true)
 both true b e = (refl, e)
@@ -34,7 +34,7 @@ value-le : (before : ℕ) (digits : List ℕ) → before ≤ value before digits
 value-le before [] = omega arith
 value-le before (b ∷ digits) = omega (arith, value-le (before * 10 + (b - 48)) digits)
 
-digit_reads : (verb : Verb) (b : ℕ) → 48 ≤ b → b ≤ 57 → (verb.width ≡ 0 → b ≡ 48 → ⊥) → verb.width * 10 + (b - 48) ≤ 1000 → read verb b ≡ More (wide verb (verb.width * 10 + (b - 48)))
+digit_reads : (verb : Verb) (b : ℕ) → 48 ≤ b → b ≤ 57 → (verb.width ≡ 0 → b ≡ 48 → ⊥) → verb.width * 10 + (b - 48) ≤ 1000 → read_flag verb b ≡ More (wide verb (verb.width * 10 + (b - 48)))
 digit_reads verb b low high first most =
     let small : nat_lt 1000 (verb.width * 10 + (b - 48)) ≡ false = grind (arith, nat_tests) in
     let above : nat_le 48 b ≡ true = grind (arith, nat_tests) in
@@ -44,10 +44,10 @@ digit_reads verb b low high first most =
     rw (ne_eqb b 45 (λ e. omega (arith, low, e)), ne_eqb b 43 (λ e. omega (arith, low, e)), t, some, above, below, small) refl)
     (λ f. rw (ne_eqb b 45 (λ e. omega (arith, low, e)), ne_eqb b 43 (λ e. omega (arith, low, e)), f, above, below, small) refl)
 
-digits_read : (digits : List ℕ) (verb : Verb) (width : ℕ) (c : Conversion) (rest : List ℕ) (left : List Data) → are_digits digits ≡ true → (verb.width ≡ 0 → BeginsWithZero digits → ⊥) → value verb.width digits ≡ width → width ≤ 1000 → formatted_from (digits ++ (letter_of c ∷ rest)) (Some verb) left ≡ followed (formatted_from rest) (verb_step (wide verb width) (Takes c) left)
+digits_read : (digits : List ℕ) (verb : Verb) (width : ℕ) (c : Conversion) (rest : List ℕ) (left : List Data) → are_digits digits ≡ true → (verb.width ≡ 0 → BeginsWithZero digits → ⊥) → value verb.width digits ≡ width → width ≤ 1000 → formatted_from (digits ++ (letter_of c ∷ rest)) (Some verb) left ≡ format_followed (formatted_from rest) (verb_step (wide verb width) (Takes c) left)
 digits_read [] verb width c rest left all first is most =
-    ap (λ r. followed (formatted_from rest) (verb_step verb r left)) (letter_reads verb c)
-    ∙ ap (λ w. followed (formatted_from rest) (verb_step (wide verb w) (Takes c) left)) is
+    ap (λ r. format_followed (formatted_from rest) (verb_step verb r left)) (letter_reads verb c)
+    ∙ ap (λ w. format_followed (formatted_from rest) (verb_step (wide verb w) (Takes c) left)) is
 digits_read (b ∷ digits) verb width c rest left all first is most =
     let parts = both (nat_le 48 b && nat_le b 57) (are_digits digits) all in
     let ends = both (nat_le 48 b) (nat_le b 57) parts.0 in
@@ -84,13 +84,13 @@ once_more true b n e = absurd (true≢false (once_not true b n e))
 which : {P : Type 0} (b : ℕ) → (b == 45 || b == 43 || b == 48) ≡ true → (b ≡ 45 → P) → (b ≡ 43 → P) → (b ≡ 48 → P) → P
 which b e f g h = either (b == 45) (λ t. f (grind (arith, nat_tests))) (λ n. either (b == 43) (λ t. g (grind (arith, nat_tests))) (λ m. h (let last : (b == 48) ≡ true = rw (n, m) at e in grind (arith, nat_tests))))
 
-pub minus_reads : (verb : Verb) → verb.left ≡ false → verb.width ≡ 0 → read verb 45 ≡ More (record { left = true; zeros = verb.zeros; plus = verb.plus; width = verb.width })
+pub minus_reads : (verb : Verb) → verb.left ≡ false → verb.width ≡ 0 → read_flag verb 45 ≡ More (record { left = true; zeros = verb.zeros; plus = verb.plus; width = verb.width })
 minus_reads verb l w = rw (l, w) refl
 
-pub plus_reads : (verb : Verb) → verb.plus ≡ false → verb.width ≡ 0 → read verb 43 ≡ More (record { left = verb.left; zeros = verb.zeros; plus = true; width = verb.width })
+pub plus_reads : (verb : Verb) → verb.plus ≡ false → verb.width ≡ 0 → read_flag verb 43 ≡ More (record { left = verb.left; zeros = verb.zeros; plus = true; width = verb.width })
 plus_reads verb p w = rw (p, w) refl
 
-pub zeros_reads : (verb : Verb) → verb.zeros ≡ false → verb.width ≡ 0 → read verb 48 ≡ More (record { left = verb.left; zeros = true; plus = verb.plus; width = verb.width })
+pub zeros_reads : (verb : Verb) → verb.zeros ≡ false → verb.width ≡ 0 → read_flag verb 48 ≡ More (record { left = verb.left; zeros = true; plus = verb.plus; width = verb.width })
 zeros_reads verb z w = rw (z, w) refl
 
 same_verb : (a b : Verb) → a.left ≡ b.left → a.zeros ≡ b.zeros → a.plus ≡ b.plus → a.width ≡ b.width → a ≡ b
@@ -120,7 +120,7 @@ flags_read (b ∷ flags) verb so_far bytes left w h =
     ∙ flags_read flags verb longer bytes left w (record { only = parts.1; left = omega (arith, k.left); plus = omega (arith, k.plus); zeros = once_more so_far.zeros verb.zeros (times 48 flags) k.zeros })))
 
 -- a verb that is spelled is read as itself, whatever follows
-pub verb_reads : (verb : Verb) (c : Conversion) (bytes rest : List ℕ) → IsVerb verb c bytes rest → (left : List Data) → formatted_from bytes (Some bare) left ≡ followed (formatted_from rest) (verb_step verb (Takes c) left)
+pub verb_reads : (verb : Verb) (c : Conversion) (bytes rest : List ℕ) → IsVerb verb c bytes rest → (left : List Data) → formatted_from bytes (Some bare) left ≡ format_followed (formatted_from rest) (verb_step verb (Takes c) left)
 verb_reads verb c bytes rest h left =
     ap (λ (b : List ℕ). formatted_from b (Some bare) left) h.spelled
     ∙ flags_read h.flags verb bare (h.digits ++ (letter_of c ∷ rest)) left refl (record { only = h.has_flags.only; left = omega (arith, h.has_flags.left); plus = omega (arith, h.has_flags.plus); zeros = omega (arith, h.has_flags.zeros) })

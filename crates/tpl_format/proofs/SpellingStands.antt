@@ -5,13 +5,13 @@ use Rattle.std.proofs.lemmas.Bool.Decides.{nat_tests}
 use Rattle.page_datum.specs.Data.{Data}
 use Rattle.tpl_format.proofs.SpellingReads.{both, Counts, more, minus_reads, plus_reads, wide, zeros_reads}
 use Rattle.tpl_format.proofs.Steps.{either}
-use Rattle.tpl_format.specs.Formats.{followed, formatted_from, verb_step}
+use Rattle.tpl_format.specs.Formats.{format_followed, formatted_from, verb_step}
 use Rattle.tpl_format.specs.Spelling.{are_digits, HasWidth, IsVerb, letter_of, once_if, times, value}
-use Rattle.tpl_format.specs.Verbs.{bare, is_bare, letter, read}
+use Rattle.tpl_format.specs.Verbs.{bare, is_bare, letter, read_flag}
 use Rattle.tpl_format.specs.declared.verb.Verb.{Verb}
 use Rattle.tpl_format.specs.declared.verb.Conversion.{Conversion}
 use Rattle.tpl_format.specs.declared.verb.Conversion.TheVariants.{Decimal, Hex, Itself, Truth, Any}
-use Rattle.tpl_format.specs.declared.verb.Reading.TheVariants.{More, Takes, Bad}
+use Rattle.tpl_format.specs.declared.verb.VerbState.TheVariants.{More, Takes, Bad}
 
 or_true : (a : Bool) → (a || true) ≡ true
 or_true true = refl
@@ -42,16 +42,16 @@ letters b f g =
     (λ v. f (rw (d, x, s, u, v) refl))))))
 
 -- a byte that is no flag, digit or `%` is read as a letter
-letter_read : (verb : Verb) (b : ℕ) → (b == 45) ≡ false → (b == 43) ≡ false → ((b == 48) && not (nat_lt 0 verb.width)) ≡ false → (nat_le 48 b && nat_le b 57) ≡ false → (b == 37) ≡ false → read verb b ≡ letter b
+letter_read : (verb : Verb) (b : ℕ) → (b == 45) ≡ false → (b == 43) ≡ false → ((b == 48) && not (nat_lt 0 verb.width)) ≡ false → (nat_le 48 b && nat_le b 57) ≡ false → (b == 37) ≡ false → read_flag verb b ≡ letter b
 letter_read verb b m p z d s = rw (m, p, z, d, s) refl
 
-digit_read : (verb : Verb) (b : ℕ) → (b == 45) ≡ false → (b == 43) ≡ false → ((b == 48) && not (nat_lt 0 verb.width)) ≡ false → (nat_le 48 b && nat_le b 57) ≡ true → {P : Type 0} → (read verb b ≡ Bad → P) → (verb.width * 10 + (b - 48) ≤ 1000 → read verb b ≡ More (wide verb (verb.width * 10 + (b - 48))) → P) → P
+digit_read : (verb : Verb) (b : ℕ) → (b == 45) ≡ false → (b == 43) ≡ false → ((b == 48) && not (nat_lt 0 verb.width)) ≡ false → (nat_le 48 b && nat_le b 57) ≡ true → {P : Type 0} → (read_flag verb b ≡ Bad → P) → (verb.width * 10 + (b - 48) ≤ 1000 → read_flag verb b ≡ More (wide verb (verb.width * 10 + (b - 48))) → P) → P
 digit_read verb b m p z d f g = either (nat_lt 1000 (verb.width * 10 + (b - 48)))
     (λ t. f (rw (m, p, z, d, t) refl))
     (λ n. g (grind (arith, nat_tests)) (rw (m, p, z, d, n) refl))
 
 -- what a byte is after a digit
-read_wide : {P : Type 0} (verb : Verb) (b : ℕ) → 0 < verb.width → (read verb b ≡ Bad → P) → ((nat_le 48 b && nat_le b 57) ≡ true → verb.width * 10 + (b - 48) ≤ 1000 → read verb b ≡ More (wide verb (verb.width * 10 + (b - 48))) → P) → ((c : Conversion) → b ≡ letter_of c → read verb b ≡ Takes c → P) → P
+read_wide : {P : Type 0} (verb : Verb) (b : ℕ) → 0 < verb.width → (read_flag verb b ≡ Bad → P) → ((nat_le 48 b && nat_le b 57) ≡ true → verb.width * 10 + (b - 48) ≤ 1000 → read_flag verb b ≡ More (wide verb (verb.width * 10 + (b - 48))) → P) → ((c : Conversion) → b ≡ letter_of c → read_flag verb b ≡ Takes c → P) → P
 read_wide verb b some f g h =
     let has : nat_lt 0 verb.width ≡ true = grind (arith, nat_tests) in
     let no_zero : ((b == 48) && not (nat_lt 0 verb.width)) ≡ false = rw has (and_false (b == 48)) in
@@ -63,7 +63,7 @@ read_wide verb b some f g h =
     (λ s. letters b (λ e. f (letter_read verb b m p no_zero d s ∙ e)) (λ c e r. h c e (letter_read verb b m p no_zero d s ∙ r))))))
 
 -- what a byte is before any digit
-read_open : {P : Type 0} (verb : Verb) (b : ℕ) → verb.width ≡ 0 → (read verb b ≡ Bad → P) → (b ≡ 37 → is_bare verb ≡ true → P) → (b ≡ 45 → verb.left ≡ false → P) → (b ≡ 43 → verb.plus ≡ false → P) → (b ≡ 48 → verb.zeros ≡ false → P) → ((nat_le 48 b && nat_le b 57) ≡ true → (b ≡ 48 → ⊥) → verb.width * 10 + (b - 48) ≤ 1000 → read verb b ≡ More (wide verb (verb.width * 10 + (b - 48))) → P) → ((c : Conversion) → b ≡ letter_of c → read verb b ≡ Takes c → P) → P
+read_open : {P : Type 0} (verb : Verb) (b : ℕ) → verb.width ≡ 0 → (read_flag verb b ≡ Bad → P) → (b ≡ 37 → is_bare verb ≡ true → P) → (b ≡ 45 → verb.left ≡ false → P) → (b ≡ 43 → verb.plus ≡ false → P) → (b ≡ 48 → verb.zeros ≡ false → P) → ((nat_le 48 b && nat_le b 57) ≡ true → (b ≡ 48 → ⊥) → verb.width * 10 + (b - 48) ≤ 1000 → read_flag verb b ≡ More (wide verb (verb.width * 10 + (b - 48))) → P) → ((c : Conversion) → b ≡ letter_of c → read_flag verb b ≡ Takes c → P) → P
 read_open verb b none f sign minus plus zeros g h =
     either (b == 45) (λ t. either verb.left (λ l. f (rw (t, l) refl)) (λ l. minus (is b 45 t) l))
     (λ m. either (b == 43) (λ t. either verb.plus (λ l. f (rw (m, t, l) refl)) (λ l. plus (is b 43 t) l))
@@ -74,9 +74,9 @@ read_open verb b none f sign minus plus zeros g h =
     (λ t. either (is_bare verb) (λ l. sign (is b 37 t) l) (λ l. f (rw (m, p, no_zero, d, t, l) refl)))
     (λ s. letters b (λ e. f (letter_read verb b m p no_zero d s ∙ e)) (λ c e r. h c e (letter_read verb b m p no_zero d s ∙ r)))))))
 
-nothing : (verb : Verb) (b : ℕ) (bytes : List ℕ) (left : List Data) (made : List ℕ) → read verb b ≡ Bad → formatted_from (b ∷ bytes) (Some verb) left ≡ Some made → ⊥
+nothing : (verb : Verb) (b : ℕ) (bytes : List ℕ) (left : List Data) (made : List ℕ) → read_flag verb b ≡ Bad → formatted_from (b ∷ bytes) (Some verb) left ≡ Some made → ⊥
 nothing verb b bytes left made bad e =
-    let none : None ≡ Some made = sym (ap (λ r. followed (formatted_from bytes) (verb_step verb r left)) bad) ∙ e in cc
+    let none : None ≡ Some made = sym (ap (λ r. format_followed (formatted_from bytes) (verb_step verb r left)) bad) ∙ e in cc
 
 -- digits after others, and the letter
 record Digits (width : ℕ) (bytes : List ℕ) : Type 0 where

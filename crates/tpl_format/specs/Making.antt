@@ -5,41 +5,41 @@ use Rattle.page_datum.specs.Data.{Data}
 use Rattle.page_datum.specs.declared.datum.Datum.{Datum}
 use Rattle.page_datum.specs.declared.fault.FaultKind.{FaultKind}
 use Rattle.page_datum.specs.declared.fault.FaultKind.TheVariants.{BadFormat, TooLong}
-use Rattle.tpl_format.specs.Answers.{max_text, datas}
-use Rattle.tpl_format.specs.Formats.{Step, ended, formatted_from, followed, verb_step}
+use Rattle.tpl_format.specs.Answers.{max_format_text, datas}
+use Rattle.tpl_format.specs.Formats.{FormatStep, format_ended, formatted_from, format_followed, verb_step}
 use Rattle.tpl_format.specs.Verbs.{bare}
 use Rattle.tpl_format.specs.declared.directive.Directive.{Directive}
 use Rattle.tpl_format.specs.declared.directive.Directive.TheVariants.{Sign, Operand}
-use Rattle.tpl_format.specs.declared.verb.Reading.TheVariants as reading
+use Rattle.tpl_format.specs.declared.verb.VerbState.TheVariants as reading
 use Rattle.page_datum.specs.declared.stop.ValueStop.{ValueStop}
 use Rattle.page_datum.specs.declared.stop.ValueStop.TheVariants.{Fault, Memory}
 
 -- a text with more at its end, unless it is too long already
 abbrev pub added : List ℕ → List ℕ → List ℕ
-added old more = if nat_lt max_text (length old) then old else old ++ more
+added old more = if nat_lt max_format_text (length old) then old else old ++ more
 
 -- the answer where this much is made, and this is still to come
 abbrev pub outcome : List ℕ → Option (List ℕ) → Result (List ℕ) FaultKind
 outcome made None = Err BadFormat
-outcome made (Some rest) = if nat_lt max_text (length (made ++ rest)) then Err TooLong else Ok (made ++ rest)
+outcome made (Some rest) = if nat_lt max_format_text (length (made ++ rest)) then Err TooLong else Ok (made ++ rest)
 
 -- a whole verb takes its operand
-abbrev pub directed : Directive → List Data → Option Step
+abbrev pub directed : Directive → List Data → Option FormatStep
 directed Sign left = verb_step bare reading.Percent left
 directed (Operand verb conversion) left = verb_step verb (reading.Takes conversion) left
 
 -- the prefix of a format up to its first `%`, and what stands after that
 abbrev pub SplitsAtVerb : List ℕ → Option (Bor (List ℕ) × Bor (List ℕ)) → Type 0
-SplitsAtVerb format None = (left : List Data) → formatted_from format None left ≡ option_map (λ more. format ++ more) (ended None left)
+SplitsAtVerb format None = (left : List Data) → formatted_from format None left ≡ option_map (λ more. format ++ more) (format_ended None left)
 SplitsAtVerb format (Some p) = (left : List Data) → formatted_from format None left ≡ option_map (λ more. p.0.now ++ more) (formatted_from p.1.now (Some bare) left)
 
 -- the verb after a `%`, and what stands after the verb
 abbrev pub ReadsVerb : List ℕ → Option (Directive × Bor (List ℕ)) → Type 0
 ReadsVerb bytes None = (left : List Data) → formatted_from bytes (Some bare) left ≡ None
-ReadsVerb bytes (Some p) = (left : List Data) → formatted_from bytes (Some bare) left ≡ followed (formatted_from p.1.now) (directed p.0 left)
+ReadsVerb bytes (Some p) = (left : List Data) → formatted_from bytes (Some bare) left ≡ format_followed (formatted_from p.1.now) (directed p.0 left)
 
 -- what a verb prints, and the operands that it leaves
-abbrev pub Directs : Option Step → Result (List ℕ × Bor (List Datum)) ValueStop → Type 0
+abbrev pub Directs : Option FormatStep → Result (List ℕ × Bor (List Datum)) ValueStop → Type 0
 Directs found (Ok p) = found ≡ Some (record { written = p.0; place = None; left = datas p.1.now })
 Directs found (Err (Fault BadFormat)) = found ≡ None
 Directs found (Err Memory) = ⊤

@@ -3,9 +3,9 @@ use Rattle.std.specs.Prelude.{ℕ, Bool, true, false, not, ◌&&◌, if◌then�
 use Rattle.page_datum.specs.Data.{Data, text}
 use Rattle.page_datum.specs.Printed.{shown}
 
-abbrev pub is_text : Data → Bool
-is_text (text bytes) = true
-is_text datum = false
+abbrev pub is_text_datum : Data → Bool
+is_text_datum (text bytes) = true
+is_text_datum datum = false
 
 -- a space, where it is wanted
 abbrev pub space : Bool → List ℕ
@@ -14,7 +14,7 @@ space wanted = if wanted then codes " " else []
 -- operands after one that is no text, or after a text or nothing
 abbrev pub args_from : Bool → List Data → List ℕ
 args_from apart [] = []
-args_from apart (datum ∷ rest) = space (apart && not (is_text datum)) ++ (shown datum ++ args_from (not (is_text datum)) rest)
+args_from apart (datum ∷ rest) = space (apart && not (is_text_datum datum)) ++ (shown datum ++ args_from (not (is_text_datum datum)) rest)
 
 -- a space stands between two operands of which neither is a text
 abbrev pub printed_args : List Data → List ℕ

@@ -1,7 +1,7 @@
 ghost use Rattle.std.specs.Prelude.{◌<◌, IfSome, length};
 ghost use Rattle.tpl_format.specs.Making.{SplitsAtVerb, ReadsVerb};
 
-use crate::verb::{Conversion, Reading, Verb, bare, read};
+use crate::verb::{Conversion, Verb, VerbState, bare, read};
 
 /// A whole verb: `%%`, or one that takes an operand.
 #[derive(Clone, Copy, Debug, PartialEq, Eq)]
@@ -27,16 +27,16 @@ pub(crate) fn read_verb(text: &str) -> Option<(Directive, &str)>
     let mut verb = bare();
     for at in 0..bytes.len() {
         match read(verb, bytes[at]) {
-            Reading::More(longer) => verb = longer,
-            Reading::Percent => {
+            VerbState::More(longer) => verb = longer,
+            VerbState::Percent => {
                 let (_, behind) = text.split_at(at + 1);
                 return Some((Directive::Sign, behind));
             }
-            Reading::Takes(conversion) => {
+            VerbState::Takes(conversion) => {
                 let (_, behind) = text.split_at(at + 1);
                 return Some((Directive::Operand(verb, conversion), behind));
             }
-            Reading::Bad => return None,
+            VerbState::Bad => return None,
         }
     }
     None

@@ -1,22 +1,23 @@
 ghost use Rattle.std.specs.Prelude.{ℕ, [], ◌∷◌, ◌≡◌, ◌++◌, ◌-◌, IfOk, OnOk, length, replicate};
-ghost use Rattle.tpl_format.specs.Operands.{characters as characters_of, filled, filled_number as filled_number_of, padded};
+ghost use Rattle.tpl_format.specs.Operands.{width_filled, padded};
 ghost use Rattle.std.specs.Fmt.{is_char_start};
+ghost use Rattle.tpl_format.specs.Operands as spec;
 
 use crate::verb::Verb;
 use page_io::{Memory, Text};
 use std::alloc::Global;
 
-/// A text with spaces up to the width of a verb. The error is out of memory.
+/// A text with spaces up to the width of a verb. Fails only if allocation fails.
 pub(crate) fn fill(alloc: Global, verb: Verb, text: &str) -> Result<Text, Memory>
-    ensures { IfOk result (λ whole. whole ≡ filled verb text.now) }
+    ensures { IfOk result (λ whole. whole ≡ width_filled verb text.now) }
 {
     pad(alloc, verb, text, gap(verb, characters(text)))
 }
 
 /// The same of a text that has as many characters as bytes, which are not counted one by one.
 pub(crate) fn fill_ascii(alloc: Global, verb: Verb, text: &str) -> Result<Text, Memory>
-    requires { characters_of text.now ≡ length text.now }
-    ensures { IfOk result (λ whole. whole ≡ filled verb text.now) }
+    requires { spec.characters text.now ≡ length text.now }
+    ensures { IfOk result (λ whole. whole ≡ width_filled verb text.now) }
 {
     pad(alloc, verb, text, gap(verb, text.len()))
 }
@@ -36,14 +37,14 @@ fn pad(alloc: Global, verb: Verb, text: &str, spaces: usize) -> Result<Text, Mem
     Ok(whole)
 }
 
-/// A sign and digits with zeros or spaces up to the width of a verb. The error is out of memory.
+/// A sign and digits with zeros or spaces up to the width of a verb. Fails only if allocation fails.
 pub(crate) fn fill_number(
     alloc: Global,
     verb: Verb,
     sign: &str,
     digits: &str,
 ) -> Result<Text, Memory>
-    ensures { IfOk result (λ whole. whole ≡ filled_number_of verb sign.now digits.now) }
+    ensures { IfOk result (λ whole. whole ≡ spec.filled_number verb sign.now digits.now) }
 {
     let mut number = Text::copy_of(alloc, sign)?;
     number.push_str(digits)?;
@@ -65,7 +66,7 @@ fn gap(verb: Verb, count: usize) -> usize
 
 // How many characters a text has.
 fn characters(text: &str) -> usize
-    ensures { result ≡ characters_of text.now }
+    ensures { result ≡ spec.characters text.now }
 {
     let mut count = 0;
     for byte in text.as_bytes() {
@@ -82,7 +83,7 @@ fn begins_character(byte: u8) -> bool
     byte < 0x80 || 0xC0 <= byte
 }
 
-// Appends a text of one byte so many times.
+// Appends a text of one byte that many times.
 fn push_times(out: &mut Text, mark: &str, times: usize) -> Result<(), Memory>
     ensures { OnOk result ((b : ℕ) → mark.now ≡ b ∷ []
         → out.new ≡ out.old ++ replicate times b) }

@@ -1,12 +1,13 @@
 ghost use Rattle.std.specs.Prelude.{◌≡◌, IfOk};
-ghost use Rattle.tpl_format.specs.Operands.{decimal_number, hex_number as hex_number_of, sign_of};
+ghost use Rattle.tpl_format.specs.Operands.{decimal_number, number_sign};
+ghost use Rattle.tpl_format.specs.Operands as spec;
 
 use crate::fill::fill_number;
 use crate::verb::Verb;
 use page_io::{Memory, Text};
 use std::alloc::Global;
 
-/// A whole number in decimal, as a verb prints it. The error is out of memory.
+/// A whole number in decimal, as a verb prints it. Fails only if allocation fails.
 pub(crate) fn decimal_text(alloc: Global, verb: Verb, number: i64) -> Result<Text, Memory>
     ensures { IfOk result (λ text. text ≡ decimal_number verb number) }
 {
@@ -15,9 +16,9 @@ pub(crate) fn decimal_text(alloc: Global, verb: Verb, number: i64) -> Result<Tex
     fill_number(alloc, verb, sign(verb, number), digits.as_str())
 }
 
-/// A whole number in lower hex digits, as a verb prints it. The error is out of memory.
+/// A whole number in lower hex digits, as a verb prints it. Fails only if allocation fails.
 pub(crate) fn hex_number(alloc: Global, verb: Verb, number: i64) -> Result<Text, Memory>
-    ensures { IfOk result (λ text. text ≡ hex_number_of verb number) }
+    ensures { IfOk result (λ text. text ≡ spec.hex_number verb number) }
 {
     let size = number.unsigned_abs();
     let digits = format!(in alloc; "{size:x}")?;
@@ -26,7 +27,7 @@ pub(crate) fn hex_number(alloc: Global, verb: Verb, number: i64) -> Result<Text,
 
 // The sign that stands before the digits of a number.
 fn sign<'a>(verb: Verb, number: i64) -> &'a str
-    ensures { result.now ≡ sign_of verb number }
+    ensures { result.now ≡ number_sign verb number }
 {
     if number < 0 {
         return "-";

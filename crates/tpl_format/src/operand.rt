@@ -1,9 +1,10 @@
 ghost use Rattle.std.specs.Prelude.{◌≡◌, IfOk, Some};
 ghost use Rattle.page_datum.specs.View.{view};
-ghost use Rattle.page_datum.specs.Printed.{shown as shown_of};
 ghost use Rattle.tpl_format.specs.Answers.{datas};
 ghost use Rattle.tpl_format.specs.Making.{Directs, directed};
-ghost use Rattle.tpl_format.specs.Operands.{operand_text as operand_text_of, filled_text as filled_text_of, plain_text as plain_text_of, hex_bytes};
+ghost use Rattle.tpl_format.specs.Operands.{hex_bytes};
+ghost use Rattle.page_datum.specs.Printed as printed_spec;
+ghost use Rattle.tpl_format.specs.Operands as spec;
 
 use crate::directive::Directive;
 use crate::fill::{fill, fill_ascii};
@@ -42,7 +43,7 @@ fn operand_text(
     conversion: Conversion,
     datum: &Datum,
 ) -> Result<Option<Text>, Memory>
-    ensures { IfOk result (λ text. text ≡ operand_text_of verb conversion (view datum.now)) }
+    ensures { IfOk result (λ text. text ≡ spec.operand_text verb conversion (view datum.now)) }
 {
     match (conversion, datum) {
         (Conversion::Decimal, Datum::Int(number)) => {
@@ -59,7 +60,7 @@ fn operand_text(
 
 // A text with spaces, where the verb asks for neither zeros nor `+`.
 fn filled_text(alloc: Global, verb: Verb, plain: Option<Text>) -> Result<Option<Text>, Memory>
-    ensures { IfOk result (λ text. text ≡ filled_text_of verb plain) }
+    ensures { IfOk result (λ text. text ≡ spec.filled_text verb plain) }
 {
     if verb.zeros || verb.plus {
         return Ok(None);
@@ -72,7 +73,7 @@ fn filled_text(alloc: Global, verb: Verb, plain: Option<Text>) -> Result<Option<
 
 // An operand that is printed without digits, or as `print` does.
 fn plain_text(alloc: Global, conversion: Conversion, datum: &Datum) -> Result<Option<Text>, Memory>
-    ensures { IfOk result (λ text. text ≡ plain_text_of conversion (view datum.now)) }
+    ensures { IfOk result (λ text. text ≡ spec.plain_operand_text conversion (view datum.now)) }
 {
     match (conversion, datum) {
         (Conversion::Itself, Datum::Text(text)) => Ok(Some(Text::copy_of(alloc, text.as_str())?)),
@@ -84,7 +85,7 @@ fn plain_text(alloc: Global, conversion: Conversion, datum: &Datum) -> Result<Op
 }
 
 fn shown(alloc: Global, datum: &Datum) -> Result<Text, Memory>
-    ensures { IfOk result (λ text. text ≡ shown_of (view datum.now)) }
+    ensures { IfOk result (λ text. text ≡ printed_spec.shown (view datum.now)) }
 {
     let mut text = Text::new(alloc);
     show_datum(alloc, datum, &mut text)?;
@@ -93,7 +94,7 @@ fn shown(alloc: Global, datum: &Datum) -> Result<Text, Memory>
 
 // A text in hex digits with spaces, where the verb asks for neither zeros nor `+`.
 fn hex_filled(alloc: Global, verb: Verb, text: &str) -> Result<Option<Text>, Memory>
-    ensures { IfOk result (λ made. made ≡ filled_text_of verb (Some (hex_bytes text.now))) }
+    ensures { IfOk result (λ made. made ≡ spec.filled_text verb (Some (hex_bytes text.now))) }
 {
     if verb.zeros || verb.plus {
         return Ok(None);

@@ -1,7 +1,8 @@
 ghost use Rattle.page_datum.specs.View.{view};
 ghost use Rattle.tpl_format.specs.Answers.{PrintAnswers, datas};
-ghost use Rattle.tpl_format.specs.Prints.{printed_text, printed_args, printed_line, is_text as is_text_of};
+ghost use Rattle.tpl_format.specs.Prints.{printed_text, printed_args, printed_line};
 ghost use Rattle.std.specs.Prelude.{◌≡◌};
+ghost use Rattle.tpl_format.specs.Prints as spec;
 
 use crate::limit::is_long;
 use page_datum::{Datum, FaultKind, ValueStop, show_datum};
@@ -66,7 +67,7 @@ fn print_line(alloc: Global, args: &[Datum]) -> Result<Text, ValueStop>
 }
 
 fn is_text(datum: &Datum) -> bool
-    ensures { result ≡ is_text_of (view datum.now) }
+    ensures { result ≡ spec.is_text_datum (view datum.now) }
 {
     match datum {
         Datum::Text(_) => true,

@@ -1,5 +1,5 @@
 ghost use Rattle.std.specs.Prelude.{◌≡◌, nat_lt};
-ghost use Rattle.tpl_format.specs.Verbs.{bare as bare_of, with_digit as with_digit_of, with_flag as with_flag_of, is_bare as is_bare_of, letter as letter_of, read as read_of};
+ghost use Rattle.tpl_format.specs.Verbs as spec;
 
 /// The flags and the width of a verb. A width of 0 stands for none.
 #[derive(Clone, Copy, Debug, PartialEq, Eq)]
@@ -27,7 +27,7 @@ pub(crate) enum Conversion {
 
 /// What a byte is to a verb that was read so far.
 #[derive(Clone, Copy, Debug, PartialEq, Eq)]
-pub(crate) enum Reading {
+pub(crate) enum VerbState {
     /// One more flag or digit.
     More(Verb),
     /// The second `%` of `%%`.
@@ -40,7 +40,7 @@ pub(crate) enum Reading {
 
 /// What stands after `%`: no flags and no width.
 pub(crate) fn bare() -> Verb
-    ensures { result ≡ bare_of }
+    ensures { result ≡ spec.bare }
 {
     Verb {
         left: false,
@@ -51,8 +51,8 @@ pub(crate) fn bare() -> Verb
 }
 
 /// Reads one more byte of a verb.
-pub(crate) fn read(verb: Verb, byte: u8) -> Reading
-    ensures { result ≡ read_of verb byte }
+pub(crate) fn read(verb: Verb, byte: u8) -> VerbState
+    ensures { result ≡ spec.read_flag verb byte }
 {
     let has_width = verb.width > 0;
     if byte == b'-' {
@@ -75,33 +75,33 @@ pub(crate) fn read(verb: Verb, byte: u8) -> Reading
     }
     if byte == b'%' {
         return if is_bare(verb) {
-            Reading::Percent
+            VerbState::Percent
         } else {
-            Reading::Bad
+            VerbState::Bad
         };
     }
     letter(byte)
 }
 
 // A verb with one more flag, unless none may stand here.
-fn with_flag(refused: bool, verb: Verb) -> Reading
-    ensures { result ≡ with_flag_of refused verb }
+fn with_flag(refused: bool, verb: Verb) -> VerbState
+    ensures { result ≡ spec.with_flag refused verb }
 {
     if refused {
-        return Reading::Bad;
+        return VerbState::Bad;
     }
-    Reading::More(verb)
+    VerbState::More(verb)
 }
 
 // A verb with one more digit of its width.
-fn with_digit(verb: Verb, digit: u8) -> Reading
-    ensures { result ≡ with_digit_of verb digit }
+fn with_digit(verb: Verb, digit: u8) -> VerbState
+    ensures { result ≡ spec.with_digit verb digit }
 {
     let width = u32::from(verb.width) * 10 + u32::from(digit);
     if width > 1000 {
-        return Reading::Bad;
+        return VerbState::Bad;
     }
-    Reading::More(Verb {
+    VerbState::More(Verb {
         width: width as u16,
         ..verb
     })
@@ -109,28 +109,28 @@ fn with_digit(verb: Verb, digit: u8) -> Reading
 
 // Whether a verb has no flags and no width.
 fn is_bare(verb: Verb) -> bool
-    ensures { result ≡ is_bare_of verb }
+    ensures { result ≡ spec.is_bare verb }
 {
     !verb.left && !verb.zeros && !verb.plus && verb.width == 0
 }
 
-fn letter(byte: u8) -> Reading
-    ensures { result ≡ letter_of byte }
+fn letter(byte: u8) -> VerbState
+    ensures { result ≡ spec.letter byte }
 {
     if byte == b'd' {
-        return Reading::Takes(Conversion::Decimal);
+        return VerbState::Takes(Conversion::Decimal);
     }
     if byte == b'x' {
-        return Reading::Takes(Conversion::Hex);
+        return VerbState::Takes(Conversion::Hex);
     }
     if byte == b's' {
-        return Reading::Takes(Conversion::Itself);
+        return VerbState::Takes(Conversion::Itself);
     }
     if byte == b't' {
-        return Reading::Takes(Conversion::Truth);
+        return VerbState::Takes(Conversion::Truth);
     }
     if byte == b'v' {
-        return Reading::Takes(Conversion::Any);
+        return VerbState::Takes(Conversion::Any);
     }
-    Reading::Bad
+    VerbState::Bad
 }

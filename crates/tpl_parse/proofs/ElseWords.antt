@@ -2,16 +2,16 @@
 use Rattle.std.proofs.Common.{◌≡◌, ℕ, ◌==◌, Bool, true, false, ◌||◌, List, [], ◌∷◌, Ok, Err, refl, sym, ◌∙◌, true≢false}
 use Rattle.tpl_token.proofs.Marks.{either}
 use Rattle.tpl_parse.proofs.ActionsSay.{is_else}
-use Rattle.tpl_parse.specs.Actions.{Advance, plain, room_in, start_of, variable_state, pipe_advance, following_kind, control_word, else_word, end_word, jump_word, define_word, start_word, start_kind, by_variable, named_assign, named_comma, named, second, second_named, ends_if, else_advance, name_in, with_name, advance}
-use Rattle.tpl_parse.specs.declared.frame.Frame.{Frame}
+use Rattle.tpl_parse.specs.Actions.{ActionAdvance, plain, room_in, action_start, variable_state, pipe_advance, following_kind, control_word, else_word, end_word, jump_word, define_word, start_word, start_kind, by_variable, named_assign, named_comma, named, second, second_named, ends_if, else_advance, name_in, with_name, action_advance}
+use Rattle.tpl_build.specs.declared.frame.OpenForm.{OpenForm}
 use Rattle.tpl_parse.specs.declared.action.Before.{Before}
 use Rattle.tpl_parse.specs.declared.action.Before.TheVariants as before
 use Rattle.tpl_parse.specs.declared.action.ActionState.{ActionState}
 use Rattle.tpl_parse.specs.declared.action.ActionState.TheVariants as action_state
-use Rattle.tpl_parse.specs.declared.action.Purpose.{Purpose}
-use Rattle.tpl_parse.specs.declared.action.Purpose.TheVariants as purpose
-use Rattle.tpl_parse.specs.declared.builder.Builder.{Builder}
-use Rattle.tpl_pipe.specs.Reading.{Step, declared, read}
+use Rattle.tpl_build.specs.declared.action.Purpose.{Purpose}
+use Rattle.tpl_build.specs.declared.action.Purpose.TheVariants as purpose
+use Rattle.tpl_build.specs.declared.builder.Builder.{Builder}
+use Rattle.tpl_pipe.specs.Reading.{PipeStep, variable_declared, read_pipe_symbol}
 use Rattle.tpl_symbol.specs.declared.symbol.Symbol.{Symbol}
 use Rattle.tpl_symbol.specs.declared.symbol.SymbolKind.{SymbolKind}
 use Rattle.tpl_symbol.specs.declared.symbol.SymbolKind.TheVariants as kind
@@ -26,38 +26,38 @@ is_start _ = false
 abbrev pub is_special : ActionState → Bool
 is_special h = is_else h || is_start h
 
-abbrev pub gives_else : Advance → Bool
+abbrev pub gives_else : ActionAdvance → Bool
 gives_else (Ok h) = is_special h
 gives_else (Err why) = false
 
-pipe_no_else : (p : Purpose) (line : ℕ) (r : Step) → gives_else (pipe_advance p line r) ≡ false
+pipe_no_else : (p : Purpose) (line : ℕ) (r : PipeStep) → gives_else (pipe_advance p line r) ≡ false
 pipe_no_else p line (Ok at) = refl
 pipe_no_else p line (Err why) = refl
 
 following_no_else : (n : Builder) (b : Before) (k : SymbolKind) (s : Symbol) → gives_else (following_kind k n b s) ≡ false
-following_no_else n b (kind.Text _ _) s = pipe_no_else (plain b) s.line (read n.variables (start_of (room_in b n.room)) s)
-following_no_else n b (kind.Open _ _) s = pipe_no_else (plain b) s.line (read n.variables (start_of (room_in b n.room)) s)
-following_no_else n b (kind.Close _) s = pipe_no_else (plain b) s.line (read n.variables (start_of (room_in b n.room)) s)
-following_no_else n b (kind.Word _) s = pipe_no_else (plain b) s.line (read n.variables (start_of (room_in b n.room)) s)
-following_no_else n b (kind.Function _) s = pipe_no_else (plain b) s.line (read n.variables (start_of (room_in b n.room)) s)
-following_no_else n b kind.Unknown s = pipe_no_else (plain b) s.line (read n.variables (start_of (room_in b n.room)) s)
-following_no_else n b (kind.Field _) s = pipe_no_else (plain b) s.line (read n.variables (start_of (room_in b n.room)) s)
-following_no_else n b kind.Dot s = pipe_no_else (plain b) s.line (read n.variables (start_of (room_in b n.room)) s)
+following_no_else n b (kind.Text _ _) s = pipe_no_else (plain b) s.line (read_pipe_symbol n.variables (action_start (room_in b n.room)) s)
+following_no_else n b (kind.Open _ _) s = pipe_no_else (plain b) s.line (read_pipe_symbol n.variables (action_start (room_in b n.room)) s)
+following_no_else n b (kind.Close _) s = pipe_no_else (plain b) s.line (read_pipe_symbol n.variables (action_start (room_in b n.room)) s)
+following_no_else n b (kind.Word _) s = pipe_no_else (plain b) s.line (read_pipe_symbol n.variables (action_start (room_in b n.room)) s)
+following_no_else n b (kind.Function _) s = pipe_no_else (plain b) s.line (read_pipe_symbol n.variables (action_start (room_in b n.room)) s)
+following_no_else n b kind.Unknown s = pipe_no_else (plain b) s.line (read_pipe_symbol n.variables (action_start (room_in b n.room)) s)
+following_no_else n b (kind.Field _) s = pipe_no_else (plain b) s.line (read_pipe_symbol n.variables (action_start (room_in b n.room)) s)
+following_no_else n b kind.Dot s = pipe_no_else (plain b) s.line (read_pipe_symbol n.variables (action_start (room_in b n.room)) s)
 following_no_else n b (kind.Variable _) s = refl
-following_no_else n b (kind.Number _) s = pipe_no_else (plain b) s.line (read n.variables (start_of (room_in b n.room)) s)
-following_no_else n b (kind.Str _) s = pipe_no_else (plain b) s.line (read n.variables (start_of (room_in b n.room)) s)
-following_no_else n b kind.Declare s = pipe_no_else (plain b) s.line (read n.variables (start_of (room_in b n.room)) s)
-following_no_else n b kind.Assign s = pipe_no_else (plain b) s.line (read n.variables (start_of (room_in b n.room)) s)
-following_no_else n b kind.Bar s = pipe_no_else (plain b) s.line (read n.variables (start_of (room_in b n.room)) s)
-following_no_else n b kind.Comma s = pipe_no_else (plain b) s.line (read n.variables (start_of (room_in b n.room)) s)
-following_no_else n b kind.Left s = pipe_no_else (plain b) s.line (read n.variables (start_of (room_in b n.room)) s)
-following_no_else n b kind.Right s = pipe_no_else (plain b) s.line (read n.variables (start_of (room_in b n.room)) s)
+following_no_else n b (kind.Number _) s = pipe_no_else (plain b) s.line (read_pipe_symbol n.variables (action_start (room_in b n.room)) s)
+following_no_else n b (kind.Str _) s = pipe_no_else (plain b) s.line (read_pipe_symbol n.variables (action_start (room_in b n.room)) s)
+following_no_else n b kind.Declare s = pipe_no_else (plain b) s.line (read_pipe_symbol n.variables (action_start (room_in b n.room)) s)
+following_no_else n b kind.Assign s = pipe_no_else (plain b) s.line (read_pipe_symbol n.variables (action_start (room_in b n.room)) s)
+following_no_else n b kind.Bar s = pipe_no_else (plain b) s.line (read_pipe_symbol n.variables (action_start (room_in b n.room)) s)
+following_no_else n b kind.Comma s = pipe_no_else (plain b) s.line (read_pipe_symbol n.variables (action_start (room_in b n.room)) s)
+following_no_else n b kind.Left s = pipe_no_else (plain b) s.line (read_pipe_symbol n.variables (action_start (room_in b n.room)) s)
+following_no_else n b kind.Right s = pipe_no_else (plain b) s.line (read_pipe_symbol n.variables (action_start (room_in b n.room)) s)
 
 by_no_else : (n : Builder) (b : Before) (x : List ℕ) (line : ℕ) (s : Symbol) → gives_else (by_variable n b x line s) ≡ false
-by_no_else n b x line s = either (declared n.variables x) (λ t. rw t (pipe_no_else (plain b) s.line (read n.variables (variable_state (room_in b n.room) x) s))) (λ f. rw f refl)
+by_no_else n b x line s = either (variable_declared n.variables x) (λ t. rw t (pipe_no_else (plain b) s.line (read_pipe_symbol n.variables (variable_state (room_in b n.room) x) s))) (λ f. rw f refl)
 
 assign_no_else : (n : Builder) (b : Before) (x : List ℕ) (line : ℕ) (s : Symbol) → gives_else (named_assign b n x line s) ≡ false
-assign_no_else n before.Action x line s = either (declared n.variables x) (λ t. rw t refl) (λ f. rw f refl)
+assign_no_else n before.Action x line s = either (variable_declared n.variables x) (λ t. rw t refl) (λ f. rw f refl)
 assign_no_else n before.If x line s = by_no_else n before.If x line s
 assign_no_else n before.ElseIf x line s = by_no_else n before.ElseIf x line s
 assign_no_else n before.With x line s = by_no_else n before.With x line s
@@ -186,35 +186,35 @@ name_no_else kind.Comma line h e = refl
 name_no_else kind.Left line h e = refl
 name_no_else kind.Right line h e = refl
 
-pub no_else : (n : Builder) (h : ActionState) (s : Symbol) → is_start h ≡ false → gives_else (advance h n s) ≡ false
+pub no_else : (n : Builder) (h : ActionState) (s : Symbol) → is_start h ≡ false → gives_else (action_advance h n s) ≡ false
 no_else n action_state.Start s e = absurd (true≢false e)
 no_else n (action_state.AfterWord b) s e = following_no_else n b s.kind s
 no_else n (action_state.Named b x line) s e = named_no_else n b x line s.kind s
 no_else n (action_state.Second i) s e = second_no_else i s.kind s.line
 no_else n (action_state.SecondNamed i x line) s e = last_no_else n i x line s.kind s.line
-no_else n (action_state.Pipe p at) s e = pipe_no_else p s.line (read n.variables at s)
+no_else n (action_state.Pipe p at) s e = pipe_no_else p s.line (read_pipe_symbol n.variables at s)
 no_else n action_state.Else s e = else_no_else n s.kind s.line
 no_else n action_state.End s e = refl
 no_else n action_state.Break s e = refl
 no_else n action_state.Continue s e = refl
 no_else n action_state.Template s e = name_no_else s.kind s.line (λ n. action_state.TemplateNamed n) (λ n. refl)
-no_else n (action_state.TemplateNamed name) s e = pipe_no_else (purpose.Template name) s.line (read n.variables (start_of n.room) s)
+no_else n (action_state.TemplateNamed name) s e = pipe_no_else (purpose.Template name) s.line (read_pipe_symbol n.variables (action_start n.room) s)
 no_else n (action_state.Define line) s e = name_no_else s.kind s.line (λ n. action_state.DefineNamed n line) (λ n. refl)
 no_else n (action_state.DefineNamed name line) s e = refl
-no_else n (action_state.Block line) s e = name_no_else s.kind s.line (λ name. action_state.Pipe (purpose.Block name line) (start_of n.room)) (λ n. refl)
+no_else n (action_state.Block line) s e = name_no_else s.kind s.line (λ name. action_state.Pipe (purpose.Block name line) (action_start n.room)) (λ n. refl)
 
 -- the word `else`, where it may stand
 abbrev pub ElseBegins : Builder → Symbol → Type 0
 ElseBegins n s = (s.kind ≡ kind.Word word.Else) × (gives_else (else_word n.frames s.line) ≡ true)
 
-not_else : {P : Type 0} (t : Advance) → gives_else t ≡ false → gives_else t ≡ true → P
+not_else : {P : Type 0} (t : ActionAdvance) → gives_else t ≡ false → gives_else t ≡ true → P
 not_else t f e = absurd (true≢false (sym e ∙ f))
 
-end_no_else : (frames : List Frame) (line : ℕ) → gives_else (end_word frames line) ≡ false
+end_no_else : (frames : List OpenForm) (line : ℕ) → gives_else (end_word frames line) ≡ false
 end_no_else [] line = refl
 end_no_else (_ ∷ _) line = refl
 
-define_no_else : (frames : List Frame) (line : ℕ) → gives_else (define_word frames line) ≡ false
+define_no_else : (frames : List OpenForm) (line : ℕ) → gives_else (define_word frames line) ≡ false
 define_no_else [] line = refl
 define_no_else (_ ∷ _) line = refl
 

@@ -2,17 +2,17 @@
 use Rattle.std.proofs.Common.{◌≡◌, ℕ, ◌≤◌, Bool, false, List, [], ◌∷◌, ◌++◌, length, take, refl, sym, subst, arith}
 use Rattle.std.proofs.lemmas.List.{take_at, take-append-le, length-append, length-take-le}
 use Rattle.tpl_token.proofs.Marks.{either}
-use Rattle.tpl_parse.specs.declared.definition.Found.{Found}
+use Rattle.tpl_build.specs.declared.definition.FoundDefinition.{FoundDefinition}
 use Rattle.tpl_parse.proofs.FormsSay.{Fits}
-use Rattle.tpl_parse.specs.Building.{builder_of, with_else, else_from, else_names, first_names, closed_control, closed_from, piped_builder, done}
-use Rattle.tpl_parse.specs.declared.frame.Frame.{Frame}
-use Rattle.tpl_parse.specs.declared.frame.Frame.TheVariants as frame
-use Rattle.tpl_parse.specs.declared.action.ActionKind.{ActionKind}
-use Rattle.tpl_parse.specs.declared.action.ActionKind.TheVariants as action_kind
-use Rattle.tpl_parse.specs.declared.action.Opening.{Opening}
-use Rattle.tpl_parse.specs.declared.action.Purpose.{Purpose}
-use Rattle.tpl_parse.specs.declared.action.Purpose.TheVariants as purpose
-use Rattle.tpl_parse.specs.declared.builder.Builder.{Builder}
+use Rattle.tpl_build.specs.Building.{builder_of, with_else, else_from, else_names, first_names, closed_control, closed_from, piped_builder, done}
+use Rattle.tpl_build.specs.declared.frame.OpenForm.{OpenForm}
+use Rattle.tpl_build.specs.declared.frame.OpenForm.TheVariants as frame
+use Rattle.tpl_build.specs.declared.action.ActionKind.{ActionKind}
+use Rattle.tpl_build.specs.declared.action.ActionKind.TheVariants as action_kind
+use Rattle.tpl_build.specs.declared.action.Opening.{Opening}
+use Rattle.tpl_build.specs.declared.action.Purpose.{Purpose}
+use Rattle.tpl_build.specs.declared.action.Purpose.TheVariants as purpose
+use Rattle.tpl_build.specs.declared.builder.Builder.{Builder}
 use Rattle.tpl_tree.specs.Trees.{NodesData}
 use Rattle.tpl_tree.specs.declared.pipe.Pipe.{Pipe}
 
@@ -20,7 +20,7 @@ abbrev pub FitsIn : Builder → Type 0
 FitsIn n = Fits n.frames n.variables
 
 -- with more variables
-fits_more : (frames : List Frame) (variables more : List (List ℕ)) → Fits frames variables → Fits frames (variables ++ more)
+fits_more : (frames : List OpenForm) (variables more : List (List ℕ)) → Fits frames variables → Fits frames (variables ++ more)
 fits_more [] variables more h = tt
 fits_more (frame.Definition d ∷ frames) variables more h = h
 fits_more (frame.Control c ∷ frames) variables more h =
@@ -31,7 +31,7 @@ fits_opened : (n : Builder) (names : List (List ℕ)) → FitsIn n → (length n
 fits_opened n names h = (omega (arith, length-append n.variables names), subst (Fits n.frames) (sym (take_at n.variables names (length n.variables) refl)) h)
 
 -- its `else` part begins
-fits_else : (frames : List Frame) (n : Builder) → Fits frames n.variables → n.frames ≡ frames → FitsIn (else_from frames n)
+fits_else : (frames : List OpenForm) (n : Builder) → Fits frames n.variables → n.frames ≡ frames → FitsIn (else_from frames n)
 fits_else [] n h e = subst (λ fs. Fits fs n.variables) (sym e) h
 fits_else (frame.Definition d ∷ frames) n h e = subst (λ fs. Fits fs n.variables) (sym e) h
 fits_else (frame.Control c ∷ frames) n h e =
@@ -44,7 +44,7 @@ pub fits_with_else : (n : Builder) → FitsIn n → FitsIn (with_else n)
 fits_with_else n h = fits_else n.frames n h refl
 
 -- the innermost of what is open is closed
-fits_closed : (frames : List Frame) (o : Opening) (body : NodesData) (variables : List (List ℕ)) (in_range : Bool) (room : ℕ) (blank : Bool) (found : List Found) (fs : List Frame) → Fits frames variables → FitsIn (closed_from frames o (builder_of fs body variables in_range room blank found))
+fits_closed : (frames : List OpenForm) (o : Opening) (body : NodesData) (variables : List (List ℕ)) (in_range : Bool) (room : ℕ) (blank : Bool) (found : List FoundDefinition) (fs : List OpenForm) → Fits frames variables → FitsIn (closed_from frames o (builder_of fs body variables in_range room blank found))
 fits_closed [] o body variables in_range room blank found fs h = tt
 fits_closed (frame.Definition d ∷ frames) o body variables in_range room blank found fs h = h
 fits_closed (frame.Control c ∷ frames) o body variables in_range room blank found fs h = either c.chained

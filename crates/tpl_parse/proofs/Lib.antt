@@ -5,7 +5,6 @@ pub mod Completions
 pub mod ElseWords
 pub mod FileLaws
 pub mod FilesSay
-pub mod Filling
 pub mod Fitting
 pub mod FormsLead
 pub mod FormsSay
@@ -13,4 +12,4 @@ pub mod OneFile
 pub mod PipeEnds
 pub mod RefusedLines
 pub mod SeenNames
-pub mod Standing
+pub mod SymbolSteps

@@ -6,7 +6,7 @@ use Rattle.std.specs.List.{list_any}
 use Rattle.std.specs.Ordering.{nat_cmp, is_eq}
 use Rattle.std.proofs.lemmas.List.{drop_more}
 use Rattle.tpl_parse.specs.Endings.{among, second_line}
-use Rattle.tpl_parse.specs.declared.definition.Found.{Found}
+use Rattle.tpl_build.specs.declared.definition.FoundDefinition.{FoundDefinition}
 
 -- two lists have the same names
 abbrev pub HaveSame : List (List ℕ) → List (List ℕ) → Type 0
@@ -15,7 +15,7 @@ HaveSame xs ys = (name : List ℕ) → among xs name ≡ among ys name
 more_same : (x : List ℕ) (xs ys : List (List ℕ)) → HaveSame xs ys → HaveSame (x ∷ xs) (x ∷ ys)
 more_same x xs ys h name = ap (λ b. pointwise nat_eq name x || b) (h name)
 
-pub second_line-same : (found : List Found) (xs ys : List (List ℕ)) → HaveSame xs ys → second_line xs found ≡ second_line ys found
+pub second_line-same : (found : List FoundDefinition) (xs ys : List (List ℕ)) → HaveSame xs ys → second_line xs found ≡ second_line ys found
 second_line-same [] xs ys h = refl
 second_line-same (f ∷ found) xs ys h =
     ap (λ line. if f.def.blank then line else if among xs f.def.name then Some f.line else second_line (f.def.name ∷ xs) found) (second_line-same found xs ys h)
@@ -51,17 +51,17 @@ was_true true e = refl
 was_true false e = e
 
 -- the definition with a number stands before the rest
-rest_at : (found : List Found) (i : ℕ) (f : Found) → i < length found → f ≡ slice_index_or found i f → drop i found ≡ f ∷ drop (i + 1) found
-rest_at found i f within is = drop_more found i f within ∙ ap (λ (x : Found). x ∷ drop (i + 1) found) (sym is)
+rest_at : (found : List FoundDefinition) (i : ℕ) (f : FoundDefinition) → i < length found → f ≡ slice_index_or found i f → drop i found ≡ f ∷ drop (i + 1) found
+rest_at found i f within is = drop_more found i f within ∙ ap (λ (x : FoundDefinition). x ∷ drop (i + 1) found) (sym is)
 
 -- one that is blank is passed over
-pub second_line-blank : (s : BTreeSet (List ℕ)) (found : List Found) (i : ℕ) (f : Found) → i < length found → f ≡ slice_index_or found i f → f.def.blank ≡ true → second_line s.keys (drop i found) ≡ second_line s.keys (drop (i + 1) found)
+pub second_line-blank : (s : BTreeSet (List ℕ)) (found : List FoundDefinition) (i : ℕ) (f : FoundDefinition) → i < length found → f ≡ slice_index_or found i f → f.def.blank ≡ true → second_line s.keys (drop i found) ≡ second_line s.keys (drop (i + 1) found)
 second_line-blank s found i f within is blank = rw (rest_at found i f within is, blank) refl
 
 -- of one that is not, the name was seen
-pub second_line-seen : (s : BTreeSet (List ℕ)) (found : List Found) (i : ℕ) (f : Found) → i < length found → f ≡ slice_index_or found i f → f.def.blank ≡ false → contains (slice_cmp nat_cmp) s f.def.name ≡ true → second_line s.keys (drop i found) ≡ Some f.line
+pub second_line-seen : (s : BTreeSet (List ℕ)) (found : List FoundDefinition) (i : ℕ) (f : FoundDefinition) → i < length found → f ≡ slice_index_or found i f → f.def.blank ≡ false → contains (slice_cmp nat_cmp) s f.def.name ≡ true → second_line s.keys (drop i found) ≡ Some f.line
 second_line-seen s found i f within is solid seen = rw (rest_at found i f within is, solid, ← among_keys s f.def.name, seen) refl
 
 -- or is now
-pub second_line-new : (old new : BTreeSet (List ℕ)) (found : List Found) (i : ℕ) (f : Found) → i < length found → f ≡ slice_index_or found i f → f.def.blank ≡ false → contains (slice_cmp nat_cmp) old f.def.name ≡ false → Updates (slice_cmp nat_cmp) old new f.def.name true → second_line old.keys (drop i found) ≡ second_line new.keys (drop (i + 1) found)
+pub second_line-new : (old new : BTreeSet (List ℕ)) (found : List FoundDefinition) (i : ℕ) (f : FoundDefinition) → i < length found → f ≡ slice_index_or found i f → f.def.blank ≡ false → contains (slice_cmp nat_cmp) old f.def.name ≡ false → Updates (slice_cmp nat_cmp) old new f.def.name true → second_line old.keys (drop i found) ≡ second_line new.keys (drop (i + 1) found)
 second_line-new old new found i f within is solid unseen u = rw (rest_at found i f within is, solid, ← among_keys old f.def.name, unseen) (second_line-same (drop (i + 1) found) (f.def.name ∷ old.keys) new.keys (inserted_same old new f.def.name u))

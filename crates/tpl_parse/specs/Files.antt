@@ -1,15 +1,15 @@
 -- What a template file is: its definitions, or why it has none.
 use Rattle.std.specs.Prelude.{◌≡◌, ◌≢◌, ◌⊎◌, ℕ, ◌-◌, List, [], ◌∷◌, ◌++◌, length, Option, Some, None, Result, Ok, Err, ⊤}
 use Rattle.tpl_parse.specs.Endings.{second_line, defs_of}
-use Rattle.tpl_parse.specs.Forms.{Forms, nodes_of, is_blank, found_in}
+use Rattle.tpl_parse.specs.Forms.{Forms, form_nodes, is_blank, found_in}
 use Rattle.tpl_parse.specs.Grammar.{IsFileBody}
-use Rattle.tpl_parse.specs.Building.{def_of, found_of}
-use Rattle.tpl_parse.specs.Steps.{step, run, beginning}
-use Rattle.tpl_parse.specs.declared.definition.Def.{Def}
-use Rattle.tpl_parse.specs.declared.definition.File.{File}
-use Rattle.tpl_parse.specs.declared.definition.Found.{Found}
+use Rattle.tpl_build.specs.Building.{def_of, found_of}
+use Rattle.tpl_parse.specs.Steps.{parser_step, parser_run, parser_beginning}
+use Rattle.tpl_build.specs.declared.definition.Def.{Def}
+use Rattle.tpl_build.specs.declared.definition.File.{File}
+use Rattle.tpl_build.specs.declared.definition.FoundDefinition.{FoundDefinition}
 use Rattle.tpl_parse.specs.Phases as phase
-use Rattle.tpl_parse.specs.State.{State}
+use Rattle.tpl_parse.specs.State.{ParserState}
 use Rattle.tpl_parse.specs.declared.refused.FileRefused.{FileRefused}
 use Rattle.tpl_parse.specs.declared.refused.FileRefused.TheVariants as file_refused
 use Rattle.tpl_pipe.specs.declared.refused.ParseRefused.{ParseRefused}
@@ -25,12 +25,12 @@ use Rattle.tpl_token.specs.declared.token.Token.{Token}
 
 -- The definitions of a file of this name whose body ends on a line, and whose forms are these: those of each `define` and
 -- `block`, in the order of these words, and last the file's own body.
-abbrev pub all_found : List ℕ → ℕ → Forms → List Found
-all_found name end forms = found_in forms ++ found_of (def_of name (is_blank forms) (nodes_of forms) end) 1 ∷ []
+abbrev pub all_found : List ℕ → ℕ → Forms → List FoundDefinition
+all_found name end forms = found_in forms ++ found_of (def_of name (is_blank forms) (form_nodes forms) end) 1 ∷ []
 
 -- the line of a text's last byte
-abbrev pub last_line : List ℕ → ℕ
-last_line text = line_of text (length text - 1)
+abbrev pub file_last_line : List ℕ → ℕ
+file_last_line text = line_of text (length text - 1)
 
 -- A file of this name and text has these definitions: its tokens, as symbols, are forms, and of no name are two definitions
 -- not blank.
@@ -39,64 +39,64 @@ pub record IsFile (name text : List ℕ) (defs : List Def) : Type 0 where
   pub are_tokens : AreTokens text tokens
   pub forms : Forms
   pub body : IsFileBody forms (symbols_of text tokens)
-  pub single : second_line [] (all_found name (last_line text) forms) ≡ None
-  pub all : defs_of (all_found name (last_line text) forms) ≡ defs
+  pub single : second_line [] (all_found name (file_last_line text) forms) ≡ None
+  pub all : defs_of (all_found name (file_last_line text) forms) ≡ defs
 
--- A symbol is refused: those before it lead to a place where it may not stand.
+-- A symbol is refused: those before it lead to an offset where it may not stand.
 pub record IsRefusedAt (symbols : List Symbol) (why : ParseRefused) (line : ℕ) : Type 0 where
   pub before : List Symbol
   pub symbol : Symbol
   pub following : List Symbol
   pub split : symbols ≡ before ++ symbol ∷ following
-  pub at : State
-  pub leads : run beginning before ≡ Ok at
-  pub refused : step at symbol ≡ Err (why, line)
+  pub at : ParserState
+  pub leads : parser_run parser_beginning before ≡ Ok at
+  pub refused : parser_step at symbol ≡ Err (why, line)
 
 -- something is open: a control, a `define`, a `block`, or an action
-abbrev pub IsOpen : State → Type 0
-IsOpen at = (at.phase ≢ phase.Outside) ⊎ (at.builder.frames ≢ [])
+abbrev pub IsFileOpen : ParserState → Type 0
+IsFileOpen at = (at.phase ≢ phase.Outside) ⊎ (at.builder.frames ≢ [])
 
 -- The symbols end, and something is open.
-pub record IsUnclosed (symbols : List Symbol) : Type 0 where
-  pub at : State
-  pub leads : run beginning symbols ≡ Ok at
-  pub still : IsOpen at
+pub record IsUnclosedForm (symbols : List Symbol) : Type 0 where
+  pub at : ParserState
+  pub leads : parser_run parser_beginning symbols ≡ Ok at
+  pub still : IsFileOpen at
 
 -- On this line is the first definition that is the second of its name that is not blank.
 pub record IsTwice (name text : List ℕ) (symbols : List Symbol) (line : ℕ) : Type 0 where
   pub forms : Forms
   pub body : IsFileBody forms symbols
-  pub second : second_line [] (all_found name (last_line text) forms) ≡ Some line
+  pub second : second_line [] (all_found name (file_last_line text) forms) ≡ Some line
 
 -- why the symbols of a file are refused, and the line
 abbrev pub IsStopped : List ℕ → List ℕ → List Symbol → ParseRefused → ℕ → Type 0
 IsStopped name text symbols why line =
     IsRefusedAt symbols why line
-    ⊎ (((why ≡ refused.UnclosedBlock) × (line ≡ line_of text (length text)) × IsUnclosed symbols)
+    ⊎ (((why ≡ refused.UnclosedBlock) × (line ≡ line_of text (length text)) × IsUnclosedForm symbols)
     ⊎ ((why ≡ refused.MultipleDefinition) × IsTwice name text symbols line))
 
--- the place that a refusal of tokens names
-abbrev pub place_of : TokenRefused → Option ℕ
-place_of (token_refused.UnclosedAction place) = Some place
-place_of (token_refused.BadCharacter place) = Some place
-place_of (token_refused.UnclosedString place) = Some place
-place_of (token_refused.UnclosedComment place) = Some place
-place_of (token_refused.BadNumber place) = Some place
-place_of (token_refused.BadDelimiter place) = Some place
-place_of (token_refused.BadEscape place) = Some place
-place_of token_refused.Memory = None
+-- the offset that a refusal of tokens names
+abbrev pub refusal_offset : TokenRefused → Option ℕ
+refusal_offset (token_refused.UnclosedAction offset) = Some offset
+refusal_offset (token_refused.BadCharacter offset) = Some offset
+refusal_offset (token_refused.UnclosedString offset) = Some offset
+refusal_offset (token_refused.UnclosedComment offset) = Some offset
+refusal_offset (token_refused.BadNumber offset) = Some offset
+refusal_offset (token_refused.BadDelimiter offset) = Some offset
+refusal_offset (token_refused.BadEscape offset) = Some offset
+refusal_offset token_refused.Memory = None
 
 -- A file of this name and text is refused for this cause.
-abbrev pub IsRefused : List ℕ → List ℕ → FileRefused → Type 0
-IsRefused name text (file_refused.Token why line) = (place : ℕ) × tokens.IsRefused text why × (place_of why ≡ Some place) × (line ≡ line_of text place)
-IsRefused name text (file_refused.Parse why line) = (list : List Token) × AreTokens text list × IsStopped name text (symbols_of text list) why line
-IsRefused name text file_refused.Memory = ⊥
+abbrev pub IsParseRefused : List ℕ → List ℕ → FileRefused → Type 0
+IsParseRefused name text (file_refused.Token why line) = (offset : ℕ) × tokens.IsTokenRefused text why × (refusal_offset why ≡ Some offset) × (line ≡ line_of text offset)
+IsParseRefused name text (file_refused.Parse why line) = (list : List Token) × AreTokens text list × IsStopped name text (symbols_of text list) why line
+IsParseRefused name text file_refused.Memory = ⊥
 
 -- The definitions of the file, or why it has none. Out of memory may come instead.
 abbrev pub ParseFileAnswers : List ℕ → List ℕ → Result File FileRefused → Type 0
 ParseFileAnswers name text (Ok file) = IsFile name text file.defs
 ParseFileAnswers name text (Err file_refused.Memory) = ⊤
-ParseFileAnswers name text (Err why) = IsRefused name text why
+ParseFileAnswers name text (Err why) = IsParseRefused name text why
 
 -- what was returned is this, or memory ran out
 abbrev pub GivesFile : Result File FileRefused → Result (List Def) FileRefused → Type 0
@@ -110,4 +110,4 @@ AcceptsFile name text result = (defs : List Def) → IsFile name text defs → G
 
 -- a file that has a cause to be refused is refused for this one
 abbrev pub RefusesFile : List ℕ → List ℕ → Result File FileRefused → Type 0
-RefusesFile name text result = (why : FileRefused) → IsRefused name text why → GivesFile result (Err why)
+RefusesFile name text result = (why : FileRefused) → IsParseRefused name text why → GivesFile result (Err why)

@@ -1,12 +1,10 @@
+pub mod Actions
 pub mod Endings
 pub mod Files
 pub mod Forms
-pub mod Gathering
 pub mod Grammar
 pub mod Laws
-pub mod Building
 pub mod Parsing
 pub mod Phases
 pub mod State
 pub mod Steps
-pub mod Actions

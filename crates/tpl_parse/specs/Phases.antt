@@ -1,6 +1,6 @@
 -- Where in a file reading is.
 use Rattle.tpl_parse.specs.declared.action.ActionState.{ActionState}
-use Rattle.tpl_parse.specs.declared.action.Opening.{Opening}
+use Rattle.tpl_build.specs.declared.action.Opening.{Opening}
 use Rattle.tpl_parse.specs.declared.action.Position.{Position}
 use Rattle.tpl_parse.specs.declared.action.Position.TheVariants as position
 

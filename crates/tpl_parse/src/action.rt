@@ -1,19 +1,12 @@
-use crate::frame::Control;
-use page_io::Text;
+ghost use Rattle.std.specs.Prelude.{Ok};
+ghost use Rattle.tpl_parse.specs.Actions.{ActionAdvanceAnswers};
+
+use crate::refused::RefusalCause;
+use page_io::{Stop, Text};
+use tpl_build::{Opening, Purpose};
 use tpl_pipe::PipeState;
 
-/// Where an action begins.
-#[derive(Clone, Copy)]
-pub struct Opening {
-    /// The line of its `{{`.
-    pub line: u32,
-    /// The place of its `{{`.
-    pub start: u32,
-    /// The line of the byte before it.
-    pub before: u32,
-}
-
-/// What a pipe or the declaration of a variable stands after.
+/// What comes before a pipe, or before the declaration of a variable.
 #[derive(Clone, Copy)]
 pub enum Before {
     /// `{{`
@@ -26,23 +19,6 @@ pub enum Before {
     With,
     /// `range`
     Range,
-}
-
-/// What a pipe is for.
-#[derive(Drop)]
-pub enum Purpose {
-    /// Its value is written.
-    Write,
-    /// A variable is declared.
-    Declare(Text),
-    /// A variable gets another value.
-    Assign(Text),
-    /// A control; whether it is an `else if`.
-    Control(Control, bool),
-    /// The argument of a `template`.
-    Template(Text),
-    /// The argument of a `block`, with the line of this word.
-    Block(Text, u32),
 }
 
 /// Where in an action reading is.
@@ -80,25 +56,6 @@ pub enum ActionState {
     Block(u32),
 }
 
-/// What a whole action says.
-#[derive(Drop)]
-pub enum ActionKind {
-    /// What a pipe is for, and the pipe.
-    Piped(Purpose, tpl_tree::Pipe),
-    /// `{{break}}`
-    Break,
-    /// `{{continue}}`
-    Continue,
-    /// `{{template "n"}}`
-    Call(Text),
-    /// `{{else}}`
-    Else,
-    /// `{{end}}`
-    End,
-    /// `{{define "n"}}`, with the line of the word.
-    Define(Text, u32),
-}
-
 /// Where in a file reading is.
 #[derive(Clone, Copy)]
 pub enum Position {
@@ -106,4 +63,12 @@ pub enum Position {
     Outside,
     /// In an action, whose state is kept apart.
     Inside(Opening),
+}
+
+/// The state after a symbol that is read.
+pub fn becomes(action: &mut ActionState, next: ActionState) -> Result<(), Stop<RefusalCause>>
+    ensures { ActionAdvanceAnswers result action.new (Ok next) }
+{
+    *action = next;
+    Ok(())
 }

@@ -1,15 +1,16 @@
 ghost use Rattle.std.specs.Prelude.{◌≡◌};
-ghost use Rattle.tpl_pipe.specs.Reading.{finish as finish_of};
-ghost use Rattle.tpl_parse.specs.Actions.{Answers, action_kind_of as action_kind_in};
-ghost use Rattle.tpl_parse.specs.Actions.{piped as piped_of};
+ghost use Rattle.tpl_parse.specs.Actions.{ActionAnswers};
+ghost use Rattle.tpl_pipe.specs.Reading as reading;
+ghost use Rattle.tpl_parse.specs.Actions as spec;
 
-use crate::action::{ActionKind, ActionState, Purpose};
-use crate::builder::Builder;
-use crate::refused::Refusal;
-use crate::transition::{plain, room_in, undeclared, variable_state};
+use crate::action::ActionState;
+use crate::pipe::{plain, room_in};
+use crate::refused::RefusalCause;
+use crate::variable::{undeclared, variable_state};
 use page_io::{Stop, Text};
 use std::alloc::Global;
 use std::mem;
+use tpl_build::{ActionKind, Builder, Purpose};
 use tpl_pipe::{ParseRefused, PipeState, finish};
 
 // What an action says that ends on this line.
@@ -18,8 +19,8 @@ pub fn action_kind_of(
     builder: &Builder,
     action: &mut ActionState,
     line: u32,
-) -> Result<ActionKind, Stop<Refusal>>
-    ensures { Answers result (action_kind_in action.old builder.now line) }
+) -> Result<ActionKind, Stop<RefusalCause>>
+    ensures { ActionAnswers result (spec.action_kind_of action.old builder.now line) }
 {
     match action {
         ActionState::Start => Err(Stop::Cause((ParseRefused::EmptyPipeline, line))),
@@ -59,8 +60,8 @@ fn piped(
     purpose: Purpose,
     line: u32,
     state: &mut PipeState,
-) -> Result<ActionKind, Stop<Refusal>>
-    ensures { Answers result (piped_of purpose line (finish_of state.old)) }
+) -> Result<ActionKind, Stop<RefusalCause>>
+    ensures { ActionAnswers result (spec.piped purpose line (reading.pipe_finish state.old)) }
 {
     match finish(alloc, state) {
         Ok(pipe) => Ok(ActionKind::Piped(purpose, pipe)),

@@ -1,14 +1,13 @@
 ghost use Rattle.std.specs.Prelude.{◌≡◌, [], IfOk};
-ghost use Rattle.tpl_parse.specs.Endings.{checked as checked_of, defs_of as defs_in, finished};
-ghost use Rattle.tpl_parse.specs.Endings.{second_line as second_line_of, with_own as with_own_of};
-ghost use Rattle.tpl_parse.specs.Actions.{Answers};
+ghost use Rattle.tpl_parse.specs.Endings.{file_finished};
+ghost use Rattle.tpl_parse.specs.Actions.{ActionAnswers};
+ghost use Rattle.tpl_parse.specs.Endings as spec;
 
-use crate::builder::Builder;
-use crate::definition::{Def, Found};
-use crate::refused::Refusal;
+use crate::refused::RefusalCause;
 use page_io::{List, Memory, Stop, Text};
 use std::alloc::Global;
 use std::collections::BTreeSet;
+use tpl_build::{Builder, Def, FoundDefinition};
 use tpl_pipe::ParseRefused;
 use tpl_symbol::TextEnd;
 
@@ -18,8 +17,8 @@ pub fn finish(
     builder: Builder,
     name: &str,
     end: TextEnd,
-) -> Result<List<Def>, Stop<Refusal>>
-    ensures { Answers result (finished name.now end builder) }
+) -> Result<List<Def>, Stop<RefusalCause>>
+    ensures { ActionAnswers result (file_finished name.now end builder) }
 {
     if !builder.frames.is_empty() {
         return Err(Stop::Cause((ParseRefused::UnclosedBlock, end.line)));
@@ -36,8 +35,8 @@ fn with_own(
     builder: Builder,
     name: &str,
     end: TextEnd,
-) -> Result<List<Found>, Memory>
-    ensures { IfOk result (λ found. found ≡ with_own_of name.now end builder) }
+) -> Result<List<FoundDefinition>, Memory>
+    ensures { IfOk result (λ found. found ≡ spec.with_own name.now end builder) }
 {
     let mut found = builder.found;
     let def = Def {
@@ -45,13 +44,13 @@ fn with_own(
         blank: builder.blank,
         tree: builder.body.into_tree(end.before),
     };
-    found.push(Found { def, line: 1 })?;
+    found.push(FoundDefinition { def, line: 1 })?;
     Ok(found)
 }
 
 // The definitions, unless one is the second of its name that is not blank.
-fn checked(alloc: Global, found: List<Found>) -> Result<List<Def>, Stop<Refusal>>
-    ensures { Answers result (checked_of (second_line_of [] found) found) }
+fn checked(alloc: Global, found: List<FoundDefinition>) -> Result<List<Def>, Stop<RefusalCause>>
+    ensures { ActionAnswers result (spec.checked (spec.second_line [] found) found) }
 {
     match second_line(alloc, found.as_slice()) {
         Ok(Some(line)) => Err(Stop::Cause((ParseRefused::MultipleDefinition, line))),
@@ -64,8 +63,8 @@ fn checked(alloc: Global, found: List<Found>) -> Result<List<Def>, Stop<Refusal>
 }
 
 // The line of the first definition that is the second of its name that is not blank.
-fn second_line(alloc: Global, found: &[Found]) -> Result<Option<u32>, Memory>
-    ensures { IfOk result (λ line. line ≡ second_line_of [] found.now) }
+fn second_line(alloc: Global, found: &[FoundDefinition]) -> Result<Option<u32>, Memory>
+    ensures { IfOk result (λ line. line ≡ spec.second_line [] found.now) }
 {
     let mut names = BTreeSet::new(alloc);
     for one in found {
@@ -80,8 +79,8 @@ fn second_line(alloc: Global, found: &[Found]) -> Result<Option<u32>, Memory>
 }
 
 // The definitions without the lines of their words.
-fn defs_of(alloc: Global, found: List<Found>) -> Result<List<Def>, Memory>
-    ensures { IfOk result (λ defs. defs ≡ defs_in found) }
+fn defs_of(alloc: Global, found: List<FoundDefinition>) -> Result<List<Def>, Memory>
+    ensures { IfOk result (λ defs. defs ≡ spec.defs_of found) }
 {
     let mut defs = List::new(alloc);
     for one in found.into_vec() {

@@ -1,5 +1,5 @@
 ghost use Rattle.std.specs.Prelude.{ℕ, List};
-ghost use Rattle.tpl_parse.specs.Laws.{ActionsEnd, ArePrefixes, HasAnswer, HaveNotBoth};
+ghost use Rattle.tpl_parse.specs.Laws.{ActionsEnd, ArePrefixes, HasParseAnswer, HaveNotBoth};
 ghost use Rattle.tpl_parse.specs.Laws.{HaveOneList, HaveOneRefusal, HaveOneTree, NoneGoesOn};
 ghost use Rattle.tpl_parse.specs.Laws.{RefusedHasItsLine, RefusedIsFirst, UnclosedAreOpen};
 
@@ -7,7 +7,7 @@ ghost use Rattle.tpl_parse.specs.Laws.{RefusedHasItsLine, RefusedIsFirst, Unclos
 /// tree; the symbol that is refused is the first with which no body goes on, definitions of one name left aside; and a file
 /// ends outside actions, so that where it is refused for its end a block is open.
 pub fn one_file()
-    ensures some { (name text : List ℕ) → HasAnswer name text }
+    ensures some { (name text : List ℕ) → HasParseAnswer name text }
     ensures file { HaveOneList }
     ensures refusal { HaveOneRefusal }
     ensures not_both { HaveNotBoth }

@@ -3,20 +3,19 @@
 
 mod action;
 mod action_end;
-mod builder;
+mod control;
 mod definition;
 mod ending;
-mod frame;
-mod gathering;
 mod laws;
 mod parse;
+mod pipe;
 mod reader;
 mod refused;
 mod transition;
+mod variable;
 
-pub use definition::{Def, File};
-pub use gathering::gather;
 pub use laws::one_file;
 pub use parse::parse_file;
 pub use refused::FileRefused;
+pub use tpl_build::{Def, File, gather};
 pub use tpl_pipe::ParseRefused;

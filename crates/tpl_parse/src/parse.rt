@@ -1,21 +1,21 @@
 ghost use Rattle.std.specs.Prelude.{◌≡◌, ◌≤◌, All, length};
 ghost use Rattle.tpl_parse.specs.Files.{AcceptsFile, ParseFileAnswers, RefusesFile};
-ghost use Rattle.tpl_parse.specs.Files.{place_of as place_in};
-ghost use Rattle.tpl_parse.specs.Parsing.{ParseTokensAnswers, end_of as end_of_text, parsed};
-ghost use Rattle.tpl_parse.specs.Parsing.{parsed_text, token_refusal as token_refusal_of};
-ghost use Rattle.tpl_parse.specs.Actions.{Answers};
-ghost use Rattle.tpl_symbol.specs.Symbols.{IsFine};
-ghost use Rattle.tpl_token.specs.Answers.{max_text};
+ghost use Rattle.tpl_parse.specs.Parsing.{ParseTokensAnswers, parsed};
+ghost use Rattle.tpl_parse.specs.Parsing.{parsed_text};
+ghost use Rattle.tpl_parse.specs.Actions.{ActionAnswers};
+ghost use Rattle.tpl_symbol.specs.Symbols.{IsFineSymbol};
+ghost use Rattle.tpl_token.specs.Answers.{max_template_text};
 ghost use Rattle.tpl_token.specs.Spans.{AreCuts, Ascend, IsCutAt};
+ghost use Rattle.tpl_parse.specs.Files as spec;
+ghost use Rattle.tpl_parse.specs.Parsing as parsing;
 
 use crate::action::{ActionState, Position};
-use crate::builder::empty_builder;
-use crate::definition::{Def, File};
 use crate::ending::finish;
 use crate::reader::{ROOM, run_symbols};
-use crate::refused::{FileRefused, Refusal};
+use crate::refused::{FileRefused, RefusalCause};
 use page_io::{List, Memory, Stop};
 use std::alloc::Global;
+use tpl_build::{Def, File, empty_builder};
 use tpl_pipe::ParseRefused;
 use tpl_symbol::{Symbol, TextEnd, line_of, symbols, text_end};
 use tpl_token::{Token, TokenRefused, tokens};
@@ -25,7 +25,7 @@ use tpl_token::{Token, TokenRefused, tokens};
 /// `docs/LANGUAGE.md` says in words. The error names why the text has no tokens, or the first token at which no
 /// template goes on, with its line.
 pub fn parse_file(alloc: Global, name: &str, text: &str) -> Result<File, FileRefused>
-    requires limit { length text.now ≤ max_text }
+    requires limit { length text.now ≤ max_template_text }
     // The answer is the file's.
     ensures answers { ParseFileAnswers name.now text.now result }
     // A file that has definitions is not refused, and these are the definitions.
@@ -39,30 +39,30 @@ pub fn parse_file(alloc: Global, name: &str, text: &str) -> Result<File, FileRef
     }
 }
 
-// A refusal of tokens, with the line of its place.
+// A refusal of tokens, with the line of its offset.
 fn token_refusal(text: &str, why: TokenRefused) -> FileRefused
-    requires limit { length text.now ≤ max_text }
-    requires place { IsCutAt text.now why }
-    ensures { result ≡ token_refusal_of text.now why }
+    requires limit { length text.now ≤ max_template_text }
+    requires offset { IsCutAt text.now why }
+    ensures { result ≡ parsing.token_refusal text.now why }
 {
     match place_of(why) {
-        Some(place) => FileRefused::Token(why, line_of(text, place)),
+        Some(offset) => FileRefused::Token(why, line_of(text, offset)),
         None => FileRefused::Memory,
     }
 }
 
-// The place that a refusal of tokens names.
+// The offset that a refusal of tokens names.
 fn place_of(why: TokenRefused) -> Option<u32>
-    ensures { result ≡ place_in why }
+    ensures { result ≡ spec.refusal_offset why }
 {
     match why {
-        TokenRefused::UnclosedAction(place) => Some(place),
-        TokenRefused::BadCharacter(place) => Some(place),
-        TokenRefused::UnclosedString(place) => Some(place),
-        TokenRefused::UnclosedComment(place) => Some(place),
-        TokenRefused::BadNumber(place) => Some(place),
-        TokenRefused::BadDelimiter(place) => Some(place),
-        TokenRefused::BadEscape(place) => Some(place),
+        TokenRefused::UnclosedAction(offset) => Some(offset),
+        TokenRefused::BadCharacter(offset) => Some(offset),
+        TokenRefused::UnclosedString(offset) => Some(offset),
+        TokenRefused::UnclosedComment(offset) => Some(offset),
+        TokenRefused::BadNumber(offset) => Some(offset),
+        TokenRefused::BadDelimiter(offset) => Some(offset),
+        TokenRefused::BadEscape(offset) => Some(offset),
         TokenRefused::Memory => None,
     }
 }
@@ -74,7 +74,7 @@ fn parse_tokens(
     text: &str,
     tokens: &[Token],
 ) -> Result<File, FileRefused>
-    requires limit { length text.now ≤ max_text }
+    requires limit { length text.now ≤ max_template_text }
     requires spans { Ascend 0 (length text.now) tokens.now }
     requires cuts { AreCuts text.now tokens.now }
     ensures { ParseTokensAnswers result (parsed_text name.now text.now tokens.now) }
@@ -82,7 +82,7 @@ fn parse_tokens(
     let Ok(symbols) = symbols(alloc, text, tokens) else {
         return Err(FileRefused::Memory);
     };
-    match parse_symbols(alloc, name, symbols.as_slice(), end_of(text)) {
+    match parse_symbols(alloc, name, symbols, end_of(text)) {
         Ok(defs) => Ok(File { defs }),
         Err(Stop::Cause((why, line))) => Err(FileRefused::Parse(why, line)),
         Err(Stop::Memory) => Err(FileRefused::Memory),
@@ -91,8 +91,8 @@ fn parse_tokens(
 
 // Where a text ends.
 fn end_of(text: &str) -> TextEnd
-    requires limit { length text.now ≤ max_text }
-    ensures { result ≡ end_of_text text.now }
+    requires limit { length text.now ≤ max_template_text }
+    ensures { result ≡ parsing.parser_end text.now }
 {
     text_end(text)
 }
@@ -101,11 +101,11 @@ fn end_of(text: &str) -> TextEnd
 fn parse_symbols(
     alloc: Global,
     name: &str,
-    symbols: &[Symbol],
+    symbols: List<Symbol>,
     end: TextEnd,
-) -> Result<List<Def>, Stop<Refusal>>
-    requires { All IsFine symbols.now }
-    ensures { Answers result (parsed name.now end symbols.now) }
+) -> Result<List<Def>, Stop<RefusalCause>>
+    requires { All IsFineSymbol symbols }
+    ensures { ActionAnswers result (parsed name.now end symbols) }
 {
     let mut builder = empty_builder(alloc, ROOM);
     let mut position = Position::Outside;

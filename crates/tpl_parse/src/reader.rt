@@ -1,24 +1,20 @@
 ghost use Rattle.std.specs.Prelude.{◌≡◌, IfOk, OnOk, All};
-ghost use Rattle.tpl_parse.specs.Building.{with_text as with_text_of};
-ghost use Rattle.tpl_parse.specs.Steps.{InActionAnswers, StepAnswers, EndActionAnswers};
-ghost use Rattle.tpl_parse.specs.Steps.{after_state, after_pipe, close_end as close_end_of};
-ghost use Rattle.tpl_parse.specs.Steps.{entered as entered_of, outside_by, run, state};
-ghost use Rattle.tpl_parse.specs.Steps.{step as step_of};
+ghost use Rattle.tpl_parse.specs.Steps.{InActionAnswers, ParserStepAnswers, EndActionAnswers};
 ghost use Rattle.tpl_parse.specs.Phases.{phase_of};
 ghost use Rattle.tpl_parse.specs.declared.action.Position.TheVariants as position_of;
-ghost use Rattle.tpl_parse.specs.Actions.{advance as advance_of};
-ghost use Rattle.tpl_symbol.specs.Symbols.{IsFine, IsFineText};
+ghost use Rattle.tpl_symbol.specs.Symbols.{IsFineSymbol};
+ghost use Rattle.tpl_parse.specs.Steps as steps;
+ghost use Rattle.tpl_parse.specs.Actions as actions_spec;
 
-use crate::action::{ActionState, Opening, Position, Purpose};
+use crate::action::{ActionState, Position};
 use crate::action_end::action_kind_of;
-use crate::builder::{Builder, add, add_taken, add_text, begin_else};
-use crate::refused::Refusal;
+use crate::refused::RefusalCause;
 use crate::transition::advance;
-use page_io::{List, Memory, Stop, Text};
+use page_io::{List, Memory, Stop};
 use std::alloc::Global;
+use tpl_build::{Builder, Opening, Purpose, add, add_taken, add_text, begin_else};
 use tpl_pipe::{ParseRefused, PipeState, finish};
-use tpl_symbol::{Seam, Symbol, SymbolKind};
-use tpl_tree::copy_seams;
+use tpl_symbol::{Symbol, SymbolKind};
 
 /// How many controls and parentheses may be open at once.
 pub const ROOM: u32 = 100;
@@ -30,78 +26,83 @@ fn step(
     builder: &mut Builder,
     position: &mut Position,
     action: &mut ActionState,
-    symbol: &Symbol,
-) -> Result<(), Stop<Refusal>>
-    requires { IsFine symbol.now }
-    ensures { let old = state builder.old (phase_of position.old action.old) in
-        StepAnswers result builder.new (phase_of position.new action.new) (step_of old symbol.now) }
+    symbol: Symbol,
+) -> Result<(), Stop<RefusalCause>>
+    requires { IsFineSymbol symbol }
+    ensures { let old = steps.state builder.old (phase_of position.old action.old) in
+        let wanted = steps.parser_step old symbol in
+        ParserStepAnswers result builder.new (phase_of position.new action.new) wanted }
 {
     match position {
-        Position::Outside => outside(alloc, builder, position, action, symbol),
-        Position::Inside(opening) => match close_end(&symbol.kind) {
-            Some(end) => match end_action(alloc, builder, *opening, action, symbol.line, end) {
-                Ok(()) => {
-                    *position = Position::Outside;
-                    Ok(())
-                }
-                Err(stop) => Err(stop),
-            },
-            None => in_action(alloc, builder, action, symbol),
-        },
+        Position::Outside => outside(builder, position, action, symbol),
+        Position::Inside(opening) => {
+            let opening = *opening;
+            inside(alloc, builder, position, action, opening, &symbol)
+        }
     }
 }
 
-// Outside actions stand texts and the beginnings of actions.
+// Inside an action, a symbol ends it or is read on.
 #[inline(always)]
-fn outside(
+fn inside(
     alloc: Global,
     builder: &mut Builder,
     position: &mut Position,
     action: &mut ActionState,
+    opening: Opening,
     symbol: &Symbol,
-) -> Result<(), Stop<Refusal>>
-    requires kind { IsFine symbol.now }
-    requires position { position.old ≡ position_of.Outside }
-    ensures { StepAnswers result builder.new (phase_of position.new action.new)
-        (outside_by symbol.now builder.old) }
+) -> Result<(), Stop<RefusalCause>>
+    requires { position.old ≡ position_of.Inside opening }
+    ensures { let end = steps.close_end symbol.now.kind in
+        let wanted = steps.inside end opening action.old symbol.now builder.old in
+        ParserStepAnswers result builder.new (phase_of position.new action.new) wanted }
 {
-    match &symbol.kind {
-        SymbolKind::Text(text, seams) => match add_copy(alloc, builder, text, symbol.line, seams) {
+    match close_end(&symbol.kind) {
+        Some(end) => match end_action(alloc, builder, opening, action, symbol.line, end) {
+            Ok(()) => {
+                *position = Position::Outside;
+                Ok(())
+            }
+            Err(stop) => Err(stop),
+        },
+        None => in_action(alloc, builder, action, symbol),
+    }
+}
+
+// Outside actions there are texts and the beginnings of actions.
+#[inline(always)]
+fn outside(
+    builder: &mut Builder,
+    position: &mut Position,
+    action: &mut ActionState,
+    symbol: Symbol,
+) -> Result<(), Stop<RefusalCause>>
+    requires kind { IsFineSymbol symbol }
+    requires position { position.old ≡ position_of.Outside }
+    ensures { ParserStepAnswers result builder.new (phase_of position.new action.new)
+        (steps.outside_by symbol builder.old) }
+{
+    let line = symbol.line;
+    match symbol.kind {
+        SymbolKind::Text(text, seams) => match add_text(builder, text, line, seams) {
             Ok(()) => Ok(()),
             Err(Memory) => Err(Stop::Memory),
         },
         SymbolKind::Open { start, before } => {
             let opening = Opening {
-                line: symbol.line,
-                start: *start,
-                before: *before,
+                line,
+                start,
+                before,
             };
             *position = Position::Inside(opening);
             *action = ActionState::Start;
             Ok(())
         }
-        _ => Err(Stop::Cause((ParseRefused::UnexpectedToken, symbol.line))),
+        _ => Err(Stop::Cause((ParseRefused::UnexpectedToken, line))),
     }
 }
 
-// Adds a copy of a text.
-#[inline(never)]
-fn add_copy(
-    alloc: Global,
-    builder: &mut Builder,
-    text: &Text,
-    line: u32,
-    seams: &List<Seam>,
-) -> Result<(), Memory>
-    requires { IsFineText text.now line seams.now }
-    ensures { OnOk result (builder.new ≡ with_text_of text.now line seams.now builder.old) }
-{
-    let copy = Text::copy_of(alloc, text.as_str())?;
-    let seams = copy_seams(alloc, seams)?;
-    add_text(builder, copy, line, seams)
-}
-
-// Adds what an action says that ends on a line, before a place.
+// Adds what an action says that ends on a line, before an offset.
 #[inline(always)]
 fn end_action(
     alloc: Global,
@@ -110,8 +111,8 @@ fn end_action(
     action: &mut ActionState,
     line: u32,
     end: u32,
-) -> Result<(), Stop<Refusal>>
-    ensures { let wanted = after_state action.old opening line end builder.old in
+) -> Result<(), Stop<RefusalCause>>
+    ensures { let wanted = steps.after_state action.old opening line end builder.old in
         EndActionAnswers result builder.new wanted }
 {
     match action {
@@ -132,8 +133,8 @@ fn end_pipe(
     at: &mut PipeState,
     line: u32,
     end: u32,
-) -> Result<(), Stop<Refusal>>
-    ensures { let wanted = after_pipe purpose.old at.old opening line end builder.old in
+) -> Result<(), Stop<RefusalCause>>
+    ensures { let wanted = steps.after_pipe purpose.old at.old opening line end builder.old in
         EndActionAnswers result builder.new wanted }
 {
     match finish(alloc, at) {
@@ -146,7 +147,7 @@ fn end_pipe(
     }
 }
 
-// The same from anywhere. It stands apart since most actions need none of its room.
+// The same from anywhere. It is a function of its own since most actions need none of its room.
 #[inline(never)]
 fn end_from(
     alloc: Global,
@@ -155,8 +156,8 @@ fn end_from(
     action: &mut ActionState,
     line: u32,
     end: u32,
-) -> Result<(), Stop<Refusal>>
-    ensures { let wanted = after_state action.old opening line end builder.old in
+) -> Result<(), Stop<RefusalCause>>
+    ensures { let wanted = steps.after_state action.old opening line end builder.old in
         EndActionAnswers result builder.new wanted }
 {
     match action_kind_of(alloc, builder, action, line) {
@@ -175,8 +176,8 @@ fn in_action(
     builder: &mut Builder,
     action: &mut ActionState,
     symbol: &Symbol,
-) -> Result<(), Stop<Refusal>>
-    ensures { let wanted = advance_of action.old builder.old symbol.now in
+) -> Result<(), Stop<RefusalCause>>
+    ensures { let wanted = actions_spec.action_advance action.old builder.old symbol.now in
         InActionAnswers result builder.new action.new wanted builder.old }
 {
     match advance(alloc, builder, action, symbol) {
@@ -191,7 +192,7 @@ fn in_action(
 // With the word `else` the `else` part begins.
 #[inline(always)]
 fn enter(alloc: Global, builder: &mut Builder, action: &ActionState) -> Result<(), Memory>
-    ensures { OnOk result (builder.new ≡ entered_of action.now builder.old) }
+    ensures { OnOk result (builder.new ≡ steps.form_entered action.now builder.old) }
 {
     match action {
         ActionState::Else => begin_else(alloc, builder),
@@ -202,7 +203,7 @@ fn enter(alloc: Global, builder: &mut Builder, action: &ActionState) -> Result<(
 // Where an action ends, if it ends with this symbol.
 #[inline(always)]
 fn close_end(kind: &SymbolKind) -> Option<u32>
-    ensures { result ≡ close_end_of kind.now }
+    ensures { result ≡ steps.close_end kind.now }
 {
     match kind {
         SymbolKind::Close { end } => Some(*end),
@@ -210,22 +211,24 @@ fn close_end(kind: &SymbolKind) -> Option<u32>
     }
 }
 
-/// Reads the symbols of a file on.
+/// Reads the symbols of a file on. Their texts go into the nodes, and are not copied.
 pub fn run_symbols(
     alloc: Global,
     builder: &mut Builder,
     position: &mut Position,
     action: &mut ActionState,
-    symbols: &[Symbol],
-) -> Result<(), Stop<Refusal>>
-    requires { All IsFine symbols.now }
-    ensures { let old = state builder.old (phase_of position.old action.old) in
-        StepAnswers result builder.new (phase_of position.new action.new) (run old symbols.now) }
+    symbols: List<Symbol>,
+) -> Result<(), Stop<RefusalCause>>
+    requires { All IsFineSymbol symbols }
+    ensures { let old = steps.state builder.old (phase_of position.old action.old) in
+        let wanted = steps.parser_run old symbols in
+        ParserStepAnswers result builder.new (phase_of position.new action.new) wanted }
 {
-    for symbol in symbols {
+    for symbol in symbols.into_vec() {
         match step(alloc, builder, position, action, symbol) {
             Ok(()) => {}
-            Err(stop) => return Err(stop),
+            Err(Stop::Cause(why)) => return Err(Stop::Cause(why)),
+            Err(Stop::Memory) => return Err(Stop::Memory),
         }
     }
     Ok(())

@@ -1,18 +1,18 @@
 -- Walks after one another.
 use Rattle.std.proofs.Common.{◌≡◌, List, [], ◌∷◌, ◌++◌, refl, ap}
-use Rattle.tpl_paths.specs.declared.choice.Choice.{Choice}
+use Rattle.tpl_paths.specs.declared.choice.Way.{Way}
 use Rattle.tpl_tree.specs.Forests.{ForestData}
 use Rattle.tpl_paths.specs.Edges.{calls, fills, passes, picks, writes}
-use Rattle.tpl_paths.specs.Laws.{FrontIsWalk}
-use Rattle.tpl_paths.specs.Walks.{IsWalk, Move, Sign, Standing, after, along, back, choices_of, enters_at, hole_of, leaves_call, reached, signs_of, text_of}
+use Rattle.tpl_paths.specs.Laws.{PrefixIsPath}
+use Rattle.tpl_paths.specs.Paths.{IsPath, Move, Sign, Standing, after_moves, along, back, choices_of, enters_at, hole_of, leaves_call, reached, signs_of, text_of}
 
-pub walk-append : (forest : ForestData) (a : Standing) (ms ns : List Move) → IsWalk forest a ms → IsWalk forest (reached forest a ms) ns → IsWalk forest a (ms ++ ns)
+pub walk-append : (forest : ForestData) (a : Standing) (ms ns : List Move) → IsPath forest a ms → IsPath forest (reached forest a ms) ns → IsPath forest a (ms ++ ns)
 walk-append forest a [] ns h k = k
-walk-append forest a (m ∷ ms) ns h k = (h.0, walk-append forest (after forest a m) ms ns h.1 k)
+walk-append forest a (m ∷ ms) ns h k = (h.0, walk-append forest (after_moves forest a m) ms ns h.1 k)
 
 pub reached-append : (forest : ForestData) (a : Standing) (ms ns : List Move) → reached forest a (ms ++ ns) ≡ reached forest (reached forest a ms) ns
 reached-append forest a [] ns = refl
-reached-append forest a (m ∷ ms) ns = reached-append forest (after forest a m) ms ns
+reached-append forest a (m ∷ ms) ns = reached-append forest (after_moves forest a m) ms ns
 
 pub signs-append : (ms ns : List Move) → signs_of (ms ++ ns) ≡ signs_of ms ++ signs_of ns
 signs-append [] ns = refl
@@ -28,10 +28,10 @@ choices-append [] ns = refl
 choices-append (along (writes n bytes to) ∷ ms) ns = choices-append ms ns
 choices-append (along (fills n pipe to) ∷ ms) ns = choices-append ms ns
 choices-append (along (calls n name to) ∷ ms) ns = choices-append ms ns
-choices-append (along (picks from choice to) ∷ ms) ns = ap (λ (x : List Choice). choice ∷ x) (choices-append ms ns)
+choices-append (along (picks from choice to) ∷ ms) ns = ap (λ (x : List Way). choice ∷ x) (choices-append ms ns)
 choices-append (along (passes from to) ∷ ms) ns = choices-append ms ns
 choices-append (back ∷ ms) ns = choices-append ms ns
 
-pub front-is-walk : FrontIsWalk
-front-is-walk forest a [] ns h = (tt, h)
-front-is-walk forest a (m ∷ ms) ns h = (let k = front-is-walk forest (after forest a m) ms ns h.1 in ((h.0, k.0), k.1))
+pub prefix-is-path : PrefixIsPath
+prefix-is-path forest a [] ns h = (tt, h)
+prefix-is-path forest a (m ∷ ms) ns h = (let k = prefix-is-path forest (after_moves forest a m) ms ns h.1 in ((h.0, k.0), k.1))

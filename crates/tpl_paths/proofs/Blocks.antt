@@ -1,33 +1,33 @@
 -- At each point one edge leads on, or one for each choice.
 use Rattle.std.proofs.Common.{◌≡◌, ℕ, ◌+◌, ◌<◌, ◌≤◌, List, [], ◌∷◌, ◌++◌, Option, Some, None, refl, sym, ap, ◌∙◌, subst, inl, inr, arith}
-use Rattle.tpl_paths.specs.declared.choice.Choice.{Choice}
-use Rattle.tpl_paths.specs.declared.choice.Choice.TheVariants as chosen
+use Rattle.tpl_paths.specs.declared.choice.Way.{Way}
+use Rattle.tpl_paths.specs.declared.choice.Way.TheVariants as chosen
 use Rattle.tpl_tree.specs.Forests.{ForestData}
 use Rattle.tpl_tree.specs.Trees.{NodesData, no_nodes, node, nodes_size}
 use Rattle.tpl_tree.specs.declared.node_kind.NodeKind.{NodeKind}
 use Rattle.tpl_tree.specs.declared.node_kind.NodeKind.TheVariants as kind
-use Rattle.tpl_paths.specs.Edges.{Edge, Part, Point, Within, again, before, begins, calls, edges_in, edges_of, fills, finish, from_of, head, node_edges, nodes_in, passes, past, picks, writes}
+use Rattle.tpl_paths.specs.Edges.{Edge, BodyPart, Point, Within, again, before, part_begins, calls, edges_in, edges_of, fills, finish_point, from_of, head, node_edges, nodes_in, passes, past_point, picks, writes}
 use Rattle.tpl_paths.specs.declared.point.Point.TheVariants as point
 use Rattle.tpl_paths.proofs.EdgeNodes.{within-either}
 
 -- the choice of an edge, where the way to the head of a range is one more turn, and two that may be the same
-abbrev pub head_choice : Point → Option Choice
+abbrev pub head_choice : Point → Option Way
 head_choice (point.Head n) = Some chosen.Turn
 head_choice p = None
 
-abbrev pub choice_of : Edge → Option Choice
+abbrev pub choice_of : Edge → Option Way
 choice_of (writes n bytes to) = None
 choice_of (fills n pipe to) = None
 choice_of (calls n name to) = None
 choice_of (picks from choice to) = Some choice
 choice_of (passes from to) = head_choice to
 
-abbrev pub Agree : Option Choice → Option Choice → Type 0
+abbrev pub Agree : Option Way → Option Way → Type 0
 Agree (Some c) (Some d) = c ≡ d
 Agree (Some c) None = Unit {0}
 Agree None d = Unit {0}
 
-swap : (c d : Option Choice) → Agree c d → Agree d c
+swap : (c d : Option Way) → Agree c d → Agree d c
 swap (Some c) (Some d) h = sym h
 swap (Some c) None h = tt
 swap None (Some d) h = tt
@@ -108,19 +108,19 @@ block_one : (n : ℕ) (x : Edge) → InRange n (n + 1) (from_of x) → Block n (
 block_one n x h = record { ranged = ranged_cons n (n + 1) x [] h (ranged_nil n (n + 1)); unique = unique_cons x [] (apart_nil x) unique_nil }
 
 -- the own edges of a control, and of a range
-block_control : (n : ℕ) (u v to : Point) → Block n (n + 1) (picks (before n) chosen.Then u ∷ picks (before n) chosen.Else v ∷ passes (past n) to ∷ [])
+block_control : (n : ℕ) (u v to : Point) → Block n (n + 1) (picks (before n) chosen.Then u ∷ picks (before n) chosen.Else v ∷ passes (past_point n) to ∷ [])
 block_control n u v to =
-    let x : Edge = picks (before n) chosen.Then u in let y : Edge = picks (before n) chosen.Else v in let z : Edge = passes (past n) to in
+    let x : Edge = picks (before n) chosen.Then u in let y : Edge = picks (before n) chosen.Else v in let z : Edge = passes (past_point n) to in
     let here : (n ≤ n) × (n < n + 1) = (omega arith, omega arith) in record {
       ranged = ranged_cons n (n + 1) x (y ∷ z ∷ []) here (ranged_cons n (n + 1) y (z ∷ []) here (ranged_cons n (n + 1) z [] here (ranged_nil n (n + 1))));
       unique = unique_cons x (y ∷ z ∷ []) (apart_cons x y (z ∷ []) (λ a b. cc) (apart_cons x z [] (λ a b. cc) (apart_nil x)))
           (unique_cons y (z ∷ []) (apart_cons y z [] (λ a b. cc) (apart_nil y)) (unique_cons z [] (apart_nil z) unique_nil));
     }
 
-block_range : (n : ℕ) (u v to : Point) → Block n (n + 1) (passes (before n) (head n) ∷ passes (again n) (head n) ∷ picks (head n) chosen.Turn u ∷ picks (before n) chosen.Done v ∷ picks (again n) chosen.Done (past n) ∷ passes (past n) to ∷ [])
+block_range : (n : ℕ) (u v to : Point) → Block n (n + 1) (passes (before n) (head n) ∷ passes (again n) (head n) ∷ picks (head n) chosen.Turn u ∷ picks (before n) chosen.Done v ∷ picks (again n) chosen.Done (past_point n) ∷ passes (past_point n) to ∷ [])
 block_range n u v to =
     let p : Edge = passes (before n) (head n) in let q : Edge = passes (again n) (head n) in let o : Edge = picks (head n) chosen.Turn u in
-    let r : Edge = picks (before n) chosen.Done v in let s : Edge = picks (again n) chosen.Done (past n) in let t : Edge = passes (past n) to in
+    let r : Edge = picks (before n) chosen.Done v in let s : Edge = picks (again n) chosen.Done (past_point n) in let t : Edge = passes (past_point n) to in
     let here : (n ≤ n) × (n < n + 1) = (omega arith, omega arith) in record {
       ranged = ranged_cons n (n + 1) p (q ∷ o ∷ r ∷ s ∷ t ∷ []) here (ranged_cons n (n + 1) q (o ∷ r ∷ s ∷ t ∷ []) here (ranged_cons n (n + 1) o (r ∷ s ∷ t ∷ []) here (ranged_cons n (n + 1) r (s ∷ t ∷ []) here
           (ranged_cons n (n + 1) s (t ∷ []) here (ranged_cons n (n + 1) t [] here (ranged_nil n (n + 1)))))));
@@ -133,25 +133,25 @@ block_range n u v to =
     }
 
 -- a node with its parts
-own_block : (n f o : ℕ) (one two : Point → Point) (first other : Part) (to out on : Point) → ((a b c : Point) → Block (n + 1) (n + 1 + f) (first a b c)) → ((a b c : Point) → Block (n + 1 + f) (n + 1 + f + o) (other a b c))
+own_block : (n f o : ℕ) (one two : Point → Point) (first other : BodyPart) (to out on : Point) → ((a b c : Point) → Block (n + 1) (n + 1 + f) (first a b c)) → ((a b c : Point) → Block (n + 1 + f) (n + 1 + f + o) (other a b c))
     → (what : NodeKind) → Block n (n + 1 + f + o) (node_edges what n one two first other to out on)
 own_block n f o one two first other to out on h k (kind.Text bytes) = block_wider n (n + 1) (n + 1 + f + o) _ (omega arith) (block_one n (writes n bytes to) (omega arith, omega arith))
 own_block n f o one two first other to out on h k (kind.Action pipe) = block_wider n (n + 1) (n + 1 + f + o) _ (omega arith) (block_one n (fills n pipe to) (omega arith, omega arith))
 own_block n f o one two first other to out on h k (kind.Declare name pipe) = block_wider n (n + 1) (n + 1 + f + o) _ (omega arith) (block_one n (passes (before n) to) (omega arith, omega arith))
 own_block n f o one two first other to out on h k (kind.Assign name pipe) = block_wider n (n + 1) (n + 1 + f + o) _ (omega arith) (block_one n (passes (before n) to) (omega arith, omega arith))
 own_block n f o one two first other to out on h k (kind.If name pipe) =
-    block_append n (n + 1) (n + 1) (n + 1 + f + o) (picks (before n) chosen.Then (one (past n)) ∷ picks (before n) chosen.Else (two (past n)) ∷ passes (past n) to ∷ []) (first (past n) out on ++ other (past n) out on)
-    (omega arith) (omega arith) (omega arith) (block_control n (one (past n)) (two (past n)) to)
-    (block_append (n + 1) (n + 1 + f) (n + 1 + f) (n + 1 + f + o) (first (past n) out on) (other (past n) out on) (omega arith) (omega arith) (omega arith) (h (past n) out on) (k (past n) out on))
+    block_append n (n + 1) (n + 1) (n + 1 + f + o) (picks (before n) chosen.Then (one (past_point n)) ∷ picks (before n) chosen.Else (two (past_point n)) ∷ passes (past_point n) to ∷ []) (first (past_point n) out on ++ other (past_point n) out on)
+    (omega arith) (omega arith) (omega arith) (block_control n (one (past_point n)) (two (past_point n)) to)
+    (block_append (n + 1) (n + 1 + f) (n + 1 + f) (n + 1 + f + o) (first (past_point n) out on) (other (past_point n) out on) (omega arith) (omega arith) (omega arith) (h (past_point n) out on) (k (past_point n) out on))
 own_block n f o one two first other to out on h k (kind.With name pipe) =
-    block_append n (n + 1) (n + 1) (n + 1 + f + o) (picks (before n) chosen.Then (one (past n)) ∷ picks (before n) chosen.Else (two (past n)) ∷ passes (past n) to ∷ []) (first (past n) out on ++ other (past n) out on)
-    (omega arith) (omega arith) (omega arith) (block_control n (one (past n)) (two (past n)) to)
-    (block_append (n + 1) (n + 1 + f) (n + 1 + f) (n + 1 + f + o) (first (past n) out on) (other (past n) out on) (omega arith) (omega arith) (omega arith) (h (past n) out on) (k (past n) out on))
+    block_append n (n + 1) (n + 1) (n + 1 + f + o) (picks (before n) chosen.Then (one (past_point n)) ∷ picks (before n) chosen.Else (two (past_point n)) ∷ passes (past_point n) to ∷ []) (first (past_point n) out on ++ other (past_point n) out on)
+    (omega arith) (omega arith) (omega arith) (block_control n (one (past_point n)) (two (past_point n)) to)
+    (block_append (n + 1) (n + 1 + f) (n + 1 + f) (n + 1 + f + o) (first (past_point n) out on) (other (past_point n) out on) (omega arith) (omega arith) (omega arith) (h (past_point n) out on) (k (past_point n) out on))
 own_block n f o one two first other to out on h k (kind.Range index element pipe) =
     block_append n (n + 1) (n + 1) (n + 1 + f + o)
-    (passes (before n) (head n) ∷ passes (again n) (head n) ∷ picks (head n) chosen.Turn (one (again n)) ∷ picks (before n) chosen.Done (two (past n)) ∷ picks (again n) chosen.Done (past n) ∷ passes (past n) to ∷ []) (first (again n) (past n) (again n) ++ other (past n) out on)
-    (omega arith) (omega arith) (omega arith) (block_range n (one (again n)) (two (past n)) to)
-    (block_append (n + 1) (n + 1 + f) (n + 1 + f) (n + 1 + f + o) (first (again n) (past n) (again n)) (other (past n) out on) (omega arith) (omega arith) (omega arith) (h (again n) (past n) (again n)) (k (past n) out on))
+    (passes (before n) (head n) ∷ passes (again n) (head n) ∷ picks (head n) chosen.Turn (one (again n)) ∷ picks (before n) chosen.Done (two (past_point n)) ∷ picks (again n) chosen.Done (past_point n) ∷ passes (past_point n) to ∷ []) (first (again n) (past_point n) (again n) ++ other (past_point n) out on)
+    (omega arith) (omega arith) (omega arith) (block_range n (one (again n)) (two (past_point n)) to)
+    (block_append (n + 1) (n + 1 + f) (n + 1 + f) (n + 1 + f + o) (first (again n) (past_point n) (again n)) (other (past_point n) out on) (omega arith) (omega arith) (omega arith) (h (again n) (past_point n) (again n)) (k (past_point n) out on))
 own_block n f o one two first other to out on h k kind.Break = block_wider n (n + 1) (n + 1 + f + o) _ (omega arith) (block_one n (passes (before n) out) (omega arith, omega arith))
 own_block n f o one two first other to out on h k kind.Continue = block_wider n (n + 1) (n + 1 + f + o) _ (omega arith) (block_one n (passes (before n) on) (omega arith, omega arith))
 own_block n f o one two first other to out on h k (kind.Template name pipe) = block_wider n (n + 1) (n + 1 + f + o) _ (omega arith) (block_one n (calls n name to) (omega arith, omega arith))
@@ -161,24 +161,24 @@ nodes_block no_nodes n to out on = record { ranged = ranged_nil n (n + 0); uniqu
 nodes_block (node what l s first other rest) n to out on =
     let f = nodes_size first in let o = nodes_size other in let behind : ℕ = n + 1 + f + o in
     block_wider n (behind + nodes_size rest) (n + nodes_size (node what l s first other rest)) _ (omega arith)
-    (block_append n behind behind (behind + nodes_size rest) (node_edges what n (begins first (n + 1)) (begins other (n + 1 + f)) (edges_of first (n + 1)) (edges_of other (n + 1 + f)) (begins rest behind to) out on) (edges_of rest behind to out on)
+    (block_append n behind behind (behind + nodes_size rest) (node_edges what n (part_begins first (n + 1)) (part_begins other (n + 1 + f)) (edges_of first (n + 1)) (edges_of other (n + 1 + f)) (part_begins rest behind to) out on) (edges_of rest behind to out on)
     (omega arith) (omega arith) (omega arith)
-    (own_block n f o (begins first (n + 1)) (begins other (n + 1 + f)) (edges_of first (n + 1)) (edges_of other (n + 1 + f)) (begins rest behind to) out on
+    (own_block n f o (part_begins first (n + 1)) (part_begins other (n + 1 + f)) (edges_of first (n + 1)) (edges_of other (n + 1 + f)) (part_begins rest behind to) out on
     (λ a b c. nodes_block first (n + 1) a b c) (λ a b c. nodes_block other (n + 1 + f) a b c) what)
     (nodes_block rest behind to out on))
 
 pub one_edge : (forest : ForestData) (t : List ℕ) → Unique (edges_in forest t)
-one_edge forest t = (nodes_block (nodes_in forest t) 0 finish finish finish).unique
+one_edge forest t = (nodes_block (nodes_in forest t) 0 finish_point finish_point finish_point).unique
 
-pub no_finish : (forest : ForestData) (t : List ℕ) (e : Edge) → Within e (edges_in forest t) → from_of e ≡ finish → ⊥
-no_finish forest t e w is = subst (InRange 0 (0 + nodes_size (nodes_in forest t))) is ((nodes_block (nodes_in forest t) 0 finish finish finish).ranged e w)
+pub no_finish : (forest : ForestData) (t : List ℕ) (e : Edge) → Within e (edges_in forest t) → from_of e ≡ finish_point → ⊥
+no_finish forest t e w is = subst (InRange 0 (0 + nodes_size (nodes_in forest t))) is ((nodes_block (nodes_in forest t) 0 finish_point finish_point finish_point).ranged e w)
 
 -- from the head of a range only a turn leads on
-abbrev IsHeadTurn : Point → Option Choice → Type 0
+abbrev IsHeadTurn : Point → Option Way → Type 0
 IsHeadTurn (point.Head n) c = c ≡ Some chosen.Turn
 IsHeadTurn p c = Unit {0}
 
-abbrev pub picked : Edge → Option Choice
+abbrev pub picked : Edge → Option Way
 picked (picks from choice to) = Some choice
 picked e = None
 
@@ -188,7 +188,7 @@ TurnsAtHead e = IsHeadTurn (from_of e) (picked e)
 turns : (n : ℕ) → IsHeadTurn (head n) (Some chosen.Turn)
 turns n = refl
 
-own_turns : (n : ℕ) (one two : Point → Point) (first other : Part) (to out on : Point) → ((a b c : Point) (e : Edge) → Within e (first a b c) → TurnsAtHead e) → ((a b c : Point) (e : Edge) → Within e (other a b c) → TurnsAtHead e)
+own_turns : (n : ℕ) (one two : Point → Point) (first other : BodyPart) (to out on : Point) → ((a b c : Point) (e : Edge) → Within e (first a b c) → TurnsAtHead e) → ((a b c : Point) (e : Edge) → Within e (other a b c) → TurnsAtHead e)
     → (what : NodeKind) (e : Edge) → Within e (node_edges what n one two first other to out on) → TurnsAtHead e
 own_turns n one two first other to out on h k (kind.Text bytes) e (inl i) = subst TurnsAtHead (sym i) tt
 own_turns n one two first other to out on h k (kind.Text bytes) e (inr w) = absurd w
@@ -201,11 +201,11 @@ own_turns n one two first other to out on h k (kind.Assign name pipe) e (inr w) 
 own_turns n one two first other to out on h k (kind.If name pipe) e (inl i) = subst TurnsAtHead (sym i) tt
 own_turns n one two first other to out on h k (kind.If name pipe) e (inr (inl i)) = subst TurnsAtHead (sym i) tt
 own_turns n one two first other to out on h k (kind.If name pipe) e (inr (inr (inl i))) = subst TurnsAtHead (sym i) tt
-own_turns n one two first other to out on h k (kind.If name pipe) e (inr (inr (inr w))) = within-either TurnsAtHead (first (past n) out on) (other (past n) out on) (h (past n) out on) (k (past n) out on) e w
+own_turns n one two first other to out on h k (kind.If name pipe) e (inr (inr (inr w))) = within-either TurnsAtHead (first (past_point n) out on) (other (past_point n) out on) (h (past_point n) out on) (k (past_point n) out on) e w
 own_turns n one two first other to out on h k (kind.With name pipe) e (inl i) = subst TurnsAtHead (sym i) tt
 own_turns n one two first other to out on h k (kind.With name pipe) e (inr (inl i)) = subst TurnsAtHead (sym i) tt
 own_turns n one two first other to out on h k (kind.With name pipe) e (inr (inr (inl i))) = subst TurnsAtHead (sym i) tt
-own_turns n one two first other to out on h k (kind.With name pipe) e (inr (inr (inr w))) = within-either TurnsAtHead (first (past n) out on) (other (past n) out on) (h (past n) out on) (k (past n) out on) e w
+own_turns n one two first other to out on h k (kind.With name pipe) e (inr (inr (inr w))) = within-either TurnsAtHead (first (past_point n) out on) (other (past_point n) out on) (h (past_point n) out on) (k (past_point n) out on) e w
 own_turns n one two first other to out on h k (kind.Range index element pipe) e (inl i) = subst TurnsAtHead (sym i) tt
 own_turns n one two first other to out on h k (kind.Range index element pipe) e (inr (inl i)) = subst TurnsAtHead (sym i) tt
 own_turns n one two first other to out on h k (kind.Range index element pipe) e (inr (inr (inl i))) = subst TurnsAtHead (sym i) (turns n)
@@ -213,7 +213,7 @@ own_turns n one two first other to out on h k (kind.Range index element pipe) e 
 own_turns n one two first other to out on h k (kind.Range index element pipe) e (inr (inr (inr (inr (inl i))))) = subst TurnsAtHead (sym i) tt
 own_turns n one two first other to out on h k (kind.Range index element pipe) e (inr (inr (inr (inr (inr (inl i)))))) = subst TurnsAtHead (sym i) tt
 own_turns n one two first other to out on h k (kind.Range index element pipe) e (inr (inr (inr (inr (inr (inr w)))))) =
-    within-either TurnsAtHead (first (again n) (past n) (again n)) (other (past n) out on) (h (again n) (past n) (again n)) (k (past n) out on) e w
+    within-either TurnsAtHead (first (again n) (past_point n) (again n)) (other (past_point n) out on) (h (again n) (past_point n) (again n)) (k (past_point n) out on) e w
 own_turns n one two first other to out on h k kind.Break e (inl i) = subst TurnsAtHead (sym i) tt
 own_turns n one two first other to out on h k kind.Break e (inr w) = absurd w
 own_turns n one two first other to out on h k kind.Continue e (inl i) = subst TurnsAtHead (sym i) tt
@@ -227,10 +227,10 @@ nodes_turn (node what l s first other rest) n to out on e w =
     let second : ℕ = n + 1 + nodes_size first in
     let behind : ℕ = second + nodes_size other in
     within-either TurnsAtHead
-    (node_edges what n (begins first (n + 1)) (begins other second) (edges_of first (n + 1)) (edges_of other second) (begins rest behind to) out on) (edges_of rest behind to out on)
-    (own_turns n (begins first (n + 1)) (begins other second) (edges_of first (n + 1)) (edges_of other second) (begins rest behind to) out on
+    (node_edges what n (part_begins first (n + 1)) (part_begins other second) (edges_of first (n + 1)) (edges_of other second) (part_begins rest behind to) out on) (edges_of rest behind to out on)
+    (own_turns n (part_begins first (n + 1)) (part_begins other second) (edges_of first (n + 1)) (edges_of other second) (part_begins rest behind to) out on
     (λ a b c. nodes_turn first (n + 1) a b c) (λ a b c. nodes_turn other second a b c) what)
     (nodes_turn rest behind to out on) e w
 
 pub head_turns : (forest : ForestData) (t : List ℕ) (e : Edge) (n : ℕ) → Within e (edges_in forest t) → from_of e ≡ head n → picked e ≡ Some chosen.Turn
-head_turns forest t e n w i = subst (λ (p : Point). IsHeadTurn p (picked e)) i (nodes_turn (nodes_in forest t) 0 finish finish finish e w)
+head_turns forest t e n w i = subst (λ (p : Point). IsHeadTurn p (picked e)) i (nodes_turn (nodes_in forest t) 0 finish_point finish_point finish_point e w)

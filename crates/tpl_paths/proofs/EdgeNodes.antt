@@ -8,7 +8,7 @@ use Rattle.tpl_tree.specs.declared.node_kind.NodeKind.{NodeKind}
 use Rattle.tpl_tree.specs.declared.node_kind.NodeKind.TheVariants as kind
 use Rattle.tpl_tree.specs.declared.pipe.Pipe.{Pipe}
 use Rattle.tpl_paths.specs.Laws.{EdgesHaveNodes}
-use Rattle.tpl_paths.specs.Edges.{Edge, Part, Point, Within, again, begins, calls, edges_in, edges_of, fills, finish, kind_at, node_edges, nodes_in, passes, past, picks, writes}
+use Rattle.tpl_paths.specs.Edges.{Edge, BodyPart, Point, Within, again, part_begins, calls, edges_in, edges_of, fills, finish_point, node_kind_at, node_edges, nodes_in, passes, past_point, picks, writes}
 
 pub record IsNode (nodes : NodesData) (k n : ℕ) (what : NodeKind) : Type 0 where
   pub place : ℕ
@@ -64,7 +64,7 @@ head_is : (what : NodeKind) (l : ℕ) (s : List Seam) (first other rest : NodesD
 head_is what l s first other rest k = record { place = 0; is_at = omega arith; inside = omega arith; is = refl }
 
 -- each edge of a node is the node's own, or one of its parts
-own : (whole : NodesData) (k : ℕ) (one two : Point → Point) (first other : Part) (to out on : Point) (what : NodeKind) → IsNode whole k k what
+own : (whole : NodesData) (k : ℕ) (one two : Point → Point) (first other : BodyPart) (to out on : Point) (what : NodeKind) → IsNode whole k k what
     → ((a b c : Point) (e : Edge) → Within e (first a b c) → EdgeNode whole k e) → ((a b c : Point) (e : Edge) → Within e (other a b c) → EdgeNode whole k e)
     → (e : Edge) → Within e (node_edges what k one two first other to out on) → EdgeNode whole k e
 own whole k one two first other to out on (kind.Text bytes) h f g e (inl i) = subst (EdgeNode whole k) (sym i) h
@@ -78,18 +78,18 @@ own whole k one two first other to out on (kind.Assign name pipe) h f g e (inr v
 own whole k one two first other to out on (kind.If name pipe) h f g e (inl i) = subst (EdgeNode whole k) (sym i) tt
 own whole k one two first other to out on (kind.If name pipe) h f g e (inr (inl i)) = subst (EdgeNode whole k) (sym i) tt
 own whole k one two first other to out on (kind.If name pipe) h f g e (inr (inr (inl i))) = subst (EdgeNode whole k) (sym i) tt
-own whole k one two first other to out on (kind.If name pipe) h f g e (inr (inr (inr v))) = within-either (EdgeNode whole k) (first (past k) out on) (other (past k) out on) (f (past k) out on) (g (past k) out on) e v
+own whole k one two first other to out on (kind.If name pipe) h f g e (inr (inr (inr v))) = within-either (EdgeNode whole k) (first (past_point k) out on) (other (past_point k) out on) (f (past_point k) out on) (g (past_point k) out on) e v
 own whole k one two first other to out on (kind.With name pipe) h f g e (inl i) = subst (EdgeNode whole k) (sym i) tt
 own whole k one two first other to out on (kind.With name pipe) h f g e (inr (inl i)) = subst (EdgeNode whole k) (sym i) tt
 own whole k one two first other to out on (kind.With name pipe) h f g e (inr (inr (inl i))) = subst (EdgeNode whole k) (sym i) tt
-own whole k one two first other to out on (kind.With name pipe) h f g e (inr (inr (inr v))) = within-either (EdgeNode whole k) (first (past k) out on) (other (past k) out on) (f (past k) out on) (g (past k) out on) e v
+own whole k one two first other to out on (kind.With name pipe) h f g e (inr (inr (inr v))) = within-either (EdgeNode whole k) (first (past_point k) out on) (other (past_point k) out on) (f (past_point k) out on) (g (past_point k) out on) e v
 own whole k one two first other to out on (kind.Range index element pipe) h f g e (inl i) = subst (EdgeNode whole k) (sym i) tt
 own whole k one two first other to out on (kind.Range index element pipe) h f g e (inr (inl i)) = subst (EdgeNode whole k) (sym i) tt
 own whole k one two first other to out on (kind.Range index element pipe) h f g e (inr (inr (inl i))) = subst (EdgeNode whole k) (sym i) tt
 own whole k one two first other to out on (kind.Range index element pipe) h f g e (inr (inr (inr (inl i)))) = subst (EdgeNode whole k) (sym i) tt
 own whole k one two first other to out on (kind.Range index element pipe) h f g e (inr (inr (inr (inr (inl i))))) = subst (EdgeNode whole k) (sym i) tt
 own whole k one two first other to out on (kind.Range index element pipe) h f g e (inr (inr (inr (inr (inr (inl i)))))) = subst (EdgeNode whole k) (sym i) tt
-own whole k one two first other to out on (kind.Range index element pipe) h f g e (inr (inr (inr (inr (inr (inr v)))))) = within-either (EdgeNode whole k) (first (again k) (past k) (again k)) (other (past k) out on) (f (again k) (past k) (again k)) (g (past k) out on) e v
+own whole k one two first other to out on (kind.Range index element pipe) h f g e (inr (inr (inr (inr (inr (inr v)))))) = within-either (EdgeNode whole k) (first (again k) (past_point k) (again k)) (other (past_point k) out on) (f (again k) (past_point k) (again k)) (g (past_point k) out on) e v
 own whole k one two first other to out on kind.Break h f g e (inl i) = subst (EdgeNode whole k) (sym i) tt
 own whole k one two first other to out on kind.Break h f g e (inr v) = absurd v
 own whole k one two first other to out on kind.Continue h f g e (inl i) = subst (EdgeNode whole k) (sym i) tt
@@ -104,27 +104,27 @@ edge_node (node what l s first other rest) k to out on e w =
     let second : ℕ = k + 1 + nodes_size first in
     let behind : ℕ = second + nodes_size other in
     within-either (EdgeNode whole k)
-    (node_edges what k (begins first (k + 1)) (begins other second) (edges_of first (k + 1)) (edges_of other second) (begins rest behind to) out on) (edges_of rest behind to out on)
-    (own whole k (begins first (k + 1)) (begins other second) (edges_of first (k + 1)) (edges_of other second) (begins rest behind to) out on what (head_is what l s first other rest k)
+    (node_edges what k (part_begins first (k + 1)) (part_begins other second) (edges_of first (k + 1)) (edges_of other second) (part_begins rest behind to) out on) (edges_of rest behind to out on)
+    (own whole k (part_begins first (k + 1)) (part_begins other second) (edges_of first (k + 1)) (edges_of other second) (part_begins rest behind to) out on what (head_is what l s first other rest k)
     (λ a b c f v. lifts first whole (k + 1) k (in_first what l s first other rest k) f (edge_node first (k + 1) a b c f v))
     (λ a b c f v. lifts other whole second k (in_other what l s first other rest k) f (edge_node other second a b c f v)))
     (λ f v. lifts rest whole behind k (in_rest what l s first other rest k) f (edge_node rest behind to out on f v)) e w
 
 -- what the node of an edge is, by its number in the template
-kind_is : (forest : ForestData) (t : List ℕ) (n : ℕ) (what : NodeKind) → IsNode (nodes_in forest t) 0 n what → kind_at forest t n ≡ Some what
+kind_is : (forest : ForestData) (t : List ℕ) (n : ℕ) (what : NodeKind) → IsNode (nodes_in forest t) 0 n what → node_kind_at forest t n ≡ Some what
 kind_is forest t n what h =
     let same : n ≡ h.place = omega (arith, h.is_at) in
     ap (λ (i : ℕ). head_kind (nodes_from (nodes_in forest t) i)) same ∙ h.is
 
-pub text_stands : (forest : ForestData) (t : List ℕ) (n : ℕ) (bytes : List ℕ) (to : Point) → Within (writes n bytes to) (edges_in forest t) → kind_at forest t n ≡ Some (kind.Text bytes)
-text_stands forest t n bytes to w = kind_is forest t n (kind.Text bytes) (edge_node (nodes_in forest t) 0 finish finish finish (writes n bytes to) w)
+pub text_stands : (forest : ForestData) (t : List ℕ) (n : ℕ) (bytes : List ℕ) (to : Point) → Within (writes n bytes to) (edges_in forest t) → node_kind_at forest t n ≡ Some (kind.Text bytes)
+text_stands forest t n bytes to w = kind_is forest t n (kind.Text bytes) (edge_node (nodes_in forest t) 0 finish_point finish_point finish_point (writes n bytes to) w)
 
-pub hole_stands : (forest : ForestData) (t : List ℕ) (n : ℕ) (pipe : Pipe) (to : Point) → Within (fills n pipe to) (edges_in forest t) → kind_at forest t n ≡ Some (kind.Action pipe)
-hole_stands forest t n pipe to w = kind_is forest t n (kind.Action pipe) (edge_node (nodes_in forest t) 0 finish finish finish (fills n pipe to) w)
+pub hole_stands : (forest : ForestData) (t : List ℕ) (n : ℕ) (pipe : Pipe) (to : Point) → Within (fills n pipe to) (edges_in forest t) → node_kind_at forest t n ≡ Some (kind.Action pipe)
+hole_stands forest t n pipe to w = kind_is forest t n (kind.Action pipe) (edge_node (nodes_in forest t) 0 finish_point finish_point finish_point (fills n pipe to) w)
 
-pub call_stands : (forest : ForestData) (t : List ℕ) (n : ℕ) (name : List ℕ) (to : Point) → Within (calls n name to) (edges_in forest t) → (pipe : Option Pipe) × (kind_at forest t n ≡ Some (kind.Template name pipe))
+pub call_stands : (forest : ForestData) (t : List ℕ) (n : ℕ) (name : List ℕ) (to : Point) → Within (calls n name to) (edges_in forest t) → (pipe : Option Pipe) × (node_kind_at forest t n ≡ Some (kind.Template name pipe))
 call_stands forest t n name to w =
-    let h = edge_node (nodes_in forest t) 0 finish finish finish (calls n name to) w in
+    let h = edge_node (nodes_in forest t) 0 finish_point finish_point finish_point (calls n name to) w in
     (h.0, kind_is forest t n (kind.Template name h.0) h.1)
 
 pub edges-have-nodes : EdgesHaveNodes

@@ -1,13 +1,13 @@
 -- Worked examples.
 use Rattle.std.proofs.Common.{◌≡◌, ℕ, List, [], ◌∷◌, None, refl, inl, inr}
-use Rattle.tpl_paths.specs.declared.choice.Choice.TheVariants as chosen
+use Rattle.tpl_paths.specs.declared.choice.Way.TheVariants as chosen
 use Rattle.tpl_tree.specs.Pipes.{no_commands}
 use Rattle.tpl_tree.specs.Forests.{ForestData}
 use Rattle.tpl_tree.specs.Trees.{NodesData, no_nodes, node}
 use Rattle.tpl_tree.specs.declared.node_kind.NodeKind.TheVariants as kind
 use Rattle.tpl_tree.specs.declared.pipe.Pipe.{Pipe}
-use Rattle.tpl_paths.specs.Edges.{again, before, calls, edges_of, finish, head, passes, past, picks, writes}
-use Rattle.tpl_paths.specs.Walks.{IsWalk, Move, along, at_root, back, choices_of, enters_at, leaves_call, reached, signs_of, standing, text_of}
+use Rattle.tpl_paths.specs.Edges.{again, before, calls, edges_of, finish_point, head, passes, past_point, picks, writes}
+use Rattle.tpl_paths.specs.Paths.{IsPath, Move, along, at_root, back, choices_of, enters_at, leaves_call, reached, signs_of, open_standing, text_of}
 
 abbrev dot : Pipe
 dot = record { commands = no_commands }
@@ -19,9 +19,9 @@ text b rest = node (kind.Text (b ∷ [])) 1 [] no_nodes no_nodes rest
 abbrev nodes : NodesData
 nodes = node (kind.Range None None dot) 1 [] (text 65 (node kind.Break 1 [] no_nodes no_nodes no_nodes)) (text 66 no_nodes) (text 67 no_nodes)
 
-edges : edges_of nodes 0 finish finish finish
-    ≡ passes (before 0) (head 0) ∷ passes (again 0) (head 0) ∷ picks (head 0) chosen.Turn (before 1) ∷ picks (before 0) chosen.Done (before 3) ∷ picks (again 0) chosen.Done (past 0) ∷ passes (past 0) (before 4)
-    ∷ writes 1 (65 ∷ []) (before 2) ∷ passes (before 2) (past 0) ∷ writes 3 (66 ∷ []) (past 0) ∷ writes 4 (67 ∷ []) finish ∷ []
+edges : edges_of nodes 0 finish_point finish_point finish_point
+    ≡ passes (before 0) (head 0) ∷ passes (again 0) (head 0) ∷ picks (head 0) chosen.Turn (before 1) ∷ picks (before 0) chosen.Done (before 3) ∷ picks (again 0) chosen.Done (past_point 0) ∷ passes (past_point 0) (before 4)
+    ∷ writes 1 (65 ∷ []) (before 2) ∷ passes (before 2) (past_point 0) ∷ writes 3 (66 ∷ []) (past_point 0) ∷ writes 4 (67 ∷ []) finish_point ∷ []
 edges = refl
 
 -- {{range .}}A{{end}}{{template "b"}} and b: B
@@ -31,10 +31,10 @@ forest = (97 ∷ [], record { nodes = node (kind.Range None None dot) 1 [] (text
 
 -- two turns, and the call
 abbrev moves : List Move
-moves = along (passes (before 0) (head 0)) ∷ along (picks (head 0) chosen.Turn (before 1)) ∷ along (writes 1 (65 ∷ []) (again 0)) ∷ along (passes (again 0) (head 0)) ∷ along (picks (head 0) chosen.Turn (before 1)) ∷ along (writes 1 (65 ∷ []) (again 0)) ∷ along (picks (again 0) chosen.Done (past 0))
-    ∷ along (passes (past 0) (before 2)) ∷ along (calls 2 (98 ∷ []) finish) ∷ along (writes 0 (66 ∷ []) finish) ∷ back ∷ []
+moves = along (passes (before 0) (head 0)) ∷ along (picks (head 0) chosen.Turn (before 1)) ∷ along (writes 1 (65 ∷ []) (again 0)) ∷ along (passes (again 0) (head 0)) ∷ along (picks (head 0) chosen.Turn (before 1)) ∷ along (writes 1 (65 ∷ []) (again 0)) ∷ along (picks (again 0) chosen.Done (past_point 0))
+    ∷ along (passes (past_point 0) (before 2)) ∷ along (calls 2 (98 ∷ []) finish_point) ∷ along (writes 0 (66 ∷ []) finish_point) ∷ back ∷ []
 
-a_walk : IsWalk forest (at_root forest (97 ∷ [])) moves
+a_walk : IsPath forest (at_root forest (97 ∷ [])) moves
 a_walk = (
   (inl refl, refl),
   (
@@ -55,7 +55,7 @@ a_walk = (
   ),
 )
 
-its_end : reached forest (at_root forest (97 ∷ [])) moves ≡ standing [] (97 ∷ []) finish
+its_end : reached forest (at_root forest (97 ∷ [])) moves ≡ open_standing [] (97 ∷ []) finish_point
 its_end = refl
 
 its_signs : signs_of moves ≡ text_of 1 ∷ text_of 1 ∷ enters_at 2 ∷ text_of 0 ∷ leaves_call ∷ []

@@ -1,4 +1,4 @@
 pub mod EdgeViews
 pub mod Edges
 pub mod Laws
-pub mod Walks
+pub mod Paths

@@ -1,6 +1,6 @@
 /// What is chosen at an `if`, a `with` or a range.
 #[derive(Clone, Copy, Debug)]
-pub enum Choice {
+pub enum Way {
     /// The first part of an `if` or a `with`.
     Then,
     /// The `else` part of an `if` or a `with`, also where none is written.

@@ -1,9 +1,10 @@
 ghost use Rattle.std.specs.Prelude.{◌≡◌, ◌<◌, ◌++◌, ◌∷◌, [], IfOk, IfSome, OnOk};
 ghost use Rattle.tpl_tree.specs.Trees.{nodes_from, nodes_size};
-ghost use Rattle.tpl_paths.specs.Edges.{edges_of as tree_edges, finish};
-ghost use Rattle.tpl_paths.specs.EdgeViews.{begin_at, control_edges, edges_at, own_edges, range_edges, read_edges};
+ghost use Rattle.tpl_paths.specs.Edges.{finish_point};
+ghost use Rattle.tpl_paths.specs.EdgeViews.{begin_at, control_edges, edges_view_at, own_edges, range_edges, read_edges};
+ghost use Rattle.tpl_paths.specs.Edges as spec;
 
-use crate::choice::Choice;
+use crate::choice::Way;
 use crate::edge::Edge;
 use crate::point::Point;
 use std::alloc::{AllocError, Global};
@@ -40,7 +41,7 @@ pub fn add_edges(
 ) -> Result<(), AllocError>
     requires { IfSome start (λ n. n < nodes_size tree.now.nodes) }
     ensures added { OnOk result (edges.new.items
-        ≡ edges.old.items ++ read_edges (edges_at tree.now.nodes start to out on)) }
+        ≡ edges.old.items ++ read_edges (edges_view_at tree.now.nodes start to out on)) }
 {
     let mut node = start;
     while let Some(n) = node {
@@ -98,11 +99,11 @@ fn add_control(
     let past = Point::Past(n);
     add(
         edges,
-        Edge::Picks(Point::Before(n), Choice::Then, begin(first, past)),
+        Edge::Picks(Point::Before(n), Way::Then, begin(first, past)),
     )?;
     add(
         edges,
-        Edge::Picks(Point::Before(n), Choice::Else, begin(other, past)),
+        Edge::Picks(Point::Before(n), Way::Else, begin(other, past)),
     )?;
     add(edges, Edge::Passes(past, to))?;
     add_edges(tree, first, past, out, on, edges)?;
@@ -130,22 +131,22 @@ fn add_range(
     let head = Point::Head(n);
     add(edges, Edge::Passes(Point::Before(n), head))?;
     add(edges, Edge::Passes(again, head))?;
-    add(edges, Edge::Picks(head, Choice::Turn, begin(first, again)))?;
+    add(edges, Edge::Picks(head, Way::Turn, begin(first, again)))?;
     add(
         edges,
-        Edge::Picks(Point::Before(n), Choice::Done, begin(other, past)),
+        Edge::Picks(Point::Before(n), Way::Done, begin(other, past)),
     )?;
-    add(edges, Edge::Picks(again, Choice::Done, past))?;
+    add(edges, Edge::Picks(again, Way::Done, past))?;
     add(edges, Edge::Passes(past, to))?;
     add_edges(tree, first, again, past, again, edges)?;
     add_edges(tree, other, past, out, on, edges)
 }
 
-/// The edges of a template, each once, in the order of its nodes. The error is out of memory. Takes time in proportion to the number of
+/// The edges of a template, each once, in the order of its nodes. Fails only if allocation fails. Takes time in proportion to the number of
 /// nodes.
 pub fn edges_of(alloc: Global, tree: &Tree) -> Result<Vec<Edge>, AllocError>
     ensures { IfOk result (λ edges. edges.items
-        ≡ read_edges (tree_edges tree.now.nodes 0 finish finish finish)) }
+        ≡ read_edges (spec.edges_of tree.now.nodes 0 finish_point finish_point finish_point)) }
 {
     let mut edges = Vec::new(alloc);
     add_edges(

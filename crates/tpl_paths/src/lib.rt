@@ -7,8 +7,8 @@ mod edges;
 mod laws;
 mod point;
 
-pub use choice::Choice;
+pub use choice::Way;
 pub use edge::Edge;
 pub use edges::edges_of;
-pub use laws::{choices_determine, edges_have_nodes, front_is_walk};
+pub use laws::{choices_determine, edges_have_nodes, prefix_is_path};
 pub use point::Point;

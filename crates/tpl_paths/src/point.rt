@@ -7,7 +7,7 @@ pub enum Point {
     Again(u32),
     /// At the head of a range, before a turn, the first one or a further one.
     Head(u32),
-    /// Behind the parts of an `if`, a `with` or a range.
+    /// After the parts of an `if`, a `with` or a range.
     Past(u32),
     /// At the end of the template.
     Finish,

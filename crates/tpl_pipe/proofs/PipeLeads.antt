@@ -2,9 +2,9 @@
 use Rattle.std.proofs.Common.{◌≡◌, ℕ, zero, suc, Bool, true, false, List, [], ◌∷◌, ◌++◌, Some, Ok, refl, sym, ap, ◌∙◌, subst, append_assoc, append-nil, true≢false}
 use Rattle.std.specs.Prelude.{⊤}
 use Rattle.tpl_token.proofs.Marks.{either}
-use Rattle.tpl_pipe.specs.Grammar.{Stands, Touching, AreFields, IsNil, IsPipe, AreCalls, AreOperands, IsOperand, IsBase}
-use Rattle.tpl_pipe.specs.Levels.{level, fresh, operand_of, operands_onto, commands_onto, ended, ended_pipe, may_take, takes_operand, take_into, with_operand, takes_field, last_takes, base_takes}
-use Rattle.tpl_pipe.specs.Reading.{pipe_state, read, read_kind}
+use Rattle.tpl_pipe.specs.Grammar.{SymbolStands, Touching, AreFields, IsNil, IsPipe, AreCalls, AreOperands, IsOperand, IsBase}
+use Rattle.tpl_pipe.specs.Levels.{level, fresh, operand_of, operands_onto, commands_onto, level_ended, ended_pipe, may_take, takes_operand, take_into, with_operand, takes_field, last_takes, base_takes}
+use Rattle.tpl_pipe.specs.Reading.{pipe_state, read_pipe_symbol, read_kind}
 use Rattle.tpl_pipe.specs.Runs.{is_close, read_pipe}
 use Rattle.tpl_pipe.specs.declared.pipe_state.Current.{Current}
 use Rattle.tpl_pipe.specs.declared.pipe_state.Current.TheVariants as current
@@ -52,11 +52,11 @@ fill lone o = current.Alone o
 fill (called f os) o = current.Calls f (o ∷ os)
 
 -- one symbol more
-reads_on : (variables : List (List ℕ)) (at next : PipeState) (s : Symbol) (symbols : List Symbol) → is_close s.kind ≡ false → read variables at s ≡ Ok next
+reads_on : (variables : List (List ℕ)) (at next : PipeState) (s : Symbol) (symbols : List Symbol) → is_close s.kind ≡ false → read_pipe_symbol variables at s ≡ Ok next
     → read_pipe variables at (s ∷ symbols) ≡ read_pipe variables next symbols
 reads_on variables at next s symbols inner e = rw (inner, e) refl
 
-pub stands_leads : (variables : List (List ℕ)) (at next : PipeState) (what : SymbolKind) (symbols rest : List Symbol) → Stands what symbols rest → is_close what ≡ false
+pub stands_leads : (variables : List (List ℕ)) (at next : PipeState) (what : SymbolKind) (symbols rest : List Symbol) → SymbolStands what symbols rest → is_close what ≡ false
     → ((touches : Bool) → read_kind what touches variables at.outer at.level ≡ Ok next) → read_pipe variables at symbols ≡ read_pipe variables next rest
 stands_leads variables at next what [] rest h inner e = absurd h
 stands_leads variables at next what (s ∷ symbols) rest h inner e =
@@ -92,7 +92,7 @@ fields_lead variables outer room cs slot b fields (name ∷ names) (s ∷ symbol
     let next = pipe_state outer (level room cs (fill slot (operand_of b (fields ++ name ∷ [])))) in
     let kind_is : s.kind ≡ kind.Field name = h.1.0 in
     let touches : s.touches ≡ true = h.1.1 in
-    let taken : read variables at s ≡ Ok next = ap (λ k. read_kind k s.touches variables outer at.level) kind_is ∙ ap (λ t. read_kind (kind.Field name) t variables outer at.level) touches ∙ field_read variables outer room cs slot b fields name e in
+    let taken : read_pipe_symbol variables at s ≡ Ok next = ap (λ k. read_kind k s.touches variables outer at.level) kind_is ∙ ap (λ t. read_kind (kind.Field name) t variables outer at.level) touches ∙ field_read variables outer room cs slot b fields name e in
     reads_on variables at next s symbols (ap is_close kind_is) taken
     ∙ ap (read_pipe variables next) h.1.2
     ∙ fields_lead variables outer room cs slot b (fields ++ name ∷ []) names h.0 rest (takes_more b fields name e) h.2
@@ -123,7 +123,7 @@ from_back (with_fields b fields) = ap (λ b. with_fields b fields) (base_back b)
 
 -- an operand that has no fields
 plain_leads : (variables : List (List ℕ)) (outer : List Level) (l : Level) (b : BaseData) (what : SymbolKind) (symbols rest : List Symbol)
-    → Stands what symbols rest → is_close what ≡ false
+    → SymbolStands what symbols rest → is_close what ≡ false
     → ((touches : Bool) → read_kind what touches variables outer l ≡ Ok (pipe_state outer (with_operand (operand_of (base_from b) []) l)))
     → read_pipe variables (pipe_state outer l) symbols ≡ read_pipe variables (pipe_state outer (with_operand (from_data (with_fields b [])) l)) rest
 plain_leads variables outer l b what symbols rest h inner e = stands_leads variables (pipe_state outer l) (pipe_state outer (with_operand (operand_of (base_from b) []) l)) what symbols rest h inner e
@@ -179,11 +179,11 @@ own_field variables outer l name false e clear = rw e refl
 own_field variables outer l name true e clear = either (last_takes l.current) (λ t. absurd (clear refl t)) (λ f. rw (f, e) refl)
 
 field_starts : (variables : List (List ℕ)) (outer : List Level) (l : Level) (name : List ℕ) (names : List (List ℕ)) (symbols following rest : List Symbol) → takes_operand l ≡ true → Clear l.current symbols
-    → Stands (kind.Field name) symbols following → AreFields names following rest
+    → SymbolStands (kind.Field name) symbols following → AreFields names following rest
     → read_pipe variables (pipe_state outer l) symbols ≡ read_pipe variables (pipe_state outer (with_operand (operand_of base.Dot (name ∷ names)) l)) rest
 field_starts variables outer l name names [] following rest e clear h fields = absurd h
 field_starts variables outer l name names (s ∷ symbols) following rest e clear h fields =
-    let taken : read variables (pipe_state outer l) s ≡ Ok (pipe_state outer (with_operand (operand_of base.Dot (name ∷ [])) l)) =
+    let taken : read_pipe_symbol variables (pipe_state outer l) s ≡ Ok (pipe_state outer (with_operand (operand_of base.Dot (name ∷ [])) l)) =
     ap (λ k. read_kind k s.touches variables outer l) h.0 ∙ own_field variables outer l name s.touches e (λ t last. clear last name symbols (h.0, t, refl)) in
     reads_on variables (pipe_state outer l) (pipe_state outer (with_operand (operand_of base.Dot (name ∷ [])) l)) s symbols (ap is_close h.0) taken
     ∙ ap (read_pipe variables (pipe_state outer (with_operand (operand_of base.Dot (name ∷ [])) l))) h.1
@@ -212,7 +212,7 @@ mutual
       (later.0, start ∙ given.1 ∙ later.1, later.2 ∙ ap (λ os. Ok (command (call f os) more)) given.2)
 
   calls_lead : (variables : List (List ℕ)) (outer : List Level) (room : ℕ) (cs : List Command) (now : Current) (c : Command) (more : PipeData) (symbols rest : List Symbol)
-      → ended now ≡ Some c → AreCalls variables room more symbols rest
+      → level_ended now ≡ Some c → AreCalls variables room more symbols rest
       → (last : Level) × (read_pipe variables (pipe_state outer (level room cs now)) symbols ≡ read_pipe variables (pipe_state outer last) rest) × (ended_pipe last ≡ Ok (commands_onto (c ∷ cs) more))
   calls_lead variables outer room cs now c no_commands symbols rest e h = (level room cs now, ap (read_pipe variables (pipe_state outer (level room cs now))) h, rw e refl)
   calls_lead variables outer room cs now c (command (single o) more) symbols rest e h = absurd h.3

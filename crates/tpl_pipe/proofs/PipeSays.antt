@@ -2,10 +2,10 @@
 use Rattle.std.proofs.Common.{◌≡◌, ℕ, zero, suc, Bool, true, false, if◌then◌else◌, List, [], ◌∷◌, ◌++◌, Option, Some, None, Result, Ok, Err, refl, sym, ap, ◌∙◌, subst, append_assoc, append-nil, true≢false}
 use Rattle.std.specs.Prelude.{⊤}
 use Rattle.tpl_token.proofs.Marks.{either}
-use Rattle.tpl_pipe.specs.Grammar.{Stands, Touching, AreFields, IsNil, IsPipe, AreCalls, IsCall, AreOperands, IsBase}
-use Rattle.tpl_pipe.specs.Levels.{level, fresh, operand_of, operands_onto, commands_onto, ended, ended_pipe, may_take, takes_operand, take_into, with_operand, takes_field, last_takes, add_field, field_into, with_field}
-use Rattle.tpl_pipe.specs.Reading.{Step, pipe_state, declared, read_kind, read_operand, read_nil, read_variable, read_field, read_left, read_function, read_unknown, read_word, closed, next_command, finish}
-use Rattle.tpl_pipe.specs.Runs.{PipeRead, is_close, ends_at, goes_on, read_pipe}
+use Rattle.tpl_pipe.specs.Grammar.{SymbolStands, Touching, AreFields, IsNil, IsPipe, AreCalls, IsCall, AreOperands, IsBase}
+use Rattle.tpl_pipe.specs.Levels.{level, fresh, operand_of, operands_onto, commands_onto, level_ended, ended_pipe, may_take, takes_operand, take_into, with_operand, takes_field, last_takes, add_field, field_into, with_field}
+use Rattle.tpl_pipe.specs.Reading.{PipeStep, pipe_state, variable_declared, read_kind, read_operand, read_nil, read_variable, read_field, read_left, read_function, read_unknown, read_word, closed, next_command, pipe_finish}
+use Rattle.tpl_pipe.specs.Runs.{PipeRead, is_close, ends_at, pipe_goes_on, read_pipe}
 use Rattle.tpl_pipe.proofs.PipeLeads.{takes_more}
 use Rattle.tpl_pipe.specs.declared.pipe_state.Current.{Current}
 use Rattle.tpl_pipe.specs.declared.pipe_state.Current.TheVariants as current
@@ -52,14 +52,14 @@ abbrev pub IsEnd : List Symbol → Type 0
 IsEnd [] = ⊥
 IsEnd (s ∷ symbols) = is_close s.kind ≡ true
 
--- what is still to come from a place on, up to the end of its action
+-- what is still to come from an offset on, up to the end of its action
 abbrev pub Finishes : List (List ℕ) → List Level → Level → List Symbol → PipeData → List Symbol → Type 0
 Finishes variables [] l symbols p rest = Goes variables l.room l.current l.commands symbols p rest × IsEnd rest
 Finishes variables (o ∷ outer) l symbols p rest =
-    (q : PipeData) × (end after : List Symbol) × Goes variables l.room l.current l.commands symbols q end × Stands kind.Right end after
+    (q : PipeData) × (end after : List Symbol) × Goes variables l.room l.current l.commands symbols q end × SymbolStands kind.Right end after
     × Finishes variables outer (with_operand (operand_of (base.Paren (record { commands = q })) []) o) after p rest
 
--- what is read from a place on stands there
+-- what is read from an offset on stands there
 abbrev pub Says : List (List ℕ) → List Level → Level → List Symbol → PipeRead → Type 0
 Says variables outer l symbols (Ok found) = Finishes variables outer l symbols found.0 found.1
 Says variables outer l symbols (Err why) = ⊤
@@ -116,7 +116,7 @@ ends_here variables room (current.Calls f (o ∷ done)) cs symbols p bare e = (
 
 -- a bar begins another command
 bar_goes : (variables : List (List ℕ)) (room : ℕ) (now : Current) (cs : List Command) (c : Command) (s : Symbol) (symbols : List Symbol) (p : PipeData) (rest : List Symbol)
-    → s.kind ≡ kind.Bar → ended now ≡ Some c → Bare (s ∷ symbols) → Goes variables room current.Nothing (c ∷ cs) symbols p rest → Goes variables room now cs (s ∷ symbols) p rest
+    → s.kind ≡ kind.Bar → level_ended now ≡ Some c → Bare (s ∷ symbols) → Goes variables room current.Nothing (c ∷ cs) symbols p rest → Goes variables room now cs (s ∷ symbols) p rest
 bar_goes variables room current.Nothing cs c s symbols p rest k e bare h = absurd cc
 bar_goes variables room (current.Alone o) cs c s symbols p rest k e bare h = (
   [],
@@ -220,8 +220,8 @@ abbrev pub Later : List (List ℕ) → List Symbol → Type 0
 Later variables symbols = (outer : List Level) (l : Level) → Says variables outer l symbols (read_pipe variables (pipe_state outer l) symbols)
 
 -- what is read from the next symbol on, with this step
-abbrev pub SaysStep : List (List ℕ) → List Level → Level → Symbol → List Symbol → Step → Type 0
-SaysStep variables outer l s symbols step = Says variables outer l (s ∷ symbols) (goes_on (s ∷ symbols) step (λ next. read_pipe variables next symbols))
+abbrev pub SaysStep : List (List ℕ) → List Level → Level → Symbol → List Symbol → PipeStep → Type 0
+SaysStep variables outer l s symbols step = Says variables outer l (s ∷ symbols) (pipe_goes_on (s ∷ symbols) step (λ next. read_pipe variables next symbols))
 
 steps_in : (variables : List (List ℕ)) (outer : List Level) (l l' : Level) (s : Symbol) (symbols : List Symbol) → Later variables symbols
     → ((p : PipeData) (rest : List Symbol) → Goes variables l'.room l'.current l'.commands symbols p rest → Goes variables l.room l.current l.commands (s ∷ symbols) p rest)
@@ -264,7 +264,7 @@ says_variable : (variables : List (List ℕ)) (outer : List Level) (l : Level) (
 says_variable variables outer l name s symbols later k =
     let o = operand_of (base.Variable name) [] in
     either (takes_operand l)
-    (λ t. either (declared variables name)
+    (λ t. either (variable_declared variables name)
     (λ d. rw (t, d) (steps_in variables outer l (with_operand o l) s symbols later (λ p rest h. operand_goes variables l.room l.current l.commands o (s ∷ symbols) symbols p rest t
     (may_come l.current (variable name) [] refl) (λ last. other (kind.Variable name) s symbols k refl) (λ names after fields. (symbols, d, (k, refl), fields)) h)))
     (λ n. rw (t, n) tt))
@@ -301,7 +301,7 @@ says_right variables outer o l (Ok q) s symbols later k e =
     (λ p rest h. (q, s ∷ symbols, symbols, ends_here variables l.room l.current l.commands (s ∷ symbols) q (other kind.Right s symbols k refl) e, (k, refl), h))
     (read_pipe variables (pipe_state outer next) symbols) (later outer next)
 
-says_bar : (variables : List (List ℕ)) (outer : List Level) (l : Level) (r : Option Command) (s : Symbol) (symbols : List Symbol) → Later variables symbols → s.kind ≡ kind.Bar → ended l.current ≡ r
+says_bar : (variables : List (List ℕ)) (outer : List Level) (l : Level) (r : Option Command) (s : Symbol) (symbols : List Symbol) → Later variables symbols → s.kind ≡ kind.Bar → level_ended l.current ≡ r
     → SaysStep variables outer l s symbols (next_command r outer l)
 says_bar variables outer l None s symbols later k e = tt
 says_bar variables outer l (Some c) s symbols later k e =
@@ -346,7 +346,7 @@ says_close variables l (Err why) s symbols n c e = tt
 says_close variables l (Ok p) s symbols n c e = (ends_here variables l.room l.current l.commands (s ∷ symbols) p (other s.kind s symbols refl n) e, c)
 
 says_kind : (variables : List (List ℕ)) (outer : List Level) (l : Level) (what : SymbolKind) (s : Symbol) (symbols : List Symbol) → Later variables symbols → s.kind ≡ what
-    → Says variables outer l (s ∷ symbols) (if is_close what then ends_at (s ∷ symbols) (finish (pipe_state outer l)) else goes_on (s ∷ symbols) (read_kind what s.touches variables outer l) (λ next. read_pipe variables next symbols))
+    → Says variables outer l (s ∷ symbols) (if is_close what then ends_at (s ∷ symbols) (pipe_finish (pipe_state outer l)) else pipe_goes_on (s ∷ symbols) (read_kind what s.touches variables outer l) (λ next. read_pipe variables next symbols))
 says_kind variables outer l (kind.Str value) s symbols later k =
     says_operand variables outer l (operand_of (base.Str value) []) s symbols later (may_come l.current (str value) [] refl) (λ last. other (kind.Str value) s symbols k refl)
     (λ names after h. subst (λ ns. IsBase variables l.room (str value) ns (s ∷ symbols) after) (sym h.0) (k, h.1))
@@ -362,7 +362,7 @@ says_kind variables outer l (kind.Field name) s symbols later k = says_field var
 says_kind variables outer l kind.Left s symbols later k = says_left variables outer l l.room s symbols later k refl
 says_kind variables [] l kind.Right s symbols later k = tt
 says_kind variables (o ∷ outer) l kind.Right s symbols later k = says_right variables outer o l (ended_pipe l) s symbols later k refl
-says_kind variables outer l kind.Bar s symbols later k = says_bar variables outer l (ended l.current) s symbols later k refl
+says_kind variables outer l kind.Bar s symbols later k = says_bar variables outer l (level_ended l.current) s symbols later k refl
 says_kind variables outer l (kind.Function f) s symbols later k = says_function variables outer l.room l.commands l.current f s symbols later k
 says_kind variables outer l kind.Unknown s symbols later k = says_unknown variables outer l l.current s symbols
 says_kind variables [] l (kind.Close end) s symbols later k = says_close variables l (ended_pipe l) s symbols (ap is_field k) (ap is_close k) refl

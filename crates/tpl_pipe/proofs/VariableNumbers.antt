@@ -5,8 +5,8 @@ use Rattle.std.specs.Cmp.Lexicographic.{pointwise, slice_cmp, texts_ties, bytes_
 use Rattle.std.specs.List.{slice_get}
 use Rattle.std.specs.Option.{is_some}
 use Rattle.std.specs.Ordering.{nat_cmp, is_eq}
-use Rattle.tpl_pipe.specs.Reading.{declared}
-use Rattle.tpl_pipe.specs.Variables.{number_of, AreNumbered}
+use Rattle.tpl_pipe.specs.Reading.{variable_declared}
+use Rattle.tpl_pipe.specs.Variables.{variable_number, AreNumbered}
 
 no_true : true ≡ false → ⊥
 no_true e = cc
@@ -22,7 +22,7 @@ or_true true = refl
 or_true false = refl
 
 -- `$` is declared
-pub declared-empty : (names : List (List ℕ)) → declared names [] ≡ true
+pub declared-empty : (names : List (List ℕ)) → variable_declared names [] ≡ true
 declared-empty [] = refl
 declared-empty (x ∷ xs) = ap (λ b. pointwise nat_eq x [] || b) (declared-empty xs) ∙ or_true (pointwise nat_eq x [])
 
@@ -32,11 +32,11 @@ some_later false None = refl
 some_later false (Some i) = refl
 
 -- any other name is, where it has a number
-pub declared-number : (names : List (List ℕ)) (y : ℕ) (ys : List ℕ) → declared names (y ∷ ys) ≡ is_some (number_of (y ∷ ys) names)
+pub declared-number : (names : List (List ℕ)) (y : ℕ) (ys : List ℕ) → variable_declared names (y ∷ ys) ≡ is_some (variable_number (y ∷ ys) names)
 declared-number [] y ys = refl
-declared-number (x ∷ xs) y ys = ap (λ b. pointwise nat_eq x (y ∷ ys) || b) (declared-number xs y ys) ∙ some_later (pointwise nat_eq x (y ∷ ys)) (number_of (y ∷ ys) xs)
+declared-number (x ∷ xs) y ys = ap (λ b. pointwise nat_eq x (y ∷ ys) || b) (declared-number xs y ys) ∙ some_later (pointwise nat_eq x (y ∷ ys)) (variable_number (y ∷ ys) xs)
 
-pub declared-named : (names : List (List ℕ)) (name : List ℕ) → (name ≡ [] → ⊥) → declared names name ≡ is_some (number_of name names)
+pub declared-named : (names : List (List ℕ)) (name : List ℕ) → (name ≡ [] → ⊥) → variable_declared names name ≡ is_some (variable_number name names)
 declared-named names [] h = absurd (h refl)
 declared-named names (y ∷ ys) h = declared-number names y ys
 
@@ -47,10 +47,10 @@ push_step false true None n = refl
 push_step false false None n = refl
 push_step false c (Some k) n = refl
 
-number_of-push : (name : List ℕ) (xs : List (List ℕ)) (x : List ℕ) → number_of name (xs ++ x ∷ []) ≡ cond (is_some (number_of name xs)) (number_of name xs) (cond (pointwise nat_eq x name) (Some (length xs)) None)
+number_of-push : (name : List ℕ) (xs : List (List ℕ)) (x : List ℕ) → variable_number name (xs ++ x ∷ []) ≡ cond (is_some (variable_number name xs)) (variable_number name xs) (cond (pointwise nat_eq x name) (Some (length xs)) None)
 number_of-push name [] x = refl
 number_of-push name (y ∷ xs) x =
-    ap (λ o. cond (pointwise nat_eq y name) (Some 0) (option_map suc o)) (number_of-push name xs x) ∙ push_step (pointwise nat_eq y name) (pointwise nat_eq x name) (number_of name xs) (length xs)
+    ap (λ o. cond (pointwise nat_eq y name) (Some 0) (option_map suc o)) (number_of-push name xs x) ∙ push_step (pointwise nat_eq y name) (pointwise nat_eq x name) (variable_number name xs) (length xs)
 
 -- the number among the first names
 take_step : (b : Bool) (o p : Option ℕ) (i : ℕ) → ((k : ℕ) → o ≡ Some k → p ≡ Some k) → cond b (Some 0) (option_map suc o) ≡ Some i → cond b (Some 0) (option_map suc p) ≡ Some i
@@ -58,10 +58,10 @@ take_step true o p i h e = e
 take_step false None p i h e = cc
 take_step false (Some k) p i h e = ap (option_map suc) (h k refl) ∙ e
 
-number_of-take : (name : List ℕ) (n : ℕ) (xs : List (List ℕ)) (i : ℕ) → number_of name (take n xs) ≡ Some i → number_of name xs ≡ Some i
+number_of-take : (name : List ℕ) (n : ℕ) (xs : List (List ℕ)) (i : ℕ) → variable_number name (take n xs) ≡ Some i → variable_number name xs ≡ Some i
 number_of-take name zero xs i e = cc
 number_of-take name (suc n) [] i e = e
-number_of-take name (suc n) (x ∷ xs) i e = take_step (pointwise nat_eq x name) (number_of name (take n xs)) (number_of name xs) i (λ (k : ℕ). number_of-take name n xs k) e
+number_of-take name (suc n) (x ∷ xs) i e = take_step (pointwise nat_eq x name) (variable_number name (take n xs)) (variable_number name xs) i (λ (k : ℕ). number_of-take name n xs k) e
 
 pub numbered-take : (names : List (List ℕ)) (n : ℕ) (m : BTreeMap (List ℕ) ℕ) → AreNumbered names m → AreNumbered (take n names) m
 numbered-take names n m h name i e = h name i (number_of-take name n names i e)
@@ -73,12 +73,12 @@ one_number : {o : Option ℕ} {i j : ℕ} → o ≡ Some i → o ≡ Some j → 
 one_number e f = cc
 
 -- two names that are equal have one number
-same_number : (x name : List ℕ) (names : List (List ℕ)) → pointwise nat_eq x name ≡ true → number_of x names ≡ number_of name names
-same_number x name names e = ap (λ (n : List ℕ). number_of n names) ((bytes_decides x name).0 e)
+same_number : (x name : List ℕ) (names : List (List ℕ)) → pointwise nat_eq x name ≡ true → variable_number x names ≡ variable_number name names
+same_number x name names e = ap (λ (n : List ℕ). variable_number n names) ((bytes_decides x name).0 e)
 
 -- a new name is put into the map before it is declared
-put_at : (names : List (List ℕ)) (x name : List ℕ) (old new : BTreeMap (List ℕ) ℕ) (n : ℕ) (b : Bool) → pointwise nat_eq x name ≡ b → AreNumbered names old → number_of x names ≡ None
-    → Updates (slice_cmp nat_cmp) old new x (Some n) → (i : ℕ) → number_of name names ≡ Some i → get (slice_cmp nat_cmp) new name ≡ Some i
+put_at : (names : List (List ℕ)) (x name : List ℕ) (old new : BTreeMap (List ℕ) ℕ) (n : ℕ) (b : Bool) → pointwise nat_eq x name ≡ b → AreNumbered names old → variable_number x names ≡ None
+    → Updates (slice_cmp nat_cmp) old new x (Some n) → (i : ℕ) → variable_number name names ≡ Some i → get (slice_cmp nat_cmp) new name ≡ Some i
 put_at names x name old new n true same h fresh u i e = absurd (no_number fresh (same_number x name names same ∙ e))
 put_at names x name old new n false same h fresh u i e =
     let apart : is_eq (slice_cmp nat_cmp x name) ≡ false = sym (texts_ties x name) ∙ same in
@@ -88,12 +88,12 @@ none_is : (o : Option ℕ) → is_some o ≡ false → o ≡ None
 none_is None e = refl
 none_is (Some i) e = cc
 
-pub numbered-put : (names : List (List ℕ)) (x : List ℕ) (old new : BTreeMap (List ℕ) ℕ) (n : ℕ) → AreNumbered names old → is_some (number_of x names) ≡ false
+pub numbered-put : (names : List (List ℕ)) (x : List ℕ) (old new : BTreeMap (List ℕ) ℕ) (n : ℕ) → AreNumbered names old → is_some (variable_number x names) ≡ false
     → Updates (slice_cmp nat_cmp) old new x (Some n) → AreNumbered names new
-numbered-put names x old new n h fresh u name i e = put_at names x name old new n (pointwise nat_eq x name) refl h (none_is (number_of x names) fresh) u i e
+numbered-put names x old new n h fresh u name i e = put_at names x name old new n (pointwise nat_eq x name) refl h (none_is (variable_number x names) fresh) u i e
 
 -- and then it is declared
-new_at : (names : List (List ℕ)) (x name : List ℕ) (old new : BTreeMap (List ℕ) ℕ) (o : Option ℕ) (b : Bool) → number_of name names ≡ o → pointwise nat_eq x name ≡ b → AreNumbered names new
+new_at : (names : List (List ℕ)) (x name : List ℕ) (old new : BTreeMap (List ℕ) ℕ) (o : Option ℕ) (b : Bool) → variable_number name names ≡ o → pointwise nat_eq x name ≡ b → AreNumbered names new
     → Updates (slice_cmp nat_cmp) old new x (Some (length names)) → (i : ℕ) → cond (is_some o) o (cond b (Some (length names)) None) ≡ Some i → get (slice_cmp nat_cmp) new name ≡ Some i
 new_at names x name old new (Some j) b has same h u i e = h name i (has ∙ e)
 new_at names x name old new None true has same h u i e =
@@ -101,23 +101,23 @@ new_at names x name old new None true has same h u i e =
     u.0 name ∙ ap (λ b. cond b (Some (length names)) (get (slice_cmp nat_cmp) old name)) here ∙ e
 new_at names x name old new None false has same h u i e = cc
 
-pub numbered-new : (names : List (List ℕ)) (x : List ℕ) (old new : BTreeMap (List ℕ) ℕ) → AreNumbered names old → is_some (number_of x names) ≡ false
+pub numbered-new : (names : List (List ℕ)) (x : List ℕ) (old new : BTreeMap (List ℕ) ℕ) → AreNumbered names old → is_some (variable_number x names) ≡ false
     → Updates (slice_cmp nat_cmp) old new x (Some (length names)) → AreNumbered (names ++ x ∷ []) new
 numbered-new names x old new h fresh u name i e =
-    new_at names x name old new (number_of name names) (pointwise nat_eq x name) refl refl (numbered-put names x old new (length names) h fresh u) u i (sym (number_of-push name names x) ∙ e)
+    new_at names x name old new (variable_number name names) (pointwise nat_eq x name) refl refl (numbered-put names x old new (length names) h fresh u) u i (sym (number_of-push name names x) ∙ e)
 
 -- a name that has a number is declared once more
-again_at : (names : List (List ℕ)) (x name : List ℕ) (m : BTreeMap (List ℕ) ℕ) (o : Option ℕ) (b : Bool) → number_of name names ≡ o → pointwise nat_eq x name ≡ b → AreNumbered names m
-    → is_some (number_of x names) ≡ true → (i : ℕ) → cond (is_some o) o (cond b (Some (length names)) None) ≡ Some i → get (slice_cmp nat_cmp) m name ≡ Some i
+again_at : (names : List (List ℕ)) (x name : List ℕ) (m : BTreeMap (List ℕ) ℕ) (o : Option ℕ) (b : Bool) → variable_number name names ≡ o → pointwise nat_eq x name ≡ b → AreNumbered names m
+    → is_some (variable_number x names) ≡ true → (i : ℕ) → cond (is_some o) o (cond b (Some (length names)) None) ≡ Some i → get (slice_cmp nat_cmp) m name ≡ Some i
 again_at names x name m (Some j) b has same h old i e = h name i (has ∙ e)
 again_at names x name m None true has same h old i e =
-    let lacks : is_some (number_of x names) ≡ false = ap is_some (same_number x name names same ∙ has) in
+    let lacks : is_some (variable_number x names) ≡ false = ap is_some (same_number x name names same ∙ has) in
     absurd (no_true (sym old ∙ lacks))
 again_at names x name m None false has same h old i e = cc
 
-pub numbered-again : (names : List (List ℕ)) (x : List ℕ) (m : BTreeMap (List ℕ) ℕ) → AreNumbered names m → is_some (number_of x names) ≡ true → AreNumbered (names ++ x ∷ []) m
+pub numbered-again : (names : List (List ℕ)) (x : List ℕ) (m : BTreeMap (List ℕ) ℕ) → AreNumbered names m → is_some (variable_number x names) ≡ true → AreNumbered (names ++ x ∷ []) m
 numbered-again names x m h old name i e =
-    again_at names x name m (number_of name names) (pointwise nat_eq x name) refl refl h old i (sym (number_of-push name names x) ∙ e)
+    again_at names x name m (variable_number name names) (pointwise nat_eq x name) refl refl h old i (sym (number_of-push name names x) ∙ e)
 
 -- at the number of a name it stands
 stands_step : (b : Bool) (o : Option ℕ) (name x : List ℕ) (xs : List (List ℕ)) → pointwise nat_eq x name ≡ b → ((k : ℕ) → o ≡ Some k → slice_get xs k ≡ Some name) → (i : ℕ) → cond b (Some 0) (option_map suc o) ≡ Some i → slice_get (x ∷ xs) i ≡ Some name
@@ -125,9 +125,9 @@ stands_step true o name x xs same h i e = ap (slice_get (x ∷ xs)) (one_number 
 stands_step false None name x xs same h i e = cc
 stands_step false (Some k) name x xs same h i e = ap (slice_get (x ∷ xs)) (one_number e refl) ∙ h k refl
 
-stands_at : (name : List ℕ) (names : List (List ℕ)) (i : ℕ) → number_of name names ≡ Some i → slice_get names i ≡ Some name
+stands_at : (name : List ℕ) (names : List (List ℕ)) (i : ℕ) → variable_number name names ≡ Some i → slice_get names i ≡ Some name
 stands_at name [] i e = cc
-stands_at name (x ∷ xs) i e = stands_step (pointwise nat_eq x name) (number_of name xs) name x xs refl (stands_at name xs) i e
+stands_at name (x ∷ xs) i e = stands_step (pointwise nat_eq x name) (variable_number name xs) name x xs refl (stands_at name xs) i e
 
 -- and where it stands it has a number
 some_step : (b : Bool) (o : Option ℕ) → is_some o ≡ true → is_some (cond b (Some 0) (option_map suc o)) ≡ true
@@ -142,13 +142,13 @@ here_step : (b : Bool) (o : Option ℕ) → b ≡ true → is_some (cond b (Some
 here_step true o e = refl
 here_step false o e = cc
 
-has_number : (name : List ℕ) (names : List (List ℕ)) (i : ℕ) → slice_get names i ≡ Some name → is_some (number_of name names) ≡ true
+has_number : (name : List ℕ) (names : List (List ℕ)) (i : ℕ) → slice_get names i ≡ Some name → is_some (variable_number name names) ≡ true
 has_number name [] i e = cc
-has_number name (x ∷ xs) zero e = here_step (pointwise nat_eq x name) (number_of name xs) ((bytes_decides x name).1 (some_name e))
-has_number name (x ∷ xs) (suc i) e = some_step (pointwise nat_eq x name) (number_of name xs) (has_number name xs i e)
+has_number name (x ∷ xs) zero e = here_step (pointwise nat_eq x name) (variable_number name xs) ((bytes_decides x name).1 (some_name e))
+has_number name (x ∷ xs) (suc i) e = some_step (pointwise nat_eq x name) (variable_number name xs) (has_number name xs i e)
 
 -- so a name is declared where the map has a number at which it stands
-found_by : (names : List (List ℕ)) (name f : List ℕ) (m : BTreeMap (List ℕ) ℕ) (n : ℕ) (o : Option ℕ) (b : Bool) → number_of name names ≡ o → pointwise nat_eq f name ≡ b → AreNumbered names m → get (slice_cmp nat_cmp) m name ≡ Some n
+found_by : (names : List (List ℕ)) (name f : List ℕ) (m : BTreeMap (List ℕ) ℕ) (n : ℕ) (o : Option ℕ) (b : Bool) → variable_number name names ≡ o → pointwise nat_eq f name ≡ b → AreNumbered names m → get (slice_cmp nat_cmp) m name ≡ Some n
     → slice_get names n ≡ Some f → b ≡ is_some o
 found_by names name f m n None true has same h at here =
     let there : slice_get names n ≡ Some name = here ∙ ap (λ (x : List ℕ). Some x) ((bytes_decides f name).0 same) in
@@ -161,21 +161,21 @@ found_by names name f m n (Some i) false has same h at here =
     sym same ∙ (bytes_decides f name).1 is
 
 pub numbered-found : (names : List (List ℕ)) (name f : List ℕ) (m : BTreeMap (List ℕ) ℕ) (n : ℕ) → AreNumbered names m → get (slice_cmp nat_cmp) m name ≡ Some n → slice_get names n ≡ Some f
-    → pointwise nat_eq f name ≡ is_some (number_of name names)
-numbered-found names name f m n h at here = found_by names name f m n (number_of name names) (pointwise nat_eq f name) refl refl h at here
+    → pointwise nat_eq f name ≡ is_some (variable_number name names)
+numbered-found names name f m n h at here = found_by names name f m n (variable_number name names) (pointwise nat_eq f name) refl refl h at here
 
-past_by : (names : List (List ℕ)) (name : List ℕ) (m : BTreeMap (List ℕ) ℕ) (n : ℕ) (o : Option ℕ) → number_of name names ≡ o → AreNumbered names m → get (slice_cmp nat_cmp) m name ≡ Some n → slice_get names n ≡ None → is_some o ≡ false
+past_by : (names : List (List ℕ)) (name : List ℕ) (m : BTreeMap (List ℕ) ℕ) (n : ℕ) (o : Option ℕ) → variable_number name names ≡ o → AreNumbered names m → get (slice_cmp nat_cmp) m name ≡ Some n → slice_get names n ≡ None → is_some o ≡ false
 past_by names name m n None has h at past = refl
 past_by names name m n (Some i) has h at past =
     let number : n ≡ i = one_number at (h name i has) in
     absurd (no_name past (ap (slice_get names) number ∙ stands_at name names i has))
 
-pub numbered-past : (names : List (List ℕ)) (name : List ℕ) (m : BTreeMap (List ℕ) ℕ) (n : ℕ) → AreNumbered names m → get (slice_cmp nat_cmp) m name ≡ Some n → slice_get names n ≡ None → is_some (number_of name names) ≡ false
-numbered-past names name m n h at past = past_by names name m n (number_of name names) refl h at past
+pub numbered-past : (names : List (List ℕ)) (name : List ℕ) (m : BTreeMap (List ℕ) ℕ) (n : ℕ) → AreNumbered names m → get (slice_cmp nat_cmp) m name ≡ Some n → slice_get names n ≡ None → is_some (variable_number name names) ≡ false
+numbered-past names name m n h at past = past_by names name m n (variable_number name names) refl h at past
 
-lacks_by : (names : List (List ℕ)) (name : List ℕ) (m : BTreeMap (List ℕ) ℕ) (o : Option ℕ) → number_of name names ≡ o → AreNumbered names m → get (slice_cmp nat_cmp) m name ≡ None → is_some o ≡ false
+lacks_by : (names : List (List ℕ)) (name : List ℕ) (m : BTreeMap (List ℕ) ℕ) (o : Option ℕ) → variable_number name names ≡ o → AreNumbered names m → get (slice_cmp nat_cmp) m name ≡ None → is_some o ≡ false
 lacks_by names name m None has h lacks = refl
 lacks_by names name m (Some i) has h lacks = absurd (no_number lacks (h name i has))
 
-pub numbered-lacks : (names : List (List ℕ)) (name : List ℕ) (m : BTreeMap (List ℕ) ℕ) → AreNumbered names m → get (slice_cmp nat_cmp) m name ≡ None → is_some (number_of name names) ≡ false
-numbered-lacks names name m h lacks = lacks_by names name m (number_of name names) refl h lacks
+pub numbered-lacks : (names : List (List ℕ)) (name : List ℕ) (m : BTreeMap (List ℕ) ℕ) → AreNumbered names m → get (slice_cmp nat_cmp) m name ≡ None → is_some (variable_number name names) ≡ false
+numbered-lacks names name m h lacks = lacks_by names name m (variable_number name names) refl h lacks

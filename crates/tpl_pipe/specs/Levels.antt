@@ -34,10 +34,10 @@ commands_onto [] more = more
 commands_onto (c ∷ cs) more = commands_onto cs (command (command_view c) more)
 
 -- the command that is read, as one that ends here
-abbrev pub ended : Current → Option Command
-ended current.Nothing = None
-ended (current.Alone o) = Some (command_kind.Single o)
-ended (current.Calls f os) = Some (command_kind.Call f (operands_onto os no_operands))
+abbrev pub level_ended : Current → Option Command
+level_ended current.Nothing = None
+level_ended (current.Alone o) = Some (command_kind.Single o)
+level_ended (current.Calls f os) = Some (command_kind.Call f (operands_onto os no_operands))
 
 -- commands, the last one first, that end with this one: where it is missing, a pipe without any is empty, and a bar before it leads nowhere
 abbrev pub ended_with : Option Command → List Command → Result PipeData ParseRefused
@@ -47,7 +47,7 @@ ended_with None (_ ∷ _) = Err refused.UnexpectedToken
 
 -- the pipe that is read, as one that ends here
 abbrev pub ended_pipe : Level → Result PipeData ParseRefused
-ended_pipe l = ended_with (ended l.current) l.commands
+ended_pipe l = ended_with (level_ended l.current) l.commands
 
 -- an operand may come: first of all, or after a function
 abbrev pub may_take : Current → List Command → Bool

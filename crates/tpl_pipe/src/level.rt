@@ -1,14 +1,10 @@
 ghost use Rattle.std.specs.Prelude.{◌≡◌, ◌<◌, ◌∷◌, IfOk, OnOk};
-ghost use Rattle.tpl_pipe.specs.Levels.{add_field as with_one_field, commands_onto};
-ghost use Rattle.tpl_pipe.specs.Levels.{ended as ended_of, ended_pipe, fresh};
-ghost use Rattle.tpl_pipe.specs.Levels.{last_takes as last_takes_of, takes_field as takes_field_of};
-ghost use Rattle.tpl_pipe.specs.Levels.{takes_operand as takes_operand_of};
-ghost use Rattle.tpl_pipe.specs.Levels.{take_into as take_into_of, field_into as field_into_of};
-ghost use Rattle.tpl_pipe.specs.Levels.{with_field as with_field_of};
-ghost use Rattle.tpl_pipe.specs.Levels.{with_operand as with_operand_of};
-ghost use Rattle.page_io.specs.Stops.{Answers};
+ghost use Rattle.tpl_pipe.specs.Levels.{commands_onto};
+ghost use Rattle.tpl_pipe.specs.Levels.{ended_pipe, fresh};
+ghost use Rattle.page_io.specs.Stops.{StopAnswers};
 ghost use Rattle.tpl_tree.specs.Pipes.{no_commands};
 ghost use Rattle.tpl_tree.specs.View.{pipe_view};
+ghost use Rattle.tpl_pipe.specs.Levels as spec;
 
 use crate::pipe_state::{Current, Level};
 use crate::refused::ParseRefused;
@@ -32,7 +28,7 @@ pub fn fresh_level(alloc: Global, room: u32) -> Level
 // Whether an operand may come: first of all, or after a function.
 #[inline(always)]
 pub fn takes_operand(level: &Level) -> bool
-    ensures { result ≡ takes_operand_of level.now }
+    ensures { result ≡ spec.takes_operand level.now }
 {
     match &level.current {
         Current::Nothing => level.commands.is_empty(),
@@ -44,14 +40,14 @@ pub fn takes_operand(level: &Level) -> bool
 // Adds an operand.
 #[inline(always)]
 pub fn add_operand(level: &mut Level, operand: Operand) -> Result<(), Memory>
-    ensures { OnOk result (level.new ≡ with_operand_of operand level.old) }
+    ensures { OnOk result (level.new ≡ spec.with_operand operand level.old) }
 {
     take_into(operand, &mut level.current)
 }
 
 #[inline(always)]
 fn take_into(operand: Operand, current: &mut Current) -> Result<(), Memory>
-    ensures { OnOk result (current.new ≡ take_into_of operand current.old) }
+    ensures { OnOk result (current.new ≡ spec.take_into operand current.old) }
 {
     match current {
         Current::Calls(_, operands) => operands.push(operand),
@@ -64,7 +60,7 @@ fn take_into(operand: Operand, current: &mut Current) -> Result<(), Memory>
 
 // Whether a field that touches it belongs to the operand.
 fn takes_field(operand: &Operand) -> bool
-    ensures { result ≡ takes_field_of operand.now }
+    ensures { result ≡ spec.takes_field operand.now }
 {
     match &operand.base {
         Base::Variable(_) => true,
@@ -76,7 +72,7 @@ fn takes_field(operand: &Operand) -> bool
 
 // Whether a field that touches what was read belongs to its last operand.
 pub fn last_takes(current: &Current) -> bool
-    ensures { result ≡ last_takes_of current.now }
+    ensures { result ≡ spec.last_takes current.now }
 {
     match current {
         Current::Nothing => false,
@@ -90,13 +86,13 @@ pub fn last_takes(current: &Current) -> bool
 
 // Adds a field, where the last operand takes one.
 pub fn add_field(level: &mut Level, name: Text) -> Result<(), Memory>
-    ensures { OnOk result (level.new ≡ with_field_of name level.old) }
+    ensures { OnOk result (level.new ≡ spec.with_field name level.old) }
 {
     field_into(name, &mut level.current)
 }
 
 fn field_into(name: Text, current: &mut Current) -> Result<(), Memory>
-    ensures { OnOk result (current.new ≡ field_into_of name current.old) }
+    ensures { OnOk result (current.new ≡ spec.field_into name current.old) }
 {
     match current {
         Current::Nothing => Ok(()),
@@ -115,7 +111,7 @@ fn field_into(name: Text, current: &mut Current) -> Result<(), Memory>
 #[tactic(auto, using(crate::proofs::Onto::operands_in_order))]
 #[inline(always)]
 pub fn ended(current: Current) -> Option<Command>
-    ensures { result ≡ ended_of current }
+    ensures { result ≡ spec.level_ended current }
 {
     match current {
         Current::Nothing => None,
@@ -143,7 +139,7 @@ fn with_last(commands: Stack<Command>, last: Command) -> Result<Commands, Memory
 // The pipe that was read, as one that ends here, taken out of the level.
 #[inline(always)]
 pub fn take_pipe(alloc: Global, level: &mut Level) -> Result<Pipe, Stop<ParseRefused>>
-    ensures { Answers pipe_view result (ended_pipe level.old) }
+    ensures { StopAnswers pipe_view result (ended_pipe level.old) }
 {
     let current = mem::replace(&mut level.current, Current::Nothing);
     let commands = mem::replace(&mut level.commands, Stack::new(alloc));

@@ -1,15 +1,14 @@
 ghost use Rattle.std.specs.Prelude.{◌≡◌, IfOk, OnOk, [], ◌∷◌, Ok, Err};
 ghost use Rattle.tpl_pipe.specs.Levels.{fresh, with_own_field};
-ghost use Rattle.page_io.specs.Stops.{Answers};
-ghost use Rattle.tpl_pipe.specs.Reading.{ReadAnswers, closed, finish as finish_of, next_command};
-ghost use Rattle.tpl_pipe.specs.Reading.{pipe_state, read as read_of, read_bar as read_bar_of};
-ghost use Rattle.tpl_pipe.specs.Reading.{read_field as read_field_of, function_read, read_kind};
-ghost use Rattle.tpl_pipe.specs.Reading.{read_left as read_left_of, read_nil as read_nil_of};
-ghost use Rattle.tpl_pipe.specs.Reading.{operand_read, read_right as read_right_of};
-ghost use Rattle.tpl_pipe.specs.Reading.{read_unknown as read_unknown_of, variable_read};
-ghost use Rattle.tpl_pipe.specs.Reading.{read_word as read_word_of};
+ghost use Rattle.page_io.specs.Stops.{StopAnswers};
+ghost use Rattle.tpl_pipe.specs.Reading.{ReadAnswers, closed, next_command};
+ghost use Rattle.tpl_pipe.specs.Reading.{pipe_state};
+ghost use Rattle.tpl_pipe.specs.Reading.{function_read, read_kind};
+ghost use Rattle.tpl_pipe.specs.Reading.{operand_read};
+ghost use Rattle.tpl_pipe.specs.Reading.{variable_read};
 ghost use Rattle.tpl_tree.specs.declared.pipe.Base.TheVariants as base;
 ghost use Rattle.tpl_tree.specs.View.{pipe_view};
+ghost use Rattle.tpl_pipe.specs.Reading as spec;
 
 use crate::level::{
     add_field, add_operand, ended, fresh_level, last_takes, take_pipe, takes_operand,
@@ -25,7 +24,7 @@ use tpl_tree::{Base, Func, Operand, Pipe};
 
 const UNEXPECTED: Stop<ParseRefused> = Stop::Cause(ParseRefused::UnexpectedToken);
 
-/// The place before a pipe, in which so many parentheses may be opened.
+/// The state before a pipe, in which so many parentheses may be opened.
 #[inline(always)]
 pub fn pipe_start(alloc: Global, room: u32) -> PipeState
     ensures { result ≡ pipe_state [] (fresh room) }
@@ -36,7 +35,7 @@ pub fn pipe_start(alloc: Global, room: u32) -> PipeState
     }
 }
 
-/// Goes on to the place after the next symbol of a pipe, where these variables are declared.
+/// Goes on to the state after the next symbol of a pipe, where these variables are declared.
 #[inline(always)]
 pub fn read(
     alloc: Global,
@@ -44,7 +43,7 @@ pub fn read(
     at: &mut PipeState,
     symbol: &Symbol,
 ) -> Result<(), Stop<ParseRefused>>
-    ensures { ReadAnswers result at.new (read_of variables.now at.old symbol.now) }
+    ensures { ReadAnswers result at.new (spec.read_pipe_symbol variables.now at.old symbol.now) }
 {
     match &symbol.kind {
         SymbolKind::Str(value) => match copy(alloc, value) {
@@ -65,10 +64,10 @@ pub fn read(
     }
 }
 
-/// The pipe that the end of its action ends at this place, which is taken out of it.
+/// The pipe that the end of its action ends in this state, and which is taken out of it.
 #[inline(always)]
 pub fn finish(alloc: Global, at: &mut PipeState) -> Result<Pipe, Stop<ParseRefused>>
-    ensures { Answers pipe_view result (finish_of at.old) }
+    ensures { StopAnswers pipe_view result (spec.pipe_finish at.old) }
 {
     if at.outer.is_empty() {
         take_pipe(alloc, &mut at.level)
@@ -101,7 +100,7 @@ fn read_operand(alloc: Global, base: Base, at: &mut PipeState) -> Result<(), Sto
 }
 
 fn read_word(alloc: Global, word: Word, at: &mut PipeState) -> Result<(), Stop<ParseRefused>>
-    ensures { ReadAnswers result at.new (read_word_of word at.old.outer at.old.level) }
+    ensures { ReadAnswers result at.new (spec.read_word word at.old.outer at.old.level) }
 {
     match word {
         Word::True => read_operand(alloc, Base::Bool(true), at),
@@ -143,7 +142,8 @@ fn read_field(
     touches: bool,
     at: &mut PipeState,
 ) -> Result<(), Stop<ParseRefused>>
-    ensures { ReadAnswers result at.new (read_field_of name.now touches at.old.outer at.old.level) }
+    ensures { ReadAnswers result at.new
+        (spec.read_field name.now touches at.old.outer at.old.level) }
 {
     let Ok(name) = copy(alloc, name) else {
         return Err(Stop::Memory);
@@ -177,7 +177,8 @@ fn add_own_field(alloc: Global, level: &mut Level, name: Text) -> Result<(), Mem
 }
 
 fn read_left(alloc: Global, at: &mut PipeState) -> Result<(), Stop<ParseRefused>>
-    ensures { ReadAnswers result at.new (read_left_of at.old.level.room at.old.outer at.old.level) }
+    ensures { ReadAnswers result at.new
+        (spec.read_left at.old.level.room at.old.outer at.old.level) }
 {
     if !takes_operand(&at.level) {
         return Err(UNEXPECTED);
@@ -194,7 +195,7 @@ fn read_left(alloc: Global, at: &mut PipeState) -> Result<(), Stop<ParseRefused>
 }
 
 fn read_right(alloc: Global, at: &mut PipeState) -> Result<(), Stop<ParseRefused>>
-    ensures { ReadAnswers result at.new (read_right_of at.old.outer at.old.level) }
+    ensures { ReadAnswers result at.new (spec.read_right at.old.outer at.old.level) }
 {
     let Some(around) = at.outer.pop() else {
         return Err(UNEXPECTED);
@@ -216,7 +217,7 @@ fn read_right(alloc: Global, at: &mut PipeState) -> Result<(), Stop<ParseRefused
 }
 
 fn read_bar(at: &mut PipeState) -> Result<(), Stop<ParseRefused>>
-    ensures { ReadAnswers result at.new (read_bar_of at.old.outer at.old.level) }
+    ensures { ReadAnswers result at.new (spec.read_bar at.old.outer at.old.level) }
 {
     let current = mem::replace(&mut at.level.current, Current::Nothing);
     let Some(command) = ended(current) else {
@@ -242,7 +243,7 @@ fn read_function(alloc: Global, func: Func, at: &mut PipeState) -> Result<(), St
 
 // Why a name that is no function's is refused.
 fn unknown(current: &Current) -> ParseRefused
-    ensures { read_unknown_of current.now ≡ Err result }
+    ensures { spec.read_unknown current.now ≡ Err result }
 {
     match current {
         Current::Nothing => ParseRefused::UnknownFunction,

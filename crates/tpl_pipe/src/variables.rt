@@ -1,7 +1,7 @@
 ghost use Rattle.std.specs.Prelude.{◌≡◌, ◌++◌, ◌∷◌, [], OnOk, length, take};
 ghost use Rattle.std.specs.Option.{is_some};
-ghost use Rattle.tpl_pipe.specs.Reading.{declared as declared_of};
-ghost use Rattle.tpl_pipe.specs.Variables.{number_of};
+ghost use Rattle.tpl_pipe.specs.Variables.{variable_number};
+ghost use Rattle.tpl_pipe.specs.Reading as spec;
 
 use page_io::{Memory, Text};
 use std::alloc::Global;
@@ -29,7 +29,7 @@ impl Model for Variables {
 }
 
 impl Variables {
-    /// No variables, which takes no memory.
+    /// No variables, which does not allocate.
     pub fn new(alloc: Global) -> Variables
         ensures { result ≡ [] }
     {
@@ -48,13 +48,13 @@ impl Variables {
 
     /// Whether a variable of this name is declared; `$` always is.
     pub fn has(&self, name: &Text) -> bool
-        ensures { result ≡ declared_of self.now name.now }
+        ensures { result ≡ spec.variable_declared self.now name.now }
     {
         name.is_empty() || self.has_declared(name)
     }
 
     fn has_declared(&self, name: &Text) -> bool
-        ensures { result ≡ is_some (number_of name.now self.now) }
+        ensures { result ≡ is_some (variable_number name.now self.now) }
     {
         match self.numbers.get(name) {
             Some(number) => match self.names.as_slice().get(*number) {
@@ -65,7 +65,7 @@ impl Variables {
         }
     }
 
-    /// Declares one more. The error is out of memory.
+    /// Declares one more. Fails only if allocation fails.
     pub fn push(&mut self, name: Text) -> Result<(), Memory>
         ensures { OnOk result (self.new ≡ self.old ++ name ∷ []) }
     {

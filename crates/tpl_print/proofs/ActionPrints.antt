@@ -1,21 +1,21 @@
 -- What stands between the delimiters of an action is printed.
 use Rattle.std.proofs.Common.{◌≡◌, ℕ, ◌≤◌, Bool, true, false, List, [], ◌∷◌, ◌++◌, Option, Some, None, codes, refl, subst}
-use Rattle.tpl_parse.specs.Grammar.{IsAction, IsNamed, IsControl}
-use Rattle.tpl_parse.specs.Building.{kind_of}
-use Rattle.tpl_parse.specs.declared.frame.Control.{Control}
-use Rattle.tpl_parse.specs.declared.frame.Control.TheVariants as control
-use Rattle.tpl_pipe.specs.Grammar.{Stands, IsPipe}
+use Rattle.tpl_parse.specs.Grammar.{IsAction, IsNamedForm, IsControl}
+use Rattle.tpl_build.specs.Building.{node_kind_of}
+use Rattle.tpl_build.specs.declared.frame.Control.{Control}
+use Rattle.tpl_build.specs.declared.frame.Control.TheVariants as control
+use Rattle.tpl_pipe.specs.Grammar.{SymbolStands, IsPipe}
 use Rattle.tpl_print.proofs.Pieces.{Piece, token, name, variable_piece, string_piece, pipe_pieces, calls_pieces, command_pieces, base_pieces, named_pieces, index_pieces, inner_pieces, SpacedHead}
 use Rattle.tpl_print.proofs.PipePrints.{word_prints, variable_prints, string_prints, pipe_prints}
 use Rattle.tpl_print.proofs.Prints.{Part, Prints, any, mapped, empty, seq, one, head_append}
 use Rattle.tpl_print.proofs.Sound.{Sound, stands_sound}
-use Rattle.tpl_print.specs.Spelling.{is_control}
+use Rattle.tpl_print.specs.Spelling.{is_control_head}
 use Rattle.tpl_symbol.specs.declared.symbol.Symbol.{Symbol}
 use Rattle.tpl_symbol.specs.declared.symbol.SymbolKind.TheVariants as kind
 use Rattle.tpl_symbol.specs.declared.word.Word.TheVariants as word
 use Rattle.tpl_token.specs.declared.token.TokenKind.TheVariants as token_kind
 use Rattle.tpl_tree.specs.Pipes.{PipeData, no_commands, command, CommandData, single, call, with_fields, BaseData, str, number, truth, nil, dot, variable, paren}
-use Rattle.tpl_tree.specs.Trees.{is_text}
+use Rattle.tpl_tree.specs.Trees.{is_text_node}
 use Rattle.tpl_tree.specs.declared.node_kind.NodeKind.{NodeKind}
 use Rattle.tpl_tree.specs.declared.node_kind.NodeKind.TheVariants as node_kind
 use Rattle.tpl_tree.specs.declared.pipe.Pipe.{Pipe}
@@ -47,20 +47,20 @@ pub record Inner (ps : List Piece) (Is : Part) (rest : List Symbol) : Type 0 whe
 
 -- An action that has no body is printed.
 pub record Acts (v : List (List ℕ)) (room : ℕ) (in_range : Bool) (what : NodeKind) (rest : List Symbol) : Type 0 where
-  pub no_text : is_text what ≡ false
-  pub no_parts : is_control what ≡ false
+  pub no_text : is_text_node what ≡ false
+  pub no_parts : is_control_head what ≡ false
   pub inner : Inner (inner_pieces what) (IsAction v room in_range what) rest
 
-declare_prints : Prints (token token_kind.Declare (codes ":=") ∷ []) (Stands kind.Declare)
+declare_prints : Prints (token token_kind.Declare (codes ":=") ∷ []) (SymbolStands kind.Declare)
 declare_prints = one token_kind.Declare (codes ":=") kind.Declare (λ rest ends n. refl) refl
 
-assign_prints : Prints (token token_kind.Assign (codes "=") ∷ []) (Stands kind.Assign)
+assign_prints : Prints (token token_kind.Assign (codes "=") ∷ []) (SymbolStands kind.Assign)
 assign_prints = one token_kind.Assign (codes "=") kind.Assign (λ rest ends n. refl) refl
 
-comma_prints : Prints (token token_kind.Comma (codes ",") ∷ []) (Stands kind.Comma)
+comma_prints : Prints (token token_kind.Comma (codes ",") ∷ []) (SymbolStands kind.Comma)
 comma_prints = one token_kind.Comma (codes ",") kind.Comma (λ rest ends n. refl) refl
 
-named_prints : (x : Option (List ℕ)) (s e : List Symbol) → IsNamed x s e → Sound s → Prints (named_pieces x) (IsNamed x) × Sound e
+named_prints : (x : Option (List ℕ)) (s e : List Symbol) → IsNamedForm x s e → Sound s → Prints (named_pieces x) (IsNamedForm x) × Sound e
 named_prints None s e h sound = (mapped _ empty (λ s r h. h), subst Sound h sound)
 named_prints (Some x) s e h sound =
     let is = stands_sound (kind.Variable x) s h.0 h.1 sound in
@@ -164,7 +164,7 @@ block_prints v room more_room in_range n p s e le h sound =
       };
     }
 
-pub control_prints : (v : List (List ℕ)) (room more_room : ℕ) (c : Control) (p : Pipe) (s e : List Symbol) → room ≤ more_room → IsControl v room c p.commands s e → Sound s → Inner (inner_pieces (kind_of c p)) (IsControl v more_room c p.commands) e
+pub control_prints : (v : List (List ℕ)) (room more_room : ℕ) (c : Control) (p : Pipe) (s e : List Symbol) → room ≤ more_room → IsControl v room c p.commands s e → Sound s → Inner (inner_pieces (node_kind_of c p)) (IsControl v more_room c p.commands) e
 control_prints v room more_room (control.If x) p s e le h sound =
     let is = stands_sound (kind.Word word.If) s h.0 h.2 sound in
     let named = named_prints x h.0 h.1 h.3 is.1 in

@@ -1,9 +1,9 @@
 -- What passes from symbols to those after the first one passes from the symbols of a part to those after it.
 use Rattle.std.proofs.Common.{ℕ, zero, suc, Bool, true, false, List, [], ◌∷◌, Option, Some, None, subst}
-use Rattle.tpl_parse.specs.Grammar.{StandsOn, Opens, Closes, IsEnd, EndsBody, Declares, IsAction, IsNamed, AreNamed, IsControl}
-use Rattle.tpl_parse.specs.declared.frame.Control.{Control}
-use Rattle.tpl_parse.specs.declared.frame.Control.TheVariants as control_word
-use Rattle.tpl_pipe.specs.Grammar.{Stands, Touching, AreFields, IsPipe, IsFirst, AreCalls, IsCall, AreOperands, IsOperand, IsBase}
+use Rattle.tpl_parse.specs.Grammar.{StandsOn, Opens, Closes, IsFormEnd, EndsBody, Declares, IsAction, IsNamedForm, AreNamed, IsControl}
+use Rattle.tpl_build.specs.declared.frame.Control.{Control}
+use Rattle.tpl_build.specs.declared.frame.Control.TheVariants as control_word
+use Rattle.tpl_pipe.specs.Grammar.{SymbolStands, Touching, AreFields, IsPipe, IsFirst, AreCalls, IsCall, AreOperands, IsOperand, IsBase}
 use Rattle.tpl_symbol.specs.declared.symbol.Symbol.{Symbol}
 use Rattle.tpl_symbol.specs.declared.symbol.SymbolKind.{SymbolKind}
 use Rattle.tpl_symbol.specs.declared.symbol.SymbolKind.TheVariants as kind
@@ -15,7 +15,7 @@ use Rattle.tpl_tree.specs.declared.node_kind.NodeKind.TheVariants as node_kind
 abbrev pub Passes : (List Symbol → Type 0) → Type 0
 Passes Q = (s : Symbol) (symbols : List Symbol) → Q (s ∷ symbols) → Q symbols
 
-pub after_one : (Q : List Symbol → Type 0) → Passes Q → (k : SymbolKind) (s r : List Symbol) → Stands k s r → Q s → Q r
+pub after_one : (Q : List Symbol → Type 0) → Passes Q → (k : SymbolKind) (s r : List Symbol) → SymbolStands k s r → Q s → Q r
 after_one Q pass k [] r h q = absurd h
 after_one Q pass k (x ∷ s) r h q = subst Q h.1 (pass x s q)
 
@@ -79,7 +79,7 @@ after_opens Q pass line s r h q = after_one_on Q pass (kind.Open h.0 h.1) line s
 pub after_closes : (Q : List Symbol → Type 0) → Passes Q → (s r : List Symbol) → Closes s r → Q s → Q r
 after_closes Q pass s r h q = after_one Q pass (kind.Close h.0) s r h.1 q
 
-pub after_end : (Q : List Symbol → Type 0) → Passes Q → (s r : List Symbol) → IsEnd s r → Q s → Q r
+pub after_end : (Q : List Symbol → Type 0) → Passes Q → (s r : List Symbol) → IsFormEnd s r → Q s → Q r
 after_end Q pass s r h q = after_closes Q pass h.2 r h.5 (after_one Q pass (kind.Word word.End) h.1 h.2 h.4 (after_opens Q pass h.0 s h.1 h.3 q))
 
 pub after_ends_body : (Q : List Symbol → Type 0) → Passes Q → (begins ends : ℕ) (s r : List Symbol) → EndsBody begins ends s r → Q s → Q r
@@ -104,7 +104,7 @@ after_action Q pass v room in_range (node_kind.Template n None) s r h q = after_
 after_action Q pass v room in_range (node_kind.Template n (Some p)) s r h q =
     after_pipe Q pass v room p.commands h.1 r h.4 (after_one Q pass (kind.Str n) h.0 h.1 h.3 (after_one Q pass (kind.Word word.Template) s h.0 h.2 q))
 
-after_named : (Q : List Symbol → Type 0) → Passes Q → (x : Option (List ℕ)) (s r : List Symbol) → IsNamed x s r → Q s → Q r
+after_named : (Q : List Symbol → Type 0) → Passes Q → (x : Option (List ℕ)) (s r : List Symbol) → IsNamedForm x s r → Q s → Q r
 after_named Q pass None s r h q = subst Q h q
 after_named Q pass (Some x) s r h q = after_declares Q pass x s r h q
 

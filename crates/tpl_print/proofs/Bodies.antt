@@ -2,12 +2,12 @@
 use Rattle.std.proofs.Common.{◌≡◌, ℕ, zero, suc, ◌≤◌, Bool, true, false, ◌||◌, List, [], ◌∷◌, ◌++◌, refl, sym, ◌∙◌, append_assoc, arith, subst}
 use Rattle.std.proofs.lemmas.List.Elements.{All-cons, All-append}
 use Rattle.std.specs.List.{All}
-use Rattle.tpl_parse.specs.Forms.{Forms, no_forms, text, action, control, block, define, Else, no_else, otherwise, else_if, nodes_of, declared_by, found_in, found_else}
+use Rattle.tpl_parse.specs.Forms.{Forms, no_forms, text, action, control, block, define, Else, no_else, otherwise, else_if, form_nodes, declared_by_form, found_in, found_else}
 use Rattle.tpl_parse.specs.Grammar.{AreForms, IsElse, IsFileBody}
-use Rattle.tpl_parse.specs.Building.{first_names, else_names, is_range}
+use Rattle.tpl_build.specs.Building.{first_names, else_names, is_range}
 use Rattle.tpl_parse.specs.Steps.{most_open}
-use Rattle.tpl_parse.specs.declared.definition.Found.{Found}
-use Rattle.tpl_parse.specs.declared.frame.Control.{Control}
+use Rattle.tpl_build.specs.declared.definition.FoundDefinition.{FoundDefinition}
+use Rattle.tpl_build.specs.declared.frame.Control.{Control}
 use Rattle.tpl_print.proofs.After.{Passes, after_one, after_one_on, after_pipe, after_opens, after_closes, after_end, after_ends_body, after_action, after_control}
 use Rattle.tpl_print.specs.Parsed.{IsParsed}
 use Rattle.tpl_symbol.specs.Symbols.{symbols_of}
@@ -24,13 +24,13 @@ Ends all symbols = (front : List Symbol) × (all ≡ front ++ symbols)
 passes : (all : List Symbol) → Passes (Ends all)
 passes all s symbols h = (h.0 ++ s ∷ [], h.1 ∙ sym (append_assoc h.0 (s ∷ []) symbols))
 
-abbrev pub IsParsedFound : Found → Type 0
+abbrev pub IsParsedFound : FoundDefinition → Type 0
 IsParsedFound f = IsParsed f.def.tree.nodes
 
 none : All IsParsedFound []
 none k d inside = absurd (omega (arith, inside))
 
-body_parsed : (file : List ℕ) (tokens : List Token) → AreTokens file tokens → (room : ℕ) (body : Forms) (s e : List Symbol) → room ≤ most_open → AreForms [] room false false body s e → Ends (symbols_of file tokens) s → IsParsed (nodes_of body)
+body_parsed : (file : List ℕ) (tokens : List Token) → AreTokens file tokens → (room : ℕ) (body : Forms) (s e : List Symbol) → room ≤ most_open → AreForms [] room false false body s e → Ends (symbols_of file tokens) s → IsParsed (form_nodes body)
 body_parsed file tokens are room body s e le h q =
     record { text = file; tokens = tokens; are_tokens = are; front = q.0; symbols = s; rest = e; among = q.1; forms = body; room = room; bound = le; top = false; are = h; nodes_are = refl }
 
@@ -43,7 +43,7 @@ mutual
   forms_parsed file tokens are v room in_range top (action what line more) s e le h q =
       let Q = Ends (symbols_of file tokens) in
       let pass = passes (symbols_of file tokens) in
-      forms_parsed file tokens are (v ++ declared_by what) room in_range top more h.2 e le h.6
+      forms_parsed file tokens are (v ++ declared_by_form what) room in_range top more h.2 e le h.6
       (after_closes Q pass h.1 h.2 h.5 (after_action Q pass v room in_range what h.0 h.1 h.4 (after_opens Q pass line s h.0 h.3 q)))
   forms_parsed file tokens are v zero in_range top (control c p line first later more) s e le h q = absurd h
   forms_parsed file tokens are v (suc room) in_range top (control c p line first later more) s e le h q =
@@ -90,7 +90,7 @@ mutual
       let behind = else_parsed file tokens are w room in_range d later h.4 e (omega (arith, le)) h.12 part.1 in
       (All-append IsParsedFound (found_in first) (found_else later) part.0 behind.0, behind.1)
 
-pub file_parsed : (file : List ℕ) (tokens : List Token) (forms : Forms) → AreTokens file tokens → IsFileBody forms (symbols_of file tokens) → IsParsed (nodes_of forms)
+pub file_parsed : (file : List ℕ) (tokens : List Token) (forms : Forms) → AreTokens file tokens → IsFileBody forms (symbols_of file tokens) → IsParsed (form_nodes forms)
 file_parsed file tokens forms are h =
     record { text = file; tokens = tokens; are_tokens = are; front = []; symbols = symbols_of file tokens; rest = []; among = refl; forms = forms; room = most_open; bound = omega arith; top = true; are = h; nodes_are = refl }
 

@@ -7,8 +7,8 @@ pub mod Left
 pub mod Marks
 pub mod Parts
 pub mod Pieces
-pub mod Prints
 pub mod PipePrints
+pub mod Prints
 pub mod ReadsBack
 pub mod Replacing
 pub mod Scan

@@ -3,21 +3,21 @@ use Rattle.std.proofs.Common.{◌≡◌, ◌≢◌, ℕ, Bool, true, false, List
 use Rattle.std.specs.Bool.{⊤}
 use Rattle.std.specs.Fmt.{signed_decimal}
 use Rattle.tpl_symbol.specs.Names.{function_name}
-use Rattle.tpl_print.specs.Replaced.{guarded, escaped}
-use Rattle.tpl_print.specs.Spelling.{is_control, begins_text}
+use Rattle.tpl_print.specs.Replaced.{guarded, print_escaped}
+use Rattle.tpl_print.specs.Spelling.{is_control_head, begins_text}
 use Rattle.tpl_symbol.specs.Kinds.{unmarked}
 use Rattle.tpl_symbol.specs.Names.{name_kind}
 use Rattle.tpl_symbol.specs.declared.symbol.Seam.{Seam}
 use Rattle.tpl_symbol.specs.declared.symbol.Symbol.{Symbol}
 use Rattle.tpl_symbol.specs.declared.symbol.SymbolKind.{SymbolKind}
 use Rattle.tpl_symbol.specs.declared.symbol.SymbolKind.TheVariants as kind
-use Rattle.tpl_token.specs.Characters.{first_is, is_name}
+use Rattle.tpl_token.specs.Characters.{first_is, is_name_byte}
 use Rattle.tpl_token.specs.Lexemes.{EndsWord, IsLexeme}
 use Rattle.tpl_token.specs.declared.token.TokenKind.{TokenKind}
 use Rattle.tpl_token.specs.declared.token.TokenKind.TheVariants as token_kind
 use Rattle.tpl_tree.specs.Listing.{has_nodes}
 use Rattle.tpl_tree.specs.Pipes.{PipeData, no_commands, command, CommandData, single, call, OperandsData, no_operands, operand, OperandData, with_fields, BaseData, str, number, truth, nil, dot, variable, paren}
-use Rattle.tpl_tree.specs.Trees.{NodesData, no_nodes, node, is_text}
+use Rattle.tpl_tree.specs.Trees.{NodesData, no_nodes, node, is_text_node}
 use Rattle.tpl_tree.specs.declared.node_kind.NodeKind.{NodeKind}
 use Rattle.tpl_tree.specs.declared.node_kind.NodeKind.TheVariants as node_kind
 use Rattle.tpl_tree.specs.declared.pipe.Pipe.{Pipe}
@@ -58,7 +58,7 @@ abbrev pub variable_piece : List ℕ → Piece
 variable_piece x = token token_kind.Variable (codes "$" ++ x)
 
 abbrev pub string_piece : List ℕ → Piece
-string_piece value = token (token_kind.Str value) (codes "\"" ++ (escaped value ++ codes "\""))
+string_piece value = token (token_kind.Str value) (codes "\"" ++ (print_escaped value ++ codes "\""))
 
 abbrev pub fields_pieces : List (List ℕ) → List Piece
 fields_pieces [] = []
@@ -143,9 +143,9 @@ parting_pieces false after = []
 abbrev pub nodes_pieces : NodesData → List Piece
 nodes_pieces no_nodes = []
 nodes_pieces (node k line seams first other rest) =
-    head_pieces (is_text k) (inner_pieces k)
-    ++ (parts_pieces (is_control k) (nodes_pieces first) (else_pieces (has_nodes other)) (nodes_pieces other)
-    ++ (parting_pieces (is_text k) (begins_text rest) ++ nodes_pieces rest))
+    head_pieces (is_text_node k) (inner_pieces k)
+    ++ (parts_pieces (is_control_head k) (nodes_pieces first) (else_pieces (has_nodes other)) (nodes_pieces other)
+    ++ (parting_pieces (is_text_node k) (begins_text rest) ++ nodes_pieces rest))
 
 -- the symbol that a token is
 abbrev pub meaning : TokenKind → List ℕ → Option SymbolKind
@@ -205,7 +205,7 @@ abbrev mutual
   FitIn (opens ∷ ps) = ⊥
   FitIn (closes ∷ ps) = FitOut ps
   FitIn (token what bytes ∷ ps) = IsToken what bytes × (is_number what ≡ true → SpacedHead ps) × FitIn ps
-  FitIn (field n ∷ ps) = (is_name n ≡ true) × FitIn ps
+  FitIn (field n ∷ ps) = (is_name_byte n ≡ true) × FitIn ps
 
   pub FitOut : List Piece → Type 0
   FitOut [] = ⊤

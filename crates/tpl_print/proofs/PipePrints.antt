@@ -1,7 +1,7 @@
 -- A pipe that is read is printed: its pieces fit, and are read as the pipe again.
 use Rattle.std.proofs.Common.{◌≡◌, ℕ, zero, suc, ◌≤◌, ◌⊎◌, true, false, List, [], ◌∷◌, ◌++◌, Some, codes, refl, ap, append_assoc, subst, arith}
 use Rattle.std.specs.Fmt.{signed_decimal}
-use Rattle.tpl_pipe.specs.Grammar.{Stands, IsPipe, IsFirst, AreCalls, IsCall, AreOperands, IsOperand, IsBase}
+use Rattle.tpl_pipe.specs.Grammar.{SymbolStands, IsPipe, IsFirst, AreCalls, IsCall, AreOperands, IsOperand, IsBase}
 use Rattle.tpl_print.proofs.Pieces.{Piece, token, name, variable_piece, string_piece, fields_pieces, pipe_pieces, calls_pieces, command_pieces, operands_pieces, operand_pieces, base_pieces, meaning}
 use Rattle.tpl_print.proofs.Prints.{Prints, PrintsAny, mapped, recast, empty, seq, seq_any, fielded, one_any, one}
 use Rattle.tpl_print.proofs.Sound.{Sound, stands_sound, fields_sound}
@@ -12,32 +12,32 @@ use Rattle.tpl_symbol.specs.declared.symbol.SymbolKind.{SymbolKind}
 use Rattle.tpl_symbol.specs.declared.symbol.SymbolKind.TheVariants as kind
 use Rattle.tpl_symbol.specs.declared.func.Func.{Func}
 use Rattle.tpl_symbol.specs.declared.word.Word.TheVariants as word
-use Rattle.tpl_token.specs.Characters.{is_name}
+use Rattle.tpl_token.specs.Characters.{is_name_byte}
 use Rattle.tpl_token.specs.declared.token.TokenKind.TheVariants as token_kind
 use Rattle.tpl_tree.specs.Pipes.{PipeData, no_commands, command, CommandData, single, call, OperandsData, no_operands, operand, OperandData, with_fields, BaseData, str, number, truth, nil, dot, variable, paren}
 
-pub word_prints : (bytes : List ℕ) (k : SymbolKind) → is_name bytes ≡ true → meaning token_kind.Name bytes ≡ Some k → Prints (name bytes ∷ []) (Stands k)
+pub word_prints : (bytes : List ℕ) (k : SymbolKind) → is_name_byte bytes ≡ true → meaning token_kind.Name bytes ≡ Some k → Prints (name bytes ∷ []) (SymbolStands k)
 word_prints bytes k is means = one token_kind.Name bytes k (name_token bytes is) means
 
-pub variable_prints : (x : List ℕ) → (x ≡ []) ⊎ (is_name x ≡ true) → PrintsAny (variable_piece x ∷ []) (Stands (kind.Variable x))
+pub variable_prints : (x : List ℕ) → (x ≡ []) ⊎ (is_name_byte x ≡ true) → PrintsAny (variable_piece x ∷ []) (SymbolStands (kind.Variable x))
 variable_prints x is = one_any token_kind.Variable (36 ∷ x) (kind.Variable x) refl (variable_token x is) refl
 
-pub string_prints : (value : List ℕ) → Prints (string_piece value ∷ []) (Stands (kind.Str value))
+pub string_prints : (value : List ℕ) → Prints (string_piece value ∷ []) (SymbolStands (kind.Str value))
 string_prints value = one (token_kind.Str value) _ (kind.Str value) (string_token value) refl
 
-function_prints : (f : Func) → Prints (name (function_name f) ∷ []) (Stands (kind.Function f))
+function_prints : (f : Func) → Prints (name (function_name f) ∷ []) (SymbolStands (kind.Function f))
 function_prints f = word_prints (function_name f) (kind.Function f) (function_is_name f) (function_means f)
 
-pub bar_prints : Prints (token token_kind.Bar (codes "|") ∷ []) (Stands kind.Bar)
+pub bar_prints : Prints (token token_kind.Bar (codes "|") ∷ []) (SymbolStands kind.Bar)
 bar_prints = one token_kind.Bar (codes "|") kind.Bar (λ rest ends n. refl) refl
 
-left_prints : Prints (token token_kind.Left (codes "(") ∷ []) (Stands kind.Left)
+left_prints : Prints (token token_kind.Left (codes "(") ∷ []) (SymbolStands kind.Left)
 left_prints = one token_kind.Left (codes "(") kind.Left (λ rest ends n. refl) refl
 
-right_prints : PrintsAny (token token_kind.Right (codes ")") ∷ []) (Stands kind.Right)
+right_prints : PrintsAny (token token_kind.Right (codes ")") ∷ []) (SymbolStands kind.Right)
 right_prints = one_any token_kind.Right (codes ")") kind.Right refl (λ rest ends n. refl) refl
 
-dot_prints : Prints (token token_kind.Dot (codes ".") ∷ []) (Stands kind.Dot)
+dot_prints : Prints (token token_kind.Dot (codes ".") ∷ []) (SymbolStands kind.Dot)
 dot_prints = one token_kind.Dot (codes ".") kind.Dot (λ rest ends n. (refl, ends)) refl
 
 -- a pipe in parentheses, and its fields

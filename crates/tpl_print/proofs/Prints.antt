@@ -1,7 +1,7 @@
 -- Pieces of an action that print a part of the grammar: they fit before what may follow, and symbols that are theirs are this part.
 use Rattle.std.proofs.Common.{◌≡◌, ℕ, false, List, [], ◌∷◌, ◌++◌, Option, Some, refl, sym, ◌∙◌, append_assoc, subst, true≢false}
 use Rattle.std.specs.Bool.{⊤}
-use Rattle.tpl_pipe.specs.Grammar.{Stands, Touching, AreFields}
+use Rattle.tpl_pipe.specs.Grammar.{SymbolStands, Touching, AreFields}
 use Rattle.tpl_print.proofs.Pieces.{Piece, words, opens, closes, token, field, fields_pieces, meaning, Says, SpacedHead, is_number, IsToken, FitIn}
 use Rattle.tpl_print.proofs.Sound.{AreNames}
 use Rattle.tpl_symbol.specs.declared.symbol.Symbol.{Symbol}
@@ -124,14 +124,14 @@ fielded a names x are = record {
 same_kind : (o : Option SymbolKind) (k l : SymbolKind) → o ≡ Some k → o ≡ Some l → l ≡ k
 same_kind o k l e f = cc
 
-token_reads : (what : TokenKind) (bytes : List ℕ) (k : SymbolKind) → meaning what bytes ≡ Some k → (symbols rest : List Symbol) → Says (token what bytes ∷ []) symbols rest → Stands k symbols rest
+token_reads : (what : TokenKind) (bytes : List ℕ) (k : SymbolKind) → meaning what bytes ≡ Some k → (symbols rest : List Symbol) → Says (token what bytes ∷ []) symbols rest → SymbolStands k symbols rest
 token_reads what bytes k means [] rest says = absurd says
 token_reads what bytes k means (s ∷ symbols) rest says = (same_kind (meaning what bytes) k s.kind means says.0.0, says.1)
 
 -- one token that is no number
-pub one_any : (what : TokenKind) (bytes : List ℕ) (k : SymbolKind) → is_number what ≡ false → IsToken what bytes → meaning what bytes ≡ Some k → PrintsAny (token what bytes ∷ []) (Stands k)
+pub one_any : (what : TokenKind) (bytes : List ℕ) (k : SymbolKind) → is_number what ≡ false → IsToken what bytes → meaning what bytes ≡ Some k → PrintsAny (token what bytes ∷ []) (SymbolStands k)
 one_any what bytes k differs is means = record { spaced = tt; fits = λ more fit. (is, (λ number. absurd (true≢false (sym number ∙ differs))), fit); reads = token_reads what bytes k means }
 
 -- one token
-pub one : (what : TokenKind) (bytes : List ℕ) (k : SymbolKind) → IsToken what bytes → meaning what bytes ≡ Some k → Prints (token what bytes ∷ []) (Stands k)
+pub one : (what : TokenKind) (bytes : List ℕ) (k : SymbolKind) → IsToken what bytes → meaning what bytes ≡ Some k → Prints (token what bytes ∷ []) (SymbolStands k)
 one what bytes k is means = record { spaced = tt; fits = λ more spaced fit. (is, (λ number. spaced), fit); reads = λ symbols rest says free. token_reads what bytes k means symbols rest says }

@@ -7,8 +7,8 @@ use Rattle.tpl_print.proofs.Marks.{NoneOpens, none_opens-append, is_free, free_b
 use Rattle.tpl_print.proofs.Pieces.{Piece, words, opens, closes, token, field, follows, spelled, meaning, IsOf, Says, SpacedHead, OpenHead, FitIn, FitOut}
 use Rattle.tpl_print.specs.Replaced.{guarded, joins}
 use Rattle.tpl_symbol.proofs.Puts.{put-last, joined-apart}
-use Rattle.tpl_symbol.specs.Joins.{joined_kinds, symbol_at, put, put_kind}
-use Rattle.tpl_symbol.specs.Kinds.{begins_comment, bytes_of, is_comment_kind, kind_of, unmarked}
+use Rattle.tpl_symbol.specs.Joins.{joined_symbol_kinds, symbol_at, put_symbol, put_kind}
+use Rattle.tpl_symbol.specs.Kinds.{token_begins_comment, token_bytes, is_comment_kind, symbol_kind_of, unmarked}
 use Rattle.tpl_symbol.specs.Lines.{line_of}
 use Rattle.tpl_symbol.specs.Names.{name_kind, word_of, word_kind, function_of, function_kind}
 use Rattle.tpl_symbol.specs.Symbols.{symbols_from, symbols_of}
@@ -21,12 +21,12 @@ use Rattle.tpl_symbol.specs.declared.symbol.SymbolKind.TheVariants as symbol
 use Rattle.tpl_token.proofs.Marks.{either, tells}
 use Rattle.tpl_token.proofs.NextStands.{inner_stands}
 use Rattle.tpl_token.specs.Characters.{begins, first_is, is_white}
-use Rattle.tpl_token.specs.Grammar.{cursor, MayClose, IsInAction, Reads, IsEnd, AreTokens}
+use Rattle.tpl_token.specs.Grammar.{cursor, MayClose, IsInAction, TokensRead, IsTokenEnd, AreTokens}
 use Rattle.tpl_token.specs.Lexemes.{EndsWord, IsLexeme}
 use Rattle.tpl_token.specs.Texts.{text_len, trims_before, kept_end}
 use Rattle.tpl_token.specs.declared.cursor.Cursor.{Cursor}
-use Rattle.tpl_token.specs.declared.cursor.State.{State}
-use Rattle.tpl_token.specs.declared.cursor.State.TheVariants as state
+use Rattle.tpl_token.specs.declared.cursor.CursorState.{CursorState}
+use Rattle.tpl_token.specs.declared.cursor.CursorState.TheVariants as state
 use Rattle.tpl_token.specs.declared.token.Token.{Token}
 use Rattle.tpl_token.specs.declared.token.TokenKind.{TokenKind}
 use Rattle.tpl_token.specs.declared.token.TokenKind.TheVariants as kind
@@ -34,22 +34,22 @@ use Rattle.tpl_token.specs.declared.token.TokenKind.TheVariants as kind
 abbrev pub token_at : TokenKind → ℕ → ℕ → Token
 token_at what start end = record { kind = what; start = start; end = end }
 
--- The text is read from a place on: its tokens, and the symbols that they add, which are those of pieces.
-pub record Scanned (text : List ℕ) (from : Cursor) (ps : List Piece) (done : List Symbol) (place : ℕ) (after_comment : Bool) : Type 0 where
+-- The text is read from an offset on: its tokens, and the symbols that they add, which are those of pieces.
+pub record Scanned (text : List ℕ) (from : Cursor) (ps : List Piece) (done : List Symbol) (offset : ℕ) (after_comment : Bool) : Type 0 where
   pub tokens : List Token
   pub last : Cursor
-  pub reads : Reads text from tokens last
-  pub ends : IsEnd text last
-  pub no_comment : begins_comment tokens ≡ false
+  pub reads : TokensRead text from tokens last
+  pub ends : IsTokenEnd text last
+  pub no_comment : token_begins_comment tokens ≡ false
   pub added : List Symbol
-  pub all : symbols_from text done place after_comment tokens ≡ done ++ added
+  pub all : symbols_from text done offset after_comment tokens ≡ done ++ added
   pub says : Says ps added []
 
 -- a kind that is no text's
 abbrev pub NoText : SymbolKind → Type 0
 NoText k = (bytes : List ℕ) (seams : List Seam) → k ≢ symbol.Text bytes seams
 
-put_joined : (k other : SymbolKind) (last new : Symbol) → NoText other → joined_kinds k other last new ≡ last ∷ new ∷ []
+put_joined : (k other : SymbolKind) (last new : Symbol) → NoText other → joined_symbol_kinds k other last new ≡ last ∷ new ∷ []
 put_joined (symbol.Text bytes seams) (symbol.Text more others) last new plain = absurd (plain more others refl)
 put_joined (symbol.Text bytes seams) (symbol.Open s b) last new plain = refl
 put_joined (symbol.Text bytes seams) (symbol.Close e) last new plain = refl
@@ -70,14 +70,14 @@ put_joined (symbol.Text bytes seams) symbol.Right last new plain = refl
 put_joined k other last new plain = refl
 
 -- what is no text comes after all others
-put_behind : (done : List Symbol) (new : Symbol) → NoText new.kind → put done new ≡ done ++ new ∷ []
+put_behind : (done : List Symbol) (new : Symbol) → NoText new.kind → put_symbol done new ≡ done ++ new ∷ []
 put_behind [] new plain = refl
 put_behind (last ∷ []) new plain = put_joined last.kind new.kind last new plain
 put_behind (s ∷ t ∷ done) new plain = ap (λ (xs : List Symbol). s ∷ xs) (put_behind (t ∷ done) new plain)
 
 -- a text does not go on the last of these
 abbrev pub Closed : List Symbol → Type 0
-Closed done = (new : Symbol) → put done new ≡ done ++ new ∷ []
+Closed done = (new : Symbol) → put_symbol done new ≡ done ++ new ∷ []
 
 closed_behind : (done : List Symbol) (last : Symbol) → NoText last.kind → Closed (done ++ last ∷ [])
 closed_behind done last plain new = put-last done last new ∙ ap (λ (xs : List Symbol). done ++ xs) (joined-apart last new plain) ∙ sym (append_assoc done (last ∷ []) (new ∷ []))
@@ -89,7 +89,7 @@ snoc done more s = append_assoc done (s ∷ []) more
 record IsSymbol (what : TokenKind) (bytes text : List ℕ) (t : Token) (before after : Bool) : Type 0 where
   is : SymbolKind
   means : meaning what bytes ≡ Some is
-  kind : kind_of what text t before after ≡ Some is
+  kind : symbol_kind_of what text t before after ≡ Some is
   no_text : NoText is
   no_comment : is_comment_kind what ≡ false
 
@@ -104,7 +104,7 @@ word_no_text None f bytes seams e = no_function f bytes seams e
 a_name : (bytes : List ℕ) → NoText (name_kind bytes)
 a_name bytes more seams = word_no_text (word_of bytes) (function_of bytes) more seams
 
-is_symbol : (what : TokenKind) (bytes rest text : List ℕ) (t : Token) (before after : Bool) → IsLexeme what bytes rest → bytes_of text t ≡ bytes → IsSymbol what bytes text t before after
+is_symbol : (what : TokenKind) (bytes rest text : List ℕ) (t : Token) (before after : Bool) → IsLexeme what bytes rest → token_bytes text t ≡ bytes → IsSymbol what bytes text t before after
 is_symbol kind.Text bytes rest text t b a l e = absurd l
 is_symbol kind.Open bytes rest text t b a l e = absurd l
 is_symbol kind.Close bytes rest text t b a l e = absurd l
@@ -123,7 +123,7 @@ is_symbol kind.Left bytes rest text t b a l e = record { is = symbol.Left; means
 is_symbol kind.Right bytes rest text t b a l e = record { is = symbol.Right; means = refl; kind = refl; no_text = λ m s f. cc; no_comment = refl }
 
 -- one more token of an action, after white space or not
-one_token : (text : List ℕ) (m : State) (at opened start end : ℕ) (what : TokenKind) (between bytes rest : List ℕ) (ps : List Piece) (done : List Symbol) (b : Bool) (p : Piece)
+one_token : (text : List ℕ) (m : CursorState) (at opened start end : ℕ) (what : TokenKind) (between bytes rest : List ℕ) (ps : List Piece) (done : List Symbol) (b : Bool) (p : Piece)
     → IsInAction m opened → list_all is_white between ≡ true → drop at text ≡ between ++ (bytes ++ rest) → IsLexeme what bytes rest → start ≡ at + length between → end ≡ start + length bytes
     → ((s : Symbol) → meaning what bytes ≡ Some s.kind → s.touches ≡ (start == at) → IsOf p s)
     → ((done : List Symbol) → drop end text ≡ rest → Scanned text (cursor (state.Action opened) end) ps done end false)
@@ -132,19 +132,19 @@ one_token text m at opened start end what between bytes rest ps done b p inside 
     let t = token_at what start end in
     let there : drop start text ≡ bytes ++ rest = ap (λ (n : ℕ). drop n text) starts ∙ behind text at between (bytes ++ rest) here_is in
     let later : drop end text ≡ rest = ap (λ (n : ℕ). drop n text) ends ∙ behind text start bytes rest there in
-    let its : bytes_of text t ≡ bytes = here text start end bytes rest ends there in
+    let its : token_bytes text t ≡ bytes = here text start end bytes rest ends there in
     let sym_is : (after : Bool) → IsSymbol what bytes text t b after = λ after. is_symbol what bytes rest text t b after lexeme its in
     let s : Symbol = symbol_at (sym_is false).is (line_of text start) (start == at) in
     let r : Scanned text (cursor (state.Action opened) end) ps (done ++ s ∷ []) end false = more (done ++ s ∷ []) later in
-    let put_is : put_kind done (kind_of what text t b (begins_comment r.tokens)) (line_of text start) (start == at) ≡ done ++ s ∷ []
-    = ap (λ (k : Option SymbolKind). put_kind done k (line_of text start) (start == at)) (ap (λ (a : Bool). kind_of what text t b a) r.no_comment ∙ (sym_is false).kind) ∙ put_behind done s (sym_is false).no_text in
+    let put_is : put_kind done (symbol_kind_of what text t b (token_begins_comment r.tokens)) (line_of text start) (start == at) ≡ done ++ s ∷ []
+    = ap (λ (k : Option SymbolKind). put_kind done k (line_of text start) (start == at)) (ap (λ (a : Bool). symbol_kind_of what text t b a) r.no_comment ∙ (sym_is false).kind) ∙ put_behind done s (sym_is false).no_text in
     record {
       tokens = t ∷ r.tokens;
       last = r.last;
       reads = (
         cursor (state.Action opened) end,
         inner_stands what bytes rest text (cursor m at) start end (cursor (state.Action opened) end) lexeme
-            (record { opened = opened; place = inside; between = between; lexeme = bytes; more = rest; spelled = here_is; white = white; lexeme_is = lexeme; starts = starts; ends = ends; goes = refl }),
+            (record { opened = opened; offset = inside; between = between; lexeme = bytes; more = rest; spelled = here_is; white = white; lexeme_is = lexeme; starts = starts; ends = ends; goes = refl }),
         r.reads,
       );
       ends = r.ends;
@@ -154,14 +154,14 @@ one_token text m at opened start end what between bytes rest ps done b p inside 
       says = (is_of s (sym_is false).means refl, r.says);
     }
 
-may_close : (m : State) (opened : ℕ) → IsInAction m opened → MayClose m (32 ∷ []) false
+may_close : (m : CursorState) (opened : ℕ) → IsInAction m opened → MayClose m (32 ∷ []) false
 may_close (state.Text trims) opened h = absurd h
-may_close (state.Opened trims place) opened h = (refl, λ e. cc)
-may_close (state.Action place) opened h = (refl, λ e. cc)
+may_close (state.Opened trims offset) opened h = (refl, λ e. cc)
+may_close (state.Action offset) opened h = (refl, λ e. cc)
 may_close state.Commented opened h = absurd h
 
 -- the end of an action
-one_close : (text : List ℕ) (m : State) (at opened : ℕ) (rest : List ℕ) (ps : List Piece) (done : List Symbol) → IsInAction m opened → drop at text ≡ codes " }}" ++ rest
+one_close : (text : List ℕ) (m : CursorState) (at opened : ℕ) (rest : List ℕ) (ps : List Piece) (done : List Symbol) → IsInAction m opened → drop at text ≡ codes " }}" ++ rest
     → ((done : List Symbol) → Closed done → drop (at + 3) text ≡ rest → Scanned text (cursor (state.Text false) (at + 3)) ps done (at + 3) false)
     → Scanned text (cursor m at) (closes ∷ ps) done at false
 one_close text m at opened rest ps done inside here_is more =
@@ -185,15 +185,15 @@ one_close text m at opened rest ps done inside here_is more =
     }
 
 -- the beginning of an action that no comment begins
-one_open : (text : List ℕ) (at : ℕ) (rest : List ℕ) (ps : List Piece) (done : List Symbol) (place : ℕ) → drop at text ≡ codes "{{ " ++ rest
+one_open : (text : List ℕ) (at : ℕ) (rest : List ℕ) (ps : List Piece) (done : List Symbol) (offset : ℕ) → drop at text ≡ codes "{{ " ++ rest
     → ((done : List Symbol) → drop (at + 2) text ≡ 32 ∷ rest → Scanned text (cursor (state.Opened false at) (at + 2)) ps done (at + 2) false)
-    → Scanned text (cursor (state.Text false) at) (opens ∷ ps) done place false
-one_open text at rest ps done place here_is more =
+    → Scanned text (cursor (state.Text false) at) (opens ∷ ps) done offset false
+one_open text at rest ps done offset here_is more =
     let end = at + 2 in
     let t = token_at kind.Open at end in
-    let s : Symbol = symbol_at (symbol.Open at (line_of text (at - 1))) (line_of text at) (at == place) in
+    let s : Symbol = symbol_at (symbol.Open at (line_of text (at - 1))) (line_of text at) (at == offset) in
     let r : Scanned text (cursor (state.Opened false at) end) ps (done ++ s ∷ []) end false = more (done ++ s ∷ []) (behind text at (codes "{{") (32 ∷ rest) here_is) in
-    let kind_is : kind_of kind.Open text t false (begins_comment r.tokens) ≡ Some (symbol.Open at (line_of text (at - 1))) = ap (λ (a : Bool). kind_of kind.Open text t false a) r.no_comment in
+    let kind_is : symbol_kind_of kind.Open text t false (token_begins_comment r.tokens) ≡ Some (symbol.Open at (line_of text (at - 1))) = ap (λ (a : Bool). symbol_kind_of kind.Open text t false a) r.no_comment in
     let len : text_len (drop at text) ≡ 0 = ap text_len here_is in
     let kept : kept_end (drop at text) ≡ 0 = ap kept_end here_is in
     record {
@@ -203,7 +203,7 @@ one_open text at rest ps done place here_is more =
         cursor (state.Opened false at) end,
         record {
           trims = false;
-          no_text = record { trims = false; place = refl; nothing_left = omega (arith, kept); up_to = omega (arith, len) };
+          no_text = record { trims = false; offset = refl; nothing_left = omega (arith, kept); up_to = omega (arith, len) };
           mark = ap (begins (codes "{{")) here_is;
           trimming = ap trims_before here_is;
           ends = refl;
@@ -214,7 +214,7 @@ one_open text at rest ps done place here_is more =
       ends = r.ends;
       no_comment = refl;
       added = s ∷ r.added;
-      all = ap (λ (xs : List Symbol). symbols_from text xs end false r.tokens) (ap (λ (k : Option SymbolKind). put_kind done k (line_of text at) (at == place)) kind_is ∙ put_behind done s (λ m f e. cc)) ∙ r.all ∙ snoc done r.added s;
+      all = ap (λ (xs : List Symbol). symbols_from text xs end false r.tokens) (ap (λ (k : Option SymbolKind). put_kind done k (line_of text at) (at == offset)) kind_is ∙ put_behind done s (λ m f e. cc)) ∙ r.all ∙ snoc done r.added s;
       says = ((at, line_of text (at - 1), refl), r.says);
     }
 
@@ -223,33 +223,33 @@ abbrev pub Holds : List Symbol → List ℕ → List Symbol → Type 0
 Holds base acc done = ((acc ≡ []) × (done ≡ base) × Closed base) ⊎ ((s : Symbol) × (seams : List Seam) × (s.kind ≡ symbol.Text acc seams) × (done ≡ base ++ s ∷ []))
 
 joined_texts : (k : SymbolKind) (acc x : List ℕ) (seams : List Seam) (first : Symbol) (line : ℕ) (touches : Bool) → k ≡ symbol.Text acc seams
-    → joined_kinds k (symbol.Text x []) first (symbol_at (symbol.Text x []) line touches)
+    → joined_symbol_kinds k (symbol.Text x []) first (symbol_at (symbol.Text x []) line touches)
     ≡ record { kind = symbol.Text (acc ++ x) (seams ++ record { at = length acc; line = line } ∷ []); line = first.line; touches = first.touches } ∷ []
-joined_texts k acc x seams first line touches e = ap (λ (k : SymbolKind). joined_kinds k (symbol.Text x []) first (symbol_at (symbol.Text x []) line touches)) e
+joined_texts k acc x seams first line touches e = ap (λ (k : SymbolKind). joined_symbol_kinds k (symbol.Text x []) first (symbol_at (symbol.Text x []) line touches)) e
 
 -- one more piece of the text
 put_text : (base done : List Symbol) (acc x : List ℕ) (line : ℕ) (touches : Bool) → Holds base acc done
-    → (s : Symbol) × (seams : List Seam) × (s.kind ≡ symbol.Text (acc ++ x) seams) × (put done (symbol_at (symbol.Text x []) line touches) ≡ base ++ s ∷ [])
+    → (s : Symbol) × (seams : List Seam) × (s.kind ≡ symbol.Text (acc ++ x) seams) × (put_symbol done (symbol_at (symbol.Text x []) line touches) ≡ base ++ s ∷ [])
 put_text base done acc x line touches (inl h) =
     let new = symbol_at (symbol.Text x []) line touches in
-    (new, [], ap (λ (a : List ℕ). symbol.Text (a ++ x) []) (sym h.0), ap (λ (d : List Symbol). put d new) h.1 ∙ h.2 new)
+    (new, [], ap (λ (a : List ℕ). symbol.Text (a ++ x) []) (sym h.0), ap (λ (d : List Symbol). put_symbol d new) h.1 ∙ h.2 new)
 put_text base done acc x line touches (inr h) =
     let new = symbol_at (symbol.Text x []) line touches in (
       record { kind = symbol.Text (acc ++ x) (h.1 ++ record { at = length acc; line = line } ∷ []); line = h.0.line; touches = h.0.touches },
       h.1 ++ record { at = length acc; line = line } ∷ [],
       refl,
-      ap (λ (d : List Symbol). put d new) h.3 ∙ put-last base h.0 new ∙ ap (λ (xs : List Symbol). base ++ xs) (joined_texts h.0.kind acc x h.1 h.0 line touches h.2),
+      ap (λ (d : List Symbol). put_symbol d new) h.3 ∙ put-last base h.0 new ∙ ap (λ (xs : List Symbol). base ++ xs) (joined_texts h.0.kind acc x h.1 h.0 line touches h.2),
     )
 
 -- the same as `Scanned`, where the symbols `base` stand before the text that is read
-pub record TextScanned (text : List ℕ) (from : Cursor) (ps : List Piece) (base done : List Symbol) (place : ℕ) : Type 0 where
+pub record TextScanned (text : List ℕ) (from : Cursor) (ps : List Piece) (base done : List Symbol) (offset : ℕ) : Type 0 where
   pub tokens : List Token
   pub last : Cursor
-  pub reads : Reads text from tokens last
-  pub ends : IsEnd text last
-  pub no_comment : begins_comment tokens ≡ false
+  pub reads : TokensRead text from tokens last
+  pub ends : IsTokenEnd text last
+  pub no_comment : token_begins_comment tokens ≡ false
   pub added : List Symbol
-  pub all : symbols_from text done place false tokens ≡ base ++ added
+  pub all : symbols_from text done offset false tokens ≡ base ++ added
   pub says : Says ps added []
 
 nil_behind : (done : List Symbol) → done ++ [] ≡ done
@@ -261,10 +261,10 @@ append_nil [] = refl
 append_nil (x ∷ xs) = ap (λ (ys : List ℕ). x ∷ ys) (append_nil xs)
 
 -- nothing is left of the text, and no token ends it
-no_more_text : (text : List ℕ) (at place : ℕ) (ps : List Piece) (whole acc : List ℕ) (base done : List Symbol) → Holds base acc done → whole ≢ [] → whole ≡ acc ++ []
-    → Scanned text (cursor (state.Text false) at) ps done place false → TextScanned text (cursor (state.Text false) at) (words whole ∷ ps) base done place
-no_more_text text at place ps whole acc base done (inl h) some is r = absurd (some (is ∙ ap (λ (xs : List ℕ). xs ++ []) h.0))
-no_more_text text at place ps whole acc base done (inr h) some is r = record {
+no_more_text : (text : List ℕ) (at offset : ℕ) (ps : List Piece) (whole acc : List ℕ) (base done : List Symbol) → Holds base acc done → whole ≢ [] → whole ≡ acc ++ []
+    → Scanned text (cursor (state.Text false) at) ps done offset false → TextScanned text (cursor (state.Text false) at) (words whole ∷ ps) base done offset
+no_more_text text at offset ps whole acc base done (inl h) some is r = absurd (some (is ∙ ap (λ (xs : List ℕ). xs ++ []) h.0))
+no_more_text text at offset ps whole acc base done (inr h) some is r = record {
   tokens = r.tokens;
   last = r.last;
   reads = r.reads;
@@ -276,20 +276,20 @@ no_more_text text at place ps whole acc base done (inr h) some is r = record {
 }
 
 -- the last token of a text
-last_text : (text : List ℕ) (at place b : ℕ) (ps : List Piece) (whole acc bs tail : List ℕ) (base done : List Symbol) → Holds base acc done → NoneOpens (b ∷ bs) tail
+last_text : (text : List ℕ) (at offset b : ℕ) (ps : List Piece) (whole acc bs tail : List ℕ) (base done : List Symbol) → Holds base acc done → NoneOpens (b ∷ bs) tail
     → whole ≡ acc ++ (b ∷ bs) → drop at text ≡ (b ∷ bs) ++ tail → text_len tail ≡ 0 → trims_before tail ≡ false
-    → ((at place : ℕ) (done : List Symbol) → at ≤ length text → drop at text ≡ tail → Scanned text (cursor (state.Text false) at) ps done place false)
-    → TextScanned text (cursor (state.Text false) at) (words whole ∷ ps) base done place
-last_text text at place b ps whole acc bs tail base done holds free is here_is none keeps more =
+    → ((at offset : ℕ) (done : List Symbol) → at ≤ length text → drop at text ≡ tail → Scanned text (cursor (state.Text false) at) ps done offset false)
+    → TextScanned text (cursor (state.Text false) at) (words whole ∷ ps) base done offset
+last_text text at offset b ps whole acc bs tail base done holds free is here_is none keeps more =
     let front = b ∷ bs in
     let end = at + length front in
     let t = token_at kind.Text at end in
-    let its : bytes_of text t ≡ front = here text at end front tail refl here_is in
+    let its : token_bytes text t ≡ front = here text at end front tail refl here_is in
     let line = line_of text at in
-    let touches = at == place in
+    let touches = at == offset in
     let new = put_text base done acc front line touches holds in
     let s = new.0 in
-    let put_is : put done (symbol_at (symbol.Text (bytes_of text t) []) line touches) ≡ base ++ s ∷ [] = ap (λ (x : List ℕ). put done (symbol_at (symbol.Text x []) line touches)) its ∙ new.3 in
+    let put_is : put_symbol done (symbol_at (symbol.Text (token_bytes text t) []) line touches) ≡ base ++ s ∷ [] = ap (λ (x : List ℕ). put_symbol done (symbol_at (symbol.Text x []) line touches)) its ∙ new.3 in
     let r : Scanned text (cursor (state.Text false) end) ps (base ++ s ∷ []) end false = more end end (base ++ s ∷ []) (within text at front tail here_is (omega arith)) (behind text at front tail here_is) in
     let len : text_len (drop at text) ≡ length front = ap text_len here_is ∙ len_plain front tail free none in
     let kept : kept_end (drop at text) ≡ length front = ap kept_end here_is ∙ kept_plain front tail free none keeps in
@@ -300,7 +300,7 @@ last_text text at place b ps whole acc bs tail base done holds free is here_is n
         cursor (state.Text false) end,
         record {
           trims = false;
-          place = refl;
+          offset = refl;
           starts = omega arith;
           ends = omega (arith, kept);
           not_empty = omega arith;
@@ -316,22 +316,22 @@ last_text text at place b ps whole acc bs tail base done holds free is here_is n
     }
 
 -- a token of a text up to a brace, and the comment after it
-braced_text : (text : List ℕ) (at place : ℕ) (ps : List Piece) (acc front after : List ℕ) (base done : List Symbol) → Holds base acc done → NoneOpens front (codes "{ " ++ guard after)
+braced_text : (text : List ℕ) (at offset : ℕ) (ps : List Piece) (acc front after : List ℕ) (base done : List Symbol) → Holds base acc done → NoneOpens front (codes "{ " ++ guard after)
     → drop at text ≡ (front ++ codes "{ ") ++ guard after
-    → ((at place : ℕ) (done : List Symbol) → at ≤ length text → Holds base (acc ++ (front ++ codes "{")) done → drop at text ≡ after → TextScanned text (cursor (state.Text false) at) ps base done place)
-    → TextScanned text (cursor (state.Text false) at) ps base done place
-braced_text text at place ps acc front after base done holds free here_is more =
+    → ((at offset : ℕ) (done : List Symbol) → at ≤ length text → Holds base (acc ++ (front ++ codes "{")) done → drop at text ≡ after → TextScanned text (cursor (state.Text false) at) ps base done offset)
+    → TextScanned text (cursor (state.Text false) at) ps base done offset
+braced_text text at offset ps acc front after base done holds free here_is more =
     let n = length front in
     let end = at + (n + 1) in
     let mark = at + (n + 2) in
     let close = mark + 10 in
     let t = token_at kind.Text at end in
     let first : drop at text ≡ (front ++ codes "{") ++ (32 ∷ guard after) = here_is ∙ append_assoc front (codes "{ ") (guard after) ∙ sym (append_assoc front (codes "{") (32 ∷ guard after)) in
-    let its : bytes_of text t ≡ front ++ codes "{" = here text at end (front ++ codes "{") (32 ∷ guard after) (omega (arith, length-append front (codes "{"))) first in
+    let its : token_bytes text t ≡ front ++ codes "{" = here text at end (front ++ codes "{") (32 ∷ guard after) (omega (arith, length-append front (codes "{"))) first in
     let line = line_of text at in
-    let touches = at == place in
+    let touches = at == offset in
     let new = put_text base done acc (front ++ codes "{") line touches holds in
-    let put_is : put done (symbol_at (symbol.Text (bytes_of text t) []) line touches) ≡ base ++ new.0 ∷ [] = ap (λ (x : List ℕ). put done (symbol_at (symbol.Text x []) line touches)) its ∙ new.3 in
+    let put_is : put_symbol done (symbol_at (symbol.Text (token_bytes text t) []) line touches) ≡ base ++ new.0 ∷ [] = ap (λ (x : List ℕ). put_symbol done (symbol_at (symbol.Text x []) line touches)) its ∙ new.3 in
     let opening : drop mark text ≡ guard after = ap (λ (k : ℕ). drop k text) (omega (arith, length-append front (codes "{ "))) ∙ behind text at (front ++ codes "{ ") (guard after) here_is in
     let commenting : drop (mark + 3) text ≡ codes " /**/}}" ++ after = behind text mark (codes "{{-") (codes " /**/}}" ++ after) opening in
     let closing : drop (mark + 8) text ≡ codes "}}" ++ after = behind text mark (codes "{{- /**/") (codes "}}" ++ after) opening in
@@ -348,7 +348,7 @@ braced_text text at place ps acc front after base done holds free here_is more =
         cursor (state.Text false) mark,
         record {
           trims = false;
-          place = refl;
+          offset = refl;
           starts = omega arith;
           ends = omega (arith, kept);
           not_empty = omega arith;
@@ -358,7 +358,7 @@ braced_text text at place ps acc front after base done holds free here_is more =
           cursor (state.Opened true mark) (mark + 3),
           record {
             trims = true;
-            no_text = record { trims = false; place = refl; nothing_left = omega (arith, no_kept); up_to = omega (arith, no_len) };
+            no_text = record { trims = false; offset = refl; nothing_left = omega (arith, no_kept); up_to = omega (arith, no_len) };
             mark = ap (begins (codes "{{")) opening;
             trimming = ap trims_before opening;
             ends = refl;
@@ -369,7 +369,7 @@ braced_text text at place ps acc front after base done holds free here_is more =
             record {
               trims = true;
               opened = mark;
-              place = refl;
+              offset = refl;
               body = [];
               more = codes "}}" ++ after;
               spelled = commenting;
@@ -411,17 +411,17 @@ alone b followed (c ∷ bytes) tail apart ends =
 
 -- a text, of which `acc` is read, and in `front` no action begins
 scan_text : (text : List ℕ) (ps : List Piece) (followed : Bool) (tail whole : List ℕ) → whole ≢ [] → text_len tail ≡ 0 → trims_before tail ≡ false → (followed ≡ false → tail ≡ [])
-    → ((at place : ℕ) (done : List Symbol) → at ≤ length text → drop at text ≡ tail → Scanned text (cursor (state.Text false) at) ps done place false)
-    → (bytes front acc : List ℕ) (at place : ℕ) (base done : List Symbol) → at ≤ length text → Holds base acc done → NoneOpens front (guarded followed bytes ++ tail) → whole ≡ acc ++ (front ++ bytes)
-    → drop at text ≡ front ++ (guarded followed bytes ++ tail) → TextScanned text (cursor (state.Text false) at) (words whole ∷ ps) base done place
-scan_text text ps followed tail whole some none keeps ends more [] [] acc at place base done inside holds free is here_is =
-    no_more_text text at place ps whole acc base done holds some is (more at place done inside here_is)
-scan_text text ps followed tail whole some none keeps ends more [] (b ∷ bs) acc at place base done inside holds free is here_is =
-    last_text text at place b ps whole acc bs tail base done holds free (is ∙ ap (λ (xs : List ℕ). acc ++ xs) (append_nil (b ∷ bs))) here_is none keeps more
-scan_text text ps followed tail whole some none keeps ends more (b ∷ bytes) front acc at place base done inside holds free is here_is =
+    → ((at offset : ℕ) (done : List Symbol) → at ≤ length text → drop at text ≡ tail → Scanned text (cursor (state.Text false) at) ps done offset false)
+    → (bytes front acc : List ℕ) (at offset : ℕ) (base done : List Symbol) → at ≤ length text → Holds base acc done → NoneOpens front (guarded followed bytes ++ tail) → whole ≡ acc ++ (front ++ bytes)
+    → drop at text ≡ front ++ (guarded followed bytes ++ tail) → TextScanned text (cursor (state.Text false) at) (words whole ∷ ps) base done offset
+scan_text text ps followed tail whole some none keeps ends more [] [] acc at offset base done inside holds free is here_is =
+    no_more_text text at offset ps whole acc base done holds some is (more at offset done inside here_is)
+scan_text text ps followed tail whole some none keeps ends more [] (b ∷ bs) acc at offset base done inside holds free is here_is =
+    last_text text at offset b ps whole acc bs tail base done holds free (is ∙ ap (λ (xs : List ℕ). acc ++ xs) (append_nil (b ∷ bs))) here_is none keeps more
+scan_text text ps followed tail whole some none keeps ends more (b ∷ bytes) front acc at offset base done inside holds free is here_is =
     let left = guarded followed bytes ++ tail in
-    let alone_is : guarded followed (b ∷ bytes) ++ tail ≡ b ∷ left → begins (codes "{{") (b ∷ left) ≡ false → TextScanned text (cursor (state.Text false) at) (words whole ∷ ps) base done place = λ next no.
-    scan_text text ps followed tail whole some none keeps ends more bytes (front ++ b ∷ []) acc at place base done inside holds
+    let alone_is : guarded followed (b ∷ bytes) ++ tail ≡ b ∷ left → begins (codes "{{") (b ∷ left) ≡ false → TextScanned text (cursor (state.Text false) at) (words whole ∷ ps) base done offset = λ next no.
+    scan_text text ps followed tail whole some none keeps ends more bytes (front ++ b ∷ []) acc at offset base done inside holds
     (none_opens-append front (b ∷ []) left (subst (NoneOpens front) next free) (no, tt))
     (is ∙ ap (λ (xs : List ℕ). acc ++ xs) (sym (append_assoc front (b ∷ []) bytes)))
     (here_is ∙ ap (λ (xs : List ℕ). front ++ xs) next ∙ sym (append_assoc front (b ∷ []) left)) in
@@ -429,7 +429,7 @@ scan_text text ps followed tail whole some none keeps ends more (b ∷ bytes) fr
     (λ t. let is_brace : b ≡ 123 = tells b 123 t in
     either (joins followed bytes)
     (λ joined. let next : guarded followed (b ∷ bytes) ++ tail ≡ codes "{ " ++ guard left = rw (t, joined) refl in
-    braced_text text at place (words whole ∷ ps) acc front left base done holds (subst (NoneOpens front) next free)
+    braced_text text at offset (words whole ∷ ps) acc front left base done holds (subst (NoneOpens front) next free)
     (here_is ∙ ap (λ (xs : List ℕ). front ++ xs) next ∙ sym (append_assoc front (codes "{ ") (guard left)))
     (λ next end done inside holds here_is.
     scan_text text ps followed tail whole some none keeps ends more bytes [] (acc ++ (front ++ codes "{")) next end base done inside holds tt
@@ -491,19 +491,19 @@ same at = grind (arith, nat_tests)
 field_is : (n : List ℕ) (k : SymbolKind) → meaning kind.Field (46 ∷ n) ≡ Some k → k ≡ symbol.Field n
 field_is n k e = cc
 
-whole_text : (text : List ℕ) (at place : ℕ) (ps : List Piece) (done : List Symbol) → TextScanned text (cursor (state.Text false) at) ps done done place → Scanned text (cursor (state.Text false) at) ps done place false
-whole_text text at place ps done r = record { tokens = r.tokens; last = r.last; reads = r.reads; ends = r.ends; no_comment = r.no_comment; added = r.added; all = r.all; says = r.says }
+whole_text : (text : List ℕ) (at offset : ℕ) (ps : List Piece) (done : List Symbol) → TextScanned text (cursor (state.Text false) at) ps done done offset → Scanned text (cursor (state.Text false) at) ps done offset false
+whole_text text at offset ps done r = record { tokens = r.tokens; last = r.last; reads = r.reads; ends = r.ends; no_comment = r.no_comment; added = r.added; all = r.all; says = r.says }
 
 -- at the end
-scan_end : (text : List ℕ) (at place : ℕ) (done : List Symbol) → at ≤ length text → drop at text ≡ [] → Scanned text (cursor (state.Text false) at) [] done place false
-scan_end text at place done inside here_is =
+scan_end : (text : List ℕ) (at offset : ℕ) (done : List Symbol) → at ≤ length text → drop at text ≡ [] → Scanned text (cursor (state.Text false) at) [] done offset false
+scan_end text at offset done inside here_is =
     let len : text_len (drop at text) ≡ 0 = ap text_len here_is in
     let kept : kept_end (drop at text) ≡ 0 = ap kept_end here_is in
     record {
       tokens = [];
       last = cursor (state.Text false) at;
       reads = refl;
-      ends = record { trims = false; place = refl; nothing_left = omega (arith, kept); up_to = omega (arith, len, length-drop at text, ap length here_is, inside) };
+      ends = record { trims = false; offset = refl; nothing_left = omega (arith, kept); up_to = omega (arith, len, length-drop at text, ap length here_is, inside) };
       no_comment = refl;
       added = [];
       all = sym (nil_behind done);
@@ -512,7 +512,7 @@ scan_end text at place done inside here_is =
 
 mutual
   -- inside an action
-  scan_in : (text : List ℕ) (ps : List Piece) (m : State) (at opened : ℕ) (done : List Symbol) → IsInAction m opened → FitIn ps → drop at text ≡ spelled false ps → Scanned text (cursor m at) ps done at false
+  scan_in : (text : List ℕ) (ps : List Piece) (m : CursorState) (at opened : ℕ) (done : List Symbol) → IsInAction m opened → FitIn ps → drop at text ≡ spelled false ps → Scanned text (cursor m at) ps done at false
   scan_in text [] m at opened done inside fits here_is = absurd fits
   scan_in text (words bytes ∷ ps) m at opened done inside fits here_is = absurd fits
   scan_in text (opens ∷ ps) m at opened done inside fits here_is = absurd fits
@@ -531,32 +531,32 @@ mutual
       (λ done there. scan_in text ps (state.Action opened) (at + length (46 ∷ n)) opened done refl fits.1 there)
 
   -- after a text
-  scan_open : (text : List ℕ) (ps : List Piece) (at place : ℕ) (done : List Symbol) → at ≤ length text → OpenHead ps → FitOut ps → drop at text ≡ spelled false ps → Scanned text (cursor (state.Text false) at) ps done place false
-  scan_open text [] at place done inside open_head fits here_is = scan_end text at place done inside here_is
-  scan_open text (words bytes ∷ ps) at place done inside open_head fits here_is = absurd open_head
-  scan_open text (opens ∷ ps) at place done inside open_head fits here_is =
+  scan_open : (text : List ℕ) (ps : List Piece) (at offset : ℕ) (done : List Symbol) → at ≤ length text → OpenHead ps → FitOut ps → drop at text ≡ spelled false ps → Scanned text (cursor (state.Text false) at) ps done offset false
+  scan_open text [] at offset done inside open_head fits here_is = scan_end text at offset done inside here_is
+  scan_open text (words bytes ∷ ps) at offset done inside open_head fits here_is = absurd open_head
+  scan_open text (opens ∷ ps) at offset done inside open_head fits here_is =
       let is = spaced_is ps fits.0 in
-      one_open text at is.0 ps done place (here_is ∙ ap (λ (xs : List ℕ). codes "{{" ++ xs) is.1)
+      one_open text at is.0 ps done offset (here_is ∙ ap (λ (xs : List ℕ). codes "{{" ++ xs) is.1)
       (λ done there. scan_in text ps (state.Opened false at) (at + 2) at done refl fits.1 (there ∙ sym is.1))
-  scan_open text (closes ∷ ps) at place done inside open_head fits here_is = absurd open_head
-  scan_open text (token what bytes ∷ ps) at place done inside open_head fits here_is = absurd open_head
-  scan_open text (field n ∷ ps) at place done inside open_head fits here_is = absurd open_head
+  scan_open text (closes ∷ ps) at offset done inside open_head fits here_is = absurd open_head
+  scan_open text (token what bytes ∷ ps) at offset done inside open_head fits here_is = absurd open_head
+  scan_open text (field n ∷ ps) at offset done inside open_head fits here_is = absurd open_head
 
   -- outside of actions, where no text is before
-  scan_out : (text : List ℕ) (ps : List Piece) (at place : ℕ) (done : List Symbol) → at ≤ length text → Closed done → FitOut ps → drop at text ≡ spelled false ps → Scanned text (cursor (state.Text false) at) ps done place false
-  scan_out text [] at place done inside closed fits here_is = scan_end text at place done inside here_is
-  scan_out text (words bytes ∷ ps) at place done inside closed fits here_is =
+  scan_out : (text : List ℕ) (ps : List Piece) (at offset : ℕ) (done : List Symbol) → at ≤ length text → Closed done → FitOut ps → drop at text ≡ spelled false ps → Scanned text (cursor (state.Text false) at) ps done offset false
+  scan_out text [] at offset done inside closed fits here_is = scan_end text at offset done inside here_is
+  scan_out text (words bytes ∷ ps) at offset done inside closed fits here_is =
       let ends = ends_text ps fits.1 fits.2 in
-      whole_text text at place (words bytes ∷ ps) done
-      (scan_text text ps (follows false ps) (spelled false ps) bytes fits.0 ends.none ends.keeps (none_follow ps) (λ at place done inside there. scan_open text ps at place done inside fits.1 fits.2 there)
-      bytes [] [] at place done done inside (inl (refl, refl, closed)) tt refl here_is)
-  scan_out text (opens ∷ ps) at place done inside closed fits here_is =
+      whole_text text at offset (words bytes ∷ ps) done
+      (scan_text text ps (follows false ps) (spelled false ps) bytes fits.0 ends.none ends.keeps (none_follow ps) (λ at offset done inside there. scan_open text ps at offset done inside fits.1 fits.2 there)
+      bytes [] [] at offset done done inside (inl (refl, refl, closed)) tt refl here_is)
+  scan_out text (opens ∷ ps) at offset done inside closed fits here_is =
       let is = spaced_is ps fits.0 in
-      one_open text at is.0 ps done place (here_is ∙ ap (λ (xs : List ℕ). codes "{{" ++ xs) is.1)
+      one_open text at is.0 ps done offset (here_is ∙ ap (λ (xs : List ℕ). codes "{{" ++ xs) is.1)
       (λ done there. scan_in text ps (state.Opened false at) (at + 2) at done refl fits.1 (there ∙ sym is.1))
-  scan_out text (closes ∷ ps) at place done inside closed fits here_is = absurd fits
-  scan_out text (token what bytes ∷ ps) at place done inside closed fits here_is = absurd fits
-  scan_out text (field n ∷ ps) at place done inside closed fits here_is = absurd fits
+  scan_out text (closes ∷ ps) at offset done inside closed fits here_is = absurd fits
+  scan_out text (token what bytes ∷ ps) at offset done inside closed fits here_is = absurd fits
+  scan_out text (field n ∷ ps) at offset done inside closed fits here_is = absurd fits
 
 -- The symbols of pieces that fit.
 pub record HasSymbols (text : List ℕ) (ps : List Piece) : Type 0 where

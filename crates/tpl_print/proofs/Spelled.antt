@@ -2,12 +2,12 @@
 use Rattle.std.proofs.Common.{◌≡◌, ℕ, Bool, true, false, true≢false, ◌||◌, List, [], ◌∷◌, ◌++◌, Option, Some, None, codes, refl, sym, ap, ◌∙◌, append_assoc}
 use Rattle.tpl_print.proofs.Pieces.{Piece, words, closes, token, string_piece, follows, spelling, spelled, fields_pieces, pipe_pieces, calls_pieces, command_pieces, operands_pieces, operand_pieces, base_pieces, named_pieces, index_pieces, argument_pieces, inner_pieces, head_pieces, else_pieces, parts_pieces, parting_pieces, nodes_pieces, word_pieces}
 use Rattle.tpl_symbol.specs.Names.{function_name}
-use Rattle.tpl_print.specs.Pipes.{fields_text, is_none, pipe_text, calls_text, command_text, operands_text, operand_text, base_text}
-use Rattle.tpl_print.specs.Replaced.{guarded, escaped}
-use Rattle.tpl_print.specs.Spelling.{named_text, index_text, argument_text, inner_text, head_text, node_head, is_control, else_mark, parts_text, begins_text, parting, nodes_text}
+use Rattle.tpl_print.specs.Pipes.{fields_text, is_none, pipe_text, calls_text, command_text, operands_text, printed_operand, base_text}
+use Rattle.tpl_print.specs.Replaced.{guarded, print_escaped}
+use Rattle.tpl_print.specs.Spelling.{named_text, index_text, argument_text, inner_text, printed_head, node_head, is_control_head, else_mark, printed_parts, begins_text, parting, nodes_text}
 use Rattle.tpl_tree.specs.Listing.{has_nodes}
 use Rattle.tpl_tree.specs.Pipes.{PipeData, no_commands, command, CommandData, single, call, OperandsData, no_operands, operand, OperandData, with_fields, BaseData, str, number, truth, nil, dot, variable, paren}
-use Rattle.tpl_tree.specs.Trees.{NodesData, no_nodes, node, is_text}
+use Rattle.tpl_tree.specs.Trees.{NodesData, no_nodes, node, is_text_node}
 use Rattle.tpl_tree.specs.declared.node_kind.NodeKind.{NodeKind}
 use Rattle.tpl_tree.specs.declared.node_kind.NodeKind.TheVariants as node_kind
 use Rattle.tpl_tree.specs.declared.pipe.Pipe.{Pipe}
@@ -44,8 +44,8 @@ fields : (f : Bool) (names : List (List ℕ)) → spelled f (fields_pieces names
 fields f [] = refl
 fields f (n ∷ names) = one (codes "." ++ n) _ _ (fields f names)
 
-string_before : (f : Bool) (value : List ℕ) (x : List ℕ) → spelling f (string_piece value) ++ x ≡ codes " \"" ++ (escaped value ++ (codes "\"" ++ x))
-string_before f value x = ap (λ (xs : List ℕ). codes " \"" ++ xs) (append_assoc (escaped value) (codes "\"") x)
+string_before : (f : Bool) (value : List ℕ) (x : List ℕ) → spelling f (string_piece value) ++ x ≡ codes " \"" ++ (print_escaped value ++ (codes "\"" ++ x))
+string_before f value x = ap (λ (xs : List ℕ). codes " \"" ++ xs) (append_assoc (print_escaped value) (codes "\"") x)
 
 mutual
   pipe : (f : Bool) (p : PipeData) → spelled f (pipe_pieces p) ≡ pipe_text p
@@ -64,7 +64,7 @@ mutual
   operands f no_operands = refl
   operands f (operand o os) = both f (operand_pieces o) (operands_pieces os) _ _ (operand_is _ o) (operands f os)
 
-  operand_is : (f : Bool) (o : OperandData) → spelled f (operand_pieces o) ≡ operand_text o
+  operand_is : (f : Bool) (o : OperandData) → spelled f (operand_pieces o) ≡ printed_operand o
   operand_is f (with_fields b names) = base f b names
 
   base : (f : Bool) (b : BaseData) (names : List (List ℕ)) → spelled f (base_pieces b names) ≡ codes " " ++ (base_text b (is_none names) ++ fields_text names)
@@ -103,12 +103,12 @@ inner f (node_kind.With x p) = one (codes " with") _ _ (both f (named_pieces x) 
 inner f (node_kind.Range i e p) = one (codes " range") _ _ (both f (index_pieces i) (named_pieces e ++ pipe_pieces p.commands) _ _ (index _ i) (both f (named_pieces e) (pipe_pieces p.commands) _ _ (named _ e) (pipe f p.commands)))
 inner f node_kind.Break = refl
 inner f node_kind.Continue = refl
-inner f (node_kind.Template n p) = one (codes " template") _ _ (string_before (follows f (argument_pieces p)) n (spelled f (argument_pieces p)) ∙ ap (λ (xs : List ℕ). codes " \"" ++ (escaped n ++ (codes "\"" ++ xs))) (argument f p))
+inner f (node_kind.Template n p) = one (codes " template") _ _ (string_before (follows f (argument_pieces p)) n (spelled f (argument_pieces p)) ∙ ap (λ (xs : List ℕ). codes " \"" ++ (print_escaped n ++ (codes "\"" ++ xs))) (argument f p))
 
-action_head : (f : Bool) (k : NodeKind) → spelled f (head_pieces false (inner_pieces k)) ≡ head_text false (inner_text true k)
+action_head : (f : Bool) (k : NodeKind) → spelled f (head_pieces false (inner_pieces k)) ≡ printed_head false (inner_text true k)
 action_head f k = one (codes "{{") _ _ (both f (inner_pieces k) (closes ∷ []) _ _ (inner true k) refl)
 
-head : (f followed : Bool) (k : NodeKind) → (is_text k ≡ true → f ≡ followed) → spelled f (head_pieces (is_text k) (inner_pieces k)) ≡ node_head followed k
+head : (f followed : Bool) (k : NodeKind) → (is_text_node k ≡ true → f ≡ followed) → spelled f (head_pieces (is_text_node k) (inner_pieces k)) ≡ node_head followed k
 head f followed (node_kind.Text text) h = ap (λ (g : Bool). spelled g (words text ∷ [])) (h refl) ∙ inner followed (node_kind.Text text)
 head f followed (node_kind.Action p) h = action_head f (node_kind.Action p)
 head f followed (node_kind.Declare x p) h = action_head f (node_kind.Declare x p)
@@ -125,7 +125,7 @@ else_is f true = refl
 else_is f false = refl
 
 parts : (f : Bool) (b : Bool) (first mark other : List Piece) (x m y : List ℕ) → spelled true first ≡ x → ((g : Bool) → spelled g mark ≡ m) → spelled true other ≡ y
-    → spelled f (parts_pieces b first mark other) ≡ parts_text b x m y
+    → spelled f (parts_pieces b first mark other) ≡ printed_parts b x m y
 parts f true first mark other x m y is_first is_mark is_other =
     let end = word_pieces (codes "end") in
     both f first (mark ++ (other ++ end)) _ _ (ap (λ (g : Bool). spelled g first) (some_after f mark (other ++ end) (some_after f other end refl)) ∙ is_first)
@@ -151,8 +151,8 @@ text_before f (node node_kind.Break line seams first other rest) = refl
 text_before f (node node_kind.Continue line seams first other rest) = refl
 text_before f (node (node_kind.Template n p) line seams first other rest) = refl
 
-text_followed : (f : Bool) (k : NodeKind) (first mark other : List Piece) (rest : NodesData) → is_text k ≡ true
-    → follows f (parts_pieces (is_control k) first mark other ++ (parting_pieces (is_text k) (begins_text rest) ++ nodes_pieces rest)) ≡ has_nodes rest || f
+text_followed : (f : Bool) (k : NodeKind) (first mark other : List Piece) (rest : NodesData) → is_text_node k ≡ true
+    → follows f (parts_pieces (is_control_head k) first mark other ++ (parting_pieces (is_text_node k) (begins_text rest) ++ nodes_pieces rest)) ≡ has_nodes rest || f
 text_followed f (node_kind.Text text) first mark other rest h = text_before f rest
 text_followed f (node_kind.Action p) first mark other rest h = absurd (true≢false (sym h))
 text_followed f (node_kind.Declare x p) first mark other rest h = absurd (true≢false (sym h))
@@ -167,7 +167,7 @@ text_followed f (node_kind.Template n p) first mark other rest h = absurd (true�
 pub spelled-nodes : (f : Bool) (nodes : NodesData) → spelled f (nodes_pieces nodes) ≡ nodes_text f nodes
 spelled-nodes f no_nodes = refl
 spelled-nodes f (node k l s first other rest) =
-    both f (head_pieces (is_text k) (inner_pieces k)) _ _ _ (head _ (has_nodes rest || f) k (text_followed f k (nodes_pieces first) (else_pieces (has_nodes other)) (nodes_pieces other) rest))
-    (both f (parts_pieces (is_control k) (nodes_pieces first) (else_pieces (has_nodes other)) (nodes_pieces other)) _ _ _
-    (parts _ (is_control k) (nodes_pieces first) (else_pieces (has_nodes other)) (nodes_pieces other) _ _ _ (spelled-nodes true first) (λ g. else_is g (has_nodes other)) (spelled-nodes true other))
-    (both f (parting_pieces (is_text k) (begins_text rest)) (nodes_pieces rest) _ _ (parting_is _ (is_text k) (begins_text rest)) (spelled-nodes f rest)))
+    both f (head_pieces (is_text_node k) (inner_pieces k)) _ _ _ (head _ (has_nodes rest || f) k (text_followed f k (nodes_pieces first) (else_pieces (has_nodes other)) (nodes_pieces other) rest))
+    (both f (parts_pieces (is_control_head k) (nodes_pieces first) (else_pieces (has_nodes other)) (nodes_pieces other)) _ _ _
+    (parts _ (is_control_head k) (nodes_pieces first) (else_pieces (has_nodes other)) (nodes_pieces other) _ _ _ (spelled-nodes true first) (λ g. else_is g (has_nodes other)) (spelled-nodes true other))
+    (both f (parting_pieces (is_text_node k) (begins_text rest)) (nodes_pieces rest) _ _ (parting_is _ (is_text_node k) (begins_text rest)) (spelled-nodes f rest)))

@@ -5,8 +5,8 @@ use Rattle.std.proofs.lemmas.List.{length-drop, length-take}
 use Rattle.std.specs.Bool.{⊤}
 use Rattle.tpl_print.proofs.Marks.{behind, here}
 use Rattle.tpl_print.proofs.Sound.{IsSmall, IsSound, AreApart, IsApart, Sound}
-use Rattle.tpl_symbol.specs.Joins.{joined_kinds, symbol_at, put, put_kind}
-use Rattle.tpl_symbol.specs.Kinds.{begins_comment, is_comment, kind_of, unmarked}
+use Rattle.tpl_symbol.specs.Joins.{joined_symbol_kinds, symbol_at, put_symbol, put_kind}
+use Rattle.tpl_symbol.specs.Kinds.{token_begins_comment, is_comment, symbol_kind_of, unmarked}
 use Rattle.tpl_symbol.specs.Lines.{line_of}
 use Rattle.tpl_symbol.specs.Names.{word_of, word_kind, function_of, function_kind}
 use Rattle.tpl_symbol.specs.Symbols.{symbols_from, symbols_of}
@@ -17,8 +17,8 @@ use Rattle.tpl_symbol.specs.declared.symbol.SymbolKind.{SymbolKind}
 use Rattle.tpl_symbol.specs.declared.symbol.SymbolKind.TheVariants as kind
 use Rattle.tpl_symbol.specs.declared.word.Word.{Word}
 use Rattle.tpl_token.proofs.Marks.{split, either}
-use Rattle.tpl_token.specs.Characters.{begins, is_name}
-use Rattle.tpl_token.specs.Grammar.{IsText, IsInner, Stands, Reads, AreTokens}
+use Rattle.tpl_token.specs.Characters.{begins, is_name_byte}
+use Rattle.tpl_token.specs.Grammar.{IsTextToken, IsInner, TokenStands, TokensRead, AreTokens}
 use Rattle.tpl_token.specs.Lexemes.{IsLexeme}
 use Rattle.tpl_token.specs.Numbers.{number, magnitude, signed, unsigned}
 use Rattle.tpl_token.specs.Texts.{bytes_before, text_len, trims_before, kept_end}
@@ -36,7 +36,7 @@ some_behind : (a b : List ℕ) → a ≢ [] → a ++ b ≢ []
 some_behind [] b some e = some refl
 some_behind (x ∷ a) b some e = cc
 
-joined_sound : (k l : SymbolKind) (last new : Symbol) → k ≡ last.kind → l ≡ new.kind → IsSound k → IsSound l → Sound (joined_kinds k l last new)
+joined_sound : (k l : SymbolKind) (last new : Symbol) → k ≡ last.kind → l ≡ new.kind → IsSound k → IsSound l → Sound (joined_symbol_kinds k l last new)
 joined_sound (kind.Text bytes seams) (kind.Text more others) last new e f h i = (some_behind bytes more h, tt, tt)
 joined_sound (kind.Text bytes seams) (kind.Open a c) last new e f h i = pair_sound (kind.Text bytes seams) (kind.Open a c) last new e f h i tt
 joined_sound (kind.Text bytes seams) (kind.Close a) last new e f h i = pair_sound (kind.Text bytes seams) (kind.Close a) last new e f h i tt
@@ -60,7 +60,7 @@ apart_text : (j : SymbolKind) (bytes more : List ℕ) (seams others : List Seam)
 apart_text (kind.Text a c) bytes more seams others h = absurd h
 apart_text j bytes more seams others h = tt
 
-joined_parted : (j k l : SymbolKind) (last new : Symbol) → k ≡ last.kind → AreApart j k → IsApart j (joined_kinds k l last new)
+joined_parted : (j k l : SymbolKind) (last new : Symbol) → k ≡ last.kind → AreApart j k → IsApart j (joined_symbol_kinds k l last new)
 joined_parted j (kind.Text bytes seams) (kind.Text more others) last new e h = apart_text j bytes (bytes ++ more) seams _ h
 joined_parted j (kind.Text bytes seams) (kind.Open a c) last new e h = subst (λ (x : SymbolKind). AreApart j x) e h
 joined_parted j (kind.Text bytes seams) (kind.Close a) last new e h = subst (λ (x : SymbolKind). AreApart j x) e h
@@ -80,11 +80,11 @@ joined_parted j (kind.Text bytes seams) kind.Left last new e h = subst (λ (x : 
 joined_parted j (kind.Text bytes seams) kind.Right last new e h = subst (λ (x : SymbolKind). AreApart j x) e h
 joined_parted j k l last new e h = subst (λ (x : SymbolKind). AreApart j x) e h
 
-put_parted : (j : SymbolKind) (s : Symbol) (symbols : List Symbol) (new : Symbol) → AreApart j s.kind → IsApart j (put (s ∷ symbols) new)
+put_parted : (j : SymbolKind) (s : Symbol) (symbols : List Symbol) (new : Symbol) → AreApart j s.kind → IsApart j (put_symbol (s ∷ symbols) new)
 put_parted j s [] new h = joined_parted j s.kind new.kind s new refl h
 put_parted j s (t ∷ symbols) new h = h
 
-put_sound : (done : List Symbol) (new : Symbol) → Sound done → IsSound new.kind → Sound (put done new)
+put_sound : (done : List Symbol) (new : Symbol) → Sound done → IsSound new.kind → Sound (put_symbol done new)
 put_sound [] new sound is = (is, tt, tt)
 put_sound (last ∷ []) new sound is = joined_sound last.kind new.kind last new refl refl sound.0 is
 put_sound (s ∷ t ∷ done) new sound is = (sound.0, put_parted s.kind t done new sound.1, put_sound (t ∷ done) new sound.2 is)
@@ -106,7 +106,7 @@ before_fits mark (b ∷ bs) = either (begins mark (b ∷ bs)) (λ t. rw t (omega
 kept_fits : (rest : List ℕ) → kept_end rest ≤ length rest
 kept_fits rest = either (trims_before (drop (text_len rest) rest)) (λ t. rw t (omega (arith, before_fits (codes "{{") rest))) (λ f. rw f (before_fits (codes "{{") rest))
 
-text_some : (text : List ℕ) (from : Cursor) (start end : ℕ) (to : Cursor) → IsText text from start end to → take (end - start) (drop start text) ≢ []
+text_some : (text : List ℕ) (from : Cursor) (start end : ℕ) (to : Cursor) → IsTextToken text from start end to → take (end - start) (drop start text) ≢ []
 text_some text from start end to h e =
     let len : length (take (end - start) (drop start text)) ≡ 0 = ap length e in
     omega (arith, len, h.starts, h.ends, h.not_empty, kept_fits (drop from.at text), length-drop from.at text, length-drop start text, length-take {A = ℕ} (end - start) (drop start text))
@@ -145,25 +145,25 @@ inner_bytes what text from start end to h =
 
 variable_sound : (bytes rest : List ℕ) → IsLexeme token.Variable bytes rest → IsSound (kind.Variable (unmarked 36 bytes))
 variable_sound bytes rest (inl h) = inl (ap (unmarked 36) h.0)
-variable_sound bytes rest (inr h) = inr (ap is_name (ap (unmarked 36) h.1) ∙ h.2)
+variable_sound bytes rest (inr h) = inr (ap is_name_byte (ap (unmarked 36) h.1) ∙ h.2)
 
-open_sound : (text : List ℕ) (t : Token) (before after : Bool) → IsSoundIf (kind_of token.Open text t before after)
+open_sound : (text : List ℕ) (t : Token) (before after : Bool) → IsSoundIf (symbol_kind_of token.Open text t before after)
 open_sound text t before true = tt
 open_sound text t before false = tt
 
-close_sound : (text : List ℕ) (t : Token) (before after : Bool) → IsSoundIf (kind_of token.Close text t before after)
+close_sound : (text : List ℕ) (t : Token) (before after : Bool) → IsSoundIf (symbol_kind_of token.Close text t before after)
 close_sound text t true after = tt
 close_sound text t false after = tt
 
-token_sound : (what : TokenKind) (text : List ℕ) (from : Cursor) (start end : ℕ) (to : Cursor) (before after : Bool) → Stands what text from start end to
-    → IsSoundIf (kind_of what text (record { kind = what; start = start; end = end }) before after)
+token_sound : (what : TokenKind) (text : List ℕ) (from : Cursor) (start end : ℕ) (to : Cursor) (before after : Bool) → TokenStands what text from start end to
+    → IsSoundIf (symbol_kind_of what text (record { kind = what; start = start; end = end }) before after)
 token_sound token.Text text from start end to before after h = text_some text from start end to h
 token_sound token.Open text from start end to before after h = open_sound text (record { kind = token.Open; start = start; end = end }) before after
 token_sound token.Close text from start end to before after h = close_sound text (record { kind = token.Close; start = start; end = end }) before after
 token_sound token.Comment text from start end to before after h = tt
 token_sound token.Name text from start end to before after h = name_sound (word_of (take (end - start) (drop start text))) (function_of (take (end - start) (drop start text)))
 token_sound token.Field text from start end to before after h =
-    ap is_name (ap (unmarked 46) (inner_bytes token.Field text from start end to h ∙ h.lexeme_is.1)) ∙ h.lexeme_is.2
+    ap is_name_byte (ap (unmarked 46) (inner_bytes token.Field text from start end to h ∙ h.lexeme_is.1)) ∙ h.lexeme_is.2
 token_sound token.Dot text from start end to before after h = tt
 token_sound token.Variable text from start end to before after h =
     subst (λ (x : List ℕ). IsSound (kind.Variable (unmarked 36 x))) (sym (inner_bytes token.Variable text from start end to h)) (variable_sound h.lexeme h.more h.lexeme_is)
@@ -176,11 +176,11 @@ token_sound token.Comma text from start end to before after h = tt
 token_sound token.Left text from start end to before after h = tt
 token_sound token.Right text from start end to before after h = tt
 
-from_sound : (text : List ℕ) (tokens : List Token) (from last : Cursor) (done : List Symbol) (end : ℕ) (before : Bool) → Reads text from tokens last → Sound done → Sound (symbols_from text done end before tokens)
+from_sound : (text : List ℕ) (tokens : List Token) (from last : Cursor) (done : List Symbol) (end : ℕ) (before : Bool) → TokensRead text from tokens last → Sound done → Sound (symbols_from text done end before tokens)
 from_sound text [] from last done end before reads sound = sound
 from_sound text (t ∷ tokens) from last done end before reads sound =
     from_sound text tokens reads.0 last _ t.end (is_comment t) reads.2
-    (put_kind_sound done (kind_of t.kind text t before (begins_comment tokens)) (line_of text t.start) _ sound (token_sound t.kind text from t.start t.end reads.0 before (begins_comment tokens) reads.1))
+    (put_kind_sound done (symbol_kind_of t.kind text t before (token_begins_comment tokens)) (line_of text t.start) _ sound (token_sound t.kind text from t.start t.end reads.0 before (token_begins_comment tokens) reads.1))
 
 pub symbols_sound : (text : List ℕ) (tokens : List Token) → AreTokens text tokens → Sound (symbols_of text tokens)
 symbols_sound text tokens h = from_sound text tokens _ h.last [] 0 false h.reads tt

@@ -9,33 +9,33 @@ use Rattle.std.specs.Str.Parse.{AllDigits, digits_value}
 use Rattle.tpl_print.proofs.Pieces.{IsToken, meaning}
 use Rattle.tpl_print.proofs.Sound.{IsSmall}
 use Rattle.tpl_symbol.specs.Names.{function_name}
-use Rattle.tpl_print.specs.Replaced.{escaped}
+use Rattle.tpl_print.specs.Replaced.{print_escaped}
 use Rattle.tpl_symbol.proofs.FunctionNames.{reads_back}
 use Rattle.tpl_symbol.specs.declared.func.Func.{Func}
 use Rattle.tpl_symbol.specs.declared.func.Func.TheVariants as func
 use Rattle.tpl_symbol.specs.declared.symbol.SymbolKind.TheVariants as symbol
 use Rattle.tpl_token.proofs.Digits.{numeral_some}
 use Rattle.tpl_token.proofs.Marks.{either, tells, begins-is, heads}
-use Rattle.tpl_token.specs.Characters.{begins, first_is, is_name, is_sign, is_word_byte, is_word_start}
+use Rattle.tpl_token.specs.Characters.{begins, first_is, is_name_byte, is_sign, is_word_byte, is_word_start}
 use Rattle.tpl_token.specs.Numbers.{number, magnitude, signed}
-use Rattle.tpl_token.specs.Strings.{Part, plain, escape, spelling, StandFor, is_plain}
+use Rattle.tpl_token.specs.Strings.{StringPart, plain, escape, spelling, StandFor, is_plain_byte}
 use Rattle.tpl_token.specs.declared.token.TokenKind.TheVariants as kind
 
-pub name_token : (bytes : List ℕ) → is_name bytes ≡ true → IsToken kind.Name bytes
+pub name_token : (bytes : List ℕ) → is_name_byte bytes ≡ true → IsToken kind.Name bytes
 name_token bytes is rest ends number = (is, ends)
 
-pub field_token : (n : List ℕ) → is_name n ≡ true → IsToken kind.Field (46 ∷ n)
+pub field_token : (n : List ℕ) → is_name_byte n ≡ true → IsToken kind.Field (46 ∷ n)
 field_token n is rest ends number = (n, refl, is, ends)
 
 no_start : (rest : List ℕ) → first_is is_word_byte rest ≡ false → first_is is_word_start rest ≡ false
 no_start [] ends = refl
 no_start (b ∷ rest) ends = grind (arith, nat_tests)
 
-pub variable_token : (x : List ℕ) → (x ≡ []) ⊎ (is_name x ≡ true) → IsToken kind.Variable (36 ∷ x)
+pub variable_token : (x : List ℕ) → (x ≡ []) ⊎ (is_name_byte x ≡ true) → IsToken kind.Variable (36 ∷ x)
 variable_token x (inl none) rest ends number = inl (ap (λ (y : List ℕ). 36 ∷ y) none, no_start rest ends)
 variable_token x (inr is) rest ends number = inr (x, refl, is, ends)
 
-pub function_is_name : (f : Func) → is_name (function_name f) ≡ true
+pub function_is_name : (f : Func) → is_name_byte (function_name f) ≡ true
 function_is_name func.And = refl
 function_is_name func.Or = refl
 function_is_name func.Not = refl
@@ -121,32 +121,32 @@ number_token n small rest ends dotless = (number_is n small, ends, dotless refl)
 
 -- the parts of a string that is printed
 record IsString (value : List ℕ) : Type 0 where
-  parts : List Part
-  spelled : spelling parts ≡ escaped value
+  parts : List StringPart
+  spelled : spelling parts ≡ print_escaped value
   mean : StandFor parts value
 
-plain_byte : (b : ℕ) (bs : List ℕ) → nat_eq b 92 ≡ false → nat_eq b 34 ≡ false → nat_eq b 10 ≡ false → escaped (b ∷ bs) ≡ b ∷ escaped bs
+plain_byte : (b : ℕ) (bs : List ℕ) → nat_eq b 92 ≡ false → nat_eq b 34 ≡ false → nat_eq b 10 ≡ false → print_escaped (b ∷ bs) ≡ b ∷ print_escaped bs
 plain_byte b bs e f g = rw (e, f, g) refl
 
 more_string : (b : ℕ) (bs : List ℕ) → IsString bs → IsString (b ∷ bs)
 unfolding lib.Utf8.encode
 more_string b bs h = either (nat_eq b 92)
     (λ t. let is : b ≡ 92 = tells b 92 t in
-    record { parts = escape (codes "\\") ∷ h.parts; spelled = ap (λ (xs : List ℕ). 92 ∷ 92 ∷ xs) h.spelled ∙ ap (λ (x : ℕ). escaped (x ∷ bs)) (sym is); mean = (92, bs, ap (λ (x : ℕ). x ∷ bs) is, refl, h.mean) })
+    record { parts = escape (codes "\\") ∷ h.parts; spelled = ap (λ (xs : List ℕ). 92 ∷ 92 ∷ xs) h.spelled ∙ ap (λ (x : ℕ). print_escaped (x ∷ bs)) (sym is); mean = (92, bs, ap (λ (x : ℕ). x ∷ bs) is, refl, h.mean) })
     (λ e. either (nat_eq b 34)
     (λ t. let is : b ≡ 34 = tells b 34 t in
-    record { parts = escape (codes "\"") ∷ h.parts; spelled = ap (λ (xs : List ℕ). 92 ∷ 34 ∷ xs) h.spelled ∙ ap (λ (x : ℕ). escaped (x ∷ bs)) (sym is); mean = (34, bs, ap (λ (x : ℕ). x ∷ bs) is, refl, h.mean) })
+    record { parts = escape (codes "\"") ∷ h.parts; spelled = ap (λ (xs : List ℕ). 92 ∷ 34 ∷ xs) h.spelled ∙ ap (λ (x : ℕ). print_escaped (x ∷ bs)) (sym is); mean = (34, bs, ap (λ (x : ℕ). x ∷ bs) is, refl, h.mean) })
     (λ f. either (nat_eq b 10)
     (λ t. let is : b ≡ 10 = tells b 10 t in
-    record { parts = escape (codes "n") ∷ h.parts; spelled = ap (λ (xs : List ℕ). 92 ∷ 110 ∷ xs) h.spelled ∙ ap (λ (x : ℕ). escaped (x ∷ bs)) (sym is); mean = (10, bs, ap (λ (x : ℕ). x ∷ bs) is, refl, h.mean) })
-    (λ g. let passes : is_plain b ≡ true = rw (e, f, g) refl in
+    record { parts = escape (codes "n") ∷ h.parts; spelled = ap (λ (xs : List ℕ). 92 ∷ 110 ∷ xs) h.spelled ∙ ap (λ (x : ℕ). print_escaped (x ∷ bs)) (sym is); mean = (10, bs, ap (λ (x : ℕ). x ∷ bs) is, refl, h.mean) })
+    (λ g. let passes : is_plain_byte b ≡ true = rw (e, f, g) refl in
     record { parts = plain b ∷ h.parts; spelled = ap (λ (xs : List ℕ). b ∷ xs) h.spelled ∙ sym (plain_byte b bs e f g); mean = (bs, refl, passes, h.mean) })))
 
 string_is : (value : List ℕ) → IsString value
 string_is [] = record { parts = []; spelled = refl; mean = refl }
 string_is (b ∷ bs) = more_string b bs (string_is bs)
 
-pub string_token : (value : List ℕ) → IsToken (kind.Str value) (codes "\"" ++ (escaped value ++ codes "\""))
+pub string_token : (value : List ℕ) → IsToken (kind.Str value) (codes "\"" ++ (print_escaped value ++ codes "\""))
 string_token value rest ends number =
     let h = string_is value in
     inl (record { parts = h.parts; spelled = ap (λ (xs : List ℕ). codes "\"" ++ (xs ++ codes "\"")) (sym h.spelled); mean = h.mean })

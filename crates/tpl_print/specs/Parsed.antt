@@ -2,10 +2,10 @@
 use Rattle.std.specs.Prelude.{◌≡◌, ℕ, ◌≤◌, Bool, false, List, [], ◌∷◌, ◌++◌}
 use Rattle.std.specs.List.{All}
 use Rattle.tpl_parse.specs.Files.{IsFile}
-use Rattle.tpl_parse.specs.Forms.{Forms, nodes_of, found_in}
+use Rattle.tpl_parse.specs.Forms.{Forms, form_nodes, found_in}
 use Rattle.tpl_parse.specs.Grammar.{AreForms, IsFileBody}
 use Rattle.tpl_parse.specs.Steps.{most_open}
-use Rattle.tpl_parse.specs.declared.definition.Def.{Def}
+use Rattle.tpl_build.specs.declared.definition.Def.{Def}
 use Rattle.tpl_print.specs.Lines.{without_lines}
 use Rattle.tpl_symbol.specs.Symbols.{symbols_of}
 use Rattle.tpl_symbol.specs.declared.symbol.Symbol.{Symbol}
@@ -28,7 +28,7 @@ pub record IsParsed (nodes : NodesData) : Type 0 where
   pub bound : room ≤ most_open
   pub top : Bool
   pub are : AreForms [] room false top forms symbols rest
-  pub nodes_are : nodes_of forms ≡ nodes
+  pub nodes_are : form_nodes forms ≡ nodes
 
 -- A template file of this name and text has definitions, of which the last, its own body, has these nodes, lines apart.
 pub record HasBody (name text : List ℕ) (nodes : NodesData) : Type 0 where
@@ -39,8 +39,8 @@ pub record HasBody (name text : List ℕ) (nodes : NodesData) : Type 0 where
   pub same : without_lines own.tree.nodes ≡ without_lines nodes
 
 -- The text is a template file, whatever its name, whose own body has these nodes, lines apart.
-abbrev pub ReadsAs : List ℕ → NodesData → Type 0
-ReadsAs text nodes = (name : List ℕ) → HasBody name text nodes
+abbrev pub ParsesAs : List ℕ → NodesData → Type 0
+ParsesAs text nodes = (name : List ℕ) → HasBody name text nodes
 
 -- The text has these tokens, and as symbols they are these forms of a file.
 abbrev pub IsFileOf : List ℕ → List Token → Forms → Type 0
@@ -48,7 +48,7 @@ IsFileOf text tokens forms = AreTokens text tokens × IsFileBody forms (symbols_
 
 -- The body of any file is a tree that parsing gives.
 abbrev pub FilesAreParsed : Type 0
-FilesAreParsed = (text : List ℕ) (tokens : List Token) (forms : Forms) → IsFileOf text tokens forms → IsParsed (nodes_of forms)
+FilesAreParsed = (text : List ℕ) (tokens : List Token) (forms : Forms) → IsFileOf text tokens forms → IsParsed (form_nodes forms)
 
 -- So is the body of each definition in it.
 abbrev pub DefinitionsAreParsed : Type 0

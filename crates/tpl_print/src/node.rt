@@ -1,7 +1,7 @@
 ghost use Rattle.std.specs.Prelude.{◌≡◌, ◌++◌, Some, OnOk};
 ghost use Rattle.tpl_print.specs.Spelling.{named_text, index_text, argument_text, inner_text, node_head};
-ghost use Rattle.tpl_print.specs.Spelling.{is_control as is_control_kind};
-ghost use Rattle.tpl_tree.specs.Trees.{is_text as is_text_kind};
+ghost use Rattle.tpl_print.specs.Spelling as spec;
+ghost use Rattle.tpl_tree.specs.Trees as trees;
 
 use crate::pipe::push_pipe;
 use crate::text::{push_escaped, push_guarded};
@@ -113,14 +113,14 @@ fn push_argument(alloc: Global, out: &mut Text, pipe: &Option<Pipe>) -> Result<(
 
 /// Whether a node is a text.
 pub(crate) fn is_text(kind: &NodeKind) -> bool
-    ensures { result ≡ is_text_kind kind.now }
+    ensures { result ≡ trees.is_text_node kind.now }
 {
     matches!(kind, NodeKind::Text(_))
 }
 
 /// Whether a node has parts.
 pub(crate) fn is_control(kind: &NodeKind) -> bool
-    ensures { result ≡ is_control_kind kind.now }
+    ensures { result ≡ spec.is_control_head kind.now }
 {
     matches!(
         kind,

@@ -1,5 +1,5 @@
 ghost use Rattle.std.specs.Prelude.{◌≡◌, ◌++◌, OnOk};
-ghost use Rattle.tpl_print.specs.Pipes.{pipe_text, command_text, operands_text, operand_text, base_text};
+ghost use Rattle.tpl_print.specs.Pipes.{pipe_text, command_text, operands_text, printed_operand, base_text};
 ghost use Rattle.tpl_tree.specs.Pipes.{dot};
 ghost use Rattle.tpl_tree.specs.View.{command_view, operand_view, base_view};
 
@@ -57,7 +57,7 @@ fn push_operands(alloc: Global, out: &mut Text, operands: &Operands) -> Result<(
 
 #[cycle(push)]
 fn push_operand(alloc: Global, out: &mut Text, operand: &Operand) -> Result<(), Memory>
-    ensures { OnOk result (out.new ≡ out.old ++ operand_text (operand_view operand.now)) }
+    ensures { OnOk result (out.new ≡ out.old ++ printed_operand (operand_view operand.now)) }
 {
     out.push_str(" ")?;
     let fields = operand.fields.as_slice();

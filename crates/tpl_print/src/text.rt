@@ -1,16 +1,16 @@
 ghost use Rattle.std.specs.Prelude.{◌≡◌, ◌++◌, ◌<◌, codes, OnOk};
 ghost use Rattle.std.specs.Fmt.{signed_decimal};
 ghost use Rattle.tpl_print.specs.Pipes.{fields_text};
-ghost use Rattle.tpl_print.specs.Replaced.{always, brace as brace_of, joins as joins_of, replaced};
-ghost use Rattle.tpl_print.specs.Replaced.{guarded as guarded_bytes, escaped as escaped_bytes};
+ghost use Rattle.tpl_print.specs.Replaced.{always, replaced_bytes};
+ghost use Rattle.tpl_print.specs.Replaced as spec;
 
 use page_io::{Memory, Text};
 use std::alloc::Global;
 
-// Appends a text, with another one in the place of each of its characters `mark`, which is ASCII.
+// Appends a text, with another one instead of each of its characters `mark`, which is ASCII.
 fn push_replaced(out: &mut Text, text: &str, mark: char, by: &str) -> Result<(), Memory>
     requires { mark < 128 }
-    ensures { OnOk result (out.new ≡ out.old ++ replaced mark (always by.now) text.now) }
+    ensures { OnOk result (out.new ≡ out.old ++ replaced_bytes mark (always by.now) text.now) }
 {
     let mut left = text;
     while let Some((prefix, rest)) = left.split_once(mark) {
@@ -23,7 +23,7 @@ fn push_replaced(out: &mut Text, text: &str, mark: char, by: &str) -> Result<(),
 
 /// Appends a text that stands outside actions, which an action follows or not.
 pub(crate) fn push_guarded(out: &mut Text, text: &str, followed: bool) -> Result<(), Memory>
-    ensures { OnOk result (out.new ≡ out.old ++ guarded_bytes followed text.now) }
+    ensures { OnOk result (out.new ≡ out.old ++ spec.guarded followed text.now) }
 {
     let mut left = text;
     while let Some((prefix, rest)) = left.split_once('{') {
@@ -36,7 +36,7 @@ pub(crate) fn push_guarded(out: &mut Text, text: &str, followed: bool) -> Result
 
 // A brace before a text.
 fn brace(followed: bool, after: &str) -> &'static str
-    ensures { result.now ≡ brace_of followed after.now }
+    ensures { result.now ≡ spec.brace followed after.now }
 {
     if joins(followed, after.as_bytes()) {
         return "{ {{- /**/}}";
@@ -46,7 +46,7 @@ fn brace(followed: bool, after: &str) -> &'static str
 
 // Whether a brace comes next.
 fn joins(followed: bool, after: &[u8]) -> bool
-    ensures { result ≡ joins_of followed after.now }
+    ensures { result ≡ spec.joins followed after.now }
 {
     match after {
         [] => followed,
@@ -56,7 +56,7 @@ fn joins(followed: bool, after: &[u8]) -> bool
 
 /// Appends the value of a string, as it stands between double quotes.
 pub(crate) fn push_escaped(alloc: Global, out: &mut Text, value: &str) -> Result<(), Memory>
-    ensures { OnOk result (out.new ≡ out.old ++ escaped_bytes value.now) }
+    ensures { OnOk result (out.new ≡ out.old ++ spec.print_escaped value.now) }
 {
     let mut slashed = Text::new(alloc);
     push_replaced(&mut slashed, value, '\\', "\\\\")?;

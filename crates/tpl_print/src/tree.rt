@@ -1,6 +1,6 @@
 ghost use Rattle.std.specs.Prelude.{◌≡◌, ◌++◌, ◌<◌, true, false, Some, IfOk, IfSome, OnOk};
-ghost use Rattle.tpl_print.specs.Parsed.{IsParsed, ReadsAs};
-ghost use Rattle.tpl_print.specs.Spelling.{nodes_text, node_text, part_at, else_mark, parting, parting_at};
+ghost use Rattle.tpl_print.specs.Parsed.{IsParsed, ParsesAs};
+ghost use Rattle.tpl_print.specs.Spelling.{nodes_text, printed_node, part_at, else_mark, parting, parting_at};
 ghost use Rattle.tpl_tree.specs.Trees.{nodes_size, nodes_from};
 
 use crate::node::{is_control, is_text, push_head};
@@ -11,12 +11,12 @@ use tpl_tree::Tree;
 /// The tree as the text of a template file. Where the tree is one that parsing gives, which is the body of a file, or of a
 /// `define` or `block`, the text is a file whose own body is the same tree, lines apart, whatever name the file has. So
 /// `tpl_parse::parse_file` gives it, where the text has no more than the `tpl_token::MAX_TEXT` bytes that it takes, and
-/// memory suffices. The error is out of memory.
+/// memory suffices. Fails only if allocation fails.
 #[tactic(auto, using(crate::proofs::ReadsBack::reads_back))]
 pub fn print_tree(alloc: Global, tree: &Tree) -> Result<Text, Memory>
     ensures spelling { IfOk result (λ printed. printed ≡ nodes_text false tree.now.nodes) }
     ensures reads { IsParsed tree.now.nodes →
-        IfOk result (λ printed. ReadsAs printed tree.now.nodes) }
+        IfOk result (λ printed. ParsesAs printed tree.now.nodes) }
 {
     let mut out = Text::new(alloc);
     push_part(alloc, &mut out, tree, tree.first(), false)?;
@@ -56,7 +56,7 @@ fn push_node(
 ) -> Result<(), Memory>
     requires { node < nodes_size tree.now.nodes }
     ensures { OnOk result
-        (out.new ≡ out.old ++ node_text followed (nodes_from tree.now.nodes node)) }
+        (out.new ≡ out.old ++ printed_node followed (nodes_from tree.now.nodes node)) }
 {
     let kind = tree.kind(node);
     push_head(alloc, out, kind, followed)?;

@@ -2,9 +2,9 @@
 use Rattle.std.specs.Prelude.{ℕ, ◌+◌, ◌-◌, ◌==◌, List, take, if◌then◌else◌}
 use Rattle.page_io.specs.Lines.{line_feeds}
 
--- the line on which the byte at this place stands
+-- the line on which the byte at this offset stands
 abbrev pub line_of : List ℕ → ℕ → ℕ
-line_of text place = line_feeds (take place text) + 1
+line_of text offset = line_feeds (take offset text) + 1
 
 -- the line of the last byte of a stretch, and 1 where it is empty
 abbrev pub last_line : List ℕ → ℕ → ℕ → ℕ

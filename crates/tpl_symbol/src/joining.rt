@@ -1,7 +1,8 @@
 ghost use Rattle.std.specs.Prelude.{◌≡◌, ◌++◌, OnOk};
 ghost use Rattle.std.specs.List.{All};
-ghost use Rattle.tpl_symbol.specs.Joins.{joined, put as put_of, put_apart, put_kind as put_kind_of, symbol_at};
-ghost use Rattle.tpl_symbol.specs.Symbols.{IsFine};
+ghost use Rattle.tpl_symbol.specs.Joins.{joined_symbols, put_apart, symbol_at};
+ghost use Rattle.tpl_symbol.specs.Symbols.{IsFineSymbol};
+ghost use Rattle.tpl_symbol.specs.Joins as spec;
 
 use crate::symbol::{Seam, Symbol, SymbolKind};
 use page_io::Memory;
@@ -14,8 +15,8 @@ pub fn put_kind(
     line: u32,
     touches: bool,
 ) -> Result<(), Memory>
-    requires { All IsFine symbols.old.items }
-    ensures { OnOk result (symbols.new.items ≡ put_kind_of symbols.old.items kind line touches) }
+    requires { All IsFineSymbol symbols.old.items }
+    ensures { OnOk result (symbols.new.items ≡ spec.put_kind symbols.old.items kind line touches) }
 {
     match kind {
         Some(kind) => put_new(symbols, kind, line, touches),
@@ -31,9 +32,9 @@ fn put_new(
     line: u32,
     touches: bool,
 ) -> Result<(), Memory>
-    requires { All IsFine symbols.old.items }
+    requires { All IsFineSymbol symbols.old.items }
     ensures { let new = symbol_at kind line touches in
-        OnOk result (symbols.new.items ≡ put_of symbols.old.items new) }
+        OnOk result (symbols.new.items ≡ spec.put_symbol symbols.old.items new) }
 {
     match kind {
         SymbolKind::Text(bytes, seams) => put(
@@ -51,8 +52,8 @@ fn put_new(
 // Puts a symbol after the others, whatever it is.
 #[inline(never)]
 fn put(symbols: &mut Vec<Symbol>, symbol: Symbol) -> Result<(), Memory>
-    requires { All IsFine symbols.old.items }
-    ensures { OnOk result (symbols.new.items ≡ put_of symbols.old.items symbol) }
+    requires { All IsFineSymbol symbols.old.items }
+    ensures { OnOk result (symbols.new.items ≡ spec.put_symbol symbols.old.items symbol) }
 {
     match symbols.pop() {
         Some(last) => put_joined(symbols, last, symbol),
@@ -65,8 +66,8 @@ fn put(symbols: &mut Vec<Symbol>, symbol: Symbol) -> Result<(), Memory>
 
 // Puts two symbols after the others, or one where both are texts.
 fn put_joined(symbols: &mut Vec<Symbol>, last: Symbol, symbol: Symbol) -> Result<(), Memory>
-    requires { IsFine last }
-    ensures { OnOk result (symbols.new.items ≡ symbols.old.items ++ joined last symbol) }
+    requires { IsFineSymbol last }
+    ensures { OnOk result (symbols.new.items ≡ symbols.old.items ++ joined_symbols last symbol) }
 {
     let (kind, line, touches) = (last.kind, last.line, last.touches);
     let (other, other_line, other_touches) = (symbol.kind, symbol.line, symbol.touches);

@@ -1,9 +1,8 @@
 ghost use Rattle.std.specs.Prelude.{◌≡◌, ◌-◌, ◌<◌, ◌≤◌, IfOk, length};
 ghost use Rattle.std.specs.Str.{IsCharBoundary};
-ghost use Rattle.tpl_symbol.specs.Lines.{line_of as line_at};
-ghost use Rattle.tpl_symbol.specs.Kinds.{begins_comment as begins_comment_of, bytes_of as bytes_at};
-ghost use Rattle.tpl_symbol.specs.Kinds.{is_comment as is_comment_of, kind_at};
-ghost use Rattle.tpl_symbol.specs.Kinds.{unmarked as unmarked_of};
+ghost use Rattle.tpl_symbol.specs.Kinds.{symbol_kind_at};
+ghost use Rattle.tpl_symbol.specs.Lines as spec;
+ghost use Rattle.tpl_symbol.specs.Kinds as kinds;
 
 use crate::name::name_kind;
 use crate::symbol::SymbolKind;
@@ -13,14 +12,14 @@ use tpl_token::{Token, TokenKind};
 
 /// Whether a token is a comment.
 pub fn is_comment(token: &Token) -> bool
-    ensures { result ≡ is_comment_of token.now }
+    ensures { result ≡ kinds.is_comment token.now }
 {
     matches!(token.kind, TokenKind::Comment)
 }
 
 /// Whether the first of these tokens is a comment.
 pub fn begins_comment(tokens: &[Token]) -> bool
-    ensures { result ≡ begins_comment_of tokens.now }
+    ensures { result ≡ kinds.token_begins_comment tokens.now }
 {
     match tokens.first() {
         Some(token) => is_comment(token),
@@ -42,9 +41,9 @@ pub fn kind_of(
     requires within { token.now.end ≤ length text.now }
     requires start { IsCharBoundary text.now token.now.start }
     requires end { IsCharBoundary text.now token.now.end }
-    requires line { before ≡ line_at text.now (token.now.start - 1) }
+    requires line { before ≡ spec.line_of text.now (token.now.start - 1) }
     ensures { IfOk result (λ kind.
-        kind ≡ kind_at text.now token.now comment_before comment_after) }
+        kind ≡ symbol_kind_at text.now token.now comment_before comment_after) }
 {
     let bytes = bytes_of(text, token);
     let (start, end) = (token.start, token.end);
@@ -76,7 +75,7 @@ fn bytes_of<'a>(text: &'a str, token: &Token) -> &'a str
     requires within { token.now.end ≤ length text.now }
     requires start { IsCharBoundary text.now token.now.start }
     requires end { IsCharBoundary text.now token.now.end }
-    ensures { result.now ≡ bytes_at text.now token.now }
+    ensures { result.now ≡ kinds.token_bytes text.now token.now }
 {
     &text[token.start as usize..token.end as usize]
 }
@@ -84,7 +83,7 @@ fn bytes_of<'a>(text: &'a str, token: &Token) -> &'a str
 // The name after this mark.
 fn name_of(alloc: Global, mark: char, bytes: &str) -> Result<Text, Memory>
     requires ascii { mark < 128 }
-    ensures { IfOk result (λ name. name ≡ unmarked_of mark bytes.now) }
+    ensures { IfOk result (λ name. name ≡ kinds.unmarked mark bytes.now) }
 {
     Text::copy_of(alloc, unmarked(mark, bytes))
 }
@@ -92,7 +91,7 @@ fn name_of(alloc: Global, mark: char, bytes: &str) -> Result<Text, Memory>
 // A text without this mark at its prefix.
 fn unmarked(mark: char, text: &str) -> &str
     requires ascii { mark < 128 }
-    ensures { result.now ≡ unmarked_of mark text.now }
+    ensures { result.now ≡ kinds.unmarked mark text.now }
 {
     match text.strip_prefix(mark) {
         Some(rest) => rest,

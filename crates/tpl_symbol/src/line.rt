@@ -1,18 +1,18 @@
 ghost use Rattle.std.specs.Prelude.{◌≡◌, ◌≤◌, ◌-◌, length};
-ghost use Rattle.tpl_symbol.specs.Lines.{line_of as line_at};
-ghost use Rattle.tpl_token.specs.Answers.{max_text};
+ghost use Rattle.tpl_token.specs.Answers.{max_template_text};
+ghost use Rattle.tpl_symbol.specs.Lines as spec;
 
 use page_io::line_feeds;
 
-/// The line of a text on which the byte at a place stands, counted from 1. The place is at most the text's length, and the
+/// The line of a text on which the byte at an offset stands, counted from 1. The offset is at most the text's length, and the
 /// text has at most `tpl_token::MAX_TEXT` bytes.
-pub fn line_of(text: &str, place: u32) -> u32
-    requires limit { length text.now ≤ max_text }
-    requires within { place ≤ length text.now }
-    ensures { result ≡ line_at text.now place }
+pub fn line_of(text: &str, offset: u32) -> u32
+    requires limit { length text.now ≤ max_template_text }
+    requires within { offset ≤ length text.now }
+    ensures { result ≡ spec.line_of text.now offset }
 {
     let counter = LineCounter { at: 0, line: 1 };
-    counter.up_to(text, place).line
+    counter.up_to(text, offset).line
 }
 
 /// Where a text ends.
@@ -28,10 +28,10 @@ pub struct TextEnd {
 
 /// The end of a text of at most `tpl_token::MAX_TEXT` bytes, with its lines.
 pub fn text_end(text: &str) -> TextEnd
-    requires limit { length text.now ≤ max_text }
+    requires limit { length text.now ≤ max_template_text }
     ensures at { result.at ≡ length text.now }
-    ensures before { result.before ≡ line_at text.now (length text.now - 1) }
-    ensures line { result.line ≡ line_at text.now (length text.now) }
+    ensures before { result.before ≡ spec.line_of text.now (length text.now - 1) }
+    ensures line { result.line ≡ spec.line_of text.now (length text.now) }
 {
     let at = text.len() as u32;
     let start = LineCounter { at: 0, line: 1 };
@@ -44,7 +44,7 @@ pub fn text_end(text: &str) -> TextEnd
     }
 }
 
-/// A place of a text, and its line.
+/// An offset of a text, and its line.
 #[derive(Clone, Copy)]
 pub struct LineCounter {
     pub at: u32,
@@ -52,19 +52,19 @@ pub struct LineCounter {
 }
 
 impl LineCounter {
-    /// Counts on to a later place of the same text.
-    pub fn up_to(self, text: &str, place: u32) -> LineCounter
-        requires limit { length text.now ≤ max_text }
-        requires counted { self.line ≡ line_at text.now self.at }
-        requires later { self.at ≤ place }
-        requires within { place ≤ length text.now }
-        ensures at { result.at ≡ place }
-        ensures line { result.line ≡ line_at text.now place }
+    /// Counts on to a later offset of the same text.
+    pub fn up_to(self, text: &str, offset: u32) -> LineCounter
+        requires limit { length text.now ≤ max_template_text }
+        requires counted { self.line ≡ spec.line_of text.now self.at }
+        requires later { self.at ≤ offset }
+        requires within { offset ≤ length text.now }
+        ensures at { result.at ≡ offset }
+        ensures line { result.line ≡ spec.line_of text.now offset }
     {
         let (_, rest) = text.as_bytes().split_at(self.at as usize);
-        let (between, _) = rest.split_at((place - self.at) as usize);
+        let (between, _) = rest.split_at((offset - self.at) as usize);
         LineCounter {
-            at: place,
+            at: offset,
             line: self.line + line_feeds(between),
         }
     }

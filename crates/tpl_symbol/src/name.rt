@@ -1,6 +1,5 @@
 ghost use Rattle.std.specs.Prelude.{◌≡◌};
-ghost use Rattle.tpl_symbol.specs.Names.{function_of as function_by, name_kind as name_kind_of};
-ghost use Rattle.tpl_symbol.specs.Names.{word_of as word_by};
+ghost use Rattle.tpl_symbol.specs.Names as spec;
 
 use crate::func::Func;
 use crate::symbol::SymbolKind;
@@ -8,7 +7,7 @@ use crate::word::Word;
 
 /// What a name is: a word of the language, a function, or neither.
 pub fn name_kind(name: &str) -> SymbolKind
-    ensures { result ≡ name_kind_of name.now }
+    ensures { result ≡ spec.name_kind name.now }
 {
     if let Some(word) = word_of(name) {
         return SymbolKind::Word(word);
@@ -21,7 +20,7 @@ pub fn name_kind(name: &str) -> SymbolKind
 
 // The word with this name.
 fn word_of(name: &str) -> Option<Word>
-    ensures { result ≡ word_by name.now }
+    ensures { result ≡ spec.word_of name.now }
 {
     match name {
         "if" => Some(Word::If),
@@ -43,7 +42,7 @@ fn word_of(name: &str) -> Option<Word>
 
 // The function with this name.
 fn function_of(name: &str) -> Option<Func>
-    ensures { result ≡ function_by name.now }
+    ensures { result ≡ spec.function_of name.now }
 {
     match name {
         "and" => Some(Func::And),

@@ -18,9 +18,9 @@ pub struct Symbol {
 pub enum SymbolKind {
     /// Text outside actions. Texts with nothing but comments between them are one, with a seam at each comment.
     Text(Text, List<Seam>),
-    /// `{{` or `{{-`, with its place, and the line of the byte before it, which is 1 at the beginning of the file.
+    /// `{{` or `{{-`, with its offset, and the line of the byte before it, which is 1 at the beginning of the file.
     Open { start: u32, before: u32 },
-    /// `}}` or `-}}`, with the place after it.
+    /// `}}` or `-}}`, with the offset after it.
     Close { end: u32 },
     /// A word of the language.
     Word(Word),

@@ -10,7 +10,7 @@ use Rattle.std.specs.List.{prefix_len}
 use Rattle.std.specs.Str.{IsAscii, IsCharBoundary, IsUtf8, bytes_eq}
 use Rattle.tpl_token.specs.Characters.{begins, first_is}
 use Rattle.tpl_token.specs.Numbers.{numeral}
-use Rattle.tpl_token.specs.Strings.{character, escaped, is_plain, is_raw, short_escape}
+use Rattle.tpl_token.specs.Strings.{character, escaped_character, is_plain_byte, is_raw, short_escape}
 use Rattle.tpl_token.specs.Scanning.{escape_at, escape_len}
 use Rattle.tpl_token.proofs.Digits.{digits_ascii, numeral_all}
 use Rattle.tpl_token.proofs.Marks.{split, begins-is, one_more}
@@ -51,7 +51,7 @@ coded_ascii b limit bytes c small first e =
     subst IsAscii (sym (begins-is (b ∷ []) bytes first)) (IsAscii-cons b (drop 1 bytes) small (digits_ascii 16 (drop 1 bytes) (omega arith) (numeral_all 16 (drop 1 bytes) h.0 h.1)))
 
 -- the bytes of an escape
-pub escaped_ascii : (bytes : List ℕ) (c : ℕ) → escaped bytes ≡ Some c → IsAscii bytes
+pub escaped_ascii : (bytes : List ℕ) (c : ℕ) → escaped_character bytes ≡ Some c → IsAscii bytes
 escaped_ascii bytes c e =
     split (begins (codes "x") bytes) e
     (λ t e. split (length bytes == 3) e (λ _ e. coded_ascii 120 128 bytes c (omega arith) t e) (λ _ e. cc))
@@ -59,7 +59,7 @@ escaped_ascii bytes c e =
     (λ t e. split (length bytes == 5) e (λ _ e. coded_ascii 117 65536 bytes c (omega arith) t e) (λ _ e. cc))
     (λ _ e. short_ascii bytes c e))
 
-pub plain_ascii : (b : ℕ) → is_plain b ≡ false → b < 128
+pub plain_ascii : (b : ℕ) → is_plain_byte b ≡ false → b < 128
 plain_ascii b no_plain = grind (arith, nat_tests)
 
 pub raw_ascii : (b : ℕ) → is_raw b ≡ false → b < 128
@@ -69,11 +69,11 @@ mapped : {A B : Type 0} (f : A → B) (o : Option A) (y : B) → option_map f o 
 mapped f None y e = cc
 mapped f (Some x) y e = (x, refl, cc)
 
-pub escape_is : (bs : List ℕ) (c n : ℕ) → escape_at bs ≡ Some (c, n) → (escape_len bs ≡ n) × (escaped (take n bs) ≡ Some c)
+pub escape_is : (bs : List ℕ) (c n : ℕ) → escape_at bs ≡ Some (c, n) → (escape_len bs ≡ n) × (escaped_character (take n bs) ≡ Some c)
 escape_is bs c n e =
-    let h = mapped (λ (d : ℕ). (d, escape_len bs)) (escaped (take (escape_len bs) bs)) (c, n) e in
+    let h = mapped (λ (d : ℕ). (d, escape_len bs)) (escaped_character (take (escape_len bs) bs)) (c, n) e in
     let len : escape_len bs ≡ n = ap (λ (x : ℕ × ℕ). x.1) h.2 in
-    (len, ap (λ (k : ℕ). escaped (take k bs)) (sym len) ∙ h.1 ∙ ap (λ (x : ℕ × ℕ). Some x.0) h.2)
+    (len, ap (λ (k : ℕ). escaped_character (take k bs)) (sym len) ∙ h.1 ∙ ap (λ (x : ℕ × ℕ). Some x.0) h.2)
 
 -- after an escape
 pub cut_after_escape : (text rest more : List ℕ) (at c n next : ℕ) → IsUtf8 text → rest ≡ drop at text → begins (codes "\\") rest ≡ true → more ≡ drop 1 rest → escape_at more ≡ Some (c, n) → n ≤ length more → next ≡ at + (1 + n) → IsCharBoundary text next

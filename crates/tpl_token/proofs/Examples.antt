@@ -1,7 +1,7 @@
 -- The definitions computed on small texts.
 use Rattle.std.proofs.Common.{[], ◌∷◌, Ok, Err, pos, neg_ℤ, refl, codes}
 use Rattle.tpl_token.specs.Grammar.{AreTokens}
-use Rattle.tpl_token.specs.Refusals.{IsRefused}
+use Rattle.tpl_token.specs.Refusals.{IsTokenRefused}
 use Rattle.tpl_token.specs.declared.refused.TokenRefused.TheVariants as refused
 use Rattle.tpl_token.specs.declared.token.TokenKind.TheVariants as kind
 use Rattle.tpl_token.proofs.NextFound.{token}
@@ -37,33 +37,33 @@ least : AreTokens (codes "{{-0x8000000000000000}}") (token kind.Open 0 2 ∷ tok
 least = computed 9 (codes "{{-0x8000000000000000}}") (Ok (token kind.Open 0 2 ∷ token (kind.Number (neg_ℤ (pos 0x8000000000000000))) 2 21 ∷ token kind.Close 21 23 ∷ [])) refl
 
 -- the text ends in an action
-unclosed_action : IsRefused (codes "a{{b ") (refused.UnclosedAction 1)
+unclosed_action : IsTokenRefused (codes "a{{b ") (refused.UnclosedAction 1)
 unclosed_action = computed 9 (codes "a{{b ") (Err (refused.UnclosedAction 1)) refl
 
 -- a character that begins no token
-bad_character : IsRefused (codes "{{a}}{{#") (refused.BadCharacter 7)
+bad_character : IsTokenRefused (codes "{{a}}{{#") (refused.BadCharacter 7)
 bad_character = computed 9 (codes "{{a}}{{#") (Err (refused.BadCharacter 7)) refl
 
 -- the line ends in a string
-unclosed_string : IsRefused (codes "{{\"a\n\"}}") (refused.UnclosedString 2)
+unclosed_string : IsTokenRefused (codes "{{\"a\n\"}}") (refused.UnclosedString 2)
 unclosed_string = computed 9 (codes "{{\"a\n\"}}") (Err (refused.UnclosedString 2)) refl
 
 -- `/*/` does not close itself
-unclosed_comment : IsRefused (codes "{{/*/}}") (refused.UnclosedComment 0)
+unclosed_comment : IsTokenRefused (codes "{{/*/}}") (refused.UnclosedComment 0)
 unclosed_comment = computed 9 (codes "{{/*/}}") (Err (refused.UnclosedComment 0)) refl
 
 -- 64 bits with sign do not hold this number
-too_large : IsRefused (codes "{{9223372036854775808}}") (refused.BadNumber 2)
+too_large : IsTokenRefused (codes "{{9223372036854775808}}") (refused.BadNumber 2)
 too_large = computed 9 (codes "{{9223372036854775808}}") (Err (refused.BadNumber 2)) refl
 
 -- no floats
-float : IsRefused (codes "{{1.5}}") (refused.BadNumber 2)
+float : IsTokenRefused (codes "{{1.5}}") (refused.BadNumber 2)
 float = computed 9 (codes "{{1.5}}") (Err (refused.BadNumber 2)) refl
 
 -- nothing stands between a comment and its delimiter
-bad_delimiter : IsRefused (codes "{{/**/ }}") (refused.BadDelimiter 6)
+bad_delimiter : IsTokenRefused (codes "{{/**/ }}") (refused.BadDelimiter 6)
 bad_delimiter = computed 9 (codes "{{/**/ }}") (Err (refused.BadDelimiter 6)) refl
 
 -- an escape that is none comes before the end of its string
-bad_escape : IsRefused (codes "{{\"a\\q") (refused.BadEscape 4)
+bad_escape : IsTokenRefused (codes "{{\"a\\q") (refused.BadEscape 4)
 bad_escape = computed 9 (codes "{{\"a\\q") (Err (refused.BadEscape 4)) refl

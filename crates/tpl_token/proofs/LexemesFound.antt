@@ -4,7 +4,7 @@ use Rattle.std.proofs.lemmas.Bool.Decides.{nat_tests}
 use Rattle.std.proofs.lemmas.List.{take_at, drop_at, length-append}
 use Rattle.std.specs.Char.{is_ascii_digit}
 use Rattle.std.specs.List.{list_all, prefix_len}
-use Rattle.tpl_token.specs.Characters.{begins, first_is, is_name, is_word_byte, is_word_start}
+use Rattle.tpl_token.specs.Characters.{begins, first_is, is_name_byte, is_word_byte, is_word_start}
 use Rattle.tpl_token.specs.Lexemes.{IsLexeme}
 use Rattle.tpl_token.specs.Numbers.{number}
 use Rattle.tpl_token.specs.Scanning.{lexeme_at, quoted, ended, string_found, raw_found, raw_len, without_returns, number_found, number_read, number_len, name_len}
@@ -15,22 +15,22 @@ use Rattle.tpl_token.proofs.Marks.{both, longer, no_mark, run-is}
 use Rattle.tpl_token.proofs.NumberLaws.{number_digital, number_len-is, number_begins, number_no_word}
 use Rattle.tpl_token.proofs.StringLaws.{parts_read}
 
--- found, at this place, with this length
+-- found, at this offset, with this length
 abbrev Finds : TokenKind → ℕ → List ℕ → ℕ → Type 0
 Finds what at bytes n = lexeme_at at bytes ≡ Ok (what, n)
 
-name_some : (name : List ℕ) → is_name name ≡ true → 0 < length name
+name_some : (name : List ℕ) → is_name_byte name ≡ true → 0 < length name
 name_some [] e = absurd (true≢false (sym e))
 name_some (b ∷ bs) e = omega arith
 
 -- the run of a name
-name_run : (name rest : List ℕ) → is_name name ≡ true → first_is is_word_byte rest ≡ false → (first_is is_word_start (name ++ rest) ≡ true) × (prefix_len is_word_byte (name ++ rest) ≡ length name)
+name_run : (name rest : List ℕ) → is_name_byte name ≡ true → first_is is_word_byte rest ≡ false → (first_is is_word_start (name ++ rest) ≡ true) × (prefix_len is_word_byte (name ++ rest) ≡ length name)
 name_run [] rest named ends = absurd (true≢false (sym named))
 name_run (b ∷ bs) rest named ends =
     let h = both (is_word_start b) (list_all is_word_byte (b ∷ bs)) named in
     (h.0, run-is is_word_byte (b ∷ bs) rest h.1 ends)
 
-name_len-is : (name rest : List ℕ) → is_name name ≡ true → first_is is_word_byte rest ≡ false → name_len (name ++ rest) ≡ length name
+name_len-is : (name rest : List ℕ) → is_name_byte name ≡ true → first_is is_word_byte rest ≡ false → name_len (name ++ rest) ≡ length name
 name_len-is name rest named ends = let h = name_run name rest named ends in rw (h.0, h.1) refl
 
 -- what is no letter, digit or `_` begins no name
@@ -45,10 +45,10 @@ no_digit : (bytes : List ℕ) → first_is is_word_start bytes ≡ true → firs
 no_digit [] e = refl
 no_digit (b ∷ bs) e = let h : is_ascii_digit b ≡ false = grind (arith, nat_tests) in h
 
-finds_name : (at : ℕ) (bytes rest : List ℕ) → is_name bytes ≡ true → first_is is_word_byte rest ≡ false → Finds kind.Name at (bytes ++ rest) (length bytes)
+finds_name : (at : ℕ) (bytes rest : List ℕ) → is_name_byte bytes ≡ true → first_is is_word_byte rest ≡ false → Finds kind.Name at (bytes ++ rest) (length bytes)
 finds_name at bytes rest named ends = let h = name_run bytes rest named ends in rw (h.0, h.1) refl
 
-finds_field : (at : ℕ) (name rest : List ℕ) → is_name name ≡ true → first_is is_word_byte rest ≡ false → Finds kind.Field at (46 ∷ (name ++ rest)) (suc (length name))
+finds_field : (at : ℕ) (name rest : List ℕ) → is_name_byte name ≡ true → first_is is_word_byte rest ≡ false → Finds kind.Field at (46 ∷ (name ++ rest)) (suc (length name))
 finds_field at name rest named ends =
     let h = name_run name rest named ends in
     let digit = no_digit (name ++ rest) h.0 in
@@ -59,7 +59,7 @@ finds_field at name rest named ends =
 finds_dot : (at : ℕ) (rest : List ℕ) → first_is is_word_byte rest ≡ false → Finds kind.Dot at (46 ∷ rest) 1
 finds_dot at rest ends = let h = word_start_first rest ends in rw (h.1, h.0) refl
 
-finds_variable : (at : ℕ) (name rest : List ℕ) → is_name name ≡ true → first_is is_word_byte rest ≡ false → Finds kind.Variable at (36 ∷ (name ++ rest)) (suc (length name))
+finds_variable : (at : ℕ) (name rest : List ℕ) → is_name_byte name ≡ true → first_is is_word_byte rest ≡ false → Finds kind.Variable at (36 ∷ (name ++ rest)) (suc (length name))
 finds_variable at name rest named ends = let h = name_run name rest named ends in rw (h.0, h.1) (ap (λ (n : ℕ). Ok (kind.Variable, n)) (longer (length name)))
 
 finds_dollar : (at : ℕ) (rest : List ℕ) → first_is is_word_start rest ≡ false → Finds kind.Variable at (36 ∷ rest) 1

@@ -1,14 +1,14 @@
--- What is found at a place of an action stands there, and where nothing is found, it is said what misses.
+-- What is found at an offset of an action stands there, and where nothing is found, it is said what misses.
 use Rattle.std.proofs.Common.{◌≡◌, ◌≢◌, ℕ, suc, ◌+◌, ◌<◌, ◌≤◌, Bool, true, false, ◌&&◌, ◌||◌, inl, inr, List, [], ◌∷◌, ◌++◌, length, take, drop, drop-cons, get_or, Option, Some, None, Ok, Err, ℤ, nat_eq, nat_lt, refl, sym, ap, ◌∙◌, subst, arith, append_assoc, true≢false, codes}
 use Rattle.std.proofs.lemmas.Bool.Decides.{nat_tests}
 use Rattle.std.proofs.lemmas.List.{take_at, drop-drop, length-append, take-append-drop, length-take-le}
 use Rattle.std.proofs.lemmas.List.Sums.{prefix_len-le-length, prefix_len_stops}
 use Rattle.std.specs.Char.{is_ascii_digit}
 use Rattle.std.specs.List.{prefix_len}
-use Rattle.tpl_token.specs.Characters.{begins, first_is, is_name, is_word_byte, is_word_start}
+use Rattle.tpl_token.specs.Characters.{begins, first_is, is_name_byte, is_word_byte, is_word_start}
 use Rattle.tpl_token.specs.Lexemes.{IsLexeme}
 use Rattle.tpl_token.specs.Numbers.{number}
-use Rattle.tpl_token.specs.Refusals.{begins_number, begins_string, Misses}
+use Rattle.tpl_token.specs.Refusals.{begins_number, begins_string, TokenMisses}
 use Rattle.tpl_token.specs.Scanning.{Found, Quoted, ended, cut, bad, lexeme_at, mark_found, quoted, string_found, raw_found, raw_len, without_returns, number_found, number_read, number_len, name_len, dot_found}
 use Rattle.tpl_token.specs.Strings.{is_raw, spelling}
 use Rattle.tpl_token.specs.declared.token.TokenKind.{TokenKind}
@@ -25,9 +25,9 @@ pub record IsFound (bytes : List ℕ) (x : TokenKind × ℕ) : Type 0 where
 -- what a search says
 abbrev pub SaysLexeme : ℕ → List ℕ → Found → Type 0
 SaysLexeme at bytes (Ok x) = IsFound bytes x
-SaysLexeme at bytes (Err why) = Misses why at bytes
+SaysLexeme at bytes (Err why) = TokenMisses why at bytes
 
-name_taken : (bytes : List ℕ) → first_is is_word_start bytes ≡ true → is_name (take (prefix_len is_word_byte bytes) bytes) ≡ true
+name_taken : (bytes : List ℕ) → first_is is_word_start bytes ≡ true → is_name_byte (take (prefix_len is_word_byte bytes) bytes) ≡ true
 name_taken [] e = absurd (true≢false (sym e))
 name_taken (b ∷ bs) e =
     let word : is_word_byte b ≡ true = grind (arith, nat_tests) in
@@ -74,7 +74,7 @@ says_string at bytes (ended value n) is h =
       fits = omega (arith, ap length text, length-append whole h.1, len);
     }
 says_string at bytes cut is h = (refl, inl (record { parts = h.0; value = h.1; more = h.2; spelled = is ∙ ap (λ (xs : List ℕ). 34 ∷ xs) h.3; mean = h.4; cut = h.5 }))
-says_string at bytes (bad n) is h = (1 + n, record { parts = h.0; value = h.1; more = h.2; spelled = is ∙ ap (λ (xs : List ℕ). 34 ∷ xs) h.3; mean = h.4; no_escape = h.5; place = omega (arith, h.6) }, omega arith)
+says_string at bytes (bad n) is h = (1 + n, record { parts = h.0; value = h.1; more = h.2; spelled = is ∙ ap (λ (xs : List ℕ). 34 ∷ xs) h.3; mean = h.4; no_escape = h.5; offset = omega (arith, h.6) }, omega arith)
 
 -- the backquote after a run
 raw_body : (bs : List ℕ) → raw_len bs < length bs → bs ≡ take (raw_len bs) bs ++ 96 ∷ drop (raw_len bs + 1) bs
@@ -112,7 +112,7 @@ back_is : (n : ℕ) (bytes : List ℕ) → drop (n + 1) bytes ≡ drop n (drop 1
 back_is n bytes = ap (λ (i : ℕ). drop i bytes) (let e : n + 1 ≡ 1 + n = omega arith in e) ∙ sym (drop-drop n 1 bytes)
 
 -- a name after one byte
-named_behind : (c : ℕ) (bytes : List ℕ) → bytes ≡ c ∷ drop 1 bytes → first_is is_word_start (drop 1 bytes) ≡ true → (name_len (drop 1 bytes) ≡ prefix_len is_word_byte (drop 1 bytes)) × (is_name (take (prefix_len is_word_byte (drop 1 bytes)) (drop 1 bytes)) ≡ true)
+named_behind : (c : ℕ) (bytes : List ℕ) → bytes ≡ c ∷ drop 1 bytes → first_is is_word_start (drop 1 bytes) ≡ true → (name_len (drop 1 bytes) ≡ prefix_len is_word_byte (drop 1 bytes)) × (is_name_byte (take (prefix_len is_word_byte (drop 1 bytes)) (drop 1 bytes)) ≡ true)
     × (first_is is_word_byte (drop (prefix_len is_word_byte (drop 1 bytes) + 1) bytes) ≡ false) × (prefix_len is_word_byte (drop 1 bytes) + 1 ≤ length bytes) × (0 < prefix_len is_word_byte (drop 1 bytes))
 named_behind c bytes is t =
     let rest = drop 1 bytes in

@@ -7,13 +7,13 @@ use Rattle.std.specs.List.{list_all}
 use Rattle.tpl_token.specs.Characters.{begins, first_is, is_sign, is_white, is_word_start}
 use Rattle.tpl_token.specs.Grammar.{cursor, gap, IsInAction}
 use Rattle.tpl_token.specs.Numbers.{number}
-use Rattle.tpl_token.specs.Refusals.{begins_comment, begins_number, begins_string, IsUnclosed, HasBadEscape, IsAt, Misses, Cause}
-use Rattle.tpl_token.specs.Scanning.{some_next, Found, cut, bad, after, quoted, escape_at, escape_len, string_found, raw_found, raw_len, without_returns, number_found, number_read, number_len, step, lexeme_at, inner_at, inner_step, opened_at, comment_at, advance}
-use Rattle.tpl_token.specs.Strings.{escaped, spelling}
+use Rattle.tpl_token.specs.Refusals.{text_begins_comment, begins_number, begins_string, IsUnclosedString, HasBadEscape, IsAtOffset, TokenMisses, TokenCause}
+use Rattle.tpl_token.specs.Scanning.{some_next, Found, cut, bad, after_part, quoted, escape_at, escape_len, string_found, raw_found, raw_len, without_returns, number_found, number_read, number_len, scan_step, lexeme_at, inner_at, inner_step, opened_at, comment_token_at, token_advance}
+use Rattle.tpl_token.specs.Strings.{escaped_character, spelling}
 use Rattle.tpl_token.specs.Texts.{bytes_before}
 use Rattle.tpl_token.specs.declared.cursor.Cursor.{Cursor}
-use Rattle.tpl_token.specs.declared.cursor.State.{State}
-use Rattle.tpl_token.specs.declared.cursor.State.TheVariants as state
+use Rattle.tpl_token.specs.declared.cursor.CursorState.{CursorState}
+use Rattle.tpl_token.specs.declared.cursor.CursorState.TheVariants as state
 use Rattle.tpl_token.specs.declared.refused.TokenRefused.{TokenRefused}
 use Rattle.tpl_token.specs.declared.refused.TokenRefused.TheVariants as refused
 use Rattle.tpl_token.specs.declared.token.Token.{Token}
@@ -33,19 +33,19 @@ feed_cut : (more : List ℕ) → (more ≡ []) ⊎ IsTrue (begins (codes "\n") m
 feed_cut more (inl none) = ap (quoted 0) none
 feed_cut more (inr feed) = ap (quoted 0) (begins-is (codes "\n") more feed)
 
-missed_string : (at : ℕ) (bytes : List ℕ) → IsUnclosed bytes → lexeme_at at bytes ≡ Err (refused.UnclosedString at)
+missed_string : (at : ℕ) (bytes : List ℕ) → IsUnclosedString bytes → lexeme_at at bytes ≡ Err (refused.UnclosedString at)
 missed_string at bytes u =
-    let reads : quoted 0 (spelling u.parts ++ u.more) ≡ cut = parts_read u.parts u.value u.more u.mean ∙ ap (after u.value (length (spelling u.parts))) (feed_cut u.more u.cut) in
+    let reads : quoted 0 (spelling u.parts ++ u.more) ≡ cut = parts_read u.parts u.value u.more u.mean ∙ ap (after_part u.value (length (spelling u.parts))) (feed_cut u.more u.cut) in
     ap (lexeme_at at) u.spelled ∙ ap (string_found at) reads
 
-no_escape_at : (more : List ℕ) → ((bytes rest : List ℕ) → more ≡ bytes ++ rest → escaped bytes ≡ None) → escape_at more ≡ None
+no_escape_at : (more : List ℕ) → ((bytes rest : List ℕ) → more ≡ bytes ++ rest → escaped_character bytes ≡ None) → escape_at more ≡ None
 no_escape_at more none = ap (option_map (λ c. (c, escape_len more))) (none (take (escape_len more) more) (drop (escape_len more) more) (sym (take-append-drop (escape_len more) more)))
 
-missed_escape : (at n place : ℕ) (bytes : List ℕ) → HasBadEscape bytes n → place ≡ at + n → lexeme_at at bytes ≡ Err (refused.BadEscape place)
-missed_escape at n place bytes b is =
+missed_escape : (at n offset : ℕ) (bytes : List ℕ) → HasBadEscape bytes n → offset ≡ at + n → lexeme_at at bytes ≡ Err (refused.BadEscape offset)
+missed_escape at n offset bytes b is =
     let k = length (spelling b.parts) in
-    let reads : quoted 0 (spelling b.parts ++ 92 ∷ b.more) ≡ bad (k + 0) = parts_read b.parts b.value (92 ∷ b.more) b.mean ∙ ap (after b.value k) (quoted_no_escape b.more (no_escape_at b.more b.no_escape)) in
-    let there : at + 1 + (k + 0) ≡ place = omega (arith, is, b.place) in
+    let reads : quoted 0 (spelling b.parts ++ 92 ∷ b.more) ≡ bad (k + 0) = parts_read b.parts b.value (92 ∷ b.more) b.mean ∙ ap (after_part b.value k) (quoted_no_escape b.more (no_escape_at b.more b.no_escape)) in
+    let there : at + 1 + (k + 0) ≡ offset = omega (arith, is, b.offset) in
     ap (lexeme_at at) b.spelled ∙ ap (string_found at) reads ∙ ap (λ (i : ℕ). Err (refused.BadEscape i)) there
 
 missed_raw : (at : ℕ) (bytes : List ℕ) → begins (codes "`") bytes ≡ true → Fails at bytes → lexeme_at at bytes ≡ Err (refused.UnclosedString at)
@@ -72,7 +72,7 @@ missed_number at bytes begun fails =
     number_none at bytes (Some n) fails = absurd (fails (kind.Number n, number_len bytes) refl)
 
 -- what begins neither a number nor a string misses as a character
-other : (why : TokenRefused) (at : ℕ) (bytes : List ℕ) → begins_number bytes ≡ false → begins_string bytes ≡ false → Misses why at bytes → why ≡ refused.BadCharacter at
+other : (why : TokenRefused) (at : ℕ) (bytes : List ℕ) → begins_number bytes ≡ false → begins_string bytes ≡ false → TokenMisses why at bytes → why ≡ refused.BadCharacter at
 other (refused.UnclosedAction p) at bytes number string h = absurd h
 other (refused.UnclosedComment p) at bytes number string h = absurd h
 other (refused.BadDelimiter p) at bytes number string h = absurd h
@@ -87,7 +87,7 @@ missed_other : (at : ℕ) (bytes : List ℕ) (r : Found) → bytes ≢ [] → be
 missed_other at bytes (Ok x) some number string fails e = absurd (fails x e)
 missed_other at bytes (Err why) some number string fails e = e ∙ ap Err (other why at bytes number string (says_lexeme at bytes some (Err why) e))
 
-missed : (why : TokenRefused) (at : ℕ) (bytes : List ℕ) → Misses why at bytes → Fails at bytes → lexeme_at at bytes ≡ Err why
+missed : (why : TokenRefused) (at : ℕ) (bytes : List ℕ) → TokenMisses why at bytes → Fails at bytes → lexeme_at at bytes ≡ Err why
 missed (refused.UnclosedAction p) at bytes h fails = absurd h
 missed (refused.UnclosedComment p) at bytes h fails = absurd h
 missed (refused.BadDelimiter p) at bytes h fails = absurd h
@@ -99,15 +99,15 @@ missed (refused.UnclosedString p) at bytes (e, inl u) fails = missed_string at b
 missed (refused.UnclosedString p) at bytes (e, inr mark) fails = missed_raw at bytes mark fails ∙ ap (λ (i : ℕ). Err (refused.UnclosedString i)) (sym e)
 
 -- no token is found
-abbrev pub NoNext : List ℕ → State → ℕ → Type 0
-NoNext text m at = (x : Token × Cursor) → advance text (cursor m at) ≡ Ok (Some x) → ⊥
+abbrev pub NoNext : List ℕ → CursorState → ℕ → Type 0
+NoNext text m at = (x : Token × Cursor) → token_advance text (cursor m at) ≡ Ok (Some x) → ⊥
 
 -- what misses is there
-misses_some : (why : TokenRefused) (at : ℕ) (bytes : List ℕ) → Misses why at bytes → nat_eq (length bytes) 0 ≡ false
+misses_some : (why : TokenRefused) (at : ℕ) (bytes : List ℕ) → TokenMisses why at bytes → nat_eq (length bytes) 0 ≡ false
 misses_some why at (b ∷ bs) h = let some : 0 < length (b ∷ bs) = omega arith in grind (arith, nat_tests)
 misses_some why at [] h = absurd (nothing why at h)
   where
-    nothing : (why : TokenRefused) (at : ℕ) → Misses why at [] → ⊥
+    nothing : (why : TokenRefused) (at : ℕ) → TokenMisses why at [] → ⊥
     nothing (refused.UnclosedAction p) at h = h
     nothing (refused.UnclosedComment p) at h = h
     nothing (refused.BadDelimiter p) at h = h
@@ -119,56 +119,56 @@ misses_some why at [] h = absurd (nothing why at h)
     nothing (refused.UnclosedString p) at (e, inr mark) = true≢false (sym mark)
 
 -- after white space
-behind_missed : (opened spaces at : ℕ) (bytes : List ℕ) (why : TokenRefused) → ((x : Token × Cursor) → inner_at opened spaces at bytes ≡ Ok x → ⊥) → Misses why at bytes → inner_at opened spaces at bytes ≡ Err why
+behind_missed : (opened spaces at : ℕ) (bytes : List ℕ) (why : TokenRefused) → ((x : Token × Cursor) → inner_at opened spaces at bytes ≡ Ok x → ⊥) → TokenMisses why at bytes → inner_at opened spaces at bytes ≡ Err why
 behind_missed opened spaces at bytes why none h =
     let some = misses_some why at bytes h in
-    either (begins (codes "}}") bytes) (λ t. absurd (none (step kind.Close at 2 (state.Text false)) (rw (some, t) refl)))
-    (λ f. either (nat_lt 0 spaces && begins (codes "-}}") bytes) (λ t. absurd (none (step kind.Close at 3 (state.Text true)) (rw (some, f, t) refl)))
+    either (begins (codes "}}") bytes) (λ t. absurd (none (scan_step kind.Close at 2 (state.Text false)) (rw (some, t) refl)))
+    (λ f. either (nat_lt 0 spaces && begins (codes "-}}") bytes) (λ t. absurd (none (scan_step kind.Close at 3 (state.Text true)) (rw (some, f, t) refl)))
     (λ g. let reads : inner_at opened spaces at bytes ≡ inner_step opened at (lexeme_at at bytes) = rw (some, f, g) refl in
-    reads ∙ ap (inner_step opened at) (missed why at bytes h (λ x e. none (step x.0 at x.1 (state.Action opened)) (reads ∙ ap (inner_step opened at) e)))))
+    reads ∙ ap (inner_step opened at) (missed why at bytes h (λ x e. none (scan_step x.0 at x.1 (state.Action opened)) (reads ∙ ap (inner_step opened at) e)))))
 
--- a place of an action where nothing stands
-inner_missed : (text : List ℕ) (m : State) (from : ℕ) (why : TokenRefused) (at : ℕ) (bytes : List ℕ) → NoNext text m from → IsAt text (cursor m from) at bytes → Misses why at bytes → advance text (cursor m from) ≡ Err why
+-- an offset of an action where nothing stands
+inner_missed : (text : List ℕ) (m : CursorState) (from : ℕ) (why : TokenRefused) (at : ℕ) (bytes : List ℕ) → NoNext text m from → IsAtOffset text (cursor m from) at bytes → TokenMisses why at bytes → token_advance text (cursor m from) ≡ Err why
 inner_missed text m from why at bytes none a h =
     let way = in_action m a.opened from (drop from text) a.inside a.no_comment ∙ ap some_next (skips a.opened from (drop from text) a.between bytes a.spelled a.white a.stops) in
-    way ∙ ap some_next (behind_missed a.opened (length a.between) (from + length a.between) bytes why (λ x e. none x (way ∙ ap some_next e)) (subst (λ (i : ℕ). Misses why i bytes) a.stands h))
+    way ∙ ap some_next (behind_missed a.opened (length a.between) (from + length a.between) bytes why (λ x e. none x (way ∙ ap some_next e)) (subst (λ (i : ℕ). TokenMisses why i bytes) a.stands h))
 
 -- the text ends in an action
-action_missed : (text : List ℕ) (m : State) (at opened : ℕ) → IsInAction m opened → list_all is_white (drop at text) ≡ true → advance text (cursor m at) ≡ Err (refused.UnclosedAction opened)
+action_missed : (text : List ℕ) (m : CursorState) (at opened : ℕ) → IsInAction m opened → list_all is_white (drop at text) ≡ true → token_advance text (cursor m at) ≡ Err (refused.UnclosedAction opened)
 action_missed text m at opened h white =
     let rest = drop at text in
     let all = sym (append-nil rest) in
     in_action m opened at rest h (comment_none m opened rest rest [] h all white refl refl) ∙ ap some_next (skips opened at rest rest [] all white refl)
 
 -- the text ends in a comment
-comment_missed : (text : List ℕ) (m : State) (at opened : ℕ) → NoNext text m at → IsInAction m opened → begins_comment m (drop at text) ≡ true → advance text (cursor m at) ≡ Err (refused.UnclosedComment opened)
+comment_missed : (text : List ℕ) (m : CursorState) (at opened : ℕ) → NoNext text m at → IsInAction m opened → text_begins_comment m (drop at text) ≡ true → token_advance text (cursor m at) ≡ Err (refused.UnclosedComment opened)
 comment_missed text (state.Text _) at opened none h begun = absurd h
 comment_missed text (state.Action _) at opened none h begun = absurd (true≢false (sym begun))
 comment_missed text state.Commented at opened none h begun = absurd h
-comment_missed text (state.Opened trims place) at opened none h begun =
+comment_missed text (state.Opened trims offset) at opened none h begun =
     let rest = drop at text in
     let body = drop (length (gap trims) + 2) rest in
     let n = bytes_before (codes "*/") body in
-    let reads : opened_at trims place at rest ≡ comment_at place (at + length (gap trims)) body = rw begun refl in
-    ap some_next reads ∙ either (nat_lt n (length body)) (λ t. let found : opened_at trims place at rest ≡ Ok (step kind.Comment (at + length (gap trims)) (n + 4) state.Commented) = reads ∙ rw t refl in absurd (none (step kind.Comment (at + length (gap trims)) (n + 4) state.Commented) (ap some_next found)))
+    let reads : opened_at trims offset at rest ≡ comment_token_at offset (at + length (gap trims)) body = rw begun refl in
+    ap some_next reads ∙ either (nat_lt n (length body)) (λ t. let found : opened_at trims offset at rest ≡ Ok (scan_step kind.Comment (at + length (gap trims)) (n + 4) state.Commented) = reads ∙ rw t refl in absurd (none (scan_step kind.Comment (at + length (gap trims)) (n + 4) state.Commented) (ap some_next found)))
     (λ f. rw f (ap (λ (i : ℕ). Err (refused.UnclosedComment i)) h))
 
 -- a comment without its end
-delimiter_missed : (text : List ℕ) (at : ℕ) → NoNext text state.Commented at → advance text (cursor state.Commented at) ≡ Err (refused.BadDelimiter at)
+delimiter_missed : (text : List ℕ) (at : ℕ) → NoNext text state.Commented at → token_advance text (cursor state.Commented at) ≡ Err (refused.BadDelimiter at)
 delimiter_missed text at none =
     let rest = drop at text in
-    either (begins (codes "}}") rest) (λ t. absurd (none (step kind.Close at 2 (state.Text false)) (rw t refl)))
-    (λ f. either (begins (codes " -}}") rest) (λ t. absurd (none (step kind.Close (at + 1) 3 (state.Text true)) (rw (f, t) refl))) (λ g. rw (f, g) refl))
+    either (begins (codes "}}") rest) (λ t. absurd (none (scan_step kind.Close at 2 (state.Text false)) (rw t refl)))
+    (λ f. either (begins (codes " -}}") rest) (λ t. absurd (none (scan_step kind.Close (at + 1) 3 (state.Text true)) (rw (f, t) refl))) (λ g. rw (f, g) refl))
 
 -- The cause is found.
-pub cause_found : (why : TokenRefused) (text : List ℕ) (from : Cursor) → NoNext text from.state from.at → Cause why text from → advance text from ≡ Err why
-cause_found (refused.UnclosedAction place) text from none h = action_missed text from.state from.at place h.0 h.1
-cause_found (refused.UnclosedComment place) text from none h = comment_missed text from.state from.at place none h.0 h.1
-cause_found (refused.BadDelimiter place) text from none h =
-    let there : advance text (cursor state.Commented from.at) ≡ Err (refused.BadDelimiter from.at) = delimiter_missed text from.at (λ x e. none x (ap (λ m. advance text (cursor m from.at)) h.0 ∙ e)) in
-    ap (λ m. advance text (cursor m from.at)) h.0 ∙ there ∙ ap (λ (i : ℕ). Err (refused.BadDelimiter i)) (sym h.1)
-cause_found (refused.BadCharacter place) text from none h = inner_missed text from.state from.at (refused.BadCharacter place) h.0 h.1 none h.2 h.3
-cause_found (refused.UnclosedString place) text from none h = inner_missed text from.state from.at (refused.UnclosedString place) h.0 h.1 none h.2 h.3
-cause_found (refused.BadNumber place) text from none h = inner_missed text from.state from.at (refused.BadNumber place) h.0 h.1 none h.2 h.3
-cause_found (refused.BadEscape place) text from none h = inner_missed text from.state from.at (refused.BadEscape place) h.0 h.1 none h.2 h.3
+pub cause_found : (why : TokenRefused) (text : List ℕ) (from : Cursor) → NoNext text from.state from.at → TokenCause why text from → token_advance text from ≡ Err why
+cause_found (refused.UnclosedAction offset) text from none h = action_missed text from.state from.at offset h.0 h.1
+cause_found (refused.UnclosedComment offset) text from none h = comment_missed text from.state from.at offset none h.0 h.1
+cause_found (refused.BadDelimiter offset) text from none h =
+    let there : token_advance text (cursor state.Commented from.at) ≡ Err (refused.BadDelimiter from.at) = delimiter_missed text from.at (λ x e. none x (ap (λ m. token_advance text (cursor m from.at)) h.0 ∙ e)) in
+    ap (λ m. token_advance text (cursor m from.at)) h.0 ∙ there ∙ ap (λ (i : ℕ). Err (refused.BadDelimiter i)) (sym h.1)
+cause_found (refused.BadCharacter offset) text from none h = inner_missed text from.state from.at (refused.BadCharacter offset) h.0 h.1 none h.2 h.3
+cause_found (refused.UnclosedString offset) text from none h = inner_missed text from.state from.at (refused.UnclosedString offset) h.0 h.1 none h.2 h.3
+cause_found (refused.BadNumber offset) text from none h = inner_missed text from.state from.at (refused.BadNumber offset) h.0 h.1 none h.2 h.3
+cause_found (refused.BadEscape offset) text from none h = inner_missed text from.state from.at (refused.BadEscape offset) h.0 h.1 none h.2 h.3
 cause_found refused.Memory text from none h = inner_missed text from.state from.at refused.Memory h.0 h.1 none h.2 h.3

@@ -5,14 +5,14 @@ use Rattle.std.proofs.lemmas.List.{drop-drop, length-drop, take-append-drop, len
 use Rattle.std.proofs.lemmas.List.Sums.{prefix_len-le-length}
 use Rattle.std.specs.List.{list_all, prefix_len}
 use Rattle.tpl_token.specs.Characters.{begins, first_is, is_white}
-use Rattle.tpl_token.specs.Grammar.{cursor, gap, close_mark, MayClose, IsInAction, IsInner, Stands, Next, IsEnd}
+use Rattle.tpl_token.specs.Grammar.{cursor, gap, close_mark, MayClose, IsInAction, IsInner, TokenStands, Next, IsTokenEnd}
 use Rattle.tpl_token.specs.Lexemes.{IsLexeme}
-use Rattle.tpl_token.specs.Refusals.{begins_comment, IsAt, Misses, Cause}
-use Rattle.tpl_token.specs.Scanning.{Advance, Found, Step, some_next, step, inner_step, lexeme_at, inner_at, inside_at, opened_at, comment_at, commented_at, open_at, text_at, advance}
+use Rattle.tpl_token.specs.Refusals.{text_begins_comment, IsAtOffset, TokenMisses, TokenCause}
+use Rattle.tpl_token.specs.Scanning.{TokenAdvance, Found, ScanStep, some_next, scan_step, inner_step, lexeme_at, inner_at, inside_at, opened_at, comment_token_at, commented_at, open_at, text_token_at, token_advance}
 use Rattle.tpl_token.specs.Texts.{bytes_before, text_len, trims_before, kept_start, kept_end}
 use Rattle.tpl_token.specs.declared.cursor.Cursor.{Cursor}
-use Rattle.tpl_token.specs.declared.cursor.State.{State}
-use Rattle.tpl_token.specs.declared.cursor.State.TheVariants as state
+use Rattle.tpl_token.specs.declared.cursor.CursorState.{CursorState}
+use Rattle.tpl_token.specs.declared.cursor.CursorState.TheVariants as state
 use Rattle.tpl_token.specs.declared.refused.TokenRefused.{TokenRefused}
 use Rattle.tpl_token.specs.declared.refused.TokenRefused.TheVariants as refused
 use Rattle.tpl_token.specs.declared.token.Token.{Token}
@@ -22,10 +22,10 @@ use Rattle.tpl_token.proofs.LexemesStand.{SaysLexeme, says_lexeme}
 use Rattle.tpl_token.proofs.Marks.{split, either, both, begins-is, one_more, run_passes, run_stops}
 
 -- what a search for the next token says
-abbrev pub SaysNext : List ℕ → Cursor → Advance → Type 0
+abbrev pub SaysNext : List ℕ → Cursor → TokenAdvance → Type 0
 SaysNext text from (Ok (Some x)) = Next text from x.0 x.1
-SaysNext text from (Ok None) = IsEnd text from
-SaysNext text from (Err why) = Cause why text from
+SaysNext text from (Ok None) = IsTokenEnd text from
+SaysNext text from (Err why) = TokenCause why text from
 
 -- what stands after a text is an action, or nothing
 pub before_lands : (mark bytes : List ℕ) → 0 < length (drop (bytes_before mark bytes) bytes) → begins mark (drop (bytes_before mark bytes) bytes) ≡ true
@@ -60,35 +60,35 @@ says_open text trims at fits none o e =
     split (nat_eq (length (drop n rest)) 0) e
     (λ t e. let empty = none_left (length (drop n rest)) t in
     subst (λ o. SaysNext text (cursor (state.Text trims) at) (Ok o)) e
-    (record { trims = trims; place = refl; nothing_left = none; up_to = omega (arith, empty, length-drop n rest, length-drop at text, before_fits (codes "{{") rest, fits) }))
+    (record { trims = trims; offset = refl; nothing_left = none; up_to = omega (arith, empty, length-drop n rest, length-drop at text, before_fits (codes "{{") rest, fits) }))
     (λ f e. let some = some_left (length (drop n rest)) f in
     subst (λ o. SaysNext text (cursor (state.Text trims) at) (Ok o)) e
     (record {
       trims = trims_before (drop n rest);
-      no_text = record { trims = trims; place = refl; nothing_left = none; up_to = refl };
+      no_text = record { trims = trims; offset = refl; nothing_left = none; up_to = refl };
       mark = ap (begins (codes "{{")) (sym there) ∙ before_lands (codes "{{") rest some;
       trimming = ap trims_before (sym there);
       ends = refl;
       goes = refl;
     }))
 
-says_text : (text : List ℕ) (trims : Bool) (at : ℕ) → at ≤ length text → (o : Option (Token × Cursor)) → text_at trims at (drop at text) ≡ o → SaysNext text (cursor (state.Text trims) at) (Ok o)
+says_text : (text : List ℕ) (trims : Bool) (at : ℕ) → at ≤ length text → (o : Option (Token × Cursor)) → text_token_at trims at (drop at text) ≡ o → SaysNext text (cursor (state.Text trims) at) (Ok o)
 says_text text trims at fits o e =
     let rest = drop at text in
     split (nat_lt (kept_start trims rest) (kept_end rest)) e
     (λ t e. subst (λ o. SaysNext text (cursor (state.Text trims) at) (Ok o)) e
-    (record { trims = trims; place = refl; starts = refl; ends = refl; not_empty = omega (arith, lesser (kept_start trims rest) (kept_end rest) t); goes = refl }))
+    (record { trims = trims; offset = refl; starts = refl; ends = refl; not_empty = omega (arith, lesser (kept_start trims rest) (kept_end rest) t); goes = refl }))
     (λ f e. says_open text trims at fits (no_lesser (kept_start trims rest) (kept_end rest) f) o e)
 
 -- an action may end after white space
-may_close : (m : State) (opened : ℕ) (between : List ℕ) (trims : Bool) → IsInAction m opened → list_all is_white between ≡ true → (trims ≡ true → between ≢ []) → MayClose m between trims
+may_close : (m : CursorState) (opened : ℕ) (between : List ℕ) (trims : Bool) → IsInAction m opened → list_all is_white between ≡ true → (trims ≡ true → between ≢ []) → MayClose m between trims
 may_close (state.Text _) opened between trims h white some = absurd h
 may_close (state.Opened _ _) opened between trims h white some = (white, some)
 may_close (state.Action _) opened between trims h white some = (white, some)
 may_close state.Commented opened between trims h white some = absurd h
 
 -- a token of an action
-pub inner_stands : (what : TokenKind) (bytes rest text : List ℕ) (from : Cursor) (start end : ℕ) (to : Cursor) → IsLexeme what bytes rest → IsInner what text from start end to → Stands what text from start end to
+pub inner_stands : (what : TokenKind) (bytes rest text : List ℕ) (from : Cursor) (start end : ℕ) (to : Cursor) → IsLexeme what bytes rest → IsInner what text from start end to → TokenStands what text from start end to
 inner_stands kind.Text bytes rest text from start end to l h = absurd l
 inner_stands kind.Open bytes rest text from start end to l h = absurd l
 inner_stands kind.Close bytes rest text from start end to l h = absurd l
@@ -106,8 +106,8 @@ inner_stands kind.Comma bytes rest text from start end to l h = h
 inner_stands kind.Left bytes rest text from start end to l h = h
 inner_stands kind.Right bytes rest text from start end to l h = h
 
--- what misses at a place of an action is the cause
-caused : (why : TokenRefused) (text : List ℕ) (from : Cursor) (at : ℕ) (bytes : List ℕ) → IsAt text from at bytes → Misses why at bytes → Cause why text from
+-- what misses at an offset of an action is the cause
+caused : (why : TokenRefused) (text : List ℕ) (from : Cursor) (at : ℕ) (bytes : List ℕ) → IsAtOffset text from at bytes → TokenMisses why at bytes → TokenCause why text from
 caused (refused.UnclosedAction p) text from at bytes a h = absurd h
 caused (refused.UnclosedComment p) text from at bytes a h = absurd h
 caused (refused.BadDelimiter p) text from at bytes a h = absurd h
@@ -117,14 +117,14 @@ caused (refused.UnclosedString p) text from at bytes a h = (at, bytes, a, h)
 caused (refused.BadNumber p) text from at bytes a h = (at, bytes, a, h)
 caused (refused.BadEscape p) text from at bytes a h = (at, bytes, a, h)
 
-says_inner : (text : List ℕ) (m : State) (at opened : ℕ) (between bytes : List ℕ) → IsInAction m opened → begins_comment m (drop at text) ≡ false → drop at text ≡ between ++ bytes → list_all is_white between ≡ true → first_is is_white bytes ≡ false
+says_inner : (text : List ℕ) (m : CursorState) (at opened : ℕ) (between bytes : List ℕ) → IsInAction m opened → text_begins_comment m (drop at text) ≡ false → drop at text ≡ between ++ bytes → list_all is_white between ≡ true → first_is is_white bytes ≡ false
     → (r : Found) → SaysLexeme (at + length between) bytes r → SaysNext text (cursor m at) (some_next (inner_step opened (at + length between) r))
 says_inner text m at opened between bytes h none is white stops (Ok x) f =
     let long : length (take x.1 bytes) ≡ x.1 = length-take-le x.1 bytes f.fits in
     inner_stands x.0 (take x.1 bytes) (drop x.1 bytes) text (cursor m at) (at + length between) (at + length between + x.1) (cursor (state.Action opened) (at + length between + x.1)) f.lexeme
     (record {
       opened = opened;
-      place = h;
+      offset = h;
       between = between;
       lexeme = take x.1 bytes;
       more = drop x.1 bytes;
@@ -138,8 +138,8 @@ says_inner text m at opened between bytes h none is white stops (Ok x) f =
 says_inner text m at opened between bytes h none is white stops (Err why) f =
     caused why text (cursor m at) (at + length between) bytes (record { opened = opened; inside = h; no_comment = none; between = between; spelled = is; white = white; stops = stops; stands = refl }) f
 
-says_close : (text : List ℕ) (m : State) (at opened : ℕ) (between bytes : List ℕ) (trims : Bool) → IsInAction m opened → drop at text ≡ between ++ bytes → list_all is_white between ≡ true → (trims ≡ true → between ≢ []) → begins (close_mark trims) bytes ≡ true
-    → SaysNext text (cursor m at) (Ok (Some (step kind.Close (at + length between) (length (close_mark trims)) (state.Text trims))))
+says_close : (text : List ℕ) (m : CursorState) (at opened : ℕ) (between bytes : List ℕ) (trims : Bool) → IsInAction m opened → drop at text ≡ between ++ bytes → list_all is_white between ≡ true → (trims ≡ true → between ≢ []) → begins (close_mark trims) bytes ≡ true
+    → SaysNext text (cursor m at) (Ok (Some (scan_step kind.Close (at + length between) (length (close_mark trims)) (state.Text trims))))
 says_close text m at opened between bytes trims h is white some mark = record {
   trims = trims;
   between = between;
@@ -152,8 +152,8 @@ says_close text m at opened between bytes trims h is white some mark = record {
 }
 
 -- after white space
-says_behind : (text : List ℕ) (m : State) (at opened : ℕ) (between bytes : List ℕ) → IsInAction m opened → begins_comment m (drop at text) ≡ false → drop at text ≡ between ++ bytes → list_all is_white between ≡ true → first_is is_white bytes ≡ false
-    → (r : Step) → inner_at opened (length between) (at + length between) bytes ≡ r → SaysNext text (cursor m at) (some_next r)
+says_behind : (text : List ℕ) (m : CursorState) (at opened : ℕ) (between bytes : List ℕ) → IsInAction m opened → text_begins_comment m (drop at text) ≡ false → drop at text ≡ between ++ bytes → list_all is_white between ≡ true → first_is is_white bytes ≡ false
+    → (r : ScanStep) → inner_at opened (length between) (at + length between) bytes ≡ r → SaysNext text (cursor m at) (some_next r)
 says_behind text m at opened between bytes h none is white stops r e =
     split (nat_eq (length bytes) 0) e
     (λ t e. subst (λ r. SaysNext text (cursor m at) (some_next r)) e (h, ap (list_all is_white) (is ∙ ap (λ (xs : List ℕ). between ++ xs) (empty bytes (none_left (length bytes) t)) ∙ append-nil between) ∙ white))
@@ -171,7 +171,7 @@ says_behind text m at opened between bytes h none is white stops r e =
     no_length : (bytes : List ℕ) → 0 < length bytes → bytes ≢ []
     no_length bytes some none = omega (arith, some, ap length none)
 
-says_inside : (text : List ℕ) (m : State) (at opened : ℕ) → IsInAction m opened → begins_comment m (drop at text) ≡ false → (r : Step) → inside_at opened at (drop at text) ≡ r → SaysNext text (cursor m at) (some_next r)
+says_inside : (text : List ℕ) (m : CursorState) (at opened : ℕ) → IsInAction m opened → text_begins_comment m (drop at text) ≡ false → (r : ScanStep) → inside_at opened at (drop at text) ≡ r → SaysNext text (cursor m at) (some_next r)
 says_inside text m at opened h none r e =
     let rest = drop at text in
     let n = prefix_len is_white rest in
@@ -184,8 +184,8 @@ body_is body inside =
     let n = bytes_before (codes "*/") body in
     sym (take-append-drop n body) ∙ ap (λ (xs : List ℕ). take n body ++ xs) (begins-is (codes "*/") (drop n body) (before_lands (codes "*/") body (omega (arith, length-drop n body, inside))))
 
-says_comment : (text : List ℕ) (trims : Bool) (at opened : ℕ) (body : List ℕ) → drop at text ≡ gap trims ++ (codes "/*" ++ body) → begins_comment (state.Opened trims opened) (drop at text) ≡ true
-    → (r : Step) → comment_at opened (at + length (gap trims)) body ≡ r → SaysNext text (cursor (state.Opened trims opened) at) (some_next r)
+says_comment : (text : List ℕ) (trims : Bool) (at opened : ℕ) (body : List ℕ) → drop at text ≡ gap trims ++ (codes "/*" ++ body) → text_begins_comment (state.Opened trims opened) (drop at text) ≡ true
+    → (r : ScanStep) → comment_token_at opened (at + length (gap trims)) body ≡ r → SaysNext text (cursor (state.Opened trims opened) at) (some_next r)
 says_comment text trims at opened body is begun r e =
     let n = bytes_before (codes "*/") body in
     split (nat_lt n (length body)) e
@@ -196,7 +196,7 @@ says_comment text trims at opened body is begun r e =
     (record {
       trims = trims;
       opened = opened;
-      place = refl;
+      offset = refl;
       body = take n body;
       more = drop 2 (drop n body);
       spelled = is ∙ ap (λ (xs : List ℕ). gap trims ++ (codes "/*" ++ xs)) whole;
@@ -207,7 +207,7 @@ says_comment text trims at opened body is begun r e =
     }))
     (λ f e. subst (λ r. SaysNext text (cursor (state.Opened trims opened) at) (some_next r)) e (refl, begun))
 
-says_opened : (text : List ℕ) (trims : Bool) (at opened : ℕ) (r : Step) → opened_at trims opened at (drop at text) ≡ r → SaysNext text (cursor (state.Opened trims opened) at) (some_next r)
+says_opened : (text : List ℕ) (trims : Bool) (at opened : ℕ) (r : ScanStep) → opened_at trims opened at (drop at text) ≡ r → SaysNext text (cursor (state.Opened trims opened) at) (some_next r)
 says_opened text true at opened r e = split (begins (codes " /*") (drop at text)) e
     (λ t e. says_comment text true at opened (drop 3 (drop at text)) (begins-is (codes " /*") (drop at text) t) t r e)
     (λ f e. says_inside text (state.Opened true opened) at opened refl f r e)
@@ -215,7 +215,7 @@ says_opened text false at opened r e = split (begins (codes "/*") (drop at text)
     (λ t e. says_comment text false at opened (drop 2 (drop at text)) (begins-is (codes "/*") (drop at text) t) t r e)
     (λ f e. says_inside text (state.Opened false opened) at opened refl f r e)
 
-says_commented : (text : List ℕ) (at : ℕ) (r : Step) → commented_at at (drop at text) ≡ r → SaysNext text (cursor state.Commented at) (some_next r)
+says_commented : (text : List ℕ) (at : ℕ) (r : ScanStep) → commented_at at (drop at text) ≡ r → SaysNext text (cursor state.Commented at) (some_next r)
 says_commented text at r e =
     let rest = drop at text in
     split (begins (codes "}}") rest) e
@@ -225,8 +225,8 @@ says_commented text at r e =
     (λ _ e. subst (λ r. SaysNext text (cursor state.Commented at) (some_next r)) e (refl, refl)))
 
 -- What is found next stands there, and where nothing is found, it is said why.
-pub says_next : (text : List ℕ) (m : State) (at : ℕ) → at ≤ length text → (r : Advance) → advance text (cursor m at) ≡ r → SaysNext text (cursor m at) r
-says_next text (state.Text trims) at fits r e = subst (SaysNext text (cursor (state.Text trims) at)) e (says_text text trims at fits (text_at trims at (drop at text)) refl)
+pub says_next : (text : List ℕ) (m : CursorState) (at : ℕ) → at ≤ length text → (r : TokenAdvance) → token_advance text (cursor m at) ≡ r → SaysNext text (cursor m at) r
+says_next text (state.Text trims) at fits r e = subst (SaysNext text (cursor (state.Text trims) at)) e (says_text text trims at fits (text_token_at trims at (drop at text)) refl)
 says_next text (state.Opened trims opened) at fits r e = subst (SaysNext text (cursor (state.Opened trims opened) at)) e (says_opened text trims at opened (opened_at trims opened at (drop at text)) refl)
 says_next text (state.Action opened) at fits r e = subst (SaysNext text (cursor (state.Action opened) at)) e (says_inside text (state.Action opened) at opened refl refl (inside_at opened at (drop at text)) refl)
 says_next text state.Commented at fits r e = subst (SaysNext text (cursor state.Commented at)) e (says_commented text at (commented_at at (drop at text)) refl)

@@ -8,17 +8,17 @@ use Rattle.std.proofs.lemmas.Str.Ascii.{IsAscii-nil, IsAscii-cons}
 use Rattle.std.specs.List.{list_all, prefix_len, suffix_len}
 use Rattle.std.specs.Str.{IsAscii, IsCharBoundary, IsUtf8}
 use Rattle.tpl_token.specs.Answers.{TokensAnswers}
-use Rattle.tpl_token.specs.Characters.{begins, first_is, is_name, is_sign, is_white, is_word_byte, is_word_start}
-use Rattle.tpl_token.specs.Grammar.{beginning, cursor, gap, open_len, close_mark, rest_at, IsText, IsOpen, IsComment, IsClose, MayClose, IsInAction, IsInner, Stands, Reads, AreTokens}
+use Rattle.tpl_token.specs.Characters.{begins, first_is, is_name_byte, is_sign, is_white, is_word_byte, is_word_start}
+use Rattle.tpl_token.specs.Grammar.{lexer_beginning, cursor, gap, open_len, close_mark, rest_at, IsTextToken, IsActionOpen, IsComment, IsClose, MayClose, IsInAction, IsInner, TokenStands, TokensRead, AreTokens}
 use Rattle.tpl_token.specs.Lexemes.{IsLexeme}
 use Rattle.tpl_token.specs.Numbers.{number}
-use Rattle.tpl_token.specs.Refusals.{HasBadEscape, IsAt, Misses, Cause, IsRefused}
+use Rattle.tpl_token.specs.Refusals.{HasBadEscape, IsAtOffset, TokenMisses, TokenCause, IsTokenRefused}
 use Rattle.tpl_token.specs.Spans.{AreCuts, IsCutAt}
 use Rattle.tpl_token.specs.Strings.{spelling}
 use Rattle.tpl_token.specs.Texts.{text_len, trims_before, kept_start, kept_end}
 use Rattle.tpl_token.specs.declared.cursor.Cursor.{Cursor}
-use Rattle.tpl_token.specs.declared.cursor.State.{State}
-use Rattle.tpl_token.specs.declared.cursor.State.TheVariants as state
+use Rattle.tpl_token.specs.declared.cursor.CursorState.{CursorState}
+use Rattle.tpl_token.specs.declared.cursor.CursorState.TheVariants as state
 use Rattle.tpl_token.specs.declared.refused.TokenRefused.{TokenRefused}
 use Rattle.tpl_token.specs.declared.refused.TokenRefused.TheVariants as refused
 use Rattle.tpl_token.specs.declared.token.Token.{Token}
@@ -81,7 +81,7 @@ unfolding EndsPlain
 after_token text at next bytes more utf8 cut is (inl ascii) len = after_run text at next bytes more utf8 cut is ascii len
 after_token text at next bytes more utf8 cut is (inr h) len = after_last text at next h.1 h.0 more utf8 (is ∙ ap (λ (xs : List ℕ). xs ++ more) h.2) h.3 (len ∙ ap (λ (xs : List ℕ). at + length xs) h.2)
 
-name_ascii : (bytes : List ℕ) → is_name bytes ≡ true → IsAscii bytes
+name_ascii : (bytes : List ℕ) → is_name_byte bytes ≡ true → IsAscii bytes
 name_ascii bytes e = word_ascii bytes (both (first_is is_word_start bytes) (list_all is_word_byte bytes) e).1
 
 number_ascii : (bytes : List ℕ) (n : ℤ) → number bytes ≡ Some n → IsAscii bytes
@@ -126,7 +126,7 @@ lexeme_plain kind.Comment bytes rest h = absurd h
 -- the text may be cut where it is read, and at the `{{` of the action there
 pub record IsCutCursor (text : List ℕ) (c : Cursor) : Type 0 where
   pub here : IsCharBoundary text c.at
-  pub opened : (place : ℕ) → IsInAction c.state place → IsCharBoundary text place
+  pub opened : (offset : ℕ) → IsInAction c.state offset → IsCharBoundary text offset
 
 -- a token's two cuts, and the cursor after it
 pub record NextCuts (text : List ℕ) (start end : ℕ) (to : Cursor) : Type 0 where
@@ -136,19 +136,19 @@ pub record NextCuts (text : List ℕ) (start end : ℕ) (to : Cursor) : Type 0 w
 
 -- a new action, or the same one
 action_cursor : (text : List ℕ) (opened at : ℕ) (to : Cursor) → to ≡ cursor (state.Action opened) at → IsCharBoundary text at → IsCharBoundary text opened → IsCutCursor text to
-action_cursor text opened at to is cut place = subst (IsCutCursor text) (sym is) (record { here = cut; opened = λ p e. subst (IsCharBoundary text) e place })
+action_cursor text opened at to is cut offset = subst (IsCutCursor text) (sym is) (record { here = cut; opened = λ p e. subst (IsCharBoundary text) e offset })
 
 cuts_inner : (what : TokenKind) (text : List ℕ) (from : Cursor) (start end : ℕ) (to : Cursor) → IsUtf8 text → IsCutCursor text from → IsInner what text from start end to → NextCuts text start end to
 cuts_inner what text from start end to utf8 c h =
     let begun = after_run text from.at start h.between (h.lexeme ++ h.more) utf8 c.here h.spelled (white_ascii h.between h.white) h.starts in
     let rest : drop start text ≡ h.lexeme ++ h.more = dropped text from.at start h.between (h.lexeme ++ h.more) h.spelled h.starts in
     let ended = after_token text start end h.lexeme h.more utf8 begun rest (lexeme_plain what h.lexeme h.more h.lexeme_is) h.ends in
-    record { begins_at = begun; ends_at = ended; then = action_cursor text h.opened end to h.goes ended (c.opened h.opened h.place) }
+    record { begins_at = begun; ends_at = ended; then = action_cursor text h.opened end to h.goes ended (c.opened h.opened h.offset) }
   where
     dropped : (text : List ℕ) (at next : ℕ) (front more : List ℕ) → drop at text ≡ front ++ more → next ≡ at + length front → drop next text ≡ more
     dropped text at next front more is len = ap (λ (i : ℕ). drop i text) len ∙ sym (drop-drop (length front) at text) ∙ ap (drop (length front)) is ∙ drop_at front more (length front) refl
 
-may_ascii : (m : State) (between : List ℕ) (trims : Bool) → MayClose m between trims → IsAscii between
+may_ascii : (m : CursorState) (between : List ℕ) (trims : Bool) → MayClose m between trims → IsAscii between
 may_ascii (state.Text _) between trims h = absurd h
 may_ascii (state.Opened _ _) between trims h = white_ascii between h.0
 may_ascii (state.Action _) between trims h = white_ascii between h.0
@@ -175,7 +175,7 @@ commented_cursor : (text : List ℕ) (at : ℕ) (to : Cursor) → to ≡ cursor 
 commented_cursor text at to is cut = subst (IsCutCursor text) (sym is) (record { here = cut; opened = λ p e. absurd e })
 
 opened_cursor : (text : List ℕ) (trims : Bool) (start at : ℕ) (to : Cursor) → to ≡ cursor (state.Opened trims start) at → IsCharBoundary text at → IsCharBoundary text start → IsCutCursor text to
-opened_cursor text trims start at to is cut place = subst (IsCutCursor text) (sym is) (record { here = cut; opened = λ p e. subst (IsCharBoundary text) e place })
+opened_cursor text trims start at to is cut offset = subst (IsCutCursor text) (sym is) (record { here = cut; opened = λ p e. subst (IsCharBoundary text) e offset })
 
 dropped : (text : List ℕ) (at next : ℕ) (front more : List ℕ) → drop at text ≡ front ++ more → next ≡ at + length front → drop next text ≡ more
 dropped text at next front more is len = ap (λ (i : ℕ). drop i text) len ∙ sym (drop-drop (length front) at text) ∙ ap (drop (length front)) is ∙ drop_at front more (length front) refl
@@ -222,7 +222,7 @@ open_front true rest mark e =
     (drop 3 rest, begins-is (codes "{{-") rest (both (begins (codes "{{-") rest) (first_is is_white (drop 3 rest)) e).0, one_ascii 123 (123 ∷ 45 ∷ []) (omega arith) (one_ascii 123 (45 ∷ []) (omega arith) (one_ascii 45 [] (omega arith) IsAscii-nil)), refl)
 open_front false rest mark e = (drop 2 rest, begins-is (codes "{{") rest mark, one_ascii 123 (123 ∷ []) (omega arith) (one_ascii 123 [] (omega arith) IsAscii-nil), refl)
 
-cuts_open : (text : List ℕ) (from : Cursor) (start end : ℕ) (to : Cursor) → IsUtf8 text → from.at ≤ length text → IsOpen text from start end to → NextCuts text start end to
+cuts_open : (text : List ℕ) (from : Cursor) (start end : ℕ) (to : Cursor) → IsUtf8 text → from.at ≤ length text → IsActionOpen text from start end to → NextCuts text start end to
 cuts_open text from start end to utf8 fits h =
     let begun = subst (IsCharBoundary text) (sym h.no_text.up_to) (landing text from.at fits) in
     let f = open_front h.trims (drop start text) h.mark h.trimming in
@@ -273,14 +273,14 @@ end_cut text at fits =
     white_small : (b : ℕ) → is_white b ≡ true → b < 128
     white_small b white = grind (arith, nat_tests)
 
-cuts_text : (text : List ℕ) (from : Cursor) (start end : ℕ) (to : Cursor) → IsUtf8 text → IsCutCursor text from → from.at ≤ length text → IsText text from start end to → NextCuts text start end to
+cuts_text : (text : List ℕ) (from : Cursor) (start end : ℕ) (to : Cursor) → IsUtf8 text → IsCutCursor text from → from.at ≤ length text → IsTextToken text from start end to → NextCuts text start end to
 cuts_text text from start end to utf8 c fits h = record {
   begins_at = subst (IsCharBoundary text) (sym h.starts) (start_cut text h.trims from.at utf8 c.here);
   ends_at = subst (IsCharBoundary text) (sym h.ends) (end_cut text from.at fits);
   then = text_cursor text false (from.at + text_len (rest_at text from)) to h.goes (landing text from.at fits);
 }
 
-next_cuts : (what : TokenKind) (text : List ℕ) (from : Cursor) (start end : ℕ) (to : Cursor) → IsUtf8 text → IsCutCursor text from → from.at ≤ length text → Stands what text from start end to → NextCuts text start end to
+next_cuts : (what : TokenKind) (text : List ℕ) (from : Cursor) (start end : ℕ) (to : Cursor) → IsUtf8 text → IsCutCursor text from → from.at ≤ length text → TokenStands what text from start end to → NextCuts text start end to
 next_cuts kind.Text text from start end to utf8 c fits h = cuts_text text from start end to utf8 c fits h
 next_cuts kind.Open text from start end to utf8 c fits h = cuts_open text from start end to utf8 fits h
 next_cuts kind.Close text from start end to utf8 c fits h = cuts_close text from start end to utf8 c h
@@ -298,34 +298,34 @@ next_cuts kind.Comma text from start end to utf8 c fits h = cuts_inner kind.Comm
 next_cuts kind.Left text from start end to utf8 c fits h = cuts_inner kind.Left text from start end to utf8 c h
 next_cuts kind.Right text from start end to utf8 c fits h = cuts_inner kind.Right text from start end to utf8 c h
 
-reads_cuts : (text : List ℕ) (from : Cursor) (tokens : List Token) (to : Cursor) → IsUtf8 text → IsCutCursor text from → from.at ≤ length text → Reads text from tokens to → AreCuts text tokens × IsCutCursor text to
+reads_cuts : (text : List ℕ) (from : Cursor) (tokens : List Token) (to : Cursor) → IsUtf8 text → IsCutCursor text from → from.at ≤ length text → TokensRead text from tokens to → AreCuts text tokens × IsCutCursor text to
 reads_cuts text from [] to utf8 c fits h = (tt, subst (IsCutCursor text) h c)
 reads_cuts text from (t ∷ tokens) to utf8 c fits h =
     let n = next_cuts t.kind text from t.start t.end h.0 utf8 c fits h.1 in
     let more = reads_cuts text h.0 tokens to utf8 n.then (onward text from t h.0 fits h.1).within h.2 in
     ((n.begins_at, n.ends_at, more.0), more.1)
 
-begun_cuts : (text : List ℕ) → IsUtf8 text → IsCutCursor text beginning
+begun_cuts : (text : List ℕ) → IsUtf8 text → IsCutCursor text lexer_beginning
 begun_cuts text utf8 = record { here = IsCharBoundary-start text utf8; opened = λ p e. absurd e }
 
 -- The text may be cut at its tokens.
 pub tokens_cut : (text : List ℕ) (tokens : List Token) → IsUtf8 text → AreTokens text tokens → AreCuts text tokens
-tokens_cut text tokens utf8 h = (reads_cuts text beginning tokens h.last utf8 (begun_cuts text utf8) (omega arith) h.reads).0
+tokens_cut text tokens utf8 h = (reads_cuts text lexer_beginning tokens h.last utf8 (begun_cuts text utf8) (omega arith) h.reads).0
 
--- a place of an action after white space
-at_cut : (text : List ℕ) (from : Cursor) (at : ℕ) (bytes : List ℕ) → IsUtf8 text → IsCutCursor text from → IsAt text from at bytes → IsCharBoundary text at
+-- an offset of an action after white space
+at_cut : (text : List ℕ) (from : Cursor) (at : ℕ) (bytes : List ℕ) → IsUtf8 text → IsCutCursor text from → IsAtOffset text from at bytes → IsCharBoundary text at
 at_cut text from at bytes utf8 c a = after_run text from.at at a.between bytes utf8 c.here a.spelled (white_ascii a.between a.white) a.stands
 
 -- a backslash in a string
-escape_cut : (text : List ℕ) (from : Cursor) (start n place : ℕ) (bytes : List ℕ) → IsAt text from start bytes → HasBadEscape bytes n → place ≡ start + n → start ≤ length text → IsCharBoundary text place
-escape_cut text from start n place bytes a b is fits =
+escape_cut : (text : List ℕ) (from : Cursor) (start n offset : ℕ) (bytes : List ℕ) → IsAtOffset text from start bytes → HasBadEscape bytes n → offset ≡ start + n → start ≤ length text → IsCharBoundary text offset
+escape_cut text from start n offset bytes a b is fits =
     let front : List ℕ = 34 ∷ spelling b.parts in
     let whole : drop start text ≡ front ++ 92 ∷ b.more = dropped text from.at start a.between bytes a.spelled a.stands ∙ b.spelled in
-    let long : length front ≡ n = omega (arith, b.place) in
+    let long : length front ≡ n = omega (arith, b.offset) in
     let byte : get_or (drop start text) n 0 ≡ 92 = ap (λ (xs : List ℕ). get_or xs n 0) whole ∙ get_or-append_right front (92 ∷ b.more) n n 0 long (omega arith) ∙ ap (λ (i : ℕ). get_or (92 ∷ b.more) i 0) (let e : n - n ≡ 0 = omega arith in e) in
-    cut_before text place (omega (arith, is, long, ap length whole, length-append front (92 ∷ b.more), length-drop start text)) (omega (arith, byte, get_or-drop start text n 0, ap (λ (i : ℕ). get_or text i 0) is))
+    cut_before text offset (omega (arith, is, long, ap length whole, length-append front (92 ∷ b.more), length-drop start text)) (omega (arith, byte, get_or-drop start text n 0, ap (λ (i : ℕ). get_or text i 0) is))
 
-missed_cut : (why : TokenRefused) (text : List ℕ) (from : Cursor) (at : ℕ) (bytes : List ℕ) → IsUtf8 text → IsCutCursor text from → IsAt text from at bytes → Misses why at bytes → IsCutAt text why
+missed_cut : (why : TokenRefused) (text : List ℕ) (from : Cursor) (at : ℕ) (bytes : List ℕ) → IsUtf8 text → IsCutCursor text from → IsAtOffset text from at bytes → TokenMisses why at bytes → IsCutAt text why
 missed_cut (refused.UnclosedAction p) text from at bytes utf8 c a h = absurd h
 missed_cut (refused.UnclosedComment p) text from at bytes utf8 c a h = absurd h
 missed_cut (refused.BadDelimiter p) text from at bytes utf8 c a h = absurd h
@@ -335,7 +335,7 @@ missed_cut (refused.BadNumber p) text from at bytes utf8 c a h = subst (IsCharBo
 missed_cut (refused.UnclosedString p) text from at bytes utf8 c a h = subst (IsCharBoundary text) (sym h.0) (at_cut text from at bytes utf8 c a)
 missed_cut (refused.BadEscape p) text from at bytes utf8 c a h = escape_cut text from at h.0 p bytes a h.1 h.2 (at_cut text from at bytes utf8 c a).0
 
-cause_cut : (why : TokenRefused) (text : List ℕ) (from : Cursor) → IsUtf8 text → IsCutCursor text from → Cause why text from → IsCutAt text why
+cause_cut : (why : TokenRefused) (text : List ℕ) (from : Cursor) → IsUtf8 text → IsCutCursor text from → TokenCause why text from → IsCutAt text why
 cause_cut (refused.UnclosedAction p) text from utf8 c h = c.opened p h.0
 cause_cut (refused.UnclosedComment p) text from utf8 c h = c.opened p h.0
 cause_cut (refused.BadDelimiter p) text from utf8 c h = subst (IsCharBoundary text) (sym h.1) c.here
@@ -346,8 +346,8 @@ cause_cut (refused.BadEscape p) text from utf8 c h = missed_cut (refused.BadEsca
 cause_cut refused.Memory text from utf8 c h = tt
 
 -- The text may be cut where it is refused.
-pub refused_cut : (text : List ℕ) (why : TokenRefused) → IsUtf8 text → IsRefused text why → IsCutAt text why
-refused_cut text why utf8 h = cause_cut why text h.last utf8 (reads_cuts text beginning h.tokens h.last utf8 (begun_cuts text utf8) (omega arith) h.reads).1 h.cause
+pub refused_cut : (text : List ℕ) (why : TokenRefused) → IsUtf8 text → IsTokenRefused text why → IsCutAt text why
+refused_cut text why utf8 h = cause_cut why text h.last utf8 (reads_cuts text lexer_beginning h.tokens h.last utf8 (begun_cuts text utf8) (omega arith) h.reads).1 h.cause
 
 pub answer_cut : (text : List ℕ) (why : TokenRefused) → IsUtf8 text → TokensAnswers text (Err why) → IsCutAt text why
 answer_cut text refused.Memory utf8 a = tt

@@ -29,8 +29,8 @@ abbrev pub is_word_byte : ℕ → Bool
 is_word_byte b = is_ascii_alphanumeric b || (b == 95)
 
 -- a letter or `_`, then letters, digits and `_`
-abbrev pub is_name : List ℕ → Bool
-is_name bytes = first_is is_word_start bytes && list_all is_word_byte bytes
+abbrev pub is_name_byte : List ℕ → Bool
+is_name_byte bytes = first_is is_word_start bytes && list_all is_word_byte bytes
 
 -- `+` or `-`
 abbrev pub is_sign : ℕ → Bool

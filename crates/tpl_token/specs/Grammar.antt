@@ -5,36 +5,36 @@ use Rattle.tpl_token.specs.Characters.{begins, is_white}
 use Rattle.tpl_token.specs.Lexemes.{IsLexeme}
 use Rattle.tpl_token.specs.Texts.{bytes_before, text_len, trims_before, kept_start, kept_end}
 use Rattle.tpl_token.specs.declared.cursor.Cursor.{Cursor}
-use Rattle.tpl_token.specs.declared.cursor.State.{State}
-use Rattle.tpl_token.specs.declared.cursor.State.TheVariants as state
+use Rattle.tpl_token.specs.declared.cursor.CursorState.{CursorState}
+use Rattle.tpl_token.specs.declared.cursor.CursorState.TheVariants as state
 use Rattle.tpl_token.specs.declared.token.Token.{Token}
 use Rattle.tpl_token.specs.declared.token.TokenKind.{TokenKind}
 use Rattle.tpl_token.specs.declared.token.TokenKind.TheVariants as kind
 
-abbrev pub cursor : State → ℕ → Cursor
+abbrev pub cursor : CursorState → ℕ → Cursor
 cursor m at = record { state = m; at = at }
 
 -- the whole text is still to be read
-abbrev pub beginning : Cursor
-beginning = cursor (state.Text false) 0
+abbrev pub lexer_beginning : Cursor
+lexer_beginning = cursor (state.Text false) 0
 
 -- what is still to be read
 abbrev pub rest_at : List ℕ → Cursor → List ℕ
 rest_at text from = drop from.at text
 
 -- Text: what trimming leaves before the next action or the end, where that is not empty.
-pub record IsText (text : List ℕ) (from : Cursor) (start end : ℕ) (to : Cursor) : Type 0 where
+pub record IsTextToken (text : List ℕ) (from : Cursor) (start end : ℕ) (to : Cursor) : Type 0 where
   pub trims : Bool
-  pub place : from.state ≡ state.Text trims
+  pub offset : from.state ≡ state.Text trims
   pub starts : start ≡ from.at + kept_start trims (rest_at text from)
   pub ends : end ≡ from.at + kept_end (rest_at text from)
   pub not_empty : start < end
   pub goes : to ≡ cursor (state.Text false) (from.at + text_len (rest_at text from))
 
--- Nothing is left of the text up to a place: the next action's, or the end.
+-- Nothing is left of the text up to an offset: the next action's, or the end.
 pub record HasNoText (text : List ℕ) (from : Cursor) (at : ℕ) : Type 0 where
   pub trims : Bool
-  pub place : from.state ≡ state.Text trims
+  pub offset : from.state ≡ state.Text trims
   pub nothing_left : kept_end (rest_at text from) ≤ kept_start trims (rest_at text from)
   pub up_to : at ≡ from.at + text_len (rest_at text from)
 
@@ -44,7 +44,7 @@ open_len true = 3
 open_len false = 2
 
 -- The beginning of an action: `{{-` where white space follows, and else `{{`.
-pub record IsOpen (text : List ℕ) (from : Cursor) (start end : ℕ) (to : Cursor) : Type 0 where
+pub record IsActionOpen (text : List ℕ) (from : Cursor) (start end : ℕ) (to : Cursor) : Type 0 where
   pub trims : Bool
   pub no_text : HasNoText text from start
   pub mark : IsTrue (begins (codes "{{") (drop start text))
@@ -61,7 +61,7 @@ gap false = []
 pub record IsComment (text : List ℕ) (from : Cursor) (start end : ℕ) (to : Cursor) : Type 0 where
   pub trims : Bool
   pub opened : ℕ
-  pub place : from.state ≡ state.Opened trims opened
+  pub offset : from.state ≡ state.Opened trims opened
   pub body : List ℕ
   pub more : List ℕ
   pub spelled : rest_at text from ≡ gap trims ++ (codes "/*" ++ (body ++ (codes "*/" ++ more)))
@@ -76,7 +76,7 @@ close_mark true = codes "-}}"
 close_mark false = codes "}}"
 
 -- what may stand before it: white space, and before `-}}` at least one; after a comment nothing, and before `-}}` one space
-abbrev pub MayClose : State → List ℕ → Bool → Type 0
+abbrev pub MayClose : CursorState → List ℕ → Bool → Type 0
 MayClose (state.Text _) between trims = ⊥
 MayClose (state.Opened _ _) between trims = IsTrue (list_all is_white between) × (trims ≡ true → between ≢ [])
 MayClose (state.Action _) between trims = IsTrue (list_all is_white between) × (trims ≡ true → between ≢ [])
@@ -93,17 +93,17 @@ pub record IsClose (text : List ℕ) (from : Cursor) (start end : ℕ) (to : Cur
   pub ends : end ≡ start + length (close_mark trims)
   pub goes : to ≡ cursor (state.Text trims) end
 
--- inside the action whose `{{` is at this place
-abbrev pub IsInAction : State → ℕ → Type 0
+-- inside the action whose `{{` is at this offset
+abbrev pub IsInAction : CursorState → ℕ → Type 0
 IsInAction (state.Text _) opened = ⊥
-IsInAction (state.Opened _ place) opened = place ≡ opened
-IsInAction (state.Action place) opened = place ≡ opened
+IsInAction (state.Opened _ offset) opened = offset ≡ opened
+IsInAction (state.Action offset) opened = offset ≡ opened
 IsInAction state.Commented opened = ⊥
 
 -- A token inside an action, after white space or none.
 pub record IsInner (what : TokenKind) (text : List ℕ) (from : Cursor) (start end : ℕ) (to : Cursor) : Type 0 where
   pub opened : ℕ
-  pub place : IsInAction from.state opened
+  pub offset : IsInAction from.state opened
   pub between : List ℕ
   pub lexeme : List ℕ
   pub more : List ℕ
@@ -115,28 +115,28 @@ pub record IsInner (what : TokenKind) (text : List ℕ) (from : Cursor) (start e
   pub goes : to ≡ cursor (state.Action opened) end
 
 -- A token of this kind, from its start to its end, is the next one.
-abbrev pub Stands : TokenKind → List ℕ → Cursor → ℕ → ℕ → Cursor → Type 0
-Stands kind.Text = IsText
-Stands kind.Open = IsOpen
-Stands kind.Close = IsClose
-Stands kind.Comment = IsComment
-Stands what = IsInner what
+abbrev pub TokenStands : TokenKind → List ℕ → Cursor → ℕ → ℕ → Cursor → Type 0
+TokenStands kind.Text = IsTextToken
+TokenStands kind.Open = IsActionOpen
+TokenStands kind.Close = IsClose
+TokenStands kind.Comment = IsComment
+TokenStands what = IsInner what
 
 -- The token is the next one, and with it the text is read up to `to`.
 abbrev pub Next : List ℕ → Cursor → Token → Cursor → Type 0
-Next text from token to = Stands token.kind text from token.start token.end to
+Next text from token to = TokenStands token.kind text from token.start token.end to
 
 -- These tokens are the next ones, and with them the text is read up to `to`.
-abbrev pub Reads : List ℕ → Cursor → List Token → Cursor → Type 0
-Reads text from [] to = from ≡ to
-Reads text from (token ∷ tokens) to = (next : Cursor) × Next text from token next × Reads text next tokens to
+abbrev pub TokensRead : List ℕ → Cursor → List Token → Cursor → Type 0
+TokensRead text from [] to = from ≡ to
+TokensRead text from (token ∷ tokens) to = (next : Cursor) × Next text from token next × TokensRead text next tokens to
 
 -- The text ends here.
-abbrev pub IsEnd : List ℕ → Cursor → Type 0
-IsEnd text from = HasNoText text from (length text)
+abbrev pub IsTokenEnd : List ℕ → Cursor → Type 0
+IsTokenEnd text from = HasNoText text from (length text)
 
 -- The text has these tokens.
 pub record AreTokens (text : List ℕ) (tokens : List Token) : Type 0 where
   pub last : Cursor
-  pub reads : Reads text beginning tokens last
-  pub end : IsEnd text last
+  pub reads : TokensRead text lexer_beginning tokens last
+  pub end : IsTokenEnd text last

@@ -2,6 +2,7 @@ pub mod Answers
 pub mod Characters
 pub mod Grammar
 pub mod Lexemes
+pub mod Names
 pub mod Numbers
 pub mod Refusals
 pub mod Scanning

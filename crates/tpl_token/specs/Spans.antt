@@ -15,13 +15,13 @@ abbrev pub AreCuts : List ℕ → List Token → Type 0
 AreCuts text [] = ⊤
 AreCuts text (token ∷ tokens) = IsCharBoundary text token.start × IsCharBoundary text token.end × AreCuts text tokens
 
--- The place that a refusal has is one where the text may be cut.
+-- The offset that a refusal has is one where the text may be cut.
 abbrev pub IsCutAt : List ℕ → TokenRefused → Type 0
-IsCutAt text (refused.UnclosedAction place) = IsCharBoundary text place
-IsCutAt text (refused.BadCharacter place) = IsCharBoundary text place
-IsCutAt text (refused.UnclosedString place) = IsCharBoundary text place
-IsCutAt text (refused.UnclosedComment place) = IsCharBoundary text place
-IsCutAt text (refused.BadNumber place) = IsCharBoundary text place
-IsCutAt text (refused.BadDelimiter place) = IsCharBoundary text place
-IsCutAt text (refused.BadEscape place) = IsCharBoundary text place
+IsCutAt text (refused.UnclosedAction offset) = IsCharBoundary text offset
+IsCutAt text (refused.BadCharacter offset) = IsCharBoundary text offset
+IsCutAt text (refused.UnclosedString offset) = IsCharBoundary text offset
+IsCutAt text (refused.UnclosedComment offset) = IsCharBoundary text offset
+IsCutAt text (refused.BadNumber offset) = IsCharBoundary text offset
+IsCutAt text (refused.BadDelimiter offset) = IsCharBoundary text offset
+IsCutAt text (refused.BadEscape offset) = IsCharBoundary text offset
 IsCutAt text refused.Memory = ⊤

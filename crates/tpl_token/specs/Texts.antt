@@ -3,7 +3,7 @@ use Rattle.std.specs.Prelude.{ℕ, ◌+◌, ◌-◌, Bool, ◌&&◌, if◌then�
 use Rattle.std.specs.List.{prefix_len, suffix_len}
 use Rattle.tpl_token.specs.Characters.{begins, first_is, is_white}
 
--- how many bytes stand before the first place where the mark begins; all of them where it begins nowhere
+-- how many bytes stand before the first offset where the mark begins; all of them where it begins nowhere
 abbrev pub bytes_before : List ℕ → List ℕ → ℕ
 bytes_before mark [] = 0
 bytes_before mark (b ∷ bs) = if begins mark (b ∷ bs) then 0 else 1 + bytes_before mark bs

@@ -1,12 +1,12 @@
 ghost use Rattle.std.specs.Prelude.{◌≡◌, ◌+◌, ◌<◌, ◌≤◌, length, drop};
 ghost use Rattle.std.specs.List.{prefix_len};
-ghost use Rattle.tpl_token.specs.Answers.{IsOrOutOfMemory, max_text};
+ghost use Rattle.tpl_token.specs.Answers.{IsOrOutOfMemory, max_template_text};
 ghost use Rattle.tpl_token.specs.Characters.{is_white};
 ghost use Rattle.tpl_token.specs.Grammar.{gap};
-ghost use Rattle.tpl_token.specs.Scanning.{comment_at as comment_at_of, commented_at as commented_at_of, inner_at as inner_at_of, inside_at as inside_at_of, opened_at as opened_at_of};
+ghost use Rattle.tpl_token.specs.Scanning as spec;
 
 use crate::bytes::{begins, bytes_before, white_len};
-use crate::cursor::{Cursor, State};
+use crate::cursor::{Cursor, CursorState};
 use crate::lexeme::lexeme_at;
 use crate::refused::TokenRefused;
 use crate::token::{Token, TokenKind};
@@ -20,9 +20,9 @@ pub fn opened_at(
     opened: u32,
     at: usize,
 ) -> Result<(Token, Cursor), TokenRefused>
-    requires limit { length text.now ≤ max_text }
+    requires limit { length text.now ≤ max_template_text }
     requires within { at ≤ length text.now }
-    ensures { IsOrOutOfMemory result (opened_at_of trims opened at (drop at text.now)) }
+    ensures { IsOrOutOfMemory result (spec.opened_at trims opened at (drop at text.now)) }
 {
     let (_, rest) = text.as_bytes().split_at(at);
     if trims && begins(b" /*", rest) {
@@ -36,28 +36,33 @@ pub fn opened_at(
     inside_at(alloc, text, opened, at)
 }
 
-// The comment whose `/*` stands at a place before these bytes.
+// The comment whose `/*` stands at an offset before these bytes.
 fn comment_at(opened: u32, at: usize, body: &[u8]) -> Result<(Token, Cursor), TokenRefused>
-    requires limit { at + 2 + length body.now ≤ max_text }
-    ensures { IsOrOutOfMemory result (comment_at_of opened at body.now) }
+    requires limit { at + 2 + length body.now ≤ max_template_text }
+    ensures { IsOrOutOfMemory result (spec.comment_token_at opened at body.now) }
 {
     let len = bytes_before(b"*/", body);
     if len < body.len() {
-        return Ok(Cursor::step(TokenKind::Comment, at, len + 4, State::Commented));
+        return Ok(Cursor::step(TokenKind::Comment, at, len + 4, CursorState::Commented));
     }
     Err(TokenRefused::UnclosedComment(opened))
 }
 
 /// The end of an action after its comment.
 pub fn commented_at(at: usize, rest: &[u8]) -> Result<(Token, Cursor), TokenRefused>
-    requires limit { at + length rest.now ≤ max_text }
-    ensures { IsOrOutOfMemory result (commented_at_of at rest.now) }
+    requires limit { at + length rest.now ≤ max_template_text }
+    ensures { IsOrOutOfMemory result (spec.commented_at at rest.now) }
 {
     if begins(b"}}", rest) {
-        return Ok(Cursor::step(TokenKind::Close, at, 2, State::Text { trims: false }));
+        return Ok(Cursor::step(TokenKind::Close, at, 2, CursorState::Text { trims: false }));
     }
     if begins(b" -}}", rest) {
-        return Ok(Cursor::step(TokenKind::Close, at + 1, 3, State::Text { trims: true }));
+        return Ok(Cursor::step(
+            TokenKind::Close,
+            at + 1,
+            3,
+            CursorState::Text { trims: true },
+        ));
     }
     Err(TokenRefused::BadDelimiter(at as u32))
 }
@@ -69,16 +74,16 @@ pub fn inside_at(
     opened: u32,
     at: usize,
 ) -> Result<(Token, Cursor), TokenRefused>
-    requires limit { length text.now ≤ max_text }
+    requires limit { length text.now ≤ max_template_text }
     requires within { at ≤ length text.now }
-    ensures { IsOrOutOfMemory result (inside_at_of opened at (drop at text.now)) }
+    ensures { IsOrOutOfMemory result (spec.inside_at opened at (drop at text.now)) }
 {
     let (_, rest) = text.as_bytes().split_at(at);
     let spaces = white_len(rest);
     inner_at(alloc, text, opened, spaces, at + spaces)
 }
 
-// The same at a place where no white space stands, but so many bytes of it before.
+// The same at an offset where no white space stands, but that many bytes of it before.
 fn inner_at(
     alloc: Global,
     text: &str,
@@ -86,22 +91,22 @@ fn inner_at(
     spaces: usize,
     at: usize,
 ) -> Result<(Token, Cursor), TokenRefused>
-    requires limit { length text.now ≤ max_text }
+    requires limit { length text.now ≤ max_template_text }
     requires within { at ≤ length text.now }
-    ensures { IsOrOutOfMemory result (inner_at_of opened spaces at (drop at text.now)) }
+    ensures { IsOrOutOfMemory result (spec.inner_at opened spaces at (drop at text.now)) }
 {
     let (_, rest) = text.as_bytes().split_at(at);
     if rest.is_empty() {
         return Err(TokenRefused::UnclosedAction(opened));
     }
     if begins(b"}}", rest) {
-        return Ok(Cursor::step(TokenKind::Close, at, 2, State::Text { trims: false }));
+        return Ok(Cursor::step(TokenKind::Close, at, 2, CursorState::Text { trims: false }));
     }
     if spaces > 0 && begins(b"-}}", rest) {
-        return Ok(Cursor::step(TokenKind::Close, at, 3, State::Text { trims: true }));
+        return Ok(Cursor::step(TokenKind::Close, at, 3, CursorState::Text { trims: true }));
     }
     match lexeme_at(alloc, text, at) {
-        Ok((kind, len)) => Ok(Cursor::step(kind, at, len, State::Action { place: opened })),
+        Ok((kind, len)) => Ok(Cursor::step(kind, at, len, CursorState::Action { offset: opened })),
         Err(refused) => Err(refused),
     }
 }

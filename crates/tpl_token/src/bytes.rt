@@ -1,22 +1,23 @@
 // What stands at the beginning of bytes.
 ghost use Rattle.std.specs.Prelude.{◌≡◌, ◌≤◌, length, take};
 ghost use Rattle.std.specs.List.{prefix_len, suffix_len};
-ghost use Rattle.tpl_token.specs.Characters.{begins as begins_of, first_is, is_other, is_sign, is_white as is_white_of, is_word_byte, is_word_start};
-ghost use Rattle.tpl_token.specs.Texts.{bytes_before as bytes_before_of};
+ghost use Rattle.tpl_token.specs.Characters.{first_is, is_other, is_sign, is_word_byte, is_word_start};
 ghost use Rattle.std.specs.Char.{is_ascii_digit};
+ghost use Rattle.tpl_token.specs.Characters as spec;
+ghost use Rattle.tpl_token.specs.Texts as texts;
 
 use memchr::memchr;
 
 /// Whether the bytes begin with a mark.
 pub fn begins(mark: &[u8], bytes: &[u8]) -> bool
-    ensures { result ≡ begins_of mark.now bytes.now }
+    ensures { result ≡ spec.begins mark.now bytes.now }
 {
     bytes.starts_with(mark)
 }
 
-/// How many bytes stand before the first place where the mark begins, all of them where it begins nowhere.
+/// How many bytes stand before the first offset where the mark begins, all of them where it begins nowhere.
 pub fn bytes_before(mark: &[u8; 2], bytes: &[u8]) -> usize
-    ensures len { result ≡ bytes_before_of mark.now bytes.now }
+    ensures len { result ≡ texts.bytes_before mark.now bytes.now }
     ensures bound { result ≤ length bytes.now }
 {
     let mut at = 0;
@@ -48,7 +49,7 @@ pub fn bytes_until(byte: u8, bytes: &[u8]) -> usize
 
 /// How many bytes of white space stand at the beginning.
 pub fn white_len(bytes: &[u8]) -> usize
-    ensures len { result ≡ prefix_len is_white_of bytes.now }
+    ensures len { result ≡ prefix_len spec.is_white bytes.now }
     ensures bound { result ≤ length bytes.now }
 {
     bytes.iter().take_while(|byte| is_white(**byte)).count()
@@ -56,7 +57,7 @@ pub fn white_len(bytes: &[u8]) -> usize
 
 /// How many bytes of white space stand at the end.
 pub fn white_end_len(bytes: &[u8]) -> usize
-    ensures len { result ≡ suffix_len is_white_of bytes.now }
+    ensures len { result ≡ suffix_len spec.is_white bytes.now }
     ensures bound { result ≤ length bytes.now }
 {
     bytes
@@ -76,7 +77,7 @@ pub fn word_len(bytes: &[u8]) -> usize
 
 /// Whether white space stands at the beginning.
 pub fn begins_white(bytes: &[u8]) -> bool
-    ensures { result ≡ first_is is_white_of bytes.now }
+    ensures { result ≡ first_is spec.is_white bytes.now }
 {
     bytes.first().is_some_and(|byte| is_white(*byte))
 }
@@ -107,7 +108,7 @@ pub fn begins_sign(bytes: &[u8]) -> bool
 }
 
 fn is_white(byte: u8) -> bool
-    ensures { result ≡ is_white_of byte }
+    ensures { result ≡ spec.is_white byte }
 {
     byte == b' ' || byte == b'\t' || byte == b'\r' || byte == b'\n'
 }

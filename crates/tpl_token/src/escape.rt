@@ -1,14 +1,14 @@
 ghost use Rattle.std.specs.Prelude.{◌≡◌, ◌≤◌, IfSome, drop, length, option_and_then};
-ghost use Rattle.tpl_token.specs.Numbers.{numeral as numeral_of};
-ghost use Rattle.tpl_token.specs.Strings.{character as character_of, escaped as escaped_of, short_escape as short_escape_of};
-ghost use Rattle.tpl_token.specs.Scanning.{escape_at as escape_at_of, escape_len as escape_len_of};
+ghost use Rattle.tpl_token.specs.Numbers as spec;
+ghost use Rattle.tpl_token.specs.Strings as strings;
+ghost use Rattle.tpl_token.specs.Scanning as scanning;
 
 use crate::bytes::begins;
 use crate::number::numeral;
 
 /// The escape that the bytes after a backslash begin with: its character, and its length.
 pub fn escape_at(bytes: &[u8]) -> Option<(char, usize)>
-    ensures found { result ≡ escape_at_of bytes.now }
+    ensures found { result ≡ scanning.escape_at bytes.now }
     ensures bound { IfSome result (λ found. found.1 ≤ length bytes.now) }
 {
     let len = escape_len(bytes);
@@ -24,7 +24,7 @@ pub fn escape_at(bytes: &[u8]) -> Option<(char, usize)>
 
 // How long an escape with this beginning is.
 fn escape_len(bytes: &[u8]) -> usize
-    ensures { result ≡ escape_len_of bytes.now }
+    ensures { result ≡ scanning.escape_len bytes.now }
 {
     if begins(b"x", bytes) {
         return 3;
@@ -37,7 +37,7 @@ fn escape_len(bytes: &[u8]) -> usize
 
 // The character that an escape stands for.
 fn escaped(bytes: &[u8]) -> Option<char>
-    ensures { result ≡ escaped_of bytes.now }
+    ensures { result ≡ strings.escaped_character bytes.now }
 {
     if begins(b"x", bytes) {
         if bytes.len() == 3 {
@@ -58,7 +58,7 @@ fn escaped(bytes: &[u8]) -> Option<char>
 fn coded(limit: u64, bytes: &[u8]) -> Option<char>
     requires some { 1 ≤ length bytes.now }
     requires limit { limit ≤ 65536 }
-    ensures { result ≡ option_and_then (character_of limit) (numeral_of 16 (drop 1 bytes.now)) }
+    ensures { result ≡ option_and_then (strings.character limit) (spec.numeral 16 (drop 1 bytes.now)) }
 {
     let (_, digits) = bytes.split_at(1);
     match numeral(16, digits) {
@@ -69,7 +69,7 @@ fn coded(limit: u64, bytes: &[u8]) -> Option<char>
 
 fn character(limit: u64, code: u64) -> Option<char>
     requires limit { limit ≤ 65536 }
-    ensures { result ≡ character_of limit code }
+    ensures { result ≡ strings.character limit code }
 {
     if code < limit {
         return char::from_u32(code as u32);
@@ -78,7 +78,7 @@ fn character(limit: u64, code: u64) -> Option<char>
 }
 
 fn short_escape(bytes: &[u8]) -> Option<char>
-    ensures { result ≡ short_escape_of bytes.now }
+    ensures { result ≡ strings.short_escape bytes.now }
 {
     match bytes {
         b"n" => Some('\n'),

@@ -1,7 +1,8 @@
 ghost use Rattle.std.specs.Prelude.{◌≡◌, ◌+◌, ◌<◌, ◌≤◌, drop, length, IfOk};
-ghost use Rattle.tpl_token.specs.Answers.{IsOrOutOfMemory, max_text};
-ghost use Rattle.tpl_token.specs.Refusals.{begins_number as begins_number_of};
-ghost use Rattle.tpl_token.specs.Scanning.{dot_found, lexeme_at as lexeme_at_of, mark_found, name_len as name_len_of};
+ghost use Rattle.tpl_token.specs.Answers.{IsOrOutOfMemory, max_template_text};
+ghost use Rattle.tpl_token.specs.Scanning.{dot_found, mark_found};
+ghost use Rattle.tpl_token.specs.Refusals as spec;
+ghost use Rattle.tpl_token.specs.Scanning as scanning;
 
 use crate::bytes::{begins, begins_digit, begins_sign, begins_word, word_len};
 use crate::number::number_at;
@@ -10,12 +11,12 @@ use crate::string::{quoted_at, raw_at};
 use crate::token::TokenKind;
 use std::alloc::Global;
 
-/// The token of an action at a place where no white space stands, and its length. Where none stands there, the error says
+/// The token of an action at an offset where no white space stands, and its length. Where none stands there, the error says
 /// what does.
 pub fn lexeme_at(alloc: Global, text: &str, at: usize) -> Result<(TokenKind, usize), TokenRefused>
-    requires limit { length text.now ≤ max_text }
+    requires limit { length text.now ≤ max_template_text }
     requires within { at < length text.now }
-    ensures found { IsOrOutOfMemory result (lexeme_at_of at (drop at text.now)) }
+    ensures found { IsOrOutOfMemory result (scanning.lexeme_at at (drop at text.now)) }
     ensures bound { IfOk result (λ found. at + found.1 ≤ length text.now) }
 {
     let (_, rest) = text.as_bytes().split_at(at);
@@ -43,7 +44,7 @@ pub fn lexeme_at(alloc: Global, text: &str, at: usize) -> Result<(TokenKind, usi
 
 // Whether a digit, a sign, or `.` and a digit stand at the beginning.
 fn begins_number(bytes: &[u8]) -> bool
-    ensures { result ≡ begins_number_of bytes.now }
+    ensures { result ≡ spec.begins_number bytes.now }
 {
     if begins_digit(bytes) || begins_sign(bytes) {
         return true;
@@ -57,7 +58,7 @@ fn begins_number(bytes: &[u8]) -> bool
 
 // The length of the name at the beginning, 0 where there is none.
 fn name_len(bytes: &[u8]) -> usize
-    ensures len { result ≡ name_len_of bytes.now }
+    ensures len { result ≡ scanning.name_len bytes.now }
     ensures bound { result ≤ length bytes.now }
 {
     if begins_word(bytes) {
@@ -66,9 +67,9 @@ fn name_len(bytes: &[u8]) -> usize
     0
 }
 
-// A `.` with so many bytes of a name after it.
+// A `.` with that many bytes of a name after it.
 fn dot(name: usize) -> (TokenKind, usize)
-    requires { name ≤ max_text }
+    requires { name ≤ max_template_text }
     ensures found { result ≡ dot_found name }
     ensures bound { result.1 ≤ name + 1 }
 {

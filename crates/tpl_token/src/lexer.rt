@@ -1,12 +1,12 @@
 ghost use Rattle.std.specs.Prelude.{◌≡◌, ◌≤◌, ◌↔◌, IsTrue, Ok, Err, IfErr, IfOk, List, length};
-ghost use Rattle.tpl_token.specs.Answers.{TokensAnswers, IsOrOutOfMemory, max_text};
+ghost use Rattle.tpl_token.specs.Answers.{TokensAnswers, IsOrOutOfMemory, max_template_text};
 ghost use Rattle.tpl_token.specs.Grammar.{AreTokens};
-ghost use Rattle.tpl_token.specs.Refusals.{IsRefused};
-ghost use Rattle.tpl_token.specs.Scanning.{advance as advance_of};
+ghost use Rattle.tpl_token.specs.Refusals.{IsTokenRefused};
 ghost use Rattle.tpl_token.specs.Spans.{AreCuts, Ascend, IsCutAt};
+ghost use Rattle.tpl_token.specs.Scanning as spec;
 
 use crate::action::{commented_at, inside_at, opened_at};
-use crate::cursor::{Cursor, State};
+use crate::cursor::{Cursor, CursorState};
 use crate::refused::TokenRefused;
 use crate::text::text_at;
 use crate::token::Token;
@@ -18,7 +18,7 @@ pub const MAX_TEXT: usize = 1_048_576;
 
 /// Whether a text has at most `MAX_TEXT` bytes, which `tokens` asks for.
 pub fn fits(text: &str) -> bool
-    ensures { IsTrue result ↔ (length text.now ≤ max_text) }
+    ensures { IsTrue result ↔ (length text.now ≤ max_template_text) }
 {
     text.len() <= MAX_TEXT
 }
@@ -27,7 +27,7 @@ pub fn fits(text: &str) -> bool
 /// which `specs/Grammar.antt` defines and `docs/LANGUAGE.md` says in words. The error names the first thing from the
 /// left that is no token where it stands, or is `Memory`. The text has at most `MAX_TEXT` bytes.
 pub fn tokens(alloc: Global, text: &str) -> Result<List<Token>, TokenRefused>
-    requires limit { length text.now ≤ max_text }
+    requires limit { length text.now ≤ max_template_text }
     // The answer is the text's.
     ensures answers { TokensAnswers text.now result }
     // A text that has tokens is not refused, and these are the tokens.
@@ -35,16 +35,16 @@ pub fn tokens(alloc: Global, text: &str) -> Result<List<Token>, TokenRefused>
         AreTokens text.now list → IsOrOutOfMemory result (Ok list) }
     // A text that is refused is refused for this cause.
     ensures refused { (why : TokenRefused) →
-        IsRefused text.now why → IsOrOutOfMemory result (Err why) }
+        IsTokenRefused text.now why → IsOrOutOfMemory result (Err why) }
     // The tokens stand one after another.
     ensures spans { IfOk result (Ascend 0 (length text.now)) }
     // The text may be cut at their ends, and where it is refused.
     ensures cuts { IfOk result (AreCuts text.now) }
-    ensures place { IfErr result (IsCutAt text.now) }
+    ensures offset { IfErr result (IsCutAt text.now) }
 {
     let mut tokens = List::new(alloc);
     let mut cursor = Cursor {
-        state: State::Text { trims: false },
+        state: CursorState::Text { trims: false },
         at: 0,
     };
     loop {
@@ -65,15 +65,17 @@ fn advance(
     text: &str,
     cursor: Cursor,
 ) -> Result<Option<(Token, Cursor)>, TokenRefused>
-    requires limit { length text.now ≤ max_text }
+    requires limit { length text.now ≤ max_template_text }
     requires within { cursor.at ≤ length text.now }
-    ensures { IsOrOutOfMemory result (advance_of text.now cursor) }
+    ensures { IsOrOutOfMemory result (spec.token_advance text.now cursor) }
 {
     let (_, rest) = text.as_bytes().split_at(cursor.at);
     match cursor.state {
-        State::Text { trims } => Ok(text_at(trims, cursor.at, rest)),
-        State::Opened { trims, place } => opened_at(alloc, text, trims, place, cursor.at).map(Some),
-        State::Action { place } => inside_at(alloc, text, place, cursor.at).map(Some),
-        State::Commented => commented_at(cursor.at, rest).map(Some),
+        CursorState::Text { trims } => Ok(text_at(trims, cursor.at, rest)),
+        CursorState::Opened { trims, offset } => opened_at(
+            alloc, text, trims, offset, cursor.at,
+        ).map(Some),
+        CursorState::Action { offset } => inside_at(alloc, text, offset, cursor.at).map(Some),
+        CursorState::Commented => commented_at(cursor.at, rest).map(Some),
     }
 }

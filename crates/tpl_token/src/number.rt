@@ -1,16 +1,18 @@
 ghost use Rattle.std.specs.Prelude.{◌≡◌, ◌≤◌, ◌^◌, IfOk, length};
 ghost use Rattle.std.specs.Char.{is_digit};
 ghost use Rattle.std.specs.List.{list_all};
-ghost use Rattle.tpl_token.specs.Numbers.{below, magnitude as magnitude_of, number as number_of, numeral as numeral_of, signed as signed_of, unsigned as unsigned_of};
-ghost use Rattle.tpl_token.specs.Scanning.{number_found, number_len as number_len_of};
+ghost use Rattle.tpl_token.specs.Numbers.{below};
+ghost use Rattle.tpl_token.specs.Scanning.{number_found};
 ghost use Rattle.tpl_token.specs.Answers.{IsOrOutOfMemory};
+ghost use Rattle.tpl_token.specs.Numbers as spec;
+ghost use Rattle.tpl_token.specs.Scanning as scanning;
 
 use crate::bytes::{begins, begins_sign, word_len};
 use crate::refused::TokenRefused;
 use crate::token::TokenKind;
 use std::str;
 
-/// The number at the beginning of bytes that stand at a place, and its length. `BadNumber` comes where what begins as a number
+/// The number at the beginning of bytes that stand at an offset, and its length. `BadNumber` comes where what begins as a number
 /// is not one.
 pub fn number_at(at: u32, bytes: &[u8]) -> Result<(TokenKind, usize), TokenRefused>
     ensures found { IsOrOutOfMemory result (number_found at bytes.now) }
@@ -29,7 +31,7 @@ pub fn number_at(at: u32, bytes: &[u8]) -> Result<(TokenKind, usize), TokenRefus
 
 // How many bytes a sign, letters, digits and `_` have.
 fn number_len(bytes: &[u8]) -> usize
-    ensures len { result ≡ number_len_of bytes.now }
+    ensures len { result ≡ scanning.number_len bytes.now }
     ensures bound { result ≤ length bytes.now }
 {
     if begins_sign(bytes) {
@@ -41,7 +43,7 @@ fn number_len(bytes: &[u8]) -> usize
 
 // The number that the bytes write, where they are one.
 fn number(bytes: &[u8]) -> Option<i64>
-    ensures { result ≡ number_of bytes.now }
+    ensures { result ≡ spec.number bytes.now }
 {
     match magnitude(unsigned(bytes)) {
         Some(size) => signed(begins(b"-", bytes), size),
@@ -50,7 +52,7 @@ fn number(bytes: &[u8]) -> Option<i64>
 }
 
 fn unsigned(bytes: &[u8]) -> &[u8]
-    ensures { result.now ≡ unsigned_of bytes.now }
+    ensures { result.now ≡ spec.unsigned bytes.now }
 {
     if begins_sign(bytes) {
         let (_, rest) = bytes.split_at(1);
@@ -61,7 +63,7 @@ fn unsigned(bytes: &[u8]) -> &[u8]
 
 // The number with its sign, where 64 bits hold it.
 fn signed(negative: bool, size: u64) -> Option<i64>
-    ensures { result ≡ signed_of negative size }
+    ensures { result ≡ spec.signed negative size }
 {
     if negative {
         if size <= 1 << 63 {
@@ -74,7 +76,7 @@ fn signed(negative: bool, size: u64) -> Option<i64>
 
 // The number without its sign, where 64 bits hold it.
 fn magnitude(bytes: &[u8]) -> Option<u64>
-    ensures { result ≡ below (2 ^ 64) (magnitude_of bytes.now) }
+    ensures { result ≡ below (2 ^ 64) (spec.magnitude bytes.now) }
 {
     if begins(b"0x", bytes) {
         let (_, digits) = bytes.split_at(2);
@@ -90,7 +92,7 @@ fn magnitude(bytes: &[u8]) -> Option<u64>
 pub fn numeral(base: u32, digits: &[u8]) -> Option<u64>
     requires least { 2 ≤ base }
     requires most { base ≤ 36 }
-    ensures { result ≡ below (2 ^ 64) (numeral_of base digits.now) }
+    ensures { result ≡ below (2 ^ 64) (spec.numeral base digits.now) }
 {
     if !are_digits(base, digits) {
         return None;

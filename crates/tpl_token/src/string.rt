@@ -2,9 +2,10 @@ ghost use Rattle.std.specs.Prelude.{◌≡◌, ◌+◌, ◌<◌, ◌≤◌, fals
 ghost use Rattle.std.specs.List.{prefix_len};
 ghost use Rattle.std.specs.Str.{IsCharBoundary};
 ghost use Rattle.tpl_token.specs.Characters.{first_is};
-ghost use Rattle.tpl_token.specs.Strings.{is_plain};
-ghost use Rattle.tpl_token.specs.Scanning.{ReadsOn, quoted, raw_found, string_found, without_returns as without_returns_of};
-ghost use Rattle.tpl_token.specs.Answers.{IsOrOutOfMemory, max_text};
+ghost use Rattle.tpl_token.specs.Strings.{is_plain_byte};
+ghost use Rattle.tpl_token.specs.Scanning.{ReadsOn, quoted, raw_found, string_found};
+ghost use Rattle.tpl_token.specs.Answers.{IsOrOutOfMemory, max_template_text};
+ghost use Rattle.tpl_token.specs.Scanning as spec;
 
 use crate::bytes::{begins, bytes_until};
 use crate::escape::escape_at;
@@ -14,14 +15,14 @@ use memchr::memchr3;
 use page_io::{Memory, Text};
 use std::alloc::Global;
 
-/// The string in double quotes at a place where a quote stands, and its length. `UnclosedString` comes where its line or
+/// The string in double quotes at an offset where a quote stands, and its length. `UnclosedString` comes where its line or
 /// the text ends first, `BadEscape` where a backslash in it begins no escape.
 pub fn quoted_at(
     alloc: Global,
     text: &str,
     start: usize,
 ) -> Result<(TokenKind, usize), TokenRefused>
-    requires limit { length text.now ≤ max_text }
+    requires limit { length text.now ≤ max_template_text }
     requires within { start < length text.now }
     requires quote { slice_index text.now start ≡ 34 }
     ensures found { IsOrOutOfMemory result
@@ -51,14 +52,14 @@ pub fn quoted_at(
     Err(TokenRefused::UnclosedString(start as u32))
 }
 
-// Copies the bytes from a place on that stand for themselves, and says where they end.
+// Copies the bytes from an offset on that stand for themselves, and says where they end.
 fn push_plain(value: &mut String, text: &str, at: usize) -> Result<usize, Memory>
     requires within { at ≤ length text.now }
     requires cut { IsCharBoundary text.now at }
     ensures from { IfOk result (λ next. at ≤ next) }
     ensures to { IfOk result (λ next. next ≤ length text.now) }
     ensures cut { IfOk result (IsCharBoundary text.now) }
-    ensures stops { IfOk result (λ next. first_is is_plain (drop next text.now) ≡ false) }
+    ensures stops { IfOk result (λ next. first_is is_plain_byte (drop next text.now) ≡ false) }
     ensures copied { IfOk result (λ next.
         ReadsOn text.now (string_bytes value.old) at (string_bytes value.new) next) }
 {
@@ -70,7 +71,7 @@ fn push_plain(value: &mut String, text: &str, at: usize) -> Result<usize, Memory
 
 // How many bytes stand for themselves.
 fn plain_len(bytes: &[u8]) -> usize
-    ensures len { result ≡ prefix_len is_plain bytes.now }
+    ensures len { result ≡ prefix_len is_plain_byte bytes.now }
     ensures bound { result ≤ length bytes.now }
 {
     match memchr3(b'"', b'\\', b'\n', bytes) {
@@ -79,10 +80,10 @@ fn plain_len(bytes: &[u8]) -> usize
     }
 }
 
-/// The string between backquotes at a place where one stands, and its length. `UnclosedString` comes where the text ends
+/// The string between backquotes at an offset where one stands, and its length. `UnclosedString` comes where the text ends
 /// first.
 pub fn raw_at(alloc: Global, text: &str, start: usize) -> Result<(TokenKind, usize), TokenRefused>
-    requires limit { length text.now ≤ max_text }
+    requires limit { length text.now ≤ max_template_text }
     requires within { start < length text.now }
     requires quote { slice_index text.now start ≡ 96 }
     ensures found { IsOrOutOfMemory result (raw_found start (drop (start + 1) text.now)) }
@@ -99,7 +100,7 @@ pub fn raw_at(alloc: Global, text: &str, start: usize) -> Result<(TokenKind, usi
 
 // A copy without carriage returns.
 fn without_returns(alloc: Global, text: &str) -> Result<String, Memory>
-    ensures { IfOk result (λ copy. string_bytes copy ≡ without_returns_of text.now) }
+    ensures { IfOk result (λ copy. string_bytes copy ≡ spec.without_returns text.now) }
 {
     let mut copy = String::new(alloc);
     let mut at = 0;

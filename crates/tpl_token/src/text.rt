@@ -1,18 +1,19 @@
 ghost use Rattle.std.specs.Prelude.{◌≡◌, ◌+◌, ◌<◌, ◌≤◌, Ok, length, take, drop};
 ghost use Rattle.std.specs.List.{prefix_len, suffix_len};
-ghost use Rattle.tpl_token.specs.Answers.{max_text};
+ghost use Rattle.tpl_token.specs.Answers.{max_template_text};
 ghost use Rattle.tpl_token.specs.Characters.{is_white};
-ghost use Rattle.tpl_token.specs.Scanning.{open_at as open_at_of, text_at as text_at_of};
-ghost use Rattle.tpl_token.specs.Texts.{kept_end, kept_start, text_len, trims_before as trims_before_of};
+ghost use Rattle.tpl_token.specs.Texts.{kept_end, kept_start, text_len};
+ghost use Rattle.tpl_token.specs.Scanning as spec;
+ghost use Rattle.tpl_token.specs.Texts as texts;
 
 use crate::bytes::{begins, begins_white, bytes_before, white_end_len, white_len};
-use crate::cursor::{Cursor, State};
+use crate::cursor::{Cursor, CursorState};
 use crate::token::{Token, TokenKind};
 
 /// The next token where text stands: the text, or the next action's `{{`. There is none at the end.
 pub fn text_at(trims: bool, at: usize, rest: &[u8]) -> Option<(Token, Cursor)>
-    requires limit { at + length rest.now ≤ max_text }
-    ensures { result ≡ text_at_of trims at rest.now }
+    requires limit { at + length rest.now ≤ max_template_text }
+    ensures { result ≡ spec.text_token_at trims at rest.now }
 {
     let len = bytes_before(b"{{", rest);
     let (text, after) = rest.split_at(len);
@@ -29,7 +30,7 @@ pub fn text_at(trims: bool, at: usize, rest: &[u8]) -> Option<(Token, Cursor)>
             end: (at + end) as u32,
         };
         let cursor = Cursor {
-            state: State::Text { trims: false },
+            state: CursorState::Text { trims: false },
             at: at + len,
         };
         return Some((token, cursor));
@@ -39,7 +40,7 @@ pub fn text_at(trims: bool, at: usize, rest: &[u8]) -> Option<(Token, Cursor)>
 
 // Whether `{{-` stands at the beginning, and white space after it.
 fn trims_before(rest: &[u8]) -> bool
-    ensures { result ≡ trims_before_of rest.now }
+    ensures { result ≡ texts.trims_before rest.now }
 {
     if !begins(b"{{-", rest) {
         return false;
@@ -50,8 +51,8 @@ fn trims_before(rest: &[u8]) -> bool
 
 // The `{{` of an action at the beginning, unless there is nothing.
 fn open_at(at: usize, rest: &[u8]) -> Option<(Token, Cursor)>
-    requires limit { at + length rest.now ≤ max_text }
-    ensures { result ≡ open_at_of at rest.now }
+    requires limit { at + length rest.now ≤ max_template_text }
+    ensures { result ≡ spec.open_at at rest.now }
 {
     if rest.is_empty() {
         return None;
@@ -62,9 +63,9 @@ fn open_at(at: usize, rest: &[u8]) -> Option<(Token, Cursor)>
         TokenKind::Open,
         at,
         len,
-        State::Opened {
+        CursorState::Opened {
             trims,
-            place: at as u32,
+            offset: at as u32,
         },
     ))
 }

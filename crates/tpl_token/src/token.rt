@@ -5,9 +5,9 @@ use page_io::Text;
 pub struct Token {
     /// What it is.
     pub kind: TokenKind,
-    /// The place of its first byte, counted in bytes from 0.
+    /// The offset of its first byte, counted in bytes from 0.
     pub start: u32,
-    /// The place after its last byte.
+    /// The offset after its last byte.
     pub end: u32,
 }
 

@@ -3,7 +3,7 @@ use Rattle.std.proofs.Common.{◌≡◌, ℕ, zero, suc, ◌+◌, ◌<◌, ◌�
 use Rattle.std.proofs.lemmas.Bool.Decides.{nat_tests}
 use Rattle.tpl_symbol.specs.declared.symbol.Seam.{Seam}
 use Rattle.tpl_tree.specs.Listing.{has_nodes, listing, nodes_within, nodes_of, last_node, with_more, linked, IsListing, IsBody}
-use Rattle.tpl_tree.specs.Trees.{NodesData, no_nodes, node, nodes_size, append, is_text, IsFineNode, IsFine}
+use Rattle.tpl_tree.specs.Trees.{NodesData, no_nodes, node, nodes_size, append, is_text_node, IsFineNode, IsFineTree}
 use Rattle.tpl_tree.specs.declared.node_kind.NodeKind.{NodeKind}
 use Rattle.tpl_tree.specs.declared.node_kind.NodeKind.TheVariants as kind
 use Rattle.tpl_tree.specs.declared.entry.Entry.{Entry}
@@ -40,14 +40,14 @@ nodes_of-listing v = nodes_within-listing (length (listing v)) v (omega (arith, 
 pub nodes_of-is : (es : List Entry) (v : NodesData) → es ≡ listing v → nodes_of es ≡ v
 nodes_of-is es v e = ap nodes_of e ∙ nodes_of-listing v
 
-pub is_listing : (es : List Entry) (v : NodesData) → es ≡ listing v → IsFine v → length es < 2 ^ 32 → IsListing es
+pub is_listing : (es : List Entry) (v : NodesData) → es ≡ listing v → IsFineTree v → length es < 2 ^ 32 → IsListing es
 is_listing es v e fine bound = record {
   listed = ap listing (nodes_of-is es v e) ∙ sym e;
   fine = rw (nodes_of-is es v e) fine;
   bound = bound;
 }
 
-pub is_body : (es : List Entry) (v : NodesData) (number : ℕ) → es ≡ listing v → IsFine v → length es < 2 ^ 32 → number ≡ last_node v → IsBody es number
+pub is_body : (es : List Entry) (v : NodesData) (number : ℕ) → es ≡ listing v → IsFineTree v → length es < 2 ^ 32 → number ≡ last_node v → IsBody es number
 is_body es v number e fine bound last = record {
   kept = is_listing es v e fine bound;
   last = last ∙ ap last_node (sym (nodes_of-is es v e));
@@ -61,7 +61,7 @@ pub append-no_nodes : (v : NodesData) → append v no_nodes ≡ v
 append-no_nodes no_nodes = refl
 append-no_nodes (node k l s first other rest) = λ i. node k l s first other (append-no_nodes rest i)
 
-pub fine-append : (v w : NodesData) → IsFine v → IsFine w → IsFine (append v w)
+pub fine-append : (v w : NodesData) → IsFineTree v → IsFineTree w → IsFineTree (append v w)
 fine-append no_nodes w a b = b
 fine-append (node k l s first other rest) w a b = (a.0, a.1, a.2, fine-append rest w a.3 b)
 
@@ -131,7 +131,7 @@ last_node-append (node k l s first other (node k2 l2 s2 first2 other2 rest2)) w 
 pub body_listing : (es : List Entry) (v : NodesData) → IsListing es → nodes_of es ≡ v → es ≡ listing v
 body_listing es v kept e = sym kept.listed ∙ ap listing e
 
-pub fine_node : (k : NodeKind) (l : ℕ) → is_text k ≡ false → IsFineNode k l []
+pub fine_node : (k : NodeKind) (l : ℕ) → is_text_node k ≡ false → IsFineNode k l []
 fine_node (kind.Text text) l e = absurd (true≢false e)
 fine_node (kind.Action p) l e = refl
 fine_node (kind.Declare name p) l e = refl
@@ -172,7 +172,7 @@ joined es fs all made count n m v w b is_v d is_w is_count some bound both e =
     let last_w : m ≡ last_node w = d.last ∙ ap last_node is_w in
     let is : made ≡ listing (append v w)
     = e ∙ rw (both, same, last_v, one, two) (sym (listing-append v w (omega arith))) in
-    let fine : IsFine (append v w) = fine-append v w (rw is_v at b.kept.fine) (rw is_w at d.kept.fine) in
+    let fine : IsFineTree (append v w) = fine-append v w (rw is_v at b.kept.fine) (rw is_w at d.kept.fine) in
     let size : length made ≡ nodes_size v + nodes_size w = ap length is ∙ length-listing (append v w) ∙ size-append v w in
     let last : last_node (append v w) ≡ nodes_size v + last_node w = last_node-append v w (omega arith) in (
       is_body made (append v w) (count + m) is fine (omega arith) (omega arith),
@@ -181,7 +181,7 @@ joined es fs all made count n m v w b is_v d is_w is_count some bound both e =
 
 -- what a node without parts makes of them
 pub alone : (k : NodeKind) (l : ℕ) (s : List Seam) (es all made : List Entry) (count n : ℕ) (v : NodesData) → IsBody es n → nodes_of es ≡ v
-    → count ≡ length es → length es + 1 < 2 ^ 32 → is_text k ≡ false → s ≡ []
+    → count ≡ length es → length es + 1 < 2 ^ 32 → is_text_node k ≡ false → s ≡ []
     → all ≡ es ++ record { kind = k; line = l; seams = s; first = 0; other = 0; more = false } ∷ [] → made ≡ linked all count n
     → IsBody made count × (nodes_of made ≡ append v (node k l [] no_nodes no_nodes no_nodes))
 alone k l s es all made count n v b is_v is_count bound is_k is_s is_all is_made =
@@ -201,7 +201,7 @@ joined-none (f ∷ fs) v w none is_w = absurd (omega arith)
 -- what `control_node` makes of the entries of two parts
 pub controls : (k : NodeKind) (l : ℕ) (s : List Seam) (es fs none one two made : List Entry) (n m : ℕ) (v w : NodesData)
     → IsListing es → nodes_of es ≡ v → IsListing fs → nodes_of fs ≡ w
-    → n ≡ length es → m ≡ length fs → is_text k ≡ false → length es + length fs < 2 ^ 32 - 1 → s ≡ [] → none ≡ []
+    → n ≡ length es → m ≡ length fs → is_text_node k ≡ false → length es + length fs < 2 ^ 32 - 1 → s ≡ [] → none ≡ []
     → one ≡ none ++ record { kind = k; line = l; seams = s; first = n; other = m; more = false } ∷ [] → two ≡ one ++ es → made ≡ two ++ fs
     → IsBody made 0 × (nodes_of made ≡ node k l [] v w no_nodes)
 controls k l s es fs none one two made n m v w b is_v d is_w is_n is_m is_k bound is_s is_none is_one is_two is_made =
@@ -211,7 +211,7 @@ controls k l s es fs none one two made n m v w b is_v d is_w is_n is_m is_k boun
     let size_w : m ≡ nodes_size w = is_m ∙ ap length other ∙ length-listing w in
     let is : made ≡ listing (node k l [] v w no_nodes)
     = is_made ∙ rw (is_two, is_one, is_none, is_s, size_v, size_w, first, other, append-nil) refl in
-    let fine : IsFine (node k l [] v w no_nodes) = (fine_node k l is_k, rw is_v at b.fine, rw is_w at d.fine, tt) in
+    let fine : IsFineTree (node k l [] v w no_nodes) = (fine_node k l is_k, rw is_v at b.fine, rw is_w at d.fine, tt) in
     let size : length made ≡ suc (nodes_size v + (nodes_size w + 0)) = ap length is ∙ length-listing (node k l [] v w no_nodes) in (
       is_body made (node k l [] v w no_nodes) 0 is fine (omega arith) refl,
       nodes_of-is made (node k l [] v w no_nodes) is,

@@ -5,8 +5,8 @@ use Rattle.std.proofs.lemmas.Bool.Decides.{nat_tests}
 use Rattle.std.proofs.lemmas.List.{get_or-append_right}
 use Rattle.tpl_symbol.specs.declared.symbol.Seam.{Seam}
 use Rattle.tpl_tree.proofs.Listings.{length-listing}
-use Rattle.tpl_tree.specs.Listing.{has_nodes, listing, IsEntry}
-use Rattle.tpl_tree.specs.Trees.{NodesData, no_nodes, node, nodes_size, nodes_from, part_of, rest_of, number_of, child_number, next_number, Stands, IsFine}
+use Rattle.tpl_tree.specs.Listing.{has_nodes, listing, IsTreeEntry}
+use Rattle.tpl_tree.specs.Trees.{NodesData, no_nodes, node, nodes_size, nodes_from, tree_part, rest_of, node_number, child_number, next_number, NodeStands, IsFineTree}
 use Rattle.tpl_tree.specs.declared.entry.Entry.{Entry}
 use Rattle.tpl_tree.specs.declared.node_kind.NodeKind.{NodeKind}
 
@@ -52,7 +52,7 @@ nodes_from-some (node k l s first other rest) (suc n) lt = parted (nodes_size fi
     (λ (g : nodes_size first ≤ n) (h : n - nodes_size first < nodes_size other). rw (from_other k l s first other rest n g h) (nodes_from-some other (n - nodes_size first) h))
     (λ (g : nodes_size first ≤ n) (h : nodes_size other ≤ n - nodes_size first). rw (from_rest k l s first other rest n g h) (nodes_from-some rest (n - nodes_size first - nodes_size other) (omega arith)))
 
-pub nodes_from-fine : (v : NodesData) (n : ℕ) → n < nodes_size v → IsFine v → IsFine (nodes_from v n)
+pub nodes_from-fine : (v : NodesData) (n : ℕ) → n < nodes_size v → IsFineTree v → IsFineTree (nodes_from v n)
 nodes_from-fine no_nodes n lt fine = absurd (omega arith)
 nodes_from-fine (node k l s first other rest) zero lt fine = fine
 nodes_from-fine (node k l s first other rest) (suc n) lt fine = parted (nodes_size first) (nodes_size other) n
@@ -123,7 +123,7 @@ get_or-listing (node k l s first other rest) (suc n) d = parted (nodes_size firs
     ∙ get_or-listing rest (n - nodes_size first - nodes_size other) d
     ∙ ap (entry_of d) (sym (from_rest k l s first other rest n g h)))
 
-entry_is : (w : NodesData) (e : Entry) → 0 < nodes_size w → e ≡ entry_of e w → IsFine w → IsEntry w e
+entry_is : (w : NodesData) (e : Entry) → 0 < nodes_size w → e ≡ entry_of e w → IsFineTree w → IsTreeEntry w e
 entry_is no_nodes e some is fine = absurd (omega arith)
 entry_is (node k l s first other rest) e some is fine = rw is (record {
   kind = refl;
@@ -136,21 +136,21 @@ entry_is (node k l s first other rest) e some is fine = rw is (record {
 })
 
 -- the entry at a number is that of the node
-pub is_entry : (es : List Entry) (v : NodesData) (n : ℕ) (e : Entry) → es ≡ listing v → IsFine v → n < nodes_size v → e ≡ get_or es n e → IsEntry (nodes_from v n) e
+pub is_entry : (es : List Entry) (v : NodesData) (n : ℕ) (e : Entry) → es ≡ listing v → IsFineTree v → n < nodes_size v → e ≡ get_or es n e → IsTreeEntry (nodes_from v n) e
 is_entry es v n e is fine lt at_n =
     entry_is (nodes_from v n) e (nodes_from-some v n lt)
     (at_n ∙ ap (λ (xs : List Entry). get_or xs n e) is ∙ get_or-listing v n e)
     (nodes_from-fine v n lt fine)
 
-number_some : (w : NodesData) (n : ℕ) → 0 < nodes_size w → number_of w n ≡ Some n
+number_some : (w : NodesData) (n : ℕ) → 0 < nodes_size w → node_number w n ≡ Some n
 number_some no_nodes n lt = absurd (omega arith)
 number_some (node k l s first other rest) n lt = refl
 
-number_none : (w : NodesData) (n : ℕ) → nodes_size w ≡ 0 → number_of w n ≡ None
+number_none : (w : NodesData) (n : ℕ) → nodes_size w ≡ 0 → node_number w n ≡ None
 number_none no_nodes n e = refl
 number_none (node k l s first other rest) n e = absurd (omega arith)
 
-stands_if : (v w : NodesData) (m : ℕ) → (0 < nodes_size w → (m < nodes_size v) × (nodes_from v m ≡ w)) → Stands v w (number_of w m)
+stands_if : (v w : NodesData) (m : ℕ) → (0 < nodes_size w → (m < nodes_size v) × (nodes_from v m ≡ w)) → NodeStands v w (node_number w m)
 stands_if v no_nodes m h = tt
 stands_if v (node k l s first other rest) m h = h (omega arith)
 
@@ -159,11 +159,11 @@ nodes_from-zero no_nodes n e = refl
 nodes_from-zero (node k l s first other rest) n e = rw e refl
 
 -- the parts of the first node, by their numbers
-at_first : (w : NodesData) → 0 < nodes_size (part_of 0 w) → (1 < nodes_size w) × (nodes_from w 1 ≡ part_of 0 w)
+at_first : (w : NodesData) → 0 < nodes_size (tree_part 0 w) → (1 < nodes_size w) × (nodes_from w 1 ≡ tree_part 0 w)
 at_first no_nodes lt = absurd (omega arith)
 at_first (node k l s first other rest) lt = (omega arith, from_first k l s first other rest 0 lt ∙ nodes_from-zero first 0 refl)
 
-at_other : (w : NodesData) → 0 < nodes_size (part_of 1 w) → (1 + nodes_size (part_of 0 w) < nodes_size w) × (nodes_from w (1 + nodes_size (part_of 0 w)) ≡ part_of 1 w)
+at_other : (w : NodesData) → 0 < nodes_size (tree_part 1 w) → (1 + nodes_size (tree_part 0 w) < nodes_size w) × (nodes_from w (1 + nodes_size (tree_part 0 w)) ≡ tree_part 1 w)
 at_other no_nodes lt = absurd (omega arith)
 at_other (node k l s first other rest) lt =
     let next : 1 + nodes_size first ≡ suc (nodes_size first) = omega arith in (
@@ -174,7 +174,7 @@ at_other (node k l s first other rest) lt =
     )
 
 at_rest : (w : NodesData) → 0 < nodes_size (rest_of w)
-    → (1 + nodes_size (part_of 0 w) + nodes_size (part_of 1 w) < nodes_size w) × (nodes_from w (1 + nodes_size (part_of 0 w) + nodes_size (part_of 1 w)) ≡ rest_of w)
+    → (1 + nodes_size (tree_part 0 w) + nodes_size (tree_part 1 w) < nodes_size w) × (nodes_from w (1 + nodes_size (tree_part 0 w) + nodes_size (tree_part 1 w)) ≡ rest_of w)
 at_rest no_nodes lt = absurd (omega arith)
 at_rest (node k l s first other rest) lt =
     let next : 1 + nodes_size first + nodes_size other ≡ suc (nodes_size first + nodes_size other) = omega arith in (
@@ -191,37 +191,37 @@ moved v w n m sum lt is h = (
   ap (nodes_from v) is ∙ nodes_from-twice v n m lt h.0 ∙ h.1,
 )
 
-pub child_stands : (v : NodesData) (n part : ℕ) (found : Option ℕ) → n < nodes_size v → found ≡ child_number v n part → Stands v (part_of part (nodes_from v n)) found
-child_stands v n zero found lt is = rw is (stands_if v (part_of 0 (nodes_from v n)) (n + 1)
-    (λ (some : 0 < nodes_size (part_of 0 (nodes_from v n))). moved v (part_of 0 (nodes_from v n)) n 1 (n + 1) lt refl (at_first (nodes_from v n) some)))
-child_stands v n (suc zero) found lt is = rw is (stands_if v (part_of 1 (nodes_from v n)) (n + 1 + nodes_size (part_of 0 (nodes_from v n)))
-    (λ (some : 0 < nodes_size (part_of 1 (nodes_from v n))).
-    moved v (part_of 1 (nodes_from v n)) n (1 + nodes_size (part_of 0 (nodes_from v n))) (n + 1 + nodes_size (part_of 0 (nodes_from v n))) lt (omega arith) (at_other (nodes_from v n) some)))
+pub child_stands : (v : NodesData) (n part : ℕ) (found : Option ℕ) → n < nodes_size v → found ≡ child_number v n part → NodeStands v (tree_part part (nodes_from v n)) found
+child_stands v n zero found lt is = rw is (stands_if v (tree_part 0 (nodes_from v n)) (n + 1)
+    (λ (some : 0 < nodes_size (tree_part 0 (nodes_from v n))). moved v (tree_part 0 (nodes_from v n)) n 1 (n + 1) lt refl (at_first (nodes_from v n) some)))
+child_stands v n (suc zero) found lt is = rw is (stands_if v (tree_part 1 (nodes_from v n)) (n + 1 + nodes_size (tree_part 0 (nodes_from v n)))
+    (λ (some : 0 < nodes_size (tree_part 1 (nodes_from v n))).
+    moved v (tree_part 1 (nodes_from v n)) n (1 + nodes_size (tree_part 0 (nodes_from v n))) (n + 1 + nodes_size (tree_part 0 (nodes_from v n))) lt (omega arith) (at_other (nodes_from v n) some)))
 child_stands v n (suc (suc part)) found lt is = rw is tt
 
-pub next_stands : (v : NodesData) (n : ℕ) (found : Option ℕ) → n < nodes_size v → found ≡ next_number v n → Stands v (rest_of (nodes_from v n)) found
-next_stands v n found lt is = rw is (stands_if v (rest_of (nodes_from v n)) (n + 1 + nodes_size (part_of 0 (nodes_from v n)) + nodes_size (part_of 1 (nodes_from v n)))
+pub next_stands : (v : NodesData) (n : ℕ) (found : Option ℕ) → n < nodes_size v → found ≡ next_number v n → NodeStands v (rest_of (nodes_from v n)) found
+next_stands v n found lt is = rw is (stands_if v (rest_of (nodes_from v n)) (n + 1 + nodes_size (tree_part 0 (nodes_from v n)) + nodes_size (tree_part 1 (nodes_from v n)))
     (λ (some : 0 < nodes_size (rest_of (nodes_from v n))).
-    moved v (rest_of (nodes_from v n)) n (1 + nodes_size (part_of 0 (nodes_from v n)) + nodes_size (part_of 1 (nodes_from v n)))
-    (n + 1 + nodes_size (part_of 0 (nodes_from v n)) + nodes_size (part_of 1 (nodes_from v n))) lt (omega arith) (at_rest (nodes_from v n) some)))
+    moved v (rest_of (nodes_from v n)) n (1 + nodes_size (tree_part 0 (nodes_from v n)) + nodes_size (tree_part 1 (nodes_from v n)))
+    (n + 1 + nodes_size (tree_part 0 (nodes_from v n)) + nodes_size (tree_part 1 (nodes_from v n))) lt (omega arith) (at_rest (nodes_from v n) some)))
 
-number_if : (w : NodesData) (size n : ℕ) (found : Option ℕ) → nodes_size w ≡ size → found ≡ (if nat_lt 0 size then Some n else None) → found ≡ number_of w n
+number_if : (w : NodesData) (size n : ℕ) (found : Option ℕ) → nodes_size w ≡ size → found ≡ (if nat_lt 0 size then Some n else None) → found ≡ node_number w n
 number_if w zero n found size e = e ∙ sym (number_none w n size)
 number_if w (suc size) n found is e =
     let test : nat_lt 0 (suc size) ≡ true = grind (arith, nat_tests) in
     e ∙ rw test (sym (number_some w n (omega arith)))
 
 -- what `child` finds in the first part and in the `else` part
-pub child_first : (v : NodesData) (n part first : ℕ) (found : Option ℕ) → n < nodes_size v → part ≡ 0 → nodes_size (part_of 0 (nodes_from v n)) ≡ first
-    → found ≡ (if nat_lt 0 first then Some (n + 1) else None) → Stands v (part_of part (nodes_from v n)) found
+pub child_first : (v : NodesData) (n part first : ℕ) (found : Option ℕ) → n < nodes_size v → part ≡ 0 → nodes_size (tree_part 0 (nodes_from v n)) ≡ first
+    → found ≡ (if nat_lt 0 first then Some (n + 1) else None) → NodeStands v (tree_part part (nodes_from v n)) found
 child_first v n part first found lt is_part size e =
-    child_stands v n part found lt (rw is_part (number_if (part_of 0 (nodes_from v n)) first (n + 1) found size e))
+    child_stands v n part found lt (rw is_part (number_if (tree_part 0 (nodes_from v n)) first (n + 1) found size e))
 
 pub child_other : (v : NodesData) (n part first other : ℕ) (found : Option ℕ) → n < nodes_size v → part ≡ 1
-    → nodes_size (part_of 0 (nodes_from v n)) ≡ first → nodes_size (part_of 1 (nodes_from v n)) ≡ other
-    → found ≡ (if nat_lt 0 other then Some (n + 1 + first) else None) → Stands v (part_of part (nodes_from v n)) found
+    → nodes_size (tree_part 0 (nodes_from v n)) ≡ first → nodes_size (tree_part 1 (nodes_from v n)) ≡ other
+    → found ≡ (if nat_lt 0 other then Some (n + 1 + first) else None) → NodeStands v (tree_part part (nodes_from v n)) found
 child_other v n part first other found lt is_part before size e =
-    child_stands v n part found lt (rw (is_part, before) (number_if (part_of 1 (nodes_from v n)) other (n + 1 + first) found size e))
+    child_stands v n part found lt (rw (is_part, before) (number_if (tree_part 1 (nodes_from v n)) other (n + 1 + first) found size e))
 
 some_rest : (w : NodesData) → has_nodes w ≡ true → 0 < nodes_size w
 some_rest no_nodes e = absurd (true≢false (sym e))
@@ -229,11 +229,11 @@ some_rest (node k l s first other rest) e = omega arith
 
 -- what `next` finds
 pub next_found : (v : NodesData) (n first other : ℕ) → n < nodes_size v → has_nodes (rest_of (nodes_from v n)) ≡ true
-    → nodes_size (part_of 0 (nodes_from v n)) ≡ first → nodes_size (part_of 1 (nodes_from v n)) ≡ other → Stands v (rest_of (nodes_from v n)) (Some (n + 1 + first + other))
+    → nodes_size (tree_part 0 (nodes_from v n)) ≡ first → nodes_size (tree_part 1 (nodes_from v n)) ≡ other → NodeStands v (rest_of (nodes_from v n)) (Some (n + 1 + first + other))
 next_found v n first other lt more is_first is_other =
     next_stands v n (Some (n + 1 + first + other)) lt (rw (is_first, is_other) (sym (number_some (rest_of (nodes_from v n)) (n + 1 + first + other) (some_rest (rest_of (nodes_from v n)) more))))
 
 -- the sizes of the parts of the first node
-pub sizes : (w : NodesData) → 0 < nodes_size w → nodes_size w ≡ 1 + nodes_size (part_of 0 w) + nodes_size (part_of 1 w) + nodes_size (rest_of w)
+pub sizes : (w : NodesData) → 0 < nodes_size w → nodes_size w ≡ 1 + nodes_size (tree_part 0 w) + nodes_size (tree_part 1 w) + nodes_size (rest_of w)
 sizes no_nodes lt = absurd (omega arith)
 sizes (node k l s first other rest) lt = omega arith

@@ -4,20 +4,9 @@ use Rattle.std.specs.Coded.{Coded, code_by}
 use Rattle.tpl_tree.specs.Pipes.{PipeData, no_commands, command, CommandData, single, call, OperandsData, no_operands, operand, OperandData, with_fields, BaseData, str, number, truth, nil, dot, variable, paren}
 use Rattle.tpl_symbol.specs.declared.func.Func.{Func}
 use Rattle.tpl_symbol.specs.declared.func.Func.TheVariants as func
+use Rattle.page_io.specs.BytesCode.{bytes_tree, bytes_from, bytes_from-bytes_tree}
 use base.Stored.{Gv, gnil, gnum, gcons}
 use denote.Struct.Codes.{itself}
-
-abbrev pub bytes_tree : List ℕ → Gv
-bytes_tree [] = gnil
-bytes_tree (b ∷ bs) = gcons (gnum b) (bytes_tree bs)
-
-abbrev pub bytes_from : Gv → List ℕ
-bytes_from (gcons (gnum b) bs) = b ∷ bytes_from bs
-bytes_from _ = []
-
-pub bytes_from-bytes_tree : (bs : List ℕ) → bytes_from (bytes_tree bs) ≡ bs
-bytes_from-bytes_tree [] = refl
-bytes_from-bytes_tree (b ∷ bs) = λ i. b ∷ bytes_from-bytes_tree bs i
 
 abbrev pub names_tree : List (List ℕ) → Gv
 names_tree [] = gnil

@@ -16,13 +16,13 @@ abbrev pub tree_named : List ℕ → ForestData → Option TreeData
 tree_named name [] = None
 tree_named name (t ∷ trees) = if bytes_eq t.0 name then Some t.1 else tree_named name trees
 
--- the number of the tree with a name: its place, from 0
+-- the number of the tree with a name: its offset, from 0
 abbrev pub number_named : List ℕ → ForestData → Option ℕ
 number_named name trees = key_number name trees
 
 -- the name of the tree with a number
-abbrev pub name_at : ForestData → ℕ → Option (List ℕ)
-name_at trees n = option_map (λ t. t.0) (slice_get trees n)
+abbrev pub tree_name_at : ForestData → ℕ → Option (List ℕ)
+tree_name_at trees n = option_map (λ t. t.0) (slice_get trees n)
 
 -- the tree with a number
 abbrev pub tree_at : ForestData → ℕ → Option TreeData

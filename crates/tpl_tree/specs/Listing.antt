@@ -1,6 +1,6 @@
 -- The nodes of a tree listed in the order of the source, as they are kept, and the tree of such a list.
 use Rattle.std.specs.Prelude.{◌≡◌, ℕ, zero, suc, ◌+◌, ◌<◌, ◌^◌, Bool, true, false, nat_lt, if◌then◌else◌, List, [], ◌∷◌, ◌++◌, length, take, drop, Some}
-use Rattle.tpl_tree.specs.Trees.{NodesData, no_nodes, node, nodes_size, part_of, rest_of, head_kind, head_line, head_seams, IsFineNode, IsFine}
+use Rattle.tpl_tree.specs.Trees.{NodesData, no_nodes, node, nodes_size, tree_part, rest_of, head_kind, head_line, head_seams, IsFineNode, IsFineTree}
 use Rattle.tpl_tree.specs.declared.entry.Entry.{Entry}
 
 -- whether there is a node
@@ -46,19 +46,19 @@ abbrev pub linked : List Entry → ℕ → ℕ → List Entry
 linked entries count number = if nat_lt number count then with_more entries number else entries
 
 -- an entry is that of the first one of nodes
-pub record IsEntry (nodes : NodesData) (entry : Entry) : Type 0 where
+pub record IsTreeEntry (nodes : NodesData) (entry : Entry) : Type 0 where
   pub kind : head_kind nodes ≡ Some entry.kind
   pub line : head_line nodes ≡ entry.line
   pub seams : head_seams nodes ≡ entry.seams
-  pub first : nodes_size (part_of 0 nodes) ≡ entry.first
-  pub other : nodes_size (part_of 1 nodes) ≡ entry.other
+  pub first : nodes_size (tree_part 0 nodes) ≡ entry.first
+  pub other : nodes_size (tree_part 1 nodes) ≡ entry.other
   pub more : has_nodes (rest_of nodes) ≡ entry.more
   pub fine : IsFineNode entry.kind entry.line entry.seams
 
 -- a list of the nodes of a tree, with fine texts, whose numbers fit
 pub record IsListing (entries : List Entry) : Type 0 where
   pub listed : listing (nodes_of entries) ≡ entries
-  pub fine : IsFine (nodes_of entries)
+  pub fine : IsFineTree (nodes_of entries)
   pub bound : length entries < 2 ^ 32
 
 -- such a list, and the number of its last outermost node

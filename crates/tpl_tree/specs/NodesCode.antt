@@ -2,7 +2,8 @@
 use Rattle.std.specs.Prelude.{◌≡◌, refl, ℕ, zero, suc, List, [], ◌∷◌, Option, Some, None}
 use Rattle.std.specs.Coded.{Coded, code_by, coded×, coded_ℕ}
 use Rattle.tpl_symbol.specs.declared.symbol.Seam.{Seam}
-use Rattle.tpl_tree.specs.Code.{bytes_tree, bytes_from, bytes_from-bytes_tree, pipe_tree, pipe_from, pipe_from-pipe_tree}
+use Rattle.page_io.specs.BytesCode.{bytes_tree, bytes_from, bytes_from-bytes_tree}
+use Rattle.tpl_tree.specs.Code.{pipe_tree, pipe_from, pipe_from-pipe_tree}
 use Rattle.tpl_tree.specs.Trees.{NodesData, no_nodes, node, TreeData}
 use Rattle.tpl_tree.specs.declared.node_kind.NodeKind.{NodeKind}
 use Rattle.tpl_tree.specs.declared.node_kind.NodeKind.TheVariants as kind

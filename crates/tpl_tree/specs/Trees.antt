@@ -31,11 +31,11 @@ append no_nodes more = more
 append (node kind line seams first other rest) more = node kind line seams first other (append rest more)
 
 -- the nodes of the first node's parts: 0 is its first part, 1 its `else` part
-abbrev pub part_of : ℕ → NodesData → NodesData
-part_of part no_nodes = no_nodes
-part_of zero (node kind line seams first other rest) = first
-part_of (suc zero) (node kind line seams first other rest) = other
-part_of (suc (suc part)) (node kind line seams first other rest) = no_nodes
+abbrev pub tree_part : ℕ → NodesData → NodesData
+tree_part part no_nodes = no_nodes
+tree_part zero (node kind line seams first other rest) = first
+tree_part (suc zero) (node kind line seams first other rest) = other
+tree_part (suc (suc part)) (node kind line seams first other rest) = no_nodes
 
 -- the nodes that follow the first one
 abbrev pub rest_of : NodesData → NodesData
@@ -58,18 +58,18 @@ head_seams no_nodes = []
 head_seams (node kind line seams first other rest) = seams
 
 -- the bytes of a text; any other node has none
-abbrev pub text_bytes : Option NodeKind → List ℕ
-text_bytes (Some (kind.Text text)) = text
-text_bytes _ = []
+abbrev pub node_text_bytes : Option NodeKind → List ℕ
+node_text_bytes (Some (kind.Text text)) = text
+node_text_bytes _ = []
 
 -- the bytes of the first node, if it is a text
-abbrev pub head_text : NodesData → List ℕ
-head_text nodes = text_bytes (head_kind nodes)
+abbrev pub node_head_text : NodesData → List ℕ
+node_head_text nodes = node_text_bytes (head_kind nodes)
 
 -- whether a node is a text
-abbrev pub is_text : NodeKind → Bool
-is_text (kind.Text text) = true
-is_text _ = false
+abbrev pub is_text_node : NodeKind → Bool
+is_text_node (kind.Text text) = true
+is_text_node _ = false
 
 -- the nodes from a number on, within their part: nodes are numbered in the order of the source, a node before its first
 -- part, this before its `else` part, and this before what follows
@@ -82,24 +82,24 @@ nodes_from (node kind line seams first other rest) (suc n) =
     else nodes_from rest (n - nodes_size first - nodes_size other))
 
 -- a number, where nodes begin there
-abbrev pub number_of : NodesData → ℕ → Option ℕ
-number_of no_nodes n = None
-number_of (node kind line seams first other rest) n = Some n
+abbrev pub node_number : NodesData → ℕ → Option ℕ
+node_number no_nodes n = None
+node_number (node kind line seams first other rest) n = Some n
 
 -- the number of the first node of a node's part
 abbrev pub child_number : NodesData → ℕ → ℕ → Option ℕ
-child_number nodes n zero = number_of (part_of 0 (nodes_from nodes n)) (n + 1)
-child_number nodes n (suc zero) = number_of (part_of 1 (nodes_from nodes n)) (n + 1 + nodes_size (part_of 0 (nodes_from nodes n)))
+child_number nodes n zero = node_number (tree_part 0 (nodes_from nodes n)) (n + 1)
+child_number nodes n (suc zero) = node_number (tree_part 1 (nodes_from nodes n)) (n + 1 + nodes_size (tree_part 0 (nodes_from nodes n)))
 child_number nodes n (suc (suc part)) = None
 
 -- the number of the next node of the same part
 abbrev pub next_number : NodesData → ℕ → Option ℕ
 next_number nodes n =
-    number_of (rest_of (nodes_from nodes n)) (n + 1 + nodes_size (part_of 0 (nodes_from nodes n)) + nodes_size (part_of 1 (nodes_from nodes n)))
+    node_number (rest_of (nodes_from nodes n)) (n + 1 + nodes_size (tree_part 0 (nodes_from nodes n)) + nodes_size (tree_part 1 (nodes_from nodes n)))
 
 -- a number is that of the first of some nodes of a part
-abbrev pub Stands : NodesData → NodesData → Option ℕ → Type 0
-Stands nodes found number = IfSome number (λ n. (n < nodes_size nodes) × (nodes_from nodes n ≡ found))
+abbrev pub NodeStands : NodesData → NodesData → Option ℕ → Type 0
+NodeStands nodes found number = IfSome number (λ n. (n < nodes_size nodes) × (nodes_from nodes n ≡ found))
 
 -- the last of the seams that is not after a byte, and another one where there is none
 abbrev pub seam_before : Seam → List Seam → ℕ → Seam
@@ -110,12 +110,12 @@ seam_before before (seam ∷ seams) byte = seam_before (if nat_le seam.at byte t
 abbrev pub line_after : List ℕ → Seam → ℕ → ℕ
 line_after text seam byte = seam.line + line_feeds (take (byte - seam.at) (drop seam.at text))
 
--- the line of a byte of a text that begins on a line and has seams; its length stands for the place after it
+-- the line of a byte of a text that begins on a line and has seams; its length stands for the offset after it
 abbrev pub text_line : List ℕ → ℕ → List Seam → ℕ → ℕ
 text_line text line seams byte = line_after text (seam_before (record { at = 0; line = line }) seams byte) byte
 
--- a text has 1 to 2 ^ 20 bytes, and the line of each of its places is less than 2 ^ 32
-pub record IsFineText (text : List ℕ) (begins : ℕ) (breaks : List Seam) : Type 0 where
+-- a text has 1 to 2 ^ 20 bytes, and the line of each of its offsets is less than 2 ^ 32
+pub record IsFineTextNode (text : List ℕ) (begins : ℕ) (breaks : List Seam) : Type 0 where
   pub some : 0 < length text
   pub bound : length text ≤ 2 ^ 20
   pub line : begins + length text < 2 ^ 32
@@ -123,13 +123,13 @@ pub record IsFineText (text : List ℕ) (begins : ℕ) (breaks : List Seam) : Ty
 
 -- a node is a fine text, or no text and without seams
 abbrev pub IsFineNode : NodeKind → ℕ → List Seam → Type 0
-IsFineNode (kind.Text text) line seams = IsFineText text line seams
+IsFineNode (kind.Text text) line seams = IsFineTextNode text line seams
 IsFineNode _ line seams = seams ≡ []
 
 -- each node is fine
-abbrev pub IsFine : NodesData → Type 0
-IsFine no_nodes = Unit {0}
-IsFine (node kind line seams first other rest) = IsFineNode kind line seams × IsFine first × IsFine other × IsFine rest
+abbrev pub IsFineTree : NodesData → Type 0
+IsFineTree no_nodes = Unit {0}
+IsFineTree (node kind line seams first other rest) = IsFineNode kind line seams × IsFineTree first × IsFineTree other × IsFineTree rest
 
 -- a text has 1 to 2 ^ 20 bytes
 abbrev pub IsTextInBounds : NodeKind → Type 0

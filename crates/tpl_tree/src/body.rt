@@ -1,6 +1,6 @@
 ghost use Rattle.std.specs.Prelude.{◌≡◌, ◌+◌, ◌<◌, ◌≤◌, ◌^◌, [], length, false, All, IfOk, OnOk};
 ghost use Rattle.std.specs.Prelude.{OnErr};
-ghost use Rattle.tpl_tree.specs.Trees.{NodesData, no_nodes, node, alone, append, is_text};
+ghost use Rattle.tpl_tree.specs.Trees.{NodesData, no_nodes, node, alone, append, is_text_node};
 ghost use Rattle.tpl_tree.specs.Listing.{linked};
 ghost use Rattle.tpl_tree.specs.declared.node_kind.NodeKind.TheVariants as kind_of;
 
@@ -15,13 +15,13 @@ use tpl_symbol::Seam;
 /// A part of a tree that is being built: nodes in the order of the source. Contracts see them as `NodesData` of
 /// `specs/Trees.antt`.
 #[derive(Debug, Drop)]
-pub struct Body {
+pub struct TreeBuilder {
     entries: Vec<Entry>,
     // The number of the last node of the outermost part; 0 where there is none.
     last: usize,
 }
 
-impl Model for Body {
+impl Model for TreeBuilder {
     ghost use Rattle.tpl_tree.specs.NodesCode.{nodes_code};
     ghost use Rattle.tpl_tree.specs.Trees.{NodesData};
 
@@ -36,12 +36,12 @@ impl Model for Body {
     ghost invariant = { λ b. IsBody b.entries.items b.last };
 }
 
-impl Body {
-    /// No nodes, which takes no memory.
-    pub fn new(alloc: Global) -> Body
+impl TreeBuilder {
+    /// No nodes, which does not allocate.
+    pub fn new(alloc: Global) -> TreeBuilder
         ensures { result ≡ no_nodes }
     {
-        Body {
+        TreeBuilder {
             entries: Vec::new(alloc),
             last: 0,
         }
@@ -68,10 +68,10 @@ impl Body {
         &mut self,
         kind: NodeKind,
         line: u32,
-        first: Body,
-        other: Body,
+        first: TreeBuilder,
+        other: TreeBuilder,
     ) -> Result<(), Memory>
-        requires { is_text kind ≡ false }
+        requires { is_text_node kind ≡ false }
         ensures ok { let more = node kind line [] first other no_nodes in
             OnOk result (self.new ≡ append self.old more) }
         ensures err { OnErr result (self.new ≡ self.old) }
@@ -84,7 +84,7 @@ impl Body {
     /// Appends a node that is no text and has no parts, or leaves the nodes as they were when memory runs out.
     #[inline(always)]
     pub fn push_alone(&mut self, kind: NodeKind, line: u32) -> Result<(), Memory>
-        requires { is_text kind ≡ false }
+        requires { is_text_node kind ≡ false }
         ensures ok { OnOk result (self.new ≡ append self.old (alone kind line [])) }
         ensures err { OnErr result (self.new ≡ self.old) }
     {
@@ -107,11 +107,11 @@ impl Body {
     }
 
     // Appends the nodes of another part, or leaves those of this one as they were when memory runs out.
-    fn join(&mut self, more: Body) -> Result<(), Memory>
+    fn join(&mut self, more: TreeBuilder) -> Result<(), Memory>
         ensures ok { OnOk result (self.new ≡ append self.old more) }
         ensures err { OnErr result (self.new ≡ self.old) }
     {
-        let Body {
+        let TreeBuilder {
             entries: mut added,
             last,
         } = more;
@@ -128,7 +128,7 @@ impl Body {
         Ok(())
     }
 
-    /// The tree of these nodes, which ends on a line. It takes no memory.
+    /// The tree of these nodes, which ends on a line. It does not allocate.
     pub fn into_tree(self, end_line: u32) -> Tree
         ensures { result ≡ record { nodes = self; end_line = end_line } }
     {
@@ -147,8 +147,8 @@ fn link(entries: &mut Vec<Entry>, count: usize, last: usize)
     }
 }
 
-// A text alone. The error is out of memory.
-fn text_node(alloc: Global, text: Text, line: u32, seams: List<Seam>) -> Result<Body, Memory>
+// A text alone. Fails only if allocation fails.
+fn text_node(alloc: Global, text: Text, line: u32, seams: List<Seam>) -> Result<TreeBuilder, Memory>
     requires some { 0 < length text }
     requires bound { length text ≤ 2 ^ 20 }
     requires line { line + length text < 2 ^ 32 }
@@ -164,18 +164,18 @@ fn text_node(alloc: Global, text: Text, line: u32, seams: List<Seam>) -> Result<
         other: 0,
         more: false,
     })?;
-    Ok(Body { entries, last: 0 })
+    Ok(TreeBuilder { entries, last: 0 })
 }
 
-// Another node alone, with its parts. The error is out of memory.
+// Another node alone, with its parts. Fails only if allocation fails.
 fn control_node(
     alloc: Global,
     kind: NodeKind,
     line: u32,
-    first: Body,
-    other: Body,
-) -> Result<Body, Memory>
-    requires { is_text kind ≡ false }
+    first: TreeBuilder,
+    other: TreeBuilder,
+) -> Result<TreeBuilder, Memory>
+    requires { is_text_node kind ≡ false }
     ensures { IfOk result (λ b. b ≡ node kind line [] first other no_nodes) }
 {
     let mut first = first.entries;
@@ -195,5 +195,5 @@ fn control_node(
     })?;
     entries.append(&mut first)?;
     entries.append(&mut other)?;
-    Ok(Body { entries, last: 0 })
+    Ok(TreeBuilder { entries, last: 0 })
 }

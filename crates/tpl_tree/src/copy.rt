@@ -4,7 +4,7 @@ use crate::pipe::{Base, Command, Commands, Operand, Operands, Pipe};
 use page_io::{List, Memory, Names, Text};
 use std::alloc::Global;
 
-/// An equal pipe. The error is out of memory.
+/// An equal pipe. Fails only if allocation fails.
 #[cycle(copy)]
 pub fn copy_pipe(alloc: Global, pipe: &Pipe) -> Result<Pipe, Memory>
     ensures { IfOk result (λ copy. copy ≡ pipe.now) }

@@ -22,7 +22,7 @@ pub(crate) struct Entry {
 }
 
 impl Entry {
-    // An equal entry. The error is out of memory.
+    // An equal entry. Fails only if allocation fails.
     pub(crate) fn copy(&self, alloc: Global) -> Result<Entry, Memory>
         ensures { IfOk result (λ copy. copy ≡ self.now) }
     {
@@ -39,7 +39,7 @@ impl Entry {
     }
 }
 
-/// Equal seams. The error is out of memory.
+/// Equal seams. Fails only if allocation fails.
 pub fn copy_seams(alloc: Global, seams: &List<Seam>) -> Result<List<Seam>, Memory>
     ensures { IfOk result (λ copy. copy ≡ seams.now) }
 {

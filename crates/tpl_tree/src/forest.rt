@@ -1,5 +1,5 @@
 ghost use Rattle.std.specs.Prelude.{◌≡◌, ◌<◌, ◌^◌, length, Some, IfOk, IfSome, option_and_then};
-ghost use Rattle.tpl_tree.specs.Forests.{HasAscendingNames, name_at, number_named, tree_at};
+ghost use Rattle.tpl_tree.specs.Forests.{HasAscendingNames, tree_name_at, number_named, tree_at};
 ghost use Rattle.tpl_tree.specs.Forests.{tree_named};
 
 use crate::tree::Tree;
@@ -31,7 +31,7 @@ impl Model for Forest {
 }
 
 impl Forest {
-    /// The forest of these trees. The error is out of memory, or more than `u32::MAX` trees.
+    /// The forest of these trees. Fails if allocation fails, or on more than `u32::MAX` trees.
     pub fn from_map(alloc: Global, map: BTreeMap<Text, Tree>) -> Result<Forest, Memory>
         ensures { IfOk result (λ forest. forest ≡ map.entries) }
     {
@@ -54,7 +54,7 @@ impl Forest {
         self.trees.len()
     }
 
-    /// The number of the tree with this name, or none where no tree has it. It takes no memory and a number of steps like
+    /// The number of the tree with this name, or none where no tree has it. It does not allocate and a number of steps like
     /// the logarithm of the number of trees.
     pub fn find(&self, name: &str) -> Option<u32>
         ensures number { result ≡ number_named name.now self.now }
@@ -70,7 +70,7 @@ impl Forest {
     /// The name of a tree.
     pub fn name(&self, n: u32) -> &str
         requires { n < length self.now }
-        ensures { Some result.now ≡ name_at self.now n }
+        ensures { Some result.now ≡ tree_name_at self.now n }
     {
         self.trees[n as usize].0.as_str()
     }

@@ -10,7 +10,7 @@ mod node_kind;
 mod pipe;
 mod tree;
 
-pub use body::Body;
+pub use body::TreeBuilder;
 pub use entry::copy_seams;
 pub use forest::Forest;
 pub use node_kind::NodeKind;

@@ -1,5 +1,5 @@
 ghost use Rattle.std.specs.Prelude.{◌≡◌, ◌≤◌, length};
-ghost use Rattle.tpl_tree.specs.Trees.{seam_before, text_line, IsFineText};
+ghost use Rattle.tpl_tree.specs.Trees.{seam_before, text_line, IsFineTextNode};
 
 use page_io::line_feeds;
 use tpl_symbol::Seam;
@@ -7,7 +7,7 @@ use tpl_symbol::Seam;
 // The line of a byte of a text that begins on a line and has seams.
 pub(crate) fn line_in(text: &[u8], line: u32, seams: &[Seam], byte: u32) -> u32
     requires byte { byte ≤ length text.now }
-    requires fine { IsFineText text.now line seams.now }
+    requires fine { IsFineTextNode text.now line seams.now }
     ensures { result ≡ text_line text.now line seams.now byte }
 {
     let seam = last_seam(line, seams, byte);

@@ -31,7 +31,7 @@ pub enum NodeKind {
 }
 
 impl NodeKind {
-    /// An equal one. The error is out of memory.
+    /// An equal one. Fails only if allocation fails.
     pub fn copy(&self, alloc: Global) -> Result<NodeKind, Memory>
         ensures { IfOk result (λ copy. copy ≡ self.now) }
     {

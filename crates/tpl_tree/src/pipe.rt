@@ -179,7 +179,7 @@ impl From<Vec<Operand>> for Operands {
 impl Pipe {
     ghost use Rattle.std.specs.Prelude.{◌≡◌, IfOk};
 
-    /// An equal pipe. The error is out of memory.
+    /// An equal pipe. Fails only if allocation fails.
     pub fn copy(&self, alloc: Global) -> Result<Pipe, Memory>
         ensures { IfOk result (λ copy. copy ≡ self.now) }
     {

@@ -1,9 +1,9 @@
 ghost use Rattle.std.specs.Prelude.{◌≡◌, ◌+◌, ◌<◌, ◌≤◌, ◌^◌, nat_lt, if◌then◌else◌, length, Some};
 ghost use Rattle.std.specs.Prelude.{None, IfOk};
-ghost use Rattle.tpl_tree.specs.Listing.{nodes_of, IsListing, IsEntry};
-ghost use Rattle.tpl_tree.specs.Trees.{nodes_size, nodes_from, part_of, rest_of, head_kind};
-ghost use Rattle.tpl_tree.specs.Trees.{head_line, head_seams, head_text, text_line, number_of};
-ghost use Rattle.tpl_tree.specs.Trees.{child_number, next_number, IsFine, IsTextInBounds, Stands};
+ghost use Rattle.tpl_tree.specs.Listing.{nodes_of, IsListing, IsTreeEntry};
+ghost use Rattle.tpl_tree.specs.Trees.{nodes_size, nodes_from, tree_part, rest_of, head_kind};
+ghost use Rattle.tpl_tree.specs.Trees.{head_line, head_seams, node_head_text, text_line, node_number};
+ghost use Rattle.tpl_tree.specs.Trees.{child_number, next_number, IsFineTree, IsTextInBounds, NodeStands};
 
 use crate::entry::Entry;
 use crate::lines::line_in;
@@ -47,15 +47,15 @@ impl Tree {
     /// part, this before its `else` part, and this before what follows the node.
     pub fn count(&self) -> u32
         ensures count { result ≡ nodes_size self.now.nodes }
-        ensures fine { IsFine self.now.nodes }
+        ensures fine { IsFineTree self.now.nodes }
     {
         self.entries.len() as u32
     }
 
     /// The number of the first node of the outermost part, or none where the tree has no nodes.
     pub fn first(&self) -> Option<u32>
-        ensures number { result ≡ number_of self.now.nodes 0 }
-        ensures stands { Stands self.now.nodes self.now.nodes result }
+        ensures number { result ≡ node_number self.now.nodes 0 }
+        ensures stands { NodeStands self.now.nodes self.now.nodes result }
     {
         if self.entries.len() == 0 {
             return None;
@@ -85,8 +85,8 @@ impl Tree {
     pub fn child(&self, node: u32, part: u32) -> Option<u32>
         requires { node < nodes_size self.now.nodes }
         ensures number { result ≡ child_number self.now.nodes node part }
-        ensures stands { let nodes = part_of part (nodes_from self.now.nodes node) in
-            Stands self.now.nodes nodes result }
+        ensures stands { let nodes = tree_part part (nodes_from self.now.nodes node) in
+            NodeStands self.now.nodes nodes result }
     {
         let entry = self.entry(node);
         match part {
@@ -100,7 +100,7 @@ impl Tree {
     pub fn next(&self, node: u32) -> Option<u32>
         requires { node < nodes_size self.now.nodes }
         ensures number { result ≡ next_number self.now.nodes node }
-        ensures stands { Stands self.now.nodes (rest_of (nodes_from self.now.nodes node)) result }
+        ensures stands { NodeStands self.now.nodes (rest_of (nodes_from self.now.nodes node)) result }
     {
         let entry = self.entry(node);
         let number = node + 1 + entry.first + entry.other;
@@ -110,13 +110,13 @@ impl Tree {
         None
     }
 
-    /// The line of a byte of a text, its length standing for the place after it. The time grows with the text and its
+    /// The line of a byte of a text, its length standing for the offset after it. The time grows with the text and its
     /// seams. A node that is no text has no bytes, and gives the line on which it begins.
     pub fn line_at(&self, node: u32, byte: u32) -> u32
         requires node { node < nodes_size self.now.nodes }
-        requires byte { byte ≤ length (head_text (nodes_from self.now.nodes node)) }
+        requires byte { byte ≤ length (node_head_text (nodes_from self.now.nodes node)) }
         ensures { let nodes = nodes_from self.now.nodes node in
-            result ≡ text_line (head_text nodes) (head_line nodes) (head_seams nodes) byte }
+            result ≡ text_line (node_head_text nodes) (head_line nodes) (head_seams nodes) byte }
     {
         let entry = self.entry(node);
         match &entry.kind {
@@ -137,7 +137,7 @@ impl Tree {
         self.end_line
     }
 
-    /// An equal tree, lines and seams included. The error is out of memory.
+    /// An equal tree, lines and seams included. Fails only if allocation fails.
     pub fn copy(&self, alloc: Global) -> Result<Tree, Memory>
         ensures { IfOk result (λ copy. copy ≡ self.now) }
     {
@@ -154,7 +154,7 @@ impl Tree {
     // The entry of a node.
     fn entry(&self, node: u32) -> &Entry
         requires { node < nodes_size self.now.nodes }
-        ensures entry { IsEntry (nodes_from self.now.nodes node) result.now }
+        ensures entry { IsTreeEntry (nodes_from self.now.nodes node) result.now }
         ensures room { let nodes = nodes_from self.now.nodes node in
             node + nodes_size nodes ≤ nodes_size self.now.nodes }
         ensures sizes { let nodes = nodes_from self.now.nodes node in

@@ -5,7 +5,7 @@ ghost use Rattle.tpl_value.specs.Comparing.{equals, is_less};
 use page_datum::{Datum, FaultKind};
 
 /// Whether two values are equal. Null is equal to null alone; truth values, whole numbers and texts are compared with their
-/// own kind. The error is NotComparable: a list or a dictionary, or two kinds of which neither is null. Takes no memory.
+/// own kind. The error is NotComparable: a list or a dictionary, or two kinds of which neither is null. Does not allocate.
 pub fn equal(a: &Datum, b: &Datum) -> Result<bool, FaultKind>
     ensures { result ≡ equals (view a.now) (view b.now) }
 {
@@ -23,7 +23,7 @@ pub fn equal(a: &Datum, b: &Datum) -> Result<bool, FaultKind>
 }
 
 /// Whether a value is less than another: of two whole numbers, or of two texts in the order of their bytes. The error is
-/// NotComparable: any other two values. Takes no memory.
+/// NotComparable: any other two values. Does not allocate.
 pub fn less(a: &Datum, b: &Datum) -> Result<bool, FaultKind>
     ensures { result ≡ is_less (view a.now) (view b.now) }
 {

@@ -4,7 +4,7 @@ ghost use Rattle.tpl_value.specs.Truth.{truth_of};
 
 use page_datum::Datum;
 
-/// Whether a condition with this value holds: null, false, 0 and what is empty are false, all else is true. Takes no memory.
+/// Whether a condition with this value holds: null, false, 0 and what is empty are false, all else is true. Does not allocate.
 /// (Go's `text/template`, "Actions".)
 pub fn truth(datum: &Datum) -> bool
     ensures { result ≡ truth_of (view datum.now) }

@@ -5,7 +5,7 @@ ghost use Rattle.tpl_value.specs.Lengths.{length_of};
 use page_datum::{Datum, FaultKind};
 
 /// How long a value is: the number of a text's bytes, of a list's values, or of a dictionary's entries. The error is NoLength:
-/// any other value. Takes no memory. (Go's `text/template`, "Functions", in a profile.)
+/// any other value. Does not allocate. (Go's `text/template`, "Functions", in a profile.)
 pub fn length(datum: &Datum) -> Result<i64, FaultKind>
     ensures { result ≡ length_of (view datum.now) }
 {

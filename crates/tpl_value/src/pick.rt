@@ -1,7 +1,8 @@
 ghost use Rattle.std.specs.Prelude.{Ok, option_map};
 ghost use Rattle.page_datum.specs.View.{view, items_view};
 ghost use Rattle.tpl_value.specs.Picking.{PickAnswers, field_of, index_of};
-ghost use Rattle.tpl_value.specs.Picking.{item_at as item_at_of, item_of};
+ghost use Rattle.tpl_value.specs.Picking.{item_of};
+ghost use Rattle.tpl_value.specs.Picking as spec;
 
 use page_datum::{Datum, FaultKind};
 
@@ -13,7 +14,7 @@ pub enum Picked<'a> {
 }
 
 /// The value of a field: that of its key in a dictionary, and nothing where the dictionary lacks it. The errors are NilField, a
-/// field of null, and NoField, a field of anything else. Takes no memory.
+/// field of null, and NoField, a field of anything else. Does not allocate.
 pub fn field<'a>(datum: &'a Datum, name: &str) -> Result<Picked<'a>, FaultKind>
     ensures { PickAnswers (field_of name.now (view datum.now)) result }
 {
@@ -26,7 +27,7 @@ pub fn field<'a>(datum: &'a Datum, name: &str) -> Result<Picked<'a>, FaultKind>
 
 /// The part of a value at a key: an item of a list at a whole number, counted from 0, or the value of a dictionary at a text,
 /// and nothing where the dictionary lacks it. The errors are IndexRange, no such item, KeyKind, another kind of key, and
-/// NotIndexable, any other value. Takes no memory.
+/// NotIndexable, any other value. Does not allocate.
 pub fn index<'a>(datum: &'a Datum, key: &Datum) -> Result<Picked<'a>, FaultKind>
     ensures { PickAnswers (index_of (view datum.now) (view key.now)) result }
 {
@@ -57,7 +58,7 @@ fn item_at(items: &[Datum], at: i64) -> Result<Picked<'_>, FaultKind>
 }
 
 fn numbered_item(items: &[Datum], number: usize) -> Result<Picked<'_>, FaultKind>
-    ensures { PickAnswers (item_at_of number (items_view items.now)) result }
+    ensures { PickAnswers (spec.item_at number (items_view items.now)) result }
 {
     match items.get(number) {
         Some(item) => Ok(Picked::Value(item)),

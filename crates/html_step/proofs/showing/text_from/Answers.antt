@@ -1,5 +1,5 @@
 use Rattle.std.proofs.Common.{ap, sym, subst, ◌∙◌, List, ℕ}
-use Rattle.html_front.specs.Fronts.{At}
+use Rattle.html_scan.specs.Scans.{At}
 use Rattle.html_step.specs.Laws.{IsOrigin}
 use Rattle.html_step.specs.Origins.{origin}
 use Rattle.html_step.proofs.FromTexts.{from-text-at}

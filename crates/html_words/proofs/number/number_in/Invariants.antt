@@ -1,5 +1,5 @@
 use Rattle.std.proofs.Common.{◌≡◌, ◌≤◌, min, drop}
-use Rattle.place_core.specs.References.{number_in as number_in_of}
+use Rattle.place_core.specs.page.References.{number_in_reference as number_in_of}
 use Rattle.html_words.proofs.number.number_in.Given as goal
 
 abbrev pub invariant-loop-digit : goal.invariant-loop-digit

@@ -1,6 +1,6 @@
 use Rattle.std.proofs.Common.{◌≡◌, length}
 use Rattle.std.specs.Str.{str_to_ascii_lowercase}
-use Rattle.place_core.specs.Words.{has_part as has_part_of}
+use Rattle.place_core.specs.page.Words.{has_part as has_part_of}
 use Rattle.html_words.proofs.words.has_part.Given as goal
 
 abbrev pub invariant-loop-after : goal.invariant-loop-after

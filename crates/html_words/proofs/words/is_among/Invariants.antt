@@ -1,6 +1,6 @@
 use Rattle.std.proofs.Common.{◌≡◌, map, drop}
 use Rattle.std.specs.Str.{str_to_ascii_lowercase}
-use Rattle.place_core.specs.Words.{is_among as is_among_of}
+use Rattle.place_core.specs.page.Words.{is_among as is_among_of}
 use Rattle.html_words.proofs.words.is_among.Given as goal
 
 abbrev pub invariant-loop-word : goal.invariant-loop-word

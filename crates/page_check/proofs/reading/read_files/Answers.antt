@@ -1,8 +1,8 @@
 use Rattle.std.proofs.Common.{◌+◌, List, sym, subst, take}
 use Rattle.page_check.proofs.GatheredDefs.{read_more, refused_there}
 use Rattle.page_check.specs.Definitions.{HaveDefs}
-use Rattle.tpl_parse.specs.Gathering.{all_defs}
-use Rattle.tpl_parse.specs.declared.definition.File.{File}
+use Rattle.tpl_build.specs.Gathering.{all_defs}
+use Rattle.tpl_build.specs.declared.definition.File.{File}
 use Rattle.page_check.proofs.reading.read_files.Goals as goal
 
 pub returns-in-Err : goal.returns-in-Err

@@ -1,5 +1,5 @@
 use Rattle.std.proofs.Common.{◌≡◌, drop}
-use Rattle.page_io.specs.Held.{content_in}
+use Rattle.page_io.specs.FolderContents.{content_in}
 use Rattle.page_io.proofs.files.content_in.Given as goal
 
 abbrev pub invariant-loop-file : goal.invariant-loop-file

@@ -1,5 +1,5 @@
 use Rattle.std.proofs.Common.{◌≡◌, [], drop}
-use Rattle.page_io.specs.Held.{names_in}
+use Rattle.page_io.specs.FolderContents.{names_in}
 use Rattle.page_io.proofs.files.names_in.Given as goal
 
 abbrev pub invariant-loop-file : goal.invariant-loop-file

@@ -6,7 +6,7 @@ use Rattle.page_set.proofs.ChartedRoots.{charted-root, of-root}
 use Rattle.page_writer.specs.Composing.{ComposeAnswers, IsComposed}
 use Rattle.tpl_exec.specs.declared.stop.ExecStop.{ExecStop}
 use Rattle.tpl_exec.specs.declared.stop.ExecStop.TheVariants.{Fault}
-use Rattle.tpl_tree.specs.Forests.{ForestData, name_at, number_named}
+use Rattle.tpl_tree.specs.Forests.{ForestData, tree_name_at, number_named}
 use Rattle.page_set.proofs.root_page.root_page.Goals as goal
 
 pub unreachable-requires : goal.unreachable-requires
@@ -34,6 +34,6 @@ returns-in-Err-Fault-clause-answers c = (
   sym c.if-not-is_root.ensures,
   of-root (λ (forest : ForestData) (root : List ℕ). ComposeAnswers forest root (view c.args.datum.now) (Err (Fault c.in-Err-Fault.fault)))
       c.forest-forest.result.now c.args.checked.now c.args.root.now c.in-Some.template c.forest-forest.ensures.forest c.in-Some.ensures.number
-      (subst (λ (stop : ExecStop). ComposeAnswers c.forest-forest.result.now (unwrap_or (name_at c.forest-forest.result.now c.in-Some.template) []) (view c.args.datum.now) (Err stop))
+      (subst (λ (stop : ExecStop). ComposeAnswers c.forest-forest.result.now (unwrap_or (tree_name_at c.forest-forest.result.now c.in-Some.template) []) (view c.args.datum.now) (Err stop))
       c.in-Err-Fault.field-0-is c.in-Err-Fault.ensures),
 )

@@ -21,13 +21,13 @@ loop-n-preserved c =
       outputs = λ j node row lt at. ap (λ (ys : List (Vec Output)). output_in (map (λ w. w.items) ys) j node) is
           ∙ elim (cases_eq j c.loop-n.n) [
             | inl s ↦ push-last xs v j node (count ∙ sym s)
-                ∙ rw s (c.in_ok-outputs_of_pair.ensures row (subst (λ (k : ℕ). slice_get chart.rows k ≡ Some row) s at) node)
+                ∙ rw s (c.in_ok-outputs_of_pair.ensures row (subst (λ (k : ℕ). slice_get chart.summaries k ≡ Some row) s at) node)
             | inr d ↦ push-old xs v j node (omega (arith, lt, d, count)) ∙ c.loop-n.invariant.outputs j node row (omega (arith, lt, d)) at
           ];
     }
 
 pub returns : goal.returns
 returns c = λ n node row at.
-    let within = slice_get_within c.args.chart.now.rows n row at in
+    let within = slice_get_within c.args.chart.now.summaries n row at in
     let end = c.pairs-n-end.ensures.count in let past = c.loop-n-test.false in
     c.loop-n.invariant.outputs n node row (omega (arith, within, end, past)) at

@@ -9,9 +9,9 @@ none_by (Some n) e = cc
 
 pub returns-clause-kept : goal.returns-clause-kept
 returns-clause-kept c = λ forest roots first kept reached.
-    let row = c.in_ok-row.row in
-    let t = c.in_ok-row.ensures.template in
-    let e = c.in_ok-row.ensures.entry in
+    let summary = c.in_ok-summary.summary in
+    let t = c.in_ok-summary.ensures.template in
+    let e = c.in_ok-summary.ensures.entry in
     let none = sym c.find.ensures.number ∙ none_by c.find.result (sym c.is_some.ensures ∙ c.if-is_some.false) in
     rw c.in_ok-push.ensures.ok
-    (kept_push forest roots first c.args.all.now c.args.kept.now row kept (rw (t, e) none) (λ k. rw (t, e) (c.in_ok-row.ensures.same k)) (rw (t, e) reached))
+    (kept_push forest roots first c.args.all.now c.args.kept.now summary kept (rw (t, e) none) (λ k. rw (t, e) (c.in_ok-summary.ensures.same k)) (rw (t, e) reached))

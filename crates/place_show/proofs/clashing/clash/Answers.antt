@@ -17,7 +17,7 @@ text_mark-mark-requires-clause-within c =
 pub returns-else-not-takes-2 : goal.returns-else-not-takes-2
 returns-else-not-takes-2 c =
     let forest = c.args.forest.now in
-    let w = c.args.walker.now in
+    let w = c.args.replay.now in
     let v = c.args.other.now in
     let nodes = c.args.tree.now.nodes in
     let n = c.args.node in

@@ -1,6 +1,6 @@
 use Rattle.std.proofs.Common.{Some, List, ℕ, sym, ap, ◌∙◌}
 use Rattle.place_core.specs.declared.code.Code.TheVariants as code
-use Rattle.place_flow.specs.Leaving.{may_use}
+use Rattle.place_flow.specs.Transfer.{may_use}
 use Rattle.place_show.proofs.HoleRefused.{hole-shown}
 use Rattle.place_show.proofs.Mapped.{if-shown}
 use Rattle.place_show.proofs.Missing.{missing-shown}
@@ -15,7 +15,7 @@ use Rattle.place_show.proofs.nodes.in_tree.Goals as goal
 pub returns-then-not-may_use : goal.returns-then-not-may_use
 returns-then-not-may_use c =
     let forest = c.args.forest.now in
-    let w = c.args.walker.now in
+    let w = c.args.replay.now in
     let nodes = c.args.tree.now.nodes in
     let n = c.args.node in
     let misused = sym (c.if-not-may_use.ensures ∙ ap (may_use w.place) c.escaper_use.ensures) in
@@ -25,7 +25,7 @@ returns-then-not-may_use c =
 pub returns-in-Err : goal.returns-in-Err
 returns-in-Err c =
     let forest = c.args.forest.now in
-    let w = c.args.walker.now in
+    let w = c.args.replay.now in
     let nodes = c.args.tree.now.nodes in
     let n = c.args.node in
     let hole = sym c.kind-kind.ensures.kind ∙ ap (λ (k : NodeKind). Some k) c.in-Action.is in
@@ -35,7 +35,7 @@ returns-in-Err c =
 pub returns-in-None : goal.returns-in-None
 returns-in-None c =
     let forest = c.args.forest.now in
-    let w = c.args.walker.now in
+    let w = c.args.replay.now in
     let nodes = c.args.tree.now.nodes in
     let n = c.args.node in
     let call = sym c.kind-kind.ensures.kind ∙ ap (λ (k : NodeKind). Some k) c.in-Template.is in

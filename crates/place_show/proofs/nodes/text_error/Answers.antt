@@ -10,13 +10,13 @@ use Rattle.place_show.proofs.nodes.text_error.Goals as goal
 
 pub text_mark-mark-requires-clause-within : goal.text_mark-mark-requires-clause-within
 text_mark-mark-requires-clause-within c =
-    let p = c.args.walker.now.place in
+    let p = c.args.replay.now.place in
     refused-within c.args.text.now p c.in-Err.refused (at-text c.as_str.result.now c.args.text.now p c.in-Err.refused c.as_str.ensures c.in-Err.ensures)
 
 pub returns-in-Err : goal.returns-in-Err
 returns-in-Err c =
     let forest = c.args.forest.now in
-    let w = c.args.walker.now in
+    let w = c.args.replay.now in
     let nodes = c.args.tree.now.nodes in
     let n = c.args.node in
     let text = c.args.text.now in

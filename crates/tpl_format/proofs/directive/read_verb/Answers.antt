@@ -1,8 +1,8 @@
 use Rattle.std.proofs.Common.{◌≡◌, ◌+◌, ◌∙◌, List, ℕ, sym, ap, arith, drop, Some}
 use Rattle.tpl_format.proofs.Steps.{cuts, reads_on}
-use Rattle.tpl_format.specs.Formats.{followed, formatted_from, verb_step}
+use Rattle.tpl_format.specs.Formats.{format_followed, formatted_from, verb_step}
 use Rattle.tpl_format.specs.Verbs.{bare}
-use Rattle.tpl_format.specs.declared.verb.Reading.TheVariants.{Percent, Takes, Bad}
+use Rattle.tpl_format.specs.declared.verb.VerbState.TheVariants.{Percent, Takes, Bad}
 use Rattle.tpl_format.proofs.directive.read_verb.Goals as goal
 
 pub split_at-requires : goal.split_at-requires
@@ -20,4 +20,4 @@ returns-in-Takes-clause-found c =
     ap (λ (b : List ℕ). formatted_from b (Some bare) left) (sym c.as_bytes-bytes.ensures.value)
     ∙ sym (c.loop-at.invariant left)
     ∙ reads_on bytes c.loop-at.at verb reading (omega (arith, c.loop-at-test.true)) (sym c.read.ensures ∙ c.in-Takes.is) left
-    ∙ ap (λ (b : List ℕ). followed (formatted_from b) (verb_step verb reading left)) (ap (drop (c.loop-at.at + 1)) c.as_bytes-bytes.ensures.value ∙ sym c.split_at-in-Takes.ensures.back)
+    ∙ ap (λ (b : List ℕ). format_followed (formatted_from b) (verb_step verb reading left)) (ap (drop (c.loop-at.at + 1)) c.as_bytes-bytes.ensures.value ∙ sym c.split_at-in-Takes.ensures.back)

@@ -1,7 +1,12 @@
-use Rattle.std.proofs.Common.{◌≡◌, drop}
+use Rattle.std.proofs.Common.{◌≡◌}
+use Rattle.std.specs.List.{All}
+use Rattle.tpl_symbol.specs.Symbols.{IsFineSymbol}
 use Rattle.tpl_parse.specs.Phases.{phase_of}
-use Rattle.tpl_parse.specs.Steps.{run, state}
+use Rattle.tpl_parse.specs.Steps.{parser_run, state}
 use Rattle.tpl_parse.proofs.reader.run_symbols.Given as goal
 
 abbrev pub invariant-loop-symbol : goal.invariant-loop-symbol
-invariant-loop-symbol l = run (state l.builder (phase_of l.position l.action)) (drop l.symbol-index l.symbols) ≡ run (state l.initial.builder (phase_of l.initial.position l.initial.action)) l.symbols
+invariant-loop-symbol l = record {
+  reads : parser_run (state l.builder (phase_of l.position l.action)) l.symbol-iterator.rest.items ≡ parser_run (state l.initial.builder (phase_of l.initial.position l.initial.action)) l.fn.symbols;
+  fine : All IsFineSymbol l.symbol-iterator.rest.items;
+}

@@ -1,5 +1,5 @@
 use Rattle.std.proofs.Common.{Some, Ok, sym, ap, ◌∙◌, subst, arith, List}
-use Rattle.tpl_token.specs.Grammar.{beginning, Reads}
+use Rattle.tpl_token.specs.Grammar.{lexer_beginning, TokensRead}
 use Rattle.tpl_token.specs.declared.token.Token.{Token}
 use Rattle.tpl_token.proofs.OneAnswer.{ascend, err_accepted, err_answers, err_refused, not_refused, one_list, onward, reads_more, tokens_here}
 use Rattle.tpl_token.proofs.NextStands.{says_next}
@@ -24,7 +24,7 @@ loop-token-preserved c =
     let o = onward text from c.in-Ok-Some.token c.in-Ok-Some.next within next in
     record {
       within = o.within;
-      reads = subst (λ (ts : List Token). Reads text beginning ts c.in-Ok-Some.next) (sym c.in_ok-push-in-Ok-Some.ensures.ok) (reads_more text beginning c.loop-token.tokens from c.in-Ok-Some.token c.in-Ok-Some.next c.loop-token.invariant.reads next);
+      reads = subst (λ (ts : List Token). TokensRead text lexer_beginning ts c.in-Ok-Some.next) (sym c.in_ok-push-in-Ok-Some.ensures.ok) (reads_more text lexer_beginning c.loop-token.tokens from c.in-Ok-Some.token c.in-Ok-Some.next c.loop-token.invariant.reads next);
     }
 
 pub returns-in-Ok-None-clause-answers : goal.returns-in-Ok-None-clause-answers
@@ -58,6 +58,6 @@ pub returns-in-Ok-None-clause-cuts : goal.returns-in-Ok-None-clause-cuts
 returns-in-Ok-None-clause-cuts c =
     tokens_cut c.args.text.now c.loop-token.tokens c.utf8.text (tokens_here c.args.text.now c.loop-token.tokens c.loop-token.cursor c.loop-token.invariant.within c.loop-token.invariant.reads (c.in-Ok-None.ensures ∙ ap Ok c.in-Ok-None.field-0-is))
 
-pub returns-in-Err-clause-place : goal.returns-in-Err-clause-place
-returns-in-Err-clause-place c =
+pub returns-in-Err-clause-offset : goal.returns-in-Err-clause-offset
+returns-in-Err-clause-offset c =
     answer_cut c.args.text.now c.in-Err.refused c.utf8.text (err_answers c.args.text.now c.loop-token.tokens c.loop-token.cursor c.in-Err.refused c.loop-token.invariant.within c.loop-token.invariant.reads c.in-Err.ensures)

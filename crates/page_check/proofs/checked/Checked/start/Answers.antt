@@ -6,7 +6,7 @@ use Rattle.page_check.proofs.checked.Checked.start.Goals as goal
 pub returns-in-Some : goal.returns-in-Some
 returns-in-Some c =
     let inside : CheckedData = record { files = c.self.inside.files; forest = c.self.inside.forest; chart = c.self.inside.chart } in
-    starts inside c.args.self.now c.args.root.now c.in-Some.template c.start.result c.self.view_is c.self.invariant (sym c.if-not-is_root.ensures) c.in-Some.ensures.number c.start.ensures
+    starts inside c.args.self.now c.args.root.now c.in-Some.template c.start_of.result c.self.view_is c.self.invariant (sym c.if-not-is_root.ensures) c.in-Some.ensures.number c.start_of.ensures
 
 pub returns-in-None : goal.returns-in-None
 returns-in-None c =

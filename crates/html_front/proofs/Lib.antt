@@ -1,2 +1,0 @@
-pub mod HeldNames
-pub mod Lowered

@@ -1,6 +1,0 @@
-use Rattle.html_front.specs.Fronts.{tag_element}
-use Rattle.html_front.proofs.Lowered.{kind_lowered}
-use Rattle.html_front.proofs.names.kind_on.Goals as goal
-
-pub returns : goal.returns
-returns c = rw (c.name_kind.ensures, c.element_on.ensures) (kind_lowered (tag_element c.args.tag) c.args.name.now)

@@ -1,4 +1,0 @@
-pub mod ClassViews
-pub mod FrontViews
-pub mod Fronts
-pub mod Slices

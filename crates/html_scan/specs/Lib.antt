@@ -1,0 +1,4 @@
+pub mod ClassViews
+pub mod ScanViews
+pub mod Scans
+pub mod Slices

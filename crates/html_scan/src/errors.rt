@@ -1,0 +1,202 @@
+ghost use Rattle.std.specs.Prelude.{◌≡◌, ◌≤◌, IfSome, length, if◌then◌else◌};
+ghost use Rattle.place_core.specs.declared.code.Code.TheVariants as code;
+ghost use Rattle.place_core.specs.place.Errors.{attribute_name_error, bare_error, body_error, comment_error, content_error, equals_error, is_second_type, kind_error, place_error, quotes_error, tag_error, tag_name_error, unless_second, value_error};
+ghost use Rattle.std.specs.Str.{str_to_ascii_lowercase as lower};
+ghost use Rattle.place_core.specs.place.StatePlaces.{tag_of};
+ghost use Rattle.place_core.specs.page.Words.{kind_of};
+ghost use Rattle.html_scan.specs.Scans.{tag_element};
+ghost use Rattle.html_scan.specs.ClassViews.{class_at};
+ghost use Rattle.html_scan.specs.ScanViews.{cause_at};
+ghost use Rattle.place_core.specs.place.Errors as spec;
+ghost use Rattle.place_core.specs.page.Tags as tags;
+
+use crate::cause::Cause;
+use crate::class::Class;
+use crate::names::{kind_on, tag_named};
+use place_core::{Bare, Body, Code, Element, Kind, Place, Quotes, TagOf, TagPlace, ValuePlace};
+
+/// Why a byte is refused at a place.
+#[inline(always)]
+pub fn at_place(place: Place, class: Class) -> Option<Code>
+    ensures { result ≡ place_error place (class_at class) }
+{
+    match place {
+        Place::Text | Place::Doctype | Place::Rcdata(_) => None,
+        Place::Comment(dash) => in_comment(dash, class),
+        Place::Tag(tag) => in_tag(tag, class),
+        Place::Value(value) => in_value(value, class),
+        Place::Script(_) | Place::Style(_) | Place::Block(_) => Some(Code::NotBuilt),
+    }
+}
+
+/// Why a byte is refused in the name of a tag, of which this has been read.
+pub fn in_tag_name(ends: bool, name: &[u8], class: Class) -> Option<Code>
+    ensures { result ≡ tag_name_error (tag_of (tags.tag_named ends (lower name.now)))
+        (class_at class) }
+{
+    match class {
+        Class::QuotationMark | Class::Apostrophe | Class::LessThan => Some(Code::BadHTML),
+        Class::GreaterThan => entering(tag_named(ends, name)),
+        _ => None,
+    }
+}
+
+/// Why a byte is refused in the name of an attribute, of which this has been read.
+pub fn in_attribute_name(tag: TagOf, typed: bool, name: &[u8], class: Class) -> Option<Cause>
+    ensures error { cause_at result ≡ attribute_name_error tag typed
+        (kind_of (tag_element tag) (lower name.now)) (length name.now) (class_at class) }
+    ensures bound { IfSome result (λ cause. cause.back ≤ length name.now) }
+{
+    match class {
+        Class::White | Class::Solidus => name_ends(typed, kind_on(tag, name), name.len(), None),
+        Class::GreaterThan => name_ends(typed, kind_on(tag, name), name.len(), entering(tag)),
+        Class::EqualsSign => {
+            let kind = kind_on(tag, name);
+            name_ends(typed, kind, name.len(), of_kind(kind))
+        }
+        Class::QuotationMark | Class::Apostrophe | Class::LessThan => at_hand(Some(Code::BadHTML)),
+        _ => None,
+    }
+}
+
+/// Why the end of an attribute's name is refused: a second `type` of a script, at its first byte, or else this.
+pub fn name_ends(typed: bool, kind: Kind, len: usize, code: Option<Code>) -> Option<Cause>
+    ensures error { cause_at result ≡ unless_second (is_second_type typed kind) len code }
+    ensures bound { IfSome result (λ cause. cause.back ≤ len) }
+{
+    if is_second(typed, kind) {
+        return Some(Cause {
+            code: Code::BadHTML,
+            back: len,
+        });
+    }
+    at_hand(code)
+}
+
+// Where paths stand at several spots, a byte may be refused on some of them alone.
+fn in_tag(place: TagPlace, class: Class) -> Option<Code>
+    ensures { result ≡ tag_error place (class_at class) }
+{
+    match class {
+        Class::White | Class::Solidus => None,
+        Class::GreaterThan => entering(place.tag),
+        Class::EqualsSign => equals_sign(place.spots.name, place.spots.before, place.kind),
+        Class::QuotationMark | Class::Apostrophe | Class::LessThan => Some(no_name(
+            place.spots.name,
+        )),
+        _ => {
+            if place.spots.name || place.spots.inside {
+                Some(Code::SplitToken)
+            } else {
+                None
+            }
+        }
+    }
+}
+
+// A quotation mark, an apostrophe or a `<`, which is part of no name.
+fn no_name(name: bool) -> Code
+    ensures { result ≡ (if name then code.SplitToken else code.BadHTML) }
+{
+    if name {
+        Code::SplitToken
+    } else {
+        Code::BadHTML
+    }
+}
+
+// An equals sign begins a value after a name alone.
+fn equals_sign(name: bool, before: bool, kind: Option<Kind>) -> Option<Code>
+    ensures { result ≡ equals_error name before kind }
+{
+    if name {
+        return Some(Code::SplitToken);
+    }
+    if before {
+        return Some(Code::BadHTML);
+    }
+    match kind {
+        Some(kind) => of_kind(kind),
+        None => None,
+    }
+}
+
+fn in_value(place: ValuePlace, class: Class) -> Option<Code>
+    ensures { result ≡ value_error place (class_at class) }
+{
+    match place.body {
+        Body::Plain | Body::NoHole => in_quotes(place.tag, place.quotes, class),
+        Body::Url(_) | Body::Js(_) | Body::Css(_) => Some(Code::NotBuilt),
+    }
+}
+
+fn in_quotes(tag: TagOf, quotes: Quotes, class: Class) -> Option<Code>
+    ensures { result ≡ quotes_error tag quotes (class_at class) }
+{
+    match quotes {
+        Quotes::Dq | Quotes::Sq => None,
+        Quotes::Bare(bare) => in_bare(tag, bare, class),
+    }
+}
+
+// In a value without quotes, or before one.
+fn in_bare(tag: TagOf, bare: Bare, class: Class) -> Option<Code>
+    ensures { result ≡ bare_error tag bare (class_at class) }
+{
+    match class {
+        Class::White if bare.uq && bare.unbegun => Some(Code::AmbigContext),
+        Class::QuotationMark | Class::Apostrophe if bare.uq => Some(Code::BadHTML),
+        Class::LessThan | Class::EqualsSign | Class::GraveAccent => Some(Code::BadHTML),
+        Class::GreaterThan => entering(tag),
+        _ => None,
+    }
+}
+
+// Where a text has ended in what may be the end of a comment, no other goes on with it.
+fn in_comment(dash: bool, class: Class) -> Option<Code>
+    ensures { result ≡ comment_error dash (class_at class) }
+{
+    match class {
+        Class::HyphenMinus | Class::ExclamationMark | Class::GreaterThan if dash => Some(
+            Code::SplitToken,
+        ),
+        _ => None,
+    }
+}
+
+// The content after a tag, of which a script's and a style's are not read yet.
+fn entering(tag: TagOf) -> Option<Code>
+    ensures { result ≡ content_error tag }
+{
+    match tag {
+        TagOf::Start(Element::Script | Element::DataBlock | Element::Style) => Some(Code::NotBuilt),
+        _ => None,
+    }
+}
+
+// The value of an attribute of this kind.
+fn of_kind(kind: Kind) -> Option<Code>
+    ensures { result ≡ kind_error kind }
+{
+    match kind {
+        Kind::Plain | Kind::NoHole => None,
+        Kind::Url | Kind::Script | Kind::Style | Kind::ScriptType => Some(Code::NotBuilt),
+    }
+}
+
+fn is_second(typed: bool, kind: Kind) -> bool
+    ensures { result ≡ is_second_type typed kind }
+{
+    typed && matches!(kind, Kind::ScriptType)
+}
+
+/// A cause that stands at the byte at hand.
+pub fn at_hand(code: Option<Code>) -> Option<Cause>
+    ensures error { cause_at result ≡ spec.at_hand code }
+    ensures bound { IfSome result (λ cause. cause.back ≤ 0) }
+{
+    match code {
+        Some(code) => Some(Cause { code, back: 0 }),
+        None => None,
+    }
+}

@@ -1,0 +1,30 @@
+// One byte of a template's text: what it leads to from where the text has been read to, and whether it is refused there. The step
+// and the refusal at a place are inlined: a scan state that is passed to a call and back is copied, which takes three times as long.
+#![tactic(auto)]
+
+mod cause;
+mod class;
+mod comment_stage;
+mod comments;
+mod contents;
+mod declaration;
+mod ends;
+mod errors;
+mod names;
+mod refusals;
+mod scan;
+mod slices;
+mod step;
+mod tags;
+mod texts;
+mod values;
+
+pub use cause::Cause;
+pub use class::{Class, Letter, class_of};
+pub use comment_stage::CommentStage;
+pub use ends::end_place;
+pub use refusals::{at_byte, at_end};
+pub use scan::Scan;
+pub use step::next;
+pub use tags::INSIDE;
+pub use values::BEGUN;

@@ -1,0 +1,70 @@
+ghost use Rattle.std.specs.Prelude.{◌≡◌, ◌+◌, ◌<◌, ◌≤◌, get_or, length};
+ghost use Rattle.html_scan.specs.ClassViews.{class_at};
+ghost use Rattle.html_scan.specs.ScanViews.{scan_at, pending_from};
+ghost use Rattle.html_scan.specs.Scans.{scan_next, place_next};
+
+use crate::class::Class;
+use crate::comments::{in_comment, in_comment_end};
+use crate::contents::{after_content_less, in_content, in_content_name};
+use crate::declaration::declared_by;
+use crate::names::{is_name_of, may_be_name_of};
+use crate::scan::Scan;
+use crate::slices::pending;
+use crate::tags::{in_attribute_name, in_tag, in_tag_name};
+use crate::texts::{after_less, after_solidus, in_declaration, in_doctype, in_text};
+use crate::values::in_value;
+use place_core::Place;
+
+/// The scan state after the byte at a place of a text, whether it is refused or not.
+#[inline(always)]
+pub fn next(text: &[u8], index: usize, class: Class, scan: Scan) -> Scan
+    requires inside { index < length text.now }
+    requires pending { pending_from scan ≤ index }
+    ensures scan { scan_at text.now (index + 1) result
+        ≡ scan_next (scan_at text.now index scan) (class_at class) (get_or text.now index 0) }
+    ensures pending { pending_from result ≤ index + 1 }
+{
+    match scan {
+        Scan::At(place) => after_place(text, index, class, place),
+        Scan::AfterLess => after_less(class, index),
+        Scan::AfterLessSolidus => after_solidus(class, index),
+        Scan::InDeclaration { from } => {
+            let opens = declared_by(pending(text, from, index + 1));
+            in_declaration(class, opens, from)
+        }
+        Scan::InTagName { ends, from } => in_tag_name(
+            class,
+            ends,
+            pending(text, from, index),
+            from,
+        ),
+        Scan::InAttributeName { tag, typed, from } => {
+            in_attribute_name(class, tag, typed, pending(text, from, index), from)
+        }
+        Scan::InCommentEnd(stage) => in_comment_end(class, stage),
+        Scan::AfterContentLess(element) => after_content_less(class, element, index),
+        Scan::InContentName { element, from } => {
+            let grows = may_be_name_of(element, pending(text, from, index + 1));
+            let whole = is_name_of(element, pending(text, from, index));
+            in_content_name(class, grows, whole, element, from)
+        }
+    }
+}
+
+#[inline(always)]
+fn after_place(text: &[u8], index: usize, class: Class, place: Place) -> Scan
+    requires inside { index < length text.now }
+    ensures scan { scan_at text.now (index + 1) result
+        ≡ place_next place (class_at class) (get_or text.now index 0) }
+    ensures pending { pending_from result ≤ index }
+{
+    match place {
+        Place::Text => in_text(class),
+        Place::Doctype => Scan::At(in_doctype(class)),
+        Place::Comment(_) => in_comment(class),
+        Place::Rcdata(element) => in_content(class, element),
+        Place::Tag(tag) => in_tag(tag, class, index),
+        Place::Value(value) => Scan::At(in_value(value, class)),
+        Place::Script(_) | Place::Style(_) | Place::Block(_) => Scan::At(place),
+    }
+}

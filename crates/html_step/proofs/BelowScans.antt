@@ -1,0 +1,175 @@
+-- What is below a scan state, scan state by scan state.
+use Rattle.std.proofs.Common.{◌≡◌, ℕ, Bool, true, ◌||◌, List, refl, sym, ap, subst}
+use Rattle.place_core.specs.place.Places.{Below, is_whole}
+use Rattle.place_core.specs.page.States.{CommentState, Pending}
+use Rattle.place_core.specs.declared.element.Element.{Element}
+use Rattle.place_core.specs.declared.member.Member.{Member}
+use Rattle.place_core.specs.declared.place.Place.{Place}
+use Rattle.place_core.specs.declared.place.Place.TheVariants as place
+use Rattle.place_core.specs.declared.tag_of.TagOf.{TagOf}
+use Rattle.place_core.specs.declared.tag_place.TagPlace.{TagPlace}
+use Rattle.place_core.specs.declared.value_place.ValuePlace.{ValuePlace}
+use Rattle.place_core.proofs.Semilattices.{none_some, one_value}
+use Rattle.html_scan.specs.Scans.{Scan, At, AfterLess, AfterLessSolidus, InDeclaration, InTagName, InAttributeName, InCommentEnd, InContentEnd}
+use Rattle.html_step.proofs.ScanOrder.{ScanBelow, ScanHas, comment-one}
+use Rattle.html_step.proofs.PlaceParts.{Under, TagBelow, ValueBelow, below-tag, below-value, below-rcdata}
+
+pub whole-in : (f : Scan) (y : Member) → is_whole y ≡ true → ScanHas f y
+whole-in (At p) y e = rw e refl
+whole-in (InAttributeName t typed name) y e = rw e refl
+whole-in AfterLess y e = e
+whole-in AfterLessSolidus y e = e
+whole-in (InDeclaration pending) y e = e
+whole-in (InTagName ends name) y e = e
+whole-in (InCommentEnd s) y e = e
+whole-in (InContentEnd x h) y e = e
+
+-- below a place are places
+pub below-at : (P : Scan → Type 0) (p : Place) → ((a : Place) → Below a p → P (At a)) → (g : Scan) → ScanBelow g (At p) → P g
+below-at P p f (At a) h = f a h
+below-at P p f (InAttributeName t x n) h = absurd h
+below-at P p f AfterLess h = cc
+below-at P p f AfterLessSolidus h = cc
+below-at P p f (InDeclaration pending) h = cc
+below-at P p f (InTagName ends name) h = cc
+below-at P p f (InCommentEnd s) h = cc
+below-at P p f (InContentEnd e x) h = cc
+
+pub tag-place : (P : Scan → Type 0) (t : TagPlace) → ((u : TagPlace) → TagBelow u t → P (At (place.Tag u))) → (a : Place) → Below a (place.Tag t) → P (At a)
+tag-place P t f (place.Tag u) h = f u (below-tag u t h)
+tag-place P t f place.Text h = absurd (none_some (place.Tag t) h)
+tag-place P t f place.Doctype h = absurd (none_some (place.Tag t) h)
+tag-place P t f (place.Comment x) h = absurd (none_some (place.Tag t) h)
+tag-place P t f (place.Rcdata x) h = absurd (none_some (place.Tag t) h)
+tag-place P t f (place.Value x) h = absurd (none_some (place.Tag t) h)
+tag-place P t f (place.Script x) h = absurd (none_some (place.Tag t) h)
+tag-place P t f (place.Style x) h = absurd (none_some (place.Tag t) h)
+tag-place P t f (place.Block x) h = absurd (none_some (place.Tag t) h)
+
+pub below-at-tag : (P : Scan → Type 0) (t : TagPlace) → ((u : TagPlace) → TagBelow u t → P (At (place.Tag u))) → (g : Scan) → ScanBelow g (At (place.Tag t)) → P g
+below-at-tag P t f g h = below-at P (place.Tag t) (tag-place P t f) g h
+
+pub value-place : (P : Scan → Type 0) (t : ValuePlace) → ((u : ValuePlace) → ValueBelow u t → P (At (place.Value u))) → (a : Place) → Below a (place.Value t) → P (At a)
+value-place P t f (place.Value u) h = f u (below-value u t h)
+value-place P t f place.Text h = absurd (none_some (place.Value t) h)
+value-place P t f place.Doctype h = absurd (none_some (place.Value t) h)
+value-place P t f (place.Comment x) h = absurd (none_some (place.Value t) h)
+value-place P t f (place.Rcdata x) h = absurd (none_some (place.Value t) h)
+value-place P t f (place.Tag x) h = absurd (none_some (place.Value t) h)
+value-place P t f (place.Script x) h = absurd (none_some (place.Value t) h)
+value-place P t f (place.Style x) h = absurd (none_some (place.Value t) h)
+value-place P t f (place.Block x) h = absurd (none_some (place.Value t) h)
+
+pub below-at-value : (P : Scan → Type 0) (t : ValuePlace) → ((u : ValuePlace) → ValueBelow u t → P (At (place.Value u))) → (g : Scan) → ScanBelow g (At (place.Value t)) → P g
+below-at-value P t f g h = below-at P (place.Value t) (value-place P t f) g h
+
+comment-place : (P : Scan → Type 0) (y : Bool) → ((x : Bool) → Under x y → P (At (place.Comment x))) → (a : Place) → Below a (place.Comment y) → P (At a)
+comment-place P y f (place.Comment x) h = f x (comment-one (x || y) y (one_value (place.Comment (x || y)) (place.Comment y) h))
+comment-place P y f place.Text h = absurd (none_some (place.Comment y) h)
+comment-place P y f place.Doctype h = absurd (none_some (place.Comment y) h)
+comment-place P y f (place.Rcdata x) h = absurd (none_some (place.Comment y) h)
+comment-place P y f (place.Tag x) h = absurd (none_some (place.Comment y) h)
+comment-place P y f (place.Value x) h = absurd (none_some (place.Comment y) h)
+comment-place P y f (place.Script x) h = absurd (none_some (place.Comment y) h)
+comment-place P y f (place.Style x) h = absurd (none_some (place.Comment y) h)
+comment-place P y f (place.Block x) h = absurd (none_some (place.Comment y) h)
+
+pub below-at-comment : (P : Scan → Type 0) (y : Bool) → ((x : Bool) → Under x y → P (At (place.Comment x))) → (g : Scan) → ScanBelow g (At (place.Comment y)) → P g
+below-at-comment P y f g h = below-at P (place.Comment y) (comment-place P y f) g h
+
+-- Scan states below which there is nothing else.
+abbrev pub IsRigid : Scan → Type 0
+IsRigid f = (g : Scan) → ScanBelow g f → g ≡ f
+
+text-place : (a : Place) → Below a place.Text → At a ≡ At place.Text
+text-place place.Text h = refl
+text-place _ h = absurd (none_some place.Text h)
+
+doctype-place : (a : Place) → Below a place.Doctype → At a ≡ At place.Doctype
+doctype-place place.Doctype h = refl
+doctype-place _ h = absurd (none_some place.Doctype h)
+
+rcdata-place : (e : Element) (a : Place) → Below a (place.Rcdata e) → At a ≡ At (place.Rcdata e)
+rcdata-place e (place.Rcdata x) h = ap (λ (y : Element). At (place.Rcdata y)) (below-rcdata x e h)
+rcdata-place e _ h = absurd (none_some (place.Rcdata e) h)
+
+pub text-rigid : IsRigid (At place.Text)
+text-rigid g h = below-at (λ (x : Scan). x ≡ At place.Text) place.Text text-place g h
+
+pub doctype-rigid : IsRigid (At place.Doctype)
+doctype-rigid g h = below-at (λ (x : Scan). x ≡ At place.Doctype) place.Doctype doctype-place g h
+
+pub rcdata-rigid : (e : Element) → IsRigid (At (place.Rcdata e))
+rcdata-rigid e g h = below-at (λ (x : Scan). x ≡ At (place.Rcdata e)) (place.Rcdata e) (rcdata-place e) g h
+
+pub less-rigid : IsRigid AfterLess
+less-rigid (At p) h = absurd h
+less-rigid (InAttributeName t x n) h = absurd h
+less-rigid AfterLess h = h
+less-rigid AfterLessSolidus h = h
+less-rigid (InDeclaration pending) h = h
+less-rigid (InTagName ends name) h = h
+less-rigid (InCommentEnd s) h = h
+less-rigid (InContentEnd e x) h = h
+
+pub solidus-rigid : IsRigid AfterLessSolidus
+solidus-rigid (At p) h = absurd h
+solidus-rigid (InAttributeName t x n) h = absurd h
+solidus-rigid AfterLess h = h
+solidus-rigid AfterLessSolidus h = h
+solidus-rigid (InDeclaration pending) h = h
+solidus-rigid (InTagName ends name) h = h
+solidus-rigid (InCommentEnd s) h = h
+solidus-rigid (InContentEnd e x) h = h
+
+pub declaration-rigid : (l : List ℕ) → IsRigid (InDeclaration l)
+declaration-rigid l (At p) h = absurd h
+declaration-rigid l (InAttributeName t x n) h = absurd h
+declaration-rigid l AfterLess h = h
+declaration-rigid l AfterLessSolidus h = h
+declaration-rigid l (InDeclaration pending) h = h
+declaration-rigid l (InTagName ends name) h = h
+declaration-rigid l (InCommentEnd s) h = h
+declaration-rigid l (InContentEnd e x) h = h
+
+pub tag-name-rigid : (z : Bool) (l : List ℕ) → IsRigid (InTagName z l)
+tag-name-rigid z l (At p) h = absurd h
+tag-name-rigid z l (InAttributeName t x n) h = absurd h
+tag-name-rigid z l AfterLess h = h
+tag-name-rigid z l AfterLessSolidus h = h
+tag-name-rigid z l (InDeclaration pending) h = h
+tag-name-rigid z l (InTagName ends name) h = h
+tag-name-rigid z l (InCommentEnd s) h = h
+tag-name-rigid z l (InContentEnd e x) h = h
+
+pub comment-end-rigid : (z : CommentState) → IsRigid (InCommentEnd z)
+comment-end-rigid z (At p) h = absurd h
+comment-end-rigid z (InAttributeName t x n) h = absurd h
+comment-end-rigid z AfterLess h = h
+comment-end-rigid z AfterLessSolidus h = h
+comment-end-rigid z (InDeclaration pending) h = h
+comment-end-rigid z (InTagName ends name) h = h
+comment-end-rigid z (InCommentEnd s) h = h
+comment-end-rigid z (InContentEnd e x) h = h
+
+pub content-end-rigid : (z : Element) (l : Pending) → IsRigid (InContentEnd z l)
+content-end-rigid z l (At p) h = absurd h
+content-end-rigid z l (InAttributeName t x n) h = absurd h
+content-end-rigid z l AfterLess h = h
+content-end-rigid z l AfterLessSolidus h = h
+content-end-rigid z l (InDeclaration pending) h = h
+content-end-rigid z l (InTagName ends name) h = h
+content-end-rigid z l (InCommentEnd s) h = h
+content-end-rigid z l (InContentEnd e x) h = h
+
+-- a name of an attribute
+pub below-attribute : (P : Scan → Type 0) (t : TagOf) (y : Bool) (n : List ℕ) → ((x : Bool) → Under x y → P (InAttributeName t x n)) → (g : Scan) → ScanBelow g (InAttributeName t y n) → P g
+below-attribute P t y n f (InAttributeName u x m) h =
+    subst (λ (v : TagOf). P (InAttributeName v x m)) (sym h.0) (subst (λ (l : List ℕ). P (InAttributeName t x l)) (sym h.2) (f x h.1))
+below-attribute P t y n f (At p) h = absurd h
+below-attribute P t y n f AfterLess h = cc
+below-attribute P t y n f AfterLessSolidus h = cc
+below-attribute P t y n f (InDeclaration pending) h = cc
+below-attribute P t y n f (InTagName ends name) h = cc
+below-attribute P t y n f (InCommentEnd s) h = cc
+below-attribute P t y n f (InContentEnd e x) h = cc

@@ -1,0 +1,19 @@
+use Rattle.std.proofs.Common.{arith, get_or, drop, sym, ◌∙◌, ◌+◌}
+use Rattle.std.proofs.lemmas.List.{drop_more}
+use Rattle.html_scan.specs.ClassViews.{class_at}
+use Rattle.html_scan.specs.ScanViews.{scan_at}
+use Rattle.html_scan.specs.Scans.{At}
+use Rattle.html_step.specs.OriginViews.{origin_at}
+use Rattle.html_step.specs.Origins.{shows}
+use Rattle.html_step.proofs.OriginSteps.{evidence-then}
+use Rattle.html_step.proofs.showing.evidence.Goals as goal
+
+pub loop-index-preserved : goal.loop-index-preserved
+loop-index-preserved c =
+    let text = c.args.text.now in
+    let i = c.loop-index.index in (
+      evidence-then (origin_at c.loop-index.origins) (origin_at c.then-origins.result) (scan_at text i c.loop-index.scan) (scan_at text (i + 1) c.next-scan.result) (class_at c.class_of-class.result)
+          (get_or text i 0) (drop i text) (drop (i + 1) text) c.at_byte.result (shows text (At c.args.place)) (drop_more text i 0 (omega (arith, c.loop-index-test.true)))
+          c.class_of-class.ensures c.at_byte.ensures.error (sym c.is_some.ensures ∙ c.if-is_some.false) (λ y. c.then-origins.ensures text i y) c.next-scan.ensures.scan c.loop-index.invariant.0,
+      c.next-scan.ensures.pending,
+    )

@@ -1,0 +1,19 @@
+pub mod Agreeing
+pub mod ApartSummaries
+pub mod ClosedSummaries
+pub mod ConflictCharts
+pub mod ConflictFreeCharts
+pub mod Counting
+pub mod Counts
+pub mod Elements
+pub mod FirstSummaries
+pub mod FreshSummaries
+pub mod NamedTemplates
+mod Numbering
+pub mod PairLaws
+pub mod Pairs
+pub mod PointNumbers
+pub mod RaisedSummaries
+pub mod ReachedSummaries
+pub mod SummariesBelow
+pub mod SummaryPointStates

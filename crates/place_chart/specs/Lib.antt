@@ -1,0 +1,7 @@
+pub mod Charts
+pub mod Exact
+pub mod Least
+pub mod Numbers
+pub mod Roots
+pub mod Summaries
+pub mod Unique

@@ -1,8 +1,0 @@
--- The characters of a text, each with its place.
-use Rattle.std.specs.Prelude.{ℕ, ◌+◌, List, [], ◌∷◌}
-use Rattle.std.specs.Char.{len_utf8}
-
--- characters, each with the place of its first byte, the first at this one
-abbrev pub placed : ℕ → List ℕ → List (ℕ × ℕ)
-placed at [] = []
-placed at (c ∷ cs) = (c, at) ∷ placed (at + len_utf8 c) cs

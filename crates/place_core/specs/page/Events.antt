@@ -1,0 +1,59 @@
+-- What the lexer of HTML tells as it reads, byte by byte.
+use Rattle.std.specs.Prelude.{ℕ, Bool, List, [], ◌∷◌}
+use Rattle.std.specs.Char.{to_ascii_lowercase}
+use Rattle.place_core.specs.declared.kind.Kind.{Kind}
+
+pub data LexEvent : Type 0 where
+  -- a byte of a text, a title or a textarea, with references undone
+  TextByte : ℕ → LexEvent
+  -- a byte of a data block, and after its `<!--`
+  BlockByte : ℕ → LexEvent
+  Escape : LexEvent
+  -- a hole in the text, block, name or value that is open there
+  Mark : LexEvent
+  -- a start tag or an end tag begins; a byte of its name, in lower case
+  StartTagBegins : LexEvent
+  EndTagBegins : LexEvent
+  TagNameByte : ℕ → LexEvent
+  -- an attribute begins; a byte of its name, in lower case; its name ends, and it has this kind; a byte of its value, with references undone
+  AttributeBegins : LexEvent
+  AttributeNameByte : ℕ → LexEvent
+  AttributeNameEnds : Kind → LexEvent
+  ValueByte : ℕ → LexEvent
+  -- the tag ends, and closes itself or not
+  TagEnds : Bool → LexEvent
+  -- a comment begins; its bytes are not told. The texts of a template tell none, since no comment of theirs is written
+  Comment : LexEvent
+  -- a doctype begins; a byte of it, after its `<!`; it ends
+  DoctypeBegins : LexEvent
+  DoctypeByte : ℕ → LexEvent
+  DoctypeEnds : LexEvent
+  -- a byte of what is not read yet: the content of scripts and styles
+  UnreadByte : ℕ → LexEvent
+
+-- Events are told the last first: of two such calls, one in the other, the inner one is told before.
+
+abbrev pub event_text_bytes : List ℕ → List LexEvent → List LexEvent
+event_text_bytes [] t = t
+event_text_bytes (b ∷ bs) t = event_text_bytes bs (TextByte b ∷ t)
+
+abbrev pub block_bytes : List ℕ → List LexEvent → List LexEvent
+block_bytes [] t = t
+block_bytes (b ∷ bs) t = block_bytes bs (BlockByte b ∷ t)
+
+abbrev pub value_bytes : List ℕ → List LexEvent → List LexEvent
+value_bytes [] t = t
+value_bytes (b ∷ bs) t = value_bytes bs (ValueByte b ∷ t)
+
+abbrev pub attribute_name_bytes : List ℕ → List LexEvent → List LexEvent
+attribute_name_bytes [] t = t
+attribute_name_bytes (b ∷ bs) t = attribute_name_bytes bs (AttributeNameByte b ∷ t)
+
+abbrev pub doctype_bytes : List ℕ → List LexEvent → List LexEvent
+doctype_bytes [] t = t
+doctype_bytes (b ∷ bs) t = doctype_bytes bs (DoctypeByte b ∷ t)
+
+-- the name of a tag, from its letters in any case
+abbrev pub tag_name_bytes : List ℕ → List LexEvent → List LexEvent
+tag_name_bytes [] t = t
+tag_name_bytes (b ∷ bs) t = tag_name_bytes bs (TagNameByte (to_ascii_lowercase b) ∷ t)

@@ -1,0 +1,97 @@
+-- When the bytes of a hole are plain in their place: they lie in one token, no reference lies partly in them, and they begin and end nothing else.
+use Rattle.std.specs.Prelude.{◌≡◌, ◌≢◌, ℕ, Bool, true, false, not, IsTrue, List, [], ◌∷◌}
+use Rattle.std.specs.Char.{is_ascii_alphanumeric, is_ascii_whitespace}
+use Rattle.std.specs.List.{list_all}
+use Rattle.std.specs.Str.{str_to_ascii_lowercase}
+use Rattle.place_core.specs.page.Events.{LexEvent, TextByte, BlockByte, AttributeBegins, ValueByte, attribute_name_bytes}
+use Rattle.place_core.specs.page.Html.{read}
+use Rattle.place_core.specs.page.References.{Reference, Closed}
+use Rattle.place_core.specs.page.States.{Page, LexState, Text, BeforeAttributeName, AfterAttributeName, AfterAttributeValue, SelfClosingStartTag, AttributeName, BeforeAttributeValue, AttributeValue, Content, Characters, Bytes, Pending, Nothing, InContent, Config, config}
+use Rattle.place_core.specs.page.Tags.{Tag, Value, ValueOf, Quoting, Unquoted, without_value, ValueState}
+use Rattle.place_core.specs.page.Words.{is_special}
+use Rattle.place_core.specs.declared.element.Element.{Element}
+use Rattle.place_core.specs.declared.kind.Kind.{Kind}
+use Rattle.place_core.specs.declared.kind.Kind.TheVariants as kind
+
+-- nothing was told but bytes of a text, of a data block, or of a value
+abbrev pub only_text : List LexEvent → Bool
+only_text [] = true
+only_text (TextByte b ∷ t) = only_text t
+only_text (_ ∷ t) = false
+
+abbrev pub only_block : List LexEvent → Bool
+only_block [] = true
+only_block (BlockByte b ∷ t) = only_block t
+only_block (_ ∷ t) = false
+
+abbrev pub only_value : List LexEvent → Bool
+only_value [] = true
+only_value (ValueByte b ∷ t) = only_value t
+only_value (_ ∷ t) = false
+
+-- The bytes are one whole name of an attribute, letters and digits, and no name that data may not make; the lexer is in it. What stands after
+-- the hole may still add to the name: that is seen where the name ends.
+pub record IsPlainName (tag : Tag) (bytes : List ℕ) (d : Config ValueState) : Type 0 where
+  pub within : d.at ≡ AttributeName tag (str_to_ascii_lowercase bytes)
+  pub emitted : d.emitted ≡ attribute_name_bytes (str_to_ascii_lowercase bytes) (AttributeBegins ∷ [])
+  pub some : bytes ≢ []
+  pub letters : list_all is_ascii_alphanumeric bytes ≡ true
+  pub harmless : is_special bytes ≡ false
+
+-- the bytes lie in an unquoted value, and there is one at least
+pub record IsPlainUnquoted (tag : Tag) (d : Config ValueState) : Type 0 where
+  pub within : d.at ≡ AttributeValue Unquoted tag (ValueOf kind.Plain) Closed
+  pub emitted : IsTrue (only_value d.emitted)
+  pub some : d.emitted ≢ []
+
+abbrev pub IsPlainQuoted : Quoting → Tag → Config ValueState → Type 0
+IsPlainQuoted Unquoted tag d = IsPlainUnquoted tag d
+IsPlainQuoted q tag d = (d.at ≡ AttributeValue q tag (ValueOf kind.Plain) Closed) × IsTrue (only_value d.emitted)
+
+-- in the value of an attribute of kind Plain; the other kinds have no plain holes yet
+abbrev pub IsPlainValue : Value ValueState → Quoting → Tag → Config ValueState → Type 0
+IsPlainValue (ValueOf kind.Plain) q tag d = IsPlainQuoted q tag d
+IsPlainValue _ q tag d = ⊥
+
+-- where an unquoted value is to begin: the value begins with the first byte
+abbrev pub begins_at_once : List ℕ → Bool
+begins_at_once [] = false
+begins_at_once (b ∷ bs) = not (is_ascii_whitespace b)
+
+abbrev pub IsPlainBefore : Kind → Tag → List ℕ → Config ValueState → Type 0
+IsPlainBefore kind.Plain tag bytes d = (begins_at_once bytes ≡ true) × IsPlainUnquoted tag d
+IsPlainBefore _ tag bytes d = ⊥
+
+-- inside a text, a value: no reference is open where the hole begins
+abbrev pub WhereClosed : Reference → Type 0 → Type 0
+WhereClosed Closed fact = fact
+WhereClosed _ fact = ⊥
+
+-- in a title or a textarea, and in a data block, where nothing is pending back
+abbrev pub IsPlainContent : Pending → Content → Element → Config ValueState → Type 0
+IsPlainContent Nothing (Characters r) e d = WhereClosed r ((d.at ≡ InContent e (Characters Closed) Nothing) × IsTrue (only_text d.emitted))
+IsPlainContent Nothing Bytes e d = (d.at ≡ InContent e Bytes Nothing) × IsTrue (only_block d.emitted)
+IsPlainContent _ x e d = ⊥
+
+-- Bytes that read from this state, with nothing told, to `d` are plain there. In text, title, textarea and data block they are bytes of that very
+-- text; in a value of that value; in a tag they are one whole name. In the other states none are plain, nor are bytes at whose beginning
+-- or end the lexer holds something back, even where it could come to nothing (`</` before an `x`, in a title), nor a whole `<!--` in a data block.
+abbrev pub IsPlainFrom : LexState ValueState → List ℕ → Config ValueState → Type 0
+IsPlainFrom (Text r) bytes d = WhereClosed r ((d.at ≡ Text Closed) × IsTrue (only_text d.emitted))
+IsPlainFrom (InContent e x h) bytes d = IsPlainContent h x e d
+IsPlainFrom (BeforeAttributeName tag) bytes d = IsPlainName tag bytes d
+IsPlainFrom (AfterAttributeName tag k) bytes d = IsPlainName (without_value tag k) bytes d
+IsPlainFrom (AfterAttributeValue tag) bytes d = IsPlainName tag bytes d
+IsPlainFrom (SelfClosingStartTag tag) bytes d = IsPlainName tag bytes d
+IsPlainFrom (BeforeAttributeValue tag k) bytes d = IsPlainBefore k tag bytes d
+IsPlainFrom (AttributeValue q tag v r) bytes d = WhereClosed r (IsPlainValue v q tag d)
+IsPlainFrom _ bytes d = ⊥
+
+-- Where a hole begins, what the lexer of a script or a style still holds back is told first. The states that are read need no such telling: where
+-- they hold something back no hole is plain.
+abbrev pub settled_config : Config ValueState → Config ValueState
+settled_config c = c
+
+-- plain in its place, and no token of what stands before lies partly in it
+abbrev pub IsPlain : List ℕ → Config ValueState → Type 0
+IsPlain bytes c = (read Page bytes c ≡ read Page bytes (settled_config c)) × IsPlainFrom (settled_config c).at bytes (read Page bytes (config (settled_config c).at []))

@@ -1,0 +1,7 @@
+-- Contexts (places): how they join, what members they have, and which errors a path shows.
+pub mod Errors
+pub mod JoinLaws
+pub mod Membership
+pub mod NotBuiltPlaces
+pub mod Places
+pub mod StatePlaces

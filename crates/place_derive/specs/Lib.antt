@@ -1,0 +1,4 @@
+pub mod Derivations
+pub mod FirstConflicts
+pub mod Soundness
+pub mod Tracing

@@ -1,0 +1,37 @@
+ghost use Rattle.std.specs.Prelude.{ℕ, List};
+ghost use Rattle.place_core.specs.declared.place.Place.{Place as SpecPlace};
+ghost use Rattle.place_derive.specs.Soundness.{IsSoundDerived};
+ghost use Rattle.tpl_tree.specs.Forests.{ForestData};
+
+use crate::conflict::FirstConflict;
+use crate::derivation::Derivation;
+use place_chart::Summaries;
+use std::alloc::Global;
+
+/// What is derived so far: the summaries of pairs, the log of what their points were given, and the first conflict. (In the terms of
+/// data-flow analysis: the abstract states, with their provenance.)
+#[derive(Debug, Drop)]
+pub struct Derived {
+    /// The summaries, one for each pair that was entered.
+    pub summaries: Summaries,
+    /// What their points were given, in order.
+    pub log: Vec<Derivation>,
+    /// Where there was a conflict first.
+    pub conflict: Option<FirstConflict>,
+}
+
+impl Derived {
+    /// Nothing is derived. Does not allocate.
+    pub fn new(alloc: Global) -> Derived
+        ensures { (forest : ForestData) (roots : List ℕ) (first : SpecPlace)
+            → IsSoundDerived forest roots first result }
+    {
+        let summaries = Summaries::new(alloc);
+        let log = Vec::new(alloc);
+        Derived {
+            summaries,
+            log,
+            conflict: None,
+        }
+    }
+}

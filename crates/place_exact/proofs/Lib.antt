@@ -1,3 +1,0 @@
-pub mod NoErrors
-pub mod NoRefusal
-pub mod TakenEdges

@@ -1,5 +1,0 @@
-use Rattle.place_exact.proofs.NoRefusal.{no-refusal}
-use Rattle.place_exact.proofs.laws.charted_sets_are_not_refused.Goals as goal
-
-pub returns : goal.returns
-returns c = no-refusal

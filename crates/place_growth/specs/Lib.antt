@@ -1,3 +1,0 @@
-pub mod Growths
-pub mod Tears
-pub mod Tracing

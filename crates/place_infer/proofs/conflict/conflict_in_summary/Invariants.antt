@@ -1,0 +1,8 @@
+use Rattle.std.proofs.Common.{◌≡◌, ◌<◌, ℕ, Some}
+use Rattle.std.specs.Prelude.{slice_get}
+use Rattle.place_chart.specs.Summaries.{IsConflictFreeSummary}
+use Rattle.place_chart.specs.declared.summary.Summary.{Summary}
+use Rattle.place_infer.proofs.conflict.conflict_in_summary.Given as goal
+
+abbrev pub invariant-loop-n : goal.invariant-loop-n
+invariant-loop-n l = (j : ℕ) (summary : Summary) → j < l.n → slice_get l.summaries j ≡ Some summary → IsConflictFreeSummary summary

@@ -1,0 +1,8 @@
+use Rattle.std.proofs.Common.{◌∙◌, subst, sym}
+use Rattle.place_derive.specs.Soundness.{StaysSound}
+use Rattle.place_derive.specs.declared.derived.Derived.{Derived}
+use Rattle.place_infer.proofs.solver.Solver.follow_edge.Goals as goal
+
+pub returns-clause-sound : goal.returns-clause-sound
+returns-clause-sound c =
+    subst (λ (d : Derived). StaysSound c.args.flows.now c.args.self.now.derived d) (sym (c.push_raised.ensures ∙ c.add_caller.ensures ∙ c.add_entered.ensures)) c.in_ok-propagated.ensures.sound

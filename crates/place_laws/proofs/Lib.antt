@@ -1,0 +1,7 @@
+pub mod Arrivals
+pub mod Comings
+pub mod ConflictEdges
+pub mod NoErrors
+pub mod NoRefusal
+pub mod RefusalEvidences
+pub mod TakenEdges

@@ -1,0 +1,147 @@
+-- On the paths of a set that has a chart no error stands.
+use Rattle.std.proofs.Common.{◌≡◌, ℕ, List, [], ◌∷◌, All, Some, None, Result, Ok, Err, refl, sym, ap, ◌∙◌, subst, Bool, true, false, if◌then◌else◌}
+use Rattle.std.specs.Prelude.{Contains}
+use Rattle.html_step.specs.Steps.{after_text}
+use Rattle.place_flow.specs.Covering.{IsCovered, IsStack, Pair, pair, pairs_along}
+use Rattle.place_flow.specs.HtmlCovering.{behind_text, html_language}
+use Rattle.place_core.proofs.Joins.{the_join_least}
+use Rattle.place_core.specs.place.Errors.{Clashes}
+use Rattle.place_core.specs.place.Membership.{IsIn}
+use Rattle.place_core.specs.place.Places.{Below, IsValid, joined}
+use Rattle.place_core.specs.place.StatePlaces.{placed}
+use Rattle.place_core.specs.page.States.{LexState}
+use Rattle.place_core.specs.page.Tags.{ValueState}
+use Rattle.place_core.specs.declared.code.Code.{Code}
+use Rattle.place_core.specs.declared.place.Place.{Place}
+use Rattle.place_core.specs.declared.place.Place.TheVariants as place
+use Rattle.place_core.specs.declared.step_err.StepErr.{StepErr}
+use Rattle.place_laws.proofs.TakenEdges.{is-on, taken-edge}
+use Rattle.place_laws.specs.Exactness.{ChartedSetsHaveNoError, stands_at, state_at}
+use Rattle.place_flow.specs.Transfer.{edge_step, reaches_or_refused, may_use, use_at}
+use Rattle.place_flow.specs.declared.step.Step.{Step}
+use Rattle.place_flow.specs.declared.step.Step.TheVariants.{Refused}
+use Rattle.place_infer.specs.Inferring.{EndsInText, root_numbers}
+use Rattle.place_infer.proofs.JudgedCharts.{root-in}
+use Rattle.place_chart.specs.Exact.{places_of}
+use Rattle.place_chart.specs.Charts.{IsClosedByNumber}
+use Rattle.place_chart.specs.Summaries.{IsValidSummary, IsConflictFreeSummary, chart_of}
+use Rattle.place_chart.specs.declared.summary.Summary.{Summary}
+use Rattle.place_flow.specs.declared.point_state.PointState.TheVariants.{At}
+use Rattle.place_flow.proofs.ClearSteps.{IsTaken, one_place, step-clear}
+use Rattle.place_flow.specs.Errors.{EdgeClashes, Errs}
+use Rattle.std.proofs.lemmas.List.Elements.{All-contains}
+use Rattle.tpl_paths.specs.Edges.{Edge, Point, Within, before, calls, edges_in, fills, finish_point, from_of, passes, picks, writes}
+use Rattle.tpl_paths.specs.Paths.{Move, Open, Standing, signs_of, open_standing}
+use Rattle.tpl_tree.specs.Forests.{ForestData, number_named}
+use Rattle.html_step.proofs.TextEvidences.{accepts-text}
+
+some-one : {A : Type 0} (x y : A) → Some x ≡ Some y → x ≡ y
+some-one x y e = cc
+
+no-join : (c : Place) → None ≡ Some c → ⊥
+no-join c e = cc
+
+-- only text is below text
+below-text : (p : Place) → Below p place.Text → p ≡ place.Text
+below-text place.Text b = refl
+below-text place.Doctype b = cc
+below-text (place.Comment x) b = cc
+below-text (place.Rcdata x) b = cc
+below-text (place.Tag x) b = cc
+below-text (place.Value x) b = cc
+below-text (place.Script x) b = cc
+below-text (place.Style x) b = cc
+below-text (place.Block x) b = cc
+
+taken-parts : (b : Bool) (x : Step) → IsTaken (if b then x else Refused) → IsTaken x
+taken-parts true x h = h
+taken-parts false x h = absurd h
+
+-- a text that is taken clashes on no two paths
+text-alone : (bytes : List ℕ) (p : Place) (s r : LexState ValueState) (o : Result Place (StepErr Place)) → after_text bytes p ≡ o → IsTaken (reaches_or_refused (behind_text o)) → IsValid p → IsIn p s → IsIn p r
+    → (c : Code) (at : ℕ) → Clashes bytes s r c at → ⊥
+text-alone bytes p s r (Ok q) e taken v i j c at clash = (accepts-text bytes p q s v e i).1 r c at j clash
+text-alone bytes p s r (Err x) e taken v i j c at clash = absurd taken
+
+no-clash : (forest : ForestData) (e : Edge) (p : Place) (s r : LexState ValueState) → IsTaken (edge_step forest e p) → IsValid p → IsIn p s → IsIn p r → EdgeClashes e s r → ⊥
+no-clash forest (writes n bytes to) p s r taken v i j h = text-alone bytes p s r (after_text bytes p) refl taken v i j h.0 h.1 h.2
+no-clash forest (fills n pipe to) p s r taken v i j h = h.1
+no-clash forest (calls n name to) p s r taken v i j h = h
+no-clash forest (picks from choice to) p s r taken v i j h = h
+no-clash forest (passes from to) p s r taken v i j h = h
+
+module _ (forest : ForestData) (summaries : List Summary) (valid : All IsValidSummary summaries) (closed : IsClosedByNumber forest (chart_of summaries)) (conflict_free : All IsConflictFreeSummary summaries) where
+  abbrev Covered : Standing → List (Pair Place) → LexState ValueState → Type 0
+  Covered a ps s = IsCovered html_language forest (places_of forest summaries) place.Text a ps s
+
+  -- the open calls tell in which place the innermost template is entered
+  same-entry : (os : List Open) (t : List ℕ) (p q : Place) (ps qs : List (Pair Place)) → IsStack forest (places_of forest summaries) place.Text os t p ps → IsStack forest (places_of forest summaries) place.Text os t q qs → p ≡ q
+  same-entry [] t p q [] [] f g = f ∙ sym g
+  same-entry [] t p q [] (y ∷ ys) f g = absurd g
+  same-entry [] t p q (x ∷ xs) ys f g = absurd f
+  same-entry (o ∷ os) t p q [] ys f g = absurd f
+  same-entry (o ∷ os) t p q (x ∷ xs) [] f g = absurd g
+  same-entry (o ∷ os) t p q (x ∷ xs) (y ∷ ys) f g =
+      let same = same-entry os o.template x.entry y.entry xs ys f.3 g.3 in
+      some-one p q (sym f.2 ∙ ap (λ (z : Place). places_of forest summaries o.template z (before o.node)) same ∙ g.2)
+
+  clear-at : (a : Standing) (ps : List (Pair Place)) (s : LexState ValueState) (e : Edge) → Covered a ps s → Within e (edges_in forest a.template) → a.at ≡ from_of e → Errs forest a.template e s → ⊥
+  clear-at a ps s e c inside at errs =
+      let on = is-on summaries (number_named a.template forest) c.entry (from_of e) c.place (subst (λ (k : Point). places_of forest summaries a.template c.entry k ≡ Some c.place) at c.there) in
+      let t = taken-edge forest summaries a.template on.number c.entry c.place e valid closed conflict_free on.is inside on.on in
+      step-clear forest on.number a.template e c.place s on.is c.is_in.0 c.is_in.1 t.taken errs
+
+  same-place : (a : Standing) (ps qs : List (Pair Place)) (s r : LexState ValueState) → (c : Covered a ps s) → (d : Covered a qs r) → IsIn c.place r
+  same-place a ps qs s r c d =
+      let entry = same-entry a.open_calls a.template c.entry d.entry c.below d.below c.opened d.opened in
+      let place = some-one c.place d.place (sym c.there ∙ ap (λ (z : Place). places_of forest summaries a.template z a.at) entry ∙ d.there) in
+      subst (λ (z : Place). IsIn z r) (sym place) d.is_in.1
+
+  clash-at : (a : Standing) (ps qs : List (Pair Place)) (s r : LexState ValueState) (e : Edge) → Covered a ps s → Covered a qs r → Within e (edges_in forest a.template) → a.at ≡ from_of e → EdgeClashes e s r → ⊥
+  clash-at a ps qs s r e c d inside at clash =
+      let on = is-on summaries (number_named a.template forest) c.entry (from_of e) c.place (subst (λ (k : Point). places_of forest summaries a.template c.entry k ≡ Some c.place) at c.there) in
+      let t = taken-edge forest summaries a.template on.number c.entry c.place e valid closed conflict_free on.is inside on.on in
+      no-clash forest e c.place s r (taken-parts (may_use c.place (use_at forest on.number (from_of e))) (edge_step forest e c.place) t.taken) c.is_in.0 c.is_in.1 (same-place a ps qs s r c d) clash
+
+  join-at : (st : Standing) (ps qs : List (Pair Place)) (s r : LexState ValueState) (a b : Place) → Covered st ps s → Covered st qs r → placed s ≡ Some a → placed r ≡ Some b → joined a b ≡ None → ⊥
+  join-at st ps qs s r a b c d sa rb none =
+      let i = c.is_in.1 in let j = same-place st ps qs s r c d in
+      let ia = subst (λ (x : Place). Below x c.place) (one_place (placed s) i.own a i.stands sa) i.below in
+      let jb = subst (λ (x : Place). Below x c.place) (one_place (placed r) j.own b j.stands rb) j.below in
+      let both = the_join_least a b c.place ia jb in
+      no-join both.0 (sym none ∙ both.1)
+
+  -- with no call open a template is entered in text
+  entry-text : (t : List ℕ) (p : Place) (ps : List (Pair Place)) → IsStack forest (places_of forest summaries) place.Text [] t p ps → p ≡ place.Text
+  entry-text t p [] f = f
+  entry-text t p (q ∷ qs) f = absurd f
+
+  end-at : (name : List ℕ) (t : ℕ) (ps : List (Pair Place)) (s : LexState ValueState) (a : Place) → number_named name forest ≡ Some t → EndsInText (chart_of summaries t place.Text finish_point) → Covered (open_standing [] name finish_point) ps s → placed s ≡ Some a → a ≡ place.Text
+  end-at name t ps s a number ends c sa =
+      let entry = entry-text name c.entry c.below c.opened in
+      let on = is-on summaries (number_named name forest) c.entry finish_point c.place c.there in
+      let same = some-one on.number t (sym on.is ∙ number) in
+      let at : chart_of summaries t place.Text finish_point ≡ At c.place = sym (ap (λ (u : ℕ). chart_of summaries u place.Text finish_point) same) ∙ sym (ap (λ (z : Place). chart_of summaries on.number z finish_point) entry) ∙ on.on in
+      let text : c.place ≡ place.Text = subst EndsInText at ends in
+      let i = c.is_in.1 in
+      let below = subst (λ (x : Place). Below x c.place) (one_place (placed s) i.own a i.stands sa) i.below in
+      below-text a (subst (Below a) text below)
+
+root-ends : (forest : ForestData) (names : List (List ℕ)) (summaries : List Summary) (name : List ℕ) (t : ℕ) → All (λ r. EndsInText (chart_of summaries r place.Text finish_point)) (root_numbers forest names)
+    → Contains names name → number_named name forest ≡ Some t → EndsInText (chart_of summaries t place.Text finish_point)
+root-ends forest names summaries name t all among number = All-contains (λ (r : ℕ). EndsInText (chart_of summaries r place.Text finish_point)) (root_numbers forest names) t all (root-in forest names name t among number)
+
+pub no-error : ChartedSetsHaveNoError
+no-error forest names chart name t is among number =
+    let valid = is.least.valid in let closed = is.least.closed in let conflict_free = is.conflict_free in
+    let cover = is.covers name t among number in
+    let pairs : List Move → List (Pair Place) = λ ms. pairs_along forest (places_of forest chart.summaries) (signs_of ms) (pair name place.Text ∷ []) in
+    record {
+      one = λ ms e path inside at errs. clear-at forest chart.summaries valid closed conflict_free (stands_at forest name ms) (pairs ms) (state_at ms) e (cover ms path) inside at errs;
+      two = λ ms ns e path other meet inside at clash. clash-at forest chart.summaries valid closed conflict_free (stands_at forest name ms) (pairs ms) (pairs ns) (state_at ms) (state_at ns) e (cover ms path)
+          (subst (λ (a : Standing). IsCovered html_language forest (places_of forest chart.summaries) place.Text a (pairs ns) (state_at ns)) meet (cover ns other)) inside at clash;
+      joins = λ ms ns a b path other meet sa rb none. join-at forest chart.summaries valid closed conflict_free (stands_at forest name ms) (pairs ms) (pairs ns) (state_at ms) (state_at ns) a b (cover ms path)
+          (subst (λ (z : Standing). IsCovered html_language forest (places_of forest chart.summaries) place.Text z (pairs ns) (state_at ns)) meet (cover ns other)) sa rb none;
+      ends = λ ms a path at sa. end-at forest chart.summaries valid closed conflict_free name t (pairs ms) (state_at ms) a number (root-ends forest names chart.summaries name t is.ends among number)
+          (subst (λ (z : Standing). IsCovered html_language forest (places_of forest chart.summaries) place.Text z (pairs ms) (state_at ms)) at (cover ms path)) sa;
+    }

@@ -1,0 +1,8 @@
+// Theorems about inference: what is derived comes along paths, conflicts have errors, and a set with a chart has no error.
+#![tactic(auto)]
+
+mod exact_laws;
+mod path_laws;
+
+pub use exact_laws::{charted_sets_are_not_refused, charted_sets_have_no_error};
+pub use path_laws::{every_conflict_has_error, every_member_has_a_path, every_root_has_a_path};

@@ -1,4 +1,0 @@
-pub mod Charts
-pub mod Least
-pub mod Numbers
-pub mod Rows

@@ -1,0 +1,5 @@
+use Rattle.place_trace.specs.Replays.{IsPathReplay}
+use Rattle.place_trace.proofs.candidate_replay.replayed.Given as goal
+
+abbrev pub invariant-loop-step : goal.invariant-loop-step
+invariant-loop-step l = IsPathReplay l.flows l.replay

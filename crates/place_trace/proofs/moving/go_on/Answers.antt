@@ -1,0 +1,15 @@
+use Rattle.std.proofs.Common.{sym, ◌∙◌, subst}
+use Rattle.tpl_paths.specs.Edges.{Point}
+use Rattle.place_trace.specs.Moving.{HasEntered}
+use Rattle.place_trace.proofs.Replaying.{entered, arrived}
+use Rattle.place_trace.proofs.moving.go_on.Goals as goal
+
+pub returns-in_ok-arrive-in-Reaches : goal.returns-in_ok-arrive-in-Reaches
+returns-in_ok-arrive-in-Reaches c = λ up e at from end is.
+    arrived c.args.flows.now c.args.replay.now c.arrive.new.replay is c.args.number up e c.args.to c.in-Reaches.place c.choice-choice.result at from end (c.choice-choice.ensures e at)
+    (sym (c.transfer.ensures e at) ∙ c.in-Reaches.is) c.in_ok-arrive-in-Reaches.ensures
+
+pub returns-in_ok-enter-in-Enters : goal.returns-in_ok-enter-in-Enters
+returns-in_ok-enter-in-Enters c = λ up e at from end is.
+    entered c.args.flows.now c.args.replay.now c.enter.new.replay is c.args.number up e c.args.to c.in-Enters.callee c.in-Enters.place at from end (sym (c.transfer.ensures e at) ∙ c.in-Enters.is)
+    (subst (λ (k : Point). HasEntered c.args.replay.now c.enter.new.replay c.in-Enters.callee k c.args.to c.in-Enters.place) c.start.ensures c.in_ok-enter-in-Enters.ensures)

@@ -1,0 +1,180 @@
+use page_io::Memory;
+use place_core::{Member, Place, has};
+use place_derive::Derivation;
+use place_flow::{Flows, point_number};
+use std::alloc::Global;
+use tpl_paths::Point;
+
+// A place in which a template is entered, and by the numbers of the points the first derivation there.
+#[derive(Debug, Drop)]
+struct EnteredPair {
+    entry: Place,
+    first: Vec<Option<usize>>,
+}
+
+/// The derivations of a log by their pairs and points.
+#[derive(Drop)]
+pub struct Derivations<'l> {
+    log: &'l [Derivation],
+    // by the numbers of the templates
+    pairs: Vec<Vec<EnteredPair>>,
+    // by the number of a derivation, the next one at the same point of its pair
+    next: Vec<Option<usize>>,
+}
+
+/// The derivations of a log. Fails only if allocation fails. It takes time in proportion to the log and to the points of its pairs.
+pub fn derivations_of<'l>(
+    alloc: Global,
+    flows: &Flows,
+    log: &'l [Derivation],
+) -> Result<Derivations<'l>, Memory> {
+    let mut pairs = Vec::new(alloc);
+    for _template in 0..flows.forest().count() {
+        pairs.push(Vec::new(alloc))?;
+    }
+    let mut next = nothing(alloc, log.len())?;
+    for number in (0..log.len()).rev() {
+        add(alloc, flows, &mut pairs, &mut next, number, log[number])?;
+    }
+    Ok(Derivations { log, pairs, next })
+}
+
+fn nothing(alloc: Global, count: usize) -> Result<Vec<Option<usize>>, Memory> {
+    Ok(vec![in alloc; None; count]?)
+}
+
+// Adds a derivation before all that are at its point.
+fn add(
+    alloc: Global,
+    flows: &Flows,
+    pairs: &mut Vec<Vec<EnteredPair>>,
+    next: &mut Vec<Option<usize>>,
+    number: usize,
+    derivation: Derivation,
+) -> Result<(), Memory> {
+    let template = derivation.template as usize;
+    if template >= pairs.len() || number >= next.len() {
+        return Ok(());
+    }
+    let points = flows.points(derivation.template);
+    let at = pair_at(alloc, &mut pairs[template], derivation.entry, points)?;
+    next[number] = put_first(&mut pairs[template], at, derivation.point, number);
+    Ok(())
+}
+
+// The number of a pair among those of its template, to which it is added where it is not yet one.
+fn pair_at(
+    alloc: Global,
+    pairs: &mut Vec<EnteredPair>,
+    entry: Place,
+    points: usize,
+) -> Result<usize, Memory> {
+    match find(pairs.as_slice(), entry) {
+        Some(at) => Ok(at),
+        None => {
+            let at = pairs.len();
+            pairs.push(EnteredPair {
+                entry,
+                first: nothing(alloc, points)?,
+            })?;
+            Ok(at)
+        }
+    }
+}
+
+fn find(pairs: &[EnteredPair], entry: Place) -> Option<usize> {
+    for at in 0..pairs.len() {
+        if pairs[at].entry == entry {
+            return Some(at);
+        }
+    }
+    None
+}
+
+// Makes a derivation the first one at a point, and gives the one that was.
+fn put_first(
+    pairs: &mut Vec<EnteredPair>,
+    at: usize,
+    point: Point,
+    number: usize,
+) -> Option<usize> {
+    if at >= pairs.len() {
+        return None;
+    }
+    replace(&mut pairs[at].first, point_number(point), number)
+}
+
+fn replace(first: &mut Vec<Option<usize>>, point: usize, number: usize) -> Option<usize> {
+    if point >= first.len() {
+        return None;
+    }
+    let old = first[point];
+    first[point] = Some(number);
+    old
+}
+
+impl<'l> Derivations<'l> {
+    /// The oldest derivation at a point of a pair whose derived place has a member.
+    pub fn oldest(
+        &self,
+        template: u32,
+        entry: Place,
+        point: Point,
+        member: Member,
+    ) -> Option<Derivation> {
+        let mut at = self.first(template, entry, point);
+        for _turn in 0..self.log.len() {
+            match at {
+                Some(number) if self.gives(number, member) => return self.derivation(number),
+                Some(number) => at = self.next(number),
+                None => return None,
+            }
+        }
+        None
+    }
+
+    fn first(&self, template: u32, entry: Place, point: Point) -> Option<usize> {
+        match self.pairs.get(template as usize) {
+            Some(pairs) => first_in(pairs.as_slice(), entry, point),
+            None => None,
+        }
+    }
+
+    fn next(&self, number: usize) -> Option<usize> {
+        match self.next.get(number) {
+            Some(next) => *next,
+            None => None,
+        }
+    }
+
+    fn derivation(&self, number: usize) -> Option<Derivation> {
+        match self.log.get(number) {
+            Some(derivation) => Some(*derivation),
+            None => None,
+        }
+    }
+
+    // Whether the derived place of a derivation has a member.
+    fn gives(&self, number: usize, member: Member) -> bool {
+        match self.derivation(number) {
+            Some(derivation) => has(derivation.place, member),
+            None => false,
+        }
+    }
+}
+
+fn first_in(pairs: &[EnteredPair], entry: Place, point: Point) -> Option<usize> {
+    for pair in pairs {
+        if pair.entry == entry {
+            return first_at(pair, point);
+        }
+    }
+    None
+}
+
+fn first_at(pair: &EnteredPair, point: Point) -> Option<usize> {
+    match pair.first.get(point_number(point)) {
+        Some(number) => *number,
+        None => None,
+    }
+}

@@ -1,0 +1,22 @@
+// From the log of derivations back to candidate paths, and their replay along the edges of the templates.
+#![tactic(auto)]
+
+mod back_trace;
+mod calls;
+mod candidate;
+mod candidate_replay;
+mod chosen;
+mod derivations;
+mod edges;
+mod finding;
+mod moving;
+mod origin;
+mod points;
+mod replay;
+mod showing;
+
+pub use candidate::Candidate;
+pub use candidate_replay::replayed;
+pub use chosen::Chosen;
+pub use finding::{candidate_of_end, candidates_of_conflict};
+pub use replay::{PathReplay, ReplayedCall};

@@ -1,0 +1,153 @@
+-- What a page has told where its reading stands for a path, and where it is in the path's very state.
+use Rattle.std.proofs.Common.{◌≡◌, true, false, List, Option, Some, None, refl, sym, ap, subst}
+use Rattle.std.specs.Bool.{⊤}
+use Rattle.place_core.specs.page.Events.{LexEvent}
+use Rattle.place_core.specs.place.Membership.{IsIn}
+use Rattle.place_core.specs.place.Places.{Below}
+use Rattle.place_core.specs.page.References.{Reference, Closed, Open}
+use Rattle.place_core.specs.place.StatePlaces.{comment_place, content_place, placed, quotes_at, unbegun, value_body, value_spot, where_closed}
+use Rattle.place_core.specs.page.States.{LexState, Text, TagOpen, EndTagOpen, DeclarationOpen, CommentState, Inside, Broken, InComment, BogusComment, InDoctype, TagName, WholeTagName, BeforeAttributeName, AttributeName, WholeAttributeName, AfterAttributeName, BeforeAttributeValue, AttributeValue, AfterAttributeValue, SelfClosingStartTag, Characters, Bytes, Nothing, PendingLess, PendingName, PendingBang, PendingBangDash, InContent, Unread, Config, config}
+use Rattle.place_core.specs.page.Tags.{Tag, ValueOf, TypeSoFar, ValueState, languages, attribute_value_of}
+use Rattle.place_core.specs.declared.body.Body.{Body}
+use Rattle.place_core.specs.declared.element.Element.{Element}
+use Rattle.place_core.specs.declared.element.Element.TheVariants as element
+use Rattle.place_core.specs.declared.place.Place.{Place}
+use Rattle.place_core.specs.declared.place.Place.TheVariants as place
+use Rattle.place_core.specs.declared.quotes.Quotes.{Quotes}
+use Rattle.text_norm.specs.Standing.{TextStands}
+use Rattle.text_norm.specs.StandsLaws.{StandsWhereNothingIsPending, EmitsTheSame, holds_nothing}
+
+-- the path has a place
+abbrev IsSome : Option Place → Type 0
+IsSome None = ⊥
+IsSome (Some p) = ⊤
+
+emitted-same : (s : LexState ValueState) (t : List LexEvent) (d : Config ValueState) → IsSome (placed s) → TextStands languages s t d → d.emitted ≡ t
+emitted-same (Text Closed) t d h l = ap (λ (c : Config ValueState). c.emitted) l
+emitted-same (Text (Open f b)) t d h l = absurd h
+emitted-same (TagOpen r) t d h l = absurd h
+emitted-same (EndTagOpen r) t d h l = absurd h
+emitted-same (DeclarationOpen r pending) t d h l = absurd h
+emitted-same (InComment s) t d h l = ap (λ (c : Config ValueState). c.emitted) l
+emitted-same BogusComment t d h l = absurd h
+emitted-same InDoctype t d h l = ap (λ (c : Config ValueState). c.emitted) l
+emitted-same (TagName ends name) t d h l = ap (λ (c : Config ValueState). c.emitted) l
+emitted-same (WholeTagName tag) t d h l = ap (λ (c : Config ValueState). c.emitted) l.at
+emitted-same (BeforeAttributeName tag) t d h l = ap (λ (c : Config ValueState). c.emitted) l
+emitted-same (AttributeName tag name) t d h l = ap (λ (c : Config ValueState). c.emitted) l
+emitted-same (WholeAttributeName tag k) t d h l = ap (λ (c : Config ValueState). c.emitted) l.at
+emitted-same (AfterAttributeName tag k) t d h l = ap (λ (c : Config ValueState). c.emitted) l
+emitted-same (BeforeAttributeValue tag k) t d h l = ap (λ (c : Config ValueState). c.emitted) l
+emitted-same (AttributeValue q tag (ValueOf v) Closed) t d h l = ap (λ (c : Config ValueState). c.emitted) l
+emitted-same (AttributeValue q tag (ValueOf v) (Open f b)) t d h l = absurd h
+emitted-same (AttributeValue q tag (TypeSoFar before) r) t d h l = absurd l
+emitted-same (AfterAttributeValue tag) t d h l = ap (λ (c : Config ValueState). c.emitted) l
+emitted-same (SelfClosingStartTag tag) t d h l = ap (λ (c : Config ValueState). c.emitted) l
+emitted-same (InContent e (Characters Closed) Nothing) t d h l = ap (λ (c : Config ValueState). c.emitted) l
+emitted-same (InContent e (Characters (Open f b)) Nothing) t d h l = absurd h
+emitted-same (InContent e (Characters r) PendingLess) t d h l = absurd h
+emitted-same (InContent e (Characters r) (PendingName letters)) t d h l = absurd h
+emitted-same (InContent e (Characters r) PendingBang) t d h l = absurd h
+emitted-same (InContent e (Characters r) PendingBangDash) t d h l = absurd h
+emitted-same (InContent e Bytes pending) t d h l = absurd l
+emitted-same Unread t d h l = absurd h
+
+pub emits-the-same : EmitsTheSame
+emits-the-same p s t d i l = emitted-same s t d (subst IsSome (sym i.stands) tt) l
+
+no : false ≡ true → ⊥
+no e = cc
+
+pub same-state : (s : LexState ValueState) (t : List LexEvent) (d : Config ValueState) → holds_nothing s ≡ true → TextStands languages s t d → d ≡ config s t
+same-state (Text Closed) t d h l = l
+same-state (Text (Open f b)) t d h l = absurd (no h)
+same-state (TagOpen r) t d h l = absurd (no h)
+same-state (EndTagOpen r) t d h l = absurd (no h)
+same-state (DeclarationOpen r pending) t d h l = absurd (no h)
+same-state (InComment s) t d h l = absurd (no h)
+same-state BogusComment t d h l = absurd l
+same-state InDoctype t d h l = l
+same-state (TagName ends name) t d h l = l
+same-state (WholeTagName tag) t d h l = absurd (no h)
+same-state (BeforeAttributeName tag) t d h l = l
+same-state (AttributeName tag name) t d h l = l
+same-state (WholeAttributeName tag k) t d h l = absurd (no h)
+same-state (AfterAttributeName tag k) t d h l = l
+same-state (BeforeAttributeValue tag k) t d h l = l
+same-state (AttributeValue q tag (ValueOf v) Closed) t d h l = l
+same-state (AttributeValue q tag (ValueOf v) (Open f b)) t d h l = absurd (no h)
+same-state (AttributeValue q tag (TypeSoFar before) r) t d h l = absurd l
+same-state (AfterAttributeValue tag) t d h l = l
+same-state (SelfClosingStartTag tag) t d h l = l
+same-state (InContent e (Characters Closed) Nothing) t d h l = l
+same-state (InContent e (Characters (Open f b)) Nothing) t d h l = absurd (no h)
+same-state (InContent e (Characters r) PendingLess) t d h l = absurd (no h)
+same-state (InContent e (Characters r) (PendingName letters)) t d h l = absurd (no h)
+same-state (InContent e (Characters r) PendingBang) t d h l = absurd (no h)
+same-state (InContent e (Characters r) PendingBangDash) t d h l = absurd (no h)
+same-state (InContent e Bytes pending) t d h l = absurd l
+same-state Unread t d h l = l
+
+-- the one state of the place Text
+abbrev IsText : Option Place → Type 0
+IsText (Some place.Text) = ⊤
+IsText _ = ⊥
+
+text-alone : (own : Place) → Below own place.Text → IsText (Some own)
+text-alone place.Text h = tt
+text-alone _ h = cc
+
+no-text : (r : Reference) (o : Option Place) → (IsText o → ⊥) → IsText (where_closed r o) → ⊥
+no-text Closed o n h = n h
+no-text (Open f b) o n h = h
+
+no-value : (tag : Tag) (q : Quotes) (o : Option Body) → IsText (value_spot tag q o) → ⊥
+no-value tag q None h = h
+no-value tag q (Some b) h = h
+
+no-content : (e : Element) → IsText (content_place e) → ⊥
+no-content element.Title h = h
+no-content element.Textarea h = h
+no-content _ h = h
+
+no-comment : (s : CommentState) → IsText (comment_place s) → ⊥
+no-comment Inside h = h
+no-comment Broken h = h
+no-comment _ h = h
+
+in-text-state : (s : LexState ValueState) → IsText (placed s) → s ≡ Text Closed
+in-text-state (Text Closed) h = refl
+in-text-state (Text (Open f b)) h = absurd h
+in-text-state (TagOpen r) h = absurd h
+in-text-state (EndTagOpen r) h = absurd h
+in-text-state (DeclarationOpen r pending) h = absurd h
+in-text-state (InComment s) h = absurd (no-comment s h)
+in-text-state BogusComment h = absurd h
+in-text-state InDoctype h = absurd h
+in-text-state (TagName ends name) h = absurd h
+in-text-state (WholeTagName tag) h = absurd h
+in-text-state (BeforeAttributeName tag) h = absurd h
+in-text-state (AttributeName tag name) h = absurd h
+in-text-state (WholeAttributeName tag k) h = absurd h
+in-text-state (AfterAttributeName tag k) h = absurd h
+in-text-state (BeforeAttributeValue tag k) h = absurd (no-value tag unbegun (value_body (attribute_value_of languages k)) h)
+in-text-state (AttributeValue q tag v r) h = absurd (no-text r (value_spot tag (quotes_at q) (value_body v)) (no-value tag (quotes_at q) (value_body v)) h)
+in-text-state (AfterAttributeValue tag) h = absurd h
+in-text-state (SelfClosingStartTag tag) h = absurd h
+in-text-state (InContent e (Characters r) Nothing) h = absurd (no-text r (content_place e) (no-content e) h)
+in-text-state (InContent e (Characters r) PendingLess) h = absurd h
+in-text-state (InContent e (Characters r) (PendingName letters)) h = absurd h
+in-text-state (InContent e (Characters r) PendingBang) h = absurd h
+in-text-state (InContent e (Characters r) PendingBangDash) h = absurd h
+in-text-state (InContent e Bytes Nothing) h = absurd h
+in-text-state (InContent e Bytes PendingLess) h = absurd h
+in-text-state (InContent e Bytes (PendingName letters)) h = absurd h
+in-text-state (InContent e Bytes PendingBang) h = absurd h
+in-text-state (InContent e Bytes PendingBangDash) h = absurd h
+in-text-state Unread h = absurd h
+
+pub in-text : (s : LexState ValueState) → IsIn place.Text s → s ≡ Text Closed
+in-text s i = in-text-state s (subst IsText (sym i.stands) (text-alone i.own i.below))
+
+pub where-nothing-is-pending : StandsWhereNothingIsPending
+where-nothing-is-pending = (same-state, λ s i. ap holds_nothing (in-text s i))

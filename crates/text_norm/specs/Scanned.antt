@@ -1,0 +1,76 @@
+-- The same for all the paths of a place together: by the scan state to which they have read the text, and the reference that is open there.
+use Rattle.std.specs.Prelude.{ℕ, codes, List, [], ◌∷◌, ◌++◌}
+use Rattle.place_core.specs.page.Classes.{Class, ExclamationMark, Solidus, LessThan, class_of}
+use Rattle.place_core.specs.page.Comments.{Declaration, Undecided, OpensNothing, declared_by}
+use Rattle.place_core.specs.page.References.{Reference, Closed, as_it_stands, begin_reference, next_reference}
+use Rattle.place_core.specs.declared.place.Place.{Place}
+use Rattle.place_core.specs.declared.place.Place.TheVariants as place
+use Rattle.html_scan.specs.Scans.{Scan, At, AfterLess, AfterLessSolidus, InDeclaration, InTagName, InAttributeName, InCommentEnd, InContentEnd, scan_next}
+use Rattle.text_norm.specs.Written.{content_cut_out, content_out, declaration_out, text_escaped, less_out, loose_out, reference_out, solidus_out, text_out}
+
+-- the reference that is open after a byte
+abbrev pub text_open : Class → ℕ → Reference → Reference
+text_open LessThan b r = r
+text_open c b r = next_reference r c b
+
+abbrev pub less_open : Class → Reference → Reference
+less_open Solidus r = r
+less_open ExclamationMark r = r
+less_open c r = begin_reference c
+
+abbrev pub declaration_open : Declaration → Class → Reference → Reference
+declaration_open Undecided c r = r
+declaration_open OpensNothing c r = begin_reference c
+declaration_open d c r = Closed
+
+abbrev pub place_open : Place → Class → ℕ → Reference → Reference
+place_open place.Text c b r = text_open c b r
+place_open (place.Rcdata e) c b r = next_reference r c b
+place_open (place.Value v) c b r = next_reference r c b
+place_open p c b r = Closed
+
+abbrev pub scan_open : Scan → Class → ℕ → Reference → Reference
+scan_open (At p) c b r = place_open p c b r
+scan_open AfterLess c b r = less_open c r
+scan_open AfterLessSolidus c b r = begin_reference c
+scan_open (InDeclaration pending) c b r = declaration_open (declared_by (pending ++ b ∷ [])) c r
+scan_open (InTagName ends name) c b r = Closed
+scan_open (InAttributeName t typed name) c b r = Closed
+scan_open (InCommentEnd s) c b r = Closed
+scan_open (InContentEnd e h) c b r = begin_reference c
+
+-- what is written at a byte, and at the end
+abbrev pub place_out : Place → Class → ℕ → Reference → List ℕ
+place_out place.Text c b r = text_out c b r
+place_out (place.Comment dash) c b r = []
+place_out (place.Rcdata e) c b r = loose_out c b r
+place_out (place.Value v) c b r = reference_out r c b
+place_out p c b r = b ∷ []
+
+abbrev pub scan_out : Scan → Class → ℕ → Reference → List ℕ
+scan_out (At p) c b r = place_out p c b r
+scan_out AfterLess c b r = less_out c b r
+scan_out AfterLessSolidus c b r = solidus_out c b r
+scan_out (InDeclaration pending) c b r = declaration_out (declared_by (pending ++ b ∷ [])) c b r pending
+scan_out (InTagName ends name) c b r = b ∷ []
+scan_out (InAttributeName t typed name) c b r = b ∷ []
+scan_out (InCommentEnd s) c b r = []
+scan_out (InContentEnd e h) c b r = content_out h c b e r
+
+abbrev pub scan_cut_out : Scan → Reference → List ℕ
+scan_cut_out (At p) r = text_escaped r
+scan_cut_out AfterLess r = as_it_stands r ++ codes "&lt;"
+scan_cut_out AfterLessSolidus r = (as_it_stands r ++ codes "&lt;") ++ codes "/"
+scan_cut_out (InDeclaration pending) r = (as_it_stands r ++ codes "&lt;") ++ (codes "!" ++ pending)
+scan_cut_out (InTagName ends name) r = []
+scan_cut_out (InAttributeName t typed name) r = []
+scan_cut_out (InCommentEnd s) r = []
+scan_cut_out (InContentEnd e h) r = content_cut_out h r
+
+-- what is written of a text, from a scan state, and from a place
+abbrev pub written_from : List ℕ → Scan → Reference → List ℕ
+written_from [] f r = scan_cut_out f r
+written_from (b ∷ bs) f r = scan_out f (class_of b) b r ++ written_from bs (scan_next f (class_of b) b) (scan_open f (class_of b) b r)
+
+abbrev pub written_at : List ℕ → Place → List ℕ
+written_at bytes p = written_from bytes (At p) Closed

@@ -1,0 +1,170 @@
+ghost use Rattle.std.specs.Prelude.{◌≡◌, ◌+◌, ◌^◌, ◌<◌, ◌≤◌, ℕ, List, [], IfSome, false, get_or, length, Option};
+ghost use Rattle.place_core.specs.page.References.{begin_reference, next_reference};
+ghost use Rattle.place_core.specs.page.References as references;
+ghost use Rattle.html_scan.specs.ClassViews.{class_at};
+ghost use Rattle.html_scan.specs.ScanViews.{scan_at};
+ghost use Rattle.text_norm.specs.Kept.{Continues, IsReadTo, scan_kept, less_kept, reference_kept};
+ghost use Rattle.text_norm.specs.Kept as spec;
+ghost use Rattle.text_norm.specs.ReferenceViews.{form_at, reference_view, step_at};
+
+use html_scan::{Class, Letter, Scan};
+use place_core::Place;
+
+/// How far a reference has come.
+#[derive(Clone, Copy)]
+pub enum Form {
+    /// `&`.
+    Begun,
+    /// `&` and a name.
+    Named,
+    /// `&#`.
+    Hashed,
+    /// `&#` and digits.
+    Decimal,
+    /// `&#x`.
+    HexMark,
+    /// `&#x` and digits.
+    Hexadecimal,
+}
+
+/// A reference that has begun: its form, and where the bytes after its `&` begin and end in the text.
+#[derive(Clone, Copy)]
+pub struct Opened {
+    pub form: Form,
+    pub from: usize,
+    pub to: usize,
+}
+
+/// What a byte does to an open reference.
+#[derive(Clone, Copy)]
+pub enum ReferenceTurn {
+    /// The reference goes on.
+    Grows(Form),
+    /// The reference ends with the byte.
+    Closes,
+    /// The reference ended before the byte.
+    Breaks,
+}
+
+// What a byte does to an open reference. (HTML Standard, sections 13.2.5.72 to 13.2.5.79.)
+fn turn(class: Class, form: Form) -> ReferenceTurn
+    ensures { step_at result ≡ references.turn (class_at class) (form_at form) }
+{
+    match (class, form) {
+        (Class::Letter(_), Form::Begun | Form::Named) => ReferenceTurn::Grows(Form::Named),
+        (Class::Letter(Letter::X), Form::Hashed) => ReferenceTurn::Grows(Form::HexMark),
+        (Class::Letter(Letter::Hexadecimal), Form::HexMark | Form::Hexadecimal) =>
+            ReferenceTurn::Grows(Form::Hexadecimal),
+        (Class::Digit, Form::Begun | Form::Named) => ReferenceTurn::Grows(Form::Named),
+        (Class::Digit, Form::Hashed | Form::Decimal) => ReferenceTurn::Grows(Form::Decimal),
+        (Class::Digit, Form::HexMark | Form::Hexadecimal) => ReferenceTurn::Grows(
+            Form::Hexadecimal,
+        ),
+        (Class::NumberSign, Form::Begun) => ReferenceTurn::Grows(Form::Hashed),
+        (Class::Semicolon, Form::Named | Form::Decimal | Form::Hexadecimal) =>
+            ReferenceTurn::Closes,
+        _ => ReferenceTurn::Breaks,
+    }
+}
+
+/// The reference that is open after a byte where none was open.
+pub fn begun(class: Class, index: usize) -> Option<Opened>
+    requires small { index < 2 ^ 63 }
+    ensures reference { (text : List ℕ) → reference_view text result
+        ≡ begin_reference (class_at class) }
+    ensures so { (reference : Option Opened)
+        → IfSome result (IsReadTo (class_at class) index reference) }
+{
+    match class {
+        Class::Ampersand => Some(Opened {
+            form: Form::Begun,
+            from: index + 1,
+            to: index + 1,
+        }),
+        _ => None,
+    }
+}
+
+// The reference that is open after a byte of a text with references.
+fn after_byte(reference: Option<Opened>, class: Class, index: usize) -> Option<Opened>
+    requires small { index < 2 ^ 63 }
+    requires from { IfSome reference (λ opened. opened.from ≤ index) }
+    ensures reference { (text : List ℕ) → index < length text
+        → IfSome reference (λ opened. opened.to ≡ index)
+        → reference_view text result
+        ≡ next_reference (reference_view text reference) (class_at class) (get_or text index 0) }
+    ensures so { IfSome result (IsReadTo (class_at class) index reference) }
+{
+    match reference {
+        None => begun(class, index),
+        Some(opened) => match turn(class, opened.form) {
+            ReferenceTurn::Grows(form) => Some(Opened {
+                form,
+                to: index + 1,
+                ..opened
+            }),
+            ReferenceTurn::Closes => None,
+            ReferenceTurn::Breaks => begun(class, index),
+        },
+    }
+}
+
+/// The reference that is open after a byte that stays as it is.
+pub fn reference_after(
+    before: Scan,
+    after: Scan,
+    class: Class,
+    reference: Option<Opened>,
+    index: usize,
+) -> Option<Opened>
+    requires small { index < 2 ^ 63 }
+    requires from { IfSome reference (λ opened. opened.from ≤ index) }
+    ensures reference { (text : List ℕ) (j k : ℕ) → index < length text
+        → (less_kept (scan_at text j before) ≡ [] → IfSome reference (λ opened. opened.to ≡ index))
+        → reference_view text result
+        ≡ reference_kept (spec.stays (scan_at text j before) (scan_at text k after))
+        (scan_at text j before) (class_at class) (get_or text index 0)
+        (reference_view text reference) }
+    ensures so { (text : List ℕ) (j k : ℕ)
+        → Continues (spec.stays (scan_at text j before) (scan_at text k after))
+        (class_at class) index reference result }
+{
+    if stays(before, after) {
+        return reference;
+    }
+    moved(before, class, reference, index)
+}
+
+// The reference that is open after a byte with which none stays pending.
+fn moved(before: Scan, class: Class, reference: Option<Opened>, index: usize) -> Option<Opened>
+    requires small { index < 2 ^ 63 }
+    requires from { IfSome reference (λ opened. opened.from ≤ index) }
+    ensures reference { (text : List ℕ) (j : ℕ) → index < length text
+        → (less_kept (scan_at text j before) ≡ [] → IfSome reference (λ opened. opened.to ≡ index))
+        → reference_view text result
+        ≡ scan_kept (scan_at text j before) (class_at class) (get_or text index 0)
+        (reference_view text reference) }
+    ensures so { Continues false (class_at class) index reference result }
+{
+    match before {
+        Scan::At(Place::Text | Place::Rcdata(_) | Place::Value(_)) => {
+            after_byte(reference, class, index)
+        }
+        _ => None,
+    }
+}
+
+// Whether an open reference stays pending as it is, with the bytes after it.
+fn stays(before: Scan, after: Scan) -> bool
+    ensures { (text : List ℕ) (j k : ℕ) → result
+        ≡ spec.stays (scan_at text j before) (scan_at text k after) }
+{
+    match (before, after) {
+        (Scan::At(Place::Text), Scan::AfterLess) => true,
+        (
+            Scan::AfterLess | Scan::InDeclaration { .. },
+            Scan::AfterLessSolidus | Scan::InDeclaration { .. },
+        ) => true,
+        _ => false,
+    }
+}

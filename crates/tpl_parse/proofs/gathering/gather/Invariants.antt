@@ -1,5 +1,0 @@
-use Rattle.tpl_parse.specs.Gathering.{all_defs, HasStanding}
-use Rattle.tpl_parse.proofs.gathering.gather.Given as goal
-
-abbrev pub invariant-loop-file : goal.invariant-loop-file
-invariant-loop-file l = HasStanding (all_defs l.yielded) l.trees.entries
