@@ -48,7 +48,8 @@ fn write_explanation<F: Folder, O: Sink>(
     ensures kept { F.held folder.new ≡ F.held folder.old }
     ensures folder_later { F.faults folder.old ≤ F.faults folder.new }
     ensures out_later { O.faults out.old ≤ O.faults out.new }
-    ensures read { IsErrOf result CommandStop.Read → Rose (F.faults folder.old) (F.faults folder.new) }
+    ensures read { IsErrOf result CommandStop.Read
+        → Rose (F.faults folder.old) (F.faults folder.new) }
     ensures write { IsErrOf result CommandStop.Write → Rose (O.faults out.old) (O.faults out.new) }
 {
     let set = match load_set(alloc, folder, dir) {

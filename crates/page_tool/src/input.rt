@@ -13,7 +13,8 @@ pub fn read_data<I: Source>(alloc: Global, input: &mut I) -> Result<Datum, Comma
     ensures data { ReadDataAnswers (I.left input.old) result }
     ensures end { OnOk result (IsAtEnd (I.left input.new)) }
     ensures later { I.faults input.old ≤ I.faults input.new }
-    ensures read { IsErrOf result CommandStop.Read → Rose (I.faults input.old) (I.faults input.new) }
+    ensures read { IsErrOf result CommandStop.Read
+        → Rose (I.faults input.old) (I.faults input.new) }
 {
     let bytes = match read_up_to(alloc, input, MAX_LENGTH) {
         Ok(bytes) => bytes,

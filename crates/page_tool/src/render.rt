@@ -68,7 +68,8 @@ fn render_page<F: Folder, I: Source, O: Sink>(
     ensures folder_later { F.faults folder.old ≤ F.faults folder.new }
     ensures input_later { I.faults input.old ≤ I.faults input.new }
     ensures out_later { O.faults out.old ≤ O.faults out.new }
-    ensures read { IsErrOf result CommandStop.Read → Rose (F.faults folder.old) (F.faults folder.new)
+    ensures read { IsErrOf result CommandStop.Read
+        → Rose (F.faults folder.old) (F.faults folder.new)
         ⊎ (Rose (I.faults input.old) (I.faults input.new)
         × IfSome (F.held folder.old) (λ h. IsSetWith h dir.now root.now)) }
     ensures write { IsErrOf result CommandStop.Write → Rose (O.faults out.old) (O.faults out.new) }

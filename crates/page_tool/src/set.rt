@@ -15,7 +15,8 @@ pub fn load_set<F: Folder>(alloc: Global, folder: &mut F, dir: &str) -> Result<C
     ensures set { LoadSetAnswers (F.held folder.old) dir.now result }
     ensures kept { F.held folder.new ≡ F.held folder.old }
     ensures later { F.faults folder.old ≤ F.faults folder.new }
-    ensures read { IsErrOf result CommandStop.Read → Rose (F.faults folder.old) (F.faults folder.new) }
+    ensures read { IsErrOf result CommandStop.Read
+        → Rose (F.faults folder.old) (F.faults folder.new) }
 {
     let files = match load(alloc, folder, dir) {
         Ok(files) => files,
