@@ -51,7 +51,7 @@ fn why(by: PointState, old: PointState) -> Option<Why>
     }
 }
 
-// The conflict of an edge, where what it gives is in conflict its end.
+// The conflict of an edge, if what it gives conflicts with its end.
 pub(crate) fn conflict_at(
     edge: PairEdge,
     at: PointState,

@@ -40,7 +40,7 @@ fn step_leads(flows: &Flows, summaries: &Summaries, step: Step, to: PointState) 
     enters(flows, summaries, step) && is_point_state_below(through_step(summaries, step), to)
 }
 
-// Whether an edge of a summary leads, by its number.
+// Whether what an edge of a summary gives is below what its end has, by the number of the edge.
 fn leads(flows: &Flows, summaries: &Summaries, summary: &Summary, number: usize) -> bool
     ensures { IsTrue result → (e : spec.Edge)
         → slice_get (edges_at flows.now summary.now.template) number ≡ Some e

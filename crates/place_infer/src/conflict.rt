@@ -11,7 +11,7 @@ use place_core::{Place, TEXT};
 use place_flow::PointState;
 use tpl_paths::Point;
 
-// Whether a spot is in conflict.
+// Whether a point's state is a conflict.
 fn is_conflict(at: PointState) -> bool
     ensures conflict { IsTrue result → at ≡ point_state.Conflict }
     ensures conflict_free { (result ≡ false) → IsConflictFree at }
@@ -22,7 +22,7 @@ fn is_conflict(at: PointState) -> bool
     }
 }
 
-// The number of a in conflict point of a summary.
+// The number of a point of a summary that is in conflict.
 fn conflict_point(summary: &Summary) -> Option<usize>
     ensures { MatchOption result (IsConflictFreeSummary summary.now)
         (λ m. slice_index_or summary.now.point_states.items m point_state.Unreached ≡ point_state.Conflict) }
@@ -35,7 +35,7 @@ fn conflict_point(summary: &Summary) -> Option<usize>
     None
 }
 
-/// A summary with a in conflict point, and the number of that, where something is in conflict.
+/// A summary with a point in conflict, and the number of that point, if there is one.
 pub fn conflict_in_summary(summaries: &Summaries) -> Option<(usize, usize)>
     ensures { MatchOption result (All IsConflictFreeSummary summaries.now)
         (λ w. IsInConflictAt summaries.now w.0 w.1) }

@@ -12,7 +12,7 @@ use place_core::Place;
 use place_flow::{Flows, PointState, Step, transfer};
 use std::alloc::Global;
 
-// The same spots once more.
+// A copy of the states of points.
 fn copied(alloc: Global, point_states: &[PointState]) -> Result<Vec<PointState>, Memory>
     ensures { IfOk result (λ copies. copies.items ≡ point_states.now) }
 {
@@ -123,7 +123,8 @@ fn keep_calls(
     Ok(())
 }
 
-/// The summaries of the pairs that are reached from the roots: the roots in order, and then what each summary calls, in the order of the nodes. Fails only if allocation fails.
+/// The summaries of the pairs that are reached from the roots: the roots in order, and then what each summary calls, in the order of the
+/// nodes. Fails only if allocation fails.
 pub fn reached(
     alloc: Global,
     flows: &Flows,
