@@ -1,5 +1,5 @@
 use case_table::{CaseOutput, CaseRow, CaseStop, datum_of, pair_of, text_of};
-use page_datum::{DataRefused, Datum, Entries, print_datum, read_datum, show_datum};
+use page_datum::{DataRefused, Datum, DatumRef, Entries, print_datum, read_datum, show_datum};
 use page_io::{Memory, Text};
 use std::alloc::Global;
 
@@ -32,7 +32,7 @@ fn put_read(out: &mut CaseOutput, call: &str, bytes: &[u8]) {
 }
 
 fn put_printed(out: &mut CaseOutput, call: &str, datum: &Datum) {
-    match (call, print_datum(out.alloc(), datum)) {
+    match (call, print_datum(out.alloc(), datum.as_ref())) {
         ("read_datum", Ok(printed)) => out.put(printed.as_str()),
         ("printed_length", Ok(printed)) => {
             let length = printed.as_str().len();
@@ -59,8 +59,8 @@ fn put_refusal(out: &mut CaseOutput, refused: &DataRefused) {
 // Writes a datum twice, shown after a text.
 fn put_twice(out: &mut CaseOutput, before: &str, datum: &Datum) -> Result<(), CaseStop> {
     let mut shown = Text::copy_of(out.alloc(), before)?;
-    show_datum(out.alloc(), datum, &mut shown)?;
-    show_datum(out.alloc(), datum, &mut shown)?;
+    show_datum(out.alloc(), datum.as_ref(), &mut shown)?;
+    show_datum(out.alloc(), datum.as_ref(), &mut shown)?;
     out.put(shown.as_str());
     Ok(())
 }
@@ -78,7 +78,7 @@ fn put_value(out: &mut CaseOutput, datum: &Datum, key: &str) -> Result<(), CaseS
         return Err(CaseStop::Form);
     };
     match entries.get(key) {
-        Some(value) => out.put_text(print_datum(out.alloc(), value)),
+        Some(value) => out.put_text(print_datum(out.alloc(), value.as_ref())),
         None => out.put("nothing"),
     }
     Ok(())
@@ -87,12 +87,12 @@ fn put_value(out: &mut CaseOutput, datum: &Datum, key: &str) -> Result<(), CaseS
 // Writes a datum, how many items or entries it has, or a copy of its copy when the datum itself is gone.
 fn put_datum(out: &mut CaseOutput, call: &str, datum: Datum) -> Result<(), CaseStop> {
     match (call, &datum) {
-        ("print_datum", datum) => out.put_text(print_datum(out.alloc(), datum)),
+        ("print_datum", datum) => out.put_text(print_datum(out.alloc(), datum.as_ref())),
         ("len", Datum::List(items)) => out.put_count(items.len() as u64),
         ("len", Datum::Dict(entries)) => out.put_count(entries.len() as u64),
         ("copy", _) => {
             let copy = copy_of_copy(out, datum)?;
-            out.put_text(print_datum(out.alloc(), &copy));
+            out.put_text(print_datum(out.alloc(), copy.as_ref()));
         }
         _ => return Err(CaseStop::Form),
     }
@@ -109,7 +109,7 @@ fn copy_of_copy(out: &CaseOutput, datum: Datum) -> Result<Datum, Memory> {
 fn put_pairs(out: &mut CaseOutput, parts: &[Datum]) -> Result<(), CaseStop> {
     let pairs = pairs_of(out.alloc(), parts)?;
     let entries = Entries::from_pairs(out.alloc(), pairs)?;
-    out.put_text(print_datum(out.alloc(), &Datum::Dict(entries)));
+    out.put_text(print_datum(out.alloc(), DatumRef::Dict(&entries)));
     Ok(())
 }
 

@@ -1,6 +1,7 @@
 use case_table::{CaseOutput, CaseRow, CaseStop};
-use page_datum::{Datum, ValueStop};
-use page_io::Text;
+use page_datum::{Datum, DatumRef, ValueStop};
+use page_io::{Memory, Text};
+use std::alloc::Global;
 use tpl_format::{print, printf};
 
 /// Writes what a call of `tpl_format` gives: `print`, `println` and `printf` of arguments, which are a text of JSON, a
@@ -23,6 +24,8 @@ fn put_call(
     arguments: &[Datum],
     is_measured: bool,
 ) -> Result<(), CaseStop> {
+    let arguments = lent(out.alloc(), arguments)?;
+    let arguments = arguments.as_slice();
     let made = match call {
         "print" => print(out.alloc(), arguments, false),
         "println" => print(out.alloc(), arguments, true),
@@ -31,6 +34,14 @@ fn put_call(
     };
     put_made(out, made, is_measured);
     Ok(())
+}
+
+fn lent<'a>(alloc: Global, values: &'a [Datum]) -> Result<Vec<DatumRef<'a>>, Memory> {
+    let mut lent = Vec::new(alloc);
+    for value in values {
+        lent.push(value.as_ref())?;
+    }
+    Ok(lent)
 }
 
 fn put_made(out: &mut CaseOutput, made: Result<Text, ValueStop>, is_measured: bool) {

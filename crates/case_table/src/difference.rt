@@ -10,7 +10,7 @@ pub fn put_difference(out: &mut CaseOutput, call: &str, row: &CaseRow, given: &s
     out.put(call);
     for part in row.as_slice() {
         out.put("\n  of     ");
-        match print_datum(out.alloc(), part) {
+        match print_datum(out.alloc(), part.as_ref()) {
             Ok(part) => put_quoted(out, part.as_str()),
             Err(_) => out.lose(),
         }

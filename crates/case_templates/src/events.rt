@@ -29,6 +29,6 @@ fn put_value(out: &mut CaseOutput, value: &Datum) {
     };
     out.put("=");
     out.put(quote);
-    out.put_text(print_datum(out.alloc(), value));
+    out.put_text(print_datum(out.alloc(), value.as_ref()));
     out.put(quote);
 }

@@ -2,7 +2,7 @@ ghost use Rattle.std.specs.Prelude.{◌≤◌, length};
 ghost use Rattle.tpl_token.specs.Answers.{max_template_text};
 
 use crate::forest::{NAME, forest_of};
-use page_datum::{DataRefused, Datum, read_datum};
+use page_datum::{DataRefused, Datum, DatumRef, read_datum};
 use std::alloc::{AllocError, Global};
 use tpl_exec::{ExecStop, HoleSink, HoleStop, execute};
 use tpl_tree::Forest;
@@ -33,7 +33,7 @@ impl HoleSink for Counter {
         Ok(())
     }
 
-    fn hole(&mut self, _node: u32, _datum: &Datum) -> Result<(), HoleStop> {
+    fn hole(&mut self, _node: u32, _datum: DatumRef<'_>) -> Result<(), HoleStop> {
         self.count();
         Ok(())
     }

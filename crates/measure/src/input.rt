@@ -17,7 +17,7 @@ pub fn input_of(alloc: Global, input: Input, size: usize) -> Result<String, Allo
         Input::Open => repeated(alloc, "", "{{", "", size),
         Input::String => repeated(alloc, "{{\"", "a", "\"}}", size),
         Input::Actions => repeated(alloc, "", "{{.}}", "", size),
-        Input::Definitions => definitions(alloc, size),
+        Input::Definitions | Input::Variables => numbered(alloc, input, size),
         Input::Markup => repeated(alloc, "", "<\"&", "", size),
         Input::References => repeated(alloc, "", "&lt;&#9;", "", size),
         Input::Tags => repeated(alloc, "", "<a b=c>", "", size),
@@ -71,20 +71,29 @@ fn page_sections(alloc: Global, size: usize) -> Result<String, AllocError>
     Ok(text)
 }
 
-// As many definitions as fit, each with a name and a body of its own.
-fn definitions(alloc: Global, size: usize) -> Result<String, AllocError>
+// As many units as fit, each with its number.
+fn numbered(alloc: Global, input: Input, size: usize) -> Result<String, AllocError>
     requires { size ≤ max_length }
     ensures { IfOk result (λ text. length (string_bytes text) ≤ size) }
 {
     let mut text = String::new(alloc);
     for number in 0..size {
-        let one = format!(in alloc; "{{{{define \"n{number}\"}}}}{number}{{{{end}}}}\n")?;
+        let one = numbered_unit(alloc, input, number)?;
         if text.len() + one.len() > size {
             return Ok(text);
         }
         text.push_str(one.as_str())?;
     }
     Ok(text)
+}
+
+// A variable, and a use of one that is half as old; or a definition with a name and a body of its own.
+fn numbered_unit(alloc: Global, input: Input, number: usize) -> Result<String, AllocError> {
+    if input == Input::Variables {
+        let older = number / 2;
+        return format!(in alloc; "{{{{$v{number} := .}}}}{{{{$v{older}}}}}\n");
+    }
+    format!(in alloc; "{{{{define \"n{number}\"}}}}{number}{{{{end}}}}\n")
 }
 
 // An object with as many members as fit, whose keys differ; nothing where none fits.

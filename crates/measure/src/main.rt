@@ -25,7 +25,7 @@ use crate::input::input_of;
 use crate::locks::{four_lock, one_locks};
 use crate::looks::{four_look, one_looks};
 use crate::request::{Input, Measured, Request, most, size_named, words_named};
-use crate::whole_page::page_counted;
+use crate::whole_page::{data_of, page_counted};
 use html_step::{after_text, print_place};
 use html_words::RefChars;
 use page_datum::{DataRefused, print_datum, read_datum};
@@ -59,6 +59,7 @@ fn main(rt: HostRuntime) -> ExitCode {
             let _ = eprintln!(&rt; "      data-numbers data-text data-lists data-objects");
             let _ = eprintln!(&rt; "      execute-turns execute-calls execute-keys");
             let _ = eprintln!(&rt; "      page-sections page-text pages-sections pages-text");
+            let _ = eprintln!(&rt; "      page-variables page-dropped page-names page-slices");
             let _ = eprintln!(&rt; "      looks-1 looks-4 locks-1 locks-4");
             return ExitCode::from(2);
         }
@@ -135,8 +136,21 @@ fn counted<R: Threads + Wait + Sync>(
             "{{range $key, $value := .}}{{index $ $key}}{{end}}",
             text.as_str(),
         ),
-        Measured::Page => page_counted(alloc, input, text.as_str(), 1),
-        Measured::Pages => page_counted(alloc, input, text.as_str(), 101),
+        Measured::Page => page_counted(alloc, text.as_str(), data_of(input), 1),
+        Measured::Pages => page_counted(alloc, text.as_str(), data_of(input), 101),
+        Measured::Dropped => page_counted(
+            alloc,
+            "{{range .}}<!-- {{$}} -->{{end}}",
+            text.as_str(),
+            1,
+        ),
+        Measured::Names => page_counted(alloc, "{{range .}}<p {{$}}>{{end}}", text.as_str(), 1),
+        Measured::Slices => page_counted(
+            alloc,
+            "{{range .}}{{if slice $ 1}}a{{end}}{{end}}",
+            text.as_str(),
+            1,
+        ),
         Measured::Looks if input == Input::One => one_looks(rt, alloc, size),
         Measured::Looks => four_look(rt, alloc, size),
         Measured::Locks if input == Input::One => one_locks(rt, alloc, size),
@@ -222,7 +236,7 @@ fn place_told(alloc: Global, text: &str) -> Result<String, AllocError>
 fn printed_counted(alloc: Global, text: &str) -> Result<String, AllocError> {
     let bytes = text.len();
     match read_datum(alloc, text.as_bytes()) {
-        Ok(datum) => match print_datum(alloc, &datum) {
+        Ok(datum) => match print_datum(alloc, datum.as_ref()) {
             Ok(printed) => {
                 let count = printed.as_str().len();
                 format!(in alloc; "{bytes} bytes, {count} bytes printed")

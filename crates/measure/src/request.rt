@@ -37,6 +37,12 @@ pub enum Measured {
     Page,
     /// The same, but the page is made 101 times.
     Pages,
+    /// The page of a template with it as data: each item of it has a comment that the whole of it would be in.
+    Dropped,
+    /// The same, with a tag that the whole of it would name an attribute of.
+    Names,
+    /// The same, with a condition on all of it but one item.
+    Slices,
     /// Viewers look at a desk that publishes sets, each as often as the input may have bytes.
     Looks,
     /// The same, but the set is behind a lock.
@@ -74,6 +80,8 @@ pub enum Input {
     Sections,
     /// Sections of a page of two kinds in turn, one with a hole, one with a list.
     PageSections,
+    /// Variables, each declared and then used.
+    Variables,
     /// Templates, each of which calls the next one in eight places.
     Chain,
     /// Templates, each of which calls the next one where it stands, and of which the first one is called in eight places.
@@ -136,6 +144,10 @@ pub fn words_named(word: &str) -> Option<(Measured, Input)> {
         "execute-keys" => Some((Measured::Keys, Input::Objects)),
         "page-sections" => Some((Measured::Page, Input::PageSections)),
         "page-text" => Some((Measured::Page, Input::Text)),
+        "page-variables" => Some((Measured::Page, Input::Variables)),
+        "page-dropped" => Some((Measured::Dropped, Input::Numbers)),
+        "page-names" => Some((Measured::Names, Input::Numbers)),
+        "page-slices" => Some((Measured::Slices, Input::Numbers)),
         "pages-sections" => Some((Measured::Pages, Input::PageSections)),
         "pages-text" => Some((Measured::Pages, Input::Text)),
         "looks-1" => Some((Measured::Looks, Input::One)),
@@ -155,6 +167,9 @@ pub fn most(call: Measured) -> usize
         | Measured::Turns
         | Measured::Calls
         | Measured::Keys
+        | Measured::Dropped
+        | Measured::Names
+        | Measured::Slices
         | Measured::Looks
         | Measured::Locks => MAX_LENGTH,
         Measured::Tokens

@@ -6,15 +6,16 @@ use page_io::{Bytes, List, Memory, Text};
 use page_set::{MakeRefused, PageSet};
 use std::alloc::{AllocError, Global};
 
-/// The bytes of the page of a file, which is made that many times from one set and one datum.
+/// The bytes of the page of a template with data, which is made that many times from one set and one datum. Of the template and the
+/// data the longer one is the input.
 pub fn page_counted(
     alloc: Global,
-    input: Input,
     template: &str,
+    data: &str,
     times: usize,
 ) -> Result<String, AllocError> {
-    let bytes = template.len();
-    let datum = match read_datum(alloc, data_of(input).as_bytes()) {
+    let bytes = template.len().max(data.len());
+    let datum = match read_datum(alloc, data.as_bytes()) {
         Ok(datum) => datum,
         Err(DataRefused::Memory) => return Err(AllocError),
         Err(_) => return format!(in alloc; "{bytes} bytes, refused"),
@@ -35,8 +36,8 @@ pub fn page_counted(
     }
 }
 
-// The data of a page, as JSON.
-fn data_of(input: Input) -> &'static str {
+/// The data of the page of an input that is a template, as JSON.
+pub fn data_of(input: Input) -> &'static str {
     match input {
         Input::PageSections => "{\"l\":[\"a b\",\"c\"],\"v\":\"<&\",\"w\":7}",
         _ => "null",

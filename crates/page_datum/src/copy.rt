@@ -1,5 +1,5 @@
 ghost use Rattle.std.specs.Prelude.{◌≡◌, IfOk};
-ghost use Rattle.page_datum.specs.View.{view};
+ghost use Rattle.page_datum.specs.View.{items_view, view};
 
 use crate::datum::{Datum, Entries, Items};
 use page_io::{Memory, Text};
@@ -23,24 +23,26 @@ fn copy(alloc: Global, datum: &Datum) -> Result<Datum, Memory>
         Datum::Bool(truth) => Ok(Datum::Bool(*truth)),
         Datum::Int(number) => Ok(Datum::Int(*number)),
         Datum::Text(text) => Ok(Datum::Text(Text::copy_of(alloc, text.as_str())?)),
-        Datum::List(items) => Ok(Datum::List(copy_items(alloc, items)?)),
+        Datum::List(items) => Ok(Datum::List(copy_values(alloc, items.as_slice())?)),
         Datum::Dict(entries) => Ok(Datum::Dict(copy_entries(alloc, entries)?)),
     }
 }
 
+/// The list of equal values. Fails only if allocation fails.
 #[cycle(copy)]
-fn copy_items(alloc: Global, items: &Items) -> Result<Items, Memory>
-    ensures { IfOk result (λ copy. copy ≡ items.now) }
+pub(crate) fn copy_values(alloc: Global, values: &[Datum]) -> Result<Items, Memory>
+    ensures { IfOk result (λ copy. copy ≡ items_view values.now) }
 {
-    let mut copies = Vec::with_capacity(alloc, items.len())?;
-    for item in items.as_slice() {
-        copies.push(copy(alloc, item)?)?;
+    let mut copies = Vec::with_capacity(alloc, values.len())?;
+    for value in values {
+        copies.push(copy(alloc, value)?)?;
     }
     Ok(Items::from(copies))
 }
 
+/// Equal entries. Fails only if allocation fails.
 #[cycle(copy)]
-fn copy_entries(alloc: Global, entries: &Entries) -> Result<Entries, Memory>
+pub(crate) fn copy_entries(alloc: Global, entries: &Entries) -> Result<Entries, Memory>
     ensures { IfOk result (λ copy. copy ≡ entries.now) }
 {
     let mut copies = Vec::with_capacity(alloc, entries.len())?;

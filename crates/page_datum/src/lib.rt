@@ -4,6 +4,7 @@
 
 mod copy;
 mod datum;
+mod datum_ref;
 mod depth;
 mod fault;
 mod files;
@@ -19,6 +20,7 @@ mod stop;
 mod take;
 
 pub use datum::{Datum, Entries, Items};
+pub use datum_ref::DatumRef;
 pub use depth::MAX_DEPTH;
 pub use fault::{ExecFault, FaultKind};
 pub use files::{Files, NamedFile};

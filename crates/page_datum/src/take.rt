@@ -1,4 +1,4 @@
-ghost use Rattle.std.specs.Prelude.{◌≡◌, IfOk};
+ghost use Rattle.std.specs.Prelude.{◌≡◌, [], IfOk};
 ghost use Rattle.std.specs.Fmt.{decimal};
 ghost use Rattle.page_datum.specs.Reading.{data_of, items_of, entries_of};
 ghost use Rattle.page_io.specs.Stops.{StopAnswers};
@@ -40,7 +40,7 @@ pub(crate) fn take(alloc: Global, value: Value) -> Result<Datum, Stop<Text>>
 fn take_items(alloc: Global, items: Vec<Value>) -> Result<Items, Stop<Text>>
     ensures { StopAnswers (λ items. items) result (items_of 0 (view_spec.items_view items.items)) }
 {
-    let mut taken = Vec::new(alloc);
+    let mut taken = with_room(alloc, items.len())?;
     for item in items {
         match take(alloc, item) {
             Ok(datum) => taken.push(datum)?,
@@ -58,7 +58,7 @@ fn take_items(alloc: Global, items: Vec<Value>) -> Result<Items, Stop<Text>>
 fn take_members(alloc: Global, members: Map<String, Value>) -> Result<Entries, Stop<Text>>
     ensures { StopAnswers (λ made. made) result (entries_of (view_spec.members_view members.entries)) }
 {
-    let mut taken = Vec::new(alloc);
+    let mut taken = with_room(alloc, members.len())?;
     for (key, value) in members {
         match take(alloc, value) {
             Ok(datum) => taken.push((Text::from(key), datum))?,
@@ -70,6 +70,13 @@ fn take_members(alloc: Global, members: Map<String, Value>) -> Result<Entries, S
         }
     }
     Ok(Entries::from_ascending(taken))
+}
+
+// No values yet, with room for so many and no more: there may be many short lists.
+fn with_room<T>(alloc: Global, count: usize) -> Result<Vec<T>, Memory>
+    ensures { IfOk result (λ room. room.items ≡ []) }
+{
+    Ok(Vec::with_capacity(alloc, count)?)
 }
 
 // The path of what has a path within the item with a number.

@@ -4,9 +4,11 @@ use Rattle.std.proofs.Common.{ℕ, List, [], ◌∷◌, ◌++◌, Option, refl, 
 use Rattle.html_step.specs.Steps.{after_text}
 use Rattle.page_datum.specs.Printed.{printed}
 use Rattle.page_path.proofs.Finding.{AllFind, Finds, event_symbols, symbols_from}
+use Rattle.page_path.proofs.OwnPieces.{text-at-place}
 use Rattle.page_path.proofs.PiecesFilled.{IsFilled, hole-filled, text-filled}
 use Rattle.page_path.specs.Pages.{bytes_in, event_pieces, kind_in, open_behind, page_bytes, pieces_from, state_behind}
-use Rattle.page_path.specs.Soundness.{AreTextual, IsTextual, event_texts, texts_of}
+use Rattle.page_path.specs.Soundness.{event_texts, texts_of}
+use Rattle.page_path.specs.Textual.{AreTextual, IsTextual}
 use Rattle.place_flow.specs.Covering.{ChartByName, Pair, sign_pairs}
 use Rattle.place_core.specs.place.Errors.{node}
 use Rattle.place_core.specs.page.Events.{LexEvent}
@@ -16,6 +18,7 @@ use Rattle.place_core.specs.page.Tags.{ValueState, languages}
 use Rattle.place_core.specs.declared.place.Place.{Place}
 use Rattle.text_norm.specs.Standing.{TextStands}
 use Rattle.tpl_events.specs.Events.{Emission, ExecEvent, enters, gives_hole, gives_text, leaves}
+use Rattle.tpl_paths.specs.Edges.{before}
 use Rattle.page_path.specs.Taken.{move_sign}
 use Rattle.tpl_tree.specs.Forests.{ForestData}
 use Rattle.tpl_tree.specs.declared.node_kind.NodeKind.{NodeKind}
@@ -32,7 +35,7 @@ module _ (forest : ForestData) (chart : ChartByName Place) where
       (page_bytes (event_pieces forest e ts s ++ pieces_from forest gs us (state_behind forest e ts s))) s t d)
 
   event-filled : (e : ExecEvent) (gs : List Emission) (ps : List (Pair Place)) (ts : List (List ℕ)) (s : LexState ValueState) (t : List LexEvent)
-      (d : Config ValueState) → Finds forest chart e ps ts s → IsTextual e → TextStands languages s t d
+      (d : Config ValueState) → Finds forest chart e ps ts s → IsTextual forest chart e ps → TextStands languages s t d
       → (let r = state_behind forest e ts s in
       (u : List LexEvent) (c : Config ValueState) → TextStands languages r u c → FilledFrom gs (open_behind forest e ts) r u c)
       → FilledAt e gs ts s t d
@@ -45,13 +48,14 @@ module _ (forest : ForestData) (chart : ChartByName Place) where
       (page_bytes (pieces_from forest gs ts (node bytes s))) h.valid h.is_in accepted l rest
   event-filled (gives_hole n datum) gs (p ∷ ps) ts s t d f u l rest =
       let h = f.here in
+      let text = text-at-place (chart p.template p.entry (before n)) h.place f.next f.chain (printed datum) h.there f.accepted u in
       hole-filled h.place f.next f.chain (printed datum) s t d (symbols_from forest gs ts) (texts_of gs)
-      (pieces_from forest gs ts (at_hole languages s)) h.valid h.is_in f.accepted u l rest
+      (pieces_from forest gs ts (at_hole languages s)) h.valid h.is_in f.accepted text l rest
   event-filled (enters n) gs (p ∷ ps) ts s t d f u l rest = rest t d l
   event-filled leaves gs (p ∷ ps) ts s t d f u l rest = rest t d l
 
   pub events-filled : (gs : List Emission) (ps : List (Pair Place)) (ts : List (List ℕ)) (s : LexState ValueState) (t : List LexEvent)
-      (d : Config ValueState) → AllFind forest chart gs ps ts s → AreTextual gs → TextStands languages s t d → FilledFrom gs ts s t d
+      (d : Config ValueState) → AllFind forest chart gs ps ts s → AreTextual forest chart gs ps → TextStands languages s t d → FilledFrom gs ts s t d
   events-filled [] ps ts s t d f u l = record { stands = l; same = λ v. refl }
   events-filled (g ∷ gs) ps ts s t d f u l =
       let e = g.event in

@@ -1,17 +1,26 @@
 -- Small pages, by the definition alone, and pages that are none.
-use Rattle.std.proofs.Common.{◌≡◌, ℕ, codes, List, [], ◌∷◌, length, refl, ap, ◌∙◌, arith}
+use Rattle.std.proofs.Common.{◌≡◌, ℕ, Bool, false, true, codes, List, [], ◌∷◌, Some, length, refl, sym, ap, ◌∙◌, arith, IsUtf8}
+use Rattle.std.proofs.lemmas.Bool.{false≢true}
+use Rattle.std.proofs.lemmas.Str.{is_utf8-from_IsUtf8}
+use Rattle.std.specs.Str.{chars, is_utf8}
 use Rattle.esc_table.proofs.Runs.{replaced-encodes}
+use Rattle.html_step.specs.Holes.{only}
 use Rattle.page_datum.specs.Data.{text}
 use Rattle.page_path.specs.Pages.{PagePiece, page_bytes, pieces_of, value, value_pieces, words}
 use Rattle.page_path.specs.Soundness.{IsSound, ReadBack, read_filled}
+use Rattle.page_path.specs.Textual.{AreTextual, IsTextBy}
 use Rattle.place_core.specs.page.Classes.{class_of}
 use Rattle.place_core.specs.page.Html.{read, start}
 use Rattle.place_core.specs.page.Paths.{Hole, Written}
 use Rattle.place_core.specs.page.References.{Closed, meaning}
 use Rattle.place_core.specs.page.States.{Config, Page, LexState, TagOpen, Text}
 use Rattle.place_core.specs.page.Tags.{ValueState}
+use Rattle.place_core.specs.declared.place.Place.{Place}
+use Rattle.place_core.specs.declared.place.Place.TheVariants as place
 use Rattle.place_core.specs.declared.san.San.TheVariants as san
+use Rattle.place_flow.specs.Covering.{pair}
 use Rattle.san_html.specs.Sanitizers.{html, html_rows}
+use Rattle.tpl_events.specs.Events.{gives_hole}
 use Rattle.tpl_tree.specs.Forests.{ForestData}
 use Rattle.tpl_tree.specs.Pipes.{command, dot, no_commands, single, with_fields}
 use Rattle.tpl_tree.specs.Trees.{NodesData, no_nodes, node}
@@ -90,3 +99,29 @@ raw_in_a_comment = refl
 not_raw : read Page (codes "<b><i a></b>") start ≡ with_text (codes "<b>") (codes "<i a>") (codes "</b>") → ⊥
 unfolding class_of
 not_raw h = let same = ap (λ (c : Config ValueState). length c.emitted) h in omega (arith, same)
+
+-- a byte with which no character begins is asked about only where its text is written
+abbrev broken : List ℕ
+broken = 255 ∷ []
+
+not_utf8 : IsUtf8 broken → ⊥
+unfolding is_utf8 chars
+not_utf8 u = (let is : false ≡ true = is_utf8-from_IsUtf8 broken u in false≢true is)
+
+as_a_name : IsTextBy (only san.AttrName) broken
+as_a_name e = cc
+
+as_a_text : IsTextBy (only san.Html) broken → ⊥
+as_a_text u = not_utf8 (u refl)
+
+-- a hole with that text, wherever the chart has this place
+abbrev AreTextsAt : Place → Type 0
+AreTextsAt at =
+    AreTextual [] (λ template entry k. Some at) (record { event = gives_hole 0 (text broken); template = name; line = 1 } ∷ [])
+    (pair name place.Text ∷ [])
+
+hole_in_a_comment : AreTextsAt (place.Comment false)
+hole_in_a_comment = (λ e. cc, tt)
+
+hole_in_text : AreTextsAt place.Text → ⊥
+hole_in_text h = not_utf8 (h.0 refl)

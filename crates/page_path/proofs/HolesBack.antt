@@ -5,6 +5,7 @@ use Rattle.html_step.specs.Holes.{Holed, after_hole, only}
 use Rattle.page_path.specs.Pages.{san_bytes}
 use Rattle.page_path.proofs.Retold.{IsRetold}
 use Rattle.page_path.specs.Soundness.{IsBack, IsNameBack, holes_filled, name_filled}
+use Rattle.page_path.specs.Textual.{IsTextBy}
 use Rattle.place_core.specs.page.Events.{LexEvent}
 use Rattle.place_core.specs.page.Html.{read}
 use Rattle.place_core.specs.place.Membership.{IsIn}
@@ -73,9 +74,9 @@ value-goes-on q tag text = ap (in_value q tag) (goes-on kind.Plain text)
 pub record IsSafe (c : Chain) (s : LexState ValueState) : Type 0 where
   pub one : San
   pub is : c ≡ only one
-  pub promised : (text : List ℕ) → IsUtf8 text → IsBackBy one text (san_bytes one text)
-  pub back : (text : List ℕ) → IsUtf8 text → BackIn one s text (san_bytes one text)
-  pub fills : (text : List ℕ) → IsUtf8 text → Fills one s text (san_bytes one text)
+  pub promised : (text : List ℕ) → IsTextBy (only one) text → IsBackBy one text (san_bytes one text)
+  pub back : (text : List ℕ) → IsTextBy (only one) text → BackIn one s text (san_bytes one text)
+  pub fills : (text : List ℕ) → IsTextBy (only one) text → Fills one s text (san_bytes one text)
 
 abbrev SafeBy : LexState ValueState → Holed → Type 0
 SafeBy s (Ok h) = IsSafe h.1 s
@@ -99,18 +100,18 @@ in-text : IsSafe (only san.Html) (Text Closed)
 in-text = record {
   one = san.Html;
   is = refl;
-  promised = λ text u. (text-back text u, rcdata-back text u);
-  back = λ text u. (refl, (text-back text u).reads []);
-  fills = λ text u. emitted-as (Text Closed) text (html text) refl tt (λ t. refl) (Text Closed) (text-back text u).reads;
+  promised = λ text u. (text-back text (u refl), rcdata-back text (u refl));
+  back = λ text u. (refl, (text-back text (u refl)).reads []);
+  fills = λ text u. emitted-as (Text Closed) text (html text) refl tt (λ t. refl) (Text Closed) (text-back text (u refl)).reads;
 }
 
 in-content : (e : Element) → IsSafe (only san.Html) (in_rcdata e)
 in-content e = record {
   one = san.Html;
   is = refl;
-  promised = λ text u. (text-back text u, rcdata-back text u);
-  back = λ text u. (refl, (rcdata-back text u).reads e []);
-  fills = λ text u. emitted-as (in_rcdata e) text (html text) refl tt (λ t. refl) (in_rcdata e) ((rcdata-back text u).reads e);
+  promised = λ text u. (text-back text (u refl), rcdata-back text (u refl));
+  back = λ text u. (refl, (rcdata-back text (u refl)).reads e []);
+  fills = λ text u. emitted-as (in_rcdata e) text (html text) refl tt (λ t. refl) (in_rcdata e) ((rcdata-back text (u refl)).reads e);
 }
 
 in-comment : (s : CommentState) → IsSafe (only san.Drop) (InComment s)
@@ -120,48 +121,48 @@ in-double : (tag : Tag) → IsSafe (only san.Attr) (in_value DoubleQuoted tag (V
 in-double tag = record {
   one = san.Attr;
   is = refl;
-  promised = quoted-back;
-  back = λ text u. (refl, (quoted-back text u).reads DoubleQuoted tag (ValueOf kind.Plain) [] refl);
+  promised = λ text u. quoted-back text (u refl);
+  back = λ text u. (refl, (quoted-back text (u refl)).reads DoubleQuoted tag (ValueOf kind.Plain) [] refl);
   fills = λ text u. emitted-as (in_value DoubleQuoted tag (ValueOf kind.Plain)) text (html text) refl tt
       (λ t. value-goes-on DoubleQuoted tag (read_as_text text))
       (in_value DoubleQuoted tag (with_bytes languages (ValueOf kind.Plain) (read_as_text text)))
-      (λ t. (quoted-back text u).reads DoubleQuoted tag (ValueOf kind.Plain) t refl);
+      (λ t. (quoted-back text (u refl)).reads DoubleQuoted tag (ValueOf kind.Plain) t refl);
 }
 
 in-single : (tag : Tag) → IsSafe (only san.Attr) (in_value SingleQuoted tag (ValueOf kind.Plain))
 in-single tag = record {
   one = san.Attr;
   is = refl;
-  promised = quoted-back;
-  back = λ text u. (refl, (quoted-back text u).reads SingleQuoted tag (ValueOf kind.Plain) [] refl);
+  promised = λ text u. quoted-back text (u refl);
+  back = λ text u. (refl, (quoted-back text (u refl)).reads SingleQuoted tag (ValueOf kind.Plain) [] refl);
   fills = λ text u. emitted-as (in_value SingleQuoted tag (ValueOf kind.Plain)) text (html text) refl tt
       (λ t. value-goes-on SingleQuoted tag (read_as_text text))
       (in_value SingleQuoted tag (with_bytes languages (ValueOf kind.Plain) (read_as_text text)))
-      (λ t. (quoted-back text u).reads SingleQuoted tag (ValueOf kind.Plain) t refl);
+      (λ t. (quoted-back text (u refl)).reads SingleQuoted tag (ValueOf kind.Plain) t refl);
 }
 
 in-unquoted : (tag : Tag) → IsSafe (only san.AttrNospace) (in_value Unquoted tag (ValueOf kind.Plain))
 in-unquoted tag = record {
   one = san.AttrNospace;
   is = refl;
-  promised = unquoted-back;
-  back = λ text u. (refl, (unquoted-back text u).reads tag (ValueOf kind.Plain) []);
+  promised = λ text u. unquoted-back text (u refl);
+  back = λ text u. (refl, (unquoted-back text (u refl)).reads tag (ValueOf kind.Plain) []);
   fills = λ text u. emitted-as (in_value Unquoted tag (ValueOf kind.Plain)) text (attr_nospace text) refl tt
       (λ t. value-goes-on Unquoted tag (as_unquoted text))
       (in_value Unquoted tag (with_bytes languages (ValueOf kind.Plain) (as_unquoted text)))
-      ((unquoted-back text u).reads tag (ValueOf kind.Plain));
+      ((unquoted-back text (u refl)).reads tag (ValueOf kind.Plain));
 }
 
 before-value : (tag : Tag) → IsSafe (only san.AttrNospace) (BeforeAttributeValue tag kind.Plain)
 before-value tag = record {
   one = san.AttrNospace;
   is = refl;
-  promised = unquoted-back;
-  back = λ text u. (refl, (unquoted-back text u).reads_unbegun tag kind.Plain []);
+  promised = λ text u. unquoted-back text (u refl);
+  back = λ text u. (refl, (unquoted-back text (u refl)).reads_unbegun tag kind.Plain []);
   fills = λ text u. emitted-as (BeforeAttributeValue tag kind.Plain) text (attr_nospace text) refl tt
       (λ t. value-goes-on Unquoted tag (as_unquoted text))
       (in_value Unquoted tag (with_bytes languages (ValueOf kind.Plain) (as_unquoted text)))
-      ((unquoted-back text u).reads_unbegun tag kind.Plain);
+      ((unquoted-back text (u refl)).reads_unbegun tag kind.Plain);
 }
 
 before-name : (s : LexState ValueState) (tag : Tag) → BeginsName s tag → holds_nothing s ≡ true

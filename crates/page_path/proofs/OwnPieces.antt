@@ -1,8 +1,9 @@
 -- What is written at a place that stands for a path is what is written on the path.
-use Rattle.std.proofs.Common.{◌≡◌, ℕ, List, Option, Some, Ok, ap, ◌∙◌}
+use Rattle.std.proofs.Common.{◌≡◌, ℕ, List, Option, Some, Ok, ap, ◌∙◌, subst}
 use Rattle.html_step.proofs.HoleOrder.{covers-hole}
 use Rattle.html_step.specs.Holes.{Holed, after_hole}
 use Rattle.page_path.specs.Pages.{hole_pieces, holed_pieces, value_pieces}
+use Rattle.page_path.specs.Textual.{IsTextAt, IsTextBy, IsTextHeld}
 use Rattle.place_core.specs.place.Membership.{IsIn}
 use Rattle.place_core.specs.place.Places.{IsValid}
 use Rattle.place_core.specs.place.StatePlaces.{placed}
@@ -16,6 +17,12 @@ pub at-place : (o : Option Place) (p q : Place) (c : Chain) (text : List ℕ) �
     → hole_pieces o text ≡ value_pieces c text
 at-place o p q c text there accepted =
     ap (λ (x : Option Place). hole_pieces x text) there ∙ ap (λ (r : Holed). holed_pieces r text) accepted
+
+-- and what is asked of its text
+pub text-at-place : (o : Option Place) (p q : Place) (c : Chain) (text : List ℕ) → o ≡ Some p → after_hole p ≡ Ok (q, c)
+    → IsTextAt o text → IsTextBy c text
+text-at-place o p q c text there accepted u =
+    subst (λ (r : Holed). IsTextHeld r text) accepted (subst (λ (x : Option Place). IsTextAt x text) there u)
 
 -- the path's own place has that chain too
 pub on-path : (p q : Place) (c : Chain) (s : LexState ValueState) (text : List ℕ) → IsValid p → IsIn p s → after_hole p ≡ Ok (q, c)

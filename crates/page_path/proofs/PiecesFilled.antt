@@ -1,6 +1,6 @@
 -- The bytes of a page, read without knowing where values stand in it, and the symbols of its path with the texts of the values in its
 -- holes: a text, and a hole, before more.
-use Rattle.std.proofs.Common.{◌≡◌, ℕ, List, [], ◌∷◌, ◌++◌, Ok, inl, inr, refl, sym, ap, ◌∙◌, subst, IsUtf8}
+use Rattle.std.proofs.Common.{◌≡◌, ℕ, List, [], ◌∷◌, ◌++◌, Ok, inl, inr, refl, sym, ap, ◌∙◌, subst}
 use Rattle.html_step.specs.Holes.{after_hole, only}
 use Rattle.html_step.specs.Steps.{after_text}
 use Rattle.page_path.proofs.HolesBack.{Fills, is-safe}
@@ -9,6 +9,7 @@ use Rattle.page_path.proofs.PiecesRead.{StandsFor, node-state}
 use Rattle.page_path.proofs.Retold.{retold}
 use Rattle.page_path.specs.Pages.{PagePiece, hole_pieces, page_bytes, san_bytes, value_pieces}
 use Rattle.page_path.specs.Soundness.{holes_filled, read_filled}
+use Rattle.page_path.specs.Textual.{IsTextBy}
 use Rattle.place_core.proofs.Readings.{read-append}
 use Rattle.place_core.specs.place.Errors.{node}
 use Rattle.place_core.specs.page.Events.{LexEvent}
@@ -97,16 +98,17 @@ behind-hole x text s t d e f p (inr r) l k = absurd (r.0 p)
 -- a hole
 pub hole-filled : (p q : Place) (c : Chain) (text : List ℕ) (s : LexState ValueState) (t : List LexEvent) (d : Config ValueState)
     (symbols : List Symbol) (texts : List (List ℕ)) (more : List PagePiece)
-    → IsValid p → IsIn p s → after_hole p ≡ Ok (q, c) → IsUtf8 text → TextStands languages s t d
+    → IsValid p → IsIn p s → after_hole p ≡ Ok (q, c) → IsTextBy c text → TextStands languages s t d
     → ((u : List LexEvent) (e : Config ValueState) → TextStands languages (at_hole languages s) u e
     → IsFilled symbols texts (page_bytes more) (at_hole languages s) u e)
     → IsFilled (Hole ∷ symbols) (text ∷ texts) (page_bytes (hole_pieces (placed s) text ++ more)) s t d
 hole-filled p q c text s t d symbols texts more v i accepted u l rest =
     let safe = is-safe p q c s v i accepted in
     let x = safe.one in
+    let own = subst (λ (z : Chain). IsTextBy z text) safe.is u in
     let alone : after_hole p ≡ Ok (q, only x) = accepted ∙ ap (λ (z : Chain). Ok (q, z)) safe.is in
-    let kept = keeps-hole p q x text (san_bytes x text) s t d v i alone (safe.promised text u) l in
-    let b = behind-hole x text s t d kept.2.0 (safe.fills text u) kept.1 kept.2.1 l kept.2.2 in
+    let kept = keeps-hole p q x text (san_bytes x text) s t d v i alone (safe.promised text own) l in
+    let b = behind-hole x text s t d kept.2.0 (safe.fills text own) kept.1 kept.2.1 l kept.2.2 in
     let emitted = (holes_filled s text t).emitted in
     let e = read Page (san_bytes x text) d in
     let r = rest emitted e b.stands in

@@ -1,11 +1,12 @@
 -- Pieces of a page, and the symbols of its path, from where the page's reading stands for the path: a text, and a hole, before more.
-use Rattle.std.proofs.Common.{◌≡◌, ℕ, List, [], ◌∷◌, ◌++◌, Ok, inl, inr, refl, sym, ap, ◌∙◌, subst, IsUtf8}
+use Rattle.std.proofs.Common.{◌≡◌, ℕ, List, [], ◌∷◌, ◌++◌, Ok, inl, inr, refl, sym, ap, ◌∙◌, subst}
 use Rattle.html_step.specs.Holes.{after_hole, only}
 use Rattle.html_step.specs.Steps.{after_text}
 use Rattle.page_path.proofs.HolesBack.{BackIn, is-safe}
 use Rattle.page_path.proofs.OwnPieces.{on-path}
 use Rattle.page_path.specs.Pages.{PagePiece, hole_pieces, page_parts, san_bytes, value_pieces, words}
 use Rattle.page_path.specs.Soundness.{IsBack, ReadBack}
+use Rattle.page_path.specs.Textual.{IsTextBy}
 use Rattle.place_core.specs.page.Classes.{class_of}
 use Rattle.place_core.specs.place.Errors.{node, states}
 use Rattle.place_core.specs.page.Events.{LexEvent}
@@ -90,18 +91,19 @@ plain-read x text s t d e end pieces p (inr r) b l h = absurd (r.0 p)
 -- a hole
 pub hole-read : (p q : Place) (c : Chain) (text : List ℕ) (s : LexState ValueState) (t : List LexEvent) (d : Config ValueState)
     (pieces : List PagePiece) (symbols : List Symbol)
-    → IsValid p → IsIn p s → after_hole p ≡ Ok (q, c) → IsUtf8 text → TextStands languages s t d
+    → IsValid p → IsIn p s → after_hole p ≡ Ok (q, c) → IsTextBy c text → TextStands languages s t d
     → ((u : List LexEvent)
     (e : Config ValueState) → TextStands languages (at_hole languages s) u e → IsReadTo pieces symbols (at_hole languages s) u e)
     → IsReadTo (hole_pieces (placed s) text ++ pieces) (Hole ∷ symbols) s t d
 hole-read p q c text s t d pieces symbols v i accepted u l rest =
     let safe = is-safe p q c s v i accepted in
     let x = safe.one in
+    let own = subst (λ (z : Chain). IsTextBy z text) safe.is u in
     let alone : after_hole p ≡ Ok (q, only x) = accepted ∙ ap (λ (z : Chain). Ok (q, z)) safe.is in
-    let kept = keeps-hole p q x text (san_bytes x text) s t d v i alone (safe.promised text u) l in
+    let kept = keeps-hole p q x text (san_bytes x text) s t d v i alone (safe.promised text own) l in
     let e = kept.2.0 in
     let r = rest (mark_in s t) e kept.2.2 in
-    let whole = plain-read x text s t d e r.end pieces kept.1 kept.2.1 (safe.back text u) l r.are in
+    let whole = plain-read x text s t d e r.end pieces kept.1 kept.2.1 (safe.back text own) l r.are in
     record {
       end = r.end;
       are = subst (λ (z : List PagePiece). AreRead (z ++ pieces) d r.end) (sym (on-path p q (only x) s text v i alone)) whole;

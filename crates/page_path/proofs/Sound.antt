@@ -5,12 +5,13 @@ use Rattle.html_step.specs.Steps.{after_text}
 use Rattle.page_datum.specs.Printed.{printed}
 use Rattle.page_path.proofs.EventsFilled.{events-filled}
 use Rattle.page_path.proofs.Finding.{AllFind, Finds, event_symbols, symbols_from}
+use Rattle.page_path.proofs.OwnPieces.{text-at-place}
 use Rattle.page_path.proofs.PiecesFilled.{IsFilled}
 use Rattle.page_path.proofs.PiecesRead.{IsReadTo, StandsFor, hole-read, node-state, one-end, text-read}
 use Rattle.page_path.proofs.Walked.{along-root}
 use Rattle.page_path.specs.Laws.{IsRootOf, PagesAreSound, SoundPagesHaveTheShapeOfTheirPath}
 use Rattle.page_path.specs.Pages.{bytes_in, event_pieces, kind_in, open_behind, page_bytes, page_parts, pieces_from, pieces_of, state_behind}
-use Rattle.page_path.specs.Soundness.{AreTextual, IsDone, IsTextual, read_filled, path_symbols, texts_of}
+use Rattle.page_path.specs.Soundness.{IsDone, read_filled, path_symbols, texts_of}
 use Rattle.place_flow.specs.Covering.{ChartByName, IsCovered, IsStack, Pair, pair, pairs_along, read_moves, sign_pairs}
 use Rattle.place_flow.specs.HtmlCovering.{html_language}
 use Rattle.place_core.specs.place.Errors.{node}
@@ -38,9 +39,10 @@ use Rattle.text_norm.specs.StandsLaws.{holds_nothing}
 use Rattle.tpl_events.specs.Events.{Emission, ExecEvent, enters, gives_hole, gives_text, leaves}
 use Rattle.tpl_exec.specs.Meaning.{meaning}
 use Rattle.tpl_exec.specs.Runs.{End, broken, continued, faulted, next}
-use Rattle.tpl_paths.specs.Edges.{calls, fills, finish_point, passes, picks, writes}
+use Rattle.tpl_paths.specs.Edges.{before, calls, fills, finish_point, passes, picks, writes}
 use Rattle.tpl_paths.specs.Paths.{IsPath, Move, Standing, along, at_root, back, reached, signs_of, open_standing}
 use Rattle.page_path.specs.Taken.{Arrives, exits, move_sign}
+use Rattle.page_path.specs.Textual.{AreTextual, IsTextual}
 use Rattle.tpl_tree.specs.Forests.{ForestData}
 use Rattle.tpl_tree.specs.declared.node_kind.NodeKind.{NodeKind}
 
@@ -56,7 +58,7 @@ module _ (forest : ForestData) (chart : ChartByName Place) where
       (event_symbols forest e ts (symbols_from forest gs us)) s t d)
 
   event-read : (e : ExecEvent) (gs : List Emission) (ps : List (Pair Place)) (ts : List (List ℕ)) (s : LexState ValueState) (t : List LexEvent)
-      (d : Config ValueState) → Finds forest chart e ps ts s → IsTextual e → TextStands languages s t d
+      (d : Config ValueState) → Finds forest chart e ps ts s → IsTextual forest chart e ps → TextStands languages s t d
       → (let r = state_behind forest e ts s in
       (u : List LexEvent) (c : Config ValueState) → TextStands languages r u c → ReadFrom gs (open_behind forest e ts) r u c)
       → ReadAt e gs ts s t d
@@ -70,12 +72,13 @@ module _ (forest : ForestData) (chart : ChartByName Place) where
   event-read (gives_hole n datum) gs (p ∷ ps) ts s t d f u l rest =
       let h = f.here in
       let more = pieces_from forest gs ts (at_hole languages s) in
-      hole-read h.place f.next f.chain (printed datum) s t d more (symbols_from forest gs ts) h.valid h.is_in f.accepted u l rest
+      let text = text-at-place (chart p.template p.entry (before n)) h.place f.next f.chain (printed datum) h.there f.accepted u in
+      hole-read h.place f.next f.chain (printed datum) s t d more (symbols_from forest gs ts) h.valid h.is_in f.accepted text l rest
   event-read (enters n) gs (p ∷ ps) ts s t d f u l rest = rest t d l
   event-read leaves gs (p ∷ ps) ts s t d f u l rest = rest t d l
 
   events-read : (gs : List Emission) (ps : List (Pair Place)) (ts : List (List ℕ)) (s : LexState ValueState) (t : List LexEvent)
-      (d : Config ValueState) → AllFind forest chart gs ps ts s → AreTextual gs → TextStands languages s t d → ReadFrom gs ts s t d
+      (d : Config ValueState) → AllFind forest chart gs ps ts s → AreTextual forest chart gs ps → TextStands languages s t d → ReadFrom gs ts s t d
   events-read [] ps ts s t d f u l = record { end = d; are = record { reads = refl; back = tt }; stands = l }
   events-read (g ∷ gs) ps ts s t d f u l =
       let e = g.event in

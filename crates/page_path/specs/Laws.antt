@@ -3,7 +3,7 @@ use Rattle.std.specs.Prelude.{◌≡◌, ℕ, List, [], ◌∷◌, Some, Contain
 use Rattle.page_datum.specs.Data.{Data}
 use Rattle.page_path.specs.ByChart.{ChartMay, pair_pieces}
 use Rattle.page_path.specs.Pages.{event_pieces, open_behind, page_bytes, page_parts, pieces_of, state_behind}
-use Rattle.page_path.specs.Soundness.{AreTextual, IsDone, IsSound, path_read}
+use Rattle.page_path.specs.Soundness.{IsDone, IsSound, path_read}
 use Rattle.place_flow.specs.Covering.{ChartByName, Pair, pair, sign_pairs}
 use Rattle.place_core.specs.page.Html.{start}
 use Rattle.place_core.specs.page.Shape.{PageReads, shape_of}
@@ -17,6 +17,7 @@ use Rattle.place_chart.specs.Exact.{places_of}
 use Rattle.tpl_events.specs.Events.{Emission}
 use Rattle.tpl_exec.specs.Meaning.{meaning}
 use Rattle.page_path.specs.Taken.{choices, move_sign}
+use Rattle.page_path.specs.Textual.{AreTextual}
 use Rattle.tpl_tree.specs.Forests.{ForestData, HasAscendingNames, number_named}
 
 -- a root of a set that has a chart
@@ -27,10 +28,15 @@ pub record IsRootOf (forest : ForestData) (names : List (List ℕ)) (chart : Cha
   pub number : ℕ
   pub numbered : number_named root forest ≡ Some number
 
+-- where each value is written, by the root's chart, its text is UTF-8, as all texts of data are
+abbrev pub AreRootTexts : ForestData → ChartData → List ℕ → Data → Type 0
+AreRootTexts forest chart root datum =
+    AreTextual forest (places_of forest chart.summaries) (meaning forest root datum).events (pair root place.Text ∷ [])
+
 -- The page of an execution that is done is sound, whatever the datum, whose texts are UTF-8.
 abbrev pub PagesAreSound : Type 0
 PagesAreSound = (forest : ForestData) (names : List (List ℕ)) (chart : ChartData) (root : List ℕ) (datum : Data)
-    → IsRootOf forest names chart root → IsDone (meaning forest root datum).end → AreTextual (meaning forest root datum).events
+    → IsRootOf forest names chart root → IsDone (meaning forest root datum).end → AreRootTexts forest chart root datum
     → IsSound forest root datum (page_bytes (pieces_of forest root datum))
 
 -- A page that is sound has, however it is read with a mark in the place of each value, the shape of the path that its execution takes.
@@ -59,8 +65,8 @@ PagesGoByTheChart = (forest : ForestData) (names : List (List ℕ)) (chart : Cha
 abbrev pub PagesOfOnePathHaveOneShape : Type 0
 PagesOfOnePathHaveOneShape = (forest : ForestData) (names : List (List ℕ)) (chart : ChartData) (root : List ℕ) (a b : Data)
     → IsRootOf forest names chart root
-    → IsDone (meaning forest root a).end → AreTextual (meaning forest root a).events
-    → IsDone (meaning forest root b).end → AreTextual (meaning forest root b).events
+    → IsDone (meaning forest root a).end → AreRootTexts forest chart root a
+    → IsDone (meaning forest root b).end → AreRootTexts forest chart root b
     → choices (meaning forest root a).choices ≡ choices (meaning forest root b).choices
     → (c d : Config ValueState) → PageReads (page_parts (pieces_of forest root a)) start c → PageReads (page_parts (pieces_of forest root b)) start d
     → shape_of c ≡ shape_of d

@@ -3,3 +3,4 @@ pub mod Laws
 pub mod Pages
 pub mod Soundness
 pub mod Taken
+pub mod Textual

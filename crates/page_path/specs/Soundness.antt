@@ -1,7 +1,6 @@
 -- What is promised of a page: it has the shape of the path of its templates, whatever the data; each value is plain in its place, and
 -- reads back there; and the page as bytes alone reads as that path with the texts of the values in its holes.
 use Rattle.std.specs.Prelude.{◌≡◌, ℕ, false, List, [], ◌∷◌, ⊤}
-use Rattle.std.specs.Str.{IsUtf8}
 use Rattle.page_datum.specs.Data.{Data}
 use Rattle.page_datum.specs.Printed.{printed}
 use Rattle.page_path.specs.Pages.{PagePiece, page_bytes, page_parts, pieces_of, value, words}
@@ -111,17 +110,6 @@ IsFinished (stopped why) = ⊥
 
 abbrev pub IsDone : End → Type 0
 IsDone end = IsFinished (finish_of end)
-
--- the text of each value is UTF-8, as all texts of data are
-abbrev pub IsTextual : ExecEvent → Type 0
-IsTextual (gives_text n) = ⊤
-IsTextual (gives_hole n datum) = IsUtf8 (printed datum)
-IsTextual (enters n) = ⊤
-IsTextual leaves = ⊤
-
-abbrev pub AreTextual : List Emission → Type 0
-AreTextual [] = ⊤
-AreTextual (g ∷ gs) = IsTextual g.event × AreTextual gs
 
 -- What a reader of a path comes to: its texts are read as they are, and each of its holes is a mark.
 abbrev pub path_read : List Move → Config ValueState

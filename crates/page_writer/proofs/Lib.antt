@@ -1,3 +1,4 @@
+pub mod Alike
 pub mod KeptOutputs
 pub mod OpenPairs
 pub mod PairOutputs

@@ -6,9 +6,10 @@ use Rattle.page_datum.specs.Data.{Data}
 use Rattle.page_datum.specs.Printed.{printed}
 use Rattle.page_path.specs.ByChart.{ChartMay, PairMayEnter, MayHole, MayText, pair_pieces, text_pieces}
 use Rattle.page_path.specs.Pages.{bytes_in, hole_pieces, holed_pieces}
+use Rattle.page_path.specs.Textual.{IsTextAt, IsTextHeld, IsTextual}
 use Rattle.page_writer.proofs.OpenPairs.{AreNumbers, number_at, row_at}
 use Rattle.page_writer.specs.Outputs.{AreOutputs, by_call, by_chain, output_at, output_in}
-use Rattle.page_writer.specs.Writing.{IsBuiltChain, IsCallNode, IsTextNode, IsValue, MayGive, page_open_after, output_pieces, text_output, value_output}
+use Rattle.page_writer.specs.Writing.{IsBuiltChain, IsCallNode, IsGivenText, IsTextNode, IsTextOutput, IsValue, MayGive, page_open_after, output_pieces, text_output, value_output}
 use Rattle.page_writer.specs.declared.output.Output.{Output}
 use Rattle.page_writer.specs.declared.output.Output.TheVariants as output
 use Rattle.place_flow.specs.Covering.{Pair, sign_pairs}
@@ -63,11 +64,12 @@ place_built (place.Style css) = tt
 place_built (place.Block lt) = tt
 
 module _ (forest : ForestData) (chart : ChartData) (outputs : List (List Output)) where
-  -- Where these pairs are open, by their numbers, an event may be given to the writer, which writes what the pair gives; and the numbers
-  -- after it are those of the pairs after it.
+  -- Where these pairs are open, by their numbers, an event may be given to the writer, which writes what the pair gives, of a text that is
+  -- UTF-8 where the pair asks for it; and the numbers after it are those of the pairs after it.
   pub record IsFollowed (e : ExecEvent) (ns : List ℕ) (ps : List (Pair Place)) : Type 0 where
     pub may : MayGive outputs ns e
     pub same : output_pieces outputs ns e ≡ pair_pieces forest (places_of forest chart.summaries) e ps
+    pub textual : IsGivenText outputs ns e → IsTextual forest (places_of forest chart.summaries) e ps
     pub numbers : AreNumbers forest chart.summaries (page_open_after outputs ns e) (sign_pairs forest (places_of forest chart.summaries) (move_sign e) ps)
 
   module _ (calls : ArePairCalls forest chart.summaries chart.calls) (are : AreOutputs forest chart outputs) where
@@ -95,6 +97,7 @@ module _ (forest : ForestData) (chart : ChartData) (outputs : List (List Output)
           may = subst IsTextNode (sym out) tt;
           same = ap text_output out ∙ sym (ap (λ (o : Option NodeKind). text_pieces (there p n) (bytes_in o)) may.is
               ∙ ap (λ (o : Option Place). text_pieces o may.bytes) may.there);
+          textual = λ u. tt;
           numbers = nu;
         }
 
@@ -110,6 +113,9 @@ module _ (forest : ForestData) (chart : ChartData) (outputs : List (List Output)
           same = ap (λ (o : Output). value_output o datum) out
               ∙ sym (ap (λ (o : Option Place). hole_pieces o (printed datum)) may.there
               ∙ ap (λ (h : Holed). holed_pieces h (printed datum)) may.accepted);
+          textual = λ u. subst (λ (o : Option Place). IsTextAt o (printed datum)) (sym may.there)
+              (subst (λ (h : Holed). IsTextHeld h (printed datum)) (sym may.accepted)
+              (subst (λ (o : Output). IsTextOutput o datum) out u));
           numbers = nu;
         }
 
@@ -122,6 +128,7 @@ module _ (forest : ForestData) (chart : ChartData) (outputs : List (List Output)
         record {
           may = subst IsCallNode (sym out) tt;
           same = refl;
+          textual = λ u. tt;
           numbers = rw (out, may.is, may.there) (number.1, nu);
         }
 
@@ -132,4 +139,4 @@ module _ (forest : ForestData) (chart : ChartData) (outputs : List (List Output)
     followed (gives_text n) (m ∷ ns) (p ∷ ps) nu may = text_followed n m ns p ps nu may
     followed (gives_hole n datum) (m ∷ ns) (p ∷ ps) nu may = hole_followed n m datum ns p ps nu may
     followed (enters n) (m ∷ ns) (p ∷ ps) nu may = call_followed n m ns p ps nu may
-    followed leaves (m ∷ ns) (p ∷ ps) nu may = record { may = tt; same = refl; numbers = nu.1 }
+    followed leaves (m ∷ ns) (p ∷ ps) nu may = record { may = tt; same = refl; textual = λ u. tt; numbers = nu.1 }

@@ -55,7 +55,7 @@ module _ (forest : ForestData) (chart : ChartData) (root : List ℕ) (outputs : 
   may_write = allowed forest chart outputs b.is.is.calls b.are w run.events (first root) b.at goes
 
   -- where the writer took all events, and where it refused one
-  taken : (v : PageWriter) → SinkLeads Takes w run.events v → IsWritten forest w v run.events (first root)
+  taken : (v : PageWriter) → SinkLeads Takes w run.events v → IsWritten forest chart w v run.events (first root)
   taken v led = written forest chart outputs b.is.is.calls b.are w v run.events (first root) b.at goes few led
 
   stops : (v : PageWriter) (g : Emission) → SinkRefuses Takes WriterDeclines run.events g stop.TooLong w v

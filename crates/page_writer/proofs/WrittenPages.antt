@@ -7,11 +7,11 @@ use Rattle.std.specs.Prelude.{if◌then◌else◌}
 use Rattle.page_path.specs.Laws.{GoTogether}
 use Rattle.page_path.specs.Pages.{PagePiece, event_pieces, max_page, open_behind, over_from, page_bytes, page_parts, pieces_from, state_behind}
 use Rattle.page_path.specs.Pages.{value, words}
-use Rattle.page_path.specs.Soundness.{AreTextual}
+use Rattle.page_path.specs.Textual.{AreTextual}
 use Rattle.page_writer.proofs.OpenPairs.{AreNumbers}
 use Rattle.page_writer.proofs.PairOutputs.{IsFollowed, followed}
 use Rattle.page_writer.specs.Outputs.{AreOutputs}
-use Rattle.page_writer.specs.Writing.{WriterMay, MayGive, Takes, page_open_after, output_pieces, outputs_in}
+use Rattle.page_writer.specs.Writing.{IsGivenText, WriterMay, MayGive, Takes, page_open_after, output_pieces, outputs_in}
 use Rattle.page_writer.specs.declared.output.Output.{Output}
 use Rattle.page_writer.specs.declared.writer.PageWriter.{PageWriter}
 use Rattle.place_flow.specs.Covering.{Pair, sign_pairs}
@@ -82,10 +82,10 @@ abbrev pub over : ForestData → ℕ → List Emission → Stand → Option Emis
 over forest n gs x = over_from n forest gs x.templates x.state
 
 -- a page has the pieces of events after what it had, which are none too many
-pub record IsWritten (forest : ForestData) (w v : PageWriter) (gs : List Emission) (x : Stand) : Type 0 where
+pub record IsWritten (forest : ForestData) (chart : ChartData) (w v : PageWriter) (gs : List Emission) (x : Stand) : Type 0 where
   pub page : string_bytes v.page ≡ string_bytes w.page ++ page_bytes (all forest gs x)
   pub under : over forest (size w) gs x ≡ None
-  pub textual : AreTextual gs
+  pub textual : AreTextual forest (places_of forest chart.summaries) gs x.pairs
 
 -- a writer goes by these outputs, and its numbers are those of the pairs that are open
 pub record IsAt (forest : ForestData) (chart : ChartData) (outputs : List (List Output)) (w : PageWriter) (x : Stand) : Type 0 where
@@ -147,7 +147,7 @@ module _ (forest : ForestData) (chart : ChartData) (outputs : List (List Output)
 
   pub written : (w v : PageWriter) (gs : List Emission) (x : Stand) → At w x → Goes forest chart gs x → size w ≤ max_page
       → SinkLeads Takes w gs v
-      → IsWritten forest w v gs x
+      → IsWritten forest chart w v gs x
   written w v [] x at go few led = record {
     page = ap (λ (y : PageWriter). string_bytes y.page) led ∙ sym (append-nil (string_bytes w.page));
     under = refl;
@@ -161,7 +161,10 @@ module _ (forest : ForestData) (chart : ChartData) (outputs : List (List Output)
             ∙ sym (behind (string_bytes w.page) (page_bytes (one forest g x)) (page_bytes (all forest gs y))
             (page_bytes (all forest (g ∷ gs) x)) (page_bytes-append (one forest g x) (all forest gs y)));
         under = goes_on w g gs x at go u took few ∙ rest.under;
-        textual = (took.textual, rest.textual);
+        textual = (
+          (follows w g gs x at go).textual (subst (λ (os : List (List Output)). IsGivenText os w.pairs g.event) at.goes_by took.textual),
+          rest.textual,
+        );
       }
 
   -- the event that is refused is the first with which the page would be too long

@@ -1,10 +1,10 @@
 -- What a writer may be given and what it writes, by the outputs of the pair that is open.
-use Rattle.std.specs.Prelude.{◌≡◌, ℕ, ◌+◌, ◌<◌, ◌≤◌, List, [], ◌∷◌, ◌++◌, String, Vec, length, map, string_bytes, take, ⊤}
+use Rattle.std.specs.Prelude.{◌≡◌, ℕ, ◌+◌, ◌<◌, ◌≤◌, List, [], ◌∷◌, ◌++◌, String, true, Vec, length, map, string_bytes, take, ⊤}
 use Rattle.std.specs.declared.alloc.Global.{Global}
 use Rattle.page_datum.specs.Data.{Data}
 use Rattle.page_datum.specs.Printed.{printed}
-use Rattle.page_path.specs.Pages.{PagePiece, max_page, page_bytes, value_pieces, words}
-use Rattle.page_path.specs.Soundness.{IsTextual}
+use Rattle.page_path.specs.Pages.{PagePiece, max_page, page_bytes, san_bytes, value_pieces, words}
+use Rattle.page_path.specs.Textual.{IsTextBy, writes_text}
 use Rattle.page_writer.specs.Outputs.{output_in}
 use Rattle.page_writer.specs.declared.output.Output.{Output}
 use Rattle.page_writer.specs.declared.output.Output.TheVariants as output
@@ -78,6 +78,22 @@ output_pieces outputs ns (gives_hole n datum) = value_output (open_output output
 output_pieces outputs ns (enters n) = []
 output_pieces outputs ns leaves = []
 
+-- a text for which a sanitizer writes what it writes for another, and which is that other one where more of it is written than ASCII
+pub record IsWrittenAlike (x : San) (text other : List ℕ) : Type 0 where
+  pub same : san_bytes x text ≡ san_bytes x other
+  pub one : writes_text x ≡ true → text ≡ other
+
+-- the text of a value is UTF-8 where its chain writes it
+abbrev pub IsTextOutput : Output → Data → Type 0
+IsTextOutput (output.Value c) datum = IsTextBy c (printed datum)
+IsTextOutput _ datum = ⊤
+
+abbrev pub IsGivenText : List (List Output) → List ℕ → ExecEvent → Type 0
+IsGivenText outputs ns (gives_text n) = ⊤
+IsGivenText outputs ns (gives_hole n datum) = IsTextOutput (open_output outputs ns n) datum
+IsGivenText outputs ns (enters n) = ⊤
+IsGivenText outputs ns leaves = ⊤
+
 -- the pairs that are open after an event, the innermost first
 abbrev pub page_opened : Output → List ℕ → List ℕ
 page_opened (output.Call m) ns = m ∷ ns
@@ -126,7 +142,7 @@ pub record Takes (w : PageWriter) (e : ExecEvent) (v : PageWriter) : Type 0 wher
   pub pairs : v.pairs ≡ page_open_after (outputs_in w) w.pairs e
   pub page : string_bytes v.page ≡ string_bytes w.page ++ page_bytes (output_pieces (outputs_in w) w.pairs e)
   pub fits : length (string_bytes w.page) ≤ max_page → length (string_bytes v.page) ≤ max_page
-  pub textual : IsTextual e
+  pub textual : IsGivenText (outputs_in w) w.pairs e
 
 -- likewise, or refused: the page would be longer, or memory ran out
 abbrev pub WriterDeclines : PageWriter → ExecEvent → HoleStop → PageWriter → Type 0

@@ -1,16 +1,17 @@
-ghost use Rattle.std.specs.Prelude.{◌≡◌, ◌++◌, ◌∷◌, ◌≤◌, [], IfErr, IfOk, MatchOption, OnOk};
+ghost use Rattle.std.specs.Prelude.{◌≡◌, ◌++◌, ◌∷◌, ◌≤◌, [], IfErr, IfOk, IfSome, MatchOption, OnOk};
 ghost use Rattle.std.specs.Prelude.{length, map, string_bytes};
 ghost use Rattle.std.specs.Str.{IsUtf8};
 ghost use Rattle.page_datum.specs.Printed.{printed};
-ghost use Rattle.page_datum.specs.View.{view};
+ghost use Rattle.page_datum.specs.View.{ref_view};
 ghost use Rattle.page_path.specs.Pages.{max_page, san_bytes};
+ghost use Rattle.page_path.specs.Textual.{IsTextBy};
 ghost use Rattle.page_writer.specs.Writing.{IsAppended, IsBuilt, IsBuiltChain, IsTooLong, IsUnfit};
-ghost use Rattle.page_writer.specs.Writing.{sanitizers, value_written};
+ghost use Rattle.page_writer.specs.Writing.{IsWrittenAlike, sanitizers, value_written};
 ghost use Rattle.page_writer.specs.declared.output.Output.TheVariants.{Nothing};
 ghost use Rattle.page_writer.specs.Writing as spec;
 
 use crate::output::Output;
-use page_datum::{Datum, print_datum};
+use page_datum::{DatumRef, print_datum};
 use page_io::{Memory, Stack};
 use place_core::{Chain, San};
 use san_html::{push_attr_name, push_attr_nospace, push_html};
@@ -73,7 +74,7 @@ impl<'o> HoleSink for PageWriter<'o> {
         }
     }
 
-    fn hole(&mut self, node: u32, datum: &Datum) -> Result<(), HoleStop> {
+    fn hole(&mut self, node: u32, datum: DatumRef<'_>) -> Result<(), HoleStop> {
         match open_output(self.outputs, &self.pairs, node) {
             Some(Output::Value(chain)) => push_datum(&mut self.page, *chain, datum),
             _ => unreachable!(),
@@ -144,21 +145,38 @@ fn push_value(page: &mut String, chain: Chain, text: &str) -> Result<(), HoleSto
     }
 }
 
-// Appends a value to a page, by a chain. A text is what is printed for it, and no copy of it is made.
-fn push_datum(page: &mut String, chain: Chain, datum: &Datum) -> Result<(), HoleStop>
+// Appends a value to a page, by a chain. It is printed only where its text is needed.
+fn push_datum(page: &mut String, chain: Chain, datum: DatumRef<'_>) -> Result<(), HoleStop>
     requires { IsBuiltChain chain }
-    ensures ok { let bytes = value_written chain (printed (view datum.now)) in
+    ensures ok { let bytes = value_written chain (printed (ref_view datum.entry)) in
         OnOk result (IsAppended page.old bytes page.new) }
-    ensures err { let bytes = value_written chain (printed (view datum.now)) in
+    ensures err { let bytes = value_written chain (printed (ref_view datum.entry)) in
         IfErr result (λ why. IsUnfit page.old bytes why) }
-    ensures textual { OnOk result (IsUtf8 (printed (view datum.now))) }
+    ensures textual { OnOk result (IsTextBy chain (printed (ref_view datum.entry))) }
 {
-    match datum {
-        Datum::Text(text) => push_value(page, chain, text.as_str()),
-        _ => match print_datum(*page.allocator(), datum) {
+    match unprinted(only_sanitizer(chain), datum) {
+        Some(text) => push_value(page, chain, text),
+        None => match print_datum(*page.allocator(), datum) {
             Ok(text) => push_value(page, chain, text.as_str()),
             Err(Memory) => Err(HoleStop::Memory),
         },
+    }
+}
+
+// A text for which a sanitizer writes what it writes for a value, where none has to be printed: a text itself, and for a list or a
+// dictionary where nothing is written of them, or where they are no name.
+fn unprinted<'d>(san: San, datum: DatumRef<'d>) -> Option<&'d str>
+    ensures { IfSome result (λ text.
+        IsWrittenAlike san text.now (printed (ref_view datum.entry))) }
+{
+    match datum {
+        DatumRef::Text(text) => Some(text),
+        DatumRef::List(_) | DatumRef::Dict(_) => match san {
+            San::Drop => Some(""),
+            San::AttrName => Some("["),
+            _ => None,
+        },
+        _ => None,
     }
 }
 

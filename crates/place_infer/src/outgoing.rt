@@ -3,12 +3,16 @@ use place_flow::{Flows, point_number};
 use std::alloc::Global;
 use tpl_paths::Point;
 
+// No edge.
+const NONE: u32 = u32::MAX;
+
 /// The edges of a template by the points from which they lead.
 #[derive(Debug, Drop)]
 pub struct OutgoingEdges {
-    // by the number of a point, the first edge that leads from it; and by the number of an edge, the next one from the same point
-    first: Vec<Option<usize>>,
-    next: Vec<Option<usize>>,
+    // by the number of a point, the first edge that leads from it; and by the number of an edge, the next one from the same point;
+    // `NONE` where there is none
+    first: Vec<u32>,
+    next: Vec<u32>,
 }
 
 impl OutgoingEdges {
@@ -28,33 +32,35 @@ impl OutgoingEdges {
 
     // An edge before all that lead from its point.
     fn add(&mut self, point: usize, number: usize) {
-        if point < self.first.len() && number < self.next.len() {
+        if point < self.first.len() && number < self.next.len() && number < NONE as usize {
             self.next[number] = self.first[point];
-            self.first[point] = Some(number);
+            self.first[point] = number as u32;
         }
     }
 
     /// The first edge that leads from a point.
     pub fn first(&self, point: Point) -> Option<usize> {
-        match self.first.get(point_number(point)) {
-            Some(number) => *number,
-            None => None,
-        }
+        edge_at(self.first.as_slice(), point_number(point))
     }
 
     /// The next edge that leads from the same point as an edge.
     pub fn next(&self, number: usize) -> Option<usize> {
-        match self.next.get(number) {
-            Some(next) => *next,
-            None => None,
-        }
+        edge_at(self.next.as_slice(), number)
     }
 }
 
-fn nothing(alloc: Global, count: usize) -> Result<Vec<Option<usize>>, Memory> {
-    let mut numbers = Vec::new(alloc);
+// The edge that is kept at a number, where there is one.
+fn edge_at(edges: &[u32], at: usize) -> Option<usize> {
+    match edges.get(at) {
+        Some(number) if *number < NONE => Some(*number as usize),
+        _ => None,
+    }
+}
+
+fn nothing(alloc: Global, count: usize) -> Result<Vec<u32>, Memory> {
+    let mut numbers = Vec::with_capacity(alloc, count)?;
     for _number in 0..count {
-        numbers.push(None)?;
+        numbers.push(NONE)?;
     }
     Ok(numbers)
 }

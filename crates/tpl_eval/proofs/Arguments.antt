@@ -1,7 +1,7 @@
 -- How many arguments there are, and which.
 use Rattle.std.proofs.Common.{◌≡◌, ◌<◌, ◌≤◌, Bool, List, [], ◌∷◌, length, drop, get_or, Result, Ok, Err, refl, sym, ap, ◌∙◌, subst, arith}
 use Rattle.page_datum.specs.Data.{Data}
-use Rattle.page_datum.specs.declared.datum.Datum.{Datum}
+use Rattle.page_datum.specs.declared.datum_ref.DatumRef.{DatumRef}
 use Rattle.page_datum.specs.declared.fault.FaultKind.{FaultKind}
 use Rattle.page_datum.specs.declared.fault.FaultKind.TheVariants.{WrongCount}
 use Rattle.tpl_eval.specs.Functions.{as_truth, eq_of, equals_one, one_of, slice_all, two_of}
@@ -47,7 +47,7 @@ two_here (a ∷ b ∷ []) v w x y l first second same other =
 two_here (a ∷ b ∷ c ∷ vs) v w x y l first second same other = absurd (omega (arith, l))
 
 -- the first argument, and the others
-pub eq_several : (vs : List Value) (v : Value) (x : Data) (same : Result Bool FaultKind) (result : Result Datum FaultKind) → 2 ≤ length vs → v ≡ get_or vs 0 v → x ≡ value_view v
+pub eq_several : (vs : List Value) (v : Value) (x : Data) (same : Result Bool FaultKind) (result : Result DatumRef FaultKind) → 2 ≤ length vs → v ≡ get_or vs 0 v → x ≡ value_view v
     → same ≡ equals_one x (values_view (drop 1 vs)) → FunctionAnswers (as_truth same) result → FunctionAnswers (eq_of (values_view vs)) result
 eq_several [] v x same result l first view-x e h = absurd (omega (arith, l))
 eq_several (y ∷ []) v x same result l first view-x e h = absurd (omega (arith, l))

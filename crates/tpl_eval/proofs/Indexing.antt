@@ -2,10 +2,8 @@
 use Rattle.std.proofs.Common.{◌≡◌, List, ◌∷◌, Option, Some, None, Result, Ok, Err, sym, ap, ◌∙◌}
 use Rattle.page_datum.specs.Data.{Data}
 use Rattle.page_datum.specs.declared.fault.FaultKind.{FaultKind}
-use Rattle.page_datum.specs.declared.stop.ValueStop.{ValueStop}
-use Rattle.page_datum.specs.declared.stop.ValueStop.TheVariants.{Fault, Memory}
 use Rattle.tpl_eval.specs.Functions.{index_all, indexed, on_ok, or_null}
-use Rattle.tpl_eval.specs.Values.{PartAnswers, value_view, values_view}
+use Rattle.tpl_eval.specs.Values.{FoundAnswers, value_view, values_view}
 use Rattle.tpl_eval.specs.declared.value.Value.{Value}
 use Rattle.tpl_value.specs.Picking.{index_of}
 
@@ -19,11 +17,10 @@ fault_stays : (found : Result (Option Data) FaultKind) (kind : FaultKind) (keys 
 fault_stays (Ok part) kind keys h = cc
 fault_stays (Err k) kind keys h = h
 
-pub stops : (part : Option Value) (value arg : Value) (key : Data) (left rest : List Value) (all : Result Data FaultKind) (stop : ValueStop)
+pub stops : (part : Option Value) (value arg : Value) (key : Data) (left rest : List Value) (all : Result Data FaultKind) (kind : FaultKind)
     → part ≡ Some value → left ≡ arg ∷ rest → key ≡ value_view arg → parts_from part left ≡ all
-    → PartAnswers (on_ok (index_of (value_view value) key) (λ found. Ok (or_null found))) (Err stop) → PartAnswers all (Err stop)
-stops part value arg key left rest all Memory is first same whole h = tt
-stops part value arg key left rest all (Fault kind) is first same whole h =
+    → FoundAnswers (on_ok (index_of (value_view value) key) (λ found. Ok (or_null found))) (Err kind) → FoundAnswers all (Err kind)
+stops part value arg key left rest all kind is first same whole h =
     sym whole
     ∙ ap (λ (o : Option Value). parts_from o left) is
     ∙ ap (parts_from (Some value)) first

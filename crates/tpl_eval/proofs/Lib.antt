@@ -1,7 +1,7 @@
 pub mod Arguments
 pub mod Copies
 pub mod Indexing
+pub mod NewestNumbers
 pub mod Operands
 pub mod Piped
 pub mod StepsGrow
-pub mod Variables

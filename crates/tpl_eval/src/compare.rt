@@ -1,5 +1,5 @@
 ghost use Rattle.std.specs.Prelude.{◌≡◌};
-ghost use Rattle.page_datum.specs.View.{view};
+ghost use Rattle.page_datum.specs.View.{ref_view};
 ghost use Rattle.tpl_eval.specs.Functions.{not_of, len_of, eq_of, ne_of, lt_of, le_of, gt_of};
 ghost use Rattle.tpl_eval.specs.Functions.{ge_of};
 ghost use Rattle.tpl_eval.specs.Functions.{one_of, two_of};
@@ -7,29 +7,29 @@ ghost use Rattle.tpl_eval.specs.Values.{OneAnswers, TwoAnswers, FunctionAnswers,
 ghost use Rattle.tpl_eval.specs.Functions as spec;
 
 use crate::value::Value;
-use page_datum::{Datum, FaultKind};
+use page_datum::{DatumRef, FaultKind};
 use tpl_value::{equal, length, less, truth};
 
 // Functions that give a truth value or a number for their arguments. Each answers WrongCount for another number of them, and none
 // takes memory.
 
 // `not x`
-pub(crate) fn not(args: &[Value<'_, '_>]) -> Result<Datum, FaultKind>
+pub(crate) fn not(args: &[Value<'_>]) -> Result<DatumRef<'static>, FaultKind>
     ensures { FunctionAnswers (not_of (values_view args.now)) result }
 {
     match one(args) {
-        Ok(x) => Ok(Datum::Bool(!truth(x))),
+        Ok(x) => Ok(DatumRef::Bool(!truth(x))),
         Err(kind) => Err(kind),
     }
 }
 
 // `len x`
-pub(crate) fn len(args: &[Value<'_, '_>]) -> Result<Datum, FaultKind>
+pub(crate) fn len(args: &[Value<'_>]) -> Result<DatumRef<'static>, FaultKind>
     ensures { FunctionAnswers (len_of (values_view args.now)) result }
 {
     match one(args) {
         Ok(x) => match length(x) {
-            Ok(length) => Ok(Datum::Int(length)),
+            Ok(length) => Ok(DatumRef::Int(length)),
             Err(kind) => Err(kind),
         },
         Err(kind) => Err(kind),
@@ -37,7 +37,7 @@ pub(crate) fn len(args: &[Value<'_, '_>]) -> Result<Datum, FaultKind>
 }
 
 // `eq x y ..`
-pub(crate) fn eq(args: &[Value<'_, '_>]) -> Result<Datum, FaultKind>
+pub(crate) fn eq(args: &[Value<'_>]) -> Result<DatumRef<'static>, FaultKind>
     ensures { FunctionAnswers (eq_of (values_view args.now)) result }
 {
     if args.len() < 2 {
@@ -47,7 +47,7 @@ pub(crate) fn eq(args: &[Value<'_, '_>]) -> Result<Datum, FaultKind>
 }
 
 // `ne x y`
-pub(crate) fn ne(args: &[Value<'_, '_>]) -> Result<Datum, FaultKind>
+pub(crate) fn ne(args: &[Value<'_>]) -> Result<DatumRef<'static>, FaultKind>
     ensures { FunctionAnswers (ne_of (values_view args.now)) result }
 {
     match two(args) {
@@ -57,7 +57,7 @@ pub(crate) fn ne(args: &[Value<'_, '_>]) -> Result<Datum, FaultKind>
 }
 
 // `lt x y`
-pub(crate) fn lt(args: &[Value<'_, '_>]) -> Result<Datum, FaultKind>
+pub(crate) fn lt(args: &[Value<'_>]) -> Result<DatumRef<'static>, FaultKind>
     ensures { FunctionAnswers (lt_of (values_view args.now)) result }
 {
     match two(args) {
@@ -67,7 +67,7 @@ pub(crate) fn lt(args: &[Value<'_, '_>]) -> Result<Datum, FaultKind>
 }
 
 // `le x y`
-pub(crate) fn le(args: &[Value<'_, '_>]) -> Result<Datum, FaultKind>
+pub(crate) fn le(args: &[Value<'_>]) -> Result<DatumRef<'static>, FaultKind>
     ensures { FunctionAnswers (le_of (values_view args.now)) result }
 {
     match two(args) {
@@ -77,7 +77,7 @@ pub(crate) fn le(args: &[Value<'_, '_>]) -> Result<Datum, FaultKind>
 }
 
 // `gt x y`
-pub(crate) fn gt(args: &[Value<'_, '_>]) -> Result<Datum, FaultKind>
+pub(crate) fn gt(args: &[Value<'_>]) -> Result<DatumRef<'static>, FaultKind>
     ensures { FunctionAnswers (gt_of (values_view args.now)) result }
 {
     match two(args) {
@@ -87,7 +87,7 @@ pub(crate) fn gt(args: &[Value<'_, '_>]) -> Result<Datum, FaultKind>
 }
 
 // `ge x y`
-pub(crate) fn ge(args: &[Value<'_, '_>]) -> Result<Datum, FaultKind>
+pub(crate) fn ge(args: &[Value<'_>]) -> Result<DatumRef<'static>, FaultKind>
     ensures { FunctionAnswers (ge_of (values_view args.now)) result }
 {
     match two(args) {
@@ -97,7 +97,7 @@ pub(crate) fn ge(args: &[Value<'_, '_>]) -> Result<Datum, FaultKind>
 }
 
 // Exactly one argument.
-fn one<'a>(args: &'a [Value<'_, '_>]) -> Result<&'a Datum, FaultKind>
+fn one<'a>(args: &'a [Value<'_>]) -> Result<DatumRef<'a>, FaultKind>
     ensures { OneAnswers (one_of (values_view args.now)) result }
 {
     if args.len() != 1 {
@@ -107,7 +107,7 @@ fn one<'a>(args: &'a [Value<'_, '_>]) -> Result<&'a Datum, FaultKind>
 }
 
 // Exactly two arguments.
-fn two<'a>(args: &'a [Value<'_, '_>]) -> Result<(&'a Datum, &'a Datum), FaultKind>
+fn two<'a>(args: &'a [Value<'_>]) -> Result<(DatumRef<'a>, DatumRef<'a>), FaultKind>
     ensures { TwoAnswers (two_of (values_view args.now)) result }
 {
     if args.len() != 2 {
@@ -117,8 +117,8 @@ fn two<'a>(args: &'a [Value<'_, '_>]) -> Result<(&'a Datum, &'a Datum), FaultKin
 }
 
 // Whether a value equals one of others, which are compared in their order up to the first that is equal.
-fn equals_one(x: &Datum, others: &[Value<'_, '_>]) -> Result<bool, FaultKind>
-    ensures { result ≡ spec.equals_one (view x.now) (values_view others.now) }
+fn equals_one(x: DatumRef<'_>, others: &[Value<'_>]) -> Result<bool, FaultKind>
+    ensures { result ≡ spec.equals_one (ref_view x.entry) (values_view others.now) }
 {
     for other in others {
         match equal(x, other.datum()) {
@@ -130,20 +130,20 @@ fn equals_one(x: &Datum, others: &[Value<'_, '_>]) -> Result<bool, FaultKind>
     Ok(false)
 }
 
-fn as_truth(answer: Result<bool, FaultKind>) -> Result<Datum, FaultKind>
+fn as_truth(answer: Result<bool, FaultKind>) -> Result<DatumRef<'static>, FaultKind>
     ensures { FunctionAnswers (spec.as_truth answer) result }
 {
     match answer {
-        Ok(truth) => Ok(Datum::Bool(truth)),
+        Ok(truth) => Ok(DatumRef::Bool(truth)),
         Err(kind) => Err(kind),
     }
 }
 
-fn as_opposite(answer: Result<bool, FaultKind>) -> Result<Datum, FaultKind>
+fn as_opposite(answer: Result<bool, FaultKind>) -> Result<DatumRef<'static>, FaultKind>
     ensures { FunctionAnswers (spec.as_opposite answer) result }
 {
     match answer {
-        Ok(truth) => Ok(Datum::Bool(!truth)),
+        Ok(truth) => Ok(DatumRef::Bool(!truth)),
         Err(kind) => Err(kind),
     }
 }

@@ -7,11 +7,11 @@ mod make;
 mod pipe;
 mod scope;
 mod steps;
-mod stored;
 mod value;
+mod variable_stack;
 
 pub use pipe::{evaluate, is_dot};
-pub use scope::{Scope, Variable};
+pub use scope::Scope;
 pub use steps::{MAX_STEPS, counted};
-pub use stored::Stored;
 pub use value::Value;
+pub use variable_stack::VariableStack;

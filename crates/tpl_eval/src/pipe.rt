@@ -1,5 +1,5 @@
 ghost use Rattle.std.specs.Prelude.{◌≡◌, IfOk, IfSome, IsTrue};
-ghost use Rattle.page_datum.specs.View.{view};
+ghost use Rattle.page_datum.specs.View.{ref_view};
 ghost use Rattle.tpl_tree.specs.View.{operand_view, operands_view};
 ghost use Rattle.tpl_eval.specs.Evaluating.{dot_alone, IsAlone};
 ghost use Rattle.tpl_eval.specs.PipeCalls.{BaseAnswers, CommandAnswers, DecidingAnswers};
@@ -10,11 +10,11 @@ ghost use Rattle.tpl_eval.specs.Scopes.{piped_view};
 ghost use Rattle.tpl_eval.specs.Evaluating as spec;
 
 use crate::call::called;
-use crate::scope::{Scope, value_of};
+use crate::scope::Scope;
 use crate::steps::counted;
 use crate::value::{Value, fields_within};
-use page_datum::{Datum, FaultKind, ValueStop};
-use page_io::{Memory, Text};
+use page_datum::{DatumRef, FaultKind, ValueStop};
+use page_io::Memory;
 use std::alloc::Global;
 use tpl_symbol::Func;
 use tpl_tree::{Base, Command, Operand, Operands, Pipe};
@@ -28,9 +28,9 @@ use tpl_value::truth;
 pub fn evaluate<'d, 'v>(
     alloc: Global,
     scope: Scope<'d, 'v>,
-    pipe: &Pipe,
+    pipe: &'d Pipe,
     steps: u64,
-) -> Result<(Value<'d, 'v>, u64), ValueStop>
+) -> Result<(Value<'d>, u64), ValueStop>
     ensures { EvaluateAnswers scope.entry pipe.now steps result }
 {
     match only_operand(pipe) {
@@ -74,9 +74,9 @@ pub fn is_dot(pipe: &Pipe) -> bool
 fn pipe_value<'d, 'v>(
     alloc: Global,
     scope: Scope<'d, 'v>,
-    pipe: &Pipe,
+    pipe: &'d Pipe,
     steps: u64,
-) -> Result<(Value<'d, 'v>, u64), ValueStop>
+) -> Result<(Value<'d>, u64), ValueStop>
     ensures { EvaluateAnswers scope.entry pipe.now steps result }
 {
     let mut piped = None;
@@ -92,7 +92,7 @@ fn pipe_value<'d, 'v>(
     }
     match piped {
         Some(value) => Ok((value, steps)),
-        None => Ok((Value::Made(Datum::Null), steps)),
+        None => Ok((Value::Lent(DatumRef::Null), steps)),
     }
 }
 
@@ -101,10 +101,10 @@ fn pipe_value<'d, 'v>(
 fn command_value<'d, 'v>(
     alloc: Global,
     scope: Scope<'d, 'v>,
-    command: &Command,
-    piped: Option<Value<'d, 'v>>,
+    command: &'d Command,
+    piped: Option<Value<'d>>,
     steps: u64,
-) -> Result<(Value<'d, 'v>, u64), ValueStop>
+) -> Result<(Value<'d>, u64), ValueStop>
     ensures { CommandAnswers scope.entry command.now piped.entry steps result }
 {
     match command {
@@ -126,9 +126,9 @@ fn command_value<'d, 'v>(
 fn single_value<'d, 'v>(
     alloc: Global,
     scope: Scope<'d, 'v>,
-    operand: &Operand,
+    operand: &'d Operand,
     steps: u64,
-) -> Result<(Value<'d, 'v>, u64), ValueStop>
+) -> Result<(Value<'d>, u64), ValueStop>
     ensures { SingleAnswers scope.entry operand.now steps result }
 {
     match counted(1, steps) {
@@ -142,10 +142,10 @@ fn single_value<'d, 'v>(
 fn dropped_value<'d, 'v>(
     alloc: Global,
     scope: Scope<'d, 'v>,
-    operands: &Operands,
-    piped: Option<Value<'d, 'v>>,
+    operands: &'d Operands,
+    piped: Option<Value<'d>>,
     steps: u64,
-) -> Result<(Value<'d, 'v>, u64), ValueStop>
+) -> Result<(Value<'d>, u64), ValueStop>
     ensures { DroppedAnswers scope.entry operands.now piped.entry steps result }
 {
     match (operands.as_slice(), piped) {
@@ -161,10 +161,10 @@ fn call_value<'d, 'v>(
     alloc: Global,
     scope: Scope<'d, 'v>,
     func: Func,
-    operands: &Operands,
-    piped: Option<Value<'d, 'v>>,
+    operands: &'d Operands,
+    piped: Option<Value<'d>>,
     steps: u64,
-) -> Result<(Value<'d, 'v>, u64), ValueStop>
+) -> Result<(Value<'d>, u64), ValueStop>
     ensures { FunctionCallAnswers scope.entry func operands.now piped.entry steps result }
 {
     if is_lazy(func) {
@@ -184,10 +184,10 @@ fn deciding_value<'d, 'v>(
     alloc: Global,
     scope: Scope<'d, 'v>,
     func: Func,
-    operands: &Operands,
-    piped: Option<Value<'d, 'v>>,
+    operands: &'d Operands,
+    piped: Option<Value<'d>>,
     steps: u64,
-) -> Result<(Value<'d, 'v>, u64), ValueStop>
+) -> Result<(Value<'d>, u64), ValueStop>
     ensures { DecidingAnswers scope.entry func operands.now piped.entry steps result }
 {
     let mut last = None;
@@ -217,9 +217,9 @@ fn deciding_value<'d, 'v>(
 fn operand_values<'d, 'v>(
     alloc: Global,
     scope: Scope<'d, 'v>,
-    operands: &Operands,
+    operands: &'d Operands,
     steps: u64,
-) -> Result<(Vec<Value<'d, 'v>>, u64), ValueStop>
+) -> Result<(Vec<Value<'d>>, u64), ValueStop>
     ensures { OperandsAnswers scope.entry operands.now steps result }
 {
     let mut values = Vec::new(alloc);
@@ -241,15 +241,15 @@ fn operand_values<'d, 'v>(
 fn operand_value<'d, 'v>(
     alloc: Global,
     scope: Scope<'d, 'v>,
-    operand: &Operand,
+    operand: &'d Operand,
     steps: u64,
-) -> Result<(Value<'d, 'v>, u64), ValueStop>
+) -> Result<(Value<'d>, u64), ValueStop>
     ensures { OperandAnswers scope.entry operand.now steps result }
 {
     match base_value(alloc, scope, &operand.base, steps) {
-        Ok((value, steps)) => match fields_within(alloc, value, &operand.fields) {
+        Ok((value, steps)) => match fields_within(value, &operand.fields) {
             Ok(value) => Ok((value, steps)),
-            Err(stop) => Err(stop),
+            Err(kind) => Err(ValueStop::Fault(kind)),
         },
         Err(stop) => Err(stop),
     }
@@ -259,30 +259,27 @@ fn operand_value<'d, 'v>(
 fn base_value<'d, 'v>(
     alloc: Global,
     scope: Scope<'d, 'v>,
-    base: &Base,
+    base: &'d Base,
     steps: u64,
-) -> Result<(Value<'d, 'v>, u64), ValueStop>
+) -> Result<(Value<'d>, u64), ValueStop>
     ensures { BaseAnswers scope.entry base.now steps result }
 {
     match base {
-        Base::Str(text) => Ok((
-            Value::Made(Datum::Text(Text::copy_of(alloc, text.as_str())?)),
-            steps,
-        )),
-        Base::Number(number) => Ok((Value::Made(Datum::Int(*number)), steps)),
-        Base::Bool(truth) => Ok((Value::Made(Datum::Bool(*truth)), steps)),
-        Base::Nil => Ok((Value::Made(Datum::Null), steps)),
-        Base::Dot => Ok((scope.dot.value(), steps)),
-        Base::Variable(name) => Ok((value_of(name.as_str(), scope.variables), steps)),
+        Base::Str(text) => Ok((Value::Lent(DatumRef::Text(text.as_str())), steps)),
+        Base::Number(number) => Ok((Value::Lent(DatumRef::Int(*number)), steps)),
+        Base::Bool(truth) => Ok((Value::Lent(DatumRef::Bool(*truth)), steps)),
+        Base::Nil => Ok((Value::Lent(DatumRef::Null), steps)),
+        Base::Dot => Ok((scope.dot.copy()?, steps)),
+        Base::Variable(name) => Ok((scope.variables.value_of(name.as_str())?, steps)),
         Base::Paren(pipe) => pipe_value(alloc, scope, pipe, steps),
     }
 }
 
 // Arguments with the piped value as the last one.
 fn with_piped<'d, 'v>(
-    args: Vec<Value<'d, 'v>>,
-    piped: Option<Value<'d, 'v>>,
-) -> Result<Vec<Value<'d, 'v>>, Memory>
+    args: Vec<Value<'d>>,
+    piped: Option<Value<'d>>,
+) -> Result<Vec<Value<'d>>, Memory>
     ensures { IfOk result (λ all. IsPipedTo args.entry piped.entry all) }
 {
     let mut args = args;
@@ -296,7 +293,7 @@ fn with_piped<'d, 'v>(
 }
 
 // Whether there is exactly one argument, written or piped.
-fn has_one(operands: &[Operand], piped: &Option<Value<'_, '_>>) -> bool
+fn has_one(operands: &[Operand], piped: &Option<Value<'_>>) -> bool
     ensures { result ≡ spec.has_one_operand (operands_view operands.now) (piped_view piped.now) }
 {
     match piped {
@@ -326,8 +323,8 @@ fn is_lazy(func: Func) -> bool
 }
 
 // Whether an argument decides: an empty one for `and`, one that is not for `or`.
-fn decides(func: Func, datum: &Datum) -> bool
-    ensures { result ≡ spec.decides func (view datum.now) }
+fn decides(func: Func, datum: DatumRef<'_>) -> bool
+    ensures { result ≡ spec.decides func (ref_view datum.entry) }
 {
     match func {
         Func::And => !truth(datum),

@@ -4,7 +4,7 @@ ghost use Rattle.tpl_events.specs.Lists.{ListStays};
 ghost use Rattle.tpl_events.specs.Lists.{before_number, events_in, kept_event, listed, passed};
 
 use crate::sink::{HoleSink, HoleStop};
-use page_datum::Datum;
+use page_datum::{Datum, DatumRef};
 use page_io::Memory;
 use std::alloc::Global;
 
@@ -111,9 +111,9 @@ impl HoleSink for ListSink {
         }
     }
 
-    fn hole(&mut self, node: u32, datum: &Datum) -> Result<(), HoleStop> {
+    fn hole(&mut self, node: u32, datum: DatumRef<'_>) -> Result<(), HoleStop> {
         match self.admit() {
-            Ok(()) => match datum.copy(*self.kept.allocator()) {
+            Ok(()) => match datum.to_datum(*self.kept.allocator()) {
                 Ok(copy) => self.keep(Kept::Hole(node, copy)),
                 Err(Memory) => Err(HoleStop::Memory),
             },

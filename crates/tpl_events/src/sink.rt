@@ -2,7 +2,7 @@ ghost use Rattle.std.specs.Prelude.{OnOk, IfErr};
 ghost use Rattle.tpl_events.specs.Events.{ExecEvent, enters, fills, gives_text, leaves};
 ghost use Rattle.tpl_events.specs.declared.sink.HoleStop.{HoleStop};
 
-use page_datum::Datum;
+use page_datum::DatumRef;
 
 /// Why a sink refused an event.
 #[derive(Clone, Copy, Debug, PartialEq, Eq)]
@@ -52,10 +52,10 @@ pub trait HoleSink {
         ensures err { IfErr result (λ why. refuses self.old (gives_text node) why self.new) };
 
     /// A hole, by its node and its value.
-    fn hole(&mut self, node: u32, datum: &Datum) -> Result<(), HoleStop>
-        requires { may self.old (fills node datum.now) }
-        ensures ok { OnOk result (takes self.old (fills node datum.now) self.new) }
-        ensures err { IfErr result (λ why. refuses self.old (fills node datum.now) why self.new) };
+    fn hole(&mut self, node: u32, datum: DatumRef<'_>) -> Result<(), HoleStop>
+        requires { may self.old (fills node datum) }
+        ensures ok { OnOk result (takes self.old (fills node datum.entry) self.new) }
+        ensures err { IfErr result (λ why. refuses self.old (fills node datum.entry) why self.new) };
 
     /// A call of a template, by its node, whose events follow.
     fn call(&mut self, node: u32) -> Result<(), HoleStop>

@@ -43,13 +43,6 @@ pub item_nowhere : (ds : List Datum) (items : DataList) (at : ℕ) → items_vie
 item_nowhere ds items at all after = subst (λ (w : DataList). drop at (numbered_elements 0 w) ≡ []) all
     (drop_of_length-le (numbered_elements 0 (items_view ds)) (omega (arith, after, numbered-length ds 0)))
 
-count_numbered : (items : DataList) (n : ℕ) → length (numbered_elements n items) ≡ item_count items
-count_numbered no_items n = refl
-count_numbered (item value rest) n = ap suc (count_numbered rest (suc n))
-
-pub item_past : (items : DataList) (at : ℕ) → item_count items ≤ at → drop at (numbered_elements 0 items) ≡ []
-item_past items at after = drop_of_length-le (numbered_elements 0 items) (omega (arith, after, count_numbered items 0))
-
 -- the entry with a number, and none
 pub entry_here : (es : List (List ℕ × Datum)) (keys : DataDict) (at : ℕ) (v : List ℕ × Datum) → entries_view es ≡ keys → at < length es → ((e : List ℕ × Datum) → v ≡ get_or es at e)
     → drop at (keyed keys) ≡ (text v.0, view v.1) ∷ drop (at + 1) (keyed keys)
@@ -70,11 +63,11 @@ pub entry_past : (keys : DataDict) (at : ℕ) → entry_count keys ≤ at → dr
 entry_past keys at after = drop_of_length-le (keyed keys) (omega (arith, after, count_keyed keys))
 
 -- whether there are some
-pub some_items : (items : DataList) (n : ℕ) → n ≡ item_count items → nat_lt 0 n ≡ is_some (numbered_elements 0 items)
-some_items no_items n is = ap (nat_lt 0) is
-some_items (item value rest) n is =
-    let some : nat_lt 0 (suc (item_count rest)) ≡ true = grind (arith, nat_tests) in
-    ap (nat_lt 0) is ∙ some
+pub some_values : (ds : List Datum) → nat_lt 0 (length ds) ≡ is_some (numbered_elements 0 (items_view ds))
+some_values [] = refl
+some_values (d ∷ ds) =
+    let some : nat_lt 0 (length (d ∷ ds)) ≡ true = grind (arith, nat_tests) in
+    some
 
 pub some_entries : (keys : DataDict) (n : ℕ) → n ≡ entry_count keys → nat_lt 0 n ≡ is_some (keyed keys)
 some_entries no_entries n is = ap (nat_lt 0) is

@@ -6,5 +6,4 @@ pub mod Lists
 pub mod MachineFollows
 pub mod MachineShrinks
 pub mod Reaching
-pub mod Scopes
 pub mod Spots

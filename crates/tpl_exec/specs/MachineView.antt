@@ -2,13 +2,14 @@
 use Rattle.std.specs.Prelude.{◌≡◌, ℕ, ◌+◌, List, [], ◌∷◌, drop, Option, Some, None, Result, Ok, Err, ⊤}
 use Rattle.std.specs.Borrow.{Bor}
 use Rattle.page_datum.specs.Data.{Data}
+use Rattle.page_datum.specs.View.{ref_view}
 use Rattle.tpl_exec.specs.Elements.{all_elements}
 use Rattle.tpl_eval.specs.Functions.{Outcome}
 use Rattle.tpl_exec.specs.Machine.{Progress, Frame, Loop, Machine, TreeCursor, machine_advance, call, fails, finishes, loop, continues, nowhere, on_value, part, tree_cursor, emits}
 use Rattle.tpl_exec.specs.Meaning.{elements, run_nodes_of_tree}
 use Rattle.tpl_events.specs.Events.{ExecEvent, Emission, enters, gives_hole, gives_text, leaves}
 use Rattle.tpl_exec.specs.Runs.{Site, RunState}
-use Rattle.tpl_eval.specs.Scopes.{stored_view, variables_view}
+use Rattle.tpl_eval.specs.Values.{value_view}
 use Rattle.tpl_exec.specs.Variables.{outer_view}
 use Rattle.tpl_exec.specs.declared.frame.Frame.{Frame as OpenFrame}
 use Rattle.tpl_exec.specs.declared.frame.Frame.TheVariants as frame
@@ -17,7 +18,7 @@ use Rattle.tpl_exec.specs.declared.frame.OpenLoop.{OpenLoop}
 use Rattle.tpl_exec.specs.declared.machine.Machine.{Machine as CodeMachine}
 use Rattle.tpl_exec.specs.declared.node.NodeBody.{NodeBody}
 use Rattle.tpl_exec.specs.declared.node.Node.{Node}
-use Rattle.tpl_eval.specs.declared.stored.Stored.{Stored}
+use Rattle.tpl_eval.specs.declared.value.Value.{Value}
 use Rattle.tpl_exec.specs.declared.stop.ExecStop.{ExecStop}
 use Rattle.tpl_exec.specs.declared.stop.ExecStop.TheVariants as stop
 use Rattle.tpl_exec.specs.declared.progress.Progress.{Progress as CodeProgress}
@@ -53,21 +54,21 @@ IsNode (Some found) nodes number = IsNodeAtCursor found nodes number
 IsNode None nodes number = cursor_at nodes number ≡ nowhere
 
 -- where nodes stand
-abbrev pub site_view : NodeBody → Stored → Site
-site_view body dot = record { template = body.name.now; dot = stored_view dot }
+abbrev pub site_view : NodeBody → Value → Site
+site_view body dot = record { template = body.name.now; dot = value_view dot }
 
 -- the elements that are left of a loop
 abbrev pub elements_left : OpenLoop → List (Data × Data)
-elements_left l = drop l.at (all_elements (elements (stored_view l.source)))
+elements_left l = drop l.at (all_elements (elements (ref_view l.source)))
 
 abbrev pub loop_view : NodesData → OpenLoop → Loop
 loop_view nodes l = record { line = l.header.line; index = l.header.index.now; element = l.header.element.now; first = cursor_at nodes l.header.first; left = elements_left l }
 
 abbrev pub loop_frame : NodesData → OpenLoop → Frame
-loop_frame nodes l = loop (stored_view l.dot) (loop_view nodes l) (cursor_at nodes l.next) l.count
+loop_frame nodes l = loop (value_view l.dot) (loop_view nodes l) (cursor_at nodes l.next) l.count
 
 abbrev pub call_frame : OpenCall → Frame
-call_frame c = call (site_view c.body c.dot) c.line (cursor_at (body_nodes c.body) c.next) (variables_view c.variables.items)
+call_frame c = call (site_view c.body c.dot) c.line (cursor_at (body_nodes c.body) c.next) (c.variables)
 
 -- What is open, the innermost first. Parts and loops belong to the body of the call around them, and calls to that of their caller.
 abbrev pub frames_view : NodesData → List OpenFrame → List Frame
@@ -84,7 +85,7 @@ abbrev pub machine_view : CodeMachine → Machine
 machine_view m = record {
   site = site_view m.body m.dot;
   at = cursor_at (body_nodes m.body) m.node;
-  state = record { variables = variables_view m.variables.items; steps = m.steps };
+  state = record { variables = m.variables; steps = m.steps };
   frames = frames_view (body_nodes m.body) m.frames;
   calls = m.calls;
 }
@@ -94,7 +95,7 @@ abbrev pub cursor_in : CodeMachine → Option ℕ → TreeCursor
 cursor_in m number = cursor_at (body_nodes m.body) number
 
 abbrev pub machine_stepped : CodeMachine → ℕ → RunState
-machine_stepped m steps = record { variables = variables_view m.variables.items; steps = steps }
+machine_stepped m steps = record { variables = m.variables; steps = steps }
 
 abbrev pub open_frames : CodeMachine → List Frame
 open_frames m = frames_view (body_nodes m.body) m.frames
@@ -105,7 +106,7 @@ next_progress forest m = machine_advance forest (machine_view m)
 
 abbrev pub event_view : CodeEvent → ExecEvent
 event_view (event.Text n) = gives_text n
-event_view (event.Hole n value) = gives_hole n (stored_view value)
+event_view (event.Hole n value) = gives_hole n (value_view value)
 event_view (event.Enter n) = enters n
 event_view event.Leave = leaves
 
@@ -129,6 +130,6 @@ abbrev pub MachineAdvanceAnswers : Progress → Result CodeProgress ExecStop →
 MachineAdvanceAnswers machine_advance result m = ProgressAnswers machine_advance result (machine_view m)
 
 -- a value and the steps up to there, or that the node of this line fails, whatever was to follow; or out of memory
-abbrev pub EvaluatedAnswers : Site → ℕ → Outcome Data → Result (Stored × ℕ) ExecStop → Type 0
-EvaluatedAnswers at line outcome (Ok v) = outcome ≡ Ok (stored_view v.0, v.1)
+abbrev pub EvaluatedAnswers : Site → ℕ → Outcome Data → Result (Value × ℕ) ExecStop → Type 0
+EvaluatedAnswers at line outcome (Ok v) = outcome ≡ Ok (value_view v.0, v.1)
 EvaluatedAnswers at line outcome (Err why) = (more : Data → ℕ → Progress) → FaultAnswers (on_value at line outcome more) why

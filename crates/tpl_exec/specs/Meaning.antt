@@ -6,6 +6,7 @@ use Rattle.page_datum.specs.declared.fault.ExecFault.{ExecFault}
 use Rattle.page_datum.specs.declared.fault.FaultKind.{FaultKind}
 use Rattle.page_datum.specs.declared.fault.FaultKind.TheVariants.{NotRangeable, Depth}
 use Rattle.tpl_eval.specs.Evaluating.{Variables, pipe_value}
+use Rattle.tpl_eval.specs.Scopes.{scope_assigned}
 use Rattle.tpl_eval.specs.Functions.{Outcome, counted}
 use Rattle.tpl_events.specs.Events.{enters, gives_hole, gives_text, leaves}
 use Rattle.tpl_exec.specs.Runs.{End, Run, Site, RunState, run_and_then, broken, choosing, continued, cut_state, done, else_part, ends, fault, faulted, emission, emitting, run_go_on, next, scoped, then_part, turn}
@@ -20,11 +21,6 @@ use Rattle.tpl_value.specs.Truth.{truth_of}
 abbrev pub scope_declared : Option (List ℕ) → Data → Variables → Variables
 scope_declared (Some name) value variables = (name, value) ∷ variables
 scope_declared None value variables = variables
-
--- another value for the newest variable of a name
-abbrev pub scope_assigned : List ℕ → Data → Variables → Variables
-scope_assigned name value [] = []
-scope_assigned name value (v ∷ vs) = if bytes_eq v.0 name then (name, value) ∷ vs else v ∷ scope_assigned name value vs
 
 -- more steps, and then a run
 abbrev pub with_steps : Site → ℕ → Result ℕ FaultKind → (ℕ → Run) → Run

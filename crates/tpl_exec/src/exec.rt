@@ -33,7 +33,7 @@ pub fn execute<'d, K: HoleSink>(
     requires may { Allows K.may K.takes sink.old (run_of forest.now root datum.now).events }
     ensures { ExecuteAnswers K.takes K.refuses forest.now root datum.now sink.old sink.new result }
 {
-    let mut machine = match Machine::start(alloc, forest, forest.name(root), datum) {
+    let mut machine = match Machine::start(alloc, forest, forest.name(root), datum.as_ref()) {
         Ok(machine) => machine,
         Err(Memory) => return Err(ExecStop::Memory),
     };

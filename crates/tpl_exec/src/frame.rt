@@ -2,15 +2,16 @@ ghost use Rattle.std.specs.Prelude.{◌≡◌, IfOk};
 ghost use Rattle.tpl_exec.specs.Variables.{dot_view, outer_view};
 
 use crate::node::NodeBody;
+use page_datum::DatumRef;
 use page_io::{Memory, Text};
 use std::alloc::Global;
-use tpl_eval::{Stored, Variable};
+use tpl_eval::{Value, VariableStack};
 
 /// A control whose part is executed.
 #[derive(Drop)]
 pub(crate) struct OpenPart<'d> {
     /// The dot that holds after it, where it is another one.
-    pub(crate) dot: Option<Box<Stored<'d>>>,
+    pub(crate) dot: Option<Box<Value<'d>>>,
     /// What follows it.
     pub(crate) next: Option<u32>,
     /// How many variables remain after it.
@@ -33,10 +34,10 @@ pub(crate) struct LoopHeader<'d> {
 #[derive(Drop)]
 pub(crate) struct OpenLoop<'d> {
     /// The dot that holds after it.
-    pub(crate) dot: Stored<'d>,
+    pub(crate) dot: Value<'d>,
     pub(crate) header: LoopHeader<'d>,
     /// What is gone over.
-    pub(crate) source: Stored<'d>,
+    pub(crate) source: DatumRef<'d>,
     /// How many of its elements are gone.
     pub(crate) at: usize,
     /// What follows it.
@@ -49,12 +50,12 @@ pub(crate) struct OpenLoop<'d> {
 #[derive(Drop)]
 pub(crate) struct OpenCall<'d> {
     pub(crate) body: NodeBody<'d>,
-    pub(crate) dot: Stored<'d>,
+    pub(crate) dot: Value<'d>,
     /// The line of the call.
     pub(crate) line: u32,
     /// What follows it.
     pub(crate) next: Option<u32>,
-    pub(crate) variables: Vec<Variable<'d>>,
+    pub(crate) variables: VariableStack<'d>,
 }
 
 /// What is open. It is small, since it is moved when it is put on a stack and when it is taken off.
@@ -73,7 +74,7 @@ pub(crate) fn boxed<T: Drop>(alloc: Global, value: T) -> Result<Box<T>, Memory>
 }
 
 /// A dot out of its box, where there is one.
-pub(crate) fn unboxed<'d>(dot: Option<Box<Stored<'d>>>) -> Option<Stored<'d>>
+pub(crate) fn unboxed<'d>(dot: Option<Box<Value<'d>>>) -> Option<Value<'d>>
     ensures { dot_view result ≡ outer_view dot.entry }
 {
     match dot {

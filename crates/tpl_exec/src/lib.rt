@@ -15,5 +15,5 @@ mod variables;
 pub use exec::execute;
 pub use into_list::execute_into;
 pub use stop::ExecStop;
-pub use tpl_eval::{MAX_STEPS, Scope, Stored, Value, Variable, evaluate};
+pub use tpl_eval::{MAX_STEPS, Scope, Value, VariableStack, evaluate};
 pub use tpl_events::{HoleSink, HoleStop, Kept, ListSink};

@@ -8,11 +8,11 @@ use crate::frame::{Frame, LoopHeader, OpenCall, OpenLoop, OpenPart, boxed, unbox
 use crate::node::{Node, NodeBody, body_named, first_of, node_at};
 use crate::progress::{Emission, ExecEvent, Progress};
 use crate::stop::ExecStop;
-use crate::variables::{assign, count, cut, declare, declare_index, push, root_variable};
-use page_datum::{Datum, FaultKind, ValueStop};
+use crate::variables::{declare, declare_lent};
+use page_datum::{DatumRef, FaultKind, ValueStop};
 use page_io::{Memory, Stack, Text};
 use std::alloc::Global;
-use tpl_eval::{MAX_STEPS, Scope, Stored, Variable, counted, evaluate, is_dot};
+use tpl_eval::{MAX_STEPS, Scope, Value, VariableStack, counted, evaluate, is_dot};
 use tpl_tree::{Forest, NodeKind, Pipe};
 use tpl_value::truth;
 
@@ -26,8 +26,8 @@ pub(crate) struct Machine<'d> {
     body: NodeBody<'d>,
     /// The node that is next.
     node: Option<u32>,
-    dot: Stored<'d>,
-    variables: Vec<Variable<'d>>,
+    dot: Value<'d>,
+    variables: VariableStack<'d>,
     /// The steps up to here.
     steps: u64,
     /// What is open.
@@ -48,14 +48,14 @@ impl<'d> Machine<'d> {
     ghost use Rattle.tpl_exec.specs.MachineView.{MachineAdvanceAnswers, machine_view, next_progress};
 
     // After a control.
-    fn after_control(&mut self, dot: Option<Stored<'d>>, next: Option<u32>, count: usize)
+    fn after_control(&mut self, dot: Option<Value<'d>>, next: Option<u32>, count: usize)
         ensures { machine_view self.new ≡ control_left self.old dot.entry next count }
     {
         if let Some(dot) = dot {
             self.dot = dot;
         }
         self.node = next;
-        cut(&mut self.variables, count);
+        self.variables.truncate(count);
     }
 
     // After a part of a control, with what is next there.
@@ -88,7 +88,7 @@ impl<'d> Machine<'d> {
         self.body = call.body;
         self.node = call.next;
         self.dot = call.dot;
-        self.variables = call.variables;
+        drop(std::mem::replace(&mut self.variables, call.variables));
         self.calls += 1;
         Progress::Emits(Emission {
             event: ExecEvent::Leave,
@@ -107,7 +107,7 @@ impl<'d> Machine<'d> {
         ensures { MachineAdvanceAnswers (turn_of self.old inner.entry.value) result self.new }
     {
         let mut inner = inner;
-        let element = match element_at(alloc, &inner.source, inner.at)? {
+        let element = match element_at(inner.source, inner.at) {
             Some(element) => element,
             None => {
                 self.after_loop(inner);
@@ -118,21 +118,11 @@ impl<'d> Machine<'d> {
             Ok(steps) => steps,
             Err(kind) => return Err(fault(alloc, self.body.name, inner.header.line, kind)),
         };
-        cut(&mut self.variables, inner.count);
-        declare_index(
-            alloc,
-            &mut self.variables,
-            inner.header.index,
-            element.index,
-        )?;
-        declare(
-            alloc,
-            &mut self.variables,
-            inner.header.element,
-            &element.value,
-        )?;
+        self.variables.truncate(inner.count);
+        declare_lent(&mut self.variables, inner.header.index, element.index)?;
+        declare_lent(&mut self.variables, inner.header.element, element.value)?;
         self.node = inner.header.first;
-        self.dot = element.value;
+        self.dot = Value::Lent(element.value);
         self.steps = steps;
         inner.at += 1;
         self.frames.push(Frame::Loop(inner))?;
@@ -190,14 +180,14 @@ impl<'d> Machine<'d> {
         &self,
         alloc: Global,
         line: u32,
-        pipe: &Pipe,
+        pipe: &'d Pipe,
         steps: u64,
-    ) -> Result<(Stored<'d>, u64), ExecStop>
+    ) -> Result<(Value<'d>, u64), ExecStop>
         ensures { PipeAnswers self.now line pipe.now steps result }
     {
         if steps < MAX_STEPS && is_dot(pipe) {
-            if let Stored::Data(datum) = &self.dot {
-                return Ok((Stored::Data(datum), steps + 1));
+            if let Value::Lent(datum) = self.dot {
+                return Ok((Value::Lent(datum), steps + 1));
             }
         }
         self.pipe_evaluated(alloc, line, pipe, steps)
@@ -209,17 +199,17 @@ impl<'d> Machine<'d> {
         &self,
         alloc: Global,
         line: u32,
-        pipe: &Pipe,
+        pipe: &'d Pipe,
         steps: u64,
-    ) -> Result<(Stored<'d>, u64), ExecStop>
+    ) -> Result<(Value<'d>, u64), ExecStop>
         ensures { PipeAnswers self.now line pipe.now steps result }
     {
         let scope = Scope {
             dot: &self.dot,
-            variables: self.variables.as_slice(),
+            variables: &self.variables,
         };
         match evaluate(alloc, scope, pipe, steps) {
-            Ok((value, steps)) => Ok((value.into_stored(alloc)?, steps)),
+            Ok((value, steps)) => Ok((value, steps)),
             Err(ValueStop::Fault(kind)) => Err(fault(alloc, self.body.name, line, kind)),
             Err(ValueStop::Memory) => Err(ExecStop::Memory),
         }
@@ -230,14 +220,14 @@ impl<'d> Machine<'d> {
         &self,
         alloc: Global,
         line: u32,
-        pipe: &Option<Pipe>,
+        pipe: &'d Option<Pipe>,
         steps: u64,
-    ) -> Result<(Stored<'d>, u64), ExecStop>
+    ) -> Result<(Value<'d>, u64), ExecStop>
         ensures { ArgumentAnswers self.now line pipe.now steps result }
     {
         match pipe {
             Some(pipe) => self.evaluated(alloc, line, pipe, steps),
-            None => Ok((Stored::made(alloc, Datum::Null)?, steps)),
+            None => Ok((Value::Lent(DatumRef::Null), steps)),
         }
     }
 
@@ -256,7 +246,7 @@ impl<'d> Machine<'d> {
     // In a part of a control, after which so many variables remain.
     fn opened(
         &mut self,
-        outer: Option<Box<Stored<'d>>>,
+        outer: Option<Box<Value<'d>>>,
         part: Option<u32>,
         next: Option<u32>,
         count: usize,
@@ -279,13 +269,13 @@ impl<'d> Machine<'d> {
         alloc: Global,
         node: Node<'d>,
         name: &'d Option<Text>,
-        value: Stored<'d>,
+        value: Value<'d>,
     ) -> Result<Progress<'d>, ExecStop>
         ensures { MachineAdvanceAnswers (if_of self.old node.entry name.now value.entry)
             result self.new }
     {
-        let count = count(self.variables.as_slice());
-        declare(alloc, &mut self.variables, name, &value)?;
+        let count = self.variables.len();
+        declare(&mut self.variables, name, &value)?;
         if truth(value.datum()) {
             return self.opened(None, node.first, node.next, count);
         }
@@ -298,12 +288,12 @@ impl<'d> Machine<'d> {
         alloc: Global,
         node: Node<'d>,
         name: &'d Option<Text>,
-        value: Stored<'d>,
+        value: Value<'d>,
     ) -> Result<Progress<'d>, ExecStop>
         ensures { WithAnswers self.old node.entry name.now value.entry result self.new }
     {
-        let count = count(self.variables.as_slice());
-        declare(alloc, &mut self.variables, name, &value)?;
+        let count = self.variables.len();
+        declare(&mut self.variables, name, &value)?;
         if truth(value.datum()) {
             let outer = std::mem::replace(&mut self.dot, value);
             return self.opened(Some(boxed(alloc, outer)?), node.first, node.next, count);
@@ -317,16 +307,19 @@ impl<'d> Machine<'d> {
         alloc: Global,
         node: Node<'d>,
         header: LoopHeader<'d>,
-        source: Stored<'d>,
+        source: Value<'d>,
     ) -> Result<Progress<'d>, ExecStop>
         ensures { RangeAnswers self.old node.entry header.entry source.entry result self.new }
     {
-        let count = count(self.variables.as_slice());
-        match has_elements(source.datum()) {
+        let Value::Lent(source) = source else {
+            return Err(fault(alloc, self.body.name, header.line, FaultKind::NotRangeable));
+        };
+        let count = self.variables.len();
+        match has_elements(source) {
             None => Err(fault(alloc, self.body.name, header.line, FaultKind::NotRangeable)),
             Some(false) => self.opened(None, node.other, node.next, count),
             Some(true) => {
-                let dot = self.dot.copy(alloc)?;
+                let dot = self.dot.copy()?;
                 self.node = None;
                 let inner = OpenLoop {
                     dot,
@@ -349,14 +342,14 @@ impl<'d> Machine<'d> {
         forest: &'d Forest,
         node: Node<'d>,
         name: &'d str,
-        value: Stored<'d>,
+        value: Value<'d>,
     ) -> Result<Progress<'d>, ExecStop>
         ensures { CallAnswers forest.now self.old node.entry name.now value.entry result self.new }
     {
         if self.calls == 0 {
             return Err(fault(alloc, self.body.name, node.line, FaultKind::Depth));
         }
-        let variables = root_variable(alloc, value.copy(alloc)?)?;
+        let variables = VariableStack::root(alloc, value.copy()?)?;
         let caller = self.body;
         self.calls -= 1;
         let call = OpenCall {
@@ -394,7 +387,7 @@ impl<'d> Machine<'d> {
             NodeKind::Text(_) | NodeKind::Action(_) => unreachable!(),
             NodeKind::Declare(name, pipe) => match self.evaluated(alloc, node.line, pipe, steps) {
                 Ok((value, steps)) => {
-                    push(&mut self.variables, name.as_str(), value)?;
+                    self.variables.push(name.as_str(), value)?;
                     self.node = node.next;
                     self.steps = steps;
                     Ok(Progress::Continues)
@@ -403,7 +396,7 @@ impl<'d> Machine<'d> {
             },
             NodeKind::Assign(name, pipe) => match self.evaluated(alloc, node.line, pipe, steps) {
                 Ok((value, steps)) => {
-                    assign(&mut self.variables, name.as_str(), value);
+                    self.variables.assign(name.as_str(), value);
                     self.node = node.next;
                     self.steps = steps;
                     Ok(Progress::Continues)
@@ -514,16 +507,16 @@ impl<'d> Machine<'d> {
         alloc: Global,
         forest: &'d Forest,
         root: &'d str,
-        datum: &'d Datum,
+        datum: DatumRef<'d>,
     ) -> Result<Machine<'d>, Memory>
-        ensures { IfOk result (λ m. machine_view m ≡ machine_start forest.now root.now datum.now) }
+        ensures { IfOk result (λ m. machine_view m ≡ machine_start forest.now root.now datum.entry) }
     {
         let body = body_named(forest, root);
         Ok(Machine {
             body,
             node: first_of(body),
-            dot: Stored::Data(datum),
-            variables: root_variable(alloc, Stored::Data(datum))?,
+            dot: Value::Lent(datum),
+            variables: VariableStack::root(alloc, Value::Lent(datum))?,
             steps: 0,
             frames: Stack::new(alloc),
             calls: MAX_CALLS,

@@ -1,4 +1,4 @@
-use tpl_eval::Stored;
+use tpl_eval::Value;
 
 /// What is given to the page. Nodes have the numbers that they have in their own tree.
 #[derive(Drop)]
@@ -6,7 +6,7 @@ pub(crate) enum ExecEvent<'d> {
     /// The text of a node.
     Text(u32),
     /// A value, and the node whose pipe gives it.
-    Hole(u32, Stored<'d>),
+    Hole(u32, Value<'d>),
     /// A call, by its node.
     Enter(u32),
     /// The end of a call.

@@ -1,5 +1,5 @@
 -- How a format is read in pieces: the bytes before a verb, and the verb.
-use Rattle.std.proofs.Common.{◌≡◌, ℕ, suc, ◌+◌, ◌<◌, ◌≤◌, Bool, true, false, List, [], ◌∷◌, ◌++◌, length, get_or, drop, drop-cons, Option, Some, None, option_map, Err, refl, sym, ap, ◌∙◌, arith, nat_lt, nat_le, append_assoc, add-one, Bor}
+use Rattle.std.proofs.Common.{◌≡◌, ℕ, zero, suc, ◌+◌, ◌<◌, ◌≤◌, Bool, true, false, List, [], ◌∷◌, ◌++◌, length, get_or, drop, drop-cons, Option, Some, None, option_map, Err, refl, sym, ap, ◌∙◌, arith, nat_lt, nat_le, append_assoc, add-one, Bor}
 use Rattle.std.proofs.lemmas.Bool.{ne_eqb}
 use Rattle.std.proofs.lemmas.Bool.Decides.{nat_tests}
 use Rattle.std.proofs.lemmas.List.{length-append}
@@ -7,12 +7,13 @@ use Rattle.std.proofs.lemmas.Str.{IsCharBoundary-after_ascii}
 use Rattle.std.specs.Str.{IsCharBoundary, IsUtf8}
 use Rattle.std.proofs.lemmas.Str.Pattern.{IsSplitOnceResult, split_parts}
 use Rattle.page_datum.specs.Data.{Data}
-use Rattle.page_datum.specs.declared.datum.Datum.{Datum}
+use Rattle.page_datum.specs.declared.datum_ref.DatumRef.{DatumRef}
 use Rattle.page_datum.specs.declared.fault.FaultKind.TheVariants.{BadFormat}
 use Rattle.tpl_format.specs.Answers.{datas, max_format_text}
 use Rattle.tpl_format.specs.Formats.{format_ended, format_followed, formatted_from, verb_step}
-use Rattle.tpl_format.specs.Making.{SplitsAtVerb, added, outcome}
+use Rattle.tpl_format.specs.Making.{SplitsAtVerb, added, directed, outcome}
 use Rattle.tpl_format.specs.Verbs.{bare, read_flag}
+use Rattle.tpl_format.specs.declared.directive.Directive.{Directive}
 use Rattle.tpl_format.specs.declared.verb.Verb.{Verb}
 use Rattle.tpl_format.specs.declared.verb.VerbState.{VerbState}
 use Rattle.tpl_format.specs.declared.verb.VerbState.TheVariants.{Bad}
@@ -87,7 +88,16 @@ outcome-added out piece (Some rest) = either (nat_lt max_format_text (length out
     (λ t. rw (t, stays_long out rest t, stays_long out (piece ++ rest) t) refl)
     (λ f. rw (f, append_assoc out piece rest) refl)
 
+-- the bytes before a verb and what the verb prints are made, and are no longer to come
+pub outcome-verb : (out rest plain behind after text : List ℕ) (directive : Directive) (left others : List Data) → formatted_from rest None left ≡ option_map (λ more. plain ++ more) (formatted_from behind (Some bare) left) → formatted_from behind (Some bare) left ≡ format_followed (formatted_from after) (directed directive left) → directed directive left ≡ Some (record { written = text; place = None; left = others }) → outcome (added (added out plain) text) (formatted_from after None others) ≡ outcome out (formatted_from rest None left)
+outcome-verb out rest plain behind after text directive left others split read prints =
+    outcome-added (added out plain) text (formatted_from after None others)
+    ∙ ap (outcome (added out plain)) (sym (read ∙ ap (format_followed (formatted_from after)) prints))
+    ∙ outcome-added out plain (formatted_from behind (Some bare) left)
+    ∙ ap (outcome out) (sym split)
+
 -- operands that are left over fit no format
-pub spare : (out bytes : List ℕ) (left : List Datum) → (left ≡ [] → ⊥) → ((l : List Data) → formatted_from bytes None l ≡ option_map (λ more. bytes ++ more) (format_ended None l)) → outcome out (formatted_from bytes None (datas left)) ≡ Err BadFormat
-spare out bytes [] some h = absurd (some refl)
-spare out bytes (d ∷ left) some h = ap (outcome out) (h (datas (d ∷ left)))
+pub spare : (out bytes : List ℕ) (operands : List DatumRef) (used : ℕ) → used < length operands → ((left : List Data) → formatted_from bytes None left ≡ option_map (λ more. bytes ++ more) (format_ended None left)) → outcome out (formatted_from bytes None (datas (drop used operands))) ≡ Err BadFormat
+spare out bytes [] used inside plain = absurd (omega (arith, inside))
+spare out bytes (d ∷ operands) zero inside plain = ap (outcome out) (plain (datas (d ∷ operands)))
+spare out bytes (d ∷ operands) (suc used) inside plain = spare out bytes operands used (omega (arith, inside)) plain

@@ -1,8 +1,8 @@
 -- How `print`, `println` and `printf` answer: with the text, or why there is none.
 use Rattle.std.specs.Prelude.{◌≡◌, ℕ, ◌<◌, ◌≤◌, List, [], ◌∷◌, length, Some, None, Result, Ok, Err, ⊤}
 use Rattle.page_datum.specs.Data.{Data}
-use Rattle.page_datum.specs.View.{view}
-use Rattle.page_datum.specs.declared.datum.Datum.{Datum}
+use Rattle.page_datum.specs.View.{ref_view}
+use Rattle.page_datum.specs.declared.datum_ref.DatumRef.{DatumRef}
 use Rattle.page_datum.specs.declared.fault.FaultKind.TheVariants.{BadFormat, TooLong}
 use Rattle.tpl_format.specs.Formats.{formatted_args}
 use Rattle.tpl_format.specs.Grammar.{Makes}
@@ -14,9 +14,9 @@ abbrev pub max_format_text : ℕ
 max_format_text = 16777216
 
 -- the data that arguments stand for
-abbrev pub datas : List Datum → List Data
+abbrev pub datas : List DatumRef → List Data
 datas [] = []
-datas (d ∷ ds) = view d ∷ datas ds
+datas (d ∷ ds) = ref_view d ∷ datas ds
 
 -- the text, where it is not too long
 abbrev pub PrintAnswers : List ℕ → Result (List ℕ) ValueStop → Type 0

@@ -1,8 +1,8 @@
 -- How a text is made in pieces: what the parts of the code give for the definitions of `Formats`.
-use Rattle.std.specs.Prelude.{◌≡◌, ℕ, if◌then◌else◌, nat_lt, List, ◌++◌, length, Option, Some, None, option_map, Result, Ok, Err, ⊤}
+use Rattle.std.specs.Prelude.{◌≡◌, ℕ, if◌then◌else◌, nat_lt, List, ◌++◌, drop, length, Option, Some, None, option_map, Result, Ok, Err, ⊤}
 use Rattle.std.specs.Borrow.{Bor}
 use Rattle.page_datum.specs.Data.{Data}
-use Rattle.page_datum.specs.declared.datum.Datum.{Datum}
+use Rattle.page_datum.specs.declared.datum_ref.DatumRef.{DatumRef}
 use Rattle.page_datum.specs.declared.fault.FaultKind.{FaultKind}
 use Rattle.page_datum.specs.declared.fault.FaultKind.TheVariants.{BadFormat, TooLong}
 use Rattle.tpl_format.specs.Answers.{max_format_text, datas}
@@ -38,12 +38,12 @@ abbrev pub ReadsVerb : List ℕ → Option (Directive × Bor (List ℕ)) → Typ
 ReadsVerb bytes None = (left : List Data) → formatted_from bytes (Some bare) left ≡ None
 ReadsVerb bytes (Some p) = (left : List Data) → formatted_from bytes (Some bare) left ≡ format_followed (formatted_from p.1.now) (directed p.0 left)
 
--- what a verb prints, and the operands that it leaves
-abbrev pub Directs : Option FormatStep → Result (List ℕ × Bor (List Datum)) ValueStop → Type 0
-Directs found (Ok p) = found ≡ Some (record { written = p.0; place = None; left = datas p.1.now })
-Directs found (Err (Fault BadFormat)) = found ≡ None
-Directs found (Err Memory) = ⊤
-Directs found (Err stop) = ⊥
+-- what a verb prints, and how many operands are used then
+abbrev pub Directs : Option FormatStep → List DatumRef → Result (List ℕ × ℕ) ValueStop → Type 0
+Directs found operands (Ok p) = found ≡ Some (record { written = p.0; place = None; left = datas (drop p.1 operands) })
+Directs found operands (Err (Fault BadFormat)) = found ≡ None
+Directs found operands (Err Memory) = ⊤
+Directs found operands (Err stop) = ⊥
 
 -- an answer with a text
 abbrev pub TextAnswers : Result (List ℕ) FaultKind → Result (List ℕ) ValueStop → Type 0

@@ -6,7 +6,7 @@ ghost use Rattle.tpl_format.specs.Making.{TextAnswers, outcome};
 use crate::directive::{read_verb, split_at_verb};
 use crate::limit::{add, is_long};
 use crate::operand::direct;
-use page_datum::{Datum, FaultKind, ValueStop};
+use page_datum::{DatumRef, FaultKind, ValueStop};
 use page_io::{Memory, Text};
 use std::alloc::Global;
 
@@ -27,7 +27,7 @@ use std::alloc::Global;
 ///
 /// The errors are BadFormat, where there is no format, it has what is no verb, or its verbs do not fit the operands in kind or in
 /// number; TooLong, where the text would have more than 16,777,216 bytes; and out of memory. BadFormat comes before TooLong.
-pub fn printf(alloc: Global, args: &[Datum]) -> Result<Text, ValueStop>
+pub fn printf(alloc: Global, args: &[DatumRef<'_>]) -> Result<Text, ValueStop>
     ensures answers { PrintfAnswers (datas args.now) result }
     ensures computed { ComputesFormat (datas args.now) result }
 {
@@ -35,38 +35,41 @@ pub fn printf(alloc: Global, args: &[Datum]) -> Result<Text, ValueStop>
 }
 
 // The text of a format and its operands.
-fn formatted_args(alloc: Global, args: &[Datum]) -> Result<Text, ValueStop>
+fn formatted_args(alloc: Global, args: &[DatumRef<'_>]) -> Result<Text, ValueStop>
     ensures { ComputesFormat (datas args.now) result }
 {
-    match args {
-        [Datum::Text(format), operands @ ..] => write(alloc, format.as_str(), operands),
+    let [first, operands @ ..] = args else {
+        return Err(ValueStop::Fault(FaultKind::BadFormat));
+    };
+    match *first {
+        DatumRef::Text(format) => write(alloc, format, operands),
         _ => Err(ValueStop::Fault(FaultKind::BadFormat)),
     }
 }
 
 // The text that a format makes of operands.
-fn write(alloc: Global, format: &str, operands: &[Datum]) -> Result<Text, ValueStop>
+fn write(alloc: Global, format: &str, operands: &[DatumRef<'_>]) -> Result<Text, ValueStop>
     ensures { TextAnswers (outcome [] (formatted format.now (datas operands.now))) result }
 {
     let mut out = Text::new(alloc);
     let mut rest = format;
-    let mut left = operands;
+    let mut used = 0;
     while let Some((plain, behind)) = split_at_verb(rest) {
         add(&mut out, plain)?;
         let Some((directive, after)) = read_verb(behind) else {
             return Err(ValueStop::Fault(FaultKind::BadFormat));
         };
-        match direct(alloc, directive, left) {
-            Ok((text, others)) => {
+        match direct(alloc, directive, operands, used) {
+            Ok((text, next)) => {
                 add(&mut out, text.as_str())?;
-                left = others;
+                used = next;
             }
             Err(stop) => return Err(stop),
         }
         rest = after;
     }
     add(&mut out, rest)?;
-    if !left.is_empty() {
+    if used < operands.len() {
         return Err(ValueStop::Fault(FaultKind::BadFormat));
     }
     if is_long(&out) {

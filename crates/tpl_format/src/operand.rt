@@ -1,5 +1,5 @@
-ghost use Rattle.std.specs.Prelude.{◌≡◌, IfOk, Some};
-ghost use Rattle.page_datum.specs.View.{view};
+ghost use Rattle.std.specs.Prelude.{◌≡◌, IfOk, Some, drop};
+ghost use Rattle.page_datum.specs.View.{ref_view};
 ghost use Rattle.tpl_format.specs.Answers.{datas};
 ghost use Rattle.tpl_format.specs.Making.{Directs, directed};
 ghost use Rattle.tpl_format.specs.Operands.{hex_bytes};
@@ -10,25 +10,26 @@ use crate::directive::Directive;
 use crate::fill::{fill, fill_ascii};
 use crate::number::{decimal_text, hex_number};
 use crate::verb::{Conversion, Verb};
-use page_datum::{Datum, FaultKind, ValueStop, show_datum};
+use page_datum::{DatumRef, FaultKind, ValueStop, show_datum};
 use page_io::{Memory, Text};
 use std::alloc::Global;
 
-/// What a verb prints of the first operand, and the operands after it. The errors are BadFormat, an operand that is missing or
-/// does not fit, and out of memory.
-pub(crate) fn direct<'a>(
+/// What a verb prints where this many operands are used, and how many are used then. The errors are BadFormat, an operand that is
+/// missing or does not fit, and out of memory.
+pub(crate) fn direct(
     alloc: Global,
     directive: Directive,
-    operands: &'a [Datum],
-) -> Result<(Text, &'a [Datum]), ValueStop>
-    ensures { Directs (directed directive (datas operands.now)) result }
+    operands: &[DatumRef<'_>],
+    used: usize,
+) -> Result<(Text, usize), ValueStop>
+    ensures { Directs (directed directive (datas (drop used operands.now))) operands.now result }
 {
     match directive {
-        Directive::Sign => Ok((Text::copy_of(alloc, "%")?, operands)),
-        Directive::Operand(verb, conversion) => match operands {
-            [] => Err(ValueStop::Fault(FaultKind::BadFormat)),
-            [operand, left @ ..] => match operand_text(alloc, verb, conversion, operand) {
-                Ok(Some(text)) => Ok((text, left)),
+        Directive::Sign => Ok((Text::copy_of(alloc, "%")?, used)),
+        Directive::Operand(verb, conversion) => match operands.get(used) {
+            None => Err(ValueStop::Fault(FaultKind::BadFormat)),
+            Some(operand) => match operand_text(alloc, verb, conversion, *operand) {
+                Ok(Some(text)) => Ok((text, used + 1)),
                 Ok(None) => Err(ValueStop::Fault(FaultKind::BadFormat)),
                 Err(Memory) => Err(ValueStop::Memory),
             },
@@ -41,16 +42,17 @@ fn operand_text(
     alloc: Global,
     verb: Verb,
     conversion: Conversion,
-    datum: &Datum,
+    datum: DatumRef<'_>,
 ) -> Result<Option<Text>, Memory>
-    ensures { IfOk result (λ text. text ≡ spec.operand_text verb conversion (view datum.now)) }
+    ensures { IfOk result
+        (λ text. text ≡ spec.operand_text verb conversion (ref_view datum.entry)) }
 {
     match (conversion, datum) {
-        (Conversion::Decimal, Datum::Int(number)) => {
-            Ok(Some(decimal_text(alloc, verb, *number)?))
+        (Conversion::Decimal, DatumRef::Int(number)) => {
+            Ok(Some(decimal_text(alloc, verb, number)?))
         }
-        (Conversion::Hex, Datum::Int(number)) => Ok(Some(hex_number(alloc, verb, *number)?)),
-        (Conversion::Hex, Datum::Text(text)) => hex_filled(alloc, verb, text.as_str()),
+        (Conversion::Hex, DatumRef::Int(number)) => Ok(Some(hex_number(alloc, verb, number)?)),
+        (Conversion::Hex, DatumRef::Text(text)) => hex_filled(alloc, verb, text),
         (_, _) => {
             let plain = plain_text(alloc, conversion, datum)?;
             filled_text(alloc, verb, plain)
@@ -72,20 +74,25 @@ fn filled_text(alloc: Global, verb: Verb, plain: Option<Text>) -> Result<Option<
 }
 
 // An operand that is printed without digits, or as `print` does.
-fn plain_text(alloc: Global, conversion: Conversion, datum: &Datum) -> Result<Option<Text>, Memory>
-    ensures { IfOk result (λ text. text ≡ spec.plain_operand_text conversion (view datum.now)) }
+fn plain_text(
+    alloc: Global,
+    conversion: Conversion,
+    datum: DatumRef<'_>,
+) -> Result<Option<Text>, Memory>
+    ensures { IfOk result
+        (λ text. text ≡ spec.plain_operand_text conversion (ref_view datum.entry)) }
 {
     match (conversion, datum) {
-        (Conversion::Itself, Datum::Text(text)) => Ok(Some(Text::copy_of(alloc, text.as_str())?)),
-        (Conversion::Truth, Datum::Bool(true)) => Ok(Some(Text::copy_of(alloc, "true")?)),
-        (Conversion::Truth, Datum::Bool(false)) => Ok(Some(Text::copy_of(alloc, "false")?)),
+        (Conversion::Itself, DatumRef::Text(text)) => Ok(Some(Text::copy_of(alloc, text)?)),
+        (Conversion::Truth, DatumRef::Bool(true)) => Ok(Some(Text::copy_of(alloc, "true")?)),
+        (Conversion::Truth, DatumRef::Bool(false)) => Ok(Some(Text::copy_of(alloc, "false")?)),
         (Conversion::Any, _) => Ok(Some(shown(alloc, datum)?)),
         (_, _) => Ok(None),
     }
 }
 
-fn shown(alloc: Global, datum: &Datum) -> Result<Text, Memory>
-    ensures { IfOk result (λ text. text ≡ printed_spec.shown (view datum.now)) }
+fn shown(alloc: Global, datum: DatumRef<'_>) -> Result<Text, Memory>
+    ensures { IfOk result (λ text. text ≡ printed_spec.shown (ref_view datum.entry)) }
 {
     let mut text = Text::new(alloc);
     show_datum(alloc, datum, &mut text)?;

@@ -1,11 +1,11 @@
-ghost use Rattle.page_datum.specs.View.{view};
+ghost use Rattle.page_datum.specs.View.{ref_view};
 ghost use Rattle.tpl_format.specs.Answers.{PrintAnswers, datas};
 ghost use Rattle.tpl_format.specs.Prints.{printed_text, printed_args, printed_line};
 ghost use Rattle.std.specs.Prelude.{◌≡◌};
 ghost use Rattle.tpl_format.specs.Prints as spec;
 
 use crate::limit::is_long;
-use page_datum::{Datum, FaultKind, ValueStop, show_datum};
+use page_datum::{DatumRef, FaultKind, ValueStop, show_datum};
 use page_io::{Memory, Text};
 use std::alloc::Global;
 
@@ -14,7 +14,7 @@ use std::alloc::Global;
 /// `text/template`, "Functions", in a profile.)
 ///
 /// The errors are TooLong, where the text would have more than 16,777,216 bytes, and out of memory.
-pub fn print(alloc: Global, args: &[Datum], line: bool) -> Result<Text, ValueStop>
+pub fn print(alloc: Global, args: &[DatumRef<'_>], line: bool) -> Result<Text, ValueStop>
     ensures { PrintAnswers (printed_text line (datas args.now)) result }
 {
     if line {
@@ -24,17 +24,17 @@ pub fn print(alloc: Global, args: &[Datum], line: bool) -> Result<Text, ValueSto
 }
 
 // The arguments with a space between two of which neither is a text.
-fn print_args(alloc: Global, args: &[Datum]) -> Result<Text, ValueStop>
+fn print_args(alloc: Global, args: &[DatumRef<'_>]) -> Result<Text, ValueStop>
     ensures { PrintAnswers (printed_args (datas args.now)) result }
 {
     let mut out = Text::new(alloc);
     let mut apart = false;
     for datum in args {
-        let other = !is_text(datum);
+        let other = !is_text(*datum);
         if apart && other {
             out.push_str(" ")?;
         }
-        show_datum(alloc, datum, &mut out)?;
+        show_datum(alloc, *datum, &mut out)?;
         if is_long(&out) {
             return Err(ValueStop::Fault(FaultKind::TooLong));
         }
@@ -44,7 +44,7 @@ fn print_args(alloc: Global, args: &[Datum]) -> Result<Text, ValueStop>
 }
 
 // The arguments with a space between any two, and LF.
-fn print_line(alloc: Global, args: &[Datum]) -> Result<Text, ValueStop>
+fn print_line(alloc: Global, args: &[DatumRef<'_>]) -> Result<Text, ValueStop>
     ensures { PrintAnswers (printed_line (datas args.now)) result }
 {
     let mut out = Text::new(alloc);
@@ -53,7 +53,7 @@ fn print_line(alloc: Global, args: &[Datum]) -> Result<Text, ValueStop>
         if later {
             out.push_str(" ")?;
         }
-        show_datum(alloc, datum, &mut out)?;
+        show_datum(alloc, *datum, &mut out)?;
         if is_long(&out) {
             return Err(ValueStop::Fault(FaultKind::TooLong));
         }
@@ -66,11 +66,11 @@ fn print_line(alloc: Global, args: &[Datum]) -> Result<Text, ValueStop>
     Ok(out)
 }
 
-fn is_text(datum: &Datum) -> bool
-    ensures { result ≡ spec.is_text_datum (view datum.now) }
+fn is_text(datum: DatumRef<'_>) -> bool
+    ensures { result ≡ spec.is_text_datum (ref_view datum.entry) }
 {
     match datum {
-        Datum::Text(_) => true,
+        DatumRef::Text(_) => true,
         _ => false,
     }
 }

@@ -34,7 +34,7 @@ pub fn parse_file(alloc: Global, name: &str, text: &str) -> Result<File, FileRef
     ensures refused { RefusesFile name.now text.now result }
 {
     match tokens(alloc, text) {
-        Ok(tokens) => parse_tokens(alloc, name, text, tokens.as_slice()),
+        Ok(tokens) => parse_tokens(alloc, name, text, tokens),
         Err(why) => Err(token_refusal(text, why)),
     }
 }
@@ -67,21 +67,22 @@ fn place_of(why: TokenRefused) -> Option<u32>
     }
 }
 
-// The definitions of a file with these tokens.
+// The definitions of a file with these tokens, whose memory is free again as soon as the symbols are there.
 fn parse_tokens(
     alloc: Global,
     name: &str,
     text: &str,
-    tokens: &[Token],
+    tokens: List<Token>,
 ) -> Result<File, FileRefused>
     requires limit { length text.now ≤ max_template_text }
-    requires spans { Ascend 0 (length text.now) tokens.now }
-    requires cuts { AreCuts text.now tokens.now }
-    ensures { ParseTokensAnswers result (parsed_text name.now text.now tokens.now) }
+    requires spans { Ascend 0 (length text.now) tokens }
+    requires cuts { AreCuts text.now tokens }
+    ensures { ParseTokensAnswers result (parsed_text name.now text.now tokens) }
 {
-    let Ok(symbols) = symbols(alloc, text, tokens) else {
+    let Ok(symbols) = symbols(alloc, text, tokens.as_slice()) else {
         return Err(FileRefused::Memory);
     };
+    drop(tokens);
     match parse_symbols(alloc, name, symbols, end_of(text)) {
         Ok(defs) => Ok(File { defs }),
         Err(Stop::Cause((why, line))) => Err(FileRefused::Parse(why, line)),

@@ -24,7 +24,7 @@ pub fn symbols(alloc: Global, text: &str, tokens: &[Token]) -> Result<List<Symbo
     // No text is empty or longer than a file, and its line or a seam's plus its length is below 2 ^ 32.
     ensures texts { IfOk result (All IsFineSymbol) }
 {
-    let mut symbols = Vec::new(alloc);
+    let mut symbols = Vec::with_capacity(alloc, tokens.len())?;
     let mut counter = LineCounter { at: 0, line: 1 };
     let mut end = 0;
     let mut comment_before = false;

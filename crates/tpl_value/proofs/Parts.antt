@@ -9,7 +9,11 @@ use Rattle.page_datum.specs.declared.fault.FaultKind.{FaultKind}
 use Rattle.page_datum.specs.declared.fault.FaultKind.TheVariants.{IndexRange}
 use Rattle.tpl_value.specs.Picking.{item_at, item_of, PickAnswers}
 use Rattle.tpl_value.specs.declared.pick.Picked.{Picked}
-use Rattle.tpl_value.specs.Truth.{has_entries}
+use Rattle.tpl_value.specs.Truth.{has_entries, has_items}
+
+pub some-items : (ds : List Datum) → not (length ds == 0) ≡ has_items (items_view ds)
+some-items [] = refl
+some-items (d ∷ ds) = ap not (ne_eqb (length (d ∷ ds)) 0 (λ h. omega (arith, h)))
 
 pub some-entries : (es : List (List ℕ × Datum)) → not (length es == 0) ≡ has_entries (entries_view es)
 some-entries [] = refl

@@ -1,12 +1,11 @@
 -- The part of a value from one place to before another (Go's `text/template`, "Functions", in a profile).
-use Rattle.std.specs.Prelude.{◌≡◌, ℕ, zero, suc, ◌-◌, ℤ, pos, Bool, ◌&&◌, ◌||◌, if◌then◌else◌, nat_le, List, length, take, drop, get_or, Result, Ok, Err, Option, Some, None, ⊤}
+use Rattle.std.specs.Prelude.{◌≡◌, ℕ, zero, suc, ◌-◌, ℤ, pos, Bool, ◌&&◌, ◌||◌, if◌then◌else◌, nat_le, List, length, take, drop, get_or, Result, Ok, Err, Option, Some, None}
+use Rattle.std.specs.Borrow.{Bor}
 use Rattle.page_datum.specs.Data.{Data, text, list, DataList, no_items, item, item_count}
-use Rattle.page_datum.specs.View.{items_view, view}
-use Rattle.page_datum.specs.declared.datum.Datum.{Datum}
+use Rattle.page_datum.specs.View.{ref_view}
+use Rattle.page_datum.specs.declared.datum_ref.DatumRef.{DatumRef}
 use Rattle.page_datum.specs.declared.fault.FaultKind.{FaultKind}
 use Rattle.page_datum.specs.declared.fault.FaultKind.TheVariants.{NotIndexable, SliceRange}
-use Rattle.page_datum.specs.declared.stop.ValueStop.{ValueStop}
-use Rattle.page_datum.specs.declared.stop.ValueStop.TheVariants.{Fault, Memory}
 
 -- the two places, where 0 ≤ from ≤ to ≤ length
 abbrev pub bounds_of : ℤ → ℤ → ℕ → Option (ℕ × ℕ)
@@ -44,15 +43,15 @@ slice_of (text bytes) from to = text_part bytes (bounds_of from to (length bytes
 slice_of (list items) from to = items_part items (bounds_of from to (item_count items))
 slice_of datum from to = Err NotIndexable
 
--- how a call answers with a value that it made, a fault, or out of memory
-abbrev pub MadeAnswers : Result Data FaultKind → Result Datum ValueStop → Type 0
-MadeAnswers outcome (Ok datum) = outcome ≡ Ok (view datum)
-MadeAnswers outcome (Err (Fault kind)) = outcome ≡ Err kind
-MadeAnswers outcome (Err Memory) = ⊤
+-- how a call answers with a part that is lent, or a fault
+abbrev pub CutAnswers : Result Data FaultKind → Result DatumRef FaultKind → Type 0
+CutAnswers outcome (Ok part) = outcome ≡ Ok (ref_view part)
+CutAnswers outcome (Err kind) = outcome ≡ Err kind
 
--- the values of a list from one place to before another
-abbrev pub CutAnswers : List Datum → ℤ → ℤ → Result Datum ValueStop → Type 0
-CutAnswers values from to result = MadeAnswers (items_part (items_view values) (bounds_of from to (length values))) result
+-- the same of a text
+abbrev pub TextCutAnswers : Result Data FaultKind → Result (Bor (List ℕ)) FaultKind → Type 0
+TextCutAnswers outcome (Ok part) = outcome ≡ Ok (text part.now)
+TextCutAnswers outcome (Err kind) = outcome ≡ Err kind
 
-abbrev pub SliceAnswers : Data → ℤ → ℤ → Result Datum ValueStop → Type 0
-SliceAnswers datum from to result = MadeAnswers (slice_of datum from to) result
+abbrev pub SliceAnswers : Data → ℤ → ℤ → Result DatumRef FaultKind → Type 0
+SliceAnswers datum from to result = CutAnswers (slice_of datum from to) result

@@ -11,5 +11,5 @@ mod pick;
 pub use compare::{equal, less};
 pub use condition::truth;
 pub use count::length;
-pub use cut::slice;
+pub use cut::{slice, slice_text};
 pub use pick::{Picked, field, index};

@@ -1,10 +1,10 @@
 ghost use Rattle.std.specs.Prelude.{Ok, option_map};
-ghost use Rattle.page_datum.specs.View.{view, items_view};
+ghost use Rattle.page_datum.specs.View.{items_view, ref_view, view};
 ghost use Rattle.tpl_value.specs.Picking.{PickAnswers, field_of, index_of};
 ghost use Rattle.tpl_value.specs.Picking.{item_of};
 ghost use Rattle.tpl_value.specs.Picking as spec;
 
-use page_datum::{Datum, FaultKind};
+use page_datum::{Datum, DatumRef, FaultKind};
 
 /// A value that was found in another, or nothing, which stands for null.
 #[derive(Clone, Copy, Debug, Drop)]
@@ -15,12 +15,12 @@ pub enum Picked<'a> {
 
 /// The value of a field: that of its key in a dictionary, and nothing where the dictionary lacks it. The errors are NilField, a
 /// field of null, and NoField, a field of anything else. Does not allocate.
-pub fn field<'a>(datum: &'a Datum, name: &str) -> Result<Picked<'a>, FaultKind>
-    ensures { PickAnswers (field_of name.now (view datum.now)) result }
+pub fn field<'a>(datum: DatumRef<'a>, name: &str) -> Result<Picked<'a>, FaultKind>
+    ensures { PickAnswers (field_of name.now (ref_view datum.entry)) result }
 {
     match datum {
-        Datum::Dict(entries) => Ok(found(entries.get(name))),
-        Datum::Null => Err(FaultKind::NilField),
+        DatumRef::Dict(entries) => Ok(found(entries.get(name))),
+        DatumRef::Null => Err(FaultKind::NilField),
         _ => Err(FaultKind::NoField),
     }
 }
@@ -28,13 +28,13 @@ pub fn field<'a>(datum: &'a Datum, name: &str) -> Result<Picked<'a>, FaultKind>
 /// The part of a value at a key: an item of a list at a whole number, counted from 0, or the value of a dictionary at a text,
 /// and nothing where the dictionary lacks it. The errors are IndexRange, no such item, KeyKind, another kind of key, and
 /// NotIndexable, any other value. Does not allocate.
-pub fn index<'a>(datum: &'a Datum, key: &Datum) -> Result<Picked<'a>, FaultKind>
-    ensures { PickAnswers (index_of (view datum.now) (view key.now)) result }
+pub fn index<'a>(datum: DatumRef<'a>, key: DatumRef<'_>) -> Result<Picked<'a>, FaultKind>
+    ensures { PickAnswers (index_of (ref_view datum.entry) (ref_view key.entry)) result }
 {
     match (datum, key) {
-        (Datum::List(items), Datum::Int(at)) => item_at(items.as_slice(), *at),
-        (Datum::Dict(entries), Datum::Text(name)) => Ok(found(entries.get(name.as_str()))),
-        (Datum::List(_) | Datum::Dict(_), _) => Err(FaultKind::KeyKind),
+        (DatumRef::List(values), DatumRef::Int(at)) => item_at(values, at),
+        (DatumRef::Dict(entries), DatumRef::Text(name)) => Ok(found(entries.get(name))),
+        (DatumRef::List(_) | DatumRef::Dict(_), _) => Err(FaultKind::KeyKind),
         (_, _) => Err(FaultKind::NotIndexable),
     }
 }

@@ -33,10 +33,10 @@ pub returns-in-Slice : goal.returns-in-Slice
 returns-in-Slice c = rw (c.in-Slice.is, sym c.as_slice-in-Slice.ensures.value) (c.paid.ensures (slice_all (values_view c.as_slice-in-Slice.result.now)) c.slice_all.ensures)
 
 pub returns-in-Print : goal.returns-in-Print
-returns-in-Print c = rw c.in-Print.is (c.paid-in-Print.ensures (made (printed_text false (values_view c.args.args.items))) c.print_all.ensures)
+returns-in-Print c = rw (c.in-Print.is, sym c.as_slice-in-Print.ensures.value) (c.paid-in-Print.ensures (made (printed_text false (values_view c.as_slice-in-Print.result.now))) c.print_all.ensures)
 
 pub returns-in-Println : goal.returns-in-Println
-returns-in-Println c = rw c.in-Println.is (c.paid-in-Println.ensures (made (printed_text true (values_view c.args.args.items))) c.print_all-in-Println.ensures)
+returns-in-Println c = rw (c.in-Println.is, sym c.as_slice-in-Println.ensures.value) (c.paid-in-Println.ensures (made (printed_text true (values_view c.as_slice-in-Println.result.now))) c.print_all-in-Println.ensures)
 
 pub returns-in-Printf : goal.returns-in-Printf
-returns-in-Printf c = rw c.in-Printf.is (c.paid-in-Printf.ensures (format_made (formatted_args (values_view c.args.args.items))) c.printf_all.ensures)
+returns-in-Printf c = rw (c.in-Printf.is, sym c.as_slice-in-Printf.ensures.value) (c.paid-in-Printf.ensures (format_made (formatted_args (values_view c.as_slice-in-Printf.result.now))) c.printf_all.ensures)

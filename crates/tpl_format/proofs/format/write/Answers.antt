@@ -1,10 +1,15 @@
-use Rattle.std.proofs.Common.{◌==◌, ◌∙◌, sym, ap, length, true≢false}
-use Rattle.tpl_format.proofs.Steps.{spare}
+use Rattle.std.proofs.Common.{◌∙◌, sym, drop, rules}
+use Rattle.tpl_format.specs.Answers.{datas}
+use Rattle.tpl_format.proofs.Steps.{outcome-verb, spare}
 use Rattle.tpl_format.proofs.format.write.Goals as goal
 
-pub returns-then-not-is_empty : goal.returns-then-not-is_empty
-returns-then-not-is_empty c =
+pub loop-plain-preserved : goal.loop-plain-preserved
+loop-plain-preserved c =
+    let left = datas (drop c.loop-plain.used c.args.operands.now) in
+    let made = outcome-verb c.loop-plain.out c.loop-plain.rest.now _ c.in-Some.behind.now _ _ _ left _ (c.in-Some.ensures.parts left) (c.in-Some-read_verb.ensures.found left) c.in-Ok.ensures in
+    (search rules, rw (c.in_ok-add-in-Ok.ensures, c.as_str.ensures, c.in_ok-add.ensures) (made ∙ c.loop-plain.invariant.1))
+
+pub returns-then-used-operands : goal.returns-then-used-operands
+returns-then-used-operands c =
     sym c.loop-plain.invariant.1
-    ∙ spare c.loop-plain.out c.loop-plain.rest.now c.loop-plain.left.now
-    (λ e. true≢false (sym (ap (λ l. length l == 0) e) ∙ (sym c.is_empty.ensures ∙ c.if-not-is_empty.true)))
-    c.in_default.ensures.parts
+    ∙ spare c.loop-plain.out c.loop-plain.rest.now c.args.operands.now c.loop-plain.used c.if-used-operands.true c.in_default.ensures.parts

@@ -3,21 +3,16 @@ use Rattle.tpl_build.specs.declared.definition.Def.{Def}
 use Rattle.tpl_parse.specs.declared.refused.FileRefused.{FileRefused}
 use Rattle.tpl_parse.proofs.FileLaws.{ok_answers, ok_accepted, ok_refused, err_answers, err_accepted, err_refused}
 use Rattle.tpl_parse.specs.Files.{ParseFileAnswers, GivesFile, IsFile, IsParseRefused}
-use Rattle.tpl_parse.specs.Parsing.{ParseTokensAnswers, parser_end, parsed}
-use Rattle.tpl_symbol.specs.Symbols.{symbols_of}
 use Rattle.tpl_parse.proofs.parse.parse_file.Goals as goal
 
 pub returns-in-Ok-clause-answers : goal.returns-in-Ok-clause-answers
-returns-in-Ok-clause-answers c = ok_answers c.args.name.now c.args.text.now c.in-Ok.tokens c.parse_tokens.result c.in-Ok.ensures.answers
-    (subst (λ ts. ParseTokensAnswers c.parse_tokens.result (parsed c.args.name.now (parser_end c.args.text.now) (symbols_of c.args.text.now ts))) c.as_slice.ensures c.parse_tokens.ensures)
+returns-in-Ok-clause-answers c = ok_answers c.args.name.now c.args.text.now c.in-Ok.tokens c.parse_tokens.result c.in-Ok.ensures.answers c.parse_tokens.ensures
 
 pub returns-in-Ok-clause-accepted : goal.returns-in-Ok-clause-accepted
-returns-in-Ok-clause-accepted c = ok_accepted c.args.name.now c.args.text.now c.in-Ok.tokens c.parse_tokens.result (c.in-Ok.ensures.accepted, c.in-Ok.ensures.refused)
-    (subst (λ ts. ParseTokensAnswers c.parse_tokens.result (parsed c.args.name.now (parser_end c.args.text.now) (symbols_of c.args.text.now ts))) c.as_slice.ensures c.parse_tokens.ensures)
+returns-in-Ok-clause-accepted c = ok_accepted c.args.name.now c.args.text.now c.in-Ok.tokens c.parse_tokens.result (c.in-Ok.ensures.accepted, c.in-Ok.ensures.refused) c.parse_tokens.ensures
 
 pub returns-in-Ok-clause-refused : goal.returns-in-Ok-clause-refused
-returns-in-Ok-clause-refused c = ok_refused c.args.name.now c.args.text.now c.in-Ok.tokens c.parse_tokens.result (c.in-Ok.ensures.accepted, c.in-Ok.ensures.refused)
-    (subst (λ ts. ParseTokensAnswers c.parse_tokens.result (parsed c.args.name.now (parser_end c.args.text.now) (symbols_of c.args.text.now ts))) c.as_slice.ensures c.parse_tokens.ensures)
+returns-in-Ok-clause-refused c = ok_refused c.args.name.now c.args.text.now c.in-Ok.tokens c.parse_tokens.result (c.in-Ok.ensures.accepted, c.in-Ok.ensures.refused) c.parse_tokens.ensures
 
 pub returns-in-Err-clause-answers : goal.returns-in-Err-clause-answers
 returns-in-Err-clause-answers c = subst (λ (e : FileRefused). ParseFileAnswers c.args.name.now c.args.text.now (Err e)) (sym c.token_refusal.ensures)

@@ -7,4 +7,4 @@ pub returns-in-List : goal.returns-in-List
 returns-in-List c =
     let from = to_z w64 (of_z w64 c.args.from) in
     let to = to_z w64 (of_z w64 c.args.to) in
-    rw c.in-List.is (slice_list c.in-List.items c.as_slice.result.now c.args.from c.args.to from to c.slice_items.result c.as_slice.ensures.all (to_z-of_z c.ranges.from) (to_z-of_z c.ranges.to) c.slice_items.ensures)
+    rw c.in-List.is (slice_list c.in-List.values.now c.args.from c.args.to from to c.slice_values.result (to_z-of_z c.ranges.from) (to_z-of_z c.ranges.to) c.slice_values.ensures)
