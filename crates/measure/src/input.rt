@@ -87,7 +87,7 @@ fn numbered(alloc: Global, input: Input, size: usize) -> Result<String, AllocErr
     Ok(text)
 }
 
-// A variable, and a use of one that is half as old; or a definition with a name and a body of its own.
+// A variable, and a use of the one with half its number; or a definition with a name and a body of its own.
 fn numbered_unit(alloc: Global, input: Input, number: usize) -> Result<String, AllocError> {
     if input == Input::Variables {
         let older = number / 2;

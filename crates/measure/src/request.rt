@@ -80,7 +80,7 @@ pub enum Input {
     Sections,
     /// Sections of a page of two kinds in turn, one with a hole, one with a list.
     PageSections,
-    /// Variables, each declared and then used.
+    /// Variables; after each one the one with half its number is used.
     Variables,
     /// Templates, each of which calls the next one in eight places.
     Chain,

@@ -28,12 +28,12 @@ pub record IsRootOf (forest : ForestData) (names : List (List ℕ)) (chart : Cha
   pub number : ℕ
   pub numbered : number_named root forest ≡ Some number
 
--- where each value is written, by the root's chart, its text is UTF-8, as all texts of data are
+-- where a value is written, by the root's chart, its text is UTF-8, as all texts of data are
 abbrev pub AreRootTexts : ForestData → ChartData → List ℕ → Data → Type 0
 AreRootTexts forest chart root datum =
     AreTextual forest (places_of forest chart.summaries) (meaning forest root datum).events (pair root place.Text ∷ [])
 
--- The page of an execution that is done is sound, whatever the datum, whose texts are UTF-8.
+-- The page of an execution that is done is sound, whatever the datum, whose written texts are UTF-8.
 abbrev pub PagesAreSound : Type 0
 PagesAreSound = (forest : ForestData) (names : List (List ℕ)) (chart : ChartData) (root : List ℕ) (datum : Data)
     → IsRootOf forest names chart root → IsDone (meaning forest root datum).end → AreRootTexts forest chart root datum

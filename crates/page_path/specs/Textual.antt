@@ -15,17 +15,17 @@ use Rattle.tpl_events.specs.Events.{Emission, ExecEvent, enters, gives_hole, giv
 use Rattle.tpl_paths.specs.Edges.{before}
 use Rattle.tpl_tree.specs.Forests.{ForestData}
 
--- whether a sanitizer writes more of a text than ASCII
+-- whether a sanitizer may write more of a text than characters of ASCII
 abbrev pub writes_text : San → Bool
 writes_text san.Drop = false
 writes_text san.AttrName = false
 writes_text x = true
 
--- the text of a value that a chain writes
+-- a text is UTF-8 where its chain may write more of it than ASCII
 abbrev pub IsTextBy : Chain → List ℕ → Type 0
 IsTextBy c text = list_any writes_text (take c.count c.sans) ≡ true → IsUtf8 text
 
--- likewise, that is written at a place, where it takes a value
+-- the same of a text at a place, by the chain that a hole has there; where no hole may be, nothing is asked
 abbrev pub IsTextHeld : Holed → List ℕ → Type 0
 IsTextHeld (Ok h) text = IsTextBy h.1 text
 IsTextHeld (Err e) text = ⊤
@@ -34,7 +34,7 @@ abbrev pub IsTextAt : Option Place → List ℕ → Type 0
 IsTextAt (Some p) text = IsTextHeld (after_hole p) text
 IsTextAt None text = ⊤
 
--- likewise, of an event where these pairs are open: by the chart's place at the node, in the innermost pair
+-- the same of the value of an event while these pairs are open: by the chart's place before its node, in the innermost pair
 abbrev pub IsTextual : ForestData → ChartByName Place → ExecEvent → List (Pair Place) → Type 0
 IsTextual forest chart e [] = ⊤
 IsTextual forest chart (gives_text n) (p ∷ ps) = ⊤
@@ -42,7 +42,7 @@ IsTextual forest chart (gives_hole n datum) (p ∷ ps) = IsTextAt (chart p.templ
 IsTextual forest chart (enters n) (p ∷ ps) = ⊤
 IsTextual forest chart leaves (p ∷ ps) = ⊤
 
--- likewise, of all events, in order
+-- the same of all events, in order
 abbrev pub AreTextual : ForestData → ChartByName Place → List Emission → List (Pair Place) → Type 0
 AreTextual forest chart [] ps = ⊤
 AreTextual forest chart (g ∷ gs) ps =

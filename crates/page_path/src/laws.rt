@@ -1,9 +1,9 @@
 ghost use Rattle.page_path.specs.Laws.{PagesAreSound, PagesGoByTheChart, PagesOfOnePathHaveOneShape};
 ghost use Rattle.page_path.specs.Laws.{SoundPagesHaveTheShapeOfTheirPath};
 
-/// The page of a root of a set that has a chart is sound, whatever the datum, whose texts are UTF-8, where the execution comes to its end:
-/// it has the shape of the path whose choices the execution took, each value is plain in its place and reads back there, and the page as
-/// bytes alone reads as that path with the texts of the values in its holes. A theorem; the call does nothing at run time.
+/// The page of a root of a set that has a chart is sound, whatever the datum, whose written texts are UTF-8, where the execution comes to
+/// its end: it has the shape of the path whose choices the execution took, each value is plain in its place and reads back there, and the
+/// page as bytes alone reads as that path with the texts of the values in its holes. A theorem; the call does nothing at run time.
 pub fn pages_are_sound()
     ensures { PagesAreSound }
 {}
@@ -20,7 +20,7 @@ pub fn pages_go_by_the_chart()
     ensures { PagesGoByTheChart }
 {}
 
-/// Two data, whose texts are UTF-8, with which the executions of a root come to their end and make the same choices have pages of one
+/// Two data, whose written texts are UTF-8, with which the executions of a root come to their end and make the same choices have pages of one
 /// shape: no value of theirs changes it. A theorem; the call does nothing at run time.
 pub fn pages_of_one_path_have_one_shape()
     ensures { PagesOfOnePathHaveOneShape }

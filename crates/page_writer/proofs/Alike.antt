@@ -5,7 +5,7 @@ use Rattle.std.specs.Prelude.{fold, if◌then◌else◌}
 use Rattle.std.specs.Str.{str_to_ascii_lowercase}
 use Rattle.page_datum.specs.Data.{DataDict, DataList, dict, list}
 use Rattle.page_datum.specs.Printed.{printed}
-use Rattle.page_path.specs.Pages.{PagePiece, drops_alone, is_drop, page_bytes, san_bytes, value}
+use Rattle.page_path.specs.Pages.{drops_alone, is_drop, page_bytes, san_bytes, value}
 use Rattle.page_path.specs.Textual.{IsTextBy, writes_text}
 use Rattle.page_writer.specs.Writing.{IsWrittenAlike, sanitizers, value_written}
 use Rattle.place_core.specs.declared.chain.Chain.{Chain}

@@ -78,16 +78,17 @@ output_pieces outputs ns (gives_hole n datum) = value_output (open_output output
 output_pieces outputs ns (enters n) = []
 output_pieces outputs ns leaves = []
 
--- a text for which a sanitizer writes what it writes for another, and which is that other one where more of it is written than ASCII
+-- A sanitizer writes the same for two texts; and they are one where it may write more of a text than ASCII.
 pub record IsWrittenAlike (x : San) (text other : List ℕ) : Type 0 where
   pub same : san_bytes x text ≡ san_bytes x other
   pub one : writes_text x ≡ true → text ≡ other
 
--- the text of a value is UTF-8 where its chain writes it
+-- a value's text is UTF-8 where the chain of an output may write more of it than ASCII
 abbrev pub IsTextOutput : Output → Data → Type 0
 IsTextOutput (output.Value c) datum = IsTextBy c (printed datum)
 IsTextOutput _ datum = ⊤
 
+-- the same of an event, by the output of its node
 abbrev pub IsGivenText : List (List Output) → List ℕ → ExecEvent → Type 0
 IsGivenText outputs ns (gives_text n) = ⊤
 IsGivenText outputs ns (gives_hole n datum) = IsTextOutput (open_output outputs ns n) datum

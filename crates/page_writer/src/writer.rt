@@ -163,8 +163,8 @@ fn push_datum(page: &mut String, chain: Chain, datum: DatumRef<'_>) -> Result<()
     }
 }
 
-// A text for which a sanitizer writes what it writes for a value, where none has to be printed: a text itself, and for a list or a
-// dictionary where nothing is written of them, or where they are no name.
+// The text to sanitize in place of a printed value, where the value need not be printed: a text itself; of a list or a dictionary nothing
+// in a comment, and `[` as a name, since neither that nor what is printed of them is a name.
 fn unprinted<'d>(san: San, datum: DatumRef<'d>) -> Option<&'d str>
     ensures { IfSome result (λ text.
         IsWrittenAlike san text.now (printed (ref_view datum.entry))) }
