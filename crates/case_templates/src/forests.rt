@@ -5,7 +5,7 @@ use page_datum::Datum;
 use page_io::{List, Memory, Text};
 use std::alloc::Global;
 use tpl_parse::{Def, File};
-use tpl_tree::{Forest, NodeKind, Tree, TreeBuilder};
+use tpl_tree::{Boxed, Forest, NodeKind, Tree, TreeBuilder};
 
 /// Writes the names of a forest, and after each its tree: the line on which it ends, and its nodes.
 pub fn put_forest(out: &mut CaseOutput, forest: &Forest) {
@@ -52,7 +52,7 @@ fn marked_tree(alloc: Global, mark: &str) -> Result<Tree, Memory> {
     let mut body = TreeBuilder::new(alloc);
     if !mark.is_empty() {
         let (first, other) = (TreeBuilder::new(alloc), TreeBuilder::new(alloc));
-        let kind = NodeKind::Template(Text::copy_of(alloc, mark)?, None);
+        let kind = NodeKind::Template(Boxed::new(alloc, Text::copy_of(alloc, mark)?)?, None);
         body.push(kind, 1, first, other)?;
     }
     Ok(body.into_tree(1))

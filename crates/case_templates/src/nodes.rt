@@ -42,18 +42,18 @@ fn put_kind(out: &mut CaseOutput, kind: &NodeKind) {
             put_quoted(out, text);
         }
         NodeKind::Action(pipe) => put_control(out, "action ", &None, pipe),
-        NodeKind::Declare(name, pipe) => put_setting(out, "declare ", name, pipe),
-        NodeKind::Assign(name, pipe) => put_setting(out, "assign ", name, pipe),
-        NodeKind::If(name, pipe) => put_control(out, "if ", name, pipe),
-        NodeKind::With(name, pipe) => put_control(out, "with ", name, pipe),
+        NodeKind::Declare(name, pipe) => put_setting(out, "declare ", name.get(), pipe),
+        NodeKind::Assign(name, pipe) => put_setting(out, "assign ", name.get(), pipe),
+        NodeKind::If(name, pipe) => put_control(out, "if ", name.get(), pipe),
+        NodeKind::With(name, pipe) => put_control(out, "with ", name.get(), pipe),
         NodeKind::Range(index, element, pipe) => {
             out.put("range ");
-            put_declared(out, index, ", ");
-            put_control(out, "", element, pipe);
+            put_declared(out, index.get(), ", ");
+            put_control(out, "", element.get(), pipe);
         }
         NodeKind::Break => out.put("break"),
         NodeKind::Continue => out.put("continue"),
-        NodeKind::Template(name, pipe) => put_template(out, name, pipe),
+        NodeKind::Template(name, pipe) => put_template(out, name.get(), pipe),
     }
 }
 

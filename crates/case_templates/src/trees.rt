@@ -98,7 +98,7 @@ fn put_kind(out: &mut CaseOutput, kind: &NodeKind) {
         NodeKind::Text(text) => put_quoted(out, text),
         NodeKind::Template(name, _) => {
             out.put("TEMPLATE ");
-            put_quoted(out, name);
+            put_quoted(out, name.get());
         }
         NodeKind::Action(_) => out.put("ACTION"),
         NodeKind::Declare(_, _) => out.put("DECLARE"),

@@ -9,5 +9,6 @@ pub mod Lines
 pub mod Printed
 pub mod Putting
 pub mod Reading
+pub mod Single
 pub mod Sizes
 pub mod View

@@ -4,21 +4,16 @@ use Rattle.std.specs.Fmt.{signed_decimal}
 use Rattle.page_datum.specs.Data.{Data, null, truth, int, text, list, dict, DataList, no_items}
 use Rattle.page_datum.specs.Data.{item, DataDict, no_entries, entry}
 
--- data that have no others in them
-abbrev pub shown_single : Data → List ℕ
-shown_single null = codes "<nil>"
-shown_single (truth true) = codes "true"
-shown_single (truth false) = codes "false"
-shown_single (int n) = signed_decimal n
-shown_single (text t) = t
-shown_single d = []
-
 abbrev mutual
   -- data inside other data
   pub shown : Data → List ℕ
+  shown null = codes "<nil>"
+  shown (truth true) = codes "true"
+  shown (truth false) = codes "false"
+  shown (int n) = signed_decimal n
+  shown (text t) = t
   shown (list items) = codes "[" ++ (shown_items items ++ codes "]")
   shown (dict entries) = codes "map[" ++ (shown_entries entries ++ codes "]")
-  shown d = shown_single d
 
   -- items with a space between two
   pub shown_items : DataList → List ℕ

@@ -1,4 +1,4 @@
--- The data that a `Datum` stands for, and those that a lent value does.
+-- The data that a `Datum` stands for, and those that a `DatumRef` stands for.
 use Rattle.std.specs.Prelude.{ℕ, List, [], ◌∷◌}
 use Rattle.page_datum.specs.Data.{Data, null, truth, int, text, list, dict, DataList, no_items}
 use Rattle.page_datum.specs.Data.{item, DataDict, no_entries, entry}

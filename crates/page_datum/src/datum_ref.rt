@@ -6,7 +6,7 @@ use crate::datum::{Datum, Entries};
 use page_io::{Memory, Text};
 use std::alloc::Global;
 
-/// A value that is lent: that of a `Datum`, a text, or values that follow one another in a list. A copy of it copies nothing else.
+/// A value that is lent: a value of a `Datum`, a text, or values that follow one another in a list. Copying it copies no data.
 /// Its meaning for contracts is `ref_view` of `specs/View.antt`.
 #[derive(Clone, Copy, Debug, Drop)]
 pub enum DatumRef<'d> {

@@ -1,6 +1,7 @@
 ghost use Rattle.std.specs.Prelude.{◌≡◌, ◌++◌, IfOk, OnOk};
 ghost use Rattle.page_datum.specs.Data.{dict, list};
-ghost use Rattle.page_datum.specs.Printed.{printed, shown, shown_single};
+ghost use Rattle.page_datum.specs.Printed.{printed, shown};
+ghost use Rattle.page_datum.specs.Single.{shown_single};
 ghost use Rattle.std.specs.Fmt.{signed_decimal};
 ghost use Rattle.page_datum.specs.View.{items_view, ref_view, view};
 

@@ -56,7 +56,8 @@ fn take_items(alloc: Global, items: Vec<Value>) -> Result<Items, Stop<Text>>
 
 #[cycle(take)]
 fn take_members(alloc: Global, members: Map<String, Value>) -> Result<Entries, Stop<Text>>
-    ensures { StopAnswers (λ made. made) result (entries_of (view_spec.members_view members.entries)) }
+    ensures { let made = entries_of (view_spec.members_view members.entries) in
+        StopAnswers (λ entries. entries) result made }
 {
     let mut taken = with_room(alloc, members.len())?;
     for (key, value) in members {
@@ -72,7 +73,7 @@ fn take_members(alloc: Global, members: Map<String, Value>) -> Result<Entries, S
     Ok(Entries::from_ascending(taken))
 }
 
-// No values yet, with room for so many and no more: there may be many short lists.
+// An empty vector with room for exactly so many values, since data may have many short lists.
 fn with_room<T>(alloc: Global, count: usize) -> Result<Vec<T>, Memory>
     ensures { IfOk result (λ room. room.items ≡ []) }
 {

@@ -77,7 +77,7 @@ fn outputs_of_tree(alloc: Global, chart: &Chart, tree: &Tree, n: u32) -> Result<
         → (node : ℕ)
         → slice_index_or outputs.items node Nothing ≡ output_of forest chart.now summary n node) }
 {
-    let mut outputs = Vec::new(alloc);
+    let mut outputs = Vec::with_capacity(alloc, tree.count() as usize)?;
     for node in 0..tree.count() {
         outputs.push(pair_output(alloc, chart, tree, n, node)?)?;
     }

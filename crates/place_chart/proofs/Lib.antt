@@ -12,8 +12,9 @@ pub mod NamedTemplates
 mod Numbering
 pub mod PairLaws
 pub mod Pairs
-pub mod PointNumbers
+pub mod PointConflicts
 pub mod RaisedSummaries
 pub mod ReachedSummaries
 pub mod SummariesBelow
 pub mod SummaryPointStates
+pub mod TakenSummaries

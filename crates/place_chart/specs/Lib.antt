@@ -1,4 +1,5 @@
 pub mod Charts
+pub mod Conflicts
 pub mod Exact
 pub mod Least
 pub mod Numbers

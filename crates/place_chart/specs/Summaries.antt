@@ -1,20 +1,36 @@
 -- A chart as summaries, one for each pair of a template and a place in which it is entered.
-use Rattle.std.specs.Prelude.{◌≡◌, ℕ, ◌==◌, Bool, List, [], ◌∷◌, ◌&&◌, if◌then◌else◌, Option, Some, None, option_map, suc, All, slice_get, slice_set, slice_index_or, ◌⊎◌}
+use Rattle.std.specs.Prelude.{◌≡◌, ℕ, ◌==◌, ◌+◌, ◌*◌, Bool, List, [], ◌∷◌, ◌&&◌, if◌then◌else◌, Option, Some, None, option_map, suc, All, slice_get, slice_set, slice_index_or, ◌⊎◌}
+use Rattle.std.specs.BTreeMap.{is_at}
+use Rattle.std.specs.Map.{lookup}
+use Rattle.std.specs.Ordering.{nat_cmp}
 use Rattle.place_core.specs.place.Places.{Below, IsValid}
 use Rattle.place_core.specs.contracts.place.PlacePartialEq.TheImpl as place_eq
 use Rattle.place_core.specs.declared.place.Place.{Place}
-use Rattle.place_flow.specs.Flows.{edges_at, point_number}
+use Rattle.place_flow.specs.Flows.{edges_at}
 use Rattle.place_flow.specs.PointStates.{IsValidPointState, IsConflictFree, PointStateBelow, joined_point_states}
 use Rattle.place_flow.specs.declared.point_state.PointState.{PointState}
 use Rattle.place_flow.specs.declared.point_state.PointState.TheVariants.{Unreached}
 use Rattle.place_chart.specs.Charts.{ChartByNumber, IsClosedByNumber, IsEntered, EdgeLeads}
 use Rattle.place_chart.specs.declared.summary.Summary.{Summary}
 use Rattle.tpl_paths.specs.Edges.{Point, from_of, to_of}
+use Rattle.tpl_paths.specs.declared.point.Point.TheVariants as point
 use Rattle.tpl_tree.specs.Forests.{ForestData}
+
+-- what a point within a control has, by its number; a point that is not kept has nothing
+abbrev pub found_state : Option PointState → PointState
+found_state None = Unreached
+found_state (Some s) = s
+
+abbrev pub inner_state : List (ℕ × PointState) → ℕ → PointState
+inner_state inner number = found_state (lookup (is_at (nat_cmp number)) inner)
 
 -- what a point has in a summary; a point that the summary lacks has nothing
 abbrev pub point_state_in : Summary → Point → PointState
-point_state_in summary k = slice_index_or summary.point_states.items (point_number k) Unreached
+point_state_in summary (point.Before n) = slice_index_or summary.before.items n Unreached
+point_state_in summary (point.Again n) = inner_state summary.inner (3 * n)
+point_state_in summary (point.Head n) = inner_state summary.inner (3 * n + 1)
+point_state_in summary (point.Past n) = inner_state summary.inner (3 * n + 2)
+point_state_in summary point.Finish = summary.finish
 
 abbrev pub point_state_of : Option Summary → Point → PointState
 point_state_of None k = Unreached
@@ -64,6 +80,21 @@ IsConflictFreeSummary summary = (k : Point) → IsConflictFree (point_state_in s
 abbrev pub IsRaised : Summary → Summary → Point → PointState → Type 0
 IsRaised old new point by = (k : Point) → (point_state_in new k ≡ point_state_in old k) ⊎ ((k ≡ point) × (point_state_in new k ≡ joined_point_states (point_state_in old point) by))
 
+-- a point of a summary was given a state, or nothing was, where the summary has not that point
+abbrev pub IsPut : Summary → Summary → Point → PointState → Type 0
+IsPut old new point s = (k : Point) → (point_state_in new k ≡ point_state_in old k) ⊎ ((k ≡ point) × (point_state_in new k ≡ s))
+
+-- likewise of the points before nodes, and of those within controls
+abbrev pub ArePut : List PointState → List PointState → ℕ → PointState → Type 0
+ArePut old new n s = (i : ℕ) → (slice_index_or new i Unreached ≡ slice_index_or old i Unreached) ⊎ ((i ≡ n) × (slice_index_or new i Unreached ≡ s))
+
+abbrev pub AreInnerPut : List (ℕ × PointState) → List (ℕ × PointState) → ℕ → PointState → Type 0
+AreInnerPut old new n s = (i : ℕ) → (inner_state new i ≡ inner_state old i) ⊎ ((i ≡ n) × (inner_state new i ≡ s))
+
+-- no point within a control has anything
+abbrev pub HasNoInner : List (ℕ × PointState) → Type 0
+HasNoInner inner = (i : ℕ) → inner_state inner i ≡ Unreached
+
 -- a point of one of some summaries was raised
 pub record AreRaised (old new : List Summary) (n : ℕ) (point : Point) (by : PointState) : Type 0 where
   pub before : Summary
@@ -73,3 +104,12 @@ pub record AreRaised (old new : List Summary) (n : ℕ) (point : Point) (by : Po
   pub template : after.template ≡ before.template
   pub entry : after.entry ≡ before.entry
   pub raised : IsRaised before after point by
+
+-- one of some summaries was taken out, and one of the same pair stands in its place
+pub record IsTaken (old new : List Summary) (n : ℕ) : Type 0 where
+  pub before : Summary
+  pub after : Summary
+  pub was : slice_get old n ≡ Some before
+  pub is : new ≡ slice_set old n after
+  pub template : after.template ≡ before.template
+  pub entry : after.entry ≡ before.entry

@@ -1,15 +1,16 @@
 ghost use Rattle.std.specs.Prelude.{◌≡◌, ◌<◌, ◌++◌, ◌∷◌, [], IfSome, OnErr, OnOk, Some, false, length, slice_get};
-ghost use Rattle.place_chart.specs.Summaries.{AreRaised, chart_of, pair_number};
+ghost use Rattle.place_chart.specs.Summaries.{AreRaised, IsTaken, chart_of, pair_number};
 ghost use Rattle.place_chart.specs.Summaries as spec;
 
 use crate::numbers::{add_number, numbers_of};
 use crate::search::first_at;
-use crate::summary::{Summary, point_state_at, raise};
+use crate::summary::{Summary, no_points, point_state_at, raise};
 use page_io::Memory;
 use place_core::Place;
 use place_flow::PointState;
 use std::alloc::Global;
 use std::marker::Model;
+use std::mem;
 use tpl_paths::Point;
 
 /// Summaries of pairs, found by their pairs. Contracts see the summaries in order.
@@ -107,6 +108,16 @@ impl Summaries {
                 Err(Memory)
             }
         }
+    }
+
+    /// Takes a summary out of these. What is left of it has nothing at any point.
+    pub fn take(&mut self, alloc: Global, n: usize) -> Summary
+        requires { n < length self.old }
+        ensures taken { slice_get self.old n ≡ Some result }
+        ensures left { IsTaken self.old self.new n }
+    {
+        let left = no_points(alloc, &self.summaries[n]);
+        mem::replace(&mut self.summaries[n], left)
     }
 
     /// Raises what a point of a summary has, and reports whether that is more than before.

@@ -1,46 +1,93 @@
 ghost use Rattle.std.specs.Prelude.{◌≡◌, IfOk, false};
 ghost use Rattle.place_flow.specs.declared.point_state.PointState.TheVariants as point_state;
-ghost use Rattle.place_chart.specs.Summaries.{IsRaised, point_state_in};
+ghost use Rattle.place_chart.specs.Summaries.{ArePut, HasNoInner, IsPut, IsRaised};
+ghost use Rattle.place_chart.specs.Summaries.{point_state_in};
 ghost use Rattle.tpl_paths.specs.Edges as spec;
 
+use crate::inner_states::InnerStates;
 use page_io::Memory;
 use place_core::Place;
-use place_flow::{PointState, is_point_state_below, join_point_states, point_number};
+use place_flow::{Flows, PointState, is_point_state_below, join_point_states};
 use std::alloc::Global;
 use tpl_paths::Point;
 
-/// A template by its number, the place in which it is entered, and what its points have there, by the numbers of the points.
+/// A template by its number, the place in which it is entered, and what its points have there. Most nodes are no controls, so
+/// that only the point before them counts: the others are kept apart.
 #[derive(Debug, Drop)]
 pub struct Summary {
     /// The template's number in the forest.
     pub template: u32,
     /// The place in which it is entered.
     pub entry: Place,
-    /// What its points have, by their numbers.
-    pub point_states: Vec<PointState>,
+    /// What the points before nodes have, by the nodes.
+    pub before: Vec<PointState>,
+    /// What the points within controls have, by numbers: each node has three.
+    pub inner: InnerStates,
+    /// What the end has.
+    pub finish: PointState,
 }
 
 /// What a point has in a summary.
 pub fn point_state_at(summary: &Summary, point: Point) -> PointState
     ensures { result ≡ point_state_in summary.now point }
 {
-    match summary.point_states.get(point_number(point)) {
-        Some(point_state) => *point_state,
-        None => PointState::Unreached,
+    match point {
+        Point::Before(node) => match summary.before.get(node as usize) {
+            Some(point_state) => *point_state,
+            None => PointState::Unreached,
+        },
+        Point::Again(node) => summary.inner.get(3 * node as usize),
+        Point::Head(node) => summary.inner.get(3 * node as usize + 1),
+        Point::Past(node) => summary.inner.get(3 * node as usize + 2),
+        Point::Finish => summary.finish,
     }
 }
 
-/// A summary with nothing at so many points. Fails only if allocation fails.
-pub fn blank(alloc: Global, template: u32, entry: Place, points: usize) -> Result<Summary, Memory>
+/// A summary of a template with nothing at its points. Fails only if allocation fails. It takes time in proportion to the nodes of the template.
+pub fn blank(alloc: Global, flows: &Flows, template: u32, entry: Place) -> Result<Summary, Memory>
     ensures template { IfOk result (λ summary. summary.template ≡ template) }
     ensures entry { IfOk result (λ summary. summary.entry ≡ entry) }
     ensures nothing { IfOk result (λ summary. (k : spec.Point) → point_state_in summary k ≡ point_state.Unreached) }
 {
+    let inner = blank_inner(alloc, flows, template)?;
+    let nodes = flows.nodes(template) as usize;
     Ok(Summary {
         template,
         entry,
-        point_states: vec![in alloc; PointState::Unreached; points]?,
+        before: vec![in alloc; PointState::Unreached; nodes]?,
+        inner,
+        finish: PointState::Unreached,
     })
+}
+
+// The points within the controls of a template, with nothing: an edge leads from each of them.
+fn blank_inner(alloc: Global, flows: &Flows, template: u32) -> Result<InnerStates, Memory>
+    ensures { IfOk result HasNoInner }
+{
+    let mut inner = InnerStates::new(alloc);
+    for number in 0..flows.edge_count(template) {
+        match flows.ends(template, number) {
+            Some((Point::Again(node), _)) => inner.add(3 * node as usize)?,
+            Some((Point::Head(node), _)) => inner.add(3 * node as usize + 1)?,
+            Some((Point::Past(node), _)) => inner.add(3 * node as usize + 2)?,
+            _ => {}
+        }
+    }
+    Ok(inner)
+}
+
+// A summary of the same pair, without points.
+pub(crate) fn no_points(alloc: Global, summary: &Summary) -> Summary
+    ensures template { result.template ≡ summary.now.template }
+    ensures entry { result.entry ≡ summary.now.entry }
+{
+    Summary {
+        template: summary.template,
+        entry: summary.entry,
+        before: Vec::new(alloc),
+        inner: InnerStates::new(alloc),
+        finish: PointState::Unreached,
+    }
 }
 
 // Raises what a point of a summary has, and reports whether that is more than before.
@@ -50,14 +97,39 @@ pub(crate) fn raise(summary: &mut Summary, point: Point, by: PointState) -> bool
     ensures raised { IsRaised summary.old summary.new point by }
     ensures kept { result ≡ false → summary.new ≡ summary.old }
 {
-    let number = point_number(point);
-    if number >= summary.point_states.len() {
+    let old = point_state_at(summary, point);
+    if is_point_state_below(by, old) {
         return false;
     }
-    let point_state = summary.point_states[number];
-    if is_point_state_below(by, point_state) {
+    put(summary, point, join_point_states(old, by))
+}
+
+// Gives a state to a point, where the summary has the point, and reports whether it has.
+fn put(summary: &mut Summary, point: Point, point_state: PointState) -> bool
+    ensures template { summary.new.template ≡ summary.old.template }
+    ensures entry { summary.new.entry ≡ summary.old.entry }
+    ensures put { IsPut summary.old summary.new point point_state }
+    ensures kept { result ≡ false → summary.new ≡ summary.old }
+{
+    match point {
+        Point::Before(node) => put_before(&mut summary.before, node as usize, point_state),
+        Point::Again(node) => summary.inner.put(3 * node as usize, point_state),
+        Point::Head(node) => summary.inner.put(3 * node as usize + 1, point_state),
+        Point::Past(node) => summary.inner.put(3 * node as usize + 2, point_state),
+        Point::Finish => {
+            summary.finish = point_state;
+            true
+        }
+    }
+}
+
+fn put_before(before: &mut Vec<PointState>, node: usize, point_state: PointState) -> bool
+    ensures put { ArePut before.old.items before.new.items node point_state }
+    ensures kept { result ≡ false → before.new ≡ before.old }
+{
+    if node >= before.len() {
         return false;
     }
-    summary.point_states[number] = join_point_states(point_state, by);
+    before[node] = point_state;
     true
 }

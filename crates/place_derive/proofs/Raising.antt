@@ -11,11 +11,14 @@ use Rattle.place_flow.specs.declared.point_state.PointState.{PointState}
 use Rattle.place_flow.specs.declared.point_state.PointState.TheVariants.{At}
 use Rattle.place_derive.specs.Derivations.{AllGiven, HasEntry, IsLog, IsLoggedSummary}
 use Rattle.place_derive.specs.FirstConflicts.{IsSoundLog, ConflictOrFree}
+use Rattle.place_derive.specs.Logs.{IsKeptLog, log_with}
+use Rattle.place_derive.specs.Soundness.{HasSoundLog}
 use Rattle.place_derive.specs.Tracing.{IsPairEdge, first_conflict_of, logged_along, conflict_of}
 use Rattle.place_derive.specs.declared.derivation.Derivation.{Derivation}
 use Rattle.place_derive.specs.declared.pair_edge.PairEdge.{PairEdge}
 use Rattle.place_derive.specs.declared.conflict.FirstConflict.{FirstConflict}
 use Rattle.place_derive.proofs.DerivationLaws.{edge_logged, summary_logged}
+use Rattle.place_derive.proofs.KeptLogs.{kept_more}
 use Rattle.place_derive.proofs.LogLaws.{entries_left, entry_left, summary_left, summaries_left}
 use Rattle.place_chart.proofs.Elements.{of_all}
 use Rattle.place_chart.proofs.PairLaws.{given_valid, gives_below}
@@ -106,3 +109,15 @@ raised_sound forest roots first summaries new log more conflict now r e at by ol
     (subst (λ (l : List Derivation). IsSoundLog forest roots first (slice_set summaries r.summary n.other) l now) (sym logs)
     (subst (IsSoundLog forest roots first (slice_set summaries r.summary n.other) (log ++ logged_along r at by))
     (sym (keeps ∙ ap (λ (s : PointState). first_conflict_of conflict (conflict_of r at by s)) (was ∙ ap (λ (x : Summary). point_state_in x r.to) same))) last))
+
+-- likewise, whether or not the log is kept
+pub raised_derived : (forest : ForestData) (roots : List ℕ) (first : Place) (summaries new : List Summary) (kept grown : Option (List Derivation)) (conflict now : Option FirstConflict) (r : PairEdge) (e : Edge) (at by old : PointState) (summary : Summary)
+    → slice_get summaries r.summary ≡ Some summary → old ≡ point_state_in summary r.to → grown ≡ log_with kept (logged_along r at by) → now ≡ first_conflict_of conflict (conflict_of r at by old) → AreRaised summaries new r.summary r.to by
+    → IsPairEdge forest summaries r e at → by ≡ given forest (chart_of summaries) r.template e at → HasSoundLog forest roots first summaries kept conflict → HasSoundLog forest roots first new grown now
+raised_derived forest roots first summaries new kept grown conflict now r e at by old summary is was logs keeps raised i g h =
+    let log = h.log ++ logged_along r at by in
+    record {
+      log = log;
+      is = subst (λ (l : Option (List Derivation)). IsKeptLog l log) (sym logs) (kept_more kept h.log (logged_along r at by) h.is);
+      sound = raised_sound forest roots first summaries new h.log log conflict now r e at by old summary is was refl keeps raised i g h.sound;
+    }

@@ -1,4 +1,5 @@
 pub mod Derivations
 pub mod FirstConflicts
+pub mod Logs
 pub mod Soundness
 pub mod Tracing

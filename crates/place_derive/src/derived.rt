@@ -4,7 +4,7 @@ ghost use Rattle.place_derive.specs.Soundness.{IsSoundDerived};
 ghost use Rattle.tpl_tree.specs.Forests.{ForestData};
 
 use crate::conflict::FirstConflict;
-use crate::derivation::Derivation;
+use crate::log::Log;
 use place_chart::Summaries;
 use std::alloc::Global;
 
@@ -15,19 +15,19 @@ pub struct Derived {
     /// The summaries, one for each pair that was entered.
     pub summaries: Summaries,
     /// What their points were given, in order.
-    pub log: Vec<Derivation>,
+    pub log: Log,
     /// Where there was a conflict first.
     pub conflict: Option<FirstConflict>,
 }
 
 impl Derived {
-    /// Nothing is derived. Does not allocate.
-    pub fn new(alloc: Global) -> Derived
+    /// Nothing is derived; the log of what will be is kept or not. Does not allocate.
+    pub fn new(alloc: Global, keeps_log: bool) -> Derived
         ensures { (forest : ForestData) (roots : List ℕ) (first : SpecPlace)
             → IsSoundDerived forest roots first result }
     {
         let summaries = Summaries::new(alloc);
-        let log = Vec::new(alloc);
+        let log = Log::new(alloc, keeps_log);
         Derived {
             summaries,
             log,

@@ -2,7 +2,10 @@ ghost use Rattle.std.specs.Prelude.{◌≤◌, ℕ, List, Contains, OnOk, length
 ghost use Rattle.place_core.specs.place.Places.{IsValid};
 ghost use Rattle.place_core.specs.declared.place.Place.{Place as SpecPlace};
 ghost use Rattle.place_derive.specs.Derivations.{IsEnteredPair, IsDerivation};
+ghost use Rattle.place_derive.specs.FirstConflicts.{IsSoundLog};
+ghost use Rattle.place_derive.specs.Logs.{IsKeptLog};
 ghost use Rattle.place_derive.specs.Soundness.{IsSoundDerived};
+ghost use Rattle.place_derive.specs.declared.derivation.Derivation.{Derivation as SpecDerivation};
 ghost use Rattle.place_derive.specs.Tracing.{StayIn, derivation_entering};
 
 use crate::derivation::{Derivation, DerivedFrom};
@@ -24,11 +27,11 @@ impl Derived {
         from: DerivedFrom,
         source: Place,
     ) -> Result<Option<usize>, Memory>
-        ensures sound { OnOk result ((roots : List ℕ) (first : SpecPlace)
-            → IsEnteredPair from
-            → IsDerivation flows.now roots first self.old.log.items
+        ensures sound { OnOk result ((roots : List ℕ) (first : SpecPlace) (log : List SpecDerivation)
+            → IsEnteredPair from → IsKeptLog self.old.log log
+            → IsDerivation flows.now roots first log
             (derivation_entering flows.now template entry from source) from
-            → IsSoundDerived flows.now roots first self.old
+            → IsSoundLog flows.now roots first self.old.summaries log self.old.conflict
             → IsSoundDerived flows.now roots first self.new) }
         ensures stays { OnOk result (StayIn self.old.summaries self.new.summaries) }
         ensures length { length self.old.summaries ≤ length self.new.summaries }
@@ -41,7 +44,7 @@ impl Derived {
             return Ok(None);
         }
         let n = self.summaries.count();
-        let summary = blank(alloc, template, entry, flows.points(template))?;
+        let summary = blank(alloc, flows, template, entry)?;
         self.summaries.push(summary)?;
         self.summaries.raise(n, start, PointState::At(entry));
         self.log.push(Derivation {

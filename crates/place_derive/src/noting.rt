@@ -1,8 +1,10 @@
-ghost use Rattle.std.specs.Prelude.{◌≡◌, ◌++◌, ◌∷◌, [], OnOk};
+ghost use Rattle.std.specs.Prelude.{◌≡◌, OnOk};
 ghost use Rattle.place_derive.specs.Tracing.{first_conflict_of, logged_along, conflict_of, why_of};
+ghost use Rattle.place_derive.specs.Logs.{log_with};
 
 use crate::conflict::{FirstConflict, Why};
 use crate::derivation::{Derivation, DerivedFrom};
+use crate::log::Log;
 use crate::pair_edge::PairEdge;
 use page_io::Memory;
 use place_core::join;
@@ -10,12 +12,12 @@ use place_flow::PointState;
 
 // Logs what an edge gives, where it gives a place.
 pub(crate) fn log_along(
-    log: &mut Vec<Derivation>,
+    log: &mut Log,
     edge: PairEdge,
     at: PointState,
     by: PointState,
 ) -> Result<(), Memory>
-    ensures { OnOk result (log.new.items ≡ log.old.items ++ logged_along edge at by) }
+    ensures { OnOk result (log.new ≡ log_with log.old (logged_along edge at by)) }
 {
     match (at, by) {
         (PointState::At(source), PointState::At(derived)) => {

@@ -31,7 +31,8 @@ pub fn reached_pairs(
 
 // Adds the pairs that the nodes of a pair call.
 fn add_called(forest: &Forest, chart: &Chart, n: u32, met: &mut Numbers) -> Result<(), Memory>
-    ensures { let nodes = nodes_size (nodes_of_summary forest.now (slice_get chart.now.summaries n)) in
+    ensures { let summary = slice_get chart.now.summaries n in
+        let nodes = nodes_size (nodes_of_summary forest.now summary) in
         OnOk result (AreCallsAdded forest.now chart.now n nodes met.old met.new) }
 {
     for node in 0..node_count(forest, chart, n) {

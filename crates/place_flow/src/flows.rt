@@ -2,6 +2,7 @@ ghost use Rattle.std.specs.Prelude.{◌≡◌, IfOk, length, option_map, slice_g
 ghost use Rattle.tpl_paths.specs.EdgeViews.{edge_at, read_edges};
 ghost use Rattle.tpl_paths.specs.Edges.{part_begins, finish_point, from_of, to_of};
 ghost use Rattle.place_flow.specs.Flows.{choice_of, edges_at, is_call_edge, nodes_at, points_of, start_at};
+ghost use Rattle.tpl_tree.specs.Trees.{nodes_size};
 ghost use Rattle.tpl_paths.specs.Edges as spec;
 
 use crate::points::{edge_ends, point_count};
@@ -60,6 +61,16 @@ impl<'f> Flows<'f> {
             return Point::Finish;
         }
         start_of(self.forest.tree(template))
+    }
+
+    /// How many nodes a template has.
+    pub fn nodes(&self, template: u32) -> u32
+        ensures { result ≡ nodes_size (nodes_at self.now template) }
+    {
+        if template as usize >= self.forest.count() {
+            return 0;
+        }
+        self.forest.tree(template).count()
     }
 
     /// How many numbers the points of a template have.

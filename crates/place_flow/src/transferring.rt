@@ -139,7 +139,7 @@ fn call_leads(forest: &Forest, tree: &Tree, node: u32, place: Place) -> Step
         return Step::Refused;
     }
     match tree.kind(node) {
-        NodeKind::Template(name, _) => match forest.find(name.as_str()) {
+        NodeKind::Template(name, _) => match forest.find(name.get().as_str()) {
             Some(callee) => Step::Enters(callee, place),
             None => Step::Refused,
         },

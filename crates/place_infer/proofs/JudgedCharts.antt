@@ -8,7 +8,7 @@ use Rattle.place_core.specs.page.Html.{start}
 use Rattle.place_flow.specs.Flows.{point_number}
 use Rattle.place_flow.specs.declared.point_state.PointState.TheVariants.{Unreached}
 use Rattle.place_infer.specs.ChartViews.{ArePairCalls, ChartData}
-use Rattle.place_infer.specs.Inferring.{EndsInText, HasTooManyPairs, IsChartOfSet, IsRefusal, IsInConflictAt, SetRefuses, most_pairs, root_numbers, with_number}
+use Rattle.place_infer.specs.Inferring.{EndsInText, HasTooManyPairs, IsChartOfSet, IsRefusal, HasConflictIn, SetRefuses, most_pairs, root_numbers, with_number}
 use Rattle.place_infer.specs.declared.set_refused.SetRefused.{SetRefused}
 use Rattle.place_infer.specs.declared.set_refused.SetRefused.TheVariants as refused
 use Rattle.place_chart.proofs.ConflictFreeCharts.{root-is-chart}
@@ -21,57 +21,18 @@ use Rattle.tpl_paths.specs.Edges.{Point, finish_point}
 use Rattle.tpl_paths.specs.declared.point.Point.TheVariants as point
 use Rattle.tpl_tree.specs.Forests.{ForestData, number_named}
 
--- each number is that of a point
-Quarter : ℕ → Type 0
-Quarter m = (n : ℕ) × ((suc m ≡ 4 * n + 1) ⊎ ((suc m ≡ 4 * n + 2) ⊎ ((suc m ≡ 4 * n + 3) ⊎ (suc m ≡ 4 * n + 4))))
-
-quarter : (m : ℕ) → Quarter m
-unfolding Quarter
-quarter zero = (0, inl (omega arith))
-quarter (suc m) = (let q = quarter m in elim q.1 [
-  | inl e ↦ (q.0, inr (inl (omega (arith, e))))
-  | inr f ↦ elim f [
-    | inl e ↦ (q.0, inr (inr (inl (omega (arith, e)))))
-    | inr g ↦ elim g [
-      | inl e ↦ (q.0, inr (inr (inr (omega (arith, e)))))
-      | inr e ↦ (suc q.0, inl (omega (arith, e)))
-    ]
-  ]
-])
-
-pub point_at : (m : ℕ) → (k : Point) × (point_number k ≡ m)
-unfolding Quarter
-point_at zero = (point.Finish, refl)
-point_at (suc m) = (let q = quarter m in elim q.1 [
-  | inl e ↦ (point.Before q.0, sym e)
-  | inr f ↦ elim f [
-    | inl e ↦ (point.Again q.0, sym e)
-    | inr g ↦ elim g [
-      | inl e ↦ (point.Head q.0, sym e)
-      | inr e ↦ (point.Past q.0, sym e)
-    ]
-  ]
-])
-
-pub conflict-refused : (forest : ForestData) (names : List (List ℕ)) (roots : List ℕ) (summaries : List Summary) (n number : ℕ) → roots ≡ root_numbers forest names → IsLeastChart forest roots place.Text summaries → length summaries ≤ most_pairs
-    → IsInConflictAt summaries n number → (r : SetRefused) → IsRefusal forest names false r → SetRefuses forest names r
-conflict-refused forest names roots summaries n number same least few conflict (refused.Shows sh) i =
-    let k = point_at number in
-    record {
-      summaries = summaries;
-      least = subst (λ (r : List ℕ). IsLeastChart forest r place.Text summaries) same least;
-      few = few;
-      cause = inl (record {
-        summary = n;
-        point = k.0;
-        conflict = record { summary = conflict.summary; is = conflict.is; conflict = ap (λ (m : ℕ). slice_index_or conflict.summary.point_states.items m Unreached) k.1 ∙ conflict.conflict };
-        code = i.2;
-      });
-      root = i.1;
-      shows = i.0;
-    }
-conflict-refused forest names roots summaries n number same least few conflict refused.TooManyDerived i = absurd i
-conflict-refused forest names roots summaries n number same least few conflict refused.Memory i = tt
+pub conflict-refused : (forest : ForestData) (names : List (List ℕ)) (roots : List ℕ) (summaries : List Summary) (n : ℕ) → roots ≡ root_numbers forest names → IsLeastChart forest roots place.Text summaries → length summaries ≤ most_pairs
+    → HasConflictIn summaries n → (r : SetRefused) → IsRefusal forest names false r → SetRefuses forest names r
+conflict-refused forest names roots summaries n same least few conflict (refused.Shows sh) i = record {
+  summaries = summaries;
+  least = subst (λ (r : List ℕ). IsLeastChart forest r place.Text summaries) same least;
+  few = few;
+  cause = inl (record { summary = n; point = conflict.point; conflict = conflict.is; code = i.2 });
+  root = i.1;
+  shows = i.0;
+}
+conflict-refused forest names roots summaries n same least few conflict refused.TooManyDerived i = absurd i
+conflict-refused forest names roots summaries n same least few conflict refused.Memory i = tt
 
 pub end-refused : (forest : ForestData) (names : List (List ℕ)) (roots : List ℕ) (summaries : List Summary) → roots ≡ root_numbers forest names → IsLeastChart forest roots place.Text summaries → All IsConflictFreeSummary summaries → length summaries ≤ most_pairs
     → (t : ℕ) → Contains roots t → (EndsInText (chart_of summaries t place.Text finish_point) → ⊥) → (r : SetRefused) → IsRefusal forest names true r → SetRefuses forest names r

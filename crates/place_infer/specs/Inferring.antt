@@ -1,5 +1,5 @@
 -- What inferring the chart of a set of roots answers.
-use Rattle.std.specs.Prelude.{◌≡◌, ◌<◌, ◌≤◌, ◌⊎◌, Bool, true, false, ℕ, List, [], ◌∷◌, All, Option, Some, None, Result, Ok, Err, Contains, length, slice_get, slice_index_or, ⊤}
+use Rattle.std.specs.Prelude.{◌≡◌, ◌<◌, ◌≤◌, ◌⊎◌, Bool, true, false, ℕ, List, [], ◌∷◌, All, Option, Some, None, Result, Ok, Err, Contains, length, ⊤}
 use Rattle.place_flow.specs.Covering.{IsCovered, pair, pairs_along, read_moves}
 use Rattle.place_flow.specs.HtmlCovering.{html_language}
 use Rattle.place_core.specs.page.Html.{start}
@@ -41,11 +41,10 @@ EndsInText Unreached = ⊤
 EndsInText (At p) = p ≡ place.Text
 EndsInText Conflict = ⊥
 
--- a summary has something in conflict at a point, by the number of that
-pub record IsInConflictAt (summaries : List Summary) (n number : ℕ) : Type 0 where
-  pub summary : Summary
-  pub is : slice_get summaries n ≡ Some summary
-  pub conflict : slice_index_or summary.point_states.items number Unreached ≡ Conflict
+-- a summary, by its number, has a point in conflict
+pub record HasConflictIn (summaries : List Summary) (n : ℕ) : Type 0 where
+  pub point : Point
+  pub is : IsInConflict summaries n point
 
 -- On every path of a root, the place of the chart at the path's end, in the pair to which its calls lead, stands for what the path has read.
 abbrev pub CoversPaths : ForestData → List Summary → List ℕ → Type 0

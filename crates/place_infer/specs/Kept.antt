@@ -1,8 +1,8 @@
 -- The pairs that are reached, of all that were made.
-use Rattle.std.specs.Prelude.{◌≡◌, ℕ, List, Some, slice_get, take}
+use Rattle.std.specs.Prelude.{◌≡◌, ℕ, List, Some, None, slice_get, take}
 use Rattle.place_core.specs.declared.place.Place.{Place}
 use Rattle.place_chart.specs.Least.{IsReached}
-use Rattle.place_chart.specs.Summaries.{chart_of, point_state_in}
+use Rattle.place_chart.specs.Summaries.{chart_of, pair_number, point_state_in}
 use Rattle.place_chart.specs.declared.summary.Summary.{Summary}
 use Rattle.tpl_paths.specs.Edges.{Point}
 use Rattle.tpl_tree.specs.Forests.{ForestData}
@@ -17,3 +17,14 @@ pub record IsKeptPair (forest : ForestData) (roots : List ℕ) (first : Place) (
       → i ≡ j
   pub reached : (i : ℕ) (summary : Summary) → slice_get kept i ≡ Some summary
       → IsReached forest roots first (take i kept) summary.template summary.entry
+
+-- Of the pairs that are not kept yet, what is left of all summaries has the same.
+abbrev pub AreLeft : List Summary → List Summary → List Summary → Type 0
+AreLeft all left kept = (t : ℕ) (p : Place) → pair_number kept t p ≡ None → (k : Point)
+    → chart_of left t p k ≡ chart_of all t p k
+
+-- some of all summaries were taken out and are kept, and these are left
+pub record AreKept (forest : ForestData) (roots : List ℕ) (first : Place) (all left kept : List Summary)
+    : Type 0 where
+  pub pairs : IsKeptPair forest roots first all kept
+  pub others : AreLeft all left kept

@@ -1,4 +1,4 @@
-ghost use Rattle.std.specs.Prelude.{◌≡◌, ◌<◌, ◌≤◌, ℕ, IfOk, length, slice_get, slice_index_or, map, None, Some};
+ghost use Rattle.std.specs.Prelude.{◌≡◌, ◌<◌, ◌≤◌, ◌-◌, ℕ, IfOk, IsTrue, length, slice_get, slice_index_or, map, None, Some};
 ghost use Rattle.place_flow.specs.Flows.{nodes_at};
 ghost use Rattle.place_infer.specs.ChartViews.{ArePairCalls, chart_call, called_at, pair_at};
 ghost use Rattle.place_infer.specs.Inferring.{most_pairs};
@@ -21,7 +21,7 @@ fn called_from(forest: &Forest, summaries: &Summaries, kind: &NodeKind, place: P
     ensures { result ≡ called_at forest.now summaries.now kind.now place }
 {
     match kind {
-        NodeKind::Template(name, _) => match forest.find(name.as_str()) {
+        NodeKind::Template(name, _) => match forest.find(name.get().as_str()) {
             Some(callee) => match summaries.find(callee, place) {
                 Some(n) => Some(n as u32),
                 None => None,
@@ -64,7 +64,7 @@ fn calls_of_tree(
         → (node : ℕ)
         → slice_index_or calls.items node None ≡ chart_call forest.now summaries.now summary.now node) }
 {
-    let mut calls = Vec::new(alloc);
+    let mut calls = Vec::with_capacity(alloc, tree.count() as usize)?;
     for node in 0..tree.count() {
         calls.push(called(forest, summaries, tree, summary, node))?;
     }
@@ -72,7 +72,7 @@ fn calls_of_tree(
 }
 
 // The same of a summary.
-fn calls_of_summary(
+fn all_calls(
     alloc: Global,
     forest: &Forest,
     summaries: &Summaries,
@@ -92,6 +92,43 @@ fn calls_of_summary(
         forest.tree(summary.template),
         summary,
     )
+}
+
+// The same, without the nodes after the last call: most templates have few calls, or none.
+fn calls_of_summary(
+    alloc: Global,
+    forest: &Forest,
+    summaries: &Summaries,
+    summary: &Summary,
+) -> Result<Vec<Option<u32>>, Memory>
+    requires { length summaries.now ≤ most_pairs }
+    ensures { IfOk result (λ calls. (node : ℕ)
+        → slice_index_or calls.items node None ≡ chart_call forest.now summaries.now summary.now node) }
+{
+    let mut calls = all_calls(alloc, forest, summaries, summary)?;
+    trim(&mut calls);
+    Ok(calls)
+}
+
+// Whether the last of some nodes is no call.
+fn ends_without(calls: &[Option<u32>]) -> bool
+    ensures { IsTrue result → slice_get calls.now (length calls.now - 1) ≡ Some None }
+{
+    match calls.last() {
+        Some(None) => true,
+        _ => false,
+    }
+}
+
+// Takes the nodes after the last call off.
+fn trim(calls: &mut Vec<Option<u32>>)
+    ensures { (node : ℕ)
+        → slice_index_or calls.new.items node None ≡ slice_index_or calls.old.items node None }
+{
+    while ends_without(calls.as_slice()) {
+        calls.pop();
+    }
+    calls.shrink_to_fit();
 }
 
 /// The pairs that the nodes of each summary call, by the nodes. Fails only if allocation fails.

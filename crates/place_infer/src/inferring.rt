@@ -1,6 +1,6 @@
-ghost use Rattle.std.specs.Prelude.{◌≡◌};
+ghost use Rattle.std.specs.Prelude.{◌≡◌, false, true};
 ghost use Rattle.place_core.specs.declared.place.Place.TheVariants as place;
-ghost use Rattle.place_infer.specs.Inferring.{Infers};
+ghost use Rattle.place_infer.specs.Inferring.{Infers, IsRefusal};
 ghost use Rattle.place_chart.specs.Least.{IsLeastChart};
 ghost use Rattle.place_infer.specs.Inferring as spec;
 
@@ -10,14 +10,55 @@ use crate::finding::find_chart;
 use crate::refusal::{refusal_by_conflict, refusal_by_end};
 use crate::roots::root_numbers;
 use crate::set_refused::SetRefused;
-use page_io::Names;
-use place_derive::Derived;
+use crate::solver::derive;
+use page_io::{Memory, Names};
+use place_chart::Summaries;
 use place_flow::{Flows, flows_of};
 use std::alloc::Global;
 use tpl_tree::Forest;
 
 /// The most pairs of a template and a place in which it is entered that a chart may have.
 pub const LIMIT: usize = 8192;
+
+// Why a set is refused: all is derived again, with a log of what was derived, from which the error is shown.
+fn explained(
+    alloc: Global,
+    forest: &Forest,
+    flows: &Flows,
+    names: &Names,
+    roots: &[u32],
+) -> SetRefused
+    ensures { flows.now ≡ forest.now → IsRefusal forest.now names.now false result }
+{
+    match derive(alloc, flows, roots, true) {
+        Ok(derived) => refusal_by_conflict(
+            alloc,
+            forest,
+            flows,
+            names,
+            derived.log.as_slice(),
+            &derived.conflict,
+        ),
+        Err(Memory) => SetRefused::Memory,
+    }
+}
+
+// Why a set is refused of which a root ends in another place than text, likewise.
+fn explained_end(
+    alloc: Global,
+    forest: &Forest,
+    flows: &Flows,
+    names: &Names,
+    roots: &[u32],
+    root: u32,
+) -> SetRefused
+    ensures { flows.now ≡ forest.now → IsRefusal forest.now names.now true result }
+{
+    match derive(alloc, flows, roots, true) {
+        Ok(derived) => { refusal_by_end(alloc, forest, flows, names, derived.log.as_slice(), root) }
+        Err(Memory) => SetRefused::Memory,
+    }
+}
 
 // The chart of what was found, or why it is none.
 fn judged(
@@ -26,22 +67,24 @@ fn judged(
     flows: &Flows,
     names: &Names,
     roots: &[u32],
-    found: Derived,
+    found: Summaries,
 ) -> Result<Chart, SetRefused>
     ensures { flows.now ≡ forest.now → roots.now ≡ spec.root_numbers forest.now names.now
-        → IsLeastChart forest.now roots.now place.Text found.summaries
+        → IsLeastChart forest.now roots.now place.Text found
         → Infers forest.now names.now result }
 {
-    if found.summaries.count() > LIMIT {
+    if found.count() > LIMIT {
         return Err(SetRefused::TooManyDerived);
     }
-    if let Some(_) = conflict_in_summary(&found.summaries) {
-        return Err(refusal_by_conflict(alloc, forest, flows, names, &found.log, &found.conflict));
+    if let Some(_) = conflict_in_summary(&found) {
+        drop(found);
+        return Err(explained(alloc, forest, flows, names, roots));
     }
-    if let Some(root) = ends_elsewhere(&found.summaries, roots) {
-        return Err(refusal_by_end(alloc, forest, flows, names, &found.log, root));
+    if let Some(root) = ends_elsewhere(&found, roots) {
+        drop(found);
+        return Err(explained_end(alloc, forest, flows, names, roots, root));
     }
-    Ok(chart_of_summaries(alloc, forest, found.summaries)?)
+    Ok(chart_of_summaries(alloc, forest, found)?)
 }
 
 /// The chart of a set of templates: the places at the nodes of each template that a root reaches, for each place in which it is entered. A

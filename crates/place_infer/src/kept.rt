@@ -1,72 +1,66 @@
-ghost use Rattle.std.specs.Prelude.{◌≡◌, ◌<◌, ◌≤◌, ℕ, List, IfOk, OnOk, length};
+ghost use Rattle.std.specs.Prelude.{◌≡◌, ◌<◌, ◌≤◌, ℕ, List, IfOk, OnOk, false, length};
 ghost use Rattle.place_core.specs.declared.place.Place.{Place as SpecPlace};
-ghost use Rattle.place_infer.specs.Kept.{IsKeptPair};
+ghost use Rattle.place_infer.specs.Kept.{AreKept, IsKeptPair};
 ghost use Rattle.place_chart.specs.Least.{IsReached};
-ghost use Rattle.place_chart.specs.Summaries.{chart_of, point_state_in};
+ghost use Rattle.place_chart.specs.Summaries.{chart_of, is_pair, point_state_in};
+ghost use Rattle.place_chart.specs.declared.summary.Summary.{Summary as SpecSummary};
 ghost use Rattle.tpl_tree.specs.Forests.{ForestData};
 ghost use Rattle.tpl_paths.specs.Edges as spec;
 
 use page_io::Memory;
-use place_chart::{Summaries, Summary, point_state_at};
+use place_chart::{InnerStates, Summaries, Summary, point_state_at};
 use place_core::Place;
 use place_flow::{Flows, PointState, Step, transfer};
 use std::alloc::Global;
 
-// A copy of the states of points.
-fn copied(alloc: Global, point_states: &[PointState]) -> Result<Vec<PointState>, Memory>
-    ensures { IfOk result (λ copies. copies.items ≡ point_states.now) }
+// What summaries have of a pair, which is taken out of them.
+fn taken(alloc: Global, all: &mut Summaries, template: u32, entry: Place) -> Summary
+    ensures template { result.template ≡ template }
+    ensures entry { result.entry ≡ entry }
+    ensures same { (k : spec.Point) → point_state_in result k ≡ chart_of all.old template entry k }
+    ensures left { (t : ℕ) (p : SpecPlace) (k : spec.Point) → is_pair result t p ≡ false
+        → chart_of all.new t p k ≡ chart_of all.old t p k }
 {
-    let mut copies = Vec::new(alloc);
-    for point_state in point_states {
-        copies.push(*point_state)?;
-    }
-    Ok(copies)
-}
-
-// What summaries have of a pair, as a summary of its own.
-fn taken(
-    alloc: Global,
-    summaries: &Summaries,
-    template: u32,
-    entry: Place,
-) -> Result<Summary, Memory>
-    ensures template { IfOk result (λ summary. summary.template ≡ template) }
-    ensures entry { IfOk result (λ summary. summary.entry ≡ entry) }
-    ensures same { IfOk result (λ summary. (k : spec.Point)
-        → point_state_in summary k ≡ chart_of summaries.now template entry k) }
-{
-    match summaries.find(template, entry) {
-        Some(n) => Ok(Summary {
+    match all.find(template, entry) {
+        Some(n) => {
+            let summary = all.take(alloc, n);
+            Summary {
+                template,
+                entry,
+                before: summary.before,
+                inner: summary.inner,
+                finish: summary.finish,
+            }
+        }
+        None => Summary {
             template,
             entry,
-            point_states: copied(alloc, &summaries.summary(n).point_states)?,
-        }),
-        None => Ok(Summary {
-            template,
-            entry,
-            point_states: Vec::new(alloc),
-        }),
+            before: Vec::new(alloc),
+            inner: InnerStates::new(alloc),
+            finish: PointState::Unreached,
+        },
     }
 }
 
 // Keeps a pair that is not kept yet.
 fn keep_pair(
     alloc: Global,
-    all: &Summaries,
+    all: &mut Summaries,
     kept: &mut Summaries,
     template: u32,
     entry: Place,
 ) -> Result<(), Memory>
     ensures kept { OnOk result ((forest : ForestData) (roots : List ℕ) (first : SpecPlace)
-        → IsKeptPair forest roots first all.now kept.old
+        (whole : List SpecSummary)
+        → AreKept forest roots first whole all.old kept.old
         → IsReached forest roots first kept.old template entry
-        → IsKeptPair forest roots first all.now kept.new) }
+        → AreKept forest roots first whole all.new kept.new) }
     ensures length { length kept.old ≤ length kept.new }
 {
     if kept.find(template, entry).is_some() {
         return Ok(());
     }
-    let summary = taken(alloc, all, template, entry)?;
+    let summary = taken(alloc, all, template, entry);
     kept.push(summary)?;
     Ok(())
 }
@@ -75,15 +69,15 @@ fn keep_pair(
 fn keep_call(
     alloc: Global,
     flows: &Flows,
-    all: &Summaries,
+    all: &mut Summaries,
     kept: &mut Summaries,
     n: usize,
     number: usize,
 ) -> Result<(), Memory>
     requires { n < length kept.old }
-    ensures kept { OnOk result ((roots : List ℕ) (first : SpecPlace)
-        → IsKeptPair flows.now roots first all.now kept.old
-        → IsKeptPair flows.now roots first all.now kept.new) }
+    ensures kept { OnOk result ((roots : List ℕ) (first : SpecPlace) (whole : List SpecSummary)
+        → AreKept flows.now roots first whole all.old kept.old
+        → AreKept flows.now roots first whole all.new kept.new) }
     ensures length { length kept.old ≤ length kept.new }
 {
     let summary = kept.summary(n);
@@ -107,14 +101,14 @@ fn keep_call(
 fn keep_calls(
     alloc: Global,
     flows: &Flows,
-    all: &Summaries,
+    all: &mut Summaries,
     kept: &mut Summaries,
     n: usize,
 ) -> Result<(), Memory>
     requires { n < length kept.old }
-    ensures kept { OnOk result ((roots : List ℕ) (first : SpecPlace)
-        → IsKeptPair flows.now roots first all.now kept.old
-        → IsKeptPair flows.now roots first all.now kept.new) }
+    ensures kept { OnOk result ((roots : List ℕ) (first : SpecPlace) (whole : List SpecSummary)
+        → AreKept flows.now roots first whole all.old kept.old
+        → AreKept flows.now roots first whole all.new kept.new) }
     ensures length { length kept.old ≤ length kept.new }
 {
     for number in 0..flows.edge_count(kept.summary(n).template) {
@@ -123,26 +117,27 @@ fn keep_calls(
     Ok(())
 }
 
-/// The summaries of the pairs that are reached from the roots: the roots in order, and then what each summary calls, in the order of the
-/// nodes. Fails only if allocation fails.
+/// The summaries of the pairs that are reached from the roots, which are taken out of all: the roots in order, and then what each
+/// summary calls, in the order of the nodes. Fails only if allocation fails.
 pub fn reached(
     alloc: Global,
     flows: &Flows,
     roots: &[u32],
     first: Place,
-    all: &Summaries,
+    all: Summaries,
 ) -> Result<Summaries, Memory>
-    ensures { IfOk result (λ kept. IsKeptPair flows.now roots.now first all.now kept) }
+    ensures { IfOk result (λ kept. IsKeptPair flows.now roots.now first all kept) }
 {
+    let mut left = all;
     let mut kept = Summaries::new(alloc);
     for root in roots {
-        keep_pair(alloc, all, &mut kept, *root, first)?;
+        keep_pair(alloc, &mut left, &mut kept, *root, first)?;
     }
     for n in 0..usize::MAX {
         if n >= kept.count() {
             return Ok(kept);
         }
-        keep_calls(alloc, flows, all, &mut kept, n)?;
+        keep_calls(alloc, flows, &mut left, &mut kept, n)?;
     }
     Err(Memory)
 }

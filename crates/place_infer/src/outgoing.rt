@@ -3,66 +3,72 @@ use place_flow::{Flows, point_number};
 use std::alloc::Global;
 use tpl_paths::Point;
 
-// No edge.
-const NONE: u32 = u32::MAX;
-
-/// The edges of a template by the points from which they lead.
+/// The edges of a template by the points from which they lead. Those that lead from the points of one node follow one another.
 #[derive(Debug, Drop)]
 pub struct OutgoingEdges {
-    // by the number of a point, the first edge that leads from it; and by the number of an edge, the next one from the same point;
-    // `NONE` where there is none
+    template: u32,
+    // by the number of a node, the first edge that leads from one of its points
     first: Vec<u32>,
-    next: Vec<u32>,
 }
 
 impl OutgoingEdges {
-    /// The edges of a template, in order, by their points. Fails only if allocation fails.
+    /// The edges of a template by their points. Fails only if allocation fails.
     pub fn new(alloc: Global, flows: &Flows, template: u32) -> Result<OutgoingEdges, Memory> {
-        let mut outgoing = OutgoingEdges {
-            first: nothing(alloc, flows.points(template))?,
-            next: nothing(alloc, flows.edge_count(template))?,
-        };
+        let nodes = flows.nodes(template) as usize;
+        let mut first = vec![in alloc; u32::MAX; nodes]?;
         for number in (0..flows.edge_count(template)).rev() {
             if let Some((from, _)) = flows.ends(template, number) {
-                outgoing.add(point_number(from), number);
+                set(&mut first, node_of(from), number);
             }
         }
-        Ok(outgoing)
-    }
-
-    // An edge before all that lead from its point.
-    fn add(&mut self, point: usize, number: usize) {
-        if point < self.first.len() && number < self.next.len() && number < NONE as usize {
-            self.next[number] = self.first[point];
-            self.first[point] = number as u32;
-        }
+        Ok(OutgoingEdges { template, first })
     }
 
     /// The first edge that leads from a point.
-    pub fn first(&self, point: Point) -> Option<usize> {
-        edge_at(self.first.as_slice(), point_number(point))
+    pub fn first(&self, flows: &Flows, point: Point) -> Option<usize> {
+        let node = node_of(point)?;
+        let number = self.first.get(node as usize)?;
+        self.from(flows, point, *number as usize)
     }
 
     /// The next edge that leads from the same point as an edge.
-    pub fn next(&self, number: usize) -> Option<usize> {
-        edge_at(self.next.as_slice(), number)
+    pub fn next(&self, flows: &Flows, point: Point, number: usize) -> Option<usize> {
+        self.from(flows, point, number.saturating_add(1))
+    }
+
+    // The first edge from a number on that leads from a point, among those that lead from its node.
+    fn from(&self, flows: &Flows, point: Point, start: usize) -> Option<usize> {
+        for number in start..flows.edge_count(self.template) {
+            match flows.ends(self.template, number) {
+                Some((from, _)) if node_of(from) == node_of(point) => {
+                    if point_number(from) == point_number(point) {
+                        return Some(number);
+                    }
+                }
+                _ => return None,
+            }
+        }
+        None
     }
 }
 
-// The edge that is kept at a number, where there is one.
-fn edge_at(edges: &[u32], at: usize) -> Option<usize> {
-    match edges.get(at) {
-        Some(number) if *number < NONE => Some(*number as usize),
-        _ => None,
+// The node of a point, where it is not the end.
+fn node_of(point: Point) -> Option<u32> {
+    match point {
+        Point::Before(node) | Point::Again(node) | Point::Head(node) | Point::Past(node) => Some(
+            node,
+        ),
+        Point::Finish => None,
     }
 }
 
-fn nothing(alloc: Global, count: usize) -> Result<Vec<u32>, Memory> {
-    let mut numbers = Vec::with_capacity(alloc, count)?;
-    for _number in 0..count {
-        numbers.push(NONE)?;
+// Sets the first edge of a node.
+fn set(first: &mut Vec<u32>, node: Option<u32>, number: usize) {
+    if let Some(node) = node {
+        if (node as usize) < first.len() && number <= u32::MAX as usize {
+            first[node as usize] = number as u32;
+        }
     }
-    Ok(numbers)
 }
 
 /// The edges of each template of a forest. Fails only if allocation fails.

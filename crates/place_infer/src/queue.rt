@@ -38,12 +38,8 @@ impl Queue {
 
     /// One more summary, whose points have so many numbers. Fails only if allocation fails.
     pub fn add_summary(&mut self, alloc: Global, points: usize) -> Result<(), Memory> {
-        let mut waits = Vec::new(alloc);
-        for _point in 0..points {
-            waits.push(false)?;
-        }
         self.summaries.push(Waiting {
-            waits,
+            waits: vec![in alloc; false; points]?,
             callers: Vec::new(alloc),
         })?;
         Ok(())

@@ -111,12 +111,12 @@ impl Solver {
         ensures sound { OnOk result (StaysSound flows.now self.old.derived self.new.derived) }
         ensures length { length self.old.derived.summaries ≤ length self.new.derived.summaries }
     {
-        let mut next = outgoing.first(task.point);
+        let mut next = outgoing.first(flows, task.point);
         for _turn in 0..usize::MAX {
             match next {
                 Some(number) => {
                     self.follow_edge(alloc, flows, task, number)?;
-                    next = outgoing.next(number);
+                    next = outgoing.next(flows, task.point, number);
                 }
                 None => return Ok(()),
             }
@@ -180,13 +180,19 @@ impl Solver {
     }
 }
 
-/// What is derived from the roots, each of which is entered in text, once nothing waits. Fails only if allocation fails.
-pub fn derive(alloc: Global, flows: &Flows, roots: &[u32]) -> Result<Derived, Memory>
+/// What is derived from the roots, each of which is entered in text, once nothing waits, with its log or without. Fails only if
+/// allocation fails.
+pub fn derive(
+    alloc: Global,
+    flows: &Flows,
+    roots: &[u32],
+    keeps_log: bool,
+) -> Result<Derived, Memory>
     ensures { IfOk result (IsSoundDerived flows.now roots.now place.Text) }
 {
     let outgoing = outgoing_of_each(alloc, flows)?;
     let mut solver = Solver {
-        derived: Derived::new(alloc),
+        derived: Derived::new(alloc, keeps_log),
         queue: Queue::new(alloc),
     };
     solver.enter_roots(alloc, flows, roots)?;

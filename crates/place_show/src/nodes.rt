@@ -57,7 +57,7 @@ fn in_tree(
             Err(code) => at_node(alloc, forest, tree, replay, code, node),
             Ok(_) => Ok(None),
         },
-        NodeKind::Template(name, _) => match forest.find(name.as_str()) {
+        NodeKind::Template(name, _) => match forest.find(name.get().as_str()) {
             None => at_node(alloc, forest, tree, replay, Code::NoSuchTemplate, node),
             Some(_) => Ok(None),
         },

@@ -5,11 +5,14 @@ use place_flow::{Flows, point_number};
 use std::alloc::Global;
 use tpl_paths::Point;
 
-// A place in which a template is entered, and by the numbers of the points the first derivation there.
+// No derivation.
+const NONE: u32 = u32::MAX;
+
+// A place in which a template is entered, and by the numbers of the points the first derivation there, or `NONE`.
 #[derive(Debug, Drop)]
 struct EnteredPair {
     entry: Place,
-    first: Vec<Option<usize>>,
+    first: Vec<u32>,
 }
 
 /// The derivations of a log by their pairs and points.
@@ -18,8 +21,8 @@ pub struct Derivations<'l> {
     log: &'l [Derivation],
     // by the numbers of the templates
     pairs: Vec<Vec<EnteredPair>>,
-    // by the number of a derivation, the next one at the same point of its pair
-    next: Vec<Option<usize>>,
+    // by the number of a derivation, the next one at the same point of its pair, or `NONE`
+    next: Vec<u32>,
 }
 
 /// The derivations of a log. Fails only if allocation fails. It takes time in proportion to the log and to the points of its pairs.
@@ -32,15 +35,11 @@ pub fn derivations_of<'l>(
     for _template in 0..flows.forest().count() {
         pairs.push(Vec::new(alloc))?;
     }
-    let mut next = nothing(alloc, log.len())?;
+    let mut next = vec![in alloc; NONE; log.len()]?;
     for number in (0..log.len()).rev() {
         add(alloc, flows, &mut pairs, &mut next, number, log[number])?;
     }
     Ok(Derivations { log, pairs, next })
-}
-
-fn nothing(alloc: Global, count: usize) -> Result<Vec<Option<usize>>, Memory> {
-    Ok(vec![in alloc; None; count]?)
 }
 
 // Adds a derivation before all that are at its point.
@@ -48,17 +47,17 @@ fn add(
     alloc: Global,
     flows: &Flows,
     pairs: &mut Vec<Vec<EnteredPair>>,
-    next: &mut Vec<Option<usize>>,
+    next: &mut Vec<u32>,
     number: usize,
     derivation: Derivation,
 ) -> Result<(), Memory> {
     let template = derivation.template as usize;
-    if template >= pairs.len() || number >= next.len() {
+    if template >= pairs.len() || number >= next.len() || number >= NONE as usize {
         return Ok(());
     }
     let points = flows.points(derivation.template);
     let at = pair_at(alloc, &mut pairs[template], derivation.entry, points)?;
-    next[number] = put_first(&mut pairs[template], at, derivation.point, number);
+    next[number] = put_first(&mut pairs[template], at, derivation.point, number as u32);
     Ok(())
 }
 
@@ -75,7 +74,7 @@ fn pair_at(
             let at = pairs.len();
             pairs.push(EnteredPair {
                 entry,
-                first: nothing(alloc, points)?,
+                first: vec![in alloc; NONE; points]?,
             })?;
             Ok(at)
         }
@@ -92,24 +91,19 @@ fn find(pairs: &[EnteredPair], entry: Place) -> Option<usize> {
 }
 
 // Makes a derivation the first one at a point, and gives the one that was.
-fn put_first(
-    pairs: &mut Vec<EnteredPair>,
-    at: usize,
-    point: Point,
-    number: usize,
-) -> Option<usize> {
+fn put_first(pairs: &mut Vec<EnteredPair>, at: usize, point: Point, number: u32) -> u32 {
     if at >= pairs.len() {
-        return None;
+        return NONE;
     }
     replace(&mut pairs[at].first, point_number(point), number)
 }
 
-fn replace(first: &mut Vec<Option<usize>>, point: usize, number: usize) -> Option<usize> {
+fn replace(first: &mut Vec<u32>, point: usize, number: u32) -> u32 {
     if point >= first.len() {
-        return None;
+        return NONE;
     }
     let old = first[point];
-    first[point] = Some(number);
+    first[point] = number;
     old
 }
 
@@ -141,10 +135,7 @@ impl<'l> Derivations<'l> {
     }
 
     fn next(&self, number: usize) -> Option<usize> {
-        match self.next.get(number) {
-            Some(next) => *next,
-            None => None,
-        }
+        number_at(self.next.as_slice(), number)
     }
 
     fn derivation(&self, number: usize) -> Option<Derivation> {
@@ -173,8 +164,13 @@ fn first_in(pairs: &[EnteredPair], entry: Place, point: Point) -> Option<usize> 
 }
 
 fn first_at(pair: &EnteredPair, point: Point) -> Option<usize> {
-    match pair.first.get(point_number(point)) {
-        Some(number) => *number,
-        None => None,
+    number_at(pair.first.as_slice(), point_number(point))
+}
+
+// The number that is kept there, where there is one.
+fn number_at(numbers: &[u32], at: usize) -> Option<usize> {
+    match numbers.get(at) {
+        Some(number) if *number < NONE => Some(*number as usize),
+        _ => None,
     }
 }

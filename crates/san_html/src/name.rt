@@ -17,7 +17,8 @@ use std::alloc::Global;
 /// the text, if what ends a name stands after it. Fails only if allocation fails. (HTML Standard, section 13.1.2.3.)
 pub fn attr_name(alloc: Global, text: &str) -> Result<Text, Memory>
     ensures written { IfOk result (λ bytes. bytes ≡ spec.attr_name text.now) }
-    ensures failsafe { IfOk result (λ bytes. (bytes ≡ failsafe) ↔ (spec.is_attribute_name text.now ≡ false)) }
+    ensures failsafe { IfOk result (λ bytes.
+        (bytes ≡ failsafe) ↔ (spec.is_attribute_name text.now ≡ false)) }
     ensures in_tag { IfOk result (λ bytes. IsBackInTag text.now bytes) }
 {
     let mut out = String::new(alloc);

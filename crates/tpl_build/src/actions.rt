@@ -9,7 +9,7 @@ use crate::frame::OpenForm;
 use page_io::{Memory, Text};
 use std::alloc::Global;
 use std::mem;
-use tpl_tree::{NodeKind, Pipe};
+use tpl_tree::{Boxed, NodeKind, Pipe};
 
 /// Adds what an action says that begins at the opening and ends before an offset.
 pub fn add(
@@ -26,7 +26,10 @@ pub fn add(
         ActionKind::Piped(purpose, pipe) => add_pipe(alloc, builder, purpose, pipe, line, end),
         ActionKind::Break => add_node(builder, NodeKind::Break, line),
         ActionKind::Continue => add_node(builder, NodeKind::Continue, line),
-        ActionKind::Call(name) => add_node(builder, NodeKind::Template(name, None), line),
+        ActionKind::Call(name) => {
+            let name = Boxed::new(alloc, name)?;
+            add_node(builder, NodeKind::Template(name, None), line)
+        }
         // It began with its word.
         ActionKind::Else => Ok(()),
         ActionKind::End => close(alloc, builder, opening),
@@ -71,16 +74,24 @@ fn add_pipe(
         Purpose::Write => add_node(builder, NodeKind::Action(pipe), line),
         Purpose::Declare(name) => {
             let copy = Text::copy_of(alloc, name.as_str())?;
+            let name = Boxed::new(alloc, name)?;
             add_node(builder, NodeKind::Declare(name, pipe), line)?;
             builder.variables.push(copy)
         }
-        Purpose::Assign(name) => add_node(builder, NodeKind::Assign(name, pipe), line),
+        Purpose::Assign(name) => {
+            let name = Boxed::new(alloc, name)?;
+            add_node(builder, NodeKind::Assign(name, pipe), line)
+        }
         Purpose::Control(control, chained) => {
             open_control(alloc, builder, control, pipe, line, chained)
         }
-        Purpose::Template(name) => { add_node(builder, NodeKind::Template(name, Some(pipe)), line) }
+        Purpose::Template(name) => {
+            let name = Boxed::new(alloc, name)?;
+            add_node(builder, NodeKind::Template(name, Some(pipe)), line)
+        }
         Purpose::Block(name, word) => {
             let copy = Text::copy_of(alloc, name.as_str())?;
+            let name = Boxed::new(alloc, name)?;
             add_node(builder, NodeKind::Template(name, Some(pipe)), line)?;
             open_definition(alloc, builder, copy, word, end)
         }

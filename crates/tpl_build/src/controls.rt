@@ -1,4 +1,4 @@
-ghost use Rattle.std.specs.Prelude.{◌≡◌, ◌++◌, OnOk, false};
+ghost use Rattle.std.specs.Prelude.{◌≡◌, ◌++◌, IfOk, OnOk, false};
 ghost use Rattle.tpl_build.specs.Building as spec;
 ghost use Rattle.tpl_tree.specs.Trees.{is_text_node};
 
@@ -8,7 +8,7 @@ use page_io::{Memory, Text};
 use std::alloc::Global;
 use std::mem;
 use tpl_pipe::Variables;
-use tpl_tree::{NodeKind, Pipe, TreeBuilder};
+use tpl_tree::{Boxed, NodeKind, Pipe, TreeBuilder};
 
 /// Opens a control on a line.
 pub fn open_control(
@@ -140,9 +140,8 @@ pub fn close_control(
         Some(first) => (first, last),
         None => (last, TreeBuilder::new(alloc)),
     };
-    builder
-        .body
-        .push(node_kind(control, pipe), line, first, other)?;
+    let kind = node_kind(alloc, control, pipe)?;
+    builder.body.push(kind, line, first, other)?;
     builder.variables.truncate(around.variables);
     builder.in_range = around.in_range;
     builder.room = around.room;
@@ -150,14 +149,17 @@ pub fn close_control(
     Ok(())
 }
 
-// The node of a control.
-fn node_kind(control: Control, pipe: Pipe) -> NodeKind
-    ensures kind { result ≡ spec.node_kind_of control pipe }
-    ensures text { is_text_node result ≡ false }
+// The node of a control. Fails only if allocation fails.
+fn node_kind(alloc: Global, control: Control, pipe: Pipe) -> Result<NodeKind, Memory>
+    ensures kind { IfOk result (λ kind. kind ≡ spec.node_kind_of control pipe) }
+    ensures text { IfOk result (λ kind. is_text_node kind ≡ false) }
 {
-    match control {
-        Control::If(name) => NodeKind::If(name, pipe),
-        Control::With(name) => NodeKind::With(name, pipe),
-        Control::Range(index, element) => NodeKind::Range(index, element, pipe),
-    }
+    Ok(match control {
+        Control::If(name) => NodeKind::If(Boxed::new(alloc, name)?, pipe),
+        Control::With(name) => NodeKind::With(Boxed::new(alloc, name)?, pipe),
+        Control::Range(index, element) => {
+            let index = Boxed::new(alloc, index)?;
+            NodeKind::Range(index, Boxed::new(alloc, element)?, pipe)
+        }
+    })
 }

@@ -16,7 +16,7 @@ use Rattle.std.specs.Option.{option_map}
 use Rattle.page_datum.specs.Data.{Data, null}
 use Rattle.tpl_eval.specs.Evaluating.{Variables, variable_value}
 use Rattle.tpl_eval.specs.Newest.{newest_at, variable_view, label, AreFound}
-use Rattle.tpl_eval.specs.Scopes.{scope_assigned}
+use Rattle.tpl_eval.specs.Evaluating.{scope_assigned}
 use Rattle.tpl_eval.specs.Values.{value_view}
 use Rattle.tpl_eval.specs.declared.value.Value.{Value}
 use Rattle.tpl_eval.specs.declared.variable_stack.Variable.{Variable}

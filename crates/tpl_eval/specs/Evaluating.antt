@@ -25,6 +25,11 @@ abbrev pub variable_value : List ℕ → Variables → Data
 variable_value name [] = null
 variable_value name (v ∷ vs) = if bytes_eq v.0 name then v.1 else variable_value name vs
 
+-- another value for the newest variable of a name
+abbrev pub scope_assigned : List ℕ → Data → Variables → Variables
+scope_assigned name value [] = []
+scope_assigned name value (v ∷ vs) = if bytes_eq v.0 name then (name, value) ∷ vs else v ∷ scope_assigned name value vs
+
 -- the value of a field, and of that the value of the next one
 abbrev pub evaluated_within : Data → List (List ℕ) → Result Data FaultKind
 evaluated_within x [] = Ok x

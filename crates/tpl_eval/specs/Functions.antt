@@ -133,7 +133,7 @@ abbrev pub bytes_made : Data → ℕ
 bytes_made (text bytes) = length bytes
 bytes_made x = 0
 
--- a value, with a step for each byte of a text that was made
+-- a value, with a step for each byte of it where it is a text
 abbrev pub paid : ℕ → Result Data FaultKind → Outcome Data
 paid steps (Ok x) = on_ok (counted (bytes_made x) steps) (λ now. Ok (x, now))
 paid steps (Err kind) = Err kind

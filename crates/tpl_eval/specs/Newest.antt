@@ -8,7 +8,7 @@ use Rattle.page_datum.specs.Data.{Data}
 use Rattle.tpl_eval.specs.Values.{value_view}
 use Rattle.tpl_eval.specs.declared.variable_stack.Variable.{Variable}
 
--- of names with anything, the newest first
+-- the number of the newest one of a name; each name stands with something, the newest first
 abbrev pub newest_at : {A : Type 0} → List ℕ → List (List ℕ × A) → Option ℕ
 newest_at name [] = None
 newest_at name (v ∷ vs) = if bytes_eq v.0 name then Some (length vs) else newest_at name vs

@@ -41,7 +41,7 @@ abbrev pub FunctionAnswers : Result Data FaultKind → Result DatumRef FaultKind
 FunctionAnswers outcome (Ok d) = outcome ≡ Ok (ref_view d)
 FunctionAnswers outcome (Err kind) = outcome ≡ Err kind
 
--- the value that an answer has, whatever it stands for, at no step more, or at a step for each byte of a text that was made
+-- the value that an answer has, whatever it stands for, at no step more, or at a step for each byte of it where it is a text
 abbrev pub FreeAnswers : Result DatumRef FaultKind → ℕ → Result (Value × ℕ) ValueStop → Type 0
 FreeAnswers answer steps result = (outcome : Result Data FaultKind) → FunctionAnswers outcome answer → OutcomeAnswers (free steps outcome) result
 

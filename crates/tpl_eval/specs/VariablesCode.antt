@@ -1,4 +1,4 @@
--- A code of variables, by which a proof tells them apart.
+-- Variables as trees of numbers, and back: the toolchain asks for such a code of what a private field is seen as.
 use Rattle.std.specs.Prelude.{refl}
 use Rattle.std.specs.Coded.{Coded, code_by, coded_list, coded×, coded_ℕ}
 use Rattle.page_datum.specs.Code.{list_code}

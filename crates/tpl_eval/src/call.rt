@@ -57,7 +57,7 @@ fn free<'d>(
     }
 }
 
-// A value with a step for each byte of a text that was made.
+// A value, with a step for each byte of it where it is a text.
 fn paid<'d>(answer: Result<Value<'d>, ValueStop>, steps: u64) -> Result<(Value<'d>, u64), ValueStop>
     ensures { PaidAnswers answer.entry steps result }
 {
@@ -73,7 +73,7 @@ fn paid<'d>(answer: Result<Value<'d>, ValueStop>, steps: u64) -> Result<(Value<'
     }
 }
 
-// The bytes of a text that was made.
+// The bytes of a text; none of another value.
 fn bytes_made(value: &Value<'_>) -> u64
     ensures { result ≡ spec.bytes_made (value_view value.now) }
 {

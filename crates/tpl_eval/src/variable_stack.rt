@@ -15,7 +15,7 @@ use std::marker::Model;
 pub(crate) struct Variable<'d> {
     pub(crate) name: &'d str,
     pub(crate) value: Value<'d>,
-    // The number of the newest variable of this name that is older.
+    // The number of the next older variable of this name, which this one hides.
     pub(crate) hidden: Option<usize>,
 }
 
@@ -23,7 +23,7 @@ pub(crate) struct Variable<'d> {
 /// their names with their values, the newest first.
 #[derive(Debug, Drop)]
 pub struct VariableStack<'d> {
-    // the newest last, so that each keeps its number
+    // The oldest first: its number is 0, and no later one changes a number.
     all: Vec<Variable<'d>>,
     // Of each name that a variable has, the number of the newest one; of another name no number, or any.
     newest: BTreeMap<&'d str, usize>,
@@ -45,7 +45,7 @@ impl<'d> Model for VariableStack<'d> {
 }
 
 impl<'d> VariableStack<'d> {
-    ghost use Rattle.tpl_eval.specs.Scopes.{scope_assigned};
+    ghost use Rattle.tpl_eval.specs.Evaluating.{scope_assigned};
 
     /// `$` alone, whose name is empty. Fails only if allocation fails.
     pub fn root(alloc: Global, value: Value<'d>) -> Result<VariableStack<'d>, Memory>
@@ -96,7 +96,7 @@ impl<'d> VariableStack<'d> {
         }
     }
 
-    /// Keeps the oldest ones, so many.
+    /// Keeps the oldest ones, so many, and drops those that are newer. Takes time in proportion to those that it drops.
     pub fn truncate(&mut self, count: usize)
         ensures { self.new ≡ drop (length self.old - count) self.old }
     {

@@ -26,7 +26,7 @@ pub enum HoleStop {
 /// ```text
 /// fn call(&mut self, node: u32) -> Result<(), HoleStop> {
 ///     if let NodeKind::Template(name, _) = self.tree().kind(node) {
-///         self.open.push(self.forest.find(name.as_str()))?;
+///         self.open.push(self.forest.find(name.get().as_str()))?;
 ///     }
 ///     Ok(())
 /// }
@@ -55,7 +55,8 @@ pub trait HoleSink {
     fn hole(&mut self, node: u32, datum: DatumRef<'_>) -> Result<(), HoleStop>
         requires { may self.old (fills node datum) }
         ensures ok { OnOk result (takes self.old (fills node datum.entry) self.new) }
-        ensures err { IfErr result (λ why. refuses self.old (fills node datum.entry) why self.new) };
+        ensures err { IfErr result (λ why.
+            refuses self.old (fills node datum.entry) why self.new) };
 
     /// A call of a template, by its node, whose events follow.
     fn call(&mut self, node: u32) -> Result<(), HoleStop>

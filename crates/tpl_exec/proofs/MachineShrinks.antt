@@ -5,7 +5,7 @@ use Rattle.page_datum.specs.declared.fault.FaultKind.{FaultKind}
 use Rattle.tpl_eval.specs.Functions.{Outcome, counted, max_steps}
 use Rattle.tpl_exec.specs.Machine.{TreeCursor, tree_cursor, nowhere, Loop, Frame, part, loop, call, Machine, Progress, continues, emits, finishes, fails, on_steps, on_value, next_turn, machine_ended, leaving, loop_broken_off, moved, if_advance, with_advance, range_advance, call_advance, node_advance, advanced, machine_advance, turning, started}
 use Rattle.tpl_exec.specs.Meaning.{argument, at_dot, scope_declared, elements, evaluated}
-use Rattle.tpl_eval.specs.Scopes.{scope_assigned}
+use Rattle.tpl_eval.specs.Evaluating.{scope_assigned}
 use Rattle.tpl_exec.specs.Runs.{Site, RunState}
 use Rattle.tpl_eval.proofs.StepsGrow.{Counts, Grows, Within, counts, grows_from, pipe_grows}
 use Rattle.tpl_tree.specs.Forests.{ForestData}

@@ -6,7 +6,7 @@ use Rattle.page_datum.specs.declared.fault.FaultKind.{FaultKind}
 use Rattle.page_datum.specs.declared.fault.FaultKind.TheVariants.{NotRangeable, Depth}
 use Rattle.tpl_eval.specs.Evaluating.{Variables}
 use Rattle.tpl_eval.specs.Functions.{Outcome, counted}
-use Rattle.tpl_eval.specs.Scopes.{scope_assigned}
+use Rattle.tpl_eval.specs.Evaluating.{scope_assigned}
 use Rattle.tpl_exec.specs.Meaning.{argument, at_dot, calls_within, scope_declared, elements, evaluated, run_nodes_of_tree, nodes_run, returned, turn_variables, loop_turned, turns}
 use Rattle.tpl_events.specs.Events.{Emission, enters, gives_hole, gives_text, leaves}
 use Rattle.tpl_exec.specs.Runs.{End, Run, Site, RunState, run_and_then, cut_end, cut_state, ends, fault_at, emission, run_go_on, if_next}

@@ -6,7 +6,7 @@ use Rattle.page_datum.specs.declared.fault.ExecFault.{ExecFault}
 use Rattle.page_datum.specs.declared.fault.FaultKind.{FaultKind}
 use Rattle.page_datum.specs.declared.fault.FaultKind.TheVariants.{NotRangeable, Depth}
 use Rattle.tpl_eval.specs.Evaluating.{Variables, pipe_value}
-use Rattle.tpl_eval.specs.Scopes.{scope_assigned}
+use Rattle.tpl_eval.specs.Evaluating.{scope_assigned}
 use Rattle.tpl_eval.specs.Functions.{Outcome, counted}
 use Rattle.tpl_events.specs.Events.{enters, gives_hole, gives_text, leaves}
 use Rattle.tpl_exec.specs.Runs.{End, Run, Site, RunState, run_and_then, broken, choosing, continued, cut_state, done, else_part, ends, fault, faulted, emission, emitting, run_go_on, next, scoped, then_part, turn}

@@ -41,7 +41,8 @@ impl<'d> Machine<'d> {
     ghost use Rattle.std.specs.Prelude.{◌≡◌, ◌<◌, IfOk, IsTrue, Ok};
     ghost use Rattle.tpl_exec.specs.MachineCalls.{after_loop_of, broken_off_of, call_left};
     ghost use Rattle.tpl_exec.specs.MachineCalls.{control_left, emitted_of, machine_end, if_of};
-    ghost use Rattle.tpl_exec.specs.MachineCalls.{loop_left_of, machine_node, part_left, machine_part};
+    ghost use Rattle.tpl_exec.specs.MachineCalls.{loop_left_of, machine_node, part_left};
+    ghost use Rattle.tpl_exec.specs.MachineCalls.{machine_part};
     ghost use Rattle.tpl_exec.specs.MachineCalls.{is_control_node, machine_start, turn_of};
     ghost use Rattle.tpl_exec.specs.MachineCalls.{ArgumentAnswers, CallAnswers, PipeAnswers};
     ghost use Rattle.tpl_exec.specs.MachineCalls.{RangeAnswers, WithAnswers};
@@ -88,6 +89,7 @@ impl<'d> Machine<'d> {
         self.body = call.body;
         self.node = call.next;
         self.dot = call.dot;
+        // The checker refuses a plain assignment of a field that has a model and a lifetime.
         drop(std::mem::replace(&mut self.variables, call.variables));
         self.calls += 1;
         Progress::Emits(Emission {
@@ -266,7 +268,6 @@ impl<'d> Machine<'d> {
     // An `if` with its value.
     fn if_advance(
         &mut self,
-        alloc: Global,
         node: Node<'d>,
         name: &'d Option<Text>,
         value: Value<'d>,
@@ -387,7 +388,7 @@ impl<'d> Machine<'d> {
             NodeKind::Text(_) | NodeKind::Action(_) => unreachable!(),
             NodeKind::Declare(name, pipe) => match self.evaluated(alloc, node.line, pipe, steps) {
                 Ok((value, steps)) => {
-                    self.variables.push(name.as_str(), value)?;
+                    self.variables.push(name.get().as_str(), value)?;
                     self.node = node.next;
                     self.steps = steps;
                     Ok(Progress::Continues)
@@ -396,7 +397,7 @@ impl<'d> Machine<'d> {
             },
             NodeKind::Assign(name, pipe) => match self.evaluated(alloc, node.line, pipe, steps) {
                 Ok((value, steps)) => {
-                    self.variables.assign(name.as_str(), value);
+                    self.variables.assign(name.get().as_str(), value);
                     self.node = node.next;
                     self.steps = steps;
                     Ok(Progress::Continues)
@@ -406,14 +407,14 @@ impl<'d> Machine<'d> {
             NodeKind::If(name, pipe) => match self.evaluated(alloc, node.line, pipe, steps) {
                 Ok((value, steps)) => {
                     self.steps = steps;
-                    self.if_advance(alloc, node, name, value)
+                    self.if_advance(node, name.get(), value)
                 }
                 Err(stop) => Err(stop),
             },
             NodeKind::With(name, pipe) => match self.evaluated(alloc, node.line, pipe, steps) {
                 Ok((value, steps)) => {
                     self.steps = steps;
-                    self.with_advance(alloc, node, name, value)
+                    self.with_advance(alloc, node, name.get(), value)
                 }
                 Err(stop) => Err(stop),
             },
@@ -422,8 +423,8 @@ impl<'d> Machine<'d> {
                     Ok((source, steps)) => {
                         let header = LoopHeader {
                             line: node.line,
-                            index,
-                            element,
+                            index: index.get(),
+                            element: element.get(),
                             first: node.first,
                         };
                         self.steps = steps;
@@ -445,7 +446,7 @@ impl<'d> Machine<'d> {
             NodeKind::Template(name, pipe) => match self.argument(alloc, node.line, pipe, steps) {
                 Ok((value, steps)) => {
                     self.steps = steps;
-                    self.call_advance(alloc, forest, node, name.as_str(), value)
+                    self.call_advance(alloc, forest, node, name.get().as_str(), value)
                 }
                 Err(stop) => Err(stop),
             },
@@ -509,7 +510,8 @@ impl<'d> Machine<'d> {
         root: &'d str,
         datum: DatumRef<'d>,
     ) -> Result<Machine<'d>, Memory>
-        ensures { IfOk result (λ m. machine_view m ≡ machine_start forest.now root.now datum.entry) }
+        ensures { let start = machine_start forest.now root.now datum.entry in
+            IfOk result (λ m. machine_view m ≡ start) }
     {
         let body = body_named(forest, root);
         Ok(Machine {

@@ -39,6 +39,15 @@ pub fn parse_file(alloc: Global, name: &str, text: &str) -> Result<File, FileRef
     }
 }
 
+// The same tokens in no more memory than they need.
+fn fitted(tokens: List<Token>) -> List<Token>
+    ensures { result ≡ tokens }
+{
+    let mut items = tokens.into_vec();
+    items.shrink_to_fit();
+    List::from(items)
+}
+
 // A refusal of tokens, with the line of its offset.
 fn token_refusal(text: &str, why: TokenRefused) -> FileRefused
     requires limit { length text.now ≤ max_template_text }
@@ -79,6 +88,7 @@ fn parse_tokens(
     requires cuts { AreCuts text.now tokens }
     ensures { ParseTokensAnswers result (parsed_text name.now text.now tokens) }
 {
+    let tokens = fitted(tokens);
     let Ok(symbols) = symbols(alloc, text, tokens.as_slice()) else {
         return Err(FileRefused::Memory);
     };

@@ -211,6 +211,16 @@ fn close_end(kind: &SymbolKind) -> Option<u32>
     }
 }
 
+// Gives back the memory of symbols that were read, some thousands at a time: a file has many, and its tree needs room.
+fn release(left: &mut Vec<Symbol>)
+    ensures { left.new.items ≡ left.old.items }
+{
+    let spare = left.capacity() - left.len();
+    if spare > 1024 && spare > left.len() / 8 {
+        left.shrink_to_fit();
+    }
+}
+
 /// Reads the symbols of a file on. Their texts go into the nodes, and are not copied.
 pub fn run_symbols(
     alloc: Global,
@@ -224,7 +234,10 @@ pub fn run_symbols(
         let wanted = steps.parser_run old symbols in
         ParserStepAnswers result builder.new (phase_of position.new action.new) wanted }
 {
-    for symbol in symbols.into_vec() {
+    let mut left = symbols.into_vec();
+    left.reverse();
+    while let Some(symbol) = left.pop() {
+        release(&mut left);
         match step(alloc, builder, position, action, symbol) {
             Ok(()) => {}
             Err(Stop::Cause(why)) => return Err(Stop::Cause(why)),

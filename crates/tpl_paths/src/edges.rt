@@ -143,12 +143,12 @@ fn add_range(
 }
 
 /// The edges of a template, each once, in the order of its nodes. Fails only if allocation fails. Takes time in proportion to the number of
-/// nodes.
+/// nodes. A template without controls has an edge for each node, and its edges take no more room than that.
 pub fn edges_of(alloc: Global, tree: &Tree) -> Result<Vec<Edge>, AllocError>
     ensures { IfOk result (λ edges. edges.items
         ≡ read_edges (spec.edges_of tree.now.nodes 0 finish_point finish_point finish_point)) }
 {
-    let mut edges = Vec::new(alloc);
+    let mut edges = Vec::with_capacity(alloc, tree.count() as usize)?;
     add_edges(
         tree,
         tree.first(),

@@ -33,36 +33,36 @@ fn push_inner(alloc: Global, out: &mut Text, kind: &NodeKind, followed: bool) ->
         NodeKind::Text(text) => push_guarded(out, text.as_str(), followed),
         NodeKind::Action(pipe) => push_pipe(alloc, out, pipe),
         NodeKind::Declare(name, pipe) => {
-            push_declared(out, name)?;
+            push_declared(out, name.get())?;
             push_pipe(alloc, out, pipe)
         }
         NodeKind::Assign(name, pipe) => {
             out.push_str(" $")?;
-            out.push_str(name.as_str())?;
+            out.push_str(name.get().as_str())?;
             out.push_str(" =")?;
             push_pipe(alloc, out, pipe)
         }
         NodeKind::If(name, pipe) => {
             out.push_str(" if")?;
-            push_named(out, name)?;
+            push_named(out, name.get())?;
             push_pipe(alloc, out, pipe)
         }
         NodeKind::With(name, pipe) => {
             out.push_str(" with")?;
-            push_named(out, name)?;
+            push_named(out, name.get())?;
             push_pipe(alloc, out, pipe)
         }
         NodeKind::Range(index, element, pipe) => {
             out.push_str(" range")?;
-            push_index(out, index)?;
-            push_named(out, element)?;
+            push_index(out, index.get())?;
+            push_named(out, element.get())?;
             push_pipe(alloc, out, pipe)
         }
         NodeKind::Break => out.push_str(" break"),
         NodeKind::Continue => out.push_str(" continue"),
         NodeKind::Template(name, pipe) => {
             out.push_str(" template \"")?;
-            push_escaped(alloc, out, name.as_str())?;
+            push_escaped(alloc, out, name.get().as_str())?;
             out.push_str("\"")?;
             push_argument(alloc, out, pipe)
         }

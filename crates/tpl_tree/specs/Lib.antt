@@ -4,6 +4,7 @@ pub mod Forests
 pub mod Listing
 pub mod NodesCode
 pub mod Pipes
+pub mod KeptSeams
 pub mod Sizes
 pub mod Trees
 pub mod View

@@ -5,6 +5,7 @@ ghost use Rattle.tpl_tree.specs.Listing.{linked};
 ghost use Rattle.tpl_tree.specs.declared.node_kind.NodeKind.TheVariants as kind_of;
 
 use crate::entry::Entry;
+use crate::kept_seams::KeptSeams;
 use crate::node_kind::NodeKind;
 use crate::tree::Tree;
 use page_io::{List, Memory, Text};
@@ -88,7 +89,6 @@ impl TreeBuilder {
         ensures ok { OnOk result (self.new ≡ append self.old (alone kind line [])) }
         ensures err { OnErr result (self.new ≡ self.old) }
     {
-        let alloc = *self.entries.allocator();
         let count = self.entries.len();
         if count >= u32::MAX as usize {
             return Err(Memory);
@@ -96,7 +96,7 @@ impl TreeBuilder {
         self.entries.push(Entry {
             kind,
             line,
-            seams: List::new(alloc),
+            seams: KeptSeams::none(),
             first: 0,
             other: 0,
             more: false,
@@ -132,7 +132,9 @@ impl TreeBuilder {
     pub fn into_tree(self, end_line: u32) -> Tree
         ensures { result ≡ record { nodes = self; end_line = end_line } }
     {
-        Tree::from_entries(self.entries, end_line)
+        let mut entries = self.entries;
+        entries.shrink_to_fit();
+        Tree::from_entries(entries, end_line)
     }
 }
 
@@ -155,6 +157,7 @@ fn text_node(alloc: Global, text: Text, line: u32, seams: List<Seam>) -> Result<
     requires seams { All (λ s. s.line + length text < 2 ^ 32) seams }
     ensures { IfOk result (λ b. b ≡ alone (kind_of.Text text) line seams) }
 {
+    let seams = KeptSeams::new(alloc, seams)?;
     let mut entries = Vec::new(alloc);
     entries.push(Entry {
         kind: NodeKind::Text(text),
@@ -188,7 +191,7 @@ fn control_node(
     entries.push(Entry {
         kind,
         line,
-        seams: List::new(alloc),
+        seams: KeptSeams::none(),
         first: first.len() as u32,
         other: other.len() as u32,
         more: false,

@@ -1,9 +1,9 @@
 ghost use Rattle.std.specs.Prelude.{◌≡◌, IfOk};
 
+use crate::kept_seams::KeptSeams;
 use crate::node_kind::NodeKind;
-use page_io::{List, Memory};
+use page_io::Memory;
 use std::alloc::Global;
-use tpl_symbol::Seam;
 
 // A node as trees keep it, in one vector in the order of the source. What an execution reads of it stands first.
 #[derive(Debug, Drop)]
@@ -18,7 +18,7 @@ pub(crate) struct Entry {
     pub(crate) more: bool,
     pub(crate) kind: NodeKind,
     // The seams of a text.
-    pub(crate) seams: List<Seam>,
+    pub(crate) seams: KeptSeams,
 }
 
 impl Entry {
@@ -27,7 +27,7 @@ impl Entry {
         ensures { IfOk result (λ copy. copy ≡ self.now) }
     {
         let kind = self.kind.copy(alloc)?;
-        let seams = copy_seams(alloc, &self.seams)?;
+        let seams = self.seams.copy(alloc)?;
         Ok(Entry {
             kind,
             line: self.line,
@@ -37,15 +37,4 @@ impl Entry {
             more: self.more,
         })
     }
-}
-
-/// Equal seams. Fails only if allocation fails.
-pub fn copy_seams(alloc: Global, seams: &List<Seam>) -> Result<List<Seam>, Memory>
-    ensures { IfOk result (λ copy. copy ≡ seams.now) }
-{
-    let mut copies = List::new(alloc);
-    for seam in seams.as_slice() {
-        copies.push(*seam)?;
-    }
-    Ok(copies)
 }

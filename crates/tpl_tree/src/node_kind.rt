@@ -1,5 +1,6 @@
 ghost use Rattle.std.specs.Prelude.{◌≡◌, IfOk};
 
+use crate::boxed::Boxed;
 use crate::pipe::Pipe;
 use page_io::{Memory, Text};
 use std::alloc::Global;
@@ -12,22 +13,22 @@ pub enum NodeKind {
     /// `{{.a}}`: the value of a pipe is written.
     Action(Pipe),
     /// `{{$x := .a}}`: a variable is declared.
-    Declare(Text, Pipe),
+    Declare(Boxed<Text>, Pipe),
     /// `{{$x = .a}}`: a variable gets another value.
-    Assign(Text, Pipe),
+    Assign(Boxed<Text>, Pipe),
     /// `{{if .a}}`, or `{{if $x := .a}}` with the variable.
-    If(Option<Text>, Pipe),
+    If(Boxed<Option<Text>>, Pipe),
     /// `{{with .a}}`, or `{{with $x := .a}}` with the variable.
-    With(Option<Text>, Pipe),
+    With(Boxed<Option<Text>>, Pipe),
     /// `{{range .a}}`; the first name is the variable of the index, the second that of the element, which stands alone in
     /// `{{range $e := .a}}`.
-    Range(Option<Text>, Option<Text>, Pipe),
+    Range(Boxed<Option<Text>>, Boxed<Option<Text>>, Pipe),
     /// `{{break}}`
     Break,
     /// `{{continue}}`
     Continue,
     /// `{{template "n"}}` by the name, or `{{template "n" .a}}` with the pipe. A `block` is such a call too.
-    Template(Text, Option<Pipe>),
+    Template(Boxed<Text>, Option<Pipe>),
 }
 
 impl NodeKind {
@@ -39,10 +40,10 @@ impl NodeKind {
             NodeKind::Text(text) => Ok(NodeKind::Text(copy_text(alloc, text)?)),
             NodeKind::Action(pipe) => Ok(NodeKind::Action(pipe.copy(alloc)?)),
             NodeKind::Declare(name, pipe) => {
-                Ok(NodeKind::Declare(copy_text(alloc, name)?, pipe.copy(alloc)?))
+                Ok(NodeKind::Declare(copy_boxed(alloc, name)?, pipe.copy(alloc)?))
             }
             NodeKind::Assign(name, pipe) => {
-                Ok(NodeKind::Assign(copy_text(alloc, name)?, pipe.copy(alloc)?))
+                Ok(NodeKind::Assign(copy_boxed(alloc, name)?, pipe.copy(alloc)?))
             }
             NodeKind::If(name, pipe) => Ok(NodeKind::If(
                 copy_name(alloc, name)?,
@@ -59,7 +60,7 @@ impl NodeKind {
             NodeKind::Break => Ok(NodeKind::Break),
             NodeKind::Continue => Ok(NodeKind::Continue),
             NodeKind::Template(name, pipe) => {
-                Ok(NodeKind::Template(copy_text(alloc, name)?, copy_argument(alloc, pipe)?))
+                Ok(NodeKind::Template(copy_boxed(alloc, name)?, copy_argument(alloc, pipe)?))
             }
         }
     }
@@ -71,13 +72,19 @@ fn copy_text(alloc: Global, text: &Text) -> Result<Text, Memory>
     Text::copy_of(alloc, text.as_str())
 }
 
+fn copy_boxed(alloc: Global, text: &Boxed<Text>) -> Result<Boxed<Text>, Memory>
+    ensures { IfOk result (λ copy. copy ≡ text.now) }
+{
+    Boxed::new(alloc, copy_text(alloc, text.get())?)
+}
+
 // The name of a variable, where there is one.
-fn copy_name(alloc: Global, name: &Option<Text>) -> Result<Option<Text>, Memory>
+fn copy_name(alloc: Global, name: &Boxed<Option<Text>>) -> Result<Boxed<Option<Text>>, Memory>
     ensures { IfOk result (λ copy. copy ≡ name.now) }
 {
-    match name {
-        Some(name) => Ok(Some(copy_text(alloc, name)?)),
-        None => Ok(None),
+    match name.get() {
+        Some(name) => Boxed::new(alloc, Some(copy_text(alloc, name)?)),
+        None => Boxed::new(alloc, None),
     }
 }
 

@@ -43,7 +43,8 @@ fn cut_text(text: &str, from: usize, to: usize) -> Result<&str, FaultKind>
 }
 
 fn slice_values<'a>(values: &'a [Datum], from: i64, to: i64) -> Result<DatumRef<'a>, FaultKind>
-    ensures { CutAnswers (items_part (items_view values.now) (bounds_of from to (length values.now))) result }
+    ensures { let cut = bounds_of from to (length values.now) in
+        CutAnswers (items_part (items_view values.now) cut) result }
 {
     match bounds(from, to, values.len()) {
         Some((from, to)) => Ok(cut_values(values, from, to)),

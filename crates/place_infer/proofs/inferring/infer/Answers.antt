@@ -6,7 +6,7 @@ use Rattle.place_infer.proofs.inferring.infer.Goals as goal
 
 pub returns : goal.returns
 returns c =
-    let summaries = c.in_ok-found.found.summaries in
+    let summaries = c.in_ok-found.found in
     let numbers = c.in_ok-numbers.ensures in
     let is = subst (λ (x : ForestData). IsLeastChart x c.deref.result.now place.Text summaries) c.in_ok-flows.ensures c.in_ok-found.ensures in
     let same = c.deref-2.ensures.value ∙ numbers in

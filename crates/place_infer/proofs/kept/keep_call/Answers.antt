@@ -15,8 +15,8 @@ pub returns-in-Enters-clause-kept : goal.returns-in-Enters-clause-kept
 returns-in-Enters-clause-kept c =
     let summary = c.summary-summary.result.now in
     let h = has-ends (slice_get (edges_at c.args.flows.now summary.template) c.args.number) c.in-Some.from c.in-Some.field-0-1 (sym c.in-Some.is ∙ c.ends.ensures) in
-    on_ok c.keep_pair.result c.keep_pair.ensures.kept (λ f roots first kept.
-    f c.args.flows.now roots first kept (inr (record {
+    on_ok c.keep_pair.result c.keep_pair.ensures.kept (λ f roots first whole kept.
+    f c.args.flows.now roots first whole kept (inr (record {
       caller = c.args.n;
       number = c.args.number;
       summary = summary;

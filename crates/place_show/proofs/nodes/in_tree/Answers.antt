@@ -39,6 +39,6 @@ returns-in-None c =
     let nodes = c.args.tree.now.nodes in
     let n = c.args.node in
     let call = sym c.kind-kind.ensures.kind ∙ ap (λ (k : NodeKind). Some k) c.in-Template.is in
-    let missing = sym (c.in-None.ensures.number ∙ ap (λ (name : List ℕ). number_named name forest) c.as_str.ensures) in
+    let missing = sym (c.in-None.ensures.number ∙ ap (λ (name : List ℕ). number_named name forest) (c.as_str.ensures ∙ c.get.ensures)) in
     if-shown (IsMadeOne forest w code.NoSuchTemplate (head_line (nodes_from nodes n)) n 0 w.place) (ShowsOneAt forest w nodes n) c.at_node-in-None.result
     (λ sh m. missing-shown forest w nodes n c.in-Template.name c.in-Template.field-1 sh call missing m) c.at_node-in-None.ensures

@@ -1,21 +1,24 @@
-use Rattle.std.proofs.Common.{◌≡◌, ◌∙◌, ℕ, List, [], ◌∷◌, ◌++◌, ap, length, subst, sym}
+use Rattle.std.proofs.Common.{◌≡◌, ◌∙◌, ℕ, List, [], ◌∷◌, ◌++◌, Option, ap, length, subst, sym}
 use Rattle.place_flow.specs.Flows.{start_at}
 use Rattle.place_flow.specs.declared.point_state.PointState.TheVariants.{At}
-use Rattle.place_derive.specs.FirstConflicts.{IsSoundLog}
+use Rattle.place_derive.specs.Logs.{IsKeptLog, log_with}
 use Rattle.place_derive.specs.Tracing.{derivation_entering}
 use Rattle.place_derive.specs.declared.derivation.Derivation.{Derivation}
 use Rattle.place_derive.proofs.Entering.{entered_stay, entered_sound}
+use Rattle.place_derive.proofs.KeptLogs.{kept_more}
 use Rattle.place_chart.proofs.FreshSummaries.{IsBlank}
 use Rattle.place_chart.specs.Summaries.{AreRaised}
 use Rattle.place_chart.specs.declared.summary.Summary.{Summary}
 use Rattle.tpl_paths.specs.Edges.{Point}
 use Rattle.place_derive.proofs.derived.Derived.enter.Goals as goal
 
+pub returns-then-is_point_state_below-clause-sound : goal.returns-then-is_point_state_below-clause-sound
+returns-then-is_point_state_below-clause-sound c = λ roots first log enters kept derivation h. record { log = log; is = kept; sound = h }
+
 pub returns-clause-sound : goal.returns-clause-sound
-returns-clause-sound c = λ roots first enters derivation h.
+returns-clause-sound c = λ roots first log enters kept derivation h.
     let forest = c.args.flows.now in
     let summaries = c.args.self.now.summaries in
-    let log = c.args.self.now.log.items in
     let conflict = c.args.self.now.conflict in
     let summary = c.in_ok-summary.summary in
     let t = c.args.template in
@@ -26,11 +29,14 @@ returns-clause-sound c = λ roots first enters derivation h.
     subst (λ (rs : List Summary). AreRaised rs new (length summaries) (start_at forest t) (At e)) c.in_ok-push.ensures.ok
     (subst (λ (n : ℕ). AreRaised c.push.new.self new n (start_at forest t) (At e)) c.count-n.ensures
     (subst (λ (k : Point). AreRaised c.push.new.self new c.count-n.result k (At e)) c.start-start.ensures c.raise.ensures.raised)) in
-    let same : c.start-start.result ≡ start_at forest t = c.start-start.ensures in
-    let logs : c.push-2.new.self.items ≡ log ++ derivation_entering forest t e c.args.from c.args.source ∷ [] =
-    c.in_ok-push-2.ensures.items ∙ ap (λ (k : Point). log ++ record { template = t; entry = e; point = k; from = c.args.from; source = c.args.source; place = e } ∷ []) same in
-    subst (λ (l : List Derivation). IsSoundLog forest roots first new l conflict) (sym logs)
-    (entered_sound forest roots first summaries new log conflict t e summary c.args.from c.args.source blank raised enters derivation h)
+    let g = derivation_entering forest t e c.args.from c.args.source in
+    let same : c.push-2.new.self ≡ log_with c.args.self.now.log (g ∷ []) =
+    c.in_ok-push-2.ensures ∙ ap (λ (k : Point). log_with c.args.self.now.log (record { template = t; entry = e; point = k; from = c.args.from; source = c.args.source; place = e } ∷ [])) c.start-start.ensures in
+    record {
+      log = log ++ g ∷ [];
+      is = subst (λ (l : Option (List Derivation)). IsKeptLog l (log ++ g ∷ [])) (sym same) (kept_more c.args.self.now.log log (g ∷ []) kept);
+      sound = entered_sound forest roots first summaries new log conflict t e summary c.args.from c.args.source blank raised enters derivation h;
+    }
 
 pub returns-clause-stays : goal.returns-clause-stays
 returns-clause-stays c =
