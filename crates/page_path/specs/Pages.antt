@@ -33,7 +33,17 @@ san_bytes san.Html text = html text
 san_bytes san.Attr text = html text
 san_bytes san.AttrNospace text = attr_nospace text
 san_bytes san.AttrName text = attr_name text
-san_bytes x text = []
+san_bytes san.Drop text = []
+-- those of scripts, styles and URLs, which no context has yet
+san_bytes san.JsValue text = []
+san_bytes san.JsString text = []
+san_bytes san.JsRegexp text = []
+san_bytes san.CssValue text = []
+san_bytes san.CssString text = []
+san_bytes san.UrlFilter text = []
+san_bytes san.UrlOpen text = []
+san_bytes san.UrlNorm text = []
+san_bytes san.UrlQuery text = []
 
 -- likewise, and a chain of them, one after the other
 abbrev pub chain_bytes : Chain → List ℕ → List ℕ

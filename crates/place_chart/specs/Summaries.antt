@@ -1,5 +1,5 @@
 -- A chart as summaries, one for each pair of a template and a place in which it is entered.
-use Rattle.std.specs.Prelude.{◌≡◌, ℕ, ◌==◌, ◌+◌, ◌*◌, Bool, List, [], ◌∷◌, ◌&&◌, if◌then◌else◌, Option, Some, None, option_map, suc, All, slice_get, slice_set, slice_index_or, ◌⊎◌}
+use Rattle.std.specs.Prelude.{◌≡◌, ℕ, ◌==◌, ◌+◌, ◌*◌, Bool, List, [], ◌∷◌, ◌&&◌, if◌then◌else◌, Option, Some, None, is_some, option_map, suc, true, All, slice_get, slice_set, slice_index_or, ◌⊎◌}
 use Rattle.std.specs.BTreeMap.{is_at}
 use Rattle.std.specs.Map.{lookup}
 use Rattle.std.specs.Ordering.{nat_cmp}
@@ -16,11 +16,12 @@ use Rattle.tpl_paths.specs.Edges.{Point, from_of, to_of}
 use Rattle.tpl_paths.specs.declared.point.Point.TheVariants as point
 use Rattle.tpl_tree.specs.Forests.{ForestData}
 
--- what a point within a control has, by its number; a point that is not kept has nothing
+-- what was found of a point; of one that is not kept, nothing
 abbrev pub found_state : Option PointState → PointState
 found_state None = Unreached
 found_state (Some s) = s
 
+-- what a point of a control has, by its number: the points `Again`, `Head` and `Past` of a node n have 3 n, 3 n + 1 and 3 n + 2
 abbrev pub inner_state : List (ℕ × PointState) → ℕ → PointState
 inner_state inner number = found_state (lookup (is_at (nat_cmp number)) inner)
 
@@ -84,14 +85,18 @@ IsRaised old new point by = (k : Point) → (point_state_in new k ≡ point_stat
 abbrev pub IsPut : Summary → Summary → Point → PointState → Type 0
 IsPut old new point s = (k : Point) → (point_state_in new k ≡ point_state_in old k) ⊎ ((k ≡ point) × (point_state_in new k ≡ s))
 
--- likewise of the points before nodes, and of those within controls
+-- likewise of the points before nodes, and of those of controls
 abbrev pub ArePut : List PointState → List PointState → ℕ → PointState → Type 0
 ArePut old new n s = (i : ℕ) → (slice_index_or new i Unreached ≡ slice_index_or old i Unreached) ⊎ ((i ≡ n) × (slice_index_or new i Unreached ≡ s))
 
 abbrev pub AreInnerPut : List (ℕ × PointState) → List (ℕ × PointState) → ℕ → PointState → Type 0
 AreInnerPut old new n s = (i : ℕ) → (inner_state new i ≡ inner_state old i) ⊎ ((i ≡ n) × (inner_state new i ≡ s))
 
--- no point within a control has anything
+-- a point of a control is kept, by its number
+abbrev pub HasNumber : List (ℕ × PointState) → ℕ → Type 0
+HasNumber inner number = is_some (lookup (is_at (nat_cmp number)) inner) ≡ true
+
+-- no point of a control has anything
 abbrev pub HasNoInner : List (ℕ × PointState) → Type 0
 HasNoInner inner = (i : ℕ) → inner_state inner i ≡ Unreached
 
@@ -105,7 +110,7 @@ pub record AreRaised (old new : List Summary) (n : ℕ) (point : Point) (by : Po
   pub entry : after.entry ≡ before.entry
   pub raised : IsRaised before after point by
 
--- one of some summaries was taken out, and one of the same pair stands in its place
+-- a summary was taken out of some, and one of the same pair with nothing at its points stands in its place
 pub record IsTaken (old new : List Summary) (n : ℕ) : Type 0 where
   pub before : Summary
   pub after : Summary
@@ -113,3 +118,4 @@ pub record IsTaken (old new : List Summary) (n : ℕ) : Type 0 where
   pub is : new ≡ slice_set old n after
   pub template : after.template ≡ before.template
   pub entry : after.entry ≡ before.entry
+  pub nothing : (k : Point) → point_state_in after k ≡ Unreached

@@ -1,6 +1,6 @@
 ghost use Rattle.std.specs.Prelude.{◌≡◌, ℕ, IsTrue, OnOk, [], false};
 ghost use Rattle.place_chart.specs.Conflicts.{HasInnerConflict};
-ghost use Rattle.place_chart.specs.Summaries.{AreInnerPut, HasNoInner, inner_state};
+ghost use Rattle.place_chart.specs.Summaries.{AreInnerPut, HasNoInner, HasNumber, inner_state};
 ghost use Rattle.place_flow.specs.PointStates.{IsConflictFree};
 
 use crate::conflict::is_conflict;
@@ -10,7 +10,8 @@ use std::alloc::Global;
 use std::collections::BTreeMap;
 use std::marker::Model;
 
-/// What the points within the controls of a template have, by numbers. Contracts see the numbers with what they have, in order.
+/// What the points of controls have, by the numbers that `specs/Summaries.antt` gives them: most nodes are no controls. Contracts see the
+/// numbers with what the points have, in order.
 #[derive(Debug, Drop)]
 pub struct InnerStates {
     states: BTreeMap<usize, PointState>,
@@ -26,8 +27,8 @@ impl Model for InnerStates {
 }
 
 impl InnerStates {
-    /// No points, which does not allocate.
-    pub fn new(alloc: Global) -> InnerStates
+    // No points, which does not allocate.
+    pub(crate) fn new(alloc: Global) -> InnerStates
         ensures { result ≡ [] }
     {
         InnerStates {
@@ -35,16 +36,17 @@ impl InnerStates {
         }
     }
 
-    /// Adds a point with nothing, by its number. Fails only if allocation fails.
-    pub fn add(&mut self, number: usize) -> Result<(), Memory>
-        ensures { OnOk result (HasNoInner self.old → HasNoInner self.new) }
+    // Adds a point with nothing, by its number. Fails only if allocation fails.
+    pub(crate) fn add(&mut self, number: usize) -> Result<(), Memory>
+        ensures nothing { OnOk result (HasNoInner self.old → HasNoInner self.new) }
+        ensures added { OnOk result (HasNumber self.new number) }
     {
         self.states.insert(number, PointState::Unreached)?;
         Ok(())
     }
 
-    /// What a point has, by its number.
-    pub fn get(&self, number: usize) -> PointState
+    // What a point has, by its number; nothing where it is not among these.
+    pub(crate) fn get(&self, number: usize) -> PointState
         ensures { result ≡ inner_state self.now number }
     {
         match self.states.get(&number) {
@@ -53,8 +55,8 @@ impl InnerStates {
         }
     }
 
-    /// Whether a point is in conflict.
-    pub fn has_conflict(&self) -> bool
+    // Whether a point is in conflict.
+    pub(crate) fn has_conflict(&self) -> bool
         ensures conflict_free { result ≡ false → (i : ℕ) → IsConflictFree (inner_state self.now i) }
         ensures conflict { IsTrue result → HasInnerConflict self.now }
     {
@@ -66,9 +68,11 @@ impl InnerStates {
         false
     }
 
-    /// Gives a state to a point, where that is among these, and reports whether it is.
-    pub fn put(&mut self, number: usize, point_state: PointState) -> bool
+    // Gives a state to a point, where that is among these, and reports whether it is.
+    pub(crate) fn put(&mut self, number: usize, point_state: PointState) -> bool
         ensures put { AreInnerPut self.old self.new number point_state }
+        ensures has { HasNumber self.old number → IsTrue result }
+        ensures given { IsTrue result → inner_state self.new number ≡ point_state }
         ensures kept { result ≡ false → self.new ≡ self.old }
     {
         match self.states.get_mut(&number) {

@@ -14,5 +14,5 @@ pub use conflict::has_conflict;
 pub use inner_states::InnerStates;
 pub use laws::{conflict_everywhere, conflict_free_closes, one_chart, one_count, root_is_chart};
 pub use summaries::Summaries;
-pub use summary::{Summary, blank, point_state_at};
+pub use summary::{Summary, blank, empty_summary, point_state_at};
 pub use through::{given_by, through_step};

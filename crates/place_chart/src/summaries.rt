@@ -4,7 +4,7 @@ ghost use Rattle.place_chart.specs.Summaries as spec;
 
 use crate::numbers::{add_number, numbers_of};
 use crate::search::first_at;
-use crate::summary::{Summary, no_points, point_state_at, raise};
+use crate::summary::{Summary, empty_summary, point_state_at, raise};
 use page_io::Memory;
 use place_core::Place;
 use place_flow::PointState;
@@ -110,13 +110,14 @@ impl Summaries {
         }
     }
 
-    /// Takes a summary out of these. What is left of it has nothing at any point.
+    /// Takes a summary out of these, and leaves one of the same pair that has nothing at any point. Does not allocate.
     pub fn take(&mut self, alloc: Global, n: usize) -> Summary
         requires { n < length self.old }
         ensures taken { slice_get self.old n ≡ Some result }
         ensures left { IsTaken self.old self.new n }
     {
-        let left = no_points(alloc, &self.summaries[n]);
+        let pair = &self.summaries[n];
+        let left = empty_summary(alloc, pair.template, pair.entry);
         mem::replace(&mut self.summaries[n], left)
     }
 

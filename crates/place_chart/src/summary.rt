@@ -11,8 +11,8 @@ use place_flow::{Flows, PointState, is_point_state_below, join_point_states};
 use std::alloc::Global;
 use tpl_paths::Point;
 
-/// A template by its number, the place in which it is entered, and what its points have there. Most nodes are no controls, so
-/// that only the point before them counts: the others are kept apart.
+/// A template by its number, the place in which it is entered, and what its points have there. Most nodes have one point, that before
+/// them, so the other points of controls are in a map.
 #[derive(Debug, Drop)]
 pub struct Summary {
     /// The template's number in the forest.
@@ -21,7 +21,7 @@ pub struct Summary {
     pub entry: Place,
     /// What the points before nodes have, by the nodes.
     pub before: Vec<PointState>,
-    /// What the points within controls have, by numbers: each node has three.
+    /// What the other points of controls have (`Again`, `Head` and `Past`), by the numbers 3 n, 3 n + 1 and 3 n + 2 of a node n.
     pub inner: InnerStates,
     /// What the end has.
     pub finish: PointState,
@@ -43,11 +43,13 @@ pub fn point_state_at(summary: &Summary, point: Point) -> PointState
     }
 }
 
-/// A summary of a template with nothing at its points. Fails only if allocation fails. It takes time in proportion to the nodes of the template.
+/// A summary of a template with nothing at its points. Fails only if allocation fails. Takes time in proportion to the edges of the
+/// template, times the logarithm of its controls.
 pub fn blank(alloc: Global, flows: &Flows, template: u32, entry: Place) -> Result<Summary, Memory>
     ensures template { IfOk result (λ summary. summary.template ≡ template) }
     ensures entry { IfOk result (λ summary. summary.entry ≡ entry) }
-    ensures nothing { IfOk result (λ summary. (k : spec.Point) → point_state_in summary k ≡ point_state.Unreached) }
+    ensures nothing { IfOk result (λ summary.
+        (k : spec.Point) → point_state_in summary k ≡ point_state.Unreached) }
 {
     let inner = blank_inner(alloc, flows, template)?;
     let nodes = flows.nodes(template) as usize;
@@ -60,7 +62,7 @@ pub fn blank(alloc: Global, flows: &Flows, template: u32, entry: Place) -> Resul
     })
 }
 
-// The points within the controls of a template, with nothing: an edge leads from each of them.
+// The points of the controls of a template but those before them, with nothing: an edge leads from each.
 fn blank_inner(alloc: Global, flows: &Flows, template: u32) -> Result<InnerStates, Memory>
     ensures { IfOk result HasNoInner }
 {
@@ -76,14 +78,15 @@ fn blank_inner(alloc: Global, flows: &Flows, template: u32) -> Result<InnerState
     Ok(inner)
 }
 
-// A summary of the same pair, without points.
-pub(crate) fn no_points(alloc: Global, summary: &Summary) -> Summary
-    ensures template { result.template ≡ summary.now.template }
-    ensures entry { result.entry ≡ summary.now.entry }
+/// A summary that keeps no points, so that each has nothing. Does not allocate.
+pub fn empty_summary(alloc: Global, template: u32, entry: Place) -> Summary
+    ensures template { result.template ≡ template }
+    ensures entry { result.entry ≡ entry }
+    ensures nothing { (k : spec.Point) → point_state_in result k ≡ point_state.Unreached }
 {
     Summary {
-        template: summary.template,
-        entry: summary.entry,
+        template,
+        entry,
         before: Vec::new(alloc),
         inner: InnerStates::new(alloc),
         finish: PointState::Unreached,

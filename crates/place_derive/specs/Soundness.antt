@@ -9,7 +9,7 @@ use Rattle.place_derive.specs.declared.derivation.Derivation.{Derivation}
 use Rattle.place_derive.specs.declared.derived.Derived.{Derived}
 use Rattle.tpl_tree.specs.Forests.{ForestData}
 
--- There is a log of summaries, which is what is kept, where anything is.
+-- Some log is sound for the summaries; where a log is kept, it is that one.
 pub record HasSoundLog (forest : ForestData) (roots : List ℕ) (first : Place) (summaries : List Summary) (kept : Option (List Derivation)) (conflict : Option FirstConflict) : Type 0 where
   pub log : List Derivation
   pub is : IsKeptLog kept log

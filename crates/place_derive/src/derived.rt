@@ -1,5 +1,6 @@
-ghost use Rattle.std.specs.Prelude.{ℕ, List};
+ghost use Rattle.std.specs.Prelude.{◌≡◌, ℕ, List};
 ghost use Rattle.place_core.specs.declared.place.Place.{Place as SpecPlace};
+ghost use Rattle.place_derive.specs.Logs.{is_kept};
 ghost use Rattle.place_derive.specs.Soundness.{IsSoundDerived};
 ghost use Rattle.tpl_tree.specs.Forests.{ForestData};
 
@@ -14,16 +15,17 @@ use std::alloc::Global;
 pub struct Derived {
     /// The summaries, one for each pair that was entered.
     pub summaries: Summaries,
-    /// What their points were given, in order.
+    /// What their points were given, in order, if that is kept.
     pub log: Log,
     /// Where there was a conflict first.
     pub conflict: Option<FirstConflict>,
 }
 
 impl Derived {
-    /// Nothing is derived; the log of what will be is kept or not. Does not allocate.
+    /// Nothing derived yet, with a log that is kept or not. Does not allocate.
     pub fn new(alloc: Global, keeps_log: bool) -> Derived
-        ensures { (forest : ForestData) (roots : List ℕ) (first : SpecPlace)
+        ensures keeps { is_kept result.log ≡ keeps_log }
+        ensures sound { (forest : ForestData) (roots : List ℕ) (first : SpecPlace)
             → IsSoundDerived forest roots first result }
     {
         let summaries = Summaries::new(alloc);

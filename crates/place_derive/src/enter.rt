@@ -1,9 +1,9 @@
-ghost use Rattle.std.specs.Prelude.{◌≤◌, ℕ, List, Contains, OnOk, length};
+ghost use Rattle.std.specs.Prelude.{◌≡◌, ◌≤◌, ℕ, List, Contains, OnOk, length};
 ghost use Rattle.place_core.specs.place.Places.{IsValid};
 ghost use Rattle.place_core.specs.declared.place.Place.{Place as SpecPlace};
 ghost use Rattle.place_derive.specs.Derivations.{IsEnteredPair, IsDerivation};
 ghost use Rattle.place_derive.specs.FirstConflicts.{IsSoundLog};
-ghost use Rattle.place_derive.specs.Logs.{IsKeptLog};
+ghost use Rattle.place_derive.specs.Logs.{IsKeptLog, is_kept};
 ghost use Rattle.place_derive.specs.Soundness.{IsSoundDerived};
 ghost use Rattle.place_derive.specs.declared.derivation.Derivation.{Derivation as SpecDerivation};
 ghost use Rattle.place_derive.specs.Tracing.{StayIn, derivation_entering};
@@ -27,13 +27,15 @@ impl Derived {
         from: DerivedFrom,
         source: Place,
     ) -> Result<Option<usize>, Memory>
-        ensures sound { OnOk result ((roots : List ℕ) (first : SpecPlace) (log : List SpecDerivation)
+        ensures sound { OnOk result ((roots : List ℕ) (first : SpecPlace)
+            (log : List SpecDerivation)
             → IsEnteredPair from → IsKeptLog self.old.log log
             → IsDerivation flows.now roots first log
             (derivation_entering flows.now template entry from source) from
             → IsSoundLog flows.now roots first self.old.summaries log self.old.conflict
             → IsSoundDerived flows.now roots first self.new) }
         ensures stays { OnOk result (StayIn self.old.summaries self.new.summaries) }
+        ensures keeps { OnOk result (is_kept self.new.log ≡ is_kept self.old.log) }
         ensures length { length self.old.summaries ≤ length self.new.summaries }
     {
         let start = flows.start(template);
@@ -71,6 +73,7 @@ impl Derived {
         ensures sound { OnOk result ((roots : List ℕ) → Contains roots root
             → IsSoundDerived flows.now roots first self.old
             → IsSoundDerived flows.now roots first self.new) }
+        ensures keeps { OnOk result (is_kept self.new.log ≡ is_kept self.old.log) }
         ensures length { length self.old.summaries ≤ length self.new.summaries }
     {
         match self.enter(alloc, flows, root, first, DerivedFrom::Root, first)? {

@@ -2,6 +2,7 @@ ghost use Rattle.std.specs.Prelude.{◌≡◌, ◌<◌, ◌≤◌, ℕ, List, On
 ghost use Rattle.place_core.specs.declared.place.Place.{Place as SpecPlace};
 ghost use Rattle.place_flow.specs.Transfer.{step_of};
 ghost use Rattle.place_flow.specs.declared.point_state.PointState.TheVariants as point_state;
+ghost use Rattle.place_derive.specs.Logs.{is_kept};
 ghost use Rattle.place_derive.specs.Soundness.{IsSoundDerived, StaysSound};
 ghost use Rattle.place_derive.specs.Tracing.{IsPairEdge};
 ghost use Rattle.tpl_tree.specs.Forests.{ForestData};
@@ -44,6 +45,7 @@ impl Derived {
         ensures stays { OnOk result ((e : spec.Edge)
             → IsPairEdge flows.now self.old.summaries edge e (point_state.At source)
             → IsPairEdge flows.now self.new.summaries edge e (point_state.At source)) }
+        ensures keeps { OnOk result (is_kept self.new.log ≡ is_kept self.old.log) }
         ensures length { length self.old.summaries ≤ length self.new.summaries }
     {
         match step {
@@ -68,6 +70,7 @@ impl Derived {
             → IsPairEdge flows.now self.old.summaries edge e (point_state.At source)
             → IsSoundDerived flows.now roots first self.old
             → IsSoundDerived flows.now roots first self.new) }
+        ensures keeps { OnOk result (is_kept self.new.log ≡ is_kept self.old.log) }
         ensures length { length self.old.summaries ≤ length self.new.summaries }
     {
         let step = transfer(flows, edge.template, edge.number as usize, source);
@@ -85,6 +88,7 @@ impl Derived {
             → IsPairEdge forest self.old.summaries edge e point_state.Conflict
             → IsSoundDerived forest roots first self.old
             → IsSoundDerived forest roots first self.new) }
+        ensures keeps { OnOk result (is_kept self.new.log ≡ is_kept self.old.log) }
         ensures length { length self.old.summaries ≤ length self.new.summaries }
     {
         let point = self.raise_end(edge, PointState::Conflict, PointState::Conflict)?;
@@ -106,6 +110,7 @@ impl Derived {
     ) -> Result<Propagated, Memory>
         requires { n < length self.old.summaries }
         ensures sound { OnOk result (StaysSound flows.now self.old self.new) }
+        ensures keeps { OnOk result (is_kept self.new.log ≡ is_kept self.old.log) }
         ensures length { length self.old.summaries ≤ length self.new.summaries }
     {
         if number > u32::MAX as usize {

@@ -6,7 +6,7 @@ use page_io::Memory;
 use std::alloc::Global;
 use std::marker::Model;
 
-/// The derivations in order, where they are kept. They are only read to show an error, and take five times the memory of all else
+/// The derivations in order, if they are kept. Only an error that is shown needs them, and they take more memory than all else
 /// that is derived. Contracts see them as `Some` of the list, or as `None`.
 #[derive(Debug, Drop)]
 pub struct Log {
@@ -35,7 +35,7 @@ impl Log {
         Log { derivations: None }
     }
 
-    /// Adds a derivation. Fails only if allocation fails.
+    /// Adds a derivation, if derivations are kept. Fails only if allocation fails.
     pub fn push(&mut self, derivation: Derivation) -> Result<(), Memory>
         ensures { OnOk result (self.new ≡ log_with self.old (derivation ∷ [])) }
     {

@@ -1,5 +1,6 @@
 ghost use Rattle.std.specs.Prelude.{◌≡◌, ◌<◌, ◌≤◌, ℕ, List, OnOk, length};
 ghost use Rattle.place_core.specs.declared.place.Place.{Place as SpecPlace};
+ghost use Rattle.place_derive.specs.Logs.{is_kept};
 ghost use Rattle.place_derive.specs.Soundness.{IsSoundDerived};
 ghost use Rattle.place_derive.specs.Tracing.{IsPairEdge};
 ghost use Rattle.place_chart.specs.Charts.{given};
@@ -31,6 +32,7 @@ impl Derived {
             → by ≡ given forest (chart_of self.old.summaries) edge.template e at
             → IsSoundDerived forest roots first self.old
             → IsSoundDerived forest roots first self.new) }
+        ensures keeps { OnOk result (is_kept self.new.log ≡ is_kept self.old.log) }
         ensures length { length self.old.summaries ≤ length self.new.summaries }
     {
         let old = point_state_at(self.summaries.summary(edge.summary), edge.to);

@@ -3,4 +3,3 @@ pub mod FoundCharts
 pub mod JudgedCharts
 pub mod KeptCalls
 pub mod KeptLaws
-pub mod TakenPairs

@@ -18,12 +18,12 @@ pub record IsKeptPair (forest : ForestData) (roots : List ℕ) (first : Place) (
   pub reached : (i : ℕ) (summary : Summary) → slice_get kept i ≡ Some summary
       → IsReached forest roots first (take i kept) summary.template summary.entry
 
--- Of the pairs that are not kept yet, what is left of all summaries has the same.
+-- At each pair that `kept` lacks, `left` has what `all` has.
 abbrev pub AreLeft : List Summary → List Summary → List Summary → Type 0
 AreLeft all left kept = (t : ℕ) (p : Place) → pair_number kept t p ≡ None → (k : Point)
     → chart_of left t p k ≡ chart_of all t p k
 
--- some of all summaries were taken out and are kept, and these are left
+-- `kept` was taken out of `all`, and `left` is what remains
 pub record AreKept (forest : ForestData) (roots : List ℕ) (first : Place) (all left kept : List Summary)
     : Type 0 where
   pub pairs : IsKeptPair forest roots first all kept

@@ -1,4 +1,5 @@
-ghost use Rattle.std.specs.Prelude.{◌≡◌, ◌<◌, ◌≤◌, ◌-◌, ℕ, IfOk, IsTrue, length, slice_get, slice_index_or, map, None, Some};
+ghost use Rattle.std.specs.Prelude.{◌≡◌, ◌<◌, ◌≤◌, ◌-◌, ℕ, IfOk, IsTrue, None, Some};
+ghost use Rattle.std.specs.Prelude.{length, map, slice_get, slice_index_or};
 ghost use Rattle.place_flow.specs.Flows.{nodes_at};
 ghost use Rattle.place_infer.specs.ChartViews.{ArePairCalls, chart_call, called_at, pair_at};
 ghost use Rattle.place_infer.specs.Inferring.{most_pairs};
@@ -62,7 +63,8 @@ fn calls_of_tree(
     requires { length summaries.now ≤ most_pairs }
     ensures { IfOk result (λ calls. nodes_at forest.now summary.now.template ≡ tree.now.nodes
         → (node : ℕ)
-        → slice_index_or calls.items node None ≡ chart_call forest.now summaries.now summary.now node) }
+        → slice_index_or calls.items node None
+        ≡ chart_call forest.now summaries.now summary.now node) }
 {
     let mut calls = Vec::with_capacity(alloc, tree.count() as usize)?;
     for node in 0..tree.count() {
@@ -80,7 +82,8 @@ fn all_calls(
 ) -> Result<Vec<Option<u32>>, Memory>
     requires { length summaries.now ≤ most_pairs }
     ensures { IfOk result (λ calls. (node : ℕ)
-        → slice_index_or calls.items node None ≡ chart_call forest.now summaries.now summary.now node) }
+        → slice_index_or calls.items node None
+        ≡ chart_call forest.now summaries.now summary.now node) }
 {
     if summary.template as usize >= forest.count() {
         return Ok(Vec::new(alloc));
@@ -103,7 +106,8 @@ fn calls_of_summary(
 ) -> Result<Vec<Option<u32>>, Memory>
     requires { length summaries.now ≤ most_pairs }
     ensures { IfOk result (λ calls. (node : ℕ)
-        → slice_index_or calls.items node None ≡ chart_call forest.now summaries.now summary.now node) }
+        → slice_index_or calls.items node None
+        ≡ chart_call forest.now summaries.now summary.now node) }
 {
     let mut calls = all_calls(alloc, forest, summaries, summary)?;
     trim(&mut calls);

@@ -20,7 +20,7 @@ use tpl_tree::Forest;
 /// The most pairs of a template and a place in which it is entered that a chart may have.
 pub const LIMIT: usize = 8192;
 
-// Why a set is refused: all is derived again, with a log of what was derived, from which the error is shown.
+// Why a set is refused that is in conflict: derives all again, with a log, from which the error is shown.
 fn explained(
     alloc: Global,
     forest: &Forest,
@@ -43,7 +43,7 @@ fn explained(
     }
 }
 
-// Why a set is refused of which a root ends in another place than text, likewise.
+// Why a set is refused of which a root ends elsewhere than in text: likewise.
 fn explained_end(
     alloc: Global,
     forest: &Forest,
@@ -60,7 +60,7 @@ fn explained_end(
     }
 }
 
-// The chart of what was found, or why it is none.
+// The chart of what was found, or why the set is refused.
 fn judged(
     alloc: Global,
     forest: &Forest,
@@ -96,7 +96,8 @@ fn judged(
 ///   stands.
 /// - `Memory`: out of memory.
 ///
-/// Takes time in proportion to the texts of the pairs that are made.
+/// Takes time in proportion to the texts of the pairs that are made, times the logarithm of the controls of a template; twice that where an
+/// error is shown.
 pub fn infer(alloc: Global, forest: &Forest, roots: &Names) -> Result<Chart, SetRefused>
     ensures { Infers forest.now roots.now result }
 {

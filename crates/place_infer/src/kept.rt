@@ -8,12 +8,12 @@ ghost use Rattle.tpl_tree.specs.Forests.{ForestData};
 ghost use Rattle.tpl_paths.specs.Edges as spec;
 
 use page_io::Memory;
-use place_chart::{InnerStates, Summaries, Summary, point_state_at};
+use place_chart::{Summaries, Summary, empty_summary, point_state_at};
 use place_core::Place;
 use place_flow::{Flows, PointState, Step, transfer};
 use std::alloc::Global;
 
-// What summaries have of a pair, which is taken out of them.
+// Takes the summary of a pair out of all; one with nothing at its points where there is none.
 fn taken(alloc: Global, all: &mut Summaries, template: u32, entry: Place) -> Summary
     ensures template { result.template ≡ template }
     ensures entry { result.entry ≡ entry }
@@ -22,23 +22,8 @@ fn taken(alloc: Global, all: &mut Summaries, template: u32, entry: Place) -> Sum
         → chart_of all.new t p k ≡ chart_of all.old t p k }
 {
     match all.find(template, entry) {
-        Some(n) => {
-            let summary = all.take(alloc, n);
-            Summary {
-                template,
-                entry,
-                before: summary.before,
-                inner: summary.inner,
-                finish: summary.finish,
-            }
-        }
-        None => Summary {
-            template,
-            entry,
-            before: Vec::new(alloc),
-            inner: InnerStates::new(alloc),
-            finish: PointState::Unreached,
-        },
+        Some(n) => all.take(alloc, n),
+        None => empty_summary(alloc, template, entry),
     }
 }
 

@@ -3,11 +3,12 @@ use place_flow::{Flows, point_number};
 use std::alloc::Global;
 use tpl_paths::Point;
 
-/// The edges of a template by the points from which they lead. Those that lead from the points of one node follow one another.
+/// The edges of a template by the points from which they lead, found by the first edge of each node: `edges_of` puts the edges of a
+/// node side by side.
 #[derive(Debug, Drop)]
 pub struct OutgoingEdges {
     template: u32,
-    // by the number of a node, the first edge that leads from one of its points
+    // by the number of a node, its first edge; `u32::MAX` where it has none, and no edge of that node follows there
     first: Vec<u32>,
 }
 
@@ -18,7 +19,7 @@ impl OutgoingEdges {
         let mut first = vec![in alloc; u32::MAX; nodes]?;
         for number in (0..flows.edge_count(template)).rev() {
             if let Some((from, _)) = flows.ends(template, number) {
-                set(&mut first, node_of(from), number);
+                set_first(&mut first, node_of(from), number);
             }
         }
         Ok(OutgoingEdges { template, first })
@@ -28,16 +29,16 @@ impl OutgoingEdges {
     pub fn first(&self, flows: &Flows, point: Point) -> Option<usize> {
         let node = node_of(point)?;
         let number = self.first.get(node as usize)?;
-        self.from(flows, point, *number as usize)
+        self.next_from(flows, point, *number as usize)
     }
 
     /// The next edge that leads from the same point as an edge.
     pub fn next(&self, flows: &Flows, point: Point, number: usize) -> Option<usize> {
-        self.from(flows, point, number.saturating_add(1))
+        self.next_from(flows, point, number.saturating_add(1))
     }
 
     // The first edge from a number on that leads from a point, among those that lead from its node.
-    fn from(&self, flows: &Flows, point: Point, start: usize) -> Option<usize> {
+    fn next_from(&self, flows: &Flows, point: Point, start: usize) -> Option<usize> {
         for number in start..flows.edge_count(self.template) {
             match flows.ends(self.template, number) {
                 Some((from, _)) if node_of(from) == node_of(point) => {
@@ -63,7 +64,7 @@ fn node_of(point: Point) -> Option<u32> {
 }
 
 // Sets the first edge of a node.
-fn set(first: &mut Vec<u32>, node: Option<u32>, number: usize) {
+fn set_first(first: &mut Vec<u32>, node: Option<u32>, number: usize) {
     if let Some(node) = node {
         if (node as usize) < first.len() && number <= u32::MAX as usize {
             first[node as usize] = number as u32;

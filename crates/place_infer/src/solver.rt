@@ -1,5 +1,6 @@
 ghost use Rattle.std.specs.Prelude.{◌≡◌, ◌<◌, ◌≤◌, ℕ, List, Contains, IfOk, OnOk, length};
 ghost use Rattle.place_core.specs.declared.place.Place.TheVariants as place;
+ghost use Rattle.place_derive.specs.Logs.{is_kept};
 ghost use Rattle.place_derive.specs.Soundness.{IsSoundDerived, StaysSound};
 
 use crate::outgoing::{OutgoingEdges, outgoing_of_each};
@@ -90,6 +91,7 @@ impl Solver {
     ) -> Result<(), Memory>
         requires { task.summary < length self.old.derived.summaries }
         ensures sound { OnOk result (StaysSound flows.now self.old.derived self.new.derived) }
+        ensures keeps { OnOk result (is_kept self.new.derived.log ≡ is_kept self.old.derived.log) }
         ensures length { length self.old.derived.summaries ≤ length self.new.derived.summaries }
     {
         let propagated = self.derived.propagate(alloc, flows, task.summary, number)?;
@@ -109,6 +111,7 @@ impl Solver {
     ) -> Result<(), Memory>
         requires { task.summary < length self.old.derived.summaries }
         ensures sound { OnOk result (StaysSound flows.now self.old.derived self.new.derived) }
+        ensures keeps { OnOk result (is_kept self.new.derived.log ≡ is_kept self.old.derived.log) }
         ensures length { length self.old.derived.summaries ≤ length self.new.derived.summaries }
     {
         let mut next = outgoing.first(flows, task.point);
@@ -133,6 +136,7 @@ impl Solver {
         task: Task,
     ) -> Result<(), Memory>
         ensures sound { OnOk result (StaysSound flows.now self.old.derived self.new.derived) }
+        ensures keeps { OnOk result (is_kept self.new.derived.log ≡ is_kept self.old.derived.log) }
     {
         if task.summary >= self.derived.summaries.count() {
             return Ok(());
@@ -160,6 +164,7 @@ impl Solver {
         ensures sound { OnOk result ((roots : List ℕ) → Contains roots root
             → IsSoundDerived flows.now roots place.Text self.old.derived
             → IsSoundDerived flows.now roots place.Text self.new.derived) }
+        ensures keeps { OnOk result (is_kept self.new.derived.log ≡ is_kept self.old.derived.log) }
     {
         if self.derived.enter_root(alloc, flows, root, TEXT)? {
             self.add_last(alloc, flows)?;
@@ -172,6 +177,7 @@ impl Solver {
     fn enter_roots(&mut self, alloc: Global, flows: &Flows, roots: &[u32]) -> Result<(), Memory>
         ensures sound { OnOk result (IsSoundDerived flows.now roots.now place.Text self.old.derived
             → IsSoundDerived flows.now roots.now place.Text self.new.derived) }
+        ensures keeps { OnOk result (is_kept self.new.derived.log ≡ is_kept self.old.derived.log) }
     {
         for root in roots {
             self.enter_root(alloc, flows, *root)?;
@@ -180,15 +186,15 @@ impl Solver {
     }
 }
 
-/// What is derived from the roots, each of which is entered in text, once nothing waits, with its log or without. Fails only if
-/// allocation fails.
+/// Derives all from the roots, each of which is entered in text, and keeps the log if asked to. Fails only if allocation fails.
 pub fn derive(
     alloc: Global,
     flows: &Flows,
     roots: &[u32],
     keeps_log: bool,
 ) -> Result<Derived, Memory>
-    ensures { IfOk result (IsSoundDerived flows.now roots.now place.Text) }
+    ensures sound { IfOk result (IsSoundDerived flows.now roots.now place.Text) }
+    ensures keeps { IfOk result (λ derived. is_kept derived.log ≡ keeps_log) }
 {
     let outgoing = outgoing_of_each(alloc, flows)?;
     let mut solver = Solver {

@@ -5,7 +5,7 @@ use Rattle.place_core.specs.page.States.{LexState}
 use Rattle.place_core.specs.page.Tags.{ValueState}
 use Rattle.place_trace.specs.declared.replay.PathReplay.{PathReplay}
 use Rattle.place_show.specs.Made.{InOrder}
-use Rattle.place_show.specs.Showings.{DoNotJoin, IsShownBy, JoinsAt, Meet, ShowsTwo, TextClashes, TwoErrors, kind_of_node, line_of_byte, line_of_node, shown_state}
+use Rattle.place_show.specs.Showings.{DoNotJoin, HoleClashes, IsShownBy, JoinsAt, Meet, ShowsTwo, TextClashes, TwoErrors, kind_of_node, line_of_byte, line_of_node, shown_state}
 use Rattle.place_show.specs.declared.showing.Seen.{Seen}
 use Rattle.place_show.specs.declared.showing.Showing.{Showing}
 use Rattle.tpl_paths.specs.Edges.{Point}
@@ -30,6 +30,18 @@ module _ (forest : ForestData) (sh : Showing) (w v : PathReplay) (a b : Seen) (m
     line = t.line ∙ sym (ap (λ (u : ℕ). line_of_byte forest u sh.node t.bytes sh.byte) meet.template);
   }
 
+  swapped-hole : (s r : LexState ValueState) → HoleClashes forest sh a b w v s r → HoleClashes forest sh b a v w r s
+  swapped-hole s r h = record {
+    pipe = h.pipe;
+    point = meet.point ∙ h.point;
+    hole = ap (λ (u : ℕ). kind_of_node forest u sh.node) meet.template ∙ h.hole;
+    clash = swapped-sides h.clash;
+    at = h.other_at;
+    other_at = h.at;
+    line = h.line ∙ sym (ap (λ (u : ℕ). line_of_node forest u sh.node) meet.template);
+    byte = h.byte;
+  }
+
   swapped-join : DoNotJoin forest sh a b w v → DoNotJoin forest sh b a v w
   swapped-join d = record {
     point = subst (λ (k : Point). JoinsAt sh.code k sh.node) (sym meet.point) d.point;
@@ -42,7 +54,8 @@ module _ (forest : ForestData) (sh : Showing) (w v : PathReplay) (a b : Seen) (m
 
   swapped-error : (s r : LexState ValueState) → TwoErrors forest sh a b w v s r → TwoErrors forest sh b a v w r s
   swapped-error s r (inl t) = inl (swapped-clash s r t)
-  swapped-error s r (inr d) = inr (swapped-join d)
+  swapped-error s r (inr (inl h)) = inr (inl (swapped-hole s r h))
+  swapped-error s r (inr (inr d)) = inr (inr (swapped-join d))
 
   pub two-shown : (by : IsShownBy forest sh a w) (other_by : IsShownBy forest sh b v) → InOrder a b sh.paths → TwoErrors forest sh a b w v (shown_state by.is) (shown_state other_by.is) → ShowsTwo forest sh
   two-shown by other_by (inl p) error = record {

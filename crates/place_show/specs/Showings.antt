@@ -2,7 +2,7 @@
 use Rattle.std.specs.Prelude.{◌≡◌, ◌≢◌, ℕ, false, List, [], ◌∷◌, All, Option, Some, None, map, take, ◌⊎◌}
 use Rattle.place_flow.specs.Covering.{read_moves}
 use Rattle.place_flow.specs.HtmlCovering.{html_language}
-use Rattle.place_core.specs.place.Errors.{Clashes, PathRefuses, RefusesHole, node}
+use Rattle.place_core.specs.place.Errors.{Clashes, ClashesHole, PathRefuses, RefusesHole, node}
 use Rattle.place_core.specs.page.Html.{start}
 use Rattle.place_core.specs.place.Places.{joined}
 use Rattle.place_core.specs.place.StatePlaces.{placed}
@@ -150,6 +150,19 @@ pub record TextClashes (forest : ForestData) (sh : Showing) (a b : Seen) (w v : 
   pub other_at : placed (node (take sh.byte bytes) r) ≡ Some b.at
   pub line : sh.line ≡ line_of_byte forest w.template sh.node bytes sh.byte
 
+-- A hole is refused on both together, each of which is at its place. No hole is today: it is one in a URL, of which the paths are in
+-- different parts.
+pub record HoleClashes (forest : ForestData) (sh : Showing) (a b : Seen) (w v : PathReplay)
+    (s r : LexState ValueState) : Type 0 where
+  pub pipe : Pipe
+  pub point : w.point ≡ before sh.node
+  pub hole : kind_of_node forest w.template sh.node ≡ Some (kind.Action pipe)
+  pub clash : ClashesHole s r sh.code ⊎ ClashesHole r s sh.code
+  pub at : a.at ≡ w.place
+  pub other_at : b.at ≡ v.place
+  pub line : sh.line ≡ line_of_node forest w.template sh.node
+  pub byte : sh.byte ≡ 0
+
 -- the code of places that do not join: at the head of a range, and after the parts of a control
 abbrev pub JoinsAt : Code → Point → ℕ → Type 0
 JoinsAt c k n =
@@ -175,7 +188,8 @@ pub record Meet (w v : PathReplay) : Type 0 where
 -- an error of two paths that meet
 abbrev pub TwoErrors : ForestData → Showing → Seen → Seen → PathReplay → PathReplay → LexState ValueState
     → LexState ValueState → Type 0
-TwoErrors forest sh a b w v s r = TextClashes forest sh a b w v s r ⊎ DoNotJoin forest sh a b w v
+TwoErrors forest sh a b w v s r =
+    TextClashes forest sh a b w v s r ⊎ (HoleClashes forest sh a b w v s r ⊎ DoNotJoin forest sh a b w v)
 
 -- The paths are in the order in which they come as they are printed.
 pub record ShowsTwo (forest : ForestData) (sh : Showing) : Type 0 where

@@ -1,4 +1,4 @@
-ghost use Rattle.std.specs.Prelude.{◌≡◌, IfOk, OnOk, All};
+ghost use Rattle.std.specs.Prelude.{◌≡◌, OnOk, All};
 ghost use Rattle.tpl_parse.specs.Steps.{InActionAnswers, ParserStepAnswers, EndActionAnswers};
 ghost use Rattle.tpl_parse.specs.Phases.{phase_of};
 ghost use Rattle.tpl_parse.specs.declared.action.Position.TheVariants as position_of;
@@ -211,7 +211,8 @@ fn close_end(kind: &SymbolKind) -> Option<u32>
     }
 }
 
-// Gives back the memory of symbols that were read, some thousands at a time: a file has many, and its tree needs room.
+// Gives back the room of symbols that were read, once it is more than that of 1,024 and of an eighth of those left: all copying together
+// takes time in proportion to the symbols.
 fn release(left: &mut Vec<Symbol>)
     ensures { left.new.items ≡ left.old.items }
 {

@@ -7,8 +7,8 @@ use Rattle.place_derive.proofs.NothingSound.{nothing_sound}
 use Rattle.place_chart.specs.declared.summary.Summary.{Summary}
 use Rattle.place_derive.proofs.derived.Derived.new.Goals as goal
 
-pub returns : goal.returns
-returns c = λ forest roots first. record {
+pub returns-clause-sound : goal.returns-clause-sound
+returns-clause-sound c = λ forest roots first. record {
   log = [];
   is = subst (λ (kept : Option (List Derivation)). IsKeptLog kept []) (sym c.new-log.ensures) (kept_none c.args.keeps_log);
   sound = subst (λ (summaries : List Summary). IsSoundLog forest roots first summaries [] None) (sym c.new-summaries.ensures) (nothing_sound forest roots first);
