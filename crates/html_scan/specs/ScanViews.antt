@@ -1,22 +1,28 @@
 -- The scan states and the causes of the code, where that many bytes of a text have been read.
-use Rattle.std.specs.Prelude.{ℕ, List, Option, Some, None}
+use Rattle.std.specs.Prelude.{ℕ, ◌+◌, List, [], ◌∷◌, Option, Some, None}
 use Rattle.std.specs.Str.{str_to_ascii_lowercase}
+use Rattle.place_core.specs.page.Classes.{class_of}
+use Rattle.place_core.specs.page.References.{Reference, Closed, next_reference}
 use Rattle.place_core.specs.page.Comments.{Declaration, OpensComment, OpensDoctype, Undecided, OpensNothing}
 use Rattle.place_core.specs.place.Errors.{PathCause}
-use Rattle.place_core.specs.page.States.{CommentState, Started, StartedDash, Dash, DashDash, Bang, PendingLess, PendingName}
-use Rattle.html_scan.specs.Scans.{Scan, At, AfterLess, AfterLessSolidus, InDeclaration, InTagName, InAttributeName, InCommentEnd, InContentEnd}
+use Rattle.place_core.specs.page.States.{CommentState, Started, StartedDash, Dash, DashDash, Bang, PendingLess, PendingName, PendingBang, PendingBangDash}
+use Rattle.place_core.specs.page.Tags.{Value, TypeSoFar, ValueState, Quoting, DoubleQuoted, SingleQuoted, Unquoted}
+use Rattle.place_core.specs.declared.element.Element.TheVariants as element
+use Rattle.html_scan.specs.Scans.{Scan, At, AfterLess, AfterLessSolidus, InDeclaration, InTagName, InAttributeName, InCommentEnd, InContentEnd, BeforeType, InType, type_read}
 use Rattle.html_scan.specs.Slices.{pending}
 use Rattle.html_scan.specs.declared.declaration.Declaration.{Declaration as ReadDeclaration}
 use Rattle.html_scan.specs.declared.declaration.Declaration.TheVariants as declaration
 use Rattle.html_scan.specs.declared.cause.Cause.{Cause as ReadCause}
 use Rattle.html_scan.specs.declared.comment_stage.CommentStage.{CommentStage}
 use Rattle.html_scan.specs.declared.comment_stage.CommentStage.TheVariants as stage
+use Rattle.html_scan.specs.declared.quoting.Quoting.{Quoting as ReadQuoting}
+use Rattle.html_scan.specs.declared.quoting.Quoting.TheVariants as quoting
 use Rattle.html_scan.specs.declared.scan.Scan.{Scan as ReadScan}
 use Rattle.html_scan.specs.declared.scan.Scan.TheVariants as scan
 
 abbrev pub cause_at : Option ReadCause → Option PathCause
 cause_at None = None
-cause_at (Some e) = Some (record { code = e.code; back = e.back })
+cause_at (Some e) = Some (record { code = e.code; back = e.back; shown = e.shown })
 
 abbrev pub stage_at : CommentStage → CommentState
 stage_at stage.Started = Started
@@ -24,6 +30,16 @@ stage_at stage.StartedDash = StartedDash
 stage_at stage.Dash = Dash
 stage_at stage.DashDash = DashDash
 stage_at stage.Bang = Bang
+
+abbrev pub quoting_at : ReadQuoting → Quoting
+quoting_at quoting.Double = DoubleQuoted
+quoting_at quoting.Single = SingleQuoted
+quoting_at quoting.Unquoted = Unquoted
+
+-- what bytes make of the value of a type
+abbrev pub read_type : Value ValueState → Reference → List ℕ → Value ValueState × Reference
+read_type v r [] = (v, r)
+read_type v r (b ∷ bs) = read_type (type_read v r b) (next_reference r (class_of b) b) bs
 
 -- the scan state after that many bytes of a text
 abbrev pub scan_at : List ℕ → ℕ → ReadScan → Scan
@@ -35,9 +51,13 @@ scan_at text k (scan.InTagName ends from) = InTagName ends (str_to_ascii_lowerca
 scan_at text k (scan.InAttributeName t typed from) = InAttributeName t typed (str_to_ascii_lowercase (pending text from k))
 scan_at text k (scan.InCommentEnd s) = InCommentEnd (stage_at s)
 scan_at text k (scan.AfterContentLess e) = InContentEnd e PendingLess
-scan_at text k (scan.InContentName e from) = InContentEnd e (PendingName (pending text from k))
+scan_at text k (scan.InContentName e from) = InContentEnd e (PendingName (pending text (from + 2) k))
+scan_at text k scan.AfterBlockBang = InContentEnd element.DataBlock PendingBang
+scan_at text k scan.AfterBlockBangDash = InContentEnd element.DataBlock PendingBangDash
+scan_at text k (scan.BeforeType t) = BeforeType t
+scan_at text k (scan.InType t q from) = (let read = read_type (TypeSoFar []) Closed (pending text from k) in InType t (quoting_at q) read.0 read.1)
 
--- where the name begins, and else the beginning of the text
+-- how many bytes of the text have been read at least: up to where the name or the value begins, or what is pending
 abbrev pub pending_from : ReadScan → ℕ
 pending_from (scan.At p) = 0
 pending_from scan.AfterLess = 0
@@ -46,8 +66,12 @@ pending_from (scan.InDeclaration from) = from
 pending_from (scan.InTagName ends from) = from
 pending_from (scan.InAttributeName t typed from) = from
 pending_from (scan.InCommentEnd s) = 0
-pending_from (scan.AfterContentLess e) = 0
-pending_from (scan.InContentName e from) = from
+pending_from (scan.AfterContentLess e) = 1
+pending_from (scan.InContentName e from) = from + 2
+pending_from scan.AfterBlockBang = 2
+pending_from scan.AfterBlockBangDash = 3
+pending_from (scan.BeforeType t) = 0
+pending_from (scan.InType t q from) = from
 
 abbrev pub declaration_at : ReadDeclaration → Declaration
 declaration_at declaration.Comment = OpensComment

@@ -1,17 +1,20 @@
 -- How a text is stepped, byte by byte, for all the paths that stand at a place together. Between lexemes they are at a place, which has sets; in
 -- a lexeme they are all in the same one. What is left out of the states of the lexer is what no place depends on: references, and what a
 -- quoted value has pending so far.
-use Rattle.std.specs.Prelude.{ℕ, Bool, true, false, ◌||◌, List, [], ◌∷◌, ◌++◌, length, Option, Some, None}
+use Rattle.std.specs.Prelude.{ℕ, Bool, true, false, ◌||◌, List, [], ◌∷◌, ◌++◌, length, Option, Some, None, if◌then◌else◌}
 use Rattle.std.specs.Char.{to_ascii_lowercase}
-use Rattle.place_core.specs.page.Classes.{Class, White, ExclamationMark, QuotationMark, Apostrophe, Solidus, LessThan, EqualsSign, GreaterThan, Letter}
+use Rattle.place_core.specs.page.Classes.{Class, White, ExclamationMark, QuotationMark, Apostrophe, HyphenMinus, Solidus, LessThan, EqualsSign, GreaterThan, Letter, class_of}
 use Rattle.place_core.specs.page.Comments.{Declaration, OpensComment, OpensDoctype, Undecided, OpensNothing, declared_by, next_comment, closes_comment}
 use Rattle.place_core.specs.page.Contents.{may_be_name_of, is_name_of}
-use Rattle.place_core.specs.place.Errors.{PathCause, place_error, at_hand, tag_name_error, attribute_name_error, unless_second, is_second_type}
-use Rattle.place_core.specs.place.StatePlaces.{tag_of, only_name, only_before, only_inside, only_after, unbegun, body_at}
-use Rattle.place_core.specs.page.States.{CommentState, Started, Inside, Broken, Pending, PendingLess, PendingName}
-use Rattle.place_core.specs.page.Tags.{tag_named}
-use Rattle.place_core.specs.page.Words.{kind_of}
+use Rattle.place_core.specs.place.Errors.{PathCause, place_error, at_hand, quotes_error, block_byte_error, block_cut_error, tag_name_error, attribute_name_error, unless_second}
+use Rattle.place_core.specs.page.Html.{ends_value}
+use Rattle.place_core.specs.page.References.{Reference, Closed, next_reference, undone_byte, settled}
+use Rattle.place_core.specs.place.StatePlaces.{tag_of, only_name, only_before, only_inside, only_after, unbegun, body_at, quotes_at}
+use Rattle.place_core.specs.page.States.{CommentState, Started, Inside, Broken, Pending, PendingLess, PendingName, PendingBang, PendingBangDash}
+use Rattle.place_core.specs.page.Tags.{is_second_type, first_kind, tag_named, Value, TypeSoFar, ValueState, languages, with_bytes, Quoting, DoubleQuoted, SingleQuoted, Unquoted}
+use Rattle.place_core.specs.page.Words.{kind_of, is_script_type}
 use Rattle.place_core.specs.declared.body.Body.{Body}
+use Rattle.place_core.specs.declared.code.Code.TheVariants as code
 use Rattle.place_core.specs.declared.element.Element.{Element}
 use Rattle.place_core.specs.declared.element.Element.TheVariants as element
 use Rattle.place_core.specs.declared.kind.Kind.{Kind}
@@ -38,8 +41,11 @@ pub data Scan : Type 0 where
   InAttributeName : TagOf → Bool → List ℕ → Scan
   -- at the beginning of a comment, or in what may be its end
   InCommentEnd : CommentState → Scan
-  -- in a title or a textarea, in what may be its end tag
+  -- in a title, a textarea or a data block, in what may be its end tag, or in the latter a `<!--`
   InContentEnd : Element → Pending → Scan
+  -- before the value of the `type` of a script, of this tag; and in it, with what it is so far, and the reference that is open in it
+  BeforeType : TagOf → Scan
+  InType : TagOf → Quoting → Value ValueState → Reference → Scan
 
 abbrev pub tag_element : TagOf → Element
 tag_element tag.End = element.Other
@@ -56,25 +62,37 @@ in_tag t typed spots k = At (place.Tag (record { tag = t; typed = typed; spots =
 abbrev pub content_scan : TagOf → Scan
 content_scan (tag.Start element.Title) = At (place.Rcdata element.Title)
 content_scan (tag.Start element.Textarea) = At (place.Rcdata element.Textarea)
+content_scan (tag.Start element.DataBlock) = At (place.Block false)
 content_scan t = At place.Text
 
 -- where a value begins after an equals sign; a value of a kind that is not built is refused
-abbrev pub value_scan : TagOf → Bool → Option Body → Scan
-value_scan t typed (Some b) = At (place.Value (record { tag = t; typed = typed; quotes = unbegun; body = b }))
+abbrev pub body_scan : TagOf → Bool → Option Body → Scan
+body_scan t typed (Some b) = At (place.Value (record { tag = t; typed = typed; quotes = unbegun; body = b }))
+body_scan t typed None = At place.Text
+
+abbrev pub value_scan : TagOf → Bool → Option Kind → Scan
+value_scan t typed (Some kind.ScriptType) = BeforeType t
+value_scan t typed (Some k) = body_scan t typed (body_at k)
 value_scan t typed None = At place.Text
 
-abbrev pub kind_body : Option Kind → Option Body
-kind_body (Some k) = body_at k
-kind_body None = None
-
--- in text, and in title and textarea
+-- in text, and in title, textarea and data blocks
 abbrev pub text_scan : Class → Scan
 text_scan LessThan = AfterLess
 text_scan c = At place.Text
 
+abbrev pub rest_place : Element → Place
+rest_place element.DataBlock = place.Block false
+rest_place e = place.Rcdata e
+
 abbrev pub content_next : Class → Element → Scan
 content_next LessThan e = InContentEnd e PendingLess
-content_next c e = At (place.Rcdata e)
+content_next c e = At (rest_place e)
+
+-- after `<` there; a data block alone has `<!`
+abbrev pub pending_less_next : Class → Element → Scan
+pending_less_next Solidus e = InContentEnd e (PendingName [])
+pending_less_next ExclamationMark element.DataBlock = InContentEnd element.DataBlock PendingBang
+pending_less_next c e = content_next c e
 
 -- in a doctype, and in a comment
 abbrev pub doctype_next : Class → Scan
@@ -106,7 +124,7 @@ abbrev pub tag_next : TagPlace → Class → ℕ → Scan
 tag_next t White b = in_tag t.tag t.typed (after_white t.spots) t.kind
 tag_next t Solidus b = in_tag t.tag t.typed only_before None
 tag_next t GreaterThan b = content_scan t.tag
-tag_next t EqualsSign b = value_scan t.tag t.typed (kind_body t.kind)
+tag_next t EqualsSign b = value_scan t.tag t.typed t.kind
 tag_next t c b = InAttributeName t.tag t.typed (to_ascii_lowercase b ∷ [])
 
 abbrev pub with_quotes : ValuePlace → Quotes → Scan
@@ -132,6 +150,46 @@ quoted_next v quotes.Sq Apostrophe = in_tag v.tag v.typed only_before None
 quoted_next v (quotes.Bare b) c = bare_next v b.uq c
 quoted_next v q c = with_quotes v q
 
+-- The value of a script's `type`: the tag after it, by what the value is. Behind it a `type` has been seen, but in an end tag, of which none is
+-- remembered.
+abbrev pub tag_by_type : TagOf → Bool → TagOf
+tag_by_type (tag.Start element.Script) false = tag.Start element.DataBlock
+tag_by_type t of_script = t
+
+abbrev pub type_tag : TagOf → Value ValueState → TagOf
+type_tag t (TypeSoFar value) = tag_by_type t (is_script_type value)
+type_tag t v = t
+
+abbrev pub type_typed : TagOf → Bool
+type_typed tag.End = false
+type_typed (tag.Start e) = true
+
+-- a byte of it
+abbrev pub type_read : Value ValueState → Reference → ℕ → Value ValueState
+type_read v r b = with_bytes languages v (undone_byte true r (class_of b) b)
+
+abbrev pub in_type : TagOf → Quoting → Value ValueState → Reference → ℕ → Scan
+in_type t q v r b = InType t q (type_read v r b) (next_reference r (class_of b) b)
+
+abbrev pub before_type_next : Class → ℕ → TagOf → Scan
+before_type_next White b t = BeforeType t
+before_type_next QuotationMark b t = InType t DoubleQuoted (TypeSoFar []) Closed
+before_type_next Apostrophe b t = InType t SingleQuoted (TypeSoFar []) Closed
+before_type_next GreaterThan b t = content_scan (type_tag t (TypeSoFar []))
+before_type_next c b t = in_type t Unquoted (TypeSoFar []) Closed b
+
+abbrev pub after_type : Quoting → Class → TagOf → Scan
+after_type Unquoted GreaterThan t = content_scan t
+after_type q c t = in_tag t (type_typed t) only_before None
+
+-- the first argument says whether the byte ends the value
+abbrev pub ended_type : Value ValueState → Reference → Value ValueState
+ended_type v r = with_bytes languages v (settled true r)
+
+abbrev pub type_next : Bool → Class → ℕ → TagOf → Quoting → Value ValueState → Reference → Scan
+type_next true c b t q v r = after_type q c (type_tag t (ended_type v r))
+type_next false c b t q v r = in_type t q v r b
+
 abbrev pub place_next : Place → Class → ℕ → Scan
 place_next place.Text c b = text_scan c
 place_next place.Doctype c b = doctype_next c
@@ -139,6 +197,7 @@ place_next (place.Comment dash) c b = comment_next c (comment_state dash)
 place_next (place.Rcdata e) c b = content_next c e
 place_next (place.Tag t) c b = tag_next t c b
 place_next (place.Value v) c b = quoted_next v v.quotes c
+place_next (place.Block lt) c b = content_next c element.DataBlock
 place_next p c b = At p
 
 -- in a lexeme
@@ -169,7 +228,7 @@ abbrev pub attribute_name_next : Class → ℕ → TagOf → Bool → Kind → L
 attribute_name_next White b t typed k name = in_tag t (typed_with t typed k) only_after (Some k)
 attribute_name_next Solidus b t typed k name = in_tag t (typed_with t typed k) only_before None
 attribute_name_next GreaterThan b t typed k name = content_scan t
-attribute_name_next EqualsSign b t typed k name = value_scan t typed (body_at k)
+attribute_name_next EqualsSign b t typed k name = value_scan t typed (Some k)
 attribute_name_next c b t typed k name = InAttributeName t typed (name ++ to_ascii_lowercase b ∷ [])
 
 abbrev pub end_name_next : Bool → Bool → Class → ℕ → Element → List ℕ → Scan
@@ -179,12 +238,13 @@ end_name_next grows true Solidus b e letters = in_tag tag.End false only_before 
 end_name_next grows true GreaterThan b e letters = At place.Text
 end_name_next grows whole c b e letters = content_next c e
 
-abbrev pub pending_less_next : Class → Element → Scan
-pending_less_next Solidus e = InContentEnd e (PendingName [])
-pending_less_next c e = content_next c e
+abbrev pub bang_next : Class → Element → Scan
+bang_next HyphenMinus e = InContentEnd e PendingBangDash
+bang_next c e = content_next c e
 
 abbrev pub content_end_next : Pending → Class → ℕ → Element → Scan
 content_end_next PendingLess c b e = pending_less_next c e
+content_end_next PendingBang c b e = bang_next c e
 content_end_next (PendingName letters) c b e = end_name_next (may_be_name_of e (letters ++ b ∷ [])) (is_name_of e letters) c b e letters
 content_end_next h c b e = content_next c e
 
@@ -198,27 +258,54 @@ scan_next (InTagName ends name) c b = tag_name_next c b ends name
 scan_next (InAttributeName t typed name) c b = attribute_name_next c b t typed (kind_of (tag_element t) name) name
 scan_next (InCommentEnd s) c b = comment_next c s
 scan_next (InContentEnd e h) c b = content_end_next h c b e
+scan_next (BeforeType t) c b = before_type_next c b t
+scan_next (InType t q v r) c b = type_next (ends_value q c) c b t q v r
 
-abbrev pub scan_error : Scan → Class → Option PathCause
-scan_error (At p) c = at_hand (place_error p c)
-scan_error (InTagName ends name) c = at_hand (tag_name_error (tag_of (tag_named ends name)) c)
-scan_error (InAttributeName t typed name) c = attribute_name_error t typed (kind_of (tag_element t) name) (length name) c
-scan_error AfterLess c = None
-scan_error AfterLessSolidus c = None
-scan_error (InDeclaration pending) c = None
-scan_error (InCommentEnd s) c = None
-scan_error (InContentEnd e h) c = None
+abbrev pub content_end_error : Element → Pending → Class → Option PathCause
+content_end_error element.DataBlock h c = block_byte_error h c
+content_end_error e h c = None
 
--- the place where the text ends, and what is refused there
+abbrev pub scan_error : Scan → Class → ℕ → Option PathCause
+scan_error (At p) c b = at_hand (place_error p c b)
+scan_error (InTagName ends name) c b = at_hand (tag_name_error (tag_of (tag_named ends name)) c)
+scan_error (InAttributeName t typed name) c b = attribute_name_error t typed (kind_of (tag_element t) name) (length name) c
+scan_error AfterLess c b = None
+scan_error AfterLessSolidus c b = None
+scan_error (InDeclaration pending) c b = None
+scan_error (InCommentEnd s) c b = None
+scan_error (InContentEnd e h) c b = content_end_error e h c
+scan_error (BeforeType t) c b = at_hand (quotes_error t unbegun c)
+scan_error (InType t q v r) c b = at_hand (quotes_error (type_tag t (ended_type v r)) (quotes_at q) c)
+
+-- the place where the text ends, and what is refused there; in the value of a type it is refused
+abbrev pub content_end_place : Element → Pending → Place
+content_end_place element.DataBlock PendingLess = place.Block true
+content_end_place e h = rest_place e
+
+abbrev pub whole_name_place : TagOf → Bool → Kind → Place
+whole_name_place t typed k = place.Tag (record { tag = t; typed = typed_with t typed k; spots = only_inside; kind = Some k })
+
 abbrev pub scan_place : Scan → Place
 scan_place (At p) = p
 scan_place AfterLess = place.Text
 scan_place AfterLessSolidus = place.Text
 scan_place (InDeclaration pending) = place.Text
 scan_place (InTagName ends name) = place.Tag (record { tag = tag_of (tag_named ends name); typed = false; spots = only_name; kind = None })
-scan_place (InAttributeName t typed name) = place.Tag (record { tag = t; typed = typed_with t typed (kind_of (tag_element t) name); spots = only_inside; kind = Some (kind_of (tag_element t) name) })
+scan_place (InAttributeName t typed name) = whole_name_place t typed (first_kind typed (kind_of (tag_element t) name))
 scan_place (InCommentEnd s) = place.Comment true
-scan_place (InContentEnd e h) = place.Rcdata e
+scan_place (InContentEnd e h) = content_end_place e h
+scan_place (BeforeType t) = place.Text
+scan_place (InType t q v r) = place.Text
+
+-- the place that is shown there: in the value of a script's `type` there is none
+abbrev pub scan_shown : Scan → Option Place
+scan_shown (BeforeType t) = None
+scan_shown (InType t q v r) = None
+scan_shown f = Some (scan_place f)
+
+abbrev pub content_cut_error : Element → Pending → Option PathCause
+content_cut_error element.DataBlock h = block_cut_error h
+content_cut_error e h = None
 
 abbrev pub scan_cut_error : Scan → Option PathCause
 scan_cut_error (InAttributeName t typed name) = unless_second (is_second_type typed (kind_of (tag_element t) name)) (length name) None
@@ -228,4 +315,6 @@ scan_cut_error AfterLessSolidus = None
 scan_cut_error (InDeclaration pending) = None
 scan_cut_error (InTagName ends name) = None
 scan_cut_error (InCommentEnd s) = None
-scan_cut_error (InContentEnd e h) = None
+scan_cut_error (InContentEnd e h) = content_cut_error e h
+scan_cut_error (BeforeType t) = at_hand (Some code.BadHTML)
+scan_cut_error (InType t q v r) = at_hand (Some code.BadHTML)

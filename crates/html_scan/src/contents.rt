@@ -1,7 +1,9 @@
-ghost use Rattle.std.specs.Prelude.{◌≡◌, ◌+◌, ◌^◌, ◌<◌, ◌≤◌, ℕ, List, get_or, length};
+ghost use Rattle.std.specs.Prelude.{◌≡◌, ◌+◌, ◌<◌, ◌≤◌, ℕ, List, get_or, length};
 ghost use Rattle.html_scan.specs.ClassViews.{class_at};
 ghost use Rattle.html_scan.specs.ScanViews.{scan_at, pending_from};
-ghost use Rattle.html_scan.specs.Scans.{content_next, end_name_next, pending_less_next};
+ghost use Rattle.html_scan.specs.Scans.{bang_next, content_next, end_name_next, pending_less_next};
+ghost use Rattle.html_scan.specs.Scans as spec;
+ghost use Rattle.place_core.specs.declared.element.Element.TheVariants as element;
 ghost use Rattle.html_scan.specs.Slices.{pending};
 
 use crate::class::Class;
@@ -9,21 +11,43 @@ use crate::scan::Scan;
 use crate::tags::before_name;
 use place_core::{Element, Place, TagOf};
 
-/// In a title or a textarea.
+/// In a title, a textarea or a data block.
 pub fn in_content(class: Class, element: Element) -> Scan
     ensures scan { (text : List ℕ) (k : ℕ) → scan_at text k result
         ≡ content_next (class_at class) element }
-    ensures pending { pending_from result ≡ 0 }
+    ensures pending { pending_from result ≤ 1 }
 {
     match class {
         Class::LessThan => Scan::AfterContentLess(element),
-        _ => Scan::At(Place::Rcdata(element)),
+        _ => Scan::At(rest_place(element)),
     }
 }
 
-/// In a title or a textarea, after `<`.
+/// Where the content of an element goes on that holds no tags.
+pub fn rest_place(element: Element) -> Place
+    ensures { result ≡ spec.rest_place element }
+{
+    match element {
+        Element::DataBlock => Place::Block(false),
+        _ => Place::Rcdata(element),
+    }
+}
+
+/// In a data block, after `<!`.
+pub fn after_block_bang(class: Class) -> Scan
+    ensures scan { (text : List ℕ) (k : ℕ) → scan_at text k result
+        ≡ bang_next (class_at class) element.DataBlock }
+    ensures pending { pending_from result ≤ 3 }
+{
+    match class {
+        Class::HyphenMinus => Scan::AfterBlockBangDash,
+        _ => in_content(class, Element::DataBlock),
+    }
+}
+
+/// In a title, a textarea or a data block, after `<`.
 pub fn after_content_less(class: Class, element: Element, index: usize) -> Scan
-    requires small { index < 2 ^ 63 }
+    requires less { 1 ≤ index }
     ensures scan { (text : List ℕ) → scan_at text (index + 1) result
         ≡ pending_less_next (class_at class) element }
     ensures pending { pending_from result ≤ index + 1 }
@@ -31,13 +55,15 @@ pub fn after_content_less(class: Class, element: Element, index: usize) -> Scan
     match class {
         Class::Solidus => Scan::InContentName {
             element,
-            from: index + 1,
+            from: index - 1,
         },
+        Class::ExclamationMark if matches!(element, Element::DataBlock) => Scan::AfterBlockBang,
         _ => in_content(class, element),
     }
 }
 
-/// In a title or a textarea, after `</` and letters: whether the byte goes on with its name, and whether they are all of it.
+/// In a title, a textarea or a data block, after `</` and letters: whether the byte goes on with its name, and whether they are all
+/// of it.
 pub fn in_content_name(
     class: Class,
     grows: bool,
@@ -45,10 +71,11 @@ pub fn in_content_name(
     element: Element,
     from: usize,
 ) -> Scan
-    ensures scan { (text : List ℕ) (k : ℕ) → from ≤ k → k < length text
+    ensures scan { (text : List ℕ) (k : ℕ) → from + 2 ≤ k → k < length text
         → scan_at text (k + 1) result
-        ≡ end_name_next grows whole (class_at class) (get_or text k 0) element (pending text from k) }
-    ensures pending { pending_from result ≤ from }
+        ≡ end_name_next grows whole (class_at class) (get_or text k 0) element
+        (pending text (from + 2) k) }
+    ensures pending { pending_from result ≤ from + 2 }
 {
     match class {
         Class::Letter(_) if grows => Scan::InContentName { element, from },

@@ -1,8 +1,10 @@
 ghost use Rattle.std.specs.Prelude.{◌≡◌, ◌≤◌, IfSome, length, if◌then◌else◌};
 ghost use Rattle.place_core.specs.declared.code.Code.TheVariants as code;
-ghost use Rattle.place_core.specs.place.Errors.{attribute_name_error, bare_error, body_error, comment_error, content_error, equals_error, is_second_type, kind_error, place_error, quotes_error, tag_error, tag_name_error, unless_second, value_error};
+ghost use Rattle.place_core.specs.place.Errors.{attribute_name_error, bare_error, block_byte_error, block_error, body_error, comment_error, content_error, equals_error, kind_error, place_error, quotes_error, tag_error, tag_name_error, unless_second, value_error};
 ghost use Rattle.std.specs.Str.{str_to_ascii_lowercase as lower};
 ghost use Rattle.place_core.specs.place.StatePlaces.{tag_of};
+ghost use Rattle.place_core.specs.page.Tags.{is_second_type};
+ghost use Rattle.place_core.specs.page.States.{PendingBangDash};
 ghost use Rattle.place_core.specs.page.Words.{kind_of};
 ghost use Rattle.html_scan.specs.Scans.{tag_element};
 ghost use Rattle.html_scan.specs.ClassViews.{class_at};
@@ -17,15 +19,16 @@ use place_core::{Bare, Body, Code, Element, Kind, Place, Quotes, TagOf, TagPlace
 
 /// Why a byte is refused at a place.
 #[inline(always)]
-pub fn at_place(place: Place, class: Class) -> Option<Code>
-    ensures { result ≡ place_error place (class_at class) }
+pub fn at_place(place: Place, class: Class, byte: u8) -> Option<Code>
+    ensures { result ≡ place_error place (class_at class) byte }
 {
     match place {
         Place::Text | Place::Doctype | Place::Rcdata(_) => None,
         Place::Comment(dash) => in_comment(dash, class),
         Place::Tag(tag) => in_tag(tag, class),
-        Place::Value(value) => in_value(value, class),
-        Place::Script(_) | Place::Style(_) | Place::Block(_) => Some(Code::NotBuilt),
+        Place::Value(value) => in_value(value, class, byte),
+        Place::Block(less) => in_block(less, class),
+        Place::Script(_) | Place::Style(_) => Some(Code::NotBuilt),
     }
 }
 
@@ -45,7 +48,8 @@ pub fn in_tag_name(ends: bool, name: &[u8], class: Class) -> Option<Code>
 pub fn in_attribute_name(tag: TagOf, typed: bool, name: &[u8], class: Class) -> Option<Cause>
     ensures error { cause_at result ≡ attribute_name_error tag typed
         (kind_of (tag_element tag) (lower name.now)) (length name.now) (class_at class) }
-    ensures bound { IfSome result (λ cause. cause.back ≤ length name.now) }
+    ensures bound { IfSome result (λ cause.
+        (cause.back ≤ length name.now) × (cause.shown ≤ length name.now)) }
 {
     match class {
         Class::White | Class::Solidus => name_ends(typed, kind_on(tag, name), name.len(), None),
@@ -62,12 +66,13 @@ pub fn in_attribute_name(tag: TagOf, typed: bool, name: &[u8], class: Class) -> 
 /// Why the end of an attribute's name is refused: a second `type` of a script, at its first byte, or else this.
 pub fn name_ends(typed: bool, kind: Kind, len: usize, code: Option<Code>) -> Option<Cause>
     ensures error { cause_at result ≡ unless_second (is_second_type typed kind) len code }
-    ensures bound { IfSome result (λ cause. cause.back ≤ len) }
+    ensures bound { IfSome result (λ cause. (cause.back ≤ len) × (cause.shown ≤ len)) }
 {
     if is_second(typed, kind) {
         return Some(Cause {
             code: Code::BadHTML,
             back: len,
+            shown: len,
         });
     }
     at_hand(code)
@@ -121,16 +126,27 @@ fn equals_sign(name: bool, before: bool, kind: Option<Kind>) -> Option<Code>
     }
 }
 
-fn in_value(place: ValuePlace, class: Class) -> Option<Code>
-    ensures { result ≡ value_error place (class_at class) }
+fn in_value(place: ValuePlace, class: Class, byte: u8) -> Option<Code>
+    ensures { result ≡ value_error place (class_at class) byte }
 {
-    match place.body {
-        Body::Plain | Body::NoHole => in_quotes(place.tag, place.quotes, class),
+    match in_body(place.body, byte) {
+        Some(code) => Some(code),
+        None => in_quotes(place.tag, place.quotes, class),
+    }
+}
+
+// What the language of a value refuses.
+fn in_body(body: Body, _byte: u8) -> Option<Code>
+    ensures { result ≡ body_error body _byte }
+{
+    match body {
+        Body::Plain | Body::NoHole => None,
         Body::Url(_) | Body::Js(_) | Body::Css(_) => Some(Code::NotBuilt),
     }
 }
 
-fn in_quotes(tag: TagOf, quotes: Quotes, class: Class) -> Option<Code>
+/// In a value, or before one, whatever its language.
+pub fn in_quotes(tag: TagOf, quotes: Quotes, class: Class) -> Option<Code>
     ensures { result ≡ quotes_error tag quotes (class_at class) }
 {
     match quotes {
@@ -164,12 +180,37 @@ fn in_comment(dash: bool, class: Class) -> Option<Code>
     }
 }
 
+// Where a text has ended in `<` in a data block, no other goes on with what that may begin.
+fn in_block(less: bool, class: Class) -> Option<Code>
+    ensures { result ≡ block_error less (class_at class) }
+{
+    match class {
+        Class::Solidus | Class::ExclamationMark if less => Some(Code::SplitToken),
+        _ => None,
+    }
+}
+
+/// In a data block, after `<!-`: the byte that makes it `<!--`.
+pub fn after_block_bang_dash(class: Class) -> Option<Cause>
+    ensures error { cause_at result ≡ block_byte_error PendingBangDash (class_at class) }
+    ensures bound { IfSome result (λ cause. (cause.back ≤ 3) × (cause.shown ≤ 3)) }
+{
+    match class {
+        Class::HyphenMinus => Some(Cause {
+            code: Code::HtmlInScript,
+            back: 3,
+            shown: 3,
+        }),
+        _ => None,
+    }
+}
+
 // The content after a tag, of which a script's and a style's are not read yet.
 fn entering(tag: TagOf) -> Option<Code>
     ensures { result ≡ content_error tag }
 {
     match tag {
-        TagOf::Start(Element::Script | Element::DataBlock | Element::Style) => Some(Code::NotBuilt),
+        TagOf::Start(Element::Script | Element::Style) => Some(Code::NotBuilt),
         _ => None,
     }
 }
@@ -179,8 +220,8 @@ fn of_kind(kind: Kind) -> Option<Code>
     ensures { result ≡ kind_error kind }
 {
     match kind {
-        Kind::Plain | Kind::NoHole => None,
-        Kind::Url | Kind::Script | Kind::Style | Kind::ScriptType => Some(Code::NotBuilt),
+        Kind::Plain | Kind::NoHole | Kind::ScriptType => None,
+        Kind::Url | Kind::Script | Kind::Style => Some(Code::NotBuilt),
     }
 }
 
@@ -193,10 +234,14 @@ fn is_second(typed: bool, kind: Kind) -> bool
 /// A cause that stands at the byte at hand.
 pub fn at_hand(code: Option<Code>) -> Option<Cause>
     ensures error { cause_at result ≡ spec.at_hand code }
-    ensures bound { IfSome result (λ cause. cause.back ≤ 0) }
+    ensures bound { IfSome result (λ cause. (cause.back ≤ 0) × (cause.shown ≤ 0)) }
 {
     match code {
-        Some(code) => Some(Cause { code, back: 0 }),
+        Some(code) => Some(Cause {
+            code,
+            back: 0,
+            shown: 0,
+        }),
         None => None,
     }
 }

@@ -1,31 +1,51 @@
-ghost use Rattle.std.specs.Prelude.{◌≡◌, ◌≤◌, IfSome, length};
+ghost use Rattle.std.specs.Prelude.{◌≡◌, ◌<◌, ◌≤◌, IfSome, Some, get_or, length};
 ghost use Rattle.html_scan.specs.ClassViews.{class_at};
-ghost use Rattle.html_scan.specs.ScanViews.{cause_at, scan_at, pending_from};
+ghost use Rattle.html_scan.specs.ScanViews.{cause_at, quoting_at, scan_at, pending_from};
+ghost use Rattle.place_core.specs.declared.code.Code.TheVariants as code;
+ghost use Rattle.place_core.specs.place.StatePlaces.{quotes_at};
 ghost use Rattle.html_scan.specs.Scans.{scan_cut_error, scan_error};
 
 use crate::cause::Cause;
 use crate::class::Class;
-use crate::errors::{at_hand, at_place, in_attribute_name, in_tag_name, name_ends};
+use crate::errors::{
+    after_block_bang_dash, at_hand, at_place, in_attribute_name, in_quotes, in_tag_name, name_ends,
+};
 use crate::names::kind_on;
+use crate::quoting::Quoting;
 use crate::scan::Scan;
 use crate::slices::pending;
+use crate::tags::UNBEGUN;
+use crate::types::type_tag;
+use crate::values::BEGUN;
+use place_core::{Code, Element, Quotes};
 
 /// Why a byte is refused after that many bytes of a text.
 #[inline(always)]
 pub fn at_byte(text: &[u8], index: usize, class: Class, scan: Scan) -> Option<Cause>
-    requires inside { index ≤ length text.now }
+    requires inside { index < length text.now }
     requires pending { pending_from scan ≤ index }
     ensures error { cause_at result
-        ≡ scan_error (scan_at text.now index scan) (class_at class) }
-    ensures bound { IfSome result (λ cause. cause.back ≤ index) }
+        ≡ scan_error (scan_at text.now index scan) (class_at class) (get_or text.now index 0) }
+    ensures bound { IfSome result (λ cause. (cause.back ≤ index) × (cause.shown ≤ index)) }
 {
     match scan {
-        Scan::At(place) => at_hand(at_place(place, class)),
+        Scan::At(place) => at_hand(at_place(place, class, text[index])),
         Scan::InTagName { ends, from } => {
             at_hand(in_tag_name(ends, pending(text, from, index), class))
         }
         Scan::InAttributeName { tag, typed, from } => {
             in_attribute_name(tag, typed, pending(text, from, index), class)
+        }
+        Scan::AfterBlockBangDash => after_block_bang_dash(class),
+        Scan::BeforeType(tag) => at_hand(in_quotes(tag, UNBEGUN, class)),
+        Scan::InType {
+            tag,
+            quoting,
+            from,
+            ..
+        } => {
+            let tag = type_tag(tag, pending(text, from, index));
+            at_hand(in_quotes(tag, quotes_of(quoting), class))
         }
         _ => None,
     }
@@ -36,13 +56,42 @@ pub fn at_end(text: &[u8], scan: Scan) -> Option<Cause>
     requires pending { pending_from scan ≤ length text.now }
     ensures error { cause_at result
         ≡ scan_cut_error (scan_at text.now (length text.now) scan) }
-    ensures bound { IfSome result (λ cause. cause.back ≤ length text.now) }
+    ensures bound { IfSome result (λ cause.
+        (cause.back ≤ length text.now) × (cause.shown ≤ length text.now)) }
 {
     match scan {
         Scan::InAttributeName { tag, typed, from } => {
             let name = pending(text, from, text.len());
             name_ends(typed, kind_on(tag, name), name.len(), None)
         }
+        Scan::BeforeType(_) | Scan::InType { .. } => at_hand(Some(Code::BadHTML)),
+        Scan::InContentName {
+            element: Element::DataBlock,
+            from,
+        } => unfinished(text.len() - from),
+        Scan::AfterBlockBang => unfinished(2),
+        Scan::AfterBlockBangDash => unfinished(3),
         _ => None,
+    }
+}
+
+// A text that ends in a data block in what its end tag, or a `<!--`, begins with: this many bytes.
+fn unfinished(len: usize) -> Option<Cause>
+    ensures { result ≡ Some (record { code = code.SplitToken; back = 0; shown = len }) }
+{
+    Some(Cause {
+        code: Code::SplitToken,
+        back: 0,
+        shown: len,
+    })
+}
+
+fn quotes_of(quoting: Quoting) -> Quotes
+    ensures { result ≡ quotes_at (quoting_at quoting) }
+{
+    match quoting {
+        Quoting::Double => Quotes::Dq,
+        Quoting::Single => Quotes::Sq,
+        Quoting::Unquoted => BEGUN,
     }
 }

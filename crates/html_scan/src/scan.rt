@@ -1,8 +1,9 @@
 use crate::comment_stage::CommentStage;
+use crate::quoting::Quoting;
 use place_core::{Element, Place, TagOf};
 
-/// Where a text has been read to: a place, or within a lexeme. What has been read of a name begins at `from` in the text, and
-/// goes up to the byte at hand.
+/// Where a text has been read to: a place, or within a lexeme. What has been read of a name, or of the value of a `type`, begins
+/// at `from` in the text, and goes up to the byte at hand.
 #[derive(Clone, Copy)]
 pub enum Scan {
     /// At a place.
@@ -28,11 +29,23 @@ pub enum Scan {
     },
     /// In a comment, in what may be its end.
     InCommentEnd(CommentStage),
-    /// In a title or a textarea, after `<`.
+    /// In a title, a textarea or a data block, after `<`.
     AfterContentLess(Element),
-    /// In a title or a textarea, after `</` and letters.
+    /// In a title, a textarea or a data block, after `</` and letters; `from` is where the `<` stands.
     InContentName {
         element: Element,
+        from: usize,
+    },
+    /// In a data block, after `<!`.
+    AfterBlockBang,
+    /// In a data block, after `<!-`.
+    AfterBlockBangDash,
+    /// Before the value of the `type` of a script, of this tag.
+    BeforeType(TagOf),
+    /// In that value.
+    InType {
+        tag: TagOf,
+        quoting: Quoting,
         from: usize,
     },
 }

@@ -5,15 +5,16 @@ ghost use Rattle.html_scan.specs.Scans.{scan_next, place_next};
 
 use crate::class::Class;
 use crate::comments::{in_comment, in_comment_end};
-use crate::contents::{after_content_less, in_content, in_content_name};
+use crate::contents::{after_block_bang, after_content_less, in_content, in_content_name};
 use crate::declaration::declared_by;
 use crate::names::{is_name_of, may_be_name_of};
 use crate::scan::Scan;
 use crate::slices::pending;
 use crate::tags::{in_attribute_name, in_tag, in_tag_name};
 use crate::texts::{after_less, after_solidus, in_declaration, in_doctype, in_text};
+use crate::types::{before_type, in_type};
 use crate::values::in_value;
-use place_core::Place;
+use place_core::{Element, Place};
 
 /// The scan state after the byte at a place of a text, whether it is refused or not.
 #[inline(always)]
@@ -44,10 +45,20 @@ pub fn next(text: &[u8], index: usize, class: Class, scan: Scan) -> Scan
         Scan::InCommentEnd(stage) => in_comment_end(class, stage),
         Scan::AfterContentLess(element) => after_content_less(class, element, index),
         Scan::InContentName { element, from } => {
-            let grows = may_be_name_of(element, pending(text, from, index + 1));
-            let whole = is_name_of(element, pending(text, from, index));
+            let grows = may_be_name_of(element, pending(text, from + 2, index + 1));
+            let whole = is_name_of(element, pending(text, from + 2, index));
             in_content_name(class, grows, whole, element, from)
         }
+        Scan::AfterBlockBang => after_block_bang(class),
+        Scan::AfterBlockBangDash => in_content(class, Element::DataBlock),
+        Scan::BeforeType(tag) => before_type(class, tag, index),
+        Scan::InType { tag, quoting, from } => in_type(
+            class,
+            tag,
+            quoting,
+            pending(text, from, index),
+            from,
+        ),
     }
 }
 
@@ -56,7 +67,7 @@ fn after_place(text: &[u8], index: usize, class: Class, place: Place) -> Scan
     requires inside { index < length text.now }
     ensures scan { scan_at text.now (index + 1) result
         ≡ place_next place (class_at class) (get_or text.now index 0) }
-    ensures pending { pending_from result ≤ index }
+    ensures pending { pending_from result ≤ index + 1 }
 {
     match place {
         Place::Text => in_text(class),
@@ -65,6 +76,7 @@ fn after_place(text: &[u8], index: usize, class: Class, place: Place) -> Scan
         Place::Rcdata(element) => in_content(class, element),
         Place::Tag(tag) => in_tag(tag, class, index),
         Place::Value(value) => Scan::At(in_value(value, class)),
-        Place::Script(_) | Place::Style(_) | Place::Block(_) => Scan::At(place),
+        Place::Block(_) => in_content(class, Element::DataBlock),
+        Place::Script(_) | Place::Style(_) => Scan::At(place),
     }
 }

@@ -4,7 +4,7 @@ ghost use Rattle.place_core.specs.place.StatePlaces.{only_after, only_before, on
 ghost use Rattle.place_core.specs.page.Words.{kind_of};
 ghost use Rattle.html_scan.specs.ClassViews.{class_at};
 ghost use Rattle.html_scan.specs.ScanViews.{scan_at, pending_from};
-ghost use Rattle.html_scan.specs.Scans.{At, attribute_name_next, content_scan, kind_body, tag_element, tag_name_next, tag_next, value_scan};
+ghost use Rattle.html_scan.specs.Scans.{At, attribute_name_next, body_scan, content_scan, tag_element, tag_name_next, tag_next, value_scan};
 ghost use Rattle.html_scan.specs.Slices.{pending};
 ghost use Rattle.html_scan.specs.Scans as spec;
 
@@ -68,6 +68,7 @@ pub fn content(tag: TagOf) -> Place
     match tag {
         TagOf::Start(Element::Title) => Place::Rcdata(Element::Title),
         TagOf::Start(Element::Textarea) => Place::Rcdata(Element::Textarea),
+        TagOf::Start(Element::DataBlock) => Place::Block(false),
         _ => Place::Text,
     }
 }
@@ -88,7 +89,7 @@ pub fn in_tag(place: TagPlace, class: Class, index: usize) -> Scan
         })),
         Class::Solidus => Scan::At(before_name(place.tag, place.typed)),
         Class::GreaterThan => Scan::At(content(place.tag)),
-        Class::EqualsSign => Scan::At(value_begins(place.tag, place.typed, body_of(place.kind))),
+        Class::EqualsSign => value_begins(place.tag, place.typed, place.kind),
         _ => Scan::InAttributeName {
             tag: place.tag,
             typed: place.typed,
@@ -112,7 +113,7 @@ pub fn in_attribute_name(class: Class, tag: TagOf, typed: bool, name: &[u8], fro
         Class::GreaterThan => Scan::At(content(tag)),
         Class::EqualsSign => {
             let kind = kind_on(tag, name);
-            Scan::At(value_begins(tag, typed, body_of(Some(kind))))
+            value_begins(tag, typed, Some(kind))
         }
         _ => Scan::InAttributeName { tag, typed, from },
     }
@@ -151,29 +152,28 @@ fn after_white(spots: Spots) -> Spots
     }
 }
 
-// Where a value of this body begins; of a kind that is not read yet, it is refused.
-fn value_begins(tag: TagOf, typed: bool, body: Option<Body>) -> Place
-    ensures { At result ≡ value_scan tag typed body }
+// Where a value of this kind begins; of one that is not read yet, it is refused.
+fn value_begins(tag: TagOf, typed: bool, kind: Option<Kind>) -> Scan
+    ensures scan { (text : List ℕ) (k : ℕ) → scan_at text k result ≡ value_scan tag typed kind }
+    ensures pending { pending_from result ≡ 0 }
 {
-    match body {
-        Some(body) => Place::Value(ValuePlace {
-            tag,
-            typed,
-            quotes: UNBEGUN,
-            body,
-        }),
-        None => Place::Text,
+    match kind {
+        Some(Kind::Plain) => Scan::At(body_begins(tag, typed, Body::Plain)),
+        Some(Kind::NoHole) => Scan::At(body_begins(tag, typed, Body::NoHole)),
+        Some(Kind::ScriptType) => Scan::BeforeType(tag),
+        _ => Scan::At(Place::Text),
     }
 }
 
-fn body_of(kind: Option<Kind>) -> Option<Body>
-    ensures { result ≡ kind_body kind }
+fn body_begins(tag: TagOf, typed: bool, body: Body) -> Place
+    ensures { At result ≡ body_scan tag typed (Some body) }
 {
-    match kind {
-        Some(Kind::Plain) => Some(Body::Plain),
-        Some(Kind::NoHole) => Some(Body::NoHole),
-        _ => None,
-    }
+    Place::Value(ValuePlace {
+        tag,
+        typed,
+        quotes: UNBEGUN,
+        body,
+    })
 }
 
 /// In the name of a tag, of which this has been read.
@@ -204,7 +204,7 @@ pub fn whole_tag_name(tag: TagOf) -> Place
 
 /// Where a text ends in the name of an attribute.
 pub fn whole_attribute_name(tag: TagOf, typed: bool, kind: Kind) -> Place
-    ensures { At result ≡ spec.in_tag tag (spec.typed_with tag typed kind) only_inside (Some kind) }
+    ensures { result ≡ spec.whole_name_place tag typed kind }
 {
     Place::Tag(TagPlace {
         tag,

@@ -10,9 +10,11 @@ use Rattle.place_core.specs.declared.tag_of.TagOf.{TagOf}
 use Rattle.place_core.specs.declared.tag_place.TagPlace.{TagPlace}
 use Rattle.place_core.specs.declared.value_place.ValuePlace.{ValuePlace}
 use Rattle.place_core.proofs.Semilattices.{none_some, one_value}
-use Rattle.html_scan.specs.Scans.{Scan, At, AfterLess, AfterLessSolidus, InDeclaration, InTagName, InAttributeName, InCommentEnd, InContentEnd}
+use Rattle.html_scan.specs.Scans.{Scan, At, AfterLess, AfterLessSolidus, InDeclaration, InTagName, InAttributeName, InCommentEnd, InContentEnd, BeforeType, InType}
 use Rattle.html_step.proofs.ScanOrder.{ScanBelow, ScanHas, comment-one}
 use Rattle.html_step.proofs.PlaceParts.{Under, TagBelow, ValueBelow, below-tag, below-value, below-rcdata}
+use Rattle.place_core.specs.page.References.{Reference}
+use Rattle.place_core.specs.page.Tags.{Quoting, Value, ValueState}
 
 pub whole-in : (f : Scan) (y : Member) → is_whole y ≡ true → ScanHas f y
 whole-in (At p) y e = rw e refl
@@ -23,6 +25,8 @@ whole-in (InDeclaration pending) y e = e
 whole-in (InTagName ends name) y e = e
 whole-in (InCommentEnd s) y e = e
 whole-in (InContentEnd x h) y e = e
+whole-in (BeforeType t) y e = e
+whole-in (InType t q v r) y e = e
 
 -- below a place are places
 pub below-at : (P : Scan → Type 0) (p : Place) → ((a : Place) → Below a p → P (At a)) → (g : Scan) → ScanBelow g (At p) → P g
@@ -34,6 +38,8 @@ below-at P p f (InDeclaration pending) h = cc
 below-at P p f (InTagName ends name) h = cc
 below-at P p f (InCommentEnd s) h = cc
 below-at P p f (InContentEnd e x) h = cc
+below-at P p f (BeforeType u) h = cc
+below-at P p f (InType u q v r) h = cc
 
 pub tag-place : (P : Scan → Type 0) (t : TagPlace) → ((u : TagPlace) → TagBelow u t → P (At (place.Tag u))) → (a : Place) → Below a (place.Tag t) → P (At a)
 tag-place P t f (place.Tag u) h = f u (below-tag u t h)
@@ -111,6 +117,8 @@ less-rigid (InDeclaration pending) h = h
 less-rigid (InTagName ends name) h = h
 less-rigid (InCommentEnd s) h = h
 less-rigid (InContentEnd e x) h = h
+less-rigid (BeforeType u) h = h
+less-rigid (InType u q v r) h = h
 
 pub solidus-rigid : IsRigid AfterLessSolidus
 solidus-rigid (At p) h = absurd h
@@ -121,6 +129,8 @@ solidus-rigid (InDeclaration pending) h = h
 solidus-rigid (InTagName ends name) h = h
 solidus-rigid (InCommentEnd s) h = h
 solidus-rigid (InContentEnd e x) h = h
+solidus-rigid (BeforeType u) h = h
+solidus-rigid (InType u q v r) h = h
 
 pub declaration-rigid : (l : List ℕ) → IsRigid (InDeclaration l)
 declaration-rigid l (At p) h = absurd h
@@ -131,6 +141,8 @@ declaration-rigid l (InDeclaration pending) h = h
 declaration-rigid l (InTagName ends name) h = h
 declaration-rigid l (InCommentEnd s) h = h
 declaration-rigid l (InContentEnd e x) h = h
+declaration-rigid l (BeforeType u) h = h
+declaration-rigid l (InType u q v r) h = h
 
 pub tag-name-rigid : (z : Bool) (l : List ℕ) → IsRigid (InTagName z l)
 tag-name-rigid z l (At p) h = absurd h
@@ -141,6 +153,8 @@ tag-name-rigid z l (InDeclaration pending) h = h
 tag-name-rigid z l (InTagName ends name) h = h
 tag-name-rigid z l (InCommentEnd s) h = h
 tag-name-rigid z l (InContentEnd e x) h = h
+tag-name-rigid z l (BeforeType u) h = h
+tag-name-rigid z l (InType u q v r) h = h
 
 pub comment-end-rigid : (z : CommentState) → IsRigid (InCommentEnd z)
 comment-end-rigid z (At p) h = absurd h
@@ -151,6 +165,8 @@ comment-end-rigid z (InDeclaration pending) h = h
 comment-end-rigid z (InTagName ends name) h = h
 comment-end-rigid z (InCommentEnd s) h = h
 comment-end-rigid z (InContentEnd e x) h = h
+comment-end-rigid z (BeforeType u) h = h
+comment-end-rigid z (InType u q v r) h = h
 
 pub content-end-rigid : (z : Element) (l : Pending) → IsRigid (InContentEnd z l)
 content-end-rigid z l (At p) h = absurd h
@@ -161,6 +177,50 @@ content-end-rigid z l (InDeclaration pending) h = h
 content-end-rigid z l (InTagName ends name) h = h
 content-end-rigid z l (InCommentEnd s) h = h
 content-end-rigid z l (InContentEnd e x) h = h
+content-end-rigid z l (BeforeType u) h = h
+content-end-rigid z l (InType u q v r) h = h
+
+pub before-type-rigid : (t : TagOf) → IsRigid (BeforeType t)
+before-type-rigid t (At p) h = absurd h
+before-type-rigid t (InAttributeName u x n) h = absurd h
+before-type-rigid t AfterLess h = h
+before-type-rigid t AfterLessSolidus h = h
+before-type-rigid t (InDeclaration pending) h = h
+before-type-rigid t (InTagName ends name) h = h
+before-type-rigid t (InCommentEnd s) h = h
+before-type-rigid t (InContentEnd e x) h = h
+before-type-rigid t (BeforeType u) h = h
+before-type-rigid t (InType u q v r) h = h
+
+pub type-rigid : (t : TagOf) (o : Quoting) (w : Value ValueState) (c : Reference) → IsRigid (InType t o w c)
+type-rigid t o w c (At p) h = absurd h
+type-rigid t o w c (InAttributeName u x n) h = absurd h
+type-rigid t o w c AfterLess h = h
+type-rigid t o w c AfterLessSolidus h = h
+type-rigid t o w c (InDeclaration pending) h = h
+type-rigid t o w c (InTagName ends name) h = h
+type-rigid t o w c (InCommentEnd s) h = h
+type-rigid t o w c (InContentEnd e x) h = h
+type-rigid t o w c (BeforeType u) h = h
+type-rigid t o w c (InType u q v r) h = h
+
+-- a data block
+pub block-one : (x y : Bool) → place.Block x ≡ place.Block y → x ≡ y
+block-one x y e = cc
+
+block-place : (P : Scan → Type 0) (y : Bool) → ((x : Bool) → Under x y → P (At (place.Block x))) → (a : Place) → Below a (place.Block y) → P (At a)
+block-place P y f (place.Block x) h = f x (block-one (x || y) y (one_value (place.Block (x || y)) (place.Block y) h))
+block-place P y f place.Text h = absurd (none_some (place.Block y) h)
+block-place P y f place.Doctype h = absurd (none_some (place.Block y) h)
+block-place P y f (place.Comment x) h = absurd (none_some (place.Block y) h)
+block-place P y f (place.Rcdata x) h = absurd (none_some (place.Block y) h)
+block-place P y f (place.Tag x) h = absurd (none_some (place.Block y) h)
+block-place P y f (place.Value x) h = absurd (none_some (place.Block y) h)
+block-place P y f (place.Script x) h = absurd (none_some (place.Block y) h)
+block-place P y f (place.Style x) h = absurd (none_some (place.Block y) h)
+
+pub below-at-block : (P : Scan → Type 0) (y : Bool) → ((x : Bool) → Under x y → P (At (place.Block x))) → (g : Scan) → ScanBelow g (At (place.Block y)) → P g
+below-at-block P y f g h = below-at P (place.Block y) (block-place P y f) g h
 
 -- a name of an attribute
 pub below-attribute : (P : Scan → Type 0) (t : TagOf) (y : Bool) (n : List ℕ) → ((x : Bool) → Under x y → P (InAttributeName t x n)) → (g : Scan) → ScanBelow g (InAttributeName t y n) → P g
@@ -173,3 +233,5 @@ below-attribute P t y n f (InDeclaration pending) h = cc
 below-attribute P t y n f (InTagName ends name) h = cc
 below-attribute P t y n f (InCommentEnd s) h = cc
 below-attribute P t y n f (InContentEnd e x) h = cc
+below-attribute P t y n f (BeforeType u) h = cc
+below-attribute P t y n f (InType u q v r) h = cc

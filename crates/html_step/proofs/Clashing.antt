@@ -1,11 +1,11 @@
 -- White space where one path is in a value without quotes and another one before a value.
-use Rattle.std.proofs.Common.{◌≡◌, true, ◌&&◌, Option, Some, None, refl, sym, ◌∙◌, subst, ◌⊎◌, inl, inr}
+use Rattle.std.proofs.Common.{◌≡◌, true, ◌&&◌, Option, Some, None, refl, sym, ◌∙◌, subst, ◌⊎◌, inl, inr, ℕ, Bool, if◌then◌else◌, false}
 use Rattle.std.specs.Prelude.{⊤}
 use Rattle.place_core.specs.page.Classes.{Class, White}
-use Rattle.place_core.specs.place.Errors.{body_error, byte_clash, quotes_error, value_error}
+use Rattle.place_core.specs.place.Errors.{body_error, byte_clash, quotes_error, value_error, begun_clash}
 use Rattle.place_core.specs.place.Places.{Has, quotes_have}
-use Rattle.place_core.specs.page.States.{LexState, Text, TagOpen, EndTagOpen, DeclarationOpen, InComment, Inside, Broken, BogusComment, InDoctype, TagName, WholeTagName, BeforeAttributeName, AttributeName, WholeAttributeName, AfterAttributeName, BeforeAttributeValue, AttributeValue, AfterAttributeValue, SelfClosingStartTag, Characters, Bytes, Nothing, PendingLess, PendingName, PendingBang, PendingBangDash, InContent, Unread}
-use Rattle.place_core.specs.page.Tags.{ValueOf, TypeSoFar, ValueState, DoubleQuoted, SingleQuoted, Unquoted}
+use Rattle.place_core.specs.page.States.{LexState, Text, TagOpen, EndTagOpen, DeclarationOpen, InComment, Inside, Broken, BogusComment, InDoctype, TagName, WholeTagName, BeforeAttributeName, AttributeName, WholeAttributeName, AfterAttributeName, BeforeAttributeValue, AttributeValue, AfterAttributeValue, SelfClosingStartTag, Characters, Bytes, Nothing, PendingLess, PendingName, PendingBang, PendingBangDash, InContent, Unread, LessAtCut}
+use Rattle.place_core.specs.page.Tags.{ValueOf, TypeSoFar, ValueState, DoubleQuoted, SingleQuoted, Unquoted, Tag, is_typed, is_second_type}
 use Rattle.place_core.specs.declared.code.Code.{Code}
 use Rattle.place_core.specs.declared.code.Code.TheVariants as code
 use Rattle.place_core.specs.declared.element.Element.TheVariants as element
@@ -19,21 +19,28 @@ use Rattle.place_core.specs.declared.quotes.Quotes.TheVariants as quotes
 use Rattle.place_core.specs.declared.tag_of.TagOf.{TagOf}
 use Rattle.place_core.specs.declared.value_place.ValuePlace.{ValuePlace}
 use Rattle.place_core.proofs.JoinMembers.{the_has_grows}
-use Rattle.html_scan.specs.Scans.{Scan, At, AfterLess, AfterLessSolidus, InDeclaration, InTagName, InAttributeName, InCommentEnd, InContentEnd, scan_error}
+use Rattle.html_scan.specs.Scans.{Scan, At, AfterLess, AfterLessSolidus, InDeclaration, InTagName, InAttributeName, InCommentEnd, InContentEnd, scan_error, BeforeType, InType}
 use Rattle.html_step.proofs.FromSteps.{no}
 use Rattle.html_step.proofs.ScanOrder.{ScanBelow, ScanHas, first-none, if-none}
 use Rattle.html_step.proofs.OnePath.{WhereScanned, scanned, none-at-hand, some}
 use Rattle.html_step.proofs.ShownSteps.{none-some, plain-quotes}
+use Rattle.place_core.specs.page.References.{Reference}
+use Rattle.place_core.specs.declared.kind.Kind.{Kind}
 
 abbrev pub IsUnquoted : LexState ValueState → Type 0
-IsUnquoted (AttributeValue Unquoted t v r) = ⊤
+IsUnquoted (AttributeValue Unquoted t (ValueOf v) r) = ⊤
 IsUnquoted s = ⊥
 
 abbrev pub IsUnbegun : LexState ValueState → Type 0
+IsUnbegun (BeforeAttributeValue t kind.ScriptType) = ⊥
 IsUnbegun (BeforeAttributeValue t k) = ⊤
 IsUnbegun s = ⊥
 
 -- which paths bear these members
+first-where : (second : Bool) (f : Scan) (P : Scan → Type 0) → P f → WhereScanned (if second then None else Some f) P
+first-where true f P h = tt
+first-where false f P h = h
+
 unquoted-in : (s : LexState ValueState) → WhereScanned (scanned s) (λ f. ScanHas f member.UnquotedValue → IsUnquoted s)
 unquoted-in (Text r) = λ h. absurd (no h)
 unquoted-in (TagOpen r) = λ h. absurd (no h)
@@ -48,10 +55,11 @@ unquoted-in (TagName ends name) = λ h. absurd (no h)
 unquoted-in (WholeTagName t) = λ h. absurd (no h)
 unquoted-in (BeforeAttributeName t) = λ h. absurd (no h)
 unquoted-in (AttributeName t name) = λ h. absurd (no h)
-unquoted-in (WholeAttributeName t k) = λ h. absurd (no h)
-unquoted-in (AfterAttributeName t k) = λ h. absurd (no h)
+unquoted-in (WholeAttributeName t k) = first-where (is_second_type (is_typed t) k) _ (λ f. ScanHas f member.UnquotedValue → IsUnquoted (WholeAttributeName t k)) (λ h. absurd (no h))
+unquoted-in (AfterAttributeName t k) = first-where (is_second_type (is_typed t) k) _ (λ f. ScanHas f member.UnquotedValue → IsUnquoted (AfterAttributeName t k)) (λ h. absurd (no h))
 unquoted-in (BeforeAttributeValue t kind.Plain) = λ h. absurd (no h)
 unquoted-in (BeforeAttributeValue t kind.NoHole) = λ h. absurd (no h)
+unquoted-in (BeforeAttributeValue t kind.ScriptType) = first-where (is_typed t) _ (λ f. ScanHas f member.UnquotedValue → IsUnquoted (BeforeAttributeValue t kind.ScriptType)) (λ h. absurd (no h))
 unquoted-in (BeforeAttributeValue t _) = tt
 unquoted-in (AttributeValue Unquoted t (ValueOf kind.Plain) r) = λ h. tt
 unquoted-in (AttributeValue Unquoted t (ValueOf kind.NoHole) r) = λ h. tt
@@ -60,7 +68,7 @@ unquoted-in (AttributeValue DoubleQuoted t (ValueOf kind.NoHole) r) = λ h. absu
 unquoted-in (AttributeValue SingleQuoted t (ValueOf kind.Plain) r) = λ h. absurd (no h)
 unquoted-in (AttributeValue SingleQuoted t (ValueOf kind.NoHole) r) = λ h. absurd (no h)
 unquoted-in (AttributeValue q t (ValueOf _) r) = tt
-unquoted-in (AttributeValue q t (TypeSoFar before) r) = tt
+unquoted-in (AttributeValue q t (TypeSoFar before) r) = first-where (is_typed t) _ (λ f. ScanHas f member.UnquotedValue → IsUnquoted (AttributeValue q t (TypeSoFar before) r)) (λ h. absurd (no h))
 unquoted-in (AfterAttributeValue t) = λ h. absurd (no h)
 unquoted-in (SelfClosingStartTag t) = λ h. absurd (no h)
 unquoted-in (InContent element.Title (Characters r) Nothing) = λ h. absurd (no h)
@@ -69,12 +77,24 @@ unquoted-in (InContent element.Title (Characters r) (PendingName l)) = λ h. abs
 unquoted-in (InContent element.Textarea (Characters r) Nothing) = λ h. absurd (no h)
 unquoted-in (InContent element.Textarea (Characters r) PendingLess) = λ h. absurd (no h)
 unquoted-in (InContent element.Textarea (Characters r) (PendingName l)) = λ h. absurd (no h)
+unquoted-in (InContent e (Characters r) LessAtCut) = tt
 unquoted-in (InContent e (Characters r) PendingBang) = tt
 unquoted-in (InContent e (Characters r) PendingBangDash) = tt
 unquoted-in (InContent _ (Characters r) Nothing) = tt
 unquoted-in (InContent _ (Characters r) PendingLess) = tt
 unquoted-in (InContent _ (Characters r) (PendingName l)) = tt
-unquoted-in (InContent e Bytes h) = tt
+unquoted-in (InContent element.DataBlock Bytes Nothing) = λ h. absurd (no h)
+unquoted-in (InContent element.DataBlock Bytes LessAtCut) = λ h. absurd (no h)
+unquoted-in (InContent element.DataBlock Bytes PendingLess) = λ h. absurd (no h)
+unquoted-in (InContent element.DataBlock Bytes (PendingName l)) = λ h. absurd (no h)
+unquoted-in (InContent element.DataBlock Bytes PendingBang) = λ h. absurd (no h)
+unquoted-in (InContent element.DataBlock Bytes PendingBangDash) = λ h. absurd (no h)
+unquoted-in (InContent _ Bytes Nothing) = tt
+unquoted-in (InContent _ Bytes LessAtCut) = tt
+unquoted-in (InContent _ Bytes PendingLess) = tt
+unquoted-in (InContent _ Bytes (PendingName l)) = tt
+unquoted-in (InContent _ Bytes PendingBang) = tt
+unquoted-in (InContent _ Bytes PendingBangDash) = tt
 unquoted-in Unread = tt
 
 unbegun-in : (s : LexState ValueState) → WhereScanned (scanned s) (λ f. ScanHas f member.UnbegunValue → IsUnbegun s)
@@ -91,10 +111,11 @@ unbegun-in (TagName ends name) = λ h. absurd (no h)
 unbegun-in (WholeTagName t) = λ h. absurd (no h)
 unbegun-in (BeforeAttributeName t) = λ h. absurd (no h)
 unbegun-in (AttributeName t name) = λ h. absurd (no h)
-unbegun-in (WholeAttributeName t k) = λ h. absurd (no h)
-unbegun-in (AfterAttributeName t k) = λ h. absurd (no h)
+unbegun-in (WholeAttributeName t k) = first-where (is_second_type (is_typed t) k) _ (λ f. ScanHas f member.UnbegunValue → IsUnbegun (WholeAttributeName t k)) (λ h. absurd (no h))
+unbegun-in (AfterAttributeName t k) = first-where (is_second_type (is_typed t) k) _ (λ f. ScanHas f member.UnbegunValue → IsUnbegun (AfterAttributeName t k)) (λ h. absurd (no h))
 unbegun-in (BeforeAttributeValue t kind.Plain) = λ h. tt
 unbegun-in (BeforeAttributeValue t kind.NoHole) = λ h. tt
+unbegun-in (BeforeAttributeValue t kind.ScriptType) = first-where (is_typed t) _ (λ f. ScanHas f member.UnbegunValue → IsUnbegun (BeforeAttributeValue t kind.ScriptType)) (λ h. absurd (no h))
 unbegun-in (BeforeAttributeValue t _) = tt
 unbegun-in (AttributeValue Unquoted t (ValueOf kind.Plain) r) = λ h. absurd (no h)
 unbegun-in (AttributeValue Unquoted t (ValueOf kind.NoHole) r) = λ h. absurd (no h)
@@ -103,7 +124,7 @@ unbegun-in (AttributeValue DoubleQuoted t (ValueOf kind.NoHole) r) = λ h. absur
 unbegun-in (AttributeValue SingleQuoted t (ValueOf kind.Plain) r) = λ h. absurd (no h)
 unbegun-in (AttributeValue SingleQuoted t (ValueOf kind.NoHole) r) = λ h. absurd (no h)
 unbegun-in (AttributeValue q t (ValueOf _) r) = tt
-unbegun-in (AttributeValue q t (TypeSoFar before) r) = tt
+unbegun-in (AttributeValue q t (TypeSoFar before) r) = first-where (is_typed t) _ (λ f. ScanHas f member.UnbegunValue → IsUnbegun (AttributeValue q t (TypeSoFar before) r)) (λ h. absurd (no h))
 unbegun-in (AfterAttributeValue t) = λ h. absurd (no h)
 unbegun-in (SelfClosingStartTag t) = λ h. absurd (no h)
 unbegun-in (InContent element.Title (Characters r) Nothing) = λ h. absurd (no h)
@@ -112,12 +133,24 @@ unbegun-in (InContent element.Title (Characters r) (PendingName l)) = λ h. absu
 unbegun-in (InContent element.Textarea (Characters r) Nothing) = λ h. absurd (no h)
 unbegun-in (InContent element.Textarea (Characters r) PendingLess) = λ h. absurd (no h)
 unbegun-in (InContent element.Textarea (Characters r) (PendingName l)) = λ h. absurd (no h)
+unbegun-in (InContent e (Characters r) LessAtCut) = tt
 unbegun-in (InContent e (Characters r) PendingBang) = tt
 unbegun-in (InContent e (Characters r) PendingBangDash) = tt
 unbegun-in (InContent _ (Characters r) Nothing) = tt
 unbegun-in (InContent _ (Characters r) PendingLess) = tt
 unbegun-in (InContent _ (Characters r) (PendingName l)) = tt
-unbegun-in (InContent e Bytes h) = tt
+unbegun-in (InContent element.DataBlock Bytes Nothing) = λ h. absurd (no h)
+unbegun-in (InContent element.DataBlock Bytes LessAtCut) = λ h. absurd (no h)
+unbegun-in (InContent element.DataBlock Bytes PendingLess) = λ h. absurd (no h)
+unbegun-in (InContent element.DataBlock Bytes (PendingName l)) = λ h. absurd (no h)
+unbegun-in (InContent element.DataBlock Bytes PendingBang) = λ h. absurd (no h)
+unbegun-in (InContent element.DataBlock Bytes PendingBangDash) = λ h. absurd (no h)
+unbegun-in (InContent _ Bytes Nothing) = tt
+unbegun-in (InContent _ Bytes LessAtCut) = tt
+unbegun-in (InContent _ Bytes PendingLess) = tt
+unbegun-in (InContent _ Bytes (PendingName l)) = tt
+unbegun-in (InContent _ Bytes PendingBang) = tt
+unbegun-in (InContent _ Bytes PendingBangDash) = tt
 unbegun-in Unread = tt
 
 pub is-unquoted : (s : LexState ValueState) (g : Scan) → scanned s ≡ Some g → ScanHas g member.UnquotedValue → IsUnquoted s
@@ -127,45 +160,56 @@ pub is-unbegun : (s : LexState ValueState) (g : Scan) → scanned s ≡ Some g �
 is-unbegun s g e h = subst (λ (o : Option Scan). WhereScanned o (λ f. ScanHas f member.UnbegunValue → IsUnbegun s)) e (unbegun-in s) h
 
 -- two such paths clash
-unbegun-clash : (s : LexState ValueState) (t : _) (v : _) (x : _) → IsUnbegun s → byte_clash (AttributeValue Unquoted t v x) s White ≡ Some code.AmbigContext
-unbegun-clash (BeforeAttributeValue u k) t v x a = refl
-unbegun-clash _ t v x a = absurd a
+begun : (k : Kind) (t : Tag) → IsUnbegun (BeforeAttributeValue t k) → begun_clash k ≡ Some code.AmbigContext
+begun kind.ScriptType t a = absurd a
+begun _ t a = refl
 
-pub clash : (s r : LexState ValueState) → IsUnquoted s → IsUnbegun r → byte_clash s r White ≡ Some code.AmbigContext
-clash (AttributeValue Unquoted t v x) r a b = unbegun-clash r t v x b
-clash (AttributeValue _ t v x) r a b = absurd a
-clash _ r a b = absurd a
+unbegun-clash : (s : LexState ValueState) (t : Tag) (v : ValueState) (x : Reference) (b : ℕ) → IsUnbegun s → byte_clash (AttributeValue Unquoted t (ValueOf v) x) s White b ≡ Some code.AmbigContext
+unbegun-clash (BeforeAttributeValue u k) t v x b a = begun k u a
+unbegun-clash _ t v x b a = absurd a
+
+pub clash : (s r : LexState ValueState) (b : ℕ) → IsUnquoted s → IsUnbegun r → byte_clash s r White b ≡ Some code.AmbigContext
+clash (AttributeValue Unquoted t (ValueOf v) x) r b a c = unbegun-clash r t v x b c
+clash (AttributeValue _ t v x) r b a c = absurd a
+clash _ r b a c = absurd a
 
 -- and no others
-before-clash : (t : _) (k : _) (r : LexState ValueState) (c : Class) (e : Code) → byte_clash (BeforeAttributeValue t k) r c ≡ Some e → (c ≡ White) × IsUnquoted r
-before-clash t k (AttributeValue Unquoted u v x) White e h = (refl, tt)
-before-clash t k (AttributeValue Unquoted u v x) _ e h = absurd (none-some e h)
-before-clash t k (AttributeValue _ u v x) c e h = absurd (none-some e h)
-before-clash t k _ c e h = absurd (none-some e h)
+is-begun : (k : Kind) (t : Tag) (e : Code) → begun_clash k ≡ Some e → IsUnbegun (BeforeAttributeValue t k)
+is-begun kind.ScriptType t e h = absurd (none-some e h)
+is-begun _ t e h = tt
 
-unquoted-clash : (t : _) (v : _) (x : _) (r : LexState ValueState) (c : Class) (e : Code) → byte_clash (AttributeValue Unquoted t v x) r c ≡ Some e → (c ≡ White) × IsUnbegun r
-unquoted-clash t v x (BeforeAttributeValue u k) White e h = (refl, tt)
-unquoted-clash t v x (BeforeAttributeValue u k) _ e h = absurd (none-some e h)
-unquoted-clash t v x _ c e h = absurd (none-some e h)
+before-clash : (t : Tag) (k : Kind) (r : LexState ValueState) (c : Class) (b : ℕ) (e : Code) → byte_clash (BeforeAttributeValue t k) r c b ≡ Some e → (c ≡ White) × IsUnbegun (BeforeAttributeValue t k) × IsUnquoted r
+before-clash t k (AttributeValue Unquoted u (ValueOf v) x) White b e h = (refl, is-begun k t e h, tt)
+before-clash t k (AttributeValue Unquoted u (ValueOf v) x) _ b e h = absurd (none-some e h)
+before-clash t k (AttributeValue Unquoted u (TypeSoFar before) x) c b e h = absurd (none-some e h)
+before-clash t k (AttributeValue _ u v x) c b e h = absurd (none-some e h)
+before-clash t k _ c b e h = absurd (none-some e h)
 
-pub clash-is : (s r : LexState ValueState) (c : Class) (e : Code) → byte_clash s r c ≡ Some e → (c ≡ White) × ((IsUnbegun s × IsUnquoted r) ⊎ (IsUnquoted s × IsUnbegun r))
-clash-is (BeforeAttributeValue t k) r c e h = let p = before-clash t k r c e h in (p.0, inl (tt, p.1))
-clash-is (AttributeValue Unquoted t v x) r c e h = let p = unquoted-clash t v x r c e h in (p.0, inr (tt, p.1))
-clash-is (AttributeValue _ t v x) r c e h = absurd (none-some e h)
-clash-is _ r c e h = absurd (none-some e h)
+unquoted-clash : (t : Tag) (v : ValueState) (x : Reference) (r : LexState ValueState) (c : Class) (b : ℕ) (e : Code) → byte_clash (AttributeValue Unquoted t (ValueOf v) x) r c b ≡ Some e → (c ≡ White) × IsUnbegun r
+unquoted-clash t v x (BeforeAttributeValue u k) White b e h = (refl, is-begun k u e h)
+unquoted-clash t v x (BeforeAttributeValue u k) _ b e h = absurd (none-some e h)
+unquoted-clash t v x _ c b e h = absurd (none-some e h)
+
+pub clash-is : (s r : LexState ValueState) (c : Class) (b : ℕ) (e : Code) → byte_clash s r c b ≡ Some e → (c ≡ White) × ((IsUnbegun s × IsUnquoted r) ⊎ (IsUnquoted s × IsUnbegun r))
+clash-is (BeforeAttributeValue t k) r c b e h = let p = before-clash t k r c b e h in (p.0, inl (p.1, p.2))
+clash-is (AttributeValue Unquoted t (ValueOf v) x) r c b e h = let p = unquoted-clash t v x r c b e h in (p.0, inr (tt, p.1))
+clash-is (AttributeValue Unquoted t (TypeSoFar before) x) r c b e h = absurd (none-some e h)
+clash-is (AttributeValue _ t v x) r c b e h = absurd (none-some e h)
+clash-is _ r c b e h = absurd (none-some e h)
 
 -- what these paths bear
 unquoted-bears : (s : LexState ValueState) → IsUnquoted s → WhereScanned (scanned s) (λ f. ScanHas f member.UnquotedValue)
 unquoted-bears (AttributeValue Unquoted t (ValueOf kind.Plain) r) a = refl
 unquoted-bears (AttributeValue Unquoted t (ValueOf kind.NoHole) r) a = refl
 unquoted-bears (AttributeValue Unquoted t (ValueOf _) r) a = tt
-unquoted-bears (AttributeValue Unquoted t (TypeSoFar before) r) a = tt
+unquoted-bears (AttributeValue Unquoted t (TypeSoFar before) r) a = absurd a
 unquoted-bears (AttributeValue _ t v r) a = absurd a
 unquoted-bears _ a = absurd a
 
 unbegun-bears : (s : LexState ValueState) → IsUnbegun s → WhereScanned (scanned s) (λ f. ScanHas f member.UnbegunValue)
 unbegun-bears (BeforeAttributeValue t kind.Plain) a = refl
 unbegun-bears (BeforeAttributeValue t kind.NoHole) a = refl
+unbegun-bears (BeforeAttributeValue t kind.ScriptType) a = absurd a
 unbegun-bears (BeforeAttributeValue t _) a = tt
 unbegun-bears _ a = absurd a
 
@@ -185,6 +229,8 @@ at-grows a (InTagName x y) m l h = absurd l
 at-grows a (InAttributeName t x y) m l h = absurd l
 at-grows a (InCommentEnd x) m l h = absurd l
 at-grows a (InContentEnd x y) m l h = absurd l
+at-grows a (BeforeType t) m l h = absurd l
+at-grows a (InType t q v r) m l h = absurd l
 
 pub begun-grows : (g f : Scan) → ScanBelow g f → ScanHas g member.UnquotedValue → ScanHas f member.UnquotedValue
 begun-grows (At a) f l h = at-grows a f member.UnquotedValue l h
@@ -200,15 +246,14 @@ bare-both t (quotes.Bare b) h k n = no (sym (if-none (b.uq && b.unbegun) code.Am
 bare-both t quotes.Dq h k n = no h
 bare-both t quotes.Sq h k n = no h
 
-value-both : (v : ValuePlace) → ScanHas (At (place.Value v)) member.UnquotedValue → ScanHas (At (place.Value v)) member.UnbegunValue → value_error v White ≡ None → ⊥
-value-both v h k n =
-    let f = first-none (body_error v.body) (quotes_error v.tag v.quotes White) n in
-    bare-both v.tag v.quotes (plain-quotes v.body v.quotes member.UnquotedValue f.0 h) (plain-quotes v.body v.quotes member.UnbegunValue f.0 k) f.1
+value-both : (v : ValuePlace) (b : ℕ) → ScanHas (At (place.Value v)) member.UnquotedValue → ScanHas (At (place.Value v)) member.UnbegunValue → value_error v White b ≡ None → ⊥
+value-both v b h k n =
+    let f = first-none (body_error v.body b) (quotes_error v.tag v.quotes White) n in
+    bare-both v.tag v.quotes (plain-quotes v.body b v.quotes member.UnquotedValue f.0 h) (plain-quotes v.body b v.quotes member.UnbegunValue f.0 k) f.1
 
-pub both-refuse : (f : Scan) → ScanHas f member.UnquotedValue → ScanHas f member.UnbegunValue → scan_error f White ≡ None → ⊥
-both-refuse (At (place.Value v)) h k n = value-both v h k (none-at-hand (value_error v White) n)
-both-refuse (At (place.Script j)) h k n = some _ n
-both-refuse (At (place.Style j)) h k n = some _ n
-both-refuse (At (place.Block j)) h k n = some _ n
-both-refuse (At _) h k n = no h
-both-refuse _ h k n = no h
+pub both-refuse : (f : Scan) (b : ℕ) → ScanHas f member.UnquotedValue → ScanHas f member.UnbegunValue → scan_error f White b ≡ None → ⊥
+both-refuse (At (place.Value v)) b h k n = value-both v b h k (none-at-hand (value_error v White b) n)
+both-refuse (At (place.Script j)) b h k n = some _ n
+both-refuse (At (place.Style j)) b h k n = some _ n
+both-refuse (At _) b h k n = no h
+both-refuse _ b h k n = no h

@@ -33,12 +33,12 @@ from-bytes [] k f q y v e h =
           subst (λ (p : Place). Has p y) (one-ok (scan_place g) a (Ok (scan_place g)) refl m.1) (x.leads g l o);
     }
 from-bytes (b ∷ bs) k f q y v e h =
-    let n = not-refused k (scan_error f (class_of b)) (stepped (k + 1) bs (scan_next f (class_of b) b)) q e in
+    let n = not-refused k (scan_error f (class_of b) b) (stepped (k + 1) bs (scan_next f (class_of b) b)) q e in
     let r = from-bytes bs (k + 1) (scan_next f (class_of b) b) q y (scan-valid f (class_of b) b v) n.1 h in
     let x = from-byte f (class_of b) b (origin bs (scan_next f (class_of b) b) y) v n.0 r.there in
     record {
       there = x.there;
-      leads = λ g a w l o d. let m = not-refused k (scan_error g (class_of b)) (stepped (k + 1) bs (scan_next g (class_of b) b)) a d in
+      leads = λ g a w l o d. let m = not-refused k (scan_error g (class_of b) b) (stepped (k + 1) bs (scan_next g (class_of b) b)) a d in
           r.leads (scan_next g (class_of b) b) a (scan-valid g (class_of b) b w) (scan-grows g f (class_of b) b w l n.0).1 (x.leads g w l o) m.1;
     }
 

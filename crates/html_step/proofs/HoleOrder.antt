@@ -18,13 +18,13 @@ use Rattle.place_core.specs.declared.quotes.Quotes.TheVariants as quotes
 use Rattle.place_core.specs.declared.tag_place.TagPlace.{TagPlace}
 use Rattle.place_core.specs.declared.value_place.ValuePlace.{ValuePlace}
 use Rattle.place_core.proofs.Semilattices.{none_some, one_value}
-use Rattle.html_scan.specs.Scans.{Scan, bare_begun, scan_place}
+use Rattle.html_scan.specs.Scans.{Scan, bare_begun, scan_place, At}
 use Rattle.html_step.specs.Laws.{one}
 use Rattle.html_step.specs.HoleOrigins.{hole_origin, hole_shows, quotes_origin}
 use Rattle.html_step.specs.Origins.{typed_origin}
 use Rattle.html_step.specs.HoleLaws.{IsHoleOrigin, IsHoleEvidence, AcceptsHole, CoversHole, FromHole, GrowsHole, OneHole, HoleEvidence, ValidHole}
-use Rattle.html_step.specs.Holes.{Holed, after_hole, named_by_data, plain_hole, value_hole}
-use Rattle.html_step.proofs.BelowScans.{tag-place, value-place}
+use Rattle.html_step.specs.Holes.{Holed, after_hole, named_by_data, plain_hole, value_hole, block_hole}
+use Rattle.html_step.proofs.BelowScans.{tag-place, value-place, below-at-block}
 use Rattle.html_step.proofs.FromSteps.{false-or, no, or-false, plain-typed}
 use Rattle.html_step.proofs.FromTexts.{own-has}
 use Rattle.html_step.proofs.ScanOrder.{built-same, one-spot, value-from}
@@ -60,12 +60,20 @@ plain-grows x y (quotes.Bare s) r h e j f b = absurd (none_some r j)
 
 value-grows : (x y : ValuePlace) (b : Body) → ValueBelow x y → y.body ≡ b → GrowsTo (value_hole b y) (place.Value x)
 value-grows x y body.Plain h e =
-    let same : x.body ≡ body.Plain = built-same x.body body.Plain refl (subst (λ (z : Body). joined_bodies x.body z ≡ Some z) e h.body) in
+    let same : x.body ≡ body.Plain = built-same x.body body.Plain 0 refl (subst (λ (z : Body). joined_bodies x.body z ≡ Some z) e h.body) in
     plain-grows x y x.quotes y.quotes h refl h.quotes refl same
 value-grows x y body.NoHole h e = tt
 value-grows x y (body.Url p) h e = tt
 value-grows x y (body.Js p) h e = tt
 value-grows x y (body.Css p) h e = tt
+
+block-below : (x y : Bool) → Below (place.Block x) (place.Block y) → Under x y
+block-below x y h = let e : place.Block (x || y) ≡ place.Block y = one_value (place.Block (x || y)) (place.Block y) h in cc
+
+block-grows : (x y : Bool) → Under x y → GrowsTo (block_hole y) (place.Block x)
+block-grows x true u = tt
+block-grows true false u = absurd (no (sym u))
+block-grows false false u = (place.Block false, refl, refl)
 
 grows-to : (p r : Place) → Below p r → GrowsTo (after_hole r) p
 grows-to place.Text place.Text h = (place.Text, refl, refl)
@@ -76,7 +84,7 @@ grows-to (place.Value x) (place.Value y) h = value-grows x y y.body (below-value
 grows-to p place.Doctype h = tt
 grows-to p (place.Script j) h = tt
 grows-to p (place.Style j) h = tt
-grows-to p (place.Block b) h = tt
+grows-to (place.Block x) (place.Block y) h = block-grows x y (block-below x y h)
 grows-to place.Text r h = absurd (none_some r h)
 grows-to place.Doctype r h = absurd (none_some r h)
 grows-to (place.Comment x) r h = absurd (none_some r h)
@@ -117,7 +125,8 @@ valid-to (place.Tag t) v = tag-valid t (t.spots.name || t.spots.inside)
 valid-to (place.Value x) v = value-valid x x.body v
 valid-to (place.Script j) v = tt
 valid-to (place.Style j) v = tt
-valid-to (place.Block b) v = tt
+valid-to (place.Block true) v = tt
+valid-to (place.Block false) v = tt
 
 pub valid-hole : ValidHole
 valid-hole p q c v h = subst ValidTo h (valid-to p v)
@@ -170,6 +179,14 @@ rcdata-stays : (e : _) (a : Place) (y : Member) → Below a (place.Rcdata e) →
 rcdata-stays e (place.Rcdata x) y l h = h
 rcdata-stays e a y l h = absurd (none_some (place.Rcdata e) l)
 
+block-has : (x : Bool) (y : Member) → Under x false → Has (place.Block x) y → HasAfter (block_hole x) y
+block-has true y u h = tt
+block-has false y u h = h
+
+block-stays : (a : Place) (y : Member) → Below a (place.Block false) → Has a y → HasAfter (after_hole a) y
+block-stays (place.Block x) y l h = block-has x y (block-below x false l) h
+block-stays a y l h = absurd (none_some (place.Block false) l)
+
 named-has : (u : TagPlace) (n : Bool) (y : Member) → Has (place.Tag (record { tag = u.tag; typed = u.typed; spots = only_inside; kind = Some kind.Plain })) y → HasAfter (named_by_data n u) y
 named-has u true y h = tt
 named-has u false y h = h
@@ -203,7 +220,7 @@ begun-value : ValuePlace → Place
 begun-value u = place.Value (record { tag = u.tag; typed = u.typed; quotes = bare_begun; body = u.body })
 
 plain-of : (u t : ValuePlace) → ValueBelow u t → t.body ≡ body.Plain → u.body ≡ body.Plain
-plain-of u t l e = built-same u.body body.Plain refl (subst (λ (z : Body). joined_bodies u.body z ≡ Some z) e l.body)
+plain-of u t l e = built-same u.body body.Plain 0 refl (subst (λ (z : Body). joined_bodies u.body z ≡ Some z) e l.body)
 
 -- what has quotes stays as it is
 quoted-after : (u : ValuePlace) (q r : Quotes) (y : Member) → u.quotes ≡ q → joined_quotes q r ≡ Some r → (r ≡ quotes.Dq) ⊎ (r ≡ quotes.Sq) → Has (place.Value u) y → HasAfter (plain_hole q u) y
@@ -234,7 +251,7 @@ bare-from-by t s y x e b h f =
     (λ u l o. let c = plain-of u t l b in subst (λ (z : Body). HasAfter (value_hole z u) y) (sym c) (bare-after u u.quotes s y (subst (λ (z : Quotes). joined_quotes u.quotes z ≡ Some z) e l.quotes) c (f u c o)))
 
 typed-of-value : (x : Bool) (q : Quotes) (b : Body) → b ≡ body.Plain → (x || (quotes_have q member.Typed || body_has b member.Typed)) ≡ true → x ≡ true
-typed-of-value x q b e h = plain-typed x q b (ap body_error e) h
+typed-of-value x q b e h = plain-typed x q b 0 (ap (λ (z : Body). body_error z 0) e) h
 
 bare-from : (t : ValuePlace) (s : _) (y : Member) → t.quotes ≡ quotes.Bare s → t.body ≡ body.Plain → Begun t y → FromPlace (place.Value t) y (typed_origin y)
 bare-from t s member.Whole e b h = bare-from-by t s member.Whole member.Whole e b refl (λ u c o. refl)
@@ -263,7 +280,8 @@ from-to (place.Tag t) y = tag-from t (t.spots.name || t.spots.inside) y
 from-to (place.Value t) y = value-from-to t t.body y refl
 from-to (place.Script j) y = tt
 from-to (place.Style j) y = tt
-from-to (place.Block b) y = tt
+from-to (place.Block true) y = tt
+from-to (place.Block false) y = λ h. record { there = h; leads = λ a l o. block-stays a y l o }
 
 pub from-hole-at : (p q : Place) (c : Chain) (y : Member) → IsValid p → after_hole p ≡ Ok (q, c) → Has q y → IsHoleOrigin p y (hole_origin p y)
 from-hole-at p q c y v h k =
@@ -347,9 +365,9 @@ style-refuses : (j : _) (a : Place) → Below a (place.Style j) → hole_error a
 style-refuses j (place.Style i) h = refl
 style-refuses j a h = absurd (none_some (place.Style j) h)
 
-block-refuses : (j : Bool) (a : Place) → Below a (place.Block j) → hole_error a ≡ Some code.NotBuilt
-block-refuses j (place.Block i) h = refl
-block-refuses j a h = absurd (none_some (place.Block j) h)
+block-evidence : (less : Bool) → ShownTo (block_hole less) (place.Block less) member.BlockLt
+block-evidence true = record { there = refl; refuses = λ a l o. below-at-block (λ (g : Scan). Has (scan_place g) member.BlockLt → hole_error (scan_place g) ≡ Some code.SplitToken) true (λ x u o. rw o refl) (At a) l o }
+block-evidence false = tt
 
 evidence-to : (p : Place) → ShownTo (after_hole p) p (hole_shows p)
 evidence-to place.Text = tt
@@ -360,7 +378,7 @@ evidence-to (place.Tag t) = tag-evidence t t.spots.name t.spots.inside refl refl
 evidence-to (place.Value t) = value-evidence t t.body refl
 evidence-to (place.Script j) = record { there = refl; refuses = λ a l o. script-refuses j a l }
 evidence-to (place.Style j) = record { there = refl; refuses = λ a l o. style-refuses j a l }
-evidence-to (place.Block b) = record { there = refl; refuses = λ a l o. block-refuses b a l }
+evidence-to (place.Block less) = block-evidence less
 
 pub evidence-hole-at : (p : Place) (e : Code) → IsValid p → after_hole p ≡ Err e → IsHoleEvidence p e (one (hole_shows p))
 evidence-hole-at p e v h =

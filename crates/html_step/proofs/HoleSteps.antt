@@ -1,15 +1,16 @@
 -- Holes, place by place.
-use Rattle.std.proofs.Common.{◌≡◌, Option, Some, None, Ok, Err, refl, subst}
+use Rattle.std.proofs.Common.{◌≡◌, Option, Some, None, Ok, Err, refl, subst, Bool, true, false, if◌then◌else◌}
 use Rattle.place_core.specs.place.Errors.{hole_error}
 use Rattle.place_core.specs.page.Paths.{at_hole}
 use Rattle.place_core.specs.page.References.{Closed, Open}
-use Rattle.place_core.specs.place.StatePlaces.{placed}
-use Rattle.place_core.specs.page.States.{LexState, Text, TagOpen, EndTagOpen, DeclarationOpen, InComment, Started, StartedDash, Inside, Dash, DashDash, Bang, Broken, BogusComment, InDoctype, TagName, WholeTagName, BeforeAttributeName, AttributeName, WholeAttributeName, AfterAttributeName, BeforeAttributeValue, AttributeValue, AfterAttributeValue, SelfClosingStartTag, Characters, Bytes, Nothing, PendingLess, PendingName, PendingBang, PendingBangDash, InContent, Unread}
-use Rattle.place_core.specs.page.Tags.{Tag, ValueOf, TypeSoFar, ValueState, languages, Quoting, DoubleQuoted, SingleQuoted, Unquoted}
+use Rattle.place_core.specs.place.StatePlaces.{placed, tag_spot, only_inside, only_after}
+use Rattle.place_core.specs.page.States.{LexState, Text, TagOpen, EndTagOpen, DeclarationOpen, InComment, Started, StartedDash, Inside, Dash, DashDash, Bang, Broken, BogusComment, InDoctype, TagName, WholeTagName, BeforeAttributeName, AttributeName, WholeAttributeName, AfterAttributeName, BeforeAttributeValue, AttributeValue, AfterAttributeValue, SelfClosingStartTag, Characters, Bytes, Nothing, PendingLess, PendingName, PendingBang, PendingBangDash, InContent, Unread, LessAtCut}
+use Rattle.place_core.specs.page.Tags.{Tag, ValueOf, TypeSoFar, ValueState, languages, Quoting, DoubleQuoted, SingleQuoted, Unquoted, is_typed, is_second_type}
 use Rattle.place_core.specs.declared.element.Element.TheVariants as element
 use Rattle.place_core.specs.declared.kind.Kind.{Kind}
 use Rattle.place_core.specs.declared.kind.Kind.TheVariants as kind
 use Rattle.place_core.specs.declared.place.Place.{Place}
+use Rattle.place_core.specs.declared.place.Place.TheVariants as place
 use Rattle.html_step.specs.Holes.{Holed, after_hole}
 use Rattle.html_step.proofs.OnePath.{same-tag}
 
@@ -41,8 +42,13 @@ before-own t kind.Script = tt
 before-own t kind.Style = tt
 before-own t kind.ScriptType = tt
 
-after-own : (t : Tag) (k : Kind) → WherePlaced (placed (AfterAttributeName t k)) (AfterAttributeName t k)
-after-own t k = (refl, rw (same-tag t k) refl)
+after-own : (second : Bool) (t : Tag) (k : Kind) → WherePlaced (if second then None else Some (place.Tag (tag_spot t only_after (Some k)))) (AfterAttributeName t k)
+after-own true t k = tt
+after-own false t k = (refl, rw (same-tag t k) refl)
+
+whole-own : (second : Bool) (t : Tag) (k : Kind) → WherePlaced (if second then None else Some (place.Tag (tag_spot t only_inside (Some k)))) (WholeAttributeName t k)
+whole-own true t k = tt
+whole-own false t k = refl
 
 own-hole : (s : LexState ValueState) → WherePlaced (placed s) s
 own-hole (Text Closed) = (refl, refl)
@@ -63,8 +69,8 @@ own-hole (TagName ends name) = tt
 own-hole (WholeTagName t) = refl
 own-hole (BeforeAttributeName t) = (refl, refl)
 own-hole (AttributeName t name) = tt
-own-hole (WholeAttributeName t k) = refl
-own-hole (AfterAttributeName t k) = after-own t k
+own-hole (WholeAttributeName t k) = whole-own (is_second_type (is_typed t) k) t k
+own-hole (AfterAttributeName t k) = after-own (is_second_type (is_typed t) k) t k
 own-hole (BeforeAttributeValue t k) = before-own t k
 own-hole (AttributeValue q t (ValueOf k) Closed) = value-own q t k
 own-hole (AttributeValue q t (TypeSoFar before) Closed) = tt
@@ -78,7 +84,19 @@ own-hole (InContent element.Script (Characters Closed) Nothing) = tt
 own-hole (InContent element.Style (Characters Closed) Nothing) = tt
 own-hole (InContent element.Other (Characters Closed) Nothing) = tt
 own-hole (InContent x (Characters (Open f bytes)) Nothing) = tt
-own-hole (InContent x Bytes Nothing) = tt
+own-hole (InContent element.DataBlock Bytes Nothing) = (refl, refl)
+own-hole (InContent element.Title Bytes Nothing) = tt
+own-hole (InContent element.Textarea Bytes Nothing) = tt
+own-hole (InContent element.Script Bytes Nothing) = tt
+own-hole (InContent element.Style Bytes Nothing) = tt
+own-hole (InContent element.Other Bytes Nothing) = tt
+own-hole (InContent x (Characters r) LessAtCut) = tt
+own-hole (InContent element.DataBlock Bytes LessAtCut) = refl
+own-hole (InContent element.Title Bytes LessAtCut) = tt
+own-hole (InContent element.Textarea Bytes LessAtCut) = tt
+own-hole (InContent element.Script Bytes LessAtCut) = tt
+own-hole (InContent element.Style Bytes LessAtCut) = tt
+own-hole (InContent element.Other Bytes LessAtCut) = tt
 own-hole (InContent x y PendingLess) = tt
 own-hole (InContent x y (PendingName letters)) = tt
 own-hole (InContent x y PendingBang) = tt

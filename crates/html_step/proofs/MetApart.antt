@@ -11,4 +11,11 @@ met-apart = record {
   above = λ a b l h. absurd h;
   met = λ p s r i j h. absurd h;
   parted = λ bytes p q s r i j e h. absurd h;
+  sides = λ s r h. absurd h;
+  sides_within = λ bytes s r h. absurd h;
+  keeps = λ bytes s b h. absurd h;
+  accepts = λ bytes p q s r e at v h i b j d a c. c;
+  turns = λ s r h. h;
+  turns_within = λ bytes s r h. h;
+  turns_clash = λ bytes s r e at h. h;
 }

@@ -1,18 +1,18 @@
 -- Where a text is stepped from the place of one path, the steps are the path's own.
-use Rattle.std.proofs.Common.{◌≡◌, ℕ, Bool, true, false, List, [], ◌∷◌, ◌++◌, length, Option, Some, None, refl, sym, ap, ◌∙◌}
-use Rattle.std.specs.Prelude.{⊤}
+use Rattle.std.proofs.Common.{◌≡◌, ℕ, Bool, true, false, List, [], ◌∷◌, ◌++◌, length, Option, Some, None, refl, sym, ap, ◌∙◌, subst}
+use Rattle.std.specs.Prelude.{⊤, ◌+◌, ◌-◌, encode_utf8, if◌then◌else◌}
 use Rattle.std.specs.Option.{option_map}
-use Rattle.place_core.specs.page.Classes.{Class, White, QuotationMark, Ampersand, Apostrophe, HyphenMinus, Solidus, LessThan, EqualsSign, GreaterThan, GraveAccent, Letter}
+use Rattle.place_core.specs.page.Classes.{Class, White, QuotationMark, Ampersand, Apostrophe, HyphenMinus, Solidus, LessThan, EqualsSign, GreaterThan, GraveAccent, Letter, ExclamationMark, class_of, is_equals_sign}
 use Rattle.place_core.specs.page.Comments.{OpensComment, OpensDoctype, Undecided, OpensNothing, Declaration, declared_by}
-use Rattle.place_core.specs.page.Contents.{may_be_name_of, is_name_of, next_loose, next_less, next_end_name}
-use Rattle.place_core.specs.place.Errors.{byte_error, cut_error, at_hand, unless_second, is_second_type, content_error, kind_error, body_error, tag_error, bare_error, quotes_error, attribute_name_error}
-use Rattle.place_core.specs.page.Html.{next, after_tag, next_declaration, next_before_name, next_name, next_whole_name, next_after_name, next_before_value}
+use Rattle.place_core.specs.page.Contents.{may_be_name_of, is_name_of, next_loose, next_less, next_end_name, next_bang}
+use Rattle.place_core.specs.place.Errors.{byte_error, cut_error, at_hand, unless_second, content_error, kind_error, body_error, tag_error, bare_error, quotes_error, attribute_name_error, PathCause, fed_error, turned_error, language_error, first_byte_error, flushed_error, is_written, first_cause, first_error, ending_tag, block_byte_error, block_error, place_before_bytes, value_before}
+use Rattle.place_core.specs.page.Html.{next, after_tag, next_declaration, next_before_name, next_name, next_whole_name, next_after_name, next_before_value, ends_value}
 use Rattle.place_core.specs.page.Paths.{at_cut}
-use Rattle.place_core.specs.page.References.{Reference, settled, undone_byte, as_it_stands}
-use Rattle.place_core.specs.place.StatePlaces.{tag_of, is_typed, tag_spot, body_at, only_name, only_before, only_inside, only_after, value_spot, value_body, quotes_at, unbegun, placed}
-use Rattle.place_core.specs.page.States.{Template, LexState, Text, TagOpen, EndTagOpen, DeclarationOpen, CommentState, Started, StartedDash, Inside, Dash, DashDash, Bang, Broken, InComment, BogusComment, InDoctype, TagName, WholeTagName, BeforeAttributeName, AttributeName, WholeAttributeName, AfterAttributeName, BeforeAttributeValue, AttributeValue, AfterAttributeValue, SelfClosingStartTag, Characters, Bytes, Pending, Nothing, PendingLess, PendingName, PendingBang, PendingBangDash, InContent, Unread}
-use Rattle.place_core.specs.page.Tags.{Tag, EndTag, StartTag, Value, ValueOf, TypeSoFar, ValueState, languages, attribute_value_of, tag_named, element_on, with_bytes, tag_with_value, without_value, Quoting, DoubleQuoted, SingleQuoted, Unquoted}
-use Rattle.place_core.specs.page.Words.{kind_of}
+use Rattle.place_core.specs.page.References.{Reference, settled, undone_byte, as_it_stands, Closed, Open, Form, ReferenceStep, Grows, Closes, Breaks, turn, meaning, flushed, plain_bytes, next_reference}
+use Rattle.place_core.specs.place.StatePlaces.{tag_of, tag_spot, body_at, only_name, only_before, only_inside, only_after, value_spot, value_body, quotes_at, unbegun, placed}
+use Rattle.place_core.specs.page.States.{Template, LexState, Text, TagOpen, EndTagOpen, DeclarationOpen, CommentState, Started, StartedDash, Inside, Dash, DashDash, Bang, Broken, InComment, BogusComment, InDoctype, TagName, WholeTagName, BeforeAttributeName, AttributeName, WholeAttributeName, AfterAttributeName, BeforeAttributeValue, AttributeValue, AfterAttributeValue, SelfClosingStartTag, Characters, Bytes, Pending, Nothing, PendingLess, PendingName, PendingBang, PendingBangDash, InContent, Unread, LessAtCut}
+use Rattle.place_core.specs.page.Tags.{Tag, EndTag, StartTag, Value, ValueOf, TypeSoFar, ValueState, languages, attribute_value_of, tag_named, element_on, with_bytes, tag_with_value, without_value, Quoting, DoubleQuoted, SingleQuoted, Unquoted, is_typed, is_second_type, first_kind, typed_by, cut_value}
+use Rattle.place_core.specs.page.Words.{kind_of, is_script_type}
 use Rattle.place_core.specs.declared.body.Body.{Body}
 use Rattle.place_core.specs.declared.body.Body.TheVariants as body
 use Rattle.place_core.specs.declared.code.Code.{Code}
@@ -23,7 +23,9 @@ use Rattle.place_core.specs.declared.kind.Kind.TheVariants as kind
 use Rattle.place_core.specs.declared.place.Place.TheVariants as place
 use Rattle.place_core.specs.declared.quotes.Quotes.{Quotes}
 use Rattle.place_core.specs.declared.tag_of.TagOf.{TagOf}
-use Rattle.html_scan.specs.Scans.{Scan, At, AfterLess, AfterLessSolidus, InDeclaration, InTagName, InAttributeName, InContentEnd, comment_scan, content_scan, value_scan, declaration_next, content_next, pending_less_next, end_name_next, attribute_name_next, tag_next, typed_with, scan_next, scan_error, scan_place, scan_cut_error, tag_element}
+use Rattle.place_core.specs.declared.tag_of.TagOf.TheVariants as tag
+use Rattle.html_scan.specs.Scans.{Scan, At, AfterLess, AfterLessSolidus, InDeclaration, InTagName, InAttributeName, InContentEnd, comment_scan, content_scan, value_scan, declaration_next, content_next, pending_less_next, end_name_next, attribute_name_next, tag_next, typed_with, scan_next, scan_error, scan_place, scan_cut_error, tag_element, BeforeType, InType, bang_next, before_type_next, ended_type, in_tag, scan_shown, type_tag, type_typed, whole_name_place, rest_place, tag_by_type}
+use Rattle.std.proofs.lemmas.List.{append_assoc, append-nil}
 
 -- the scan state of a path's state
 abbrev pub content_scanned : Pending → Element → Option Scan
@@ -34,6 +36,27 @@ content_scanned PendingLess element.Textarea = Some (InContentEnd element.Textar
 content_scanned (PendingName letters) element.Title = Some (InContentEnd element.Title (PendingName letters))
 content_scanned (PendingName letters) element.Textarea = Some (InContentEnd element.Textarea (PendingName letters))
 content_scanned h e = None
+
+abbrev pub block_scanned : Pending → Element → Option Scan
+block_scanned Nothing element.DataBlock = Some (At (place.Block false))
+block_scanned LessAtCut element.DataBlock = Some (At (place.Block true))
+block_scanned PendingLess element.DataBlock = Some (InContentEnd element.DataBlock PendingLess)
+block_scanned (PendingName letters) element.DataBlock = Some (InContentEnd element.DataBlock (PendingName letters))
+block_scanned PendingBang element.DataBlock = Some (InContentEnd element.DataBlock PendingBang)
+block_scanned PendingBangDash element.DataBlock = Some (InContentEnd element.DataBlock PendingBangDash)
+block_scanned h e = None
+
+-- where a second `type` is not refused
+abbrev pub first_type : Tag → Kind → Scan → Option Scan
+first_type t k f = if is_second_type (is_typed t) k then None else Some f
+
+abbrev pub before_scanned : Tag → Value ValueState → Option Scan
+before_scanned t (ValueOf v) = option_map At (value_spot t unbegun (value_body (ValueOf v)))
+before_scanned t (TypeSoFar before) = first_type t kind.ScriptType (BeforeType (tag_of t))
+
+abbrev pub value_scanned : Quoting → Tag → Value ValueState → Reference → Option Scan
+value_scanned q t (ValueOf v) r = option_map At (value_spot t (quotes_at q) (value_body (ValueOf v)))
+value_scanned q t (TypeSoFar before) r = first_type t kind.ScriptType (InType (tag_of t) q (TypeSoFar before) r)
 
 abbrev pub scanned : LexState ValueState → Option Scan
 scanned (Text r) = Some (At place.Text)
@@ -47,20 +70,20 @@ scanned (TagName ends name) = Some (InTagName ends name)
 scanned (WholeTagName t) = Some (At (place.Tag (tag_spot t only_name None)))
 scanned (BeforeAttributeName t) = Some (At (place.Tag (tag_spot t only_before None)))
 scanned (AttributeName t name) = Some (InAttributeName (tag_of t) (is_typed t) name)
-scanned (WholeAttributeName t k) = Some (At (place.Tag (tag_spot t only_inside (Some k))))
-scanned (AfterAttributeName t k) = Some (At (place.Tag (tag_spot t only_after (Some k))))
-scanned (BeforeAttributeValue t k) = option_map At (value_spot t unbegun (value_body (attribute_value_of languages k)))
-scanned (AttributeValue q t v r) = option_map At (value_spot t (quotes_at q) (value_body v))
+scanned (WholeAttributeName t k) = first_type t k (At (place.Tag (tag_spot t only_inside (Some k))))
+scanned (AfterAttributeName t k) = first_type t k (At (place.Tag (tag_spot t only_after (Some k))))
+scanned (BeforeAttributeValue t k) = before_scanned t (attribute_value_of languages k)
+scanned (AttributeValue q t v r) = value_scanned q t v r
 scanned (AfterAttributeValue t) = Some (At (place.Tag (tag_spot t only_before None)))
 scanned (SelfClosingStartTag t) = Some (At (place.Tag (tag_spot t only_before None)))
 scanned (InContent e (Characters r) h) = content_scanned h e
-scanned (InContent e Bytes h) = None
+scanned (InContent e Bytes h) = block_scanned h e
 scanned Unread = None
 
 -- A state and its scan state refuse the same, and step alike where nothing is refused.
 pub record Agrees (s : LexState ValueState) (f : Scan) (c : Class) (b : ℕ) : Type 0 where
-  pub errors : byte_error s c ≡ scan_error f c
-  pub steps : scan_error f c ≡ None → scanned (next languages Template s c b) ≡ Some (scan_next f c b)
+  pub errors : byte_error s c b ≡ scan_error f c b
+  pub steps : scan_error f c b ≡ None → scanned (next languages Template s c b) ≡ Some (scan_next f c b)
 
 abbrev pub WhereScanned : Option Scan → (Scan → Type 0) → Type 0
 WhereScanned None P = ⊤
@@ -114,6 +137,43 @@ pub none-unless : (second : Bool) (len : ℕ) (o : Option Code) → unless_secon
 none-unless true len o h = absurd (some _ h)
 none-unless false len o h = none-at-hand o h
 
+-- what is not refused is no second type
+not-second : (t : Tag) (k : Kind) (f : Scan) → is_second_type (is_typed t) k ≡ false → first_type t k f ≡ Some f
+not-second t k f e = rw e refl
+
+unless-first : (second : Bool) (len : ℕ) (o : Option Code) → unless_second second len o ≡ None → second ≡ false
+unless-first true len o h = absurd (some _ h)
+unless-first false len o h = refl
+
+-- what the language of kinds refuses is nothing
+pub fed-none : (v : Value ValueState) (bs : List ℕ) (written : Bool) (n : ℕ) → fed_error languages v bs written n ≡ None
+fed-none v [] written n = refl
+fed-none (ValueOf k) (b ∷ bs) written n = fed-none (ValueOf k) bs written (if written then n - 1 else n)
+fed-none (TypeSoFar before) (b ∷ bs) written n = fed-none (TypeSoFar (before ++ b ∷ [])) bs written (if written then n - 1 else n)
+
+turned-none : (v : Value ValueState) (step : ReferenceStep) (f : Form) (bytes : List ℕ) (c : Class) (b : ℕ) → turned_error languages v step f bytes c b ≡ None
+turned-none v (Grows g) f bytes c b = refl
+turned-none v Closes f bytes c b = fed-none v (encode_utf8 (meaning f bytes)) false (length bytes + 1)
+turned-none v Breaks f bytes c b =
+    rw (fed-none v (flushed true (is_equals_sign c) f bytes) (is_written (is_equals_sign c) f bytes) (length bytes + 1))
+    (fed-none (with_bytes languages v (flushed true (is_equals_sign c) f bytes)) (plain_bytes c b) false 0)
+
+pub language-none : (ends : Bool) (v : Value ValueState) (r : Reference) (c : Class) (b : ℕ) → language_error languages ends v r c b ≡ None
+language-none true v Closed c b = refl
+language-none true v (Open f bytes) c b = fed-none v (flushed true false f bytes) (is_written false f bytes) (length bytes + 1)
+language-none false v Closed c b = fed-none v (plain_bytes c b) false 0
+language-none false v (Open f bytes) c b = turned-none v (turn c f) f bytes c b
+
+pub first-byte-none : (v : Value ValueState) (c : Class) (b : ℕ) → first_byte_error languages v c b ≡ None
+first-byte-none v White b = refl
+first-byte-none v QuotationMark b = refl
+first-byte-none v Apostrophe b = refl
+first-byte-none v GreaterThan b = refl
+first-byte-none v c b = fed-none v (plain_bytes c b) false 0
+
+pub only-hand : (o p : Option PathCause) → o ≡ None → first_cause o p ≡ p
+only-hand o p e = rw e refl
+
 -- the end of a tag
 tag-ends : (t : Tag) → content_error (tag_of t) ≡ None → scanned (after_tag t) ≡ Some (content_scan (tag_of t))
 tag-ends EndTag n = refl
@@ -122,26 +182,27 @@ tag-ends (StartTag element.Title typed) n = refl
 tag-ends (StartTag element.Textarea typed) n = refl
 tag-ends (StartTag element.Style typed) n = absurd (some _ n)
 tag-ends (StartTag element.Script typed) n = absurd (some _ n)
-tag-ends (StartTag element.DataBlock typed) n = absurd (some _ n)
+tag-ends (StartTag element.DataBlock typed) n = refl
 
 tag-ends-with : (t : Tag) (k : Kind) → content_error (tag_of t) ≡ None → scanned (after_tag (without_value t k)) ≡ Some (content_scan (tag_of t))
 tag-ends-with t k n = tag-ends (without_value t k) (ap content_error (same-tag t k) ∙ n) ∙ ap (λ (u : TagOf). Some (content_scan u)) (same-tag t k)
 
-value-begins : (t : Tag) (typed : Bool) (k : Kind) → kind_error k ≡ None → typed ≡ is_typed (without_value t k) → scanned (BeforeAttributeValue t k) ≡ Some (value_scan (tag_of t) typed (body_at k))
-value-begins t typed kind.Plain n e = rw e refl
-value-begins t typed kind.NoHole n e = rw e refl
-value-begins t typed kind.Url n e = absurd (some _ n)
-value-begins t typed kind.Script n e = absurd (some _ n)
-value-begins t typed kind.Style n e = absurd (some _ n)
-value-begins t typed kind.ScriptType n e = absurd (some _ n)
+value-begins : (t : Tag) (typed : Bool) (k : Kind) → kind_error k ≡ None → is_second_type (is_typed t) k ≡ false → typed ≡ is_typed (without_value t k)
+    → scanned (BeforeAttributeValue t k) ≡ Some (value_scan (tag_of t) typed (Some k))
+value-begins t typed kind.Plain n f e = rw e refl
+value-begins t typed kind.NoHole n f e = rw e refl
+value-begins t typed kind.Url n f e = absurd (some _ n)
+value-begins t typed kind.Script n f e = absurd (some _ n)
+value-begins t typed kind.Style n f e = absurd (some _ n)
+value-begins t typed kind.ScriptType n f e = not-second t kind.ScriptType (BeforeType (tag_of t)) f
 
-value-begins-here : (t : Tag) (k : Kind) → kind_error k ≡ None → scanned (BeforeAttributeValue t k) ≡ Some (value_scan (tag_of t) (is_typed t) (body_at k))
-value-begins-here t kind.Plain n = refl
-value-begins-here t kind.NoHole n = refl
-value-begins-here t kind.Url n = absurd (some _ n)
-value-begins-here t kind.Script n = absurd (some _ n)
-value-begins-here t kind.Style n = absurd (some _ n)
-value-begins-here t kind.ScriptType n = absurd (some _ n)
+value-begins-here : (t : Tag) (k : Kind) → kind_error k ≡ None → is_second_type (is_typed t) k ≡ false → scanned (BeforeAttributeValue t k) ≡ Some (value_scan (tag_of t) (is_typed t) (Some k))
+value-begins-here t kind.Plain n f = refl
+value-begins-here t kind.NoHole n f = refl
+value-begins-here t kind.Url n f = absurd (some _ n)
+value-begins-here t kind.Script n f = absurd (some _ n)
+value-begins-here t kind.Style n f = absurd (some _ n)
+value-begins-here t kind.ScriptType n f = not-second t kind.ScriptType (BeforeType (tag_of t)) f
 
 -- state by state
 text-steps : (r : Reference) (c : Class) (b : ℕ) → Agrees (Text r) (At place.Text) c b
@@ -215,10 +276,11 @@ before-next t _ b n = refl
 
 attribute-next : (t : Tag) (k : Kind) (name : List ℕ) (c : Class) (b : ℕ) → attribute_name_error (tag_of t) (is_typed t) k (length name) c ≡ None
     → scanned (next_name c b t k name) ≡ Some (attribute_name_next c b (tag_of t) (is_typed t) k name)
-attribute-next t k name White b n = rw (same-typed t k) refl
+attribute-next t k name White b n = rw (same-typed t k) (not-second t k _ (unless-first (is_second_type (is_typed t) k) (length name) None n))
 attribute-next t k name Solidus b n = rw (same-tag t k, same-typed t k) refl
 attribute-next t k name GreaterThan b n = tag-ends-with t k (none-unless (is_second_type (is_typed t) k) (length name) (content_error (tag_of t)) n)
-attribute-next t k name EqualsSign b n = value-begins-here t k (none-unless (is_second_type (is_typed t) k) (length name) (kind_error k) n)
+attribute-next t k name EqualsSign b n =
+    value-begins-here t k (none-unless (is_second_type (is_typed t) k) (length name) (kind_error k) n) (unless-first (is_second_type (is_typed t) k) (length name) (kind_error k) n)
 attribute-next t k name QuotationMark b n = absurd (some _ n)
 attribute-next t k name Apostrophe b n = absurd (some _ n)
 attribute-next t k name LessThan b n = absurd (some _ n)
@@ -228,45 +290,64 @@ attribute-steps : (t : Tag) (name : List ℕ) (c : Class) (b : ℕ) → Agrees (
 attribute-steps EndTag name c b = record { errors = refl; steps = λ n. attribute-next EndTag (kind_of element.Other name) name c b n }
 attribute-steps (StartTag e typed) name c b = record { errors = refl; steps = λ n. attribute-next (StartTag e typed) (kind_of e name) name c b n }
 
-whole-name-next : (t : Tag) (k : Kind) (c : Class) (b : ℕ) → at_hand (tag_error (tag_spot t only_inside (Some k)) c) ≡ None → scanned (next_whole_name c b t k) ≡ Some (tag_next (tag_spot t only_inside (Some k)) c b)
-whole-name-next t k White b n = refl
-whole-name-next t k Solidus b n = rw (same-tag t k) refl
-whole-name-next t k GreaterThan b n = tag-ends-with t k (none-at-hand _ n)
-whole-name-next t k EqualsSign b n = value-begins t (is_typed (without_value t k)) k (none-at-hand _ n) refl
-whole-name-next t k _ b n = absurd (some _ n)
+whole-name-next : (t : Tag) (k : Kind) (c : Class) (b : ℕ) → is_second_type (is_typed t) k ≡ false → at_hand (tag_error (tag_spot t only_inside (Some k)) c) ≡ None
+    → scanned (next_whole_name c b t k) ≡ Some (tag_next (tag_spot t only_inside (Some k)) c b)
+whole-name-next t k White b f n = not-second t k _ f
+whole-name-next t k Solidus b f n = rw (same-tag t k) refl
+whole-name-next t k GreaterThan b f n = tag-ends-with t k (none-at-hand _ n)
+whole-name-next t k EqualsSign b f n = value-begins t (is_typed (without_value t k)) k (none-at-hand _ n) f refl
+whole-name-next t k _ b f n = absurd (some _ n)
 
-after-name-next : (t : Tag) (k : Kind) (c : Class) (b : ℕ) → at_hand (tag_error (tag_spot t only_after (Some k)) c) ≡ None → scanned (next_after_name c b t k) ≡ Some (tag_next (tag_spot t only_after (Some k)) c b)
-after-name-next t k White b n = refl
-after-name-next t k Solidus b n = rw (same-tag t k) refl
-after-name-next t k GreaterThan b n = tag-ends-with t k (none-at-hand _ n)
-after-name-next t k EqualsSign b n = value-begins t (is_typed (without_value t k)) k (none-at-hand _ n) refl
-after-name-next t k QuotationMark b n = absurd (some _ n)
-after-name-next t k Apostrophe b n = absurd (some _ n)
-after-name-next t k LessThan b n = absurd (some _ n)
-after-name-next t k _ b n = rw (same-tag t k) refl
+after-name-next : (t : Tag) (k : Kind) (c : Class) (b : ℕ) → is_second_type (is_typed t) k ≡ false → at_hand (tag_error (tag_spot t only_after (Some k)) c) ≡ None
+    → scanned (next_after_name c b t k) ≡ Some (tag_next (tag_spot t only_after (Some k)) c b)
+after-name-next t k White b f n = not-second t k _ f
+after-name-next t k Solidus b f n = rw (same-tag t k) refl
+after-name-next t k GreaterThan b f n = tag-ends-with t k (none-at-hand _ n)
+after-name-next t k EqualsSign b f n = value-begins t (is_typed (without_value t k)) k (none-at-hand _ n) f refl
+after-name-next t k QuotationMark b f n = absurd (some _ n)
+after-name-next t k Apostrophe b f n = absurd (some _ n)
+after-name-next t k LessThan b f n = absurd (some _ n)
+after-name-next t k _ b f n = rw (same-tag t k) refl
+
+whole-name-steps : (second : Bool) (t : Tag) (k : Kind) (c : Class) (b : ℕ) → is_second_type (is_typed t) k ≡ second
+    → WhereScanned (if second then None else Some (At (place.Tag (tag_spot t only_inside (Some k))))) (λ f. Agrees (WholeAttributeName t k) f c b)
+whole-name-steps true t k c b e = tt
+whole-name-steps false t k c b e = record { errors = refl; steps = whole-name-next t k c b e }
+
+after-name-steps : (second : Bool) (t : Tag) (k : Kind) (c : Class) (b : ℕ) → is_second_type (is_typed t) k ≡ second
+    → WhereScanned (if second then None else Some (At (place.Tag (tag_spot t only_after (Some k))))) (λ f. Agrees (AfterAttributeName t k) f c b)
+after-name-steps true t k c b e = tt
+after-name-steps false t k c b e = record { errors = refl; steps = after-name-next t k c b e }
 
 -- values of the kinds that are built
 abbrev value-at : Tag → Quotes → Body → Scan
 value-at t q x = At (place.Value (record { tag = tag_of t; typed = is_typed t; quotes = q; body = x }))
 
-unbegun-next : (t : Tag) (k : Kind) (x : Body) (c : Class) (b : ℕ) → value_body (attribute_value_of languages k) ≡ Some x → body_error x ≡ None → without_value t k ≡ t → attribute_value_of languages k ≡ ValueOf k → at_hand (bare_error (tag_of t) (record { uq = false; unbegun = true }) c) ≡ None
+unbegun-next : (t : Tag) (k : Kind) (x : Body) (c : Class) (b : ℕ) → value_body (attribute_value_of languages k) ≡ Some x → body_error x b ≡ None → without_value t k ≡ t → attribute_value_of languages k ≡ ValueOf k → at_hand (bare_error (tag_of t) (record { uq = false; unbegun = true }) c) ≡ None
     → scanned (next_before_value languages c b t k) ≡ Some (scan_next (value-at t unbegun x) c b)
-unbegun-next t k x White b e w u v n = rw e refl
-unbegun-next t k x QuotationMark b e w u v n = rw e refl
-unbegun-next t k x Apostrophe b e w u v n = rw e refl
+unbegun-next t k x White b e w u v n = rw v (rw (sym (ap value_body v) ∙ e) refl)
+unbegun-next t k x QuotationMark b e w u v n = rw v (rw (sym (ap value_body v) ∙ e) refl)
+unbegun-next t k x Apostrophe b e w u v n = rw v (rw (sym (ap value_body v) ∙ e) refl)
 unbegun-next t k x GreaterThan b e w u v n = rw u (tag-ends t (none-at-hand _ n))
 unbegun-next t k x LessThan b e w u v n = absurd (some _ n)
 unbegun-next t k x EqualsSign b e w u v n = absurd (some _ n)
 unbegun-next t k x GraveAccent b e w u v n = absurd (some _ n)
-unbegun-next t k x Ampersand b e w u v n = rw e refl
+unbegun-next t k x Ampersand b e w u v n = rw v (rw (sym (ap value_body v) ∙ e) refl)
 unbegun-next t k x _ b e w u v n = rw v (rw (sym (ap value_body v) ∙ e) refl)
+
+own-scanned : (bs : List ℕ) (q : Quoting) (t : Tag) (k : Kind) (r : Reference) → value_scanned q t (with_bytes languages (ValueOf k) bs) r ≡ value_scanned q t (ValueOf k) r
+own-scanned [] q t k r = refl
+own-scanned (b ∷ bs) q t k r = own-scanned bs q t k r
+
+own-there : (q : Quoting) (t : Tag) (k : Kind) (x : Body) (r : Reference) → body_at k ≡ Some x → value_scanned q t (ValueOf k) r ≡ Some (value-at t (quotes_at q) x)
+own-there q t k x r e = rw e refl
 
 value-next : (q : Quoting) (t : Tag) (k : Kind) (x : Body) (r : Reference) (c : Class) (b : ℕ) → body_at k ≡ Some x → at_hand (quotes_error (tag_of t) (quotes_at q) c) ≡ None
     → scanned (next languages Template (AttributeValue q t (ValueOf k) r) c b) ≡ Some (scan_next (value-at t (quotes_at q) x) c b)
 value-next DoubleQuoted t k x r QuotationMark b e n = rw (same-with t (settled true r) k) refl
-value-next DoubleQuoted t k x r _ b e n = rw (same-body (undone_byte true r _ b) k, e) refl
+value-next DoubleQuoted t k x r c b e n = own-scanned (undone_byte true r c b) DoubleQuoted t k (next_reference r c b) ∙ own-there DoubleQuoted t k x (next_reference r c b) e
 value-next SingleQuoted t k x r Apostrophe b e n = rw (same-with t (settled true r) k) refl
-value-next SingleQuoted t k x r _ b e n = rw (same-body (undone_byte true r _ b) k, e) refl
+value-next SingleQuoted t k x r c b e n = own-scanned (undone_byte true r c b) SingleQuoted t k (next_reference r c b) ∙ own-there SingleQuoted t k x (next_reference r c b) e
 value-next Unquoted t k x r White b e n = rw (same-with t (settled true r) k) refl
 value-next Unquoted t k x r GreaterThan b e n = rw (same-with t (settled true r) k) (tag-ends t (none-at-hand (content_error (tag_of t)) n))
 value-next Unquoted t k x r QuotationMark b e n = absurd (some _ n)
@@ -274,10 +355,119 @@ value-next Unquoted t k x r Apostrophe b e n = absurd (some _ n)
 value-next Unquoted t k x r LessThan b e n = absurd (some _ n)
 value-next Unquoted t k x r EqualsSign b e n = absurd (some _ n)
 value-next Unquoted t k x r GraveAccent b e n = absurd (some _ n)
-value-next Unquoted t k x r _ b e n = rw (same-body (undone_byte true r _ b) k, e) refl
+value-next Unquoted t k x r c b e n = own-scanned (undone_byte true r c b) Unquoted t k (next_reference r c b) ∙ own-there Unquoted t k x (next_reference r c b) e
+
+-- the value of a type
+script-by : (of_script : Bool) → tag.Start (if of_script then element.Script else element.DataBlock) ≡ tag_by_type (tag.Start element.Script) of_script
+script-by true = refl
+script-by false = refl
+
+typed-by-type : (t : TagOf) (of_script : Bool) → type_typed (tag_by_type t of_script) ≡ type_typed t
+typed-by-type tag.End of_script = refl
+typed-by-type (tag.Start element.Script) true = refl
+typed-by-type (tag.Start element.Script) false = refl
+typed-by-type (tag.Start _) of_script = refl
+
+same-type-tag : (t : Tag) (value : List ℕ) → is_typed t ≡ false → tag_of (typed_by t value) ≡ type_tag (tag_of t) (TypeSoFar value)
+same-type-tag EndTag value e = refl
+same-type-tag (StartTag element.Script false) value e = script-by (is_script_type value)
+same-type-tag (StartTag element.Other false) value e = refl
+same-type-tag (StartTag element.Title false) value e = refl
+same-type-tag (StartTag element.Textarea false) value e = refl
+same-type-tag (StartTag element.Style false) value e = refl
+same-type-tag (StartTag element.DataBlock false) value e = refl
+same-type-tag (StartTag x true) value e = cc
+
+same-type-typed : (t : Tag) (value : List ℕ) → is_typed t ≡ false → is_typed (typed_by t value) ≡ type_typed (type_tag (tag_of t) (TypeSoFar value))
+same-type-typed EndTag value e = refl
+same-type-typed (StartTag element.Script false) value e = sym (typed-by-type (tag.Start element.Script) (is_script_type value))
+same-type-typed (StartTag element.Other false) value e = refl
+same-type-typed (StartTag element.Title false) value e = refl
+same-type-typed (StartTag element.Textarea false) value e = refl
+same-type-typed (StartTag element.Style false) value e = refl
+same-type-typed (StartTag element.DataBlock false) value e = refl
+same-type-typed (StartTag x true) value e = cc
+
+-- bytes of it leave it one
+pub record Typed (z : Value ValueState) : Type 0 where
+  pub value : List ℕ
+  pub is : z ≡ TypeSoFar value
+
+pub type-stays : (before bs : List ℕ) → Typed (with_bytes languages (TypeSoFar before) bs)
+type-stays before [] = record { value = before; is = refl }
+type-stays before (b ∷ bs) = type-stays (before ++ b ∷ []) bs
+
+pub type-value : (before bs : List ℕ) → with_bytes languages (TypeSoFar before) bs ≡ TypeSoFar (before ++ bs)
+type-value before [] = ap TypeSoFar (sym (append-nil before))
+type-value before (b ∷ bs) = type-value (before ++ b ∷ []) bs ∙ ap TypeSoFar (append_assoc before (b ∷ []) bs)
+
+type-goes : (q : Quoting) (t : Tag) (z : Value ValueState) (r : Reference) → Typed z → is_typed t ≡ false → value_scanned q t z r ≡ Some (InType (tag_of t) q z r)
+type-goes q t z r o e = rw o.is (not-second t kind.ScriptType (InType (tag_of t) q (TypeSoFar o.value) r) e)
+
+after-typed : (t : Tag) (z : Value ValueState) → Typed z → is_typed t ≡ false
+    → scanned (BeforeAttributeName (tag_with_value t z)) ≡ Some (in_tag (type_tag (tag_of t) z) (type_typed (type_tag (tag_of t) z)) only_before None)
+after-typed t z o e = rw o.is (rw (same-type-tag t o.value e, same-type-typed t o.value e) refl)
+
+content-typed : (t : Tag) (z : Value ValueState) → Typed z → is_typed t ≡ false → content_error (type_tag (tag_of t) z) ≡ None
+    → scanned (after_tag (tag_with_value t z)) ≡ Some (content_scan (type_tag (tag_of t) z))
+content-typed t z o e n =
+    subst (λ (v : Value ValueState). scanned (after_tag (tag_with_value t v)) ≡ Some (content_scan (type_tag (tag_of t) v))) (sym o.is)
+    (let m : content_error (type_tag (tag_of t) (TypeSoFar o.value)) ≡ None = sym (ap (λ (v : Value ValueState). content_error (type_tag (tag_of t) v)) o.is) ∙ n in
+    tag-ends (typed_by t o.value) (ap content_error (same-type-tag t o.value e) ∙ m) ∙ ap (λ (u : TagOf). Some (content_scan u)) (same-type-tag t o.value e))
+
+ending-typed : (t : Tag) (before : List ℕ) (r : Reference) → is_typed t ≡ false → tag_of (ending_tag {B = ValueState} t (TypeSoFar before) r) ≡ type_tag (tag_of t) (ended_type (TypeSoFar before) r)
+ending-typed t before r e = same-type-tag t (before ++ settled true r) e ∙ sym (ap (type_tag (tag_of t)) (type-value before (settled true r)))
+
+type-next : (q : Quoting) (t : Tag) (before : List ℕ) (r : Reference) (c : Class) (b : ℕ) → class_of b ≡ c → is_typed t ≡ false
+    → at_hand (quotes_error (type_tag (tag_of t) (ended_type (TypeSoFar before) r)) (quotes_at q) c) ≡ None
+    → scanned (next languages Template (AttributeValue q t (TypeSoFar before) r) c b) ≡ Some (scan_next (InType (tag_of t) q (TypeSoFar before) r) c b)
+type-next DoubleQuoted t before r QuotationMark b i e n = after-typed t (ended_type (TypeSoFar before) r) (type-stays before (settled true r)) e
+type-next DoubleQuoted t before r c b i e n =
+    rw i (type-goes DoubleQuoted t (with_bytes languages (TypeSoFar before) (undone_byte true r c b)) (next_reference r c b) (type-stays before (undone_byte true r c b)) e)
+type-next SingleQuoted t before r Apostrophe b i e n = after-typed t (ended_type (TypeSoFar before) r) (type-stays before (settled true r)) e
+type-next SingleQuoted t before r c b i e n =
+    rw i (type-goes SingleQuoted t (with_bytes languages (TypeSoFar before) (undone_byte true r c b)) (next_reference r c b) (type-stays before (undone_byte true r c b)) e)
+type-next Unquoted t before r White b i e n = after-typed t (ended_type (TypeSoFar before) r) (type-stays before (settled true r)) e
+type-next Unquoted t before r GreaterThan b i e n = content-typed t (ended_type (TypeSoFar before) r) (type-stays before (settled true r)) e (none-at-hand _ n)
+type-next Unquoted t before r QuotationMark b i e n = absurd (some _ n)
+type-next Unquoted t before r Apostrophe b i e n = absurd (some _ n)
+type-next Unquoted t before r LessThan b i e n = absurd (some _ n)
+type-next Unquoted t before r EqualsSign b i e n = absurd (some _ n)
+type-next Unquoted t before r GraveAccent b i e n = absurd (some _ n)
+type-next Unquoted t before r c b i e n =
+    rw i (type-goes Unquoted t (with_bytes languages (TypeSoFar before) (undone_byte true r c b)) (next_reference r c b) (type-stays before (undone_byte true r c b)) e)
+
+begin-type : (t : Tag) (c : Class) (b : ℕ) → class_of b ≡ c → is_typed t ≡ false → at_hand (quotes_error (tag_of t) unbegun c) ≡ None
+    → scanned (next_before_value languages c b t kind.ScriptType) ≡ Some (before_type_next c b (tag_of t))
+begin-type t White b i e n = not-second t kind.ScriptType (BeforeType (tag_of t)) e
+begin-type t QuotationMark b i e n = not-second t kind.ScriptType (InType (tag_of t) DoubleQuoted (TypeSoFar []) Closed) e
+begin-type t Apostrophe b i e n = not-second t kind.ScriptType (InType (tag_of t) SingleQuoted (TypeSoFar []) Closed) e
+begin-type t GreaterThan b i e n = tag-ends-with t kind.ScriptType (none-at-hand _ n) ∙ ap (λ (u : TagOf). Some (content_scan u)) (sym (same-tag t kind.ScriptType) ∙ same-type-tag t [] e)
+begin-type t LessThan b i e n = absurd (some _ n)
+begin-type t EqualsSign b i e n = absurd (some _ n)
+begin-type t GraveAccent b i e n = absurd (some _ n)
+begin-type t c b i e n =
+    rw i (type-goes Unquoted t (with_bytes languages (TypeSoFar []) (undone_byte true Closed c b)) (next_reference Closed c b) (type-stays [] (undone_byte true Closed c b)) e)
+
+before-type-steps : (typed : Bool) (t : Tag) (c : Class) (b : ℕ) → class_of b ≡ c → is_typed t ≡ typed
+    → WhereScanned (if typed then None else Some (BeforeType (tag_of t))) (λ f. Agrees (BeforeAttributeValue t kind.ScriptType) f c b)
+before-type-steps true t c b i e = tt
+before-type-steps false t c b i e = record {
+  errors = only-hand (first_byte_error languages (TypeSoFar []) c b) _ (first-byte-none (TypeSoFar []) c b);
+  steps = begin-type t c b i e;
+}
+
+type-steps : (typed : Bool) (q : Quoting) (t : Tag) (before : List ℕ) (r : Reference) (c : Class) (b : ℕ) → class_of b ≡ c → is_typed t ≡ typed
+    → WhereScanned (if typed then None else Some (InType (tag_of t) q (TypeSoFar before) r)) (λ f. Agrees (AttributeValue q t (TypeSoFar before) r) f c b)
+type-steps true q t before r c b i e = tt
+type-steps false q t before r c b i e = record {
+  errors = only-hand (language_error languages (ends_value q c) (TypeSoFar before) r c b) _ (language-none (ends_value q c) (TypeSoFar before) r c b)
+      ∙ ap (λ (u : TagOf). at_hand (quotes_error u (quotes_at q) c)) (ending-typed t before r e);
+  steps = type-next q t before r c b i e;
+}
 
 end-name-next : (grows whole : Bool) (c : Class) (b : ℕ) (e : Element) (r : Reference) (letters : List ℕ)
-    → content_scanned (PendingName (letters ++ b ∷ [])) e ≡ Some (InContentEnd e (PendingName (letters ++ b ∷ []))) → content_scanned PendingLess e ≡ Some (InContentEnd e PendingLess) → content_scanned Nothing e ≡ Some (At (place.Rcdata e))
+    → content_scanned (PendingName (letters ++ b ∷ [])) e ≡ Some (InContentEnd e (PendingName (letters ++ b ∷ []))) → content_scanned PendingLess e ≡ Some (InContentEnd e PendingLess) → content_scanned Nothing e ≡ Some (At (rest_place e))
     → scanned (next_end_name grows whole c b e (Characters r) letters) ≡ Some (end_name_next grows whole c b e letters)
 end-name-next true whole (Letter l) b e r letters f g h = f
 end-name-next true true White b e r letters f g h = refl
@@ -295,137 +485,301 @@ end-name-next false true _ b e r letters f g h = h
 end-name-next false false LessThan b e r letters f g h = g
 end-name-next false false _ b e r letters f g h = h
 
-loose-next : (c : Class) (b : ℕ) (e : Element) (r : Reference) → content_scanned PendingLess e ≡ Some (InContentEnd e PendingLess) → content_scanned Nothing e ≡ Some (At (place.Rcdata e)) → scanned (next_loose c b e (Characters r)) ≡ Some (content_next c e)
+loose-next : (c : Class) (b : ℕ) (e : Element) (r : Reference) → content_scanned PendingLess e ≡ Some (InContentEnd e PendingLess) → content_scanned Nothing e ≡ Some (At (rest_place e)) → scanned (next_loose c b e (Characters r)) ≡ Some (content_next c e)
 loose-next LessThan b e r g h = g
 loose-next _ b e r g h = h
 
-less-next : (c : Class) (b : ℕ) (e : Element) (r : Reference) → content_scanned (PendingName []) e ≡ Some (InContentEnd e (PendingName [])) → content_scanned PendingLess e ≡ Some (InContentEnd e PendingLess) → content_scanned Nothing e ≡ Some (At (place.Rcdata e)) → scanned (next_less c b e (Characters r)) ≡ Some (pending_less_next c e)
-less-next Solidus b e r f g h = f
-less-next LessThan b e r f g h = g
-less-next _ b e r f g h = h
+less-next : (c : Class) (b : ℕ) (e : Element) (r : Reference) → pending_less_next ExclamationMark e ≡ At (rest_place e) → content_scanned (PendingName []) e ≡ Some (InContentEnd e (PendingName []))
+    → content_scanned PendingLess e ≡ Some (InContentEnd e PendingLess) → content_scanned Nothing e ≡ Some (At (rest_place e)) → scanned (next_less c b e (Characters r)) ≡ Some (pending_less_next c e)
+less-next Solidus b e r k f g h = f
+less-next ExclamationMark b e r k f g h = h ∙ ap Some (sym k)
+less-next LessThan b e r k f g h = g
+less-next _ b e r k f g h = h
 
 content-steps : (h : Pending) (e : Element) (r : Reference) (c : Class) (b : ℕ) → WhereScanned (content_scanned h e) (λ f. Agrees (InContent e (Characters r) h) f c b)
 content-steps Nothing element.Title r c b = record { errors = refl; steps = λ n. loose-next c b element.Title r refl refl }
 content-steps Nothing element.Textarea r c b = record { errors = refl; steps = λ n. loose-next c b element.Textarea r refl refl }
-content-steps PendingLess element.Title r c b = record { errors = refl; steps = λ n. less-next c b element.Title r refl refl refl }
-content-steps PendingLess element.Textarea r c b = record { errors = refl; steps = λ n. less-next c b element.Textarea r refl refl refl }
+content-steps PendingLess element.Title r c b = record { errors = refl; steps = λ n. less-next c b element.Title r refl refl refl refl }
+content-steps PendingLess element.Textarea r c b = record { errors = refl; steps = λ n. less-next c b element.Textarea r refl refl refl refl }
 content-steps (PendingName letters) element.Title r c b = record { errors = refl; steps = λ n. end-name-next (may_be_name_of element.Title (letters ++ b ∷ [])) (is_name_of element.Title letters) c b element.Title r letters refl refl refl }
 content-steps (PendingName letters) element.Textarea r c b = record { errors = refl; steps = λ n. end-name-next (may_be_name_of element.Textarea (letters ++ b ∷ [])) (is_name_of element.Textarea letters) c b element.Textarea r letters refl refl refl }
+content-steps LessAtCut element.Title r c b = tt
+content-steps LessAtCut element.Textarea r c b = tt
 content-steps PendingBang element.Title r c b = tt
 content-steps PendingBang element.Textarea r c b = tt
 content-steps PendingBangDash element.Title r c b = tt
 content-steps PendingBangDash element.Textarea r c b = tt
 content-steps Nothing _ r c b = tt
 content-steps PendingLess _ r c b = tt
+content-steps LessAtCut _ r c b = tt
 content-steps (PendingName letters) _ r c b = tt
 content-steps PendingBang _ r c b = tt
 content-steps PendingBangDash _ r c b = tt
 
-unbegun-steps : (t : Tag) (k : Kind) (c : Class) (b : ℕ) → WhereScanned (scanned (BeforeAttributeValue t k)) (λ f. Agrees (BeforeAttributeValue t k) f c b)
-unbegun-steps t kind.Plain c b = record { errors = refl; steps = λ n. unbegun-next t kind.Plain body.Plain c b refl refl refl refl n }
-unbegun-steps t kind.NoHole c b = record { errors = refl; steps = λ n. unbegun-next t kind.NoHole body.NoHole c b refl refl refl refl n }
-unbegun-steps t kind.Url c b = tt
-unbegun-steps t kind.Script c b = tt
-unbegun-steps t kind.Style c b = tt
-unbegun-steps t kind.ScriptType c b = tt
+-- data blocks
+block-loose : (c : Class) (b : ℕ) → scanned (next_loose c b element.DataBlock Bytes) ≡ Some (content_next c element.DataBlock)
+block-loose LessThan b = refl
+block-loose _ b = refl
 
-value-steps : (q : Quoting) (t : Tag) (v : Value ValueState) (r : Reference) (c : Class) (b : ℕ) → WhereScanned (scanned (AttributeValue q t v r)) (λ f. Agrees (AttributeValue q t v r) f c b)
-value-steps q t (ValueOf kind.Plain) r c b = record { errors = refl; steps = λ n. value-next q t kind.Plain body.Plain r c b refl n }
-value-steps q t (ValueOf kind.NoHole) r c b = record { errors = refl; steps = λ n. value-next q t kind.NoHole body.NoHole r c b refl n }
-value-steps q t (ValueOf kind.Url) r c b = tt
-value-steps q t (ValueOf kind.Script) r c b = tt
-value-steps q t (ValueOf kind.Style) r c b = tt
-value-steps q t (ValueOf kind.ScriptType) r c b = tt
-value-steps q t (TypeSoFar before) r c b = tt
+block-less : (c : Class) (b : ℕ) → scanned (next_less c b element.DataBlock Bytes) ≡ Some (pending_less_next c element.DataBlock)
+block-less Solidus b = refl
+block-less ExclamationMark b = refl
+block-less LessThan b = refl
+block-less _ b = refl
 
-pub agrees : (s : LexState ValueState) (c : Class) (b : ℕ) → WhereScanned (scanned s) (λ f. Agrees s f c b)
-agrees (Text r) c b = text-steps r c b
-agrees (TagOpen r) c b = less-steps r c b
-agrees (EndTagOpen r) c b = solidus-steps r c b
-agrees (DeclarationOpen r pending) c b = declaration-steps r pending c b
-agrees (InComment s) c b = comment-steps s c b
-agrees BogusComment c b = tt
-agrees InDoctype c b = doctype-steps c b
-agrees (TagName ends name) c b = tag-name-steps ends name c b
-agrees (WholeTagName t) c b = whole-tag-steps t c b
-agrees (BeforeAttributeName t) c b = record { errors = refl; steps = before-next t c b }
-agrees (AttributeName t name) c b = attribute-steps t name c b
-agrees (WholeAttributeName t k) c b = record { errors = refl; steps = whole-name-next t k c b }
-agrees (AfterAttributeName t k) c b = record { errors = refl; steps = after-name-next t k c b }
-agrees (BeforeAttributeValue t k) c b = unbegun-steps t k c b
-agrees (AttributeValue q t v r) c b = value-steps q t v r c b
-agrees (AfterAttributeValue t) c b = record { errors = refl; steps = before-next t c b }
-agrees (SelfClosingStartTag t) c b = record { errors = refl; steps = before-next t c b }
-agrees (InContent e (Characters r) h) c b = content-steps h e r c b
-agrees (InContent e Bytes h) c b = tt
-agrees Unread c b = tt
+block-bang : (c : Class) (b : ℕ) → scanned (next_bang c b element.DataBlock Bytes) ≡ Some (bang_next c element.DataBlock)
+block-bang HyphenMinus b = refl
+block-bang LessThan b = refl
+block-bang _ b = refl
 
--- the end of a text
+block-name : (grows whole : Bool) (c : Class) (b : ℕ) (letters : List ℕ) → scanned (next_end_name grows whole c b element.DataBlock Bytes letters) ≡ Some (end_name_next grows whole c b element.DataBlock letters)
+block-name true whole (Letter l) b letters = refl
+block-name true true White b letters = refl
+block-name true true Solidus b letters = refl
+block-name true true GreaterThan b letters = refl
+block-name true true LessThan b letters = refl
+block-name true true _ b letters = refl
+block-name true false LessThan b letters = refl
+block-name true false _ b letters = refl
+block-name false true White b letters = refl
+block-name false true Solidus b letters = refl
+block-name false true GreaterThan b letters = refl
+block-name false true LessThan b letters = refl
+block-name false true _ b letters = refl
+block-name false false LessThan b letters = refl
+block-name false false _ b letters = refl
+
+cut-error : (c : Class) → block_byte_error LessAtCut c ≡ at_hand (block_error true c)
+cut-error Solidus = refl
+cut-error ExclamationMark = refl
+cut-error _ = refl
+
+block-steps : (h : Pending) (e : Element) (c : Class) (b : ℕ) → WhereScanned (block_scanned h e) (λ f. Agrees (InContent e Bytes h) f c b)
+block-steps Nothing element.DataBlock c b = record { errors = refl; steps = λ n. block-loose c b }
+block-steps LessAtCut element.DataBlock c b = record { errors = cut-error c; steps = λ n. block-loose c b }
+block-steps PendingLess element.DataBlock c b = record { errors = refl; steps = λ n. block-less c b }
+block-steps (PendingName letters) element.DataBlock c b = record {
+  errors = refl;
+  steps = λ n. block-name (may_be_name_of element.DataBlock (letters ++ b ∷ [])) (is_name_of element.DataBlock letters) c b letters;
+}
+block-steps PendingBang element.DataBlock c b = record { errors = refl; steps = λ n. block-bang c b }
+block-steps PendingBangDash element.DataBlock c b = record { errors = refl; steps = λ n. block-loose c b }
+block-steps Nothing _ c b = tt
+block-steps LessAtCut _ c b = tt
+block-steps PendingLess _ c b = tt
+block-steps (PendingName letters) _ c b = tt
+block-steps PendingBang _ c b = tt
+block-steps PendingBangDash _ c b = tt
+
+unbegun-errors : (t : Tag) (k : Kind) (c : Class) (b : ℕ) → byte_error (BeforeAttributeValue t k) c b ≡ at_hand (first_error (kind_error k) (bare_error (tag_of t) (record { uq = false; unbegun = true }) c))
+unbegun-errors t k c b = only-hand (first_byte_error languages (attribute_value_of languages k) c b) _ (first-byte-none (attribute_value_of languages k) c b)
+
+unbegun-steps : (t : Tag) (k : Kind) (c : Class) (b : ℕ) → class_of b ≡ c → WhereScanned (scanned (BeforeAttributeValue t k)) (λ f. Agrees (BeforeAttributeValue t k) f c b)
+unbegun-steps t kind.Plain c b i = record { errors = unbegun-errors t kind.Plain c b; steps = λ n. unbegun-next t kind.Plain body.Plain c b refl refl refl refl n }
+unbegun-steps t kind.NoHole c b i = record { errors = unbegun-errors t kind.NoHole c b; steps = λ n. unbegun-next t kind.NoHole body.NoHole c b refl refl refl refl n }
+unbegun-steps t kind.Url c b i = tt
+unbegun-steps t kind.Script c b i = tt
+unbegun-steps t kind.Style c b i = tt
+unbegun-steps t kind.ScriptType c b i = before-type-steps (is_typed t) t c b i refl
+
+value-errors : (q : Quoting) (t : Tag) (k : Kind) (r : Reference) (c : Class) (b : ℕ) → byte_error (AttributeValue q t (ValueOf k) r) c b ≡ at_hand (quotes_error (tag_of t) (quotes_at q) c)
+value-errors q t k r c b = only-hand (language_error languages (ends_value q c) (ValueOf k) r c b) _ (language-none (ends_value q c) (ValueOf k) r c b)
+
+value-steps : (q : Quoting) (t : Tag) (v : Value ValueState) (r : Reference) (c : Class) (b : ℕ) → class_of b ≡ c → WhereScanned (scanned (AttributeValue q t v r)) (λ f. Agrees (AttributeValue q t v r) f c b)
+value-steps q t (ValueOf kind.Plain) r c b i = record { errors = value-errors q t kind.Plain r c b; steps = λ n. value-next q t kind.Plain body.Plain r c b refl n }
+value-steps q t (ValueOf kind.NoHole) r c b i = record { errors = value-errors q t kind.NoHole r c b; steps = λ n. value-next q t kind.NoHole body.NoHole r c b refl n }
+value-steps q t (ValueOf kind.Url) r c b i = tt
+value-steps q t (ValueOf kind.Script) r c b i = tt
+value-steps q t (ValueOf kind.Style) r c b i = tt
+value-steps q t (ValueOf kind.ScriptType) r c b i = tt
+value-steps q t (TypeSoFar before) r c b i = type-steps (is_typed t) q t before r c b i refl
+
+pub agrees : (s : LexState ValueState) (c : Class) (b : ℕ) → class_of b ≡ c → WhereScanned (scanned s) (λ f. Agrees s f c b)
+agrees (Text r) c b i = text-steps r c b
+agrees (TagOpen r) c b i = less-steps r c b
+agrees (EndTagOpen r) c b i = solidus-steps r c b
+agrees (DeclarationOpen r pending) c b i = declaration-steps r pending c b
+agrees (InComment s) c b i = comment-steps s c b
+agrees BogusComment c b i = tt
+agrees InDoctype c b i = doctype-steps c b
+agrees (TagName ends name) c b i = tag-name-steps ends name c b
+agrees (WholeTagName t) c b i = whole-tag-steps t c b
+agrees (BeforeAttributeName t) c b i = record { errors = refl; steps = before-next t c b }
+agrees (AttributeName t name) c b i = attribute-steps t name c b
+agrees (WholeAttributeName t k) c b i = whole-name-steps (is_second_type (is_typed t) k) t k c b refl
+agrees (AfterAttributeName t k) c b i = after-name-steps (is_second_type (is_typed t) k) t k c b refl
+agrees (BeforeAttributeValue t k) c b i = unbegun-steps t k c b i
+agrees (AttributeValue q t v r) c b i = value-steps q t v r c b i
+agrees (AfterAttributeValue t) c b i = record { errors = refl; steps = before-next t c b }
+agrees (SelfClosingStartTag t) c b i = record { errors = refl; steps = before-next t c b }
+agrees (InContent e (Characters r) h) c b i = content-steps h e r c b
+agrees (InContent e Bytes h) c b i = block-steps h e c b
+agrees Unread c b i = tt
+
+-- the end of a text, and the place that is shown there, whatever bytes are left
 pub record Ends (s : LexState ValueState) (f : Scan) : Type 0 where
   pub errors : cut_error s ≡ scan_cut_error f
-  pub place : placed (at_cut languages s) ≡ Some (scan_place f)
+  pub place : scan_cut_error f ≡ None → placed (at_cut languages s) ≡ Some (scan_place f)
+  pub shown : (bs : List ℕ) → place_before_bytes s bs ≡ scan_shown f
 
 content-ends : (h : Pending) (e : Element) (r : Reference) → WhereScanned (content_scanned h e) (Ends (InContent e (Characters r) h))
-content-ends Nothing element.Title r = record { errors = refl; place = refl }
-content-ends Nothing element.Textarea r = record { errors = refl; place = refl }
-content-ends PendingLess element.Title r = record { errors = refl; place = refl }
-content-ends PendingLess element.Textarea r = record { errors = refl; place = refl }
-content-ends (PendingName letters) element.Title r = record { errors = refl; place = refl }
-content-ends (PendingName letters) element.Textarea r = record { errors = refl; place = refl }
+content-ends Nothing element.Title r = record { errors = refl; place = λ n. refl; shown = λ bs. refl }
+content-ends Nothing element.Textarea r = record { errors = refl; place = λ n. refl; shown = λ bs. refl }
+content-ends PendingLess element.Title r = record { errors = refl; place = λ n. refl; shown = λ bs. refl }
+content-ends PendingLess element.Textarea r = record { errors = refl; place = λ n. refl; shown = λ bs. refl }
+content-ends (PendingName letters) element.Title r = record { errors = refl; place = λ n. refl; shown = λ bs. refl }
+content-ends (PendingName letters) element.Textarea r = record { errors = refl; place = λ n. refl; shown = λ bs. refl }
+content-ends LessAtCut element.Title r = tt
+content-ends LessAtCut element.Textarea r = tt
 content-ends PendingBang element.Title r = tt
 content-ends PendingBang element.Textarea r = tt
 content-ends PendingBangDash element.Title r = tt
 content-ends PendingBangDash element.Textarea r = tt
 content-ends Nothing _ r = tt
+content-ends LessAtCut _ r = tt
 content-ends PendingLess _ r = tt
 content-ends (PendingName letters) _ r = tt
 content-ends PendingBang _ r = tt
 content-ends PendingBangDash _ r = tt
 
-comment-ends : (s : CommentState) → Ends (InComment s) (comment_scan s)
-comment-ends Inside = record { errors = refl; place = refl }
-comment-ends Broken = record { errors = refl; place = refl }
-comment-ends _ = record { errors = refl; place = refl }
+block-ends : (h : Pending) (e : Element) → WhereScanned (block_scanned h e) (Ends (InContent e Bytes h))
+block-ends Nothing element.DataBlock = record { errors = refl; place = λ n. refl; shown = λ bs. refl }
+block-ends LessAtCut element.DataBlock = record { errors = refl; place = λ n. refl; shown = λ bs. refl }
+block-ends PendingLess element.DataBlock = record { errors = refl; place = λ n. refl; shown = λ bs. refl }
+block-ends (PendingName letters) element.DataBlock = record { errors = refl; place = λ n. refl; shown = λ bs. refl }
+block-ends PendingBang element.DataBlock = record { errors = refl; place = λ n. refl; shown = λ bs. refl }
+block-ends PendingBangDash element.DataBlock = record { errors = refl; place = λ n. refl; shown = λ bs. refl }
+block-ends Nothing _ = tt
+block-ends LessAtCut _ = tt
+block-ends PendingLess _ = tt
+block-ends (PendingName letters) _ = tt
+block-ends PendingBang _ = tt
+block-ends PendingBangDash _ = tt
 
-attribute-ends : (t : Tag) (k : Kind) → placed (WholeAttributeName t k) ≡ Some (place.Tag (record { tag = tag_of t; typed = typed_with (tag_of t) (is_typed t) k; spots = only_inside; kind = Some k }))
-attribute-ends t k = rw (same-typed t k) refl
+comment-ends : (s : CommentState) → Ends (InComment s) (comment_scan s)
+comment-ends Inside = record { errors = refl; place = λ n. refl; shown = λ bs. refl }
+comment-ends Broken = record { errors = refl; place = λ n. refl; shown = λ bs. refl }
+comment-ends _ = record { errors = refl; place = λ n. refl; shown = λ bs. refl }
+
+-- a name: where it is that of a second `type` it is read as another one
+first-not-second : (typed : Bool) (k : Kind) → is_second_type typed (first_kind typed k) ≡ false
+first-not-second true kind.ScriptType = refl
+first-not-second false kind.ScriptType = refl
+first-not-second typed kind.Plain = refl
+first-not-second typed kind.NoHole = refl
+first-not-second typed kind.Url = refl
+first-not-second typed kind.Script = refl
+first-not-second typed kind.Style = refl
+
+attribute-place : (t : Tag) (k : Kind) → is_second_type (is_typed t) k ≡ false → placed (WholeAttributeName t k) ≡ Some (whole_name_place (tag_of t) (is_typed t) k)
+attribute-place t k e = rw (e, same-typed t k) refl
+
+attribute-ends : (t : Tag) (name : List ℕ) → kind_of (element_on t) name ≡ kind_of (tag_element (tag_of t)) name → Ends (AttributeName t name) (InAttributeName (tag_of t) (is_typed t) name)
+attribute-ends t name e =
+    let k = first_kind (is_typed t) (kind_of (element_on t) name) in
+    let there : placed (at_cut languages (AttributeName t name)) ≡ Some (scan_place (InAttributeName (tag_of t) (is_typed t) name)) =
+    attribute-place t k (first-not-second (is_typed t) (kind_of (element_on t) name)) ∙ ap (λ (z : Kind). Some (whole_name_place (tag_of t) (is_typed t) (first_kind (is_typed t) z))) e in
+    record {
+      errors = ap (λ (z : Kind). unless_second (is_second_type (is_typed t) z) (length name) None) e;
+      place = λ n. there;
+      shown = λ bs. there;
+    }
+
+whole-name-ends : (second : Bool) (t : Tag) (k : Kind) → is_second_type (is_typed t) k ≡ second
+    → WhereScanned (if second then None else Some (At (place.Tag (tag_spot t only_inside (Some k))))) (Ends (WholeAttributeName t k))
+whole-name-ends true t k e = tt
+whole-name-ends false t k e = record { errors = refl; place = λ n. rw e refl; shown = λ bs. rw e refl }
+
+after-name-ends : (second : Bool) (t : Tag) (k : Kind) → is_second_type (is_typed t) k ≡ second
+    → WhereScanned (if second then None else Some (At (place.Tag (tag_spot t only_after (Some k))))) (Ends (AfterAttributeName t k))
+after-name-ends true t k e = tt
+after-name-ends false t k e = record { errors = refl; place = λ n. rw e refl; shown = λ bs. rw e refl }
 
 tag-name-ends : (t : Tag) → is_typed t ≡ false → placed (WholeTagName t) ≡ Some (place.Tag (record { tag = tag_of t; typed = false; spots = only_name; kind = None }))
 tag-name-ends t e = rw e refl
 
+-- the body of a value of a kind does not change
+cut-body : (bs : List ℕ) (k : Kind) → value_body (cut_value languages (with_bytes languages (ValueOf k) bs)) ≡ value_body (ValueOf k)
+cut-body [] k = refl
+cut-body (b ∷ bs) k = cut-body bs k
+
+body-before : (step : ReferenceStep) (k : Kind) (c : Class) (f : Form) (bytes : List ℕ) → value_body (cut_value languages (value_before step (ValueOf k) c f bytes)) ≡ value_body (ValueOf k)
+body-before Breaks k c f bytes = cut-body (flushed true (is_equals_sign c) f bytes) k
+body-before (Grows g) k c f bytes = refl
+body-before Closes k c f bytes = refl
+
+value-place : (q : Quoting) (t : Tag) (k : Kind) (x : Body) (r : Reference) → body_at k ≡ Some x → placed (at_cut languages (AttributeValue q t (ValueOf k) r)) ≡ Some (scan_place (value-at t (quotes_at q) x))
+value-place q t k x r e = rw (cut-body (as_it_stands r) k, e) refl
+
+value-shown : (q : Quoting) (t : Tag) (k : Kind) (x : Body) (r : Reference) (bs : List ℕ) → body_at k ≡ Some x → place_before_bytes (AttributeValue q t (ValueOf k) r) bs ≡ Some (scan_place (value-at t (quotes_at q) x))
+value-shown q t k x Closed bs e = value-place q t k x Closed e
+value-shown q t k x (Open f bytes) [] e = value-place q t k x (Open f bytes) e
+value-shown q t k x (Open f bytes) (b ∷ bs) e = rw (body-before (turn (class_of b) f) k (class_of b) f bytes, e) refl
+
 value-ends : (q : Quoting) (t : Tag) (k : Kind) (x : Body) (r : Reference) → body_at k ≡ Some x → Ends (AttributeValue q t (ValueOf k) r) (value-at t (quotes_at q) x)
-value-ends q t k x r e = record { errors = refl; place = rw (same-body (as_it_stands r) k, e) refl }
+value-ends q t k x r e = record {
+  errors = fed-none (ValueOf k) (as_it_stands r) true (length (as_it_stands r));
+  place = λ n. value-place q t k x r e;
+  shown = λ bs. value-shown q t k x r bs e;
+}
+
+-- in the value of a type there is no place
+type-body : (bs before : List ℕ) → value_body (cut_value languages (with_bytes languages (TypeSoFar before) bs)) ≡ None
+type-body [] before = refl
+type-body (b ∷ bs) before = type-body bs (before ++ b ∷ [])
+
+type-before : (step : ReferenceStep) (before : List ℕ) (c : Class) (f : Form) (bytes : List ℕ) → value_body (cut_value languages (value_before step (TypeSoFar before) c f bytes)) ≡ None
+type-before Breaks before c f bytes = type-body (flushed true (is_equals_sign c) f bytes) before
+type-before (Grows g) before c f bytes = refl
+type-before Closes before c f bytes = refl
+
+type-shown : (q : Quoting) (t : Tag) (before : List ℕ) (r : Reference) (bs : List ℕ) → place_before_bytes (AttributeValue q t (TypeSoFar before) r) bs ≡ None
+type-shown q t before Closed bs = refl
+type-shown q t before (Open f bytes) [] = rw (type-body (38 ∷ bytes) before) refl
+type-shown q t before (Open f bytes) (b ∷ bs) = rw (type-before (turn (class_of b) f) before (class_of b) f bytes) refl
+
+type-ends : (typed : Bool) (q : Quoting) (t : Tag) (before : List ℕ) (r : Reference) → WhereScanned (if typed then None else Some (InType (tag_of t) q (TypeSoFar before) r)) (Ends (AttributeValue q t (TypeSoFar before) r))
+type-ends true q t before r = tt
+type-ends false q t before r = record { errors = refl; place = λ n. absurd (some _ n); shown = type-shown q t before r }
+
+begin-type-ends : (typed : Bool) (t : Tag) → WhereScanned (if typed then None else Some (BeforeType (tag_of t))) (Ends (BeforeAttributeValue t kind.ScriptType))
+begin-type-ends true t = tt
+begin-type-ends false t = record { errors = refl; place = λ n. absurd (some _ n); shown = λ bs. refl }
 
 pub ends-agree : (s : LexState ValueState) → WhereScanned (scanned s) (Ends s)
-ends-agree (Text r) = record { errors = refl; place = refl }
-ends-agree (TagOpen r) = record { errors = refl; place = refl }
-ends-agree (EndTagOpen r) = record { errors = refl; place = refl }
-ends-agree (DeclarationOpen r pending) = record { errors = refl; place = refl }
+ends-agree (Text r) = record { errors = refl; place = λ n. refl; shown = λ bs. refl }
+ends-agree (TagOpen r) = record { errors = refl; place = λ n. refl; shown = λ bs. refl }
+ends-agree (EndTagOpen r) = record { errors = refl; place = λ n. refl; shown = λ bs. refl }
+ends-agree (DeclarationOpen r pending) = record { errors = refl; place = λ n. refl; shown = λ bs. refl }
 ends-agree (InComment s) = comment-ends s
 ends-agree BogusComment = tt
-ends-agree InDoctype = record { errors = refl; place = refl }
-ends-agree (TagName ends name) = record { errors = refl; place = tag-name-ends (tag_named ends name) (named-typed ends name) }
-ends-agree (WholeTagName t) = record { errors = refl; place = refl }
-ends-agree (BeforeAttributeName t) = record { errors = refl; place = refl }
-ends-agree (AttributeName EndTag name) = record { errors = refl; place = attribute-ends EndTag (kind_of element.Other name) }
-ends-agree (AttributeName (StartTag e typed) name) = record { errors = refl; place = attribute-ends (StartTag e typed) (kind_of e name) }
-ends-agree (WholeAttributeName t k) = record { errors = refl; place = refl }
-ends-agree (AfterAttributeName t k) = record { errors = refl; place = refl }
-ends-agree (BeforeAttributeValue t kind.Plain) = record { errors = refl; place = refl }
-ends-agree (BeforeAttributeValue t kind.NoHole) = record { errors = refl; place = refl }
+ends-agree InDoctype = record { errors = refl; place = λ n. refl; shown = λ bs. refl }
+ends-agree (TagName ends name) = record {
+  errors = refl;
+  place = λ n. tag-name-ends (tag_named ends name) (named-typed ends name);
+  shown = λ bs. tag-name-ends (tag_named ends name) (named-typed ends name);
+}
+ends-agree (WholeTagName t) = record { errors = refl; place = λ n. refl; shown = λ bs. refl }
+ends-agree (BeforeAttributeName t) = record { errors = refl; place = λ n. refl; shown = λ bs. refl }
+ends-agree (AttributeName EndTag name) = attribute-ends EndTag name refl
+ends-agree (AttributeName (StartTag e typed) name) = attribute-ends (StartTag e typed) name refl
+ends-agree (WholeAttributeName t k) = whole-name-ends (is_second_type (is_typed t) k) t k refl
+ends-agree (AfterAttributeName t k) = after-name-ends (is_second_type (is_typed t) k) t k refl
+ends-agree (BeforeAttributeValue t kind.Plain) = record { errors = refl; place = λ n. refl; shown = λ bs. refl }
+ends-agree (BeforeAttributeValue t kind.NoHole) = record { errors = refl; place = λ n. refl; shown = λ bs. refl }
 ends-agree (BeforeAttributeValue t kind.Url) = tt
 ends-agree (BeforeAttributeValue t kind.Script) = tt
 ends-agree (BeforeAttributeValue t kind.Style) = tt
-ends-agree (BeforeAttributeValue t kind.ScriptType) = tt
+ends-agree (BeforeAttributeValue t kind.ScriptType) = begin-type-ends (is_typed t) t
 ends-agree (AttributeValue q t (ValueOf kind.Plain) r) = value-ends q t kind.Plain body.Plain r refl
 ends-agree (AttributeValue q t (ValueOf kind.NoHole) r) = value-ends q t kind.NoHole body.NoHole r refl
 ends-agree (AttributeValue q t (ValueOf kind.Url) r) = tt
 ends-agree (AttributeValue q t (ValueOf kind.Script) r) = tt
 ends-agree (AttributeValue q t (ValueOf kind.Style) r) = tt
 ends-agree (AttributeValue q t (ValueOf kind.ScriptType) r) = tt
-ends-agree (AttributeValue q t (TypeSoFar before) r) = tt
-ends-agree (AfterAttributeValue t) = record { errors = refl; place = refl }
-ends-agree (SelfClosingStartTag t) = record { errors = refl; place = refl }
+ends-agree (AttributeValue q t (TypeSoFar before) r) = type-ends (is_typed t) q t before r
+ends-agree (AfterAttributeValue t) = record { errors = refl; place = λ n. refl; shown = λ bs. refl }
+ends-agree (SelfClosingStartTag t) = record { errors = refl; place = λ n. refl; shown = λ bs. refl }
 ends-agree (InContent e (Characters r) h) = content-ends h e r
-ends-agree (InContent e Bytes h) = tt
+ends-agree (InContent e Bytes h) = block-ends h e
 ends-agree Unread = tt

@@ -2,7 +2,7 @@
 use Rattle.std.proofs.Common.{◌≡◌, ℕ, Bool, true, false, ◌||◌, ◌&&◌, List, length, Option, Some, None, if◌then◌else◌, refl, sym, ap, ◌∙◌, subst}
 use Rattle.std.specs.Option.{is_some}
 use Rattle.place_core.specs.page.Classes.{Class, White, ExclamationMark, QuotationMark, Apostrophe, HyphenMinus, Solidus, LessThan, EqualsSign, GreaterThan, GraveAccent}
-use Rattle.place_core.specs.place.Errors.{at_hand, attribute_name_error, bare_error, body_error, comment_error, content_error, equals_error, first_error, is_second_type, kind_error, place_error, quotes_error, tag_error, unless_second, value_error}
+use Rattle.place_core.specs.place.Errors.{at_hand, attribute_name_error, bare_error, body_error, comment_error, content_error, equals_error, first_error, kind_error, place_error, quotes_error, tag_error, unless_second, value_error, block_error}
 use Rattle.place_core.specs.place.Places.{Below, Has, IsValid, IsValidQuotes, IsValidTag, both_bare, is_rcdata, is_whole, joined_kinds, joined_quotes, joined_bodies, some_bare, typed_has}
 use Rattle.place_core.specs.place.StatePlaces.{body_at, only_after, only_before, only_inside, unbegun}
 use Rattle.place_core.specs.page.Words.{kind_of}
@@ -12,6 +12,7 @@ use Rattle.place_core.specs.declared.body.Body.TheVariants as body
 use Rattle.place_core.specs.declared.code.Code.{Code}
 use Rattle.place_core.specs.declared.code.Code.TheVariants as code
 use Rattle.place_core.specs.declared.element.Element.{Element}
+use Rattle.place_core.specs.declared.element.Element.TheVariants as element
 use Rattle.place_core.specs.declared.kind.Kind.{Kind}
 use Rattle.place_core.specs.declared.kind.Kind.TheVariants as kind
 use Rattle.place_core.specs.declared.member.Member.{Member}
@@ -27,9 +28,10 @@ use Rattle.place_core.specs.declared.value_place.ValuePlace.{ValuePlace}
 use Rattle.place_core.proofs.JoinParts.{kinds_partial}
 use Rattle.place_core.proofs.Joins.{places_same}
 use Rattle.place_core.proofs.Semilattices.{none_some, one_value}
-use Rattle.html_scan.specs.Scans.{Scan, At, AfterLess, AfterLessSolidus, InDeclaration, InTagName, InAttributeName, InCommentEnd, InContentEnd, after_white, bare_begun, attribute_name_next, bare_next, bare_white, comment_next, comment_state, content_scan, scan_next, scan_error, scan_place, scan_cut_error, in_tag, kind_body, quoted_next, tag_element, tag_next, typed_with, value_scan, with_quotes}
+use Rattle.html_scan.specs.Scans.{Scan, At, AfterLess, AfterLessSolidus, InDeclaration, InTagName, InAttributeName, InCommentEnd, InContentEnd, after_white, bare_begun, attribute_name_next, bare_next, bare_white, comment_next, comment_state, content_scan, scan_next, scan_error, scan_place, scan_cut_error, in_tag, quoted_next, tag_element, tag_next, typed_with, value_scan, with_quotes, BeforeType, InType, rest_place, content_next}
 use Rattle.html_step.proofs.OnePath.{none-at-hand, none-unless, some}
 use Rattle.html_step.proofs.PlaceParts.{Under, under-false, under-same, under-both, TagBelow, ValueBelow, below-tag, tag-below, below-value, value-below, below-rcdata, same-kinds}
+use Rattle.place_core.specs.page.Tags.{is_second_type, first_kind}
 
 -- Between lexemes by the order of places. In a name of an attribute it only matters whether a `type` may have been seen.
 abbrev pub ScanBelow : Scan → Scan → Type 0
@@ -43,10 +45,12 @@ ScanBelow (InDeclaration pending) g = InDeclaration pending ≡ g
 ScanBelow (InTagName ends name) g = InTagName ends name ≡ g
 ScanBelow (InCommentEnd s) g = InCommentEnd s ≡ g
 ScanBelow (InContentEnd e h) g = InContentEnd e h ≡ g
+ScanBelow (BeforeType t) g = BeforeType t ≡ g
+ScanBelow (InType t q v r) g = InType t q v r ≡ g
 
 abbrev pub ScanValid : Scan → Type 0
 ScanValid (At p) = IsValid p
-ScanValid (InContentEnd e h) = is_rcdata e ≡ true
+ScanValid (InContentEnd e h) = IsValid (rest_place e)
 ScanValid f = Unit {0}
 
 abbrev pub ScanHas : Scan → Member → Type 0
@@ -63,6 +67,8 @@ scan-same (InDeclaration pending) = refl
 scan-same (InTagName ends name) = refl
 scan-same (InCommentEnd s) = refl
 scan-same (InContentEnd e h) = refl
+scan-same (BeforeType t) = refl
+scan-same (InType t q v r) = refl
 
 no : false ≡ true → ⊥
 no e = cc
@@ -83,15 +89,15 @@ pub value-from : (t u : TagOf) (x y : Bool) (q r : Quotes) (b c : Body) → t �
 value-from t u x y q r b c e f g h = value-below (record { tag = t; typed = x; quotes = q; body = b }) (record { tag = u; typed = y; quotes = r; body = c }) (record { tag = e; typed = f; quotes = g; body = h })
 
 -- a value that begins
-begins-same : (t u : TagOf) (x y : Bool) (k : Kind) → kind_error k ≡ None → t ≡ u → Under x y → ScanBelow (value_scan t x (body_at k)) (value_scan u y (body_at k))
+begins-same : (t u : TagOf) (x y : Bool) (k : Kind) → kind_error k ≡ None → t ≡ u → Under x y → ScanBelow (value_scan t x (Some k)) (value_scan u y (Some k))
 begins-same t u x y kind.Plain n e f = value-from t u x y unbegun unbegun body.Plain body.Plain e f refl refl
 begins-same t u x y kind.NoHole n e f = value-from t u x y unbegun unbegun body.NoHole body.NoHole e f refl refl
 begins-same t u x y kind.Url n e f = absurd (some _ n)
 begins-same t u x y kind.Script n e f = absurd (some _ n)
 begins-same t u x y kind.Style n e f = absurd (some _ n)
-begins-same t u x y kind.ScriptType n e f = absurd (some _ n)
+begins-same t u x y kind.ScriptType n e f = ap BeforeType e
 
-begins-with : (t u : TagOf) (x y : Bool) (o p : Option Kind) (k : Kind) → o ≡ Some k → p ≡ Some k → kind_error k ≡ None → t ≡ u → Under x y → ScanBelow (value_scan t x (kind_body o)) (value_scan u y (kind_body p))
+begins-with : (t u : TagOf) (x y : Bool) (o p : Option Kind) (k : Kind) → o ≡ Some k → p ≡ Some k → kind_error k ≡ None → t ≡ u → Under x y → ScanBelow (value_scan t x o) (value_scan u y p)
 begins-with t u x y o p k i j n e f = rw (i, j) (begins-same t u x y k n e f)
 
 ends-same : (t u : TagOf) → t ≡ u → ScanBelow (content_scan t) (content_scan u)
@@ -155,20 +161,20 @@ tag-grows x y _ b v h n =
 
 -- Values.
 
-pub built-same : (b c : Body) → body_error c ≡ None → joined_bodies b c ≡ Some c → b ≡ c
-built-same body.Plain body.Plain n h = refl
-built-same body.NoHole body.NoHole n h = refl
-built-same body.NoHole body.Plain n h = absurd (none_some body.Plain h)
-built-same (body.Url p) body.Plain n h = absurd (none_some body.Plain h)
-built-same (body.Js p) body.Plain n h = absurd (none_some body.Plain h)
-built-same (body.Css p) body.Plain n h = absurd (none_some body.Plain h)
-built-same body.Plain body.NoHole n h = absurd (none_some body.NoHole h)
-built-same (body.Url p) body.NoHole n h = absurd (none_some body.NoHole h)
-built-same (body.Js p) body.NoHole n h = absurd (none_some body.NoHole h)
-built-same (body.Css p) body.NoHole n h = absurd (none_some body.NoHole h)
-built-same b (body.Url p) n h = absurd (some _ n)
-built-same b (body.Js p) n h = absurd (some _ n)
-built-same b (body.Css p) n h = absurd (some _ n)
+pub built-same : (b c : Body) (byte : ℕ) → body_error c byte ≡ None → joined_bodies b c ≡ Some c → b ≡ c
+built-same body.Plain body.Plain byte n h = refl
+built-same body.NoHole body.NoHole byte n h = refl
+built-same body.NoHole body.Plain byte n h = absurd (none_some body.Plain h)
+built-same (body.Url p) body.Plain byte n h = absurd (none_some body.Plain h)
+built-same (body.Js p) body.Plain byte n h = absurd (none_some body.Plain h)
+built-same (body.Css p) body.Plain byte n h = absurd (none_some body.Plain h)
+built-same body.Plain body.NoHole byte n h = absurd (none_some body.NoHole h)
+built-same (body.Url p) body.NoHole byte n h = absurd (none_some body.NoHole h)
+built-same (body.Js p) body.NoHole byte n h = absurd (none_some body.NoHole h)
+built-same (body.Css p) body.NoHole byte n h = absurd (none_some body.NoHole h)
+built-same b (body.Url p) byte n h = absurd (some _ n)
+built-same b (body.Js p) byte n h = absurd (some _ n)
+built-same b (body.Css p) byte n h = absurd (some _ n)
 
 pub bare-white : (su sb ru rb : Bool) → (su || sb) ≡ true → Under su ru → Under sb rb → (ru && rb) ≡ false → (su ≡ ru) × (sb ≡ rb)
 bare-white true true true true s u b n = (refl, refl)
@@ -237,10 +243,10 @@ pub first-none : (o p : Option Code) → first_error o p ≡ None → (o ≡ Non
 first-none None p n = (refl, n)
 first-none (Some e) p n = absurd (some _ n)
 
-value-grows : (x y : ValuePlace) (c : Class) → IsValidQuotes x.quotes → ValueBelow x y → value_error y c ≡ None → (value_error x c ≡ None) × ScanBelow (quoted_next x x.quotes c) (quoted_next y y.quotes c)
-value-grows x y c v h n =
-    let f = first-none (body_error y.body) (quotes_error y.tag y.quotes c) n in
-    let same : x.body ≡ y.body = built-same x.body y.body f.0 h.body in
+value-grows : (x y : ValuePlace) (c : Class) (b : ℕ) → IsValidQuotes x.quotes → ValueBelow x y → value_error y c b ≡ None → (value_error x c b ≡ None) × ScanBelow (quoted_next x x.quotes c) (quoted_next y y.quotes c)
+value-grows x y c b v h n =
+    let f = first-none (body_error y.body b) (quotes_error y.tag y.quotes c) n in
+    let same : x.body ≡ y.body = built-same x.body y.body b f.0 h.body in
     let g = quotes-grow x y x.quotes y.quotes c v h h.quotes f.1 in
     (rw (same, f.0) g.0, g.1)
 
@@ -262,18 +268,28 @@ comment-grows false true _ h n = (refl, refl)
 comment-grows false false HyphenMinus h n = (refl, refl)
 comment-grows false false _ h n = (refl, refl)
 
+-- Data blocks.
+
+block-below : (x y : Bool) → Below (place.Block x) (place.Block y) → Under x y
+block-below x y h = let e : place.Block (x || y) ≡ place.Block y = one_value (place.Block (x || y)) (place.Block y) h in cc
+
+block-grows : (x y : Bool) (c : Class) → Under x y → block_error y c ≡ None → block_error x c ≡ None
+block-grows true true c h n = n
+block-grows true false c h n = absurd (no (sym h))
+block-grows false y c h n = refl
+
 -- The whole step.
 
 hand-none : (o : Option Code) → o ≡ None → at_hand o ≡ None
 hand-none o e = ap at_hand e
 
 abbrev Grows : Scan → Scan → Class → ℕ → Type 0
-Grows f g c b = (scan_error f c ≡ None) × ScanBelow (scan_next f c b) (scan_next g c b)
+Grows f g c b = (scan_error f c b ≡ None) × ScanBelow (scan_next f c b) (scan_next g c b)
 
-same-grows : (f g : Scan) (c : Class) (b : ℕ) → f ≡ g → scan_error g c ≡ None → Grows f g c b
-same-grows f g c b e n = (ap (λ (h : Scan). scan_error h c) e ∙ n, subst (λ (h : Scan). ScanBelow (scan_next f c b) (scan_next h c b)) e (scan-same (scan_next f c b)))
+same-grows : (f g : Scan) (c : Class) (b : ℕ) → f ≡ g → scan_error g c b ≡ None → Grows f g c b
+same-grows f g c b e n = (ap (λ (h : Scan). scan_error h c b) e ∙ n, subst (λ (h : Scan). ScanBelow (scan_next f c b) (scan_next h c b)) e (scan-same (scan_next f c b)))
 
-place-grows : (x y : Place) (c : Class) (b : ℕ) → IsValid x → Below x y → at_hand (place_error y c) ≡ None → Grows (At x) (At y) c b
+place-grows : (x y : Place) (c : Class) (b : ℕ) → IsValid x → Below x y → at_hand (place_error y c b) ≡ None → Grows (At x) (At y) c b
 place-grows place.Text place.Text c b v h n = (n, scan-same (scan_next (At place.Text) c b))
 place-grows place.Text y c b v h n = absurd (none_some y h)
 place-grows place.Doctype place.Doctype c b v h n = (n, scan-same (scan_next (At place.Doctype) c b))
@@ -286,13 +302,14 @@ place-grows (place.Rcdata e) (place.Rcdata f) c b v h n = same-grows (At (place.
 place-grows (place.Rcdata e) y c b v h n = absurd (none_some y h)
 place-grows (place.Tag x) (place.Tag y) c b v h n = let g = tag-grows x y c b v (below-tag x y h) (none-at-hand (tag_error y c) n) in (hand-none (tag_error x c) g.0, g.1)
 place-grows (place.Tag x) y c b v h n = absurd (none_some y h)
-place-grows (place.Value x) (place.Value y) c b v h n = let g = value-grows x y c v.0 (below-value x y h) (none-at-hand (value_error y c) n) in (hand-none (value_error x c) g.0, g.1)
+place-grows (place.Value x) (place.Value y) c b v h n = let g = value-grows x y c b v.0 (below-value x y h) (none-at-hand (value_error y c b) n) in (hand-none (value_error x c b) g.0, g.1)
 place-grows (place.Value x) y c b v h n = absurd (none_some y h)
 place-grows x (place.Script j) c b v h n = absurd (some _ n)
 place-grows (place.Script i) y c b v h n = absurd (none_some y h)
 place-grows x (place.Style j) c b v h n = absurd (some _ n)
 place-grows (place.Style i) y c b v h n = absurd (none_some y h)
-place-grows x (place.Block j) c b v h n = absurd (some _ n)
+place-grows (place.Block x) (place.Block y) c b v h n =
+    (hand-none (block_error x c) (block-grows x y c (block-below x y h) (none-at-hand (block_error y c) n)), scan-same (content_next c element.DataBlock))
 place-grows (place.Block i) y c b v h n = absurd (none_some y h)
 
 -- a name of an attribute
@@ -323,12 +340,12 @@ name-grows t x y k name Apostrophe b u n = absurd (some _ n)
 name-grows t x y k name LessThan b u n = absurd (some _ n)
 name-grows t x y k name _ b u n = (refl, (refl, u, refl))
 
-attribute-grows : (t u : TagOf) (x y : Bool) (m n : List ℕ) (c : Class) (b : ℕ) → t ≡ u → Under x y → m ≡ n → scan_error (InAttributeName u y n) c ≡ None → Grows (InAttributeName t x m) (InAttributeName u y n) c b
+attribute-grows : (t u : TagOf) (x y : Bool) (m n : List ℕ) (c : Class) (b : ℕ) → t ≡ u → Under x y → m ≡ n → scan_error (InAttributeName u y n) c b ≡ None → Grows (InAttributeName t x m) (InAttributeName u y n) c b
 attribute-grows t u x y m n c b e h f o =
-    subst (λ (v : TagOf). scan_error (InAttributeName v y n) c ≡ None → Grows (InAttributeName t x m) (InAttributeName v y n) c b) e
-    (λ o. subst (λ (l : List ℕ). scan_error (InAttributeName t y l) c ≡ None → Grows (InAttributeName t x m) (InAttributeName t y l) c b) f (λ o. name-grows t x y (kind_of (tag_element t) m) m c b h o) o) o
+    subst (λ (v : TagOf). scan_error (InAttributeName v y n) c b ≡ None → Grows (InAttributeName t x m) (InAttributeName v y n) c b) e
+    (λ o. subst (λ (l : List ℕ). scan_error (InAttributeName t y l) c b ≡ None → Grows (InAttributeName t x m) (InAttributeName t y l) c b) f (λ o. name-grows t x y (kind_of (tag_element t) m) m c b h o) o) o
 
-pub scan-grows : (f g : Scan) (c : Class) (b : ℕ) → ScanValid f → ScanBelow f g → scan_error g c ≡ None → Grows f g c b
+pub scan-grows : (f g : Scan) (c : Class) (b : ℕ) → ScanValid f → ScanBelow f g → scan_error g c b ≡ None → Grows f g c b
 scan-grows (At x) (At y) c b v h n = place-grows x y c b v h n
 scan-grows (At x) AfterLess c b v h n = absurd h
 scan-grows (At x) AfterLessSolidus c b v h n = absurd h
@@ -337,6 +354,8 @@ scan-grows (At x) (InTagName ends name) c b v h n = absurd h
 scan-grows (At x) (InAttributeName t y m) c b v h n = absurd h
 scan-grows (At x) (InCommentEnd s) c b v h n = absurd h
 scan-grows (At x) (InContentEnd e y) c b v h n = absurd h
+scan-grows (At x) (BeforeType t) c b v h n = absurd h
+scan-grows (At x) (InType t q w r) c b v h n = absurd h
 scan-grows (InAttributeName t x m) (InAttributeName u y l) c b v h n = attribute-grows t u x y m l c b h.0 h.1 h.2 n
 scan-grows (InAttributeName t x m) (At y) c b v h n = absurd h
 scan-grows (InAttributeName t x m) AfterLess c b v h n = absurd h
@@ -345,12 +364,16 @@ scan-grows (InAttributeName t x m) (InDeclaration pending) c b v h n = absurd h
 scan-grows (InAttributeName t x m) (InTagName ends name) c b v h n = absurd h
 scan-grows (InAttributeName t x m) (InCommentEnd s) c b v h n = absurd h
 scan-grows (InAttributeName t x m) (InContentEnd e y) c b v h n = absurd h
+scan-grows (InAttributeName t x m) (BeforeType u) c b v h n = absurd h
+scan-grows (InAttributeName t x m) (InType u q w r) c b v h n = absurd h
 scan-grows AfterLess g c b v h n = same-grows AfterLess g c b h n
 scan-grows AfterLessSolidus g c b v h n = same-grows AfterLessSolidus g c b h n
 scan-grows (InDeclaration pending) g c b v h n = same-grows (InDeclaration pending) g c b h n
 scan-grows (InTagName ends name) g c b v h n = same-grows (InTagName ends name) g c b h n
 scan-grows (InCommentEnd s) g c b v h n = same-grows (InCommentEnd s) g c b h n
 scan-grows (InContentEnd e x) g c b v h n = same-grows (InContentEnd e x) g c b h n
+scan-grows (BeforeType t) g c b v h n = same-grows (BeforeType t) g c b h n
+scan-grows (InType t q w r) g c b v h n = same-grows (InType t q w r) g c b h n
 
 -- The end of a text.
 
@@ -360,10 +383,17 @@ Ends f g = (scan_cut_error f ≡ None) × Below (scan_place f) (scan_place g)
 same-ends : (f g : Scan) → f ≡ g → scan_cut_error g ≡ None → Ends f g
 same-ends f g e n = (ap scan_cut_error e ∙ n, subst (λ (h : Scan). Below (scan_place f) (scan_place h)) e (places_same (scan_place f)))
 
+-- where it is accepted, a name is no second `type`
+first-is : (typed : Bool) (k : Kind) → is_second_type typed k ≡ false → first_kind typed k ≡ k
+first-is typed k e = rw e refl
+
 name-ends : (t : TagOf) (x y : Bool) (m : List ℕ) → Under x y → scan_cut_error (InAttributeName t y m) ≡ None → Ends (InAttributeName t x m) (InAttributeName t y m)
 name-ends t x y m u n =
     let k = kind_of (tag_element t) m in
-    (unless-grows x y (length m) None k u n, one-spot t t (typed_with t x k) (typed_with t y k) only_inside (Some k) refl (typed-under t x y k u))
+    let no_second : is_second_type y k ≡ false = unless-false (is_second_type y k) (length m) None n in
+    let one : first_kind x k ≡ k = first-is x k (second-grows x y k u no_second) in
+    let other : first_kind y k ≡ k = first-is y k no_second in
+    (unless-grows x y (length m) None k u n, rw (one, other) (one-spot t t (typed_with t x k) (typed_with t y k) only_inside (Some k) refl (typed-under t x y k u)))
 
 attribute-ends : (t u : TagOf) (x y : Bool) (m l : List ℕ) → t ≡ u → Under x y → m ≡ l → scan_cut_error (InAttributeName u y l) ≡ None → Ends (InAttributeName t x m) (InAttributeName u y l)
 attribute-ends t u x y m l e h f n =
@@ -379,6 +409,8 @@ end-grows (At x) (InTagName ends name) h n = absurd h
 end-grows (At x) (InAttributeName t y m) h n = absurd h
 end-grows (At x) (InCommentEnd s) h n = absurd h
 end-grows (At x) (InContentEnd e y) h n = absurd h
+end-grows (At x) (BeforeType t) h n = absurd h
+end-grows (At x) (InType t q w r) h n = absurd h
 end-grows (InAttributeName t x m) (InAttributeName u y l) h n = attribute-ends t u x y m l h.0 h.1 h.2 n
 end-grows (InAttributeName t x m) (At y) h n = absurd h
 end-grows (InAttributeName t x m) AfterLess h n = absurd h
@@ -387,9 +419,13 @@ end-grows (InAttributeName t x m) (InDeclaration pending) h n = absurd h
 end-grows (InAttributeName t x m) (InTagName ends name) h n = absurd h
 end-grows (InAttributeName t x m) (InCommentEnd s) h n = absurd h
 end-grows (InAttributeName t x m) (InContentEnd e y) h n = absurd h
+end-grows (InAttributeName t x m) (BeforeType u) h n = absurd h
+end-grows (InAttributeName t x m) (InType u q w r) h n = absurd h
 end-grows AfterLess g h n = same-ends AfterLess g h n
 end-grows AfterLessSolidus g h n = same-ends AfterLessSolidus g h n
 end-grows (InDeclaration pending) g h n = same-ends (InDeclaration pending) g h n
 end-grows (InTagName ends name) g h n = same-ends (InTagName ends name) g h n
 end-grows (InCommentEnd s) g h n = same-ends (InCommentEnd s) g h n
 end-grows (InContentEnd e x) g h n = same-ends (InContentEnd e x) g h n
+end-grows (BeforeType t) g h n = same-ends (BeforeType t) g h n
+end-grows (InType t q w r) g h n = same-ends (InType t q w r) g h n

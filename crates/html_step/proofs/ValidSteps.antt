@@ -1,12 +1,12 @@
 -- A step leads from what is valid to what is valid.
 use Rattle.std.proofs.Common.{◌≡◌, ℕ, Bool, true, false, ◌||◌, List, [], ◌∷◌, ◌++◌, Option, Some, None, refl}
-use Rattle.place_core.specs.page.Classes.{Class, White, QuotationMark, Apostrophe, Solidus, LessThan, EqualsSign, GreaterThan, Letter}
+use Rattle.place_core.specs.page.Classes.{Class, White, QuotationMark, Apostrophe, Solidus, LessThan, EqualsSign, GreaterThan, Letter, ExclamationMark, HyphenMinus}
 use Rattle.place_core.specs.page.Comments.{Declaration, OpensComment, OpensDoctype, Undecided, OpensNothing, closes_comment, declared_by, next_comment}
 use Rattle.place_core.specs.page.Contents.{is_name_of, may_be_name_of}
 use Rattle.place_core.specs.place.Places.{IsValid, IsValidBody, IsValidTag, is_rcdata}
-use Rattle.place_core.specs.place.StatePlaces.{body_at, tag_of}
-use Rattle.place_core.specs.page.States.{CommentState, Inside, Broken, Pending, Nothing, PendingLess, PendingName, PendingBang, PendingBangDash}
-use Rattle.place_core.specs.page.Tags.{tag_named}
+use Rattle.place_core.specs.place.StatePlaces.{tag_of}
+use Rattle.place_core.specs.page.States.{CommentState, Inside, Broken, Pending, Nothing, PendingLess, PendingName, PendingBang, PendingBangDash, LessAtCut}
+use Rattle.place_core.specs.page.Tags.{tag_named, Quoting, DoubleQuoted, SingleQuoted, Unquoted, Value, TypeSoFar, ValueState}
 use Rattle.place_core.specs.page.Words.{kind_of}
 use Rattle.place_core.specs.declared.element.Element.{Element}
 use Rattle.place_core.specs.declared.element.Element.TheVariants as element
@@ -20,8 +20,10 @@ use Rattle.place_core.specs.declared.tag_of.TagOf.{TagOf}
 use Rattle.place_core.specs.declared.tag_of.TagOf.TheVariants as tag
 use Rattle.place_core.specs.declared.tag_place.TagPlace.{TagPlace}
 use Rattle.place_core.specs.declared.value_place.ValuePlace.{ValuePlace}
-use Rattle.html_scan.specs.Scans.{Scan, At, AfterLess, AfterLessSolidus, InDeclaration, InTagName, InAttributeName, InCommentEnd, InContentEnd, attribute_name_next, bare_white, comment_closed, comment_scan, comment_next, comment_state, content_end_next, content_scan, content_next, declaration_next, end_name_next, scan_next, scan_place, kind_body, quoted_next, tag_element, tag_name_next, tag_next, value_scan}
+use Rattle.html_scan.specs.Scans.{Scan, At, AfterLess, AfterLessSolidus, InDeclaration, InTagName, InAttributeName, InCommentEnd, InContentEnd, attribute_name_next, bare_white, comment_closed, comment_scan, comment_next, comment_state, content_end_next, content_scan, content_next, declaration_next, end_name_next, scan_next, scan_place, quoted_next, tag_element, tag_name_next, tag_next, value_scan, BeforeType, InType, rest_place, content_end_place, pending_less_next, before_type_next, after_type, type_next, type_tag, ended_type}
 use Rattle.html_step.proofs.ScanOrder.{ScanValid}
+use Rattle.place_core.specs.page.Html.{ends_value}
+use Rattle.place_core.specs.page.References.{Reference}
 
 some-white : (n b i a : Bool) → (n || (b || (i || a))) ≡ true → ((n || b) || (i || a)) ≡ true
 some-white true b i a h = refl
@@ -32,14 +34,16 @@ content-valid : (t : TagOf) → ScanValid (content_scan t)
 content-valid tag.End = tt
 content-valid (tag.Start element.Title) = refl
 content-valid (tag.Start element.Textarea) = refl
+content-valid (tag.Start element.DataBlock) = tt
 content-valid (tag.Start _) = tt
 
-begins-valid : (t : TagOf) (typed : Bool) (k : Kind) → ScanValid (value_scan t typed (body_at k))
+begins-valid : (t : TagOf) (typed : Bool) (k : Kind) → ScanValid (value_scan t typed (Some k))
 begins-valid t typed kind.Plain = (refl, tt)
 begins-valid t typed kind.NoHole = (refl, tt)
+begins-valid t typed kind.ScriptType = tt
 begins-valid t typed _ = tt
 
-equals-valid : (t : TagOf) (typed : Bool) (o : Option Kind) → ScanValid (value_scan t typed (kind_body o))
+equals-valid : (t : TagOf) (typed : Bool) (o : Option Kind) → ScanValid (value_scan t typed o)
 equals-valid t typed (Some k) = begins-valid t typed k
 equals-valid t typed None = tt
 
@@ -78,9 +82,28 @@ comment-valid : (s : CommentState) (c : Class) → ScanValid (comment_next c s)
 comment-valid s GreaterThan = closed-valid (closes_comment s)
 comment-valid s _ = scan-of-valid (next_comment s _)
 
-loose-valid : (c : Class) (e : Element) → is_rcdata e ≡ true → ScanValid (content_next c e)
+loose-valid : (c : Class) (e : Element) → IsValid (rest_place e) → ScanValid (content_next c e)
 loose-valid LessThan e v = v
 loose-valid _ e v = v
+
+pending-less-valid : (c : Class) (e : Element) → IsValid (rest_place e) → ScanValid (pending_less_next c e)
+pending-less-valid Solidus e v = v
+pending-less-valid ExclamationMark element.DataBlock v = v
+pending-less-valid ExclamationMark element.Title v = v
+pending-less-valid ExclamationMark element.Textarea v = v
+pending-less-valid ExclamationMark element.Script v = v
+pending-less-valid ExclamationMark element.Style v = v
+pending-less-valid ExclamationMark element.Other v = v
+pending-less-valid LessThan e v = v
+pending-less-valid _ e v = v
+
+rcdata-rest : (e : Element) → is_rcdata e ≡ true → IsValid (rest_place e)
+rcdata-rest element.DataBlock v = tt
+rcdata-rest element.Title v = v
+rcdata-rest element.Textarea v = v
+rcdata-rest element.Script v = v
+rcdata-rest element.Style v = v
+rcdata-rest element.Other v = v
 
 place-valid : (p : Place) (c : Class) (b : ℕ) → IsValid p → ScanValid (scan_next (At p) c b)
 place-valid place.Text LessThan b v = tt
@@ -88,12 +111,12 @@ place-valid place.Text _ b v = tt
 place-valid place.Doctype GreaterThan b v = tt
 place-valid place.Doctype _ b v = tt
 place-valid (place.Comment dash) c b v = comment-valid (comment_state dash) c
-place-valid (place.Rcdata e) c b v = loose-valid c e v
+place-valid (place.Rcdata e) c b v = loose-valid c e (rcdata-rest e v)
 place-valid (place.Tag t) c b v = tag-valid t c b v
 place-valid (place.Value x) c b v = quotes-valid x x.quotes c v.1
 place-valid (place.Script j) c b v = v
 place-valid (place.Style j) c b v = v
-place-valid (place.Block lt) c b v = v
+place-valid (place.Block lt) c b v = loose-valid c element.DataBlock tt
 
 declaration-valid : (d : Declaration) (c : Class) (b : ℕ) (pending : List ℕ) → ScanValid (declaration_next d c b pending)
 declaration-valid OpensComment c b pending = tt
@@ -115,7 +138,7 @@ attribute-valid GreaterThan b t typed k name = content-valid t
 attribute-valid EqualsSign b t typed k name = begins-valid t typed k
 attribute-valid _ b t typed k name = tt
 
-end-name-valid : (grows whole : Bool) (c : Class) (b : ℕ) (e : Element) (letters : List ℕ) → is_rcdata e ≡ true → ScanValid (end_name_next grows whole c b e letters)
+end-name-valid : (grows whole : Bool) (c : Class) (b : ℕ) (e : Element) (letters : List ℕ) → IsValid (rest_place e) → ScanValid (end_name_next grows whole c b e letters)
 end-name-valid true whole (Letter l) b e letters v = v
 end-name-valid true true White b e letters v = (refl, refl)
 end-name-valid true true Solidus b e letters v = (refl, refl)
@@ -132,14 +155,29 @@ end-name-valid false true _ b e letters v = v
 end-name-valid false false LessThan b e letters v = v
 end-name-valid false false _ b e letters v = v
 
-content-end-valid : (h : Pending) (c : Class) (b : ℕ) (e : Element) → is_rcdata e ≡ true → ScanValid (content_end_next h c b e)
-content-end-valid PendingLess Solidus b e v = v
-content-end-valid PendingLess LessThan b e v = v
-content-end-valid PendingLess _ b e v = v
+content-end-valid : (h : Pending) (c : Class) (b : ℕ) (e : Element) → IsValid (rest_place e) → ScanValid (content_end_next h c b e)
+content-end-valid PendingLess c b e v = pending-less-valid c e v
 content-end-valid (PendingName letters) c b e v = end-name-valid (may_be_name_of e (letters ++ b ∷ [])) (is_name_of e letters) c b e letters v
 content-end-valid Nothing c b e v = loose-valid c e v
-content-end-valid PendingBang c b e v = loose-valid c e v
+content-end-valid PendingBang HyphenMinus b e v = v
+content-end-valid PendingBang LessThan b e v = v
+content-end-valid PendingBang _ b e v = v
+content-end-valid LessAtCut c b e v = loose-valid c e v
 content-end-valid PendingBangDash c b e v = loose-valid c e v
+
+before-type-valid : (t : TagOf) (c : Class) (b : ℕ) → ScanValid (before_type_next c b t)
+before-type-valid t GreaterThan b = content-valid (type_tag t (TypeSoFar []))
+before-type-valid t _ b = tt
+
+after-type-valid : (q : Quoting) (c : Class) (t : TagOf) → ScanValid (after_type q c t)
+after-type-valid Unquoted GreaterThan t = content-valid t
+after-type-valid Unquoted _ t = (refl, refl)
+after-type-valid DoubleQuoted c t = (refl, refl)
+after-type-valid SingleQuoted c t = (refl, refl)
+
+type-valid : (ends : Bool) (t : TagOf) (q : Quoting) (w : Value ValueState) (r : Reference) (c : Class) (b : ℕ) → ScanValid (type_next ends c b t q w r)
+type-valid true t q w r c b = after-type-valid q c (type_tag t (ended_type w r))
+type-valid false t q w r c b = tt
 
 pub scan-valid : (f : Scan) (c : Class) (b : ℕ) → ScanValid f → ScanValid (scan_next f c b)
 scan-valid (At p) c b v = place-valid p c b v
@@ -153,6 +191,17 @@ scan-valid (InTagName ends name) c b v = name-valid c b ends name
 scan-valid (InAttributeName t typed name) c b v = attribute-valid c b t typed (kind_of (tag_element t) name) name
 scan-valid (InCommentEnd s) c b v = comment-valid s c
 scan-valid (InContentEnd e h) c b v = content-end-valid h c b e v
+scan-valid (BeforeType t) c b v = before-type-valid t c b
+scan-valid (InType t q w r) c b v = type-valid (ends_value q c) t q w r c b
+
+content-end-place-valid : (e : Element) (h : Pending) → IsValid (rest_place e) → IsValid (content_end_place e h)
+content-end-place-valid element.DataBlock PendingLess v = tt
+content-end-place-valid element.DataBlock _ v = v
+content-end-place-valid element.Title h v = v
+content-end-place-valid element.Textarea h v = v
+content-end-place-valid element.Script h v = v
+content-end-place-valid element.Style h v = v
+content-end-place-valid element.Other h v = v
 
 pub end-valid : (f : Scan) → ScanValid f → IsValid (scan_place f)
 end-valid (At p) v = v
@@ -162,4 +211,6 @@ end-valid (InDeclaration pending) v = tt
 end-valid (InTagName ends name) v = (refl, refl)
 end-valid (InAttributeName t typed name) v = (refl, refl)
 end-valid (InCommentEnd s) v = tt
-end-valid (InContentEnd e h) v = v
+end-valid (InContentEnd e h) v = content-end-place-valid e h v
+end-valid (BeforeType t) v = tt
+end-valid (InType t q w r) v = tt

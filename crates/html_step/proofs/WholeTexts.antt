@@ -54,10 +54,10 @@ grows-from [] k f g q v h e =
     let m = end-grows f g h n.0 in
     (scan_place f, refused-not k (scan_cut_error f) (Ok (scan_place f)) (scan_place f) m.0 refl, subst (Below (scan_place f)) (one-ok (scan_place g) q (Ok (scan_place g)) refl n.1) m.1)
 grows-from (b ∷ bs) k f g q v h e =
-    let n = not-refused k (scan_error g (class_of b)) (stepped (k + 1) bs (scan_next g (class_of b) b)) q e in
+    let n = not-refused k (scan_error g (class_of b) b) (stepped (k + 1) bs (scan_next g (class_of b) b)) q e in
     let m = scan-grows f g (class_of b) b v h n.0 in
     let r = grows-from bs (k + 1) (scan_next f (class_of b) b) (scan_next g (class_of b) b) q (scan-valid f (class_of b) b v) m.1 n.1 in
-    (r.0, refused-not k (scan_error f (class_of b)) (stepped (k + 1) bs (scan_next f (class_of b) b)) r.0 m.0 r.1, r.2)
+    (r.0, refused-not k (scan_error f (class_of b) b) (stepped (k + 1) bs (scan_next f (class_of b) b)) r.0 m.0 r.1, r.2)
 
 pub grows-text : GrowsText
 grows-text bytes p r q v w h e =
@@ -70,7 +70,7 @@ valid-from [] k f q v e =
     let n = not-refused k (scan_cut_error f) (Ok (scan_place f)) q e in
     subst IsValid (one-ok (scan_place f) q (Ok (scan_place f)) refl n.1) (end-valid f v)
 valid-from (b ∷ bs) k f q v e =
-    let n = not-refused k (scan_error f (class_of b)) (stepped (k + 1) bs (scan_next f (class_of b) b)) q e in
+    let n = not-refused k (scan_error f (class_of b) b) (stepped (k + 1) bs (scan_next f (class_of b) b)) q e in
     valid-from bs (k + 1) (scan_next f (class_of b) b) q (scan-valid f (class_of b) b v) n.1
 
 pub valid-text : ValidText

@@ -3,7 +3,7 @@
 use Rattle.std.specs.Prelude.{◌≡◌, ℕ, List, Some, Ok, ◌⊎◌}
 use Rattle.place_core.specs.place.Errors.{node}
 use Rattle.place_core.specs.place.Membership.{IsIn, Bears}
-use Rattle.place_core.specs.place.Places.{Below, Has, joined}
+use Rattle.place_core.specs.place.Places.{Below, Has, IsValid, joined}
 use Rattle.place_core.specs.place.NotBuiltPlaces.{HasApart, side}
 use Rattle.place_core.specs.page.States.{LexState}
 use Rattle.place_core.specs.page.Tags.{ValueState}
@@ -28,7 +28,8 @@ Keeps bytes s = ⊥
 abbrev pub ClashesApart : List ℕ → LexState ValueState → LexState ValueState → Code → ℕ → Type 0
 ClashesApart bytes s r e at = ⊥
 
--- what says of a place that two of its paths met apart
+-- What says of a place that two of its paths met apart: where it comes from, what keeps and ends it, and that a text that is accepted from
+-- such a place is refused on no two of its paths that met apart. Of the three relations of two paths it does not matter which is first.
 pub record ApartLaws : Type 0 where
   pub has : (p : Place) → HasApart p → Has p side
   pub from : (bytes : List ℕ) (p q : Place) → after_text bytes p ≡ Ok q → HasApart q →
@@ -45,3 +46,11 @@ pub record ApartLaws : Type 0 where
   pub met : (p : Place) (s r : LexState ValueState) → IsIn p s → IsIn p r → Apart s r → HasApart p
   pub parted : (bytes : List ℕ) (p q : Place) (s r : LexState ValueState) → IsIn p s → IsIn p r → after_text bytes p ≡ Ok q
       → PartWithin bytes s r → HasApart q
+  pub sides : (s r : LexState ValueState) → Apart s r → Bears s side × Bears r side
+  pub sides_within : (bytes : List ℕ) (s r : LexState ValueState) → PartWithin bytes s r → Bears (node bytes s) side × Bears (node bytes r) side
+  pub keeps : (bytes : List ℕ) (s : LexState ValueState) → Bears s side → Keeps bytes s → Bears (node bytes s) side
+  pub accepts : (bytes : List ℕ) (p q : Place) (s r : LexState ValueState) (e : Code) (at : ℕ) → IsValid p → HasApart p → IsIn p s → Bears s side
+      → IsIn p r → Bears r side → after_text bytes p ≡ Ok q → ClashesApart bytes s r e at → ⊥
+  pub turns : (s r : LexState ValueState) → Apart s r → Apart r s
+  pub turns_within : (bytes : List ℕ) (s r : LexState ValueState) → PartWithin bytes s r → PartWithin bytes r s
+  pub turns_clash : (bytes : List ℕ) (s r : LexState ValueState) (e : Code) (at : ℕ) → ClashesApart bytes s r e at → ClashesApart bytes r s e at

@@ -26,9 +26,10 @@ hole_origin (place.Tag t) y = typed_origin y
 hole_origin (place.Value v) y = quotes_origin v.quotes y
 hole_origin p y = y
 
--- in a name the hole would go on with it; elsewhere each path is refused
+-- in a name the hole would go on with it, and in a data block with a `<`; elsewhere each path is refused
 abbrev pub hole_shows : Place → Member
 hole_shows (place.Tag t) = if t.spots.name then member.NameSpot else member.InsideSpot
+hole_shows (place.Block lt) = member.BlockLt
 hole_shows p = member.Whole
 
 -- In a URL the first part of it that is not its query shows that a value is not written as in one; elsewhere no path is in a query.

@@ -47,6 +47,11 @@ value_hole (body.Url parts) v = Err code.NotBuilt
 value_hole (body.Js js) v = Err code.NotBuilt
 value_hole (body.Css css) v = Err code.NotBuilt
 
+-- in a data block, where no node has ended in `<`
+abbrev pub block_hole : Bool → Holed
+block_hole true = Err code.SplitToken
+block_hole false = Ok (place.Block false, only san.Html)
+
 abbrev pub after_hole : Place → Holed
 after_hole place.Text = Ok (place.Text, only san.Html)
 after_hole place.Doctype = Err code.BadHTML
@@ -56,7 +61,7 @@ after_hole (place.Tag t) = named_by_data (t.spots.name || t.spots.inside) t
 after_hole (place.Value v) = value_hole v.body v
 after_hole (place.Script js) = Err code.NotBuilt
 after_hole (place.Style css) = Err code.NotBuilt
-after_hole (place.Block lt) = Err code.NotBuilt
+after_hole (place.Block lt) = block_hole lt
 
 -- Text, and values with quotes that are read as text, are where a value is written as text; the query of a URL is where it is written so.
 abbrev pub is_only_query : Parts → Bool

@@ -1,6 +1,6 @@
 -- What a step over a whole text promises of the paths that a place stands for.
-use Rattle.std.specs.Prelude.{◌≡◌, ◌≤◌, ℕ, List, take, Some, None, Ok, Err}
-use Rattle.place_core.specs.place.Errors.{PathRefuses, Clashes, refusal_from, node}
+use Rattle.std.specs.Prelude.{◌≡◌, ◌≤◌, ℕ, List, Some, None, Ok, Err}
+use Rattle.place_core.specs.place.Errors.{shown_place, PathRefuses, Clashes, refusal_from, node}
 use Rattle.place_core.specs.place.Membership.{IsIn, Bears}
 use Rattle.place_core.specs.place.Places.{Below, Has, IsValid}
 use Rattle.place_core.specs.place.NotBuiltPlaces.{HasApart, side}
@@ -21,11 +21,11 @@ OneText = (bytes : List ℕ) (p : Place) (s : LexState ValueState) → placed s 
     ((q : Place) → after_text bytes p ≡ Ok q → (refusal_from 0 bytes s ≡ None) × (placed (node bytes s) ≡ Some q))
     × ((e : StepErr Place) → after_text bytes p ≡ Err e → PathRefuses bytes s e)
 
--- From the place of one path the place before a byte is the path's own, where the text ends there as a node, up to the byte that is refused.
+-- From the place of one path the place that is shown before a byte is the path's own, up to the byte that is refused.
 abbrev pub OneBefore : Type 0
 OneBefore = (bytes : List ℕ) (p : Place) (s : LexState ValueState) (at : ℕ) → placed s ≡ Some p →
-    ((q : Place) → after_text bytes p ≡ Ok q → placed (node (take at bytes) s) ≡ Some (place_before bytes at p))
-    × ((e : StepErr Place) → after_text bytes p ≡ Err e → at ≤ e.at → placed (node (take at bytes) s) ≡ Some (place_before bytes at p))
+    ((q : Place) → after_text bytes p ≡ Ok q → shown_place at bytes s ≡ Some (place_before bytes at p))
+    × ((e : StepErr Place) → after_text bytes p ≡ Err e → at ≤ e.at → shown_place at bytes s ≡ Some (place_before bytes at p))
 
 -- Each path that a place stands for comes to one for which the place after the text stands.
 abbrev pub CoversText : Type 0

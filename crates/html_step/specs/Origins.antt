@@ -33,15 +33,15 @@ abbrev pub name_origin : Bool → Member
 name_origin typed = if typed then member.Typed else member.Whole
 
 -- the member before a byte that a member after it comes from
-abbrev pub place_origin : Place → Class → Member → Member
-place_origin (place.Tag t) c y = tag_origin c t.spots y
-place_origin (place.Value v) c y = typed_origin y
-place_origin _ c y = member.Whole
+abbrev pub place_origin : Place → Class → ℕ → Member → Member
+place_origin (place.Tag t) c b y = tag_origin c t.spots y
+place_origin (place.Value v) c b y = typed_origin y
+place_origin _ c b y = member.Whole
 
-abbrev pub byte_origin : Scan → Class → Member → Member
-byte_origin (At p) c y = place_origin p c y
-byte_origin (InAttributeName t typed name) c y = name_origin typed
-byte_origin f c y = member.Whole
+abbrev pub byte_origin : Scan → Class → ℕ → Member → Member
+byte_origin (At p) c b y = place_origin p c b y
+byte_origin (InAttributeName t typed name) c b y = name_origin typed
+byte_origin f c b y = member.Whole
 
 -- the one before the end of a text
 abbrev pub end_origin : Scan → Member → Member
@@ -52,7 +52,7 @@ end_origin f y = member.Whole
 -- the one before a text
 abbrev pub origin : List ℕ → Scan → Member → Member
 origin [] f y = end_origin f y
-origin (b ∷ bs) f y = byte_origin f (class_of b) (origin bs (scan_next f (class_of b) b) y)
+origin (b ∷ bs) f y = byte_origin f (class_of b) b (origin bs (scan_next f (class_of b) b) y)
 
 -- The member that shows why a byte is refused in a tag: the spot at which it is; else each path is refused.
 abbrev pub tag_shows : Class → Spots → Member
@@ -77,16 +77,17 @@ value_shows (Some e) q c = one member.Whole
 value_shows None (quotes.Bare b) c = bare_shows c
 value_shows None q c = one member.Whole
 
-abbrev pub place_shows : Place → Class → EvidenceData
-place_shows (place.Comment dash) c = one member.CommentDash
-place_shows (place.Tag t) c = one (tag_shows c t.spots)
-place_shows (place.Value v) c = value_shows (body_error v.body) v.quotes c
-place_shows _ c = one member.Whole
+abbrev pub place_shows : Place → Class → ℕ → EvidenceData
+place_shows (place.Comment dash) c b = one member.CommentDash
+place_shows (place.Tag t) c b = one (tag_shows c t.spots)
+place_shows (place.Value v) c b = value_shows (body_error v.body b) v.quotes c
+place_shows (place.Block lt) c b = one member.BlockLt
+place_shows _ c b = one member.Whole
 
-abbrev pub byte_shows : Scan → Class → EvidenceData
-byte_shows (At p) c = place_shows p c
-byte_shows (InAttributeName t typed name) c = one (name_origin typed)
-byte_shows f c = one member.Whole
+abbrev pub byte_shows : Scan → Class → ℕ → EvidenceData
+byte_shows (At p) c b = place_shows p c b
+byte_shows (InAttributeName t typed name) c b = one (name_origin typed)
+byte_shows f c b = one member.Whole
 
 -- the end of a text is refused in a name alone
 abbrev pub end_shows : Scan → Member
@@ -94,10 +95,10 @@ end_shows (InAttributeName t typed name) = name_origin typed
 end_shows f = member.Whole
 
 -- what shows the refusal of a text, by members before it
-abbrev pub back_by : Scan → Class → EvidenceData → EvidenceData
-back_by f c (one x) = one (byte_origin f c x)
-back_by f c (two x y) = two (byte_origin f c x) (byte_origin f c y)
-back_by f c apart = apart
+abbrev pub back_by : Scan → Class → ℕ → EvidenceData → EvidenceData
+back_by f c b (one x) = one (byte_origin f c b x)
+back_by f c b (two x y) = two (byte_origin f c b x) (byte_origin f c b y)
+back_by f c b apart = apart
 
 abbrev pub unless_shown : Option PathCause → EvidenceData → EvidenceData → EvidenceData
 unless_shown (Some e) here later = here
@@ -105,4 +106,4 @@ unless_shown None here later = later
 
 abbrev pub shows : List ℕ → Scan → EvidenceData
 shows [] f = one (end_shows f)
-shows (b ∷ bs) f = unless_shown (scan_error f (class_of b)) (byte_shows f (class_of b)) (back_by f (class_of b) (shows bs (scan_next f (class_of b) b)))
+shows (b ∷ bs) f = unless_shown (scan_error f (class_of b) b) (byte_shows f (class_of b) b) (back_by f (class_of b) b (shows bs (scan_next f (class_of b) b)))

@@ -6,4 +6,4 @@ use Rattle.html_step.specs.declared.refusal.Refusal.{Refusal as ReadRefusal}
 
 abbrev pub stepped_at : Result Place ReadRefusal → Result Place PathRefusal
 stepped_at (Ok p) = Ok p
-stepped_at (Err r) = Err (record { code = r.code; at = r.at })
+stepped_at (Err r) = Err (record { code = r.code; at = r.at; shown = r.shown })

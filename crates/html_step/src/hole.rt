@@ -8,8 +8,9 @@ use place_core::{Body, Chain, Code, Kind, Place, Quotes, San, TagPlace, ValuePla
 /// 13.2.5; Go's `html/template`.) The causes:
 ///
 /// - `BadHTML`: in a doctype, and in an attribute in which no value of data may stand.
-/// - `SplitToken`: in the name of a tag or of an attribute, which the value would go on with.
-/// - `NotBuilt`: in a script, a style, a block of data, and a value that is a URL, a script or a style.
+/// - `SplitToken`: in the name of a tag or of an attribute, which the value would go on with; in a data block, after a text that
+///   ends in `<`.
+/// - `NotBuilt`: in a script, a style, and a value that is a URL, a script or a style.
 ///
 /// Does not allocate.
 pub fn after_hole(place: Place) -> Result<(Place, Chain), Code>
@@ -21,8 +22,19 @@ pub fn after_hole(place: Place) -> Result<(Place, Chain), Code>
         Place::Doctype => Err(Code::BadHTML),
         Place::Tag(tag) => named_by_data(tag.spots.name || tag.spots.inside, tag),
         Place::Value(value) => in_value(value),
-        Place::Script(_) | Place::Style(_) | Place::Block(_) => Err(Code::NotBuilt),
+        Place::Block(less) => in_block(less),
+        Place::Script(_) | Place::Style(_) => Err(Code::NotBuilt),
     }
+}
+
+// In a data block: where a text has ended in `<`, the value would go on with it.
+fn in_block(less: bool) -> Result<(Place, Chain), Code>
+    ensures { result ≡ spec.block_hole less }
+{
+    if less {
+        return Err(Code::SplitToken);
+    }
+    Ok((Place::Block(false), only(San::Html)))
 }
 
 // In a tag: the value is the name of an attribute, or would go on with one.

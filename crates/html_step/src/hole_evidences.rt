@@ -56,6 +56,7 @@ fn evidence(place: Place) -> Member
     match place {
         Place::Tag(tag) if tag.spots.name => Member::NameSpot,
         Place::Tag(_) => Member::InsideSpot,
+        Place::Block(_) => Member::BlockLt,
         _ => Member::Whole,
     }
 }

@@ -7,7 +7,7 @@ pub fn one_path()
     ensures { OneText }
 {}
 
-/// From the place of one path the place before a byte is the path's own, up to the byte that is refused. A theorem; the call does nothing at run time.
+/// From the place of one path the place that is shown before a byte is the path's own, up to the byte that is refused. A theorem; the call does nothing at run time.
 pub fn one_path_before()
     ensures { OneBefore }
 {}

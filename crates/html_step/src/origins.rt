@@ -1,45 +1,33 @@
-ghost use Rattle.std.specs.Prelude.{◌≡◌, ℕ, List};
+ghost use Rattle.std.specs.Prelude.{◌≡◌, ◌<◌, ℕ, List};
 ghost use Rattle.html_scan.specs.ClassViews.{class_at};
 ghost use Rattle.html_scan.specs.ScanViews.{scan_at};
 ghost use Rattle.html_step.specs.Origins.{byte_origin};
-ghost use Rattle.html_step.specs.OriginViews.{origin_at, evidence_at, evidence_through};
+ghost use Rattle.html_step.specs.OriginViews.{all_members, evidence_at, evidence_through, member_number, origin_at};
 ghost use Rattle.html_step.specs.Origins as spec;
 
 use crate::evidence::Evidence;
 use html_scan::{Class, Scan};
 use place_core::{Member, Place, Spots};
 
-/// Which member before some bytes each member after them comes from: before any byte each from itself.
+/// Which member before some bytes each member after them comes from, by the numbers of the 32 members.
 #[derive(Clone, Copy)]
-pub enum Origins {
-    Same,
-    From {
-        typed: Member,
-        before: Member,
-        after: Member,
-        others: Member,
-    },
+pub struct Origins {
+    before: [Member; 32],
 }
 
 impl Origins {
+    /// Before any byte each member comes from itself.
+    pub fn same() -> Origins
+        ensures { (y : Member) → origin_at result y ≡ y }
+    {
+        Origins { before: members() }
+    }
+
     /// The member that this one comes from.
     pub fn of(self, member: Member) -> Member
         ensures { result ≡ origin_at self member }
     {
-        match self {
-            Origins::Same => member,
-            Origins::From {
-                typed,
-                before,
-                after,
-                others,
-            } => match member {
-                Member::Typed => typed,
-                Member::BeforeSpot => before,
-                Member::AfterSpot => after,
-                _ => others,
-            },
-        }
+        self.before[number(member)]
     }
 
     /// The members that show the same, before the bytes.
@@ -54,33 +42,114 @@ impl Origins {
     }
 
     /// The same with one byte more, which is read at a scan state.
-    pub fn then(self, scan: Scan, class: Class) -> Origins
+    pub fn then(self, scan: Scan, class: Class, byte: u8) -> Origins
         ensures { (text : List ℕ) (k : ℕ) (y : Member) → origin_at result y
-            ≡ origin_at self (byte_origin (scan_at text k scan) (class_at class) y) }
+            ≡ origin_at self (byte_origin (scan_at text k scan) (class_at class) byte y) }
     {
-        Origins::From {
-            typed: self.of(origin(scan, class, Member::Typed)),
-            before: self.of(origin(scan, class, Member::BeforeSpot)),
-            after: self.of(origin(scan, class, Member::AfterSpot)),
-            others: self.of(origin(scan, class, Member::Whole)),
+        let members = members();
+        let mut before = members;
+        for number in 0..32 {
+            before[number] = self.of(origin(scan, class, byte, members[number]));
         }
+        Origins { before }
+    }
+}
+
+// All members, each at its number.
+fn members() -> [Member; 32]
+    ensures { result ≡ all_members }
+{
+    [
+        Member::Whole,
+        Member::Typed,
+        Member::CommentDash,
+        Member::BlockLt,
+        Member::NameSpot,
+        Member::BeforeSpot,
+        Member::InsideSpot,
+        Member::AfterSpot,
+        Member::UnquotedValue,
+        Member::UnbegunValue,
+        Member::PartStart,
+        Member::PartOpen,
+        Member::PartOpenhole,
+        Member::PartPrequery,
+        Member::PartQuery,
+        Member::PartBad,
+        Member::SenseRe,
+        Member::SenseDiv,
+        Member::SenseBrace,
+        Member::JsWord,
+        Member::JsNum,
+        Member::JsLt,
+        Member::JsSlash,
+        Member::JsPlus,
+        Member::JsMinus,
+        Member::JsHash,
+        Member::RegexpSlash,
+        Member::JsStar,
+        Member::CssWord,
+        Member::CssSlash,
+        Member::CssLt,
+        Member::CssStar,
+    ]
+}
+
+// The number of a member.
+fn number(member: Member) -> usize
+    ensures number { result ≡ member_number member }
+    ensures bound { result < 32 }
+{
+    match member {
+        Member::Whole => 0,
+        Member::Typed => 1,
+        Member::CommentDash => 2,
+        Member::BlockLt => 3,
+        Member::NameSpot => 4,
+        Member::BeforeSpot => 5,
+        Member::InsideSpot => 6,
+        Member::AfterSpot => 7,
+        Member::UnquotedValue => 8,
+        Member::UnbegunValue => 9,
+        Member::PartStart => 10,
+        Member::PartOpen => 11,
+        Member::PartOpenhole => 12,
+        Member::PartPrequery => 13,
+        Member::PartQuery => 14,
+        Member::PartBad => 15,
+        Member::SenseRe => 16,
+        Member::SenseDiv => 17,
+        Member::SenseBrace => 18,
+        Member::JsWord => 19,
+        Member::JsNum => 20,
+        Member::JsLt => 21,
+        Member::JsSlash => 22,
+        Member::JsPlus => 23,
+        Member::JsMinus => 24,
+        Member::JsHash => 25,
+        Member::RegexpSlash => 26,
+        Member::JsStar => 27,
+        Member::CssWord => 28,
+        Member::CssSlash => 29,
+        Member::CssLt => 30,
+        Member::CssStar => 31,
     }
 }
 
 // The member before a byte that a member after it comes from.
-fn origin(scan: Scan, class: Class, member: Member) -> Member
+fn origin(scan: Scan, class: Class, byte: u8, member: Member) -> Member
     ensures { (text : List ℕ) (k : ℕ) → result
-        ≡ byte_origin (scan_at text k scan) (class_at class) member }
+        ≡ byte_origin (scan_at text k scan) (class_at class) byte member }
 {
     match scan {
-        Scan::At(place) => place_origin(place, class, member),
+        Scan::At(place) => place_origin(place, class, byte, member),
         Scan::InAttributeName { typed, .. } => name_origin(typed),
         _ => Member::Whole,
     }
 }
 
-fn place_origin(place: Place, class: Class, member: Member) -> Member
-    ensures { result ≡ spec.place_origin place (class_at class) member }
+fn place_origin(place: Place, class: Class, _byte: u8, member: Member) -> Member
+    ensures { result ≡ spec.place_origin place (class_at class) _byte member }
 {
     match place {
         Place::Tag(tag) => tag_origin(class, tag.spots, member),

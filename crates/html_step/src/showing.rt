@@ -42,10 +42,10 @@ fn origin(text: &[u8], place: Place, member: Member) -> Member
     ensures { result ≡ spec.origin text.now (At place) member }
 {
     let mut scan = Scan::At(place);
-    let mut origins = Origins::Same;
+    let mut origins = Origins::same();
     for index in 0..text.len() {
         let class = class_of(text[index]);
-        origins = origins.then(scan, class);
+        origins = origins.then(scan, class, text[index]);
         scan = next(text, index, class, scan);
     }
     origins.of(end_origin(scan, member))
@@ -55,44 +55,45 @@ fn evidence(text: &[u8], place: Place) -> Evidence
     ensures { evidence_at result ≡ shows text.now (At place) }
 {
     let mut scan = Scan::At(place);
-    let mut origins = Origins::Same;
+    let mut origins = Origins::same();
     for index in 0..text.len() {
         let class = class_of(text[index]);
         if at_byte(text, index, class, scan).is_some() {
-            return origins.of_evidence(byte_shows(scan, class));
+            return origins.of_evidence(byte_shows(scan, class, text[index]));
         }
-        origins = origins.then(scan, class);
+        origins = origins.then(scan, class, text[index]);
         scan = next(text, index, class, scan);
     }
     Evidence::One(origins.of(end_shows(scan)))
 }
 
 // What shows that a byte is refused.
-fn byte_shows(scan: Scan, class: Class) -> Evidence
+fn byte_shows(scan: Scan, class: Class, byte: u8) -> Evidence
     ensures { (text : List ℕ) (k : ℕ) → evidence_at result
-        ≡ spec.byte_shows (scan_at text k scan) (class_at class) }
+        ≡ spec.byte_shows (scan_at text k scan) (class_at class) byte }
 {
     match scan {
-        Scan::At(place) => place_shows(place, class),
+        Scan::At(place) => place_shows(place, class, byte),
         Scan::InAttributeName { typed, .. } => Evidence::One(name_origin(typed)),
         _ => Evidence::One(Member::Whole),
     }
 }
 
-fn place_shows(place: Place, class: Class) -> Evidence
-    ensures { evidence_at result ≡ spec.place_shows place (class_at class) }
+fn place_shows(place: Place, class: Class, byte: u8) -> Evidence
+    ensures { evidence_at result ≡ spec.place_shows place (class_at class) byte }
 {
     match place {
         Place::Comment(_) => Evidence::One(Member::CommentDash),
         Place::Tag(tag) => Evidence::One(tag_shows(class, tag.spots)),
-        Place::Value(value) => in_value(value, class),
+        Place::Value(value) => in_value(value, class, byte),
+        Place::Block(_) => Evidence::One(Member::BlockLt),
         _ => Evidence::One(Member::Whole),
     }
 }
 
-fn in_value(place: ValuePlace, class: Class) -> Evidence
+fn in_value(place: ValuePlace, class: Class, _byte: u8) -> Evidence
     ensures { evidence_at result
-        ≡ value_shows (body_error place.body) place.quotes (class_at class) }
+        ≡ value_shows (body_error place.body _byte) place.quotes (class_at class) }
 {
     match place.body {
         Body::Plain | Body::NoHole => in_quotes(place.quotes, class),

@@ -1,23 +1,27 @@
 ghost use Rattle.std.specs.Prelude.{◌≡◌, ◌<◌, ◌≤◌, ◌-◌, ◌^◌, IfErr, length};
 ghost use Rattle.html_scan.specs.ScanViews.{scan_at, pending_from};
-ghost use Rattle.html_scan.specs.Scans.{At};
+ghost use Rattle.html_scan.specs.Scans.{At, scan_shown};
+ghost use Rattle.html_step.specs.Steps.{last_shown};
 ghost use Rattle.html_step.specs.StepViews.{stepped_at};
 ghost use Rattle.html_step.specs.Steps as spec;
 
 use crate::refusal::Refusal;
-use html_scan::{Cause, Scan, at_byte, at_end, class_of, end_place, next};
+use html_scan::{Cause, Scan, at_byte, at_end, class_of, end_place, is_shown, next, shown_place};
 use place_core::{Place, StepErr};
 
 /// The place after a text of a template, from the place before it; or why the text is refused and at which of its bytes, with
-/// the place before that byte. Of several bytes that are refused it is the first. (HTML Standard, section 13.2.5.) The causes:
+/// the place before that byte, or before the lexeme in which it stands. Of several bytes that are refused it is the first. (HTML Standard, section 13.2.5.) The causes:
 ///
 /// - `BadHTML`: in a tag, a quote or a `<` in or before a name, and a `=` before one; in a value without quotes a quote; there
-///   and before such a value a `<`, a `=` or a grave accent; a second `type` of a script, at the first byte of its name.
+///   and before such a value a `<`, a `=` or a grave accent; a second `type` of a script, at the first byte of its name; a text
+///   that ends in the value of a script's `type`.
 /// - `SplitToken`: the first byte of a text that would go on with a name, or with what may be the end of a comment, in which
-///   the text before it ended, or with a name that is a value of data.
+///   the text before it ended, or with a name that is a value of data, or with the `<` in which it ended in a data block; a text
+///   that ends in a data block in a beginning of `</script` after its `</`, or in `<!` or `<!-`.
+/// - `HtmlInScript`: a `<!--` in a data block.
 /// - `AmbigContext`: a blank that on some paths ends a value without quotes, and on others stands before one.
-/// - `NotBuilt`: the `>` before the content of a script, a style or a block of data; the `=` before a value that is a URL, a
-///   script, a style, or the `type` of a script; and each byte at a place in one of these.
+/// - `NotBuilt`: the `>` before the content of a script or a style; the `=` before a value that is a URL, a script or a style; and
+///   each byte at a place in one of these.
 ///
 /// Takes no memory, and time in proportion to the length of the text.
 pub fn after_text(place: Place, text: &str) -> Result<Place, StepErr<Place>>
@@ -27,31 +31,58 @@ pub fn after_text(place: Place, text: &str) -> Result<Place, StepErr<Place>>
     match stepped(text.as_bytes(), place) {
         Ok(after) => Ok(after),
         Err(refusal) => {
-            let at = refusal.at as u32;
+            let before = place_before(place, text, refusal.shown as u32);
             Err(StepErr {
                 code: refusal.code,
-                at,
-                before: place_before(place, text, at),
+                at: refusal.at as u32,
+                before,
             })
         }
     }
 }
 
-/// The place before a byte of a text, from the place before the text, whatever is refused there. The byte is given by its
-/// place in the text, in bytes; from the text's end on it is the place after the text. (HTML Standard, section 13.2.5.) Takes
-/// no memory, and time in proportion to the length of the text.
+/// The place that is shown before a byte of a text, from the place before the text, whatever is refused there: where the text would
+/// end there, or the last place before, in the value of a script's `type`, where there is none. The byte is given by its place in
+/// the text, in bytes; from the text's end on it is the place after the text. (HTML Standard, section 13.2.5.) Takes no memory, and
+/// time in proportion to the length of the text.
 pub fn place_before(place: Place, text: &str, at: u32) -> Place
     ensures { result ≡ spec.place_before text.now at place }
 {
     let text = text.as_bytes();
     let (before, _) = text.split_at((at as usize).min(text.len()));
-    end_place(before, scan_after(before, place))
+    shown(before, place)
+}
+
+// The place that is shown where a text has been read.
+fn shown(text: &[u8], place: Place) -> Place
+    ensures { result ≡ spec.or_shown (scan_shown
+        (last_shown text.now (At place) (At place))) place }
+{
+    let mut scan = Scan::At(place);
+    let mut last = scan;
+    let mut end = 0;
+    for index in 0..text.len() {
+        if is_shown(scan) {
+            last = scan;
+            end = index;
+        }
+        scan = next(text, index, class_of(text[index]), scan);
+    }
+    if is_shown(scan) {
+        last = scan;
+        end = text.len();
+    }
+    match shown_place(text, end, last) {
+        Some(shown) => shown,
+        None => place,
+    }
 }
 
 // The place after a text, or what is refused there first.
 fn stepped(text: &[u8], place: Place) -> Result<Place, Refusal>
     ensures place { stepped_at result ≡ spec.stepped 0 text.now (At place) }
-    ensures bound { IfErr result (λ refusal. refusal.at ≤ length text.now) }
+    ensures bound { IfErr result (λ refusal.
+        (refusal.at ≤ length text.now) × (refusal.shown ≤ length text.now)) }
 {
     let mut scan = Scan::At(place);
     for index in 0..text.len() {
@@ -69,26 +100,16 @@ fn stepped(text: &[u8], place: Place) -> Result<Place, Refusal>
 
 // A cause at a byte, or before it.
 fn refused(cause: Cause, index: usize) -> Refusal
-    requires { cause.back ≤ index }
+    requires back { cause.back ≤ index }
+    requires shown { cause.shown ≤ index }
     ensures code { result.code ≡ cause.code }
     ensures at { result.at ≡ index - cause.back }
-    ensures bound { result.at ≤ index }
+    ensures shown { result.shown ≡ index - cause.shown }
+    ensures bound { (result.at ≤ index) × (result.shown ≤ index) }
 {
     Refusal {
         code: cause.code,
         at: index - cause.back,
+        shown: index - cause.shown,
     }
-}
-
-// What a text leads to, whatever is refused.
-fn scan_after(text: &[u8], place: Place) -> Scan
-    ensures scan { scan_at text.now (length text.now) result
-        ≡ spec.scan_after text.now (At place) }
-    ensures pending { pending_from result ≤ length text.now }
-{
-    let mut scan = Scan::At(place);
-    for index in 0..text.len() {
-        scan = next(text, index, class_of(text[index]), scan);
-    }
-    scan
 }

@@ -3,8 +3,11 @@ mod Cases
 mod Codes
 mod Decoding
 mod Encodings
+mod FirstBytes
 mod Followed
 mod Lengths
 mod Machine
 mod Numbers
 mod OneByOne
+mod ScriptExamples
+mod TypeWords

@@ -17,19 +17,19 @@ either false f g = g refl
 
 -- Runs of bytes.
 
-one_more : (n : ℕ) → 1 + n ≡ suc n
+pub one_more : (n : ℕ) → 1 + n ≡ suc n
 one_more n = omega arith
 
-run_more : (p : ℕ → Bool) (b : ℕ) (bs : List ℕ) → p b ≡ true → letter_run p (b ∷ bs) ≡ b ∷ letter_run p bs
+pub run_more : (p : ℕ → Bool) (b : ℕ) (bs : List ℕ) → p b ≡ true → letter_run p (b ∷ bs) ≡ b ∷ letter_run p bs
 run_more p b bs e = rw (e, one_more (prefix_len p bs)) refl
 
-behind_more : (p : ℕ → Bool) (b : ℕ) (bs : List ℕ) → p b ≡ true → after_run p (b ∷ bs) ≡ after_run p bs
+pub behind_more : (p : ℕ → Bool) (b : ℕ) (bs : List ℕ) → p b ≡ true → after_run p (b ∷ bs) ≡ after_run p bs
 behind_more p b bs e = rw (e, one_more (prefix_len p bs)) refl
 
-run_none : (p : ℕ → Bool) (b : ℕ) (bs : List ℕ) → p b ≡ false → letter_run p (b ∷ bs) ≡ []
+pub run_none : (p : ℕ → Bool) (b : ℕ) (bs : List ℕ) → p b ≡ false → letter_run p (b ∷ bs) ≡ []
 run_none p b bs e = rw e refl
 
-behind_none : (p : ℕ → Bool) (b : ℕ) (bs : List ℕ) → p b ≡ false → after_run p (b ∷ bs) ≡ b ∷ bs
+pub behind_none : (p : ℕ → Bool) (b : ℕ) (bs : List ℕ) → p b ≡ false → after_run p (b ∷ bs) ≡ b ∷ bs
 behind_none p b bs e = rw e refl
 
 run-behind : (p : ℕ → Bool) (bytes : List ℕ) → letter_run p bytes ++ after_run p bytes ≡ bytes

@@ -20,7 +20,7 @@ use Rattle.html_words.specs.Laws.{UndoneIsOneByOne, CutIsOneByOne, undone_cut}
 abbrev Tells : Bool → Bool → ℕ → List ℕ → ℕ × ℕ → Type 0
 Tells cut attribute b bs found = decoded Before (undone_at cut attribute Closed (b ∷ bs)) ≡ found.0 ∷ decoded Before (undone_at cut attribute Closed (drop found.1 (b ∷ bs)))
 
-drop_some : (n b : ℕ) (bs : List ℕ) → 1 ≤ n → drop n (b ∷ bs) ≡ drop (n - 1) bs
+pub drop_some : (n b : ℕ) (bs : List ℕ) → 1 ≤ n → drop n (b ∷ bs) ≡ drop (n - 1) bs
 drop_some n b bs h = let same : n ≡ suc (n - 1) = omega arith in ap (λ (k : ℕ). drop k (b ∷ bs)) same
 
 ampersand_code : (cut attribute : Bool) (bs : List ℕ) → HasCode (ampersand_at cut attribute bs)
@@ -71,7 +71,7 @@ within_tells (suc most) cut attribute at (b ∷ bs) h =
 
 -- where the end is no cut, and where it is
 
-not_cut : (attribute : Bool) (r : Reference) (bytes : List ℕ) → undone_at false attribute r bytes ≡ undone attribute r bytes
+pub not_cut : (attribute : Bool) (r : Reference) (bytes : List ℕ) → undone_at false attribute r bytes ≡ undone attribute r bytes
 not_cut attribute Closed [] = refl
 not_cut attribute (Open f held) [] = refl
 not_cut attribute r (b ∷ bs) = ap (λ (xs : List ℕ). undone_byte attribute r (class_of b) b ++ xs) (not_cut attribute (next_reference r (class_of b) b) bs)

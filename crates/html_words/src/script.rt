@@ -7,6 +7,31 @@ ghost use Rattle.place_core.specs.page.Words as spec;
 
 use crate::words::is_among;
 
+// The types of scripts and of JSON, in lower case.
+pub const SCRIPT_TYPES: [&[u8]; 21] = [
+    b"",
+    b"module",
+    b"importmap",
+    b"application/ecmascript",
+    b"application/javascript",
+    b"application/json",
+    b"application/ld+json",
+    b"application/x-ecmascript",
+    b"application/x-javascript",
+    b"text/ecmascript",
+    b"text/javascript",
+    b"text/javascript1.0",
+    b"text/javascript1.1",
+    b"text/javascript1.2",
+    b"text/javascript1.3",
+    b"text/javascript1.4",
+    b"text/javascript1.5",
+    b"text/x-ecmascript",
+    b"text/x-javascript",
+    b"text/jscript",
+    b"text/livescript",
+];
+
 /// Whether a script element with this `type` holds a script or JSON; with any other it holds data. (HTML Standard, section 4.12.1.)
 /// Does not allocate.
 pub fn script_type(value: &str) -> bool
@@ -73,30 +98,5 @@ fn white_end_len(value: &[u8]) -> usize
 fn is_type(value: &[u8]) -> bool
     ensures { result ≡ spec.is_among script_types (str_to_ascii_lowercase value.now) }
 {
-    is_among(
-        value,
-        &[
-            b"",
-            b"module",
-            b"importmap",
-            b"application/ecmascript",
-            b"application/javascript",
-            b"application/json",
-            b"application/ld+json",
-            b"application/x-ecmascript",
-            b"application/x-javascript",
-            b"text/ecmascript",
-            b"text/javascript",
-            b"text/javascript1.0",
-            b"text/javascript1.1",
-            b"text/javascript1.2",
-            b"text/javascript1.3",
-            b"text/javascript1.4",
-            b"text/javascript1.5",
-            b"text/x-ecmascript",
-            b"text/x-javascript",
-            b"text/jscript",
-            b"text/livescript",
-        ],
-    )
+    is_among(value, &SCRIPT_TYPES)
 }

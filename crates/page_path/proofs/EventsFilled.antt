@@ -1,8 +1,6 @@
--- The page of events, read without knowing where values stand in it, comes to where their path comes with the texts of the values in its
--- holes.
-use Rattle.std.proofs.Common.{ℕ, List, [], ◌∷◌, ◌++◌, Option, refl, ap, ◌∙◌}
+-- The page of events, read without knowing where values stand in it, comes to where their path comes, with its marks filled by the values.
+use Rattle.std.proofs.Common.{ℕ, List, [], ◌∷◌, ◌++◌, Option, ap, ◌∙◌}
 use Rattle.html_step.specs.Steps.{after_text}
-use Rattle.page_datum.specs.Printed.{printed}
 use Rattle.page_path.proofs.Finding.{AllFind, Finds, event_symbols, symbols_from}
 use Rattle.page_path.proofs.OwnPieces.{text-at-place}
 use Rattle.page_path.proofs.PiecesFilled.{IsFilled, hole-filled, text-filled}
@@ -16,6 +14,7 @@ use Rattle.place_core.specs.page.Paths.{at_hole}
 use Rattle.place_core.specs.page.States.{Config, LexState}
 use Rattle.place_core.specs.page.Tags.{ValueState, languages}
 use Rattle.place_core.specs.declared.place.Place.{Place}
+use Rattle.text_norm.specs.Fillings.{Filling, Fills}
 use Rattle.text_norm.specs.Standing.{TextStands}
 use Rattle.tpl_events.specs.Events.{Emission, ExecEvent, enters, gives_hole, gives_text, leaves}
 use Rattle.tpl_paths.specs.Edges.{before}
@@ -25,40 +24,43 @@ use Rattle.tpl_tree.specs.declared.node_kind.NodeKind.{NodeKind}
 
 module _ (forest : ForestData) (chart : ChartByName Place) where
   -- the bytes of events, and the symbols and the texts of their path
-  abbrev FilledFrom : List Emission → List (List ℕ) → LexState ValueState → List LexEvent → Config ValueState → Type 0
-  FilledFrom gs ts s t d = IsFilled (symbols_from forest gs ts) (texts_of gs) (page_bytes (pieces_from forest gs ts s)) s t d
+  abbrev FilledFrom : List Emission → List (List ℕ) → LexState ValueState → List Filling → List LexEvent → Config ValueState → Type 0
+  FilledFrom gs ts s vs t d = IsFilled (symbols_from forest gs ts) (texts_of gs) (page_bytes (pieces_from forest gs ts s)) s vs t d
 
-  abbrev FilledAt : ExecEvent → List Emission → List (List ℕ) → LexState ValueState → List LexEvent → Config ValueState → Type 0
-  FilledAt e gs ts s t d =
+  abbrev FilledAt : ExecEvent → List Emission → List (List ℕ) → LexState ValueState → List Filling → List LexEvent → Config ValueState → Type 0
+  FilledAt e gs ts s vs t d =
       (let us = open_behind forest e ts in
       IsFilled (event_symbols forest e ts (symbols_from forest gs us)) (event_texts e (texts_of gs))
-      (page_bytes (event_pieces forest e ts s ++ pieces_from forest gs us (state_behind forest e ts s))) s t d)
+      (page_bytes (event_pieces forest e ts s ++ pieces_from forest gs us (state_behind forest e ts s))) s vs t d)
 
-  event-filled : (e : ExecEvent) (gs : List Emission) (ps : List (Pair Place)) (ts : List (List ℕ)) (s : LexState ValueState) (t : List LexEvent)
-      (d : Config ValueState) → Finds forest chart e ps ts s → IsTextual forest chart e ps → TextStands languages s t d
+  event-filled : (e : ExecEvent) (gs : List Emission) (ps : List (Pair Place)) (ts : List (List ℕ)) (s : LexState ValueState)
+      (vs : List Filling) (t u : List LexEvent) (d : Config ValueState) → Finds forest chart e ps ts s → IsTextual forest chart e ps
+      → Fills t vs u → TextStands languages s u d
       → (let r = state_behind forest e ts s in
-      (u : List LexEvent) (c : Config ValueState) → TextStands languages r u c → FilledFrom gs (open_behind forest e ts) r u c)
-      → FilledAt e gs ts s t d
-  event-filled e gs [] ts s t d f u l rest = absurd f
-  event-filled (gives_text n) gs (p ∷ ps) ts s t d f u l rest =
+      (vs : List Filling) (t u : List LexEvent) (c : Config ValueState) → Fills t vs u → TextStands languages r u c
+      → FilledFrom gs (open_behind forest e ts) r vs t c)
+      → FilledAt e gs ts s vs t d
+  event-filled e gs [] ts s vs t u d f is_text k l rest = absurd f
+  event-filled (gives_text n) gs (p ∷ ps) ts s vs t u d f is_text k l rest =
       let h = f.here in
       let bytes = bytes_in (kind_in forest ts n) in
       let accepted = ap (λ (o : Option NodeKind). after_text (bytes_in o) h.place) h.innermost ∙ f.accepted in
-      text-filled bytes h.place f.next s t d (symbols_from forest gs ts) (texts_of gs)
-      (page_bytes (pieces_from forest gs ts (node bytes s))) h.valid h.is_in accepted l rest
-  event-filled (gives_hole n datum) gs (p ∷ ps) ts s t d f u l rest =
+      text-filled bytes h.place f.next s vs t u d (symbols_from forest gs ts) (texts_of gs)
+      (page_bytes (pieces_from forest gs ts (node bytes s))) h.valid h.is_in accepted k l (rest vs)
+  event-filled (gives_hole n datum) gs (p ∷ ps) ts s vs t u d f is_text k l rest =
       let h = f.here in
-      let text = text-at-place (chart p.template p.entry (before n)) h.place f.next f.chain (printed datum) h.there f.accepted u in
-      hole-filled h.place f.next f.chain (printed datum) s t d (symbols_from forest gs ts) (texts_of gs)
-      (pieces_from forest gs ts (at_hole languages s)) h.valid h.is_in f.accepted text l rest
-  event-filled (enters n) gs (p ∷ ps) ts s t d f u l rest = rest t d l
-  event-filled leaves gs (p ∷ ps) ts s t d f u l rest = rest t d l
+      let text = text-at-place (chart p.template p.entry (before n)) h.place f.next f.chain datum h.there f.accepted is_text in
+      hole-filled h.place f.next f.chain datum s vs t u d (symbols_from forest gs ts) (texts_of gs)
+      (pieces_from forest gs ts (at_hole languages s)) h.valid h.is_in f.accepted text k l rest
+  event-filled (enters n) gs (p ∷ ps) ts s vs t u d f is_text k l rest = rest vs t u d k l
+  event-filled leaves gs (p ∷ ps) ts s vs t u d f is_text k l rest = rest vs t u d k l
 
-  pub events-filled : (gs : List Emission) (ps : List (Pair Place)) (ts : List (List ℕ)) (s : LexState ValueState) (t : List LexEvent)
-      (d : Config ValueState) → AllFind forest chart gs ps ts s → AreTextual forest chart gs ps → TextStands languages s t d → FilledFrom gs ts s t d
-  events-filled [] ps ts s t d f u l = record { stands = l; same = λ v. refl }
-  events-filled (g ∷ gs) ps ts s t d f u l =
+  pub events-filled : (gs : List Emission) (ps : List (Pair Place)) (ts : List (List ℕ)) (s : LexState ValueState) (vs : List Filling)
+      (t u : List LexEvent) (d : Config ValueState) → AllFind forest chart gs ps ts s → AreTextual forest chart gs ps → Fills t vs u
+      → TextStands languages s u d → FilledFrom gs ts s vs t d
+  events-filled [] ps ts s vs t u d f are_texts k l = record { emitted = u; fills = k; stands = l }
+  events-filled (g ∷ gs) ps ts s vs t u d f are_texts k l =
       let e = g.event in
       let qs = sign_pairs forest chart (move_sign e) ps in
-      event-filled e gs ps ts s t d f.0 u.0 l
-      (λ v c k. events-filled gs qs (open_behind forest e ts) (state_behind forest e ts s) v c f.1 u.1 k)
+      event-filled e gs ps ts s vs t u d f.0 are_texts.0 k l
+      (λ vs t u c k l. events-filled gs qs (open_behind forest e ts) (state_behind forest e ts s) vs t u c f.1 are_texts.1 k l)

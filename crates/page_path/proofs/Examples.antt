@@ -1,13 +1,13 @@
 -- Small pages, by the definition alone, and pages that are none.
-use Rattle.std.proofs.Common.{◌≡◌, ℕ, Bool, false, true, codes, List, [], ◌∷◌, Some, length, refl, sym, ap, ◌∙◌, arith, IsUtf8}
+use Rattle.std.proofs.Common.{◌≡◌, ℕ, false, true, codes, List, [], ◌∷◌, Some, length, refl, ap, ◌∙◌, arith, IsUtf8}
 use Rattle.std.proofs.lemmas.Bool.{false≢true}
 use Rattle.std.proofs.lemmas.Str.{is_utf8-from_IsUtf8}
 use Rattle.std.specs.Str.{chars, is_utf8}
 use Rattle.esc_table.proofs.Runs.{replaced-encodes}
 use Rattle.html_step.specs.Holes.{only}
-use Rattle.page_datum.specs.Data.{text}
+use Rattle.page_datum.specs.Data.{dict, entry, no_entries, null, text}
 use Rattle.page_path.specs.Pages.{PagePiece, page_bytes, pieces_of, value, value_pieces, words}
-use Rattle.page_path.specs.Soundness.{IsSound, ReadBack, read_filled}
+use Rattle.page_path.specs.Soundness.{IsSound, ReadBack}
 use Rattle.page_path.specs.Textual.{AreTextual, IsTextBy}
 use Rattle.place_core.specs.page.Classes.{class_of}
 use Rattle.place_core.specs.page.Html.{read, start}
@@ -20,6 +20,7 @@ use Rattle.place_core.specs.declared.place.Place.TheVariants as place
 use Rattle.place_core.specs.declared.san.San.TheVariants as san
 use Rattle.place_flow.specs.Covering.{pair}
 use Rattle.san_html.specs.Sanitizers.{html, html_rows}
+use Rattle.text_norm.specs.FilledReadings.{read_filled}
 use Rattle.tpl_events.specs.Events.{gives_hole}
 use Rattle.tpl_tree.specs.Forests.{ForestData}
 use Rattle.tpl_tree.specs.Pipes.{command, dot, no_commands, single, with_fields}
@@ -47,17 +48,17 @@ unfolding lib.Utf8.encode
 less = replaced-encodes html_rows (codes "<") refl
 
 in_a_tag : pieces (codes "<b>") (codes "<") (codes "</b>")
-    ≡ words (codes "<b>") ∷ value (codes "<") (codes "&lt;") ∷ words (codes "</b>") ∷ []
+    ≡ words (codes "<b>") ∷ value (text (codes "<")) (codes "&lt;") ∷ words (codes "</b>") ∷ []
 unfolding class_of
-in_a_tag = ap (λ (bytes : List ℕ). words (codes "<b>") ∷ value (codes "<") bytes ∷ words (codes "</b>") ∷ []) less
+in_a_tag = ap (λ (bytes : List ℕ). words (codes "<b>") ∷ value (text (codes "<")) bytes ∷ words (codes "</b>") ∷ []) less
 
 in_an_empty_value : page_bytes (pieces (codes "<a title=") [] (codes ">")) ≡ codes "<a title=ZgotmplZ>"
 unfolding class_of
 in_an_empty_value = refl
 
 -- with another sanitizer after Drop the value is not left out
-dropped_first : value_pieces (record { count = 2; sans = san.Drop ∷ san.AttrNospace ∷ san.AttrNospace ∷ [] }) (codes "a")
-    ≡ value (codes "a") (codes "ZgotmplZ") ∷ []
+dropped_first : value_pieces (record { count = 2; sans = san.Drop ∷ san.AttrNospace ∷ san.AttrNospace ∷ [] }) (text (codes "a"))
+    ≡ value (text (codes "a")) (codes "ZgotmplZ") ∷ []
 dropped_first = refl
 
 in_a_comment : pieces (codes "a<!-- ") (codes "-->") (codes " -->b") ≡ words (codes "a") ∷ words (codes "b") ∷ []
@@ -71,7 +72,7 @@ as_it_is h = let same = ap length (h.bytes ∙ ap page_bytes in_a_tag) in omega 
 in_another_state : (c d : LexState ValueState) → c ≡ TagOpen Closed → d ≡ Text Closed → c ≡ d → ⊥
 in_another_state c d e f g = cc
 
-not_back : ReadBack (words (codes "<b>") ∷ value (codes "<") (codes "<") ∷ words (codes "</b>") ∷ []) start → ⊥
+not_back : ReadBack (words (codes "<b>") ∷ value (text (codes "<")) (codes "<") ∷ words (codes "</b>") ∷ []) start → ⊥
 unfolding class_of
 not_back h = in_another_state (TagOpen Closed) (Text Closed) refl refl h.0.1.0
 
@@ -108,11 +109,15 @@ not_utf8 : IsUtf8 broken → ⊥
 unfolding is_utf8 chars
 not_utf8 u = (let is : false ≡ true = is_utf8-from_IsUtf8 broken u in false≢true is)
 
-as_a_name : IsTextBy (only san.AttrName) broken
-as_a_name e = cc
+as_a_name : IsTextBy (only san.AttrName) (text broken)
+as_a_name = tt
 
-as_a_text : IsTextBy (only san.Html) broken → ⊥
-as_a_text u = not_utf8 (u refl)
+as_a_text : IsTextBy (only san.Html) (text broken) → ⊥
+as_a_text u = not_utf8 u
+
+-- one that reads the datum itself asks about its texts and keys, and not about what is printed of it
+as_a_script_value : IsTextBy (only san.JsValue) (dict (entry broken null no_entries)) → ⊥
+as_a_script_value u = not_utf8 u.0
 
 -- a hole with that text, wherever the chart has this place
 abbrev AreTextsAt : Place → Type 0
@@ -121,7 +126,7 @@ AreTextsAt at =
     (pair name place.Text ∷ [])
 
 hole_in_a_comment : AreTextsAt (place.Comment false)
-hole_in_a_comment = (λ e. cc, tt)
+hole_in_a_comment = (tt, tt)
 
 hole_in_text : AreTextsAt place.Text → ⊥
-hole_in_text h = not_utf8 (h.0 refl)
+hole_in_text h = not_utf8 h.0

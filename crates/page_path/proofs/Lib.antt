@@ -7,9 +7,9 @@ pub mod OwnPieces
 pub mod Paths
 pub mod PiecesFilled
 pub mod PiecesRead
-pub mod Retold
 pub mod Runs
 pub mod Signs
 pub mod Sound
+pub mod TextsRead
 pub mod Together
 pub mod Walked

@@ -1,10 +1,12 @@
 -- Pieces of a page, and the symbols of its path, from where the page's reading stands for the path: a text, and a hole, before more.
-use Rattle.std.proofs.Common.{◌≡◌, ℕ, List, [], ◌∷◌, ◌++◌, Ok, inl, inr, refl, sym, ap, ◌∙◌, subst}
-use Rattle.html_step.specs.Holes.{after_hole, only}
+use Rattle.std.proofs.Common.{◌≡◌, ℕ, Bool, true, false, List, [], ◌∷◌, ◌++◌, Ok, inl, inr, refl, sym, ap, ◌∙◌, subst}
+use Rattle.std.specs.Prelude.{if◌then◌else◌}
+use Rattle.html_step.specs.Holes.{after_hole}
 use Rattle.html_step.specs.Steps.{after_text}
-use Rattle.page_path.proofs.HolesBack.{BackIn, is-safe}
+use Rattle.page_path.proofs.HolesBack.{BackUnless, is-safe}
 use Rattle.page_path.proofs.OwnPieces.{on-path}
-use Rattle.page_path.specs.Pages.{PagePiece, hole_pieces, page_parts, san_bytes, value_pieces, words}
+use Rattle.page_datum.specs.Data.{Data}
+use Rattle.page_path.specs.Pages.{PagePiece, chain_bytes, hole_pieces, page_parts, value, words}
 use Rattle.page_path.specs.Soundness.{IsBack, ReadBack}
 use Rattle.page_path.specs.Textual.{IsTextBy}
 use Rattle.place_core.specs.page.Classes.{class_of}
@@ -13,6 +15,7 @@ use Rattle.place_core.specs.page.Events.{LexEvent}
 use Rattle.place_core.specs.page.Html.{next, read, read_over, emits}
 use Rattle.place_core.specs.place.Membership.{IsIn}
 use Rattle.place_core.specs.page.Paths.{Hole, Symbol, Written, at_cut, at_hole, mark_in, read_node, read_path}
+use Rattle.place_core.specs.page.Plain.{settled_state}
 use Rattle.place_core.specs.place.Places.{IsValid}
 use Rattle.place_core.specs.page.Shape.{HolePart, ShapePart, PageReads, TextPart, marked}
 use Rattle.place_core.specs.place.StatePlaces.{placed}
@@ -20,13 +23,11 @@ use Rattle.place_core.specs.page.States.{Config, Page, LexState, Template, confi
 use Rattle.place_core.specs.page.Tags.{ValueState, languages}
 use Rattle.place_core.specs.declared.chain.Chain.{Chain}
 use Rattle.place_core.specs.declared.place.Place.{Place}
-use Rattle.place_core.specs.declared.san.San.{San}
-use Rattle.place_core.specs.declared.san.San.TheVariants as san
 use Rattle.text_norm.proofs.HoleKeeps.{keeps-hole}
 use Rattle.text_norm.proofs.Keeps.{keeps-shape}
 use Rattle.text_norm.proofs.Same.{written-on-paths}
 use Rattle.text_norm.proofs.Emits.{same-state}
-use Rattle.text_norm.specs.HoleLaws.{ArePlain, hole_parts}
+use Rattle.text_norm.specs.HoleLaws.{ArePlainUnless, leaves_out, parts_unless}
 use Rattle.text_norm.specs.Standing.{TextStands, page}
 use Rattle.text_norm.specs.Written.{written}
 
@@ -73,40 +74,38 @@ text-read bytes p q s t d pieces symbols v i accepted l rest =
       stands = subst (λ (z : LexState ValueState). StandsFor (read_path languages symbols (config z c.emitted)) r.end) (sym same) r.stands;
     }
 
--- what a hole has before more pieces, by its sanitizer
-plain-read : (x : San) (text : List ℕ) (s : LexState ValueState) (t : List LexEvent) (d e end : Config ValueState) (pieces : List PagePiece)
-    → ArePlain x (san_bytes x text) d → PageReads (hole_parts x (san_bytes x text)) d e
-    → BackIn x s text (san_bytes x text) → TextStands languages s t d → AreRead pieces e end
-    → AreRead (value_pieces (only x) text ++ pieces) d end
-plain-read san.Drop text s t d e end pieces p r b l h = subst (λ (z : Config ValueState). AreRead pieces z end) r h
-plain-read x text s t d e end pieces p (inl r) b l h =
+-- what a hole has before more pieces, by whether its value is left out
+plain-read : (left_out : Bool) (datum : Data) (bytes : List ℕ) (s : LexState ValueState) (t : List LexEvent) (d e end : Config ValueState)
+    (pieces : List PagePiece) → ArePlainUnless left_out bytes d → PageReads (parts_unless left_out bytes) d e
+    → BackUnless left_out s datum bytes → TextStands languages s t d → AreRead pieces e end
+    → AreRead ((if left_out then [] else value datum bytes ∷ []) ++ pieces) d end
+plain-read true datum bytes s t d e end pieces p r b l h = subst (λ (z : Config ValueState). AreRead pieces z end) r h
+plain-read false datum bytes s t d e end pieces p (inl r) b l h =
     let there = subst (λ (z : Config ValueState). AreRead pieces z end) r.1 h in
     let at = sym (ap (λ (c : Config ValueState). c.at) (same-state s t d b.0 l)) in
     record {
       reads = inl (p, there.reads);
-      back = (p, subst (λ (z : LexState ValueState). IsBack z text (san_bytes x text)) at b.1, there.back);
+      back = (p, subst (λ (z : LexState ValueState). IsBack (settled_state languages z) datum bytes) at b.1, there.back);
     }
-plain-read x text s t d e end pieces p (inr r) b l h = absurd (r.0 p)
+plain-read false datum bytes s t d e end pieces p (inr r) b l h = absurd (r.0 p)
 
 -- a hole
-pub hole-read : (p q : Place) (c : Chain) (text : List ℕ) (s : LexState ValueState) (t : List LexEvent) (d : Config ValueState)
+pub hole-read : (p q : Place) (c : Chain) (datum : Data) (s : LexState ValueState) (t : List LexEvent) (d : Config ValueState)
     (pieces : List PagePiece) (symbols : List Symbol)
-    → IsValid p → IsIn p s → after_hole p ≡ Ok (q, c) → IsTextBy c text → TextStands languages s t d
+    → IsValid p → IsIn p s → after_hole p ≡ Ok (q, c) → IsTextBy c datum → TextStands languages s t d
     → ((u : List LexEvent)
     (e : Config ValueState) → TextStands languages (at_hole languages s) u e → IsReadTo pieces symbols (at_hole languages s) u e)
-    → IsReadTo (hole_pieces (placed s) text ++ pieces) (Hole ∷ symbols) s t d
-hole-read p q c text s t d pieces symbols v i accepted u l rest =
+    → IsReadTo (hole_pieces (placed s) datum ++ pieces) (Hole ∷ symbols) s t d
+hole-read p q c datum s t d pieces symbols v i accepted u l rest =
     let safe = is-safe p q c s v i accepted in
-    let x = safe.one in
-    let own = subst (λ (z : Chain). IsTextBy z text) safe.is u in
-    let alone : after_hole p ≡ Ok (q, only x) = accepted ∙ ap (λ (z : Chain). Ok (q, z)) safe.is in
-    let kept = keeps-hole p q x text (san_bytes x text) s t d v i alone (safe.promised text own) l in
+    let bytes = chain_bytes c datum in
+    let kept = keeps-hole p q c datum bytes s t d v i accepted (safe.promised datum u) l in
     let e = kept.2.0 in
-    let r = rest (mark_in s t) e kept.2.2 in
-    let whole = plain-read x text s t d e r.end pieces kept.1 kept.2.1 (safe.back text own) l r.are in
+    let r = rest (mark_in languages s t) e kept.2.2 in
+    let whole = plain-read (leaves_out c) datum bytes s t d e r.end pieces kept.1 kept.2.1 (safe.back datum u) l r.are in
     record {
       end = r.end;
-      are = subst (λ (z : List PagePiece). AreRead (z ++ pieces) d r.end) (sym (on-path p q (only x) s text v i alone)) whole;
+      are = subst (λ (z : List PagePiece). AreRead (z ++ pieces) d r.end) (sym (on-path p q c s datum v i accepted)) whole;
       stands = r.stands;
     }
 

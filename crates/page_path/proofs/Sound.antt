@@ -2,7 +2,6 @@
 use Rattle.std.proofs.Common.{◌≡◌, ℕ, List, [], ◌∷◌, ◌++◌, Option, Some, refl, sym, ap, ◌∙◌, subst}
 use Rattle.std.proofs.lemmas.List.Elements.{All-contains}
 use Rattle.html_step.specs.Steps.{after_text}
-use Rattle.page_datum.specs.Printed.{printed}
 use Rattle.page_path.proofs.EventsFilled.{events-filled}
 use Rattle.page_path.proofs.Finding.{AllFind, Finds, event_symbols, symbols_from}
 use Rattle.page_path.proofs.OwnPieces.{text-at-place}
@@ -11,7 +10,7 @@ use Rattle.page_path.proofs.PiecesRead.{IsReadTo, StandsFor, hole-read, node-sta
 use Rattle.page_path.proofs.Walked.{along-root}
 use Rattle.page_path.specs.Laws.{IsRootOf, PagesAreSound, SoundPagesHaveTheShapeOfTheirPath}
 use Rattle.page_path.specs.Pages.{bytes_in, event_pieces, kind_in, open_behind, page_bytes, page_parts, pieces_from, pieces_of, state_behind}
-use Rattle.page_path.specs.Soundness.{IsDone, read_filled, path_symbols, texts_of}
+use Rattle.page_path.specs.Soundness.{IsDone, path_symbols, texts_of}
 use Rattle.place_flow.specs.Covering.{ChartByName, IsCovered, IsStack, Pair, pair, pairs_along, read_moves, sign_pairs}
 use Rattle.place_flow.specs.HtmlCovering.{html_language}
 use Rattle.place_core.specs.place.Errors.{node}
@@ -34,6 +33,7 @@ use Rattle.place_chart.specs.Exact.{point_place, places_at, places_of}
 use Rattle.place_chart.specs.Summaries.{chart_of}
 use Rattle.text_norm.proofs.PiecesKeep.{stands-at-start}
 use Rattle.text_norm.proofs.Emits.{in-text, same-state}
+use Rattle.text_norm.specs.Fillings.{Fills, FillsPath, fillings_along}
 use Rattle.text_norm.specs.Standing.{TextStands}
 use Rattle.text_norm.specs.StandsLaws.{holds_nothing}
 use Rattle.tpl_events.specs.Events.{Emission, ExecEvent, enters, gives_hole, gives_text, leaves}
@@ -72,8 +72,8 @@ module _ (forest : ForestData) (chart : ChartByName Place) where
   event-read (gives_hole n datum) gs (p ∷ ps) ts s t d f u l rest =
       let h = f.here in
       let more = pieces_from forest gs ts (at_hole languages s) in
-      let text = text-at-place (chart p.template p.entry (before n)) h.place f.next f.chain (printed datum) h.there f.accepted u in
-      hole-read h.place f.next f.chain (printed datum) s t d more (symbols_from forest gs ts) h.valid h.is_in f.accepted text l rest
+      let text = text-at-place (chart p.template p.entry (before n)) h.place f.next f.chain datum h.there f.accepted u in
+      hole-read h.place f.next f.chain datum s t d more (symbols_from forest gs ts) h.valid h.is_in f.accepted text l rest
   event-read (enters n) gs (p ∷ ps) ts s t d f u l rest = rest t d l
   event-read leaves gs (p ∷ ps) ts s t d f u l rest = rest t d l
 
@@ -144,12 +144,16 @@ root-read forest names chart root moves r walk whole =
     let at_end = subst (λ (a : Standing). IsCovered html_language forest places place.Text a ps s) whole covered in
     path-state moves start ∙ ends-in-text forest names chart root ps s r at_end
 
--- where the path ends in text, the page's reading is where the path is
+-- where the path ends in text, the page's reading is there too, and has emitted the path's events with its marks filled
 raw-read : (symbols : List Symbol) (texts : List (List ℕ)) (bytes : List ℕ) → (read_path languages symbols start).at ≡ Text Closed
-    → IsFilled symbols texts bytes start.at start.emitted start → read Page bytes start ≡ read_filled symbols texts start
+    → IsFilled symbols texts bytes start.at [] start.emitted start → FillsPath symbols texts bytes
 raw-read symbols texts bytes own f =
-    let c = read_filled symbols texts start in
-    same-state c.at c.emitted (read Page bytes start) (ap holds_nothing (f.same start.emitted ∙ own)) f.stands
+    let c = read_path languages symbols start in
+    let same = same-state c.at f.emitted (read Page bytes start) (ap holds_nothing own) f.stands in
+    record {
+      ends = ap (λ (z : Config ValueState). z.at) same;
+      events = subst (Fills c.emitted (fillings_along symbols texts start.at [])) (sym (ap (λ (z : Config ValueState). z.emitted) same)) f.fills;
+    }
 
 pub pages-are-sound : PagesAreSound
 pages-are-sound forest names chart root datum r done textual =
@@ -162,8 +166,8 @@ pages-are-sound forest names chart root datum r done textual =
     let own = root-read forest names chart root moves r v.taken.walk whole in
     let page = events-read forest (places_of forest chart.summaries) run.events (pair root place.Text ∷ []) (root ∷ []) start.at start.emitted start
     v.found.find textual stands-at-start.1 in
-    let filled = events-filled forest (places_of forest chart.summaries) run.events (pair root place.Text ∷ []) (root ∷ []) start.at start.emitted
-    start v.found.find textual stands-at-start.1 in
+    let filled = events-filled forest (places_of forest chart.summaries) run.events (pair root place.Text ∷ []) (root ∷ []) start.at []
+    start.emitted start.emitted start v.found.find textual (refl, refl) stands-at-start.1 in
     let bytes = page_bytes (pieces_of forest root datum) in
     let same = sym v.found.same in
     let stands = subst (λ (z : List Symbol). StandsFor (read_path languages z start) page.end) same page.stands in
@@ -181,7 +185,7 @@ pages-are-sound forest names chart root datum r done textual =
       reads = record { reads = reads; no_other = λ end h. one-end parts start end c h reads; in_text = own };
       values = page.are.back;
       raw = raw-read (path_symbols moves) (texts_of run.events) bytes own
-          (subst (λ (z : List Symbol). IsFilled z (texts_of run.events) bytes start.at start.emitted start) same filled);
+          (subst (λ (z : List Symbol). IsFilled z (texts_of run.events) bytes start.at [] start.emitted start) same filled);
     }
 
 pub shape-of-path : SoundPagesHaveTheShapeOfTheirPath

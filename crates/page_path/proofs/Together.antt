@@ -1,7 +1,6 @@
 -- A writer that goes by the chart may be given each event of an execution, and writes what the page has for it.
 use Rattle.std.proofs.Common.{◌≡◌, ℕ, List, [], ◌∷◌, Option, sym, ap, ◌∙◌, refl, Some}
 use Rattle.page_datum.specs.Data.{Data}
-use Rattle.page_datum.specs.Printed.{printed}
 use Rattle.page_path.proofs.Finding.{AllFind, Finds, FindsHole, FindsText}
 use Rattle.page_path.proofs.OwnPieces.{at-place, on-path}
 use Rattle.page_path.proofs.Walked.{along-root}
@@ -39,11 +38,11 @@ module _ (forest : ForestData) (chart : ChartByName Place) where
       ∙ ap (λ (o : Option NodeKind). words (written languages (bytes_in o) s) ∷ []) (sym here.innermost)
 
   hole-alike : (n : ℕ) (datum : Data) (p : Pair Place) (ts : List (List ℕ)) (s : LexState ValueState) → FindsHole forest chart n p ts s
-      → hole_pieces (chart p.template p.entry (before n)) (printed datum) ≡ hole_pieces (placed s) (printed datum)
+      → hole_pieces (chart p.template p.entry (before n)) datum ≡ hole_pieces (placed s) datum
   hole-alike n datum p ts s f =
       let here = f.here in
-      at-place (chart p.template p.entry (before n)) here.place f.next f.chain (printed datum) here.there f.accepted
-      ∙ sym (on-path here.place f.next f.chain s (printed datum) here.valid here.is_in f.accepted)
+      at-place (chart p.template p.entry (before n)) here.place f.next f.chain datum here.there f.accepted
+      ∙ sym (on-path here.place f.next f.chain s datum here.valid here.is_in f.accepted)
 
   -- an event that finds what it needs may be given
   goes : (e : ExecEvent) (ps : List (Pair Place)) (ts : List (List ℕ)) (s : LexState ValueState) → Finds forest chart e ps ts s

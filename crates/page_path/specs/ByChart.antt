@@ -2,7 +2,6 @@
 use Rattle.std.specs.Prelude.{◌≡◌, ℕ, List, [], ◌∷◌, Option, Some, None, Ok, ⊤}
 use Rattle.html_step.specs.Holes.{after_hole}
 use Rattle.html_step.specs.Steps.{after_text}
-use Rattle.page_datum.specs.Printed.{printed}
 use Rattle.page_path.specs.Pages.{PagePiece, bytes_in, hole_pieces, words}
 use Rattle.place_flow.specs.Covering.{ChartByName, Pair}
 use Rattle.place_core.specs.declared.chain.Chain.{Chain}
@@ -70,6 +69,6 @@ abbrev pub pair_pieces : ForestData → ChartByName Place → ExecEvent → List
 pair_pieces forest chart e [] = []
 pair_pieces forest chart (gives_text n) (p ∷ ps) =
     text_pieces (chart p.template p.entry (before n)) (bytes_in (node_kind_at forest p.template n))
-pair_pieces forest chart (gives_hole n datum) (p ∷ ps) = hole_pieces (chart p.template p.entry (before n)) (printed datum)
+pair_pieces forest chart (gives_hole n datum) (p ∷ ps) = hole_pieces (chart p.template p.entry (before n)) datum
 pair_pieces forest chart (enters n) (p ∷ ps) = []
 pair_pieces forest chart leaves (p ∷ ps) = []

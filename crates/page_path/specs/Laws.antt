@@ -3,17 +3,18 @@ use Rattle.std.specs.Prelude.{◌≡◌, ℕ, List, [], ◌∷◌, Some, Contain
 use Rattle.page_datum.specs.Data.{Data}
 use Rattle.page_path.specs.ByChart.{ChartMay, pair_pieces}
 use Rattle.page_path.specs.Pages.{event_pieces, open_behind, page_bytes, page_parts, pieces_of, state_behind}
-use Rattle.page_path.specs.Soundness.{IsDone, IsSound, path_read}
+use Rattle.page_path.specs.Soundness.{IsDone, IsSound, path_read, path_symbols, texts_of}
 use Rattle.place_flow.specs.Covering.{ChartByName, Pair, pair, sign_pairs}
-use Rattle.place_core.specs.page.Html.{start}
+use Rattle.place_core.specs.page.Html.{read, start}
 use Rattle.place_core.specs.page.Shape.{PageReads, shape_of}
-use Rattle.place_core.specs.page.States.{Config, LexState}
+use Rattle.place_core.specs.page.States.{Config, LexState, Page}
 use Rattle.place_core.specs.page.Tags.{ValueState}
 use Rattle.place_core.specs.declared.place.Place.{Place}
 use Rattle.place_core.specs.declared.place.Place.TheVariants as place
 use Rattle.place_infer.specs.ChartViews.{ChartData}
 use Rattle.place_infer.specs.Inferring.{IsChartOfSet}
 use Rattle.place_chart.specs.Exact.{places_of}
+use Rattle.text_norm.specs.FilledReadings.{NoneInBlocks, read_filled}
 use Rattle.tpl_events.specs.Events.{Emission}
 use Rattle.tpl_exec.specs.Meaning.{meaning}
 use Rattle.page_path.specs.Taken.{choices, move_sign}
@@ -28,7 +29,7 @@ pub record IsRootOf (forest : ForestData) (names : List (List ℕ)) (chart : Cha
   pub number : ℕ
   pub numbered : number_named root forest ≡ Some number
 
--- where a value is written, by the root's chart, its text is UTF-8, as all texts of data are
+-- where a value is written, by the root's chart, what is written of its texts is UTF-8, as all texts of data are
 abbrev pub AreRootTexts : ForestData → ChartData → List ℕ → Data → Type 0
 AreRootTexts forest chart root datum =
     AreTextual forest (places_of forest chart.summaries) (meaning forest root datum).events (pair root place.Text ∷ [])
@@ -45,6 +46,13 @@ SoundPagesHaveTheShapeOfTheirPath = (forest : ForestData) (root : List ℕ) (dat
     → (sound : IsSound forest root datum page) (end : Config ValueState)
     → PageReads (page_parts (pieces_of forest root datum)) start end
     → shape_of end ≡ shape_of (path_read sound.takes.path)
+
+-- A page that is sound reads as its path does with the text of each value in its hole, where no hole of the path is in a data block.
+abbrev pub SoundPagesReadWithTheirTexts : Type 0
+SoundPagesReadWithTheirTexts = (forest : ForestData) (root : List ℕ) (datum : Data) (page : List ℕ)
+    → (sound : IsSound forest root datum page)
+    → (let symbols = path_symbols sound.takes.path in
+    NoneInBlocks symbols start.at → read Page page start ≡ read_filled symbols (texts_of (meaning forest root datum).events) start)
 
 -- Along events each may be given to a writer that goes by the chart, and what that writes, where these pairs are open, is what is written
 -- by the path.

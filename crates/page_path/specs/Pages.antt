@@ -1,6 +1,6 @@
 -- The page of a set of templates, of a root and a datum: what is written for each event of the execution, by what the path has read up to
 -- it. Nothing here speaks of charts, or of how a page is made.
-use Rattle.std.specs.Prelude.{ℕ, ◌+◌, List, [], ◌∷◌, ◌++◌, length, fold, take, Bool, true, false, nat_le, if◌then◌else◌, Option, Some, None, Ok, Err}
+use Rattle.std.specs.Prelude.{ℕ, ◌+◌, List, [], ◌∷◌, ◌++◌, length, nat_le, if◌then◌else◌, Option, Some, None, Ok, Err}
 use Rattle.page_datum.specs.Data.{Data}
 use Rattle.page_datum.specs.Execution.{Execution, done, faulted}
 use Rattle.page_datum.specs.Printed.{printed}
@@ -17,6 +17,7 @@ use Rattle.place_core.specs.declared.san.San.{San}
 use Rattle.place_core.specs.declared.san.San.TheVariants as san
 use Rattle.html_step.specs.Holes.{Holed, after_hole}
 use Rattle.san_html.specs.Sanitizers.{html, attr_nospace, attr_name}
+use Rattle.text_norm.specs.HoleLaws.{leaves_out, sanitizers}
 use Rattle.text_norm.specs.Written.{written}
 use Rattle.tpl_events.specs.Events.{Emission, ExecEvent, enters, gives_hole, gives_text, leaves}
 use Rattle.tpl_exec.specs.Executing.{too_long}
@@ -26,51 +27,64 @@ use Rattle.tpl_tree.specs.Forests.{ForestData}
 use Rattle.tpl_tree.specs.declared.node_kind.NodeKind.{NodeKind}
 use Rattle.tpl_tree.specs.declared.node_kind.NodeKind.TheVariants as kind
 
--- what a sanitizer gives for a text. Those of scripts, styles and URLs are not built: a place where they would stand is refused, so none of
--- them is reached.
+-- What a sanitizer gives for the bytes of the one before it. Those of scripts, styles and URLs are not built: a place where they would stand
+-- is refused, so none of them is reached.
 abbrev pub san_bytes : San → List ℕ → List ℕ
-san_bytes san.Html text = html text
-san_bytes san.Attr text = html text
-san_bytes san.AttrNospace text = attr_nospace text
-san_bytes san.AttrName text = attr_name text
-san_bytes san.Drop text = []
+san_bytes san.Html bytes = html bytes
+san_bytes san.Attr bytes = html bytes
+san_bytes san.AttrNospace bytes = attr_nospace bytes
+san_bytes san.AttrName bytes = attr_name bytes
+san_bytes san.Drop bytes = []
 -- those of scripts, styles and URLs, which no context has yet
-san_bytes san.JsValue text = []
-san_bytes san.JsString text = []
-san_bytes san.JsRegexp text = []
-san_bytes san.CssValue text = []
-san_bytes san.CssString text = []
-san_bytes san.UrlFilter text = []
-san_bytes san.UrlOpen text = []
-san_bytes san.UrlNorm text = []
-san_bytes san.UrlQuery text = []
+san_bytes san.JsValue bytes = []
+san_bytes san.JsString bytes = []
+san_bytes san.JsRegexp bytes = []
+san_bytes san.CssValue bytes = []
+san_bytes san.CssString bytes = []
+san_bytes san.UrlFilter bytes = []
+san_bytes san.UrlOpen bytes = []
+san_bytes san.UrlNorm bytes = []
+san_bytes san.UrlQuery bytes = []
 
--- likewise, and a chain of them, one after the other
-abbrev pub chain_bytes : Chain → List ℕ → List ℕ
-chain_bytes c text = fold (λ so_far x. san_bytes x so_far) text (take c.count c.sans)
+-- What a sanitizer gives for a datum, where it is the first of its chain: what it gives for the datum's printed text. That of a script's
+-- values reads the datum itself, whose text does not tell a number from a text of digits.
+abbrev pub datum_bytes : San → Data → List ℕ
+datum_bytes san.Html datum = san_bytes san.Html (printed datum)
+datum_bytes san.Attr datum = san_bytes san.Attr (printed datum)
+datum_bytes san.AttrNospace datum = san_bytes san.AttrNospace (printed datum)
+datum_bytes san.AttrName datum = san_bytes san.AttrName (printed datum)
+datum_bytes san.Drop datum = san_bytes san.Drop (printed datum)
+-- likewise, not built
+datum_bytes san.JsValue datum = []
+datum_bytes san.JsString datum = san_bytes san.JsString (printed datum)
+datum_bytes san.JsRegexp datum = san_bytes san.JsRegexp (printed datum)
+datum_bytes san.CssValue datum = san_bytes san.CssValue (printed datum)
+datum_bytes san.CssString datum = san_bytes san.CssString (printed datum)
+datum_bytes san.UrlFilter datum = san_bytes san.UrlFilter (printed datum)
+datum_bytes san.UrlOpen datum = san_bytes san.UrlOpen (printed datum)
+datum_bytes san.UrlNorm datum = san_bytes san.UrlNorm (printed datum)
+datum_bytes san.UrlQuery datum = san_bytes san.UrlQuery (printed datum)
 
--- A chain leaves the value out where it is the sanitizer Drop alone. With another sanitizer after Drop the value is what that one gives
--- for no bytes, as the failsafe in a value without quotes.
-abbrev pub is_drop : San → Bool
-is_drop san.Drop = true
-is_drop x = false
+-- what a chain gives for a datum: each sanitizer behind the first reads the bytes of the one before it
+abbrev pub bytes_behind : List San → List ℕ → List ℕ
+bytes_behind [] bytes = bytes
+bytes_behind (x ∷ xs) bytes = bytes_behind xs (san_bytes x bytes)
 
-abbrev pub drops_alone : List San → Bool
-drops_alone [] = false
-drops_alone (x ∷ []) = is_drop x
-drops_alone (x ∷ y ∷ xs) = false
+abbrev pub list_bytes : List San → Data → List ℕ
+list_bytes [] datum = printed datum
+list_bytes (x ∷ xs) datum = bytes_behind xs (datum_bytes x datum)
 
-abbrev pub leaves_out : Chain → Bool
-leaves_out c = drops_alone (take c.count c.sans)
+abbrev pub chain_bytes : Chain → Data → List ℕ
+chain_bytes c datum = list_bytes (sanitizers c) datum
 
--- a piece of a page: the bytes of a text; or the text of a value, with the bytes that are written for it
+-- a piece of a page: the bytes of a text; or the datum of a value, with the bytes that are written for it
 pub data PagePiece : Type 0 where
   words : List ℕ → PagePiece
-  value : List ℕ → List ℕ → PagePiece
+  value : Data → List ℕ → PagePiece
 
 abbrev pub piece_part : PagePiece → ShapePart
 piece_part (words bytes) = TextPart bytes
-piece_part (value text bytes) = HolePart bytes
+piece_part (value datum bytes) = HolePart bytes
 
 abbrev pub page_parts : List PagePiece → List ShapePart
 page_parts [] = []
@@ -111,22 +125,22 @@ state_behind forest (enters n) ts s = s
 state_behind forest leaves ts s = s
 
 -- what is written for a value of data: by the chain of the path's place. In a comment nothing is, which is no piece.
-abbrev pub value_pieces : Chain → List ℕ → List PagePiece
-value_pieces c text = if leaves_out c then [] else value text (chain_bytes c text) ∷ []
+abbrev pub value_pieces : Chain → Data → List PagePiece
+value_pieces c datum = if leaves_out c then [] else value datum (chain_bytes c datum) ∷ []
 
 -- A place that takes no value, and a path that is at no place, are refused before a hole, so the lines for them are not reached.
-abbrev pub holed_pieces : Holed → List ℕ → List PagePiece
-holed_pieces (Ok h) text = value_pieces h.1 text
-holed_pieces (Err e) text = []
+abbrev pub holed_pieces : Holed → Data → List PagePiece
+holed_pieces (Ok h) datum = value_pieces h.1 datum
+holed_pieces (Err e) datum = []
 
-abbrev pub hole_pieces : Option Place → List ℕ → List PagePiece
-hole_pieces (Some p) text = holed_pieces (after_hole p) text
-hole_pieces None text = []
+abbrev pub hole_pieces : Option Place → Data → List PagePiece
+hole_pieces (Some p) datum = holed_pieces (after_hole p) datum
+hole_pieces None datum = []
 
 -- what is written for an event, by what the path has read: a text as such a path's texts are written, a value by the chain of its place
 abbrev pub event_pieces : ForestData → ExecEvent → List (List ℕ) → LexState ValueState → List PagePiece
 event_pieces forest (gives_text n) ts s = words (written languages (bytes_in (kind_in forest ts n)) s) ∷ []
-event_pieces forest (gives_hole n datum) ts s = hole_pieces (placed s) (printed datum)
+event_pieces forest (gives_hole n datum) ts s = hole_pieces (placed s) datum
 event_pieces forest (enters n) ts s = []
 event_pieces forest leaves ts s = []
 

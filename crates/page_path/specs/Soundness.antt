@@ -1,19 +1,20 @@
 -- What is promised of a page: it has the shape of the path of its templates, whatever the data; each value is plain in its place, and
--- reads back there; and the page as bytes alone reads as that path with the texts of the values in its holes.
+-- reads back there; and the page as bytes alone reads as that path with its marks filled by the values.
 use Rattle.std.specs.Prelude.{◌≡◌, ℕ, false, List, [], ◌∷◌, ⊤}
 use Rattle.page_datum.specs.Data.{Data}
 use Rattle.page_datum.specs.Printed.{printed}
 use Rattle.page_path.specs.Pages.{PagePiece, page_bytes, page_parts, pieces_of, value, words}
-use Rattle.place_core.specs.page.Events.{AttributeBegins, LexEvent, attribute_name_bytes, event_text_bytes}
+use Rattle.place_core.specs.page.Events.{AttributeBegins, attribute_name_bytes, event_text_bytes}
 use Rattle.place_core.specs.page.Html.{read, start}
-use Rattle.place_core.specs.page.Paths.{Hole, Symbol, Written, read_node, read_path}
+use Rattle.place_core.specs.page.Paths.{Hole, Symbol, Written, read_path}
 use Rattle.place_core.specs.page.Plain.{IsPlain, settled_config}
 use Rattle.place_core.specs.page.References.{Closed, undone}
 use Rattle.place_core.specs.page.Shape.{PageReads, ShapePart, marked}
-use Rattle.place_core.specs.page.States.{AfterAttributeName, AfterAttributeValue, AttributeName, AttributeValue, BeforeAttributeName, BeforeAttributeValue, Bytes, Characters, Config, InContent, Nothing, Page, SelfClosingStartTag, LexState, Text, WholeAttributeName, config}
-use Rattle.place_core.specs.page.Tags.{Quoting, Tag, Unquoted, ValueState, languages, attribute_value_of, without_value}
-use Rattle.place_core.specs.declared.kind.Kind.TheVariants as kind
+use Rattle.place_core.specs.page.States.{AfterAttributeName, AfterAttributeValue, AttributeName, AttributeValue, BeforeAttributeName, BeforeAttributeValue, Bytes, Characters, Config, InContent, Nothing, Page, SelfClosingStartTag, LexState, Text, config}
+use Rattle.place_core.specs.page.Tags.{Tag, Unquoted, ValueState, languages, attribute_value_of, without_value}
 use Rattle.san_html.specs.ReadBack.{read_value, as_name, read_as_text, as_unquoted}
+use Rattle.text_norm.specs.FilledReadings.{value_text}
+use Rattle.text_norm.specs.Fillings.{FillsPath}
 use Rattle.tpl_events.specs.Events.{Emission, ExecEvent, enters, gives_hole, gives_text, leaves}
 use Rattle.tpl_exec.specs.Meaning.{Finish, finish_of, finished, meaning, stopped}
 use Rattle.tpl_exec.specs.Runs.{End}
@@ -39,58 +40,31 @@ path_symbols (back ∷ ms) = path_symbols ms
 -- U+FFFD. In a data block the same, where they are undone by themselves. In a value of an attribute they go on with that text, and where
 -- the value has no quotes and the text is empty, with the failsafe. In a tag they are the name of an attribute: the text in lower case, or
 -- the failsafe, where data may not make that name.
-abbrev pub value_text : Quoting → List ℕ → List ℕ
-value_text Unquoted text = as_unquoted text
-value_text q text = read_as_text text
-
 abbrev pub IsNameBack : Tag → LexState ValueState → List ℕ → List ℕ → Type 0
 IsNameBack tag s text bytes =
     read Page bytes (config s []) ≡ config (AttributeName tag (as_name text)) (attribute_name_bytes (as_name text) (AttributeBegins ∷ []))
 
-abbrev pub IsBack : LexState ValueState → List ℕ → List ℕ → Type 0
-IsBack (Text r) text bytes = read Page bytes (config (Text r) []) ≡ config (Text Closed) (event_text_bytes (read_as_text text) [])
-IsBack (InContent e (Characters r) Nothing) text bytes =
+abbrev pub IsBack : LexState ValueState → Data → List ℕ → Type 0
+IsBack (Text r) datum bytes = read Page bytes (config (Text r) []) ≡ config (Text Closed) (event_text_bytes (read_as_text (printed datum)) [])
+IsBack (InContent e (Characters r) Nothing) datum bytes =
     read Page bytes (config (InContent e (Characters r) Nothing) [])
-    ≡ config (InContent e (Characters Closed) Nothing) (event_text_bytes (read_as_text text) [])
-IsBack (InContent e Bytes Nothing) text bytes = undone false Closed bytes ≡ read_as_text text
-IsBack (AttributeValue q tag v r) text bytes =
-    read Page bytes (config (AttributeValue q tag v r) []) ≡ read_value q tag v (value_text q text) []
-IsBack (BeforeAttributeValue tag k) text bytes =
-    read Page bytes (config (BeforeAttributeValue tag k) []) ≡ read_value Unquoted tag (attribute_value_of languages k) (as_unquoted text) []
-IsBack (BeforeAttributeName tag) text bytes = IsNameBack tag (BeforeAttributeName tag) text bytes
-IsBack (AfterAttributeName tag k) text bytes = IsNameBack (without_value tag k) (AfterAttributeName tag k) text bytes
-IsBack (AfterAttributeValue tag) text bytes = IsNameBack tag (AfterAttributeValue tag) text bytes
-IsBack (SelfClosingStartTag tag) text bytes = IsNameBack tag (SelfClosingStartTag tag) text bytes
-IsBack s text bytes = ⊥
+    ≡ config (InContent e (Characters Closed) Nothing) (event_text_bytes (read_as_text (printed datum)) [])
+IsBack (InContent e Bytes Nothing) datum bytes = undone false Closed bytes ≡ read_as_text (printed datum)
+IsBack (AttributeValue q tag v r) datum bytes =
+    read Page bytes (config (AttributeValue q tag v r) []) ≡ read_value q tag v (value_text q (printed datum)) []
+IsBack (BeforeAttributeValue tag k) datum bytes =
+    read Page bytes (config (BeforeAttributeValue tag k) []) ≡ read_value Unquoted tag (attribute_value_of languages k) (as_unquoted (printed datum)) []
+IsBack (BeforeAttributeName tag) datum bytes = IsNameBack tag (BeforeAttributeName tag) (printed datum) bytes
+IsBack (AfterAttributeName tag k) datum bytes = IsNameBack (without_value tag k) (AfterAttributeName tag k) (printed datum) bytes
+IsBack (AfterAttributeValue tag) datum bytes = IsNameBack tag (AfterAttributeValue tag) (printed datum) bytes
+IsBack (SelfClosingStartTag tag) datum bytes = IsNameBack tag (SelfClosingStartTag tag) (printed datum) bytes
+IsBack s datum bytes = ⊥
 
 -- along the pieces of a page, each value is plain in its place and reads back there
 abbrev pub ReadBack : List PagePiece → Config ValueState → Type 0
 ReadBack [] c = ⊤
 ReadBack (words bytes ∷ ps) c = ReadBack ps (read Page bytes c)
-ReadBack (value text bytes ∷ ps) c = IsPlain bytes c × IsBack (settled_config c).at text bytes × ReadBack ps (marked bytes c)
-
--- The path read with a text in each hole: a hole emits its text in the place of a mark. A hole in a comment emits nothing; one in a data
--- block, a script or a style is refused, so no path comes there.
-abbrev pub name_filled : Tag → List ℕ → List LexEvent → Config ValueState
-name_filled tag text t = config (WholeAttributeName tag kind.Plain) (attribute_name_bytes (as_name text) (AttributeBegins ∷ t))
-
-abbrev pub holes_filled : LexState ValueState → List ℕ → List LexEvent → Config ValueState
-holes_filled (Text r) text t = config (Text r) (event_text_bytes (read_as_text text) t)
-holes_filled (InContent e (Characters r) Nothing) text t = config (InContent e (Characters r) Nothing) (event_text_bytes (read_as_text text) t)
-holes_filled (AttributeValue q tag v r) text t = read_value q tag v (value_text q text) t
-holes_filled (BeforeAttributeValue tag k) text t = read_value Unquoted tag (attribute_value_of languages k) (as_unquoted text) t
-holes_filled (BeforeAttributeName tag) text t = name_filled tag text t
-holes_filled (AfterAttributeName tag k) text t = name_filled (without_value tag k) text t
-holes_filled (AfterAttributeValue tag) text t = name_filled tag text t
-holes_filled (SelfClosingStartTag tag) text t = name_filled tag text t
-holes_filled s text t = config s t
-
--- where the texts run out the reading stops, and spare texts are not read
-abbrev pub read_filled : List Symbol → List (List ℕ) → Config ValueState → Config ValueState
-read_filled [] texts c = c
-read_filled (Written bytes ∷ symbols) texts c = read_filled symbols texts (read_node languages bytes c)
-read_filled (Hole ∷ symbols) [] c = c
-read_filled (Hole ∷ symbols) (text ∷ texts) c = read_filled symbols texts (holes_filled c.at text c.emitted)
+ReadBack (value datum bytes ∷ ps) c = IsPlain bytes c × IsBack (settled_config languages c).at datum bytes × ReadBack ps (marked bytes c)
 
 -- the texts of the values that an execution gives, in order
 abbrev pub event_texts : ExecEvent → List (List ℕ) → List (List ℕ)
@@ -137,12 +111,12 @@ pub record ReadsAs (parts : List ShapePart) (path : List Move) : Type 0 where
 -- 3. The execution takes a path of its templates.
 -- 4. Read with a mark in the place of each value, the page comes to where that path comes, so its shape is the path's own.
 -- 5. Each value is plain in its place, and reads back there.
--- 6. The whole page, read as bytes alone, without knowing where values begin and end, comes to where the path comes with each value's own
---    text in its hole.
+-- 6. The whole page, read as bytes alone, without knowing where values begin and end, comes to where the path comes, and emits what the path
+--    emits, but in the place of each mark the events of that value alone.
 pub record IsSound (forest : ForestData) (root : List ℕ) (datum : Data) (page : List ℕ) : Type 0 where
   pub finished : IsDone (meaning forest root datum).end
   pub bytes : page ≡ page_bytes (pieces_of forest root datum)
   pub takes : TakesPath forest root datum
   pub reads : ReadsAs (page_parts (pieces_of forest root datum)) takes.path
   pub values : ReadBack (pieces_of forest root datum) start
-  pub raw : read Page page start ≡ read_filled (path_symbols takes.path) (texts_of (meaning forest root datum).events) start
+  pub raw : FillsPath (path_symbols takes.path) (texts_of (meaning forest root datum).events) page

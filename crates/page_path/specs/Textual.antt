@@ -1,9 +1,9 @@
--- Which texts of values have to be UTF-8: those that are written. In a comment nothing is written of a value, and as the name of an attribute
+-- Which texts of data have to be UTF-8: those that are written. In a comment nothing is written of a value, and as the name of an attribute
 -- only letters and digits of ASCII are, so there nothing is asked of its text.
-use Rattle.std.specs.Prelude.{◌≡◌, ℕ, Bool, true, false, List, [], ◌∷◌, take, Option, Some, None, Ok, Err, ⊤}
-use Rattle.std.specs.List.{list_any}
+use Rattle.std.specs.Prelude.{List, [], ◌∷◌, Option, Some, None, Ok, Err, ⊤}
 use Rattle.std.specs.Str.{IsUtf8}
 use Rattle.html_step.specs.Holes.{Holed, after_hole}
+use Rattle.page_datum.specs.Data.{Data, null, truth, int, text, list, dict, DataList, no_items, item, DataDict, no_entries, entry}
 use Rattle.page_datum.specs.Printed.{printed}
 use Rattle.page_path.specs.Taken.{move_sign}
 use Rattle.place_core.specs.declared.chain.Chain.{Chain}
@@ -11,34 +11,70 @@ use Rattle.place_core.specs.declared.place.Place.{Place}
 use Rattle.place_core.specs.declared.san.San.{San}
 use Rattle.place_core.specs.declared.san.San.TheVariants as san
 use Rattle.place_flow.specs.Covering.{ChartByName, Pair, sign_pairs}
+use Rattle.text_norm.specs.HoleLaws.{sanitizers}
 use Rattle.tpl_events.specs.Events.{Emission, ExecEvent, enters, gives_hole, gives_text, leaves}
 use Rattle.tpl_paths.specs.Edges.{before}
 use Rattle.tpl_tree.specs.Forests.{ForestData}
 
--- whether a sanitizer may write more of a text than characters of ASCII
-abbrev pub writes_text : San → Bool
-writes_text san.Drop = false
-writes_text san.AttrName = false
-writes_text x = true
+-- all texts and keys of a datum are UTF-8
+abbrev mutual
+  pub AreTexts : Data → Type 0
+  AreTexts null = ⊤
+  AreTexts (truth b) = ⊤
+  AreTexts (int n) = ⊤
+  AreTexts (text t) = IsUtf8 t
+  AreTexts (list items) = AreItemTexts items
+  AreTexts (dict entries) = AreEntryTexts entries
 
--- a text is UTF-8 where its chain may write more of it than ASCII
-abbrev pub IsTextBy : Chain → List ℕ → Type 0
-IsTextBy c text = list_any writes_text (take c.count c.sans) ≡ true → IsUtf8 text
+  pub AreItemTexts : DataList → Type 0
+  AreItemTexts no_items = ⊤
+  AreItemTexts (item d rest) = AreTexts d × AreItemTexts rest
 
--- the same of a text at a place, by the chain that a hole has there; where no hole may be, nothing is asked
-abbrev pub IsTextHeld : Holed → List ℕ → Type 0
-IsTextHeld (Ok h) text = IsTextBy h.1 text
-IsTextHeld (Err e) text = ⊤
+  pub AreEntryTexts : DataDict → Type 0
+  AreEntryTexts no_entries = ⊤
+  AreEntryTexts (entry key d rest) = IsUtf8 key × AreTexts d × AreEntryTexts rest
 
-abbrev pub IsTextAt : Option Place → List ℕ → Type 0
-IsTextAt (Some p) text = IsTextHeld (after_hole p) text
-IsTextAt None text = ⊤
+-- What of a datum has to be UTF-8 for its first sanitizer: the printed text for one that may write more of it than ASCII, and all texts and
+-- keys for that of a script's values, which reads the datum itself.
+abbrev pub IsTextFor : San → Data → Type 0
+IsTextFor san.Html datum = IsUtf8 (printed datum)
+IsTextFor san.Attr datum = IsUtf8 (printed datum)
+IsTextFor san.AttrNospace datum = IsUtf8 (printed datum)
+IsTextFor san.AttrName datum = ⊤
+IsTextFor san.Drop datum = ⊤
+-- those of scripts, styles and URLs, which no context has yet
+IsTextFor san.JsValue datum = AreTexts datum
+IsTextFor san.JsString datum = IsUtf8 (printed datum)
+IsTextFor san.JsRegexp datum = IsUtf8 (printed datum)
+IsTextFor san.CssValue datum = IsUtf8 (printed datum)
+IsTextFor san.CssString datum = IsUtf8 (printed datum)
+IsTextFor san.UrlFilter datum = IsUtf8 (printed datum)
+IsTextFor san.UrlOpen datum = IsUtf8 (printed datum)
+IsTextFor san.UrlNorm datum = IsUtf8 (printed datum)
+IsTextFor san.UrlQuery datum = IsUtf8 (printed datum)
+
+-- the same of a chain: only its first sanitizer reads the datum
+abbrev pub IsTextByList : List San → Data → Type 0
+IsTextByList [] datum = ⊤
+IsTextByList (x ∷ xs) datum = IsTextFor x datum
+
+abbrev pub IsTextBy : Chain → Data → Type 0
+IsTextBy c datum = IsTextByList (sanitizers c) datum
+
+-- the same at a place, by the chain that a hole has there; where no hole may be, nothing is asked
+abbrev pub IsTextHeld : Holed → Data → Type 0
+IsTextHeld (Ok h) datum = IsTextBy h.1 datum
+IsTextHeld (Err e) datum = ⊤
+
+abbrev pub IsTextAt : Option Place → Data → Type 0
+IsTextAt (Some p) datum = IsTextHeld (after_hole p) datum
+IsTextAt None datum = ⊤
 
 -- the same of the value of an event while these pairs are open: by the chart's place before its node, in the innermost pair
 abbrev pub IsTextual : ForestData → ChartByName Place → ExecEvent → List (Pair Place) → Type 0
 IsTextual forest chart e [] = ⊤
 IsTextual forest chart (gives_text n) (p ∷ ps) = ⊤
-IsTextual forest chart (gives_hole n datum) (p ∷ ps) = IsTextAt (chart p.template p.entry (before n)) (printed datum)
+IsTextual forest chart (gives_hole n datum) (p ∷ ps) = IsTextAt (chart p.template p.entry (before n)) datum
 IsTextual forest chart (enters n) (p ∷ ps) = ⊤
 IsTextual forest chart leaves (p ∷ ps) = ⊤
 

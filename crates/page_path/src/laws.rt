@@ -1,9 +1,9 @@
 ghost use Rattle.page_path.specs.Laws.{PagesAreSound, PagesGoByTheChart, PagesOfOnePathHaveOneShape};
-ghost use Rattle.page_path.specs.Laws.{SoundPagesHaveTheShapeOfTheirPath};
+ghost use Rattle.page_path.specs.Laws.{SoundPagesHaveTheShapeOfTheirPath, SoundPagesReadWithTheirTexts};
 
 /// The page of a root of a set that has a chart is sound, whatever the datum, whose written texts are UTF-8, where the execution comes to
 /// its end: it has the shape of the path whose choices the execution took, each value is plain in its place and reads back there, and the
-/// page as bytes alone reads as that path with the texts of the values in its holes. A theorem; the call does nothing at run time.
+/// page as bytes alone reads as that path, with each mark filled by its value. A theorem; the call does nothing at run time.
 pub fn pages_are_sound()
     ensures { PagesAreSound }
 {}
@@ -12,6 +12,12 @@ pub fn pages_are_sound()
 /// the call does nothing at run time.
 pub fn sound_pages_have_the_shape_of_their_path()
     ensures { SoundPagesHaveTheShapeOfTheirPath }
+{}
+
+/// A sound page reads, as bytes alone, as its path does with the text of each value in its hole, where no hole of the path is in a data
+/// block. A theorem; the call does nothing at run time.
+pub fn sound_pages_read_with_their_texts()
+    ensures { SoundPagesReadWithTheirTexts }
 {}
 
 /// A writer that goes by the chart may be given every event of an execution, and writes what the page has for it: of a text what is written

@@ -1,4 +1,5 @@
 pub mod Alike
+pub mod ChainBytes
 pub mod KeptOutputs
 pub mod OpenPairs
 pub mod PairOutputs

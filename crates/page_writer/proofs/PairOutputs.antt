@@ -1,9 +1,8 @@
 -- What a writer gives is what the chart's pair gives, event by event.
 use Rattle.std.proofs.Common.{◌≡◌, ℕ, Bool, true, false, List, [], ◌∷◌, Option, Some, Ok, Err, refl, sym, ap, ◌∙◌, subst}
 use Rattle.std.specs.Prelude.{◌||◌}
-use Rattle.html_step.specs.Holes.{Holed, after_hole, named_by_data, plain_hole, value_hole}
+use Rattle.html_step.specs.Holes.{after_hole, block_hole, Holed, named_by_data, plain_hole, value_hole}
 use Rattle.page_datum.specs.Data.{Data}
-use Rattle.page_datum.specs.Printed.{printed}
 use Rattle.page_path.specs.ByChart.{ChartMay, PairMayEnter, MayHole, MayText, pair_pieces, text_pieces}
 use Rattle.page_path.specs.Pages.{bytes_in, hole_pieces, holed_pieces}
 use Rattle.page_path.specs.Textual.{IsTextAt, IsTextHeld, IsTextual}
@@ -31,19 +30,19 @@ use Rattle.tpl_tree.specs.Forests.{ForestData, number_named}
 use Rattle.tpl_tree.specs.declared.node_kind.NodeKind.{NodeKind}
 use Rattle.tpl_tree.specs.declared.node_kind.NodeKind.TheVariants as kind
 
--- the chain of a place is one sanitizer, which is built
+-- the sanitizers of the chain of a place are built
 abbrev pub HasBuiltChain : Holed → Type 0
 HasBuiltChain (Ok h) = IsBuiltChain h.1
 HasBuiltChain (Err e) = Unit {0}
 
 named_built : (b : Bool) (t : TagPlace) → HasBuiltChain (named_by_data b t)
 named_built true t = tt
-named_built false t = tt
+named_built false t = (tt, tt)
 
 plain_built : (q : Quotes) (v : ValuePlace) → HasBuiltChain (plain_hole q v)
-plain_built quotes.Dq v = tt
-plain_built quotes.Sq v = tt
-plain_built (quotes.Bare b) v = tt
+plain_built quotes.Dq v = (tt, tt)
+plain_built quotes.Sq v = (tt, tt)
+plain_built (quotes.Bare b) v = (tt, tt)
 
 value_built : (b : Body) (v : ValuePlace) → HasBuiltChain (value_hole b v)
 value_built body.Plain v = plain_built v.quotes v
@@ -52,16 +51,20 @@ value_built (body.Url parts) v = tt
 value_built (body.Js js) v = tt
 value_built (body.Css css) v = tt
 
+block_built : (lt : Bool) → HasBuiltChain (block_hole lt)
+block_built true = tt
+block_built false = (tt, tt)
+
 place_built : (p : Place) → HasBuiltChain (after_hole p)
-place_built place.Text = tt
+place_built place.Text = (tt, tt)
 place_built place.Doctype = tt
-place_built (place.Comment dash) = tt
-place_built (place.Rcdata e) = tt
+place_built (place.Comment dash) = (tt, tt)
+place_built (place.Rcdata e) = (tt, tt)
 place_built (place.Tag t) = named_built (t.spots.name || t.spots.inside) t
 place_built (place.Value v) = value_built v.body v
 place_built (place.Script js) = tt
 place_built (place.Style css) = tt
-place_built (place.Block lt) = tt
+place_built (place.Block lt) = block_built lt
 
 module _ (forest : ForestData) (chart : ChartData) (outputs : List (List Output)) where
   -- Where these pairs are open, by their numbers, an event may be given to the writer, which writes what the pair gives, of a text that is
@@ -111,10 +114,10 @@ module _ (forest : ForestData) (chart : ChartData) (outputs : List (List Output)
         record {
           may = subst IsValue (sym out) (subst HasBuiltChain may.accepted (place_built may.place));
           same = ap (λ (o : Output). value_output o datum) out
-              ∙ sym (ap (λ (o : Option Place). hole_pieces o (printed datum)) may.there
-              ∙ ap (λ (h : Holed). holed_pieces h (printed datum)) may.accepted);
-          textual = λ u. subst (λ (o : Option Place). IsTextAt o (printed datum)) (sym may.there)
-              (subst (λ (h : Holed). IsTextHeld h (printed datum)) (sym may.accepted)
+              ∙ sym (ap (λ (o : Option Place). hole_pieces o datum) may.there
+              ∙ ap (λ (h : Holed). holed_pieces h datum) may.accepted);
+          textual = λ u. subst (λ (o : Option Place). IsTextAt o datum) (sym may.there)
+              (subst (λ (h : Holed). IsTextHeld h datum) (sym may.accepted)
               (subst (λ (o : Output). IsTextOutput o datum) out u));
           numbers = nu;
         }

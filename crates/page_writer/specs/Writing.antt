@@ -1,10 +1,10 @@
 -- What a writer may be given and what it writes, by the outputs of the pair that is open.
-use Rattle.std.specs.Prelude.{◌≡◌, ℕ, ◌+◌, ◌<◌, ◌≤◌, List, [], ◌∷◌, ◌++◌, String, true, Vec, length, map, string_bytes, take, ⊤}
+use Rattle.std.specs.Prelude.{◌≡◌, ℕ, ◌+◌, ◌<◌, ◌≤◌, List, [], ◌∷◌, ◌++◌, String, Vec, length, map, string_bytes, ⊤}
+use Rattle.std.specs.Str.{IsUtf8}
 use Rattle.std.specs.declared.alloc.Global.{Global}
 use Rattle.page_datum.specs.Data.{Data}
-use Rattle.page_datum.specs.Printed.{printed}
-use Rattle.page_path.specs.Pages.{PagePiece, max_page, page_bytes, san_bytes, value_pieces, words}
-use Rattle.page_path.specs.Textual.{IsTextBy, writes_text}
+use Rattle.page_path.specs.Pages.{PagePiece, datum_bytes, max_page, page_bytes, san_bytes, value_pieces, words}
+use Rattle.page_path.specs.Textual.{IsTextBy, IsTextFor}
 use Rattle.page_writer.specs.Outputs.{output_in}
 use Rattle.page_writer.specs.declared.output.Output.{Output}
 use Rattle.page_writer.specs.declared.output.Output.TheVariants as output
@@ -12,6 +12,7 @@ use Rattle.page_writer.specs.declared.writer.PageWriter.{PageWriter}
 use Rattle.place_core.specs.declared.chain.Chain.{Chain}
 use Rattle.place_core.specs.declared.san.San.{San}
 use Rattle.place_core.specs.declared.san.San.TheVariants as san
+use Rattle.text_norm.specs.HoleLaws.{sanitizers}
 use Rattle.tpl_events.specs.Events.{ExecEvent, enters, gives_hole, gives_text, leaves}
 use Rattle.tpl_events.specs.declared.sink.HoleStop.{HoleStop}
 use Rattle.tpl_events.specs.declared.sink.HoleStop.TheVariants as stop
@@ -25,25 +26,52 @@ abbrev pub IsTextNode : Output → Type 0
 IsTextNode (output.Text bytes) = ⊤
 IsTextNode _ = ⊥
 
--- a chain as places have it: one sanitizer, which is built. Those of scripts, styles and URLs are not.
+-- a sanitizer that is built and may be the first of its chain. Those of scripts, styles and URLs are not built.
 abbrev pub IsBuilt : San → Type 0
 IsBuilt san.Html = ⊤
 IsBuilt san.Attr = ⊤
 IsBuilt san.AttrNospace = ⊤
 IsBuilt san.AttrName = ⊤
 IsBuilt san.Drop = ⊤
-IsBuilt _ = ⊥
+IsBuilt san.JsValue = ⊥
+IsBuilt san.JsString = ⊥
+IsBuilt san.JsRegexp = ⊥
+IsBuilt san.CssValue = ⊥
+IsBuilt san.CssString = ⊥
+IsBuilt san.UrlFilter = ⊥
+IsBuilt san.UrlOpen = ⊥
+IsBuilt san.UrlNorm = ⊥
+IsBuilt san.UrlQuery = ⊥
 
-abbrev pub IsOneBuilt : List San → Type 0
-IsOneBuilt [] = ⊥
-IsOneBuilt (x ∷ []) = IsBuilt x
-IsOneBuilt (x ∷ y ∷ xs) = ⊥
+-- A sanitizer that is built and may be behind another one, as those of values are. It writes at least as many bytes as it reads, so what is
+-- kept between two sanitizers is never more than what the page gets.
+abbrev pub IsBuiltBehind : San → Type 0
+IsBuiltBehind san.Attr = ⊤
+IsBuiltBehind san.AttrNospace = ⊤
+IsBuiltBehind san.Html = ⊥
+IsBuiltBehind san.AttrName = ⊥
+IsBuiltBehind san.Drop = ⊥
+IsBuiltBehind san.JsValue = ⊥
+IsBuiltBehind san.JsString = ⊥
+IsBuiltBehind san.JsRegexp = ⊥
+IsBuiltBehind san.CssValue = ⊥
+IsBuiltBehind san.CssString = ⊥
+IsBuiltBehind san.UrlFilter = ⊥
+IsBuiltBehind san.UrlOpen = ⊥
+IsBuiltBehind san.UrlNorm = ⊥
+IsBuiltBehind san.UrlQuery = ⊥
 
-abbrev pub sanitizers : Chain → List San
-sanitizers c = take c.count c.sans
+abbrev pub AreBuiltBehind : List San → Type 0
+AreBuiltBehind [] = ⊤
+AreBuiltBehind (x ∷ xs) = IsBuiltBehind x × AreBuiltBehind xs
+
+-- a chain whose sanitizers are built, one at least
+abbrev pub AreBuilt : List San → Type 0
+AreBuilt [] = ⊥
+AreBuilt (x ∷ xs) = IsBuilt x × AreBuiltBehind xs
 
 abbrev pub IsBuiltChain : Chain → Type 0
-IsBuiltChain c = IsOneBuilt (sanitizers c)
+IsBuiltChain c = AreBuilt (sanitizers c)
 
 abbrev pub IsValue : Output → Type 0
 IsValue (output.Value c) = IsBuiltChain c
@@ -60,16 +88,16 @@ MayGive outputs ns (gives_hole n datum) = IsValue (open_output outputs ns n)
 MayGive outputs ns (enters n) = IsCallNode (open_output outputs ns n)
 MayGive outputs ns leaves = ⊤
 
--- the bytes that are written for the text of a value by a chain
-abbrev pub value_written : Chain → List ℕ → List ℕ
-value_written c text = page_bytes (value_pieces c text)
+-- the bytes that are written for a value by a chain
+abbrev pub value_written : Chain → Data → List ℕ
+value_written c datum = page_bytes (value_pieces c datum)
 
 abbrev pub text_output : Output → List PagePiece
 text_output (output.Text bytes) = words bytes ∷ []
 text_output _ = []
 
 abbrev pub value_output : Output → Data → List PagePiece
-value_output (output.Value c) datum = value_pieces c (printed datum)
+value_output (output.Value c) datum = value_pieces c datum
 value_output _ datum = []
 
 abbrev pub output_pieces : List (List Output) → List ℕ → ExecEvent → List PagePiece
@@ -78,14 +106,15 @@ output_pieces outputs ns (gives_hole n datum) = value_output (open_output output
 output_pieces outputs ns (enters n) = []
 output_pieces outputs ns leaves = []
 
--- A sanitizer writes the same for two texts; and they are one where it may write more of a text than ASCII.
-pub record IsWrittenAlike (x : San) (text other : List ℕ) : Type 0 where
-  pub same : san_bytes x text ≡ san_bytes x other
-  pub one : writes_text x ≡ true → text ≡ other
+-- A sanitizer writes the same for a text as for a datum where it is the first of its chain; and where the text is UTF-8, so is what is asked
+-- of the datum.
+pub record IsWrittenAlike (x : San) (text : List ℕ) (datum : Data) : Type 0 where
+  pub same : san_bytes x text ≡ datum_bytes x datum
+  pub textual : IsUtf8 text → IsTextFor x datum
 
--- a value's text is UTF-8 where the chain of an output may write more of it than ASCII
+-- what is asked to be UTF-8 of a value, by the chain of an output
 abbrev pub IsTextOutput : Output → Data → Type 0
-IsTextOutput (output.Value c) datum = IsTextBy c (printed datum)
+IsTextOutput (output.Value c) datum = IsTextBy c datum
 IsTextOutput _ datum = ⊤
 
 -- the same of an event, by the output of its node

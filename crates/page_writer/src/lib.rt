@@ -4,6 +4,7 @@
 mod composing;
 mod output;
 mod outputs;
+mod values;
 mod writer;
 
 pub use composing::{Composed, compose};

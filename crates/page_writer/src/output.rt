@@ -8,7 +8,7 @@ pub enum Output {
     Nothing,
     /// A text, as it is written there.
     Text(Text),
-    /// The text of a value, by this chain.
+    /// A value, by this chain.
     Value(Chain),
     /// What another pair gives, by its number.
     Call(u32),

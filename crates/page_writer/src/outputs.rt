@@ -95,7 +95,8 @@ fn outputs_of_pair(
     ensures { IfOk result (λ outputs. (summary : Summary)
         → slice_get chart.now.summaries n ≡ Some summary
         → (node : ℕ)
-        → slice_index_or outputs.items node Nothing ≡ output_of forest.now chart.now summary n node) }
+        → slice_index_or outputs.items node Nothing
+        ≡ output_of forest.now chart.now summary n node) }
 {
     let (template, _) = chart.pair(n);
     if template as usize >= forest.count() {

@@ -1,20 +1,18 @@
-ghost use Rattle.std.specs.Prelude.{◌≡◌, ◌++◌, ◌∷◌, ◌≤◌, [], IfErr, IfOk, IfSome, MatchOption, OnOk};
+ghost use Rattle.std.specs.Prelude.{◌≡◌, ◌≤◌, IfErr, IfOk, MatchOption, OnOk};
 ghost use Rattle.std.specs.Prelude.{length, map, string_bytes};
-ghost use Rattle.std.specs.Str.{IsUtf8};
-ghost use Rattle.page_datum.specs.Printed.{printed};
 ghost use Rattle.page_datum.specs.View.{ref_view};
-ghost use Rattle.page_path.specs.Pages.{max_page, san_bytes};
+ghost use Rattle.page_path.specs.Pages.{max_page};
 ghost use Rattle.page_path.specs.Textual.{IsTextBy};
-ghost use Rattle.page_writer.specs.Writing.{IsAppended, IsBuilt, IsBuiltChain, IsTooLong, IsUnfit};
-ghost use Rattle.page_writer.specs.Writing.{IsWrittenAlike, sanitizers, value_written};
+ghost use Rattle.page_writer.specs.Writing.{IsAppended, IsBuiltChain, IsTooLong, IsUnfit};
+ghost use Rattle.page_writer.specs.Writing.{value_written};
 ghost use Rattle.page_writer.specs.declared.output.Output.TheVariants.{Nothing};
 ghost use Rattle.page_writer.specs.Writing as spec;
 
 use crate::output::Output;
-use page_datum::{DatumRef, print_datum};
+use crate::values::{ChainBuffer, push_chain};
+use page_datum::DatumRef;
 use page_io::{Memory, Stack};
-use place_core::{Chain, San};
-use san_html::{push_attr_name, push_attr_nospace, push_html};
+use place_core::Chain;
 use std::alloc::Global;
 use tpl_events::{HoleSink, HoleStop};
 
@@ -28,6 +26,8 @@ pub struct PageWriter<'o> {
     // the pairs that are open, the innermost on top
     pairs: Stack<u32>,
     page: String,
+    // what chains keep of the value that is written
+    buffer: ChainBuffer,
 }
 
 impl<'o> PageWriter<'o> {
@@ -47,6 +47,7 @@ impl<'o> PageWriter<'o> {
             outputs,
             pairs,
             page: String::new(alloc),
+            buffer: ChainBuffer::new(alloc),
         })
     }
 
@@ -76,7 +77,9 @@ impl<'o> HoleSink for PageWriter<'o> {
 
     fn hole(&mut self, node: u32, datum: DatumRef<'_>) -> Result<(), HoleStop> {
         match open_output(self.outputs, &self.pairs, node) {
-            Some(Output::Value(chain)) => push_datum(&mut self.page, *chain, datum),
+            Some(Output::Value(chain)) => {
+                push_value(&mut self.page, &mut self.buffer, *chain, datum)
+            }
             _ => unreachable!(),
         }
     }
@@ -132,92 +135,22 @@ fn push_text(page: &mut String, text: &str) -> Result<(), HoleStop>
     }
 }
 
-// Appends the text of a value to a page, by a chain.
-fn push_value(page: &mut String, chain: Chain, text: &str) -> Result<(), HoleStop>
+// Appends a value to a page, by a chain.
+fn push_value(
+    page: &mut String,
+    buffer: &mut ChainBuffer,
+    chain: Chain,
+    datum: DatumRef<'_>,
+) -> Result<(), HoleStop>
     requires { IsBuiltChain chain }
-    ensures ok { OnOk result (IsAppended page.old (value_written chain text.now) page.new) }
-    ensures err { IfErr result (λ why. IsUnfit page.old (value_written chain text.now) why) }
-    ensures textual { IsUtf8 text.now }
+    ensures ok { let bytes = value_written chain (ref_view datum.entry) in
+        OnOk result (IsAppended page.old bytes page.new) }
+    ensures err { let bytes = value_written chain (ref_view datum.entry) in
+        IfErr result (λ why. IsUnfit page.old bytes why) }
+    ensures textual { OnOk result (IsTextBy chain (ref_view datum.entry)) }
 {
-    match push_chain(page, chain, text) {
+    match push_chain(page, buffer, chain, datum) {
         Ok(()) => fits(page),
         Err(Memory) => Err(HoleStop::Memory),
-    }
-}
-
-// Appends a value to a page, by a chain. It is printed only where its text is needed.
-fn push_datum(page: &mut String, chain: Chain, datum: DatumRef<'_>) -> Result<(), HoleStop>
-    requires { IsBuiltChain chain }
-    ensures ok { let bytes = value_written chain (printed (ref_view datum.entry)) in
-        OnOk result (IsAppended page.old bytes page.new) }
-    ensures err { let bytes = value_written chain (printed (ref_view datum.entry)) in
-        IfErr result (λ why. IsUnfit page.old bytes why) }
-    ensures textual { OnOk result (IsTextBy chain (printed (ref_view datum.entry))) }
-{
-    match unprinted(only_sanitizer(chain), datum) {
-        Some(text) => push_value(page, chain, text),
-        None => match print_datum(*page.allocator(), datum) {
-            Ok(text) => push_value(page, chain, text.as_str()),
-            Err(Memory) => Err(HoleStop::Memory),
-        },
-    }
-}
-
-// The text to sanitize in place of a printed value, where the value need not be printed: a text itself; of a list or a dictionary nothing
-// in a comment, and `[` as a name, since neither that nor what is printed of them is a name.
-fn unprinted<'d>(san: San, datum: DatumRef<'d>) -> Option<&'d str>
-    ensures { IfSome result (λ text.
-        IsWrittenAlike san text.now (printed (ref_view datum.entry))) }
-{
-    match datum {
-        DatumRef::Text(text) => Some(text),
-        DatumRef::List(_) | DatumRef::Dict(_) => match san {
-            San::Drop => Some(""),
-            San::AttrName => Some("["),
-            _ => None,
-        },
-        _ => None,
-    }
-}
-
-// Appends what a chain gives for a text. Fails only if allocation fails, and then a part of it may be there.
-fn push_chain(out: &mut String, chain: Chain, text: &str) -> Result<(), Memory>
-    requires { IsBuiltChain chain }
-    ensures { OnOk result (string_bytes out.new
-        ≡ string_bytes out.old ++ value_written chain text.now) }
-{
-    push_sanitized(out, only_sanitizer(chain), text)
-}
-
-// The sanitizer of a chain that has one.
-fn only_sanitizer(chain: Chain) -> San
-    requires { IsBuiltChain chain }
-    ensures only { sanitizers chain ≡ result ∷ [] }
-    ensures built { IsBuilt result }
-{
-    chain.sans[0]
-}
-
-// Appends what a sanitizer gives for a text; only of a name a copy is made. Fails only if allocation fails, and then a part of it may be
-// there.
-fn push_sanitized(out: &mut String, san: San, text: &str) -> Result<(), Memory>
-    requires { IsBuilt san }
-    ensures { OnOk result (string_bytes out.new
-        ≡ string_bytes out.old ++ san_bytes san text.now) }
-{
-    match san {
-        San::Html | San::Attr => push_html(out, text),
-        San::AttrNospace => push_attr_nospace(out, text),
-        San::AttrName => push_attr_name(out, text),
-        San::Drop => Ok(()),
-        San::JsValue
-        | San::JsString
-        | San::JsRegexp
-        | San::CssValue
-        | San::CssString
-        | San::UrlFilter
-        | San::UrlOpen
-        | San::UrlNorm
-        | San::UrlQuery => unreachable!(),
     }
 }

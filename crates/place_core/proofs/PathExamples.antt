@@ -80,35 +80,35 @@ no_refusal : refusal_from 0 (codes "<p a=b c='d' e>f</p g=h><!-- i --><title>j</
 unfolding class_of meaning flushed lib.Utf8.encode
 no_refusal = refl
 
-equals_refused : refusal_from 0 (codes "<a x='y'=z>") (Text Closed) ≡ Some (record { code = code.BadHTML; at = 8 })
+equals_refused : refusal_from 0 (codes "<a x='y'=z>") (Text Closed) ≡ Some (record { code = code.BadHTML; at = 8; shown = 8 })
 unfolding class_of meaning flushed lib.Utf8.encode
 equals_refused = refl
 
-second_type : refusal_from 0 (codes "<script type a TYPE>") (Text Closed) ≡ Some (record { code = code.BadHTML; at = 15 })
+second_type : refusal_from 0 (codes "<script type a TYPE>") (Text Closed) ≡ Some (record { code = code.BadHTML; at = 15; shown = 15 })
 unfolding class_of meaning flushed lib.Utf8.encode
 second_type = refl
 
-second_type_cut : refusal_from 0 (codes "<script type Type") (Text Closed) ≡ Some (record { code = code.BadHTML; at = 13 })
+second_type_cut : refusal_from 0 (codes "<script type Type") (Text Closed) ≡ Some (record { code = code.BadHTML; at = 13; shown = 13 })
 unfolding class_of meaning flushed lib.Utf8.encode
 second_type_cut = refl
 
-url_not_built : refusal_from 0 (codes "<a href =") (Text Closed) ≡ Some (record { code = code.NotBuilt; at = 8 })
+url_not_built : refusal_from 0 (codes "<a href =") (Text Closed) ≡ Some (record { code = code.NotBuilt; at = 8; shown = 8 })
 unfolding class_of meaning flushed lib.Utf8.encode
 url_not_built = refl
 
-script_not_built : refusal_from 0 (codes "<script/>") (Text Closed) ≡ Some (record { code = code.NotBuilt; at = 8 })
+script_not_built : refusal_from 0 (codes "<script/>") (Text Closed) ≡ Some (record { code = code.NotBuilt; at = 8; shown = 8 })
 unfolding class_of meaning flushed lib.Utf8.encode
 script_not_built = refl
 
-name_goes_on : refusal_from 0 (codes "x") (at_hole languages (node (codes "<p ") (Text Closed))) ≡ Some (record { code = code.SplitToken; at = 0 })
+name_goes_on : refusal_from 0 (codes "x") (at_hole languages (node (codes "<p ") (Text Closed))) ≡ Some (record { code = code.SplitToken; at = 0; shown = 0 })
 unfolding class_of meaning flushed lib.Utf8.encode
 name_goes_on = refl
 
-dash_goes_on : refusal_from 0 (codes "->") (node (codes "<!-- a -") (Text Closed)) ≡ Some (record { code = code.SplitToken; at = 0 })
+dash_goes_on : refusal_from 0 (codes "->") (node (codes "<!-- a -") (Text Closed)) ≡ Some (record { code = code.SplitToken; at = 0; shown = 0 })
 unfolding class_of meaning flushed lib.Utf8.encode
 dash_goes_on = refl
 
 -- two paths, of which neither is refused alone
-blank_clash : byte_clash (node (codes "<p x=") (Text Closed)) (node (codes "<p x=a") (Text Closed)) White ≡ Some code.AmbigContext
+blank_clash : byte_clash (node (codes "<p x=") (Text Closed)) (node (codes "<p x=a") (Text Closed)) White 32 ≡ Some code.AmbigContext
 unfolding class_of meaning flushed lib.Utf8.encode
 blank_clash = refl

@@ -6,22 +6,22 @@ use Rattle.place_core.specs.page.Events.{LexEvent, TextByte, BlockByte, ValueByt
 use Rattle.place_core.specs.page.Html.{read, byte_over, read_over}
 use Rattle.place_core.specs.page.States.{LexMode, Page, Text, AttributeValue, BeforeAttributeValue, BeforeAttributeName, AttributeName, AfterAttributeName, SelfClosingStartTag, Characters, Bytes, Nothing, InContent, Config, config}
 use Rattle.place_core.specs.page.References.{Closed, undone}
-use Rattle.place_core.specs.page.Tags.{Tag, Value, emitted_byte, emitted_bytes, Bodies, languages, with_byte, with_bytes, attribute_value_of, without_value, DoubleQuoted, SingleQuoted, Unquoted, ValueState}
+use Rattle.place_core.specs.page.Tags.{Tag, Value, emitted_byte, emitted_bytes, ValueLanguage, languages, with_byte, with_bytes, attribute_value_of, without_value, DoubleQuoted, SingleQuoted, Unquoted, ValueState}
 use Rattle.place_core.specs.declared.element.Element.{Element}
 use Rattle.place_core.specs.declared.kind.Kind.{Kind}
 
-pub over-append : {B : Type 0} (l : Bodies B) (m : LexMode) (xs ys : List ℕ) (c : Config B) → read_over l m (xs ++ ys) c ≡ read_over l m ys (read_over l m xs c)
+pub over-append : {B : Type 0} (l : ValueLanguage B) (m : LexMode) (xs ys : List ℕ) (c : Config B) → read_over l m (xs ++ ys) c ≡ read_over l m ys (read_over l m xs c)
 over-append l m [] ys c = refl
 over-append l m (x ∷ xs) ys c = over-append l m xs ys (byte_over l m x c)
 
 pub read-append : (m : LexMode) (xs ys : List ℕ) (c : Config ValueState) → read m (xs ++ ys) c ≡ read m ys (read m xs c)
 read-append m xs ys c = over-append languages m xs ys c
 
-pub with_bytes-append : {B : Type 0} (l : Bodies B) (v : Value B) (xs ys : List ℕ) → with_bytes l v (xs ++ ys) ≡ with_bytes l (with_bytes l v xs) ys
+pub with_bytes-append : {B : Type 0} (l : ValueLanguage B) (v : Value B) (xs ys : List ℕ) → with_bytes l v (xs ++ ys) ≡ with_bytes l (with_bytes l v xs) ys
 with_bytes-append l v [] ys = refl
 with_bytes-append l v (x ∷ xs) ys = with_bytes-append l (with_byte l v x) xs ys
 
-pub emitted_bytes-append : {B : Type 0} (l : Bodies B) (v : Value B) (xs ys : List ℕ) (t : List LexEvent) → emitted_bytes l v (xs ++ ys) t ≡ emitted_bytes l (with_bytes l v xs) ys (emitted_bytes l v xs t)
+pub emitted_bytes-append : {B : Type 0} (l : ValueLanguage B) (v : Value B) (xs ys : List ℕ) (t : List LexEvent) → emitted_bytes l v (xs ++ ys) t ≡ emitted_bytes l (with_bytes l v xs) ys (emitted_bytes l v xs t)
 emitted_bytes-append l v [] ys t = refl
 emitted_bytes-append l v (x ∷ xs) ys t = emitted_bytes-append l (with_byte l v x) xs ys (emitted_byte l v x t)
 
@@ -79,19 +79,19 @@ block-class : (c : Class) (b : ℕ) (x : Element) (t : List LexEvent) → class_
 block-class LessThan b x t e h = absurd (no h)
 block-class _ b x t e h = rw e refl
 
-double-class : {B : Type 0} (l : Bodies B) (c : Class) (b : ℕ) (tag : Tag) (v : Value B) (t : List LexEvent) → class_of b ≡ c → is_own_in_quoted c ≡ true → read_over l Page (b ∷ []) (config (AttributeValue DoubleQuoted tag v Closed) t) ≡ config (AttributeValue DoubleQuoted tag (with_byte l v b) Closed) (emitted_byte l v b t)
+double-class : {B : Type 0} (l : ValueLanguage B) (c : Class) (b : ℕ) (tag : Tag) (v : Value B) (t : List LexEvent) → class_of b ≡ c → is_own_in_quoted c ≡ true → read_over l Page (b ∷ []) (config (AttributeValue DoubleQuoted tag v Closed) t) ≡ config (AttributeValue DoubleQuoted tag (with_byte l v b) Closed) (emitted_byte l v b t)
 double-class l QuotationMark b tag v t e h = absurd (no h)
 double-class l Ampersand b tag v t e h = absurd (no h)
 double-class l Apostrophe b tag v t e h = absurd (no h)
 double-class l _ b tag v t e h = rw e refl
 
-single-class : {B : Type 0} (l : Bodies B) (c : Class) (b : ℕ) (tag : Tag) (v : Value B) (t : List LexEvent) → class_of b ≡ c → is_own_in_quoted c ≡ true → read_over l Page (b ∷ []) (config (AttributeValue SingleQuoted tag v Closed) t) ≡ config (AttributeValue SingleQuoted tag (with_byte l v b) Closed) (emitted_byte l v b t)
+single-class : {B : Type 0} (l : ValueLanguage B) (c : Class) (b : ℕ) (tag : Tag) (v : Value B) (t : List LexEvent) → class_of b ≡ c → is_own_in_quoted c ≡ true → read_over l Page (b ∷ []) (config (AttributeValue SingleQuoted tag v Closed) t) ≡ config (AttributeValue SingleQuoted tag (with_byte l v b) Closed) (emitted_byte l v b t)
 single-class l QuotationMark b tag v t e h = absurd (no h)
 single-class l Ampersand b tag v t e h = absurd (no h)
 single-class l Apostrophe b tag v t e h = absurd (no h)
 single-class l _ b tag v t e h = rw e refl
 
-unquoted-class : {B : Type 0} (l : Bodies B) (c : Class) (b : ℕ) (tag : Tag) (v : Value B) (t : List LexEvent) → class_of b ≡ c → is_own_in_unquoted c ≡ true → read_over l Page (b ∷ []) (config (AttributeValue Unquoted tag v Closed) t) ≡ config (AttributeValue Unquoted tag (with_byte l v b) Closed) (emitted_byte l v b t)
+unquoted-class : {B : Type 0} (l : ValueLanguage B) (c : Class) (b : ℕ) (tag : Tag) (v : Value B) (t : List LexEvent) → class_of b ≡ c → is_own_in_unquoted c ≡ true → read_over l Page (b ∷ []) (config (AttributeValue Unquoted tag v Closed) t) ≡ config (AttributeValue Unquoted tag (with_byte l v b) Closed) (emitted_byte l v b t)
 unquoted-class l White b tag v t e h = absurd (no h)
 unquoted-class l QuotationMark b tag v t e h = absurd (no h)
 unquoted-class l Ampersand b tag v t e h = absurd (no h)
@@ -107,14 +107,14 @@ begins_unquoted Apostrophe = false
 begins_unquoted GreaterThan = false
 begins_unquoted _ = true
 
-unbegun-class : {B : Type 0} (l : Bodies B) (c : Class) (b : ℕ) (tag : Tag) (k : Kind) (t : List LexEvent) → class_of b ≡ c → begins_unquoted c ≡ true → read_over l Page (b ∷ []) (config (BeforeAttributeValue tag k) t) ≡ read_over l Page (b ∷ []) (config (AttributeValue Unquoted tag (attribute_value_of l k) Closed) t)
+unbegun-class : {B : Type 0} (l : ValueLanguage B) (c : Class) (b : ℕ) (tag : Tag) (k : Kind) (t : List LexEvent) → class_of b ≡ c → begins_unquoted c ≡ true → read_over l Page (b ∷ []) (config (BeforeAttributeValue tag k) t) ≡ read_over l Page (b ∷ []) (config (AttributeValue Unquoted tag (attribute_value_of l k) Closed) t)
 unbegun-class l White b tag k t e h = absurd (no h)
 unbegun-class l QuotationMark b tag k t e h = absurd (no h)
 unbegun-class l Apostrophe b tag k t e h = absurd (no h)
 unbegun-class l GreaterThan b tag k t e h = absurd (no h)
 unbegun-class l _ b tag k t e h = rw e refl
 
-pub unbegun-byte : {B : Type 0} (l : Bodies B) (b : ℕ) (bs : List ℕ) (tag : Tag) (k : Kind) (t : List LexEvent) → begins_unquoted (class_of b) ≡ true → read_over l Page (b ∷ bs) (config (BeforeAttributeValue tag k) t) ≡ read_over l Page (b ∷ bs) (config (AttributeValue Unquoted tag (attribute_value_of l k) Closed) t)
+pub unbegun-byte : {B : Type 0} (l : ValueLanguage B) (b : ℕ) (bs : List ℕ) (tag : Tag) (k : Kind) (t : List LexEvent) → begins_unquoted (class_of b) ≡ true → read_over l Page (b ∷ bs) (config (BeforeAttributeValue tag k) t) ≡ read_over l Page (b ∷ bs) (config (AttributeValue Unquoted tag (attribute_value_of l k) Closed) t)
 unbegun-byte l b bs tag k t h = ap (read_over l Page bs) (unbegun-class l (class_of b) b tag k t refl h)
 
 -- letters and digits, of which names of attributes are made here
@@ -153,13 +153,13 @@ rcdata-byte b x t h = rcdata-class (class_of b) b x t refl h
 pub block-byte : (b : ℕ) (x : Element) (t : List LexEvent) → is_own_in_block (class_of b) ≡ true → read Page (b ∷ []) (config (InContent x Bytes Nothing) t) ≡ config (InContent x Bytes Nothing) (BlockByte b ∷ t)
 block-byte b x t h = block-class (class_of b) b x t refl h
 
-pub double-byte : {B : Type 0} (l : Bodies B) (b : ℕ) (tag : Tag) (v : Value B) (t : List LexEvent) → is_own_in_quoted (class_of b) ≡ true → read_over l Page (b ∷ []) (config (AttributeValue DoubleQuoted tag v Closed) t) ≡ config (AttributeValue DoubleQuoted tag (with_byte l v b) Closed) (emitted_byte l v b t)
+pub double-byte : {B : Type 0} (l : ValueLanguage B) (b : ℕ) (tag : Tag) (v : Value B) (t : List LexEvent) → is_own_in_quoted (class_of b) ≡ true → read_over l Page (b ∷ []) (config (AttributeValue DoubleQuoted tag v Closed) t) ≡ config (AttributeValue DoubleQuoted tag (with_byte l v b) Closed) (emitted_byte l v b t)
 double-byte l b tag v t h = double-class l (class_of b) b tag v t refl h
 
-pub single-byte : {B : Type 0} (l : Bodies B) (b : ℕ) (tag : Tag) (v : Value B) (t : List LexEvent) → is_own_in_quoted (class_of b) ≡ true → read_over l Page (b ∷ []) (config (AttributeValue SingleQuoted tag v Closed) t) ≡ config (AttributeValue SingleQuoted tag (with_byte l v b) Closed) (emitted_byte l v b t)
+pub single-byte : {B : Type 0} (l : ValueLanguage B) (b : ℕ) (tag : Tag) (v : Value B) (t : List LexEvent) → is_own_in_quoted (class_of b) ≡ true → read_over l Page (b ∷ []) (config (AttributeValue SingleQuoted tag v Closed) t) ≡ config (AttributeValue SingleQuoted tag (with_byte l v b) Closed) (emitted_byte l v b t)
 single-byte l b tag v t h = single-class l (class_of b) b tag v t refl h
 
-pub unquoted-byte : {B : Type 0} (l : Bodies B) (b : ℕ) (tag : Tag) (v : Value B) (t : List LexEvent) → is_own_in_unquoted (class_of b) ≡ true → read_over l Page (b ∷ []) (config (AttributeValue Unquoted tag v Closed) t) ≡ config (AttributeValue Unquoted tag (with_byte l v b) Closed) (emitted_byte l v b t)
+pub unquoted-byte : {B : Type 0} (l : ValueLanguage B) (b : ℕ) (tag : Tag) (v : Value B) (t : List LexEvent) → is_own_in_unquoted (class_of b) ≡ true → read_over l Page (b ∷ []) (config (AttributeValue Unquoted tag v Closed) t) ≡ config (AttributeValue Unquoted tag (with_byte l v b) Closed) (emitted_byte l v b t)
 unquoted-byte l b tag v t h = unquoted-class l (class_of b) b tag v t refl h
 
 pub first-name-byte : (b : ℕ) (tag : Tag) (t : List LexEvent) → is_name_class (class_of b) ≡ true → read Page (b ∷ []) (config (BeforeAttributeName tag) t) ≡ config (AttributeName tag (to_ascii_lowercase b ∷ [])) (AttributeNameByte (to_ascii_lowercase b) ∷ AttributeBegins ∷ t)

@@ -3,6 +3,7 @@ pub mod Entering
 pub mod FirstConflictLaws
 pub mod KeptLogs
 pub mod LogLaws
+pub mod NotKept
 pub mod NothingSound
 pub mod Raising
 pub mod Stepping

@@ -1,6 +1,8 @@
--- Which errors stand on a path, or on two paths that meet, where they go on along an edge; and paths on which none stands.
+-- Which errors stand on a path, on two paths that meet, or on two that met apart before, where they go on along an edge; and paths on which
+-- none of one path stands.
 use Rattle.std.specs.Prelude.{◌≡◌, ℕ, false, List, [], ◌∷◌, Some, None, ◌⊎◌, ⊤}
-use Rattle.place_flow.specs.Covering.{edge_read}
+use Rattle.html_step.specs.Apart.{Apart, ClashesApart, Keeps, PartWithin}
+use Rattle.place_flow.specs.Covering.{edge_read, read_moves}
 use Rattle.place_flow.specs.HtmlCovering.{html_language}
 use Rattle.place_core.specs.place.Errors.{Clashes, ClashesHole, PathRefuses, RefusesHole}
 use Rattle.place_core.specs.place.StatePlaces.{placed}
@@ -50,6 +52,51 @@ EdgeClashes (fills n pipe to) s r = (e : Code) × ClashesHole s r e
 EdgeClashes (calls n name to) s r = ⊥
 EdgeClashes (picks from choice to) s r = ⊥
 EdgeClashes (passes from to) s r = ⊥
+
+-- A path stays in the beginning of a URL along moves: in each text of them, and over no hole.
+abbrev pub EdgeKeeps : Edge → LexState ValueState → Type 0
+EdgeKeeps (writes n bytes to) s = Keeps bytes s
+EdgeKeeps (fills n pipe to) s = ⊥
+EdgeKeeps (calls n name to) s = ⊤
+EdgeKeeps (picks from choice to) s = ⊤
+EdgeKeeps (passes from to) s = ⊤
+
+abbrev pub KeepsAlong : List Move → LexState ValueState → Type 0
+KeepsAlong [] s = ⊤
+KeepsAlong (along e ∷ ms) s = EdgeKeeps e s × KeepsAlong ms (edge_read html_language e s)
+KeepsAlong (back ∷ ms) s = KeepsAlong ms s
+
+-- Two paths that take the same moves from a point at which they meet met apart: there, or at a byte within the text of the first move; and
+-- from then on both stay in the beginning of the URL.
+abbrev pub EdgeParts : Edge → LexState ValueState → LexState ValueState → Type 0
+EdgeParts (writes n bytes to) s r = PartWithin bytes s r
+EdgeParts (fills n pipe to) s r = ⊥
+EdgeParts (calls n name to) s r = ⊥
+EdgeParts (picks from choice to) s r = ⊥
+EdgeParts (passes from to) s r = ⊥
+
+abbrev pub PartAlong : List Move → LexState ValueState → LexState ValueState → Type 0
+PartAlong [] s r = ⊥
+PartAlong (along e ∷ ms) s r =
+    EdgeParts e s r × KeepsAlong ms (edge_read html_language e s) × KeepsAlong ms (edge_read html_language e r)
+PartAlong (back ∷ ms) s r = ⊥
+
+abbrev pub MeetApart : List Move → LexState ValueState → LexState ValueState → Type 0
+MeetApart ms s r = (Apart s r × KeepsAlong ms s × KeepsAlong ms r) ⊎ PartAlong ms s r
+
+-- An error of two paths that met apart before a text: the text is refused on both, though they may have read the same since they met. Where
+-- they come apart within the text itself, the error is one of two paths that meet before it (`EdgeClashes`).
+abbrev pub EdgeClashesApart : Edge → LexState ValueState → LexState ValueState → Type 0
+EdgeClashesApart (writes n bytes to) s r = (e : Code) × (at : ℕ) × ClashesApart bytes s r e at
+EdgeClashesApart (fills n pipe to) s r = ⊥
+EdgeClashesApart (calls n name to) s r = ⊥
+EdgeClashesApart (picks from choice to) s r = ⊥
+EdgeClashesApart (passes from to) s r = ⊥
+
+-- likewise, from the point at which they met, with the moves that both take from there to the edge
+pub record ErrsApart (common : List Move) (e : Edge) (s r : LexState ValueState) : Type 0 where
+  pub met : MeetApart common s r
+  pub clash : EdgeClashesApart e (read_moves html_language common s) (read_moves html_language common r)
 
 -- no error of one path stands on the moves of a path before its end
 abbrev pub IsClear : ForestData → Standing → LexState ValueState → List Move → Type 0

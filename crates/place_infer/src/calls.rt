@@ -73,8 +73,8 @@ fn calls_of_tree(
     Ok(calls)
 }
 
-// The same of a summary.
-fn all_calls(
+// The same of a summary, without the nodes after the last call: most templates have few calls, or none.
+fn calls_of_summary(
     alloc: Global,
     forest: &Forest,
     summaries: &Summaries,
@@ -88,28 +88,8 @@ fn all_calls(
     if summary.template as usize >= forest.count() {
         return Ok(Vec::new(alloc));
     }
-    calls_of_tree(
-        alloc,
-        forest,
-        summaries,
-        forest.tree(summary.template),
-        summary,
-    )
-}
-
-// The same, without the nodes after the last call: most templates have few calls, or none.
-fn calls_of_summary(
-    alloc: Global,
-    forest: &Forest,
-    summaries: &Summaries,
-    summary: &Summary,
-) -> Result<Vec<Option<u32>>, Memory>
-    requires { length summaries.now ≤ most_pairs }
-    ensures { IfOk result (λ calls. (node : ℕ)
-        → slice_index_or calls.items node None
-        ≡ chart_call forest.now summaries.now summary.now node) }
-{
-    let mut calls = all_calls(alloc, forest, summaries, summary)?;
+    let tree = forest.tree(summary.template);
+    let mut calls = calls_of_tree(alloc, forest, summaries, tree, summary)?;
     trim(&mut calls);
     Ok(calls)
 }

@@ -1,11 +1,12 @@
--- Where an edge is in conflict, an error stands on a path, or on two that meet before the edge or after it.
+-- Where an edge is in conflict, an error stands on a path, on two that meet before the edge or after it, or on two that met apart.
 use Rattle.std.proofs.Common.{◌≡◌, ℕ, List, Some, refl, ◌⊎◌, inl, inr}
 use Rattle.std.specs.Prelude.{slice_get}
 use Rattle.place_core.proofs.ConflictPlaces.{the_conflict}
 use Rattle.place_core.specs.place.Places.{IsValid}
 use Rattle.place_core.specs.declared.place.Place.{Place}
 use Rattle.place_core.specs.declared.place.Place.TheVariants as place
-use Rattle.tpl_paths.specs.Edges.{Edge, from_of, to_of}
+use Rattle.tpl_paths.specs.Edges.{Edge, Point, from_of, to_of}
+use Rattle.tpl_paths.specs.Paths.{Open}
 use Rattle.tpl_tree.specs.Forests.{ForestData, HasAscendingNames}
 use Rattle.place_flow.specs.Flows.{edges_at}
 use Rattle.place_flow.specs.Transfer.{step_of}
@@ -19,17 +20,17 @@ use Rattle.place_derive.specs.declared.conflict.Why.TheVariants.{Refused, Clashe
 use Rattle.place_laws.proofs.Arrivals.{Arrival, arrival, arrives-by, bearing, given-bearing}
 use Rattle.place_laws.proofs.Comings.{all-come, along-comes}
 use Rattle.place_flow.proofs.NamedParts.{edge_within, numbered}
-use Rattle.place_laws.proofs.RefusalEvidences.{own-has, refused-stands}
-use Rattle.place_laws.specs.Witness.{AreTemplates, MembersDoNotJoin, EveryConflictHasError, OneErrs, TwoErr, path_state}
+use Rattle.place_laws.proofs.RefusalEvidences.{BearingsApart, own-has, refused-stands}
+use Rattle.place_laws.specs.Witness.{AreTemplates, MembersDoNotJoin, EveryConflictHasError, RefusalErr, path_state}
 
 derived-valid : (log : List Derivation) (step : Step) (derived : Place) → IsDerivedBy log step derived → IsValid derived
 derived-valid log (Reaches q) derived h = h.1
 derived-valid log (Enters c q) derived h = h.0
 derived-valid log refused_step derived h = absurd h
 
-either : {A B C : Type 0} → A ⊎ B → A ⊎ (B ⊎ C)
-either (inl a) = inl a
-either (inr b) = inr (inl b)
+-- No context has it of two of its paths that they met apart: where one has, the log is to lead to the two.
+none-apart : (forest : ForestData) (root : ℕ) (os : List Open) (t : ℕ) (k : Point) (p : Place) → BearingsApart forest root os t k p
+none-apart forest root os t k p h = absurd h
 
 module _ (forest : ForestData) (up : HasAscendingNames forest) (roots : List ℕ) (are : AreTemplates forest roots) (log : List Derivation) (made : IsMadeDerivation forest roots place.Text log) where
   clash-stands : (t : ℕ) (e : Place) (n : ℕ) (edge : Edge) (source before derived : Place) → (a : Arrival forest roots t e) → slice_get (edges_at forest t) n ≡ Some edge → AllGiven log t e (from_of edge) source → IsClash forest log t e edge source before derived → MembersDoNotJoin forest a.root a.open_calls t (to_of edge)
@@ -51,9 +52,10 @@ module _ (forest : ForestData) (up : HasAscendingNames forest) (roots : List ℕ
       }
 
   why-stands : (t : ℕ) (e : Place) (n : ℕ) (edge : Edge) (source : Place) (why : Why) → (a : Arrival forest roots t e) → slice_get (edges_at forest t) n ≡ Some edge → AllGiven log t e (from_of edge) source → IsWhy forest log t e edge source why
-      → OneErrs forest a.root a.open_calls t edge ⊎ (TwoErr forest a.root a.open_calls t edge ⊎ MembersDoNotJoin forest a.root a.open_calls t (to_of edge))
-  why-stands t e n edge source Refused a is from h = either (refused-stands forest up a.root a.open_calls t source from.0 edge (λ m k. given-bearing forest up roots are log made t e (from_of edge) source m a (from.1 m k)) h)
-  why-stands t e n edge source (Clashes before derived) a is from h = inr (inr (clash-stands t e n edge source before derived a is from h))
+      → RefusalErr forest a.root a.open_calls t edge ⊎ MembersDoNotJoin forest a.root a.open_calls t (to_of edge)
+  why-stands t e n edge source Refused a is from h =
+      inl (refused-stands forest up a.root a.open_calls t source from.0 edge (λ m k. given-bearing forest up roots are log made t e (from_of edge) source m a (from.1 m k)) (none-apart forest a.root a.open_calls t (from_of edge) source) h)
+  why-stands t e n edge source (Clashes before derived) a is from h = inr (clash-stands t e n edge source before derived a is from h)
 
 pub every-conflict : EveryConflictHasError
 every-conflict forest roots log conflict up are made h =

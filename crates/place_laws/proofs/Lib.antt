@@ -5,3 +5,4 @@ pub mod NoErrors
 pub mod NoRefusal
 pub mod RefusalEvidences
 pub mod TakenEdges
+pub mod TwoPaths

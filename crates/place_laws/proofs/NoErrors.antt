@@ -2,7 +2,7 @@
 use Rattle.std.proofs.Common.{◌≡◌, ℕ, List, [], ◌∷◌, All, Some, None, Result, Ok, Err, refl, sym, ap, ◌∙◌, subst, Bool, true, false, if◌then◌else◌}
 use Rattle.std.specs.Prelude.{Contains}
 use Rattle.html_step.specs.Steps.{after_text}
-use Rattle.place_flow.specs.Covering.{IsCovered, IsStack, Pair, pair, pairs_along}
+use Rattle.place_flow.specs.Covering.{IsClosedByName, IsCovered, IsStack, Pair, pair, pairs_along, read_moves}
 use Rattle.place_flow.specs.HtmlCovering.{behind_text, html_language}
 use Rattle.place_core.proofs.Joins.{the_join_least}
 use Rattle.place_core.specs.place.Errors.{Clashes}
@@ -23,17 +23,21 @@ use Rattle.place_flow.specs.declared.step.Step.TheVariants.{Refused}
 use Rattle.place_infer.specs.Inferring.{EndsInText, root_numbers}
 use Rattle.place_infer.proofs.JudgedCharts.{root-in}
 use Rattle.place_chart.specs.Exact.{places_of}
-use Rattle.place_chart.specs.Charts.{IsClosedByNumber}
+use Rattle.place_chart.specs.Charts.{IsClosedByNumber, IsEntered}
 use Rattle.place_chart.specs.Summaries.{IsValidSummary, IsConflictFreeSummary, chart_of}
 use Rattle.place_chart.specs.declared.summary.Summary.{Summary}
 use Rattle.place_flow.specs.declared.point_state.PointState.TheVariants.{At}
 use Rattle.place_flow.proofs.ClearSteps.{IsTaken, one_place, step-clear}
-use Rattle.place_flow.specs.Errors.{EdgeClashes, Errs}
+use Rattle.place_flow.specs.Errors.{EdgeClashes, EdgeClashesApart, Errs, ErrsApart}
 use Rattle.std.proofs.lemmas.List.Elements.{All-contains}
 use Rattle.tpl_paths.specs.Edges.{Edge, Point, Within, before, calls, edges_in, fills, finish_point, from_of, passes, picks, writes}
-use Rattle.tpl_paths.specs.Paths.{Move, Open, Standing, signs_of, open_standing}
+use Rattle.tpl_paths.specs.Paths.{IsPath, Move, Open, Standing, reached, signs_of, open_standing}
 use Rattle.tpl_tree.specs.Forests.{ForestData, number_named}
+use Rattle.html_step.proofs.MetApart.{met-apart}
 use Rattle.html_step.proofs.TextEvidences.{accepts-text}
+use Rattle.html_step.specs.Apart.{ClashesApart}
+use Rattle.place_chart.proofs.ConflictFreeCharts.{root-is-chart}
+use Rattle.place_laws.proofs.TwoPaths.{IsShownApart, shown-along}
 
 some-one : {A : Type 0} (x y : A) → Some x ≡ Some y → x ≡ y
 some-one x y e = cc
@@ -70,6 +74,19 @@ no-clash forest (calls n name to) p s r taken v i j h = h
 no-clash forest (picks from choice to) p s r taken v i j h = h
 no-clash forest (passes from to) p s r taken v i j h = h
 
+-- likewise, on no two that met apart
+text-alone-apart : (bytes : List ℕ) (p : Place) (s r : LexState ValueState) (o : Result Place (StepErr Place)) → after_text bytes p ≡ o → IsTaken (reaches_or_refused (behind_text o)) → IsValid p → IsIn p s → IsIn p r
+    → IsShownApart p s r → (c : Code) (at : ℕ) → ClashesApart bytes s r c at → ⊥
+text-alone-apart bytes p s r (Ok q) e taken v i j m c at clash = met-apart.accepts bytes p q s r c at v m.there i m.one j m.other e clash
+text-alone-apart bytes p s r (Err x) e taken v i j m c at clash = absurd taken
+
+no-clash-apart : (forest : ForestData) (e : Edge) (p : Place) (s r : LexState ValueState) → IsTaken (edge_step forest e p) → IsValid p → IsIn p s → IsIn p r → IsShownApart p s r → EdgeClashesApart e s r → ⊥
+no-clash-apart forest (writes n bytes to) p s r taken v i j m h = text-alone-apart bytes p s r (after_text bytes p) refl taken v i j m h.0 h.1 h.2
+no-clash-apart forest (fills n pipe to) p s r taken v i j m h = h
+no-clash-apart forest (calls n name to) p s r taken v i j m h = h
+no-clash-apart forest (picks from choice to) p s r taken v i j m h = h
+no-clash-apart forest (passes from to) p s r taken v i j m h = h
+
 module _ (forest : ForestData) (summaries : List Summary) (valid : All IsValidSummary summaries) (closed : IsClosedByNumber forest (chart_of summaries)) (conflict_free : All IsConflictFreeSummary summaries) where
   abbrev Covered : Standing → List (Pair Place) → LexState ValueState → Type 0
   Covered a ps s = IsCovered html_language forest (places_of forest summaries) place.Text a ps s
@@ -102,6 +119,18 @@ module _ (forest : ForestData) (summaries : List Summary) (valid : All IsValidSu
       let on = is-on summaries (number_named a.template forest) c.entry (from_of e) c.place (subst (λ (k : Point). places_of forest summaries a.template c.entry k ≡ Some c.place) at c.there) in
       let t = taken-edge forest summaries a.template on.number c.entry c.place e valid closed conflict_free on.is inside on.on in
       no-clash forest e c.place s r (taken-parts (may_use c.place (use_at forest on.number (from_of e))) (edge_step forest e c.place) t.taken) c.is_in.0 c.is_in.1 (same-place a ps qs s r c d) clash
+
+  -- two that met apart, and took the same moves from there, come to a place that shows it
+  apart-at : IsClosedByName html_language forest (places_of forest summaries) → (a : Standing) (ps qs : List (Pair Place)) (s r : LexState ValueState) (common : List Move) (e : Edge) → Covered a ps s → Covered a qs r → IsPath forest a common
+      → Within e (edges_in forest (reached forest a common).template) → (reached forest a common).at ≡ from_of e → ErrsApart common e s r → ⊥
+  apart-at whole a ps qs s r common e c d path inside at errs =
+      let b = reached forest a common in
+      let h = shown-along forest (places_of forest summaries) place.Text whole common a ps s r path c (same-place a ps qs s r c d) errs.met in
+      let p = h.1 in
+      let on = is-on summaries (number_named b.template forest) h.0 (from_of e) p (subst (λ (k : Point). places_of forest summaries b.template h.0 k ≡ Some p) at h.2.there) in
+      let t = taken-edge forest summaries b.template on.number h.0 p e valid closed conflict_free on.is inside on.on in
+      no-clash-apart forest e p (read_moves html_language common s) (read_moves html_language common r) (taken-parts (may_use p (use_at forest on.number (from_of e))) (edge_step forest e p) t.taken)
+      h.2.valid h.2.one_in h.2.other_in h.2.shown errs.clash
 
   join-at : (st : Standing) (ps qs : List (Pair Place)) (s r : LexState ValueState) (a b : Place) → Covered st ps s → Covered st qs r → placed s ≡ Some a → placed r ≡ Some b → joined a b ≡ None → ⊥
   join-at st ps qs s r a b c d sa rb none =
@@ -140,6 +169,11 @@ no-error forest names chart name t is among number =
       one = λ ms e path inside at errs. clear-at forest chart.summaries valid closed conflict_free (stands_at forest name ms) (pairs ms) (state_at ms) e (cover ms path) inside at errs;
       two = λ ms ns e path other meet inside at clash. clash-at forest chart.summaries valid closed conflict_free (stands_at forest name ms) (pairs ms) (pairs ns) (state_at ms) (state_at ns) e (cover ms path)
           (subst (λ (a : Standing). IsCovered html_language forest (places_of forest chart.summaries) place.Text a (pairs ns) (state_at ns)) meet (cover ns other)) inside at clash;
+      apart = λ ms ns common e path other meet on inside at errs. apart-at forest chart.summaries valid closed conflict_free
+          (root-is-chart forest chart.summaries name t place.Text valid closed conflict_free number
+          (All-contains (λ (r : ℕ). IsEntered forest (chart_of chart.summaries) r place.Text) (root_numbers forest names) t is.least.entered (root-in forest names name t among number))).closed
+          (stands_at forest name ms) (pairs ms) (pairs ns) (state_at ms) (state_at ns) common e (cover ms path)
+          (subst (λ (z : Standing). IsCovered html_language forest (places_of forest chart.summaries) place.Text z (pairs ns) (state_at ns)) meet (cover ns other)) on inside at errs;
       joins = λ ms ns a b path other meet sa rb none. join-at forest chart.summaries valid closed conflict_free (stands_at forest name ms) (pairs ms) (pairs ns) (state_at ms) (state_at ns) a b (cover ms path)
           (subst (λ (z : Standing). IsCovered html_language forest (places_of forest chart.summaries) place.Text z (pairs ns) (state_at ns)) meet (cover ns other)) sa rb none;
       ends = λ ms a path at sa. end-at forest chart.summaries valid closed conflict_free name t (pairs ms) (state_at ms) a number (root-ends forest names chart.summaries name t is.ends among number)

@@ -1,7 +1,8 @@
--- Where an edge is refused from a place, an error stands on a path that the place stands for, or on two.
+-- Where an edge is refused from a place, an error stands on a path that the place stands for, on two, or on two that met apart.
 use Rattle.std.proofs.Common.{◌≡◌, ℕ, Bool, true, false, List, Option, Some, None, Result, Ok, Err, refl, ap, ◌∙◌, subst, if◌then◌else◌, ◌⊎◌, inl, inr}
 use Rattle.place_flow.specs.HtmlCovering.{behind_hole, behind_text}
 use Rattle.place_core.specs.place.Membership.{Bears, IsIn}
+use Rattle.place_core.specs.place.NotBuiltPlaces.{HasApart, side}
 use Rattle.place_core.specs.place.Places.{Below, Has, IsValid}
 use Rattle.place_core.specs.place.StatePlaces.{placed}
 use Rattle.place_core.specs.page.States.{LexState}
@@ -32,7 +33,7 @@ use Rattle.place_flow.specs.declared.step.Step.TheVariants.{Refused}
 use Rattle.place_flow.proofs.ClearSteps.{one_place}
 use Rattle.place_flow.proofs.NamedParts.{numbered, same_use}
 use Rattle.place_flow.specs.Errors.{Misuses}
-use Rattle.place_laws.specs.Witness.{Bearing, OneErrs, TwoErr, path_state}
+use Rattle.place_laws.specs.Witness.{Bearing, MetPaths, OneErrs, RefusalErr, path_state}
 
 -- a member that shows that a use may not stand
 pub record ShowsUse (p : Place) (u : EscaperUse) : Type 0 where
@@ -54,12 +55,20 @@ refused-parts : (b : Bool) (x : Step) → (if b then x else Refused) ≡ Refused
 refused-parts true x h = inr h
 refused-parts false x h = inl refl
 
-abbrev Stands : ForestData → ℕ → List Open → ℕ → Edge → Type 0
-Stands forest root os t edge = OneErrs forest root os t edge ⊎ TwoErr forest root os t edge
-
 -- some path for each member of a place before an edge
 abbrev pub Bearings : ForestData → ℕ → List Open → ℕ → Point → Place → Type 0
 Bearings forest root os t k p = (m : Member) → Has p m → Bearing forest root os t k p m
+
+-- two paths that met apart, where the place before an edge has that two of its paths did
+pub record BearingApart (forest : ForestData) (root : ℕ) (os : List Open) (t : ℕ) (k : Point) (p : Place) : Type 0 where
+  pub paths : MetPaths forest root os t k
+  pub is_in : IsIn p (path_state paths.path)
+  pub bears : Bears (path_state paths.path) side
+  pub other_in : IsIn p (path_state paths.other)
+  pub other_bears : Bears (path_state paths.other) side
+
+abbrev pub BearingsApart : ForestData → ℕ → List Open → ℕ → Point → Place → Type 0
+BearingsApart forest root os t k p = HasApart p → BearingApart forest root os t k p
 
 module _ (forest : ForestData) (up : HasAscendingNames forest) (root : ℕ) (os : List Open) (t : ℕ) (p : Place) (v : IsValid p) where
   use-stands : (edge : Edge) → Bearings forest root os t (from_of edge) p → may_use p (use_at forest t (from_of edge)) ≡ false → OneErrs forest root os t edge
@@ -74,30 +83,35 @@ module _ (forest : ForestData) (up : HasAscendingNames forest) (root : ℕ) (os 
       } in
       record { path = b.path; errs = inl misuses }
 
-  shown-text-stands : (n : ℕ) (bytes : List ℕ) (to : Point) (e : StepErr Place) (h : EvidenceData) → Bearings forest root os t (from_of (writes n bytes to)) p → IsEvidence bytes p e h → Stands forest root os t (writes n bytes to)
-  shown-text-stands n bytes to e (one x) bear h =
+  shown-text-stands : (n : ℕ) (bytes : List ℕ) (to : Point) (e : StepErr Place) (h : EvidenceData) → Bearings forest root os t (from_of (writes n bytes to)) p → BearingsApart forest root os t (from_of (writes n bytes to)) p → IsEvidence bytes p e h → RefusalErr forest root os t (writes n bytes to)
+  shown-text-stands n bytes to e (one x) bear met h =
       let b = bear x h.0 in
       let r = h.1 (path_state b.path) b.is_in b.bears in
       inl (record { path = b.path; errs = inr (record { code = e.code; at = e.at; before = r.0 }, r.1) })
-  shown-text-stands n bytes to e (two x y) bear h =
+  shown-text-stands n bytes to e (two x y) bear met h =
       let b = bear x h.0 in
       let c = bear y h.1 in
-      inr (record { path = b.path; other = c.path; errs = (e.code, e.at, h.2 (path_state b.path) (path_state c.path) b.is_in b.bears c.is_in c.bears) })
-  shown-text-stands n bytes to e apart bear h = absurd h.0
+      inr (inl (record { path = b.path; other = c.path; errs = (e.code, e.at, h.2 (path_state b.path) (path_state c.path) b.is_in b.bears c.is_in c.bears) }))
+  shown-text-stands n bytes to e apart bear met h =
+      let m = met h.0 in
+      inr (inr (record {
+        paths = m.paths;
+        errs = (e.code, e.at, h.1 (path_state m.paths.path) (path_state m.paths.other) m.is_in m.bears m.other_in m.other_bears);
+      }))
 
-  text-stands : (n : ℕ) (bytes : List ℕ) (to : Point) (o : Result Place (StepErr Place)) → Bearings forest root os t (from_of (writes n bytes to)) p → after_text bytes p ≡ o → reaches_or_refused (behind_text o) ≡ Refused → Stands forest root os t (writes n bytes to)
-  text-stands n bytes to (Ok q) bear is h = cc
-  text-stands n bytes to (Err e) bear is h = (let s = evidence-text bytes p e v is in shown-text-stands n bytes to e s.0 bear s.1)
+  text-stands : (n : ℕ) (bytes : List ℕ) (to : Point) (o : Result Place (StepErr Place)) → Bearings forest root os t (from_of (writes n bytes to)) p → BearingsApart forest root os t (from_of (writes n bytes to)) p → after_text bytes p ≡ o → reaches_or_refused (behind_text o) ≡ Refused → RefusalErr forest root os t (writes n bytes to)
+  text-stands n bytes to (Ok q) bear met is h = cc
+  text-stands n bytes to (Err e) bear met is h = (let s = evidence-text bytes p e v is in shown-text-stands n bytes to e s.0 bear met s.1)
 
-  shown-hole-stands : (n : ℕ) (pipe : Pipe) (to : Point) (e : Code) (h : EvidenceData) → Bearings forest root os t (from_of (fills n pipe to)) p → IsHoleEvidence p e h → Stands forest root os t (fills n pipe to)
+  shown-hole-stands : (n : ℕ) (pipe : Pipe) (to : Point) (e : Code) (h : EvidenceData) → Bearings forest root os t (from_of (fills n pipe to)) p → IsHoleEvidence p e h → RefusalErr forest root os t (fills n pipe to)
   shown-hole-stands n pipe to e (one x) bear h = (let b = bear x h.0 in inl (record { path = b.path; errs = inr (e, h.1 (path_state b.path) b.is_in b.bears) }))
   shown-hole-stands n pipe to e (two x y) bear h =
       let b = bear x h.0 in
       let c = bear y h.1 in
-      inr (record { path = b.path; other = c.path; errs = (e, h.2 (path_state b.path) (path_state c.path) b.is_in b.bears c.is_in c.bears) })
+      inr (inl (record { path = b.path; other = c.path; errs = (e, h.2 (path_state b.path) (path_state c.path) b.is_in b.bears c.is_in c.bears) }))
   shown-hole-stands n pipe to e apart bear h = absurd h
 
-  hole-stands : (n : ℕ) (pipe : Pipe) (to : Point) (o : Holed) → Bearings forest root os t (from_of (fills n pipe to)) p → after_hole p ≡ o → reaches_or_refused (behind_hole o) ≡ Refused → Stands forest root os t (fills n pipe to)
+  hole-stands : (n : ℕ) (pipe : Pipe) (to : Point) (o : Holed) → Bearings forest root os t (from_of (fills n pipe to)) p → after_hole p ≡ o → reaches_or_refused (behind_hole o) ≡ Refused → RefusalErr forest root os t (fills n pipe to)
   hole-stands n pipe to (Ok h) bear is k = cc
   hole-stands n pipe to (Err e) bear is k = (let s = evidence-hole p e v is in shown-hole-stands n pipe to e s.0 bear s.1)
 
@@ -105,16 +119,16 @@ module _ (forest : ForestData) (up : HasAscendingNames forest) (root : ℕ) (os 
   call-missing (Some c) h = cc
   call-missing None h = refl
 
-  edge-stands : (edge : Edge) → Bearings forest root os t (from_of edge) p → edge_step forest edge p ≡ Refused → Stands forest root os t edge
-  edge-stands (writes n bytes to) bear h = text-stands n bytes to (after_text bytes p) bear refl h
-  edge-stands (fills n pipe to) bear h = hole-stands n pipe to (after_hole p) bear refl h
-  edge-stands (calls n name to) bear h = (let b = bear member.Whole refl in inl (record { path = b.path; errs = inr (call-missing (number_named name forest) h) }))
-  edge-stands (picks from choice to) bear h = cc
-  edge-stands (passes from to) bear h = cc
+  edge-stands : (edge : Edge) → Bearings forest root os t (from_of edge) p → BearingsApart forest root os t (from_of edge) p → edge_step forest edge p ≡ Refused → RefusalErr forest root os t edge
+  edge-stands (writes n bytes to) bear met h = text-stands n bytes to (after_text bytes p) bear met refl h
+  edge-stands (fills n pipe to) bear met h = hole-stands n pipe to (after_hole p) bear refl h
+  edge-stands (calls n name to) bear met h = (let b = bear member.Whole refl in inl (record { path = b.path; errs = inr (call-missing (number_named name forest) h) }))
+  edge-stands (picks from choice to) bear met h = cc
+  edge-stands (passes from to) bear met h = cc
 
-  pub refused-stands : (edge : Edge) → Bearings forest root os t (from_of edge) p → step_of forest t edge p ≡ Refused → OneErrs forest root os t edge ⊎ TwoErr forest root os t edge
-  refused-stands edge bear h = by-parts (refused-parts (may_use p (use_at forest t (from_of edge))) (edge_step forest edge p) h)
+  pub refused-stands : (edge : Edge) → Bearings forest root os t (from_of edge) p → BearingsApart forest root os t (from_of edge) p → step_of forest t edge p ≡ Refused → RefusalErr forest root os t edge
+  refused-stands edge bear met h = by-parts (refused-parts (may_use p (use_at forest t (from_of edge))) (edge_step forest edge p) h)
     where
-      by-parts : (may_use p (use_at forest t (from_of edge)) ≡ false) ⊎ (edge_step forest edge p ≡ Refused) → OneErrs forest root os t edge ⊎ TwoErr forest root os t edge
+      by-parts : (may_use p (use_at forest t (from_of edge)) ≡ false) ⊎ (edge_step forest edge p ≡ Refused) → RefusalErr forest root os t edge
       by-parts (inl m) = inl (use-stands edge bear m)
-      by-parts (inr r) = edge-stands edge bear r
+      by-parts (inr r) = edge-stands edge bear met r

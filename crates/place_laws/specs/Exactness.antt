@@ -13,7 +13,7 @@ use Rattle.place_infer.specs.ChartViews.{ChartData}
 use Rattle.place_infer.specs.Inferring.{IsChartOfSet, SetRefuses}
 use Rattle.place_infer.specs.declared.set_refused.SetRefused.{SetRefused}
 use Rattle.place_infer.specs.declared.set_refused.SetRefused.TheVariants as refused
-use Rattle.place_flow.specs.Errors.{EdgeClashes, Errs}
+use Rattle.place_flow.specs.Errors.{EdgeClashes, Errs, ErrsApart}
 use Rattle.tpl_paths.specs.Edges.{Edge, Within, edges_in, finish_point, from_of}
 use Rattle.tpl_paths.specs.Paths.{IsPath, Move, Standing, at_root, reached, open_standing}
 use Rattle.tpl_tree.specs.Forests.{ForestData, number_named}
@@ -28,12 +28,16 @@ state_at ms = read_moves html_language ms start.at
 abbrev pub IsPathOfSet : ForestData → List ℕ → List Move → Type 0
 IsPathOfSet forest name ms = IsPath forest (at_root forest name) ms
 
--- No error stands on a path of the root, at the edges along which it may go on; and on no two that meet there.
+-- No error stands on a path of the root, at the edges along which it may go on; on no two that meet there; and on no two that met apart, and
+-- took the same moves from where they met.
 pub record HasNoError (forest : ForestData) (name : List ℕ) : Type 0 where
   pub one : (ms : List Move) (e : Edge) → IsPathOfSet forest name ms → Within e (edges_in forest (stands_at forest name ms).template) → (stands_at forest name ms).at ≡ from_of e
       → Errs forest (stands_at forest name ms).template e (state_at ms) → ⊥
   pub two : (ms ns : List Move) (e : Edge) → IsPathOfSet forest name ms → IsPathOfSet forest name ns → stands_at forest name ns ≡ stands_at forest name ms
       → Within e (edges_in forest (stands_at forest name ms).template) → (stands_at forest name ms).at ≡ from_of e → EdgeClashes e (state_at ms) (state_at ns) → ⊥
+  pub apart : (ms ns common : List Move) (e : Edge) → IsPathOfSet forest name ms → IsPathOfSet forest name ns → stands_at forest name ns ≡ stands_at forest name ms
+      → IsPath forest (stands_at forest name ms) common → Within e (edges_in forest (reached forest (stands_at forest name ms) common).template)
+      → (reached forest (stands_at forest name ms) common).at ≡ from_of e → ErrsApart common e (state_at ms) (state_at ns) → ⊥
   pub joins : (ms ns : List Move) (a b : Place) → IsPathOfSet forest name ms → IsPathOfSet forest name ns → stands_at forest name ns ≡ stands_at forest name ms
       → placed (state_at ms) ≡ Some a → placed (state_at ns) ≡ Some b → joined a b ≡ None → ⊥
   pub ends : (ms : List Move) (a : Place) → IsPathOfSet forest name ms → stands_at forest name ms ≡ open_standing [] name finish_point → placed (state_at ms) ≡ Some a → a ≡ place.Text

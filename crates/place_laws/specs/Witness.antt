@@ -1,5 +1,5 @@
 -- The paths that bear what the log of derivations tells, and the errors that stand where something is in conflict.
-use Rattle.std.specs.Prelude.{◌≡◌, ◌<◌, ℕ, List, [], Some, None, All, Contains, length, slice_get, ◌⊎◌}
+use Rattle.std.specs.Prelude.{◌≡◌, ◌<◌, ℕ, List, [], ◌++◌, Some, None, All, Contains, length, slice_get, ◌⊎◌}
 use Rattle.place_flow.specs.Covering.{read_moves}
 use Rattle.place_flow.specs.HtmlCovering.{html_language}
 use Rattle.place_core.specs.page.Html.{start}
@@ -16,7 +16,7 @@ use Rattle.place_derive.specs.Derivations.{HasEntry, HasDerivation, IsMadeDeriva
 use Rattle.place_derive.specs.FirstConflicts.{IsFirstConflict}
 use Rattle.place_derive.specs.declared.derivation.Derivation.{Derivation}
 use Rattle.place_derive.specs.declared.conflict.FirstConflict.{FirstConflict}
-use Rattle.place_flow.specs.Errors.{EdgeClashes, Errs, IsClear}
+use Rattle.place_flow.specs.Errors.{EdgeClashes, EdgeClashesApart, Errs, IsClear, MeetApart}
 use Rattle.tpl_paths.specs.Edges.{Edge, Point, from_of, to_of}
 use Rattle.tpl_paths.specs.Paths.{IsPath, Move, Open, at_root, reached, open_standing}
 use Rattle.tpl_tree.specs.Forests.{ForestData, HasAscendingNames, tree_name_at}
@@ -73,6 +73,23 @@ pub record TwoErr (forest : ForestData) (root : ℕ) (open_calls : List Open) (t
   pub other : PathTo forest root open_calls t (from_of e)
   pub errs : EdgeClashes e (path_state path) (path_state other)
 
+-- two paths that met apart: at a point before, with the same calls open, from which both take the same moves
+pub record MetPaths (forest : ForestData) (root : ℕ) (open_calls : List Open) (t : ℕ) (k : Point) : Type 0 where
+  pub path : PathTo forest root open_calls t k
+  pub other : PathTo forest root open_calls t k
+  pub first : List Move
+  pub other_first : List Move
+  pub common : List Move
+  pub moves : path.moves ≡ first ++ common
+  pub other_moves : other.moves ≡ other_first ++ common
+  pub meet : reached forest (at_root forest other.root_name) other_first ≡ reached forest (at_root forest path.root_name) first
+  pub met : MeetApart common (read_moves html_language first start.at) (read_moves html_language other_first start.at)
+
+-- an error of two paths that met apart
+pub record ApartErr (forest : ForestData) (root : ℕ) (open_calls : List Open) (t : ℕ) (e : Edge) : Type 0 where
+  pub paths : MetPaths forest root open_calls t (from_of e)
+  pub errs : EdgeClashesApart e (path_state paths.path) (path_state paths.other)
+
 -- two paths that come to a point in places that do not join
 pub record MembersDoNotJoin (forest : ForestData) (root : ℕ) (open_calls : List Open) (t : ℕ) (k : Point) : Type 0 where
   pub path : PathTo forest root open_calls t k
@@ -83,14 +100,18 @@ pub record MembersDoNotJoin (forest : ForestData) (root : ℕ) (open_calls : Lis
   pub other_stands : placed (path_state other) ≡ Some other_own
   pub conflict : joined own other_own ≡ None
 
--- where something is in conflict an error stands, on a path or on two that meet
+-- an error at an edge that is refused: of one path, of two that meet before it, or of two that met apart
+abbrev pub RefusalErr : ForestData → ℕ → List Open → ℕ → Edge → Type 0
+RefusalErr forest root open_calls t e = OneErrs forest root open_calls t e ⊎ (TwoErr forest root open_calls t e ⊎ ApartErr forest root open_calls t e)
+
+-- where something is in conflict an error stands, on a path, on two that meet, or on two that met apart
 pub record ConflictHasError (forest : ForestData) (roots : List ℕ) (conflict : FirstConflict) : Type 0 where
   pub root : ℕ
   pub is_root : Contains roots root
   pub open_calls : List Open
   pub edge : Edge
   pub is : slice_get (edges_at forest conflict.template) conflict.edge ≡ Some edge
-  pub errs : OneErrs forest root open_calls conflict.template edge ⊎ (TwoErr forest root open_calls conflict.template edge ⊎ MembersDoNotJoin forest root open_calls conflict.template (to_of edge))
+  pub errs : RefusalErr forest root open_calls conflict.template edge ⊎ MembersDoNotJoin forest root open_calls conflict.template (to_of edge)
 
 abbrev pub EveryConflictHasError : Type 0
 EveryConflictHasError = (forest : ForestData) (roots : List ℕ) (log : List Derivation) (conflict : FirstConflict) → HasAscendingNames forest → AreTemplates forest roots → IsMadeDerivation forest roots place.Text log → IsFirstConflict forest log conflict → ConflictHasError forest roots conflict

@@ -3,6 +3,7 @@ use Rattle.std.proofs.Common.{◌≡◌, ◌<◌, ℕ, zero, suc, List, [], ◌�
 use Rattle.html_step.proofs.Clashing.{IsUnbegun, IsUnquoted, clash-is}
 use Rattle.html_step.proofs.OneTexts.{one-before, one-text}
 use Rattle.html_step.proofs.TextEvidences.{evidence-text}
+use Rattle.html_step.specs.Apart.{PartWithin}
 use Rattle.html_step.specs.Laws.{IsEvidence, EvidenceData, apart, one, two}
 use Rattle.html_step.specs.Steps.{after_text, place_before}
 use Rattle.place_core.proofs.JoinMembers.{the_join_has}
@@ -10,7 +11,7 @@ use Rattle.place_core.proofs.JoinValid.{the_join_valid}
 use Rattle.place_core.proofs.Joins.{the_join_above}
 use Rattle.place_core.proofs.Semilattices.{one_value}
 use Rattle.place_core.specs.page.Classes.{class_of}
-use Rattle.place_core.specs.place.Errors.{Clashes, PathRefusal, PathRefuses, node, refusal_from}
+use Rattle.place_core.specs.place.Errors.{Clashes, PathRefusal, PathRefuses, refusal_from, shown_place}
 use Rattle.place_core.specs.page.Html.{next}
 use Rattle.place_core.specs.place.Membership.{Bears, IsIn}
 use Rattle.place_core.specs.place.Places.{Has, IsValid, joined}
@@ -44,7 +45,7 @@ not-both _ h i = h
 
 not-twice : (bytes : List ℕ) (s : LexState ValueState) (e : Code) (at : ℕ) → Clashes bytes s s e at → ⊥
 not-twice [] s e at c = c
-not-twice (b ∷ bs) s e zero c = elim (clash-is s s (class_of b) e c).1 [
+not-twice (b ∷ bs) s e zero c = elim (clash-is s s (class_of b) b e c).1 [
   | inl d ↦ not-both s d.0 d.1
   | inr d ↦ not-both s d.1 d.0
 ]
@@ -60,12 +61,13 @@ other-byte at n x y o e f i j lt = (let same = ap (λ (r : PathRefusal). r.at) (
 module _ (bytes : List ℕ) (p : Place) (s : LexState ValueState) (own : placed s ≡ Some p) (at : ℕ) where
   -- likewise, is not refused there alone
   not-alone : (o : Result Place (StepErr Place)) → after_text bytes p ≡ o → TakesByte at o → (e : StepErr Place) → e.at ≡ at → PathRefuses bytes s e → ⊥
-  not-alone (Ok q) h takes e i r = none-refused (record { code = e.code; at = e.at }) (refusal_from 0 bytes s) ((one-text bytes p s own).0 q h).0 r.stands
+  not-alone (Ok q) h takes e i r = none-refused (record { code = e.code; at = e.at; shown = r.shown }) (refusal_from 0 bytes s) ((one-text bytes p s own).0 q h).0 r.stands
   not-alone (Err x) h takes e i r =
-      other-byte at x.at (record { code = x.code; at = x.at }) (record { code = e.code; at = e.at }) (refusal_from 0 bytes s) ((one-text bytes p s own).1 x h).stands r.stands i refl takes
+      let d = (one-text bytes p s own).1 x h in
+      other-byte at x.at (record { code = x.code; at = x.at; shown = d.shown }) (record { code = e.code; at = e.at; shown = r.shown }) (refusal_from 0 bytes s) d.stands r.stands i refl takes
 
   -- likewise, and is there at its place before it
-  own-before : (o : Result Place (StepErr Place)) → after_text bytes p ≡ o → TakesByte at o → placed (node (take at bytes) s) ≡ Some (place_before bytes at p)
+  own-before : (o : Result Place (StepErr Place)) → after_text bytes p ≡ o → TakesByte at o → shown_place at bytes s ≡ Some (place_before bytes at p)
   own-before (Ok q) h takes = (one-before bytes p s at own).0 q h
   own-before (Err x) h takes = (one-before bytes p s at own).1 x h (omega (arith, takes))
 
@@ -74,6 +76,10 @@ stands-below p s own valid c b = record { own = p; stands = own; valid = valid; 
 
 bears : (p : Place) (s : LexState ValueState) → placed s ≡ Some p → (x : Member) → Has p x → Bears s x
 bears p s own x h = record { own = p; stands = own; has = h }
+
+-- No two paths come apart in the beginning of a URL within a text: where two do, the text is to be looked through for the last point.
+none-part : (bytes : List ℕ) (s r : LexState ValueState) → PartWithin bytes s r → ⊥
+none-part bytes s r h = h
 
 module _ (bytes : List ℕ) (c : Place) (e : StepErr Place)
     (p : Place) (s : LexState ValueState) (own : placed s ≡ Some p) (valid : IsValid p) (takes : TakesByte e.at (after_text bytes p))
@@ -121,8 +127,11 @@ clash-shown forest w v nodes n bytes c e sh h takes other_takes joins refused m 
       point = p ∙ sym (ap before m.made.node_is);
       text = kind-shown forest w nodes n sh there (kind.Text bytes) m.made.node_is h;
       clash = rw (m.made.code, m.made.byte_is) both;
-      at = rw (m.made.byte_is, m.is.place) (own-before bytes w.place (shown_state is) is.own e.at (after_text bytes w.place) refl takes);
-      other_at = rw (m.made.byte_is, m.other_is.place) (own-before bytes v.place (shown_state other) other.own e.at (after_text bytes v.place) refl other_takes);
+      places = inr (
+        none-part (take sh.byte bytes) (shown_state is) (shown_state other),
+        rw (m.made.byte_is, m.is.place) (own-before bytes w.place (shown_state is) is.own e.at (after_text bytes w.place) refl takes),
+        rw (m.made.byte_is, m.other_is.place) (own-before bytes v.place (shown_state other) other.own e.at (after_text bytes v.place) refl other_takes),
+      );
       line = rw (m.made.node_is, m.made.byte_is, there) m.made.line_is;
     } in
     two-shown forest sh w v m.seen m.other meet by other_by m.paths (inl error)

@@ -29,4 +29,4 @@ conflict-shown forest w v c n sh meet conflict at m is other =
       line = rw m.made.node_is m.made.line_is;
       byte = m.made.byte_is;
     } in
-    two-shown forest sh w v m.seen m.other meet by other_by m.paths (inr (inr error))
+    two-shown forest sh w v m.seen m.other meet by other_by m.paths (inr (inr (inr error)))

@@ -1,6 +1,7 @@
 pub mod Clash
 pub mod Conflict
 pub mod Elsewhere
+pub mod HoleClash
 pub mod HoleRefused
 pub mod LastNodes
 pub mod Makings
@@ -10,5 +11,6 @@ pub mod Misuse
 pub mod Named
 pub mod Orders
 pub mod TextRefused
+pub mod TurnedApart
 pub mod TwoShown
 pub mod Within

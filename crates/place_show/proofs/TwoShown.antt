@@ -1,14 +1,17 @@
 -- An error of two paths that meet is shown by the two, in whichever order they come.
-use Rattle.std.proofs.Common.{ℕ, sym, ap, ◌∙◌, subst, ◌⊎◌, inl, inr}
+use Rattle.std.proofs.Common.{ℕ, List, sym, ap, ◌∙◌, subst, take, ◌⊎◌, inl, inr}
+use Rattle.html_step.proofs.MetApart.{met-apart}
 use Rattle.place_core.proofs.Joins.{places_partial}
 use Rattle.place_core.specs.page.States.{LexState}
 use Rattle.place_core.specs.page.Tags.{ValueState}
 use Rattle.place_trace.specs.declared.replay.PathReplay.{PathReplay}
+use Rattle.place_show.proofs.TurnedApart.{turned-last, turned-met, turned-shown}
 use Rattle.place_show.specs.Made.{InOrder}
-use Rattle.place_show.specs.Showings.{DoNotJoin, HoleClashes, IsShownBy, JoinsAt, Meet, ShowsTwo, TextClashes, TwoErrors, kind_of_node, line_of_byte, line_of_node, shown_state}
+use Rattle.place_show.specs.Showings.{DoNotJoin, HoleClashes, IsShownBy, JoinsAt, Meet, MetApart, ShowsTwo, TextClashes, TwoErrors, kind_of_node, line_of_byte, line_of_node, path_state_after}
 use Rattle.place_show.specs.declared.showing.Seen.{Seen}
 use Rattle.place_show.specs.declared.showing.Showing.{Showing}
 use Rattle.tpl_paths.specs.Edges.{Point}
+use Rattle.tpl_paths.specs.Paths.{Move}
 use Rattle.tpl_tree.specs.Forests.{ForestData}
 
 swapped-meet : (w v : PathReplay) → Meet w v → Meet v w
@@ -25,8 +28,7 @@ module _ (forest : ForestData) (sh : Showing) (w v : PathReplay) (a b : Seen) (m
     point = meet.point ∙ t.point;
     text = ap (λ (u : ℕ). kind_of_node forest u sh.node) meet.template ∙ t.text;
     clash = swapped-sides t.clash;
-    at = t.other_at;
-    other_at = t.at;
+    places = turned-shown sh.byte t.bytes s r a.at b.at t.places;
     line = t.line ∙ sym (ap (λ (u : ℕ). line_of_byte forest u sh.node t.bytes sh.byte) meet.template);
   }
 
@@ -42,6 +44,23 @@ module _ (forest : ForestData) (sh : Showing) (w v : PathReplay) (a b : Seen) (m
     byte = h.byte;
   }
 
+  swapped-apart : (ms ns : List Move) → MetApart forest sh a b w v ms ns → MetApart forest sh b a v w ns ms
+  swapped-apart ms ns m = record {
+    bytes = m.bytes;
+    point = meet.point ∙ m.point;
+    text = ap (λ (u : ℕ). kind_of_node forest u sh.node) meet.template ∙ m.text;
+    first = m.other_first;
+    other_first = m.first;
+    common = m.common;
+    moves = m.other_moves;
+    other_moves = m.moves;
+    meet = sym m.meet;
+    met = turned-met m.common (path_state_after m.first) (path_state_after m.other_first) m.met;
+    clash = met-apart.turns_clash m.bytes (path_state_after ms) (path_state_after ns) sh.code sh.byte m.clash;
+    places = turned-last m.common (take sh.byte m.bytes) (path_state_after m.first) (path_state_after m.other_first) a.at b.at m.places;
+    line = m.line ∙ sym (ap (λ (u : ℕ). line_of_byte forest u sh.node m.bytes sh.byte) meet.template);
+  }
+
   swapped-join : DoNotJoin forest sh a b w v → DoNotJoin forest sh b a v w
   swapped-join d = record {
     point = subst (λ (k : Point). JoinsAt sh.code k sh.node) (sym meet.point) d.point;
@@ -52,12 +71,13 @@ module _ (forest : ForestData) (sh : Showing) (w v : PathReplay) (a b : Seen) (m
     byte = d.byte;
   }
 
-  swapped-error : (s r : LexState ValueState) → TwoErrors forest sh a b w v s r → TwoErrors forest sh b a v w r s
-  swapped-error s r (inl t) = inl (swapped-clash s r t)
-  swapped-error s r (inr (inl h)) = inr (inl (swapped-hole s r h))
-  swapped-error s r (inr (inr d)) = inr (inr (swapped-join d))
+  swapped-error : (ms ns : List Move) → TwoErrors forest sh a b w v ms ns → TwoErrors forest sh b a v w ns ms
+  swapped-error ms ns (inl t) = inl (swapped-clash (path_state_after ms) (path_state_after ns) t)
+  swapped-error ms ns (inr (inl h)) = inr (inl (swapped-hole (path_state_after ms) (path_state_after ns) h))
+  swapped-error ms ns (inr (inr (inl m))) = inr (inr (inl (swapped-apart ms ns m)))
+  swapped-error ms ns (inr (inr (inr d))) = inr (inr (inr (swapped-join d)))
 
-  pub two-shown : (by : IsShownBy forest sh a w) (other_by : IsShownBy forest sh b v) → InOrder a b sh.paths → TwoErrors forest sh a b w v (shown_state by.is) (shown_state other_by.is) → ShowsTwo forest sh
+  pub two-shown : (by : IsShownBy forest sh a w) (other_by : IsShownBy forest sh b v) → InOrder a b sh.paths → TwoErrors forest sh a b w v by.is.moves other_by.is.moves → ShowsTwo forest sh
   two-shown by other_by (inl p) error = record {
     replay = w;
     other = v;
@@ -80,5 +100,5 @@ module _ (forest : ForestData) (sh : Showing) (w v : PathReplay) (a b : Seen) (m
     by = other_by;
     other_by = by;
     meet = swapped-meet w v meet;
-    error = swapped-error (shown_state by.is) (shown_state other_by.is) error;
+    error = swapped-error by.is.moves other_by.is.moves error;
   }

@@ -14,7 +14,7 @@ one-refusal x y o e f = cc
 unless-within : (k n : ℕ) (o : Option PathCause) (r : Result Place PathRefusal) (x : PathRefusal) → ((y : PathRefusal) → r ≡ Err y → y.at ≤ k + n) → unless_refused k o r ≡ Err x → x.at ≤ k + n
 unless-within k n None r x f h = f x h
 unless-within k n (Some e) r x f h =
-    let here : PathRefusal = record { code = e.code; at = k - e.back } in
+    let here : PathRefusal = record { code = e.code; at = k - e.back; shown = k - e.shown } in
     let at : k - e.back ≡ x.at = ap (λ (y : PathRefusal). y.at) (one-refusal here x (unless_refused k (Some e) r) refl h) in
     omega (arith, at)
 
@@ -24,7 +24,7 @@ not-both q x h k = cc
 stepped-within : (k : ℕ) (bytes : List ℕ) (f : Scan) (x : PathRefusal) → stepped k bytes f ≡ Err x → x.at ≤ k + length bytes
 stepped-within k [] f x h = unless-within k 0 (scan_cut_error f) (Ok (scan_place f)) x (λ y e. not-both (scan_place f) y e (k + 0)) h
 stepped-within k (b ∷ bs) f x h =
-    unless-within k (length (b ∷ bs)) (scan_error f (class_of b)) (stepped (k + 1) bs (scan_next f (class_of b) b)) x
+    unless-within k (length (b ∷ bs)) (scan_error f (class_of b) b) (stepped (k + 1) bs (scan_next f (class_of b) b)) x
     (λ y e. (let w = stepped-within (k + 1) bs (scan_next f (class_of b) b) y e in omega (arith, w))) h
 
 one-error : (x y : StepErr Place) (o : Result Place (StepErr Place)) → o ≡ Err x → o ≡ Err y → x ≡ y
@@ -36,7 +36,7 @@ none-error q x h k = cc
 answer-within : (bytes : List ℕ) (p : Place) (o : Result Place PathRefusal) (e : StepErr Place) → stepped 0 bytes (At p) ≡ o → with_place_before bytes p o ≡ Err e → e.at ≤ length bytes
 answer-within bytes p (Ok q) e s h = none-error q e h (length bytes)
 answer-within bytes p (Err r) e s h =
-    let here : StepErr Place = record { code = r.code; at = r.at; before = place_before bytes r.at p } in
+    let here : StepErr Place = record { code = r.code; at = r.at; before = place_before bytes r.shown p } in
     let at : r.at ≡ e.at = ap (λ (y : StepErr Place). y.at) (one-error here e (with_place_before bytes p (Err r)) refl h) in
     let w = stepped-within 0 bytes (At p) r s in
     omega (arith, w, at)

@@ -2,6 +2,7 @@ pub mod Answers
 pub mod AtNodes
 pub mod Conflicts
 pub mod Ends
+pub mod LastApart
 pub mod Made
 pub mod PathTexts
 pub mod Showings

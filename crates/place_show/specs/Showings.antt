@@ -1,27 +1,30 @@
 -- An error that stands on a path, or on two that meet, as it is shown.
-use Rattle.std.specs.Prelude.{◌≡◌, ◌≢◌, ℕ, false, List, [], ◌∷◌, All, Option, Some, None, map, take, ◌⊎◌}
+use Rattle.std.specs.Prelude.{◌≡◌, ◌≢◌, ℕ, false, List, [], ◌∷◌, ◌++◌, All, Option, Some, None, map, take, ◌⊎◌}
 use Rattle.place_flow.specs.Covering.{read_moves}
 use Rattle.place_flow.specs.HtmlCovering.{html_language}
-use Rattle.place_core.specs.place.Errors.{Clashes, ClashesHole, PathRefuses, RefusesHole, node}
+use Rattle.html_step.specs.Apart.{ClashesApart}
+use Rattle.place_core.specs.place.Errors.{Clashes, ClashesHole, PathRefuses, RefusesHole}
 use Rattle.place_core.specs.page.Html.{start}
 use Rattle.place_core.specs.place.Places.{joined}
-use Rattle.place_core.specs.place.StatePlaces.{placed}
 use Rattle.place_core.specs.page.States.{LexState}
 use Rattle.place_core.specs.page.Tags.{ValueState}
 use Rattle.place_core.specs.declared.code.Code.{Code}
 use Rattle.place_core.specs.declared.code.Code.TheVariants as code
 use Rattle.place_core.specs.declared.place.Place.TheVariants as place
+use Rattle.place_flow.specs.Errors.{MeetApart}
 use Rattle.place_flow.specs.Flows.{nodes_at}
 use Rattle.place_flow.specs.Transfer.{may_use, use_at}
 use Rattle.place_trace.specs.Replays.{IsPathReplay, name_or_none}
 use Rattle.place_trace.specs.declared.chosen.Chosen.{Chosen}
 use Rattle.place_trace.specs.declared.replay.PathReplay.{PathReplay}
 use Rattle.place_show.specs.Ends.{last_of}
+use Rattle.place_show.specs.LastApart.{AreShownIn, IsLastAlong}
 use Rattle.place_show.specs.PathTexts.{ComesFirst}
 use Rattle.place_show.specs.declared.showing.Seen.{Seen}
 use Rattle.place_show.specs.declared.showing.Choice.{Choice}
 use Rattle.place_show.specs.declared.showing.Showing.{Showing}
 use Rattle.tpl_paths.specs.Edges.{Point, before, finish_point, head, past_point}
+use Rattle.tpl_paths.specs.Paths.{Move, at_root, reached}
 use Rattle.tpl_tree.specs.Forests.{ForestData, tree_name_at, number_named, tree_at}
 use Rattle.tpl_tree.specs.Trees.{TreeData, head_kind, head_line, head_seams, nodes_from, text_line}
 use Rattle.tpl_tree.specs.declared.node_kind.NodeKind.{NodeKind}
@@ -57,9 +60,13 @@ seen_choice forest c = record {
 abbrev pub IsNamedTemplate : ForestData → Chosen → Type 0
 IsNamedTemplate forest c = tree_name_at forest c.template ≡ Some (seen_choice forest c).template
 
+-- what moves from the start of a root have read
+abbrev pub path_state_after : List Move → LexState ValueState
+path_state_after ms = read_moves html_language ms start.at
+
 -- what a path has read
 abbrev pub shown_state : {forest : ForestData} {w : PathReplay} → IsPathReplay forest w → LexState ValueState
-shown_state is = read_moves html_language is.moves start.at
+shown_state is = path_state_after is.moves
 
 -- A path of the root of a showing stands in its template, with its calls open.
 pub record IsShownBy (forest : ForestData) (sh : Showing) (seen : Seen) (w : PathReplay) : Type 0 where
@@ -139,15 +146,15 @@ pub record ShowsOne (forest : ForestData) (sh : Showing) : Type 0 where
   pub error : OneError forest sh seen replay (shown_state by.is)
 
 -- An error of two paths that meet: of one root, at one point, with the same calls open. A text is refused on
--- both together, at a byte before which each is at its place.
+-- both together, at a byte before which each is at its place; or, where they came apart in the beginning of a URL
+-- within the bytes before it, was at its place where they were apart last.
 pub record TextClashes (forest : ForestData) (sh : Showing) (a b : Seen) (w v : PathReplay)
     (s r : LexState ValueState) : Type 0 where
   pub bytes : List ℕ
   pub point : w.point ≡ before sh.node
   pub text : kind_of_node forest w.template sh.node ≡ Some (kind.Text bytes)
   pub clash : Clashes bytes s r sh.code sh.byte ⊎ Clashes bytes r s sh.code sh.byte
-  pub at : placed (node (take sh.byte bytes) s) ≡ Some a.at
-  pub other_at : placed (node (take sh.byte bytes) r) ≡ Some b.at
+  pub places : AreShownIn sh.byte bytes s r a.at b.at
   pub line : sh.line ≡ line_of_byte forest w.template sh.node bytes sh.byte
 
 -- A hole is refused on both together, each of which is at its place. No hole is today: it is one in a URL, of which the paths are in
@@ -162,6 +169,25 @@ pub record HoleClashes (forest : ForestData) (sh : Showing) (a b : Seen) (w v : 
   pub other_at : b.at ≡ v.place
   pub line : sh.line ≡ line_of_node forest w.template sh.node
   pub byte : sh.byte ≡ 0
+
+-- Two paths that met apart: where both stood at one point with the same calls open, or at a byte within the text after it, they were in the
+-- beginning of a URL that spelled different things; both took the same moves from there, stayed in it, and a text is refused on both at a byte.
+-- Each is shown at its place at the last such point. No two paths meet so today, since no path is in a URL.
+pub record MetApart (forest : ForestData) (sh : Showing) (a b : Seen) (w v : PathReplay) (ms ns : List Move)
+    : Type 0 where
+  pub bytes : List ℕ
+  pub point : w.point ≡ before sh.node
+  pub text : kind_of_node forest w.template sh.node ≡ Some (kind.Text bytes)
+  pub first : List Move
+  pub other_first : List Move
+  pub common : List Move
+  pub moves : ms ≡ first ++ common
+  pub other_moves : ns ≡ other_first ++ common
+  pub meet : reached forest (at_root forest sh.root) other_first ≡ reached forest (at_root forest sh.root) first
+  pub met : MeetApart common (path_state_after first) (path_state_after other_first)
+  pub clash : ClashesApart bytes (path_state_after ms) (path_state_after ns) sh.code sh.byte
+  pub places : IsLastAlong common (take sh.byte bytes) (path_state_after first) (path_state_after other_first) a.at b.at
+  pub line : sh.line ≡ line_of_byte forest w.template sh.node bytes sh.byte
 
 -- the code of places that do not join: at the head of a range, and after the parts of a control
 abbrev pub JoinsAt : Code → Point → ℕ → Type 0
@@ -185,11 +211,14 @@ pub record Meet (w v : PathReplay) : Type 0 where
   pub point : v.point ≡ w.point
   pub open_calls : v.open_calls.items ≡ w.open_calls.items
 
--- an error of two paths that meet
-abbrev pub TwoErrors : ForestData → Showing → Seen → Seen → PathReplay → PathReplay → LexState ValueState
-    → LexState ValueState → Type 0
-TwoErrors forest sh a b w v s r =
-    TextClashes forest sh a b w v s r ⊎ (HoleClashes forest sh a b w v s r ⊎ DoNotJoin forest sh a b w v)
+-- an error of two paths that meet, by the moves of the two
+abbrev pub TwoErrors : ForestData → Showing → Seen → Seen → PathReplay → PathReplay → List Move → List Move
+    → Type 0
+TwoErrors forest sh a b w v ms ns =
+    TextClashes forest sh a b w v (path_state_after ms) (path_state_after ns)
+    ⊎ (HoleClashes forest sh a b w v (path_state_after ms) (path_state_after ns)
+    ⊎ (MetApart forest sh a b w v ms ns
+    ⊎ DoNotJoin forest sh a b w v))
 
 -- The paths are in the order in which they come as they are printed.
 pub record ShowsTwo (forest : ForestData) (sh : Showing) : Type 0 where
@@ -202,8 +231,7 @@ pub record ShowsTwo (forest : ForestData) (sh : Showing) : Type 0 where
   pub by : IsShownBy forest sh seen replay
   pub other_by : IsShownBy forest sh other_seen other
   pub meet : Meet replay other
-  pub error : TwoErrors forest sh seen other_seen replay other
-      (shown_state by.is) (shown_state other_by.is)
+  pub error : TwoErrors forest sh seen other_seen replay other by.is.moves other_by.is.moves
 
 -- A refusal shows an error that stands on its paths.
 abbrev pub Shows : ForestData → Showing → Type 0

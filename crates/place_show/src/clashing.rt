@@ -1,24 +1,26 @@
-ghost use Rattle.std.specs.Prelude.{◌≡◌, ◌<◌, ◌^◌, IsTrue, Some, length};
+ghost use Rattle.std.specs.Prelude.{◌≡◌, ◌<◌, ◌^◌, IfSome, IsTrue, Some, length};
 ghost use Rattle.place_show.specs.Answers.{IfFound, ShowsOnBoth};
 ghost use Rattle.place_show.specs.AtNodes.{ShowsTwoAt};
-ghost use Rattle.place_show.specs.Taking.{TakesByte};
-ghost use Rattle.tpl_tree.specs.Trees.{head_kind, nodes_from, nodes_size};
+ghost use Rattle.place_show.specs.Made.{IsMadeTwo};
+ghost use Rattle.place_show.specs.Taking.{AreRefusedTogether, TakesByte, TakesHoleAt};
+ghost use Rattle.tpl_tree.specs.Trees.{head_kind, head_line, nodes_from, nodes_size};
 ghost use Rattle.tpl_tree.specs.declared.node_kind.NodeKind.TheVariants as kind;
+ghost use Rattle.html_step.specs.Holes as holes;
 ghost use Rattle.html_step.specs.Steps as spec;
 
-use crate::making::{made_two, text_mark};
+use crate::making::{Mark, made_two, text_mark};
 use crate::showing::Showing;
-use html_step::{after_text, place_before};
+use html_step::{after_hole, after_text, place_before};
 use page_io::{Memory, Text};
-use place_core::{Place, join};
+use place_core::{Code, Place, join};
 use place_trace::PathReplay;
 use std::alloc::Global;
 use tpl_paths::Point;
 use tpl_tree::{Forest, NodeKind, Tree};
 
-/// That a text is refused on two paths together, where these meet before it, if it is: at a byte that is refused on neither of them alone,
-/// nor is one before it. Fails only if allocation fails.
-pub fn text_clash(
+/// That a text or a hole is refused on two paths together, where these meet before it, if it is: a text at a byte that is refused on
+/// neither of them alone, nor is one before it; a hole that is refused on neither of them alone. Fails only if allocation fails.
+pub fn node_clash(
     alloc: Global,
     forest: &Forest,
     replay: &PathReplay,
@@ -59,6 +61,10 @@ fn in_tree(
     }
     match tree.kind(node) {
         NodeKind::Text(text) => clash(alloc, forest, tree, replay, other, node, text),
+        NodeKind::Action(_) => match refused_together(replay.place, other.place) {
+            Some(code) => at_both(alloc, forest, tree, replay, other, code, node),
+            None => Ok(None),
+        },
         _ => Ok(None),
     }
 }
@@ -108,5 +114,66 @@ fn takes(place: Place, text: &str, byte: u32) -> bool
     match after_text(place, text) {
         Ok(_) => true,
         Err(refused) => byte < refused.at,
+    }
+}
+
+// An error of a hole, at the places of both paths.
+fn at_both(
+    alloc: Global,
+    forest: &Forest,
+    tree: &Tree,
+    replay: &PathReplay,
+    other: &PathReplay,
+    code: Code,
+    node: u32,
+) -> Result<Option<Showing>, Memory>
+    requires { node < nodes_size tree.now.nodes }
+    ensures { let w = replay.now in
+        let v = other.now in
+        let line = head_line (nodes_from tree.now.nodes node) in
+        IfFound (IsMadeTwo forest.now w v code line node 0 w.place v.place) result }
+{
+    let mark = Mark {
+        code,
+        line: tree.line(node),
+        node,
+        byte: 0,
+    };
+    made_two(
+        alloc,
+        forest,
+        replay,
+        other,
+        mark,
+        replay.place,
+        other.place,
+    )
+}
+
+// By which code a hole is refused on two paths together, by their places.
+fn refused_together(one: Place, other: Place) -> Option<Code>
+    ensures { IfSome result (AreRefusedTogether one other) }
+{
+    match join(one, other) {
+        Some(both) => {
+            if !takes_hole(one) || !takes_hole(other) {
+                return None;
+            }
+            match after_hole(both) {
+                Err(code) => Some(code),
+                Ok(_) => None,
+            }
+        }
+        None => None,
+    }
+}
+
+// Whether a place takes a hole.
+fn takes_hole(place: Place) -> bool
+    ensures { IsTrue result → TakesHoleAt (holes.after_hole place) }
+{
+    match after_hole(place) {
+        Ok(_) => true,
+        Err(_) => false,
     }
 }

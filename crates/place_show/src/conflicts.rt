@@ -1,6 +1,6 @@
 ghost use Rattle.place_show.specs.Conflicts.{ShowsIn, ShowsOnEither};
 
-use crate::clashing::text_clash;
+use crate::clashing::node_clash;
 use crate::ending::end_error;
 use crate::joining::join_error;
 use crate::nodes::node_error;
@@ -24,7 +24,7 @@ fn error_of_two(
     if let Some(showing) = join_error(alloc, forest, replay, other)? {
         return Ok(Some(showing));
     }
-    if let Some(showing) = text_clash(alloc, forest, replay, other)? {
+    if let Some(showing) = node_clash(alloc, forest, replay, other)? {
         return Ok(Some(showing));
     }
     error_of_either(alloc, forest, replay, other)

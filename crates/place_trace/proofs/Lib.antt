@@ -1,3 +1,4 @@
+pub mod Evidences
 pub mod OpenCalls
 pub mod OwnPlaces
 pub mod Replaying

@@ -1,3 +1,5 @@
+ghost use Rattle.place_trace.specs.Apart.{IsApartWhere};
+
 use crate::back_trace::{BackTrace, Standing};
 use crate::candidate::Candidate;
 use crate::derivations::{Derivations, derivations_of};
@@ -96,13 +98,16 @@ fn of_refusal(
                 at(conflict, from, other),
             )?;
         }
-        Evidence::Apart => {}
+        // No place has two paths that met apart. Where one has, the log leads to them: to what first made the place one that has.
+        Evidence::Apart => unreachable!(),
     }
     Ok(candidates)
 }
 
 // What shows that an edge is refused at its start.
-fn refusal_shown(forest: &Forest, conflict: &FirstConflict, from: Point) -> Evidence {
+fn refusal_shown(forest: &Forest, conflict: &FirstConflict, from: Point) -> Evidence
+    ensures { IsApartWhere conflict.now.source result }
+{
     match kind_at(forest, conflict.template, from) {
         Some(kind) => node_shown(kind, conflict.source),
         None => Evidence::One(Member::Whole),

@@ -5,14 +5,15 @@ use Rattle.place_core.specs.page.Classes.{Class, White, ExclamationMark, Quotati
 use Rattle.place_core.specs.page.Comments.{Declaration, OpensComment, OpensDoctype, Undecided, OpensNothing, declared_by, next_comment, closes_comment}
 use Rattle.place_core.specs.page.Contents.{may_be_name_of, is_name_of}
 use Rattle.place_core.specs.page.References.{Reference, Closed, Open, ReferenceStep, Grows, Closes, Breaks, turn, reference_turned, as_it_stands, begin_reference, next_reference, plain_bytes}
-use Rattle.place_core.specs.page.States.{CommentState, Started, StartedDash, Inside, Dash, DashDash, Bang, Broken, Nothing, PendingLess, PendingName, PendingBang, PendingBangDash}
+use Rattle.place_core.specs.page.States.{CommentState, Started, StartedDash, Inside, Dash, DashDash, Bang, Broken, Pending, Nothing, PendingLess, LessAtCut, PendingName, PendingBang, PendingBangDash}
 use Rattle.place_core.specs.place.StatePlaces.{tag_of}
-use Rattle.place_core.specs.page.Tags.{tag_named}
+use Rattle.place_core.specs.page.Html.{ends_value}
+use Rattle.place_core.specs.page.Tags.{tag_named, TypeSoFar, Value, ValueState, Quoting, DoubleQuoted, SingleQuoted, Unquoted}
 use Rattle.place_core.specs.page.Words.{kind_of}
-use Rattle.place_core.specs.declared.body.Body.{Body}
 use Rattle.place_core.specs.declared.element.Element.{Element}
 use Rattle.place_core.specs.declared.element.Element.TheVariants as element
 use Rattle.place_core.specs.declared.kind.Kind.{Kind}
+use Rattle.place_core.specs.declared.kind.Kind.TheVariants as kind
 use Rattle.place_core.specs.declared.place.Place.{Place}
 use Rattle.place_core.specs.declared.place.Place.TheVariants as place
 use Rattle.place_core.specs.declared.quotes.Quotes.{Quotes}
@@ -22,7 +23,7 @@ use Rattle.place_core.specs.declared.tag_of.TagOf.TheVariants as tag
 use Rattle.place_core.specs.declared.tag_place.TagPlace.{TagPlace}
 use Rattle.place_core.specs.declared.value_place.ValuePlace.{ValuePlace}
 use Rattle.std.proofs.Common.{Option, Some, None}
-use Rattle.html_scan.specs.Scans.{Scan, At, AfterLess, AfterLessSolidus, InDeclaration, InTagName, InAttributeName, InCommentEnd, InContentEnd, attribute_name_next, bare_next, bare_white, comment_closed, comment_scan, comment_next, comment_state, content_scan, content_next, declaration_next, doctype_next, end_name_next, scan_next, kind_body, quoted_next, tag_element, tag_name_next, tag_next, text_scan, value_scan}
+use Rattle.html_scan.specs.Scans.{Scan, At, AfterLess, AfterLessSolidus, InDeclaration, InTagName, InAttributeName, InCommentEnd, InContentEnd, BeforeType, InType, after_type, attribute_name_next, bare_next, before_type_next, bare_white, comment_closed, comment_scan, comment_next, comment_state, content_end_next, content_scan, content_next, declaration_next, doctype_next, end_name_next, ended_type, in_type, pending_less_next, bang_next, scan_next, quoted_next, tag_element, tag_name_next, tag_next, text_scan, type_next, type_tag, value_scan}
 use Rattle.text_norm.specs.Scanned.{declaration_open, scan_open, scan_out}
 use Rattle.text_norm.specs.Kept.{bears, change_of, scan_kept, hides, less_kept, reference_kept, stays}
 use Rattle.text_norm.specs.Written.{declaration_out, end_name_out, text_escaped, loose_out, reference_out, text_out, turn_out}
@@ -168,24 +169,30 @@ ends_at_less : (r : Reference) (b : ℕ) → next_reference r LessThan b ≡ Clo
 ends_at_less Closed b = refl
 ends_at_less (Open f bytes) b = refl
 
-in_rcdata : (c : Class) (b : ℕ) (e : Element) (r : Reference) → Spelled c b → Law (At (place.Rcdata e)) (content_next c e) r (next_reference r c b) c b (loose_out c b r)
-in_rcdata White b e r p = with_references (At (place.Rcdata e)) (At (place.Rcdata e)) r White b p refl refl (λ h. absurd (yes h)) refl refl refl refl
-in_rcdata ExclamationMark b e r p = with_references (At (place.Rcdata e)) (At (place.Rcdata e)) r ExclamationMark b p refl refl (λ h. absurd (yes h)) refl refl refl refl
-in_rcdata QuotationMark b e r p = with_references (At (place.Rcdata e)) (At (place.Rcdata e)) r QuotationMark b p refl refl (λ h. absurd (yes h)) refl refl refl refl
-in_rcdata NumberSign b e r p = with_references (At (place.Rcdata e)) (At (place.Rcdata e)) r NumberSign b p refl refl (λ h. absurd (yes h)) refl refl refl refl
-in_rcdata Ampersand b e r p = with_references (At (place.Rcdata e)) (At (place.Rcdata e)) r Ampersand b p refl refl (λ h. absurd (yes h)) refl refl refl refl
-in_rcdata Apostrophe b e r p = with_references (At (place.Rcdata e)) (At (place.Rcdata e)) r Apostrophe b p refl refl (λ h. absurd (yes h)) refl refl refl refl
-in_rcdata HyphenMinus b e r p = with_references (At (place.Rcdata e)) (At (place.Rcdata e)) r HyphenMinus b p refl refl (λ h. absurd (yes h)) refl refl refl refl
-in_rcdata Solidus b e r p = with_references (At (place.Rcdata e)) (At (place.Rcdata e)) r Solidus b p refl refl (λ h. absurd (yes h)) refl refl refl refl
-in_rcdata Digit b e r p = with_references (At (place.Rcdata e)) (At (place.Rcdata e)) r Digit b p refl refl (λ h. absurd (yes h)) refl refl refl refl
-in_rcdata Semicolon b e r p = with_references (At (place.Rcdata e)) (At (place.Rcdata e)) r Semicolon b p refl refl (λ h. absurd (yes h)) refl refl refl refl
-in_rcdata LessThan b e r p = record { bytes = rw (ends_at_less r b, p) refl; closed = λ h. ends_at_less r b; shown = refl; before = refl; kept = refl; out = λ h. absurd (no h); alone = λ h k. cc }
-in_rcdata EqualsSign b e r p = with_references (At (place.Rcdata e)) (At (place.Rcdata e)) r EqualsSign b p refl refl (λ h. absurd (yes h)) refl refl refl refl
-in_rcdata GreaterThan b e r p = with_references (At (place.Rcdata e)) (At (place.Rcdata e)) r GreaterThan b p refl refl (λ h. absurd (yes h)) refl refl refl refl
-in_rcdata QuestionMark b e r p = with_references (At (place.Rcdata e)) (At (place.Rcdata e)) r QuestionMark b p refl refl (λ h. absurd (yes h)) refl refl refl refl
-in_rcdata GraveAccent b e r p = with_references (At (place.Rcdata e)) (At (place.Rcdata e)) r GraveAccent b p refl refl (λ h. absurd (yes h)) refl refl refl refl
-in_rcdata (Letter l) b e r p = with_references (At (place.Rcdata e)) (At (place.Rcdata e)) r (Letter l) b p refl refl (λ h. absurd (yes h)) refl refl refl refl
-in_rcdata OtherByte b e r p = with_references (At (place.Rcdata e)) (At (place.Rcdata e)) r OtherByte b p refl refl (λ h. absurd (yes h)) refl refl refl refl
+-- an element whose content is text with references
+abbrev IsRcdata : Element → Type 0
+IsRcdata element.DataBlock = ⊥
+IsRcdata e = e ≡ e
+
+in_rcdata : (e : Element) → IsRcdata e → (c : Class) (b : ℕ) (r : Reference) → Spelled c b → Law (At (place.Rcdata e)) (content_next c e) r (next_reference r c b) c b (loose_out c b r)
+in_rcdata element.DataBlock i c b r p = absurd i
+in_rcdata e i White b r p = with_references (At (place.Rcdata e)) (At (place.Rcdata e)) r White b p refl refl (λ h. absurd (yes h)) refl refl refl refl
+in_rcdata e i ExclamationMark b r p = with_references (At (place.Rcdata e)) (At (place.Rcdata e)) r ExclamationMark b p refl refl (λ h. absurd (yes h)) refl refl refl refl
+in_rcdata e i QuotationMark b r p = with_references (At (place.Rcdata e)) (At (place.Rcdata e)) r QuotationMark b p refl refl (λ h. absurd (yes h)) refl refl refl refl
+in_rcdata e i NumberSign b r p = with_references (At (place.Rcdata e)) (At (place.Rcdata e)) r NumberSign b p refl refl (λ h. absurd (yes h)) refl refl refl refl
+in_rcdata e i Ampersand b r p = with_references (At (place.Rcdata e)) (At (place.Rcdata e)) r Ampersand b p refl refl (λ h. absurd (yes h)) refl refl refl refl
+in_rcdata e i Apostrophe b r p = with_references (At (place.Rcdata e)) (At (place.Rcdata e)) r Apostrophe b p refl refl (λ h. absurd (yes h)) refl refl refl refl
+in_rcdata e i HyphenMinus b r p = with_references (At (place.Rcdata e)) (At (place.Rcdata e)) r HyphenMinus b p refl refl (λ h. absurd (yes h)) refl refl refl refl
+in_rcdata e i Solidus b r p = with_references (At (place.Rcdata e)) (At (place.Rcdata e)) r Solidus b p refl refl (λ h. absurd (yes h)) refl refl refl refl
+in_rcdata e i Digit b r p = with_references (At (place.Rcdata e)) (At (place.Rcdata e)) r Digit b p refl refl (λ h. absurd (yes h)) refl refl refl refl
+in_rcdata e i Semicolon b r p = with_references (At (place.Rcdata e)) (At (place.Rcdata e)) r Semicolon b p refl refl (λ h. absurd (yes h)) refl refl refl refl
+in_rcdata e i LessThan b r p = record { bytes = rw (ends_at_less r b, p) refl; closed = λ h. ends_at_less r b; shown = refl; before = refl; kept = refl; out = λ h. absurd (no h); alone = λ h k. cc }
+in_rcdata e i EqualsSign b r p = with_references (At (place.Rcdata e)) (At (place.Rcdata e)) r EqualsSign b p refl refl (λ h. absurd (yes h)) refl refl refl refl
+in_rcdata e i GreaterThan b r p = with_references (At (place.Rcdata e)) (At (place.Rcdata e)) r GreaterThan b p refl refl (λ h. absurd (yes h)) refl refl refl refl
+in_rcdata e i QuestionMark b r p = with_references (At (place.Rcdata e)) (At (place.Rcdata e)) r QuestionMark b p refl refl (λ h. absurd (yes h)) refl refl refl refl
+in_rcdata e i GraveAccent b r p = with_references (At (place.Rcdata e)) (At (place.Rcdata e)) r GraveAccent b p refl refl (λ h. absurd (yes h)) refl refl refl refl
+in_rcdata e i (Letter l) b r p = with_references (At (place.Rcdata e)) (At (place.Rcdata e)) r (Letter l) b p refl refl (λ h. absurd (yes h)) refl refl refl refl
+in_rcdata e i OtherByte b r p = with_references (At (place.Rcdata e)) (At (place.Rcdata e)) r OtherByte b p refl refl (λ h. absurd (yes h)) refl refl refl refl
 
 ends_at_quotation : (r : Reference) (b : ℕ) → next_reference r QuotationMark b ≡ Closed
 ends_at_quotation Closed b = refl
@@ -212,9 +219,10 @@ loose-content (tag.Start element.Script) = record { less = refl; shown = refl }
 loose-content (tag.Start element.DataBlock) = record { less = refl; shown = refl }
 loose-content (tag.Start element.Other) = record { less = refl; shown = refl }
 
-loose-value : (t : TagOf) (typed : Bool) (o : Option Body) → IsLoose (value_scan t typed o)
+loose-value : (t : TagOf) (typed : Bool) (o : Option Kind) → IsLoose (value_scan t typed o)
 loose-value t typed None = record { less = refl; shown = refl }
-loose-value t typed (Some b) = record { less = refl; shown = refl }
+loose-value t typed (Some kind.ScriptType) = record { less = refl; shown = refl }
+loose-value t typed (Some k) = record { less = refl; shown = refl }
 
 in_double : (c : Class) (b : ℕ) (v : ValuePlace) (r : Reference) → Spelled c b → KeepsBytes (At (place.Value v)) (quoted_next v quotes.Dq c) r (next_reference r c b) c b (reference_out r c b)
 in_double White b v r p = with_references (At (place.Value v)) (quoted_next v quotes.Dq White) r White b p refl refl (λ h. absurd (yes h)) refl refl refl refl
@@ -294,7 +302,7 @@ loose-tag Solidus t b = record { less = refl; shown = refl }
 loose-tag Digit t b = record { less = refl; shown = refl }
 loose-tag Semicolon t b = record { less = refl; shown = refl }
 loose-tag LessThan t b = record { less = refl; shown = refl }
-loose-tag EqualsSign t b = loose-value t.tag t.typed (kind_body t.kind)
+loose-tag EqualsSign t b = loose-value t.tag t.typed t.kind
 loose-tag GreaterThan t b = loose-content t.tag
 loose-tag QuestionMark t b = record { less = refl; shown = refl }
 loose-tag GraveAccent t b = record { less = refl; shown = refl }
@@ -332,7 +340,7 @@ loose-attribute_name Solidus b t typed k name = record { less = refl; shown = re
 loose-attribute_name Digit b t typed k name = record { less = refl; shown = refl }
 loose-attribute_name Semicolon b t typed k name = record { less = refl; shown = refl }
 loose-attribute_name LessThan b t typed k name = record { less = refl; shown = refl }
-loose-attribute_name EqualsSign b t typed k name = loose-value t typed (kind_body (Some k))
+loose-attribute_name EqualsSign b t typed k name = loose-value t typed (Some k)
 loose-attribute_name GreaterThan b t typed k name = loose-content t
 loose-attribute_name QuestionMark b t typed k name = record { less = refl; shown = refl }
 loose-attribute_name GraveAccent b t typed k name = record { less = refl; shown = refl }
@@ -377,24 +385,25 @@ again_text GraveAccent b p = refl
 again_text (Letter l) b p = refl
 again_text OtherByte b p = refl
 
-again_content : (c : Class) (b : ℕ) (e : Element) → Spelled c b → loose_out c b Closed ++ (as_it_stands (begin_reference c) ++ less_kept (content_next c e)) ≡ b ∷ []
-again_content White b e p = refl
-again_content ExclamationMark b e p = refl
-again_content QuotationMark b e p = refl
-again_content NumberSign b e p = refl
-again_content Ampersand b e p = rw p refl
-again_content Apostrophe b e p = refl
-again_content HyphenMinus b e p = refl
-again_content Solidus b e p = refl
-again_content Digit b e p = refl
-again_content Semicolon b e p = refl
-again_content LessThan b e p = rw p refl
-again_content EqualsSign b e p = refl
-again_content GreaterThan b e p = refl
-again_content QuestionMark b e p = refl
-again_content GraveAccent b e p = refl
-again_content (Letter l) b e p = refl
-again_content OtherByte b e p = refl
+again_content : (e : Element) → IsRcdata e → (c : Class) (b : ℕ) → Spelled c b → loose_out c b Closed ++ (as_it_stands (begin_reference c) ++ less_kept (content_next c e)) ≡ b ∷ []
+again_content element.DataBlock i c b p = absurd i
+again_content e i White b p = refl
+again_content e i ExclamationMark b p = refl
+again_content e i QuotationMark b p = refl
+again_content e i NumberSign b p = refl
+again_content e i Ampersand b p = rw p refl
+again_content e i Apostrophe b p = refl
+again_content e i HyphenMinus b p = refl
+again_content e i Solidus b p = refl
+again_content e i Digit b p = refl
+again_content e i Semicolon b p = refl
+again_content e i LessThan b p = rw p refl
+again_content e i EqualsSign b p = refl
+again_content e i GreaterThan b p = refl
+again_content e i QuestionMark b p = refl
+again_content e i GraveAccent b p = refl
+again_content e i (Letter l) b p = refl
+again_content e i OtherByte b p = refl
 
 shown-text : (c : Class) → hides (text_scan c) ≡ false
 shown-text White = refl
@@ -415,24 +424,25 @@ shown-text GraveAccent = refl
 shown-text (Letter l) = refl
 shown-text OtherByte = refl
 
-shown-content : (c : Class) (e : Element) → hides (content_next c e) ≡ false
-shown-content White e = refl
-shown-content ExclamationMark e = refl
-shown-content QuotationMark e = refl
-shown-content NumberSign e = refl
-shown-content Ampersand e = refl
-shown-content Apostrophe e = refl
-shown-content HyphenMinus e = refl
-shown-content Solidus e = refl
-shown-content Digit e = refl
-shown-content Semicolon e = refl
-shown-content LessThan e = refl
-shown-content EqualsSign e = refl
-shown-content GreaterThan e = refl
-shown-content QuestionMark e = refl
-shown-content GraveAccent e = refl
-shown-content (Letter l) e = refl
-shown-content OtherByte e = refl
+shown-content : (e : Element) → IsRcdata e → (c : Class) → hides (content_next c e) ≡ false
+shown-content element.DataBlock i c = absurd i
+shown-content e i White = refl
+shown-content e i ExclamationMark = refl
+shown-content e i QuotationMark = refl
+shown-content e i NumberSign = refl
+shown-content e i Ampersand = refl
+shown-content e i Apostrophe = refl
+shown-content e i HyphenMinus = refl
+shown-content e i Solidus = refl
+shown-content e i Digit = refl
+shown-content e i Semicolon = refl
+shown-content e i LessThan = refl
+shown-content e i EqualsSign = refl
+shown-content e i GreaterThan = refl
+shown-content e i QuestionMark = refl
+shown-content e i GraveAccent = refl
+shown-content e i (Letter l) = refl
+shown-content e i OtherByte = refl
 
 alone-text : (c : Class) → c ≡ Ampersand → less_kept (text_scan c) ≡ []
 alone-text White h = refl
@@ -453,24 +463,25 @@ alone-text GraveAccent h = refl
 alone-text (Letter l) h = refl
 alone-text OtherByte h = refl
 
-alone-content : (c : Class) (e : Element) → c ≡ Ampersand → less_kept (content_next c e) ≡ []
-alone-content White e h = refl
-alone-content ExclamationMark e h = refl
-alone-content QuotationMark e h = refl
-alone-content NumberSign e h = refl
-alone-content Ampersand e h = refl
-alone-content Apostrophe e h = refl
-alone-content HyphenMinus e h = refl
-alone-content Solidus e h = refl
-alone-content Digit e h = refl
-alone-content Semicolon e h = refl
-alone-content LessThan e h = cc
-alone-content EqualsSign e h = refl
-alone-content GreaterThan e h = refl
-alone-content QuestionMark e h = refl
-alone-content GraveAccent e h = refl
-alone-content (Letter l) e h = refl
-alone-content OtherByte e h = refl
+alone-content : (e : Element) → IsRcdata e → (c : Class) → c ≡ Ampersand → less_kept (content_next c e) ≡ []
+alone-content element.DataBlock i c h = absurd i
+alone-content e i White h = refl
+alone-content e i ExclamationMark h = refl
+alone-content e i QuotationMark h = refl
+alone-content e i NumberSign h = refl
+alone-content e i Ampersand h = refl
+alone-content e i Apostrophe h = refl
+alone-content e i HyphenMinus h = refl
+alone-content e i Solidus h = refl
+alone-content e i Digit h = refl
+alone-content e i Semicolon h = refl
+alone-content e i LessThan h = cc
+alone-content e i EqualsSign h = refl
+alone-content e i GreaterThan h = refl
+alone-content e i QuestionMark h = refl
+alone-content e i GraveAccent h = refl
+alone-content e i (Letter l) h = refl
+alone-content e i OtherByte h = refl
 
 closed-text : (c : Class) → bears (text_scan c) ≡ false → begin_reference c ≡ Closed
 closed-text White h = absurd (yes h)
@@ -491,24 +502,25 @@ closed-text GraveAccent h = absurd (yes h)
 closed-text (Letter l) h = absurd (yes h)
 closed-text OtherByte h = absurd (yes h)
 
-closed-content : (c : Class) (e : Element) → bears (content_next c e) ≡ false → begin_reference c ≡ Closed
-closed-content White e h = absurd (yes h)
-closed-content ExclamationMark e h = absurd (yes h)
-closed-content QuotationMark e h = absurd (yes h)
-closed-content NumberSign e h = absurd (yes h)
-closed-content Ampersand e h = absurd (yes h)
-closed-content Apostrophe e h = absurd (yes h)
-closed-content HyphenMinus e h = absurd (yes h)
-closed-content Solidus e h = absurd (yes h)
-closed-content Digit e h = absurd (yes h)
-closed-content Semicolon e h = absurd (yes h)
-closed-content LessThan e h = refl
-closed-content EqualsSign e h = absurd (yes h)
-closed-content GreaterThan e h = absurd (yes h)
-closed-content QuestionMark e h = absurd (yes h)
-closed-content GraveAccent e h = absurd (yes h)
-closed-content (Letter l) e h = absurd (yes h)
-closed-content OtherByte e h = absurd (yes h)
+closed-content : (e : Element) → IsRcdata e → (c : Class) → bears (content_next c e) ≡ false → begin_reference c ≡ Closed
+closed-content element.DataBlock i c h = absurd i
+closed-content e i White h = absurd (yes h)
+closed-content e i ExclamationMark h = absurd (yes h)
+closed-content e i QuotationMark h = absurd (yes h)
+closed-content e i NumberSign h = absurd (yes h)
+closed-content e i Ampersand h = absurd (yes h)
+closed-content e i Apostrophe h = absurd (yes h)
+closed-content e i HyphenMinus h = absurd (yes h)
+closed-content e i Solidus h = absurd (yes h)
+closed-content e i Digit h = absurd (yes h)
+closed-content e i Semicolon h = absurd (yes h)
+closed-content e i LessThan h = refl
+closed-content e i EqualsSign h = absurd (yes h)
+closed-content e i GreaterThan h = absurd (yes h)
+closed-content e i QuestionMark h = absurd (yes h)
+closed-content e i GraveAccent h = absurd (yes h)
+closed-content e i (Letter l) h = absurd (yes h)
+closed-content e i OtherByte h = absurd (yes h)
 
 escapes_text : (f : Scan) (r : Reference) (c : Class) (b : ℕ) (more out : List ℕ) → Spelled c b → less_kept f ≡ 60 ∷ more → hides f ≡ false → out ≡ (as_it_stands r ++ codes "&lt;") ++ (more ++ text_out c b Closed) → EscapesBytes f (text_scan c) r (begin_reference c) c b out
 escapes_text f r c b more out p less before written = record {
@@ -524,17 +536,17 @@ escapes_text f r c b more out p less before written = record {
   before = before;
 }
 
-escapes_content : (f : Scan) (r : Reference) (c : Class) (b : ℕ) (e : Element) (more out : List ℕ) → r ≡ Closed → Spelled c b → less_kept f ≡ 60 ∷ more → hides f ≡ false → out ≡ codes "&lt;" ++ (more ++ loose_out c b Closed) → EscapesBytes f (content_next c e) r (begin_reference c) c b out
-escapes_content f r c b e more out none p less before written = record {
+escapes_content : (e : Element) → IsRcdata e → (f : Scan) (r : Reference) (c : Class) (b : ℕ) (more out : List ℕ) → r ≡ Closed → Spelled c b → less_kept f ≡ 60 ∷ more → hides f ≡ false → out ≡ codes "&lt;" ++ (more ++ loose_out c b Closed) → EscapesBytes f (content_next c e) r (begin_reference c) c b out
+escapes_content e i f r c b more out none p less before written = record {
   more = more;
   again = more ++ loose_out c b Closed;
   less = less;
   out = rw none written;
-  bytes = append_assoc more (loose_out c b Closed) (as_it_stands (begin_reference c) ++ less_kept (content_next c e)) ∙ ap (λ (xs : List ℕ). more ++ xs) (again_content c b e p);
+  bytes = append_assoc more (loose_out c b Closed) (as_it_stands (begin_reference c) ++ less_kept (content_next c e)) ∙ ap (λ (xs : List ℕ). more ++ xs) (again_content e i c b p);
   reference = refl;
-  alone = alone-content c e;
-  closed = closed-content c e;
-  shown = shown-content c e;
+  alone = alone-content e i c;
+  closed = closed-content e i c;
+  shown = shown-content e i c;
   before = before;
 }
 
@@ -601,94 +613,96 @@ in_declared OpensDoctype c b bytes r p = record { bytes = sym (append_assoc (as_
 in_declared Undecided c b bytes r p = record { bytes = refl; closed = λ h. absurd (yes h); shown = refl; before = refl; kept = refl; out = λ h. refl; alone = λ h k. absurd (yes h) }
 in_declared OpensNothing c b bytes r p = opens_nothing c b bytes r p
 
-after_content_less : (c : Class) (b : ℕ) (e : Element) (r : Reference) → Spelled c b → r ≡ Closed → Law (InContentEnd e PendingLess) (scan_next (InContentEnd e PendingLess) c b) r (begin_reference c) c b (scan_out (InContentEnd e PendingLess) c b r)
-after_content_less White b e r p h = escapes_content (InContentEnd e PendingLess) r White b e [] (codes "&lt;" ++ loose_out White b Closed) h p refl refl refl
-after_content_less ExclamationMark b e r p h = escapes_content (InContentEnd e PendingLess) r ExclamationMark b e [] (codes "&lt;" ++ loose_out ExclamationMark b Closed) h p refl refl refl
-after_content_less QuotationMark b e r p h = escapes_content (InContentEnd e PendingLess) r QuotationMark b e [] (codes "&lt;" ++ loose_out QuotationMark b Closed) h p refl refl refl
-after_content_less NumberSign b e r p h = escapes_content (InContentEnd e PendingLess) r NumberSign b e [] (codes "&lt;" ++ loose_out NumberSign b Closed) h p refl refl refl
-after_content_less Ampersand b e r p h = escapes_content (InContentEnd e PendingLess) r Ampersand b e [] (codes "&lt;" ++ loose_out Ampersand b Closed) h p refl refl refl
-after_content_less Apostrophe b e r p h = escapes_content (InContentEnd e PendingLess) r Apostrophe b e [] (codes "&lt;" ++ loose_out Apostrophe b Closed) h p refl refl refl
-after_content_less HyphenMinus b e r p h = escapes_content (InContentEnd e PendingLess) r HyphenMinus b e [] (codes "&lt;" ++ loose_out HyphenMinus b Closed) h p refl refl refl
-after_content_less Solidus b e r p h = record { bytes = rw (p, h) refl; closed = λ k. refl; shown = refl; before = refl; kept = refl; out = λ k. absurd (no k); alone = λ a k. cc }
-after_content_less Digit b e r p h = escapes_content (InContentEnd e PendingLess) r Digit b e [] (codes "&lt;" ++ loose_out Digit b Closed) h p refl refl refl
-after_content_less Semicolon b e r p h = escapes_content (InContentEnd e PendingLess) r Semicolon b e [] (codes "&lt;" ++ loose_out Semicolon b Closed) h p refl refl refl
-after_content_less LessThan b e r p h = escapes_content (InContentEnd e PendingLess) r LessThan b e [] (codes "&lt;" ++ loose_out LessThan b Closed) h p refl refl refl
-after_content_less EqualsSign b e r p h = escapes_content (InContentEnd e PendingLess) r EqualsSign b e [] (codes "&lt;" ++ loose_out EqualsSign b Closed) h p refl refl refl
-after_content_less GreaterThan b e r p h = escapes_content (InContentEnd e PendingLess) r GreaterThan b e [] (codes "&lt;" ++ loose_out GreaterThan b Closed) h p refl refl refl
-after_content_less QuestionMark b e r p h = escapes_content (InContentEnd e PendingLess) r QuestionMark b e [] (codes "&lt;" ++ loose_out QuestionMark b Closed) h p refl refl refl
-after_content_less GraveAccent b e r p h = escapes_content (InContentEnd e PendingLess) r GraveAccent b e [] (codes "&lt;" ++ loose_out GraveAccent b Closed) h p refl refl refl
-after_content_less (Letter l) b e r p h = escapes_content (InContentEnd e PendingLess) r (Letter l) b e [] (codes "&lt;" ++ loose_out (Letter l) b Closed) h p refl refl refl
-after_content_less OtherByte b e r p h = escapes_content (InContentEnd e PendingLess) r OtherByte b e [] (codes "&lt;" ++ loose_out OtherByte b Closed) h p refl refl refl
+after_content_less : (e : Element) → IsRcdata e → (c : Class) (b : ℕ) (r : Reference) → Spelled c b → r ≡ Closed → Law (InContentEnd e PendingLess) (scan_next (InContentEnd e PendingLess) c b) r (begin_reference c) c b (scan_out (InContentEnd e PendingLess) c b r)
+after_content_less element.DataBlock i c b r p h = absurd i
+after_content_less e i White b r p h = escapes_content e i (InContentEnd e PendingLess) r White b [] (codes "&lt;" ++ loose_out White b Closed) h p refl refl refl
+after_content_less e i ExclamationMark b r p h = escapes_content e i (InContentEnd e PendingLess) r ExclamationMark b [] (codes "&lt;" ++ loose_out ExclamationMark b Closed) h p refl refl refl
+after_content_less e i QuotationMark b r p h = escapes_content e i (InContentEnd e PendingLess) r QuotationMark b [] (codes "&lt;" ++ loose_out QuotationMark b Closed) h p refl refl refl
+after_content_less e i NumberSign b r p h = escapes_content e i (InContentEnd e PendingLess) r NumberSign b [] (codes "&lt;" ++ loose_out NumberSign b Closed) h p refl refl refl
+after_content_less e i Ampersand b r p h = escapes_content e i (InContentEnd e PendingLess) r Ampersand b [] (codes "&lt;" ++ loose_out Ampersand b Closed) h p refl refl refl
+after_content_less e i Apostrophe b r p h = escapes_content e i (InContentEnd e PendingLess) r Apostrophe b [] (codes "&lt;" ++ loose_out Apostrophe b Closed) h p refl refl refl
+after_content_less e i HyphenMinus b r p h = escapes_content e i (InContentEnd e PendingLess) r HyphenMinus b [] (codes "&lt;" ++ loose_out HyphenMinus b Closed) h p refl refl refl
+after_content_less e i Solidus b r p h = record { bytes = rw (p, h) refl; closed = λ k. refl; shown = refl; before = refl; kept = refl; out = λ k. absurd (no k); alone = λ a k. cc }
+after_content_less e i Digit b r p h = escapes_content e i (InContentEnd e PendingLess) r Digit b [] (codes "&lt;" ++ loose_out Digit b Closed) h p refl refl refl
+after_content_less e i Semicolon b r p h = escapes_content e i (InContentEnd e PendingLess) r Semicolon b [] (codes "&lt;" ++ loose_out Semicolon b Closed) h p refl refl refl
+after_content_less e i LessThan b r p h = escapes_content e i (InContentEnd e PendingLess) r LessThan b [] (codes "&lt;" ++ loose_out LessThan b Closed) h p refl refl refl
+after_content_less e i EqualsSign b r p h = escapes_content e i (InContentEnd e PendingLess) r EqualsSign b [] (codes "&lt;" ++ loose_out EqualsSign b Closed) h p refl refl refl
+after_content_less e i GreaterThan b r p h = escapes_content e i (InContentEnd e PendingLess) r GreaterThan b [] (codes "&lt;" ++ loose_out GreaterThan b Closed) h p refl refl refl
+after_content_less e i QuestionMark b r p h = escapes_content e i (InContentEnd e PendingLess) r QuestionMark b [] (codes "&lt;" ++ loose_out QuestionMark b Closed) h p refl refl refl
+after_content_less e i GraveAccent b r p h = escapes_content e i (InContentEnd e PendingLess) r GraveAccent b [] (codes "&lt;" ++ loose_out GraveAccent b Closed) h p refl refl refl
+after_content_less e i (Letter l) b r p h = escapes_content e i (InContentEnd e PendingLess) r (Letter l) b [] (codes "&lt;" ++ loose_out (Letter l) b Closed) h p refl refl refl
+after_content_less e i OtherByte b r p h = escapes_content e i (InContentEnd e PendingLess) r OtherByte b [] (codes "&lt;" ++ loose_out OtherByte b Closed) h p refl refl refl
 
-in_end_name : (grows whole : Bool) (c : Class) (b : ℕ) (e : Element) (letters : List ℕ) (r : Reference) → Spelled c b → r ≡ Closed → Law (InContentEnd e (PendingName letters)) (end_name_next grows whole c b e letters) r (begin_reference c) c b (end_name_out grows whole c b letters)
-in_end_name true true White b e letters r p h = record { bytes = rw (h, append-nil (letters ++ b ∷ [])) refl; closed = λ k. refl; shown = refl; before = refl; kept = refl; out = λ k. absurd (no k); alone = λ a k. cc }
-in_end_name true true ExclamationMark b e letters r p h = escapes_content (InContentEnd e (PendingName letters)) r ExclamationMark b e (codes "/" ++ letters) (codes "&lt;" ++ ((codes "/" ++ letters) ++ loose_out ExclamationMark b Closed)) h p refl refl refl
-in_end_name true true QuotationMark b e letters r p h = escapes_content (InContentEnd e (PendingName letters)) r QuotationMark b e (codes "/" ++ letters) (codes "&lt;" ++ ((codes "/" ++ letters) ++ loose_out QuotationMark b Closed)) h p refl refl refl
-in_end_name true true NumberSign b e letters r p h = escapes_content (InContentEnd e (PendingName letters)) r NumberSign b e (codes "/" ++ letters) (codes "&lt;" ++ ((codes "/" ++ letters) ++ loose_out NumberSign b Closed)) h p refl refl refl
-in_end_name true true Ampersand b e letters r p h = escapes_content (InContentEnd e (PendingName letters)) r Ampersand b e (codes "/" ++ letters) (codes "&lt;" ++ ((codes "/" ++ letters) ++ loose_out Ampersand b Closed)) h p refl refl refl
-in_end_name true true Apostrophe b e letters r p h = escapes_content (InContentEnd e (PendingName letters)) r Apostrophe b e (codes "/" ++ letters) (codes "&lt;" ++ ((codes "/" ++ letters) ++ loose_out Apostrophe b Closed)) h p refl refl refl
-in_end_name true true HyphenMinus b e letters r p h = escapes_content (InContentEnd e (PendingName letters)) r HyphenMinus b e (codes "/" ++ letters) (codes "&lt;" ++ ((codes "/" ++ letters) ++ loose_out HyphenMinus b Closed)) h p refl refl refl
-in_end_name true true Solidus b e letters r p h = record { bytes = rw (h, append-nil (letters ++ b ∷ [])) refl; closed = λ k. refl; shown = refl; before = refl; kept = refl; out = λ k. absurd (no k); alone = λ a k. cc }
-in_end_name true true Digit b e letters r p h = escapes_content (InContentEnd e (PendingName letters)) r Digit b e (codes "/" ++ letters) (codes "&lt;" ++ ((codes "/" ++ letters) ++ loose_out Digit b Closed)) h p refl refl refl
-in_end_name true true Semicolon b e letters r p h = escapes_content (InContentEnd e (PendingName letters)) r Semicolon b e (codes "/" ++ letters) (codes "&lt;" ++ ((codes "/" ++ letters) ++ loose_out Semicolon b Closed)) h p refl refl refl
-in_end_name true true LessThan b e letters r p h = escapes_content (InContentEnd e (PendingName letters)) r LessThan b e (codes "/" ++ letters) (codes "&lt;" ++ ((codes "/" ++ letters) ++ loose_out LessThan b Closed)) h p refl refl refl
-in_end_name true true EqualsSign b e letters r p h = escapes_content (InContentEnd e (PendingName letters)) r EqualsSign b e (codes "/" ++ letters) (codes "&lt;" ++ ((codes "/" ++ letters) ++ loose_out EqualsSign b Closed)) h p refl refl refl
-in_end_name true true GreaterThan b e letters r p h = record { bytes = rw (h, append-nil (letters ++ b ∷ [])) refl; closed = λ k. refl; shown = refl; before = refl; kept = refl; out = λ k. absurd (no k); alone = λ a k. cc }
-in_end_name true true QuestionMark b e letters r p h = escapes_content (InContentEnd e (PendingName letters)) r QuestionMark b e (codes "/" ++ letters) (codes "&lt;" ++ ((codes "/" ++ letters) ++ loose_out QuestionMark b Closed)) h p refl refl refl
-in_end_name true true GraveAccent b e letters r p h = escapes_content (InContentEnd e (PendingName letters)) r GraveAccent b e (codes "/" ++ letters) (codes "&lt;" ++ ((codes "/" ++ letters) ++ loose_out GraveAccent b Closed)) h p refl refl refl
-in_end_name true true (Letter l) b e letters r p h = record { bytes = rw h refl; closed = λ k. refl; shown = refl; before = refl; kept = refl; out = λ k. absurd (no k); alone = λ a k. cc }
-in_end_name true true OtherByte b e letters r p h = escapes_content (InContentEnd e (PendingName letters)) r OtherByte b e (codes "/" ++ letters) (codes "&lt;" ++ ((codes "/" ++ letters) ++ loose_out OtherByte b Closed)) h p refl refl refl
-in_end_name true false White b e letters r p h = escapes_content (InContentEnd e (PendingName letters)) r White b e (codes "/" ++ letters) (codes "&lt;" ++ ((codes "/" ++ letters) ++ loose_out White b Closed)) h p refl refl refl
-in_end_name true false ExclamationMark b e letters r p h = escapes_content (InContentEnd e (PendingName letters)) r ExclamationMark b e (codes "/" ++ letters) (codes "&lt;" ++ ((codes "/" ++ letters) ++ loose_out ExclamationMark b Closed)) h p refl refl refl
-in_end_name true false QuotationMark b e letters r p h = escapes_content (InContentEnd e (PendingName letters)) r QuotationMark b e (codes "/" ++ letters) (codes "&lt;" ++ ((codes "/" ++ letters) ++ loose_out QuotationMark b Closed)) h p refl refl refl
-in_end_name true false NumberSign b e letters r p h = escapes_content (InContentEnd e (PendingName letters)) r NumberSign b e (codes "/" ++ letters) (codes "&lt;" ++ ((codes "/" ++ letters) ++ loose_out NumberSign b Closed)) h p refl refl refl
-in_end_name true false Ampersand b e letters r p h = escapes_content (InContentEnd e (PendingName letters)) r Ampersand b e (codes "/" ++ letters) (codes "&lt;" ++ ((codes "/" ++ letters) ++ loose_out Ampersand b Closed)) h p refl refl refl
-in_end_name true false Apostrophe b e letters r p h = escapes_content (InContentEnd e (PendingName letters)) r Apostrophe b e (codes "/" ++ letters) (codes "&lt;" ++ ((codes "/" ++ letters) ++ loose_out Apostrophe b Closed)) h p refl refl refl
-in_end_name true false HyphenMinus b e letters r p h = escapes_content (InContentEnd e (PendingName letters)) r HyphenMinus b e (codes "/" ++ letters) (codes "&lt;" ++ ((codes "/" ++ letters) ++ loose_out HyphenMinus b Closed)) h p refl refl refl
-in_end_name true false Solidus b e letters r p h = escapes_content (InContentEnd e (PendingName letters)) r Solidus b e (codes "/" ++ letters) (codes "&lt;" ++ ((codes "/" ++ letters) ++ loose_out Solidus b Closed)) h p refl refl refl
-in_end_name true false Digit b e letters r p h = escapes_content (InContentEnd e (PendingName letters)) r Digit b e (codes "/" ++ letters) (codes "&lt;" ++ ((codes "/" ++ letters) ++ loose_out Digit b Closed)) h p refl refl refl
-in_end_name true false Semicolon b e letters r p h = escapes_content (InContentEnd e (PendingName letters)) r Semicolon b e (codes "/" ++ letters) (codes "&lt;" ++ ((codes "/" ++ letters) ++ loose_out Semicolon b Closed)) h p refl refl refl
-in_end_name true false LessThan b e letters r p h = escapes_content (InContentEnd e (PendingName letters)) r LessThan b e (codes "/" ++ letters) (codes "&lt;" ++ ((codes "/" ++ letters) ++ loose_out LessThan b Closed)) h p refl refl refl
-in_end_name true false EqualsSign b e letters r p h = escapes_content (InContentEnd e (PendingName letters)) r EqualsSign b e (codes "/" ++ letters) (codes "&lt;" ++ ((codes "/" ++ letters) ++ loose_out EqualsSign b Closed)) h p refl refl refl
-in_end_name true false GreaterThan b e letters r p h = escapes_content (InContentEnd e (PendingName letters)) r GreaterThan b e (codes "/" ++ letters) (codes "&lt;" ++ ((codes "/" ++ letters) ++ loose_out GreaterThan b Closed)) h p refl refl refl
-in_end_name true false QuestionMark b e letters r p h = escapes_content (InContentEnd e (PendingName letters)) r QuestionMark b e (codes "/" ++ letters) (codes "&lt;" ++ ((codes "/" ++ letters) ++ loose_out QuestionMark b Closed)) h p refl refl refl
-in_end_name true false GraveAccent b e letters r p h = escapes_content (InContentEnd e (PendingName letters)) r GraveAccent b e (codes "/" ++ letters) (codes "&lt;" ++ ((codes "/" ++ letters) ++ loose_out GraveAccent b Closed)) h p refl refl refl
-in_end_name true false (Letter l) b e letters r p h = record { bytes = rw h refl; closed = λ k. refl; shown = refl; before = refl; kept = refl; out = λ k. absurd (no k); alone = λ a k. cc }
-in_end_name true false OtherByte b e letters r p h = escapes_content (InContentEnd e (PendingName letters)) r OtherByte b e (codes "/" ++ letters) (codes "&lt;" ++ ((codes "/" ++ letters) ++ loose_out OtherByte b Closed)) h p refl refl refl
-in_end_name false true White b e letters r p h = record { bytes = rw (h, append-nil (letters ++ b ∷ [])) refl; closed = λ k. refl; shown = refl; before = refl; kept = refl; out = λ k. absurd (no k); alone = λ a k. cc }
-in_end_name false true ExclamationMark b e letters r p h = escapes_content (InContentEnd e (PendingName letters)) r ExclamationMark b e (codes "/" ++ letters) (codes "&lt;" ++ ((codes "/" ++ letters) ++ loose_out ExclamationMark b Closed)) h p refl refl refl
-in_end_name false true QuotationMark b e letters r p h = escapes_content (InContentEnd e (PendingName letters)) r QuotationMark b e (codes "/" ++ letters) (codes "&lt;" ++ ((codes "/" ++ letters) ++ loose_out QuotationMark b Closed)) h p refl refl refl
-in_end_name false true NumberSign b e letters r p h = escapes_content (InContentEnd e (PendingName letters)) r NumberSign b e (codes "/" ++ letters) (codes "&lt;" ++ ((codes "/" ++ letters) ++ loose_out NumberSign b Closed)) h p refl refl refl
-in_end_name false true Ampersand b e letters r p h = escapes_content (InContentEnd e (PendingName letters)) r Ampersand b e (codes "/" ++ letters) (codes "&lt;" ++ ((codes "/" ++ letters) ++ loose_out Ampersand b Closed)) h p refl refl refl
-in_end_name false true Apostrophe b e letters r p h = escapes_content (InContentEnd e (PendingName letters)) r Apostrophe b e (codes "/" ++ letters) (codes "&lt;" ++ ((codes "/" ++ letters) ++ loose_out Apostrophe b Closed)) h p refl refl refl
-in_end_name false true HyphenMinus b e letters r p h = escapes_content (InContentEnd e (PendingName letters)) r HyphenMinus b e (codes "/" ++ letters) (codes "&lt;" ++ ((codes "/" ++ letters) ++ loose_out HyphenMinus b Closed)) h p refl refl refl
-in_end_name false true Solidus b e letters r p h = record { bytes = rw (h, append-nil (letters ++ b ∷ [])) refl; closed = λ k. refl; shown = refl; before = refl; kept = refl; out = λ k. absurd (no k); alone = λ a k. cc }
-in_end_name false true Digit b e letters r p h = escapes_content (InContentEnd e (PendingName letters)) r Digit b e (codes "/" ++ letters) (codes "&lt;" ++ ((codes "/" ++ letters) ++ loose_out Digit b Closed)) h p refl refl refl
-in_end_name false true Semicolon b e letters r p h = escapes_content (InContentEnd e (PendingName letters)) r Semicolon b e (codes "/" ++ letters) (codes "&lt;" ++ ((codes "/" ++ letters) ++ loose_out Semicolon b Closed)) h p refl refl refl
-in_end_name false true LessThan b e letters r p h = escapes_content (InContentEnd e (PendingName letters)) r LessThan b e (codes "/" ++ letters) (codes "&lt;" ++ ((codes "/" ++ letters) ++ loose_out LessThan b Closed)) h p refl refl refl
-in_end_name false true EqualsSign b e letters r p h = escapes_content (InContentEnd e (PendingName letters)) r EqualsSign b e (codes "/" ++ letters) (codes "&lt;" ++ ((codes "/" ++ letters) ++ loose_out EqualsSign b Closed)) h p refl refl refl
-in_end_name false true GreaterThan b e letters r p h = record { bytes = rw (h, append-nil (letters ++ b ∷ [])) refl; closed = λ k. refl; shown = refl; before = refl; kept = refl; out = λ k. absurd (no k); alone = λ a k. cc }
-in_end_name false true QuestionMark b e letters r p h = escapes_content (InContentEnd e (PendingName letters)) r QuestionMark b e (codes "/" ++ letters) (codes "&lt;" ++ ((codes "/" ++ letters) ++ loose_out QuestionMark b Closed)) h p refl refl refl
-in_end_name false true GraveAccent b e letters r p h = escapes_content (InContentEnd e (PendingName letters)) r GraveAccent b e (codes "/" ++ letters) (codes "&lt;" ++ ((codes "/" ++ letters) ++ loose_out GraveAccent b Closed)) h p refl refl refl
-in_end_name false true (Letter l) b e letters r p h = escapes_content (InContentEnd e (PendingName letters)) r (Letter l) b e (codes "/" ++ letters) (codes "&lt;" ++ ((codes "/" ++ letters) ++ loose_out (Letter l) b Closed)) h p refl refl refl
-in_end_name false true OtherByte b e letters r p h = escapes_content (InContentEnd e (PendingName letters)) r OtherByte b e (codes "/" ++ letters) (codes "&lt;" ++ ((codes "/" ++ letters) ++ loose_out OtherByte b Closed)) h p refl refl refl
-in_end_name false false White b e letters r p h = escapes_content (InContentEnd e (PendingName letters)) r White b e (codes "/" ++ letters) (codes "&lt;" ++ ((codes "/" ++ letters) ++ loose_out White b Closed)) h p refl refl refl
-in_end_name false false ExclamationMark b e letters r p h = escapes_content (InContentEnd e (PendingName letters)) r ExclamationMark b e (codes "/" ++ letters) (codes "&lt;" ++ ((codes "/" ++ letters) ++ loose_out ExclamationMark b Closed)) h p refl refl refl
-in_end_name false false QuotationMark b e letters r p h = escapes_content (InContentEnd e (PendingName letters)) r QuotationMark b e (codes "/" ++ letters) (codes "&lt;" ++ ((codes "/" ++ letters) ++ loose_out QuotationMark b Closed)) h p refl refl refl
-in_end_name false false NumberSign b e letters r p h = escapes_content (InContentEnd e (PendingName letters)) r NumberSign b e (codes "/" ++ letters) (codes "&lt;" ++ ((codes "/" ++ letters) ++ loose_out NumberSign b Closed)) h p refl refl refl
-in_end_name false false Ampersand b e letters r p h = escapes_content (InContentEnd e (PendingName letters)) r Ampersand b e (codes "/" ++ letters) (codes "&lt;" ++ ((codes "/" ++ letters) ++ loose_out Ampersand b Closed)) h p refl refl refl
-in_end_name false false Apostrophe b e letters r p h = escapes_content (InContentEnd e (PendingName letters)) r Apostrophe b e (codes "/" ++ letters) (codes "&lt;" ++ ((codes "/" ++ letters) ++ loose_out Apostrophe b Closed)) h p refl refl refl
-in_end_name false false HyphenMinus b e letters r p h = escapes_content (InContentEnd e (PendingName letters)) r HyphenMinus b e (codes "/" ++ letters) (codes "&lt;" ++ ((codes "/" ++ letters) ++ loose_out HyphenMinus b Closed)) h p refl refl refl
-in_end_name false false Solidus b e letters r p h = escapes_content (InContentEnd e (PendingName letters)) r Solidus b e (codes "/" ++ letters) (codes "&lt;" ++ ((codes "/" ++ letters) ++ loose_out Solidus b Closed)) h p refl refl refl
-in_end_name false false Digit b e letters r p h = escapes_content (InContentEnd e (PendingName letters)) r Digit b e (codes "/" ++ letters) (codes "&lt;" ++ ((codes "/" ++ letters) ++ loose_out Digit b Closed)) h p refl refl refl
-in_end_name false false Semicolon b e letters r p h = escapes_content (InContentEnd e (PendingName letters)) r Semicolon b e (codes "/" ++ letters) (codes "&lt;" ++ ((codes "/" ++ letters) ++ loose_out Semicolon b Closed)) h p refl refl refl
-in_end_name false false LessThan b e letters r p h = escapes_content (InContentEnd e (PendingName letters)) r LessThan b e (codes "/" ++ letters) (codes "&lt;" ++ ((codes "/" ++ letters) ++ loose_out LessThan b Closed)) h p refl refl refl
-in_end_name false false EqualsSign b e letters r p h = escapes_content (InContentEnd e (PendingName letters)) r EqualsSign b e (codes "/" ++ letters) (codes "&lt;" ++ ((codes "/" ++ letters) ++ loose_out EqualsSign b Closed)) h p refl refl refl
-in_end_name false false GreaterThan b e letters r p h = escapes_content (InContentEnd e (PendingName letters)) r GreaterThan b e (codes "/" ++ letters) (codes "&lt;" ++ ((codes "/" ++ letters) ++ loose_out GreaterThan b Closed)) h p refl refl refl
-in_end_name false false QuestionMark b e letters r p h = escapes_content (InContentEnd e (PendingName letters)) r QuestionMark b e (codes "/" ++ letters) (codes "&lt;" ++ ((codes "/" ++ letters) ++ loose_out QuestionMark b Closed)) h p refl refl refl
-in_end_name false false GraveAccent b e letters r p h = escapes_content (InContentEnd e (PendingName letters)) r GraveAccent b e (codes "/" ++ letters) (codes "&lt;" ++ ((codes "/" ++ letters) ++ loose_out GraveAccent b Closed)) h p refl refl refl
-in_end_name false false (Letter l) b e letters r p h = escapes_content (InContentEnd e (PendingName letters)) r (Letter l) b e (codes "/" ++ letters) (codes "&lt;" ++ ((codes "/" ++ letters) ++ loose_out (Letter l) b Closed)) h p refl refl refl
-in_end_name false false OtherByte b e letters r p h = escapes_content (InContentEnd e (PendingName letters)) r OtherByte b e (codes "/" ++ letters) (codes "&lt;" ++ ((codes "/" ++ letters) ++ loose_out OtherByte b Closed)) h p refl refl refl
+in_end_name : (e : Element) → IsRcdata e → (grows whole : Bool) (c : Class) (b : ℕ) (letters : List ℕ) (r : Reference) → Spelled c b → r ≡ Closed → Law (InContentEnd e (PendingName letters)) (end_name_next grows whole c b e letters) r (begin_reference c) c b (end_name_out grows whole c b letters)
+in_end_name element.DataBlock i grows whole c b letters r p h = absurd i
+in_end_name e i true true White b letters r p h = record { bytes = rw (h, append-nil (letters ++ b ∷ [])) refl; closed = λ k. refl; shown = refl; before = refl; kept = refl; out = λ k. absurd (no k); alone = λ a k. cc }
+in_end_name e i true true ExclamationMark b letters r p h = escapes_content e i (InContentEnd e (PendingName letters)) r ExclamationMark b (codes "/" ++ letters) (codes "&lt;" ++ ((codes "/" ++ letters) ++ loose_out ExclamationMark b Closed)) h p refl refl refl
+in_end_name e i true true QuotationMark b letters r p h = escapes_content e i (InContentEnd e (PendingName letters)) r QuotationMark b (codes "/" ++ letters) (codes "&lt;" ++ ((codes "/" ++ letters) ++ loose_out QuotationMark b Closed)) h p refl refl refl
+in_end_name e i true true NumberSign b letters r p h = escapes_content e i (InContentEnd e (PendingName letters)) r NumberSign b (codes "/" ++ letters) (codes "&lt;" ++ ((codes "/" ++ letters) ++ loose_out NumberSign b Closed)) h p refl refl refl
+in_end_name e i true true Ampersand b letters r p h = escapes_content e i (InContentEnd e (PendingName letters)) r Ampersand b (codes "/" ++ letters) (codes "&lt;" ++ ((codes "/" ++ letters) ++ loose_out Ampersand b Closed)) h p refl refl refl
+in_end_name e i true true Apostrophe b letters r p h = escapes_content e i (InContentEnd e (PendingName letters)) r Apostrophe b (codes "/" ++ letters) (codes "&lt;" ++ ((codes "/" ++ letters) ++ loose_out Apostrophe b Closed)) h p refl refl refl
+in_end_name e i true true HyphenMinus b letters r p h = escapes_content e i (InContentEnd e (PendingName letters)) r HyphenMinus b (codes "/" ++ letters) (codes "&lt;" ++ ((codes "/" ++ letters) ++ loose_out HyphenMinus b Closed)) h p refl refl refl
+in_end_name e i true true Solidus b letters r p h = record { bytes = rw (h, append-nil (letters ++ b ∷ [])) refl; closed = λ k. refl; shown = refl; before = refl; kept = refl; out = λ k. absurd (no k); alone = λ a k. cc }
+in_end_name e i true true Digit b letters r p h = escapes_content e i (InContentEnd e (PendingName letters)) r Digit b (codes "/" ++ letters) (codes "&lt;" ++ ((codes "/" ++ letters) ++ loose_out Digit b Closed)) h p refl refl refl
+in_end_name e i true true Semicolon b letters r p h = escapes_content e i (InContentEnd e (PendingName letters)) r Semicolon b (codes "/" ++ letters) (codes "&lt;" ++ ((codes "/" ++ letters) ++ loose_out Semicolon b Closed)) h p refl refl refl
+in_end_name e i true true LessThan b letters r p h = escapes_content e i (InContentEnd e (PendingName letters)) r LessThan b (codes "/" ++ letters) (codes "&lt;" ++ ((codes "/" ++ letters) ++ loose_out LessThan b Closed)) h p refl refl refl
+in_end_name e i true true EqualsSign b letters r p h = escapes_content e i (InContentEnd e (PendingName letters)) r EqualsSign b (codes "/" ++ letters) (codes "&lt;" ++ ((codes "/" ++ letters) ++ loose_out EqualsSign b Closed)) h p refl refl refl
+in_end_name e i true true GreaterThan b letters r p h = record { bytes = rw (h, append-nil (letters ++ b ∷ [])) refl; closed = λ k. refl; shown = refl; before = refl; kept = refl; out = λ k. absurd (no k); alone = λ a k. cc }
+in_end_name e i true true QuestionMark b letters r p h = escapes_content e i (InContentEnd e (PendingName letters)) r QuestionMark b (codes "/" ++ letters) (codes "&lt;" ++ ((codes "/" ++ letters) ++ loose_out QuestionMark b Closed)) h p refl refl refl
+in_end_name e i true true GraveAccent b letters r p h = escapes_content e i (InContentEnd e (PendingName letters)) r GraveAccent b (codes "/" ++ letters) (codes "&lt;" ++ ((codes "/" ++ letters) ++ loose_out GraveAccent b Closed)) h p refl refl refl
+in_end_name e i true true (Letter l) b letters r p h = record { bytes = rw h refl; closed = λ k. refl; shown = refl; before = refl; kept = refl; out = λ k. absurd (no k); alone = λ a k. cc }
+in_end_name e i true true OtherByte b letters r p h = escapes_content e i (InContentEnd e (PendingName letters)) r OtherByte b (codes "/" ++ letters) (codes "&lt;" ++ ((codes "/" ++ letters) ++ loose_out OtherByte b Closed)) h p refl refl refl
+in_end_name e i true false White b letters r p h = escapes_content e i (InContentEnd e (PendingName letters)) r White b (codes "/" ++ letters) (codes "&lt;" ++ ((codes "/" ++ letters) ++ loose_out White b Closed)) h p refl refl refl
+in_end_name e i true false ExclamationMark b letters r p h = escapes_content e i (InContentEnd e (PendingName letters)) r ExclamationMark b (codes "/" ++ letters) (codes "&lt;" ++ ((codes "/" ++ letters) ++ loose_out ExclamationMark b Closed)) h p refl refl refl
+in_end_name e i true false QuotationMark b letters r p h = escapes_content e i (InContentEnd e (PendingName letters)) r QuotationMark b (codes "/" ++ letters) (codes "&lt;" ++ ((codes "/" ++ letters) ++ loose_out QuotationMark b Closed)) h p refl refl refl
+in_end_name e i true false NumberSign b letters r p h = escapes_content e i (InContentEnd e (PendingName letters)) r NumberSign b (codes "/" ++ letters) (codes "&lt;" ++ ((codes "/" ++ letters) ++ loose_out NumberSign b Closed)) h p refl refl refl
+in_end_name e i true false Ampersand b letters r p h = escapes_content e i (InContentEnd e (PendingName letters)) r Ampersand b (codes "/" ++ letters) (codes "&lt;" ++ ((codes "/" ++ letters) ++ loose_out Ampersand b Closed)) h p refl refl refl
+in_end_name e i true false Apostrophe b letters r p h = escapes_content e i (InContentEnd e (PendingName letters)) r Apostrophe b (codes "/" ++ letters) (codes "&lt;" ++ ((codes "/" ++ letters) ++ loose_out Apostrophe b Closed)) h p refl refl refl
+in_end_name e i true false HyphenMinus b letters r p h = escapes_content e i (InContentEnd e (PendingName letters)) r HyphenMinus b (codes "/" ++ letters) (codes "&lt;" ++ ((codes "/" ++ letters) ++ loose_out HyphenMinus b Closed)) h p refl refl refl
+in_end_name e i true false Solidus b letters r p h = escapes_content e i (InContentEnd e (PendingName letters)) r Solidus b (codes "/" ++ letters) (codes "&lt;" ++ ((codes "/" ++ letters) ++ loose_out Solidus b Closed)) h p refl refl refl
+in_end_name e i true false Digit b letters r p h = escapes_content e i (InContentEnd e (PendingName letters)) r Digit b (codes "/" ++ letters) (codes "&lt;" ++ ((codes "/" ++ letters) ++ loose_out Digit b Closed)) h p refl refl refl
+in_end_name e i true false Semicolon b letters r p h = escapes_content e i (InContentEnd e (PendingName letters)) r Semicolon b (codes "/" ++ letters) (codes "&lt;" ++ ((codes "/" ++ letters) ++ loose_out Semicolon b Closed)) h p refl refl refl
+in_end_name e i true false LessThan b letters r p h = escapes_content e i (InContentEnd e (PendingName letters)) r LessThan b (codes "/" ++ letters) (codes "&lt;" ++ ((codes "/" ++ letters) ++ loose_out LessThan b Closed)) h p refl refl refl
+in_end_name e i true false EqualsSign b letters r p h = escapes_content e i (InContentEnd e (PendingName letters)) r EqualsSign b (codes "/" ++ letters) (codes "&lt;" ++ ((codes "/" ++ letters) ++ loose_out EqualsSign b Closed)) h p refl refl refl
+in_end_name e i true false GreaterThan b letters r p h = escapes_content e i (InContentEnd e (PendingName letters)) r GreaterThan b (codes "/" ++ letters) (codes "&lt;" ++ ((codes "/" ++ letters) ++ loose_out GreaterThan b Closed)) h p refl refl refl
+in_end_name e i true false QuestionMark b letters r p h = escapes_content e i (InContentEnd e (PendingName letters)) r QuestionMark b (codes "/" ++ letters) (codes "&lt;" ++ ((codes "/" ++ letters) ++ loose_out QuestionMark b Closed)) h p refl refl refl
+in_end_name e i true false GraveAccent b letters r p h = escapes_content e i (InContentEnd e (PendingName letters)) r GraveAccent b (codes "/" ++ letters) (codes "&lt;" ++ ((codes "/" ++ letters) ++ loose_out GraveAccent b Closed)) h p refl refl refl
+in_end_name e i true false (Letter l) b letters r p h = record { bytes = rw h refl; closed = λ k. refl; shown = refl; before = refl; kept = refl; out = λ k. absurd (no k); alone = λ a k. cc }
+in_end_name e i true false OtherByte b letters r p h = escapes_content e i (InContentEnd e (PendingName letters)) r OtherByte b (codes "/" ++ letters) (codes "&lt;" ++ ((codes "/" ++ letters) ++ loose_out OtherByte b Closed)) h p refl refl refl
+in_end_name e i false true White b letters r p h = record { bytes = rw (h, append-nil (letters ++ b ∷ [])) refl; closed = λ k. refl; shown = refl; before = refl; kept = refl; out = λ k. absurd (no k); alone = λ a k. cc }
+in_end_name e i false true ExclamationMark b letters r p h = escapes_content e i (InContentEnd e (PendingName letters)) r ExclamationMark b (codes "/" ++ letters) (codes "&lt;" ++ ((codes "/" ++ letters) ++ loose_out ExclamationMark b Closed)) h p refl refl refl
+in_end_name e i false true QuotationMark b letters r p h = escapes_content e i (InContentEnd e (PendingName letters)) r QuotationMark b (codes "/" ++ letters) (codes "&lt;" ++ ((codes "/" ++ letters) ++ loose_out QuotationMark b Closed)) h p refl refl refl
+in_end_name e i false true NumberSign b letters r p h = escapes_content e i (InContentEnd e (PendingName letters)) r NumberSign b (codes "/" ++ letters) (codes "&lt;" ++ ((codes "/" ++ letters) ++ loose_out NumberSign b Closed)) h p refl refl refl
+in_end_name e i false true Ampersand b letters r p h = escapes_content e i (InContentEnd e (PendingName letters)) r Ampersand b (codes "/" ++ letters) (codes "&lt;" ++ ((codes "/" ++ letters) ++ loose_out Ampersand b Closed)) h p refl refl refl
+in_end_name e i false true Apostrophe b letters r p h = escapes_content e i (InContentEnd e (PendingName letters)) r Apostrophe b (codes "/" ++ letters) (codes "&lt;" ++ ((codes "/" ++ letters) ++ loose_out Apostrophe b Closed)) h p refl refl refl
+in_end_name e i false true HyphenMinus b letters r p h = escapes_content e i (InContentEnd e (PendingName letters)) r HyphenMinus b (codes "/" ++ letters) (codes "&lt;" ++ ((codes "/" ++ letters) ++ loose_out HyphenMinus b Closed)) h p refl refl refl
+in_end_name e i false true Solidus b letters r p h = record { bytes = rw (h, append-nil (letters ++ b ∷ [])) refl; closed = λ k. refl; shown = refl; before = refl; kept = refl; out = λ k. absurd (no k); alone = λ a k. cc }
+in_end_name e i false true Digit b letters r p h = escapes_content e i (InContentEnd e (PendingName letters)) r Digit b (codes "/" ++ letters) (codes "&lt;" ++ ((codes "/" ++ letters) ++ loose_out Digit b Closed)) h p refl refl refl
+in_end_name e i false true Semicolon b letters r p h = escapes_content e i (InContentEnd e (PendingName letters)) r Semicolon b (codes "/" ++ letters) (codes "&lt;" ++ ((codes "/" ++ letters) ++ loose_out Semicolon b Closed)) h p refl refl refl
+in_end_name e i false true LessThan b letters r p h = escapes_content e i (InContentEnd e (PendingName letters)) r LessThan b (codes "/" ++ letters) (codes "&lt;" ++ ((codes "/" ++ letters) ++ loose_out LessThan b Closed)) h p refl refl refl
+in_end_name e i false true EqualsSign b letters r p h = escapes_content e i (InContentEnd e (PendingName letters)) r EqualsSign b (codes "/" ++ letters) (codes "&lt;" ++ ((codes "/" ++ letters) ++ loose_out EqualsSign b Closed)) h p refl refl refl
+in_end_name e i false true GreaterThan b letters r p h = record { bytes = rw (h, append-nil (letters ++ b ∷ [])) refl; closed = λ k. refl; shown = refl; before = refl; kept = refl; out = λ k. absurd (no k); alone = λ a k. cc }
+in_end_name e i false true QuestionMark b letters r p h = escapes_content e i (InContentEnd e (PendingName letters)) r QuestionMark b (codes "/" ++ letters) (codes "&lt;" ++ ((codes "/" ++ letters) ++ loose_out QuestionMark b Closed)) h p refl refl refl
+in_end_name e i false true GraveAccent b letters r p h = escapes_content e i (InContentEnd e (PendingName letters)) r GraveAccent b (codes "/" ++ letters) (codes "&lt;" ++ ((codes "/" ++ letters) ++ loose_out GraveAccent b Closed)) h p refl refl refl
+in_end_name e i false true (Letter l) b letters r p h = escapes_content e i (InContentEnd e (PendingName letters)) r (Letter l) b (codes "/" ++ letters) (codes "&lt;" ++ ((codes "/" ++ letters) ++ loose_out (Letter l) b Closed)) h p refl refl refl
+in_end_name e i false true OtherByte b letters r p h = escapes_content e i (InContentEnd e (PendingName letters)) r OtherByte b (codes "/" ++ letters) (codes "&lt;" ++ ((codes "/" ++ letters) ++ loose_out OtherByte b Closed)) h p refl refl refl
+in_end_name e i false false White b letters r p h = escapes_content e i (InContentEnd e (PendingName letters)) r White b (codes "/" ++ letters) (codes "&lt;" ++ ((codes "/" ++ letters) ++ loose_out White b Closed)) h p refl refl refl
+in_end_name e i false false ExclamationMark b letters r p h = escapes_content e i (InContentEnd e (PendingName letters)) r ExclamationMark b (codes "/" ++ letters) (codes "&lt;" ++ ((codes "/" ++ letters) ++ loose_out ExclamationMark b Closed)) h p refl refl refl
+in_end_name e i false false QuotationMark b letters r p h = escapes_content e i (InContentEnd e (PendingName letters)) r QuotationMark b (codes "/" ++ letters) (codes "&lt;" ++ ((codes "/" ++ letters) ++ loose_out QuotationMark b Closed)) h p refl refl refl
+in_end_name e i false false NumberSign b letters r p h = escapes_content e i (InContentEnd e (PendingName letters)) r NumberSign b (codes "/" ++ letters) (codes "&lt;" ++ ((codes "/" ++ letters) ++ loose_out NumberSign b Closed)) h p refl refl refl
+in_end_name e i false false Ampersand b letters r p h = escapes_content e i (InContentEnd e (PendingName letters)) r Ampersand b (codes "/" ++ letters) (codes "&lt;" ++ ((codes "/" ++ letters) ++ loose_out Ampersand b Closed)) h p refl refl refl
+in_end_name e i false false Apostrophe b letters r p h = escapes_content e i (InContentEnd e (PendingName letters)) r Apostrophe b (codes "/" ++ letters) (codes "&lt;" ++ ((codes "/" ++ letters) ++ loose_out Apostrophe b Closed)) h p refl refl refl
+in_end_name e i false false HyphenMinus b letters r p h = escapes_content e i (InContentEnd e (PendingName letters)) r HyphenMinus b (codes "/" ++ letters) (codes "&lt;" ++ ((codes "/" ++ letters) ++ loose_out HyphenMinus b Closed)) h p refl refl refl
+in_end_name e i false false Solidus b letters r p h = escapes_content e i (InContentEnd e (PendingName letters)) r Solidus b (codes "/" ++ letters) (codes "&lt;" ++ ((codes "/" ++ letters) ++ loose_out Solidus b Closed)) h p refl refl refl
+in_end_name e i false false Digit b letters r p h = escapes_content e i (InContentEnd e (PendingName letters)) r Digit b (codes "/" ++ letters) (codes "&lt;" ++ ((codes "/" ++ letters) ++ loose_out Digit b Closed)) h p refl refl refl
+in_end_name e i false false Semicolon b letters r p h = escapes_content e i (InContentEnd e (PendingName letters)) r Semicolon b (codes "/" ++ letters) (codes "&lt;" ++ ((codes "/" ++ letters) ++ loose_out Semicolon b Closed)) h p refl refl refl
+in_end_name e i false false LessThan b letters r p h = escapes_content e i (InContentEnd e (PendingName letters)) r LessThan b (codes "/" ++ letters) (codes "&lt;" ++ ((codes "/" ++ letters) ++ loose_out LessThan b Closed)) h p refl refl refl
+in_end_name e i false false EqualsSign b letters r p h = escapes_content e i (InContentEnd e (PendingName letters)) r EqualsSign b (codes "/" ++ letters) (codes "&lt;" ++ ((codes "/" ++ letters) ++ loose_out EqualsSign b Closed)) h p refl refl refl
+in_end_name e i false false GreaterThan b letters r p h = escapes_content e i (InContentEnd e (PendingName letters)) r GreaterThan b (codes "/" ++ letters) (codes "&lt;" ++ ((codes "/" ++ letters) ++ loose_out GreaterThan b Closed)) h p refl refl refl
+in_end_name e i false false QuestionMark b letters r p h = escapes_content e i (InContentEnd e (PendingName letters)) r QuestionMark b (codes "/" ++ letters) (codes "&lt;" ++ ((codes "/" ++ letters) ++ loose_out QuestionMark b Closed)) h p refl refl refl
+in_end_name e i false false GraveAccent b letters r p h = escapes_content e i (InContentEnd e (PendingName letters)) r GraveAccent b (codes "/" ++ letters) (codes "&lt;" ++ ((codes "/" ++ letters) ++ loose_out GraveAccent b Closed)) h p refl refl refl
+in_end_name e i false false (Letter l) b letters r p h = escapes_content e i (InContentEnd e (PendingName letters)) r (Letter l) b (codes "/" ++ letters) (codes "&lt;" ++ ((codes "/" ++ letters) ++ loose_out (Letter l) b Closed)) h p refl refl refl
+in_end_name e i false false OtherByte b letters r p h = escapes_content e i (InContentEnd e (PendingName letters)) r OtherByte b (codes "/" ++ letters) (codes "&lt;" ++ ((codes "/" ++ letters) ++ loose_out OtherByte b Closed)) h p refl refl refl
 
 hidden-comment : (s : CommentState) → hides (comment_scan s) ≡ true
 hidden-comment Started = refl
@@ -731,11 +745,82 @@ leaves GraveAccent s f r b before = record { out = refl; reference = refl; loose
 leaves (Letter l) s f r b before = record { out = refl; reference = refl; loose = less-comment (next_comment s (Letter l)); ends = λ h. absurd (no (sym h ∙ hidden-comment (next_comment s (Letter l)))); before = before }
 leaves OtherByte s f r b before = record { out = refl; reference = refl; loose = less-comment (next_comment s OtherByte); ends = λ h. absurd (no (sym h ∙ hidden-comment (next_comment s OtherByte))); before = before }
 
+-- in a data block
+loose-block : (c : Class) → IsLoose (content_next c element.DataBlock)
+loose-block LessThan = record { less = refl; shown = refl }
+loose-block c = record { less = refl; shown = refl }
+
+loose-less : (c : Class) → IsLoose (pending_less_next c element.DataBlock)
+loose-less Solidus = record { less = refl; shown = refl }
+loose-less ExclamationMark = record { less = refl; shown = refl }
+loose-less LessThan = record { less = refl; shown = refl }
+loose-less c = record { less = refl; shown = refl }
+
+loose-end_name : (grows whole : Bool) (c : Class) (b : ℕ) (letters : List ℕ) → IsLoose (end_name_next grows whole c b element.DataBlock letters)
+loose-end_name true whole (Letter l) b letters = record { less = refl; shown = refl }
+loose-end_name grows true White b letters = record { less = refl; shown = refl }
+loose-end_name grows true Solidus b letters = record { less = refl; shown = refl }
+loose-end_name grows true GreaterThan b letters = record { less = refl; shown = refl }
+loose-end_name grows whole c b letters = loose-block c
+
+loose-bang : (c : Class) → IsLoose (bang_next c element.DataBlock)
+loose-bang HyphenMinus = record { less = refl; shown = refl }
+loose-bang LessThan = record { less = refl; shown = refl }
+loose-bang c = record { less = refl; shown = refl }
+
+loose-end : (h : Pending) (c : Class) (b : ℕ) → IsLoose (content_end_next h c b element.DataBlock)
+loose-end Nothing c b = loose-block c
+loose-end PendingLess c b = loose-less c
+loose-end LessAtCut c b = loose-block c
+loose-end (PendingName letters) c b = loose-end_name (may_be_name_of element.DataBlock (letters ++ b ∷ [])) (is_name_of element.DataBlock letters) c b letters
+loose-end PendingBang c b = loose-bang c
+loose-end PendingBangDash c b = loose-block c
+
+in_block : (h : Pending) (c : Class) (b : ℕ) (r : Reference) → r ≡ Closed
+    → KeepsBytes (InContentEnd element.DataBlock h) (content_end_next h c b element.DataBlock) r Closed c b (b ∷ [])
+in_block h c b r closed = without_references (InContentEnd element.DataBlock h) (content_end_next h c b element.DataBlock) r c b refl (loose-end h c b) refl refl refl closed
+
+-- the value of a script's `type`
+before_type : (c : Class) (b : ℕ) (t : TagOf) (r : Reference) → Spelled c b → KeepsBytes (BeforeType t) (before_type_next c b t) r (next_reference r c b) c b (reference_out r c b)
+before_type White b t r p = with_references (BeforeType t) (BeforeType t) r White b p refl refl (λ h. absurd (yes h)) refl refl refl refl
+before_type QuotationMark b t r p = with_references (BeforeType t) (InType t DoubleQuoted (TypeSoFar []) Closed) r QuotationMark b p refl refl (λ h. absurd (yes h)) refl refl refl refl
+before_type Apostrophe b t r p = with_references (BeforeType t) (InType t SingleQuoted (TypeSoFar []) Closed) r Apostrophe b p refl refl (λ h. absurd (yes h)) refl refl refl refl
+before_type GreaterThan b t r p =
+    let g = content_scan (type_tag t (TypeSoFar [])) in
+    let loose = loose-content (type_tag t (TypeSoFar [])) in
+    with_references (BeforeType t) g r GreaterThan b p refl loose.less (λ h. ends_at_greater r b) loose.shown refl refl refl
+before_type c b t r p = with_references (BeforeType t) (in_type t Unquoted (TypeSoFar []) Closed b) r c b p refl refl (λ h. absurd (yes h)) refl refl refl refl
+
+ends_with_value : (q : Quoting) (c : Class) (b : ℕ) (r : Reference) → ends_value q c ≡ true → next_reference r c b ≡ Closed
+ends_with_value DoubleQuoted QuotationMark b r e = ends_at_quotation r b
+ends_with_value SingleQuoted Apostrophe b r e = ends_at_apostrophe r b
+ends_with_value Unquoted White b r e = ends_at_white r b
+ends_with_value Unquoted GreaterThan b r e = ends_at_greater r b
+ends_with_value DoubleQuoted c b r e = absurd (no e)
+ends_with_value SingleQuoted c b r e = absurd (no e)
+ends_with_value Unquoted c b r e = absurd (no e)
+
+loose-after_type : (q : Quoting) (c : Class) (t : TagOf) → IsLoose (after_type q c t)
+loose-after_type Unquoted GreaterThan t = loose-content t
+loose-after_type q c t = record { less = refl; shown = refl }
+
+within_type : (ends : Bool) (q : Quoting) (c : Class) (b : ℕ) (t : TagOf) (v : Value ValueState) (z r : Reference) → ends_value q c ≡ ends → Spelled c b
+    → KeepsBytes (InType t q v z) (type_next ends c b t q v z) r (next_reference r c b) c b (reference_out r c b)
+within_type true q c b t v z r e p =
+    let g = after_type q c (type_tag t (ended_type v z)) in
+    let loose = loose-after_type q c (type_tag t (ended_type v z)) in
+    with_references (InType t q v z) g r c b p refl loose.less (λ h. ends_with_value q c b r e) loose.shown refl refl refl
+within_type false q c b t v z r e p = with_references (InType t q v z) (in_type t q v z b) r c b p refl refl (λ h. absurd (yes h)) refl refl refl refl
+
 -- the scan states of the code
+abbrev IsReadEnd : Element → Pending → Type 0
+IsReadEnd element.DataBlock h = h ≡ h
+IsReadEnd e PendingLess = e ≡ e
+IsReadEnd e (PendingName letters) = e ≡ e
+IsReadEnd e h = ⊥
+
 abbrev pub IsRead : Scan → Type 0
-IsRead (InContentEnd e Nothing) = ⊥
-IsRead (InContentEnd e PendingBang) = ⊥
-IsRead (InContentEnd e PendingBangDash) = ⊥
+IsRead (InContentEnd e h) = IsReadEnd e h
 IsRead f = f ≡ f
 
 abbrev LawAt : Scan → Class → ℕ → Reference → Type 0
@@ -743,14 +828,25 @@ LawAt f c b r = Law f (scan_next f c b) r (scan_open f c b r) c b (scan_out f c 
 
 at_place : (p : Place) (c : Class) (b : ℕ) (r : Reference) → Spelled c b → (bears (At p) ≡ false → r ≡ Closed) → LawAt (At p) c b r
 at_place place.Text c b r p closed = in_text c b r p
-at_place (place.Rcdata e) c b r p closed = in_rcdata c b e r p
+at_place (place.Rcdata element.DataBlock) c b r p closed =
+    without_references (At (place.Rcdata element.DataBlock)) (content_next c element.DataBlock) r c b refl (loose-block c) refl refl refl (closed refl)
+at_place (place.Rcdata e) c b r p closed = in_rcdata e refl c b r p
 at_place (place.Value v) c b r p closed = in_quotes v.quotes c b v r p
 at_place (place.Tag t) c b r p closed = without_references (At (place.Tag t)) (tag_next t c b) r c b refl (loose-tag c t b) refl refl refl (closed refl)
 at_place place.Doctype c b r p closed = without_references (At place.Doctype) (doctype_next c) r c b refl (loose-doctype c) refl refl refl (closed refl)
 at_place (place.Comment dash) c b r p closed = leaves c (comment_state dash) (At (place.Comment dash)) r b refl
 at_place (place.Script j) c b r p closed = without_references (At (place.Script j)) (At (place.Script j)) r c b refl (record { less = refl; shown = refl }) refl refl refl (closed refl)
 at_place (place.Style j) c b r p closed = without_references (At (place.Style j)) (At (place.Style j)) r c b refl (record { less = refl; shown = refl }) refl refl refl (closed refl)
-at_place (place.Block j) c b r p closed = without_references (At (place.Block j)) (At (place.Block j)) r c b refl (record { less = refl; shown = refl }) refl refl refl (closed refl)
+at_place (place.Block lt) c b r p closed = without_references (At (place.Block lt)) (content_next c element.DataBlock) r c b refl (loose-block c) refl refl refl (closed refl)
+
+at_end : (e : Element) (h : Pending) (c : Class) (b : ℕ) (r : Reference) → IsReadEnd e h → Spelled c b → (bears (InContentEnd e h) ≡ false → r ≡ Closed) → LawAt (InContentEnd e h) c b r
+at_end element.DataBlock h c b r i p closed = in_block h c b r (closed refl)
+at_end e Nothing c b r i p closed = absurd i
+at_end e PendingLess c b r i p closed = after_content_less e refl c b r p (closed refl)
+at_end e (PendingName letters) c b r i p closed = in_end_name e refl (may_be_name_of e (letters ++ b ∷ [])) (is_name_of e letters) c b letters r p (closed refl)
+at_end e LessAtCut c b r i p closed = absurd i
+at_end e PendingBang c b r i p closed = absurd i
+at_end e PendingBangDash c b r i p closed = absurd i
 
 pub law : (f : Scan) (c : Class) (b : ℕ) (r : Reference) → IsRead f → Spelled c b → (bears f ≡ false → r ≡ Closed) → LawAt f c b r
 law (At q) c b r i p closed = at_place q c b r p closed
@@ -760,8 +856,6 @@ law (InDeclaration bytes) c b r i p closed = in_declared (declared_by (bytes ++ 
 law (InTagName ends name) c b r i p closed = without_references (InTagName ends name) (tag_name_next c b ends name) r c b refl (loose-tag_name c b ends name) refl refl refl (closed refl)
 law (InAttributeName t typed name) c b r i p closed = without_references (InAttributeName t typed name) (attribute_name_next c b t typed (kind_of (tag_element t) name) name) r c b refl (loose-attribute_name c b t typed (kind_of (tag_element t) name) name) refl refl refl (closed refl)
 law (InCommentEnd s) c b r i p closed = leaves c s (InCommentEnd s) r b refl
-law (InContentEnd e Nothing) c b r i p closed = absurd i
-law (InContentEnd e PendingLess) c b r i p closed = after_content_less c b e r p (closed refl)
-law (InContentEnd e (PendingName letters)) c b r i p closed = in_end_name (may_be_name_of e (letters ++ b ∷ [])) (is_name_of e letters) c b e letters r p (closed refl)
-law (InContentEnd e PendingBang) c b r i p closed = absurd i
-law (InContentEnd e PendingBangDash) c b r i p closed = absurd i
+law (InContentEnd e h) c b r i p closed = at_end e h c b r i p closed
+law (BeforeType t) c b r i p closed = before_type c b t r p
+law (InType t q v z) c b r i p closed = within_type (ends_value q c) q c b t v z r refl p

@@ -8,7 +8,7 @@ use Rattle.place_core.specs.page.Classes.{Class, Ampersand, LessThan, class_of}
 use Rattle.place_core.specs.page.Events.{LexEvent, TextByte}
 use Rattle.place_core.specs.page.References.{Closed}
 use Rattle.place_core.specs.page.States.{Text, config}
-use Rattle.place_core.specs.page.Tags.{Bodies}
+use Rattle.place_core.specs.page.Tags.{ValueLanguage}
 use Rattle.text_norm.specs.Standing.{page}
 use Rattle.place_core.specs.page.Comments.{OpensComment, OpensDoctype, OpensNothing, Undecided, declared_by}
 
@@ -119,10 +119,10 @@ not-amp pending b e u = neither pending 38 refl refl (subst (λ (z : ℕ). decla
 not-less : (pending : List ℕ) (b : ℕ) → (b == 60) ≡ true → declared_by (pending ++ b ∷ []) ≡ Undecided → ⊥
 not-less pending b e u = neither pending 60 refl refl (subst (λ (z : ℕ). declared_by (pending ++ z ∷ []) ≡ Undecided) (eqb-true b 60 e) u)
 
-own-class : {B : Type 0} (x : Bodies B) (c : Class) (b : ℕ) (u : List LexEvent) → class_of b ≡ c → (c ≡ Ampersand → ⊥) → (c ≡ LessThan → ⊥) → page x (b ∷ []) (config (Text Closed) u) ≡ config (Text Closed) (TextByte b ∷ u)
+own-class : {B : Type 0} (x : ValueLanguage B) (c : Class) (b : ℕ) (u : List LexEvent) → class_of b ≡ c → (c ≡ Ampersand → ⊥) → (c ≡ LessThan → ⊥) → page x (b ∷ []) (config (Text Closed) u) ≡ config (Text Closed) (TextByte b ∷ u)
 own-class x Ampersand b u e m n = absurd (m refl)
 own-class x LessThan b u e m n = absurd (n refl)
 own-class x _ b u e m n = rw e refl
 
-pub undecided-own : {B : Type 0} (x : Bodies B) (pending : List ℕ) (b : ℕ) (u : List LexEvent) → declared_by (pending ++ b ∷ []) ≡ Undecided → page x (b ∷ []) (config (Text Closed) u) ≡ config (Text Closed) (TextByte b ∷ u)
+pub undecided-own : {B : Type 0} (x : ValueLanguage B) (pending : List ℕ) (b : ℕ) (u : List LexEvent) → declared_by (pending ++ b ∷ []) ≡ Undecided → page x (b ∷ []) (config (Text Closed) u) ≡ config (Text Closed) (TextByte b ∷ u)
 undecided-own x pending b u k = own-class x (class_of b) b u refl (λ e. not-amp pending b (amp-only b e) k) (λ e. not-less pending b (less-only b e) k)

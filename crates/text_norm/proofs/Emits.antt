@@ -1,13 +1,13 @@
 -- What a page has told where its reading stands for a path, and where it is in the path's very state.
-use Rattle.std.proofs.Common.{◌≡◌, true, false, List, Option, Some, None, refl, sym, ap, subst}
+use Rattle.std.proofs.Common.{◌≡◌, Bool, true, false, List, Option, Some, None, if◌then◌else◌, refl, sym, ap, ◌∙◌, subst}
 use Rattle.std.specs.Bool.{⊤}
 use Rattle.place_core.specs.page.Events.{LexEvent}
 use Rattle.place_core.specs.place.Membership.{IsIn}
 use Rattle.place_core.specs.place.Places.{Below}
 use Rattle.place_core.specs.page.References.{Reference, Closed, Open}
-use Rattle.place_core.specs.place.StatePlaces.{comment_place, content_place, placed, quotes_at, unbegun, value_body, value_spot, where_closed}
-use Rattle.place_core.specs.page.States.{LexState, Text, TagOpen, EndTagOpen, DeclarationOpen, CommentState, Inside, Broken, InComment, BogusComment, InDoctype, TagName, WholeTagName, BeforeAttributeName, AttributeName, WholeAttributeName, AfterAttributeName, BeforeAttributeValue, AttributeValue, AfterAttributeValue, SelfClosingStartTag, Characters, Bytes, Nothing, PendingLess, PendingName, PendingBang, PendingBangDash, InContent, Unread, Config, config}
-use Rattle.place_core.specs.page.Tags.{Tag, ValueOf, TypeSoFar, ValueState, languages, attribute_value_of}
+use Rattle.place_core.specs.place.StatePlaces.{block_place, comment_place, content_place, placed, quotes_at, unbegun, value_body, only_after, only_inside, tag_spot, value_spot, where_closed}
+use Rattle.place_core.specs.page.States.{LexState, Text, TagOpen, EndTagOpen, DeclarationOpen, CommentState, Inside, Broken, InComment, BogusComment, InDoctype, TagName, WholeTagName, BeforeAttributeName, AttributeName, WholeAttributeName, AfterAttributeName, BeforeAttributeValue, AttributeValue, AfterAttributeValue, SelfClosingStartTag, Characters, Bytes, Nothing, PendingLess, LessAtCut, PendingName, PendingBang, PendingBangDash, InContent, Unread, Config, config}
+use Rattle.place_core.specs.page.Tags.{Tag, is_second_type, is_typed, ValueOf, TypeSoFar, ValueState, languages, attribute_value_of}
 use Rattle.place_core.specs.declared.body.Body.{Body}
 use Rattle.place_core.specs.declared.element.Element.{Element}
 use Rattle.place_core.specs.declared.element.Element.TheVariants as element
@@ -38,18 +38,20 @@ emitted-same (AttributeName tag name) t d h l = ap (λ (c : Config ValueState). 
 emitted-same (WholeAttributeName tag k) t d h l = ap (λ (c : Config ValueState). c.emitted) l.at
 emitted-same (AfterAttributeName tag k) t d h l = ap (λ (c : Config ValueState). c.emitted) l
 emitted-same (BeforeAttributeValue tag k) t d h l = ap (λ (c : Config ValueState). c.emitted) l
-emitted-same (AttributeValue q tag (ValueOf v) Closed) t d h l = ap (λ (c : Config ValueState). c.emitted) l
+emitted-same (AttributeValue q tag (ValueOf v) Closed) t d h l = ap (λ (c : Config ValueState). c.emitted) l.stands
 emitted-same (AttributeValue q tag (ValueOf v) (Open f b)) t d h l = absurd h
-emitted-same (AttributeValue q tag (TypeSoFar before) r) t d h l = absurd l
+emitted-same (AttributeValue q tag (TypeSoFar before) Closed) t d h l = absurd h
+emitted-same (AttributeValue q tag (TypeSoFar before) (Open f b)) t d h l = absurd h
 emitted-same (AfterAttributeValue tag) t d h l = ap (λ (c : Config ValueState). c.emitted) l
 emitted-same (SelfClosingStartTag tag) t d h l = ap (λ (c : Config ValueState). c.emitted) l
 emitted-same (InContent e (Characters Closed) Nothing) t d h l = ap (λ (c : Config ValueState). c.emitted) l
 emitted-same (InContent e (Characters (Open f b)) Nothing) t d h l = absurd h
 emitted-same (InContent e (Characters r) PendingLess) t d h l = absurd h
 emitted-same (InContent e (Characters r) (PendingName letters)) t d h l = absurd h
+emitted-same (InContent e (Characters r) LessAtCut) t d h l = absurd h
 emitted-same (InContent e (Characters r) PendingBang) t d h l = absurd h
 emitted-same (InContent e (Characters r) PendingBangDash) t d h l = absurd h
-emitted-same (InContent e Bytes pending) t d h l = absurd l
+emitted-same (InContent e Bytes pending) t d h l = ap (λ (c : Config ValueState). c.emitted) l
 emitted-same Unread t d h l = absurd h
 
 pub emits-the-same : EmitsTheSame
@@ -74,18 +76,25 @@ same-state (AttributeName tag name) t d h l = l
 same-state (WholeAttributeName tag k) t d h l = absurd (no h)
 same-state (AfterAttributeName tag k) t d h l = l
 same-state (BeforeAttributeValue tag k) t d h l = l
-same-state (AttributeValue q tag (ValueOf v) Closed) t d h l = l
+same-state (AttributeValue q tag (ValueOf v) Closed) t d h l = l.stands ∙ ap (λ (w : ValueState). config (AttributeValue q tag (ValueOf w) Closed) t) l.alike
 same-state (AttributeValue q tag (ValueOf v) (Open f b)) t d h l = absurd (no h)
-same-state (AttributeValue q tag (TypeSoFar before) r) t d h l = absurd l
+same-state (AttributeValue q tag (TypeSoFar before) Closed) t d h l = l
+same-state (AttributeValue q tag (TypeSoFar before) (Open f b)) t d h l = absurd (no h)
 same-state (AfterAttributeValue tag) t d h l = l
 same-state (SelfClosingStartTag tag) t d h l = l
 same-state (InContent e (Characters Closed) Nothing) t d h l = l
 same-state (InContent e (Characters (Open f b)) Nothing) t d h l = absurd (no h)
 same-state (InContent e (Characters r) PendingLess) t d h l = absurd (no h)
 same-state (InContent e (Characters r) (PendingName letters)) t d h l = absurd (no h)
+same-state (InContent e (Characters r) LessAtCut) t d h l = absurd (no h)
 same-state (InContent e (Characters r) PendingBang) t d h l = absurd (no h)
 same-state (InContent e (Characters r) PendingBangDash) t d h l = absurd (no h)
-same-state (InContent e Bytes pending) t d h l = absurd l
+same-state (InContent e Bytes Nothing) t d h l = l
+same-state (InContent e Bytes PendingLess) t d h l = l
+same-state (InContent e Bytes LessAtCut) t d h l = absurd (no h)
+same-state (InContent e Bytes (PendingName letters)) t d h l = l
+same-state (InContent e Bytes PendingBang) t d h l = l
+same-state (InContent e Bytes PendingBangDash) t d h l = l
 same-state Unread t d h l = l
 
 -- the one state of the place Text
@@ -110,6 +119,14 @@ no-content element.Title h = h
 no-content element.Textarea h = h
 no-content _ h = h
 
+no-block : (e : Element) (lt : Bool) → IsText (block_place e lt) → ⊥
+no-block element.DataBlock lt h = h
+no-block _ lt h = h
+
+no-name : (second : Bool) (p : Place) → (IsText (Some p) → ⊥) → IsText (if second then None else Some p) → ⊥
+no-name true p n h = h
+no-name false p n h = n h
+
 no-comment : (s : CommentState) → IsText (comment_place s) → ⊥
 no-comment Inside h = h
 no-comment Broken h = h
@@ -128,8 +145,8 @@ in-text-state (TagName ends name) h = absurd h
 in-text-state (WholeTagName tag) h = absurd h
 in-text-state (BeforeAttributeName tag) h = absurd h
 in-text-state (AttributeName tag name) h = absurd h
-in-text-state (WholeAttributeName tag k) h = absurd h
-in-text-state (AfterAttributeName tag k) h = absurd h
+in-text-state (WholeAttributeName tag k) h = absurd (no-name (is_second_type (is_typed tag) k) (place.Tag (tag_spot tag only_inside (Some k))) (λ g. g) h)
+in-text-state (AfterAttributeName tag k) h = absurd (no-name (is_second_type (is_typed tag) k) (place.Tag (tag_spot tag only_after (Some k))) (λ g. g) h)
 in-text-state (BeforeAttributeValue tag k) h = absurd (no-value tag unbegun (value_body (attribute_value_of languages k)) h)
 in-text-state (AttributeValue q tag v r) h = absurd (no-text r (value_spot tag (quotes_at q) (value_body v)) (no-value tag (quotes_at q) (value_body v)) h)
 in-text-state (AfterAttributeValue tag) h = absurd h
@@ -137,10 +154,12 @@ in-text-state (SelfClosingStartTag tag) h = absurd h
 in-text-state (InContent e (Characters r) Nothing) h = absurd (no-text r (content_place e) (no-content e) h)
 in-text-state (InContent e (Characters r) PendingLess) h = absurd h
 in-text-state (InContent e (Characters r) (PendingName letters)) h = absurd h
+in-text-state (InContent e (Characters r) LessAtCut) h = absurd h
 in-text-state (InContent e (Characters r) PendingBang) h = absurd h
 in-text-state (InContent e (Characters r) PendingBangDash) h = absurd h
-in-text-state (InContent e Bytes Nothing) h = absurd h
+in-text-state (InContent e Bytes Nothing) h = absurd (no-block e false h)
 in-text-state (InContent e Bytes PendingLess) h = absurd h
+in-text-state (InContent e Bytes LessAtCut) h = absurd (no-block e true h)
 in-text-state (InContent e Bytes (PendingName letters)) h = absurd h
 in-text-state (InContent e Bytes PendingBang) h = absurd h
 in-text-state (InContent e Bytes PendingBangDash) h = absurd h

@@ -2,9 +2,10 @@
 use Rattle.std.proofs.Common.{◌≡◌, true, false, codes, List, ℕ, [], ◌∷◌, ◌++◌, refl, sym, ap, ◌∙◌, subst}
 use Rattle.std.proofs.lemmas.List.{append_assoc}
 use Rattle.place_core.specs.page.References.{Reference, Closed, as_it_stands}
-use Rattle.place_core.specs.page.States.{PendingLess, PendingName, PendingBang, PendingBangDash, Nothing}
+use Rattle.place_core.specs.page.States.{PendingLess, LessAtCut, PendingName, PendingBang, PendingBangDash, Nothing}
+use Rattle.place_core.specs.declared.element.Element.TheVariants as element
 use Rattle.place_core.specs.declared.place.Place.TheVariants as place
-use Rattle.html_scan.specs.Scans.{Scan, At, AfterLess, AfterLessSolidus, InDeclaration, InTagName, InAttributeName, InCommentEnd, InContentEnd}
+use Rattle.html_scan.specs.Scans.{Scan, At, AfterLess, AfterLessSolidus, InDeclaration, InTagName, InAttributeName, InCommentEnd, InContentEnd, BeforeType, InType}
 use Rattle.text_norm.specs.Scanned.{scan_cut_out}
 use Rattle.text_norm.specs.Kept.{IsProgressKept, bears, ending_of, scan_of, hides, less_kept, reference_of}
 use Rattle.text_norm.specs.Written.{text_escaped}
@@ -50,11 +51,15 @@ end_law (InDeclaration bytes) r i h = record { more = codes "!" ++ bytes; less =
 end_law (InTagName ends name) r i h = record { out = rw (h refl) refl; less = refl; shown = refl }
 end_law (InAttributeName t typed name) r i h = record { out = rw (h refl) refl; less = refl; shown = refl }
 end_law (InCommentEnd s) r i h = record { out = refl; hidden = refl }
+end_law (InContentEnd element.DataBlock p) r i h = record { out = rw (h refl) refl; less = refl; shown = refl }
 end_law (InContentEnd e Nothing) r i h = absurd i
 end_law (InContentEnd e PendingLess) r i h = record { more = []; less = refl; out = rw (h refl) refl; shown = refl }
 end_law (InContentEnd e (PendingName letters)) r i h = record { more = codes "/" ++ letters; less = refl; out = rw (h refl) refl; shown = refl }
+end_law (InContentEnd e LessAtCut) r i h = absurd i
 end_law (InContentEnd e PendingBang) r i h = absurd i
 end_law (InContentEnd e PendingBangDash) r i h = absurd i
+end_law (BeforeType t) r i h = record { out = refl; less = refl; shown = refl }
+end_law (InType t q v z) r i h = record { out = refl; less = refl; shown = refl }
 
 pub end_here : (e : Ending) (text : List ℕ) (index : ℕ) (x : WriteProgress) → IsProgressKept text index x → e ≡ ending_of (scan_of text index x) → EndLaw e (scan_of text index x) (reference_of text x)
 end_here e text index x kept is = subst (λ (e : Ending). EndLaw e (scan_of text index x) (reference_of text x)) (sym is) (end_law (scan_of text index x) (reference_of text x) (is_read text index x.scan) kept.closed)

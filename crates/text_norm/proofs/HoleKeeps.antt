@@ -1,5 +1,7 @@
 -- The bytes of a hole lead the page's reading where the hole leads the path.
-use Rattle.std.proofs.Common.{◌≡◌, ℕ, Bool, true, false, not, ◌||◌, List, [], ◌∷◌, Option, Some, None, Ok, Err, inl, refl, sym, ap, ◌∙◌, subst}
+use Rattle.std.proofs.Common.{◌≡◌, ℕ, Bool, true, false, not, ◌||◌, List, [], ◌∷◌, Option, Some, None, if◌then◌else◌, Ok, Err, inl, refl, sym, ap, ◌∙◌, subst}
+use Rattle.page_datum.specs.Data.{Data}
+use Rattle.page_datum.specs.Printed.{printed}
 use Rattle.place_core.specs.page.Events.{LexEvent, Mark, AttributeBegins}
 use Rattle.place_core.specs.page.Html.{read}
 use Rattle.place_core.specs.page.Paths.{at_hole, mark_in}
@@ -8,56 +10,64 @@ use Rattle.place_core.specs.page.Plain.{IsPlain, IsPlainName}
 use Rattle.place_core.specs.page.Words.{is_plain_name, is_special, kind_of}
 use Rattle.html_scan.proofs.Lowered.{kind_lowered}
 use Rattle.place_core.specs.page.References.{Closed, Open}
-use Rattle.place_core.specs.page.Shape.{HolePart, PageReads, marked}
-use Rattle.place_core.specs.place.StatePlaces.{placed}
-use Rattle.place_core.specs.page.States.{Started, StartedDash, Inside, Dash, DashDash, Bang, Broken, Page, LexState, Text, TagOpen, EndTagOpen, DeclarationOpen, InComment, BogusComment, InDoctype, TagName, WholeTagName, BeforeAttributeName, AttributeName, WholeAttributeName, AfterAttributeName, BeforeAttributeValue, AttributeValue, AfterAttributeValue, SelfClosingStartTag, Characters, Bytes, Nothing, PendingLess, PendingName, PendingBang, PendingBangDash, InContent, Unread, Config, config}
-use Rattle.place_core.specs.page.Tags.{Tag, ValueOf, TypeSoFar, ValueState, languages, DoubleQuoted, SingleQuoted, Unquoted, element_on, without_value}
+use Rattle.place_core.specs.page.Shape.{HolePart, PageReads, state_past_hole, marked}
+use Rattle.place_core.specs.place.StatePlaces.{only_after, only_inside, placed, tag_spot}
+use Rattle.place_core.specs.page.States.{Started, StartedDash, Inside, Dash, DashDash, Bang, Broken, Page, LexState, Text, TagOpen, EndTagOpen, DeclarationOpen, InComment, BogusComment, InDoctype, TagName, WholeTagName, BeforeAttributeName, AttributeName, WholeAttributeName, AfterAttributeName, BeforeAttributeValue, AttributeValue, AfterAttributeValue, SelfClosingStartTag, Characters, Bytes, Nothing, PendingLess, LessAtCut, PendingName, PendingBang, PendingBangDash, InContent, Unread, Config, config}
+use Rattle.place_core.specs.page.Tags.{Tag, ValueOf, TypeSoFar, ValueState, languages, is_second_type, is_typed, Quoting, DoubleQuoted, SingleQuoted, Unquoted, element_on, without_value}
+use Rattle.place_core.specs.declared.chain.Chain.{Chain}
 use Rattle.place_core.specs.declared.element.Element.{Element}
 use Rattle.place_core.specs.declared.element.Element.TheVariants as element
 use Rattle.place_core.specs.declared.kind.Kind.{Kind}
 use Rattle.place_core.specs.declared.kind.Kind.TheVariants as kind
 use Rattle.place_core.specs.declared.place.Place.{Place}
 use Rattle.place_core.specs.declared.place.Place.TheVariants as place
-use Rattle.place_core.specs.declared.san.San.{San}
 use Rattle.place_core.specs.declared.san.San.TheVariants as san
-use Rattle.san_html.specs.ReadBack.{IsBackInQuoted, IsBackInUnquoted, IsBackInTag, BeginsName, in_value}
+use Rattle.san_html.specs.ReadBack.{IsBackInQuoted, IsBackInUnquoted, IsBackInTag, BeginsName, in_block, in_value}
 use Rattle.html_step.specs.Holes.{Holed, after_hole, only}
 use Rattle.html_step.proofs.HoleOrder.{covers-hole}
 use Rattle.text_norm.specs.HoleLaws.{ArePlain, IsBackBy, KeepsHole, hole_parts}
 use Rattle.text_norm.specs.Standing.{TextStands, WholeAttribute}
+use Rattle.text_norm.proofs.Emits.{same-state}
+use Rattle.text_norm.proofs.KindsKeep.{kinds-keep}
+use Rattle.text_norm.proofs.ValuesKeep.{hole-alike}
 
 -- What a hole in a state has to show: its bytes are plain, and lead to where the page stands for the state after it.
-abbrev Kept : San → LexState ValueState → List ℕ → List LexEvent → Config ValueState → Type 0
-Kept x s bytes t d = ArePlain x bytes d × ((e : Config ValueState) × PageReads (hole_parts x bytes) d e × TextStands languages (at_hole languages s) (mark_in s t) e)
+abbrev Kept : Chain → LexState ValueState → List ℕ → List LexEvent → Config ValueState → Type 0
+Kept x s bytes t d = ArePlain x bytes d × ((e : Config ValueState) × PageReads (hole_parts x bytes) d e × TextStands languages (at_hole languages s) (mark_in languages s t) e)
 
 -- one that has a part
-kept : (s : LexState ValueState) (bytes : List ℕ) (t : List LexEvent) (d : Config ValueState) → IsPlain bytes d → TextStands languages (at_hole languages s) (mark_in s t) (marked bytes d)
-    → IsPlain bytes d × ((e : Config ValueState) × PageReads (HolePart bytes ∷ []) d e × TextStands languages (at_hole languages s) (mark_in s t) e)
+kept : (s : LexState ValueState) (bytes : List ℕ) (t : List LexEvent) (d : Config ValueState) → IsPlain bytes d → TextStands languages (at_hole languages s) (mark_in languages s t) (marked bytes d)
+    → IsPlain bytes d × ((e : Config ValueState) × PageReads (HolePart bytes ∷ []) d e × TextStands languages (at_hole languages s) (mark_in languages s t) e)
 kept s bytes t d p h = (p, (marked bytes d, inl (p, refl), h))
 
--- which sanitizer a hole has
-abbrev first : List San → San
-first [] = san.Drop
-first (x ∷ xs) = x
+-- which chain a hole has
+abbrev chain_in : Holed → Chain
+chain_in (Ok h) = h.1
+chain_in (Err e) = only san.Drop
 
-abbrev san_in : Holed → San
-san_in (Ok h) = first h.1.sans
-san_in (Err e) = san.Drop
-
-abbrev HoleOf : Option Place → San → Type 0
+abbrev HoleOf : Option Place → Chain → Type 0
 HoleOf None x = ⊥
-HoleOf (Some a) x = (b : Place) × (after_hole a ≡ Ok (b, only x))
+HoleOf (Some a) x = (b : Place) × (after_hole a ≡ Ok (b, x))
 
-its : (a : Place) (x : San) → HoleOf (Some a) x → san_in (after_hole a) ≡ x
-its a x h = ap san_in h.1
+its : (a : Place) (x : Chain) → HoleOf (Some a) x → chain_in (after_hole a) ≡ x
+its a x h = ap chain_in h.1
 
-abbrev hole_san : Option Place → San
-hole_san None = san.Drop
-hole_san (Some a) = san_in (after_hole a)
+abbrev hole_chain : Option Place → Chain
+hole_chain None = only san.Drop
+hole_chain (Some a) = chain_in (after_hole a)
 
-its-of : (o : Option Place) (x : San) → HoleOf o x → hole_san o ≡ x
+its-of : (o : Option Place) (x : Chain) → HoleOf o x → hole_chain o ≡ x
 its-of None x h = absurd h
 its-of (Some a) x h = its a x h
+
+-- after a name, unless it is a second `type`
+its-name : (second : Bool) (a : Place) (x : Chain) → HoleOf (if second then None else Some a) x → chain_in (after_hole a) ≡ x
+its-name true a x h = absurd h
+its-name false a x h = its a x h
+
+not-name : (second : Bool) (a : Place) (x : Chain) → (HoleOf (Some a) x → ⊥) → HoleOf (if second then None else Some a) x → ⊥
+not-name true a x n h = h
+not-name false a x n h = n h
 
 refused : {E A : Type 0} (e : E) (y : A) → Err e ≡ Ok y → ⊥
 refused e y h = cc
@@ -90,125 +100,152 @@ harmless-kind element.Style name h = plain-kind (kind_of element.Other name) (bo
 harmless-kind element.Script name h = plain-kind (kind_of element.Script name) (both-plain (is_plain_name (kind_of element.Other name)) (is_plain_name (kind_of element.Script name)) _ h).1
 harmless-kind element.DataBlock name h = plain-kind (kind_of element.Script name) (both-plain (is_plain_name (kind_of element.Other name)) (is_plain_name (kind_of element.Script name)) _ h).1
 
+-- where the page is behind a hole, by where its bytes lead
+abbrev behind : LexState ValueState → List LexEvent → LexState ValueState → Config ValueState
+behind s t z = config (state_past_hole languages s z) t
+
 -- a hole that is a name
-named : (tag : Tag) (bytes : List ℕ) (t : List LexEvent) (d : Config ValueState) → IsPlainName tag bytes (config d.at d.emitted) → WholeAttribute ValueState tag kind.Plain t (config d.at t)
-named tag bytes t d p = record {
+named : (s : LexState ValueState) (tag : Tag) (bytes : List ℕ) (t : List LexEvent) (d : Config ValueState) → IsPlainName tag bytes (config d.at d.emitted) → WholeAttribute ValueState tag kind.Plain t (behind s t d.at)
+named s tag bytes t d p = record {
   name = str_to_ascii_lowercase bytes;
   named = sym (kind_lowered (element_on tag) bytes) ∙ harmless-kind (element_on tag) bytes p.harmless;
-  at = ap (λ (z : LexState ValueState). config z t) p.within;
+  at = ap (behind s t) p.within;
 }
 
-name-keeps : (s : LexState ValueState) (tag : Tag) (x : San) (text bytes : List ℕ) (t : List LexEvent) (d : Config ValueState) → san.AttrName ≡ x → BeginsName s tag
-    → (IsPlain bytes (config s t) → TextStands languages (at_hole languages s) (mark_in s t) (marked bytes (config s t))) → d ≡ config s t → IsBackBy x text bytes → Kept x s bytes t d
-name-keeps s tag x text bytes t d e begins leads h = subst (λ (z : San). IsBackBy z text bytes → Kept z s bytes t d) e
-    (λ (k : IsBackInTag text bytes). subst (λ (z : Config ValueState). Kept san.AttrName s bytes t z) (sym h) (kept s bytes t (config s t) (k.plain s tag t begins) (leads (k.plain s tag t begins))))
+name-keeps : (s : LexState ValueState) (tag : Tag) (x : Chain) (datum : Data) (bytes : List ℕ) (t : List LexEvent) (d : Config ValueState) → only san.AttrName ≡ x → BeginsName s tag
+    → (IsPlain bytes (config s t) → TextStands languages (at_hole languages s) (mark_in languages s t) (marked bytes (config s t))) → d ≡ config s t → IsBackBy x datum bytes → Kept x s bytes t d
+name-keeps s tag x datum bytes t d e begins leads h = subst (λ (z : Chain). IsBackBy z datum bytes → Kept z s bytes t d) e
+    (λ (k : IsBackInTag (printed datum) bytes). subst (λ (z : Config ValueState). Kept (only san.AttrName) s bytes t z) (sym h) (kept s bytes t (config s t) (k.plain s tag t begins) (leads (k.plain s tag t begins))))
 
-content-keeps : (e : Element) (x : San) (text bytes : List ℕ) (t : List LexEvent) (d : Config ValueState) → san.Html ≡ x → IsBackBy x text bytes → d ≡ config (InContent e (Characters Closed) Nothing) t
+content-keeps : (e : Element) (x : Chain) (datum : Data) (bytes : List ℕ) (t : List LexEvent) (d : Config ValueState) → only san.Html ≡ x → IsBackBy x datum bytes → d ≡ config (InContent e (Characters Closed) Nothing) t
     → Kept x (InContent e (Characters Closed) Nothing) bytes t d
-content-keeps e x text bytes t d h k l =
-    subst (λ (z : San). IsBackBy z text bytes → Kept z (InContent e (Characters Closed) Nothing) bytes t d) h
-    (λ k. subst (λ (z : Config ValueState). Kept san.Html (InContent e (Characters Closed) Nothing) bytes t z) (sym l)
-    (kept (InContent e (Characters Closed) Nothing) bytes t (config (InContent e (Characters Closed) Nothing) t) (k.1.plain e t) (ap (λ (z : LexState ValueState). config z (Mark ∷ t)) ((k.1.plain e t).1).0))) k
+content-keeps e x datum bytes t d h k l =
+    subst (λ (z : Chain). IsBackBy z datum bytes → Kept z (InContent e (Characters Closed) Nothing) bytes t d) h
+    (λ k. subst (λ (z : Config ValueState). Kept (only san.Html) (InContent e (Characters Closed) Nothing) bytes t z) (sym l)
+    (kept (InContent e (Characters Closed) Nothing) bytes t (config (InContent e (Characters Closed) Nothing) t) (k.1.plain e t) (ap (behind (InContent e (Characters Closed) Nothing) (Mark ∷ t)) ((k.1.plain e t).1).0))) k
+
+block-keeps : (x : Chain) (datum : Data) (bytes : List ℕ) (t : List LexEvent) (d : Config ValueState) → only san.Html ≡ x → IsBackBy x datum bytes → d ≡ config in_block t → Kept x in_block bytes t d
+block-keeps x datum bytes t d h k l =
+    subst (λ (z : Chain). IsBackBy z datum bytes → Kept z in_block bytes t d) h
+    (λ k. subst (λ (z : Config ValueState). Kept (only san.Html) in_block bytes t z) (sym l)
+    (kept in_block bytes t (config in_block t) (k.2.plain t) (ap (behind in_block (Mark ∷ t)) ((k.2.plain t).1).0))) k
+
+-- a value behind a hole
+in-plain : (q : Quoting) (tag : Tag) (t : List LexEvent) (d : Config ValueState) → d ≡ config (in_value q tag (ValueOf kind.Plain)) (Mark ∷ t) → TextStands languages (in_value q tag (ValueOf kind.Plain)) (Mark ∷ t) d
+in-plain q tag t d h = subst (λ (z : Config ValueState). TextStands languages (in_value q tag (ValueOf kind.Plain)) (Mark ∷ t) z) (sym h) (hole-alike kinds-keep q tag kind.Plain kind.Plain kind.Plain t refl refl)
 
 -- where the bytes lead that are plain in an unquoted value, and before one
 unquoted : (tag : Tag) (bytes : List ℕ) (t : List LexEvent) → IsPlain bytes (config (in_value Unquoted tag (ValueOf kind.Plain)) t)
     → marked bytes (config (in_value Unquoted tag (ValueOf kind.Plain)) t) ≡ config (in_value Unquoted tag (ValueOf kind.Plain)) (Mark ∷ t)
-unquoted tag bytes t p = ap (λ (z : LexState ValueState). config z (Mark ∷ t)) p.1.within
+unquoted tag bytes t p = ap (behind (in_value Unquoted tag (ValueOf kind.Plain)) (Mark ∷ t)) p.1.within
 
 unbegun : (tag : Tag) (bytes : List ℕ) (t : List LexEvent) → IsPlain bytes (config (BeforeAttributeValue tag kind.Plain) t)
     → marked bytes (config (BeforeAttributeValue tag kind.Plain) t) ≡ config (in_value Unquoted tag (ValueOf kind.Plain)) (Mark ∷ t)
-unbegun tag bytes t p = ap (λ (z : LexState ValueState). config z (Mark ∷ t)) p.1.1.within
+unbegun tag bytes t p = ap (behind (BeforeAttributeValue tag kind.Plain) (Mark ∷ t)) p.1.1.within
 
-unbegun-keeps : (tag : Tag) (x : San) (text bytes : List ℕ) (t : List LexEvent) (d : Config ValueState) → san.AttrNospace ≡ x → IsBackBy x text bytes → d ≡ config (BeforeAttributeValue tag kind.Plain) t → Kept x (BeforeAttributeValue tag kind.Plain) bytes t d
-unbegun-keeps tag x text bytes t d e k l =
-    subst (λ (z : San). IsBackBy z text bytes → Kept z (BeforeAttributeValue tag kind.Plain) bytes t d) e
-    (λ (k : IsBackInUnquoted text bytes). subst (λ (z : Config ValueState). Kept san.AttrNospace (BeforeAttributeValue tag kind.Plain) bytes t z) (sym l)
-    (kept (BeforeAttributeValue tag kind.Plain) bytes t (config (BeforeAttributeValue tag kind.Plain) t) (k.plain_unbegun tag t) (unbegun tag bytes t (k.plain_unbegun tag t)))) k
+unbegun-keeps : (tag : Tag) (x : Chain) (datum : Data) (bytes : List ℕ) (t : List LexEvent) (d : Config ValueState) → only san.AttrNospace ≡ x → IsBackBy x datum bytes → d ≡ config (BeforeAttributeValue tag kind.Plain) t → Kept x (BeforeAttributeValue tag kind.Plain) bytes t d
+unbegun-keeps tag x datum bytes t d e k l =
+    subst (λ (z : Chain). IsBackBy z datum bytes → Kept z (BeforeAttributeValue tag kind.Plain) bytes t d) e
+    (λ (k : IsBackInUnquoted (printed datum) bytes). subst (λ (z : Config ValueState). Kept (only san.AttrNospace) (BeforeAttributeValue tag kind.Plain) bytes t z) (sym l)
+    (kept (BeforeAttributeValue tag kind.Plain) bytes t (config (BeforeAttributeValue tag kind.Plain) t) (k.plain_unbegun tag t) (in-plain Unquoted tag t _ (unbegun tag bytes t (k.plain_unbegun tag t))))) k
 
-unquoted-keeps : (tag : Tag) (x : San) (text bytes : List ℕ) (t : List LexEvent) (d : Config ValueState) → san.AttrNospace ≡ x → IsBackBy x text bytes → d ≡ config (in_value Unquoted tag (ValueOf kind.Plain)) t → Kept x (in_value Unquoted tag (ValueOf kind.Plain)) bytes t d
-unquoted-keeps tag x text bytes t d e k l =
-    subst (λ (z : San). IsBackBy z text bytes → Kept z (in_value Unquoted tag (ValueOf kind.Plain)) bytes t d) e
-    (λ (k : IsBackInUnquoted text bytes). subst (λ (z : Config ValueState). Kept san.AttrNospace (in_value Unquoted tag (ValueOf kind.Plain)) bytes t z) (sym l)
-    (kept (in_value Unquoted tag (ValueOf kind.Plain)) bytes t (config (in_value Unquoted tag (ValueOf kind.Plain)) t) (k.plain tag t) (unquoted tag bytes t (k.plain tag t)))) k
+unquoted-keeps : (tag : Tag) (x : Chain) (datum : Data) (bytes : List ℕ) (t : List LexEvent) (d : Config ValueState) → only san.AttrNospace ≡ x → IsBackBy x datum bytes → d ≡ config (in_value Unquoted tag (ValueOf kind.Plain)) t → Kept x (in_value Unquoted tag (ValueOf kind.Plain)) bytes t d
+unquoted-keeps tag x datum bytes t d e k l =
+    subst (λ (z : Chain). IsBackBy z datum bytes → Kept z (in_value Unquoted tag (ValueOf kind.Plain)) bytes t d) e
+    (λ (k : IsBackInUnquoted (printed datum) bytes). subst (λ (z : Config ValueState). Kept (only san.AttrNospace) (in_value Unquoted tag (ValueOf kind.Plain)) bytes t z) (sym l)
+    (kept (in_value Unquoted tag (ValueOf kind.Plain)) bytes t (config (in_value Unquoted tag (ValueOf kind.Plain)) t) (k.plain tag t) (in-plain Unquoted tag t _ (unquoted tag bytes t (k.plain tag t))))) k
 
-double-keeps : (tag : Tag) (x : San) (text bytes : List ℕ) (t : List LexEvent) (d : Config ValueState) → san.Attr ≡ x → IsBackBy x text bytes → d ≡ config (in_value DoubleQuoted tag (ValueOf kind.Plain)) t → Kept x (in_value DoubleQuoted tag (ValueOf kind.Plain)) bytes t d
-double-keeps tag x text bytes t d e k l =
-    subst (λ (z : San). IsBackBy z text bytes → Kept z (in_value DoubleQuoted tag (ValueOf kind.Plain)) bytes t d) e
-    (λ (k : IsBackInQuoted text bytes). subst (λ (z : Config ValueState). Kept san.Attr (in_value DoubleQuoted tag (ValueOf kind.Plain)) bytes t z) (sym l)
-    (kept (in_value DoubleQuoted tag (ValueOf kind.Plain)) bytes t (config (in_value DoubleQuoted tag (ValueOf kind.Plain)) t) (k.plain DoubleQuoted tag t refl) (ap (λ (z : LexState ValueState). config z (Mark ∷ t)) ((k.plain DoubleQuoted tag t refl).1).0))) k
+double-keeps : (tag : Tag) (x : Chain) (datum : Data) (bytes : List ℕ) (t : List LexEvent) (d : Config ValueState) → only san.Attr ≡ x → IsBackBy x datum bytes → d ≡ config (in_value DoubleQuoted tag (ValueOf kind.Plain)) t → Kept x (in_value DoubleQuoted tag (ValueOf kind.Plain)) bytes t d
+double-keeps tag x datum bytes t d e k l =
+    subst (λ (z : Chain). IsBackBy z datum bytes → Kept z (in_value DoubleQuoted tag (ValueOf kind.Plain)) bytes t d) e
+    (λ (k : IsBackInQuoted (printed datum) bytes). subst (λ (z : Config ValueState). Kept (only san.Attr) (in_value DoubleQuoted tag (ValueOf kind.Plain)) bytes t z) (sym l)
+    (kept (in_value DoubleQuoted tag (ValueOf kind.Plain)) bytes t (config (in_value DoubleQuoted tag (ValueOf kind.Plain)) t) (k.plain DoubleQuoted tag t refl) (in-plain DoubleQuoted tag t _ (ap (behind (in_value DoubleQuoted tag (ValueOf kind.Plain)) (Mark ∷ t)) ((k.plain DoubleQuoted tag t refl).1).0)))) k
 
-single-keeps : (tag : Tag) (x : San) (text bytes : List ℕ) (t : List LexEvent) (d : Config ValueState) → san.Attr ≡ x → IsBackBy x text bytes → d ≡ config (in_value SingleQuoted tag (ValueOf kind.Plain)) t → Kept x (in_value SingleQuoted tag (ValueOf kind.Plain)) bytes t d
-single-keeps tag x text bytes t d e k l =
-    subst (λ (z : San). IsBackBy z text bytes → Kept z (in_value SingleQuoted tag (ValueOf kind.Plain)) bytes t d) e
-    (λ (k : IsBackInQuoted text bytes). subst (λ (z : Config ValueState). Kept san.Attr (in_value SingleQuoted tag (ValueOf kind.Plain)) bytes t z) (sym l)
-    (kept (in_value SingleQuoted tag (ValueOf kind.Plain)) bytes t (config (in_value SingleQuoted tag (ValueOf kind.Plain)) t) (k.plain SingleQuoted tag t refl) (ap (λ (z : LexState ValueState). config z (Mark ∷ t)) ((k.plain SingleQuoted tag t refl).1).0))) k
+single-keeps : (tag : Tag) (x : Chain) (datum : Data) (bytes : List ℕ) (t : List LexEvent) (d : Config ValueState) → only san.Attr ≡ x → IsBackBy x datum bytes → d ≡ config (in_value SingleQuoted tag (ValueOf kind.Plain)) t → Kept x (in_value SingleQuoted tag (ValueOf kind.Plain)) bytes t d
+single-keeps tag x datum bytes t d e k l =
+    subst (λ (z : Chain). IsBackBy z datum bytes → Kept z (in_value SingleQuoted tag (ValueOf kind.Plain)) bytes t d) e
+    (λ (k : IsBackInQuoted (printed datum) bytes). subst (λ (z : Config ValueState). Kept (only san.Attr) (in_value SingleQuoted tag (ValueOf kind.Plain)) bytes t z) (sym l)
+    (kept (in_value SingleQuoted tag (ValueOf kind.Plain)) bytes t (config (in_value SingleQuoted tag (ValueOf kind.Plain)) t) (k.plain SingleQuoted tag t refl) (in-plain SingleQuoted tag t _ (ap (behind (in_value SingleQuoted tag (ValueOf kind.Plain)) (Mark ∷ t)) ((k.plain SingleQuoted tag t refl).1).0)))) k
 
-hole-keeps : (s : LexState ValueState) (x : San) (text bytes : List ℕ) (t : List LexEvent) (d : Config ValueState) → HoleOf (placed s) x → IsBackBy x text bytes → TextStands languages s t d → Kept x s bytes t d
-hole-keeps (Text Closed) x text bytes t d h k l =
-    subst (λ (z : San). IsBackBy z text bytes → Kept z (Text Closed) bytes t d) (its place.Text x h)
-    (λ k. subst (λ (z : Config ValueState). Kept san.Html (Text Closed) bytes t z) (sym l)
-    (kept (Text Closed) bytes t (config (Text Closed) t) (k.0.plain t) (ap (λ (z : LexState ValueState). config z (Mark ∷ t)) ((k.0.plain t).1).0))) k
-hole-keeps (Text (Open f b)) x text bytes t d h k l = absurd h
-hole-keeps (TagOpen r) x text bytes t d h k l = absurd h
-hole-keeps (EndTagOpen r) x text bytes t d h k l = absurd h
-hole-keeps (DeclarationOpen r pending) x text bytes t d h k l = absurd h
-hole-keeps (InComment Inside) x text bytes t d h k l = subst (λ (z : San). IsBackBy z text bytes → Kept z (InComment Inside) bytes t d) (its (place.Comment false) x h) (λ k. (k, (d, refl, l))) k
-hole-keeps (InComment Broken) x text bytes t d h k l = subst (λ (z : San). IsBackBy z text bytes → Kept z (InComment Broken) bytes t d) (its (place.Comment true) x h) (λ k. (k, (d, refl, l))) k
-hole-keeps (InComment Started) x text bytes t d h k l = absurd h
-hole-keeps (InComment StartedDash) x text bytes t d h k l = absurd h
-hole-keeps (InComment Dash) x text bytes t d h k l = absurd h
-hole-keeps (InComment DashDash) x text bytes t d h k l = absurd h
-hole-keeps (InComment Bang) x text bytes t d h k l = absurd h
-hole-keeps BogusComment x text bytes t d h k l = absurd h
-hole-keeps InDoctype x text bytes t d h k l = absurd (refused _ _ h.1)
-hole-keeps (TagName ends name) x text bytes t d h k l = absurd h
-hole-keeps (WholeTagName tag) x text bytes t d h k l = absurd (refused _ _ h.1)
-hole-keeps (BeforeAttributeName tag) x text bytes t d h k l =
-    name-keeps (BeforeAttributeName tag) tag x text bytes t d (its-of (placed (BeforeAttributeName tag)) x h) refl (λ p. named tag bytes (Mark ∷ AttributeBegins ∷ t) (read Page bytes (config (BeforeAttributeName tag) [])) p.1) l k
-hole-keeps (AttributeName tag name) x text bytes t d h k l = absurd h
-hole-keeps (WholeAttributeName tag j) x text bytes t d h k l = absurd (refused _ _ h.1)
-hole-keeps (AfterAttributeName tag j) x text bytes t d h k l =
-    name-keeps (AfterAttributeName tag j) (without_value tag j) x text bytes t d (its-of (placed (AfterAttributeName tag j)) x h) refl (λ p. named (without_value tag j) bytes (Mark ∷ AttributeBegins ∷ t) (read Page bytes (config (AfterAttributeName tag j) [])) p.1) l k
-hole-keeps (AfterAttributeValue tag) x text bytes t d h k l =
-    name-keeps (AfterAttributeValue tag) tag x text bytes t d (its-of (placed (AfterAttributeValue tag)) x h) refl (λ p. named tag bytes (Mark ∷ AttributeBegins ∷ t) (read Page bytes (config (AfterAttributeValue tag) [])) p.1) l k
-hole-keeps (SelfClosingStartTag tag) x text bytes t d h k l =
-    name-keeps (SelfClosingStartTag tag) tag x text bytes t d (its-of (placed (SelfClosingStartTag tag)) x h) refl (λ p. named tag bytes (Mark ∷ AttributeBegins ∷ t) (read Page bytes (config (SelfClosingStartTag tag) [])) p.1) l k
-hole-keeps (BeforeAttributeValue tag kind.Plain) x text bytes t d h k l = unbegun-keeps tag x text bytes t d (its-of (placed (BeforeAttributeValue tag kind.Plain)) x h) k l
-hole-keeps (BeforeAttributeValue tag kind.NoHole) x text bytes t d h k l = absurd (refused _ _ h.1)
-hole-keeps (BeforeAttributeValue tag kind.Url) x text bytes t d h k l = absurd h
-hole-keeps (BeforeAttributeValue tag kind.Script) x text bytes t d h k l = absurd h
-hole-keeps (BeforeAttributeValue tag kind.Style) x text bytes t d h k l = absurd h
-hole-keeps (BeforeAttributeValue tag kind.ScriptType) x text bytes t d h k l = absurd h
-hole-keeps (AttributeValue DoubleQuoted tag (ValueOf kind.Plain) Closed) x text bytes t d h k l = double-keeps tag x text bytes t d (its-of (placed (in_value DoubleQuoted tag (ValueOf kind.Plain))) x h) k l
-hole-keeps (AttributeValue SingleQuoted tag (ValueOf kind.Plain) Closed) x text bytes t d h k l = single-keeps tag x text bytes t d (its-of (placed (in_value SingleQuoted tag (ValueOf kind.Plain))) x h) k l
-hole-keeps (AttributeValue Unquoted tag (ValueOf kind.Plain) Closed) x text bytes t d h k l = unquoted-keeps tag x text bytes t d (its-of (placed (in_value Unquoted tag (ValueOf kind.Plain))) x h) k l
-hole-keeps (AttributeValue q tag (ValueOf kind.NoHole) Closed) x text bytes t d h k l = absurd (refused _ _ h.1)
-hole-keeps (AttributeValue q tag (ValueOf kind.Url) Closed) x text bytes t d h k l = absurd h
-hole-keeps (AttributeValue q tag (ValueOf kind.Script) Closed) x text bytes t d h k l = absurd h
-hole-keeps (AttributeValue q tag (ValueOf kind.Style) Closed) x text bytes t d h k l = absurd h
-hole-keeps (AttributeValue q tag (ValueOf kind.ScriptType) Closed) x text bytes t d h k l = absurd h
-hole-keeps (AttributeValue q tag (TypeSoFar before) Closed) x text bytes t d h k l = absurd h
-hole-keeps (AttributeValue q tag v (Open f b)) x text bytes t d h k l = absurd h
-hole-keeps (InContent element.Title (Characters Closed) Nothing) x text bytes t d h k l = content-keeps element.Title x text bytes t d (its (place.Rcdata element.Title) x h) k l
-hole-keeps (InContent element.Textarea (Characters Closed) Nothing) x text bytes t d h k l = content-keeps element.Textarea x text bytes t d (its (place.Rcdata element.Textarea) x h) k l
-hole-keeps (InContent element.Other (Characters Closed) Nothing) x text bytes t d h k l = absurd h
-hole-keeps (InContent element.Style (Characters Closed) Nothing) x text bytes t d h k l = absurd h
-hole-keeps (InContent element.Script (Characters Closed) Nothing) x text bytes t d h k l = absurd h
-hole-keeps (InContent element.DataBlock (Characters Closed) Nothing) x text bytes t d h k l = absurd h
-hole-keeps (InContent e (Characters (Open f b)) Nothing) x text bytes t d h k l = absurd h
-hole-keeps (InContent e (Characters r) PendingLess) x text bytes t d h k l = absurd h
-hole-keeps (InContent e (Characters r) (PendingName letters)) x text bytes t d h k l = absurd h
-hole-keeps (InContent e (Characters r) PendingBang) x text bytes t d h k l = absurd h
-hole-keeps (InContent e (Characters r) PendingBangDash) x text bytes t d h k l = absurd h
-hole-keeps (InContent e Bytes Nothing) x text bytes t d h k l = absurd h
-hole-keeps (InContent e Bytes PendingLess) x text bytes t d h k l = absurd h
-hole-keeps (InContent e Bytes (PendingName letters)) x text bytes t d h k l = absurd h
-hole-keeps (InContent e Bytes PendingBang) x text bytes t d h k l = absurd h
-hole-keeps (InContent e Bytes PendingBangDash) x text bytes t d h k l = absurd h
-hole-keeps Unread x text bytes t d h k l = absurd h
+hole-keeps : (s : LexState ValueState) (x : Chain) (datum : Data) (bytes : List ℕ) (t : List LexEvent) (d : Config ValueState) → HoleOf (placed s) x → IsBackBy x datum bytes → TextStands languages s t d → Kept x s bytes t d
+hole-keeps (Text Closed) x datum bytes t d h k l =
+    subst (λ (z : Chain). IsBackBy z datum bytes → Kept z (Text Closed) bytes t d) (its place.Text x h)
+    (λ k. subst (λ (z : Config ValueState). Kept (only san.Html) (Text Closed) bytes t z) (sym l)
+    (kept (Text Closed) bytes t (config (Text Closed) t) (k.0.plain t) (ap (behind (Text Closed) (Mark ∷ t)) ((k.0.plain t).1).0))) k
+hole-keeps (Text (Open f b)) x datum bytes t d h k l = absurd h
+hole-keeps (TagOpen r) x datum bytes t d h k l = absurd h
+hole-keeps (EndTagOpen r) x datum bytes t d h k l = absurd h
+hole-keeps (DeclarationOpen r pending) x datum bytes t d h k l = absurd h
+hole-keeps (InComment Inside) x datum bytes t d h k l = subst (λ (z : Chain). IsBackBy z datum bytes → Kept z (InComment Inside) bytes t d) (its (place.Comment false) x h) (λ k. (k, (d, refl, l))) k
+hole-keeps (InComment Broken) x datum bytes t d h k l = subst (λ (z : Chain). IsBackBy z datum bytes → Kept z (InComment Broken) bytes t d) (its (place.Comment true) x h) (λ k. (k, (d, refl, l))) k
+hole-keeps (InComment Started) x datum bytes t d h k l = absurd h
+hole-keeps (InComment StartedDash) x datum bytes t d h k l = absurd h
+hole-keeps (InComment Dash) x datum bytes t d h k l = absurd h
+hole-keeps (InComment DashDash) x datum bytes t d h k l = absurd h
+hole-keeps (InComment Bang) x datum bytes t d h k l = absurd h
+hole-keeps BogusComment x datum bytes t d h k l = absurd h
+hole-keeps InDoctype x datum bytes t d h k l = absurd (refused _ _ h.1)
+hole-keeps (TagName ends name) x datum bytes t d h k l = absurd h
+hole-keeps (WholeTagName tag) x datum bytes t d h k l = absurd (refused _ _ h.1)
+hole-keeps (BeforeAttributeName tag) x datum bytes t d h k l =
+    name-keeps (BeforeAttributeName tag) tag x datum bytes t d (its-of (placed (BeforeAttributeName tag)) x h) refl (λ p. named (BeforeAttributeName tag) tag bytes (Mark ∷ AttributeBegins ∷ t) (read Page bytes (config (BeforeAttributeName tag) [])) p.1) l k
+hole-keeps (AttributeName tag name) x datum bytes t d h k l = absurd h
+hole-keeps (WholeAttributeName tag j) x datum bytes t d h k l =
+    absurd (not-name (is_second_type (is_typed tag) j) (place.Tag (tag_spot tag only_inside (Some j))) x (λ g. refused _ _ g.1) h)
+hole-keeps (AfterAttributeName tag j) x datum bytes t d h k l =
+    name-keeps (AfterAttributeName tag j) (without_value tag j) x datum bytes t d (its-name (is_second_type (is_typed tag) j) (place.Tag (tag_spot tag only_after (Some j))) x h) refl (λ p. named (AfterAttributeName tag j) (without_value tag j) bytes (Mark ∷ AttributeBegins ∷ t) (read Page bytes (config (AfterAttributeName tag j) [])) p.1) l k
+hole-keeps (AfterAttributeValue tag) x datum bytes t d h k l =
+    name-keeps (AfterAttributeValue tag) tag x datum bytes t d (its-of (placed (AfterAttributeValue tag)) x h) refl (λ p. named (AfterAttributeValue tag) tag bytes (Mark ∷ AttributeBegins ∷ t) (read Page bytes (config (AfterAttributeValue tag) [])) p.1) l k
+hole-keeps (SelfClosingStartTag tag) x datum bytes t d h k l =
+    name-keeps (SelfClosingStartTag tag) tag x datum bytes t d (its-of (placed (SelfClosingStartTag tag)) x h) refl (λ p. named (SelfClosingStartTag tag) tag bytes (Mark ∷ AttributeBegins ∷ t) (read Page bytes (config (SelfClosingStartTag tag) [])) p.1) l k
+hole-keeps (BeforeAttributeValue tag kind.Plain) x datum bytes t d h k l = unbegun-keeps tag x datum bytes t d (its-of (placed (BeforeAttributeValue tag kind.Plain)) x h) k l
+hole-keeps (BeforeAttributeValue tag kind.NoHole) x datum bytes t d h k l = absurd (refused _ _ h.1)
+hole-keeps (BeforeAttributeValue tag kind.Url) x datum bytes t d h k l = absurd h
+hole-keeps (BeforeAttributeValue tag kind.Script) x datum bytes t d h k l = absurd h
+hole-keeps (BeforeAttributeValue tag kind.Style) x datum bytes t d h k l = absurd h
+hole-keeps (BeforeAttributeValue tag kind.ScriptType) x datum bytes t d h k l = absurd h
+hole-keeps (AttributeValue DoubleQuoted tag (ValueOf kind.Plain) Closed) x datum bytes t d h k l = double-keeps tag x datum bytes t d (its-of (placed (in_value DoubleQuoted tag (ValueOf kind.Plain))) x h) k (same-state (in_value DoubleQuoted tag (ValueOf kind.Plain)) t d refl l)
+hole-keeps (AttributeValue SingleQuoted tag (ValueOf kind.Plain) Closed) x datum bytes t d h k l = single-keeps tag x datum bytes t d (its-of (placed (in_value SingleQuoted tag (ValueOf kind.Plain))) x h) k (same-state (in_value SingleQuoted tag (ValueOf kind.Plain)) t d refl l)
+hole-keeps (AttributeValue Unquoted tag (ValueOf kind.Plain) Closed) x datum bytes t d h k l = unquoted-keeps tag x datum bytes t d (its-of (placed (in_value Unquoted tag (ValueOf kind.Plain))) x h) k (same-state (in_value Unquoted tag (ValueOf kind.Plain)) t d refl l)
+hole-keeps (AttributeValue q tag (ValueOf kind.NoHole) Closed) x datum bytes t d h k l = absurd (refused _ _ h.1)
+hole-keeps (AttributeValue q tag (ValueOf kind.Url) Closed) x datum bytes t d h k l = absurd h
+hole-keeps (AttributeValue q tag (ValueOf kind.Script) Closed) x datum bytes t d h k l = absurd h
+hole-keeps (AttributeValue q tag (ValueOf kind.Style) Closed) x datum bytes t d h k l = absurd h
+hole-keeps (AttributeValue q tag (ValueOf kind.ScriptType) Closed) x datum bytes t d h k l = absurd h
+hole-keeps (AttributeValue q tag (TypeSoFar before) Closed) x datum bytes t d h k l = absurd h
+hole-keeps (AttributeValue q tag v (Open f b)) x datum bytes t d h k l = absurd h
+hole-keeps (InContent element.Title (Characters Closed) Nothing) x datum bytes t d h k l = content-keeps element.Title x datum bytes t d (its (place.Rcdata element.Title) x h) k l
+hole-keeps (InContent element.Textarea (Characters Closed) Nothing) x datum bytes t d h k l = content-keeps element.Textarea x datum bytes t d (its (place.Rcdata element.Textarea) x h) k l
+hole-keeps (InContent element.Other (Characters Closed) Nothing) x datum bytes t d h k l = absurd h
+hole-keeps (InContent element.Style (Characters Closed) Nothing) x datum bytes t d h k l = absurd h
+hole-keeps (InContent element.Script (Characters Closed) Nothing) x datum bytes t d h k l = absurd h
+hole-keeps (InContent element.DataBlock (Characters Closed) Nothing) x datum bytes t d h k l = absurd h
+hole-keeps (InContent e (Characters (Open f b)) Nothing) x datum bytes t d h k l = absurd h
+hole-keeps (InContent e (Characters r) PendingLess) x datum bytes t d h k l = absurd h
+hole-keeps (InContent e (Characters r) (PendingName letters)) x datum bytes t d h k l = absurd h
+hole-keeps (InContent e (Characters r) LessAtCut) x datum bytes t d h k l = absurd h
+hole-keeps (InContent e (Characters r) PendingBang) x datum bytes t d h k l = absurd h
+hole-keeps (InContent e (Characters r) PendingBangDash) x datum bytes t d h k l = absurd h
+hole-keeps (InContent element.DataBlock Bytes Nothing) x datum bytes t d h k l = block-keeps x datum bytes t d (its (place.Block false) x h) k l
+hole-keeps (InContent element.Other Bytes Nothing) x datum bytes t d h k l = absurd h
+hole-keeps (InContent element.Title Bytes Nothing) x datum bytes t d h k l = absurd h
+hole-keeps (InContent element.Textarea Bytes Nothing) x datum bytes t d h k l = absurd h
+hole-keeps (InContent element.Style Bytes Nothing) x datum bytes t d h k l = absurd h
+hole-keeps (InContent element.Script Bytes Nothing) x datum bytes t d h k l = absurd h
+hole-keeps (InContent element.DataBlock Bytes LessAtCut) x datum bytes t d h k l = absurd (refused _ _ h.1)
+hole-keeps (InContent element.Other Bytes LessAtCut) x datum bytes t d h k l = absurd h
+hole-keeps (InContent element.Title Bytes LessAtCut) x datum bytes t d h k l = absurd h
+hole-keeps (InContent element.Textarea Bytes LessAtCut) x datum bytes t d h k l = absurd h
+hole-keeps (InContent element.Style Bytes LessAtCut) x datum bytes t d h k l = absurd h
+hole-keeps (InContent element.Script Bytes LessAtCut) x datum bytes t d h k l = absurd h
+hole-keeps (InContent e Bytes PendingLess) x datum bytes t d h k l = absurd h
+hole-keeps (InContent e Bytes (PendingName letters)) x datum bytes t d h k l = absurd h
+hole-keeps (InContent e Bytes PendingBang) x datum bytes t d h k l = absurd h
+hole-keeps (InContent e Bytes PendingBangDash) x datum bytes t d h k l = absurd h
+hole-keeps Unread x datum bytes t d h k l = absurd h
 
 pub keeps-hole : KeepsHole
-keeps-hole p q x text bytes s t d v i e k l =
-    let c = covers-hole p q (only x) s v i e in
-    let h = hole-keeps s x text bytes t d (subst (λ (o : Option Place). HoleOf o x) (sym i.stands) (c.1 i.own i.stands)) k l in
+keeps-hole p q x datum bytes s t d v i e k l =
+    let c = covers-hole p q x s v i e in
+    let h = hole-keeps s x datum bytes t d (subst (λ (o : Option Place). HoleOf o x) (sym i.stands) (c.1 i.own i.stands)) k l in
     (c.0, h.0, h.1)

@@ -3,11 +3,18 @@ mod ChangedSteps
 pub mod ContentKeeps
 pub mod Declared
 pub mod Emits
+pub mod EmittedAlike
 mod EndLaws
+pub mod FilledMarks
+pub mod FilledReadings
+mod FillingExamples
 pub mod HoleKeeps
+pub mod HolesLead
 pub mod Keeps
+pub mod KindsKeep
 mod Kept
 mod Loops
+pub mod PagesFill
 pub mod PiecesKeep
 pub mod Places
 mod Rests
@@ -18,5 +25,6 @@ mod Spelled
 mod Steps
 pub mod TagsKeep
 pub mod TextKeeps
+pub mod ToyLanguage
 pub mod ValuesKeep
 pub mod WorkedTexts

@@ -1,5 +1,5 @@
 -- Pieces that are accepted one after another, from where a page's reading stands for a path.
-use Rattle.std.proofs.Common.{◌≡◌, ℕ, List, [], ◌∷◌, ◌++◌, inl, inr, refl, sym, ap, ◌∙◌, subst}
+use Rattle.std.proofs.Common.{◌≡◌, ℕ, Bool, true, false, List, [], ◌∷◌, ◌++◌, inl, inr, refl, sym, ap, ◌∙◌, subst}
 use Rattle.place_core.specs.page.Html.{read, start}
 use Rattle.place_core.specs.place.Membership.{IsIn}
 use Rattle.place_core.specs.page.Paths.{at_hole, mark_in, read_node, read_path}
@@ -8,14 +8,11 @@ use Rattle.place_core.specs.page.States.{Page, LexState, Config, config}
 use Rattle.place_core.specs.page.Tags.{ValueState, languages}
 use Rattle.place_core.specs.declared.place.Place.{Place}
 use Rattle.place_core.specs.declared.place.Place.TheVariants as place
-use Rattle.place_core.specs.declared.san.San.{San}
-use Rattle.place_core.specs.declared.san.San.TheVariants as san
 use Rattle.place_core.proofs.Joins.{the_order}
-use Rattle.html_step.specs.Holes.{only}
 use Rattle.html_step.proofs.HoleOrder.{valid-hole}
 use Rattle.html_step.proofs.WholeTexts.{valid-text}
 use Rattle.text_norm.specs.Scanned.{written_at}
-use Rattle.text_norm.specs.HoleLaws.{ArePlain, hole_parts}
+use Rattle.text_norm.specs.HoleLaws.{ArePlainUnless, hole_parts, leaves_out, parts_unless}
 use Rattle.text_norm.specs.Pieces.{TextPiece, TextAt, HoleAt, AreAccepted, ArePlainIn, IsOver, page_of, path_of}
 use Rattle.text_norm.specs.Standing.{page}
 use Rattle.text_norm.specs.StandsLaws.{PagesReadAsPaths, holds_nothing, StandsAtStart, StandsSomewhere}
@@ -37,7 +34,7 @@ over-over p r q o h = record { valid = h.valid; below = the_order.1 p r q o.belo
 pub accepted-below : (pieces : List TextPiece) (p r q : Place) → IsOver p r → AreAccepted pieces r q → AreAccepted pieces p q
 accepted-below [] p r q o a = over-over p r q o a
 accepted-below (TextAt at bytes ∷ pieces) p r q o a = (over-over p r at o a.0, a.1)
-accepted-below (HoleAt at x text bytes ∷ pieces) p r q o a = (over-over p r at o a.0, a.1)
+accepted-below (HoleAt at x datum bytes ∷ pieces) p r q o a = (over-over p r at o a.0, a.1)
 
 -- reading parts, and then more of them
 reads-then : (parts more : List ShapePart) (c d e : Config ValueState) → PageReads parts c d → PageReads more d e → PageReads (parts ++ more) c e
@@ -47,10 +44,11 @@ reads-then (HolePart bytes ∷ parts) more c d e (inl p) q = inl (p.0, reads-the
 reads-then (HolePart bytes ∷ parts) more c d e (inr p) q = inr (p.0, reads-then parts more (read Page bytes c) d e p.1 q)
 
 -- a plain hole, before what is plain
-plain-then : (x : San) (bytes : List ℕ) (more : List ShapePart) (c d : Config ValueState) → ArePlain x bytes c → PageReads (hole_parts x bytes) c d → ArePlainIn more d → ArePlainIn (hole_parts x bytes ++ more) c
-plain-then san.Drop bytes more c d p q h = subst (ArePlainIn more) q h
-plain-then _ bytes more c d p (inl q) h = (p, subst (ArePlainIn more) q.1 h)
-plain-then _ bytes more c d p (inr q) h = absurd (q.0 p)
+plain-then : (left_out : Bool) (bytes : List ℕ) (more : List ShapePart) (c d : Config ValueState) → ArePlainUnless left_out bytes c
+    → PageReads (parts_unless left_out bytes) c d → ArePlainIn more d → ArePlainIn (parts_unless left_out bytes ++ more) c
+plain-then true bytes more c d p q h = subst (ArePlainIn more) q h
+plain-then false bytes more c d p (inl q) h = (p, subst (ArePlainIn more) q.1 h)
+plain-then false bytes more c d p (inr q) h = absurd (q.0 p)
 
 -- parts are read to one end at most
 one-end : (parts : List ShapePart) (from e f : Config ValueState) → PageReads parts from e → PageReads parts from f → e ≡ f
@@ -68,15 +66,15 @@ stands-somewhere (TextAt at bytes ∷ pieces) p q c d v i a l =
     let k = keeps-shape bytes at b c.at c.emitted d a.0.valid (over p at c.at i a.0) a.1.1 l in
     let rest = stands-somewhere pieces b q (read_node languages bytes c) (page languages (written_at bytes at) d) (valid-text bytes at b a.0.valid a.1.1) k.0 a.1.2 k.1 in
     record { valid = rest.valid; is_in = rest.is_in; plain = rest.plain; end = rest.end; reads = rest.reads; stands = rest.stands }
-stands-somewhere (HoleAt at x text bytes ∷ pieces) p q c d v i a l =
+stands-somewhere (HoleAt at x datum bytes ∷ pieces) p q c d v i a l =
     let b = a.1.0 in
-    let k = keeps-hole at b x text bytes c.at c.emitted d a.0.valid (over p at c.at i a.0) a.1.1 a.1.2 l in
+    let k = keeps-hole at b x datum bytes c.at c.emitted d a.0.valid (over p at c.at i a.0) a.1.1 a.1.2 l in
     let e = k.2.0 in
-    let rest = stands-somewhere pieces b q (config (at_hole languages c.at) (mark_in c.at c.emitted)) e (valid-hole at b (only x) a.0.valid a.1.1) k.0 a.1.3 k.2.2 in
+    let rest = stands-somewhere pieces b q (config (at_hole languages c.at) (mark_in languages c.at c.emitted)) e (valid-hole at b x a.0.valid a.1.1) k.0 a.1.3 k.2.2 in
     record {
       valid = rest.valid;
       is_in = rest.is_in;
-      plain = plain-then x bytes (page_of pieces) d e k.1 k.2.1 rest.plain;
+      plain = plain-then (leaves_out x) bytes (page_of pieces) d e k.1 k.2.1 rest.plain;
       end = rest.end;
       reads = reads-then (hole_parts x bytes) (page_of pieces) d e rest.end k.2.1 rest.reads;
       stands = rest.stands;

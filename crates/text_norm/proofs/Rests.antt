@@ -3,6 +3,7 @@ use Rattle.std.proofs.Common.{◌≡◌, ℕ, zero, suc, ◌+◌, ◌-◌, ◌<�
 use Rattle.place_core.specs.page.Classes.{Class, White, ExclamationMark, QuotationMark, NumberSign, Ampersand, Apostrophe, HyphenMinus, Solidus, Digit, Semicolon, LessThan, EqualsSign, GreaterThan, QuestionMark, GraveAccent, Letter, OtherByte, class_of}
 use Rattle.place_core.specs.page.References.{Closed}
 use Rattle.place_core.specs.declared.element.Element.{Element}
+use Rattle.place_core.specs.declared.element.Element.TheVariants as element
 use Rattle.place_core.specs.declared.place.Place.{Place}
 use Rattle.place_core.specs.declared.place.Place.TheVariants as place
 use Rattle.html_scan.specs.Scans.{At, scan_next}
@@ -39,33 +40,52 @@ stays_text GraveAccent b p d = (refl, refl)
 stays_text (Letter l) b p d = (refl, refl)
 stays_text OtherByte b p d = (refl, refl)
 
-stays_rcdata : (c : Class) (b : ℕ) (e : Element) → Spelled c b → Differs b → StaysBy (place.Rcdata e) c b
-stays_rcdata White b e p d = (refl, refl)
-stays_rcdata ExclamationMark b e p d = (refl, refl)
-stays_rcdata QuotationMark b e p d = (refl, refl)
-stays_rcdata NumberSign b e p d = (refl, refl)
-stays_rcdata Ampersand b e p d = absurd (d.sign p)
-stays_rcdata Apostrophe b e p d = (refl, refl)
-stays_rcdata HyphenMinus b e p d = (refl, refl)
-stays_rcdata Solidus b e p d = (refl, refl)
-stays_rcdata Digit b e p d = (refl, refl)
-stays_rcdata Semicolon b e p d = (refl, refl)
-stays_rcdata LessThan b e p d = absurd (d.less p)
-stays_rcdata EqualsSign b e p d = (refl, refl)
-stays_rcdata GreaterThan b e p d = (refl, refl)
-stays_rcdata QuestionMark b e p d = (refl, refl)
-stays_rcdata GraveAccent b e p d = (refl, refl)
-stays_rcdata (Letter l) b e p d = (refl, refl)
-stays_rcdata OtherByte b e p d = (refl, refl)
+-- a title or a textarea
+abbrev pub IsText : Element → Type 0
+IsText element.Title = element.Title ≡ element.Title
+IsText element.Textarea = element.Textarea ≡ element.Textarea
+IsText e = ⊥
+
+stays_rcdata : (e : Element) → IsText e → (c : Class) (b : ℕ) → Spelled c b → Differs b → StaysBy (place.Rcdata e) c b
+stays_rcdata element.Other i c b p d = absurd i
+stays_rcdata element.Style i c b p d = absurd i
+stays_rcdata element.Script i c b p d = absurd i
+stays_rcdata element.DataBlock i c b p d = absurd i
+stays_rcdata e i White b p d = (refl, refl)
+stays_rcdata e i ExclamationMark b p d = (refl, refl)
+stays_rcdata e i QuotationMark b p d = (refl, refl)
+stays_rcdata e i NumberSign b p d = (refl, refl)
+stays_rcdata e i Ampersand b p d = absurd (d.sign p)
+stays_rcdata e i Apostrophe b p d = (refl, refl)
+stays_rcdata e i HyphenMinus b p d = (refl, refl)
+stays_rcdata e i Solidus b p d = (refl, refl)
+stays_rcdata e i Digit b p d = (refl, refl)
+stays_rcdata e i Semicolon b p d = (refl, refl)
+stays_rcdata e i LessThan b p d = absurd (d.less p)
+stays_rcdata e i EqualsSign b p d = (refl, refl)
+stays_rcdata e i GreaterThan b p d = (refl, refl)
+stays_rcdata e i QuestionMark b p d = (refl, refl)
+stays_rcdata e i GraveAccent b p d = (refl, refl)
+stays_rcdata e i (Letter l) b p d = (refl, refl)
+stays_rcdata e i OtherByte b p d = (refl, refl)
 
 pub text_stays : (b : ℕ) → Differs b → ReferenceStays place.Text b
 text_stays b d =
     let s = stays_text (class_of b) b (spelled b) d in
     record { next = s.0; closed = s.1; keeps = refl }
 
-pub rcdata_stays : (e : Element) (b : ℕ) → Differs b → ReferenceStays (place.Rcdata e) b
-rcdata_stays e b d =
-    let s = stays_rcdata (class_of b) b e (spelled b) d in
+pub rcdata_stays : (e : Element) → IsText e → (b : ℕ) → Differs b → ReferenceStays (place.Rcdata e) b
+rcdata_stays e i b d =
+    let s = stays_rcdata e i (class_of b) b (spelled b) d in
+    record { next = s.0; closed = s.1; keeps = refl }
+
+stays_block : (c : Class) (b : ℕ) → Spelled c b → Differs b → StaysBy (place.Block false) c b
+stays_block LessThan b p d = absurd (d.less p)
+stays_block c b p d = (refl, refl)
+
+pub block_stays : (b : ℕ) → Differs b → ReferenceStays (place.Block false) b
+block_stays b d =
+    let s = stays_block (class_of b) b (spelled b) d in
     record { next = s.0; closed = s.1; keeps = refl }
 
 continues_none : (stay : Bool) (c : Class) (index : ℕ) → Continues stay c index None None

@@ -5,7 +5,7 @@ use Rattle.place_core.specs.page.Classes.{LetterClass, HexadecimalLetter, OtherL
 use Rattle.place_core.specs.page.Html.{byte_over}
 use Rattle.place_core.specs.page.References.{Form, Begun, Named, Reference, Closed, Open, ReferenceStep, Grows, Closes, Breaks, turn, begin_reference, next_reference, plain_bytes, reference_turned, undone_byte, turn_bytes, meaning}
 use Rattle.place_core.specs.page.States.{Page, Config}
-use Rattle.place_core.specs.page.Tags.{Bodies}
+use Rattle.place_core.specs.page.Tags.{ValueLanguage}
 use Rattle.place_core.proofs.Readings.{over-append}
 use Rattle.text_norm.specs.Standing.{PendingReference, StandsIn, page}
 use Rattle.text_norm.specs.Written.{reference_out, turn_out}
@@ -47,22 +47,22 @@ unfolding meaning lib.Utf8.encode
 lt_meaning = refl
 
 -- reading on, after what leads to a config
-pub on : {B : Type 0} (x : Bodies B) (xs ys : List ℕ) (d e : Config B) → page x xs d ≡ e → page x (xs ++ ys) d ≡ page x ys e
+pub on : {B : Type 0} (x : ValueLanguage B) (xs ys : List ℕ) (d e : Config B) → page x xs d ≡ e → page x (xs ++ ys) d ≡ page x ys e
 on x xs ys d e h = over-append x Page xs ys d ∙ ap (page x ys) h
 
 -- where text with references is read: where a byte leads to that is not a special one, and what it tells
-pub record IsRun (B : Type 0) (x : Bodies B) (at : Reference → List ℕ → Config B) (attribute : Bool) (special : Class → Bool) : Type 0 where
+pub record IsRun (B : Type 0) (x : ValueLanguage B) (at : Reference → List ℕ → Config B) (attribute : Bool) (special : Class → Bool) : Type 0 where
   pub step : (r : Reference) (bs : List ℕ) (c : Class) (b : ℕ) → class_of b ≡ c → special c ≡ false → byte_over x Page b (at r bs) ≡ at (next_reference r c b) (bs ++ undone_byte attribute r c b)
   pub amp : special Ampersand ≡ false
   pub letter : (l : LetterClass) → special (Letter l) ≡ false
   pub semicolon : special Semicolon ≡ false
 
 -- a reference that has begun, where these bytes have been told since
-pub record PendingFrom (B : Type 0) (x : Bodies B) (at : Reference → List ℕ → Config B) (u : List ℕ) (f : Form) (h : List ℕ) (d : Config B) : Type 0 where
+pub record PendingFrom (B : Type 0) (x : ValueLanguage B) (at : Reference → List ℕ → Config B) (u : List ℕ) (f : Form) (h : List ℕ) (d : Config B) : Type 0 where
   pub as_is : page x (38 ∷ h) d ≡ at (Open f h) u
   pub cut : page x (codes "&amp;" ++ h) d ≡ at Closed (u ++ 38 ∷ h)
 
-abbrev pub StandsFrom : {B : Type 0} → Bodies B → (Reference → List ℕ → Config B) → List ℕ → Reference → Config B → Type 0
+abbrev pub StandsFrom : {B : Type 0} → ValueLanguage B → (Reference → List ℕ → Config B) → List ℕ → Reference → Config B → Type 0
 StandsFrom x at u Closed d = d ≡ at Closed u
 StandsFrom {B} x at u (Open f h) d = PendingFrom B x at u f h d
 
@@ -74,19 +74,19 @@ begun Closed = refl
 begun (Open f h) = refl
 
 -- a byte that tells nothing
-quiet : {B : Type 0} {x : Bodies B} {at : Reference → List ℕ → Config B} {attribute : Bool} {special : Class → Bool} → IsRun B x at attribute special → (r : Reference) (a : List ℕ) (c : Class) (b : ℕ)
+quiet : {B : Type 0} {x : ValueLanguage B} {at : Reference → List ℕ → Config B} {attribute : Bool} {special : Class → Bool} → IsRun B x at attribute special → (r : Reference) (a : List ℕ) (c : Class) (b : ℕ)
     → class_of b ≡ c → special c ≡ false → undone_byte attribute r c b ≡ [] → byte_over x Page b (at r a) ≡ at (next_reference r c b) a
 quiet {B} {x} {at} run r a c b e s n = run.step r a c b e s ∙ ap (λ (l : List ℕ). at (next_reference r c b) (a ++ l)) n ∙ ap (at (next_reference r c b)) (append-nil a)
 
-first : {B : Type 0} (x : Bodies B) (b : ℕ) (bs : List ℕ) (d e : Config B) → byte_over x Page b d ≡ e → page x (b ∷ bs) d ≡ page x bs e
+first : {B : Type 0} (x : ValueLanguage B) (b : ℕ) (bs : List ℕ) (d e : Config B) → byte_over x Page b d ≡ e → page x (b ∷ bs) d ≡ page x bs e
 first x b bs d e h = ap (page x bs) h
 
 -- `&amp;` and `&lt;` after whatever is open
-amp-begins : {B : Type 0} {x : Bodies B} {at : Reference → List ℕ → Config B} {attribute : Bool} {special : Class → Bool} → IsRun B x at attribute special → (r : Reference) (a : List ℕ)
+amp-begins : {B : Type 0} {x : ValueLanguage B} {at : Reference → List ℕ → Config B} {attribute : Bool} {special : Class → Bool} → IsRun B x at attribute special → (r : Reference) (a : List ℕ)
     → byte_over x Page 38 (at r a) ≡ at (Open Begun []) (a ++ undone_byte attribute r Ampersand 38)
 amp-begins {B} {x} {at} {attribute} run r a = run.step r a Ampersand 38 class_amp run.amp ∙ ap (λ (s : Reference). at s (a ++ undone_byte attribute r Ampersand 38)) (begun r)
 
-pub amp-read : {B : Type 0} {x : Bodies B} {at : Reference → List ℕ → Config B} {attribute : Bool} {special : Class → Bool} → IsRun B x at attribute special → (r : Reference) (a : List ℕ)
+pub amp-read : {B : Type 0} {x : ValueLanguage B} {at : Reference → List ℕ → Config B} {attribute : Bool} {special : Class → Bool} → IsRun B x at attribute special → (r : Reference) (a : List ℕ)
     → page x (codes "&amp;") (at r a) ≡ at Closed ((a ++ undone_byte attribute r Ampersand 38) ++ 38 ∷ [])
 amp-read {B} {x} {at} {attribute} run r a =
     let u = a ++ undone_byte attribute r Ampersand 38 in
@@ -97,7 +97,7 @@ amp-read {B} {x} {at} {attribute} run r a =
     ∙ run.step (Open Named (codes "amp")) u Semicolon 59 class_semicolon run.semicolon
     ∙ ap (λ (l : List ℕ). at Closed (u ++ l)) amp_meaning
 
-pub lt-read : {B : Type 0} {x : Bodies B} {at : Reference → List ℕ → Config B} {attribute : Bool} {special : Class → Bool} → IsRun B x at attribute special → (r : Reference) (a : List ℕ)
+pub lt-read : {B : Type 0} {x : ValueLanguage B} {at : Reference → List ℕ → Config B} {attribute : Bool} {special : Class → Bool} → IsRun B x at attribute special → (r : Reference) (a : List ℕ)
     → page x (codes "&lt;") (at r a) ≡ at Closed ((a ++ undone_byte attribute r Ampersand 38) ++ 60 ∷ [])
 lt-read {B} {x} {at} {attribute} run r a =
     let u = a ++ undone_byte attribute r Ampersand 38 in
@@ -108,7 +108,7 @@ lt-read {B} {x} {at} {attribute} run r a =
     ∙ ap (λ (l : List ℕ). at Closed (u ++ l)) lt_meaning
 
 -- an `&` begins a reference, whatever is open
-amp-pending : {B : Type 0} {x : Bodies B} {at : Reference → List ℕ → Config B} {attribute : Bool} {special : Class → Bool} → IsRun B x at attribute special → (r : Reference)
+amp-pending : {B : Type 0} {x : ValueLanguage B} {at : Reference → List ℕ → Config B} {attribute : Bool} {special : Class → Bool} → IsRun B x at attribute special → (r : Reference)
     → PendingFrom B x at (undone_byte attribute r Ampersand 38) Begun [] (at r [])
 amp-pending run r = record { as_is = amp-begins run r []; cut = amp-read run r [] }
 
@@ -117,7 +117,7 @@ own-byte : (c : Class) (b : ℕ) (f g : Form) → turn c f ≡ Grows g → (plai
 own-byte Ampersand b f g e = cc
 own-byte _ b f g e = (refl, refl)
 
-grows : {B : Type 0} {x : Bodies B} {at : Reference → List ℕ → Config B} {attribute : Bool} {special : Class → Bool} → IsRun B x at attribute special → (f g : Form) (h : List ℕ) (c : Class) (b : ℕ) (d : Config B)
+grows : {B : Type 0} {x : ValueLanguage B} {at : Reference → List ℕ → Config B} {attribute : Bool} {special : Class → Bool} → IsRun B x at attribute special → (f g : Form) (h : List ℕ) (c : Class) (b : ℕ) (d : Config B)
     → class_of b ≡ c → special c ≡ false → turn c f ≡ Grows g → PendingReference B x at f h d → PendingFrom B x at [] g (h ++ b ∷ []) d
 grows {B} {x} {at} {attribute} run f g h c b d e s k r =
     let o = own-byte c b f g k in
@@ -126,13 +126,13 @@ grows {B} {x} {at} {attribute} run f g h c b d e s k r =
       cut = on x (codes "&amp;" ++ h) (b ∷ []) d _ r.cut ∙ run.step Closed (38 ∷ h) c b e s ∙ ap₂ (λ (z : Reference) (l : List ℕ). at z ((38 ∷ h) ++ l)) o.1 o.0;
     }
 
-breaks : {B : Type 0} {x : Bodies B} {at : Reference → List ℕ → Config B} {attribute : Bool} {special : Class → Bool} → IsRun B x at attribute special → (f : Form) (h : List ℕ) (c : Class) (b : ℕ) (d : Config B)
+breaks : {B : Type 0} {x : ValueLanguage B} {at : Reference → List ℕ → Config B} {attribute : Bool} {special : Class → Bool} → IsRun B x at attribute special → (f : Form) (h : List ℕ) (c : Class) (b : ℕ) (d : Config B)
     → class_of b ≡ c → special c ≡ false → turn c f ≡ Breaks → PendingReference B x at f h d
     → StandsFrom x at (turn_bytes attribute Breaks f h c b) (begin_reference c) (page x ((38 ∷ h) ++ plain_bytes c b) d)
 breaks {B} {x} {at} {attribute} run f h Ampersand b d e s k r = rw (on x (38 ∷ h) [] d _ r.as_is) (amp-pending run (Open f h))
 breaks {B} {x} {at} {attribute} run f h c b d e s k r = on x (38 ∷ h) (b ∷ []) d _ r.as_is ∙ run.step (Open f h) [] c b e s ∙ ap (λ (n : ReferenceStep). at (reference_turned n h c b) (turn_bytes attribute n f h c b)) k
 
-behind-open : {B : Type 0} {x : Bodies B} {at : Reference → List ℕ → Config B} {attribute : Bool} {special : Class → Bool} → IsRun B x at attribute special → (n : ReferenceStep) (f : Form) (h : List ℕ) (c : Class) (b : ℕ) (d : Config B)
+behind-open : {B : Type 0} {x : ValueLanguage B} {at : Reference → List ℕ → Config B} {attribute : Bool} {special : Class → Bool} → IsRun B x at attribute special → (n : ReferenceStep) (f : Form) (h : List ℕ) (c : Class) (b : ℕ) (d : Config B)
     → class_of b ≡ c → special c ≡ false → turn c f ≡ n → PendingReference B x at f h d
     → StandsFrom x at (turn_bytes attribute n f h c b) (reference_turned n h c b) (page x (turn_out n h c b) d)
 behind-open run (Grows g) f h c b d e s k r = grows run f g h c b d e s k r
@@ -140,7 +140,7 @@ behind-open {B} {x} {at} {attribute} run Closes f h c b d e s k r = on x (38 ∷
 behind-open run Breaks f h c b d e s k r = breaks run f h c b d e s k r
 
 -- A byte that is not special: what is written of it, and where the page stands after that.
-pub follows-run : {B : Type 0} {x : Bodies B} {at : Reference → List ℕ → Config B} {attribute : Bool} {special : Class → Bool} → IsRun B x at attribute special → (r : Reference) (c : Class) (b : ℕ) (d : Config B)
+pub follows-run : {B : Type 0} {x : ValueLanguage B} {at : Reference → List ℕ → Config B} {attribute : Bool} {special : Class → Bool} → IsRun B x at attribute special → (r : Reference) (c : Class) (b : ℕ) (d : Config B)
     → class_of b ≡ c → special c ≡ false → StandsIn x at r d → StandsFrom x at (undone_byte attribute r c b) (next_reference r c b) (page x (reference_out r c b) d)
 follows-run run Closed Ampersand b d e s r = rw r (amp-pending run Closed)
 follows-run {B} {x} {at} run Closed c b d e s r = ap (page x (b ∷ [])) r ∙ run.step Closed [] c b e s

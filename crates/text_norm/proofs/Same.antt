@@ -1,13 +1,13 @@
 -- What is written by a state and by its scan state is the same, and so it is by a scan state and one above it.
-use Rattle.std.proofs.Common.{◌≡◌, ℕ, ◌+◌, Bool, true, false, List, [], ◌∷◌, ◌++◌, Option, Some, None, Ok, refl, sym, ap, ap₂, ◌∙◌, subst}
-use Rattle.place_core.specs.page.Classes.{Class, White, ExclamationMark, QuotationMark, Apostrophe, Solidus, LessThan, EqualsSign, GreaterThan, QuestionMark, Letter, class_of}
+use Rattle.std.proofs.Common.{◌≡◌, ℕ, ◌+◌, Bool, true, false, List, [], ◌∷◌, ◌++◌, Option, Some, None, if◌then◌else◌, Ok, refl, sym, ap, ap₂, ◌∙◌, subst}
+use Rattle.place_core.specs.page.Classes.{Class, White, ExclamationMark, QuotationMark, Apostrophe, HyphenMinus, Solidus, LessThan, EqualsSign, GreaterThan, QuestionMark, Letter, class_of}
 use Rattle.place_core.specs.page.Comments.{Declaration, OpensComment, OpensDoctype, Undecided, OpensNothing, closes_comment, comment_ended, declared_by, next_in_comment, next_in_doctype}
-use Rattle.place_core.specs.page.Contents.{may_be_name_of, is_name_of, next_end_name, next_less, next_loose}
+use Rattle.place_core.specs.page.Contents.{may_be_name_of, is_name_of, next_bang, next_end_name, next_in_content, next_less, next_loose}
 use Rattle.place_core.specs.page.Html.{after_tag, ends_value, next, next_after_name, next_after_value, next_before_name, next_before_value, next_declaration, next_end_tag_open, next_name, next_tag_name, next_tag_open, next_text, next_value, next_whole_name}
 use Rattle.place_core.specs.place.Places.{Below}
 use Rattle.place_core.specs.page.References.{Reference, Closed, Open, as_it_stands, begin_reference, next_reference, settled}
-use Rattle.place_core.specs.page.States.{CommentState, Started, StartedDash, Inside, Dash, DashDash, Bang, Broken, Template, LexState, Text, TagOpen, EndTagOpen, DeclarationOpen, InComment, BogusComment, InDoctype, TagName, WholeTagName, BeforeAttributeName, AttributeName, WholeAttributeName, AfterAttributeName, BeforeAttributeValue, AttributeValue, AfterAttributeValue, SelfClosingStartTag, Characters, Bytes, Pending, Nothing, PendingLess, PendingName, PendingBang, PendingBangDash, InContent, Unread}
-use Rattle.place_core.specs.page.Tags.{Tag, EndTag, StartTag, ValueState, languages, Quoting, DoubleQuoted, SingleQuoted, Unquoted, Value, ValueOf, TypeSoFar, element_on, tag_named, with_bytes, tag_with_value, without_value}
+use Rattle.place_core.specs.page.States.{CommentState, Started, StartedDash, Inside, Dash, DashDash, Bang, Broken, Template, LexState, Text, TagOpen, EndTagOpen, DeclarationOpen, InComment, BogusComment, InDoctype, TagName, WholeTagName, BeforeAttributeName, AttributeName, WholeAttributeName, AfterAttributeName, BeforeAttributeValue, AttributeValue, AfterAttributeValue, SelfClosingStartTag, Characters, Bytes, Pending, Nothing, PendingLess, LessAtCut, PendingName, PendingBang, PendingBangDash, InContent, Unread}
+use Rattle.place_core.specs.page.Tags.{Tag, EndTag, StartTag, ValueState, languages, Quoting, DoubleQuoted, SingleQuoted, Unquoted, Value, ValueOf, TypeSoFar, element_on, is_second_type, is_typed, tag_named, with_bytes, tag_with_value, without_value}
 use Rattle.place_core.specs.declared.element.Element.{Element}
 use Rattle.place_core.specs.declared.element.Element.TheVariants as element
 use Rattle.place_core.specs.page.Words.{kind_of}
@@ -17,7 +17,8 @@ use Rattle.place_core.specs.declared.place.Place.{Place}
 use Rattle.place_core.specs.declared.place.Place.TheVariants as place
 use Rattle.place_core.specs.declared.value_place.ValuePlace.{ValuePlace}
 use Rattle.place_core.proofs.Semilattices.{none_some, one_value}
-use Rattle.html_scan.specs.Scans.{Scan, At, AfterLess, AfterLessSolidus, InDeclaration, InTagName, InAttributeName, InCommentEnd, InContentEnd, scan_error, scan_next}
+use Rattle.html_scan.specs.Scans.{Scan, At, AfterLess, AfterLessSolidus, InDeclaration, InTagName, InAttributeName, InCommentEnd, InContentEnd, BeforeType, InType, scan_error, scan_next}
+use Rattle.html_step.proofs.PlaceParts.{below-rcdata}
 use Rattle.html_step.proofs.ScanOrder.{ScanBelow, ScanValid, scan-grows}
 use Rattle.html_step.proofs.OnePath.{WhereScanned, content_scanned, scanned}
 use Rattle.html_step.proofs.OneTexts.{agrees-at, at-place}
@@ -25,7 +26,7 @@ use Rattle.html_step.proofs.ValidSteps.{scan-valid}
 use Rattle.html_step.proofs.WholeTexts.{grows-text, not-refused, text-steps}
 use Rattle.html_step.specs.Steps.{stepped}
 use Rattle.text_norm.specs.Laws.{WrittenOnPaths}
-use Rattle.place_core.specs.place.StatePlaces.{placed}
+use Rattle.place_core.specs.place.StatePlaces.{only_after, only_inside, placed, tag_of, tag_spot}
 use Rattle.text_norm.specs.Scanned.{declaration_open, less_open, scan_cut_out, scan_open, scan_out, written_from}
 use Rattle.text_norm.specs.Written.{cut_out, out, reference_out, value_out, written}
 
@@ -38,7 +39,8 @@ place-same : (a p : Place) (c : Class) (b : ℕ) (r : Reference) → Below a p �
 place-same place.Text place.Text c b r h = record { outs = refl; opens = refl }
 place-same place.Doctype place.Doctype c b r h = record { outs = refl; opens = refl }
 place-same (place.Comment x) (place.Comment y) c b r h = record { outs = refl; opens = refl }
-place-same (place.Rcdata x) (place.Rcdata y) c b r h = record { outs = refl; opens = refl }
+place-same (place.Rcdata x) (place.Rcdata y) c b r h =
+    (let e = below-rcdata x y h in record { outs = ap (λ (z : Element). scan_out (At (place.Rcdata z)) c b r) e; opens = ap (λ (z : Element). scan_open (At (place.Rcdata z)) c b r) e })
 place-same (place.Tag x) (place.Tag y) c b r h = record { outs = refl; opens = refl }
 place-same (place.Value x) (place.Value y) c b r h = record { outs = refl; opens = refl }
 place-same (place.Script x) (place.Script y) c b r h = record { outs = refl; opens = refl }
@@ -66,6 +68,8 @@ scan-same (At a) (InTagName ends name) c b r h = absurd h
 scan-same (At a) (InAttributeName t x n) c b r h = absurd h
 scan-same (At a) (InCommentEnd s) c b r h = absurd h
 scan-same (At a) (InContentEnd e k) c b r h = absurd h
+scan-same (At a) (BeforeType t) c b r h = absurd h
+scan-same (At a) (InType t q v z) c b r h = absurd h
 scan-same (InAttributeName t x n) (InAttributeName u y m) c b r h = record { outs = refl; opens = refl }
 scan-same (InAttributeName t x n) (At p) c b r h = absurd h
 scan-same (InAttributeName t x n) AfterLess c b r h = absurd h
@@ -74,12 +78,16 @@ scan-same (InAttributeName t x n) (InDeclaration pending) c b r h = absurd h
 scan-same (InAttributeName t x n) (InTagName ends name) c b r h = absurd h
 scan-same (InAttributeName t x n) (InCommentEnd s) c b r h = absurd h
 scan-same (InAttributeName t x n) (InContentEnd e k) c b r h = absurd h
+scan-same (InAttributeName t x n) (BeforeType u) c b r h = absurd h
+scan-same (InAttributeName t x n) (InType u q v z) c b r h = absurd h
 scan-same AfterLess g c b r h = rigid AfterLess g c b r h
 scan-same AfterLessSolidus g c b r h = rigid AfterLessSolidus g c b r h
 scan-same (InDeclaration pending) g c b r h = rigid (InDeclaration pending) g c b r h
 scan-same (InTagName ends name) g c b r h = rigid (InTagName ends name) g c b r h
 scan-same (InCommentEnd s) g c b r h = rigid (InCommentEnd s) g c b r h
 scan-same (InContentEnd e k) g c b r h = rigid (InContentEnd e k) g c b r h
+scan-same (BeforeType t) g c b r h = rigid (BeforeType t) g c b r h
+scan-same (InType t q v z) g c b r h = rigid (InType t q v z) g c b r h
 
 cut-same : (f g : Scan) (r : Reference) → ScanBelow f g → scan_cut_out f r ≡ scan_cut_out g r
 cut-same (At a) (At p) r h = refl
@@ -90,6 +98,8 @@ cut-same (At a) (InTagName ends name) r h = absurd h
 cut-same (At a) (InAttributeName t x n) r h = absurd h
 cut-same (At a) (InCommentEnd s) r h = absurd h
 cut-same (At a) (InContentEnd e k) r h = absurd h
+cut-same (At a) (BeforeType t) r h = absurd h
+cut-same (At a) (InType t q v z) r h = absurd h
 cut-same (InAttributeName t x n) (InAttributeName u y m) r h = refl
 cut-same (InAttributeName t x n) (At p) r h = absurd h
 cut-same (InAttributeName t x n) AfterLess r h = absurd h
@@ -98,12 +108,16 @@ cut-same (InAttributeName t x n) (InDeclaration pending) r h = absurd h
 cut-same (InAttributeName t x n) (InTagName ends name) r h = absurd h
 cut-same (InAttributeName t x n) (InCommentEnd s) r h = absurd h
 cut-same (InAttributeName t x n) (InContentEnd e k) r h = absurd h
+cut-same (InAttributeName t x n) (BeforeType u) r h = absurd h
+cut-same (InAttributeName t x n) (InType u q v z) r h = absurd h
 cut-same AfterLess g r h = ap (λ (z : Scan). scan_cut_out z r) h
 cut-same AfterLessSolidus g r h = ap (λ (z : Scan). scan_cut_out z r) h
 cut-same (InDeclaration pending) g r h = ap (λ (z : Scan). scan_cut_out z r) h
 cut-same (InTagName ends name) g r h = ap (λ (z : Scan). scan_cut_out z r) h
 cut-same (InCommentEnd s) g r h = ap (λ (z : Scan). scan_cut_out z r) h
 cut-same (InContentEnd e k) g r h = ap (λ (z : Scan). scan_cut_out z r) h
+cut-same (BeforeType t) g r h = ap (λ (z : Scan). scan_cut_out z r) h
+cut-same (InType t q v w) g r h = ap (λ (z : Scan). scan_cut_out z r) h
 
 -- The reference that is open in a state; none is told of what no path comes to: after a `<` in a title none is open any more.
 abbrev pub opened : LexState ValueState → Option Reference
@@ -247,6 +261,37 @@ end-name-opens grows true e letters Solidus b = refl
 end-name-opens grows true e letters GreaterThan b = refl
 end-name-opens grows whole e letters c b = loose-opens e Closed c b
 
+-- a data block
+block-loose-opens : (e : Element) (c : Class) (b : ℕ) → opened (next_loose c b e Bytes) ≡ Some Closed
+block-loose-opens e LessThan b = refl
+block-loose-opens e c b = refl
+
+block-end-opens : (grows whole : Bool) (e : Element) (letters : List ℕ) (c : Class) (b : ℕ) → opened (next_end_name grows whole c b e Bytes letters) ≡ Some Closed
+block-end-opens true whole e letters (Letter l) b = refl
+block-end-opens grows true e letters White b = refl
+block-end-opens grows true e letters Solidus b = refl
+block-end-opens grows true e letters GreaterThan b = refl
+block-end-opens grows whole e letters c b = block-loose-opens e c b
+
+block-less-opens : (e : Element) (c : Class) (b : ℕ) → opened (next_less c b e Bytes) ≡ Some Closed
+block-less-opens e Solidus b = refl
+block-less-opens e ExclamationMark b = refl
+block-less-opens e LessThan b = refl
+block-less-opens e c b = refl
+
+block-bang-opens : (e : Element) (c : Class) (b : ℕ) → opened (next_bang c b e Bytes) ≡ Some Closed
+block-bang-opens e HyphenMinus b = refl
+block-bang-opens e LessThan b = refl
+block-bang-opens e c b = refl
+
+block-opens : (h : Pending) (e : Element) (c : Class) (b : ℕ) → opened (next_in_content h c b e Bytes) ≡ Some Closed
+block-opens Nothing e c b = block-loose-opens e c b
+block-opens PendingLess e c b = block-less-opens e c b
+block-opens LessAtCut e c b = block-loose-opens e c b
+block-opens (PendingName letters) e c b = block-end-opens (may_be_name_of e (letters ++ b ∷ [])) (is_name_of e letters) e letters c b
+block-opens PendingBang e c b = block-bang-opens e c b
+block-opens PendingBangDash e c b = block-loose-opens e c b
+
 -- A state and its scan state: what is written at a byte, and the reference that is open after it.
 record Writes (s : LexState ValueState) (f : Scan) (c : Class) (b : ℕ) (r : Reference) : Type 0 where
   outs : out s c b ≡ scan_out f c b r
@@ -271,13 +316,23 @@ comment-writes DashDash c b = λ r e. at-one (InComment DashDash) _ c b Closed r
 comment-writes Bang c b = λ r e. at-one (InComment Bang) _ c b Closed r e (record { outs = refl; opens = comment-opens Bang c })
 comment-writes Broken c b = λ r e. at-one (InComment Broken) _ c b Closed r e (record { outs = refl; opens = comment-opens Broken c })
 
+-- where a second `type` is not refused
+where-first : (second : Bool) (f : Scan) (P : Scan → Type 0) → P f → WhereScanned (if second then None else Some f) P
+where-first true f P h = tt
+where-first false f P h = h
+
+abbrev WritesFrom : LexState ValueState → Class → ℕ → Scan → Type 0
+WritesFrom s c b f = (r : Reference) → opened s ≡ Some r → Writes s f c b r
+
 before-value-writes : (tag : Tag) (k : Kind) (c : Class) (b : ℕ) → WritesAt (BeforeAttributeValue tag k) c b
 before-value-writes tag kind.Plain c b = λ r e. at-one (BeforeAttributeValue tag kind.Plain) _ c b Closed r e (record { outs = refl; opens = before-value-opens c b tag kind.Plain })
 before-value-writes tag kind.NoHole c b = λ r e. at-one (BeforeAttributeValue tag kind.NoHole) _ c b Closed r e (record { outs = refl; opens = before-value-opens c b tag kind.NoHole })
 before-value-writes tag kind.Url c b = tt
 before-value-writes tag kind.Script c b = tt
 before-value-writes tag kind.Style c b = tt
-before-value-writes tag kind.ScriptType c b = tt
+before-value-writes tag kind.ScriptType c b =
+    where-first (is_second_type (is_typed tag) kind.ScriptType) (BeforeType (tag_of tag)) (WritesFrom (BeforeAttributeValue tag kind.ScriptType) c b)
+    (λ r e. at-one (BeforeAttributeValue tag kind.ScriptType) (BeforeType (tag_of tag)) c b Closed r e (record { outs = refl; opens = before-value-opens c b tag kind.ScriptType }))
 
 value-writes-at : (q : Quoting) (tag : Tag) (k : Kind) (a : Reference) (v : ValuePlace) (c : Class) (b : ℕ) → Writes (AttributeValue q tag (ValueOf k) a) (At (place.Value v)) c b a
 value-writes-at q tag k a v c b = (let w = value-writes (ends_value q c) q tag (ValueOf k) a c b refl in record { outs = w.0; opens = w.1 })
@@ -289,16 +344,11 @@ in-value-writes q tag (ValueOf kind.Url) a c b = tt
 in-value-writes q tag (ValueOf kind.Script) a c b = tt
 in-value-writes q tag (ValueOf kind.Style) a c b = tt
 in-value-writes q tag (ValueOf kind.ScriptType) a c b = tt
-in-value-writes q tag (TypeSoFar before) a c b = tt
-
-loose-writes : (e : Element) (a : Reference) (c : Class) (b : ℕ) → Writes (InContent e (Characters a) Nothing) (At (place.Rcdata e)) c b a
-loose-writes e a c b = record { outs = refl; opens = loose-opens e a c b }
-
-less-writes : (e : Element) (c : Class) (b : ℕ) → Writes (InContent e (Characters Closed) PendingLess) (InContentEnd e PendingLess) c b Closed
-less-writes e c b = record { outs = refl; opens = content-less-opens e c b }
-
-end-writes : (e : Element) (letters : List ℕ) (c : Class) (b : ℕ) → Writes (InContent e (Characters Closed) (PendingName letters)) (InContentEnd e (PendingName letters)) c b Closed
-end-writes e letters c b = record { outs = refl; opens = end-name-opens (may_be_name_of e (letters ++ b ∷ [])) (is_name_of e letters) e letters c b }
+in-value-writes q tag (TypeSoFar before) a c b =
+    let s = AttributeValue q tag (TypeSoFar before) a in
+    let f = InType (tag_of tag) q (TypeSoFar before) a in
+    let w = value-writes (ends_value q c) q tag (TypeSoFar before) a c b refl in
+    where-first (is_second_type (is_typed tag) kind.ScriptType) f (WritesFrom s c b) (λ r e. at-one s f c b a r e (record { outs = w.0; opens = w.1 }))
 
 not-open : (r : Reference) → None ≡ Some r → ⊥
 not-open r e = cc
@@ -310,28 +360,49 @@ no-scan : (h : Pending) → (content_scanned h element.Other ≡ None) × (conte
 no-scan Nothing = (refl, refl, refl, refl)
 no-scan PendingLess = (refl, refl, refl, refl)
 no-scan (PendingName letters) = (refl, refl, refl, refl)
+no-scan LessAtCut = (refl, refl, refl, refl)
 no-scan PendingBang = (refl, refl, refl, refl)
 no-scan PendingBangDash = (refl, refl, refl, refl)
 
 content-writes : (e : Element) (a : Reference) (h : Pending) (c : Class) (b : ℕ) → WritesAt (InContent e (Characters a) h) c b
-content-writes element.Title a Nothing c b = λ r e. at-one (InContent element.Title (Characters a) Nothing) _ c b a r e (loose-writes element.Title a c b)
-content-writes element.Textarea a Nothing c b = λ r e. at-one (InContent element.Textarea (Characters a) Nothing) _ c b a r e (loose-writes element.Textarea a c b)
-content-writes element.Title Closed PendingLess c b = λ r e. at-one (InContent element.Title (Characters Closed) PendingLess) _ c b Closed r e (less-writes element.Title c b)
-content-writes element.Textarea Closed PendingLess c b = λ r e. at-one (InContent element.Textarea (Characters Closed) PendingLess) _ c b Closed r e (less-writes element.Textarea c b)
-content-writes element.Title Closed (PendingName letters) c b = λ r e. at-one (InContent element.Title (Characters Closed) (PendingName letters)) _ c b Closed r e (end-writes element.Title letters c b)
-content-writes element.Textarea Closed (PendingName letters) c b = λ r e. at-one (InContent element.Textarea (Characters Closed) (PendingName letters)) _ c b Closed r e (end-writes element.Textarea letters c b)
+content-writes element.Title a Nothing c b = λ r e. at-one (InContent element.Title (Characters a) Nothing) _ c b a r e (record { outs = refl; opens = loose-opens element.Title a c b })
+content-writes element.Textarea a Nothing c b = λ r e. at-one (InContent element.Textarea (Characters a) Nothing) _ c b a r e (record { outs = refl; opens = loose-opens element.Textarea a c b })
+content-writes element.Title Closed PendingLess c b = λ r e. at-one (InContent element.Title (Characters Closed) PendingLess) _ c b Closed r e (record { outs = refl; opens = content-less-opens element.Title c b })
+content-writes element.Textarea Closed PendingLess c b = λ r e. at-one (InContent element.Textarea (Characters Closed) PendingLess) _ c b Closed r e (record { outs = refl; opens = content-less-opens element.Textarea c b })
+content-writes element.Title Closed (PendingName letters) c b =
+    λ r e. at-one (InContent element.Title (Characters Closed) (PendingName letters)) _ c b Closed r e
+    (record { outs = refl; opens = end-name-opens (may_be_name_of element.Title (letters ++ b ∷ [])) (is_name_of element.Title letters) element.Title letters c b })
+content-writes element.Textarea Closed (PendingName letters) c b =
+    λ r e. at-one (InContent element.Textarea (Characters Closed) (PendingName letters)) _ c b Closed r e
+    (record { outs = refl; opens = end-name-opens (may_be_name_of element.Textarea (letters ++ b ∷ [])) (is_name_of element.Textarea letters) element.Textarea letters c b })
 content-writes element.Title (Open f bytes) PendingLess c b = λ r e. absurd (not-open r e)
-content-writes element.Textarea (Open f bytes) PendingLess c b = λ r e. absurd (not-open r e)
 content-writes element.Title (Open f bytes) (PendingName letters) c b = λ r e. absurd (not-open r e)
+content-writes element.Textarea (Open f bytes) PendingLess c b = λ r e. absurd (not-open r e)
 content-writes element.Textarea (Open f bytes) (PendingName letters) c b = λ r e. absurd (not-open r e)
+content-writes element.Title a LessAtCut c b = tt
 content-writes element.Title a PendingBang c b = tt
 content-writes element.Title a PendingBangDash c b = tt
+content-writes element.Textarea a LessAtCut c b = tt
 content-writes element.Textarea a PendingBang c b = tt
 content-writes element.Textarea a PendingBangDash c b = tt
 content-writes element.Other a h c b = none-scanned element.Other h a c b (no-scan h).0
 content-writes element.Style a h c b = none-scanned element.Style h a c b (no-scan h).1
 content-writes element.Script a h c b = none-scanned element.Script h a c b (no-scan h).2
 content-writes element.DataBlock a h c b = none-scanned element.DataBlock h a c b (no-scan h).3
+
+block-writes : (e : Element) (h : Pending) (c : Class) (b : ℕ) → WritesAt (InContent e Bytes h) c b
+block-writes element.DataBlock Nothing c b = λ r e. at-one (InContent element.DataBlock Bytes Nothing) _ c b Closed r e (record { outs = refl; opens = block-opens Nothing element.DataBlock c b })
+block-writes element.DataBlock PendingLess c b = λ r e. at-one (InContent element.DataBlock Bytes PendingLess) _ c b Closed r e (record { outs = refl; opens = block-opens PendingLess element.DataBlock c b })
+block-writes element.DataBlock LessAtCut c b = λ r e. at-one (InContent element.DataBlock Bytes LessAtCut) _ c b Closed r e (record { outs = refl; opens = block-opens LessAtCut element.DataBlock c b })
+block-writes element.DataBlock (PendingName letters) c b = λ r e. at-one (InContent element.DataBlock Bytes (PendingName letters)) _ c b Closed r e (record { outs = refl; opens = block-opens (PendingName letters) element.DataBlock c b })
+block-writes element.DataBlock PendingBang c b = λ r e. at-one (InContent element.DataBlock Bytes PendingBang) _ c b Closed r e (record { outs = refl; opens = block-opens PendingBang element.DataBlock c b })
+block-writes element.DataBlock PendingBangDash c b = λ r e. at-one (InContent element.DataBlock Bytes PendingBangDash) _ c b Closed r e (record { outs = refl; opens = block-opens PendingBangDash element.DataBlock c b })
+block-writes e Nothing c b = tt
+block-writes e PendingLess c b = tt
+block-writes e LessAtCut c b = tt
+block-writes e (PendingName letters) c b = tt
+block-writes e PendingBang c b = tt
+block-writes e PendingBangDash c b = tt
 
 writes : (s : LexState ValueState) (c : Class) (b : ℕ) → class_of b ≡ c → WritesAt s c b
 writes (Text a) c b k = λ r e. at-one (Text a) (At place.Text) c b a r e (text-writes a c b)
@@ -345,19 +416,26 @@ writes (TagName ends name) c b k = λ r e. at-one (TagName ends name) (InTagName
 writes (WholeTagName t) c b k = λ r e. at-one (WholeTagName t) _ c b Closed r e (record { outs = refl; opens = before-closed c b t })
 writes (BeforeAttributeName t) c b k = λ r e. at-one (BeforeAttributeName t) _ c b Closed r e (record { outs = refl; opens = before-closed c b t })
 writes (AttributeName t name) c b k = λ r e. at-one (AttributeName t name) _ c b Closed r e (record { outs = refl; opens = name-opens c b t (kind_of (element_on t) name) name })
-writes (WholeAttributeName t j) c b k = λ r e. at-one (WholeAttributeName t j) _ c b Closed r e (record { outs = refl; opens = whole-opens c b t j })
-writes (AfterAttributeName t j) c b k = λ r e. at-one (AfterAttributeName t j) _ c b Closed r e (record { outs = refl; opens = after-name-opens c b t j })
+writes (WholeAttributeName t j) c b k =
+    let f = At (place.Tag (tag_spot t only_inside (Some j))) in
+    where-first (is_second_type (is_typed t) j) f (WritesFrom (WholeAttributeName t j) c b) (λ r e. at-one (WholeAttributeName t j) f c b Closed r e (record { outs = refl; opens = whole-opens c b t j }))
+writes (AfterAttributeName t j) c b k =
+    let f = At (place.Tag (tag_spot t only_after (Some j))) in
+    where-first (is_second_type (is_typed t) j) f (WritesFrom (AfterAttributeName t j) c b) (λ r e. at-one (AfterAttributeName t j) f c b Closed r e (record { outs = refl; opens = after-name-opens c b t j }))
 writes (BeforeAttributeValue t j) c b k = before-value-writes t j c b
 writes (AttributeValue q t v a) c b k = in-value-writes q t v a c b
 writes (AfterAttributeValue t) c b k = λ r e. at-one (AfterAttributeValue t) _ c b Closed r e (record { outs = refl; opens = before-closed c b t })
 writes (SelfClosingStartTag t) c b k = λ r e. at-one (SelfClosingStartTag t) _ c b Closed r e (record { outs = refl; opens = before-closed c b t })
 writes (InContent x (Characters a) h) c b k = content-writes x a h c b
-writes (InContent x Bytes h) c b k = tt
+writes (InContent x Bytes h) c b k = block-writes x h c b
 writes Unread c b k = tt
 
 -- likewise, and at the end of a text
 abbrev CutAt : LexState ValueState → Type 0
 CutAt s = WhereScanned (scanned s) (λ f. (r : Reference) → opened s ≡ Some r → cut_out s ≡ scan_cut_out f r)
+
+abbrev CutFrom : LexState ValueState → Scan → Type 0
+CutFrom s f = (r : Reference) → opened s ≡ Some r → cut_out s ≡ scan_cut_out f r
 
 by-one : (f : Scan) (a r : Reference) (bytes : List ℕ) → Some a ≡ Some r → bytes ≡ scan_cut_out f a → bytes ≡ scan_cut_out f r
 by-one f a r bytes e h = subst (λ (z : Reference). bytes ≡ scan_cut_out f z) (one_value a r e) h
@@ -376,14 +454,30 @@ content-cuts element.Title (Open f bytes) PendingLess = λ r e. refl
 content-cuts element.Textarea (Open f bytes) PendingLess = λ r e. refl
 content-cuts element.Title (Open f bytes) (PendingName letters) = λ r e. refl
 content-cuts element.Textarea (Open f bytes) (PendingName letters) = λ r e. refl
+content-cuts element.Title a LessAtCut = tt
 content-cuts element.Title a PendingBang = tt
 content-cuts element.Title a PendingBangDash = tt
+content-cuts element.Textarea a LessAtCut = tt
 content-cuts element.Textarea a PendingBang = tt
 content-cuts element.Textarea a PendingBangDash = tt
 content-cuts element.Other a h = no-cut element.Other a h (no-scan h).0
 content-cuts element.Style a h = no-cut element.Style a h (no-scan h).1
 content-cuts element.Script a h = no-cut element.Script a h (no-scan h).2
 content-cuts element.DataBlock a h = no-cut element.DataBlock a h (no-scan h).3
+
+block-cuts : (e : Element) (h : Pending) → CutAt (InContent e Bytes h)
+block-cuts element.DataBlock Nothing = λ r e. by-one (At place.Text) Closed r _ e refl
+block-cuts element.DataBlock LessAtCut = λ r e. by-one (At place.Text) Closed r _ e refl
+block-cuts element.DataBlock PendingLess = λ r e. refl
+block-cuts element.DataBlock (PendingName letters) = λ r e. refl
+block-cuts element.DataBlock PendingBang = λ r e. refl
+block-cuts element.DataBlock PendingBangDash = λ r e. refl
+block-cuts e Nothing = tt
+block-cuts e PendingLess = tt
+block-cuts e LessAtCut = tt
+block-cuts e (PendingName letters) = tt
+block-cuts e PendingBang = tt
+block-cuts e PendingBangDash = tt
 
 value-cuts : (q : Quoting) (tag : Tag) (v : Value ValueState) (a : Reference) → CutAt (AttributeValue q tag v a)
 value-cuts q tag (ValueOf kind.Plain) a = λ r e. by-one (At place.Text) a r _ e refl
@@ -392,7 +486,9 @@ value-cuts q tag (ValueOf kind.Url) a = tt
 value-cuts q tag (ValueOf kind.Script) a = tt
 value-cuts q tag (ValueOf kind.Style) a = tt
 value-cuts q tag (ValueOf kind.ScriptType) a = tt
-value-cuts q tag (TypeSoFar before) a = tt
+value-cuts q tag (TypeSoFar before) a =
+    let s = AttributeValue q tag (TypeSoFar before) a in
+    where-first (is_second_type (is_typed tag) kind.ScriptType) (InType (tag_of tag) q (TypeSoFar before) a) (CutFrom s) (λ r e. by-one (At place.Text) a r _ e refl)
 
 before-cuts : (tag : Tag) (k : Kind) → CutAt (BeforeAttributeValue tag k)
 before-cuts tag kind.Plain = λ r e. by-one (At place.Text) Closed r _ e refl
@@ -400,7 +496,8 @@ before-cuts tag kind.NoHole = λ r e. by-one (At place.Text) Closed r _ e refl
 before-cuts tag kind.Url = tt
 before-cuts tag kind.Script = tt
 before-cuts tag kind.Style = tt
-before-cuts tag kind.ScriptType = tt
+before-cuts tag kind.ScriptType =
+    where-first (is_second_type (is_typed tag) kind.ScriptType) (BeforeType (tag_of tag)) (CutFrom (BeforeAttributeValue tag kind.ScriptType)) (λ r e. by-one (At place.Text) Closed r _ e refl)
 
 comment-cuts : (s : CommentState) → CutAt (InComment s)
 comment-cuts Started = λ r e. refl
@@ -423,14 +520,16 @@ cuts (TagName ends name) = λ r e. refl
 cuts (WholeTagName t) = λ r e. by-one (At place.Text) Closed r _ e refl
 cuts (BeforeAttributeName t) = λ r e. by-one (At place.Text) Closed r _ e refl
 cuts (AttributeName t name) = λ r e. refl
-cuts (WholeAttributeName t j) = λ r e. by-one (At place.Text) Closed r _ e refl
-cuts (AfterAttributeName t j) = λ r e. by-one (At place.Text) Closed r _ e refl
+cuts (WholeAttributeName t j) =
+    where-first (is_second_type (is_typed t) j) (At (place.Tag (tag_spot t only_inside (Some j)))) (CutFrom (WholeAttributeName t j)) (λ r e. by-one (At place.Text) Closed r _ e refl)
+cuts (AfterAttributeName t j) =
+    where-first (is_second_type (is_typed t) j) (At (place.Tag (tag_spot t only_after (Some j)))) (CutFrom (AfterAttributeName t j)) (λ r e. by-one (At place.Text) Closed r _ e refl)
 cuts (BeforeAttributeValue t j) = before-cuts t j
 cuts (AttributeValue q t v a) = value-cuts q t v a
 cuts (AfterAttributeValue t) = λ r e. by-one (At place.Text) Closed r _ e refl
 cuts (SelfClosingStartTag t) = λ r e. by-one (At place.Text) Closed r _ e refl
 cuts (InContent x (Characters a) h) = content-cuts x a h
-cuts (InContent x Bytes h) = tt
+cuts (InContent x Bytes h) = block-cuts x h
 cuts Unread = tt
 
 -- A path that is at a place has no reference open.
@@ -448,11 +547,13 @@ closed-at (AttributeValue q t v (Open f bytes)) p e = absurd (no-place p e)
 closed-at (InContent x (Characters Closed) Nothing) p e = refl
 closed-at (InContent x (Characters Closed) PendingLess) p e = refl
 closed-at (InContent x (Characters Closed) (PendingName letters)) p e = refl
+closed-at (InContent x (Characters Closed) LessAtCut) p e = refl
 closed-at (InContent x (Characters Closed) PendingBang) p e = refl
 closed-at (InContent x (Characters Closed) PendingBangDash) p e = refl
 closed-at (InContent x (Characters (Open f bytes)) Nothing) p e = absurd (no-place p e)
 closed-at (InContent x (Characters (Open f bytes)) PendingLess) p e = absurd (no-place p e)
 closed-at (InContent x (Characters (Open f bytes)) (PendingName letters)) p e = absurd (no-place p e)
+closed-at (InContent x (Characters (Open f bytes)) LessAtCut) p e = absurd (no-place p e)
 closed-at (InContent x (Characters (Open f bytes)) PendingBang) p e = absurd (no-place p e)
 closed-at (InContent x (Characters (Open f bytes)) PendingBangDash) p e = absurd (no-place p e)
 closed-at s p e = refl
@@ -468,7 +569,7 @@ same-from : (bytes : List ℕ) (k : ℕ) (s : LexState ValueState) (f : Scan) (r
     → written languages bytes s ≡ written_from bytes f r
 same-from [] k s f r q e o h = cuts-at s f r e o
 same-from (b ∷ bs) k s f r q e o h =
-    let n = not-refused k (scan_error f (class_of b)) (stepped (k + 1) bs (scan_next f (class_of b) b)) q h in
+    let n = not-refused k (scan_error f (class_of b) b) (stepped (k + 1) bs (scan_next f (class_of b) b)) q h in
     let w = writes-at s f b r e o in
     ap₂ (λ (x y : List ℕ). x ++ y) w.outs
     (same-from bs (k + 1) (next languages Template s (class_of b) b) (scan_next f (class_of b) b) (scan_open f (class_of b) b r) q ((agrees-at s f b e).steps n.0) w.opens n.1)
@@ -476,7 +577,7 @@ same-from (b ∷ bs) k s f r q e o h =
 above-from : (bytes : List ℕ) (k : ℕ) (f g : Scan) (r : Reference) (q : Place) → ScanValid f → ScanBelow f g → stepped k bytes g ≡ Ok q → written_from bytes f r ≡ written_from bytes g r
 above-from [] k f g r q v h e = cut-same f g r h
 above-from (b ∷ bs) k f g r q v h e =
-    let n = not-refused k (scan_error g (class_of b)) (stepped (k + 1) bs (scan_next g (class_of b) b)) q e in
+    let n = not-refused k (scan_error g (class_of b) b) (stepped (k + 1) bs (scan_next g (class_of b) b)) q e in
     let m = scan-grows f g (class_of b) b v h n.0 in
     let w = scan-same f g (class_of b) b r h in
     ap₂ (λ (x y : List ℕ). x ++ y) w.outs

@@ -2,6 +2,7 @@
 use Rattle.std.proofs.Common.{◌≡◌, ℕ, ◌<◌, ◌≤◌, ◌==◌, Bool, true, List, refl, sym, ◌∙◌, inl, inr, ◌⊎◌}
 use Rattle.std.proofs.lemmas.Bool.{cases_lt, eqb-true, agree_below, agree_below_at}
 use Rattle.place_core.specs.page.Classes.{Class, White, ExclamationMark, QuotationMark, NumberSign, Ampersand, Apostrophe, HyphenMinus, Solidus, Digit, Semicolon, LessThan, EqualsSign, GreaterThan, QuestionMark, GraveAccent, Letter, OtherByte, class_of}
+use Rattle.place_core.specs.declared.element.Element.TheVariants as element
 use Rattle.place_core.proofs.Bytes.{class-high}
 use Rattle.html_scan.specs.ScanViews.{scan_at}
 use Rattle.html_scan.specs.declared.scan.Scan.{Scan as ReadScan}
@@ -66,5 +67,11 @@ is_read text k (scan.InDeclaration from) = refl
 is_read text k (scan.InTagName ends from) = refl
 is_read text k (scan.InAttributeName t typed from) = refl
 is_read text k (scan.InCommentEnd s) = refl
+is_read text k (scan.AfterContentLess element.DataBlock) = refl
 is_read text k (scan.AfterContentLess e) = refl
+is_read text k (scan.InContentName element.DataBlock from) = refl
 is_read text k (scan.InContentName e from) = refl
+is_read text k scan.AfterBlockBang = refl
+is_read text k scan.AfterBlockBangDash = refl
+is_read text k (scan.BeforeType t) = refl
+is_read text k (scan.InType t q from) = refl

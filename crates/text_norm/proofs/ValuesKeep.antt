@@ -1,95 +1,243 @@
--- What is written of a value leads the page's reading where the path's leads.
-use Rattle.std.proofs.Common.{◌≡◌, ℕ, Bool, true, false, codes, List, [], ◌∷◌, ◌++◌, None, refl, sym, ap, ◌∙◌, subst}
-use Rattle.place_core.specs.page.Classes.{Class, White, QuotationMark, Ampersand, Apostrophe, GreaterThan, class_of}
-use Rattle.place_core.specs.place.Errors.{content_error}
-use Rattle.place_core.specs.page.Events.{LexEvent, TagEnds}
-use Rattle.place_core.specs.page.Html.{ends_value, next_after_value, next_before_value, next_value, emits_before_value, emits_value}
-use Rattle.place_core.specs.page.References.{Begun, Reference, Closed, Open, next_reference, settled, undone_byte, as_it_stands}
+-- What is written of a value leads the page's reading where the path's leads. In a language of values the page may be in another state than the path,
+-- which is alike; all that is asked of the language is its laws.
+use Rattle.std.proofs.Common.{◌≡◌, ℕ, ◌-◌, Bool, true, false, codes, List, [], ◌∷◌, ◌++◌, Option, Some, None, if◌then◌else◌, refl, sym, ap, ap₂, ◌∙◌, subst}
+use Rattle.std.specs.Prelude.{⊤}
+use Rattle.std.proofs.lemmas.List.{append-nil, append_assoc}
+use Rattle.place_core.specs.page.Classes.{Class, White, QuotationMark, Ampersand, Apostrophe, GreaterThan, class_of, is_equals_sign}
+use Rattle.place_core.specs.place.Errors.{PathCause, cause_back, content_error, ending_tag, fed_error, first_byte_error, first_cause, language_error, turned_error}
+use Rattle.place_core.specs.page.Events.{LexEvent, Mark, TagEnds}
+use Rattle.place_core.specs.page.Html.{ends_value, next_after_value, next_before_value, next_value, emits_after_value, emits_before_value, emits_value}
+use Rattle.place_core.specs.page.References.{Form, Begun, Reference, Closed, Open, ReferenceStep, Grows, Closes, Breaks, flushed, next_reference, plain_bytes, settled, turn, turn_bytes, undone_byte, as_it_stands}
 use Rattle.place_core.specs.place.StatePlaces.{tag_of}
-use Rattle.place_core.specs.page.States.{BeforeAttributeValue, Config, config}
-use Rattle.place_core.specs.page.Tags.{Tag, Bodies, Value, ValueOf, Quoting, DoubleQuoted, SingleQuoted, Unquoted, emitted_bytes, emitted_end, attribute_value_of, with_bytes, tag_with_value, without_value}
+use Rattle.place_core.specs.page.States.{AttributeValue, BeforeAttributeValue, Config, config}
+use Rattle.place_core.specs.page.Tags.{Tag, ValueLanguage, Value, ValueOf, TypeSoFar, Quoting, DoubleQuoted, SingleQuoted, Unquoted, cut_value, emitted_bytes, emitted_end, emitted_settled, holed_value, attribute_value_of, value_behind, with_bytes, tag_with_value, without_value}
+use Rattle.place_core.specs.declared.code.Code.{Code}
 use Rattle.place_core.specs.declared.kind.Kind.{Kind}
-use Rattle.text_norm.specs.Standing.{PendingReference, TextStands, StandsIn, StandsInValue, page, standing_value}
-use Rattle.text_norm.specs.Written.{reference_out, value_out}
+use Rattle.place_core.specs.declared.kind.Kind.TheVariants as kind
+use Rattle.place_core.proofs.Readings.{unbegun-byte}
+use Rattle.html_step.proofs.OnePath.{some}
+use Rattle.text_norm.specs.Standing.{PendingReference, TextStands, StandsAlike, StandsIn, StandsInValue, page, standing_value}
+use Rattle.text_norm.specs.ValueLaws.{ValueLanguageLaws}
+use Rattle.text_norm.specs.Written.{reference_out, text_escaped, value_out}
 use Rattle.text_norm.proofs.Places.{value-run, value-since}
 use Rattle.text_norm.proofs.Runs.{amp-read, class_amp, follows-run, on}
 use Rattle.text_norm.proofs.TagsKeep.{before-leads, tag-leads, without-value}
 
--- A value of a language stays one.
-pub record Own (B : Type 0) (z : Value B) : Type 0 where
-  pub value : B
-  pub is : z ≡ ValueOf value
+-- The state of a language after bytes, and that it refuses none of them.
+abbrev pub fed : {B : Type 0} → ValueLanguage B → B → List ℕ → B
+fed x v [] = v
+fed x v (b ∷ bs) = fed x (x.feed v b) bs
 
-pub own-with : {B : Type 0} (x : Bodies B) (v : B) (bs : List ℕ) → Own B (with_bytes x (ValueOf v) bs)
-own-with x v [] = record { value = v; is = refl }
-own-with x v (b ∷ bs) = own-with x (x.feed v b) bs
+abbrev pub AreTaken : {B : Type 0} → ValueLanguage B → B → List ℕ → Type 0
+AreTaken x v [] = ⊤
+AreTaken x v (b ∷ bs) = (x.refuses v b ≡ None) × AreTaken x (x.feed v b) bs
 
-pub own-stands : {B : Type 0} (x : Bodies B) (q : Quoting) (tag : Tag) (z : Value B) (r : Reference) (t : List LexEvent) (d : Config B) → Own B z → StandsIn x (standing_value x q tag z t) r d → StandsInValue x q tag z r t d
-own-stands x q tag z r t d o h = subst (λ (w : Value _). StandsInValue x q tag w r t d) (sym o.is) (subst (λ (w : Value _). StandsIn x (standing_value x q tag w t) r d) o.is h)
+-- a value of a language stays one, and the type of a script too
+pub own-fed : {B : Type 0} (x : ValueLanguage B) (v : B) (bs : List ℕ) → with_bytes x (ValueOf v) bs ≡ ValueOf (fed x v bs)
+own-fed x v [] = refl
+own-fed x v (b ∷ bs) = own-fed x (x.feed v b) bs
 
-own-tag : {B : Type 0} (tag : Tag) (z : Value B) → Own B z → tag_with_value tag z ≡ tag
-own-tag tag z o = rw o.is refl
+pub own-type : {B : Type 0} (x : ValueLanguage B) (before bs : List ℕ) → with_bytes x (TypeSoFar before) bs ≡ TypeSoFar (before ++ bs)
+own-type x before [] = ap TypeSoFar (sym (append-nil before))
+own-type x before (b ∷ bs) = own-type x (before ++ b ∷ []) bs ∙ ap TypeSoFar (append_assoc before (b ∷ []) bs)
+
+-- What a language does not refuse of a text, it takes of what it is fed.
+pub both-none : (a b : Option PathCause) → first_cause a b ≡ None → (a ≡ None) × (b ≡ None)
+both-none None b n = (refl, n)
+both-none (Some e) b n = absurd (some e n)
+
+no-cause : (back : ℕ) (o : Option Code) → cause_back back o ≡ None → o ≡ None
+no-cause back None n = refl
+no-cause back (Some e) n = absurd (some _ n)
+
+pub fed-taken : {B : Type 0} (x : ValueLanguage B) (v : B) (bs : List ℕ) (written : Bool) (back : ℕ) → fed_error x (ValueOf v) bs written back ≡ None → AreTaken x v bs
+fed-taken x v [] written back n = tt
+fed-taken x v (b ∷ bs) written back n =
+    let later = if written then back - 1 else back in
+    let m = both-none (cause_back back (x.refuses v b)) (fed_error x (ValueOf (x.feed v b)) bs written later) n in
+    (no-cause back (x.refuses v b) m.0, fed-taken x (x.feed v b) bs written later m.1)
+
+taken-append : {B : Type 0} (x : ValueLanguage B) (v : B) (xs ys : List ℕ) → AreTaken x v xs → AreTaken x (fed x v xs) ys → AreTaken x v (xs ++ ys)
+taken-append x v [] ys h k = k
+taken-append x v (b ∷ xs) ys h k = (h.0, taken-append x (x.feed v b) xs ys h.1 k)
+
+turned-taken : {B : Type 0} (x : ValueLanguage B) (v : B) (n : ReferenceStep) (f : Form) (bytes : List ℕ) (c : Class) (b : ℕ) → turned_error x (ValueOf v) n f bytes c b ≡ None → AreTaken x v (turn_bytes true n f bytes c b)
+turned-taken x v (Grows g) f bytes c b n = tt
+turned-taken x v Closes f bytes c b n = fed-taken x v _ false _ n
+turned-taken {B} x v Breaks f bytes c b n =
+    let name = flushed true (is_equals_sign c) f bytes in
+    let m = both-none _ (fed_error x (with_bytes x (ValueOf v) name) (plain_bytes c b) false 0) n in
+    taken-append x v name (plain_bytes c b) (fed-taken x v name _ _ m.0)
+    (fed-taken x (fed x v name) (plain_bytes c b) false 0 (subst (λ (z : Value B). fed_error x z (plain_bytes c b) false 0 ≡ None) (own-fed x v name) m.1))
+
+taken-on : {B : Type 0} (x : ValueLanguage B) (v : B) (r : Reference) (c : Class) (b : ℕ) → language_error x false (ValueOf v) r c b ≡ None → AreTaken x v (undone_byte true r c b)
+taken-on x v Closed c b n = fed-taken x v (plain_bytes c b) false 0 n
+taken-on x v (Open f bytes) c b n = turned-taken x v (turn c f) f bytes c b n
+
+taken-end : {B : Type 0} (x : ValueLanguage B) (v : B) (r : Reference) (c : Class) (b : ℕ) → language_error x true (ValueOf v) r c b ≡ None → AreTaken x v (settled true r)
+taken-end x v Closed c b n = tt
+taken-end x v (Open f bytes) c b n = fed-taken x v (flushed true false f bytes) _ _ n
+
+-- States that are alike, after bytes that are taken.
+alike-fed : {B : Type 0} {x : ValueLanguage B} → ValueLanguageLaws B x → (bs : List ℕ) (v w : B) → x.AreAlike v w → AreTaken x v bs → x.AreAlike (fed x v bs) (fed x w bs)
+alike-fed l [] v w a k = a
+alike-fed {B} {x} l (b ∷ bs) v w a k = alike-fed l bs (x.feed v b) (x.feed w b) (l.feeds v w b a k.0) k.1
+
+alike-emitted : {B : Type 0} {x : ValueLanguage B} → ValueLanguageLaws B x → (bs : List ℕ) (v w : B) (t : List LexEvent) → x.AreAlike v w → AreTaken x v bs
+    → emitted_bytes x (ValueOf w) bs t ≡ emitted_bytes x (ValueOf v) bs t
+alike-emitted l [] v w t a k = refl
+alike-emitted {B} {x} l (b ∷ bs) v w t a k =
+    ap (emitted_bytes x (ValueOf (x.feed w b)) bs) (l.emits v w b t a k.0) ∙ alike-emitted l bs (x.feed v b) (x.feed w b) (x.emits v b t) (l.feeds v w b a k.0) k.1
+
+alike-end : {B : Type 0} {x : ValueLanguage B} → ValueLanguageLaws B x → (bs : List ℕ) (v w : B) (t : List LexEvent) → x.AreAlike v w → AreTaken x v bs
+    → emitted_end x (with_bytes x (ValueOf w) bs) (emitted_bytes x (ValueOf w) bs t) ≡ emitted_end x (with_bytes x (ValueOf v) bs) (emitted_bytes x (ValueOf v) bs t)
+alike-end {B} {x} l bs v w t a k =
+    ap₂ (λ (z : Value B) (y : List LexEvent). emitted_end x z y) (own-fed x w bs) (alike-emitted l bs v w t a k)
+    ∙ l.ends (fed x v bs) (fed x w bs) (emitted_bytes x (ValueOf v) bs t) (alike-fed l bs v w a k)
+    ∙ sym (ap (λ (z : Value B). emitted_end x z (emitted_bytes x (ValueOf v) bs t)) (own-fed x v bs))
+
+own-tag : {B : Type 0} (x : ValueLanguage B) (tag : Tag) (v : B) (bs : List ℕ) → tag_with_value tag (with_bytes x (ValueOf v) bs) ≡ tag
+own-tag x tag v bs = ap (tag_with_value tag) (own-fed x v bs)
 
 -- a byte that does not end it
-goes-on : {B : Type 0} (x : Bodies B) (q : Quoting) (tag : Tag) (v : B) (r : Reference) (c : Class) (b : ℕ) (t : List LexEvent) (d : Config B) → class_of b ≡ c → ends_value q c ≡ false
-    → StandsIn x (standing_value x q tag (ValueOf v) t) r d
-    → StandsInValue x q tag (with_bytes x (ValueOf v) (undone_byte true r c b)) (next_reference r c b) (emitted_bytes x (ValueOf v) (undone_byte true r c b) t) (page x (reference_out r c b) d)
-goes-on x q tag v r c b t d e s h =
+goes-on-alike : {B : Type 0} {x : ValueLanguage B} → ValueLanguageLaws B x → (q : Quoting) (tag : Tag) (v : B) (r : Reference) (c : Class) (b : ℕ) (t : List LexEvent) (d : Config B) → class_of b ≡ c
+    → ends_value q c ≡ false → AreTaken x v (undone_byte true r c b) → StandsAlike B x q tag v r t d
+    → StandsAlike B x q tag (fed x v (undone_byte true r c b)) (next_reference r c b) (emitted_bytes x (ValueOf v) (undone_byte true r c b) t) (page x (reference_out r c b) d)
+goes-on-alike {B} {x} l q tag v r c b t d e s k h =
     let u = undone_byte true r c b in
-    own-stands x q tag (with_bytes x (ValueOf v) u) (next_reference r c b) (emitted_bytes x (ValueOf v) u t) (page x (reference_out r c b) d) (own-with x v u)
-    (value-since x q tag (ValueOf v) t u (next_reference r c b) (page x (reference_out r c b) d) (follows-run (value-run x q tag (ValueOf v) t) r c b d e s h))
+    let w = h.there in
+    let far = page x (reference_out r c b) d in
+    let own = value-since x q tag (ValueOf w) t u (next_reference r c b) far (follows-run (value-run x q tag (ValueOf w) t) r c b d e s h.stands) in
+    record {
+      there = fed x w u;
+      alike = alike-fed l u v w h.alike k;
+      stands = subst (λ (z : List LexEvent). StandsIn x (standing_value x q tag (ValueOf (fed x w u)) z) (next_reference r c b) far) (alike-emitted l u v w t h.alike k)
+          (subst (λ (z : Value B). StandsIn x (standing_value x q tag z (emitted_bytes x (ValueOf w) u t)) (next_reference r c b) far) (own-fed x w u) own);
+    }
 
--- a byte that ends it: the state and what is told, which are the same in a page
-at-end : {B : Type 0} (x : Bodies B) (q : Quoting) (tag : Tag) (v : B) (r : Reference) (c : Class) (b : ℕ) (t : List LexEvent) (d : Config B) → class_of b ≡ c → ends_value q c ≡ true
-    → StandsIn x (standing_value x q tag (ValueOf v) t) r d
-    → page x (as_it_stands r ++ b ∷ []) d ≡ config (next_value x true q c b tag (ValueOf v) r) (emits_value x true q c b (ValueOf v) r t)
+goes-on : {B : Type 0} {x : ValueLanguage B} → ValueLanguageLaws B x → (q : Quoting) (tag : Tag) (v : Value B) (r : Reference) (c : Class) (b : ℕ) (t : List LexEvent) (d : Config B) → class_of b ≡ c
+    → ends_value q c ≡ false → language_error x false v r c b ≡ None → StandsInValue x q tag v r t d
+    → StandsInValue x q tag (with_bytes x v (undone_byte true r c b)) (next_reference r c b) (emitted_bytes x v (undone_byte true r c b) t) (page x (reference_out r c b) d)
+goes-on {B} {x} l q tag (ValueOf v) r c b t d e s n h =
+    let u = undone_byte true r c b in
+    subst (λ (z : Value B). StandsInValue x q tag z (next_reference r c b) (emitted_bytes x (ValueOf v) u t) (page x (reference_out r c b) d)) (sym (own-fed x v u))
+    (goes-on-alike l q tag v r c b t d e s (taken-on x v r c b n) h)
+goes-on {B} {x} l q tag (TypeSoFar before) r c b t d e s n h =
+    let u = undone_byte true r c b in
+    let far = page x (reference_out r c b) d in
+    let told = emitted_bytes x (TypeSoFar before) u t in
+    let own = value-since x q tag (TypeSoFar before) t u (next_reference r c b) far (follows-run (value-run x q tag (TypeSoFar before) t) r c b d e s h) in
+    subst (λ (z : Value B). StandsInValue x q tag z (next_reference r c b) told far) (sym (own-type x before u))
+    (subst (λ (z : Value B). StandsIn x (standing_value x q tag z told) (next_reference r c b) far) (own-type x before u) own)
+
+-- a byte that ends it: the state and what is told
+at-end : {B : Type 0} (x : ValueLanguage B) (q : Quoting) (tag : Tag) (v : Value B) (r : Reference) (c : Class) (b : ℕ) (t : List LexEvent) (d : Config B) → class_of b ≡ c → ends_value q c ≡ true
+    → StandsIn x (standing_value x q tag v t) r d
+    → page x (as_it_stands r ++ b ∷ []) d ≡ config (next_value x true q c b tag v r) (emits_value x true q c b v r t)
 at-end x q tag v Closed c b t d e s h = ap (page x (b ∷ [])) h ∙ rw (e, s) refl
 at-end x q tag v (Open f bytes) c b t d e s h = on x (38 ∷ bytes) (b ∷ []) d _ h.as_is ∙ rw (e, s) refl
 
-after-end : {B : Type 0} (x : Bodies B) (q : Quoting) (tag : Tag) (c : Class) (b : ℕ) (u : List LexEvent) (d : Config B) → (q ≡ Unquoted → c ≡ GreaterThan → content_error (tag_of tag) ≡ None)
+after-end : {B : Type 0} (x : ValueLanguage B) (q : Quoting) (tag : Tag) (c : Class) (b : ℕ) (u : List LexEvent) (d : Config B) → (q ≡ Unquoted → c ≡ GreaterThan → content_error (tag_of tag) ≡ None)
     → d ≡ config (next_after_value q c b tag) u → TextStands x (next_after_value q c b tag) u d
 after-end x DoubleQuoted tag c b u d n h = h
 after-end x SingleQuoted tag c b u d n h = h
 after-end x Unquoted tag c b u d n h = before-leads x tag c b u d (n refl) h
 
-ends-there : {B : Type 0} (x : Bodies B) (q : Quoting) (tag : Tag) (v : B) (r : Reference) (c : Class) (b : ℕ) (t : List LexEvent) (d : Config B) → class_of b ≡ c → ends_value q c ≡ true
-    → (q ≡ Unquoted → c ≡ GreaterThan → content_error (tag_of tag) ≡ None) → StandsIn x (standing_value x q tag (ValueOf v) t) r d
-    → TextStands x (next_value x true q c b tag (ValueOf v) r) (emits_value x true q c b (ValueOf v) r t) (page x (as_it_stands r ++ b ∷ []) d)
-ends-there x q tag v r c b t d e s n h =
-    let z = with_bytes x (ValueOf v) (settled true r) in
-    let same : tag_with_value tag z ≡ tag = own-tag tag z (own-with x v (settled true r)) in
-    subst (λ (y : Tag). TextStands x (next_after_value q c b y) (emits_value x true q c b (ValueOf v) r t) (page x (as_it_stands r ++ b ∷ []) d)) (sym same)
-    (after-end x q tag c b (emits_value x true q c b (ValueOf v) r t) (page x (as_it_stands r ++ b ∷ []) d) n
-    (at-end x q tag v r c b t d e s h ∙ ap (λ (y : Tag). config (next_after_value q c b y) (emits_value x true q c b (ValueOf v) r t)) same))
+-- the page comes to the path's state, and has told the same
+ends-alike : {B : Type 0} {x : ValueLanguage B} → ValueLanguageLaws B x → (q : Quoting) (tag : Tag) (v : B) (r : Reference) (c : Class) (b : ℕ) (t : List LexEvent) (d : Config B) → class_of b ≡ c
+    → ends_value q c ≡ true → AreTaken x v (settled true r) → StandsAlike B x q tag v r t d
+    → page x (as_it_stands r ++ b ∷ []) d ≡ config (next_after_value q c b tag) (emits_value x true q c b (ValueOf v) r t)
+ends-alike {B} {x} l q tag v r c b t d e s k h =
+    let w = h.there in
+    at-end x q tag (ValueOf w) r c b t d e s h.stands
+    ∙ ap (λ (y : Tag). config (next_after_value q c b y) (emits_value x true q c b (ValueOf w) r t)) (own-tag x tag w (settled true r))
+    ∙ ap (λ (y : List LexEvent). config (next_after_value q c b tag) (emits_after_value q c b y)) (alike-end l (settled true r) v w t h.alike k)
 
-in-value-by : {B : Type 0} (x : Bodies B) (ends : Bool) (q : Quoting) (tag : Tag) (v : B) (r : Reference) (c : Class) (b : ℕ) (t : List LexEvent) (d : Config B) → class_of b ≡ c → ends_value q c ≡ ends
-    → (q ≡ Unquoted → c ≡ GreaterThan → content_error (tag_of tag) ≡ None) → StandsIn x (standing_value x q tag (ValueOf v) t) r d
-    → TextStands x (next_value x ends q c b tag (ValueOf v) r) (emits_value x ends q c b (ValueOf v) r t) (page x (value_out ends c b r) d)
-in-value-by x true q tag v r c b t d e s n h = ends-there x q tag v r c b t d e s n h
-in-value-by x false q tag v r c b t d e s n h = goes-on x q tag v r c b t d e s h
+-- what is known of the tag at whose end it is
+abbrev IsBuilt : {B : Type 0} → Quoting → Class → Tag → Value B → Reference → Type 0
+IsBuilt q c tag v r = q ≡ Unquoted → c ≡ GreaterThan → content_error (tag_of (ending_tag tag v r)) ≡ None
 
-pub in-value : {B : Type 0} (x : Bodies B) (q : Quoting) (tag : Tag) (v : B) (r : Reference) (c : Class) (b : ℕ) (t : List LexEvent) (d : Config B) → class_of b ≡ c
-    → (q ≡ Unquoted → c ≡ GreaterThan → content_error (tag_of tag) ≡ None) → StandsIn x (standing_value x q tag (ValueOf v) t) r d
-    → TextStands x (next_value x (ends_value q c) q c b tag (ValueOf v) r) (emits_value x (ends_value q c) q c b (ValueOf v) r t) (page x (value_out (ends_value q c) c b r) d)
-in-value x q tag v r c b t d e n h = in-value-by x (ends_value q c) q tag v r c b t d e refl n h
+ends-there : {B : Type 0} {x : ValueLanguage B} → ValueLanguageLaws B x → (q : Quoting) (tag : Tag) (v : Value B) (r : Reference) (c : Class) (b : ℕ) (t : List LexEvent) (d : Config B) → class_of b ≡ c
+    → ends_value q c ≡ true → language_error x true v r c b ≡ None → IsBuilt q c tag v r → StandsInValue x q tag v r t d
+    → TextStands x (next_value x true q c b tag v r) (emits_value x true q c b v r t) (page x (as_it_stands r ++ b ∷ []) d)
+ends-there {B} {x} l q tag (ValueOf v) r c b t d e s k n h =
+    let u = emits_value x true q c b (ValueOf v) r t in
+    subst (λ (y : Tag). TextStands x (next_after_value q c b y) u (page x (as_it_stands r ++ b ∷ []) d)) (sym (own-tag x tag v (settled true r)))
+    (after-end x q tag c b u (page x (as_it_stands r ++ b ∷ []) d) n (ends-alike l q tag v r c b t d e s (taken-end x v r c b k) h))
+ends-there {B} {x} l q tag (TypeSoFar before) r c b t d e s k n h =
+    let z = with_bytes x (TypeSoFar before) (settled true r) in
+    let same : tag_with_value tag z ≡ ending_tag {B = B} tag (TypeSoFar before) r = ap (tag_with_value tag) (own-type x before (settled true r)) in
+    after-end x q (tag_with_value tag z) c b (emits_value x true q c b (TypeSoFar before) r t) (page x (as_it_stands r ++ b ∷ []) d)
+    (λ f g. ap (λ (y : Tag). content_error (tag_of y)) same ∙ n f g) (at-end x q tag (TypeSoFar before) r c b t d e s h)
 
--- Before a value: an unquoted one is read as from its beginning.
-begins : {B : Type 0} (x : Bodies B) (tag : Tag) (k : Kind) (v : B) (t : List LexEvent) → attribute_value_of x k ≡ ValueOf v → page x (codes "&amp;") (config (BeforeAttributeValue tag k) t) ≡ page x (codes "&amp;") (standing_value x Unquoted tag (ValueOf v) t Closed [])
-begins x tag k v t o = rw (class_amp, o) refl
+in-value-by : {B : Type 0} {x : ValueLanguage B} → ValueLanguageLaws B x → (ends : Bool) (q : Quoting) (tag : Tag) (v : Value B) (r : Reference) (c : Class) (b : ℕ) (t : List LexEvent) (d : Config B) → class_of b ≡ c
+    → ends_value q c ≡ ends → language_error x ends v r c b ≡ None → IsBuilt q c tag v r → StandsInValue x q tag v r t d
+    → TextStands x (next_value x ends q c b tag v r) (emits_value x ends q c b v r t) (page x (value_out ends c b r) d)
+in-value-by l true q tag v r c b t d e s k n h = ends-there l q tag v r c b t d e s k n h
+in-value-by l false q tag v r c b t d e s k n h = goes-on l q tag v r c b t d e s k h
 
-unquoted-amp : {B : Type 0} (x : Bodies B) (tag : Tag) (k : Kind) (v : B) (t : List LexEvent) (d : Config B) → attribute_value_of x k ≡ ValueOf v → d ≡ config (BeforeAttributeValue tag k) t
-    → PendingReference B x (standing_value x Unquoted tag (ValueOf v) t) Begun [] d
-unquoted-amp x tag k v t d o h = record {
-  as_is = rw (h, class_amp, o) refl;
-  cut = ap (page x (codes "&amp;")) h ∙ begins x tag k v t o ∙ amp-read (value-run x Unquoted tag (ValueOf v) t) Closed [];
+pub in-value : {B : Type 0} {x : ValueLanguage B} → ValueLanguageLaws B x → (q : Quoting) (tag : Tag) (v : Value B) (r : Reference) (c : Class) (b : ℕ) (t : List LexEvent) (d : Config B) → class_of b ≡ c
+    → language_error x (ends_value q c) v r c b ≡ None → (q ≡ Unquoted → c ≡ GreaterThan → content_error (tag_of (ending_tag tag v r)) ≡ None) → StandsInValue x q tag v r t d
+    → TextStands x (next_value x (ends_value q c) q c b tag v r) (emits_value x (ends_value q c) q c b v r t) (page x (value_out (ends_value q c) c b r) d)
+in-value l q tag v r c b t d e k n h = in-value-by l (ends_value q c) q tag v r c b t d e refl k n h
+
+-- the end of a node, where nothing of the value is refused
+pub cut-alike : {B : Type 0} {x : ValueLanguage B} → ValueLanguageLaws B x → (q : Quoting) (tag : Tag) (v : B) (r : Reference) (t : List LexEvent) (d : Config B) → AreTaken x v (as_it_stands r)
+    → StandsAlike B x q tag v r t d
+    → StandsInValue x q tag (cut_value x (with_bytes x (ValueOf v) (as_it_stands r))) Closed (emitted_bytes x (ValueOf v) (as_it_stands r) t) (page x (text_escaped r) d)
+cut-alike {B} {x} l q tag v Closed t d k h = record { there = h.there; alike = l.after_cut v h.there h.alike; stands = h.stands }
+cut-alike {B} {x} l q tag v (Open f bytes) t d k h =
+    let u = 38 ∷ bytes in
+    let w = h.there in
+    subst (λ (z : Value B). StandsInValue x q tag (cut_value x z) Closed (emitted_bytes x (ValueOf v) u t) (page x (text_escaped (Open f bytes)) d)) (sym (own-fed x v u))
+    (record {
+      there = fed x w u;
+      alike = l.after_cut (fed x v u) (fed x w u) (alike-fed l u v w h.alike k);
+      stands = h.stands.cut ∙ ap₂ (λ (z : Value B) (y : List LexEvent). config (AttributeValue q tag z Closed) y) (own-fed x w u) (alike-emitted l u v w t h.alike k);
+    })
+
+-- a hole in a value, and before one, whose bytes lead the page to `after`
+pub hole-alike : {B : Type 0} {x : ValueLanguage B} → ValueLanguageLaws B x → (q : Quoting) (tag : Tag) (v w after : B) (t : List LexEvent) → x.AreAlike v w → x.LeadsPlain (x.settled w) after
+    → StandsInValue x q tag (holed_value x (ValueOf v)) Closed (Mark ∷ emitted_settled x (ValueOf v) t)
+    (config (AttributeValue q tag (value_behind x (Some (ValueOf (x.settled w))) (ValueOf after)) Closed) (Mark ∷ emitted_settled x (ValueOf w) t))
+hole-alike {B} {x} l q tag v w after t a p = record {
+  there = x.behind (x.settled w) after;
+  alike = l.hole v w after a p;
+  stands = ap (λ (z : List LexEvent). config (AttributeValue q tag (ValueOf (x.behind (x.settled w) after)) Closed) (Mark ∷ z)) (l.settles v w t a);
 }
 
-pub before-value : {B : Type 0} (x : Bodies B) (tag : Tag) (k : Kind) (v : B) (c : Class) (b : ℕ) (t : List LexEvent) (d : Config B) → class_of b ≡ c → attribute_value_of x k ≡ ValueOf v
-    → (c ≡ GreaterThan → content_error (tag_of tag) ≡ None) → d ≡ config (BeforeAttributeValue tag k) t
+-- Before a value: an unquoted one is read as from its beginning.
+pub begun-there : {B : Type 0} {x : ValueLanguage B} → ValueLanguageLaws B x → (q : Quoting) (tag : Tag) (k : Kind) (r : Reference) (t : List LexEvent) (d : Config B)
+    → StandsIn x (standing_value x q tag (attribute_value_of x k) t) r d → StandsInValue x q tag (attribute_value_of x k) r t d
+begun-there l q tag kind.ScriptType r t d h = h
+begun-there {B} {x} l q tag kind.Plain r t d h = record { there = x.start kind.Plain; alike = l.begins kind.Plain; stands = h }
+begun-there {B} {x} l q tag kind.NoHole r t d h = record { there = x.start kind.NoHole; alike = l.begins kind.NoHole; stands = h }
+begun-there {B} {x} l q tag kind.Url r t d h = record { there = x.start kind.Url; alike = l.begins kind.Url; stands = h }
+begun-there {B} {x} l q tag kind.Script r t d h = record { there = x.start kind.Script; alike = l.begins kind.Script; stands = h }
+begun-there {B} {x} l q tag kind.Style r t d h = record { there = x.start kind.Style; alike = l.begins kind.Style; stands = h }
+
+begins : {B : Type 0} (x : ValueLanguage B) (tag : Tag) (k : Kind) (t : List LexEvent) → page x (codes "&amp;") (config (BeforeAttributeValue tag k) t) ≡ page x (codes "&amp;") (standing_value x Unquoted tag (attribute_value_of x k) t Closed [])
+begins x tag k t = rw class_amp refl
+
+unquoted-amp : {B : Type 0} (x : ValueLanguage B) (tag : Tag) (k : Kind) (t : List LexEvent) (d : Config B) → d ≡ config (BeforeAttributeValue tag k) t
+    → PendingReference B x (standing_value x Unquoted tag (attribute_value_of x k) t) Begun [] d
+unquoted-amp x tag k t d h = record {
+  as_is = rw (h, class_amp) refl;
+  cut = ap (page x (codes "&amp;")) h ∙ begins x tag k t ∙ amp-read (value-run x Unquoted tag (attribute_value_of x k) t) Closed [];
+}
+
+pub before-value : {B : Type 0} {x : ValueLanguage B} → ValueLanguageLaws B x → (tag : Tag) (k : Kind) (c : Class) (b : ℕ) (t : List LexEvent) (d : Config B) → class_of b ≡ c
+    → first_byte_error x (attribute_value_of x k) c b ≡ None → (c ≡ GreaterThan → content_error (tag_of tag) ≡ None) → d ≡ config (BeforeAttributeValue tag k) t
     → TextStands x (next_before_value x c b tag k) (emits_before_value x c b k t) (page x (reference_out Closed c b) d)
-before-value x tag k v White b t d e o n h = rw (h, e) refl
-before-value x tag k v QuotationMark b t d e o n h = rw o (rw (h, e, o) refl)
-before-value x tag k v Apostrophe b t d e o n h = rw o (rw (h, e, o) refl)
-before-value x tag k v GreaterThan b t d e o n h = tag-leads x (without_value tag k) (TagEnds false ∷ emitted_end x (attribute_value_of x k) t) (page x (b ∷ []) d) (without-value tag k (n refl)) (rw (h, e) refl)
-before-value x tag k v Ampersand b t d e o n h = rw o (unquoted-amp x tag k v t d o h)
-before-value x tag k v c b t d e o n h = rw o (rw (h, e, o) refl)
+before-value l tag k White b t d e o n h = rw (h, e) refl
+before-value {B} {x} l tag k QuotationMark b t d e o n h = begun-there l DoubleQuoted tag k Closed t (page x (b ∷ []) d) (rw (h, e) refl)
+before-value {B} {x} l tag k Apostrophe b t d e o n h = begun-there l SingleQuoted tag k Closed t (page x (b ∷ []) d) (rw (h, e) refl)
+before-value {B} {x} l tag k GreaterThan b t d e o n h =
+    tag-leads x (without_value tag k) (TagEnds false ∷ emitted_end x (attribute_value_of x k) t) (page x (b ∷ []) d) (without-value tag k (n refl)) (rw (h, e) refl)
+before-value {B} {x} l tag k Ampersand b t d e o n h = begun-there l Unquoted tag k (Open Begun []) t d (unquoted-amp x tag k t d h)
+before-value {B} {x} l tag k c b t d e o n h =
+    let v = attribute_value_of x k in
+    let from = config (AttributeValue Unquoted tag v Closed) t in
+    subst (λ (z : Config B). TextStands x (next_value x false Unquoted c b tag v Closed) (emits_value x false Unquoted c b v Closed t) z)
+    (sym (ap (page x (b ∷ [])) h ∙ unbegun-byte x b [] tag k t (rw e refl)))
+    (goes-on l Unquoted tag v Closed c b t from e refl o (begun-there l Unquoted tag k Closed t from refl))

@@ -1,5 +1,5 @@
 -- Small texts, written from text.
-use Rattle.std.proofs.Common.{◌≡◌, codes, refl, List, [], ◌∷◌, ◌++◌, ℕ}
+use Rattle.std.proofs.Common.{◌≡◌, true, false, codes, refl, List, [], ◌∷◌, ◌++◌, ℕ}
 use Rattle.place_core.specs.page.Classes.{class_of}
 use Rattle.place_core.specs.page.References.{Closed, meaning}
 use Rattle.place_core.specs.page.Html.{read, start}
@@ -11,6 +11,8 @@ use Rattle.place_core.specs.place.Places.{Below, IsValid}
 use Rattle.place_core.specs.declared.place.Place.{Place}
 use Rattle.place_core.specs.declared.place.Place.TheVariants as place
 use Rattle.place_core.specs.declared.san.San.TheVariants as san
+use Rattle.page_datum.specs.Data.{Data}
+use Rattle.html_step.specs.Holes.{only}
 use Rattle.text_norm.specs.Scanned.{written_at}
 use Rattle.text_norm.specs.HoleLaws.{IsBackBy}
 use Rattle.text_norm.specs.Pieces.{TextAt, HoleAt, AreAccepted, IsOver}
@@ -53,6 +55,15 @@ title = refl
 doctype : from_text (codes "<!DOCTYPE html>") ≡ codes "<!DOCTYPE html>"
 unfolding class_of
 doctype = refl
+
+-- a data block as it stands: there is no reference in it, and no `<` that begins nothing; and the type of a script, which decides that it is one
+data_block : from_text (codes "<script type=' te&#120;t/template'>a&lt &#3 < <b> </x> <!- <</script>&#3") ≡ codes "<script type=' te&#120;t/template'>a&lt &#3 < <b> </x> <!- <</script>&amp;#3"
+unfolding class_of meaning lib.Utf8.encode
+data_block = refl
+
+data_block_on_all_paths : written_at (codes "a&lt<b></x &am</script>&am") (place.Block true) ≡ codes "a&lt<b></x &am</script>&amp;am"
+unfolding class_of
+data_block_on_all_paths = refl
 
 -- the same for all paths of a place
 all_paths : written_at (codes "a<!-- b -->&#3<b x=&y") place.Text ≡ codes "a&#3<b x=&amp;y"
@@ -97,13 +108,26 @@ title_over_nodes : IsReadBack (codes "<title>a</tit") (codes "le></title>") (cod
 unfolding class_of meaning lib.Utf8.encode
 title_over_nodes = (refl, refl)
 
+block_over_nodes : IsReadBack (codes "<script type=a>x&am<") (codes "b></script><i>") (codes "<script type=a>x&am<b></script><i>")
+unfolding class_of meaning lib.Utf8.encode
+block_over_nodes = (refl, refl)
+
 -- a hole between tags: accepted from text to text, whatever is written for it
 same : (p : Place) → IsValid p → Below p p → IsOver p p
 same p v b = record { valid = v; below = b }
 
-between_tags : (text bytes : List ℕ) → IsBackBy san.Html text bytes
-    → AreAccepted (TextAt place.Text (codes "<b>") ∷ HoleAt place.Text san.Html text bytes ∷ TextAt place.Text (codes "</b>") ∷ []) place.Text place.Text
+between_tags : (datum : Data) (bytes : List ℕ) → IsBackBy (only san.Html) datum bytes
+    → AreAccepted (TextAt place.Text (codes "<b>") ∷ HoleAt place.Text (only san.Html) datum bytes ∷ TextAt place.Text (codes "</b>") ∷ []) place.Text place.Text
 unfolding class_of
-between_tags text bytes k =
+between_tags datum bytes k =
     let t = same place.Text tt refl in
     (t, (place.Text, refl, (t, (place.Text, refl, k, (t, (place.Text, refl, t))))))
+
+-- and one in a data block, which a whole text leads to and from
+in_a_block : (datum : Data) (bytes : List ℕ) → IsBackBy (only san.Html) datum bytes
+    → AreAccepted (TextAt place.Text (codes "<script type=a>{") ∷ HoleAt (place.Block false) (only san.Html) datum bytes ∷ TextAt (place.Block false) (codes "}</script>") ∷ []) place.Text place.Text
+unfolding class_of meaning lib.Utf8.encode
+in_a_block datum bytes k =
+    let t = same place.Text tt refl in
+    let b = same (place.Block false) tt refl in
+    (t, (place.Block false, refl, (b, (place.Block false, refl, k, (b, (place.Text, refl, t))))))

@@ -4,12 +4,14 @@ use Rattle.std.specs.Str.{IsCharBoundary}
 use Rattle.place_core.specs.page.Classes.{Class, Ampersand, class_of}
 use Rattle.place_core.specs.page.References.{Reference, Closed, as_it_stands, next_reference}
 use Rattle.place_core.specs.page.States.{Pending, Nothing, PendingLess, PendingName}
+use Rattle.place_core.specs.declared.element.Element.{Element}
+use Rattle.place_core.specs.declared.element.Element.TheVariants as element
 use Rattle.place_core.specs.declared.place.Place.{Place}
 use Rattle.place_core.specs.declared.place.Place.TheVariants as place
-use Rattle.html_scan.specs.Scans.{Scan, At, AfterLess, AfterLessSolidus, InDeclaration, InTagName, InAttributeName, InCommentEnd, InContentEnd, scan_next}
+use Rattle.html_scan.specs.Scans.{Scan, At, AfterLess, AfterLessSolidus, InDeclaration, InTagName, InAttributeName, InCommentEnd, InContentEnd, BeforeType, InType, scan_next}
 use Rattle.html_scan.specs.ScanViews.{scan_at, pending_from}
 use Rattle.html_scan.specs.Slices.{pending}
-use Rattle.text_norm.specs.Scanned.{scan_open, scan_out}
+use Rattle.text_norm.specs.Scanned.{rcdata_open, scan_open, scan_out}
 use Rattle.text_norm.specs.ReferenceViews.{reference_view}
 use Rattle.text_norm.specs.declared.pending.Change.{Change}
 use Rattle.text_norm.specs.declared.pending.Change.TheVariants as change
@@ -18,12 +20,16 @@ use Rattle.text_norm.specs.declared.pending.Ending.TheVariants as ending
 use Rattle.text_norm.specs.declared.reference.Opened.{Opened}
 use Rattle.text_norm.specs.declared.pending.WriteProgress.{WriteProgress}
 
--- the bytes from a `<` on that may be no tag
+-- the bytes from a `<` on that may be no tag; in a data block none are pending back from a page
 abbrev pub less_pending : Pending → List ℕ
 less_pending Nothing = []
 less_pending PendingLess = codes "<"
 less_pending (PendingName letters) = codes "</" ++ letters
 less_pending h = []
+
+abbrev pub content_less : Element → Pending → List ℕ
+content_less element.DataBlock h = []
+content_less e h = less_pending h
 
 abbrev pub less_kept : Scan → List ℕ
 less_kept (At p) = []
@@ -33,12 +39,18 @@ less_kept (InDeclaration pending) = codes "<!" ++ pending
 less_kept (InTagName ends name) = []
 less_kept (InAttributeName t typed name) = []
 less_kept (InCommentEnd s) = []
-less_kept (InContentEnd e h) = less_pending h
+less_kept (InContentEnd e h) = content_less e h
+less_kept (BeforeType t) = []
+less_kept (InType t q v z) = []
 
 -- whether a reference may be open
+abbrev pub rcdata_bears : Element → Bool
+rcdata_bears element.DataBlock = false
+rcdata_bears e = true
+
 abbrev pub place_bears : Place → Bool
 place_bears place.Text = true
-place_bears (place.Rcdata e) = true
+place_bears (place.Rcdata e) = rcdata_bears e
 place_bears (place.Value v) = true
 place_bears p = false
 
@@ -47,6 +59,8 @@ bears (At p) = place_bears p
 bears AfterLess = true
 bears AfterLessSolidus = true
 bears (InDeclaration pending) = true
+bears (BeforeType t) = true
+bears (InType t q v z) = true
 bears f = false
 
 -- in a comment, nothing is pending back
@@ -71,13 +85,17 @@ content_change (At (place.Rcdata e)) = change.EscapesLess
 content_change (InContentEnd e PendingLess) = change.EscapesLess
 content_change g = change.Keeps
 
+abbrev pub content_end_change : Element → Scan → Change
+content_end_change element.DataBlock g = change.Keeps
+content_end_change e g = content_change g
+
 abbrev pub change_of : Scan → Scan → Change
 change_of (At (place.Comment dash)) g = change.LeavesOut
 change_of (InCommentEnd s) g = change.LeavesOut
 change_of AfterLess g = less_change g
 change_of AfterLessSolidus g = less_change g
 change_of (InDeclaration pending) g = less_change g
-change_of (InContentEnd e h) g = content_change g
+change_of (InContentEnd e h) g = content_end_change e g
 change_of f g = change.Keeps
 
 -- where a text ends
@@ -86,13 +104,17 @@ pending_ending PendingLess = ending.BehindLess
 pending_ending (PendingName letters) = ending.BehindLess
 pending_ending h = ending.Loose
 
+abbrev pub content_ending : Element → Pending → Ending
+content_ending element.DataBlock h = ending.Loose
+content_ending e h = pending_ending h
+
 abbrev pub ending_of : Scan → Ending
 ending_of (At (place.Comment dash)) = ending.InComment
 ending_of (InCommentEnd s) = ending.InComment
 ending_of AfterLess = ending.BehindLess
 ending_of AfterLessSolidus = ending.BehindLess
 ending_of (InDeclaration pending) = ending.BehindLess
-ending_of (InContentEnd e h) = pending_ending h
+ending_of (InContentEnd e h) = content_ending e h
 ending_of f = ending.Loose
 
 -- whether an open reference is pending back as it is, with the bytes after it
@@ -114,12 +136,14 @@ stays f g = false
 -- the reference that is open after a byte that stays as it is, by the scan states before and after it
 abbrev pub place_kept : Place → Class → ℕ → Reference → Reference
 place_kept place.Text c b r = next_reference r c b
-place_kept (place.Rcdata e) c b r = next_reference r c b
+place_kept (place.Rcdata e) c b r = rcdata_open e c b r
 place_kept (place.Value v) c b r = next_reference r c b
 place_kept p c b r = Closed
 
 abbrev pub scan_kept : Scan → Class → ℕ → Reference → Reference
 scan_kept (At p) c b r = place_kept p c b r
+scan_kept (BeforeType t) c b r = next_reference r c b
+scan_kept (InType t q v z) c b r = next_reference r c b
 scan_kept f c b r = Closed
 
 abbrev pub reference_kept : Bool → Scan → Class → ℕ → Reference → Reference

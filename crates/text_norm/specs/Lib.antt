@@ -1,3 +1,6 @@
+pub mod FilledReadings
+pub mod FillingLaws
+pub mod Fillings
 pub mod HoleLaws
 pub mod Kept
 pub mod Laws
@@ -7,4 +10,5 @@ pub mod Resting
 pub mod Scanned
 pub mod Standing
 pub mod StandsLaws
+pub mod ValueLaws
 pub mod Written

@@ -3,9 +3,12 @@ use Rattle.std.specs.Prelude.{ℕ, codes, List, [], ◌∷◌, ◌++◌}
 use Rattle.place_core.specs.page.Classes.{Class, ExclamationMark, Solidus, LessThan, class_of}
 use Rattle.place_core.specs.page.Comments.{Declaration, Undecided, OpensNothing, declared_by}
 use Rattle.place_core.specs.page.References.{Reference, Closed, as_it_stands, begin_reference, next_reference}
+use Rattle.place_core.specs.page.States.{Pending}
+use Rattle.place_core.specs.declared.element.Element.{Element}
+use Rattle.place_core.specs.declared.element.Element.TheVariants as element
 use Rattle.place_core.specs.declared.place.Place.{Place}
 use Rattle.place_core.specs.declared.place.Place.TheVariants as place
-use Rattle.html_scan.specs.Scans.{Scan, At, AfterLess, AfterLessSolidus, InDeclaration, InTagName, InAttributeName, InCommentEnd, InContentEnd, scan_next}
+use Rattle.html_scan.specs.Scans.{Scan, At, AfterLess, AfterLessSolidus, InDeclaration, InTagName, InAttributeName, InCommentEnd, InContentEnd, BeforeType, InType, scan_next}
 use Rattle.text_norm.specs.Written.{content_cut_out, content_out, declaration_out, text_escaped, less_out, loose_out, reference_out, solidus_out, text_out}
 
 -- the reference that is open after a byte
@@ -23,11 +26,20 @@ declaration_open Undecided c r = r
 declaration_open OpensNothing c r = begin_reference c
 declaration_open d c r = Closed
 
+-- a data block has no references, and is no such place
+abbrev pub rcdata_open : Element → Class → ℕ → Reference → Reference
+rcdata_open element.DataBlock c b r = Closed
+rcdata_open e c b r = next_reference r c b
+
 abbrev pub place_open : Place → Class → ℕ → Reference → Reference
 place_open place.Text c b r = text_open c b r
-place_open (place.Rcdata e) c b r = next_reference r c b
+place_open (place.Rcdata e) c b r = rcdata_open e c b r
 place_open (place.Value v) c b r = next_reference r c b
 place_open p c b r = Closed
+
+abbrev pub content_end_open : Element → Class → Reference
+content_end_open element.DataBlock c = Closed
+content_end_open e c = begin_reference c
 
 abbrev pub scan_open : Scan → Class → ℕ → Reference → Reference
 scan_open (At p) c b r = place_open p c b r
@@ -37,15 +49,25 @@ scan_open (InDeclaration pending) c b r = declaration_open (declared_by (pending
 scan_open (InTagName ends name) c b r = Closed
 scan_open (InAttributeName t typed name) c b r = Closed
 scan_open (InCommentEnd s) c b r = Closed
-scan_open (InContentEnd e h) c b r = begin_reference c
+scan_open (InContentEnd e h) c b r = content_end_open e c
+scan_open (BeforeType t) c b r = next_reference r c b
+scan_open (InType t q v z) c b r = next_reference r c b
 
--- what is written at a byte, and at the end
+-- what is written at a byte, and at the end; a data block is written as it stands
+abbrev pub rcdata_out : Element → Class → ℕ → Reference → List ℕ
+rcdata_out element.DataBlock c b r = b ∷ []
+rcdata_out e c b r = loose_out c b r
+
 abbrev pub place_out : Place → Class → ℕ → Reference → List ℕ
 place_out place.Text c b r = text_out c b r
 place_out (place.Comment dash) c b r = []
-place_out (place.Rcdata e) c b r = loose_out c b r
+place_out (place.Rcdata e) c b r = rcdata_out e c b r
 place_out (place.Value v) c b r = reference_out r c b
 place_out p c b r = b ∷ []
+
+abbrev pub content_end_out : Element → Pending → Class → ℕ → Reference → List ℕ
+content_end_out element.DataBlock h c b r = b ∷ []
+content_end_out e h c b r = content_out h c b e r
 
 abbrev pub scan_out : Scan → Class → ℕ → Reference → List ℕ
 scan_out (At p) c b r = place_out p c b r
@@ -55,7 +77,13 @@ scan_out (InDeclaration pending) c b r = declaration_out (declared_by (pending +
 scan_out (InTagName ends name) c b r = b ∷ []
 scan_out (InAttributeName t typed name) c b r = b ∷ []
 scan_out (InCommentEnd s) c b r = []
-scan_out (InContentEnd e h) c b r = content_out h c b e r
+scan_out (InContentEnd e h) c b r = content_end_out e h c b r
+scan_out (BeforeType t) c b r = reference_out r c b
+scan_out (InType t q v z) c b r = reference_out r c b
+
+abbrev pub content_end_cut_out : Element → Pending → Reference → List ℕ
+content_end_cut_out element.DataBlock h r = []
+content_end_cut_out e h r = content_cut_out h r
 
 abbrev pub scan_cut_out : Scan → Reference → List ℕ
 scan_cut_out (At p) r = text_escaped r
@@ -65,7 +93,9 @@ scan_cut_out (InDeclaration pending) r = (as_it_stands r ++ codes "&lt;") ++ (co
 scan_cut_out (InTagName ends name) r = []
 scan_cut_out (InAttributeName t typed name) r = []
 scan_cut_out (InCommentEnd s) r = []
-scan_cut_out (InContentEnd e h) r = content_cut_out h r
+scan_cut_out (InContentEnd e h) r = content_end_cut_out e h r
+scan_cut_out (BeforeType t) r = text_escaped r
+scan_cut_out (InType t q v z) r = text_escaped r
 
 -- what is written of a text, from a scan state, and from a place
 abbrev pub written_from : List ℕ → Scan → Reference → List ℕ

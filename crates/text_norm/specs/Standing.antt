@@ -1,19 +1,20 @@
 -- Where the lexer of a page stands while a path of a template is read, of whose texts it reads what is written. Where nothing is pending back it
 -- stands where the path does, and has told the same. Where something is pending back it is said what it comes to by that: as it stands, and by
--- what may be written for it.
+-- what may be written for it. In a value the page has read the bytes of holes that the path has passed over: so there its state of the language
+-- need not be the path's, but is alike.
 use Rattle.std.specs.Prelude.{ℕ, Bool, false, codes, List, [], ◌∷◌, ◌++◌, ◌≡◌}
 use Rattle.place_core.specs.page.Events.{LexEvent, event_text_bytes}
 use Rattle.place_core.specs.page.Html.{read_over}
 use Rattle.place_core.specs.page.References.{Form, Reference, Closed, Open, as_it_stands, settled}
-use Rattle.place_core.specs.page.States.{Page, LexState, Text, TagOpen, EndTagOpen, DeclarationOpen, InComment, BogusComment, InDoctype, TagName, WholeTagName, BeforeAttributeName, AttributeName, WholeAttributeName, AfterAttributeName, BeforeAttributeValue, AttributeValue, AfterAttributeValue, SelfClosingStartTag, Content, Characters, Pending, Nothing, PendingLess, PendingName, InContent, Unread, Config, config}
-use Rattle.place_core.specs.page.Tags.{Tag, tag_named, element_on, Value, ValueOf, TypeSoFar, Bodies, Quoting, with_bytes, emitted_bytes}
+use Rattle.place_core.specs.page.States.{Page, LexState, Text, TagOpen, EndTagOpen, DeclarationOpen, InComment, BogusComment, InDoctype, TagName, WholeTagName, BeforeAttributeName, AttributeName, WholeAttributeName, AfterAttributeName, BeforeAttributeValue, AttributeValue, AfterAttributeValue, SelfClosingStartTag, Content, Characters, Bytes, Pending, Nothing, PendingLess, LessAtCut, PendingName, InContent, Unread, Config, config}
+use Rattle.place_core.specs.page.Tags.{Tag, tag_named, element_on, Value, ValueOf, TypeSoFar, ValueLanguage, Quoting, with_bytes, emitted_bytes}
 use Rattle.place_core.specs.page.Words.{kind_of}
 use Rattle.place_core.specs.declared.element.Element.{Element}
 use Rattle.place_core.specs.declared.kind.Kind.{Kind}
 use Rattle.text_norm.specs.Written.{text_escaped}
 
 -- the bytes of a page, from where its reading stands
-abbrev pub page : {B : Type 0} → Bodies B → List ℕ → Config B → Config B
+abbrev pub page : {B : Type 0} → ValueLanguage B → List ℕ → Config B → Config B
 page x bytes c = read_over x Page bytes c
 
 -- Text with references is read where `at` says, by the reference that is open and the bytes that have been told.
@@ -23,21 +24,21 @@ standing_text t r bytes = config (Text r) (event_text_bytes bytes t)
 abbrev pub standing_content : {B : Type 0} → Element → List LexEvent → Reference → List ℕ → Config B
 standing_content e t r bytes = config (InContent e (Characters r) Nothing) (event_text_bytes bytes t)
 
-abbrev pub standing_value : {B : Type 0} → Bodies B → Quoting → Tag → Value B → List LexEvent → Reference → List ℕ → Config B
+abbrev pub standing_value : {B : Type 0} → ValueLanguage B → Quoting → Tag → Value B → List LexEvent → Reference → List ℕ → Config B
 standing_value x q tag v t r bytes = config (AttributeValue q tag (with_bytes x v bytes) r) (emitted_bytes x v bytes t)
 
 -- a reference that has begun: as it stands, and where its `&` is written as `&amp;`
-pub record PendingReference (B : Type 0) (x : Bodies B) (at : Reference → List ℕ → Config B) (f : Form) (h : List ℕ) (d : Config B) : Type 0 where
+pub record PendingReference (B : Type 0) (x : ValueLanguage B) (at : Reference → List ℕ → Config B) (f : Form) (h : List ℕ) (d : Config B) : Type 0 where
   pub as_is : page x (38 ∷ h) d ≡ at (Open f h) []
   pub cut : page x (codes "&amp;" ++ h) d ≡ at Closed (38 ∷ h)
 
-abbrev pub StandsIn : {B : Type 0} → Bodies B → (Reference → List ℕ → Config B) → Reference → Config B → Type 0
+abbrev pub StandsIn : {B : Type 0} → ValueLanguage B → (Reference → List ℕ → Config B) → Reference → Config B → Type 0
 StandsIn x at Closed d = d ≡ at Closed []
 StandsIn {B} x at (Open f h) d = PendingReference B x at f h d
 
 -- A `<` in text, after a reference that may be open: where it begins nothing, where a comment begins, and as it stands, before what it may
 -- begin.
-pub record PendingLessThan (B : Type 0) (x : Bodies B) (r : Reference) (t : List LexEvent) (d : Config B) : Type 0 where
+pub record PendingLessThan (B : Type 0) (x : ValueLanguage B) (r : Reference) (t : List LexEvent) (d : Config B) : Type 0 where
   pub less : page x (as_it_stands r ++ codes "&lt;") d ≡ config (Text Closed) (event_text_bytes (codes "<") (event_text_bytes (settled false r) t))
   pub cut : page x (text_escaped r) d ≡ config (Text Closed) (event_text_bytes (as_it_stands r) t)
   pub tag : page x (as_it_stands r ++ codes "<") d ≡ config (TagOpen r) t
@@ -45,18 +46,18 @@ pub record PendingLessThan (B : Type 0) (x : Bodies B) (r : Reference) (t : List
   pub declaration : page x (as_it_stands r ++ codes "<!") d ≡ config (DeclarationOpen r []) t
 
 -- likewise, and `<!` with some bytes, which are bytes of text where they begin nothing
-pub record PendingDeclaration (B : Type 0) (x : Bodies B) (r : Reference) (h : List ℕ) (t : List LexEvent) (d : Config B) : Type 0 where
+pub record PendingDeclaration (B : Type 0) (x : ValueLanguage B) (r : Reference) (h : List ℕ) (t : List LexEvent) (d : Config B) : Type 0 where
   pub less : page x (as_it_stands r ++ codes "&lt;") d ≡ config (Text Closed) (event_text_bytes (codes "<") (event_text_bytes (settled false r) t))
   pub cut : page x (text_escaped r) d ≡ config (Text Closed) (event_text_bytes (as_it_stands r) t)
   pub goes_on : page x (as_it_stands r ++ (codes "<!" ++ h)) d ≡ config (DeclarationOpen r h) t
   pub own : (u : List LexEvent) → page x (codes "!" ++ h) (config (Text Closed) u) ≡ config (Text Closed) (event_text_bytes (codes "!" ++ h) u)
 
 -- A `<` in a title or a textarea, and `</` with letters.
-pub record PendingContentLess (B : Type 0) (x : Bodies B) (e : Element) (t : List LexEvent) (d : Config B) : Type 0 where
+pub record PendingContentLess (B : Type 0) (x : ValueLanguage B) (e : Element) (t : List LexEvent) (d : Config B) : Type 0 where
   pub less : page x (codes "&lt;") d ≡ standing_content e t Closed (codes "<")
   pub end : page x (codes "</") d ≡ config (InContent e (Characters Closed) (PendingName [])) t
 
-pub record PendingEndName (B : Type 0) (x : Bodies B) (e : Element) (letters : List ℕ) (t : List LexEvent) (d : Config B) : Type 0 where
+pub record PendingEndName (B : Type 0) (x : ValueLanguage B) (e : Element) (letters : List ℕ) (t : List LexEvent) (d : Config B) : Type 0 where
   pub less : page x (codes "&lt;") d ≡ standing_content e t Closed (codes "<")
   pub end : page x (codes "</" ++ letters) d ≡ config (InContent e (Characters Closed) (PendingName letters)) t
   pub own : (u : List LexEvent) → page x (codes "/" ++ letters) (standing_content e u Closed []) ≡ standing_content e u Closed (codes "/" ++ letters)
@@ -73,19 +74,32 @@ pub record WholeAttribute (B : Type 0) (tag : Tag) (k : Kind) (t : List LexEvent
   pub named : kind_of (element_on tag) name ≡ k
   pub at : d ≡ config (AttributeName tag name) t
 
-abbrev pub StandsInContent : {B : Type 0} → Bodies B → Element → Content → Pending → List LexEvent → Config B → Type 0
+-- What is pending back from a page in a data block, of which nothing is written otherwise: what is pending back on the path. Where a node has
+-- ended in `<` the page stands behind that byte, and knows of no node.
+abbrev pub pending_in_page : Pending → Pending
+pending_in_page LessAtCut = PendingLess
+pending_in_page h = h
+
+abbrev pub StandsInContent : {B : Type 0} → ValueLanguage B → Element → Content → Pending → List LexEvent → Config B → Type 0
 StandsInContent x e (Characters r) Nothing t d = StandsIn x (standing_content e t) r d
 StandsInContent {B} x e (Characters Closed) PendingLess t d = PendingContentLess B x e t d
 StandsInContent {B} x e (Characters Closed) (PendingName letters) t d = PendingEndName B x e letters t d
+StandsInContent x e Bytes h t d = d ≡ config (InContent e Bytes (pending_in_page h)) t
 StandsInContent x e y h t d = ⊥
 
--- What is told has to be a value of a language; the type of a script, and data blocks, are no text that is written yet.
-abbrev pub StandsInValue : {B : Type 0} → Bodies B → Quoting → Tag → Value B → Reference → List LexEvent → Config B → Type 0
-StandsInValue x q tag (ValueOf v) r t d = StandsIn x (standing_value x q tag (ValueOf v) t) r d
-StandsInValue x q tag (TypeSoFar before) r t d = ⊥
+-- In a value of a language: the page's state of the language, which is alike, and where it stands with that.
+pub record StandsAlike (B : Type 0) (x : ValueLanguage B) (q : Quoting) (tag : Tag) (v : B) (r : Reference) (t : List LexEvent) (d : Config B) : Type 0 where
+  pub there : B
+  pub alike : x.AreAlike v there
+  pub stands : StandsIn x (standing_value x q tag (ValueOf there) t) r d
+
+-- The type of a script is the same bytes in a page and on a path, since no hole is in it.
+abbrev pub StandsInValue : {B : Type 0} → ValueLanguage B → Quoting → Tag → Value B → Reference → List LexEvent → Config B → Type 0
+StandsInValue {B} x q tag (ValueOf v) r t d = StandsAlike B x q tag v r t d
+StandsInValue x q tag (TypeSoFar before) r t d = StandsIn x (standing_value x q tag (TypeSoFar before) t) r d
 
 -- The page's reading stands for the path that has come to a state and told these events. A comment is not written.
-abbrev pub TextStands : {B : Type 0} → Bodies B → LexState B → List LexEvent → Config B → Type 0
+abbrev pub TextStands : {B : Type 0} → ValueLanguage B → LexState B → List LexEvent → Config B → Type 0
 TextStands x (Text r) t d = StandsIn x (standing_text t) r d
 TextStands {B} x (TagOpen r) t d = PendingLessThan B x r t d
 TextStands {B} x (EndTagOpen r) t d = PendingLessThan B x r t d

@@ -8,7 +8,7 @@ use Rattle.place_core.specs.page.Paths.{read_path}
 use Rattle.place_core.specs.place.Places.{IsValid}
 use Rattle.place_core.specs.page.References.{Reference, Closed, Open}
 use Rattle.place_core.specs.page.Shape.{PageReads, shape_of}
-use Rattle.place_core.specs.page.States.{LexState, Text, TagOpen, EndTagOpen, DeclarationOpen, InComment, WholeTagName, WholeAttributeName, AttributeValue, Characters, Nothing, InContent, Config, config}
+use Rattle.place_core.specs.page.States.{LexState, Text, TagOpen, EndTagOpen, DeclarationOpen, InComment, WholeTagName, WholeAttributeName, AttributeValue, Characters, Bytes, Nothing, LessAtCut, InContent, Config, config}
 use Rattle.place_core.specs.page.Tags.{ValueState, languages}
 use Rattle.place_core.specs.declared.place.Place.{Place}
 use Rattle.place_core.specs.declared.place.Place.TheVariants as place
@@ -39,7 +39,8 @@ abbrev pub EmitsTheSame : Type 0
 EmitsTheSame = (p : Place) (s : LexState ValueState) (t : List LexEvent) (d : Config ValueState) → IsIn p s → TextStands languages s t d → d.emitted ≡ t
 
 -- Whether nothing is pending back from the page at a state. Pending back are a reference, a `<`, a comment, and that a name is at its end: where the end
--- of a text has ended it, or it is a hole, the page is in that name still.
+-- of a text has ended it, or it is a hole, the page is in that name still. In a data block nothing is; but where a text has ended in `<`, the page's
+-- state is another one than the path's.
 abbrev pub is_closed : Reference → Bool
 is_closed Closed = true
 is_closed (Open f bytes) = false
@@ -54,6 +55,8 @@ holds_nothing (WholeTagName tag) = false
 holds_nothing (WholeAttributeName tag k) = false
 holds_nothing (AttributeValue q tag v r) = is_closed r
 holds_nothing (InContent e (Characters r) Nothing) = is_closed r
+holds_nothing (InContent e Bytes LessAtCut) = false
+holds_nothing (InContent e Bytes h) = true
 holds_nothing (InContent e y h) = false
 holds_nothing s = true
 

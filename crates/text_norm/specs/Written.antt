@@ -1,6 +1,7 @@
 -- What a page gets for the text of a template's node: the text, byte by byte as a path reads it, but for these. A comment is left out. A `<` that
 -- begins nothing, in text, a title or a textarea, becomes `&lt;`. An `&` with which a reference has begun becomes `&amp;` where the node ends
--- in it, or a comment begins. What may still become one of these is pending back.
+-- in it, or a comment begins. What may still become one of these is pending back. A data block is written as it stands: there is no reference in
+-- it, and a `<` in it is a byte of it.
 use Rattle.std.specs.Prelude.{ℕ, Bool, true, false, codes, List, [], ◌∷◌, ◌++◌}
 use Rattle.place_core.specs.page.Classes.{Class, White, ExclamationMark, Solidus, LessThan, GreaterThan, Letter, class_of}
 use Rattle.place_core.specs.page.Comments.{Declaration, OpensComment, OpensDoctype, Undecided, OpensNothing, declared_by}
@@ -8,7 +9,7 @@ use Rattle.place_core.specs.page.Contents.{may_be_name_of, is_name_of}
 use Rattle.place_core.specs.page.Html.{next, ends_value}
 use Rattle.place_core.specs.page.References.{Reference, Closed, Open, ReferenceStep, Grows, Closes, Breaks, turn, plain_bytes, as_it_stands}
 use Rattle.place_core.specs.page.States.{Template, LexState, Text, TagOpen, EndTagOpen, DeclarationOpen, InComment, BogusComment, InDoctype, TagName, WholeTagName, BeforeAttributeName, AttributeName, WholeAttributeName, AfterAttributeName, BeforeAttributeValue, AttributeValue, AfterAttributeValue, SelfClosingStartTag, Characters, Bytes, Pending, Nothing, PendingLess, PendingName, InContent, Unread}
-use Rattle.place_core.specs.page.Tags.{Bodies}
+use Rattle.place_core.specs.page.Tags.{ValueLanguage}
 use Rattle.place_core.specs.declared.element.Element.{Element}
 
 -- the bytes of a reference that has begun, where it is to be text
@@ -128,6 +129,6 @@ cut_out (InContent e Bytes h) = []
 cut_out Unread = []
 
 -- what is written of the text of a node, from the state that its path has come to
-abbrev pub written : {B : Type 0} → Bodies B → List ℕ → LexState B → List ℕ
+abbrev pub written : {B : Type 0} → ValueLanguage B → List ℕ → LexState B → List ℕ
 written x [] s = cut_out s
 written x (b ∷ bs) s = out s (class_of b) b ++ written x bs (next x Template s (class_of b) b)

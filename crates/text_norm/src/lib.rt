@@ -8,7 +8,8 @@ mod reference;
 mod text_writer;
 
 pub use laws::{
-    emits_the_same, keeps_shape, keeps_shape_at_holes, pages_read_as_paths, stands_at_start,
-    stands_somewhere, stands_where_nothing_is_pending, written_on_paths,
+    emits_the_same, filled_paths_are_readings, keeps_shape, keeps_shape_at_holes, pages_fill_paths,
+    pages_read_as_paths, readings_are_filled_paths, stands_at_start, stands_somewhere,
+    stands_where_nothing_is_pending, value_language_has_laws, written_on_paths,
 };
 pub use text_writer::write_text;

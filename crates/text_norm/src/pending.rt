@@ -5,7 +5,7 @@ ghost use Rattle.text_norm.specs.Kept as spec;
 
 use crate::reference::Opened;
 use html_scan::Scan;
-use place_core::Place;
+use place_core::{Element, Place};
 
 /// How far a text has been read and written: the scan state to which it has been read, the reference that is open there, and the
 /// offset up to which what has been read has been written. The bytes from there on are pending.
@@ -50,6 +50,11 @@ pub fn change_of(before: Scan, after: Scan) -> Change
         Scan::AfterLess | Scan::AfterLessSolidus | Scan::InDeclaration { .. } => {
             after_less(after)
         }
+        Scan::AfterContentLess(Element::DataBlock) => Change::Keeps,
+        Scan::InContentName {
+            element: Element::DataBlock,
+            ..
+        } => Change::Keeps,
         Scan::AfterContentLess(_) | Scan::InContentName { .. } => after_content_less(after),
         _ => Change::Keeps,
     }
@@ -80,6 +85,11 @@ pub fn ending_at(scan: Scan) -> Ending
 {
     match scan {
         Scan::At(Place::Comment(_)) | Scan::InCommentEnd(_) => Ending::InComment,
+        Scan::AfterContentLess(Element::DataBlock) => Ending::Loose,
+        Scan::InContentName {
+            element: Element::DataBlock,
+            ..
+        } => Ending::Loose,
         Scan::AfterLess
         | Scan::AfterLessSolidus
         | Scan::InDeclaration { .. }
@@ -96,10 +106,15 @@ pub fn less_from(scan: Scan, index: usize) -> usize
         → result ≡ index - length (less_kept (scan_at text index scan)) }
 {
     match scan {
+        Scan::AfterContentLess(Element::DataBlock) => index,
+        Scan::InContentName {
+            element: Element::DataBlock,
+            ..
+        } => index,
         Scan::AfterLess | Scan::AfterContentLess(_) => index.saturating_sub(1),
         Scan::AfterLessSolidus => index.saturating_sub(2),
         Scan::InDeclaration { from } => from.saturating_sub(2),
-        Scan::InContentName { from, .. } => from.saturating_sub(2),
+        Scan::InContentName { from, .. } => from,
         _ => index,
     }
 }

@@ -1,5 +1,6 @@
 ghost use Rattle.std.specs.Prelude.{◌≡◌, ◌++◌, ◌+◌, ◌-◌, ◌≤◌, ◌<◌, ℕ, OnOk, codes, get_or, length};
 ghost use Rattle.std.specs.Str.{IsCharBoundary};
+ghost use Rattle.place_core.specs.declared.place.Place.TheVariants as place;
 ghost use Rattle.html_scan.specs.Slices.{pending};
 ghost use Rattle.text_norm.specs.Resting.{Differs, Rests, ReferenceStays};
 
@@ -7,10 +8,10 @@ use crate::pending::WriteProgress;
 use crate::reference::Opened;
 use html_scan::Scan;
 use page_io::{Memory, Text};
-use place_core::Place;
+use place_core::{Element, Place};
 
-/// Where a run of bytes ends that stay as they are, and after which a text has been read to the same scan state: in text, in a title
-/// and in a textarea, the bytes other than `<` and `&`.
+/// Where a run of bytes ends that stay as they are, and after which a text has been read to the same scan state: in text, in a title,
+/// in a textarea and in a data block, the bytes other than `<` and `&`.
 #[inline(always)]
 pub fn resting_end(bytes: &[u8], index: usize, progress: WriteProgress) -> usize
     requires { index ≤ length bytes.now }
@@ -36,7 +37,24 @@ fn place_end(bytes: &[u8], index: usize, place: Place) -> usize
 {
     match place {
         Place::Text => run_end(bytes, index),
-        Place::Rcdata(_) => run_end(bytes, index),
+        Place::Rcdata(element) => rcdata_end(bytes, index, element),
+        Place::Block(false) => run_end(bytes, index),
+        _ => index,
+    }
+}
+
+// In a title or a textarea; no other element has such a place.
+#[inline(always)]
+fn rcdata_end(bytes: &[u8], index: usize, element: Element) -> usize
+    requires { index ≤ length bytes.now }
+    ensures order { index ≤ result }
+    ensures inside { result ≤ length bytes.now }
+    ensures stays { (i : ℕ) → index ≤ i → i < result
+        → ReferenceStays (place.Rcdata element) (get_or bytes.now i 0) }
+{
+    match element {
+        Element::Title => run_end(bytes, index),
+        Element::Textarea => run_end(bytes, index),
         _ => index,
     }
 }

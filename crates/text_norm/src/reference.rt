@@ -3,12 +3,13 @@ ghost use Rattle.place_core.specs.page.References.{begin_reference, next_referen
 ghost use Rattle.place_core.specs.page.References as references;
 ghost use Rattle.html_scan.specs.ClassViews.{class_at};
 ghost use Rattle.html_scan.specs.ScanViews.{scan_at};
-ghost use Rattle.text_norm.specs.Kept.{Continues, IsReadTo, scan_kept, less_kept, reference_kept};
+ghost use Rattle.text_norm.specs.Kept.{Continues, IsReadTo, place_kept, scan_kept, less_kept, reference_kept};
 ghost use Rattle.text_norm.specs.Kept as spec;
+ghost use Rattle.text_norm.specs.Scanned.{rcdata_open};
 ghost use Rattle.text_norm.specs.ReferenceViews.{form_at, reference_view, step_at};
 
 use html_scan::{Class, Letter, Scan};
-use place_core::Place;
+use place_core::{Element, Place};
 
 /// How far a reference has come.
 #[derive(Clone, Copy)]
@@ -147,10 +148,48 @@ fn moved(before: Scan, class: Class, reference: Option<Opened>, index: usize) ->
     ensures so { Continues false (class_at class) index reference result }
 {
     match before {
-        Scan::At(Place::Text | Place::Rcdata(_) | Place::Value(_)) => {
-            after_byte(reference, class, index)
-        }
+        Scan::At(place) => moved_at(place, class, reference, index),
+        Scan::BeforeType(_) => after_byte(reference, class, index),
+        Scan::InType { .. } => after_byte(reference, class, index),
         _ => None,
+    }
+}
+
+fn moved_at(place: Place, class: Class, reference: Option<Opened>, index: usize) -> Option<Opened>
+    requires small { index < 2 ^ 63 }
+    requires from { IfSome reference (λ opened. opened.from ≤ index) }
+    ensures reference { (text : List ℕ) → index < length text
+        → IfSome reference (λ opened. opened.to ≡ index)
+        → reference_view text result
+        ≡ place_kept place (class_at class) (get_or text index 0) (reference_view text reference) }
+    ensures so { Continues false (class_at class) index reference result }
+{
+    match place {
+        Place::Text => after_byte(reference, class, index),
+        Place::Value(_) => after_byte(reference, class, index),
+        Place::Rcdata(element) => moved_in(element, class, reference, index),
+        _ => None,
+    }
+}
+
+// In a title or a textarea; a data block has no references.
+fn moved_in(
+    element: Element,
+    class: Class,
+    reference: Option<Opened>,
+    index: usize,
+) -> Option<Opened>
+    requires small { index < 2 ^ 63 }
+    requires from { IfSome reference (λ opened. opened.from ≤ index) }
+    ensures reference { (text : List ℕ) → index < length text
+        → IfSome reference (λ opened. opened.to ≡ index)
+        → reference_view text result
+        ≡ rcdata_open element (class_at class) (get_or text index 0) (reference_view text reference) }
+    ensures so { Continues false (class_at class) index reference result }
+{
+    match element {
+        Element::DataBlock => None,
+        _ => after_byte(reference, class, index),
     }
 }
 

@@ -17,7 +17,7 @@ use std::alloc::Global;
 /// - a `<` that begins nothing, in text, a title or a textarea, is written as `&lt;`,
 /// - an `&` with which a reference has begun is written as `&amp;` where the text ends in the reference, or a comment begins.
 ///
-/// So what comes after the text, or after the comment, goes on with none of these. (HTML Standard, section 13.2.5.) Fails only if
+/// So what comes after the text, or after the comment, goes on with none of these. A data block is written as it stands. (HTML Standard, section 13.2.5.) Fails only if
 /// allocation fails. Takes time in proportion to the length of the text.
 pub fn write_text(alloc: Global, place: Place, text: &str) -> Result<Text, Memory>
     requires { length text.now < 2 ^ 32 }

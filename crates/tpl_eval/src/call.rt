@@ -19,7 +19,8 @@ pub(crate) fn called<'d>(
     args: Vec<Value<'d>>,
     steps: u64,
 ) -> Result<(Value<'d>, u64), ValueStop>
-    ensures { OutcomeAnswers (spec.function_called func (values_view args.entry.items) steps) result }
+    ensures { let called = spec.function_called func (values_view args.entry.items) steps
+        in OutcomeAnswers called result }
 {
     match func {
         Func::Not => free(not(args.as_slice()), steps),

@@ -58,7 +58,8 @@ fn escaped(bytes: &[u8]) -> Option<char>
 fn coded(limit: u64, bytes: &[u8]) -> Option<char>
     requires some { 1 ≤ length bytes.now }
     requires limit { limit ≤ 65536 }
-    ensures { result ≡ option_and_then (strings.character limit) (spec.numeral 16 (drop 1 bytes.now)) }
+    ensures { let code = spec.numeral 16 (drop 1 bytes.now)
+        in result ≡ option_and_then (strings.character limit) code }
 {
     let (_, digits) = bytes.split_at(1);
     match numeral(16, digits) {

@@ -4,7 +4,7 @@ use page_io::Memory;
 use std::alloc::Global;
 use std::marker::Model;
 
-/// A value in memory of its own. Where it is a part of an enum that few values of this have, all the others are smaller.
+/// A value on the heap, behind one pointer. It keeps an enum small whose other variants do not have the value.
 /// Contracts see the value.
 #[derive(Debug, Drop)]
 pub struct Boxed<T> {

@@ -5,7 +5,8 @@ use crate::pipe::Pipe;
 use page_io::{Memory, Text};
 use std::alloc::Global;
 
-/// What a node of a tree is. Names of variables are without `$`, so that `$` itself has the empty name.
+/// What a node of a tree is. Names of variables are without `$`, so that `$` itself has the empty name. Names are boxed,
+/// also where there is none, since an `Option` of a box takes twice the room.
 #[derive(Debug, Drop)]
 pub enum NodeKind {
     /// Text between actions.

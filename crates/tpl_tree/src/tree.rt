@@ -100,7 +100,8 @@ impl Tree {
     pub fn next(&self, node: u32) -> Option<u32>
         requires { node < nodes_size self.now.nodes }
         ensures number { result ≡ next_number self.now.nodes node }
-        ensures stands { NodeStands self.now.nodes (rest_of (nodes_from self.now.nodes node)) result }
+        ensures stands { let nodes = rest_of (nodes_from self.now.nodes node)
+            in NodeStands self.now.nodes nodes result }
     {
         let entry = self.entry(node);
         let number = node + 1 + entry.first + entry.other;

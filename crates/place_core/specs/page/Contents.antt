@@ -6,8 +6,8 @@ use Rattle.std.specs.List.{starts_with}
 use Rattle.std.specs.Str.{str_to_ascii_lowercase}
 use Rattle.place_core.specs.page.Classes.{Class, White, ExclamationMark, HyphenMinus, Solidus, LessThan, GreaterThan, Letter}
 use Rattle.place_core.specs.page.Events.{LexEvent, Escape, EndTagBegins, TagEnds, event_text_bytes, block_bytes, tag_name_bytes}
-use Rattle.place_core.specs.page.References.{Closed, next_reference, undone_byte, settled}
-use Rattle.place_core.specs.page.States.{Content, Characters, Bytes, Pending, Nothing, PendingLess, PendingName, PendingBang, PendingBangDash, LexState, Text, BeforeAttributeName, SelfClosingStartTag, InContent}
+use Rattle.place_core.specs.page.References.{Closed, next_reference, undone_byte, settled, as_it_stands}
+use Rattle.place_core.specs.page.States.{Content, Characters, Bytes, Pending, Nothing, PendingLess, LessAtCut, PendingName, PendingBang, PendingBangDash, LexState, Text, BeforeAttributeName, SelfClosingStartTag, InContent}
 use Rattle.place_core.specs.page.Tags.{EndTag}
 use Rattle.place_core.specs.declared.element.Element.{Element}
 use Rattle.place_core.specs.declared.element.Element.TheVariants as element
@@ -100,6 +100,7 @@ emits_bang_dash c b x t = emits_loose c b x (content_bytes x (codes "<!-") t)
 abbrev pub next_in_content : {B : Type 0} → Pending → Class → ℕ → Element → Content → LexState B
 next_in_content Nothing c b e x = next_loose c b e x
 next_in_content PendingLess c b e x = next_less c b e x
+next_in_content LessAtCut c b e x = next_loose c b e x
 next_in_content (PendingName letters) c b e x = next_end_name (may_be_name_of e (letters ++ b ∷ [])) (is_name_of e letters) c b e x letters
 next_in_content PendingBang c b e x = next_bang c b e x
 next_in_content PendingBangDash c b e x = next_loose c b e x
@@ -107,6 +108,7 @@ next_in_content PendingBangDash c b e x = next_loose c b e x
 abbrev pub emits_in_content : Pending → Class → ℕ → Element → Content → List LexEvent → List LexEvent
 emits_in_content Nothing c b e x t = emits_loose c b x t
 emits_in_content PendingLess c b e x t = emits_less c b x t
+emits_in_content LessAtCut c b e x t = emits_loose c b x (content_bytes x (codes "<") t)
 emits_in_content (PendingName letters) c b e x t = emits_end_name (may_be_name_of e (letters ++ b ∷ [])) (is_name_of e letters) c b x letters t
 emits_in_content PendingBang c b e x t = emits_bang c b x t
 emits_in_content PendingBangDash c b e x t = emits_bang_dash c b x t
@@ -115,6 +117,20 @@ emits_in_content PendingBangDash c b e x t = emits_bang_dash c b x t
 abbrev pub pending_bytes : Pending → List ℕ
 pending_bytes Nothing = []
 pending_bytes PendingLess = codes "<"
+pending_bytes LessAtCut = codes "<"
 pending_bytes (PendingName letters) = codes "</" ++ letters
 pending_bytes PendingBang = codes "<!"
 pending_bytes PendingBangDash = codes "<!-"
+
+-- A node's end: in a title or a textarea what is pending back is text. In a data block a `<` stays pending, since no byte of it is written
+-- otherwise; what else is pending there is refused, and is bytes.
+abbrev pub pending_at_cut : Content → Pending → Pending
+pending_at_cut Bytes PendingLess = LessAtCut
+pending_at_cut Bytes LessAtCut = LessAtCut
+pending_at_cut x h = Nothing
+
+abbrev pub emits_content_cut : Content → Pending → List LexEvent → List LexEvent
+emits_content_cut (Characters r) h t = event_text_bytes (pending_bytes h) (event_text_bytes (as_it_stands r) t)
+emits_content_cut Bytes PendingLess t = t
+emits_content_cut Bytes LessAtCut t = t
+emits_content_cut Bytes h t = block_bytes (pending_bytes h) t

@@ -10,7 +10,7 @@ use Rattle.place_core.specs.page.Contents.{next_in_content, emits_in_content}
 use Rattle.place_core.specs.page.Events.{LexEvent, StartTagBegins, EndTagBegins, TagNameByte, AttributeBegins, AttributeNameByte, AttributeNameEnds, TagEnds, Comment, DoctypeBegins, UnreadByte, event_text_bytes, doctype_bytes}
 use Rattle.place_core.specs.page.References.{Reference, Closed, next_reference, undone_byte, settled, as_it_stands}
 use Rattle.place_core.specs.page.States.{LexMode, Page, Template, LexState, Text, TagOpen, EndTagOpen, DeclarationOpen, InComment, Started, BogusComment, InDoctype, TagName, WholeTagName, BeforeAttributeName, AttributeName, WholeAttributeName, AfterAttributeName, BeforeAttributeValue, AttributeValue, AfterAttributeValue, SelfClosingStartTag, InContent, Characters, Bytes, Nothing, Unread, Config, config}
-use Rattle.place_core.specs.page.Tags.{Tag, EndTag, StartTag, tag_named, element_on, Value, Bodies, languages, attribute_value_of, with_bytes, emitted_bytes, emitted_end, tag_with_value, without_value, Quoting, DoubleQuoted, SingleQuoted, Unquoted, ValueState}
+use Rattle.place_core.specs.page.Tags.{Tag, EndTag, StartTag, tag_named, element_on, Value, ValueLanguage, languages, attribute_value_of, with_bytes, emitted_bytes, emitted_end, tag_with_value, without_value, Quoting, DoubleQuoted, SingleQuoted, Unquoted, ValueState}
 use Rattle.place_core.specs.page.Words.{kind_of}
 use Rattle.place_core.specs.declared.element.Element.{Element}
 use Rattle.place_core.specs.declared.element.Element.TheVariants as element
@@ -171,22 +171,22 @@ abbrev pub emits_after_value : Quoting → Class → ℕ → List LexEvent → L
 emits_after_value Unquoted c b t = emits_before_name c b t
 emits_after_value q c b t = t
 
-abbrev pub next_value : {B : Type 0} → Bodies B → Bool → Quoting → Class → ℕ → Tag → Value B → Reference → LexState B
+abbrev pub next_value : {B : Type 0} → ValueLanguage B → Bool → Quoting → Class → ℕ → Tag → Value B → Reference → LexState B
 next_value x true q c b tag v r = next_after_value q c b (tag_with_value tag (with_bytes x v (settled true r)))
 next_value x false q c b tag v r = AttributeValue q tag (with_bytes x v (undone_byte true r c b)) (next_reference r c b)
 
-abbrev pub emits_value : {B : Type 0} → Bodies B → Bool → Quoting → Class → ℕ → Value B → Reference → List LexEvent → List LexEvent
+abbrev pub emits_value : {B : Type 0} → ValueLanguage B → Bool → Quoting → Class → ℕ → Value B → Reference → List LexEvent → List LexEvent
 emits_value x true q c b v r t = emits_after_value q c b (emitted_end x (with_bytes x v (settled true r)) (emitted_bytes x v (settled true r) t))
 emits_value x false q c b v r t = emitted_bytes x v (undone_byte true r c b) t
 
-abbrev pub next_before_value : {B : Type 0} → Bodies B → Class → ℕ → Tag → Kind → LexState B
+abbrev pub next_before_value : {B : Type 0} → ValueLanguage B → Class → ℕ → Tag → Kind → LexState B
 next_before_value x White b tag k = BeforeAttributeValue tag k
 next_before_value x QuotationMark b tag k = AttributeValue DoubleQuoted tag (attribute_value_of x k) Closed
 next_before_value x Apostrophe b tag k = AttributeValue SingleQuoted tag (attribute_value_of x k) Closed
 next_before_value x GreaterThan b tag k = after_tag (without_value tag k)
 next_before_value x c b tag k = next_value x false Unquoted c b tag (attribute_value_of x k) Closed
 
-abbrev pub emits_before_value : {B : Type 0} → Bodies B → Class → ℕ → Kind → List LexEvent → List LexEvent
+abbrev pub emits_before_value : {B : Type 0} → ValueLanguage B → Class → ℕ → Kind → List LexEvent → List LexEvent
 emits_before_value x White b k t = t
 emits_before_value x QuotationMark b k t = t
 emits_before_value x Apostrophe b k t = t
@@ -195,7 +195,7 @@ emits_before_value x c b k t = emits_value x false Unquoted c b (attribute_value
 
 -- The machine: where a byte of a class leads to, and what it tells.
 
-abbrev pub next : {B : Type 0} → Bodies B → LexMode → LexState B → Class → ℕ → LexState B
+abbrev pub next : {B : Type 0} → ValueLanguage B → LexMode → LexState B → Class → ℕ → LexState B
 next x m (Text r) c b = next_text c b r
 next x m (TagOpen r) c b = next_tag_open m c b r
 next x m (EndTagOpen r) c b = next_end_tag_open m c b
@@ -216,7 +216,7 @@ next x m (SelfClosingStartTag tag) c b = next_before_name c b tag
 next x m (InContent e y h) c b = next_in_content h c b e y
 next x m Unread c b = Unread
 
-abbrev pub emits : {B : Type 0} → Bodies B → LexMode → LexState B → Class → ℕ → List LexEvent → List LexEvent
+abbrev pub emits : {B : Type 0} → ValueLanguage B → LexMode → LexState B → Class → ℕ → List LexEvent → List LexEvent
 emits x m (Text r) c b t = emits_text c b r t
 emits x m (TagOpen r) c b t = emits_tag_open m c b r t
 emits x m (EndTagOpen r) c b t = emits_end_tag_open m c b r t
@@ -237,10 +237,10 @@ emits x m (SelfClosingStartTag tag) c b t = emits_self_closing c b t
 emits x m (InContent e y h) c b t = emits_in_content h c b e y t
 emits x m Unread c b t = UnreadByte b ∷ t
 
-abbrev pub byte_over : {B : Type 0} → Bodies B → LexMode → ℕ → Config B → Config B
+abbrev pub byte_over : {B : Type 0} → ValueLanguage B → LexMode → ℕ → Config B → Config B
 byte_over x m b c = config (next x m c.at (class_of b) b) (emits x m c.at (class_of b) b c.emitted)
 
-abbrev pub read_over : {B : Type 0} → Bodies B → LexMode → List ℕ → Config B → Config B
+abbrev pub read_over : {B : Type 0} → ValueLanguage B → LexMode → List ℕ → Config B → Config B
 read_over x m [] c = c
 read_over x m (b ∷ bs) c = read_over x m bs (byte_over x m b c)
 

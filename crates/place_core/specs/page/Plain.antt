@@ -7,7 +7,7 @@ use Rattle.place_core.specs.page.Events.{LexEvent, TextByte, BlockByte, Attribut
 use Rattle.place_core.specs.page.Html.{read}
 use Rattle.place_core.specs.page.References.{Reference, Closed}
 use Rattle.place_core.specs.page.States.{Page, LexState, Text, BeforeAttributeName, AfterAttributeName, AfterAttributeValue, SelfClosingStartTag, AttributeName, BeforeAttributeValue, AttributeValue, Content, Characters, Bytes, Pending, Nothing, InContent, Config, config}
-use Rattle.place_core.specs.page.Tags.{Tag, Value, ValueOf, Quoting, Unquoted, without_value, ValueState}
+use Rattle.place_core.specs.page.Tags.{Tag, Value, ValueOf, Quoting, Unquoted, without_value, ValueLanguage, settled_value, emitted_settled, languages, ValueState}
 use Rattle.place_core.specs.page.Words.{is_special}
 use Rattle.place_core.specs.declared.element.Element.{Element}
 use Rattle.place_core.specs.declared.kind.Kind.{Kind}
@@ -87,11 +87,21 @@ IsPlainFrom (BeforeAttributeValue tag k) bytes d = IsPlainBefore k tag bytes d
 IsPlainFrom (AttributeValue q tag v r) bytes d = WhereClosed r (IsPlainValue v q tag d)
 IsPlainFrom _ bytes d = ⊥
 
--- Where a hole begins, what the lexer of a script or a style still holds back is told first. The states that are read need no such telling: where
--- they hold something back no hole is plain.
-abbrev pub settled_config : Config ValueState → Config ValueState
-settled_config c = c
+-- Where a hole begins, what the language of a value still holds back is told first. The other states need no such telling: where they hold
+-- something back no hole is plain.
+abbrev pub settled_state : {B : Type 0} → ValueLanguage B → LexState B → LexState B
+settled_state x (AttributeValue q tag v r) = AttributeValue q tag (settled_value x v) r
+settled_state x s = s
+
+abbrev pub emits_settled_state : {B : Type 0} → ValueLanguage B → LexState B → List LexEvent → List LexEvent
+emits_settled_state x (AttributeValue q tag v r) t = emitted_settled x v t
+emits_settled_state x s t = t
+
+abbrev pub settled_config : {B : Type 0} → ValueLanguage B → Config B → Config B
+settled_config x c = config (settled_state x c.at) (emits_settled_state x c.at c.emitted)
 
 -- plain in its place, and no token of what stands before lies partly in it
 abbrev pub IsPlain : List ℕ → Config ValueState → Type 0
-IsPlain bytes c = (read Page bytes c ≡ read Page bytes (settled_config c)) × IsPlainFrom (settled_config c).at bytes (read Page bytes (config (settled_config c).at []))
+IsPlain bytes c =
+    (read Page bytes c ≡ read Page bytes (settled_config languages c))
+    × IsPlainFrom (settled_state languages c.at) bytes (read Page bytes (config (settled_state languages c.at) []))

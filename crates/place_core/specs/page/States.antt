@@ -30,10 +30,12 @@ pub data Content : Type 0 where
   Bytes : Content
 
 -- what is pending back in such a content, since it may begin the end tag, or in a data block a `<!--`: nothing, `<` (less-than sign state), `</`
--- and letters that may become the element's name (end tag open and end tag name states), `<!` and `<!-` (escape start states)
+-- and letters that may become the element's name (end tag open and end tag name states), `<!` and `<!-` (escape start states); and on a path a
+-- `<` of a data block with which a node has ended: what follows must not go on with it
 pub data Pending : Type 0 where
   Nothing : Pending
   PendingLess : Pending
+  LessAtCut : Pending
   PendingName : List ℕ → Pending
   PendingBang : Pending
   PendingBangDash : Pending

@@ -1,12 +1,13 @@
 -- Where a text of a template is refused, and by which code: the conditions that stand on the places of paths, byte by byte, at the end of a
 -- node and at a hole. The checks of a byte have one order, whether one path stands at a place or several do.
-use Rattle.std.specs.Prelude.{◌≡◌, ℕ, zero, suc, take, ◌+◌, ◌-◌, Bool, true, false, ◌&&◌, ◌||◌, List, [], ◌∷◌, length, Option, Some, None, if◌then◌else◌}
-use Rattle.place_core.specs.page.Classes.{Class, White, ExclamationMark, QuotationMark, Apostrophe, HyphenMinus, Solidus, LessThan, EqualsSign, GreaterThan, GraveAccent, class_of}
-use Rattle.place_core.specs.page.Html.{next}
+use Rattle.std.specs.Prelude.{◌≡◌, ℕ, zero, suc, ◌+◌, ◌-◌, ◌++◌, bytes_eq, encode_utf8, Bool, true, false, ◌&&◌, ◌||◌, List, [], ◌∷◌, length, Option, Some, None, if◌then◌else◌}
+use Rattle.place_core.specs.page.Classes.{Class, White, ExclamationMark, QuotationMark, Apostrophe, HyphenMinus, Solidus, LessThan, EqualsSign, GreaterThan, GraveAccent, is_equals_sign, class_of}
+use Rattle.place_core.specs.page.Html.{next, ends_value}
 use Rattle.place_core.specs.page.Paths.{at_cut}
-use Rattle.place_core.specs.place.StatePlaces.{placed, tag_of, is_typed, tag_spot, only_name, only_before, only_inside, only_after, quotes_at}
-use Rattle.place_core.specs.page.States.{Template, LexState, Text, TagOpen, EndTagOpen, DeclarationOpen, InComment, Broken, CommentState, BogusComment, InDoctype, TagName, WholeTagName, BeforeAttributeName, AttributeName, WholeAttributeName, AfterAttributeName, BeforeAttributeValue, AttributeValue, AfterAttributeValue, SelfClosingStartTag, InContent, Unread}
-use Rattle.place_core.specs.page.Tags.{ValueState, languages, tag_named, element_on, Unquoted}
+use Rattle.place_core.specs.page.References.{Form, Reference, Closed, Open, ReferenceStep, Grows, Closes, Breaks, turn, meaning, flushed, plain_bytes, settled, as_it_stands}
+use Rattle.place_core.specs.place.StatePlaces.{placed, value_spot, value_body, tag_of, tag_spot, only_name, only_before, only_inside, only_after, quotes_at}
+use Rattle.place_core.specs.page.States.{Template, LexState, Text, TagOpen, EndTagOpen, DeclarationOpen, InComment, Broken, CommentState, BogusComment, InDoctype, TagName, WholeTagName, BeforeAttributeName, AttributeName, WholeAttributeName, AfterAttributeName, BeforeAttributeValue, AttributeValue, AfterAttributeValue, SelfClosingStartTag, Bytes, Pending, LessAtCut, PendingName, PendingBang, PendingBangDash, InContent, Unread}
+use Rattle.place_core.specs.page.Tags.{Tag, is_typed, is_second_type, Value, attribute_value_of, ValueOf, TypeSoFar, ValueLanguage, with_byte, with_bytes, refuses_byte, cut_value, typed_by, ValueState, languages, tag_named, element_on, Unquoted}
 use Rattle.place_core.specs.page.Words.{kind_of}
 use Rattle.place_core.specs.declared.bare.Bare.{Bare}
 use Rattle.place_core.specs.declared.body.Body.{Body}
@@ -26,10 +27,9 @@ use Rattle.place_core.specs.declared.tag_of.TagOf.TheVariants as tag
 use Rattle.place_core.specs.declared.tag_place.TagPlace.{TagPlace}
 use Rattle.place_core.specs.declared.value_place.ValuePlace.{ValuePlace}
 
--- What is not built yet: a tag that ends and enters the content of a script or a style, and values of these kinds.
+-- What is not built yet: a tag that ends and enters the content of a script or a style, and values of these kinds and URLs.
 abbrev pub content_error : TagOf → Option Code
 content_error (tag.Start element.Script) = Some code.NotBuilt
-content_error (tag.Start element.DataBlock) = Some code.NotBuilt
 content_error (tag.Start element.Style) = Some code.NotBuilt
 content_error t = None
 
@@ -39,14 +39,14 @@ kind_error kind.NoHole = None
 kind_error kind.Url = Some code.NotBuilt
 kind_error kind.Script = Some code.NotBuilt
 kind_error kind.Style = Some code.NotBuilt
-kind_error kind.ScriptType = Some code.NotBuilt
+kind_error kind.ScriptType = None
 
-abbrev pub body_error : Body → Option Code
-body_error body.Plain = None
-body_error body.NoHole = None
-body_error (body.Url parts) = Some code.NotBuilt
-body_error (body.Js js) = Some code.NotBuilt
-body_error (body.Css css) = Some code.NotBuilt
+abbrev pub body_error : Body → ℕ → Option Code
+body_error body.Plain b = None
+body_error body.NoHole b = None
+body_error (body.Url parts) b = Some code.NotBuilt
+body_error (body.Js js) b = Some code.NotBuilt
+body_error (body.Css css) b = Some code.NotBuilt
 
 -- A byte in a tag, by the spots at which paths stand. An equals sign begins a value after a name alone. A quotation mark, an apostrophe or a `<`
 -- is part of no name. A byte that begins a name goes on with none that has ended.
@@ -87,8 +87,8 @@ abbrev pub first_error : Option Code → Option Code → Option Code
 first_error (Some e) o = Some e
 first_error None o = o
 
-abbrev pub value_error : ValuePlace → Class → Option Code
-value_error v c = first_error (body_error v.body) (quotes_error v.tag v.quotes c)
+abbrev pub value_error : ValuePlace → Class → ℕ → Option Code
+value_error v c b = first_error (body_error v.body b) (quotes_error v.tag v.quotes c)
 
 -- Where a node ended in what may have been the end of a comment, a byte that would go on with it.
 abbrev pub comment_error : Bool → Class → Option Code
@@ -97,35 +97,60 @@ comment_error true ExclamationMark = Some code.SplitToken
 comment_error true GreaterThan = Some code.SplitToken
 comment_error dash c = None
 
--- a byte at a place
-abbrev pub place_error : Place → Class → Option Code
-place_error place.Text c = None
-place_error place.Doctype c = None
-place_error (place.Comment dash) c = comment_error dash c
-place_error (place.Rcdata e) c = None
-place_error (place.Tag t) c = tag_error t c
-place_error (place.Value v) c = value_error v c
-place_error (place.Script js) c = Some code.NotBuilt
-place_error (place.Style css) c = Some code.NotBuilt
-place_error (place.Block lt) c = Some code.NotBuilt
+-- Where a node ended in `<` in a data block, a byte that would go on with it.
+abbrev pub block_error : Bool → Class → Option Code
+block_error true Solidus = Some code.SplitToken
+block_error true ExclamationMark = Some code.SplitToken
+block_error lt c = None
 
--- A cause stands at the byte at hand, or that many bytes before it.
+-- a byte at a place
+abbrev pub place_error : Place → Class → ℕ → Option Code
+place_error place.Text c b = None
+place_error place.Doctype c b = None
+place_error (place.Comment dash) c b = comment_error dash c
+place_error (place.Rcdata e) c b = None
+place_error (place.Tag t) c b = tag_error t c
+place_error (place.Value v) c b = value_error v c b
+place_error (place.Script js) c b = Some code.NotBuilt
+place_error (place.Style css) c b = Some code.NotBuilt
+place_error (place.Block lt) c b = block_error lt c
+
+-- A cause stands at the byte at hand, or that many bytes of the text before it (`back`). The place that is shown for it is the one before the
+-- lexeme in which it stands, which begins that many bytes before the one at hand (`shown`).
 pub record PathCause : Type 0 where
   pub code : Code
   pub back : ℕ
+  pub shown : ℕ
+
+abbrev pub cause_back : ℕ → Option Code → Option PathCause
+cause_back back None = None
+cause_back back (Some e) = Some (record { code = e; back = back; shown = back })
 
 abbrev pub at_hand : Option Code → Option PathCause
-at_hand None = None
-at_hand (Some e) = Some (record { code = e; back = 0 })
+at_hand o = cause_back 0 o
+
+abbrev pub first_cause : Option PathCause → Option PathCause → Option PathCause
+first_cause (Some e) o = Some e
+first_cause None o = o
 
 -- A second `type` of a script stands at its first byte, and is seen where its name ends.
-abbrev pub is_second_type : Bool → Kind → Bool
-is_second_type typed kind.ScriptType = typed
-is_second_type typed k = false
-
 abbrev pub unless_second : Bool → ℕ → Option Code → Option PathCause
-unless_second true len o = Some (record { code = code.BadHTML; back = len })
+unless_second true len o = Some (record { code = code.BadHTML; back = len; shown = len })
 unless_second false len o = at_hand o
+
+-- In a data block, by what is pending back before the byte: the third byte after the `<` of a `<!--` is its last one.
+abbrev pub block_byte_error : Pending → Class → Option PathCause
+block_byte_error LessAtCut Solidus = at_hand (Some code.SplitToken)
+block_byte_error LessAtCut ExclamationMark = at_hand (Some code.SplitToken)
+block_byte_error PendingBangDash HyphenMinus = cause_back 3 (Some code.HtmlInScript)
+block_byte_error h c = None
+
+-- A node that ends in a data block in what its end tag, or a `<!--`, begins with.
+abbrev pub block_cut_error : Pending → Option PathCause
+block_cut_error (PendingName letters) = Some (record { code = code.SplitToken; back = 0; shown = length letters + 2 })
+block_cut_error PendingBang = Some (record { code = code.SplitToken; back = 0; shown = 2 })
+block_cut_error PendingBangDash = Some (record { code = code.SplitToken; back = 0; shown = 3 })
+block_cut_error h = None
 
 -- a byte within a name of a tag, and of an attribute, of which that many bytes have been read
 abbrev pub tag_name_error : TagOf → Class → Option Code
@@ -145,41 +170,93 @@ attribute_name_error t typed k len Apostrophe = at_hand (Some code.BadHTML)
 attribute_name_error t typed k len LessThan = at_hand (Some code.BadHTML)
 attribute_name_error t typed k len c = None
 
+-- In a value: what its language refuses of the bytes that it is fed. The bytes of a reference that is written as a character stand at its `&`; those
+-- of one that is text as it stands (`written`) stand each at its own place.
+abbrev pub fed_error : {B : Type 0} → ValueLanguage B → Value B → List ℕ → Bool → ℕ → Option PathCause
+fed_error x v [] written back = None
+fed_error x v (b ∷ bs) written back =
+    first_cause (cause_back back (refuses_byte x v b)) (fed_error x (with_byte x v b) bs written (if written then back - 1 else back))
+
+abbrev pub is_written : Bool → Form → List ℕ → Bool
+is_written equals f bytes = bytes_eq (flushed true equals f bytes) (38 ∷ bytes)
+
+abbrev pub flushed_error : {B : Type 0} → ValueLanguage B → Value B → Bool → Form → List ℕ → Option PathCause
+flushed_error x v equals f bytes = fed_error x v (flushed true equals f bytes) (is_written equals f bytes) (length bytes + 1)
+
+abbrev pub turned_error : {B : Type 0} → ValueLanguage B → Value B → ReferenceStep → Form → List ℕ → Class → ℕ → Option PathCause
+turned_error x v (Grows g) f bytes c b = None
+turned_error x v Closes f bytes c b = fed_error x v (encode_utf8 (meaning f bytes)) false (length bytes + 1)
+turned_error x v Breaks f bytes c b =
+    first_cause (flushed_error x v (is_equals_sign c) f bytes) (fed_error x (with_bytes x v (flushed true (is_equals_sign c) f bytes)) (plain_bytes c b) false 0)
+
+-- the first argument says whether the byte ends the value
+abbrev pub language_error : {B : Type 0} → ValueLanguage B → Bool → Value B → Reference → Class → ℕ → Option PathCause
+language_error x true v Closed c b = None
+language_error x true v (Open f bytes) c b = flushed_error x v false f bytes
+language_error x false v Closed c b = fed_error x v (plain_bytes c b) false 0
+language_error x false v (Open f bytes) c b = turned_error x v (turn c f) f bytes c b
+
+-- where a value is to begin, the byte that begins it without quotes
+abbrev pub first_byte_error : {B : Type 0} → ValueLanguage B → Value B → Class → ℕ → Option PathCause
+first_byte_error x v White b = None
+first_byte_error x v QuotationMark b = None
+first_byte_error x v Apostrophe b = None
+first_byte_error x v GreaterThan b = None
+first_byte_error x v c b = fed_error x v (plain_bytes c b) false 0
+
+-- the tag where a value ends
+abbrev pub ending_tag : {B : Type 0} → Tag → Value B → Reference → Tag
+ending_tag t (ValueOf v) r = t
+ending_tag t (TypeSoFar before) r = typed_by t (before ++ settled true r)
+
 -- What stands on one path, in the state that it has come to.
 abbrev pub is_broken : CommentState → Bool
 is_broken Broken = true
 is_broken s = false
 
-abbrev pub byte_error : LexState ValueState → Class → Option PathCause
-byte_error (Text r) c = None
-byte_error (TagOpen r) c = None
-byte_error (EndTagOpen r) c = None
-byte_error (DeclarationOpen r pending) c = None
-byte_error (InComment s) c = at_hand (comment_error (is_broken s) c)
-byte_error BogusComment c = None
-byte_error InDoctype c = None
-byte_error (TagName ends name) c = at_hand (tag_name_error (tag_of (tag_named ends name)) c)
-byte_error (WholeTagName t) c = at_hand (tag_error (tag_spot t only_name None) c)
-byte_error (BeforeAttributeName t) c = at_hand (tag_error (tag_spot t only_before None) c)
-byte_error (AttributeName t name) c = attribute_name_error (tag_of t) (is_typed t) (kind_of (element_on t) name) (length name) c
-byte_error (WholeAttributeName t k) c = at_hand (tag_error (tag_spot t only_inside (Some k)) c)
-byte_error (AfterAttributeName t k) c = at_hand (tag_error (tag_spot t only_after (Some k)) c)
-byte_error (BeforeAttributeValue t k) c = at_hand (first_error (kind_error k) (bare_error (tag_of t) (record { uq = false; unbegun = true }) c))
-byte_error (AttributeValue q t v r) c = at_hand (quotes_error (tag_of t) (quotes_at q) c)
-byte_error (AfterAttributeValue t) c = at_hand (tag_error (tag_spot t only_before None) c)
-byte_error (SelfClosingStartTag t) c = at_hand (tag_error (tag_spot t only_before None) c)
-byte_error (InContent e x h) c = None
-byte_error Unread c = at_hand (Some code.NotBuilt)
+abbrev pub byte_error : LexState ValueState → Class → ℕ → Option PathCause
+byte_error (Text r) c b = None
+byte_error (TagOpen r) c b = None
+byte_error (EndTagOpen r) c b = None
+byte_error (DeclarationOpen r pending) c b = None
+byte_error (InComment s) c b = at_hand (comment_error (is_broken s) c)
+byte_error BogusComment c b = None
+byte_error InDoctype c b = None
+byte_error (TagName ends name) c b = at_hand (tag_name_error (tag_of (tag_named ends name)) c)
+byte_error (WholeTagName t) c b = at_hand (tag_error (tag_spot t only_name None) c)
+byte_error (BeforeAttributeName t) c b = at_hand (tag_error (tag_spot t only_before None) c)
+byte_error (AttributeName t name) c b = attribute_name_error (tag_of t) (is_typed t) (kind_of (element_on t) name) (length name) c
+byte_error (WholeAttributeName t k) c b = at_hand (tag_error (tag_spot t only_inside (Some k)) c)
+byte_error (AfterAttributeName t k) c b = at_hand (tag_error (tag_spot t only_after (Some k)) c)
+byte_error (BeforeAttributeValue t k) c b =
+    first_cause (first_byte_error languages (attribute_value_of languages k) c b) (at_hand (first_error (kind_error k) (bare_error (tag_of t) (record { uq = false; unbegun = true }) c)))
+byte_error (AttributeValue q t v r) c b =
+    first_cause (language_error languages (ends_value q c) v r c b) (at_hand (quotes_error (tag_of (ending_tag t v r)) (quotes_at q) c))
+byte_error (AfterAttributeValue t) c b = at_hand (tag_error (tag_spot t only_before None) c)
+byte_error (SelfClosingStartTag t) c b = at_hand (tag_error (tag_spot t only_before None) c)
+byte_error (InContent e Bytes h) c b = block_byte_error h c
+byte_error (InContent e x h) c b = None
+byte_error Unread c b = at_hand (Some code.NotBuilt)
 
+-- A node that ends: a second `type`, the value of a type, and in a data block what its end tag begins with.
 abbrev pub cut_error : LexState ValueState → Option PathCause
 cut_error (AttributeName t name) = unless_second (is_second_type (is_typed t) (kind_of (element_on t) name)) (length name) None
+cut_error (BeforeAttributeValue t kind.ScriptType) = at_hand (Some code.BadHTML)
+cut_error (AttributeValue q t (ValueOf v) r) = fed_error languages (ValueOf v) (as_it_stands r) true (length (as_it_stands r))
+cut_error (AttributeValue q t (TypeSoFar before) r) = at_hand (Some code.BadHTML)
+cut_error (InContent e Bytes h) = block_cut_error h
 cut_error s = None
 
+-- a value of a kind that has a place where it begins
+abbrev pub begun_clash : Kind → Option Code
+begun_clash kind.ScriptType = None
+begun_clash k = Some code.AmbigContext
+
 -- What stands on two paths together: white space, where one is in a value without quotes and the other before a value.
-abbrev pub byte_clash : LexState ValueState → LexState ValueState → Class → Option Code
-byte_clash (BeforeAttributeValue t k) (AttributeValue Unquoted u v r) White = Some code.AmbigContext
-byte_clash (AttributeValue Unquoted u v r) (BeforeAttributeValue t k) White = Some code.AmbigContext
-byte_clash s r c = None
+abbrev pub byte_clash : LexState ValueState → LexState ValueState → Class → ℕ → Option Code
+byte_clash (BeforeAttributeValue t k) (AttributeValue Unquoted u (ValueOf v) r) White b = begun_clash k
+byte_clash (AttributeValue Unquoted u (ValueOf v) r) (BeforeAttributeValue t k) White b = begun_clash k
+byte_clash s r c b = None
 
 -- Where a value of data may not stand: in a name, which it would go on with, and where it would decide how the page is read.
 abbrev pub body_hole_error : Body → Option Code
@@ -198,25 +275,27 @@ hole_error (place.Tag t) = if t.spots.name || t.spots.inside then Some code.Spli
 hole_error (place.Value v) = body_hole_error v.body
 hole_error (place.Script js) = Some code.NotBuilt
 hole_error (place.Style css) = Some code.NotBuilt
-hole_error (place.Block lt) = Some code.NotBuilt
+hole_error (place.Block lt) = if lt then Some code.SplitToken else None
 
 -- Two paths at one hole, of which neither is refused, are refused together there. No two are today: it is where both are in one URL, in
 -- different parts of it.
 abbrev pub ClashesHole : LexState ValueState → LexState ValueState → Code → Type 0
 ClashesHole s r e = ⊥
 
--- What is refused of a text, and at which of its bytes; an error of the node's end stands at its length, or before that.
+-- What is refused of a text, and at which of its bytes; an error of the node's end stands at its length, or before that. And the byte before which
+-- the lexeme begins in which it stands.
 pub record PathRefusal : Type 0 where
   pub code : Code
   pub at : ℕ
+  pub shown : ℕ
 
 abbrev pub standing_at : ℕ → Option PathCause → Option PathRefusal → Option PathRefusal
 standing_at k None rest = rest
-standing_at k (Some e) rest = Some (record { code = e.code; at = k - e.back })
+standing_at k (Some e) rest = Some (record { code = e.code; at = k - e.back; shown = k - e.shown })
 
 abbrev pub refusal_from : ℕ → List ℕ → LexState ValueState → Option PathRefusal
 refusal_from k [] s = standing_at k (cut_error s) None
-refusal_from k (b ∷ bs) s = standing_at k (byte_error s (class_of b)) (refusal_from (k + 1) bs (next languages Template s (class_of b) b))
+refusal_from k (b ∷ bs) s = standing_at k (byte_error s (class_of b) b) (refusal_from (k + 1) bs (next languages Template s (class_of b) b))
 
 -- the state that a text leads to, byte by byte, and as a whole node
 abbrev pub states : List ℕ → LexState ValueState → LexState ValueState
@@ -226,10 +305,36 @@ states (b ∷ bs) s = states bs (next languages Template s (class_of b) b)
 abbrev pub node : List ℕ → LexState ValueState → LexState ValueState
 node bytes s = at_cut languages (states bytes s)
 
--- A text is refused on the path that has come to a state: by this code, at this byte, and the place before it is this one.
+-- The place before the bytes that are left of a text, as it is shown: where the text would end there. In a value the reference that stands before
+-- them is read with them: it is behind them where the next byte breaks it, and else it has not begun.
+abbrev pub value_before : ReferenceStep → Value ValueState → Class → Form → List ℕ → Value ValueState
+value_before Breaks v c f bytes = with_bytes languages v (flushed true (is_equals_sign c) f bytes)
+value_before step v c f bytes = v
+
+abbrev pub place_before_bytes : LexState ValueState → List ℕ → Option Place
+place_before_bytes (AttributeValue q t v (Open f bytes)) (b ∷ bs) =
+    value_spot t (quotes_at q) (value_body (cut_value languages (value_before (turn (class_of b) f) v (class_of b) f bytes)))
+place_before_bytes s bs = placed (at_cut languages s)
+
+abbrev pub or_place : Option Place → Option Place → Option Place
+or_place (Some p) before = Some p
+or_place None before = before
+
+-- The place shown before a byte of a text: the last one that there is up to this byte. In the value of a script's `type` there is none.
+abbrev pub shown_from : ℕ → List ℕ → LexState ValueState → Option Place → Option Place
+shown_from zero bytes s before = or_place (place_before_bytes s bytes) before
+shown_from (suc k) [] s before = or_place (place_before_bytes s []) before
+shown_from (suc k) (b ∷ bs) s before =
+    shown_from k bs (next languages Template s (class_of b) b) (or_place (place_before_bytes s (b ∷ bs)) before)
+
+abbrev pub shown_place : ℕ → List ℕ → LexState ValueState → Option Place
+shown_place k bytes s = shown_from k bytes s None
+
+-- A text is refused on the path that has come to a state: by this code, at this byte, and the place before its lexeme is this one.
 pub record PathRefuses (bytes : List ℕ) (s : LexState ValueState) (e : StepErr Place) : Type 0 where
-  pub stands : refusal_from 0 bytes s ≡ Some (record { code = e.code; at = e.at })
-  pub before : placed (node (take e.at bytes) s) ≡ Some e.before
+  pub shown : ℕ
+  pub stands : refusal_from 0 bytes s ≡ Some (record { code = e.code; at = e.at; shown = shown })
+  pub before : shown_place shown bytes s ≡ Some e.before
 
 -- A hole is refused on the path that has come to a state, which is at a place.
 pub record RefusesHole (s : LexState ValueState) (e : Code) : Type 0 where
@@ -240,7 +345,7 @@ pub record RefusesHole (s : LexState ValueState) (e : Code) : Type 0 where
 -- Two paths, of which neither is refused before this byte of a text, are refused together there.
 abbrev pub Clashes : List ℕ → LexState ValueState → LexState ValueState → Code → ℕ → Type 0
 Clashes [] s r e at = ⊥
-Clashes (b ∷ bs) s r e zero = byte_clash s r (class_of b) ≡ Some e
+Clashes (b ∷ bs) s r e zero = byte_clash s r (class_of b) b ≡ Some e
 Clashes (b ∷ bs) s r e (suc at) =
-    (byte_error s (class_of b) ≡ None) × (byte_error r (class_of b) ≡ None)
+    (byte_error s (class_of b) b ≡ None) × (byte_error r (class_of b) b ≡ None)
     × Clashes bs (next languages Template s (class_of b) b) (next languages Template r (class_of b) b) e at

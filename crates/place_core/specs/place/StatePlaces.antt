@@ -1,8 +1,8 @@
 -- The place of a path: what is kept of the state that it has come to. Inside a lexeme, such as a name or a reference, it has none.
-use Rattle.std.specs.Prelude.{Bool, true, false, Option, Some, None}
+use Rattle.std.specs.Prelude.{Bool, true, false, Option, Some, None, if◌then◌else◌}
 use Rattle.place_core.specs.page.References.{Reference, Closed, Open}
-use Rattle.place_core.specs.page.States.{LexState, Text, TagOpen, EndTagOpen, DeclarationOpen, CommentState, Started, StartedDash, Inside, Dash, DashDash, Bang, Broken, InComment, BogusComment, InDoctype, TagName, WholeTagName, BeforeAttributeName, AttributeName, WholeAttributeName, AfterAttributeName, BeforeAttributeValue, AttributeValue, AfterAttributeValue, SelfClosingStartTag, Content, Characters, Pending, Nothing, InContent, Unread}
-use Rattle.place_core.specs.page.Tags.{Tag, EndTag, StartTag, Value, ValueOf, TypeSoFar, ValueState, languages, attribute_value_of, without_value, Quoting, DoubleQuoted, SingleQuoted, Unquoted}
+use Rattle.place_core.specs.page.States.{LexState, Text, TagOpen, EndTagOpen, DeclarationOpen, CommentState, Started, StartedDash, Inside, Dash, DashDash, Bang, Broken, InComment, BogusComment, InDoctype, TagName, WholeTagName, BeforeAttributeName, AttributeName, WholeAttributeName, AfterAttributeName, BeforeAttributeValue, AttributeValue, AfterAttributeValue, SelfClosingStartTag, Content, Characters, Bytes, Pending, Nothing, LessAtCut, InContent, Unread}
+use Rattle.place_core.specs.page.Tags.{Tag, EndTag, StartTag, is_typed, is_second_type, Value, ValueOf, TypeSoFar, ValueState, languages, attribute_value_of, without_value, Quoting, DoubleQuoted, SingleQuoted, Unquoted}
 use Rattle.place_core.specs.declared.body.Body.{Body}
 use Rattle.place_core.specs.declared.body.Body.TheVariants as body
 use Rattle.place_core.specs.declared.element.Element.{Element}
@@ -21,10 +21,6 @@ use Rattle.place_core.specs.declared.tag_place.TagPlace.{TagPlace}
 abbrev pub tag_of : Tag → TagOf
 tag_of EndTag = tag.End
 tag_of (StartTag e typed) = tag.Start e
-
-abbrev pub is_typed : Tag → Bool
-is_typed EndTag = false
-is_typed (StartTag e typed) = typed
 
 -- the one spot of a path in a tag
 abbrev pub only_name : Spots
@@ -46,6 +42,10 @@ is_typed_after t (Some k) = is_typed (without_value t k)
 
 abbrev pub tag_spot : Tag → Spots → Option Kind → TagPlace
 tag_spot t spots k = record { tag = tag_of t; typed = is_typed_after t k; spots = spots; kind = k }
+
+-- Where a second `type` of a script has been read, which is refused, a path is at no place.
+abbrev pub unless_second_type : Tag → Kind → Place → Option Place
+unless_second_type t k p = if is_second_type (is_typed t) k then None else Some p
 
 -- The body of a value, by the state of its language.
 abbrev pub body_at : ValueState → Option Body
@@ -93,8 +93,14 @@ abbrev pub where_closed : Reference → Option Place → Option Place
 where_closed Closed o = o
 where_closed (Open f bytes) o = None
 
+abbrev pub block_place : Element → Bool → Option Place
+block_place element.DataBlock lt = Some (place.Block lt)
+block_place e lt = None
+
 abbrev pub content_spot : Pending → Content → Element → Option Place
 content_spot Nothing (Characters r) e = where_closed r (content_place e)
+content_spot Nothing Bytes e = block_place e false
+content_spot LessAtCut Bytes e = block_place e true
 content_spot h x e = None
 
 abbrev pub placed : LexState ValueState → Option Place
@@ -109,8 +115,8 @@ placed (TagName ends name) = None
 placed (WholeTagName t) = Some (place.Tag (tag_spot t only_name None))
 placed (BeforeAttributeName t) = Some (place.Tag (tag_spot t only_before None))
 placed (AttributeName t name) = None
-placed (WholeAttributeName t k) = Some (place.Tag (tag_spot t only_inside (Some k)))
-placed (AfterAttributeName t k) = Some (place.Tag (tag_spot t only_after (Some k)))
+placed (WholeAttributeName t k) = unless_second_type t k (place.Tag (tag_spot t only_inside (Some k)))
+placed (AfterAttributeName t k) = unless_second_type t k (place.Tag (tag_spot t only_after (Some k)))
 placed (BeforeAttributeValue t k) = value_spot t unbegun (value_body (attribute_value_of languages k))
 placed (AttributeValue q t v r) = where_closed r (value_spot t (quotes_at q) (value_body v))
 placed (AfterAttributeValue t) = Some (place.Tag (tag_spot t only_before None))

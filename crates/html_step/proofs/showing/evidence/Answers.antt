@@ -5,8 +5,11 @@ use Rattle.html_scan.specs.ScanViews.{scan_at}
 use Rattle.html_scan.specs.Scans.{At}
 use Rattle.html_step.specs.OriginViews.{origin_at}
 use Rattle.html_step.specs.Origins.{shows}
-use Rattle.html_step.proofs.OriginSteps.{evidence-then}
+use Rattle.html_step.proofs.OriginSteps.{evidence-then, through-same}
 use Rattle.html_step.proofs.showing.evidence.Goals as goal
+
+pub loop-index-init : goal.loop-index-init
+loop-index-init c = (through-same (origin_at c.same-origins.result) c.same-origins.ensures (shows c.args.text.now (At c.args.place)), omega arith)
 
 pub loop-index-preserved : goal.loop-index-preserved
 loop-index-preserved c =

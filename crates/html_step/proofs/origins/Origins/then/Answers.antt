@@ -1,12 +1,37 @@
-use Rattle.std.proofs.Common.{ap, ◌∙◌}
+use Rattle.std.proofs.Common.{◌≡◌, ◌∙◌, ℕ, List, length, set, sym, ap, subst, arith}
+use Rattle.std.proofs.lemmas.List.{length-set}
+use Rattle.std.proofs.lemmas.List.Edits.{fill_by_more}
+use Rattle.std.specs.Prelude.{slice_index_or}
 use Rattle.html_scan.specs.ClassViews.{class_at}
 use Rattle.html_scan.specs.ScanViews.{scan_at}
-use Rattle.html_step.specs.OriginViews.{origin_at}
-use Rattle.html_step.proofs.OriginSteps.{origins-then}
+use Rattle.html_step.proofs.OriginSteps.{member-at, number-below}
+use Rattle.html_step.specs.OriginViews.{all_members, member_number, origin_at}
+use Rattle.html_step.specs.Origins.{byte_origin}
+use Rattle.place_core.specs.declared.member.Member.{Member}
+use Rattle.place_core.specs.declared.member.Member.TheVariants as member
 use Rattle.html_step.proofs.origins.Origins.then.Goals as goal
+
+pub loop-number-preserved : goal.loop-number-preserved
+loop-number-preserved c =
+    let before = c.loop-number.before in
+    let i = c.loop-number.number in
+    let inv = c.loop-number.invariant in
+    let v = c.of.result in
+    let count = inv.count in
+    let below = c.loop-number-test.true in
+    record {
+      count = length-set before i v ∙ count;
+      origins = λ text k n lt. (
+          let f : ℕ → Member = λ m. origin_at c.args.self (byte_origin (scan_at text k c.args.scan) (class_at c.args.class) c.args.byte (slice_index_or all_members m member.Whole)) in
+          let is : v ≡ f i = c.of.ensures ∙ ap (origin_at c.args.self) (c.origin.ensures text k)
+          ∙ ap (λ (xs : List Member). origin_at c.args.self (byte_origin (scan_at text k c.args.scan) (class_at c.args.class) c.args.byte (slice_index_or xs i member.Whole))) c.members-members.ensures in
+          subst (λ (w : Member). slice_index_or (set before i w) n member.Whole ≡ f n) (sym is)
+          (fill_by_more f before i member.Whole (omega (arith, count, below)) (λ m less. inv.origins text k m less) n lt));
+    }
 
 pub returns : goal.returns
 returns c = λ text k y.
-    origins-then (origin_at c.args.self) (scan_at text k c.args.scan) (class_at c.args.class) c.of.result c.of-2.result c.of-3.result c.of-4.result
-    (c.of.ensures ∙ ap (origin_at c.args.self) (c.origin.ensures text k)) (c.of-2.ensures ∙ ap (origin_at c.args.self) (c.origin-2.ensures text k))
-    (c.of-3.ensures ∙ ap (origin_at c.args.self) (c.origin-3.ensures text k)) (c.of-4.ensures ∙ ap (origin_at c.args.self) (c.origin-4.ensures text k)) y
+    let below = number-below y in
+    let end = c.loop-number-test.false in
+    c.loop-number.invariant.origins text k (member_number y) (omega (arith, below, end))
+    ∙ member-at (λ m. origin_at c.args.self (byte_origin (scan_at text k c.args.scan) (class_at c.args.class) c.args.byte m)) y

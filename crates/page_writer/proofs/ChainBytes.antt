@@ -1,0 +1,55 @@
+-- What is written for a value is what its chain gives, and what that is by the sanitizers of the chain.
+use Rattle.std.proofs.Common.{◌≡◌, ◌≤◌, ℕ, zero, suc, List, [], ◌∷◌, append-nil, arith, length, refl, take}
+use Rattle.std.specs.Prelude.{if◌then◌else◌, slice_index_or}
+use Rattle.page_datum.specs.Data.{Data}
+use Rattle.page_datum.specs.Printed.{printed}
+use Rattle.page_path.specs.Pages.{chain_bytes, datum_bytes, list_bytes, page_bytes, value}
+use Rattle.page_writer.specs.Writing.{AreBuilt, IsBuilt, IsBuiltBehind, value_written}
+use Rattle.place_core.specs.declared.chain.Chain.{Chain}
+use Rattle.place_core.specs.declared.san.San.{San}
+use Rattle.place_core.specs.declared.san.San.TheVariants as san
+use Rattle.text_norm.specs.HoleLaws.{drops_alone, is_drop, sanitizers}
+
+-- where it is left out there are no bytes
+alone-bytes : (x : San) (datum : Data)
+    → page_bytes (if is_drop x then [] else value datum (datum_bytes x datum) ∷ []) ≡ datum_bytes x datum
+alone-bytes san.Drop datum = refl
+alone-bytes x datum = append-nil (datum_bytes x datum)
+
+written-bytes : (xs : List San) (datum : Data)
+    → page_bytes (if drops_alone xs then [] else value datum (list_bytes xs datum) ∷ []) ≡ list_bytes xs datum
+written-bytes [] datum = append-nil (printed datum)
+written-bytes (x ∷ []) datum = alone-bytes x datum
+written-bytes (x ∷ y ∷ xs) datum = append-nil (list_bytes (x ∷ y ∷ xs) datum)
+
+pub value-bytes : (c : Chain) (datum : Data) → value_written c datum ≡ chain_bytes c datum
+value-bytes c datum = written-bytes (sanitizers c) datum
+
+-- a sanitizer that may be behind another one is built
+behind-built : (x : San) → IsBuiltBehind x → IsBuilt x
+behind-built san.Attr b = tt
+behind-built san.AttrNospace b = tt
+behind-built _ b = absurd b
+
+-- a chain that has neither one nor two sanitizers has three
+pub record IsThree (n : ℕ) (sans : List San) : Type 0 where
+  pub second : IsBuilt (slice_index_or sans 1 san.Html)
+  pub third : IsBuilt (slice_index_or sans 2 san.Html)
+  pub are : take n sans ≡ slice_index_or sans 0 san.Html ∷ slice_index_or sans 1 san.Html ∷ slice_index_or sans 2 san.Html ∷ []
+
+none : (n : ℕ) (x y z : San) → take (suc (suc (suc n))) (x ∷ y ∷ z ∷ []) ≡ x ∷ y ∷ z ∷ []
+none zero x y z = refl
+none (suc n) x y z = refl
+
+three-of : (n : ℕ) (sans : List San) → length sans ≡ 3 → AreBuilt (take (suc (suc (suc n))) sans) → IsThree (suc (suc (suc n))) sans
+three-of n [] e b = absurd (omega (arith, e))
+three-of n (x ∷ []) e b = absurd (omega (arith, e))
+three-of n (x ∷ y ∷ []) e b = absurd (omega (arith, e))
+three-of n (x ∷ y ∷ z ∷ []) e b = record { second = behind-built y b.1.0; third = behind-built z b.1.1.0; are = none n x y z }
+three-of n (x ∷ y ∷ z ∷ w ∷ sans) e b = absurd (omega (arith, e))
+
+pub three : (n : ℕ) (sans : List San) → length sans ≡ 3 → (1 ≤ n → 3 ≤ n) → AreBuilt (take n sans) → IsThree n sans
+three zero sans e p b = absurd b
+three (suc zero) sans e p b = (let le = p (omega arith) in absurd (omega (arith, le)))
+three (suc (suc zero)) sans e p b = (let le = p (omega arith) in absurd (omega (arith, le)))
+three (suc (suc (suc n))) sans e p b = three-of n sans e b

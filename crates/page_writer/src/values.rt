@@ -1,0 +1,113 @@
+ghost use Rattle.std.specs.Prelude.{◌≡◌, ◌++◌, IfSome, OnOk, string_bytes};
+ghost use Rattle.page_datum.specs.View.{ref_view};
+ghost use Rattle.page_path.specs.Pages.{datum_bytes, san_bytes};
+ghost use Rattle.page_path.specs.Textual.{IsTextBy, IsTextFor};
+ghost use Rattle.page_writer.specs.Writing.{IsBuilt, IsBuiltChain, IsWrittenAlike, value_written};
+
+use page_datum::{DatumRef, print_datum};
+use page_io::Memory;
+use place_core::{Chain, San};
+use san_html::{push_attr_name, push_attr_nospace, push_html};
+use std::alloc::Global;
+
+/// What a chain keeps of a value between two of its sanitizers: one text that a sanitizer reads, and one to which it writes. They are
+/// cleared and used again for the next value, and have no bytes while each chain is one sanitizer.
+#[derive(Drop)]
+pub struct ChainBuffer {
+    first: String,
+    second: String,
+}
+
+impl ChainBuffer {
+    /// A buffer without bytes. Does not allocate.
+    pub fn new(alloc: Global) -> ChainBuffer {
+        ChainBuffer {
+            first: String::new(alloc),
+            second: String::new(alloc),
+        }
+    }
+}
+
+/// Appends what a chain gives for a value: each sanitizer but the last writes to the buffer, and the last one to the text. Fails only if
+/// allocation fails, and then a part of it may be there.
+pub fn push_chain(
+    out: &mut String,
+    buffer: &mut ChainBuffer,
+    chain: Chain,
+    datum: DatumRef<'_>,
+) -> Result<(), Memory>
+    requires { IsBuiltChain chain }
+    ensures bytes { OnOk result (string_bytes out.new
+        ≡ string_bytes out.old ++ value_written chain (ref_view datum.entry)) }
+    ensures textual { OnOk result (IsTextBy chain (ref_view datum.entry)) }
+{
+    if chain.count == 1 {
+        return push_first(out, chain.sans[0], datum);
+    }
+    buffer.first.clear();
+    push_first(&mut buffer.first, chain.sans[0], datum)?;
+    if chain.count == 2 {
+        return push_sanitized(out, chain.sans[1], buffer.first.as_str());
+    }
+    buffer.second.clear();
+    push_sanitized(&mut buffer.second, chain.sans[1], buffer.first.as_str())?;
+    push_sanitized(out, chain.sans[2], buffer.second.as_str())
+}
+
+// Appends what the first sanitizer of a chain gives for a value, which is printed only where its text is needed. Fails only if allocation
+// fails, and then a part of it may be there.
+fn push_first(out: &mut String, san: San, datum: DatumRef<'_>) -> Result<(), Memory>
+    requires { IsBuilt san }
+    ensures bytes { OnOk result (string_bytes out.new
+        ≡ string_bytes out.old ++ datum_bytes san (ref_view datum.entry)) }
+    ensures textual { OnOk result (IsTextFor san (ref_view datum.entry)) }
+{
+    match unprinted(san, datum) {
+        Some(text) => push_sanitized(out, san, text),
+        None => {
+            let text = print_datum(*out.allocator(), datum)?;
+            push_sanitized(out, san, text.as_str())
+        }
+    }
+}
+
+// The text to sanitize in place of a printed value, where the value need not be printed: a text itself; of a list or a dictionary nothing
+// in a comment, and `[` as a name, since neither that nor what is printed of them is a name.
+fn unprinted<'d>(san: San, datum: DatumRef<'d>) -> Option<&'d str>
+    requires { IsBuilt san }
+    ensures { IfSome result (λ text. IsWrittenAlike san text.now (ref_view datum.entry)) }
+{
+    match datum {
+        DatumRef::Text(text) => Some(text),
+        DatumRef::List(_) | DatumRef::Dict(_) => match san {
+            San::Drop => Some(""),
+            San::AttrName => Some("["),
+            _ => None,
+        },
+        _ => None,
+    }
+}
+
+// Appends what a sanitizer gives for a text; only of a name a copy is made. Fails only if allocation fails, and then a part of it may be
+// there.
+fn push_sanitized(out: &mut String, san: San, text: &str) -> Result<(), Memory>
+    requires { IsBuilt san }
+    ensures { OnOk result (string_bytes out.new
+        ≡ string_bytes out.old ++ san_bytes san text.now) }
+{
+    match san {
+        San::Html | San::Attr => push_html(out, text),
+        San::AttrNospace => push_attr_nospace(out, text),
+        San::AttrName => push_attr_name(out, text),
+        San::Drop => Ok(()),
+        San::JsValue
+        | San::JsString
+        | San::JsRegexp
+        | San::CssValue
+        | San::CssString
+        | San::UrlFilter
+        | San::UrlOpen
+        | San::UrlNorm
+        | San::UrlQuery => unreachable!(),
+    }
+}

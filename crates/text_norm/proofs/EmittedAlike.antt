@@ -1,0 +1,246 @@
+-- Two emitted lists in a relation that each event other than a mark keeps stay in it while the same bytes are read from the same state.
+use Rattle.std.proofs.Common.{◌≡◌, ℕ, Bool, true, false, codes, List, [], ◌∷◌, ◌++◌, refl, subst, sym}
+use Rattle.std.specs.Char.{to_ascii_lowercase}
+use Rattle.place_core.specs.page.Classes.{Class, White, ExclamationMark, QuotationMark, Apostrophe, HyphenMinus, Solidus, LessThan, EqualsSign, GreaterThan, QuestionMark, Letter, class_of}
+use Rattle.place_core.specs.page.Comments.{Declaration, OpensComment, OpensDoctype, Undecided, OpensNothing, declared_by, emits_doctype}
+use Rattle.place_core.specs.page.Contents.{content_bytes, pending_bytes, emits_content_cut, is_name_of, may_be_name_of, emits_bang, emits_bang_dash, emits_closed, emits_content, emits_end_name, emits_in_content, emits_less, emits_loose}
+use Rattle.place_core.specs.page.Events.{LexEvent, AttributeBegins, AttributeNameByte, AttributeNameEnds, BlockByte, Comment, DoctypeBegins, DoctypeByte, DoctypeEnds, EndTagBegins, Escape, Mark, StartTagBegins, TagEnds, TagNameByte, TextByte, UnreadByte, ValueByte, block_bytes, doctype_bytes, tag_name_bytes, event_text_bytes}
+use Rattle.place_core.specs.page.Html.{ends_value, next, read_over, emits, emits_after_name, emits_after_value, emits_before_name, emits_before_value, emits_bogus, emits_comment, emits_declaration, emits_end_tag_open, emits_name, emits_self_closing, emits_tag_name, emits_tag_open, emits_text, emits_value, emits_whole_name}
+use Rattle.place_core.specs.page.Paths.{read_node, emits_cut}
+use Rattle.place_core.specs.page.References.{Reference, Closed, as_it_stands, settled, undone_byte}
+use Rattle.place_core.specs.page.States.{AfterAttributeName, AfterAttributeValue, AttributeName, AttributeValue, BeforeAttributeName, BeforeAttributeValue, BogusComment, Bytes, Characters, Content, DeclarationOpen, EndTagOpen, Pending, PendingBang, PendingBangDash, PendingLess, LessAtCut, PendingName, InComment, InContent, InDoctype, Nothing, Page, LexMode, SelfClosingStartTag, LexState, TagName, TagOpen, Template, Text, Unread, WholeAttributeName, WholeTagName, config}
+use Rattle.place_core.specs.page.Tags.{ValueLanguage, Quoting, Unquoted, TypeSoFar, Value, ValueOf, element_on, emitted_byte, emitted_bytes, emitted_end, attribute_value_of, with_byte, with_bytes}
+use Rattle.place_core.specs.page.Words.{kind_of}
+use Rattle.place_core.specs.declared.element.Element.{Element}
+use Rattle.place_core.specs.declared.kind.Kind.{Kind}
+
+-- an event that is no mark
+abbrev pub IsNoMark : LexEvent → Type 0
+IsNoMark Mark = ⊥
+IsNoMark _ = Unit {0}
+
+-- what a language brings: what it emits of a byte, and at a value's end, keeps the relation
+pub record EmitsAlike (B : Type 0) (x : ValueLanguage B) (F : List LexEvent → List LexEvent → Type 0) : Type 0 where
+  pub emits : (v : B) (b : ℕ) (t u : List LexEvent) → F t u → F (x.emits v b t) (x.emits v b u)
+  pub ends : (v : B) (t u : List LexEvent) → F t u → F (x.ends v t) (x.ends v u)
+
+module _ (F : List LexEvent → List LexEvent → Type 0) (keep : (e : LexEvent) (t u : List LexEvent) → IsNoMark e → F t u → F (e ∷ t) (e ∷ u)) where
+  texts : (bs : List ℕ) (t u : List LexEvent) → F t u → F (event_text_bytes bs t) (event_text_bytes bs u)
+  texts [] t u f = f
+  texts (b ∷ bs) t u f = texts bs (TextByte b ∷ t) (TextByte b ∷ u) (keep (TextByte b) t u tt f)
+
+  blocks : (bs : List ℕ) (t u : List LexEvent) → F t u → F (block_bytes bs t) (block_bytes bs u)
+  blocks [] t u f = f
+  blocks (b ∷ bs) t u f = blocks bs (BlockByte b ∷ t) (BlockByte b ∷ u) (keep (BlockByte b) t u tt f)
+
+  doctypes : (bs : List ℕ) (t u : List LexEvent) → F t u → F (doctype_bytes bs t) (doctype_bytes bs u)
+  doctypes [] t u f = f
+  doctypes (b ∷ bs) t u f = doctypes bs (DoctypeByte b ∷ t) (DoctypeByte b ∷ u) (keep (DoctypeByte b) t u tt f)
+
+  tag_names : (bs : List ℕ) (t u : List LexEvent) → F t u → F (tag_name_bytes bs t) (tag_name_bytes bs u)
+  tag_names [] t u f = f
+  tag_names (b ∷ bs) t u f =
+      let e = TagNameByte (to_ascii_lowercase b) in
+      tag_names bs (e ∷ t) (e ∷ u) (keep e t u tt f)
+
+  in-text : (c : Class) (b : ℕ) (r : Reference) (t u : List LexEvent) → F t u → F (emits_text c b r t) (emits_text c b r u)
+  in-text LessThan b r t u f = f
+  in-text c b r t u f = texts (undone_byte false r c b) t u f
+
+  in-bogus : (m : LexMode) (pending : List ℕ) (c : Class) (b : ℕ) (t u : List LexEvent) → F t u → F (emits_bogus m pending c b t) (emits_bogus m pending c b u)
+  in-bogus Page pending c b t u f = keep Comment t u tt f
+  in-bogus Template pending c b t u f = in-text c b Closed (event_text_bytes pending t) (event_text_bytes pending u) (texts pending t u f)
+
+  -- a byte of a name behind what begins one
+  named : (e g : LexEvent) (t u : List LexEvent) → IsNoMark e → IsNoMark g → F t u → F (e ∷ g ∷ t) (e ∷ g ∷ u)
+  named e g t u p q f = keep e (g ∷ t) (g ∷ u) p (keep g t u q f)
+
+  in-tag-open : (m : LexMode) (c : Class) (b : ℕ) (r : Reference) (t u : List LexEvent) → F t u → F (emits_tag_open m c b r t) (emits_tag_open m c b r u)
+  in-tag-open m (Letter l) b r t u f = named (TagNameByte (to_ascii_lowercase b)) StartTagBegins _ _ tt tt (texts (settled false r) t u f)
+  in-tag-open m Solidus b r t u f = f
+  in-tag-open m ExclamationMark b r t u f = f
+  in-tag-open m QuestionMark b r t u f = in-bogus m (codes "<") QuestionMark b _ _ (texts (settled false r) t u f)
+  in-tag-open m c b r t u f = in-text c b Closed _ _ (texts (codes "<") _ _ (texts (settled false r) t u f))
+
+  in-end-tag-open : (m : LexMode) (c : Class) (b : ℕ) (r : Reference) (t u : List LexEvent) → F t u → F (emits_end_tag_open m c b r t) (emits_end_tag_open m c b r u)
+  in-end-tag-open m (Letter l) b r t u f = named (TagNameByte (to_ascii_lowercase b)) EndTagBegins _ _ tt tt (texts (settled false r) t u f)
+  in-end-tag-open m c b r t u f = in-bogus m (codes "</") c b _ _ (texts (settled false r) t u f)
+
+  in-comment : (m : LexMode) (r : Reference) (t u : List LexEvent) → F t u → F (emits_comment m r t) (emits_comment m r u)
+  in-comment Page r t u f = keep Comment _ _ tt (texts (settled false r) t u f)
+  in-comment Template r t u f = texts (as_it_stands r) t u f
+
+  in-declaration : (o : Declaration) (m : LexMode) (c : Class) (b : ℕ) (r : Reference) (pending : List ℕ) (t u : List LexEvent) → F t u
+      → F (emits_declaration o m c b r pending t) (emits_declaration o m c b r pending u)
+  in-declaration OpensComment m c b r pending t u f = in-comment m r t u f
+  in-declaration OpensDoctype m c b r pending t u f =
+      doctypes (pending ++ b ∷ []) _ _ (keep DoctypeBegins _ _ tt (texts (settled false r) t u f))
+  in-declaration Undecided m c b r pending t u f = f
+  in-declaration OpensNothing m c b r pending t u f = in-bogus m (codes "<!" ++ pending) c b _ _ (texts (settled false r) t u f)
+
+  in-doctype : (c : Class) (b : ℕ) (t u : List LexEvent) → F t u → F (emits_doctype c b t) (emits_doctype c b u)
+  in-doctype GreaterThan b t u f = keep DoctypeEnds t u tt f
+  in-doctype c b t u f = keep (DoctypeByte b) t u tt f
+
+  in-tag-name : (c : Class) (b : ℕ) (t u : List LexEvent) → F t u → F (emits_tag_name c b t) (emits_tag_name c b u)
+  in-tag-name White b t u f = f
+  in-tag-name Solidus b t u f = f
+  in-tag-name GreaterThan b t u f = keep (TagEnds false) t u tt f
+  in-tag-name c b t u f = keep (TagNameByte (to_ascii_lowercase b)) t u tt f
+
+  before-name : (c : Class) (b : ℕ) (t u : List LexEvent) → F t u → F (emits_before_name c b t) (emits_before_name c b u)
+  before-name White b t u f = f
+  before-name Solidus b t u f = f
+  before-name GreaterThan b t u f = keep (TagEnds false) t u tt f
+  before-name c b t u f = named (AttributeNameByte (to_ascii_lowercase b)) AttributeBegins t u tt tt f
+
+  in-name : (c : Class) (b : ℕ) (k : Kind) (t u : List LexEvent) → F t u → F (emits_name c b k t) (emits_name c b k u)
+  in-name White b k t u f = keep (AttributeNameEnds k) t u tt f
+  in-name Solidus b k t u f = keep (AttributeNameEnds k) t u tt f
+  in-name GreaterThan b k t u f = named (TagEnds false) (AttributeNameEnds k) t u tt tt f
+  in-name EqualsSign b k t u f = keep (AttributeNameEnds k) t u tt f
+  in-name c b k t u f = keep (AttributeNameByte (to_ascii_lowercase b)) t u tt f
+
+  after-name : (c : Class) (b : ℕ) (t u : List LexEvent) → F t u → F (emits_after_name c b t) (emits_after_name c b u)
+  after-name EqualsSign b t u f = f
+  after-name c b t u f = before-name c b t u f
+
+  self-closing : (c : Class) (b : ℕ) (t u : List LexEvent) → F t u → F (emits_self_closing c b t) (emits_self_closing c b u)
+  self-closing GreaterThan b t u f = keep (TagEnds true) t u tt f
+  self-closing c b t u f = before-name c b t u f
+
+  whole-name : (c : Class) (b : ℕ) (k : Kind) (t u : List LexEvent) → F t u → F (emits_whole_name c b k t) (emits_whole_name c b k u)
+  whole-name EqualsSign b k t u f = keep (AttributeNameEnds k) t u tt f
+  whole-name c b k t u f = before-name c b _ _ (keep (AttributeNameEnds k) t u tt f)
+
+  pub after-value : (q : Quoting) (c : Class) (b : ℕ) (t u : List LexEvent) → F t u → F (emits_after_value q c b t) (emits_after_value q c b u)
+  after-value Unquoted c b t u f = before-name c b t u f
+  after-value q c b t u f = f
+
+  in-contents : (x : Content) (bs : List ℕ) (t u : List LexEvent) → F t u → F (content_bytes x bs t) (content_bytes x bs u)
+  in-contents (Characters r) bs t u f = texts bs t u f
+  in-contents Bytes bs t u f = blocks bs t u f
+
+  in-closed : (x : Content) (t u : List LexEvent) → F t u → F (emits_closed x t) (emits_closed x u)
+  in-closed (Characters r) t u f = texts (settled false r) t u f
+  in-closed Bytes t u f = f
+
+  in-byte : (x : Content) (c : Class) (b : ℕ) (t u : List LexEvent) → F t u → F (emits_content x c b t) (emits_content x c b u)
+  in-byte (Characters r) c b t u f = texts (undone_byte false r c b) t u f
+  in-byte Bytes c b t u f = blocks (b ∷ []) t u f
+
+  loose : (c : Class) (b : ℕ) (x : Content) (t u : List LexEvent) → F t u → F (emits_loose c b x t) (emits_loose c b x u)
+  loose LessThan b x t u f = in-closed x t u f
+  loose c b x t u f = in-byte x c b t u f
+
+  less : (c : Class) (b : ℕ) (x : Content) (t u : List LexEvent) → F t u → F (emits_less c b x t) (emits_less c b x u)
+  less Solidus b x t u f = f
+  less ExclamationMark b Bytes t u f = f
+  less c b x t u f = loose c b x _ _ (in-contents x (codes "<") t u f)
+
+  end-name : (grows whole : Bool) (c : Class) (b : ℕ) (x : Content) (letters : List ℕ) (t u : List LexEvent) → F t u
+      → F (emits_end_name grows whole c b x letters t) (emits_end_name grows whole c b x letters u)
+  end-name true whole (Letter l) b x letters t u f = f
+  end-name grows true White b x letters t u f = tag_names letters _ _ (keep EndTagBegins t u tt f)
+  end-name grows true Solidus b x letters t u f = tag_names letters _ _ (keep EndTagBegins t u tt f)
+  end-name grows true GreaterThan b x letters t u f = keep (TagEnds false) _ _ tt (tag_names letters _ _ (keep EndTagBegins t u tt f))
+  end-name grows whole c b x letters t u f = loose c b x _ _ (in-contents x (codes "</" ++ letters) t u f)
+
+  bang : (c : Class) (b : ℕ) (x : Content) (t u : List LexEvent) → F t u → F (emits_bang c b x t) (emits_bang c b x u)
+  bang HyphenMinus b x t u f = f
+  bang c b x t u f = loose c b x _ _ (in-contents x (codes "<!") t u f)
+
+  bang-dash : (c : Class) (b : ℕ) (x : Content) (t u : List LexEvent) → F t u → F (emits_bang_dash c b x t) (emits_bang_dash c b x u)
+  bang-dash HyphenMinus b x t u f = keep Escape _ _ tt (in-contents x (codes "<!--") t u f)
+  bang-dash c b x t u f = loose c b x _ _ (in-contents x (codes "<!-") t u f)
+
+  in-content : (h : Pending) (c : Class) (b : ℕ) (e : Element) (x : Content) (t u : List LexEvent) → F t u
+      → F (emits_in_content h c b e x t) (emits_in_content h c b e x u)
+  in-content Nothing c b e x t u f = loose c b x t u f
+  in-content PendingLess c b e x t u f = less c b x t u f
+  in-content LessAtCut c b e x t u f = loose c b x _ _ (in-contents x (codes "<") t u f)
+  in-content (PendingName letters) c b e x t u f =
+      end-name (may_be_name_of e (letters ++ b ∷ [])) (is_name_of e letters) c b x letters t u f
+  in-content PendingBang c b e x t u f = bang c b x t u f
+  in-content PendingBangDash c b e x t u f = bang-dash c b x t u f
+
+  cut-content : (x : Content) (h : Pending) (t u : List LexEvent) → F t u → F (emits_content_cut x h t) (emits_content_cut x h u)
+  cut-content (Characters r) h t u f = texts (pending_bytes h) _ _ (texts (as_it_stands r) t u f)
+  cut-content Bytes PendingLess t u f = f
+  cut-content Bytes LessAtCut t u f = f
+  cut-content Bytes h t u f = blocks (pending_bytes h) t u f
+
+  module _ (B : Type 0) (x : ValueLanguage B) (own : EmitsAlike B x F) where
+    emitted-byte : (v : Value B) (b : ℕ) (t u : List LexEvent) → F t u → F (emitted_byte x v b t) (emitted_byte x v b u)
+    emitted-byte (ValueOf v) b t u f = own.emits v b t u f
+    emitted-byte (TypeSoFar before) b t u f = keep (ValueByte b) t u tt f
+
+    pub emitted-bytes : (bs : List ℕ) (v : Value B) (t u : List LexEvent) → F t u → F (emitted_bytes x v bs t) (emitted_bytes x v bs u)
+    emitted-bytes [] v t u f = f
+    emitted-bytes (b ∷ bs) v t u f = emitted-bytes bs (with_byte x v b) (emitted_byte x v b t) (emitted_byte x v b u) (emitted-byte v b t u f)
+
+    emitted-end : (v : Value B) (t u : List LexEvent) → F t u → F (emitted_end x v t) (emitted_end x v u)
+    emitted-end (ValueOf v) t u f = own.ends v t u f
+    emitted-end (TypeSoFar before) t u f = f
+
+    in-value : (ends : Bool) (q : Quoting) (c : Class) (b : ℕ) (v : Value B) (r : Reference) (t u : List LexEvent) → F t u
+        → F (emits_value x ends q c b v r t) (emits_value x ends q c b v r u)
+    in-value true q c b v r t u f =
+        after-value q c b _ _ (emitted-end (with_bytes x v (settled true r)) _ _ (emitted-bytes (settled true r) v t u f))
+    in-value false q c b v r t u f = emitted-bytes (undone_byte true r c b) v t u f
+
+    before-value : (c : Class) (b : ℕ) (k : Kind) (t u : List LexEvent) → F t u → F (emits_before_value x c b k t) (emits_before_value x c b k u)
+    before-value White b k t u f = f
+    before-value QuotationMark b k t u f = f
+    before-value Apostrophe b k t u f = f
+    before-value GreaterThan b k t u f = keep (TagEnds false) _ _ tt (emitted-end (attribute_value_of x k) t u f)
+    before-value c b k t u f = in-value false Unquoted c b (attribute_value_of x k) Closed t u f
+
+    -- a byte in each state
+    pub emits-alike : (m : LexMode) (s : LexState B) (c : Class) (b : ℕ) (t u : List LexEvent) → F t u → F (emits x m s c b t) (emits x m s c b u)
+    emits-alike m (Text r) c b t u f = in-text c b r t u f
+    emits-alike m (TagOpen r) c b t u f = in-tag-open m c b r t u f
+    emits-alike m (EndTagOpen r) c b t u f = in-end-tag-open m c b r t u f
+    emits-alike m (DeclarationOpen r pending) c b t u f = in-declaration (declared_by (pending ++ b ∷ [])) m c b r pending t u f
+    emits-alike m (InComment s) c b t u f = f
+    emits-alike m BogusComment c b t u f = f
+    emits-alike m InDoctype c b t u f = in-doctype c b t u f
+    emits-alike m (TagName ends name) c b t u f = in-tag-name c b t u f
+    emits-alike m (WholeTagName tag) c b t u f = before-name c b t u f
+    emits-alike m (BeforeAttributeName tag) c b t u f = before-name c b t u f
+    emits-alike m (AttributeName tag name) c b t u f = in-name c b (kind_of (element_on tag) name) t u f
+    emits-alike m (WholeAttributeName tag k) c b t u f = whole-name c b k t u f
+    emits-alike m (AfterAttributeName tag k) c b t u f = after-name c b t u f
+    emits-alike m (BeforeAttributeValue tag k) c b t u f = before-value c b k t u f
+    emits-alike m (AttributeValue q tag v r) c b t u f = in-value (ends_value q c) q c b v r t u f
+    emits-alike m (AfterAttributeValue tag) c b t u f = before-name c b t u f
+    emits-alike m (SelfClosingStartTag tag) c b t u f = self-closing c b t u f
+    emits-alike m (InContent e y h) c b t u f = in-content h c b e y t u f
+    emits-alike m Unread c b t u f = keep (UnreadByte b) t u tt f
+
+    -- a node's end in each state
+    pub cut-alike : (s : LexState B) (t u : List LexEvent) → F t u → F (emits_cut x s t) (emits_cut x s u)
+    cut-alike (Text r) t u f = texts (as_it_stands r) t u f
+    cut-alike (TagOpen r) t u f = texts (codes "<") _ _ (texts (settled false r) t u f)
+    cut-alike (EndTagOpen r) t u f = texts (codes "</") _ _ (texts (settled false r) t u f)
+    cut-alike (DeclarationOpen r pending) t u f = texts (codes "<!" ++ pending) _ _ (texts (settled false r) t u f)
+    cut-alike (AttributeValue q tag v r) t u f = emitted-bytes (as_it_stands r) v t u f
+    cut-alike (InContent e y h) t u f = cut-content y h t u f
+    cut-alike _ t u f = f
+
+    over-alike : (m : LexMode) (bytes : List ℕ) (s : LexState B) (t u : List LexEvent) → F t u
+        → ((read_over x m bytes (config s u)).at ≡ (read_over x m bytes (config s t)).at)
+        × F (read_over x m bytes (config s t)).emitted (read_over x m bytes (config s u)).emitted
+    over-alike m [] s t u f = (refl, f)
+    over-alike m (b ∷ bs) s t u f =
+        let c = class_of b in
+        over-alike m bs (next x m s c b) (emits x m s c b t) (emits x m s c b u) (emits-alike m s c b t u f)
+
+    -- the text of a node
+    pub node-alike : (bytes : List ℕ) (s : LexState B) (t u : List LexEvent) → F t u
+        → F (read_node x bytes (config s t)).emitted (read_node x bytes (config s u)).emitted
+    node-alike bytes s t u f =
+        let o = over-alike Template bytes s t u f in
+        let c = read_over x Template bytes (config s t) in
+        let d = read_over x Template bytes (config s u) in
+        subst (λ (z : LexState B). F (emits_cut x c.at c.emitted) (emits_cut x z d.emitted)) (sym o.0) (cut-alike c.at c.emitted d.emitted o.1)

@@ -1,0 +1,337 @@
+-- A page fills its path with texts where it reads as the path with these texts does.
+use Rattle.std.proofs.Common.{◌≡◌, ◌≤◌, ◌+◌, ℕ, suc, List, [], ◌∷◌, ◌++◌, ◌⊎◌, inl, inr, length, arith, refl, sym, ap, ap₂, ◌∙◌, subst}
+use Rattle.place_core.specs.page.Events.{AttributeBegins, LexEvent, Mark, attribute_name_bytes, event_text_bytes, value_bytes}
+use Rattle.place_core.specs.page.Html.{read, start}
+use Rattle.place_core.specs.page.Paths.{Hole, Symbol, Written, at_hole, mark_in, read_node, read_path}
+use Rattle.place_core.specs.page.References.{Closed, Open, Reference}
+use Rattle.place_core.specs.page.States.{AfterAttributeName, AfterAttributeValue, AttributeValue, BeforeAttributeName, BeforeAttributeValue, Bytes, Characters, Config, Content, InContent, LexState, Nothing, Page, Pending, SelfClosingStartTag, Text, config}
+use Rattle.place_core.specs.page.Tags.{DoubleQuoted, Quoting, SingleQuoted, Tag, TypeSoFar, Unquoted, Value, ValueOf, ValueState, languages, with_bytes}
+use Rattle.place_core.specs.place.Errors.{node}
+use Rattle.place_core.specs.declared.element.Element.{Element}
+use Rattle.place_core.specs.declared.kind.Kind.{Kind}
+use Rattle.place_core.specs.declared.kind.Kind.TheVariants as kind
+use Rattle.san_html.specs.ReadBack.{as_name, as_unquoted, in_value, read_as_text}
+use Rattle.text_norm.proofs.FilledMarks.{fills-keep, fills-mark, fills-node, kind-emitted, kind-stays, name-run, text-run, value-run, node-state}
+use Rattle.text_norm.specs.FilledReadings.{FilledPathsAreReadings, HolesTake, IsNoBlock, NoneInBlocks, ReadingsAreFilledPaths, TakesContent, TakesHole, TakesValue, holes_filled, holes_in, read_filled}
+use Rattle.text_norm.specs.Fillings.{BlockSite, Filling, Fills, FitsAt, MarkSite, NameSite, QuotedSite, TextSite, UnquotedSite, filling, fillings_along, fillings_at}
+
+-- Where a mark has one run, what the path emits and its fillings determine what the page emits.
+abbrev pub IsOneRun : MarkSite → Type 0
+IsOneRun BlockSite = ⊥
+IsOneRun _ = Unit {0}
+
+abbrev pub HaveOneRun : List Filling → Type 0
+HaveOneRun [] = Unit {0}
+HaveOneRun (v ∷ vs) = IsOneRun v.site × HaveOneRun vs
+
+abbrev head_or : Filling → List Filling → Filling
+head_or v [] = v
+head_or v (w ∷ ws) = w
+
+abbrev rest_of : List Filling → List Filling
+rest_of [] = []
+rest_of (w ∷ ws) = ws
+
+one-run : (site : MarkSite) (text : List ℕ) (r q : List LexEvent) → IsOneRun site → FitsAt site text r → FitsAt site text q → r ≡ q
+one-run BlockSite text r q n f g = absurd n
+one-run TextSite text r q n f g = f ∙ sym g
+one-run QuotedSite text r q n f g = f ∙ sym g
+one-run UnquotedSite text r q n f g = f ∙ sym g
+one-run NameSite text r q n f g = f ∙ sym g
+
+pub fills-one : (t : List LexEvent) (vs : List Filling) (u w : List LexEvent) → HaveOneRun vs → Fills t vs u → Fills t vs w → u ≡ w
+fills-one [] vs u w h f g = f.1 ∙ sym g.1
+fills-one (Mark ∷ t) vs u w h f g =
+    let same = sym f.4 ∙ g.4 in
+    let value : f.0 ≡ g.0 = ap (head_or f.0) same in
+    let values : f.1 ≡ g.1 = ap rest_of same in
+    let own : HaveOneRun (f.0 ∷ f.1) = subst HaveOneRun f.4 h in
+    let also : FitsAt f.0.site f.0.text g.2 = subst (λ (v : Filling). FitsAt v.site v.text g.2) (sym value) g.6 in
+    let run : f.2 ≡ g.2 = one-run f.0.site f.0.text f.2 g.2 own.0 f.6 also in
+    let rest : f.3 ≡ g.3 = fills-one t f.1 f.3 g.3 own.1 f.7 (subst (λ (z : List Filling). Fills t z g.3) (sym values) g.7) in
+    f.5 ∙ ap₂ (λ (a b : List LexEvent). a ++ b) run rest ∙ sym g.5
+fills-one (e ∷ t) vs u w h f g =
+    f.2 ∙ ap₂ (λ (a : LexEvent) (b : List LexEvent). a ∷ b) (f.3 ∙ sym g.3) (fills-one t vs f.1 g.1 h f.4 g.4) ∙ sym g.2
+
+-- a hole with its text in the place of its mark
+record IsFilledHole (s : LexState ValueState) (text : List ℕ) (vs : List Filling) (t u : List LexEvent) : Type 0 where
+  at : (holes_filled s text u).at ≡ at_hole languages s
+  fills : Fills (mark_in languages s t) (fillings_at s text vs) (holes_filled s text u).emitted
+
+by-run : (site : MarkSite) (text : List ℕ) (vs : List Filling) (run t u emitted : List LexEvent) → FitsAt site text run → emitted ≡ run ++ u
+    → Fills t vs u → Fills (Mark ∷ t) (filling site text ∷ vs) emitted
+by-run site text vs run t u emitted fits e f =
+    subst (Fills (Mark ∷ t) (filling site text ∷ vs)) (sym e) (fills-mark (filling site text) vs run t u fits f)
+
+in-kind : (q : Quoting) (tag : Tag) (k : Kind) (bs : List ℕ)
+    → in_value q tag (with_bytes languages (ValueOf k) bs) ≡ in_value q tag (ValueOf k)
+in-kind q tag k bs = ap (in_value q tag) (kind-stays k bs)
+
+value-hole : (q : Quoting) (tag : Tag) (k : Kind) (text : List ℕ) (vs : List Filling) (t u : List LexEvent) → Fills t vs u
+    → IsFilledHole (in_value q tag (ValueOf k)) text vs t u
+value-hole Unquoted tag k text vs t u f = record {
+  at = in-kind Unquoted tag k (as_unquoted text);
+  fills = by-run UnquotedSite text vs (value_bytes (as_unquoted text) []) t u _ refl
+      (kind-emitted k (as_unquoted text) u ∙ value-run (as_unquoted text) [] u) f;
+}
+value-hole DoubleQuoted tag k text vs t u f = record {
+  at = in-kind DoubleQuoted tag k (read_as_text text);
+  fills = by-run QuotedSite text vs (value_bytes (read_as_text text) []) t u _ refl
+      (kind-emitted k (read_as_text text) u ∙ value-run (read_as_text text) [] u) f;
+}
+value-hole SingleQuoted tag k text vs t u f = record {
+  at = in-kind SingleQuoted tag k (read_as_text text);
+  fills = by-run QuotedSite text vs (value_bytes (read_as_text text) []) t u _ refl
+      (kind-emitted k (read_as_text text) u ∙ value-run (read_as_text text) [] u) f;
+}
+
+name-fills : (text : List ℕ) (vs : List Filling) (t u : List LexEvent) → Fills t vs u
+    → Fills (Mark ∷ AttributeBegins ∷ t) (filling NameSite text ∷ vs) (attribute_name_bytes (as_name text) (AttributeBegins ∷ u))
+name-fills text vs t u f =
+    by-run NameSite text vs (attribute_name_bytes (as_name text) []) (AttributeBegins ∷ t) (AttributeBegins ∷ u) _ refl
+    (name-run (as_name text) [] (AttributeBegins ∷ u)) (fills-keep vs AttributeBegins t u tt f)
+
+before-hole : (tag : Tag) (k : Kind) (text : List ℕ) (vs : List Filling) (t u : List LexEvent) → TakesHole (BeforeAttributeValue tag k)
+    → Fills t vs u → IsFilledHole (BeforeAttributeValue tag k) text vs t u
+before-hole tag kind.ScriptType text vs t u h f = absurd h
+before-hole tag k text vs t u h f = record {
+  at = in-kind Unquoted tag k (as_unquoted text);
+  fills = by-run UnquotedSite text vs (value_bytes (as_unquoted text) []) t u _ refl
+      (kind-emitted k (as_unquoted text) u ∙ value-run (as_unquoted text) [] u) f;
+}
+
+attribute-hole : (v : Value ValueState) (r : Reference) (q : Quoting) (tag : Tag) (text : List ℕ) (vs : List Filling) (t u : List LexEvent)
+    → TakesValue v r → Fills t vs u → IsFilledHole (AttributeValue q tag v r) text vs t u
+attribute-hole (ValueOf k) Closed q tag text vs t u h f = value-hole q tag k text vs t u f
+attribute-hole _ _ q tag text vs t u h f = absurd h
+
+content-hole : (y : Content) (p : Pending) (e : Element) (text : List ℕ) (vs : List Filling) (t u : List LexEvent)
+    → TakesContent y p → Fills t vs u → IsFilledHole (InContent e y p) text vs t u
+content-hole (Characters r) Nothing e text vs t u h f = record {
+  at = refl;
+  fills = by-run TextSite text vs (event_text_bytes (read_as_text text) []) t u _ refl (text-run (read_as_text text) [] u) f;
+}
+content-hole _ _ e text vs t u h f = absurd h
+
+hole-filled : (s : LexState ValueState) (text : List ℕ) (vs : List Filling) (t u : List LexEvent) → TakesHole s → Fills t vs u
+    → IsFilledHole s text vs t u
+hole-filled (Text r) text vs t u h f = record {
+  at = refl;
+  fills = by-run TextSite text vs (event_text_bytes (read_as_text text) []) t u _ refl (text-run (read_as_text text) [] u) f;
+}
+hole-filled (InContent e y p) text vs t u h f = content-hole y p e text vs t u h f
+hole-filled (AttributeValue q tag v r) text vs t u h f = attribute-hole v r q tag text vs t u h f
+hole-filled (BeforeAttributeValue tag k) text vs t u h f = before-hole tag k text vs t u h f
+hole-filled (BeforeAttributeName tag) text vs t u h f = record { at = refl; fills = name-fills text vs t u f }
+hole-filled (AfterAttributeName tag k) text vs t u h f = record { at = refl; fills = name-fills text vs t u f }
+hole-filled (AfterAttributeValue tag) text vs t u h f = record { at = refl; fills = name-fills text vs t u f }
+hole-filled (SelfClosingStartTag tag) text vs t u h f = record { at = refl; fills = name-fills text vs t u f }
+hole-filled _ text vs t u h f = record { at = refl; fills = f }
+
+-- the path with texts fills the path with marks, and is in its state
+record IsFilledReading (symbols : List Symbol) (texts : List (List ℕ)) (s : LexState ValueState) (vs : List Filling) (t u : List LexEvent)
+    : Type 0 where
+  at : (read_filled symbols texts (config s u)).at ≡ (read_path languages symbols (config s t)).at
+  fills : Fills (read_path languages symbols (config s t)).emitted (fillings_along symbols texts s vs)
+      (read_filled symbols texts (config s u)).emitted
+
+reading-fills : (symbols : List Symbol) (texts : List (List ℕ)) (s : LexState ValueState) (vs : List Filling) (t u : List LexEvent)
+    → HolesTake symbols texts s → Fills t vs u → IsFilledReading symbols texts s vs t u
+reading-fills [] texts s vs t u h f = record { at = refl; fills = f }
+reading-fills (Written bytes ∷ symbols) texts s vs t u h f =
+    let c = read_node languages bytes (config s t) in
+    let d = read_node languages bytes (config s u) in
+    let r = reading-fills symbols texts (node bytes s) vs c.emitted d.emitted h (fills-node vs bytes s t u f) in
+    let p = sym (node-state bytes s t) in
+    let q = sym (node-state bytes s u) in
+    record {
+      at = subst (λ (z : LexState ValueState). (read_filled symbols texts (config z d.emitted)).at ≡ (read_path languages symbols c).at) q
+          (subst (λ (z : LexState ValueState). (read_filled symbols texts (config (node bytes s) d.emitted)).at
+          ≡ (read_path languages symbols (config z c.emitted)).at) p r.at);
+      fills = subst (λ (z : LexState ValueState). Fills (read_path languages symbols c).emitted (fillings_along symbols texts (node bytes s) vs)
+          (read_filled symbols texts (config z d.emitted)).emitted) q
+          (subst (λ (z : LexState ValueState). Fills (read_path languages symbols (config z c.emitted)).emitted
+          (fillings_along symbols texts (node bytes s) vs) (read_filled symbols texts (config (node bytes s) d.emitted)).emitted) p r.fills);
+    }
+reading-fills (Hole ∷ symbols) [] s vs t u h f = absurd h
+reading-fills (Hole ∷ symbols) (text ∷ texts) s vs t u h f =
+    let b = hole-filled s text vs t u h.0 f in
+    let emitted = (holes_filled s text u).emitted in
+    let r = reading-fills symbols texts (at_hole languages s) (fillings_at s text vs) (mark_in languages s t) emitted h.1 b.fills in
+    let own = sym b.at in
+    let marked = read_path languages symbols (config (at_hole languages s) (mark_in languages s t)) in
+    record {
+      at = subst (λ (z : LexState ValueState). (read_filled symbols texts (config z emitted)).at ≡ marked.at) own r.at;
+      fills = subst (λ (z : LexState ValueState). Fills marked.emitted (fillings_along symbols texts (at_hole languages s) (fillings_at s text vs))
+          (read_filled symbols texts (config z emitted)).emitted) own r.fills;
+    }
+
+pub readings-are-filled-paths : ReadingsAreFilledPaths
+readings-are-filled-paths symbols texts page h e =
+    let r = reading-fills symbols texts start.at [] [] [] h (refl, refl) in
+    let path = read_path languages symbols start in
+    record {
+      ends = ap (λ (c : Config ValueState). c.at) e ∙ r.at;
+      events = subst (λ (c : Config ValueState). Fills path.emitted (fillings_along symbols texts start.at []) c.emitted) (sym e) r.fills;
+    }
+
+-- each filling of holes that have one run has one
+attribute-run : (v : Value ValueState) (r : Reference) (q : Quoting) (tag : Tag) (text : List ℕ) (vs : List Filling) → TakesValue v r
+    → HaveOneRun vs → HaveOneRun (fillings_at (AttributeValue q tag v r) text vs)
+attribute-run (ValueOf k) Closed DoubleQuoted tag text vs h o = (tt, o)
+attribute-run (ValueOf k) Closed SingleQuoted tag text vs h o = (tt, o)
+attribute-run (ValueOf k) Closed Unquoted tag text vs h o = (tt, o)
+attribute-run _ _ q tag text vs h o = absurd h
+
+before-run : (k : Kind) (tag : Tag) (text : List ℕ) (vs : List Filling) → TakesHole (BeforeAttributeValue tag k)
+    → HaveOneRun vs → HaveOneRun (fillings_at (BeforeAttributeValue tag k) text vs)
+before-run kind.ScriptType tag text vs h o = absurd h
+before-run k tag text vs h o = (tt, o)
+
+content-run : (y : Content) (p : Pending) (e : Element) (text : List ℕ) (vs : List Filling) → TakesContent y p
+    → HaveOneRun vs → HaveOneRun (fillings_at (InContent e y p) text vs)
+content-run (Characters r) Nothing e text vs h o = (tt, o)
+content-run _ _ e text vs h o = absurd h
+
+hole-run : (s : LexState ValueState) (text : List ℕ) (vs : List Filling) → TakesHole s → HaveOneRun vs → HaveOneRun (fillings_at s text vs)
+hole-run (Text r) text vs h o = (tt, o)
+hole-run (InContent e y p) text vs h o = content-run y p e text vs h o
+hole-run (AttributeValue q tag v r) text vs h o = attribute-run v r q tag text vs h o
+hole-run (BeforeAttributeValue tag k) text vs h o = before-run k tag text vs h o
+hole-run (BeforeAttributeName tag) text vs h o = (tt, o)
+hole-run (AfterAttributeName tag k) text vs h o = (tt, o)
+hole-run (AfterAttributeValue tag) text vs h o = (tt, o)
+hole-run (SelfClosingStartTag tag) text vs h o = (tt, o)
+hole-run _ text vs h o = o
+
+runs-along : (symbols : List Symbol) (texts : List (List ℕ)) (s : LexState ValueState) (vs : List Filling) → HolesTake symbols texts s
+    → HaveOneRun vs → HaveOneRun (fillings_along symbols texts s vs)
+runs-along [] texts s vs h o = o
+runs-along (Written bytes ∷ symbols) texts s vs h o = runs-along symbols texts (node bytes s) vs h o
+runs-along (Hole ∷ symbols) [] s vs h o = absurd h
+runs-along (Hole ∷ symbols) (text ∷ texts) s vs h o =
+    runs-along symbols texts (at_hole languages s) (fillings_at s text vs) h.1 (hole-run s text vs h.0 o)
+
+-- A list that is filled has as many marks as fillings, and a text of a template has none. So where a path is filled, each of its marks has a
+-- filling.
+abbrev marks : List LexEvent → ℕ
+marks [] = 0
+marks (Mark ∷ t) = suc (marks t)
+marks (e ∷ t) = marks t
+
+fills-count : (t : List LexEvent) (vs : List Filling) (u : List LexEvent) → Fills t vs u → length vs ≡ marks t
+fills-count [] vs u f = ap length f.0
+fills-count (Mark ∷ t) vs u f = ap length f.4 ∙ ap suc (fills-count t f.1 f.3 f.7)
+fills-count (e ∷ t) vs u f = fills-count t vs f.1 f.4
+
+record IsFilledSomehow (t : List LexEvent) : Type 0 where
+  by : List Filling
+  page : List LexEvent
+  fills : Fills t by page
+
+somehow : (t : List LexEvent) → IsFilledSomehow t
+somehow [] = record { by = []; page = []; fills = (refl, refl) }
+somehow (Mark ∷ t) =
+    let a = somehow t in
+    record { by = filling TextSite [] ∷ a.by; page = a.page; fills = fills-mark (filling TextSite []) a.by [] t a.page refl a.fills }
+somehow (e ∷ t) =
+    let a = somehow t in
+    record { by = a.by; page = e ∷ a.page; fills = fills-keep a.by e t a.page tt a.fills }
+
+node-marks : (bytes : List ℕ) (s : LexState ValueState) (t : List LexEvent) → marks (read_node languages bytes (config s t)).emitted ≡ marks t
+node-marks bytes s t =
+    let a = somehow t in
+    sym (fills-count (read_node languages bytes (config s t)).emitted a.by _ (fills-node a.by bytes s t a.page a.fills))
+    ∙ fills-count t a.by a.page a.fills
+
+-- either that holds and the numbers are the same, or the first one is less
+abbrev Counted : Type 0 → ℕ → ℕ → Type 0
+Counted H a b = (H × (a ≡ b)) ⊎ (suc a ≤ b)
+
+one-mark : (m l : ℕ) → suc l + m ≡ suc m + l
+one-mark m l = omega arith
+
+no-filling : (m l : ℕ) → suc (l + m) ≤ suc m + l
+no-filling m l = omega arith
+
+no-mark : (m l : ℕ) → l + m ≡ m + l
+no-mark m l = omega arith
+
+content-count : (y : Content) (p : Pending) (e : Element) (text : List ℕ) (vs : List Filling) (t : List LexEvent) → IsNoBlock (InContent e y p)
+    → Counted (TakesContent y p) (length (fillings_at (InContent e y p) text vs) + marks t) (marks (mark_in languages (InContent e y p) t) + length vs)
+content-count Bytes p e text vs t n = absurd n
+content-count (Characters r) Nothing e text vs t n = inl (tt, one-mark (marks t) (length vs))
+content-count (Characters r) _ e text vs t n = inr (no-filling (marks t) (length vs))
+
+attribute-count : (v : Value ValueState) (r : Reference) (q : Quoting) (tag : Tag) (text : List ℕ) (vs : List Filling) (t : List LexEvent)
+    → Counted (TakesValue v r) (length (fillings_at (AttributeValue q tag v r) text vs) + marks t)
+    (marks (mark_in languages (AttributeValue q tag v r) t) + length vs)
+attribute-count (ValueOf k) Closed q tag text vs t = inl (tt, one-mark (marks t) (length vs))
+attribute-count (ValueOf k) (Open f h) q tag text vs t = inr (no-filling (marks t) (length vs))
+attribute-count (TypeSoFar before) Closed q tag text vs t = inr (no-filling (marks t) (length vs))
+attribute-count (TypeSoFar before) (Open f h) q tag text vs t = inr (no-filling (marks t) (length vs))
+
+before-count : (k : Kind) (tag : Tag) (text : List ℕ) (vs : List Filling) (t : List LexEvent)
+    → Counted (TakesHole (BeforeAttributeValue tag k)) (length (fillings_at (BeforeAttributeValue tag k) text vs) + marks t)
+    (marks (mark_in languages (BeforeAttributeValue tag k) t) + length vs)
+before-count kind.ScriptType tag text vs t = inr (no-filling (marks t) (length vs))
+before-count k tag text vs t = inl (tt, one-mark (marks t) (length vs))
+
+hole-count : (s : LexState ValueState) (text : List ℕ) (vs : List Filling) (t : List LexEvent) → IsNoBlock s
+    → Counted (TakesHole s) (length (fillings_at s text vs) + marks t) (marks (mark_in languages s t) + length vs)
+hole-count (Text r) text vs t n = inl (tt, one-mark (marks t) (length vs))
+hole-count (InContent e y p) text vs t n = content-count y p e text vs t n
+hole-count (AttributeValue q tag v r) text vs t n = attribute-count v r q tag text vs t
+hole-count (BeforeAttributeValue tag k) text vs t n = before-count k tag text vs t
+hole-count (BeforeAttributeName tag) text vs t n = inl (tt, one-mark (marks t) (length vs))
+hole-count (AfterAttributeName tag k) text vs t n = inl (tt, one-mark (marks t) (length vs))
+hole-count (AfterAttributeValue tag) text vs t n = inl (tt, one-mark (marks t) (length vs))
+hole-count (SelfClosingStartTag tag) text vs t n = inl (tt, one-mark (marks t) (length vs))
+hole-count _ text vs t n = inl (tt, no-mark (marks t) (length vs))
+
+both-count : (T H : Type 0) (a l m n r e : ℕ) → Counted T (a + m) (n + l) → Counted H (r + n) (e + a) → Counted (T × H) (r + m) (e + l)
+both-count T H a l m n r e (inl p) (inl q) = (let x = p.1 in let y = q.1 in inl ((p.0, q.0), omega (arith, x, y)))
+both-count T H a l m n r e (inl p) (inr q) = (let x = p.1 in inr (omega (arith, x, q)))
+both-count T H a l m n r e (inr p) (inl q) = (let y = q.1 in inr (omega (arith, p, y)))
+both-count T H a l m n r e (inr p) (inr q) = inr (omega (arith, p, q))
+
+no-text : (n : ℕ) → suc n ≡ 0 → ⊥
+no-text n e = omega (arith, e)
+
+suc-one : (n m : ℕ) → suc n ≡ suc m → n ≡ m
+suc-one n m e = omega (arith, e)
+
+path-count : (symbols : List Symbol) (texts : List (List ℕ)) (s : LexState ValueState) (vs : List Filling) (t : List LexEvent)
+    → holes_in symbols ≡ length texts → NoneInBlocks symbols s
+    → Counted (HolesTake symbols texts s) (length (fillings_along symbols texts s vs) + marks t)
+    (marks (read_path languages symbols (config s t)).emitted + length vs)
+path-count [] texts s vs t e n = inl (tt, no-mark (marks t) (length vs))
+path-count (Written bytes ∷ symbols) texts s vs t e n =
+    let c = read_node languages bytes (config s t) in
+    let r = path-count symbols texts (node bytes s) vs c.emitted e n in
+    let here = subst (λ (z : LexState ValueState). Counted (HolesTake symbols texts (node bytes s))
+    (length (fillings_along symbols texts (node bytes s) vs) + marks c.emitted)
+    (marks (read_path languages symbols (config z c.emitted)).emitted + length vs)) (sym (node-state bytes s t)) r in
+    subst (λ (z : ℕ). Counted (HolesTake symbols texts (node bytes s)) (length (fillings_along symbols texts (node bytes s) vs) + z)
+    (marks (read_path languages symbols c).emitted + length vs)) (node-marks bytes s t) here
+path-count (Hole ∷ symbols) [] s vs t e n = absurd (no-text (holes_in symbols) e)
+path-count (Hole ∷ symbols) (text ∷ texts) s vs t e n =
+    let also = path-count symbols texts (at_hole languages s) (fillings_at s text vs) (mark_in languages s t) (suc-one (holes_in symbols) (length texts) e) n.1 in
+    both-count (TakesHole s) (HolesTake symbols texts (at_hole languages s)) (length (fillings_at s text vs)) (length vs) (marks t)
+    (marks (mark_in languages s t)) (length (fillings_along symbols texts (at_hole languages s) (fillings_at s text vs)))
+    (marks (read_path languages symbols (config (at_hole languages s) (mark_in languages s t))).emitted) (hole-count s text vs t n.0) also
+
+of-count : (H : Type 0) (a b : ℕ) → a ≡ b → Counted H (a + 0) (b + 0) → H
+of-count H a b e (inl p) = p.0
+of-count H a b e (inr p) = absurd (omega (arith, e, p))
+
+pub filled-paths-are-readings : FilledPathsAreReadings
+filled-paths-are-readings symbols texts page enough none f =
+    let path = read_path languages symbols start in
+    let along = fillings_along symbols texts start.at [] in
+    let count = fills-count path.emitted along (read Page page start).emitted f.events in
+    let h = of-count (HolesTake symbols texts start.at) (length along) (marks path.emitted) count
+    (path-count symbols texts start.at [] [] enough none) in
+    let r = reading-fills symbols texts start.at [] [] [] h (refl, refl) in
+    let same = fills-one path.emitted along _ _ (runs-along symbols texts start.at [] h tt) f.events r.fills in
+    ap₂ (λ (s : LexState ValueState) (t : List LexEvent). config s t) (f.ends ∙ sym r.at) same

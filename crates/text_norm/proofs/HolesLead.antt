@@ -1,0 +1,87 @@
+-- Wherever a hole may stand on a path, what its sanitizer promises leads the page on.
+use Rattle.std.proofs.Common.{◌≡◌, ℕ, Bool, true, false, List, [], Option, Some, None, if◌then◌else◌, Ok, Err, refl, subst, sym}
+use Rattle.html_step.proofs.HoleOrder.{covers-hole}
+use Rattle.html_step.specs.Holes.{Holed, after_hole}
+use Rattle.page_datum.specs.Data.{Data}
+use Rattle.page_datum.specs.Printed.{printed}
+use Rattle.place_core.specs.place.Membership.{IsIn}
+use Rattle.place_core.specs.place.Places.{IsValid}
+use Rattle.place_core.specs.page.References.{Closed, Reference}
+use Rattle.place_core.specs.place.StatePlaces.{content_spot, only_after, only_inside, placed, tag_spot, quotes_at, value_body, value_spot, where_closed}
+use Rattle.place_core.specs.page.States.{AfterAttributeName, AfterAttributeValue, AttributeValue, BeforeAttributeName, BeforeAttributeValue, Broken, Bytes, Characters, Content, CommentState, Pending, InComment, InContent, Inside, LessAtCut, Nothing, SelfClosingStartTag, LexState, Text, WholeAttributeName}
+use Rattle.place_core.specs.page.Tags.{DoubleQuoted, Quoting, SingleQuoted, Tag, Unquoted, Value, ValueOf, ValueState, is_second_type, is_typed, without_value}
+use Rattle.place_core.specs.declared.chain.Chain.{Chain}
+use Rattle.place_core.specs.declared.element.Element.{Element}
+use Rattle.place_core.specs.declared.element.Element.TheVariants as element
+use Rattle.place_core.specs.declared.kind.Kind.{Kind}
+use Rattle.place_core.specs.declared.kind.Kind.TheVariants as kind
+use Rattle.place_core.specs.declared.place.Place.{Place}
+use Rattle.place_core.specs.declared.place.Place.TheVariants as place
+use Rattle.text_norm.proofs.FilledMarks.{Leads, block-leads, comment-leads, content-leads, double-leads, name-leads, single-leads, text-leads, unbegun-leads, unquoted-leads}
+use Rattle.text_norm.specs.HoleLaws.{IsBackBy}
+
+-- what the chain promises leads the page on
+abbrev LeadsBy : Chain → LexState ValueState → Type 0
+LeadsBy c s = (datum : Data) (bytes : List ℕ) → IsBackBy c datum bytes → Leads s (printed datum) bytes
+
+abbrev SafeBy : LexState ValueState → Holed → Type 0
+SafeBy s (Ok h) = LeadsBy h.1 s
+SafeBy s (Err e) = Unit {0}
+
+abbrev SafeAt : LexState ValueState → Option Place → Type 0
+SafeAt s (Some p) = SafeBy s (after_hole p)
+SafeAt s None = Unit {0}
+
+in-comment : (s : CommentState) (datum : Data) (bytes : List ℕ) → bytes ≡ [] → Leads (InComment s) (printed datum) bytes
+in-comment s datum bytes e = subst (Leads (InComment s) (printed datum)) (sym e) (comment-leads s (printed datum))
+
+content-safe : (h : Pending) (x : Content) (e : Element) → SafeAt (InContent e x h) (content_spot h x e)
+content-safe Nothing (Characters Closed) element.Title = λ datum bytes k. content-leads element.Title (printed datum) bytes k.1
+content-safe Nothing (Characters Closed) element.Textarea = λ datum bytes k. content-leads element.Textarea (printed datum) bytes k.1
+content-safe Nothing Bytes element.DataBlock = λ datum bytes k. block-leads (printed datum) bytes k.2
+content-safe LessAtCut Bytes element.DataBlock = tt
+content-safe _ _ _ = tt
+
+value-safe : (r : Reference) (v : Value ValueState) (q : Quoting) (tag : Tag)
+    → SafeAt (AttributeValue q tag v r) (where_closed r (value_spot tag (quotes_at q) (value_body v)))
+value-safe Closed (ValueOf kind.Plain) DoubleQuoted tag = λ datum. double-leads tag (printed datum)
+value-safe Closed (ValueOf kind.Plain) SingleQuoted tag = λ datum. single-leads tag (printed datum)
+value-safe Closed (ValueOf kind.Plain) Unquoted tag = λ datum. unquoted-leads tag (printed datum)
+value-safe _ _ _ tag = tt
+
+-- after a name, unless it is a second `type`, where a path is at no place
+after-name-safe : (o : Bool) (tag : Tag) (k : Kind)
+    → SafeAt (AfterAttributeName tag k) (if o then None else Some (place.Tag (tag_spot tag only_after (Some k))))
+after-name-safe true tag k = tt
+after-name-safe false tag k = λ datum bytes p.
+    name-leads (AfterAttributeName tag k) (without_value tag k) (printed datum) bytes p refl (λ p. p.1) (λ u d l. l) refl (λ t. refl) (λ vs. refl)
+
+whole-name-safe : (o : Bool) (tag : Tag) (k : Kind)
+    → SafeAt (WholeAttributeName tag k) (if o then None else Some (place.Tag (tag_spot tag only_inside (Some k))))
+whole-name-safe true tag k = tt
+whole-name-safe false tag k = tt
+
+safe-at : (s : LexState ValueState) → SafeAt s (placed s)
+safe-at (Text Closed) = λ datum bytes k. text-leads (printed datum) bytes k.0
+safe-at (InComment Inside) = in-comment Inside
+safe-at (InComment Broken) = in-comment Broken
+safe-at (BeforeAttributeName tag) = λ datum bytes k.
+    name-leads (BeforeAttributeName tag) tag (printed datum) bytes k refl (λ p. p.1) (λ u d l. l) refl (λ t. refl) (λ vs. refl)
+safe-at (AfterAttributeName tag j) = after-name-safe (is_second_type (is_typed tag) j) tag j
+safe-at (AfterAttributeValue tag) = λ datum bytes k.
+    name-leads (AfterAttributeValue tag) tag (printed datum) bytes k refl (λ p. p.1) (λ u d l. l) refl (λ t. refl) (λ vs. refl)
+safe-at (SelfClosingStartTag tag) = λ datum bytes k.
+    name-leads (SelfClosingStartTag tag) tag (printed datum) bytes k refl (λ p. p.1) (λ u d l. l) refl (λ t. refl) (λ vs. refl)
+safe-at (WholeAttributeName tag k) = whole-name-safe (is_second_type (is_typed tag) k) tag k
+safe-at (BeforeAttributeValue tag kind.Plain) = λ datum. unbegun-leads tag (printed datum)
+safe-at (AttributeValue q tag v r) = value-safe r v q tag
+safe-at (InContent e x h) = content-safe h x e
+safe-at _ = tt
+
+-- a place that accepts a hole, on each path for which it stands
+pub hole-leads : (p q : Place) (c : Chain) (s : LexState ValueState) (datum : Data) (bytes : List ℕ) → IsValid p → IsIn p s → after_hole p ≡ Ok (q, c)
+    → IsBackBy c datum bytes → Leads s (printed datum) bytes
+hole-leads p q c s datum bytes v i accepted k =
+    let own = (covers-hole p q c s v i accepted).1 i.own i.stands in
+    let safe : LeadsBy c s = subst (SafeBy s) own.1 (subst (SafeAt s) i.stands (safe-at s)) in
+    safe datum bytes k
