@@ -6,9 +6,9 @@ use Rattle.place_core.specs.page.References.{Reference, Closed, next_reference}
 use Rattle.place_core.specs.page.Comments.{Declaration, OpensComment, OpensDoctype, Undecided, OpensNothing}
 use Rattle.place_core.specs.place.Errors.{PathCause}
 use Rattle.place_core.specs.page.States.{CommentState, Started, StartedDash, Dash, DashDash, Bang, PendingLess, PendingName, PendingBang, PendingBangDash}
-use Rattle.place_core.specs.page.Tags.{Value, TypeSoFar, ValueState, Quoting, DoubleQuoted, SingleQuoted, Unquoted}
+use Rattle.place_core.specs.page.Tags.{Value, ValueState, Quoting, DoubleQuoted, SingleQuoted, Unquoted}
 use Rattle.place_core.specs.declared.element.Element.TheVariants as element
-use Rattle.html_scan.specs.Scans.{Scan, At, AfterLess, AfterLessSolidus, InDeclaration, InTagName, InAttributeName, InCommentEnd, InContentEnd, BeforeType, InType, type_read}
+use Rattle.html_scan.specs.Scans.{Scan, At, AfterLess, AfterLessSolidus, InDeclaration, InTagName, InAttributeName, InCommentEnd, InContentEnd, BeforeType, InType, type_begun, type_read}
 use Rattle.html_scan.specs.Slices.{pending}
 use Rattle.html_scan.specs.declared.declaration.Declaration.{Declaration as ReadDeclaration}
 use Rattle.html_scan.specs.declared.declaration.Declaration.TheVariants as declaration
@@ -55,7 +55,7 @@ scan_at text k (scan.InContentName e from) = InContentEnd e (PendingName (pendin
 scan_at text k scan.AfterBlockBang = InContentEnd element.DataBlock PendingBang
 scan_at text k scan.AfterBlockBangDash = InContentEnd element.DataBlock PendingBangDash
 scan_at text k (scan.BeforeType t) = BeforeType t
-scan_at text k (scan.InType t q from) = (let read = read_type (TypeSoFar []) Closed (pending text from k) in InType t (quoting_at q) read.0 read.1)
+scan_at text k (scan.InType t q from) = (let read = read_type type_begun Closed (pending text from k) in InType t (quoting_at q) read.0 read.1)
 
 -- how many bytes of the text have been read at least: up to where the name or the value begins, or what is pending
 abbrev pub pending_from : ReadScan → ℕ

@@ -1,7 +1,7 @@
 -- How a text is stepped, byte by byte, for all the paths that stand at a place together. Between lexemes they are at a place, which has sets; in
 -- a lexeme they are all in the same one. What is left out of the states of the lexer is what no place depends on: references, and what a
 -- quoted value has pending so far.
-use Rattle.std.specs.Prelude.{ℕ, Bool, true, false, ◌||◌, List, [], ◌∷◌, ◌++◌, length, Option, Some, None, if◌then◌else◌}
+use Rattle.std.specs.Prelude.{ℕ, Bool, true, false, ◌||◌, List, [], ◌∷◌, ◌++◌, length, Option, Some, None}
 use Rattle.std.specs.Char.{to_ascii_lowercase}
 use Rattle.place_core.specs.page.Classes.{Class, White, ExclamationMark, QuotationMark, Apostrophe, HyphenMinus, Solidus, LessThan, EqualsSign, GreaterThan, Letter, class_of}
 use Rattle.place_core.specs.page.Comments.{Declaration, OpensComment, OpensDoctype, Undecided, OpensNothing, declared_by, next_comment, closes_comment}
@@ -9,10 +9,10 @@ use Rattle.place_core.specs.page.Contents.{may_be_name_of, is_name_of}
 use Rattle.place_core.specs.place.Errors.{PathCause, place_error, at_hand, quotes_error, block_byte_error, block_cut_error, tag_name_error, attribute_name_error, unless_second}
 use Rattle.place_core.specs.page.Html.{ends_value}
 use Rattle.place_core.specs.page.References.{Reference, Closed, next_reference, undone_byte, settled}
-use Rattle.place_core.specs.place.StatePlaces.{tag_of, only_name, only_before, only_inside, only_after, unbegun, body_at, quotes_at}
+use Rattle.place_core.specs.place.StatePlaces.{only_name, only_before, only_inside, only_after, unbegun, body_at, quotes_at}
 use Rattle.place_core.specs.page.States.{CommentState, Started, Inside, Broken, Pending, PendingLess, PendingName, PendingBang, PendingBangDash}
-use Rattle.place_core.specs.page.Tags.{is_second_type, first_kind, tag_named, Value, TypeSoFar, ValueState, languages, with_bytes, Quoting, DoubleQuoted, SingleQuoted, Unquoted}
-use Rattle.place_core.specs.page.Words.{kind_of, is_script_type}
+use Rattle.place_core.specs.page.Tags.{is_second_type, is_start, tag_of_name, element_on, Value, ValueState, languages, attribute_value_of, with_bytes, tag_with_value, Quoting, DoubleQuoted, SingleQuoted, Unquoted}
+use Rattle.place_core.specs.page.Words.{kind_of}
 use Rattle.place_core.specs.declared.body.Body.{Body}
 use Rattle.place_core.specs.declared.code.Code.TheVariants as code
 use Rattle.place_core.specs.declared.element.Element.{Element}
@@ -47,23 +47,22 @@ pub data Scan : Type 0 where
   BeforeType : TagOf → Scan
   InType : TagOf → Quoting → Value ValueState → Reference → Scan
 
-abbrev pub tag_element : TagOf → Element
-tag_element tag.End = element.Other
-tag_element (tag.Start e) = e
-
 abbrev pub typed_with : TagOf → Bool → Kind → Bool
-typed_with (tag.Start e) typed kind.ScriptType = true
+typed_with t typed kind.ScriptType = is_start t || typed
 typed_with t typed k = typed
 
 abbrev pub in_tag : TagOf → Bool → Spots → Option Kind → Scan
 in_tag t typed spots k = At (place.Tag (record { tag = t; typed = typed; spots = spots; kind = k }))
 
--- after the end of a tag
+-- after the end of a tag; behind that of a script or a style, which is refused, nothing is scanned
 abbrev pub content_scan : TagOf → Scan
+content_scan tag.End = At place.Text
 content_scan (tag.Start element.Title) = At (place.Rcdata element.Title)
 content_scan (tag.Start element.Textarea) = At (place.Rcdata element.Textarea)
+content_scan (tag.Start element.Style) = At place.Text
+content_scan (tag.Start element.Script) = At place.Text
 content_scan (tag.Start element.DataBlock) = At (place.Block false)
-content_scan t = At place.Text
+content_scan (tag.Start element.Other) = At place.Text
 
 -- where a value begins after an equals sign; a value of a kind that is not built is refused
 abbrev pub body_scan : TagOf → Bool → Option Body → Scan
@@ -150,19 +149,13 @@ quoted_next v quotes.Sq Apostrophe = in_tag v.tag v.typed only_before None
 quoted_next v (quotes.Bare b) c = bare_next v b.uq c
 quoted_next v q c = with_quotes v q
 
--- The value of a script's `type`: the tag after it, by what the value is. Behind it a `type` has been seen, but in an end tag, of which none is
--- remembered.
-abbrev pub tag_by_type : TagOf → Bool → TagOf
-tag_by_type (tag.Start element.Script) false = tag.Start element.DataBlock
-tag_by_type t of_script = t
+-- The value of a script's `type`: where it begins, and the tag after it, by what the value is. Behind it a `type` has been seen, but in an
+-- end tag, of which none is remembered.
+abbrev pub type_begun : Value ValueState
+type_begun = attribute_value_of languages kind.ScriptType
 
 abbrev pub type_tag : TagOf → Value ValueState → TagOf
-type_tag t (TypeSoFar value) = tag_by_type t (is_script_type value)
-type_tag t v = t
-
-abbrev pub type_typed : TagOf → Bool
-type_typed tag.End = false
-type_typed (tag.Start e) = true
+type_tag t v = (tag_with_value (record { tag = t; typed = false }) v).tag
 
 -- a byte of it
 abbrev pub type_read : Value ValueState → Reference → ℕ → Value ValueState
@@ -173,14 +166,14 @@ in_type t q v r b = InType t q (type_read v r b) (next_reference r (class_of b) 
 
 abbrev pub before_type_next : Class → ℕ → TagOf → Scan
 before_type_next White b t = BeforeType t
-before_type_next QuotationMark b t = InType t DoubleQuoted (TypeSoFar []) Closed
-before_type_next Apostrophe b t = InType t SingleQuoted (TypeSoFar []) Closed
-before_type_next GreaterThan b t = content_scan (type_tag t (TypeSoFar []))
-before_type_next c b t = in_type t Unquoted (TypeSoFar []) Closed b
+before_type_next QuotationMark b t = InType t DoubleQuoted type_begun Closed
+before_type_next Apostrophe b t = InType t SingleQuoted type_begun Closed
+before_type_next GreaterThan b t = content_scan (type_tag t type_begun)
+before_type_next c b t = in_type t Unquoted type_begun Closed b
 
 abbrev pub after_type : Quoting → Class → TagOf → Scan
 after_type Unquoted GreaterThan t = content_scan t
-after_type q c t = in_tag t (type_typed t) only_before None
+after_type q c t = in_tag t (is_start t) only_before None
 
 -- the first argument says whether the byte ends the value
 abbrev pub ended_type : Value ValueState → Reference → Value ValueState
@@ -218,9 +211,9 @@ declaration_next Undecided c b pending = InDeclaration (pending ++ b ∷ [])
 declaration_next OpensNothing c b pending = text_scan c
 
 abbrev pub tag_name_next : Class → ℕ → Bool → List ℕ → Scan
-tag_name_next White b ends name = in_tag (tag_of (tag_named ends name)) false only_before None
-tag_name_next Solidus b ends name = in_tag (tag_of (tag_named ends name)) false only_before None
-tag_name_next GreaterThan b ends name = content_scan (tag_of (tag_named ends name))
+tag_name_next White b ends name = in_tag (tag_of_name ends name) false only_before None
+tag_name_next Solidus b ends name = in_tag (tag_of_name ends name) false only_before None
+tag_name_next GreaterThan b ends name = content_scan (tag_of_name ends name)
 tag_name_next c b ends name = InTagName ends (name ++ to_ascii_lowercase b ∷ [])
 
 -- the argument of a kind is that of the name so far
@@ -255,7 +248,7 @@ scan_next AfterLess c b = less_next c b
 scan_next AfterLessSolidus c b = solidus_next c b
 scan_next (InDeclaration pending) c b = declaration_next (declared_by (pending ++ b ∷ [])) c b pending
 scan_next (InTagName ends name) c b = tag_name_next c b ends name
-scan_next (InAttributeName t typed name) c b = attribute_name_next c b t typed (kind_of (tag_element t) name) name
+scan_next (InAttributeName t typed name) c b = attribute_name_next c b t typed (kind_of (element_on t) name) name
 scan_next (InCommentEnd s) c b = comment_next c s
 scan_next (InContentEnd e h) c b = content_end_next h c b e
 scan_next (BeforeType t) c b = before_type_next c b t
@@ -267,8 +260,8 @@ content_end_error e h c = None
 
 abbrev pub scan_error : Scan → Class → ℕ → Option PathCause
 scan_error (At p) c b = at_hand (place_error p c b)
-scan_error (InTagName ends name) c b = at_hand (tag_name_error (tag_of (tag_named ends name)) c)
-scan_error (InAttributeName t typed name) c b = attribute_name_error t typed (kind_of (tag_element t) name) (length name) c
+scan_error (InTagName ends name) c b = at_hand (tag_name_error (tag_of_name ends name) c)
+scan_error (InAttributeName t typed name) c b = attribute_name_error t typed (kind_of (element_on t) name) (length name) c
 scan_error AfterLess c b = None
 scan_error AfterLessSolidus c b = None
 scan_error (InDeclaration pending) c b = None
@@ -290,8 +283,8 @@ scan_place (At p) = p
 scan_place AfterLess = place.Text
 scan_place AfterLessSolidus = place.Text
 scan_place (InDeclaration pending) = place.Text
-scan_place (InTagName ends name) = place.Tag (record { tag = tag_of (tag_named ends name); typed = false; spots = only_name; kind = None })
-scan_place (InAttributeName t typed name) = whole_name_place t typed (first_kind typed (kind_of (tag_element t) name))
+scan_place (InTagName ends name) = place.Tag (record { tag = tag_of_name ends name; typed = false; spots = only_name; kind = None })
+scan_place (InAttributeName t typed name) = whole_name_place t typed (kind_of (element_on t) name)
 scan_place (InCommentEnd s) = place.Comment true
 scan_place (InContentEnd e h) = content_end_place e h
 scan_place (BeforeType t) = place.Text
@@ -308,7 +301,7 @@ content_cut_error element.DataBlock h = block_cut_error h
 content_cut_error e h = None
 
 abbrev pub scan_cut_error : Scan → Option PathCause
-scan_cut_error (InAttributeName t typed name) = unless_second (is_second_type typed (kind_of (tag_element t) name)) (length name) None
+scan_cut_error (InAttributeName t typed name) = unless_second (is_second_type typed (kind_of (element_on t) name)) (length name) None
 scan_cut_error (At p) = None
 scan_cut_error AfterLess = None
 scan_cut_error AfterLessSolidus = None

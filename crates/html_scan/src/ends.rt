@@ -1,5 +1,4 @@
 ghost use Rattle.std.specs.Prelude.{◌≡◌, ◌≤◌, ℕ, List, is_some, length};
-ghost use Rattle.place_core.specs.page.Tags.{first_kind};
 ghost use Rattle.html_scan.specs.ScanViews.{scan_at, pending_from};
 ghost use Rattle.html_scan.specs.Scans.{scan_place, scan_shown};
 
@@ -8,7 +7,7 @@ use crate::names::{kind_on, tag_named};
 use crate::scan::Scan;
 use crate::slices::pending;
 use crate::tags::{whole_attribute_name, whole_tag_name};
-use place_core::{Element, Kind, Place};
+use place_core::{Element, Place};
 
 /// The place where a text ends.
 pub fn end_place(text: &[u8], scan: Scan) -> Place
@@ -24,7 +23,7 @@ pub fn end_place(text: &[u8], scan: Scan) -> Place
         )),
         Scan::InAttributeName { tag, typed, from } => {
             let kind = kind_on(tag, pending(text, from, text.len()));
-            whole_attribute_name(tag, typed, first(typed, kind))
+            whole_attribute_name(tag, typed, kind)
         }
         Scan::InCommentEnd(_) => Place::Comment(true),
         Scan::AfterContentLess(Element::DataBlock) => Place::Block(true),
@@ -57,15 +56,5 @@ pub fn is_shown(scan: Scan) -> bool
     match scan {
         Scan::BeforeType(_) | Scan::InType { .. } => false,
         _ => true,
-    }
-}
-
-// The kind of an attribute, of which a second `type` decides nothing.
-fn first(typed: bool, kind: Kind) -> Kind
-    ensures { result ≡ first_kind typed kind }
-{
-    match kind {
-        Kind::ScriptType if typed => Kind::NoHole,
-        _ => kind,
     }
 }

@@ -2,11 +2,9 @@ ghost use Rattle.std.specs.Prelude.{◌≡◌, ◌≤◌, IfSome, length, if◌t
 ghost use Rattle.place_core.specs.declared.code.Code.TheVariants as code;
 ghost use Rattle.place_core.specs.place.Errors.{attribute_name_error, bare_error, block_byte_error, block_error, body_error, comment_error, content_error, equals_error, kind_error, place_error, quotes_error, tag_error, tag_name_error, unless_second, value_error};
 ghost use Rattle.std.specs.Str.{str_to_ascii_lowercase as lower};
-ghost use Rattle.place_core.specs.place.StatePlaces.{tag_of};
-ghost use Rattle.place_core.specs.page.Tags.{is_second_type};
+ghost use Rattle.place_core.specs.page.Tags.{element_on, is_second_type};
 ghost use Rattle.place_core.specs.page.States.{PendingBangDash};
 ghost use Rattle.place_core.specs.page.Words.{kind_of};
-ghost use Rattle.html_scan.specs.Scans.{tag_element};
 ghost use Rattle.html_scan.specs.ClassViews.{class_at};
 ghost use Rattle.html_scan.specs.ScanViews.{cause_at};
 ghost use Rattle.place_core.specs.place.Errors as spec;
@@ -34,8 +32,7 @@ pub fn at_place(place: Place, class: Class, byte: u8) -> Option<Code>
 
 /// Why a byte is refused in the name of a tag, of which this has been read.
 pub fn in_tag_name(ends: bool, name: &[u8], class: Class) -> Option<Code>
-    ensures { result ≡ tag_name_error (tag_of (tags.tag_named ends (lower name.now)))
-        (class_at class) }
+    ensures { result ≡ tag_name_error (tags.tag_of_name ends (lower name.now)) (class_at class) }
 {
     match class {
         Class::QuotationMark | Class::Apostrophe | Class::LessThan => Some(Code::BadHTML),
@@ -47,7 +44,7 @@ pub fn in_tag_name(ends: bool, name: &[u8], class: Class) -> Option<Code>
 /// Why a byte is refused in the name of an attribute, of which this has been read.
 pub fn in_attribute_name(tag: TagOf, typed: bool, name: &[u8], class: Class) -> Option<Cause>
     ensures error { cause_at result ≡ attribute_name_error tag typed
-        (kind_of (tag_element tag) (lower name.now)) (length name.now) (class_at class) }
+        (kind_of (element_on tag) (lower name.now)) (length name.now) (class_at class) }
     ensures bound { IfSome result (λ cause.
         (cause.back ≤ length name.now) × (cause.shown ≤ length name.now)) }
 {

@@ -1,8 +1,6 @@
 ghost use Rattle.std.specs.Prelude.{◌≡◌};
 ghost use Rattle.std.specs.Str.{str_to_ascii_lowercase as lower};
-ghost use Rattle.place_core.specs.place.StatePlaces.{tag_of};
 ghost use Rattle.place_core.specs.page.Words.{kind_of};
-ghost use Rattle.html_scan.specs.Scans.{tag_element};
 ghost use Rattle.place_core.specs.page.Contents as spec;
 ghost use Rattle.place_core.specs.page.Tags as tags;
 
@@ -11,7 +9,7 @@ use place_core::{Element, Kind, TagOf};
 
 /// The tag of this name, in any case; an end tag or not.
 pub fn tag_named(ends: bool, name: &[u8]) -> TagOf
-    ensures { result ≡ tag_of (tags.tag_named ends (lower name.now)) }
+    ensures { result ≡ tags.tag_of_name ends (lower name.now) }
 {
     if ends {
         return TagOf::End;
@@ -39,7 +37,7 @@ fn element_of(name: &[u8]) -> Element
 
 /// The element on which the attributes of a tag stand; those of an end tag are as on any other element.
 pub fn element_on(tag: TagOf) -> Element
-    ensures { result ≡ tag_element tag }
+    ensures { result ≡ tags.element_on tag }
 {
     match tag {
         TagOf::End => Element::Other,
@@ -49,7 +47,7 @@ pub fn element_on(tag: TagOf) -> Element
 
 /// The kind of an attribute of this tag, by its name in any case.
 pub fn kind_on(tag: TagOf, name: &[u8]) -> Kind
-    ensures { result ≡ kind_of (tag_element tag) (lower name.now) }
+    ensures { result ≡ kind_of (tags.element_on tag) (lower name.now) }
 {
     name_kind(name, element_on(tag))
 }

@@ -1,12 +1,13 @@
 ghost use Rattle.std.specs.Prelude.{◌≡◌, ◌+◌, ◌<◌, ◌≤◌, ℕ, List, get_or, length, Some, None, false};
 ghost use Rattle.std.specs.Str.{str_to_ascii_lowercase as lower};
-ghost use Rattle.place_core.specs.place.StatePlaces.{only_after, only_before, only_inside, only_name};
+ghost use Rattle.place_core.specs.place.StatePlaces.{only_after, only_before, only_name};
 ghost use Rattle.place_core.specs.page.Words.{kind_of};
 ghost use Rattle.html_scan.specs.ClassViews.{class_at};
 ghost use Rattle.html_scan.specs.ScanViews.{scan_at, pending_from};
-ghost use Rattle.html_scan.specs.Scans.{At, attribute_name_next, body_scan, content_scan, tag_element, tag_name_next, tag_next, value_scan};
+ghost use Rattle.html_scan.specs.Scans.{At, attribute_name_next, body_scan, content_scan, tag_name_next, tag_next, value_scan};
 ghost use Rattle.html_scan.specs.Slices.{pending};
 ghost use Rattle.html_scan.specs.Scans as spec;
+ghost use Rattle.place_core.specs.page.Tags as tags;
 
 use crate::class::Class;
 use crate::names::{kind_on, tag_named};
@@ -69,7 +70,7 @@ pub fn content(tag: TagOf) -> Place
         TagOf::Start(Element::Title) => Place::Rcdata(Element::Title),
         TagOf::Start(Element::Textarea) => Place::Rcdata(Element::Textarea),
         TagOf::Start(Element::DataBlock) => Place::Block(false),
-        _ => Place::Text,
+        TagOf::Start(Element::Style | Element::Script | Element::Other) | TagOf::End => Place::Text,
     }
 }
 
@@ -104,7 +105,7 @@ pub fn in_attribute_name(class: Class, tag: TagOf, typed: bool, name: &[u8], fro
     ensures scan { (text : List ℕ) (k : ℕ) → from ≤ k → k < length text
         → name.now ≡ pending text from k → scan_at text (k + 1) result
         ≡ attribute_name_next (class_at class) (get_or text k 0) tag typed
-        (kind_of (tag_element tag) (lower name.now)) (lower name.now) }
+        (kind_of (tags.element_on tag) (lower name.now)) (lower name.now) }
     ensures pending { pending_from result ≤ from }
 {
     match class {

@@ -1,13 +1,14 @@
-ghost use Rattle.std.specs.Prelude.{◌≡◌, ◌+◌, ◌^◌, ◌<◌, ◌≤◌, ℕ, List, [], get_or, length};
+ghost use Rattle.std.specs.Prelude.{◌≡◌, ◌+◌, ◌^◌, ◌<◌, ◌≤◌, ℕ, List, get_or, length};
 ghost use Rattle.place_core.specs.page.References.{Closed};
-ghost use Rattle.place_core.specs.page.Tags.{TypeSoFar};
+ghost use Rattle.place_core.specs.page.Tags.{is_start};
 ghost use Rattle.html_scan.specs.ClassViews.{class_at};
 ghost use Rattle.html_scan.specs.ScanViews.{quoting_at, read_type, scan_at, pending_from};
-ghost use Rattle.html_scan.specs.Scans.{before_type_next, ended_type, type_next, type_typed};
+ghost use Rattle.html_scan.specs.Scans.{before_type_next, ended_type, type_begun, type_next};
 ghost use Rattle.html_scan.specs.Slices.{pending};
 ghost use Rattle.html_scan.specs.Scans as spec;
 ghost use Rattle.html_scan.specs.declared.scan.Scan.TheVariants as scan;
 ghost use Rattle.place_core.specs.page.Html as html;
+ghost use Rattle.place_core.specs.page.Tags as tags;
 
 use crate::class::Class;
 use crate::quoting::Quoting;
@@ -18,7 +19,7 @@ use place_core::{Element, TagOf};
 
 /// The tag after the value of a script's `type`, by that value as it is written.
 pub fn type_tag(tag: TagOf, value: &[u8]) -> TagOf
-    ensures { let read = read_type (TypeSoFar []) Closed value.now
+    ensures { let read = read_type type_begun Closed value.now
         in result ≡ spec.type_tag tag (ended_type read.0 read.1) }
 {
     tag_by_type(tag, script_type_in_value(value))
@@ -26,7 +27,7 @@ pub fn type_tag(tag: TagOf, value: &[u8]) -> TagOf
 
 // The tag after a `type`, which is a script's or not: that decides the content of a script element.
 fn tag_by_type(tag: TagOf, of_script: bool) -> TagOf
-    ensures { result ≡ spec.tag_by_type tag of_script }
+    ensures { result ≡ tags.tag_by_type tag of_script }
 {
     match tag {
         TagOf::Start(Element::Script) if !of_script => TagOf::Start(Element::DataBlock),
@@ -36,7 +37,7 @@ fn tag_by_type(tag: TagOf, of_script: bool) -> TagOf
 
 // Whether a `type` has been seen after its value.
 fn typed_after(tag: TagOf) -> bool
-    ensures { result ≡ type_typed tag }
+    ensures { result ≡ is_start tag }
 {
     match tag {
         TagOf::End => false,
@@ -70,7 +71,7 @@ fn begins(tag: TagOf, quoting: Quoting, from: usize) -> Scan
 /// In the value of a script's `type`, of which this has been read.
 pub fn in_type(class: Class, tag: TagOf, quoting: Quoting, value: &[u8], from: usize) -> Scan
     ensures scan { (text : List ℕ) (k : ℕ) → from ≤ k → k < length text
-        → value.now ≡ pending text from k → let read = read_type (TypeSoFar []) Closed value.now
+        → value.now ≡ pending text from k → let read = read_type type_begun Closed value.now
         in scan_at text (k + 1) result
         ≡ type_next (html.ends_value (quoting_at quoting) (class_at class)) (class_at class)
         (get_or text k 0) tag (quoting_at quoting) read.0 read.1 }

@@ -5,7 +5,7 @@ use Rattle.place_core.specs.page.Classes.{Class, White}
 use Rattle.place_core.specs.place.Errors.{body_error, byte_clash, quotes_error, value_error, begun_clash}
 use Rattle.place_core.specs.place.Places.{Has, quotes_have}
 use Rattle.place_core.specs.page.States.{LexState, Text, TagOpen, EndTagOpen, DeclarationOpen, InComment, Inside, Broken, BogusComment, InDoctype, TagName, WholeTagName, BeforeAttributeName, AttributeName, WholeAttributeName, AfterAttributeName, BeforeAttributeValue, AttributeValue, AfterAttributeValue, SelfClosingStartTag, Characters, Bytes, Nothing, PendingLess, PendingName, PendingBang, PendingBangDash, InContent, Unread, LessAtCut}
-use Rattle.place_core.specs.page.Tags.{ValueOf, TypeSoFar, ValueState, DoubleQuoted, SingleQuoted, Unquoted, Tag, is_typed, is_second_type}
+use Rattle.place_core.specs.page.Tags.{ValueOf, Deciding, ValueState, DoubleQuoted, SingleQuoted, Unquoted, Tag, is_second_type}
 use Rattle.place_core.specs.declared.code.Code.{Code}
 use Rattle.place_core.specs.declared.code.Code.TheVariants as code
 use Rattle.place_core.specs.declared.element.Element.TheVariants as element
@@ -55,11 +55,11 @@ unquoted-in (TagName ends name) = λ h. absurd (no h)
 unquoted-in (WholeTagName t) = λ h. absurd (no h)
 unquoted-in (BeforeAttributeName t) = λ h. absurd (no h)
 unquoted-in (AttributeName t name) = λ h. absurd (no h)
-unquoted-in (WholeAttributeName t k) = first-where (is_second_type (is_typed t) k) _ (λ f. ScanHas f member.UnquotedValue → IsUnquoted (WholeAttributeName t k)) (λ h. absurd (no h))
-unquoted-in (AfterAttributeName t k) = first-where (is_second_type (is_typed t) k) _ (λ f. ScanHas f member.UnquotedValue → IsUnquoted (AfterAttributeName t k)) (λ h. absurd (no h))
+unquoted-in (WholeAttributeName t k) = first-where (is_second_type t.typed k) _ (λ f. ScanHas f member.UnquotedValue → IsUnquoted (WholeAttributeName t k)) (λ h. absurd (no h))
+unquoted-in (AfterAttributeName t k) = first-where (is_second_type t.typed k) _ (λ f. ScanHas f member.UnquotedValue → IsUnquoted (AfterAttributeName t k)) (λ h. absurd (no h))
 unquoted-in (BeforeAttributeValue t kind.Plain) = λ h. absurd (no h)
 unquoted-in (BeforeAttributeValue t kind.NoHole) = λ h. absurd (no h)
-unquoted-in (BeforeAttributeValue t kind.ScriptType) = first-where (is_typed t) _ (λ f. ScanHas f member.UnquotedValue → IsUnquoted (BeforeAttributeValue t kind.ScriptType)) (λ h. absurd (no h))
+unquoted-in (BeforeAttributeValue t kind.ScriptType) = first-where t.typed _ (λ f. ScanHas f member.UnquotedValue → IsUnquoted (BeforeAttributeValue t kind.ScriptType)) (λ h. absurd (no h))
 unquoted-in (BeforeAttributeValue t _) = tt
 unquoted-in (AttributeValue Unquoted t (ValueOf kind.Plain) r) = λ h. tt
 unquoted-in (AttributeValue Unquoted t (ValueOf kind.NoHole) r) = λ h. tt
@@ -68,7 +68,8 @@ unquoted-in (AttributeValue DoubleQuoted t (ValueOf kind.NoHole) r) = λ h. absu
 unquoted-in (AttributeValue SingleQuoted t (ValueOf kind.Plain) r) = λ h. absurd (no h)
 unquoted-in (AttributeValue SingleQuoted t (ValueOf kind.NoHole) r) = λ h. absurd (no h)
 unquoted-in (AttributeValue q t (ValueOf _) r) = tt
-unquoted-in (AttributeValue q t (TypeSoFar before) r) = first-where (is_typed t) _ (λ f. ScanHas f member.UnquotedValue → IsUnquoted (AttributeValue q t (TypeSoFar before) r)) (λ h. absurd (no h))
+unquoted-in (AttributeValue q t (Deciding kind.ScriptType before) r) = first-where t.typed _ (λ f. ScanHas f member.UnquotedValue → IsUnquoted (AttributeValue q t (Deciding kind.ScriptType before) r)) (λ h. absurd (no h))
+unquoted-in (AttributeValue q t (Deciding _ before) r) = tt
 unquoted-in (AfterAttributeValue t) = λ h. absurd (no h)
 unquoted-in (SelfClosingStartTag t) = λ h. absurd (no h)
 unquoted-in (InContent element.Title (Characters r) Nothing) = λ h. absurd (no h)
@@ -111,11 +112,11 @@ unbegun-in (TagName ends name) = λ h. absurd (no h)
 unbegun-in (WholeTagName t) = λ h. absurd (no h)
 unbegun-in (BeforeAttributeName t) = λ h. absurd (no h)
 unbegun-in (AttributeName t name) = λ h. absurd (no h)
-unbegun-in (WholeAttributeName t k) = first-where (is_second_type (is_typed t) k) _ (λ f. ScanHas f member.UnbegunValue → IsUnbegun (WholeAttributeName t k)) (λ h. absurd (no h))
-unbegun-in (AfterAttributeName t k) = first-where (is_second_type (is_typed t) k) _ (λ f. ScanHas f member.UnbegunValue → IsUnbegun (AfterAttributeName t k)) (λ h. absurd (no h))
+unbegun-in (WholeAttributeName t k) = first-where (is_second_type t.typed k) _ (λ f. ScanHas f member.UnbegunValue → IsUnbegun (WholeAttributeName t k)) (λ h. absurd (no h))
+unbegun-in (AfterAttributeName t k) = first-where (is_second_type t.typed k) _ (λ f. ScanHas f member.UnbegunValue → IsUnbegun (AfterAttributeName t k)) (λ h. absurd (no h))
 unbegun-in (BeforeAttributeValue t kind.Plain) = λ h. tt
 unbegun-in (BeforeAttributeValue t kind.NoHole) = λ h. tt
-unbegun-in (BeforeAttributeValue t kind.ScriptType) = first-where (is_typed t) _ (λ f. ScanHas f member.UnbegunValue → IsUnbegun (BeforeAttributeValue t kind.ScriptType)) (λ h. absurd (no h))
+unbegun-in (BeforeAttributeValue t kind.ScriptType) = first-where t.typed _ (λ f. ScanHas f member.UnbegunValue → IsUnbegun (BeforeAttributeValue t kind.ScriptType)) (λ h. absurd (no h))
 unbegun-in (BeforeAttributeValue t _) = tt
 unbegun-in (AttributeValue Unquoted t (ValueOf kind.Plain) r) = λ h. absurd (no h)
 unbegun-in (AttributeValue Unquoted t (ValueOf kind.NoHole) r) = λ h. absurd (no h)
@@ -124,7 +125,8 @@ unbegun-in (AttributeValue DoubleQuoted t (ValueOf kind.NoHole) r) = λ h. absur
 unbegun-in (AttributeValue SingleQuoted t (ValueOf kind.Plain) r) = λ h. absurd (no h)
 unbegun-in (AttributeValue SingleQuoted t (ValueOf kind.NoHole) r) = λ h. absurd (no h)
 unbegun-in (AttributeValue q t (ValueOf _) r) = tt
-unbegun-in (AttributeValue q t (TypeSoFar before) r) = first-where (is_typed t) _ (λ f. ScanHas f member.UnbegunValue → IsUnbegun (AttributeValue q t (TypeSoFar before) r)) (λ h. absurd (no h))
+unbegun-in (AttributeValue q t (Deciding kind.ScriptType before) r) = first-where t.typed _ (λ f. ScanHas f member.UnbegunValue → IsUnbegun (AttributeValue q t (Deciding kind.ScriptType before) r)) (λ h. absurd (no h))
+unbegun-in (AttributeValue q t (Deciding _ before) r) = tt
 unbegun-in (AfterAttributeValue t) = λ h. absurd (no h)
 unbegun-in (SelfClosingStartTag t) = λ h. absurd (no h)
 unbegun-in (InContent element.Title (Characters r) Nothing) = λ h. absurd (no h)
@@ -181,7 +183,7 @@ is-begun _ t e h = tt
 before-clash : (t : Tag) (k : Kind) (r : LexState ValueState) (c : Class) (b : ℕ) (e : Code) → byte_clash (BeforeAttributeValue t k) r c b ≡ Some e → (c ≡ White) × IsUnbegun (BeforeAttributeValue t k) × IsUnquoted r
 before-clash t k (AttributeValue Unquoted u (ValueOf v) x) White b e h = (refl, is-begun k t e h, tt)
 before-clash t k (AttributeValue Unquoted u (ValueOf v) x) _ b e h = absurd (none-some e h)
-before-clash t k (AttributeValue Unquoted u (TypeSoFar before) x) c b e h = absurd (none-some e h)
+before-clash t k (AttributeValue Unquoted u (Deciding j before) x) c b e h = absurd (none-some e h)
 before-clash t k (AttributeValue _ u v x) c b e h = absurd (none-some e h)
 before-clash t k _ c b e h = absurd (none-some e h)
 
@@ -193,7 +195,7 @@ unquoted-clash t v x _ c b e h = absurd (none-some e h)
 pub clash-is : (s r : LexState ValueState) (c : Class) (b : ℕ) (e : Code) → byte_clash s r c b ≡ Some e → (c ≡ White) × ((IsUnbegun s × IsUnquoted r) ⊎ (IsUnquoted s × IsUnbegun r))
 clash-is (BeforeAttributeValue t k) r c b e h = let p = before-clash t k r c b e h in (p.0, inl (p.1, p.2))
 clash-is (AttributeValue Unquoted t (ValueOf v) x) r c b e h = let p = unquoted-clash t v x r c b e h in (p.0, inr (tt, p.1))
-clash-is (AttributeValue Unquoted t (TypeSoFar before) x) r c b e h = absurd (none-some e h)
+clash-is (AttributeValue Unquoted t (Deciding k before) x) r c b e h = absurd (none-some e h)
 clash-is (AttributeValue _ t v x) r c b e h = absurd (none-some e h)
 clash-is _ r c b e h = absurd (none-some e h)
 
@@ -202,7 +204,7 @@ unquoted-bears : (s : LexState ValueState) → IsUnquoted s → WhereScanned (sc
 unquoted-bears (AttributeValue Unquoted t (ValueOf kind.Plain) r) a = refl
 unquoted-bears (AttributeValue Unquoted t (ValueOf kind.NoHole) r) a = refl
 unquoted-bears (AttributeValue Unquoted t (ValueOf _) r) a = tt
-unquoted-bears (AttributeValue Unquoted t (TypeSoFar before) r) a = absurd a
+unquoted-bears (AttributeValue Unquoted t (Deciding k before) r) a = absurd a
 unquoted-bears (AttributeValue _ t v r) a = absurd a
 unquoted-bears _ a = absurd a
 

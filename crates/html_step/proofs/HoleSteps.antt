@@ -5,7 +5,7 @@ use Rattle.place_core.specs.page.Paths.{at_hole}
 use Rattle.place_core.specs.page.References.{Closed, Open}
 use Rattle.place_core.specs.place.StatePlaces.{placed, tag_spot, only_inside, only_after}
 use Rattle.place_core.specs.page.States.{LexState, Text, TagOpen, EndTagOpen, DeclarationOpen, InComment, Started, StartedDash, Inside, Dash, DashDash, Bang, Broken, BogusComment, InDoctype, TagName, WholeTagName, BeforeAttributeName, AttributeName, WholeAttributeName, AfterAttributeName, BeforeAttributeValue, AttributeValue, AfterAttributeValue, SelfClosingStartTag, Characters, Bytes, Nothing, PendingLess, PendingName, PendingBang, PendingBangDash, InContent, Unread, LessAtCut}
-use Rattle.place_core.specs.page.Tags.{Tag, ValueOf, TypeSoFar, ValueState, languages, Quoting, DoubleQuoted, SingleQuoted, Unquoted, is_typed, is_second_type}
+use Rattle.place_core.specs.page.Tags.{Tag, ValueOf, Deciding, ValueState, languages, Quoting, DoubleQuoted, SingleQuoted, Unquoted, is_second_type}
 use Rattle.place_core.specs.declared.element.Element.TheVariants as element
 use Rattle.place_core.specs.declared.kind.Kind.{Kind}
 use Rattle.place_core.specs.declared.kind.Kind.TheVariants as kind
@@ -69,11 +69,11 @@ own-hole (TagName ends name) = tt
 own-hole (WholeTagName t) = refl
 own-hole (BeforeAttributeName t) = (refl, refl)
 own-hole (AttributeName t name) = tt
-own-hole (WholeAttributeName t k) = whole-own (is_second_type (is_typed t) k) t k
-own-hole (AfterAttributeName t k) = after-own (is_second_type (is_typed t) k) t k
+own-hole (WholeAttributeName t k) = whole-own (is_second_type t.typed k) t k
+own-hole (AfterAttributeName t k) = after-own (is_second_type t.typed k) t k
 own-hole (BeforeAttributeValue t k) = before-own t k
 own-hole (AttributeValue q t (ValueOf k) Closed) = value-own q t k
-own-hole (AttributeValue q t (TypeSoFar before) Closed) = tt
+own-hole (AttributeValue q t (Deciding k before) Closed) = tt
 own-hole (AttributeValue q t v (Open f bytes)) = tt
 own-hole (AfterAttributeValue t) = (refl, refl)
 own-hole (SelfClosingStartTag t) = (refl, refl)

@@ -1,17 +1,17 @@
 -- Where a text is stepped from the place of one path, the steps are the path's own.
-use Rattle.std.proofs.Common.{◌≡◌, ℕ, Bool, true, false, List, [], ◌∷◌, ◌++◌, length, Option, Some, None, refl, sym, ap, ◌∙◌, subst}
-use Rattle.std.specs.Prelude.{⊤, ◌+◌, ◌-◌, encode_utf8, if◌then◌else◌}
+use Rattle.std.proofs.Common.{◌≡◌, ℕ, Bool, true, false, List, [], ◌∷◌, ◌++◌, length, Option, Some, None, refl, sym, ap, ◌∙◌}
+use Rattle.std.specs.Prelude.{⊤, ◌||◌, ◌+◌, ◌-◌, encode_utf8, if◌then◌else◌}
 use Rattle.std.specs.Option.{option_map}
 use Rattle.place_core.specs.page.Classes.{Class, White, QuotationMark, Ampersand, Apostrophe, HyphenMinus, Solidus, LessThan, EqualsSign, GreaterThan, GraveAccent, Letter, ExclamationMark, class_of, is_equals_sign}
 use Rattle.place_core.specs.page.Comments.{OpensComment, OpensDoctype, Undecided, OpensNothing, Declaration, declared_by}
 use Rattle.place_core.specs.page.Contents.{may_be_name_of, is_name_of, next_loose, next_less, next_end_name, next_bang}
-use Rattle.place_core.specs.place.Errors.{byte_error, cut_error, at_hand, unless_second, content_error, kind_error, body_error, tag_error, bare_error, quotes_error, attribute_name_error, PathCause, fed_error, turned_error, language_error, first_byte_error, flushed_error, is_written, first_cause, first_error, ending_tag, block_byte_error, block_error, place_before_bytes, value_before}
-use Rattle.place_core.specs.page.Html.{next, after_tag, next_declaration, next_before_name, next_name, next_whole_name, next_after_name, next_before_value, ends_value}
+use Rattle.place_core.specs.place.Errors.{byte_error, cut_error, at_hand, unless_second, content_error, kind_error, body_error, tag_error, bare_error, quotes_error, attribute_name_error, PathCause, fed_error, turned_error, language_error, first_byte_error, is_written, first_cause, first_error, place_before_bytes, value_before}
+use Rattle.place_core.specs.page.Html.{next, after_tag, next_declaration, next_before_name, next_name, next_after_name, next_before_value, ends_value}
 use Rattle.place_core.specs.page.Paths.{at_cut}
 use Rattle.place_core.specs.page.References.{Reference, settled, undone_byte, as_it_stands, Closed, Open, Form, ReferenceStep, Grows, Closes, Breaks, turn, meaning, flushed, plain_bytes, next_reference}
-use Rattle.place_core.specs.place.StatePlaces.{tag_of, tag_spot, body_at, only_name, only_before, only_inside, only_after, value_spot, value_body, quotes_at, unbegun, placed}
+use Rattle.place_core.specs.place.StatePlaces.{tag_spot, body_at, only_name, only_before, only_inside, only_after, value_spot, value_body, quotes_at, unbegun, placed}
 use Rattle.place_core.specs.page.States.{Template, LexState, Text, TagOpen, EndTagOpen, DeclarationOpen, CommentState, Started, StartedDash, Inside, Dash, DashDash, Bang, Broken, InComment, BogusComment, InDoctype, TagName, WholeTagName, BeforeAttributeName, AttributeName, WholeAttributeName, AfterAttributeName, BeforeAttributeValue, AttributeValue, AfterAttributeValue, SelfClosingStartTag, Characters, Bytes, Pending, Nothing, PendingLess, PendingName, PendingBang, PendingBangDash, InContent, Unread, LessAtCut}
-use Rattle.place_core.specs.page.Tags.{Tag, EndTag, StartTag, Value, ValueOf, TypeSoFar, ValueState, languages, attribute_value_of, tag_named, element_on, with_bytes, tag_with_value, without_value, Quoting, DoubleQuoted, SingleQuoted, Unquoted, is_typed, is_second_type, first_kind, typed_by, cut_value}
+use Rattle.place_core.specs.page.Tags.{Tag, Value, ValueOf, Deciding, ValueState, languages, attribute_value_of, tag_of_name, element_on, is_start, tag_by_type, with_bytes, tag_with_value, without_value, Quoting, DoubleQuoted, SingleQuoted, Unquoted, is_second_type, typed_by, cut_value}
 use Rattle.place_core.specs.page.Words.{kind_of, is_script_type}
 use Rattle.place_core.specs.declared.body.Body.{Body}
 use Rattle.place_core.specs.declared.body.Body.TheVariants as body
@@ -24,7 +24,7 @@ use Rattle.place_core.specs.declared.place.Place.TheVariants as place
 use Rattle.place_core.specs.declared.quotes.Quotes.{Quotes}
 use Rattle.place_core.specs.declared.tag_of.TagOf.{TagOf}
 use Rattle.place_core.specs.declared.tag_of.TagOf.TheVariants as tag
-use Rattle.html_scan.specs.Scans.{Scan, At, AfterLess, AfterLessSolidus, InDeclaration, InTagName, InAttributeName, InContentEnd, comment_scan, content_scan, value_scan, declaration_next, content_next, pending_less_next, end_name_next, attribute_name_next, tag_next, typed_with, scan_next, scan_error, scan_place, scan_cut_error, tag_element, BeforeType, InType, bang_next, before_type_next, ended_type, in_tag, scan_shown, type_tag, type_typed, whole_name_place, rest_place, tag_by_type}
+use Rattle.html_scan.specs.Scans.{Scan, At, AfterLess, AfterLessSolidus, InDeclaration, InTagName, InAttributeName, InContentEnd, comment_scan, content_scan, value_scan, declaration_next, content_next, pending_less_next, end_name_next, attribute_name_next, tag_next, typed_with, scan_next, scan_error, scan_place, scan_cut_error, BeforeType, InType, bang_next, before_type_next, ended_type, in_tag, scan_shown, type_tag, rest_place}
 use Rattle.std.proofs.lemmas.List.{append_assoc, append-nil}
 
 -- the scan state of a path's state
@@ -48,15 +48,17 @@ block_scanned h e = None
 
 -- where a second `type` is not refused
 abbrev pub first_type : Tag → Kind → Scan → Option Scan
-first_type t k f = if is_second_type (is_typed t) k then None else Some f
+first_type t k f = if is_second_type t.typed k then None else Some f
 
 abbrev pub before_scanned : Tag → Value ValueState → Option Scan
 before_scanned t (ValueOf v) = option_map At (value_spot t unbegun (value_body (ValueOf v)))
-before_scanned t (TypeSoFar before) = first_type t kind.ScriptType (BeforeType (tag_of t))
+before_scanned t (Deciding kind.ScriptType before) = first_type t kind.ScriptType (BeforeType t.tag)
+before_scanned t (Deciding k before) = None
 
 abbrev pub value_scanned : Quoting → Tag → Value ValueState → Reference → Option Scan
 value_scanned q t (ValueOf v) r = option_map At (value_spot t (quotes_at q) (value_body (ValueOf v)))
-value_scanned q t (TypeSoFar before) r = first_type t kind.ScriptType (InType (tag_of t) q (TypeSoFar before) r)
+value_scanned q t (Deciding kind.ScriptType before) r = first_type t kind.ScriptType (InType t.tag q (Deciding kind.ScriptType before) r)
+value_scanned q t (Deciding k before) r = None
 
 abbrev pub scanned : LexState ValueState → Option Scan
 scanned (Text r) = Some (At place.Text)
@@ -69,7 +71,7 @@ scanned InDoctype = Some (At place.Doctype)
 scanned (TagName ends name) = Some (InTagName ends name)
 scanned (WholeTagName t) = Some (At (place.Tag (tag_spot t only_name None)))
 scanned (BeforeAttributeName t) = Some (At (place.Tag (tag_spot t only_before None)))
-scanned (AttributeName t name) = Some (InAttributeName (tag_of t) (is_typed t) name)
+scanned (AttributeName t name) = Some (InAttributeName t.tag t.typed name)
 scanned (WholeAttributeName t k) = first_type t k (At (place.Tag (tag_spot t only_inside (Some k))))
 scanned (AfterAttributeName t k) = first_type t k (At (place.Tag (tag_spot t only_after (Some k))))
 scanned (BeforeAttributeValue t k) = before_scanned t (attribute_value_of languages k)
@@ -97,33 +99,20 @@ same-with : (t : Tag) (bs : List ℕ) (k : Kind) → tag_with_value t (with_byte
 same-with t [] k = refl
 same-with t (b ∷ bs) k = same-with t bs k
 
--- what an attribute without a value does to its tag
-pub same-tag : (t : Tag) (k : Kind) → tag_of (without_value t k) ≡ tag_of t
-same-tag EndTag kind.ScriptType = refl
-same-tag (StartTag element.Other typed) kind.ScriptType = refl
-same-tag (StartTag element.Title typed) kind.ScriptType = refl
-same-tag (StartTag element.Textarea typed) kind.ScriptType = refl
-same-tag (StartTag element.Style typed) kind.ScriptType = refl
-same-tag (StartTag element.Script true) kind.ScriptType = refl
-same-tag (StartTag element.Script false) kind.ScriptType = refl
-same-tag (StartTag element.DataBlock typed) kind.ScriptType = refl
+-- what an attribute without a value does to its tag: an empty `type` is that of a script
+untyped-tag : (t : TagOf) (typed : Bool) → tag_by_type t (typed || true) ≡ t
+untyped-tag tag.End typed = refl
+untyped-tag (tag.Start element.Script) true = refl
+untyped-tag (tag.Start element.Script) false = refl
+untyped-tag (tag.Start _) typed = refl
+
+pub same-tag : (t : Tag) (k : Kind) → (without_value t k).tag ≡ t.tag
+same-tag t kind.ScriptType = untyped-tag t.tag t.typed
 same-tag t _ = refl
 
-pub same-typed : (t : Tag) (k : Kind) → is_typed (without_value t k) ≡ typed_with (tag_of t) (is_typed t) k
-same-typed EndTag kind.ScriptType = refl
-same-typed (StartTag element.Other typed) kind.ScriptType = refl
-same-typed (StartTag element.Title typed) kind.ScriptType = refl
-same-typed (StartTag element.Textarea typed) kind.ScriptType = refl
-same-typed (StartTag element.Style typed) kind.ScriptType = refl
-same-typed (StartTag element.Script true) kind.ScriptType = refl
-same-typed (StartTag element.Script false) kind.ScriptType = refl
-same-typed (StartTag element.DataBlock typed) kind.ScriptType = refl
-same-typed EndTag _ = refl
-same-typed (StartTag e typed) _ = refl
-
-same-element : (t : Tag) → element_on t ≡ tag_element (tag_of t)
-same-element EndTag = refl
-same-element (StartTag e typed) = refl
+pub same-typed : (t : Tag) (k : Kind) → (without_value t k).typed ≡ typed_with t.tag t.typed k
+same-typed t kind.ScriptType = refl
+same-typed t _ = refl
 
 -- what is refused is no step
 pub some : {A : Type 0} (x : A) → Some x ≡ None → ⊥
@@ -138,7 +127,7 @@ none-unless true len o h = absurd (some _ h)
 none-unless false len o h = none-at-hand o h
 
 -- what is not refused is no second type
-not-second : (t : Tag) (k : Kind) (f : Scan) → is_second_type (is_typed t) k ≡ false → first_type t k f ≡ Some f
+not-second : (t : Tag) (k : Kind) (f : Scan) → is_second_type t.typed k ≡ false → first_type t k f ≡ Some f
 not-second t k f e = rw e refl
 
 unless-first : (second : Bool) (len : ℕ) (o : Option Code) → unless_second second len o ≡ None → second ≡ false
@@ -149,7 +138,7 @@ unless-first false len o h = refl
 pub fed-none : (v : Value ValueState) (bs : List ℕ) (written : Bool) (n : ℕ) → fed_error languages v bs written n ≡ None
 fed-none v [] written n = refl
 fed-none (ValueOf k) (b ∷ bs) written n = fed-none (ValueOf k) bs written (if written then n - 1 else n)
-fed-none (TypeSoFar before) (b ∷ bs) written n = fed-none (TypeSoFar (before ++ b ∷ [])) bs written (if written then n - 1 else n)
+fed-none (Deciding k before) (b ∷ bs) written n = fed-none (Deciding k (before ++ b ∷ [])) bs written (if written then n - 1 else n)
 
 turned-none : (v : Value ValueState) (step : ReferenceStep) (f : Form) (bytes : List ℕ) (c : Class) (b : ℕ) → turned_error languages v step f bytes c b ≡ None
 turned-none v (Grows g) f bytes c b = refl
@@ -175,34 +164,34 @@ pub only-hand : (o p : Option PathCause) → o ≡ None → first_cause o p ≡ 
 only-hand o p e = rw e refl
 
 -- the end of a tag
-tag-ends : (t : Tag) → content_error (tag_of t) ≡ None → scanned (after_tag t) ≡ Some (content_scan (tag_of t))
-tag-ends EndTag n = refl
-tag-ends (StartTag element.Other typed) n = refl
-tag-ends (StartTag element.Title typed) n = refl
-tag-ends (StartTag element.Textarea typed) n = refl
-tag-ends (StartTag element.Style typed) n = absurd (some _ n)
-tag-ends (StartTag element.Script typed) n = absurd (some _ n)
-tag-ends (StartTag element.DataBlock typed) n = refl
+tag-ends : (t : TagOf) → content_error t ≡ None → scanned (after_tag t) ≡ Some (content_scan t)
+tag-ends tag.End n = refl
+tag-ends (tag.Start element.Other) n = refl
+tag-ends (tag.Start element.Title) n = refl
+tag-ends (tag.Start element.Textarea) n = refl
+tag-ends (tag.Start element.Style) n = absurd (some _ n)
+tag-ends (tag.Start element.Script) n = absurd (some _ n)
+tag-ends (tag.Start element.DataBlock) n = refl
 
-tag-ends-with : (t : Tag) (k : Kind) → content_error (tag_of t) ≡ None → scanned (after_tag (without_value t k)) ≡ Some (content_scan (tag_of t))
-tag-ends-with t k n = tag-ends (without_value t k) (ap content_error (same-tag t k) ∙ n) ∙ ap (λ (u : TagOf). Some (content_scan u)) (same-tag t k)
+tag-ends-with : (t : Tag) (k : Kind) → content_error t.tag ≡ None → scanned (after_tag (without_value t k).tag) ≡ Some (content_scan t.tag)
+tag-ends-with t k n = rw (same-tag t k) (tag-ends t.tag n)
 
-value-begins : (t : Tag) (typed : Bool) (k : Kind) → kind_error k ≡ None → is_second_type (is_typed t) k ≡ false → typed ≡ is_typed (without_value t k)
-    → scanned (BeforeAttributeValue t k) ≡ Some (value_scan (tag_of t) typed (Some k))
+value-begins : (t : Tag) (typed : Bool) (k : Kind) → kind_error k ≡ None → is_second_type t.typed k ≡ false → typed ≡ (without_value t k).typed
+    → scanned (BeforeAttributeValue t k) ≡ Some (value_scan t.tag typed (Some k))
 value-begins t typed kind.Plain n f e = rw e refl
 value-begins t typed kind.NoHole n f e = rw e refl
 value-begins t typed kind.Url n f e = absurd (some _ n)
 value-begins t typed kind.Script n f e = absurd (some _ n)
 value-begins t typed kind.Style n f e = absurd (some _ n)
-value-begins t typed kind.ScriptType n f e = not-second t kind.ScriptType (BeforeType (tag_of t)) f
+value-begins t typed kind.ScriptType n f e = not-second t kind.ScriptType (BeforeType t.tag) f
 
-value-begins-here : (t : Tag) (k : Kind) → kind_error k ≡ None → is_second_type (is_typed t) k ≡ false → scanned (BeforeAttributeValue t k) ≡ Some (value_scan (tag_of t) (is_typed t) (Some k))
+value-begins-here : (t : Tag) (k : Kind) → kind_error k ≡ None → is_second_type t.typed k ≡ false → scanned (BeforeAttributeValue t k) ≡ Some (value_scan t.tag t.typed (Some k))
 value-begins-here t kind.Plain n f = refl
 value-begins-here t kind.NoHole n f = refl
 value-begins-here t kind.Url n f = absurd (some _ n)
 value-begins-here t kind.Script n f = absurd (some _ n)
 value-begins-here t kind.Style n f = absurd (some _ n)
-value-begins-here t kind.ScriptType n f = not-second t kind.ScriptType (BeforeType (tag_of t)) f
+value-begins-here t kind.ScriptType n f = not-second t kind.ScriptType (BeforeType t.tag) f
 
 -- state by state
 text-steps : (r : Reference) (c : Class) (b : ℕ) → Agrees (Text r) (At place.Text) c b
@@ -247,88 +236,83 @@ doctype-steps : (c : Class) (b : ℕ) → Agrees InDoctype (At place.Doctype) c 
 doctype-steps GreaterThan b = record { errors = refl; steps = λ n. refl }
 doctype-steps _ b = record { errors = refl; steps = λ n. refl }
 
-named-typed : (ends : Bool) (name : List ℕ) → is_typed (tag_named ends name) ≡ false
-named-typed true name = refl
-named-typed false name = refl
-
 tag-name-steps : (ends : Bool) (name : List ℕ) (c : Class) (b : ℕ) → Agrees (TagName ends name) (InTagName ends name) c b
-tag-name-steps ends name White b = record { errors = refl; steps = λ n. rw (named-typed ends name) refl }
-tag-name-steps ends name Solidus b = record { errors = refl; steps = λ n. rw (named-typed ends name) refl }
-tag-name-steps ends name GreaterThan b = record { errors = refl; steps = λ n. tag-ends (tag_named ends name) (none-at-hand _ n) }
+tag-name-steps ends name White b = record { errors = refl; steps = λ n. refl }
+tag-name-steps ends name Solidus b = record { errors = refl; steps = λ n. refl }
+tag-name-steps ends name GreaterThan b = record { errors = refl; steps = λ n. tag-ends (tag_of_name ends name) (none-at-hand _ n) }
 tag-name-steps ends name _ b = record { errors = refl; steps = λ n. refl }
 
 whole-tag-steps : (t : Tag) (c : Class) (b : ℕ) → Agrees (WholeTagName t) (At (place.Tag (tag_spot t only_name None))) c b
 whole-tag-steps t White b = record { errors = refl; steps = λ n. refl }
 whole-tag-steps t Solidus b = record { errors = refl; steps = λ n. refl }
-whole-tag-steps t GreaterThan b = record { errors = refl; steps = λ n. tag-ends t (none-at-hand _ n) }
+whole-tag-steps t GreaterThan b = record { errors = refl; steps = λ n. tag-ends t.tag (none-at-hand _ n) }
 whole-tag-steps t _ b = record { errors = refl; steps = λ n. absurd (some _ n) }
 
 -- before a name, also after a quoted value and after a solidus
 before-next : (t : Tag) (c : Class) (b : ℕ) → at_hand (tag_error (tag_spot t only_before None) c) ≡ None → scanned (next_before_name c b t) ≡ Some (tag_next (tag_spot t only_before None) c b)
 before-next t White b n = refl
 before-next t Solidus b n = refl
-before-next t GreaterThan b n = tag-ends t (none-at-hand _ n)
+before-next t GreaterThan b n = tag-ends t.tag (none-at-hand _ n)
 before-next t EqualsSign b n = absurd (some _ n)
 before-next t QuotationMark b n = absurd (some _ n)
 before-next t Apostrophe b n = absurd (some _ n)
 before-next t LessThan b n = absurd (some _ n)
 before-next t _ b n = refl
 
-attribute-next : (t : Tag) (k : Kind) (name : List ℕ) (c : Class) (b : ℕ) → attribute_name_error (tag_of t) (is_typed t) k (length name) c ≡ None
-    → scanned (next_name c b t k name) ≡ Some (attribute_name_next c b (tag_of t) (is_typed t) k name)
-attribute-next t k name White b n = rw (same-typed t k) (not-second t k _ (unless-first (is_second_type (is_typed t) k) (length name) None n))
+attribute-next : (t : Tag) (k : Kind) (name : List ℕ) (c : Class) (b : ℕ) → attribute_name_error t.tag t.typed k (length name) c ≡ None
+    → scanned (next_name c b t k name) ≡ Some (attribute_name_next c b t.tag t.typed k name)
+attribute-next t k name White b n = rw (same-typed t k) (not-second t k _ (unless-first (is_second_type t.typed k) (length name) None n))
 attribute-next t k name Solidus b n = rw (same-tag t k, same-typed t k) refl
-attribute-next t k name GreaterThan b n = tag-ends-with t k (none-unless (is_second_type (is_typed t) k) (length name) (content_error (tag_of t)) n)
+attribute-next t k name GreaterThan b n = tag-ends-with t k (none-unless (is_second_type t.typed k) (length name) (content_error t.tag) n)
 attribute-next t k name EqualsSign b n =
-    value-begins-here t k (none-unless (is_second_type (is_typed t) k) (length name) (kind_error k) n) (unless-first (is_second_type (is_typed t) k) (length name) (kind_error k) n)
+    value-begins-here t k (none-unless (is_second_type t.typed k) (length name) (kind_error k) n) (unless-first (is_second_type t.typed k) (length name) (kind_error k) n)
 attribute-next t k name QuotationMark b n = absurd (some _ n)
 attribute-next t k name Apostrophe b n = absurd (some _ n)
 attribute-next t k name LessThan b n = absurd (some _ n)
 attribute-next t k name _ b n = refl
 
-attribute-steps : (t : Tag) (name : List ℕ) (c : Class) (b : ℕ) → Agrees (AttributeName t name) (InAttributeName (tag_of t) (is_typed t) name) c b
-attribute-steps EndTag name c b = record { errors = refl; steps = λ n. attribute-next EndTag (kind_of element.Other name) name c b n }
-attribute-steps (StartTag e typed) name c b = record { errors = refl; steps = λ n. attribute-next (StartTag e typed) (kind_of e name) name c b n }
+attribute-steps : (t : Tag) (name : List ℕ) (c : Class) (b : ℕ) → Agrees (AttributeName t name) (InAttributeName t.tag t.typed name) c b
+attribute-steps t name c b = record { errors = refl; steps = λ n. attribute-next t (kind_of (element_on t.tag) name) name c b n }
 
-whole-name-next : (t : Tag) (k : Kind) (c : Class) (b : ℕ) → is_second_type (is_typed t) k ≡ false → at_hand (tag_error (tag_spot t only_inside (Some k)) c) ≡ None
-    → scanned (next_whole_name c b t k) ≡ Some (tag_next (tag_spot t only_inside (Some k)) c b)
+whole-name-next : (t : Tag) (k : Kind) (c : Class) (b : ℕ) → is_second_type t.typed k ≡ false → at_hand (tag_error (tag_spot t only_inside (Some k)) c) ≡ None
+    → scanned (next_after_name c b t k) ≡ Some (tag_next (tag_spot t only_inside (Some k)) c b)
 whole-name-next t k White b f n = not-second t k _ f
 whole-name-next t k Solidus b f n = rw (same-tag t k) refl
 whole-name-next t k GreaterThan b f n = tag-ends-with t k (none-at-hand _ n)
-whole-name-next t k EqualsSign b f n = value-begins t (is_typed (without_value t k)) k (none-at-hand _ n) f refl
+whole-name-next t k EqualsSign b f n = value-begins t ((without_value t k).typed) k (none-at-hand _ n) f refl
 whole-name-next t k _ b f n = absurd (some _ n)
 
-after-name-next : (t : Tag) (k : Kind) (c : Class) (b : ℕ) → is_second_type (is_typed t) k ≡ false → at_hand (tag_error (tag_spot t only_after (Some k)) c) ≡ None
+after-name-next : (t : Tag) (k : Kind) (c : Class) (b : ℕ) → is_second_type t.typed k ≡ false → at_hand (tag_error (tag_spot t only_after (Some k)) c) ≡ None
     → scanned (next_after_name c b t k) ≡ Some (tag_next (tag_spot t only_after (Some k)) c b)
 after-name-next t k White b f n = not-second t k _ f
 after-name-next t k Solidus b f n = rw (same-tag t k) refl
 after-name-next t k GreaterThan b f n = tag-ends-with t k (none-at-hand _ n)
-after-name-next t k EqualsSign b f n = value-begins t (is_typed (without_value t k)) k (none-at-hand _ n) f refl
+after-name-next t k EqualsSign b f n = value-begins t ((without_value t k).typed) k (none-at-hand _ n) f refl
 after-name-next t k QuotationMark b f n = absurd (some _ n)
 after-name-next t k Apostrophe b f n = absurd (some _ n)
 after-name-next t k LessThan b f n = absurd (some _ n)
 after-name-next t k _ b f n = rw (same-tag t k) refl
 
-whole-name-steps : (second : Bool) (t : Tag) (k : Kind) (c : Class) (b : ℕ) → is_second_type (is_typed t) k ≡ second
+whole-name-steps : (second : Bool) (t : Tag) (k : Kind) (c : Class) (b : ℕ) → is_second_type t.typed k ≡ second
     → WhereScanned (if second then None else Some (At (place.Tag (tag_spot t only_inside (Some k))))) (λ f. Agrees (WholeAttributeName t k) f c b)
 whole-name-steps true t k c b e = tt
 whole-name-steps false t k c b e = record { errors = refl; steps = whole-name-next t k c b e }
 
-after-name-steps : (second : Bool) (t : Tag) (k : Kind) (c : Class) (b : ℕ) → is_second_type (is_typed t) k ≡ second
+after-name-steps : (second : Bool) (t : Tag) (k : Kind) (c : Class) (b : ℕ) → is_second_type t.typed k ≡ second
     → WhereScanned (if second then None else Some (At (place.Tag (tag_spot t only_after (Some k))))) (λ f. Agrees (AfterAttributeName t k) f c b)
 after-name-steps true t k c b e = tt
 after-name-steps false t k c b e = record { errors = refl; steps = after-name-next t k c b e }
 
 -- values of the kinds that are built
 abbrev value-at : Tag → Quotes → Body → Scan
-value-at t q x = At (place.Value (record { tag = tag_of t; typed = is_typed t; quotes = q; body = x }))
+value-at t q x = At (place.Value (record { tag = t.tag; typed = t.typed; quotes = q; body = x }))
 
-unbegun-next : (t : Tag) (k : Kind) (x : Body) (c : Class) (b : ℕ) → value_body (attribute_value_of languages k) ≡ Some x → body_error x b ≡ None → without_value t k ≡ t → attribute_value_of languages k ≡ ValueOf k → at_hand (bare_error (tag_of t) (record { uq = false; unbegun = true }) c) ≡ None
+unbegun-next : (t : Tag) (k : Kind) (x : Body) (c : Class) (b : ℕ) → value_body (attribute_value_of languages k) ≡ Some x → body_error x b ≡ None → without_value t k ≡ t → attribute_value_of languages k ≡ ValueOf k → at_hand (bare_error t.tag (record { uq = false; unbegun = true }) c) ≡ None
     → scanned (next_before_value languages c b t k) ≡ Some (scan_next (value-at t unbegun x) c b)
 unbegun-next t k x White b e w u v n = rw v (rw (sym (ap value_body v) ∙ e) refl)
 unbegun-next t k x QuotationMark b e w u v n = rw v (rw (sym (ap value_body v) ∙ e) refl)
 unbegun-next t k x Apostrophe b e w u v n = rw v (rw (sym (ap value_body v) ∙ e) refl)
-unbegun-next t k x GreaterThan b e w u v n = rw u (tag-ends t (none-at-hand _ n))
+unbegun-next t k x GreaterThan b e w u v n = rw u (tag-ends t.tag (none-at-hand _ n))
 unbegun-next t k x LessThan b e w u v n = absurd (some _ n)
 unbegun-next t k x EqualsSign b e w u v n = absurd (some _ n)
 unbegun-next t k x GraveAccent b e w u v n = absurd (some _ n)
@@ -342,14 +326,14 @@ own-scanned (b ∷ bs) q t k r = own-scanned bs q t k r
 own-there : (q : Quoting) (t : Tag) (k : Kind) (x : Body) (r : Reference) → body_at k ≡ Some x → value_scanned q t (ValueOf k) r ≡ Some (value-at t (quotes_at q) x)
 own-there q t k x r e = rw e refl
 
-value-next : (q : Quoting) (t : Tag) (k : Kind) (x : Body) (r : Reference) (c : Class) (b : ℕ) → body_at k ≡ Some x → at_hand (quotes_error (tag_of t) (quotes_at q) c) ≡ None
+value-next : (q : Quoting) (t : Tag) (k : Kind) (x : Body) (r : Reference) (c : Class) (b : ℕ) → body_at k ≡ Some x → at_hand (quotes_error t.tag (quotes_at q) c) ≡ None
     → scanned (next languages Template (AttributeValue q t (ValueOf k) r) c b) ≡ Some (scan_next (value-at t (quotes_at q) x) c b)
 value-next DoubleQuoted t k x r QuotationMark b e n = rw (same-with t (settled true r) k) refl
 value-next DoubleQuoted t k x r c b e n = own-scanned (undone_byte true r c b) DoubleQuoted t k (next_reference r c b) ∙ own-there DoubleQuoted t k x (next_reference r c b) e
 value-next SingleQuoted t k x r Apostrophe b e n = rw (same-with t (settled true r) k) refl
 value-next SingleQuoted t k x r c b e n = own-scanned (undone_byte true r c b) SingleQuoted t k (next_reference r c b) ∙ own-there SingleQuoted t k x (next_reference r c b) e
 value-next Unquoted t k x r White b e n = rw (same-with t (settled true r) k) refl
-value-next Unquoted t k x r GreaterThan b e n = rw (same-with t (settled true r) k) (tag-ends t (none-at-hand (content_error (tag_of t)) n))
+value-next Unquoted t k x r GreaterThan b e n = rw (same-with t (settled true r) k) (tag-ends t.tag (none-at-hand (content_error t.tag) n))
 value-next Unquoted t k x r QuotationMark b e n = absurd (some _ n)
 value-next Unquoted t k x r Apostrophe b e n = absurd (some _ n)
 value-next Unquoted t k x r LessThan b e n = absurd (some _ n)
@@ -358,111 +342,87 @@ value-next Unquoted t k x r GraveAccent b e n = absurd (some _ n)
 value-next Unquoted t k x r c b e n = own-scanned (undone_byte true r c b) Unquoted t k (next_reference r c b) ∙ own-there Unquoted t k x (next_reference r c b) e
 
 -- the value of a type
-script-by : (of_script : Bool) → tag.Start (if of_script then element.Script else element.DataBlock) ≡ tag_by_type (tag.Start element.Script) of_script
-script-by true = refl
-script-by false = refl
-
-typed-by-type : (t : TagOf) (of_script : Bool) → type_typed (tag_by_type t of_script) ≡ type_typed t
+typed-by-type : (t : TagOf) (of_script : Bool) → is_start t || false ≡ is_start (tag_by_type t of_script)
 typed-by-type tag.End of_script = refl
 typed-by-type (tag.Start element.Script) true = refl
 typed-by-type (tag.Start element.Script) false = refl
 typed-by-type (tag.Start _) of_script = refl
 
-same-type-tag : (t : Tag) (value : List ℕ) → is_typed t ≡ false → tag_of (typed_by t value) ≡ type_tag (tag_of t) (TypeSoFar value)
-same-type-tag EndTag value e = refl
-same-type-tag (StartTag element.Script false) value e = script-by (is_script_type value)
-same-type-tag (StartTag element.Other false) value e = refl
-same-type-tag (StartTag element.Title false) value e = refl
-same-type-tag (StartTag element.Textarea false) value e = refl
-same-type-tag (StartTag element.Style false) value e = refl
-same-type-tag (StartTag element.DataBlock false) value e = refl
-same-type-tag (StartTag x true) value e = cc
+ending-typed : (t : Tag) (v : Value ValueState) → t.typed ≡ false → (tag_with_value t v).tag ≡ type_tag t.tag v
+ending-typed t v e = ap (λ (b : Bool). (tag_with_value (record { tag = t.tag; typed = b }) v).tag) e
 
-same-type-typed : (t : Tag) (value : List ℕ) → is_typed t ≡ false → is_typed (typed_by t value) ≡ type_typed (type_tag (tag_of t) (TypeSoFar value))
-same-type-typed EndTag value e = refl
-same-type-typed (StartTag element.Script false) value e = sym (typed-by-type (tag.Start element.Script) (is_script_type value))
-same-type-typed (StartTag element.Other false) value e = refl
-same-type-typed (StartTag element.Title false) value e = refl
-same-type-typed (StartTag element.Textarea false) value e = refl
-same-type-typed (StartTag element.Style false) value e = refl
-same-type-typed (StartTag element.DataBlock false) value e = refl
-same-type-typed (StartTag x true) value e = cc
+same-type-typed : (t : Tag) (value : List ℕ) → t.typed ≡ false → (typed_by t value).typed ≡ is_start (type_tag t.tag (Deciding kind.ScriptType value))
+same-type-typed t value e = ap (λ (b : Bool). is_start t.tag || b) e ∙ typed-by-type t.tag (is_script_type value)
 
 -- bytes of it leave it one
 pub record Typed (z : Value ValueState) : Type 0 where
   pub value : List ℕ
-  pub is : z ≡ TypeSoFar value
+  pub is : z ≡ Deciding kind.ScriptType value
 
-pub type-stays : (before bs : List ℕ) → Typed (with_bytes languages (TypeSoFar before) bs)
+pub type-stays : (before bs : List ℕ) → Typed (with_bytes languages (Deciding kind.ScriptType before) bs)
 type-stays before [] = record { value = before; is = refl }
 type-stays before (b ∷ bs) = type-stays (before ++ b ∷ []) bs
 
-pub type-value : (before bs : List ℕ) → with_bytes languages (TypeSoFar before) bs ≡ TypeSoFar (before ++ bs)
-type-value before [] = ap TypeSoFar (sym (append-nil before))
-type-value before (b ∷ bs) = type-value (before ++ b ∷ []) bs ∙ ap TypeSoFar (append_assoc before (b ∷ []) bs)
+pub type-value : (before bs : List ℕ) → with_bytes languages (Deciding kind.ScriptType before) bs ≡ Deciding kind.ScriptType (before ++ bs)
+type-value before [] = ap (Deciding kind.ScriptType) (sym (append-nil before))
+type-value before (b ∷ bs) = type-value (before ++ b ∷ []) bs ∙ ap (Deciding kind.ScriptType) (append_assoc before (b ∷ []) bs)
 
-type-goes : (q : Quoting) (t : Tag) (z : Value ValueState) (r : Reference) → Typed z → is_typed t ≡ false → value_scanned q t z r ≡ Some (InType (tag_of t) q z r)
-type-goes q t z r o e = rw o.is (not-second t kind.ScriptType (InType (tag_of t) q (TypeSoFar o.value) r) e)
+type-goes : (q : Quoting) (t : Tag) (z : Value ValueState) (r : Reference) → Typed z → t.typed ≡ false → value_scanned q t z r ≡ Some (InType t.tag q z r)
+type-goes q t z r o e = rw o.is (not-second t kind.ScriptType (InType t.tag q (Deciding kind.ScriptType o.value) r) e)
 
-after-typed : (t : Tag) (z : Value ValueState) → Typed z → is_typed t ≡ false
-    → scanned (BeforeAttributeName (tag_with_value t z)) ≡ Some (in_tag (type_tag (tag_of t) z) (type_typed (type_tag (tag_of t) z)) only_before None)
-after-typed t z o e = rw o.is (rw (same-type-tag t o.value e, same-type-typed t o.value e) refl)
+after-typed : (t : Tag) (z : Value ValueState) → Typed z → t.typed ≡ false
+    → scanned (BeforeAttributeName (tag_with_value t z)) ≡ Some (in_tag (type_tag t.tag z) (is_start (type_tag t.tag z)) only_before None)
+after-typed t z o e = rw o.is (rw (ending-typed t (Deciding kind.ScriptType o.value) e, same-type-typed t o.value e) refl)
 
-content-typed : (t : Tag) (z : Value ValueState) → Typed z → is_typed t ≡ false → content_error (type_tag (tag_of t) z) ≡ None
-    → scanned (after_tag (tag_with_value t z)) ≡ Some (content_scan (type_tag (tag_of t) z))
-content-typed t z o e n =
-    subst (λ (v : Value ValueState). scanned (after_tag (tag_with_value t v)) ≡ Some (content_scan (type_tag (tag_of t) v))) (sym o.is)
-    (let m : content_error (type_tag (tag_of t) (TypeSoFar o.value)) ≡ None = sym (ap (λ (v : Value ValueState). content_error (type_tag (tag_of t) v)) o.is) ∙ n in
-    tag-ends (typed_by t o.value) (ap content_error (same-type-tag t o.value e) ∙ m) ∙ ap (λ (u : TagOf). Some (content_scan u)) (same-type-tag t o.value e))
+content-typed : (t : Tag) (z : Value ValueState) → t.typed ≡ false → content_error (type_tag t.tag z) ≡ None
+    → scanned (after_tag (tag_with_value t z).tag) ≡ Some (content_scan (type_tag t.tag z))
+content-typed t z e n = rw (ending-typed t z e) (tag-ends (type_tag t.tag z) n)
 
-ending-typed : (t : Tag) (before : List ℕ) (r : Reference) → is_typed t ≡ false → tag_of (ending_tag {B = ValueState} t (TypeSoFar before) r) ≡ type_tag (tag_of t) (ended_type (TypeSoFar before) r)
-ending-typed t before r e = same-type-tag t (before ++ settled true r) e ∙ sym (ap (type_tag (tag_of t)) (type-value before (settled true r)))
-
-type-next : (q : Quoting) (t : Tag) (before : List ℕ) (r : Reference) (c : Class) (b : ℕ) → class_of b ≡ c → is_typed t ≡ false
-    → at_hand (quotes_error (type_tag (tag_of t) (ended_type (TypeSoFar before) r)) (quotes_at q) c) ≡ None
-    → scanned (next languages Template (AttributeValue q t (TypeSoFar before) r) c b) ≡ Some (scan_next (InType (tag_of t) q (TypeSoFar before) r) c b)
-type-next DoubleQuoted t before r QuotationMark b i e n = after-typed t (ended_type (TypeSoFar before) r) (type-stays before (settled true r)) e
+type-next : (q : Quoting) (t : Tag) (before : List ℕ) (r : Reference) (c : Class) (b : ℕ) → class_of b ≡ c → t.typed ≡ false
+    → at_hand (quotes_error (type_tag t.tag (ended_type (Deciding kind.ScriptType before) r)) (quotes_at q) c) ≡ None
+    → scanned (next languages Template (AttributeValue q t (Deciding kind.ScriptType before) r) c b) ≡ Some (scan_next (InType t.tag q (Deciding kind.ScriptType before) r) c b)
+type-next DoubleQuoted t before r QuotationMark b i e n = after-typed t (ended_type (Deciding kind.ScriptType before) r) (type-stays before (settled true r)) e
 type-next DoubleQuoted t before r c b i e n =
-    rw i (type-goes DoubleQuoted t (with_bytes languages (TypeSoFar before) (undone_byte true r c b)) (next_reference r c b) (type-stays before (undone_byte true r c b)) e)
-type-next SingleQuoted t before r Apostrophe b i e n = after-typed t (ended_type (TypeSoFar before) r) (type-stays before (settled true r)) e
+    rw i (type-goes DoubleQuoted t (with_bytes languages (Deciding kind.ScriptType before) (undone_byte true r c b)) (next_reference r c b) (type-stays before (undone_byte true r c b)) e)
+type-next SingleQuoted t before r Apostrophe b i e n = after-typed t (ended_type (Deciding kind.ScriptType before) r) (type-stays before (settled true r)) e
 type-next SingleQuoted t before r c b i e n =
-    rw i (type-goes SingleQuoted t (with_bytes languages (TypeSoFar before) (undone_byte true r c b)) (next_reference r c b) (type-stays before (undone_byte true r c b)) e)
-type-next Unquoted t before r White b i e n = after-typed t (ended_type (TypeSoFar before) r) (type-stays before (settled true r)) e
-type-next Unquoted t before r GreaterThan b i e n = content-typed t (ended_type (TypeSoFar before) r) (type-stays before (settled true r)) e (none-at-hand _ n)
+    rw i (type-goes SingleQuoted t (with_bytes languages (Deciding kind.ScriptType before) (undone_byte true r c b)) (next_reference r c b) (type-stays before (undone_byte true r c b)) e)
+type-next Unquoted t before r White b i e n = after-typed t (ended_type (Deciding kind.ScriptType before) r) (type-stays before (settled true r)) e
+type-next Unquoted t before r GreaterThan b i e n = content-typed t (ended_type (Deciding kind.ScriptType before) r) e (none-at-hand _ n)
 type-next Unquoted t before r QuotationMark b i e n = absurd (some _ n)
 type-next Unquoted t before r Apostrophe b i e n = absurd (some _ n)
 type-next Unquoted t before r LessThan b i e n = absurd (some _ n)
 type-next Unquoted t before r EqualsSign b i e n = absurd (some _ n)
 type-next Unquoted t before r GraveAccent b i e n = absurd (some _ n)
 type-next Unquoted t before r c b i e n =
-    rw i (type-goes Unquoted t (with_bytes languages (TypeSoFar before) (undone_byte true r c b)) (next_reference r c b) (type-stays before (undone_byte true r c b)) e)
+    rw i (type-goes Unquoted t (with_bytes languages (Deciding kind.ScriptType before) (undone_byte true r c b)) (next_reference r c b) (type-stays before (undone_byte true r c b)) e)
 
-begin-type : (t : Tag) (c : Class) (b : ℕ) → class_of b ≡ c → is_typed t ≡ false → at_hand (quotes_error (tag_of t) unbegun c) ≡ None
-    → scanned (next_before_value languages c b t kind.ScriptType) ≡ Some (before_type_next c b (tag_of t))
-begin-type t White b i e n = not-second t kind.ScriptType (BeforeType (tag_of t)) e
-begin-type t QuotationMark b i e n = not-second t kind.ScriptType (InType (tag_of t) DoubleQuoted (TypeSoFar []) Closed) e
-begin-type t Apostrophe b i e n = not-second t kind.ScriptType (InType (tag_of t) SingleQuoted (TypeSoFar []) Closed) e
-begin-type t GreaterThan b i e n = tag-ends-with t kind.ScriptType (none-at-hand _ n) ∙ ap (λ (u : TagOf). Some (content_scan u)) (sym (same-tag t kind.ScriptType) ∙ same-type-tag t [] e)
+begin-type : (t : Tag) (c : Class) (b : ℕ) → class_of b ≡ c → t.typed ≡ false → at_hand (quotes_error t.tag unbegun c) ≡ None
+    → scanned (next_before_value languages c b t kind.ScriptType) ≡ Some (before_type_next c b t.tag)
+begin-type t White b i e n = not-second t kind.ScriptType (BeforeType t.tag) e
+begin-type t QuotationMark b i e n = not-second t kind.ScriptType (InType t.tag DoubleQuoted (Deciding kind.ScriptType []) Closed) e
+begin-type t Apostrophe b i e n = not-second t kind.ScriptType (InType t.tag SingleQuoted (Deciding kind.ScriptType []) Closed) e
+begin-type t GreaterThan b i e n = tag-ends-with t kind.ScriptType (none-at-hand _ n) ∙ ap (λ (u : TagOf). Some (content_scan u)) (sym (same-tag t kind.ScriptType) ∙ ending-typed t (Deciding kind.ScriptType []) e)
 begin-type t LessThan b i e n = absurd (some _ n)
 begin-type t EqualsSign b i e n = absurd (some _ n)
 begin-type t GraveAccent b i e n = absurd (some _ n)
 begin-type t c b i e n =
-    rw i (type-goes Unquoted t (with_bytes languages (TypeSoFar []) (undone_byte true Closed c b)) (next_reference Closed c b) (type-stays [] (undone_byte true Closed c b)) e)
+    rw i (type-goes Unquoted t (with_bytes languages (Deciding kind.ScriptType []) (undone_byte true Closed c b)) (next_reference Closed c b) (type-stays [] (undone_byte true Closed c b)) e)
 
-before-type-steps : (typed : Bool) (t : Tag) (c : Class) (b : ℕ) → class_of b ≡ c → is_typed t ≡ typed
-    → WhereScanned (if typed then None else Some (BeforeType (tag_of t))) (λ f. Agrees (BeforeAttributeValue t kind.ScriptType) f c b)
+before-type-steps : (typed : Bool) (t : Tag) (c : Class) (b : ℕ) → class_of b ≡ c → t.typed ≡ typed
+    → WhereScanned (if typed then None else Some (BeforeType t.tag)) (λ f. Agrees (BeforeAttributeValue t kind.ScriptType) f c b)
 before-type-steps true t c b i e = tt
 before-type-steps false t c b i e = record {
-  errors = only-hand (first_byte_error languages (TypeSoFar []) c b) _ (first-byte-none (TypeSoFar []) c b);
+  errors = only-hand (first_byte_error languages (Deciding kind.ScriptType []) c b) _ (first-byte-none (Deciding kind.ScriptType []) c b);
   steps = begin-type t c b i e;
 }
 
-type-steps : (typed : Bool) (q : Quoting) (t : Tag) (before : List ℕ) (r : Reference) (c : Class) (b : ℕ) → class_of b ≡ c → is_typed t ≡ typed
-    → WhereScanned (if typed then None else Some (InType (tag_of t) q (TypeSoFar before) r)) (λ f. Agrees (AttributeValue q t (TypeSoFar before) r) f c b)
+type-steps : (typed : Bool) (q : Quoting) (t : Tag) (before : List ℕ) (r : Reference) (c : Class) (b : ℕ) → class_of b ≡ c → t.typed ≡ typed
+    → WhereScanned (if typed then None else Some (InType t.tag q (Deciding kind.ScriptType before) r)) (λ f. Agrees (AttributeValue q t (Deciding kind.ScriptType before) r) f c b)
 type-steps true q t before r c b i e = tt
 type-steps false q t before r c b i e = record {
-  errors = only-hand (language_error languages (ends_value q c) (TypeSoFar before) r c b) _ (language-none (ends_value q c) (TypeSoFar before) r c b)
-      ∙ ap (λ (u : TagOf). at_hand (quotes_error u (quotes_at q) c)) (ending-typed t before r e);
+  errors = only-hand (language_error languages (ends_value q c) (Deciding kind.ScriptType before) r c b) _ (language-none (ends_value q c) (Deciding kind.ScriptType before) r c b)
+      ∙ ap (λ (u : TagOf). at_hand (quotes_error u (quotes_at q) c)) (ending-typed t (ended_type (Deciding kind.ScriptType before) r) e);
   steps = type-next q t before r c b i e;
 }
 
@@ -549,14 +509,9 @@ block-name false true _ b letters = refl
 block-name false false LessThan b letters = refl
 block-name false false _ b letters = refl
 
-cut-error : (c : Class) → block_byte_error LessAtCut c ≡ at_hand (block_error true c)
-cut-error Solidus = refl
-cut-error ExclamationMark = refl
-cut-error _ = refl
-
 block-steps : (h : Pending) (e : Element) (c : Class) (b : ℕ) → WhereScanned (block_scanned h e) (λ f. Agrees (InContent e Bytes h) f c b)
 block-steps Nothing element.DataBlock c b = record { errors = refl; steps = λ n. block-loose c b }
-block-steps LessAtCut element.DataBlock c b = record { errors = cut-error c; steps = λ n. block-loose c b }
+block-steps LessAtCut element.DataBlock c b = record { errors = refl; steps = λ n. block-loose c b }
 block-steps PendingLess element.DataBlock c b = record { errors = refl; steps = λ n. block-less c b }
 block-steps (PendingName letters) element.DataBlock c b = record {
   errors = refl;
@@ -571,7 +526,7 @@ block-steps (PendingName letters) _ c b = tt
 block-steps PendingBang _ c b = tt
 block-steps PendingBangDash _ c b = tt
 
-unbegun-errors : (t : Tag) (k : Kind) (c : Class) (b : ℕ) → byte_error (BeforeAttributeValue t k) c b ≡ at_hand (first_error (kind_error k) (bare_error (tag_of t) (record { uq = false; unbegun = true }) c))
+unbegun-errors : (t : Tag) (k : Kind) (c : Class) (b : ℕ) → byte_error (BeforeAttributeValue t k) c b ≡ at_hand (first_error (kind_error k) (bare_error t.tag (record { uq = false; unbegun = true }) c))
 unbegun-errors t k c b = only-hand (first_byte_error languages (attribute_value_of languages k) c b) _ (first-byte-none (attribute_value_of languages k) c b)
 
 unbegun-steps : (t : Tag) (k : Kind) (c : Class) (b : ℕ) → class_of b ≡ c → WhereScanned (scanned (BeforeAttributeValue t k)) (λ f. Agrees (BeforeAttributeValue t k) f c b)
@@ -580,10 +535,12 @@ unbegun-steps t kind.NoHole c b i = record { errors = unbegun-errors t kind.NoHo
 unbegun-steps t kind.Url c b i = tt
 unbegun-steps t kind.Script c b i = tt
 unbegun-steps t kind.Style c b i = tt
-unbegun-steps t kind.ScriptType c b i = before-type-steps (is_typed t) t c b i refl
+unbegun-steps t kind.ScriptType c b i = before-type-steps t.typed t c b i refl
 
-value-errors : (q : Quoting) (t : Tag) (k : Kind) (r : Reference) (c : Class) (b : ℕ) → byte_error (AttributeValue q t (ValueOf k) r) c b ≡ at_hand (quotes_error (tag_of t) (quotes_at q) c)
-value-errors q t k r c b = only-hand (language_error languages (ends_value q c) (ValueOf k) r c b) _ (language-none (ends_value q c) (ValueOf k) r c b)
+value-errors : (q : Quoting) (t : Tag) (k : Kind) (r : Reference) (c : Class) (b : ℕ) → byte_error (AttributeValue q t (ValueOf k) r) c b ≡ at_hand (quotes_error t.tag (quotes_at q) c)
+value-errors q t k r c b =
+    only-hand (language_error languages (ends_value q c) (ValueOf k) r c b) _ (language-none (ends_value q c) (ValueOf k) r c b)
+    ∙ ap (λ (u : Tag). at_hand (quotes_error u.tag (quotes_at q) c)) (same-with t (settled true r) k)
 
 value-steps : (q : Quoting) (t : Tag) (v : Value ValueState) (r : Reference) (c : Class) (b : ℕ) → class_of b ≡ c → WhereScanned (scanned (AttributeValue q t v r)) (λ f. Agrees (AttributeValue q t v r) f c b)
 value-steps q t (ValueOf kind.Plain) r c b i = record { errors = value-errors q t kind.Plain r c b; steps = λ n. value-next q t kind.Plain body.Plain r c b refl n }
@@ -592,7 +549,8 @@ value-steps q t (ValueOf kind.Url) r c b i = tt
 value-steps q t (ValueOf kind.Script) r c b i = tt
 value-steps q t (ValueOf kind.Style) r c b i = tt
 value-steps q t (ValueOf kind.ScriptType) r c b i = tt
-value-steps q t (TypeSoFar before) r c b i = type-steps (is_typed t) q t before r c b i refl
+value-steps q t (Deciding kind.ScriptType before) r c b i = type-steps t.typed q t before r c b i refl
+value-steps q t (Deciding k before) r c b i = tt
 
 pub agrees : (s : LexState ValueState) (c : Class) (b : ℕ) → class_of b ≡ c → WhereScanned (scanned s) (λ f. Agrees s f c b)
 agrees (Text r) c b i = text-steps r c b
@@ -606,8 +564,8 @@ agrees (TagName ends name) c b i = tag-name-steps ends name c b
 agrees (WholeTagName t) c b i = whole-tag-steps t c b
 agrees (BeforeAttributeName t) c b i = record { errors = refl; steps = before-next t c b }
 agrees (AttributeName t name) c b i = attribute-steps t name c b
-agrees (WholeAttributeName t k) c b i = whole-name-steps (is_second_type (is_typed t) k) t k c b refl
-agrees (AfterAttributeName t k) c b i = after-name-steps (is_second_type (is_typed t) k) t k c b refl
+agrees (WholeAttributeName t k) c b i = whole-name-steps (is_second_type t.typed k) t k c b refl
+agrees (AfterAttributeName t k) c b i = after-name-steps (is_second_type t.typed k) t k c b refl
 agrees (BeforeAttributeValue t k) c b i = unbegun-steps t k c b i
 agrees (AttributeValue q t v r) c b i = value-steps q t v r c b i
 agrees (AfterAttributeValue t) c b i = record { errors = refl; steps = before-next t c b }
@@ -661,42 +619,24 @@ comment-ends Inside = record { errors = refl; place = λ n. refl; shown = λ bs.
 comment-ends Broken = record { errors = refl; place = λ n. refl; shown = λ bs. refl }
 comment-ends _ = record { errors = refl; place = λ n. refl; shown = λ bs. refl }
 
--- a name: where it is that of a second `type` it is read as another one
-first-not-second : (typed : Bool) (k : Kind) → is_second_type typed (first_kind typed k) ≡ false
-first-not-second true kind.ScriptType = refl
-first-not-second false kind.ScriptType = refl
-first-not-second typed kind.Plain = refl
-first-not-second typed kind.NoHole = refl
-first-not-second typed kind.Url = refl
-first-not-second typed kind.Script = refl
-first-not-second typed kind.Style = refl
-
-attribute-place : (t : Tag) (k : Kind) → is_second_type (is_typed t) k ≡ false → placed (WholeAttributeName t k) ≡ Some (whole_name_place (tag_of t) (is_typed t) k)
-attribute-place t k e = rw (e, same-typed t k) refl
-
-attribute-ends : (t : Tag) (name : List ℕ) → kind_of (element_on t) name ≡ kind_of (tag_element (tag_of t)) name → Ends (AttributeName t name) (InAttributeName (tag_of t) (is_typed t) name)
-attribute-ends t name e =
-    let k = first_kind (is_typed t) (kind_of (element_on t) name) in
-    let there : placed (at_cut languages (AttributeName t name)) ≡ Some (scan_place (InAttributeName (tag_of t) (is_typed t) name)) =
-    attribute-place t k (first-not-second (is_typed t) (kind_of (element_on t) name)) ∙ ap (λ (z : Kind). Some (whole_name_place (tag_of t) (is_typed t) (first_kind (is_typed t) z))) e in
+attribute-ends : (t : Tag) (name : List ℕ) → Ends (AttributeName t name) (InAttributeName t.tag t.typed name)
+attribute-ends t name =
+    let k = kind_of (element_on t.tag) name in
     record {
-      errors = ap (λ (z : Kind). unless_second (is_second_type (is_typed t) z) (length name) None) e;
-      place = λ n. there;
-      shown = λ bs. there;
+      errors = refl;
+      place = λ n. rw (unless-first (is_second_type t.typed k) (length name) None n, same-typed t k) refl;
+      shown = λ bs. rw (same-typed t k) refl;
     }
 
-whole-name-ends : (second : Bool) (t : Tag) (k : Kind) → is_second_type (is_typed t) k ≡ second
+whole-name-ends : (second : Bool) (t : Tag) (k : Kind) → is_second_type t.typed k ≡ second
     → WhereScanned (if second then None else Some (At (place.Tag (tag_spot t only_inside (Some k))))) (Ends (WholeAttributeName t k))
 whole-name-ends true t k e = tt
 whole-name-ends false t k e = record { errors = refl; place = λ n. rw e refl; shown = λ bs. rw e refl }
 
-after-name-ends : (second : Bool) (t : Tag) (k : Kind) → is_second_type (is_typed t) k ≡ second
+after-name-ends : (second : Bool) (t : Tag) (k : Kind) → is_second_type t.typed k ≡ second
     → WhereScanned (if second then None else Some (At (place.Tag (tag_spot t only_after (Some k))))) (Ends (AfterAttributeName t k))
 after-name-ends true t k e = tt
 after-name-ends false t k e = record { errors = refl; place = λ n. rw e refl; shown = λ bs. rw e refl }
-
-tag-name-ends : (t : Tag) → is_typed t ≡ false → placed (WholeTagName t) ≡ Some (place.Tag (record { tag = tag_of t; typed = false; spots = only_name; kind = None }))
-tag-name-ends t e = rw e refl
 
 -- the body of a value of a kind does not change
 cut-body : (bs : List ℕ) (k : Kind) → value_body (cut_value languages (with_bytes languages (ValueOf k) bs)) ≡ value_body (ValueOf k)
@@ -724,25 +664,25 @@ value-ends q t k x r e = record {
 }
 
 -- in the value of a type there is no place
-type-body : (bs before : List ℕ) → value_body (cut_value languages (with_bytes languages (TypeSoFar before) bs)) ≡ None
+type-body : (bs before : List ℕ) → value_body (cut_value languages (with_bytes languages (Deciding kind.ScriptType before) bs)) ≡ None
 type-body [] before = refl
 type-body (b ∷ bs) before = type-body bs (before ++ b ∷ [])
 
-type-before : (step : ReferenceStep) (before : List ℕ) (c : Class) (f : Form) (bytes : List ℕ) → value_body (cut_value languages (value_before step (TypeSoFar before) c f bytes)) ≡ None
+type-before : (step : ReferenceStep) (before : List ℕ) (c : Class) (f : Form) (bytes : List ℕ) → value_body (cut_value languages (value_before step (Deciding kind.ScriptType before) c f bytes)) ≡ None
 type-before Breaks before c f bytes = type-body (flushed true (is_equals_sign c) f bytes) before
 type-before (Grows g) before c f bytes = refl
 type-before Closes before c f bytes = refl
 
-type-shown : (q : Quoting) (t : Tag) (before : List ℕ) (r : Reference) (bs : List ℕ) → place_before_bytes (AttributeValue q t (TypeSoFar before) r) bs ≡ None
+type-shown : (q : Quoting) (t : Tag) (before : List ℕ) (r : Reference) (bs : List ℕ) → place_before_bytes (AttributeValue q t (Deciding kind.ScriptType before) r) bs ≡ None
 type-shown q t before Closed bs = refl
 type-shown q t before (Open f bytes) [] = rw (type-body (38 ∷ bytes) before) refl
 type-shown q t before (Open f bytes) (b ∷ bs) = rw (type-before (turn (class_of b) f) before (class_of b) f bytes) refl
 
-type-ends : (typed : Bool) (q : Quoting) (t : Tag) (before : List ℕ) (r : Reference) → WhereScanned (if typed then None else Some (InType (tag_of t) q (TypeSoFar before) r)) (Ends (AttributeValue q t (TypeSoFar before) r))
+type-ends : (typed : Bool) (q : Quoting) (t : Tag) (before : List ℕ) (r : Reference) → WhereScanned (if typed then None else Some (InType t.tag q (Deciding kind.ScriptType before) r)) (Ends (AttributeValue q t (Deciding kind.ScriptType before) r))
 type-ends true q t before r = tt
 type-ends false q t before r = record { errors = refl; place = λ n. absurd (some _ n); shown = type-shown q t before r }
 
-begin-type-ends : (typed : Bool) (t : Tag) → WhereScanned (if typed then None else Some (BeforeType (tag_of t))) (Ends (BeforeAttributeValue t kind.ScriptType))
+begin-type-ends : (typed : Bool) (t : Tag) → WhereScanned (if typed then None else Some (BeforeType t.tag)) (Ends (BeforeAttributeValue t kind.ScriptType))
 begin-type-ends true t = tt
 begin-type-ends false t = record { errors = refl; place = λ n. absurd (some _ n); shown = λ bs. refl }
 
@@ -754,30 +694,26 @@ ends-agree (DeclarationOpen r pending) = record { errors = refl; place = λ n. r
 ends-agree (InComment s) = comment-ends s
 ends-agree BogusComment = tt
 ends-agree InDoctype = record { errors = refl; place = λ n. refl; shown = λ bs. refl }
-ends-agree (TagName ends name) = record {
-  errors = refl;
-  place = λ n. tag-name-ends (tag_named ends name) (named-typed ends name);
-  shown = λ bs. tag-name-ends (tag_named ends name) (named-typed ends name);
-}
+ends-agree (TagName ends name) = record { errors = refl; place = λ n. refl; shown = λ bs. refl }
 ends-agree (WholeTagName t) = record { errors = refl; place = λ n. refl; shown = λ bs. refl }
 ends-agree (BeforeAttributeName t) = record { errors = refl; place = λ n. refl; shown = λ bs. refl }
-ends-agree (AttributeName EndTag name) = attribute-ends EndTag name refl
-ends-agree (AttributeName (StartTag e typed) name) = attribute-ends (StartTag e typed) name refl
-ends-agree (WholeAttributeName t k) = whole-name-ends (is_second_type (is_typed t) k) t k refl
-ends-agree (AfterAttributeName t k) = after-name-ends (is_second_type (is_typed t) k) t k refl
+ends-agree (AttributeName t name) = attribute-ends t name
+ends-agree (WholeAttributeName t k) = whole-name-ends (is_second_type t.typed k) t k refl
+ends-agree (AfterAttributeName t k) = after-name-ends (is_second_type t.typed k) t k refl
 ends-agree (BeforeAttributeValue t kind.Plain) = record { errors = refl; place = λ n. refl; shown = λ bs. refl }
 ends-agree (BeforeAttributeValue t kind.NoHole) = record { errors = refl; place = λ n. refl; shown = λ bs. refl }
 ends-agree (BeforeAttributeValue t kind.Url) = tt
 ends-agree (BeforeAttributeValue t kind.Script) = tt
 ends-agree (BeforeAttributeValue t kind.Style) = tt
-ends-agree (BeforeAttributeValue t kind.ScriptType) = begin-type-ends (is_typed t) t
+ends-agree (BeforeAttributeValue t kind.ScriptType) = begin-type-ends t.typed t
 ends-agree (AttributeValue q t (ValueOf kind.Plain) r) = value-ends q t kind.Plain body.Plain r refl
 ends-agree (AttributeValue q t (ValueOf kind.NoHole) r) = value-ends q t kind.NoHole body.NoHole r refl
 ends-agree (AttributeValue q t (ValueOf kind.Url) r) = tt
 ends-agree (AttributeValue q t (ValueOf kind.Script) r) = tt
 ends-agree (AttributeValue q t (ValueOf kind.Style) r) = tt
 ends-agree (AttributeValue q t (ValueOf kind.ScriptType) r) = tt
-ends-agree (AttributeValue q t (TypeSoFar before) r) = type-ends (is_typed t) q t before r
+ends-agree (AttributeValue q t (Deciding kind.ScriptType before) r) = type-ends t.typed q t before r
+ends-agree (AttributeValue q t (Deciding k before) r) = tt
 ends-agree (AfterAttributeValue t) = record { errors = refl; place = λ n. refl; shown = λ bs. refl }
 ends-agree (SelfClosingStartTag t) = record { errors = refl; place = λ n. refl; shown = λ bs. refl }
 ends-agree (InContent e (Characters r) h) = content-ends h e r

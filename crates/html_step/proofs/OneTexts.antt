@@ -8,7 +8,7 @@ use Rattle.place_core.specs.page.Html.{next}
 use Rattle.place_core.specs.page.References.{Closed, Open}
 use Rattle.place_core.specs.place.StatePlaces.{placed}
 use Rattle.place_core.specs.page.States.{Template, LexState, Text, TagOpen, EndTagOpen, DeclarationOpen, Started, StartedDash, Inside, Dash, DashDash, Bang, Broken, InComment, BogusComment, InDoctype, TagName, WholeTagName, BeforeAttributeName, AttributeName, WholeAttributeName, AfterAttributeName, BeforeAttributeValue, AttributeValue, AfterAttributeValue, SelfClosingStartTag, Characters, Bytes, Nothing, PendingLess, PendingName, PendingBang, PendingBangDash, InContent, Unread, LessAtCut}
-use Rattle.place_core.specs.page.Tags.{ValueState, languages, ValueOf, TypeSoFar, is_typed, is_second_type}
+use Rattle.place_core.specs.page.Tags.{ValueState, languages, ValueOf, Deciding, is_second_type}
 use Rattle.place_core.specs.declared.element.Element.TheVariants as element
 use Rattle.place_core.specs.declared.place.Place.{Place}
 use Rattle.place_core.specs.declared.step_err.StepErr.{StepErr}
@@ -45,8 +45,8 @@ at-place (TagName ends name) p e = absurd (none e)
 at-place (WholeTagName t) p e = ap (option_map At) e
 at-place (BeforeAttributeName t) p e = ap (option_map At) e
 at-place (AttributeName t name) p e = absurd (none e)
-at-place (WholeAttributeName t k) p e = first-place (is_second_type (is_typed t) k) _ p e
-at-place (AfterAttributeName t k) p e = first-place (is_second_type (is_typed t) k) _ p e
+at-place (WholeAttributeName t k) p e = first-place (is_second_type t.typed k) _ p e
+at-place (AfterAttributeName t k) p e = first-place (is_second_type t.typed k) _ p e
 at-place (BeforeAttributeValue t kind.ScriptType) p e = absurd (none e)
 at-place (BeforeAttributeValue t kind.Plain) p e = ap (option_map At) e
 at-place (BeforeAttributeValue t kind.NoHole) p e = ap (option_map At) e
@@ -54,7 +54,7 @@ at-place (BeforeAttributeValue t kind.Url) p e = absurd (none e)
 at-place (BeforeAttributeValue t kind.Script) p e = absurd (none e)
 at-place (BeforeAttributeValue t kind.Style) p e = absurd (none e)
 at-place (AttributeValue q t (ValueOf v) Closed) p e = ap (option_map At) e
-at-place (AttributeValue q t (TypeSoFar before) Closed) p e = absurd (none e)
+at-place (AttributeValue q t (Deciding k before) Closed) p e = absurd (none e)
 at-place (AttributeValue q t v (Open f bytes)) p e = absurd (none e)
 at-place (AfterAttributeValue t) p e = ap (option_map At) e
 at-place (SelfClosingStartTag t) p e = ap (option_map At) e

@@ -3,8 +3,8 @@ use Rattle.std.proofs.Common.{◌≡◌, ℕ, Bool, true, false, ◌||◌, ◌&&
 use Rattle.std.specs.Option.{is_some}
 use Rattle.place_core.specs.page.Classes.{Class, White, ExclamationMark, QuotationMark, Apostrophe, HyphenMinus, Solidus, LessThan, EqualsSign, GreaterThan, GraveAccent}
 use Rattle.place_core.specs.place.Errors.{at_hand, attribute_name_error, bare_error, body_error, comment_error, content_error, equals_error, first_error, kind_error, place_error, quotes_error, tag_error, unless_second, value_error, block_error}
-use Rattle.place_core.specs.place.Places.{Below, Has, IsValid, IsValidQuotes, IsValidTag, both_bare, is_rcdata, is_whole, joined_kinds, joined_quotes, joined_bodies, some_bare, typed_has}
-use Rattle.place_core.specs.place.StatePlaces.{body_at, only_after, only_before, only_inside, unbegun}
+use Rattle.place_core.specs.place.Places.{Below, Has, IsValid, IsValidQuotes, IsValidTag, both_bare, is_whole, joined_kinds, joined_quotes, joined_bodies, some_bare, typed_has}
+use Rattle.place_core.specs.place.StatePlaces.{only_after, only_before, only_inside, unbegun}
 use Rattle.place_core.specs.page.Words.{kind_of}
 use Rattle.place_core.specs.declared.bare.Bare.{Bare}
 use Rattle.place_core.specs.declared.body.Body.{Body}
@@ -28,10 +28,10 @@ use Rattle.place_core.specs.declared.value_place.ValuePlace.{ValuePlace}
 use Rattle.place_core.proofs.JoinParts.{kinds_partial}
 use Rattle.place_core.proofs.Joins.{places_same}
 use Rattle.place_core.proofs.Semilattices.{none_some, one_value}
-use Rattle.html_scan.specs.Scans.{Scan, At, AfterLess, AfterLessSolidus, InDeclaration, InTagName, InAttributeName, InCommentEnd, InContentEnd, after_white, bare_begun, attribute_name_next, bare_next, bare_white, comment_next, comment_state, content_scan, scan_next, scan_error, scan_place, scan_cut_error, in_tag, quoted_next, tag_element, tag_next, typed_with, value_scan, with_quotes, BeforeType, InType, rest_place, content_next}
+use Rattle.html_scan.specs.Scans.{Scan, At, AfterLess, AfterLessSolidus, InDeclaration, InTagName, InAttributeName, InCommentEnd, InContentEnd, after_white, bare_begun, attribute_name_next, bare_next, bare_white, comment_next, comment_state, content_scan, scan_next, scan_error, scan_place, scan_cut_error, in_tag, quoted_next, tag_next, typed_with, value_scan, with_quotes, BeforeType, InType, rest_place, content_next}
 use Rattle.html_step.proofs.OnePath.{none-at-hand, none-unless, some}
 use Rattle.html_step.proofs.PlaceParts.{Under, under-false, under-same, under-both, TagBelow, ValueBelow, below-tag, tag-below, below-value, value-below, below-rcdata, same-kinds}
-use Rattle.place_core.specs.page.Tags.{is_second_type, first_kind}
+use Rattle.place_core.specs.page.Tags.{is_second_type, element_on}
 
 -- Between lexemes by the order of places. In a name of an attribute it only matters whether a `type` may have been seen.
 abbrev pub ScanBelow : Scan → Scan → Type 0
@@ -325,9 +325,9 @@ pub unless-grows : (x y : Bool) (len : ℕ) (o : Option Code) (k : Kind) → Und
 unless-grows x y len o k u n = rw (second-grows x y k u (unless-false (is_second_type y k) len o n)) (hand-none o (none-unless (is_second_type y k) len o n))
 
 pub typed-under : (t : TagOf) (x y : Bool) (k : Kind) → Under x y → Under (typed_with t x k) (typed_with t y k)
-typed-under tag.End x y k u = u
+typed-under tag.End x y kind.ScriptType u = u
 typed-under (tag.Start e) x y kind.ScriptType u = refl
-typed-under (tag.Start e) x y _ u = u
+typed-under t x y _ u = u
 
 name-grows : (t : TagOf) (x y : Bool) (k : Kind) (name : List ℕ) (c : Class) (b : ℕ) → Under x y → attribute_name_error t y k (length name) c ≡ None
     → (attribute_name_error t x k (length name) c ≡ None) × ScanBelow (attribute_name_next c b t x k name) (attribute_name_next c b t y k name)
@@ -343,7 +343,7 @@ name-grows t x y k name _ b u n = (refl, (refl, u, refl))
 attribute-grows : (t u : TagOf) (x y : Bool) (m n : List ℕ) (c : Class) (b : ℕ) → t ≡ u → Under x y → m ≡ n → scan_error (InAttributeName u y n) c b ≡ None → Grows (InAttributeName t x m) (InAttributeName u y n) c b
 attribute-grows t u x y m n c b e h f o =
     subst (λ (v : TagOf). scan_error (InAttributeName v y n) c b ≡ None → Grows (InAttributeName t x m) (InAttributeName v y n) c b) e
-    (λ o. subst (λ (l : List ℕ). scan_error (InAttributeName t y l) c b ≡ None → Grows (InAttributeName t x m) (InAttributeName t y l) c b) f (λ o. name-grows t x y (kind_of (tag_element t) m) m c b h o) o) o
+    (λ o. subst (λ (l : List ℕ). scan_error (InAttributeName t y l) c b ≡ None → Grows (InAttributeName t x m) (InAttributeName t y l) c b) f (λ o. name-grows t x y (kind_of (element_on t) m) m c b h o) o) o
 
 pub scan-grows : (f g : Scan) (c : Class) (b : ℕ) → ScanValid f → ScanBelow f g → scan_error g c b ≡ None → Grows f g c b
 scan-grows (At x) (At y) c b v h n = place-grows x y c b v h n
@@ -383,17 +383,10 @@ Ends f g = (scan_cut_error f ≡ None) × Below (scan_place f) (scan_place g)
 same-ends : (f g : Scan) → f ≡ g → scan_cut_error g ≡ None → Ends f g
 same-ends f g e n = (ap scan_cut_error e ∙ n, subst (λ (h : Scan). Below (scan_place f) (scan_place h)) e (places_same (scan_place f)))
 
--- where it is accepted, a name is no second `type`
-first-is : (typed : Bool) (k : Kind) → is_second_type typed k ≡ false → first_kind typed k ≡ k
-first-is typed k e = rw e refl
-
 name-ends : (t : TagOf) (x y : Bool) (m : List ℕ) → Under x y → scan_cut_error (InAttributeName t y m) ≡ None → Ends (InAttributeName t x m) (InAttributeName t y m)
 name-ends t x y m u n =
-    let k = kind_of (tag_element t) m in
-    let no_second : is_second_type y k ≡ false = unless-false (is_second_type y k) (length m) None n in
-    let one : first_kind x k ≡ k = first-is x k (second-grows x y k u no_second) in
-    let other : first_kind y k ≡ k = first-is y k no_second in
-    (unless-grows x y (length m) None k u n, rw (one, other) (one-spot t t (typed_with t x k) (typed_with t y k) only_inside (Some k) refl (typed-under t x y k u)))
+    let k = kind_of (element_on t) m in
+    (unless-grows x y (length m) None k u n, one-spot t t (typed_with t x k) (typed_with t y k) only_inside (Some k) refl (typed-under t x y k u))
 
 attribute-ends : (t u : TagOf) (x y : Bool) (m l : List ℕ) → t ≡ u → Under x y → m ≡ l → scan_cut_error (InAttributeName u y l) ≡ None → Ends (InAttributeName t x m) (InAttributeName u y l)
 attribute-ends t u x y m l e h f n =

@@ -1,7 +1,7 @@
 -- Whole texts: what is refused is shown by one path or by two, and what is accepted by none.
 use Rattle.std.proofs.Common.{◌≡◌, ℕ, ◌+◌, ◌-◌, zero, suc, List, [], ◌∷◌, Option, Some, None, Result, Ok, Err, refl, sym, ap, ◌∙◌, subst, arith, inl, inr}
 use Rattle.place_core.specs.page.Classes.{Class, White, class_of}
-use Rattle.place_core.specs.place.Errors.{PathCause, PathRefusal, PathRefuses, Clashes, byte_clash, byte_error, refusal_from}
+use Rattle.place_core.specs.place.Errors.{PathCause, PathRefusal, PathRefuses, Clashes, byte_clash, byte_error}
 use Rattle.place_core.specs.page.Html.{next}
 use Rattle.place_core.specs.place.Membership.{IsIn, Bears}
 use Rattle.place_core.specs.place.Places.{IsValid}
@@ -173,7 +173,7 @@ pub evidence-text : TextEvidence
 evidence-text bytes p e v h = (shows bytes (At p), evidence-text-at bytes p e v h)
 
 -- What is accepted is refused on no path, and on no two.
-none-refused : (r : PathRefusal) (o : Option PathRefusal) → o ≡ None → o ≡ Some r → ⊥
+pub none-refused : (r : PathRefusal) (o : Option PathRefusal) → o ≡ None → o ≡ Some r → ⊥
 none-refused r o e f = let same : None ≡ Some r = sym e ∙ f in cc
 
 no-clash : (s t : LexState ValueState) (g h f : Scan) (c : Class) (b : ℕ) (e : Code) → scanned s ≡ Some g → scanned t ≡ Some h → ScanBelow g f → ScanBelow h f → scan_error f c b ≡ None → byte_clash s t c b ≡ Some e → ⊥
@@ -200,7 +200,7 @@ never-clashes (b ∷ bs) k f q s t g h e (suc at) i j v w l m o c =
 
 pub accepts-text : AcceptsText
 accepts-text bytes p q s v e i = (
-  λ x r. (let g = grows-text bytes i.own p q i.valid v i.below e in
-      none-refused (record { code = x.code; at = x.at; shown = r.shown }) (refusal_from 0 bytes s) ((one-text bytes i.own s i.stands).0 g.0 g.1).0 r.stands),
+  (let g = grows-text bytes i.own p q i.valid v i.below e in
+      ((one-text bytes i.own s i.stands).0 g.0 g.1).0),
   λ t x at j c. never-clashes bytes 0 (At p) q s t (At i.own) (At j.own) x at (at-place s i.own i.stands) (at-place t j.own j.stands) i.valid j.valid i.below j.below (text-steps bytes p q e) c,
 )

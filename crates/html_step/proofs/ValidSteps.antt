@@ -4,9 +4,8 @@ use Rattle.place_core.specs.page.Classes.{Class, White, QuotationMark, Apostroph
 use Rattle.place_core.specs.page.Comments.{Declaration, OpensComment, OpensDoctype, Undecided, OpensNothing, closes_comment, declared_by, next_comment}
 use Rattle.place_core.specs.page.Contents.{is_name_of, may_be_name_of}
 use Rattle.place_core.specs.place.Places.{IsValid, IsValidBody, IsValidTag, is_rcdata}
-use Rattle.place_core.specs.place.StatePlaces.{tag_of}
 use Rattle.place_core.specs.page.States.{CommentState, Inside, Broken, Pending, Nothing, PendingLess, PendingName, PendingBang, PendingBangDash, LessAtCut}
-use Rattle.place_core.specs.page.Tags.{tag_named, Quoting, DoubleQuoted, SingleQuoted, Unquoted, Value, TypeSoFar, ValueState}
+use Rattle.place_core.specs.page.Tags.{tag_of_name, element_on, Quoting, DoubleQuoted, SingleQuoted, Unquoted, Value, ValueState}
 use Rattle.place_core.specs.page.Words.{kind_of}
 use Rattle.place_core.specs.declared.element.Element.{Element}
 use Rattle.place_core.specs.declared.element.Element.TheVariants as element
@@ -20,7 +19,7 @@ use Rattle.place_core.specs.declared.tag_of.TagOf.{TagOf}
 use Rattle.place_core.specs.declared.tag_of.TagOf.TheVariants as tag
 use Rattle.place_core.specs.declared.tag_place.TagPlace.{TagPlace}
 use Rattle.place_core.specs.declared.value_place.ValuePlace.{ValuePlace}
-use Rattle.html_scan.specs.Scans.{Scan, At, AfterLess, AfterLessSolidus, InDeclaration, InTagName, InAttributeName, InCommentEnd, InContentEnd, attribute_name_next, bare_white, comment_closed, comment_scan, comment_next, comment_state, content_end_next, content_scan, content_next, declaration_next, end_name_next, scan_next, scan_place, quoted_next, tag_element, tag_name_next, tag_next, value_scan, BeforeType, InType, rest_place, content_end_place, pending_less_next, before_type_next, after_type, type_next, type_tag, ended_type}
+use Rattle.html_scan.specs.Scans.{Scan, At, AfterLess, AfterLessSolidus, InDeclaration, InTagName, InAttributeName, InCommentEnd, InContentEnd, attribute_name_next, bare_white, comment_closed, comment_scan, comment_next, comment_state, content_end_next, content_scan, content_next, declaration_next, end_name_next, scan_next, scan_place, quoted_next, tag_name_next, tag_next, value_scan, BeforeType, InType, rest_place, content_end_place, pending_less_next, before_type_next, after_type, type_next, type_begun, type_tag, ended_type}
 use Rattle.html_step.proofs.ScanOrder.{ScanValid}
 use Rattle.place_core.specs.page.Html.{ends_value}
 use Rattle.place_core.specs.page.References.{Reference}
@@ -128,7 +127,7 @@ declaration-valid OpensNothing _ b pending = tt
 name-valid : (c : Class) (b : ℕ) (ends : Bool) (name : List ℕ) → ScanValid (tag_name_next c b ends name)
 name-valid White b ends name = (refl, refl)
 name-valid Solidus b ends name = (refl, refl)
-name-valid GreaterThan b ends name = content-valid (tag_of (tag_named ends name))
+name-valid GreaterThan b ends name = content-valid (tag_of_name ends name)
 name-valid _ b ends name = tt
 
 attribute-valid : (c : Class) (b : ℕ) (t : TagOf) (typed : Bool) (k : Kind) (name : List ℕ) → ScanValid (attribute_name_next c b t typed k name)
@@ -166,7 +165,7 @@ content-end-valid LessAtCut c b e v = loose-valid c e v
 content-end-valid PendingBangDash c b e v = loose-valid c e v
 
 before-type-valid : (t : TagOf) (c : Class) (b : ℕ) → ScanValid (before_type_next c b t)
-before-type-valid t GreaterThan b = content-valid (type_tag t (TypeSoFar []))
+before-type-valid t GreaterThan b = content-valid (type_tag t type_begun)
 before-type-valid t _ b = tt
 
 after-type-valid : (q : Quoting) (c : Class) (t : TagOf) → ScanValid (after_type q c t)
@@ -188,7 +187,7 @@ scan-valid AfterLessSolidus LessThan b v = tt
 scan-valid AfterLessSolidus _ b v = tt
 scan-valid (InDeclaration pending) c b v = declaration-valid (declared_by (pending ++ b ∷ [])) c b pending
 scan-valid (InTagName ends name) c b v = name-valid c b ends name
-scan-valid (InAttributeName t typed name) c b v = attribute-valid c b t typed (kind_of (tag_element t) name) name
+scan-valid (InAttributeName t typed name) c b v = attribute-valid c b t typed (kind_of (element_on t) name) name
 scan-valid (InCommentEnd s) c b v = comment-valid s c
 scan-valid (InContentEnd e h) c b v = content-end-valid h c b e v
 scan-valid (BeforeType t) c b v = before-type-valid t c b

@@ -62,7 +62,7 @@ TextEvidence = (bytes : List ℕ) (p : Place) (e : StepErr Place) → IsValid p 
 -- Where a text is accepted, no path that the place stands for is refused, and no two of them are refused together.
 abbrev pub AcceptsText : Type 0
 AcceptsText = (bytes : List ℕ) (p q : Place) (s : LexState ValueState) → IsValid p → after_text bytes p ≡ Ok q → IsIn p s →
-    ((e : StepErr Place) → PathRefuses bytes s e → ⊥)
+    (refusal_from 0 bytes s ≡ None)
     × ((r : LexState ValueState) (e : Code) (at : ℕ) → IsIn p r → Clashes bytes s r e at → ⊥)
 
 -- A valid place below another one is accepted where that one is, and comes to one below.

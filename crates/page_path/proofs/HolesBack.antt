@@ -13,7 +13,7 @@ use Rattle.place_core.specs.place.Places.{IsValid}
 use Rattle.place_core.specs.page.References.{Closed, Reference}
 use Rattle.place_core.specs.place.StatePlaces.{content_spot, only_after, only_inside, placed, tag_spot, quotes_at, value_body, value_spot, where_closed}
 use Rattle.place_core.specs.page.States.{AfterAttributeName, AfterAttributeValue, AttributeValue, BeforeAttributeName, BeforeAttributeValue, Broken, Bytes, Characters, CommentState, Content, Pending, InComment, InContent, Inside, LessAtCut, Nothing, SelfClosingStartTag, LexState, Text, WholeAttributeName}
-use Rattle.place_core.specs.page.Tags.{DoubleQuoted, Quoting, SingleQuoted, Tag, Unquoted, Value, ValueOf, ValueState, is_second_type, is_typed, languages, without_value}
+use Rattle.place_core.specs.page.Tags.{DoubleQuoted, Quoting, SingleQuoted, Tag, Unquoted, Value, ValueOf, ValueState, is_second_type, languages, without_value}
 use Rattle.place_core.specs.declared.chain.Chain.{Chain}
 use Rattle.place_core.specs.declared.element.Element.{Element}
 use Rattle.place_core.specs.declared.element.Element.TheVariants as element
@@ -152,8 +152,8 @@ safe-at (Text Closed) = in-text
 safe-at (InComment Inside) = in-comment Inside
 safe-at (InComment Broken) = in-comment Broken
 safe-at (BeforeAttributeName tag) = before-name (BeforeAttributeName tag) tag refl refl (λ datum bytes h. h)
-safe-at (AfterAttributeName tag k) = after-name-safe (is_second_type (is_typed tag) k) tag k
-safe-at (WholeAttributeName tag k) = whole-name-safe (is_second_type (is_typed tag) k) tag k
+safe-at (AfterAttributeName tag k) = after-name-safe (is_second_type tag.typed k) tag k
+safe-at (WholeAttributeName tag k) = whole-name-safe (is_second_type tag.typed k) tag k
 safe-at (AfterAttributeValue tag) = before-name (AfterAttributeValue tag) tag refl refl (λ datum bytes h. h)
 safe-at (SelfClosingStartTag tag) = before-name (SelfClosingStartTag tag) tag refl refl (λ datum bytes h. h)
 safe-at (BeforeAttributeValue tag kind.Plain) = before-value tag

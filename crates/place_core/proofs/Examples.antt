@@ -6,7 +6,7 @@ use Rattle.place_core.specs.page.Events.{Escape, StartTagBegins, EndTagBegins, A
 use Rattle.place_core.specs.page.Html.{read, start}
 use Rattle.place_core.specs.page.References.{Closed, Open, Named, meaning, flushed, undone}
 use Rattle.place_core.specs.page.States.{Page, Template, Text, InComment, Inside, Unread, AttributeValue, BeforeAttributeValue, config}
-use Rattle.place_core.specs.page.Tags.{StartTag, ValueOf, Unquoted}
+use Rattle.place_core.specs.page.Tags.{tag_named, ValueOf, Unquoted}
 use Rattle.place_core.specs.page.Utf8.{Before, decoded}
 use Rattle.place_core.specs.page.Words.{kind_of, is_special, is_script_type}
 use Rattle.place_core.specs.declared.element.Element.TheVariants as element
@@ -47,11 +47,11 @@ unfolding class_of meaning flushed lib.Utf8.encode
 first_type = refl
 
 -- a value that is not begun, and one that is
-unbegun : (read Page (codes "<p title= ") start).at ≡ BeforeAttributeValue (StartTag element.Other false) kind.Plain
+unbegun : (read Page (codes "<p title= ") start).at ≡ BeforeAttributeValue (tag_named false (codes "p")) kind.Plain
 unfolding class_of meaning flushed lib.Utf8.encode
 unbegun = refl
 
-unquoted : (read Page (codes "<p title=a&l") start).at ≡ AttributeValue Unquoted (StartTag element.Other false) (ValueOf kind.Plain) (Open Named (codes "l"))
+unquoted : (read Page (codes "<p title=a&l") start).at ≡ AttributeValue Unquoted (tag_named false (codes "p")) (ValueOf kind.Plain) (Open Named (codes "l"))
 unfolding class_of meaning flushed lib.Utf8.encode
 unquoted = refl
 

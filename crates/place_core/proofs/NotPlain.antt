@@ -4,7 +4,7 @@ use Rattle.place_core.specs.page.Classes.{class_of}
 use Rattle.place_core.specs.page.Plain.{IsPlain}
 use Rattle.place_core.specs.page.References.{Closed, meaning, flushed}
 use Rattle.place_core.specs.page.States.{Text, TagOpen, BeforeAttributeName, BeforeAttributeValue, AttributeValue, InContent, Characters, Bytes, Nothing, PendingName, config}
-use Rattle.place_core.specs.page.Tags.{StartTag, ValueOf, DoubleQuoted, Unquoted}
+use Rattle.place_core.specs.page.Tags.{tag_named, ValueOf, DoubleQuoted, Unquoted}
 use Rattle.place_core.specs.declared.element.Element.TheVariants as element
 use Rattle.place_core.specs.declared.kind.Kind.TheVariants as kind
 
@@ -36,26 +36,26 @@ in_end_tag : IsPlain (codes "ript>") (config (InContent element.DataBlock Bytes 
 unfolding class_of meaning flushed lib.Utf8.encode
 in_end_tag p = p.1
 
-quote_in_value : IsPlain (codes "\"") (config (AttributeValue DoubleQuoted (StartTag element.Other false) (ValueOf kind.Plain) Closed) []) → ⊥
+quote_in_value : IsPlain (codes "\"") (config (AttributeValue DoubleQuoted (tag_named false (codes "p")) (ValueOf kind.Plain) Closed) []) → ⊥
 unfolding class_of meaning flushed lib.Utf8.encode
 quote_in_value p = cc
 
-in_handler : IsPlain (codes "a") (config (AttributeValue DoubleQuoted (StartTag element.Other false) (ValueOf kind.Script) Closed) []) → ⊥
+in_handler : IsPlain (codes "a") (config (AttributeValue DoubleQuoted (tag_named false (codes "p")) (ValueOf kind.Script) Closed) []) → ⊥
 unfolding class_of meaning flushed lib.Utf8.encode
 in_handler p = p.1
 
-blank_in_unquoted : IsPlain (codes "a b") (config (AttributeValue Unquoted (StartTag element.Other false) (ValueOf kind.Plain) Closed) []) → ⊥
+blank_in_unquoted : IsPlain (codes "a b") (config (AttributeValue Unquoted (tag_named false (codes "p")) (ValueOf kind.Plain) Closed) []) → ⊥
 unfolding class_of meaning flushed lib.Utf8.encode
 blank_in_unquoted p = cc
 
-empty_unquoted : IsPlain [] (config (BeforeAttributeValue (StartTag element.Other false) kind.Plain) []) → ⊥
+empty_unquoted : IsPlain [] (config (BeforeAttributeValue (tag_named false (codes "p")) kind.Plain) []) → ⊥
 unfolding class_of meaning flushed lib.Utf8.encode
 empty_unquoted p = cc
 
-handler_name : IsPlain (codes "onclick") (config (BeforeAttributeName (StartTag element.Other false)) []) → ⊥
+handler_name : IsPlain (codes "onclick") (config (BeforeAttributeName (tag_named false (codes "p"))) []) → ⊥
 unfolding class_of meaning flushed lib.Utf8.encode
 handler_name p = cc
 
-two_names : IsPlain (codes "a b") (config (BeforeAttributeName (StartTag element.Other false)) []) → ⊥
+two_names : IsPlain (codes "a b") (config (BeforeAttributeName (tag_named false (codes "p"))) []) → ⊥
 unfolding class_of meaning flushed lib.Utf8.encode
 two_names p = cc

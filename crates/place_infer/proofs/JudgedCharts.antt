@@ -1,12 +1,10 @@
 -- The chart that was found, as it is judged.
-use Rattle.std.proofs.Common.{◌≡◌, true, false, ℕ, zero, suc, ◌+◌, ◌*◌, ◌<◌, ◌≤◌, List, [], ◌∷◌, All, length, refl, sym, ap, ◌∙◌, subst, Option, Some, None, inl, inr, ◌⊎◌, arith}
+use Rattle.std.proofs.Common.{◌≡◌, true, false, ℕ, zero, suc, ◌<◌, ◌≤◌, List, [], ◌∷◌, All, length, refl, ap, ◌∙◌, subst, Option, Some, None, inl, inr, arith}
 use Rattle.std.proofs.lemmas.List.Elements.{All-contains}
 use Rattle.std.specs.Prelude.{Contains, true, false, slice_index_or}
 use Rattle.place_flow.proofs.HtmlCovers.{chart-covers}
 use Rattle.place_core.specs.declared.place.Place.TheVariants as place
 use Rattle.place_core.specs.page.Html.{start}
-use Rattle.place_flow.specs.Flows.{point_number}
-use Rattle.place_flow.specs.declared.point_state.PointState.TheVariants.{Unreached}
 use Rattle.place_infer.specs.ChartViews.{ArePairCalls, ChartData}
 use Rattle.place_infer.specs.Inferring.{EndsInText, HasTooManyPairs, IsChartOfSet, IsRefusal, HasConflictIn, SetRefuses, most_pairs, root_numbers, with_number}
 use Rattle.place_infer.specs.declared.set_refused.SetRefused.{SetRefused}
@@ -17,7 +15,7 @@ use Rattle.place_chart.specs.Charts.{IsEntered}
 use Rattle.place_chart.specs.Least.{IsLeastChart}
 use Rattle.place_chart.specs.Summaries.{IsConflictFreeSummary, chart_of}
 use Rattle.place_chart.specs.declared.summary.Summary.{Summary}
-use Rattle.tpl_paths.specs.Edges.{Point, finish_point}
+use Rattle.tpl_paths.specs.Edges.{finish_point}
 use Rattle.tpl_paths.specs.declared.point.Point.TheVariants as point
 use Rattle.tpl_tree.specs.Forests.{ForestData, number_named}
 

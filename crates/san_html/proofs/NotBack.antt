@@ -5,7 +5,7 @@ use Rattle.place_core.specs.page.Events.{ValueByte}
 use Rattle.place_core.specs.page.Html.{read}
 use Rattle.place_core.specs.page.References.{meaning, flushed}
 use Rattle.place_core.specs.page.States.{Page, AfterAttributeValue, BeforeAttributeName, Config, config}
-use Rattle.place_core.specs.page.Tags.{EndTag, ValueOf, ValueState, TypeSoFar, DoubleQuoted}
+use Rattle.place_core.specs.page.Tags.{end_tag, ValueOf, ValueState, Deciding, DoubleQuoted}
 use Rattle.place_core.specs.declared.element.Element.TheVariants as element
 use Rattle.place_core.specs.declared.kind.Kind.TheVariants as kind
 use Rattle.san_html.specs.ReadBack.{in_value, IsBackInText, IsBackInRcdata, IsBackInBlock, IsBackInQuoted, IsBackInUnquoted, IsBackInTag}
@@ -32,23 +32,23 @@ end_of_block : IsBackInBlock (codes "</script>") (codes "</script>") → ⊥
 unfolding class_of meaning flushed lib.Utf8.encode
 end_of_block h = no (h.plain []).1.1
 
-after_and_in : AfterAttributeValue EndTag ≡ in_value DoubleQuoted EndTag (ValueOf kind.Plain) → ⊥
+after_and_in : AfterAttributeValue end_tag ≡ in_value DoubleQuoted end_tag (ValueOf kind.Plain) → ⊥
 after_and_in e = cc
 
 quote : IsBackInQuoted (codes "\"") (codes "\"") → ⊥
 unfolding class_of meaning flushed lib.Utf8.encode
-quote h = after_and_in (h.plain DoubleQuoted EndTag [] refl).1.0
+quote h = after_and_in (h.plain DoubleQuoted end_tag [] refl).1.0
 
 blank : IsBackInUnquoted (codes "a b") (codes "a b") → ⊥
 unfolding class_of meaning flushed lib.Utf8.encode
-blank h = no (h.plain EndTag []).1.emitted
+blank h = no (h.plain end_tag []).1.emitted
 
 empty : IsBackInUnquoted [] [] → ⊥
-empty h = (h.plain EndTag []).1.some refl
+empty h = (h.plain end_tag []).1.some refl
 
 handler : IsBackInTag (codes "onclick") (codes "onclick") → ⊥
 unfolding class_of
-handler h = true≢false (h.plain (BeforeAttributeName EndTag) EndTag [] refl).1.harmless
+handler h = true≢false (h.plain (BeforeAttributeName end_tag) end_tag [] refl).1.harmless
 
-type_goes_on : IsBackInQuoted (codes "on") (codes "on") → read Page (codes "on") (config (in_value DoubleQuoted EndTag (TypeSoFar (codes "js"))) []) ≡ config (in_value DoubleQuoted EndTag (TypeSoFar (codes "json"))) (ValueByte 110 ∷ ValueByte 111 ∷ [])
-type_goes_on h = h.reads DoubleQuoted EndTag (TypeSoFar (codes "js")) [] refl
+type_goes_on : IsBackInQuoted (codes "on") (codes "on") → read Page (codes "on") (config (in_value DoubleQuoted end_tag (Deciding kind.ScriptType (codes "js"))) []) ≡ config (in_value DoubleQuoted end_tag (Deciding kind.ScriptType (codes "json"))) (ValueByte 110 ∷ ValueByte 111 ∷ [])
+type_goes_on h = h.reads DoubleQuoted end_tag (Deciding kind.ScriptType (codes "js")) [] refl

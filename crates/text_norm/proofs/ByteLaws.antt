@@ -6,9 +6,8 @@ use Rattle.place_core.specs.page.Comments.{Declaration, OpensComment, OpensDocty
 use Rattle.place_core.specs.page.Contents.{may_be_name_of, is_name_of}
 use Rattle.place_core.specs.page.References.{Reference, Closed, Open, ReferenceStep, Grows, Closes, Breaks, turn, reference_turned, as_it_stands, begin_reference, next_reference, plain_bytes}
 use Rattle.place_core.specs.page.States.{CommentState, Started, StartedDash, Inside, Dash, DashDash, Bang, Broken, Pending, Nothing, PendingLess, LessAtCut, PendingName, PendingBang, PendingBangDash}
-use Rattle.place_core.specs.place.StatePlaces.{tag_of}
 use Rattle.place_core.specs.page.Html.{ends_value}
-use Rattle.place_core.specs.page.Tags.{tag_named, TypeSoFar, Value, ValueState, Quoting, DoubleQuoted, SingleQuoted, Unquoted}
+use Rattle.place_core.specs.page.Tags.{element_on, tag_of_name, Value, ValueState, Quoting, DoubleQuoted, SingleQuoted, Unquoted}
 use Rattle.place_core.specs.page.Words.{kind_of}
 use Rattle.place_core.specs.declared.element.Element.{Element}
 use Rattle.place_core.specs.declared.element.Element.TheVariants as element
@@ -23,7 +22,7 @@ use Rattle.place_core.specs.declared.tag_of.TagOf.TheVariants as tag
 use Rattle.place_core.specs.declared.tag_place.TagPlace.{TagPlace}
 use Rattle.place_core.specs.declared.value_place.ValuePlace.{ValuePlace}
 use Rattle.std.proofs.Common.{Option, Some, None}
-use Rattle.html_scan.specs.Scans.{Scan, At, AfterLess, AfterLessSolidus, InDeclaration, InTagName, InAttributeName, InCommentEnd, InContentEnd, BeforeType, InType, after_type, attribute_name_next, bare_next, before_type_next, bare_white, comment_closed, comment_scan, comment_next, comment_state, content_end_next, content_scan, content_next, declaration_next, doctype_next, end_name_next, ended_type, in_type, pending_less_next, bang_next, scan_next, quoted_next, tag_element, tag_name_next, tag_next, text_scan, type_next, type_tag, value_scan}
+use Rattle.html_scan.specs.Scans.{Scan, At, AfterLess, AfterLessSolidus, InDeclaration, InTagName, InAttributeName, InCommentEnd, InContentEnd, BeforeType, InType, after_type, attribute_name_next, bare_next, before_type_next, bare_white, comment_closed, comment_scan, comment_next, comment_state, content_end_next, content_scan, content_next, declaration_next, doctype_next, end_name_next, ended_type, in_type, pending_less_next, bang_next, scan_next, quoted_next, tag_name_next, tag_next, text_scan, type_next, type_tag, value_scan, type_begun}
 use Rattle.text_norm.specs.Scanned.{declaration_open, scan_open, scan_out}
 use Rattle.text_norm.specs.Kept.{bears, change_of, scan_kept, hides, less_kept, reference_kept, stays}
 use Rattle.text_norm.specs.Written.{declaration_out, end_name_out, text_escaped, loose_out, reference_out, text_out, turn_out}
@@ -322,7 +321,7 @@ loose-tag_name Digit b ends name = record { less = refl; shown = refl }
 loose-tag_name Semicolon b ends name = record { less = refl; shown = refl }
 loose-tag_name LessThan b ends name = record { less = refl; shown = refl }
 loose-tag_name EqualsSign b ends name = record { less = refl; shown = refl }
-loose-tag_name GreaterThan b ends name = loose-content (tag_of (tag_named ends name))
+loose-tag_name GreaterThan b ends name = loose-content (tag_of_name ends name)
 loose-tag_name QuestionMark b ends name = record { less = refl; shown = refl }
 loose-tag_name GraveAccent b ends name = record { less = refl; shown = refl }
 loose-tag_name (Letter l) b ends name = record { less = refl; shown = refl }
@@ -783,13 +782,13 @@ in_block h c b r closed = without_references (InContentEnd element.DataBlock h) 
 -- the value of a script's `type`
 before_type : (c : Class) (b : ℕ) (t : TagOf) (r : Reference) → Spelled c b → KeepsBytes (BeforeType t) (before_type_next c b t) r (next_reference r c b) c b (reference_out r c b)
 before_type White b t r p = with_references (BeforeType t) (BeforeType t) r White b p refl refl (λ h. absurd (yes h)) refl refl refl refl
-before_type QuotationMark b t r p = with_references (BeforeType t) (InType t DoubleQuoted (TypeSoFar []) Closed) r QuotationMark b p refl refl (λ h. absurd (yes h)) refl refl refl refl
-before_type Apostrophe b t r p = with_references (BeforeType t) (InType t SingleQuoted (TypeSoFar []) Closed) r Apostrophe b p refl refl (λ h. absurd (yes h)) refl refl refl refl
+before_type QuotationMark b t r p = with_references (BeforeType t) (InType t DoubleQuoted type_begun Closed) r QuotationMark b p refl refl (λ h. absurd (yes h)) refl refl refl refl
+before_type Apostrophe b t r p = with_references (BeforeType t) (InType t SingleQuoted type_begun Closed) r Apostrophe b p refl refl (λ h. absurd (yes h)) refl refl refl refl
 before_type GreaterThan b t r p =
-    let g = content_scan (type_tag t (TypeSoFar [])) in
-    let loose = loose-content (type_tag t (TypeSoFar [])) in
+    let g = content_scan (type_tag t type_begun) in
+    let loose = loose-content (type_tag t type_begun) in
     with_references (BeforeType t) g r GreaterThan b p refl loose.less (λ h. ends_at_greater r b) loose.shown refl refl refl
-before_type c b t r p = with_references (BeforeType t) (in_type t Unquoted (TypeSoFar []) Closed b) r c b p refl refl (λ h. absurd (yes h)) refl refl refl refl
+before_type c b t r p = with_references (BeforeType t) (in_type t Unquoted type_begun Closed b) r c b p refl refl (λ h. absurd (yes h)) refl refl refl refl
 
 ends_with_value : (q : Quoting) (c : Class) (b : ℕ) (r : Reference) → ends_value q c ≡ true → next_reference r c b ≡ Closed
 ends_with_value DoubleQuoted QuotationMark b r e = ends_at_quotation r b
@@ -854,7 +853,7 @@ law AfterLess c b r i p closed = after_less c b r p
 law AfterLessSolidus c b r i p closed = after_solidus c b r p
 law (InDeclaration bytes) c b r i p closed = in_declared (declared_by (bytes ++ b ∷ [])) c b bytes r p
 law (InTagName ends name) c b r i p closed = without_references (InTagName ends name) (tag_name_next c b ends name) r c b refl (loose-tag_name c b ends name) refl refl refl (closed refl)
-law (InAttributeName t typed name) c b r i p closed = without_references (InAttributeName t typed name) (attribute_name_next c b t typed (kind_of (tag_element t) name) name) r c b refl (loose-attribute_name c b t typed (kind_of (tag_element t) name) name) refl refl refl (closed refl)
+law (InAttributeName t typed name) c b r i p closed = without_references (InAttributeName t typed name) (attribute_name_next c b t typed (kind_of (element_on t) name) name) r c b refl (loose-attribute_name c b t typed (kind_of (element_on t) name) name) refl refl refl (closed refl)
 law (InCommentEnd s) c b r i p closed = leaves c s (InCommentEnd s) r b refl
 law (InContentEnd e h) c b r i p closed = at_end e h c b r i p closed
 law (BeforeType t) c b r i p closed = before_type c b t r p

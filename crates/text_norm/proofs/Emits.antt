@@ -7,7 +7,7 @@ use Rattle.place_core.specs.place.Places.{Below}
 use Rattle.place_core.specs.page.References.{Reference, Closed, Open}
 use Rattle.place_core.specs.place.StatePlaces.{block_place, comment_place, content_place, placed, quotes_at, unbegun, value_body, only_after, only_inside, tag_spot, value_spot, where_closed}
 use Rattle.place_core.specs.page.States.{LexState, Text, TagOpen, EndTagOpen, DeclarationOpen, CommentState, Inside, Broken, InComment, BogusComment, InDoctype, TagName, WholeTagName, BeforeAttributeName, AttributeName, WholeAttributeName, AfterAttributeName, BeforeAttributeValue, AttributeValue, AfterAttributeValue, SelfClosingStartTag, Characters, Bytes, Nothing, PendingLess, LessAtCut, PendingName, PendingBang, PendingBangDash, InContent, Unread, Config, config}
-use Rattle.place_core.specs.page.Tags.{Tag, is_second_type, is_typed, ValueOf, TypeSoFar, ValueState, languages, attribute_value_of}
+use Rattle.place_core.specs.page.Tags.{Tag, is_second_type, ValueOf, Deciding, ValueState, languages, attribute_value_of}
 use Rattle.place_core.specs.declared.body.Body.{Body}
 use Rattle.place_core.specs.declared.element.Element.{Element}
 use Rattle.place_core.specs.declared.element.Element.TheVariants as element
@@ -40,8 +40,8 @@ emitted-same (AfterAttributeName tag k) t d h l = ap (λ (c : Config ValueState)
 emitted-same (BeforeAttributeValue tag k) t d h l = ap (λ (c : Config ValueState). c.emitted) l
 emitted-same (AttributeValue q tag (ValueOf v) Closed) t d h l = ap (λ (c : Config ValueState). c.emitted) l.stands
 emitted-same (AttributeValue q tag (ValueOf v) (Open f b)) t d h l = absurd h
-emitted-same (AttributeValue q tag (TypeSoFar before) Closed) t d h l = absurd h
-emitted-same (AttributeValue q tag (TypeSoFar before) (Open f b)) t d h l = absurd h
+emitted-same (AttributeValue q tag (Deciding k before) Closed) t d h l = absurd h
+emitted-same (AttributeValue q tag (Deciding k before) (Open f b)) t d h l = absurd h
 emitted-same (AfterAttributeValue tag) t d h l = ap (λ (c : Config ValueState). c.emitted) l
 emitted-same (SelfClosingStartTag tag) t d h l = ap (λ (c : Config ValueState). c.emitted) l
 emitted-same (InContent e (Characters Closed) Nothing) t d h l = ap (λ (c : Config ValueState). c.emitted) l
@@ -78,8 +78,8 @@ same-state (AfterAttributeName tag k) t d h l = l
 same-state (BeforeAttributeValue tag k) t d h l = l
 same-state (AttributeValue q tag (ValueOf v) Closed) t d h l = l.stands ∙ ap (λ (w : ValueState). config (AttributeValue q tag (ValueOf w) Closed) t) l.alike
 same-state (AttributeValue q tag (ValueOf v) (Open f b)) t d h l = absurd (no h)
-same-state (AttributeValue q tag (TypeSoFar before) Closed) t d h l = l
-same-state (AttributeValue q tag (TypeSoFar before) (Open f b)) t d h l = absurd (no h)
+same-state (AttributeValue q tag (Deciding k before) Closed) t d h l = l
+same-state (AttributeValue q tag (Deciding k before) (Open f b)) t d h l = absurd (no h)
 same-state (AfterAttributeValue tag) t d h l = l
 same-state (SelfClosingStartTag tag) t d h l = l
 same-state (InContent e (Characters Closed) Nothing) t d h l = l
@@ -145,8 +145,8 @@ in-text-state (TagName ends name) h = absurd h
 in-text-state (WholeTagName tag) h = absurd h
 in-text-state (BeforeAttributeName tag) h = absurd h
 in-text-state (AttributeName tag name) h = absurd h
-in-text-state (WholeAttributeName tag k) h = absurd (no-name (is_second_type (is_typed tag) k) (place.Tag (tag_spot tag only_inside (Some k))) (λ g. g) h)
-in-text-state (AfterAttributeName tag k) h = absurd (no-name (is_second_type (is_typed tag) k) (place.Tag (tag_spot tag only_after (Some k))) (λ g. g) h)
+in-text-state (WholeAttributeName tag k) h = absurd (no-name (is_second_type tag.typed k) (place.Tag (tag_spot tag only_inside (Some k))) (λ g. g) h)
+in-text-state (AfterAttributeName tag k) h = absurd (no-name (is_second_type tag.typed k) (place.Tag (tag_spot tag only_after (Some k))) (λ g. g) h)
 in-text-state (BeforeAttributeValue tag k) h = absurd (no-value tag unbegun (value_body (attribute_value_of languages k)) h)
 in-text-state (AttributeValue q tag v r) h = absurd (no-text r (value_spot tag (quotes_at q) (value_body v)) (no-value tag (quotes_at q) (value_body v)) h)
 in-text-state (AfterAttributeValue tag) h = absurd h

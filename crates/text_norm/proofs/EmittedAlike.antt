@@ -9,7 +9,7 @@ use Rattle.place_core.specs.page.Html.{ends_value, next, read_over, emits, emits
 use Rattle.place_core.specs.page.Paths.{read_node, emits_cut}
 use Rattle.place_core.specs.page.References.{Reference, Closed, as_it_stands, settled, undone_byte}
 use Rattle.place_core.specs.page.States.{AfterAttributeName, AfterAttributeValue, AttributeName, AttributeValue, BeforeAttributeName, BeforeAttributeValue, BogusComment, Bytes, Characters, Content, DeclarationOpen, EndTagOpen, Pending, PendingBang, PendingBangDash, PendingLess, LessAtCut, PendingName, InComment, InContent, InDoctype, Nothing, Page, LexMode, SelfClosingStartTag, LexState, TagName, TagOpen, Template, Text, Unread, WholeAttributeName, WholeTagName, config}
-use Rattle.place_core.specs.page.Tags.{ValueLanguage, Quoting, Unquoted, TypeSoFar, Value, ValueOf, element_on, emitted_byte, emitted_bytes, emitted_end, attribute_value_of, with_byte, with_bytes}
+use Rattle.place_core.specs.page.Tags.{ValueLanguage, Quoting, Unquoted, Deciding, Value, ValueOf, element_on, emitted_byte, emitted_bytes, emitted_end, attribute_value_of, with_byte, with_bytes}
 use Rattle.place_core.specs.page.Words.{kind_of}
 use Rattle.place_core.specs.declared.element.Element.{Element}
 use Rattle.place_core.specs.declared.kind.Kind.{Kind}
@@ -173,7 +173,7 @@ module _ (F : List LexEvent → List LexEvent → Type 0) (keep : (e : LexEvent)
   module _ (B : Type 0) (x : ValueLanguage B) (own : EmitsAlike B x F) where
     emitted-byte : (v : Value B) (b : ℕ) (t u : List LexEvent) → F t u → F (emitted_byte x v b t) (emitted_byte x v b u)
     emitted-byte (ValueOf v) b t u f = own.emits v b t u f
-    emitted-byte (TypeSoFar before) b t u f = keep (ValueByte b) t u tt f
+    emitted-byte (Deciding k before) b t u f = keep (ValueByte b) t u tt f
 
     pub emitted-bytes : (bs : List ℕ) (v : Value B) (t u : List LexEvent) → F t u → F (emitted_bytes x v bs t) (emitted_bytes x v bs u)
     emitted-bytes [] v t u f = f
@@ -181,7 +181,7 @@ module _ (F : List LexEvent → List LexEvent → Type 0) (keep : (e : LexEvent)
 
     emitted-end : (v : Value B) (t u : List LexEvent) → F t u → F (emitted_end x v t) (emitted_end x v u)
     emitted-end (ValueOf v) t u f = own.ends v t u f
-    emitted-end (TypeSoFar before) t u f = f
+    emitted-end (Deciding k before) t u f = f
 
     in-value : (ends : Bool) (q : Quoting) (c : Class) (b : ℕ) (v : Value B) (r : Reference) (t u : List LexEvent) → F t u
         → F (emits_value x ends q c b v r t) (emits_value x ends q c b v r u)
@@ -208,7 +208,7 @@ module _ (F : List LexEvent → List LexEvent → Type 0) (keep : (e : LexEvent)
     emits-alike m (TagName ends name) c b t u f = in-tag-name c b t u f
     emits-alike m (WholeTagName tag) c b t u f = before-name c b t u f
     emits-alike m (BeforeAttributeName tag) c b t u f = before-name c b t u f
-    emits-alike m (AttributeName tag name) c b t u f = in-name c b (kind_of (element_on tag) name) t u f
+    emits-alike m (AttributeName tag name) c b t u f = in-name c b (kind_of (element_on tag.tag) name) t u f
     emits-alike m (WholeAttributeName tag k) c b t u f = whole-name c b k t u f
     emits-alike m (AfterAttributeName tag k) c b t u f = after-name c b t u f
     emits-alike m (BeforeAttributeValue tag k) c b t u f = before-value c b k t u f

@@ -1,5 +1,5 @@
 -- How a page's events fill its path's: an event, a mark, a text of a template, and a hole in each state.
-use Rattle.std.proofs.Common.{◌≡◌, ℕ, Bool, true, false, not, ◌||◌, List, [], ◌∷◌, ◌++◌, refl, sym, ap, ◌∙◌, subst}
+use Rattle.std.proofs.Common.{◌≡◌, ℕ, List, [], ◌∷◌, ◌++◌, refl, sym, ap, ◌∙◌, subst}
 use Rattle.std.specs.Str.{str_to_ascii_lowercase}
 use Rattle.html_scan.proofs.Lowered.{kind_lowered}
 use Rattle.place_core.specs.page.Events.{AttributeBegins, AttributeNameByte, BlockByte, LexEvent, Mark, TextByte, ValueByte, attribute_name_bytes, block_bytes, event_text_bytes, value_bytes}
@@ -11,14 +11,14 @@ use Rattle.place_core.specs.page.Plain.{IsPlain, IsPlainName}
 use Rattle.place_core.specs.page.States.{AttributeName, BeforeAttributeValue, CommentState, Config, InComment, LexState, Page, Template, Text, WholeAttributeName, config}
 use Rattle.place_core.specs.page.References.{Closed}
 use Rattle.place_core.specs.page.Tags.{DoubleQuoted, Quoting, SingleQuoted, Tag, Unquoted, Value, ValueOf, ValueState, element_on, emitted_bytes, languages, with_bytes}
-use Rattle.place_core.specs.page.Words.{is_plain_name, is_special, kind_of}
+use Rattle.place_core.specs.page.Words.{kind_of}
 use Rattle.place_core.specs.declared.element.Element.{Element}
-use Rattle.place_core.specs.declared.element.Element.TheVariants as element
 use Rattle.place_core.specs.declared.kind.Kind.{Kind}
 use Rattle.place_core.specs.declared.kind.Kind.TheVariants as kind
 use Rattle.san_html.specs.ReadBack.{BeginsName, IsBackInBlock, IsBackInQuoted, IsBackInRcdata, IsBackInTag, IsBackInText, IsBackInUnquoted, as_name, as_unquoted, in_block, in_rcdata, in_value, read_as_text}
 use Rattle.text_norm.proofs.EmittedAlike.{EmitsAlike, IsNoMark, node-alike}
 use Rattle.text_norm.proofs.Emits.{same-state}
+use Rattle.text_norm.proofs.HarmlessNames.{harmless-kind}
 use Rattle.text_norm.specs.Fillings.{BlockSite, Filling, Fills, FillsBy, HtmlAlike, HtmlFits, NameSite, QuotedSite, TextSite, UnquotedSite, filling, fillings_at}
 use Rattle.text_norm.specs.Standing.{TextStands, WholeAttribute}
 
@@ -177,46 +177,17 @@ unbegun-leads tag text bytes back vs t u d f l =
           (ap (read Page bytes) l ∙ back.reads_unbegun tag kind.Plain u ∙ in-kind Unquoted tag kind.Plain (as_unquoted text) u);
     }
 
--- a name that data may make is of kind Plain on each element
-no : false ≡ true → ⊥
-no e = cc
-
-yes : true ≡ false → ⊥
-yes e = cc
-
-plain-kind : (k : Kind) → is_plain_name k ≡ true → k ≡ kind.Plain
-plain-kind kind.Plain e = refl
-plain-kind kind.Url e = absurd (no e)
-plain-kind kind.Script e = absurd (no e)
-plain-kind kind.Style e = absurd (no e)
-plain-kind kind.ScriptType e = absurd (no e)
-plain-kind kind.NoHole e = absurd (no e)
-
-both-plain : (a b c : Bool) → (not a || (not b || c)) ≡ false → (a ≡ true) × (b ≡ true)
-both-plain true true c e = (refl, refl)
-both-plain true false c e = absurd (yes e)
-both-plain false b c e = absurd (yes e)
-
-plain-on-both : (name : List ℕ) → is_special name ≡ false
-    → (is_plain_name (kind_of element.Other name) ≡ true) × (is_plain_name (kind_of element.Script name) ≡ true)
-plain-on-both name h = both-plain (is_plain_name (kind_of element.Other name)) (is_plain_name (kind_of element.Script name)) _ h
-
-harmless-kind : (e : Element) (name : List ℕ) → is_special name ≡ false → kind_of e name ≡ kind.Plain
-harmless-kind element.Script name h = plain-kind (kind_of element.Script name) (plain-on-both name h).1
-harmless-kind element.DataBlock name h = plain-kind (kind_of element.Script name) (plain-on-both name h).1
-harmless-kind _ name h = plain-kind (kind_of element.Other name) (plain-on-both name h).0
-
 -- the name that is read is the one of its bytes, which data may make, so it is of kind Plain
 abbrev name_in : LexState ValueState → List ℕ
 name_in (AttributeName tag name) = name
 name_in s = []
 
 of-kind-plain : (tag : Tag) (text bytes : List ℕ) (d : Config ValueState) → IsPlainName tag bytes d → d.at ≡ AttributeName tag (as_name text)
-    → kind_of (element_on tag) (as_name text) ≡ kind.Plain
+    → kind_of (element_on tag.tag) (as_name text) ≡ kind.Plain
 of-kind-plain tag text bytes d p e =
     let same : str_to_ascii_lowercase bytes ≡ as_name text = sym (ap name_in p.within) ∙ ap name_in e in
-    subst (λ (z : List ℕ). kind_of (element_on tag) z ≡ kind.Plain) same
-    (sym (kind_lowered (element_on tag) bytes) ∙ harmless-kind (element_on tag) bytes p.harmless)
+    subst (λ (z : List ℕ). kind_of (element_on tag.tag) z ≡ kind.Plain) same
+    (sym (kind_lowered (element_on tag.tag) bytes) ∙ harmless-kind (element_on tag.tag) bytes p.harmless)
 
 pub name-leads : (s : LexState ValueState) (tag : Tag) (text bytes : List ℕ) → IsBackInTag text bytes → BeginsName s tag
     → (IsPlain bytes (config s []) → IsPlainName tag bytes (read Page bytes (config s [])))

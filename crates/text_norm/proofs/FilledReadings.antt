@@ -5,7 +5,7 @@ use Rattle.place_core.specs.page.Html.{read, start}
 use Rattle.place_core.specs.page.Paths.{Hole, Symbol, Written, at_hole, mark_in, read_node, read_path}
 use Rattle.place_core.specs.page.References.{Closed, Open, Reference}
 use Rattle.place_core.specs.page.States.{AfterAttributeName, AfterAttributeValue, AttributeValue, BeforeAttributeName, BeforeAttributeValue, Bytes, Characters, Config, Content, InContent, LexState, Nothing, Page, Pending, SelfClosingStartTag, Text, config}
-use Rattle.place_core.specs.page.Tags.{DoubleQuoted, Quoting, SingleQuoted, Tag, TypeSoFar, Unquoted, Value, ValueOf, ValueState, languages, with_bytes}
+use Rattle.place_core.specs.page.Tags.{DoubleQuoted, Quoting, SingleQuoted, Tag, Deciding, Unquoted, Value, ValueOf, ValueState, languages, with_bytes}
 use Rattle.place_core.specs.place.Errors.{node}
 use Rattle.place_core.specs.declared.element.Element.{Element}
 use Rattle.place_core.specs.declared.kind.Kind.{Kind}
@@ -268,8 +268,8 @@ attribute-count : (v : Value ValueState) (r : Reference) (q : Quoting) (tag : Ta
     (marks (mark_in languages (AttributeValue q tag v r) t) + length vs)
 attribute-count (ValueOf k) Closed q tag text vs t = inl (tt, one-mark (marks t) (length vs))
 attribute-count (ValueOf k) (Open f h) q tag text vs t = inr (no-filling (marks t) (length vs))
-attribute-count (TypeSoFar before) Closed q tag text vs t = inr (no-filling (marks t) (length vs))
-attribute-count (TypeSoFar before) (Open f h) q tag text vs t = inr (no-filling (marks t) (length vs))
+attribute-count (Deciding k before) Closed q tag text vs t = inr (no-filling (marks t) (length vs))
+attribute-count (Deciding k before) (Open f h) q tag text vs t = inr (no-filling (marks t) (length vs))
 
 before-count : (k : Kind) (tag : Tag) (text : List ℕ) (vs : List Filling) (t : List LexEvent)
     → Counted (TakesHole (BeforeAttributeValue tag k)) (length (fillings_at (BeforeAttributeValue tag k) text vs) + marks t)

@@ -1,5 +1,5 @@
 -- The bytes of a hole lead the page's reading where the hole leads the path.
-use Rattle.std.proofs.Common.{◌≡◌, ℕ, Bool, true, false, not, ◌||◌, List, [], ◌∷◌, Option, Some, None, if◌then◌else◌, Ok, Err, inl, refl, sym, ap, ◌∙◌, subst}
+use Rattle.std.proofs.Common.{◌≡◌, ℕ, Bool, true, false, List, [], ◌∷◌, Option, Some, None, if◌then◌else◌, Ok, Err, inl, refl, sym, ap, ◌∙◌, subst}
 use Rattle.page_datum.specs.Data.{Data}
 use Rattle.page_datum.specs.Printed.{printed}
 use Rattle.place_core.specs.page.Events.{LexEvent, Mark, AttributeBegins}
@@ -7,17 +7,15 @@ use Rattle.place_core.specs.page.Html.{read}
 use Rattle.place_core.specs.page.Paths.{at_hole, mark_in}
 use Rattle.std.specs.Str.{str_to_ascii_lowercase}
 use Rattle.place_core.specs.page.Plain.{IsPlain, IsPlainName}
-use Rattle.place_core.specs.page.Words.{is_plain_name, is_special, kind_of}
 use Rattle.html_scan.proofs.Lowered.{kind_lowered}
 use Rattle.place_core.specs.page.References.{Closed, Open}
 use Rattle.place_core.specs.page.Shape.{HolePart, PageReads, state_past_hole, marked}
 use Rattle.place_core.specs.place.StatePlaces.{only_after, only_inside, placed, tag_spot}
 use Rattle.place_core.specs.page.States.{Started, StartedDash, Inside, Dash, DashDash, Bang, Broken, Page, LexState, Text, TagOpen, EndTagOpen, DeclarationOpen, InComment, BogusComment, InDoctype, TagName, WholeTagName, BeforeAttributeName, AttributeName, WholeAttributeName, AfterAttributeName, BeforeAttributeValue, AttributeValue, AfterAttributeValue, SelfClosingStartTag, Characters, Bytes, Nothing, PendingLess, LessAtCut, PendingName, PendingBang, PendingBangDash, InContent, Unread, Config, config}
-use Rattle.place_core.specs.page.Tags.{Tag, ValueOf, TypeSoFar, ValueState, languages, is_second_type, is_typed, Quoting, DoubleQuoted, SingleQuoted, Unquoted, element_on, without_value}
+use Rattle.place_core.specs.page.Tags.{Tag, ValueOf, Deciding, ValueState, languages, is_second_type, Quoting, DoubleQuoted, SingleQuoted, Unquoted, element_on, without_value}
 use Rattle.place_core.specs.declared.chain.Chain.{Chain}
 use Rattle.place_core.specs.declared.element.Element.{Element}
 use Rattle.place_core.specs.declared.element.Element.TheVariants as element
-use Rattle.place_core.specs.declared.kind.Kind.{Kind}
 use Rattle.place_core.specs.declared.kind.Kind.TheVariants as kind
 use Rattle.place_core.specs.declared.place.Place.{Place}
 use Rattle.place_core.specs.declared.place.Place.TheVariants as place
@@ -28,6 +26,7 @@ use Rattle.html_step.proofs.HoleOrder.{covers-hole}
 use Rattle.text_norm.specs.HoleLaws.{ArePlain, IsBackBy, KeepsHole, hole_parts}
 use Rattle.text_norm.specs.Standing.{TextStands, WholeAttribute}
 use Rattle.text_norm.proofs.Emits.{same-state}
+use Rattle.text_norm.proofs.HarmlessNames.{harmless-kind}
 use Rattle.text_norm.proofs.KindsKeep.{kinds-keep}
 use Rattle.text_norm.proofs.ValuesKeep.{hole-alike}
 
@@ -72,34 +71,6 @@ not-name false a x n h = n h
 refused : {E A : Type 0} (e : E) (y : A) → Err e ≡ Ok y → ⊥
 refused e y h = cc
 
-no : false ≡ true → ⊥
-no e = cc
-
-yes : true ≡ false → ⊥
-yes e = cc
-
--- a name that data may make is of kind Plain on each element
-plain-kind : (k : Kind) → is_plain_name k ≡ true → k ≡ kind.Plain
-plain-kind kind.Plain e = refl
-plain-kind kind.Url e = absurd (no e)
-plain-kind kind.Script e = absurd (no e)
-plain-kind kind.Style e = absurd (no e)
-plain-kind kind.ScriptType e = absurd (no e)
-plain-kind kind.NoHole e = absurd (no e)
-
-both-plain : (a b c : Bool) → (not a || (not b || c)) ≡ false → (a ≡ true) × (b ≡ true)
-both-plain true true c e = (refl, refl)
-both-plain true false c e = absurd (yes e)
-both-plain false b c e = absurd (yes e)
-
-harmless-kind : (e : Element) (name : List ℕ) → is_special name ≡ false → kind_of e name ≡ kind.Plain
-harmless-kind element.Other name h = plain-kind (kind_of element.Other name) (both-plain (is_plain_name (kind_of element.Other name)) (is_plain_name (kind_of element.Script name)) _ h).0
-harmless-kind element.Title name h = plain-kind (kind_of element.Other name) (both-plain (is_plain_name (kind_of element.Other name)) (is_plain_name (kind_of element.Script name)) _ h).0
-harmless-kind element.Textarea name h = plain-kind (kind_of element.Other name) (both-plain (is_plain_name (kind_of element.Other name)) (is_plain_name (kind_of element.Script name)) _ h).0
-harmless-kind element.Style name h = plain-kind (kind_of element.Other name) (both-plain (is_plain_name (kind_of element.Other name)) (is_plain_name (kind_of element.Script name)) _ h).0
-harmless-kind element.Script name h = plain-kind (kind_of element.Script name) (both-plain (is_plain_name (kind_of element.Other name)) (is_plain_name (kind_of element.Script name)) _ h).1
-harmless-kind element.DataBlock name h = plain-kind (kind_of element.Script name) (both-plain (is_plain_name (kind_of element.Other name)) (is_plain_name (kind_of element.Script name)) _ h).1
-
 -- where the page is behind a hole, by where its bytes lead
 abbrev behind : LexState ValueState → List LexEvent → LexState ValueState → Config ValueState
 behind s t z = config (state_past_hole languages s z) t
@@ -108,7 +79,7 @@ behind s t z = config (state_past_hole languages s z) t
 named : (s : LexState ValueState) (tag : Tag) (bytes : List ℕ) (t : List LexEvent) (d : Config ValueState) → IsPlainName tag bytes (config d.at d.emitted) → WholeAttribute ValueState tag kind.Plain t (behind s t d.at)
 named s tag bytes t d p = record {
   name = str_to_ascii_lowercase bytes;
-  named = sym (kind_lowered (element_on tag) bytes) ∙ harmless-kind (element_on tag) bytes p.harmless;
+  named = sym (kind_lowered (element_on tag.tag) bytes) ∙ harmless-kind (element_on tag.tag) bytes p.harmless;
   at = ap (behind s t) p.within;
 }
 
@@ -191,9 +162,9 @@ hole-keeps (BeforeAttributeName tag) x datum bytes t d h k l =
     name-keeps (BeforeAttributeName tag) tag x datum bytes t d (its-of (placed (BeforeAttributeName tag)) x h) refl (λ p. named (BeforeAttributeName tag) tag bytes (Mark ∷ AttributeBegins ∷ t) (read Page bytes (config (BeforeAttributeName tag) [])) p.1) l k
 hole-keeps (AttributeName tag name) x datum bytes t d h k l = absurd h
 hole-keeps (WholeAttributeName tag j) x datum bytes t d h k l =
-    absurd (not-name (is_second_type (is_typed tag) j) (place.Tag (tag_spot tag only_inside (Some j))) x (λ g. refused _ _ g.1) h)
+    absurd (not-name (is_second_type tag.typed j) (place.Tag (tag_spot tag only_inside (Some j))) x (λ g. refused _ _ g.1) h)
 hole-keeps (AfterAttributeName tag j) x datum bytes t d h k l =
-    name-keeps (AfterAttributeName tag j) (without_value tag j) x datum bytes t d (its-name (is_second_type (is_typed tag) j) (place.Tag (tag_spot tag only_after (Some j))) x h) refl (λ p. named (AfterAttributeName tag j) (without_value tag j) bytes (Mark ∷ AttributeBegins ∷ t) (read Page bytes (config (AfterAttributeName tag j) [])) p.1) l k
+    name-keeps (AfterAttributeName tag j) (without_value tag j) x datum bytes t d (its-name (is_second_type tag.typed j) (place.Tag (tag_spot tag only_after (Some j))) x h) refl (λ p. named (AfterAttributeName tag j) (without_value tag j) bytes (Mark ∷ AttributeBegins ∷ t) (read Page bytes (config (AfterAttributeName tag j) [])) p.1) l k
 hole-keeps (AfterAttributeValue tag) x datum bytes t d h k l =
     name-keeps (AfterAttributeValue tag) tag x datum bytes t d (its-of (placed (AfterAttributeValue tag)) x h) refl (λ p. named (AfterAttributeValue tag) tag bytes (Mark ∷ AttributeBegins ∷ t) (read Page bytes (config (AfterAttributeValue tag) [])) p.1) l k
 hole-keeps (SelfClosingStartTag tag) x datum bytes t d h k l =
@@ -212,7 +183,7 @@ hole-keeps (AttributeValue q tag (ValueOf kind.Url) Closed) x datum bytes t d h 
 hole-keeps (AttributeValue q tag (ValueOf kind.Script) Closed) x datum bytes t d h k l = absurd h
 hole-keeps (AttributeValue q tag (ValueOf kind.Style) Closed) x datum bytes t d h k l = absurd h
 hole-keeps (AttributeValue q tag (ValueOf kind.ScriptType) Closed) x datum bytes t d h k l = absurd h
-hole-keeps (AttributeValue q tag (TypeSoFar before) Closed) x datum bytes t d h k l = absurd h
+hole-keeps (AttributeValue q tag (Deciding j before) Closed) x datum bytes t d h k l = absurd h
 hole-keeps (AttributeValue q tag v (Open f b)) x datum bytes t d h k l = absurd h
 hole-keeps (InContent element.Title (Characters Closed) Nothing) x datum bytes t d h k l = content-keeps element.Title x datum bytes t d (its (place.Rcdata element.Title) x h) k l
 hole-keeps (InContent element.Textarea (Characters Closed) Nothing) x datum bytes t d h k l = content-keeps element.Textarea x datum bytes t d (its (place.Rcdata element.Textarea) x h) k l

@@ -9,7 +9,7 @@ use Rattle.place_core.specs.place.Places.{IsValid}
 use Rattle.place_core.specs.page.References.{Closed, Reference}
 use Rattle.place_core.specs.place.StatePlaces.{content_spot, only_after, only_inside, placed, tag_spot, quotes_at, value_body, value_spot, where_closed}
 use Rattle.place_core.specs.page.States.{AfterAttributeName, AfterAttributeValue, AttributeValue, BeforeAttributeName, BeforeAttributeValue, Broken, Bytes, Characters, Content, CommentState, Pending, InComment, InContent, Inside, LessAtCut, Nothing, SelfClosingStartTag, LexState, Text, WholeAttributeName}
-use Rattle.place_core.specs.page.Tags.{DoubleQuoted, Quoting, SingleQuoted, Tag, Unquoted, Value, ValueOf, ValueState, is_second_type, is_typed, without_value}
+use Rattle.place_core.specs.page.Tags.{DoubleQuoted, Quoting, SingleQuoted, Tag, Unquoted, Value, ValueOf, ValueState, is_second_type, without_value}
 use Rattle.place_core.specs.declared.chain.Chain.{Chain}
 use Rattle.place_core.specs.declared.element.Element.{Element}
 use Rattle.place_core.specs.declared.element.Element.TheVariants as element
@@ -67,12 +67,12 @@ safe-at (InComment Inside) = in-comment Inside
 safe-at (InComment Broken) = in-comment Broken
 safe-at (BeforeAttributeName tag) = λ datum bytes k.
     name-leads (BeforeAttributeName tag) tag (printed datum) bytes k refl (λ p. p.1) (λ u d l. l) refl (λ t. refl) (λ vs. refl)
-safe-at (AfterAttributeName tag j) = after-name-safe (is_second_type (is_typed tag) j) tag j
+safe-at (AfterAttributeName tag j) = after-name-safe (is_second_type tag.typed j) tag j
 safe-at (AfterAttributeValue tag) = λ datum bytes k.
     name-leads (AfterAttributeValue tag) tag (printed datum) bytes k refl (λ p. p.1) (λ u d l. l) refl (λ t. refl) (λ vs. refl)
 safe-at (SelfClosingStartTag tag) = λ datum bytes k.
     name-leads (SelfClosingStartTag tag) tag (printed datum) bytes k refl (λ p. p.1) (λ u d l. l) refl (λ t. refl) (λ vs. refl)
-safe-at (WholeAttributeName tag k) = whole-name-safe (is_second_type (is_typed tag) k) tag k
+safe-at (WholeAttributeName tag k) = whole-name-safe (is_second_type tag.typed k) tag k
 safe-at (BeforeAttributeValue tag kind.Plain) = λ datum. unbegun-leads tag (printed datum)
 safe-at (AttributeValue q tag v r) = value-safe r v q tag
 safe-at (InContent e x h) = content-safe h x e

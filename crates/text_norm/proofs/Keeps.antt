@@ -1,20 +1,18 @@
 -- What is written of a text leads the page's reading where the path's reading of the text leads.
-use Rattle.std.proofs.Common.{◌≡◌, ℕ, ◌+◌, Bool, true, false, codes, List, [], ◌∷◌, ◌++◌, length, Option, Some, None, if◌then◌else◌, refl, sym, ap, ◌∙◌, subst}
+use Rattle.std.proofs.Common.{◌≡◌, ℕ, ◌+◌, Bool, true, false, codes, List, [], ◌∷◌, ◌++◌, length, Option, Some, None, refl, sym, ap, ◌∙◌, subst}
 use Rattle.place_core.specs.page.Classes.{Class, GreaterThan, class_of}
 use Rattle.place_core.specs.page.Comments.{closes_comment, comment_ended, next_in_comment}
-use Rattle.place_core.specs.place.Errors.{PathCause, PathRefusal, at_hand, byte_error, content_error, cut_error, ending_tag, fed_error, first_byte_error, first_error, kind_error, language_error, quotes_error, refusal_from, standing_at, states, tag_error, unless_second}
+use Rattle.place_core.specs.place.Errors.{PathCause, PathRefusal, at_hand, byte_error, content_error, cut_error, ending_tag, first_byte_error, first_error, kind_error, language_error, quotes_error, refusal_from, standing_at, states, tag_error}
 use Rattle.place_core.specs.page.Events.{LexEvent, event_text_bytes}
 use Rattle.place_core.specs.page.Html.{ends_value, next, read_over, emits}
 use Rattle.place_core.specs.place.Membership.{IsIn}
 use Rattle.place_core.specs.page.Paths.{at_cut, read_node, emits_cut}
 use Rattle.place_core.specs.page.References.{Reference, Closed, Open, as_it_stands, settled}
-use Rattle.place_core.specs.place.StatePlaces.{only_before, quotes_at, tag_of, tag_spot}
+use Rattle.place_core.specs.place.StatePlaces.{only_before, quotes_at, tag_spot}
 use Rattle.place_core.specs.page.States.{Page, Template, LexState, Text, TagOpen, EndTagOpen, DeclarationOpen, CommentState, InComment, BogusComment, InDoctype, TagName, WholeTagName, BeforeAttributeName, AttributeName, WholeAttributeName, AfterAttributeName, BeforeAttributeValue, AttributeValue, AfterAttributeValue, SelfClosingStartTag, Characters, Bytes, Nothing, PendingLess, LessAtCut, PendingName, PendingBang, PendingBangDash, InContent, Unread, Config, config}
-use Rattle.place_core.specs.page.Tags.{Tag, element_on, is_second_type, is_typed, ValueLanguage, Value, ValueOf, TypeSoFar, ValueState, languages, Quoting, Unquoted, tag_named, attribute_value_of}
+use Rattle.place_core.specs.page.Tags.{Tag, ValueLanguage, Value, ValueOf, Deciding, ValueState, languages, Quoting, Unquoted, tag_of_name, attribute_value_of}
 use Rattle.place_core.specs.declared.code.Code.{Code}
-use Rattle.place_core.specs.page.Words.{kind_of}
 use Rattle.place_core.specs.declared.kind.Kind.{Kind}
-use Rattle.place_core.specs.declared.kind.Kind.TheVariants as kind
 use Rattle.place_core.proofs.Readings.{over-append}
 use Rattle.html_step.proofs.OnePath.{none-at-hand, none-unless, some}
 use Rattle.html_step.proofs.OneTexts.{one-text}
@@ -31,22 +29,22 @@ use Rattle.text_norm.proofs.KindsKeep.{kinds-keep}
 use Rattle.text_norm.proofs.ValuesKeep.{before-value, both-none, cut-alike, fed-taken, in-value}
 
 -- a tag at whose end no content is refused
-ends-built : (tag : Tag) (c : Class) → at_hand (tag_error (tag_spot tag only_before None) c) ≡ None → c ≡ GreaterThan → content_error (tag_of tag) ≡ None
-ends-built tag c n e = none-at-hand (content_error (tag_of tag)) (subst (λ (z : Class). at_hand (tag_error (tag_spot tag only_before None) z) ≡ None) e n)
+ends-built : (tag : Tag) (c : Class) → at_hand (tag_error (tag_spot tag only_before None) c) ≡ None → c ≡ GreaterThan → content_error tag.tag ≡ None
+ends-built tag c n e = none-at-hand (content_error tag.tag) (subst (λ (z : Class). at_hand (tag_error (tag_spot tag only_before None) z) ≡ None) e n)
 
-tag-built : (ends : Bool) (name : List ℕ) (c : Class) (b : ℕ) → byte_error (TagName ends name) c b ≡ None → c ≡ GreaterThan → content_error (tag_of (tag_named ends name)) ≡ None
+tag-built : (ends : Bool) (name : List ℕ) (c : Class) (b : ℕ) → byte_error (TagName ends name) c b ≡ None → c ≡ GreaterThan → content_error (tag_of_name ends name) ≡ None
 tag-built ends name c b n e = none-at-hand _ (subst (λ (z : Class). byte_error (TagName ends name) z b ≡ None) e n)
 
-name-built : (tag : Tag) (name : List ℕ) (c : Class) (b : ℕ) → byte_error (AttributeName tag name) c b ≡ None → c ≡ GreaterThan → content_error (tag_of tag) ≡ None
+name-built : (tag : Tag) (name : List ℕ) (c : Class) (b : ℕ) → byte_error (AttributeName tag name) c b ≡ None → c ≡ GreaterThan → content_error tag.tag ≡ None
 name-built tag name c b n e = none-unless _ _ _ (subst (λ (z : Class). byte_error (AttributeName tag name) z b ≡ None) e n)
 
-after-built : (tag : Tag) (k : Kind) (c : Class) (b : ℕ) → byte_error (AfterAttributeName tag k) c b ≡ None → c ≡ GreaterThan → content_error (tag_of tag) ≡ None
+after-built : (tag : Tag) (k : Kind) (c : Class) (b : ℕ) → byte_error (AfterAttributeName tag k) c b ≡ None → c ≡ GreaterThan → content_error tag.tag ≡ None
 after-built tag k c b n e = none-at-hand _ (subst (λ (z : Class). byte_error (AfterAttributeName tag k) z b ≡ None) e n)
 
-bare-built : (q : Quoting) (tag : Tag) (v : Value ValueState) (r : Reference) (c : Class) → at_hand (quotes_error (tag_of (ending_tag tag v r)) (quotes_at q) c) ≡ None
-    → q ≡ Unquoted → c ≡ GreaterThan → content_error (tag_of (ending_tag tag v r)) ≡ None
+bare-built : (q : Quoting) (tag : Tag) (v : Value ValueState) (r : Reference) (c : Class) → at_hand (quotes_error (ending_tag languages tag v r).tag (quotes_at q) c) ≡ None
+    → q ≡ Unquoted → c ≡ GreaterThan → content_error (ending_tag languages tag v r).tag ≡ None
 bare-built q tag v r c n e f =
-    let end = tag_of (ending_tag tag v r) in
+    let end = (ending_tag languages tag v r).tag in
     none-at-hand _ (subst (λ (z : Class). at_hand (quotes_error end (quotes_at Unquoted) z) ≡ None) f (subst (λ (z : Quoting). at_hand (quotes_error end (quotes_at z) c) ≡ None) e n))
 
 first-second : (a b : Option Code) → at_hand (first_error a b) ≡ None → at_hand b ≡ None
@@ -57,8 +55,8 @@ first-second (Some e) b n = absurd (some _ n)
 value-taken : (tag : Tag) (k : Kind) (c : Class) (b : ℕ) → byte_error (BeforeAttributeValue tag k) c b ≡ None → first_byte_error languages (attribute_value_of languages k) c b ≡ None
 value-taken tag k c b n = (both-none (first_byte_error languages (attribute_value_of languages k) c b) _ n).0
 
-value-built : (tag : Tag) (k : Kind) (c : Class) (b : ℕ) → byte_error (BeforeAttributeValue tag k) c b ≡ None → c ≡ GreaterThan → content_error (tag_of tag) ≡ None
-value-built tag k c b n e = none-at-hand _ (first-second (kind_error k) (content_error (tag_of tag)) (subst (λ (z : Class). byte_error (BeforeAttributeValue tag k) z b ≡ None) e n))
+value-built : (tag : Tag) (k : Kind) (c : Class) (b : ℕ) → byte_error (BeforeAttributeValue tag k) c b ≡ None → c ≡ GreaterThan → content_error tag.tag ≡ None
+value-built tag k c b n e = none-at-hand _ (first-second (kind_error k) (content_error tag.tag) (subst (λ (z : Class). byte_error (BeforeAttributeValue tag k) z b ≡ None) e n))
 
 -- a comment writes nothing
 in-comment : {B : Type 0} (x : ValueLanguage B) (ended : Bool) (t : List LexEvent) (d : Config B) → d ≡ config (Text Closed) t → TextStands x (comment_ended ended) t d
@@ -97,10 +95,6 @@ follows (InContent x Bytes pending) c b t d e n h = in-block languages x pending
 follows Unread c b t d e n h = absurd (some _ n)
 
 -- the end of the node
-first-kept : (second : Bool) (len : ℕ) (k : Kind) → unless_second second len None ≡ None → k ≡ (if second then kind.NoHole else k)
-first-kept true len k n = absurd (some _ n)
-first-kept false len k n = refl
-
 cut-follows : (s : LexState ValueState) (t : List LexEvent) (d : Config ValueState) → cut_error s ≡ None → TextStands languages s t d
     → TextStands languages (at_cut languages s) (emits_cut languages s t) (page languages (cut_out s) d)
 cut-follows (Text Closed) t d n h = h
@@ -115,13 +109,12 @@ cut-follows InDoctype t d n h = h
 cut-follows (TagName ends name) t d n h = record { ends = ends; name = name; named = refl; at = h }
 cut-follows (WholeTagName tag) t d n h = h
 cut-follows (BeforeAttributeName tag) t d n h = h
-cut-follows (AttributeName tag name) t d n h =
-    record { name = name; named = first-kept (is_second_type (is_typed tag) (kind_of (element_on tag) name)) (length name) (kind_of (element_on tag) name) n; at = h }
+cut-follows (AttributeName tag name) t d n h = record { name = name; named = refl; at = h }
 cut-follows (WholeAttributeName tag k) t d n h = h
 cut-follows (AfterAttributeName tag k) t d n h = h
 cut-follows (BeforeAttributeValue tag k) t d n h = h
 cut-follows (AttributeValue q tag (ValueOf v) r) t d n h = cut-alike kinds-keep q tag v r t d (fed-taken languages v (as_it_stands r) true (length (as_it_stands r)) n) h
-cut-follows (AttributeValue q tag (TypeSoFar before) r) t d n h = absurd (some _ n)
+cut-follows (AttributeValue q tag (Deciding k before) r) t d n h = absurd (some _ n)
 cut-follows (AfterAttributeValue tag) t d n h = h
 cut-follows (SelfClosingStartTag tag) t d n h = h
 cut-follows (InContent e (Characters Closed) Nothing) t d n h = h

@@ -8,6 +8,7 @@ mod EndLaws
 pub mod FilledMarks
 pub mod FilledReadings
 mod FillingExamples
+mod HarmlessNames
 pub mod HoleKeeps
 pub mod HolesLead
 pub mod Keeps

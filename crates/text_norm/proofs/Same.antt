@@ -3,11 +3,11 @@ use Rattle.std.proofs.Common.{◌≡◌, ℕ, ◌+◌, Bool, true, false, List, 
 use Rattle.place_core.specs.page.Classes.{Class, White, ExclamationMark, QuotationMark, Apostrophe, HyphenMinus, Solidus, LessThan, EqualsSign, GreaterThan, QuestionMark, Letter, class_of}
 use Rattle.place_core.specs.page.Comments.{Declaration, OpensComment, OpensDoctype, Undecided, OpensNothing, closes_comment, comment_ended, declared_by, next_in_comment, next_in_doctype}
 use Rattle.place_core.specs.page.Contents.{may_be_name_of, is_name_of, next_bang, next_end_name, next_in_content, next_less, next_loose}
-use Rattle.place_core.specs.page.Html.{after_tag, ends_value, next, next_after_name, next_after_value, next_before_name, next_before_value, next_declaration, next_end_tag_open, next_name, next_tag_name, next_tag_open, next_text, next_value, next_whole_name}
+use Rattle.place_core.specs.page.Html.{after_tag, ends_value, next, next_after_name, next_after_value, next_before_name, next_before_value, next_declaration, next_end_tag_open, next_name, next_tag_name, next_tag_open, next_text, next_value}
 use Rattle.place_core.specs.place.Places.{Below}
 use Rattle.place_core.specs.page.References.{Reference, Closed, Open, as_it_stands, begin_reference, next_reference, settled}
 use Rattle.place_core.specs.page.States.{CommentState, Started, StartedDash, Inside, Dash, DashDash, Bang, Broken, Template, LexState, Text, TagOpen, EndTagOpen, DeclarationOpen, InComment, BogusComment, InDoctype, TagName, WholeTagName, BeforeAttributeName, AttributeName, WholeAttributeName, AfterAttributeName, BeforeAttributeValue, AttributeValue, AfterAttributeValue, SelfClosingStartTag, Characters, Bytes, Pending, Nothing, PendingLess, LessAtCut, PendingName, PendingBang, PendingBangDash, InContent, Unread}
-use Rattle.place_core.specs.page.Tags.{Tag, EndTag, StartTag, ValueState, languages, Quoting, DoubleQuoted, SingleQuoted, Unquoted, Value, ValueOf, TypeSoFar, element_on, is_second_type, is_typed, tag_named, with_bytes, tag_with_value, without_value}
+use Rattle.place_core.specs.page.Tags.{Tag, ValueState, languages, Quoting, DoubleQuoted, SingleQuoted, Unquoted, Value, ValueOf, Deciding, element_on, is_second_type, tag_of_name, with_bytes, tag_with_value, without_value}
 use Rattle.place_core.specs.declared.element.Element.{Element}
 use Rattle.place_core.specs.declared.element.Element.TheVariants as element
 use Rattle.place_core.specs.page.Words.{kind_of}
@@ -15,6 +15,8 @@ use Rattle.place_core.specs.declared.kind.Kind.{Kind}
 use Rattle.place_core.specs.declared.kind.Kind.TheVariants as kind
 use Rattle.place_core.specs.declared.place.Place.{Place}
 use Rattle.place_core.specs.declared.place.Place.TheVariants as place
+use Rattle.place_core.specs.declared.tag_of.TagOf.{TagOf}
+use Rattle.place_core.specs.declared.tag_of.TagOf.TheVariants as which
 use Rattle.place_core.specs.declared.value_place.ValuePlace.{ValuePlace}
 use Rattle.place_core.proofs.Semilattices.{none_some, one_value}
 use Rattle.html_scan.specs.Scans.{Scan, At, AfterLess, AfterLessSolidus, InDeclaration, InTagName, InAttributeName, InCommentEnd, InContentEnd, BeforeType, InType, scan_error, scan_next}
@@ -26,7 +28,7 @@ use Rattle.html_step.proofs.ValidSteps.{scan-valid}
 use Rattle.html_step.proofs.WholeTexts.{grows-text, not-refused, text-steps}
 use Rattle.html_step.specs.Steps.{stepped}
 use Rattle.text_norm.specs.Laws.{WrittenOnPaths}
-use Rattle.place_core.specs.place.StatePlaces.{only_after, only_inside, placed, tag_of, tag_spot}
+use Rattle.place_core.specs.place.StatePlaces.{only_after, only_inside, placed, tag_spot}
 use Rattle.text_norm.specs.Scanned.{declaration_open, less_open, scan_cut_out, scan_open, scan_out, written_from}
 use Rattle.text_norm.specs.Written.{cut_out, out, reference_out, value_out, written}
 
@@ -131,19 +133,19 @@ opened (InContent e (Characters Closed) h) = Some Closed
 opened (InContent e (Characters (Open f bytes)) h) = None
 opened s = Some Closed
 
-after-closed : (tag : Tag) → opened (after_tag tag) ≡ Some Closed
-after-closed EndTag = refl
-after-closed (StartTag element.Other typed) = refl
-after-closed (StartTag element.Title typed) = refl
-after-closed (StartTag element.Textarea typed) = refl
-after-closed (StartTag element.Style typed) = refl
-after-closed (StartTag element.Script typed) = refl
-after-closed (StartTag element.DataBlock typed) = refl
+after-closed : (t : TagOf) → opened (after_tag t) ≡ Some Closed
+after-closed which.End = refl
+after-closed (which.Start element.Other) = refl
+after-closed (which.Start element.Title) = refl
+after-closed (which.Start element.Textarea) = refl
+after-closed (which.Start element.Style) = refl
+after-closed (which.Start element.Script) = refl
+after-closed (which.Start element.DataBlock) = refl
 
 before-closed : (c : Class) (b : ℕ) (tag : Tag) → opened (next_before_name c b tag) ≡ Some Closed
 before-closed White b tag = refl
 before-closed Solidus b tag = refl
-before-closed GreaterThan b tag = after-closed tag
+before-closed GreaterThan b tag = after-closed tag.tag
 before-closed _ b tag = refl
 
 text-opens : (c : Class) (b : ℕ) → opened (next_text c b Closed) ≡ Some (begin_reference c)
@@ -172,27 +174,20 @@ declaration-opens OpensNothing r pending c b e k = text-opens c b
 tag-name-opens : (c : Class) (b : ℕ) (ends : Bool) (name : List ℕ) → opened (next_tag_name c b ends name) ≡ Some Closed
 tag-name-opens White b ends name = refl
 tag-name-opens Solidus b ends name = refl
-tag-name-opens GreaterThan b ends name = after-closed (tag_named ends name)
+tag-name-opens GreaterThan b ends name = after-closed (tag_of_name ends name)
 tag-name-opens c b ends name = refl
 
 name-opens : (c : Class) (b : ℕ) (tag : Tag) (k : Kind) (name : List ℕ) → opened (next_name c b tag k name) ≡ Some Closed
 name-opens White b tag k name = refl
 name-opens Solidus b tag k name = refl
-name-opens GreaterThan b tag k name = after-closed (without_value tag k)
+name-opens GreaterThan b tag k name = after-closed (without_value tag k).tag
 name-opens EqualsSign b tag k name = refl
 name-opens c b tag k name = refl
-
-whole-opens : (c : Class) (b : ℕ) (tag : Tag) (k : Kind) → opened (next_whole_name c b tag k) ≡ Some Closed
-whole-opens White b tag k = refl
-whole-opens Solidus b tag k = refl
-whole-opens GreaterThan b tag k = after-closed (without_value tag k)
-whole-opens EqualsSign b tag k = refl
-whole-opens c b tag k = refl
 
 after-name-opens : (c : Class) (b : ℕ) (tag : Tag) (k : Kind) → opened (next_after_name c b tag k) ≡ Some Closed
 after-name-opens White b tag k = refl
 after-name-opens Solidus b tag k = refl
-after-name-opens GreaterThan b tag k = after-closed (without_value tag k)
+after-name-opens GreaterThan b tag k = after-closed (without_value tag k).tag
 after-name-opens EqualsSign b tag k = refl
 after-name-opens c b tag k = refl
 
@@ -200,7 +195,7 @@ before-value-opens : (c : Class) (b : ℕ) (tag : Tag) (k : Kind) → opened (ne
 before-value-opens White b tag k = refl
 before-value-opens QuotationMark b tag k = refl
 before-value-opens Apostrophe b tag k = refl
-before-value-opens GreaterThan b tag k = after-closed (without_value tag k)
+before-value-opens GreaterThan b tag k = after-closed (without_value tag k).tag
 before-value-opens c b tag k = refl
 
 comment-ends : (ended : Bool) → opened (comment_ended ended) ≡ Some Closed
@@ -331,8 +326,8 @@ before-value-writes tag kind.Url c b = tt
 before-value-writes tag kind.Script c b = tt
 before-value-writes tag kind.Style c b = tt
 before-value-writes tag kind.ScriptType c b =
-    where-first (is_second_type (is_typed tag) kind.ScriptType) (BeforeType (tag_of tag)) (WritesFrom (BeforeAttributeValue tag kind.ScriptType) c b)
-    (λ r e. at-one (BeforeAttributeValue tag kind.ScriptType) (BeforeType (tag_of tag)) c b Closed r e (record { outs = refl; opens = before-value-opens c b tag kind.ScriptType }))
+    where-first (is_second_type tag.typed kind.ScriptType) (BeforeType tag.tag) (WritesFrom (BeforeAttributeValue tag kind.ScriptType) c b)
+    (λ r e. at-one (BeforeAttributeValue tag kind.ScriptType) (BeforeType tag.tag) c b Closed r e (record { outs = refl; opens = before-value-opens c b tag kind.ScriptType }))
 
 value-writes-at : (q : Quoting) (tag : Tag) (k : Kind) (a : Reference) (v : ValuePlace) (c : Class) (b : ℕ) → Writes (AttributeValue q tag (ValueOf k) a) (At (place.Value v)) c b a
 value-writes-at q tag k a v c b = (let w = value-writes (ends_value q c) q tag (ValueOf k) a c b refl in record { outs = w.0; opens = w.1 })
@@ -344,11 +339,12 @@ in-value-writes q tag (ValueOf kind.Url) a c b = tt
 in-value-writes q tag (ValueOf kind.Script) a c b = tt
 in-value-writes q tag (ValueOf kind.Style) a c b = tt
 in-value-writes q tag (ValueOf kind.ScriptType) a c b = tt
-in-value-writes q tag (TypeSoFar before) a c b =
-    let s = AttributeValue q tag (TypeSoFar before) a in
-    let f = InType (tag_of tag) q (TypeSoFar before) a in
-    let w = value-writes (ends_value q c) q tag (TypeSoFar before) a c b refl in
-    where-first (is_second_type (is_typed tag) kind.ScriptType) f (WritesFrom s c b) (λ r e. at-one s f c b a r e (record { outs = w.0; opens = w.1 }))
+in-value-writes q tag (Deciding kind.ScriptType before) a c b =
+    let s = AttributeValue q tag (Deciding kind.ScriptType before) a in
+    let f = InType tag.tag q (Deciding kind.ScriptType before) a in
+    let w = value-writes (ends_value q c) q tag (Deciding kind.ScriptType before) a c b refl in
+    where-first (is_second_type tag.typed kind.ScriptType) f (WritesFrom s c b) (λ r e. at-one s f c b a r e (record { outs = w.0; opens = w.1 }))
+in-value-writes q tag (Deciding _ before) a c b = tt
 
 not-open : (r : Reference) → None ≡ Some r → ⊥
 not-open r e = cc
@@ -415,13 +411,13 @@ writes InDoctype c b k = λ r e. at-one InDoctype (At place.Doctype) c b Closed 
 writes (TagName ends name) c b k = λ r e. at-one (TagName ends name) (InTagName ends name) c b Closed r e (record { outs = refl; opens = tag-name-opens c b ends name })
 writes (WholeTagName t) c b k = λ r e. at-one (WholeTagName t) _ c b Closed r e (record { outs = refl; opens = before-closed c b t })
 writes (BeforeAttributeName t) c b k = λ r e. at-one (BeforeAttributeName t) _ c b Closed r e (record { outs = refl; opens = before-closed c b t })
-writes (AttributeName t name) c b k = λ r e. at-one (AttributeName t name) _ c b Closed r e (record { outs = refl; opens = name-opens c b t (kind_of (element_on t) name) name })
+writes (AttributeName t name) c b k = λ r e. at-one (AttributeName t name) _ c b Closed r e (record { outs = refl; opens = name-opens c b t (kind_of (element_on t.tag) name) name })
 writes (WholeAttributeName t j) c b k =
     let f = At (place.Tag (tag_spot t only_inside (Some j))) in
-    where-first (is_second_type (is_typed t) j) f (WritesFrom (WholeAttributeName t j) c b) (λ r e. at-one (WholeAttributeName t j) f c b Closed r e (record { outs = refl; opens = whole-opens c b t j }))
+    where-first (is_second_type t.typed j) f (WritesFrom (WholeAttributeName t j) c b) (λ r e. at-one (WholeAttributeName t j) f c b Closed r e (record { outs = refl; opens = after-name-opens c b t j }))
 writes (AfterAttributeName t j) c b k =
     let f = At (place.Tag (tag_spot t only_after (Some j))) in
-    where-first (is_second_type (is_typed t) j) f (WritesFrom (AfterAttributeName t j) c b) (λ r e. at-one (AfterAttributeName t j) f c b Closed r e (record { outs = refl; opens = after-name-opens c b t j }))
+    where-first (is_second_type t.typed j) f (WritesFrom (AfterAttributeName t j) c b) (λ r e. at-one (AfterAttributeName t j) f c b Closed r e (record { outs = refl; opens = after-name-opens c b t j }))
 writes (BeforeAttributeValue t j) c b k = before-value-writes t j c b
 writes (AttributeValue q t v a) c b k = in-value-writes q t v a c b
 writes (AfterAttributeValue t) c b k = λ r e. at-one (AfterAttributeValue t) _ c b Closed r e (record { outs = refl; opens = before-closed c b t })
@@ -486,9 +482,10 @@ value-cuts q tag (ValueOf kind.Url) a = tt
 value-cuts q tag (ValueOf kind.Script) a = tt
 value-cuts q tag (ValueOf kind.Style) a = tt
 value-cuts q tag (ValueOf kind.ScriptType) a = tt
-value-cuts q tag (TypeSoFar before) a =
-    let s = AttributeValue q tag (TypeSoFar before) a in
-    where-first (is_second_type (is_typed tag) kind.ScriptType) (InType (tag_of tag) q (TypeSoFar before) a) (CutFrom s) (λ r e. by-one (At place.Text) a r _ e refl)
+value-cuts q tag (Deciding kind.ScriptType before) a =
+    let s = AttributeValue q tag (Deciding kind.ScriptType before) a in
+    where-first (is_second_type tag.typed kind.ScriptType) (InType tag.tag q (Deciding kind.ScriptType before) a) (CutFrom s) (λ r e. by-one (At place.Text) a r _ e refl)
+value-cuts q tag (Deciding _ before) a = tt
 
 before-cuts : (tag : Tag) (k : Kind) → CutAt (BeforeAttributeValue tag k)
 before-cuts tag kind.Plain = λ r e. by-one (At place.Text) Closed r _ e refl
@@ -497,7 +494,7 @@ before-cuts tag kind.Url = tt
 before-cuts tag kind.Script = tt
 before-cuts tag kind.Style = tt
 before-cuts tag kind.ScriptType =
-    where-first (is_second_type (is_typed tag) kind.ScriptType) (BeforeType (tag_of tag)) (CutFrom (BeforeAttributeValue tag kind.ScriptType)) (λ r e. by-one (At place.Text) Closed r _ e refl)
+    where-first (is_second_type tag.typed kind.ScriptType) (BeforeType tag.tag) (CutFrom (BeforeAttributeValue tag kind.ScriptType)) (λ r e. by-one (At place.Text) Closed r _ e refl)
 
 comment-cuts : (s : CommentState) → CutAt (InComment s)
 comment-cuts Started = λ r e. refl
@@ -521,9 +518,9 @@ cuts (WholeTagName t) = λ r e. by-one (At place.Text) Closed r _ e refl
 cuts (BeforeAttributeName t) = λ r e. by-one (At place.Text) Closed r _ e refl
 cuts (AttributeName t name) = λ r e. refl
 cuts (WholeAttributeName t j) =
-    where-first (is_second_type (is_typed t) j) (At (place.Tag (tag_spot t only_inside (Some j)))) (CutFrom (WholeAttributeName t j)) (λ r e. by-one (At place.Text) Closed r _ e refl)
+    where-first (is_second_type t.typed j) (At (place.Tag (tag_spot t only_inside (Some j)))) (CutFrom (WholeAttributeName t j)) (λ r e. by-one (At place.Text) Closed r _ e refl)
 cuts (AfterAttributeName t j) =
-    where-first (is_second_type (is_typed t) j) (At (place.Tag (tag_spot t only_after (Some j)))) (CutFrom (AfterAttributeName t j)) (λ r e. by-one (At place.Text) Closed r _ e refl)
+    where-first (is_second_type t.typed j) (At (place.Tag (tag_spot t only_after (Some j)))) (CutFrom (AfterAttributeName t j)) (λ r e. by-one (At place.Text) Closed r _ e refl)
 cuts (BeforeAttributeValue t j) = before-cuts t j
 cuts (AttributeValue q t v a) = value-cuts q t v a
 cuts (AfterAttributeValue t) = λ r e. by-one (At place.Text) Closed r _ e refl

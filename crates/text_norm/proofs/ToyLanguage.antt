@@ -1,6 +1,6 @@
 -- A small language of values, whose states differ in a page and on its path behind a hole: `*/` in a value is told as one thing. It has the laws of
 -- a language. And what the laws do not let through: bytes of a hole that change how the text behind them is read.
-use Rattle.std.proofs.Common.{◌≡◌, ℕ, ◌==◌, Bool, true, false, codes, List, [], ◌∷◌, Option, Some, None, if◌then◌else◌, refl, sym, ap, ◌∙◌}
+use Rattle.std.proofs.Common.{◌≡◌, ℕ, ◌==◌, Bool, true, false, codes, List, [], ◌∷◌, Option, Some, None, if◌then◌else◌, refl, ap}
 use Rattle.std.specs.Prelude.{⊤}
 use Rattle.place_core.specs.page.Classes.{Solidus, class_of}
 use Rattle.place_core.specs.place.Errors.{language_error}
@@ -10,7 +10,7 @@ use Rattle.place_core.specs.page.Paths.{Hole, read_path}
 use Rattle.place_core.specs.page.References.{Closed}
 use Rattle.place_core.specs.page.Shape.{marked_over}
 use Rattle.place_core.specs.page.States.{Page, Template, LexState, AttributeValue, Config, config}
-use Rattle.place_core.specs.page.Tags.{EndTag, ValueLanguage, ValueOf, DoubleQuoted}
+use Rattle.place_core.specs.page.Tags.{end_tag, ValueLanguage, ValueOf, DoubleQuoted}
 use Rattle.place_core.specs.declared.code.Code.{Code}
 use Rattle.place_core.specs.declared.code.Code.TheVariants as code
 use Rattle.text_norm.specs.Standing.{StandsInValue}
@@ -89,7 +89,7 @@ toy-keeps = record {
 
 -- A page with the bytes of a hole in a value, and then a text, and the path of that text behind a hole.
 abbrev in_toy : Toy → LexState Toy
-in_toy v = AttributeValue DoubleQuoted EndTag (ValueOf v) Closed
+in_toy v = AttributeValue DoubleQuoted end_tag (ValueOf v) Closed
 
 abbrev page_behind : List ℕ → List ℕ → Config Toy
 page_behind hole text = read_over toy Page text (marked_over toy hole (config (in_toy Loose) []))
@@ -102,9 +102,9 @@ differ : (page_behind (codes "a*") [] ≡ config (in_toy Starred) (Mark ∷ []))
 unfolding class_of
 differ = (refl, refl)
 
-stands : StandsInValue toy DoubleQuoted EndTag (ValueOf Behind) Closed (Mark ∷ []) (page_behind (codes "a*") [])
+stands : StandsInValue toy DoubleQuoted end_tag (ValueOf Behind) Closed (Mark ∷ []) (page_behind (codes "a*") [])
 unfolding class_of
-stands = hole-alike toy-keeps DoubleQuoted EndTag Loose Loose Starred [] refl tt
+stands = hole-alike toy-keeps DoubleQuoted end_tag Loose Loose Starred [] refl tt
 
 -- the next byte brings them together, and they have told the same
 together : page_behind (codes "a*") (codes "b*/") ≡ path_behind (codes "b*/")

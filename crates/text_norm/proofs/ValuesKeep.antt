@@ -8,9 +8,8 @@ use Rattle.place_core.specs.place.Errors.{PathCause, cause_back, content_error, 
 use Rattle.place_core.specs.page.Events.{LexEvent, Mark, TagEnds}
 use Rattle.place_core.specs.page.Html.{ends_value, next_after_value, next_before_value, next_value, emits_after_value, emits_before_value, emits_value}
 use Rattle.place_core.specs.page.References.{Form, Begun, Reference, Closed, Open, ReferenceStep, Grows, Closes, Breaks, flushed, next_reference, plain_bytes, settled, turn, turn_bytes, undone_byte, as_it_stands}
-use Rattle.place_core.specs.place.StatePlaces.{tag_of}
 use Rattle.place_core.specs.page.States.{AttributeValue, BeforeAttributeValue, Config, config}
-use Rattle.place_core.specs.page.Tags.{Tag, ValueLanguage, Value, ValueOf, TypeSoFar, Quoting, DoubleQuoted, SingleQuoted, Unquoted, cut_value, emitted_bytes, emitted_end, emitted_settled, holed_value, attribute_value_of, value_behind, with_bytes, tag_with_value, without_value}
+use Rattle.place_core.specs.page.Tags.{Tag, ValueLanguage, Value, ValueOf, Deciding, Quoting, DoubleQuoted, SingleQuoted, Unquoted, cut_value, emitted_bytes, emitted_end, emitted_settled, holed_value, attribute_value_of, value_behind, with_bytes, tag_with_value, without_value}
 use Rattle.place_core.specs.declared.code.Code.{Code}
 use Rattle.place_core.specs.declared.kind.Kind.{Kind}
 use Rattle.place_core.specs.declared.kind.Kind.TheVariants as kind
@@ -37,9 +36,9 @@ pub own-fed : {B : Type 0} (x : ValueLanguage B) (v : B) (bs : List ℕ) → wit
 own-fed x v [] = refl
 own-fed x v (b ∷ bs) = own-fed x (x.feed v b) bs
 
-pub own-type : {B : Type 0} (x : ValueLanguage B) (before bs : List ℕ) → with_bytes x (TypeSoFar before) bs ≡ TypeSoFar (before ++ bs)
-own-type x before [] = ap TypeSoFar (sym (append-nil before))
-own-type x before (b ∷ bs) = own-type x (before ++ b ∷ []) bs ∙ ap TypeSoFar (append_assoc before (b ∷ []) bs)
+pub own-type : {B : Type 0} (x : ValueLanguage B) (k : Kind) (before bs : List ℕ) → with_bytes x (Deciding k before) bs ≡ Deciding k (before ++ bs)
+own-type x k before [] = ap (Deciding k) (sym (append-nil before))
+own-type x k before (b ∷ bs) = own-type x k (before ++ b ∷ []) bs ∙ ap (Deciding k) (append_assoc before (b ∷ []) bs)
 
 -- What a language does not refuse of a text, it takes of what it is fed.
 pub both-none : (a b : Option PathCause) → first_cause a b ≡ None → (a ≡ None) × (b ≡ None)
@@ -122,13 +121,13 @@ goes-on {B} {x} l q tag (ValueOf v) r c b t d e s n h =
     let u = undone_byte true r c b in
     subst (λ (z : Value B). StandsInValue x q tag z (next_reference r c b) (emitted_bytes x (ValueOf v) u t) (page x (reference_out r c b) d)) (sym (own-fed x v u))
     (goes-on-alike l q tag v r c b t d e s (taken-on x v r c b n) h)
-goes-on {B} {x} l q tag (TypeSoFar before) r c b t d e s n h =
+goes-on {B} {x} l q tag (Deciding k before) r c b t d e s n h =
     let u = undone_byte true r c b in
     let far = page x (reference_out r c b) d in
-    let told = emitted_bytes x (TypeSoFar before) u t in
-    let own = value-since x q tag (TypeSoFar before) t u (next_reference r c b) far (follows-run (value-run x q tag (TypeSoFar before) t) r c b d e s h) in
-    subst (λ (z : Value B). StandsInValue x q tag z (next_reference r c b) told far) (sym (own-type x before u))
-    (subst (λ (z : Value B). StandsIn x (standing_value x q tag z told) (next_reference r c b) far) (own-type x before u) own)
+    let told = emitted_bytes x (Deciding k before) u t in
+    let own = value-since x q tag (Deciding k before) t u (next_reference r c b) far (follows-run (value-run x q tag (Deciding k before) t) r c b d e s h) in
+    subst (λ (z : Value B). StandsInValue x q tag z (next_reference r c b) told far) (sym (own-type x k before u))
+    (subst (λ (z : Value B). StandsIn x (standing_value x q tag z told) (next_reference r c b) far) (own-type x k before u) own)
 
 -- a byte that ends it: the state and what is told
 at-end : {B : Type 0} (x : ValueLanguage B) (q : Quoting) (tag : Tag) (v : Value B) (r : Reference) (c : Class) (b : ℕ) (t : List LexEvent) (d : Config B) → class_of b ≡ c → ends_value q c ≡ true
@@ -137,7 +136,7 @@ at-end : {B : Type 0} (x : ValueLanguage B) (q : Quoting) (tag : Tag) (v : Value
 at-end x q tag v Closed c b t d e s h = ap (page x (b ∷ [])) h ∙ rw (e, s) refl
 at-end x q tag v (Open f bytes) c b t d e s h = on x (38 ∷ bytes) (b ∷ []) d _ h.as_is ∙ rw (e, s) refl
 
-after-end : {B : Type 0} (x : ValueLanguage B) (q : Quoting) (tag : Tag) (c : Class) (b : ℕ) (u : List LexEvent) (d : Config B) → (q ≡ Unquoted → c ≡ GreaterThan → content_error (tag_of tag) ≡ None)
+after-end : {B : Type 0} (x : ValueLanguage B) (q : Quoting) (tag : Tag) (c : Class) (b : ℕ) (u : List LexEvent) (d : Config B) → (q ≡ Unquoted → c ≡ GreaterThan → content_error tag.tag ≡ None)
     → d ≡ config (next_after_value q c b tag) u → TextStands x (next_after_value q c b tag) u d
 after-end x DoubleQuoted tag c b u d n h = h
 after-end x SingleQuoted tag c b u d n h = h
@@ -154,30 +153,29 @@ ends-alike {B} {x} l q tag v r c b t d e s k h =
     ∙ ap (λ (y : List LexEvent). config (next_after_value q c b tag) (emits_after_value q c b y)) (alike-end l (settled true r) v w t h.alike k)
 
 -- what is known of the tag at whose end it is
-abbrev IsBuilt : {B : Type 0} → Quoting → Class → Tag → Value B → Reference → Type 0
-IsBuilt q c tag v r = q ≡ Unquoted → c ≡ GreaterThan → content_error (tag_of (ending_tag tag v r)) ≡ None
+abbrev IsBuilt : {B : Type 0} → ValueLanguage B → Quoting → Class → Tag → Value B → Reference → Type 0
+IsBuilt x q c tag v r = q ≡ Unquoted → c ≡ GreaterThan → content_error (ending_tag x tag v r).tag ≡ None
 
 ends-there : {B : Type 0} {x : ValueLanguage B} → ValueLanguageLaws B x → (q : Quoting) (tag : Tag) (v : Value B) (r : Reference) (c : Class) (b : ℕ) (t : List LexEvent) (d : Config B) → class_of b ≡ c
-    → ends_value q c ≡ true → language_error x true v r c b ≡ None → IsBuilt q c tag v r → StandsInValue x q tag v r t d
+    → ends_value q c ≡ true → language_error x true v r c b ≡ None → IsBuilt x q c tag v r → StandsInValue x q tag v r t d
     → TextStands x (next_value x true q c b tag v r) (emits_value x true q c b v r t) (page x (as_it_stands r ++ b ∷ []) d)
 ends-there {B} {x} l q tag (ValueOf v) r c b t d e s k n h =
     let u = emits_value x true q c b (ValueOf v) r t in
     subst (λ (y : Tag). TextStands x (next_after_value q c b y) u (page x (as_it_stands r ++ b ∷ []) d)) (sym (own-tag x tag v (settled true r)))
-    (after-end x q tag c b u (page x (as_it_stands r ++ b ∷ []) d) n (ends-alike l q tag v r c b t d e s (taken-end x v r c b k) h))
-ends-there {B} {x} l q tag (TypeSoFar before) r c b t d e s k n h =
-    let z = with_bytes x (TypeSoFar before) (settled true r) in
-    let same : tag_with_value tag z ≡ ending_tag {B = B} tag (TypeSoFar before) r = ap (tag_with_value tag) (own-type x before (settled true r)) in
-    after-end x q (tag_with_value tag z) c b (emits_value x true q c b (TypeSoFar before) r t) (page x (as_it_stands r ++ b ∷ []) d)
-    (λ f g. ap (λ (y : Tag). content_error (tag_of y)) same ∙ n f g) (at-end x q tag (TypeSoFar before) r c b t d e s h)
+    (after-end x q tag c b u (page x (as_it_stands r ++ b ∷ []) d) (λ f g. ap (λ (y : Tag). content_error y.tag) (sym (own-tag x tag v (settled true r))) ∙ n f g)
+    (ends-alike l q tag v r c b t d e s (taken-end x v r c b k) h))
+ends-there {B} {x} l q tag (Deciding j before) r c b t d e s k n h =
+    let z = with_bytes x (Deciding j before) (settled true r) in
+    after-end x q (tag_with_value tag z) c b (emits_value x true q c b (Deciding j before) r t) (page x (as_it_stands r ++ b ∷ []) d) n (at-end x q tag (Deciding j before) r c b t d e s h)
 
 in-value-by : {B : Type 0} {x : ValueLanguage B} → ValueLanguageLaws B x → (ends : Bool) (q : Quoting) (tag : Tag) (v : Value B) (r : Reference) (c : Class) (b : ℕ) (t : List LexEvent) (d : Config B) → class_of b ≡ c
-    → ends_value q c ≡ ends → language_error x ends v r c b ≡ None → IsBuilt q c tag v r → StandsInValue x q tag v r t d
+    → ends_value q c ≡ ends → language_error x ends v r c b ≡ None → IsBuilt x q c tag v r → StandsInValue x q tag v r t d
     → TextStands x (next_value x ends q c b tag v r) (emits_value x ends q c b v r t) (page x (value_out ends c b r) d)
 in-value-by l true q tag v r c b t d e s k n h = ends-there l q tag v r c b t d e s k n h
 in-value-by l false q tag v r c b t d e s k n h = goes-on l q tag v r c b t d e s k h
 
 pub in-value : {B : Type 0} {x : ValueLanguage B} → ValueLanguageLaws B x → (q : Quoting) (tag : Tag) (v : Value B) (r : Reference) (c : Class) (b : ℕ) (t : List LexEvent) (d : Config B) → class_of b ≡ c
-    → language_error x (ends_value q c) v r c b ≡ None → (q ≡ Unquoted → c ≡ GreaterThan → content_error (tag_of (ending_tag tag v r)) ≡ None) → StandsInValue x q tag v r t d
+    → language_error x (ends_value q c) v r c b ≡ None → (q ≡ Unquoted → c ≡ GreaterThan → content_error (ending_tag x tag v r).tag ≡ None) → StandsInValue x q tag v r t d
     → TextStands x (next_value x (ends_value q c) q c b tag v r) (emits_value x (ends_value q c) q c b v r t) (page x (value_out (ends_value q c) c b r) d)
 in-value l q tag v r c b t d e k n h = in-value-by l (ends_value q c) q tag v r c b t d e refl k n h
 
@@ -227,13 +225,13 @@ unquoted-amp x tag k t d h = record {
 }
 
 pub before-value : {B : Type 0} {x : ValueLanguage B} → ValueLanguageLaws B x → (tag : Tag) (k : Kind) (c : Class) (b : ℕ) (t : List LexEvent) (d : Config B) → class_of b ≡ c
-    → first_byte_error x (attribute_value_of x k) c b ≡ None → (c ≡ GreaterThan → content_error (tag_of tag) ≡ None) → d ≡ config (BeforeAttributeValue tag k) t
+    → first_byte_error x (attribute_value_of x k) c b ≡ None → (c ≡ GreaterThan → content_error tag.tag ≡ None) → d ≡ config (BeforeAttributeValue tag k) t
     → TextStands x (next_before_value x c b tag k) (emits_before_value x c b k t) (page x (reference_out Closed c b) d)
 before-value l tag k White b t d e o n h = rw (h, e) refl
 before-value {B} {x} l tag k QuotationMark b t d e o n h = begun-there l DoubleQuoted tag k Closed t (page x (b ∷ []) d) (rw (h, e) refl)
 before-value {B} {x} l tag k Apostrophe b t d e o n h = begun-there l SingleQuoted tag k Closed t (page x (b ∷ []) d) (rw (h, e) refl)
 before-value {B} {x} l tag k GreaterThan b t d e o n h =
-    tag-leads x (without_value tag k) (TagEnds false ∷ emitted_end x (attribute_value_of x k) t) (page x (b ∷ []) d) (without-value tag k (n refl)) (rw (h, e) refl)
+    tag-leads x (without_value tag k).tag (TagEnds false ∷ emitted_end x (attribute_value_of x k) t) (page x (b ∷ []) d) (without-value tag k (n refl)) (rw (h, e) refl)
 before-value {B} {x} l tag k Ampersand b t d e o n h = begun-there l Unquoted tag k (Open Begun []) t d (unquoted-amp x tag k t d h)
 before-value {B} {x} l tag k c b t d e o n h =
     let v = attribute_value_of x k in

@@ -7,7 +7,7 @@ use Rattle.place_core.specs.page.Html.{read, start}
 use Rattle.place_core.specs.page.Paths.{Hole, Symbol, Written, at_hole, read_path}
 use Rattle.place_core.specs.page.References.{Closed, undone}
 use Rattle.place_core.specs.page.States.{AfterAttributeName, AfterAttributeValue, AttributeValue, BeforeAttributeName, BeforeAttributeValue, Bytes, Characters, InContent, LexState, Nothing, Page, SelfClosingStartTag, Text}
-use Rattle.place_core.specs.page.Tags.{Quoting, TypeSoFar, Unquoted, Value, ValueOf, ValueState, attribute_value_of, languages}
+use Rattle.place_core.specs.page.Tags.{Quoting, Deciding, Unquoted, Value, ValueOf, ValueState, attribute_value_of, languages}
 use Rattle.place_core.specs.place.Errors.{node}
 use Rattle.san_html.specs.ReadBack.{as_name, as_unquoted, read_as_text}
 
@@ -74,7 +74,7 @@ quoted_site q = QuotedSite
 
 abbrev pub value_fillings : Value ValueState → MarkSite → List ℕ → List Filling → List Filling
 value_fillings (ValueOf v) site text vs = filling site text ∷ vs
-value_fillings (TypeSoFar before) site text vs = vs
+value_fillings (Deciding k before) site text vs = vs
 
 abbrev pub fillings_at : LexState ValueState → List ℕ → List Filling → List Filling
 fillings_at (Text r) text vs = filling TextSite text ∷ vs

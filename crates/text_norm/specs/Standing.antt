@@ -7,7 +7,7 @@ use Rattle.place_core.specs.page.Events.{LexEvent, event_text_bytes}
 use Rattle.place_core.specs.page.Html.{read_over}
 use Rattle.place_core.specs.page.References.{Form, Reference, Closed, Open, as_it_stands, settled}
 use Rattle.place_core.specs.page.States.{Page, LexState, Text, TagOpen, EndTagOpen, DeclarationOpen, InComment, BogusComment, InDoctype, TagName, WholeTagName, BeforeAttributeName, AttributeName, WholeAttributeName, AfterAttributeName, BeforeAttributeValue, AttributeValue, AfterAttributeValue, SelfClosingStartTag, Content, Characters, Bytes, Pending, Nothing, PendingLess, LessAtCut, PendingName, InContent, Unread, Config, config}
-use Rattle.place_core.specs.page.Tags.{Tag, tag_named, element_on, Value, ValueOf, TypeSoFar, ValueLanguage, Quoting, with_bytes, emitted_bytes}
+use Rattle.place_core.specs.page.Tags.{Tag, tag_named, element_on, Value, ValueOf, Deciding, ValueLanguage, Quoting, with_bytes, emitted_bytes}
 use Rattle.place_core.specs.page.Words.{kind_of}
 use Rattle.place_core.specs.declared.element.Element.{Element}
 use Rattle.place_core.specs.declared.kind.Kind.{Kind}
@@ -71,7 +71,7 @@ pub record WholeTag (B : Type 0) (tag : Tag) (t : List LexEvent) (d : Config B) 
 
 pub record WholeAttribute (B : Type 0) (tag : Tag) (k : Kind) (t : List LexEvent) (d : Config B) : Type 0 where
   pub name : List ℕ
-  pub named : kind_of (element_on tag) name ≡ k
+  pub named : kind_of (element_on tag.tag) name ≡ k
   pub at : d ≡ config (AttributeName tag name) t
 
 -- What is pending back from a page in a data block, of which nothing is written otherwise: what is pending back on the path. Where a node has
@@ -93,10 +93,10 @@ pub record StandsAlike (B : Type 0) (x : ValueLanguage B) (q : Quoting) (tag : T
   pub alike : x.AreAlike v there
   pub stands : StandsIn x (standing_value x q tag (ValueOf there) t) r d
 
--- The type of a script is the same bytes in a page and on a path, since no hole is in it.
+-- A value that decides is the same bytes in a page and on a path, since no hole is in it.
 abbrev pub StandsInValue : {B : Type 0} → ValueLanguage B → Quoting → Tag → Value B → Reference → List LexEvent → Config B → Type 0
 StandsInValue {B} x q tag (ValueOf v) r t d = StandsAlike B x q tag v r t d
-StandsInValue x q tag (TypeSoFar before) r t d = StandsIn x (standing_value x q tag (TypeSoFar before) t) r d
+StandsInValue x q tag (Deciding k before) r t d = StandsIn x (standing_value x q tag (Deciding k before) t) r d
 
 -- The page's reading stands for the path that has come to a state and told these events. A comment is not written.
 abbrev pub TextStands : {B : Type 0} → ValueLanguage B → LexState B → List LexEvent → Config B → Type 0

@@ -8,7 +8,7 @@ use Rattle.place_core.specs.page.Classes.{Class, White, ExclamationMark, HyphenM
 use Rattle.place_core.specs.page.Events.{LexEvent, Escape, EndTagBegins, TagEnds, event_text_bytes, block_bytes, tag_name_bytes}
 use Rattle.place_core.specs.page.References.{Closed, next_reference, undone_byte, settled, as_it_stands}
 use Rattle.place_core.specs.page.States.{Content, Characters, Bytes, Pending, Nothing, PendingLess, LessAtCut, PendingName, PendingBang, PendingBangDash, LexState, Text, BeforeAttributeName, SelfClosingStartTag, InContent}
-use Rattle.place_core.specs.page.Tags.{EndTag}
+use Rattle.place_core.specs.page.Tags.{end_tag}
 use Rattle.place_core.specs.declared.element.Element.{Element}
 use Rattle.place_core.specs.declared.element.Element.TheVariants as element
 
@@ -71,8 +71,8 @@ emits_less c b x t = emits_loose c b x (content_bytes x (codes "<") t)
 -- after `</` and letters: whether the byte goes on with the element's name, and whether they are all of it
 abbrev pub next_end_name : {B : Type 0} → Bool → Bool → Class → ℕ → Element → Content → List ℕ → LexState B
 next_end_name true whole (Letter l) b e x letters = InContent e x (PendingName (letters ++ b ∷ []))
-next_end_name grows true White b e x letters = BeforeAttributeName EndTag
-next_end_name grows true Solidus b e x letters = SelfClosingStartTag EndTag
+next_end_name grows true White b e x letters = BeforeAttributeName end_tag
+next_end_name grows true Solidus b e x letters = SelfClosingStartTag end_tag
 next_end_name grows true GreaterThan b e x letters = Text Closed
 next_end_name grows whole c b e x letters = next_loose c b e x
 
@@ -125,9 +125,13 @@ pending_bytes PendingBangDash = codes "<!-"
 -- A node's end: in a title or a textarea what is pending back is text. In a data block a `<` stays pending, since no byte of it is written
 -- otherwise; what else is pending there is refused, and is bytes.
 abbrev pub pending_at_cut : Content → Pending → Pending
+pending_at_cut (Characters r) h = Nothing
+pending_at_cut Bytes Nothing = Nothing
 pending_at_cut Bytes PendingLess = LessAtCut
 pending_at_cut Bytes LessAtCut = LessAtCut
-pending_at_cut x h = Nothing
+pending_at_cut Bytes (PendingName letters) = Nothing
+pending_at_cut Bytes PendingBang = Nothing
+pending_at_cut Bytes PendingBangDash = Nothing
 
 abbrev pub emits_content_cut : Content → Pending → List LexEvent → List LexEvent
 emits_content_cut (Characters r) h t = event_text_bytes (pending_bytes h) (event_text_bytes (as_it_stands r) t)

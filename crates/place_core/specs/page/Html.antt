@@ -10,11 +10,13 @@ use Rattle.place_core.specs.page.Contents.{next_in_content, emits_in_content}
 use Rattle.place_core.specs.page.Events.{LexEvent, StartTagBegins, EndTagBegins, TagNameByte, AttributeBegins, AttributeNameByte, AttributeNameEnds, TagEnds, Comment, DoctypeBegins, UnreadByte, event_text_bytes, doctype_bytes}
 use Rattle.place_core.specs.page.References.{Reference, Closed, next_reference, undone_byte, settled, as_it_stands}
 use Rattle.place_core.specs.page.States.{LexMode, Page, Template, LexState, Text, TagOpen, EndTagOpen, DeclarationOpen, InComment, Started, BogusComment, InDoctype, TagName, WholeTagName, BeforeAttributeName, AttributeName, WholeAttributeName, AfterAttributeName, BeforeAttributeValue, AttributeValue, AfterAttributeValue, SelfClosingStartTag, InContent, Characters, Bytes, Nothing, Unread, Config, config}
-use Rattle.place_core.specs.page.Tags.{Tag, EndTag, StartTag, tag_named, element_on, Value, ValueLanguage, languages, attribute_value_of, with_bytes, emitted_bytes, emitted_end, tag_with_value, without_value, Quoting, DoubleQuoted, SingleQuoted, Unquoted, ValueState}
+use Rattle.place_core.specs.page.Tags.{Tag, tag_of_name, tag_named, element_on, Value, ValueLanguage, languages, attribute_value_of, with_bytes, emitted_bytes, emitted_end, tag_with_value, without_value, Quoting, DoubleQuoted, SingleQuoted, Unquoted, ValueState}
 use Rattle.place_core.specs.page.Words.{kind_of}
 use Rattle.place_core.specs.declared.element.Element.{Element}
 use Rattle.place_core.specs.declared.element.Element.TheVariants as element
 use Rattle.place_core.specs.declared.kind.Kind.{Kind}
+use Rattle.place_core.specs.declared.tag_of.TagOf.{TagOf}
+use Rattle.place_core.specs.declared.tag_of.TagOf.TheVariants as tag_of
 
 -- the content of the element after a tag
 abbrev pub content_of : {B : Type 0} → Element → LexState B
@@ -25,9 +27,9 @@ content_of element.Script = Unread
 content_of element.Style = Unread
 content_of element.Other = Text Closed
 
-abbrev pub after_tag : {B : Type 0} → Tag → LexState B
-after_tag EndTag = Text Closed
-after_tag (StartTag e typed) = content_of e
+abbrev pub after_tag : {B : Type 0} → TagOf → LexState B
+after_tag tag_of.End = Text Closed
+after_tag (tag_of.Start e) = content_of e
 
 -- Text.
 
@@ -93,7 +95,7 @@ emits_declaration OpensNothing m c b r pending t = emits_bogus m (codes "<!" ++ 
 abbrev pub next_tag_name : {B : Type 0} → Class → ℕ → Bool → List ℕ → LexState B
 next_tag_name White b ends name = BeforeAttributeName (tag_named ends name)
 next_tag_name Solidus b ends name = SelfClosingStartTag (tag_named ends name)
-next_tag_name GreaterThan b ends name = after_tag (tag_named ends name)
+next_tag_name GreaterThan b ends name = after_tag (tag_of_name ends name)
 next_tag_name c b ends name = TagName ends (name ++ to_ascii_lowercase b ∷ [])
 
 abbrev pub emits_tag_name : Class → ℕ → List LexEvent → List LexEvent
@@ -106,7 +108,7 @@ emits_tag_name c b t = TagNameByte (to_ascii_lowercase b) ∷ t
 abbrev pub next_before_name : {B : Type 0} → Class → ℕ → Tag → LexState B
 next_before_name White b tag = BeforeAttributeName tag
 next_before_name Solidus b tag = SelfClosingStartTag tag
-next_before_name GreaterThan b tag = after_tag tag
+next_before_name GreaterThan b tag = after_tag tag.tag
 next_before_name c b tag = AttributeName tag (to_ascii_lowercase b ∷ [])
 
 abbrev pub emits_before_name : Class → ℕ → List LexEvent → List LexEvent
@@ -119,7 +121,7 @@ emits_before_name c b t = AttributeNameByte (to_ascii_lowercase b) ∷ Attribute
 abbrev pub next_name : {B : Type 0} → Class → ℕ → Tag → Kind → List ℕ → LexState B
 next_name White b tag k name = AfterAttributeName tag k
 next_name Solidus b tag k name = SelfClosingStartTag (without_value tag k)
-next_name GreaterThan b tag k name = after_tag (without_value tag k)
+next_name GreaterThan b tag k name = after_tag (without_value tag k).tag
 next_name EqualsSign b tag k name = BeforeAttributeValue tag k
 next_name c b tag k name = AttributeName tag (name ++ to_ascii_lowercase b ∷ [])
 
@@ -144,12 +146,8 @@ abbrev pub emits_self_closing : Class → ℕ → List LexEvent → List LexEven
 emits_self_closing GreaterThan b t = TagEnds true ∷ t
 emits_self_closing c b t = emits_before_name c b t
 
--- after a name of a tag or an attribute that a node's end has ended, or that is a hole; it does not go on, so a byte of a name begins another one
-abbrev pub next_whole_name : {B : Type 0} → Class → ℕ → Tag → Kind → LexState B
-next_whole_name White b tag k = AfterAttributeName tag k
-next_whole_name EqualsSign b tag k = BeforeAttributeValue tag k
-next_whole_name c b tag k = next_before_name c b (without_value tag k)
-
+-- After a name that a node's end has ended, or that is a hole, a byte leads to where it leads after white space: the name does not go on, so a byte of
+-- a name begins another one. But it is told only now that the name has ended.
 abbrev pub emits_whole_name : Class → ℕ → Kind → List LexEvent → List LexEvent
 emits_whole_name EqualsSign b k t = AttributeNameEnds k ∷ t
 emits_whole_name c b k t = emits_before_name c b (AttributeNameEnds k ∷ t)
@@ -183,7 +181,7 @@ abbrev pub next_before_value : {B : Type 0} → ValueLanguage B → Class → �
 next_before_value x White b tag k = BeforeAttributeValue tag k
 next_before_value x QuotationMark b tag k = AttributeValue DoubleQuoted tag (attribute_value_of x k) Closed
 next_before_value x Apostrophe b tag k = AttributeValue SingleQuoted tag (attribute_value_of x k) Closed
-next_before_value x GreaterThan b tag k = after_tag (without_value tag k)
+next_before_value x GreaterThan b tag k = after_tag (without_value tag k).tag
 next_before_value x c b tag k = next_value x false Unquoted c b tag (attribute_value_of x k) Closed
 
 abbrev pub emits_before_value : {B : Type 0} → ValueLanguage B → Class → ℕ → Kind → List LexEvent → List LexEvent
@@ -206,8 +204,8 @@ next x m InDoctype c b = next_in_doctype c
 next x m (TagName ends name) c b = next_tag_name c b ends name
 next x m (WholeTagName tag) c b = next_before_name c b tag
 next x m (BeforeAttributeName tag) c b = next_before_name c b tag
-next x m (AttributeName tag name) c b = next_name c b tag (kind_of (element_on tag) name) name
-next x m (WholeAttributeName tag k) c b = next_whole_name c b tag k
+next x m (AttributeName tag name) c b = next_name c b tag (kind_of (element_on tag.tag) name) name
+next x m (WholeAttributeName tag k) c b = next_after_name c b tag k
 next x m (AfterAttributeName tag k) c b = next_after_name c b tag k
 next x m (BeforeAttributeValue tag k) c b = next_before_value x c b tag k
 next x m (AttributeValue q tag v r) c b = next_value x (ends_value q c) q c b tag v r
@@ -227,7 +225,7 @@ emits x m InDoctype c b t = emits_doctype c b t
 emits x m (TagName ends name) c b t = emits_tag_name c b t
 emits x m (WholeTagName tag) c b t = emits_before_name c b t
 emits x m (BeforeAttributeName tag) c b t = emits_before_name c b t
-emits x m (AttributeName tag name) c b t = emits_name c b (kind_of (element_on tag) name) t
+emits x m (AttributeName tag name) c b t = emits_name c b (kind_of (element_on tag.tag) name) t
 emits x m (WholeAttributeName tag k) c b t = emits_whole_name c b k t
 emits x m (AfterAttributeName tag k) c b t = emits_after_name c b t
 emits x m (BeforeAttributeValue tag k) c b t = emits_before_value x c b k t

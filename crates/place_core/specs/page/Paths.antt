@@ -6,7 +6,7 @@ use Rattle.place_core.specs.page.Events.{LexEvent, Mark, AttributeBegins, event_
 use Rattle.place_core.specs.page.Html.{read_over}
 use Rattle.place_core.specs.page.References.{Closed, settled, as_it_stands}
 use Rattle.place_core.specs.page.States.{Template, LexState, Text, TagOpen, EndTagOpen, DeclarationOpen, InComment, BogusComment, InDoctype, TagName, WholeTagName, BeforeAttributeName, AttributeName, WholeAttributeName, AfterAttributeName, BeforeAttributeValue, AttributeValue, AfterAttributeValue, SelfClosingStartTag, InContent, Unread, Config, config}
-use Rattle.place_core.specs.page.Tags.{ValueLanguage, is_typed, first_kind, tag_named, element_on, attribute_value_of, with_bytes, emitted_bytes, cut_value, holed_value, emitted_settled, without_value, Unquoted}
+use Rattle.place_core.specs.page.Tags.{ValueLanguage, tag_named, element_on, attribute_value_of, with_bytes, emitted_bytes, cut_value, holed_value, emitted_settled, without_value, Unquoted}
 use Rattle.place_core.specs.page.Words.{kind_of}
 use Rattle.place_core.specs.declared.kind.Kind.TheVariants as kind
 
@@ -16,7 +16,7 @@ pub data Symbol : Type 0 where
   Hole : Symbol
 
 -- The end of a node is a cut. A reference that has not ended there is text as it stands, and so is a `<` that begins nothing whole, after
--- the character of a reference before it. A name that has begun is whole (that of a second `type` is refused), and a comment's end that has begun is broken off. All else stays.
+-- the character of a reference before it. A name that has begun is whole, and a comment's end that has begun is broken off. All else stays.
 abbrev pub at_cut : {B : Type 0} → ValueLanguage B → LexState B → LexState B
 at_cut x (Text r) = Text Closed
 at_cut x (TagOpen r) = Text Closed
@@ -28,7 +28,7 @@ at_cut x InDoctype = InDoctype
 at_cut x (TagName ends name) = WholeTagName (tag_named ends name)
 at_cut x (WholeTagName tag) = WholeTagName tag
 at_cut x (BeforeAttributeName tag) = BeforeAttributeName tag
-at_cut x (AttributeName tag name) = WholeAttributeName tag (first_kind (is_typed tag) (kind_of (element_on tag) name))
+at_cut x (AttributeName tag name) = WholeAttributeName tag (kind_of (element_on tag.tag) name)
 at_cut x (WholeAttributeName tag k) = WholeAttributeName tag k
 at_cut x (AfterAttributeName tag k) = AfterAttributeName tag k
 at_cut x (BeforeAttributeValue tag k) = BeforeAttributeValue tag k

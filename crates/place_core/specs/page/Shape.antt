@@ -1,5 +1,5 @@
 -- The shape of a page: what it reads as, with a mark for each hole whose bytes are plain in their place.
-use Rattle.std.specs.Prelude.{◌≡◌, ℕ, Bool, true, false, List, [], ◌∷◌, ◌++◌, reverse, Option, Some, None, ◌⊎◌}
+use Rattle.std.specs.Prelude.{◌≡◌, ℕ, List, [], ◌∷◌, ◌++◌, reverse, Option, Some, None, ◌⊎◌}
 use Rattle.place_core.specs.page.Events.{LexEvent, TextByte, Mark, StartTagBegins, EndTagBegins, TagEnds, Comment}
 use Rattle.place_core.specs.page.Html.{read, read_over}
 use Rattle.place_core.specs.page.Paths.{mark_in}
@@ -54,18 +54,49 @@ abbrev pub text_token : List LexEvent → List Token
 text_token [] = []
 text_token (x ∷ xs) = TextToken (x ∷ xs) ∷ []
 
--- What was told, in order, from within a tag or not, after a text so far. In a tag a mark is a part of a name or a value. Comments are nothing,
--- and the texts on their two sides are one.
-abbrev pub tokens_from : Bool → List LexEvent → List LexEvent → List Token
-tokens_from in_tag front [] = text_token front
-tokens_from false front (TextByte b ∷ t) = tokens_from false (front ++ TextByte b ∷ []) t
-tokens_from false front (Mark ∷ t) = tokens_from false (front ++ Mark ∷ []) t
-tokens_from false front (Comment ∷ t) = tokens_from false front t
-tokens_from false front (StartTagBegins ∷ t) = text_token front ++ (OtherToken StartTagBegins ∷ tokens_from true [] t)
-tokens_from false front (EndTagBegins ∷ t) = text_token front ++ (OtherToken EndTagBegins ∷ tokens_from true [] t)
-tokens_from true front (TagEnds closes ∷ t) = text_token front ++ (OtherToken (TagEnds closes) ∷ tokens_from false [] t)
-tokens_from in_tag front (e ∷ t) = text_token front ++ (OtherToken e ∷ tokens_from in_tag [] t)
+-- What is open where an event is told: a text, whose bytes and marks are one token; or a tag, where a mark is a part of a name or a value.
+pub data OpenToken : Type 0 where
+  InText : OpenToken
+  InTag : OpenToken
+
+-- What an event does to the token that is open: it is a part of it; it says nothing, as a comment does, so that the texts on its two sides
+-- are one; or it ends it and is a token by itself, behind which this is open. What has no line of its own is a token by itself, so nothing
+-- that is told is lost.
+pub data Grouping : Type 0 where
+  GoesOn : Grouping
+  SaysNothing : Grouping
+  StandsAlone : OpenToken → Grouping
+
+abbrev pub grouping : OpenToken → LexEvent → Grouping
+grouping InText (TextByte b) = GoesOn
+grouping InText Mark = GoesOn
+grouping InText Comment = SaysNothing
+grouping here StartTagBegins = StandsAlone InTag
+grouping here EndTagBegins = StandsAlone InTag
+grouping here (TagEnds closes) = StandsAlone InText
+grouping here e = StandsAlone here
+
+-- the tokens that an event ends, and what is open behind it, with its text so far
+abbrev pub ended_tokens : Grouping → List LexEvent → LexEvent → List Token
+ended_tokens GoesOn front e = []
+ended_tokens SaysNothing front e = []
+ended_tokens (StandsAlone behind) front e = text_token front ++ (OtherToken e ∷ [])
+
+abbrev pub open_next : Grouping → OpenToken → OpenToken
+open_next GoesOn here = here
+open_next SaysNothing here = here
+open_next (StandsAlone behind) here = behind
+
+abbrev pub front_behind : Grouping → List LexEvent → LexEvent → List LexEvent
+front_behind GoesOn front e = front ++ e ∷ []
+front_behind SaysNothing front e = front
+front_behind (StandsAlone behind) front e = []
+
+-- what was told, in order, by what is open and after a text so far
+abbrev pub tokens_from : OpenToken → List LexEvent → List LexEvent → List Token
+tokens_from here front [] = text_token front
+tokens_from here front (e ∷ t) = ended_tokens (grouping here e) front e ++ tokens_from (open_next (grouping here e) here) (front_behind (grouping here e) front e) t
 
 -- the shape of what was read
 abbrev pub shape_of : Config ValueState → List Token
-shape_of c = tokens_from false [] (reverse c.emitted)
+shape_of c = tokens_from InText [] (reverse c.emitted)

@@ -1,13 +1,13 @@
 -- Where a text of a template is refused, and by which code: the conditions that stand on the places of paths, byte by byte, at the end of a
 -- node and at a hole. The checks of a byte have one order, whether one path stands at a place or several do.
-use Rattle.std.specs.Prelude.{◌≡◌, ℕ, zero, suc, ◌+◌, ◌-◌, ◌++◌, bytes_eq, encode_utf8, Bool, true, false, ◌&&◌, ◌||◌, List, [], ◌∷◌, length, Option, Some, None, if◌then◌else◌}
+use Rattle.std.specs.Prelude.{◌≡◌, ℕ, zero, suc, ◌+◌, ◌-◌, bytes_eq, encode_utf8, Bool, true, false, ◌&&◌, ◌||◌, List, [], ◌∷◌, length, Option, Some, None, if◌then◌else◌}
 use Rattle.place_core.specs.page.Classes.{Class, White, ExclamationMark, QuotationMark, Apostrophe, HyphenMinus, Solidus, LessThan, EqualsSign, GreaterThan, GraveAccent, is_equals_sign, class_of}
 use Rattle.place_core.specs.page.Html.{next, ends_value}
 use Rattle.place_core.specs.page.Paths.{at_cut}
 use Rattle.place_core.specs.page.References.{Form, Reference, Closed, Open, ReferenceStep, Grows, Closes, Breaks, turn, meaning, flushed, plain_bytes, settled, as_it_stands}
-use Rattle.place_core.specs.place.StatePlaces.{placed, value_spot, value_body, tag_of, tag_spot, only_name, only_before, only_inside, only_after, quotes_at}
-use Rattle.place_core.specs.page.States.{Template, LexState, Text, TagOpen, EndTagOpen, DeclarationOpen, InComment, Broken, CommentState, BogusComment, InDoctype, TagName, WholeTagName, BeforeAttributeName, AttributeName, WholeAttributeName, AfterAttributeName, BeforeAttributeValue, AttributeValue, AfterAttributeValue, SelfClosingStartTag, Bytes, Pending, LessAtCut, PendingName, PendingBang, PendingBangDash, InContent, Unread}
-use Rattle.place_core.specs.page.Tags.{Tag, is_typed, is_second_type, Value, attribute_value_of, ValueOf, TypeSoFar, ValueLanguage, with_byte, with_bytes, refuses_byte, cut_value, typed_by, ValueState, languages, tag_named, element_on, Unquoted}
+use Rattle.place_core.specs.place.StatePlaces.{placed, value_spot, value_body, tag_spot, only_name, only_before, only_inside, only_after, quotes_at}
+use Rattle.place_core.specs.page.States.{Template, LexState, Text, TagOpen, EndTagOpen, DeclarationOpen, InComment, Broken, CommentState, BogusComment, InDoctype, TagName, WholeTagName, BeforeAttributeName, AttributeName, WholeAttributeName, AfterAttributeName, BeforeAttributeValue, AttributeValue, AfterAttributeValue, SelfClosingStartTag, Characters, Bytes, Pending, Nothing, PendingLess, LessAtCut, PendingName, PendingBang, PendingBangDash, InContent, Unread}
+use Rattle.place_core.specs.page.Tags.{Tag, is_second_type, Value, attribute_value_of, ValueOf, Deciding, ValueLanguage, with_byte, with_bytes, refuses_byte, cut_value, tag_with_value, ValueState, languages, tag_of_name, element_on, Unquoted}
 use Rattle.place_core.specs.page.Words.{kind_of}
 use Rattle.place_core.specs.declared.bare.Bare.{Bare}
 use Rattle.place_core.specs.declared.body.Body.{Body}
@@ -29,9 +29,13 @@ use Rattle.place_core.specs.declared.value_place.ValuePlace.{ValuePlace}
 
 -- What is not built yet: a tag that ends and enters the content of a script or a style, and values of these kinds and URLs.
 abbrev pub content_error : TagOf → Option Code
-content_error (tag.Start element.Script) = Some code.NotBuilt
+content_error tag.End = None
+content_error (tag.Start element.Title) = None
+content_error (tag.Start element.Textarea) = None
 content_error (tag.Start element.Style) = Some code.NotBuilt
-content_error t = None
+content_error (tag.Start element.Script) = Some code.NotBuilt
+content_error (tag.Start element.DataBlock) = None
+content_error (tag.Start element.Other) = None
 
 abbrev pub kind_error : Kind → Option Code
 kind_error kind.Plain = None
@@ -140,8 +144,7 @@ unless_second false len o = at_hand o
 
 -- In a data block, by what is pending back before the byte: the third byte after the `<` of a `<!--` is its last one.
 abbrev pub block_byte_error : Pending → Class → Option PathCause
-block_byte_error LessAtCut Solidus = at_hand (Some code.SplitToken)
-block_byte_error LessAtCut ExclamationMark = at_hand (Some code.SplitToken)
+block_byte_error LessAtCut c = at_hand (block_error true c)
 block_byte_error PendingBangDash HyphenMinus = cause_back 3 (Some code.HtmlInScript)
 block_byte_error h c = None
 
@@ -150,7 +153,9 @@ abbrev pub block_cut_error : Pending → Option PathCause
 block_cut_error (PendingName letters) = Some (record { code = code.SplitToken; back = 0; shown = length letters + 2 })
 block_cut_error PendingBang = Some (record { code = code.SplitToken; back = 0; shown = 2 })
 block_cut_error PendingBangDash = Some (record { code = code.SplitToken; back = 0; shown = 3 })
-block_cut_error h = None
+block_cut_error Nothing = None
+block_cut_error PendingLess = None
+block_cut_error LessAtCut = None
 
 -- a byte within a name of a tag, and of an attribute, of which that many bytes have been read
 abbrev pub tag_name_error : TagOf → Class → Option Code
@@ -205,9 +210,8 @@ first_byte_error x v GreaterThan b = None
 first_byte_error x v c b = fed_error x v (plain_bytes c b) false 0
 
 -- the tag where a value ends
-abbrev pub ending_tag : {B : Type 0} → Tag → Value B → Reference → Tag
-ending_tag t (ValueOf v) r = t
-ending_tag t (TypeSoFar before) r = typed_by t (before ++ settled true r)
+abbrev pub ending_tag : {B : Type 0} → ValueLanguage B → Tag → Value B → Reference → Tag
+ending_tag x t v r = tag_with_value t (with_bytes x v (settled true r))
 
 -- What stands on one path, in the state that it has come to.
 abbrev pub is_broken : CommentState → Bool
@@ -222,30 +226,53 @@ byte_error (DeclarationOpen r pending) c b = None
 byte_error (InComment s) c b = at_hand (comment_error (is_broken s) c)
 byte_error BogusComment c b = None
 byte_error InDoctype c b = None
-byte_error (TagName ends name) c b = at_hand (tag_name_error (tag_of (tag_named ends name)) c)
+byte_error (TagName ends name) c b = at_hand (tag_name_error (tag_of_name ends name) c)
 byte_error (WholeTagName t) c b = at_hand (tag_error (tag_spot t only_name None) c)
 byte_error (BeforeAttributeName t) c b = at_hand (tag_error (tag_spot t only_before None) c)
-byte_error (AttributeName t name) c b = attribute_name_error (tag_of t) (is_typed t) (kind_of (element_on t) name) (length name) c
+byte_error (AttributeName t name) c b = attribute_name_error t.tag t.typed (kind_of (element_on t.tag) name) (length name) c
 byte_error (WholeAttributeName t k) c b = at_hand (tag_error (tag_spot t only_inside (Some k)) c)
 byte_error (AfterAttributeName t k) c b = at_hand (tag_error (tag_spot t only_after (Some k)) c)
 byte_error (BeforeAttributeValue t k) c b =
-    first_cause (first_byte_error languages (attribute_value_of languages k) c b) (at_hand (first_error (kind_error k) (bare_error (tag_of t) (record { uq = false; unbegun = true }) c)))
+    first_cause (first_byte_error languages (attribute_value_of languages k) c b) (at_hand (first_error (kind_error k) (bare_error t.tag (record { uq = false; unbegun = true }) c)))
 byte_error (AttributeValue q t v r) c b =
-    first_cause (language_error languages (ends_value q c) v r c b) (at_hand (quotes_error (tag_of (ending_tag t v r)) (quotes_at q) c))
+    first_cause (language_error languages (ends_value q c) v r c b) (at_hand (quotes_error (ending_tag languages t v r).tag (quotes_at q) c))
 byte_error (AfterAttributeValue t) c b = at_hand (tag_error (tag_spot t only_before None) c)
 byte_error (SelfClosingStartTag t) c b = at_hand (tag_error (tag_spot t only_before None) c)
+byte_error (InContent e (Characters r) h) c b = None
 byte_error (InContent e Bytes h) c b = block_byte_error h c
-byte_error (InContent e x h) c b = None
 byte_error Unread c b = at_hand (Some code.NotBuilt)
 
 -- A node that ends: a second `type`, the value of a type, and in a data block what its end tag begins with.
+abbrev pub begun_cut_error : Kind → Option Code
+begun_cut_error kind.Plain = None
+begun_cut_error kind.NoHole = None
+begun_cut_error kind.Url = None
+begun_cut_error kind.Script = None
+begun_cut_error kind.Style = None
+begun_cut_error kind.ScriptType = Some code.BadHTML
+
 abbrev pub cut_error : LexState ValueState → Option PathCause
-cut_error (AttributeName t name) = unless_second (is_second_type (is_typed t) (kind_of (element_on t) name)) (length name) None
-cut_error (BeforeAttributeValue t kind.ScriptType) = at_hand (Some code.BadHTML)
+cut_error (Text r) = None
+cut_error (TagOpen r) = None
+cut_error (EndTagOpen r) = None
+cut_error (DeclarationOpen r pending) = None
+cut_error (InComment s) = None
+cut_error BogusComment = None
+cut_error InDoctype = None
+cut_error (TagName ends name) = None
+cut_error (WholeTagName t) = None
+cut_error (BeforeAttributeName t) = None
+cut_error (AttributeName t name) = unless_second (is_second_type t.typed (kind_of (element_on t.tag) name)) (length name) None
+cut_error (WholeAttributeName t k) = None
+cut_error (AfterAttributeName t k) = None
+cut_error (BeforeAttributeValue t k) = at_hand (begun_cut_error k)
 cut_error (AttributeValue q t (ValueOf v) r) = fed_error languages (ValueOf v) (as_it_stands r) true (length (as_it_stands r))
-cut_error (AttributeValue q t (TypeSoFar before) r) = at_hand (Some code.BadHTML)
+cut_error (AttributeValue q t (Deciding k before) r) = at_hand (Some code.BadHTML)
+cut_error (AfterAttributeValue t) = None
+cut_error (SelfClosingStartTag t) = None
+cut_error (InContent e (Characters r) h) = None
 cut_error (InContent e Bytes h) = block_cut_error h
-cut_error s = None
+cut_error Unread = None
 
 -- a value of a kind that has a place where it begins
 abbrev pub begun_clash : Kind → Option Code
@@ -314,6 +341,7 @@ value_before step v c f bytes = v
 abbrev pub place_before_bytes : LexState ValueState → List ℕ → Option Place
 place_before_bytes (AttributeValue q t v (Open f bytes)) (b ∷ bs) =
     value_spot t (quotes_at q) (value_body (cut_value languages (value_before (turn (class_of b) f) v (class_of b) f bytes)))
+place_before_bytes (AttributeName t name) bs = Some (place.Tag (tag_spot t only_inside (Some (kind_of (element_on t.tag) name))))
 place_before_bytes s bs = placed (at_cut languages s)
 
 abbrev pub or_place : Option Place → Option Place → Option Place

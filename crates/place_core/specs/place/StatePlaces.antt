@@ -2,7 +2,7 @@
 use Rattle.std.specs.Prelude.{Bool, true, false, Option, Some, None, if◌then◌else◌}
 use Rattle.place_core.specs.page.References.{Reference, Closed, Open}
 use Rattle.place_core.specs.page.States.{LexState, Text, TagOpen, EndTagOpen, DeclarationOpen, CommentState, Started, StartedDash, Inside, Dash, DashDash, Bang, Broken, InComment, BogusComment, InDoctype, TagName, WholeTagName, BeforeAttributeName, AttributeName, WholeAttributeName, AfterAttributeName, BeforeAttributeValue, AttributeValue, AfterAttributeValue, SelfClosingStartTag, Content, Characters, Bytes, Pending, Nothing, LessAtCut, InContent, Unread}
-use Rattle.place_core.specs.page.Tags.{Tag, EndTag, StartTag, is_typed, is_second_type, Value, ValueOf, TypeSoFar, ValueState, languages, attribute_value_of, without_value, Quoting, DoubleQuoted, SingleQuoted, Unquoted}
+use Rattle.place_core.specs.page.Tags.{Tag, is_second_type, Value, ValueOf, Deciding, ValueState, languages, attribute_value_of, without_value, Quoting, DoubleQuoted, SingleQuoted, Unquoted}
 use Rattle.place_core.specs.declared.body.Body.{Body}
 use Rattle.place_core.specs.declared.body.Body.TheVariants as body
 use Rattle.place_core.specs.declared.element.Element.{Element}
@@ -14,13 +14,7 @@ use Rattle.place_core.specs.declared.place.Place.TheVariants as place
 use Rattle.place_core.specs.declared.quotes.Quotes.{Quotes}
 use Rattle.place_core.specs.declared.quotes.Quotes.TheVariants as quotes
 use Rattle.place_core.specs.declared.spots.Spots.{Spots}
-use Rattle.place_core.specs.declared.tag_of.TagOf.{TagOf}
-use Rattle.place_core.specs.declared.tag_of.TagOf.TheVariants as tag
 use Rattle.place_core.specs.declared.tag_place.TagPlace.{TagPlace}
-
-abbrev pub tag_of : Tag → TagOf
-tag_of EndTag = tag.End
-tag_of (StartTag e typed) = tag.Start e
 
 -- the one spot of a path in a tag
 abbrev pub only_name : Spots
@@ -37,15 +31,15 @@ only_after = record { name = false; before = false; inside = false; after = true
 
 -- A `type` has been seen also where only its name has been read.
 abbrev pub is_typed_after : Tag → Option Kind → Bool
-is_typed_after t None = is_typed t
-is_typed_after t (Some k) = is_typed (without_value t k)
+is_typed_after t None = t.typed
+is_typed_after t (Some k) = (without_value t k).typed
 
 abbrev pub tag_spot : Tag → Spots → Option Kind → TagPlace
-tag_spot t spots k = record { tag = tag_of t; typed = is_typed_after t k; spots = spots; kind = k }
+tag_spot t spots k = record { tag = t.tag; typed = is_typed_after t k; spots = spots; kind = k }
 
 -- Where a second `type` of a script has been read, which is refused, a path is at no place.
 abbrev pub unless_second_type : Tag → Kind → Place → Option Place
-unless_second_type t k p = if is_second_type (is_typed t) k then None else Some p
+unless_second_type t k p = if is_second_type t.typed k then None else Some p
 
 -- The body of a value, by the state of its language.
 abbrev pub body_at : ValueState → Option Body
@@ -58,11 +52,11 @@ body_at kind.ScriptType = None
 
 abbrev pub value_body : Value ValueState → Option Body
 value_body (ValueOf v) = body_at v
-value_body (TypeSoFar before) = None
+value_body (Deciding k before) = None
 
 abbrev pub value_spot : Tag → Quotes → Option Body → Option Place
 value_spot t q None = None
-value_spot t q (Some b) = Some (place.Value (record { tag = tag_of t; typed = is_typed t; quotes = q; body = b }))
+value_spot t q (Some b) = Some (place.Value (record { tag = t.tag; typed = t.typed; quotes = q; body = b }))
 
 abbrev pub quotes_at : Quoting → Quotes
 quotes_at DoubleQuoted = quotes.Dq

@@ -1,4 +1,4 @@
-use Rattle.std.proofs.Common.{◌≡◌, ◌∙◌, List, ap}
+use Rattle.std.proofs.Common.{◌∙◌, List, ap}
 use Rattle.std.specs.Prelude.{slice_index_or}
 use Rattle.html_step.proofs.OriginSteps.{member-at}
 use Rattle.html_step.specs.OriginViews.{member_number}
