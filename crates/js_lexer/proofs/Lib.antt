@@ -1,0 +1,17 @@
+mod ElementExamples
+mod Examples
+mod HoleExamples
+mod Keeps
+mod LimitExamples
+mod Literals
+mod NotPlain
+mod Paged
+mod PlainExamples
+mod ReadBack
+mod RefusalExamples
+mod SanitizerExamples
+mod ShownPlaces
+mod StringBytes
+mod Told
+mod ValueBytes
+mod WrittenKeeps

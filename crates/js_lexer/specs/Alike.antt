@@ -1,0 +1,24 @@
+-- When a page, in one state of a script, reads the texts of a path as the path does, in another.
+use Rattle.std.specs.Prelude.{◌≡◌, ◌⊎◌, true, false, []}
+use Rattle.js_lexer.specs.Holes.{as_page}
+use Rattle.js_lexer.specs.States.{BlockComment, ScriptState}
+use Rattle.js_lexer.specs.declared.sense.Sense.{Sense}
+
+-- `v` is the state of the path, and `w` that of the page. The trails do not matter, nor whether a slash would divide after a value or after `}`.
+pub record IsSame (v w : ScriptState) : Type 0 where
+  pub literals : w.literals ≡ v.literals
+  pub held : w.held ≡ v.held
+  pub at : as_page w.at ≡ as_page v.at
+
+-- A node ended in the `*` of a comment, and bytes of a hole came between: they do not end in `*`. The path refuses a `/` there.
+pub record IsPassed (v w : ScriptState) : Type 0 where
+  pub sense : Sense
+  pub literals : w.literals ≡ v.literals
+  pub fresh : v.trail.fresh ≡ true
+  pub path : as_page v.at ≡ BlockComment sense true
+  pub page : as_page w.at ≡ BlockComment sense false
+  pub path_held : v.held ≡ []
+  pub page_held : w.held ≡ []
+
+abbrev pub ScriptsAlike : ScriptState → ScriptState → Type 0
+ScriptsAlike v w = IsSame v w ⊎ IsPassed v w

@@ -1,0 +1,22 @@
+ghost use Rattle.js_lexer.specs.BackLaws.{TextsReadBack};
+ghost use Rattle.js_lexer.specs.Laws.{ScriptLaws};
+ghost use Rattle.js_lexer.specs.WrittenLaws.{ScriptWrittenLaws};
+
+/// A page and a path of which the states of a script are alike read the texts of the path alike: they tell the same of each byte that the path
+/// does not refuse, of the end of the script and before a hole, and stay alike; so they do over a hole with bytes that are plain. A theorem; the
+/// call does nothing at run time.
+pub fn scripts_read_alike()
+    ensures { ScriptLaws }
+{}
+
+/// In a script element, what is written in the place of a `<` of a token, of a block comment and of a line comment leads a page to where the text
+/// leads the path, and tells the same. A theorem; the call does nothing at run time.
+pub fn what_is_written_reads_alike()
+    ensures { ScriptWrittenLaws }
+{}
+
+/// What is written of a text in a string, or in a regular expression, reads back as the text, whatever it is; in a string it is plain. A theorem;
+/// the call does nothing at run time.
+pub fn texts_read_back()
+    ensures { TextsReadBack }
+{}
