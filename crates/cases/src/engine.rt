@@ -1,6 +1,6 @@
 use case_data::{
-    is_of_system, put_acts, put_data, put_devices, put_formats, put_replaced, put_sanitized,
-    put_system, put_text, put_values, put_words,
+    is_of_system, put_acts, put_data, put_devices, put_formats, put_in_script, put_in_style,
+    put_in_url, put_replaced, put_sanitized, put_system, put_text, put_values, put_words,
 };
 use case_pages::{put_commands, put_pages};
 use case_places::{put_charts, put_explained, put_places, put_written};
@@ -89,6 +89,9 @@ fn put_of_html(
         "place_explain" => put_explained(out, call, row),
         "text_norm" => put_written(out, call, row),
         "san_html" => put_sanitized(out, call, row),
+        "san_url" => put_in_url(out, call, row),
+        "san_css" => put_in_style(out, call, row),
+        "san_js" => put_in_script(out, call, row),
         "esc_table" => put_replaced(out, call, row),
         "set_core" => put_acts(out, call, row),
         _ => Err(CaseStop::Form),

@@ -1,0 +1,4 @@
+mod Ascii
+mod Runs
+mod Undoes
+mod Words

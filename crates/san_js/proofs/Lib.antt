@@ -1,0 +1,5 @@
+mod Appended
+mod Characters
+mod Left
+mod Once
+mod Spaces

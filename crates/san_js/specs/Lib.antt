@@ -1,0 +1,2 @@
+pub mod ScriptBack
+pub mod ScriptRows

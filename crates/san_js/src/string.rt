@@ -1,0 +1,58 @@
+ghost use Rattle.std.specs.Prelude.{◌≡◌, ◌++◌, IfOk, OnOk, string_bytes};
+ghost use Rattle.esc_table.specs.Replaced.{replaced};
+ghost use Rattle.js_lexer.specs.Sanitizers as spec;
+ghost use Rattle.san_js.specs.ScriptBack.{IsBackInScriptString};
+ghost use Rattle.san_js.specs.ScriptRows.{escape_rows_of};
+
+use esc_table::{push_replaced, table};
+use js_lexer::texts_read_back;
+use page_io::{Memory, Text};
+use std::alloc::Global;
+
+/// What is written for a text in a string of a script: each of `"&'+/<>\` and the backquote, NUL, tabs, vertical tabs,
+/// form feeds and the ends of lines, U+2028 and U+2029 too, is an escape, and every other character stays. In a string
+/// in quotes of either kind, in no template literal and where no escape is open before it, it is plain, whatever the
+/// text; and with its escapes undone it is the text. Fails only if allocation fails. (ECMA-262, section 12.9.4.)
+pub fn js_string(alloc: Global, text: &str) -> Result<Text, Memory>
+    ensures written { IfOk result (λ bytes. bytes ≡ spec.js_string text.now) }
+    ensures in_string { IfOk result (λ bytes. IsBackInScriptString text.now bytes) }
+{
+    texts_read_back();
+    let mut out = String::new(alloc);
+    push_js_string(&mut out, text)?;
+    Ok(Text::from(out))
+}
+
+/// Appends what `js_string` gives. Fails only if allocation fails, and then a part of it may be there.
+pub fn push_js_string(out: &mut String, text: &str) -> Result<(), Memory>
+    ensures { OnOk result (string_bytes out.new
+        ≡ string_bytes out.old ++ spec.js_string text.now) }
+{
+    push_escaped(out, text)
+}
+
+fn push_escaped(out: &mut String, text: &str) -> Result<(), Memory>
+    ensures { OnOk result (string_bytes out.new
+        ≡ string_bytes out.old ++ replaced (escape_rows_of spec.string_rows) text.now) }
+{
+    let table = table! {
+        '\0' => "\\u0000",
+        '\t' => "\\t",
+        '\n' => "\\n",
+        '\u{B}' => "\\u000b",
+        '\u{C}' => "\\f",
+        '\r' => "\\r",
+        '"' => "\\u0022",
+        '`' => "\\u0060",
+        '&' => "\\u0026",
+        '\'' => "\\u0027",
+        '+' => "\\u002b",
+        '/' => "\\/",
+        '<' => "\\u003c",
+        '>' => "\\u003e",
+        '\\' => "\\\\",
+        '\u{2028}' => "\\u2028",
+        '\u{2029}' => "\\u2029",
+    };
+    push_replaced(out, &table, text)
+}

@@ -1,0 +1,4 @@
+mod Fronts
+mod Opening
+mod Parts
+mod Runs
