@@ -5,10 +5,12 @@ mod Keeps
 mod LimitExamples
 mod Literals
 mod NotPlain
+mod OpenBytes
 mod Paged
 mod PlainExamples
 mod ReadBack
 mod RefusalExamples
+mod RegexpBytes
 mod SanitizerExamples
 mod ShownPlaces
 mod StringBytes

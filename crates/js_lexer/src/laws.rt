@@ -15,8 +15,8 @@ pub fn what_is_written_reads_alike()
     ensures { ScriptWrittenLaws }
 {}
 
-/// What is written of a text in a string, or in a regular expression, reads back as the text, whatever it is; in a string it is plain. A theorem;
-/// the call does nothing at run time.
+/// What is written of a text in a string, or in a regular expression outside `[ ]` and right behind its slash, is plain there and reads back as the
+/// text, whatever it is, where no escape is open before it. A theorem; the call does nothing at run time.
 pub fn texts_read_back()
     ensures { TextsReadBack }
 {}

@@ -1,7 +1,7 @@
 ghost use Rattle.std.specs.Prelude.{◌≡◌, ◌++◌, IfOk, OnOk, string_bytes};
 ghost use Rattle.esc_table.specs.Replaced.{replaced};
-ghost use Rattle.js_lexer.specs.Plain.{IsRegexpBack};
 ghost use Rattle.js_lexer.specs.Sanitizers as spec;
+ghost use Rattle.san_js.specs.ScriptBack.{IsBackInScriptRegexp};
 ghost use Rattle.san_js.specs.ScriptRows.{escape_rows_of};
 
 use esc_table::{push_replaced, table};
@@ -10,12 +10,13 @@ use page_io::{Memory, Text};
 use std::alloc::Global;
 
 /// What is written for a text in a regular expression of a script: besides what `js_string` escapes, each of
-/// `$()*-.?[]^{|}` has a backslash before it, and every other character stays. With its escapes undone it is the text.
-/// For the empty text it is `(?:)`, since `//` would begin a comment, and for no other text is it that. Fails only if
-/// allocation fails. (ECMA-262, sections 12.9.5 and 22.2.1.)
+/// `$()*-.?[]^{|}` has a backslash before it, and every other character stays. For the empty text it is `(?:)`, since
+/// `//` would begin a comment, and for no other text is it that. In a regular expression outside `[ ]`, in no template
+/// literal and where no escape is open before it, it is plain, whatever the text, right behind the slash too; and with
+/// its escapes undone it is the text. Fails only if allocation fails. (ECMA-262, sections 12.9.5 and 22.2.1.)
 pub fn js_regexp(alloc: Global, text: &str) -> Result<Text, Memory>
     ensures written { IfOk result (λ bytes. bytes ≡ spec.js_regexp text.now) }
-    ensures back { IfOk result (λ bytes. IsRegexpBack text.now bytes) }
+    ensures in_regexp { IfOk result (λ bytes. IsBackInScriptRegexp text.now bytes) }
 {
     texts_read_back();
     let mut out = String::new(alloc);
