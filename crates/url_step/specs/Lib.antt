@@ -1,0 +1,3 @@
+pub mod PartLaws
+pub mod PartOrigins
+pub mod PartSets

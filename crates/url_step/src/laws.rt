@@ -1,0 +1,60 @@
+ghost use Rattle.url_step.specs.PartLaws.{CoversParts, CoversUrls, IsExactOnOnePart};
+ghost use Rattle.url_step.specs.PartLaws.{PartsAgree, PartsGrow, PartsStayValid};
+ghost use Rattle.url_step.specs.PartOrigins.{ColonIsShown, HoleIsShown, PartsComeFrom};
+ghost use Rattle.url_step.specs.PartOrigins.{PartsComeFromHole};
+
+/// On the set of one path, what a byte of text and a hole make of it and what is refused is the path's own. A theorem; the call does
+/// nothing at run time.
+pub fn is_exact_on_one_part()
+    ensures { IsExactOnOnePart }
+{}
+
+/// Where a set refuses nothing, no part in it is refused, and each comes to a part in the next set. A theorem; the call does
+/// nothing at run time.
+pub fn covers_parts()
+    ensures { CoversParts }
+{}
+
+/// Where a set refuses nothing, no two parts in it are refused together. A theorem; the call does nothing at run time.
+pub fn parts_agree()
+    ensures { PartsAgree }
+{}
+
+/// A set below one that is accepted is accepted, and comes to one below. A theorem; the call does nothing at run time.
+pub fn parts_grow()
+    ensures { PartsGrow }
+{}
+
+/// Each part behind a byte comes from a part before, on whatever path of the set is there. A theorem; the call does nothing at run
+/// time.
+pub fn parts_come_from()
+    ensures { PartsComeFrom }
+{}
+
+/// Each part behind a hole comes from a part before, on whatever path is there. A theorem; the call does nothing at run time.
+pub fn parts_come_from_hole()
+    ensures { PartsComeFromHole }
+{}
+
+/// A `:` that is refused is refused on each path behind a hole, or the set says that prefixes differ. A theorem; the call does
+/// nothing at run time.
+pub fn colon_is_shown()
+    ensures { ColonIsShown }
+{}
+
+/// A hole that is refused is refused on each path in one part of the set, or on any two in two parts of it. A theorem; the call
+/// does nothing at run time.
+pub fn hole_is_shown()
+    ensures { HoleIsShown }
+{}
+
+/// The same of a whole path, whose part is in the set, at a byte, at a hole and at the end of a node. A theorem; the call does
+/// nothing at run time.
+pub fn covers_urls()
+    ensures { CoversUrls }
+{}
+
+/// A valid set comes to valid ones. A theorem; the call does nothing at run time.
+pub fn parts_stay_valid()
+    ensures { PartsStayValid }
+{}
