@@ -1,6 +1,9 @@
+mod DataPlain
+mod DataRead
 mod ElementExamples
 mod Examples
 mod HoleExamples
+mod JsonText
 mod Keeps
 mod LimitExamples
 mod Literals
@@ -13,6 +16,7 @@ mod RefusalExamples
 mod RegexpBytes
 mod SanitizerExamples
 mod ShownPlaces
+pub mod Spaces
 mod StringBytes
 mod Told
 mod ValueBytes

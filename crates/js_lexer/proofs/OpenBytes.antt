@@ -151,7 +151,7 @@ apart-from rows n none b bs h true e =
     absurd (no-true (sym (none bs) ∙ subst (λ (c : ℕ). leaves rows (c ∷ bs) ≡ true) same h))
 apart-from rows n none b bs h false e = refl
 
-read-append : (xs ys : List ℕ) (r : ScriptReading) → read_on (xs ++ ys) r ≡ read_on ys (read_on xs r)
+pub read-append : (xs ys : List ℕ) (r : ScriptReading) → read_on (xs ++ ys) r ≡ read_on ys (read_on xs r)
 read-append [] ys r = refl
 read-append (x ∷ xs) ys r = read-append xs ys (script_reading (feed_script r.state x) (script_emits r.state x r.told))
 

@@ -1,4 +1,4 @@
-ghost use Rattle.js_lexer.specs.BackLaws.{TextsReadBack};
+ghost use Rattle.js_lexer.specs.BackLaws.{DataArePlain, TextsReadBack};
 ghost use Rattle.js_lexer.specs.Laws.{ScriptLaws};
 ghost use Rattle.js_lexer.specs.WrittenLaws.{ScriptWrittenLaws};
 
@@ -19,4 +19,11 @@ pub fn what_is_written_reads_alike()
 /// text, whatever it is, where no escape is open before it. A theorem; the call does nothing at run time.
 pub fn texts_read_back()
     ensures { TextsReadBack }
+{}
+
+/// What is written of a datum in code is plain there, whatever the datum, and is read as the tokens of its literal: behind a token or at the
+/// beginning, behind a word, a number or a run that is open, and behind a slash that is held back and divides, in no template literal. A theorem;
+/// the call does nothing at run time.
+pub fn data_are_plain()
+    ensures { DataArePlain }
 {}

@@ -8,6 +8,6 @@ mod sense;
 mod word;
 
 pub use class::{ScriptClass, class_of};
-pub use laws::{scripts_read_alike, texts_read_back, what_is_written_reads_alike};
+pub use laws::{data_are_plain, scripts_read_alike, texts_read_back, what_is_written_reads_alike};
 pub use sense::Sense;
 pub use word::sense_after;

@@ -2,4 +2,3 @@ mod Appended
 mod Characters
 mod Left
 mod Once
-mod Spaces

@@ -2,19 +2,25 @@ ghost use Rattle.std.specs.Prelude.{◌≡◌, ◌++◌, IfOk, OnOk, string_byte
 ghost use Rattle.js_lexer.specs.Sanitizers as spec;
 ghost use Rattle.page_datum.specs.Data.{int};
 ghost use Rattle.page_datum.specs.View.{ref_view};
+ghost use Rattle.san_js.specs.ScriptBack.{IsPlainScriptValue};
 
 use crate::data::{push_dict, push_list, push_number};
 use crate::quoted::push_quoted;
+use js_lexer::data_are_plain;
 use page_datum::DatumRef;
 use page_io::{Memory, Text};
 use std::alloc::Global;
 
 /// What is written for a datum in the code of a script: JSON without blanks, in which `<`, `>`, `&`, U+2028 and U+2029
 /// are escapes besides those that JSON asks for. A space stands on both sides of null, of a truth value and of a
-/// number, so that it joins nothing beside it. Fails only if allocation fails. (RFC 8259; ECMA-262, section 12.3.)
+/// number, so that it joins nothing beside it. In code, in no template literal, it is plain, whatever the datum: behind a
+/// token, a word, a number or a run that is open, and a slash that divides; and it is read there as the tokens of the
+/// datum's literal. Fails only if allocation fails. (RFC 8259; ECMA-262, section 12.3.)
 pub fn js_value(alloc: Global, datum: DatumRef<'_>) -> Result<Text, Memory>
-    ensures { IfOk result (λ bytes. bytes ≡ spec.js_value (ref_view datum.entry)) }
+    ensures written { IfOk result (λ bytes. bytes ≡ spec.js_value (ref_view datum.entry)) }
+    ensures in_code { IfOk result (λ bytes. IsPlainScriptValue (ref_view datum.entry) bytes) }
 {
+    data_are_plain();
     let mut out = String::new(alloc);
     push_js_value(&mut out, datum)?;
     Ok(Text::from(out))

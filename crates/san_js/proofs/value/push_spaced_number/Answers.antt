@@ -1,7 +1,7 @@
 use Rattle.std.proofs.Common.{◌≡◌, ◌++◌, List, ℕ, codes, string_bytes, ap, sym, ◌∙◌, rules}
 use Rattle.std.specs.Fmt.{signed_decimal}
+use Rattle.js_lexer.proofs.Spaces.{number-spaced}
 use Rattle.san_js.proofs.Appended.{appended}
-use Rattle.san_js.proofs.Spaces.{number-spaced}
 use Rattle.san_js.proofs.value.push_spaced_number.Goals as goal
 
 pub returns : goal.returns
