@@ -12,7 +12,8 @@ use Rattle.css_lexer.specs.ReadBack.{IsBackInString}
 use Rattle.css_lexer.specs.Sanitizers.{string_digits, string_byte, goes_on_with, css_string, style_as_text, as_text_byte}
 use Rattle.css_lexer.specs.States.{Quote, DoubleQuote, SingleQuote, Style, Out, InString}
 use Rattle.css_lexer.specs.Steps.{next_style_string, emits_string, feed_style, style_emits, StyleReading, style_reading, read_style}
-use Rattle.css_lexer.specs.Unescaping.{AsItIs, Digits, escape_digit, character_of, style_undone}
+use Rattle.css_lexer.specs.Unescaping.{AsItIs, Digits, character_of, style_undone}
+use Rattle.url_lexer.specs.Back.{hexadecimal_value}
 use Rattle.css_lexer.specs.UrlReading.{UrlReading}
 use Rattle.css_lexer.specs.declared.class.StyleClass.{StyleClass}
 use Rattle.css_lexer.specs.declared.class.StyleClass.TheVariants as class
@@ -46,9 +47,9 @@ data Kind (b : ℕ) : Type 0 where
   itself : string_digits b ≡ [] → (b == 92) ≡ false → is_ordinary (style_class b) ≡ true → as_text_byte b ≡ b ∷ [] → Kind b
   twice : b ≡ 92 → Kind b
   one : (d : ℕ) → string_digits b ≡ d ∷ [] → behind_taken_in_string AfterBackslash d ≡ HexDigits 1 → is_ascii_hexdigit d ≡ true
-      → encode_utf8 (character_of (escape_digit d)) ≡ as_text_byte b → Kind b
+      → encode_utf8 (character_of (hexadecimal_value d)) ≡ as_text_byte b → Kind b
   two : (d e : ℕ) → string_digits b ≡ d ∷ e ∷ [] → behind_taken_in_string AfterBackslash d ≡ HexDigits 1 → is_ascii_hexdigit d ≡ true
-      → is_ascii_hexdigit e ≡ true → is_ordinary (style_class e) ≡ true → encode_utf8 (character_of (escape_digit d * 16 + escape_digit e)) ≡ as_text_byte b → Kind b
+      → is_ascii_hexdigit e ≡ true → is_ordinary (style_class e) ≡ true → encode_utf8 (character_of (hexadecimal_value d * 16 + hexadecimal_value e)) ≡ as_text_byte b → Kind b
 
 pub either : {A : Type 0} (p : Bool) → (p ≡ true → A) → (p ≡ false → A) → A
 either true f g = f refl
@@ -250,10 +251,10 @@ join {c} {d} {e} {f} g h = ap (λ (y : List ℕ). y ++ e) g ∙ ap (λ (y : List
 itself-back : (b : ℕ) (bs : List ℕ) → (b == 92) ≡ false → style_undone AsItIs (b ∷ css_string bs) ≡ b ∷ style_undone AsItIs (css_string bs)
 itself-back b bs n = rw n refl
 
-one-back : (d : ℕ) (rest : List ℕ) → is_ascii_hexdigit d ≡ true → style_undone AsItIs (92 ∷ d ∷ rest) ≡ style_undone (Digits 5 (escape_digit d)) rest
+one-back : (d : ℕ) (rest : List ℕ) → is_ascii_hexdigit d ≡ true → style_undone AsItIs (92 ∷ d ∷ rest) ≡ style_undone (Digits 5 (hexadecimal_value d)) rest
 one-back d rest g = rw g refl
 
-two-back : (d e : ℕ) (rest : List ℕ) → is_ascii_hexdigit d ≡ true → is_ascii_hexdigit e ≡ true → style_undone AsItIs (92 ∷ d ∷ e ∷ rest) ≡ style_undone (Digits 4 (escape_digit d * 16 + escape_digit e)) rest
+two-back : (d e : ℕ) (rest : List ℕ) → is_ascii_hexdigit d ≡ true → is_ascii_hexdigit e ≡ true → style_undone AsItIs (92 ∷ d ∷ e ∷ rest) ≡ style_undone (Digits 4 (hexadecimal_value d * 16 + hexadecimal_value e)) rest
 two-back d e rest g h = rw (g, h) refl
 
 byte-back : (b : ℕ) (bs : List ℕ) → Kind b → style_undone AsItIs (css_string bs) ≡ style_as_text bs → style_undone AsItIs (css_string (b ∷ bs)) ≡ as_text_byte b ++ style_as_text bs
@@ -264,10 +265,10 @@ byte-back b bs (itself s p o i) ih =
 byte-back b bs (twice i) ih = subst (λ (z : ℕ). style_undone AsItIs (css_string (z ∷ bs)) ≡ as_text_byte z ++ style_as_text bs) (sym i) (ap (λ (y : List ℕ). 92 ∷ y) ih)
 byte-back b bs (one d s f g i) ih =
     subst (λ (ds : List ℕ). style_undone AsItIs (string_byte ds b bs ++ css_string bs) ≡ as_text_byte b ++ style_as_text bs) (sym s)
-    (one-back d (space_if (goes_on_with bs) ++ css_string bs) g ∙ after-undone 4 (escape_digit d) bs (goes_on_with bs) refl ∙ join i ih)
+    (one-back d (space_if (goes_on_with bs) ++ css_string bs) g ∙ after-undone 4 (hexadecimal_value d) bs (goes_on_with bs) refl ∙ join i ih)
 byte-back b bs (two d d2 s f g g2 o i) ih =
     subst (λ (ds : List ℕ). style_undone AsItIs (string_byte ds b bs ++ css_string bs) ≡ as_text_byte b ++ style_as_text bs) (sym s)
-    (two-back d d2 (space_if (goes_on_with bs) ++ css_string bs) g g2 ∙ after-undone 3 (escape_digit d * 16 + escape_digit d2) bs (goes_on_with bs) refl ∙ join i ih)
+    (two-back d d2 (space_if (goes_on_with bs) ++ css_string bs) g g2 ∙ after-undone 3 (hexadecimal_value d * 16 + hexadecimal_value d2) bs (goes_on_with bs) refl ∙ join i ih)
 
 string-back : (bs : List ℕ) → style_undone AsItIs (css_string bs) ≡ style_as_text bs
 string-back [] = refl

@@ -3,11 +3,8 @@
 -- UTF-8, so the other bytes of a character follow by themselves. So a value is undone before it is written in code. A string of CSS is not
 -- always read so: in it a backslash and a line end stand for nothing (4.3.5). What `css_string` writes has no line end.
 use Rattle.std.specs.Prelude.{ℕ, zero, suc, ◌+◌, ◌-◌, ◌*◌, ◌==◌, ◌&&◌, ◌||◌, nat_lt, nat_le, Bool, false, List, [], ◌∷◌, ◌++◌, encode_utf8, if◌then◌else◌}
-use Rattle.std.specs.Char.{is_ascii_hexdigit, is_ascii_digit, is_ascii_whitespace, to_ascii_lowercase}
-
--- the value of a hexadecimal digit
-abbrev pub escape_digit : ℕ → ℕ
-escape_digit b = if is_ascii_digit b then b - 48 else to_ascii_lowercase b - 87
+use Rattle.std.specs.Char.{is_ascii_hexdigit, is_ascii_whitespace}
+use Rattle.url_lexer.specs.Back.{hexadecimal_value}
 
 -- U+FFFD stands for zero, for surrogates, and for numbers past the last character
 abbrev pub character_of : ℕ → ℕ
@@ -29,9 +26,9 @@ style_undone AsItIs [] = []
 style_undone Escaped [] = 92 ∷ []
 style_undone (Digits more number) [] = encode_utf8 (character_of number)
 style_undone AsItIs (b ∷ bs) = if b == 92 then style_undone Escaped bs else b ∷ style_undone AsItIs bs
-style_undone Escaped (b ∷ bs) = if is_ascii_hexdigit b then style_undone (Digits 5 (escape_digit b)) bs else b ∷ style_undone AsItIs bs
+style_undone Escaped (b ∷ bs) = if is_ascii_hexdigit b then style_undone (Digits 5 (hexadecimal_value b)) bs else b ∷ style_undone AsItIs bs
 style_undone (Digits more number) (b ∷ bs) =
-    if goes_on more b then style_undone (Digits (more - 1) (number * 16 + escape_digit b)) bs
+    if goes_on more b then style_undone (Digits (more - 1) (number * 16 + hexadecimal_value b)) bs
     else (if is_ascii_whitespace b then encode_utf8 (character_of number) ++ style_undone AsItIs bs
     else (if b == 92 then encode_utf8 (character_of number) ++ style_undone Escaped bs
     else encode_utf8 (character_of number) ++ b ∷ style_undone AsItIs bs))

@@ -5,7 +5,8 @@ use Rattle.std.specs.List.{list_any}
 use Rattle.std.proofs.Math.Nat.{pow-le-pow_right, pow-suc}
 use Rattle.std.proofs.lemmas.Bool.{cases_Bool, ne_eqb, true≢false}
 use Rattle.std.proofs.lemmas.List.{append_assoc, drop_more}
-use Rattle.css_lexer.specs.Unescaping.{AsItIs, Digits, Escaped, character_of, escape_digit, goes_on, style_undone}
+use Rattle.css_lexer.specs.Unescaping.{AsItIs, Digits, Escaped, character_of, goes_on, style_undone}
+use Rattle.url_lexer.specs.Back.{hexadecimal_value}
 use Rattle.san_css.specs.Undoing.{is_backslash, UndoesOn, without_blank}
 
 -- up to a backslash all stays
@@ -53,7 +54,7 @@ digits-end more number (b ∷ bs) e = elim (cases_Bool (is_ascii_whitespace b)) 
 ]
 
 -- a digit where more may be
-digit-goes : (more number b : ℕ) (bs : List ℕ) → 0 < more → is_ascii_hexdigit b ≡ true → style_undone (Digits more number) (b ∷ bs) ≡ style_undone (Digits (more - 1) (number * 16 + escape_digit b)) bs
+digit-goes : (more number b : ℕ) (bs : List ℕ) → 0 < more → is_ascii_hexdigit b ≡ true → style_undone (Digits more number) (b ∷ bs) ≡ style_undone (Digits (more - 1) (number * 16 + hexadecimal_value b)) bs
 digit-goes zero number b bs some e = absurd (omega (arith, some))
 digit-goes (suc more) number b bs some e = rw e refl
 
@@ -61,10 +62,10 @@ one-more : (n : ℕ) → n + 1 ≡ suc n
 one-more n = omega arith
 
 -- one more digit
-pub digit-read : (text : List ℕ) (len number : ℕ) → len < 6 → len < length text → is_ascii_hexdigit (get_or text len 0) ≡ true → style_undone (Digits (6 - (len + 1)) (number * 16 + escape_digit (get_or text len 0))) (drop (len + 1) text) ≡ style_undone (Digits (6 - len) number) (drop len text)
+pub digit-read : (text : List ℕ) (len number : ℕ) → len < 6 → len < length text → is_ascii_hexdigit (get_or text len 0) ≡ true → style_undone (Digits (6 - (len + 1)) (number * 16 + hexadecimal_value (get_or text len 0))) (drop (len + 1) text) ≡ style_undone (Digits (6 - len) number) (drop len text)
 digit-read text len number few inside e =
     let more : 6 - len - 1 ≡ 6 - (len + 1) = omega arith in
-    ap (λ (m : ℕ). style_undone (Digits m (number * 16 + escape_digit (get_or text len 0))) (drop (len + 1) text)) (sym more)
+    ap (λ (m : ℕ). style_undone (Digits m (number * 16 + hexadecimal_value (get_or text len 0))) (drop (len + 1) text)) (sym more)
     ∙ sym (digit-goes (6 - len) number (get_or text len 0) (drop (len + 1) text) (omega (arith, few)) e)
     ∙ ap (λ (bs : List ℕ). style_undone (Digits (6 - len) number) bs) (sym (drop_more text len 0 inside))
 

@@ -2,6 +2,7 @@
 ghost use Rattle.std.specs.Prelude.{◌≡◌, ◌<◌, ◌≤◌, ◌++◌, true, IfOk, OnOk, drop, encode_utf8, length, string_bytes};
 ghost use Rattle.std.specs.Char.{is_ascii_hexdigit};
 ghost use Rattle.std.specs.Str.{IsCharBoundary};
+ghost use Rattle.url_lexer.specs.Back.{hexadecimal_value};
 ghost use Rattle.css_lexer.specs.Unescaping.{AsItIs, Digits, Escaped, character_of, style_undone};
 ghost use Rattle.css_lexer.specs.Unescaping as spec;
 ghost use Rattle.san_css.specs.Undoing.{UndoesOn, without_blank};
@@ -72,13 +73,15 @@ fn read_number(text: &str) -> (u32, usize)
 
 fn digit(byte: u8) -> u32
     requires { is_ascii_hexdigit byte ≡ true }
-    ensures value { result ≡ spec.escape_digit byte }
+    ensures value { result ≡ hexadecimal_value byte }
     ensures bound { result < 16 }
 {
-    if byte.is_ascii_digit() {
-        return (byte - b'0') as u32;
-    }
-    (byte.to_ascii_lowercase() - 87) as u32
+    let value = match byte {
+        b'0'..=b'9' => byte - b'0',
+        b'A'..=b'F' => byte - b'A' + 10,
+        _ => byte - b'a' + 10,
+    };
+    value as u32
 }
 
 fn character(number: u32) -> char

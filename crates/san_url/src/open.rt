@@ -17,7 +17,8 @@ use url_lexer::{UrlClass, url_class_of, written_is_plain, written_reads_back};
 /// sections 2.1 to 2.3 and 3.1; URL Standard, section 4.4, "scheme state".)
 pub fn url_open(alloc: Global, text: &str) -> Result<Text, Memory>
     ensures written { IfOk result (λ bytes. bytes ≡ spec.url_open text.now) }
-    ensures in_open { IfOk result (λ bytes. (p : Prefix) → IsBackInPart (UrlOpen p) text.now bytes) }
+    ensures in_open { IfOk result (λ bytes.
+        (p : Prefix) → IsBackInPart (UrlOpen p) text.now bytes) }
     ensures in_openhole { IfOk result (λ bytes. IsBackInPart UrlOpenhole text.now bytes) }
 {
     written_is_plain();

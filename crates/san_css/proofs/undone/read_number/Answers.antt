@@ -3,7 +3,7 @@ use Rattle.std.specs.Char.{is_ascii_hexdigit}
 use Rattle.std.proofs.lemmas.Str.{IsCharBoundary-after_ascii, IsCharBoundary-start}
 use Rattle.san_css.proofs.Ascii.{digit-low}
 use Rattle.san_css.proofs.Undoes.{digit-read, number-grows, number-small, read-before, read-full}
-use Rattle.css_lexer.specs.Unescaping.{escape_digit}
+use Rattle.url_lexer.specs.Back.{hexadecimal_value}
 use Rattle.san_css.proofs.undone.read_number.Goals as goal
 
 pub loop-len-init : goal.loop-len-init
@@ -29,7 +29,7 @@ loop-len-preserved c =
     let few : c.loop-len.len < 6 = search rules in
     let inside : c.loop-len.len < length c.args.text.now = search rules in
     let hexadecimal : is_ascii_hexdigit (get_or c.args.text.now c.loop-len.len 0) ≡ true = search rules in
-    let digit : c.digit.result ≡ escape_digit (get_or c.args.text.now c.loop-len.len 0) = search rules in
+    let digit : c.digit.result ≡ hexadecimal_value (get_or c.args.text.now c.loop-len.len 0) = search rules in
     record {
       few = omega (arith, few);
       fits = number-grows c.loop-len.len c.loop-len.number c.digit.result c.loop-len.invariant.fits c.digit.ensures.bound;
