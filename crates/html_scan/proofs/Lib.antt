@@ -1,3 +1,5 @@
 pub mod Lowered
 pub mod PendingNames
+pub mod Shortened
 pub mod TypesRead
+pub mod UrlsFed

@@ -1,3 +1,4 @@
+pub mod BrokenReferences
 pub mod ClassViews
 pub mod ScanViews
 pub mod Scans

@@ -2,13 +2,14 @@
 use Rattle.std.specs.Prelude.{ℕ, ◌+◌, List, [], ◌∷◌, Option, Some, None}
 use Rattle.std.specs.Str.{str_to_ascii_lowercase}
 use Rattle.place_core.specs.page.Classes.{class_of}
-use Rattle.place_core.specs.page.References.{Reference, Closed, next_reference}
+use Rattle.place_core.specs.page.References.{Form, Begun, Named, Hashed, Decimal, HexMark, Hexadecimal, Reference, Closed, Open, ReferenceStep, Grows, Closes, Breaks, next_reference}
 use Rattle.place_core.specs.page.Comments.{Declaration, OpensComment, OpensDoctype, Undecided, OpensNothing}
 use Rattle.place_core.specs.place.Errors.{PathCause}
 use Rattle.place_core.specs.page.States.{CommentState, Started, StartedDash, Dash, DashDash, Bang, PendingLess, PendingName, PendingBang, PendingBangDash}
 use Rattle.place_core.specs.page.Tags.{Value, ValueState, Quoting, DoubleQuoted, SingleQuoted, Unquoted}
 use Rattle.place_core.specs.declared.element.Element.TheVariants as element
-use Rattle.html_scan.specs.Scans.{Scan, At, AfterLess, AfterLessSolidus, InDeclaration, InTagName, InAttributeName, InCommentEnd, InContentEnd, BeforeType, InType, type_begun, type_read}
+use Rattle.url_lexer.specs.Triples.{Triple, NoTriple, AfterPercent, AfterDigit}
+use Rattle.html_scan.specs.Scans.{Scan, At, AfterLess, AfterLessSolidus, InDeclaration, InTagName, InAttributeName, InCommentEnd, InContentEnd, InUrl, BeforeType, InType, type_begun, type_read}
 use Rattle.html_scan.specs.Slices.{pending}
 use Rattle.html_scan.specs.declared.declaration.Declaration.{Declaration as ReadDeclaration}
 use Rattle.html_scan.specs.declared.declaration.Declaration.TheVariants as declaration
@@ -17,8 +18,15 @@ use Rattle.html_scan.specs.declared.comment_stage.CommentStage.{CommentStage}
 use Rattle.html_scan.specs.declared.comment_stage.CommentStage.TheVariants as stage
 use Rattle.html_scan.specs.declared.quoting.Quoting.{Quoting as ReadQuoting}
 use Rattle.html_scan.specs.declared.quoting.Quoting.TheVariants as quoting
+use Rattle.html_scan.specs.declared.references.OpenReference.{OpenReference}
+use Rattle.html_scan.specs.declared.references.Outcome.{Outcome}
+use Rattle.html_scan.specs.declared.references.Outcome.TheVariants as outcome
+use Rattle.html_scan.specs.declared.references.ReferenceForm.{ReferenceForm}
+use Rattle.html_scan.specs.declared.references.ReferenceForm.TheVariants as form
 use Rattle.html_scan.specs.declared.scan.Scan.{Scan as ReadScan}
 use Rattle.html_scan.specs.declared.scan.Scan.TheVariants as scan
+use Rattle.html_scan.specs.declared.triple.Triple.{Triple as ReadTriple}
+use Rattle.html_scan.specs.declared.triple.Triple.TheVariants as triple
 
 abbrev pub cause_at : Option ReadCause → Option PathCause
 cause_at None = None
@@ -36,6 +44,29 @@ quoting_at quoting.Double = DoubleQuoted
 quoting_at quoting.Single = SingleQuoted
 quoting_at quoting.Unquoted = Unquoted
 
+abbrev pub triple_at : ReadTriple → Triple
+triple_at triple.None = NoTriple
+triple_at triple.AfterPercent = AfterPercent
+triple_at triple.AfterDigit = AfterDigit
+
+-- A reference in a URL: its form; and its bytes, which stand behind its `&`, where that many bytes of the text have been read.
+abbrev pub open_form_at : ReferenceForm → Form
+open_form_at form.Begun = Begun
+open_form_at form.Named = Named
+open_form_at form.Hashed = Hashed
+open_form_at form.Decimal = Decimal
+open_form_at form.HexMark = HexMark
+open_form_at form.Hexadecimal = Hexadecimal
+
+abbrev pub outcome_at : Outcome → ReferenceStep
+outcome_at (outcome.Grows f) = Grows (open_form_at f)
+outcome_at outcome.Closes = Closes
+outcome_at outcome.Breaks = Breaks
+
+abbrev pub open_reference_at : List ℕ → ℕ → Option OpenReference → Reference
+open_reference_at text k None = Closed
+open_reference_at text k (Some r) = Open (open_form_at r.form) (pending text (r.from + 1) k)
+
 -- what bytes make of the value of a type
 abbrev pub read_type : Value ValueState → Reference → List ℕ → Value ValueState × Reference
 read_type v r [] = (v, r)
@@ -50,6 +81,7 @@ scan_at text k (scan.InDeclaration from) = InDeclaration (pending text from k)
 scan_at text k (scan.InTagName ends from) = InTagName ends (str_to_ascii_lowercase (pending text from k))
 scan_at text k (scan.InAttributeName t typed from) = InAttributeName t typed (str_to_ascii_lowercase (pending text from k))
 scan_at text k (scan.InCommentEnd s) = InCommentEnd (stage_at s)
+scan_at text k (scan.InUrl v t r) = InUrl v (triple_at t) (open_reference_at text k r)
 scan_at text k (scan.AfterContentLess e) = InContentEnd e PendingLess
 scan_at text k (scan.InContentName e from) = InContentEnd e (PendingName (pending text (from + 2) k))
 scan_at text k scan.AfterBlockBang = InContentEnd element.DataBlock PendingBang
@@ -58,6 +90,10 @@ scan_at text k (scan.BeforeType t) = BeforeType t
 scan_at text k (scan.InType t q from) = (let read = read_type type_begun Closed (pending text from k) in InType t (quoting_at q) read.0 read.1)
 
 -- how many bytes of the text have been read at least: up to where the name or the value begins, or what is pending
+abbrev pub reference_from : Option OpenReference → ℕ
+reference_from None = 0
+reference_from (Some r) = r.from + 1
+
 abbrev pub pending_from : ReadScan → ℕ
 pending_from (scan.At p) = 0
 pending_from scan.AfterLess = 0
@@ -66,6 +102,7 @@ pending_from (scan.InDeclaration from) = from
 pending_from (scan.InTagName ends from) = from
 pending_from (scan.InAttributeName t typed from) = from
 pending_from (scan.InCommentEnd s) = 0
+pending_from (scan.InUrl v t r) = reference_from r
 pending_from (scan.AfterContentLess e) = 1
 pending_from (scan.InContentName e from) = from + 2
 pending_from scan.AfterBlockBang = 2

@@ -1,26 +1,31 @@
 -- How a text is stepped, byte by byte, for all the paths that stand at a place together. Between lexemes they are at a place, which has sets; in
--- a lexeme they are all in the same one. What is left out of the states of the lexer is what no place depends on: references, and what a
--- quoted value has pending so far.
-use Rattle.std.specs.Prelude.{ℕ, Bool, true, false, ◌||◌, List, [], ◌∷◌, ◌++◌, length, Option, Some, None}
+-- a lexeme they are all in the same one. What is left out of the states of the lexer is what no place depends on: references in text and in
+-- values that are text.
+use Rattle.std.specs.Prelude.{ℕ, Bool, true, false, ◌||◌, ◌&&◌, List, [], ◌∷◌, ◌++◌, length, Option, Some, None, option_map, is_some, if◌then◌else◌}
 use Rattle.std.specs.Char.{to_ascii_lowercase}
-use Rattle.place_core.specs.page.Classes.{Class, White, ExclamationMark, QuotationMark, Apostrophe, HyphenMinus, Solidus, LessThan, EqualsSign, GreaterThan, Letter, class_of}
+use Rattle.place_core.specs.page.Classes.{Class, White, ExclamationMark, QuotationMark, Apostrophe, HyphenMinus, Solidus, LessThan, EqualsSign, GreaterThan, Letter, class_of, is_equals_sign}
 use Rattle.place_core.specs.page.Comments.{Declaration, OpensComment, OpensDoctype, Undecided, OpensNothing, declared_by, next_comment, closes_comment}
 use Rattle.place_core.specs.page.Contents.{may_be_name_of, is_name_of}
-use Rattle.place_core.specs.place.Errors.{PathCause, place_error, at_hand, quotes_error, block_byte_error, block_cut_error, tag_name_error, attribute_name_error, unless_second}
+use Rattle.place_core.specs.place.Errors.{PathCause, place_error, value_error, fed_error, language_error, first_byte_error, first_cause, begins_word, at_hand, quotes_error, block_byte_error, block_cut_error, tag_name_error, attribute_name_error, unless_second}
 use Rattle.place_core.specs.page.Html.{ends_value}
-use Rattle.place_core.specs.page.References.{Reference, Closed, next_reference, undone_byte, settled}
+use Rattle.place_core.specs.page.References.{Form, Reference, Closed, Open, ReferenceStep, Breaks, turn, flushed, next_reference, undone_byte, settled, as_it_stands}
 use Rattle.place_core.specs.place.StatePlaces.{only_name, only_before, only_inside, only_after, unbegun, body_at, quotes_at}
 use Rattle.place_core.specs.page.States.{CommentState, Started, Inside, Broken, Pending, PendingLess, PendingName, PendingBang, PendingBangDash}
-use Rattle.place_core.specs.page.Tags.{is_second_type, is_start, tag_of_name, element_on, Value, ValueState, languages, attribute_value_of, with_bytes, tag_with_value, Quoting, DoubleQuoted, SingleQuoted, Unquoted}
+use Rattle.place_core.specs.page.Tags.{is_second_type, is_start, tag_of_name, element_on, Value, ValueState, languages, value_start, attribute_value_of, with_bytes, Feeding, feed_bytes, refusal_code, tag_with_value, Quoting, DoubleQuoted, SingleQuoted, Unquoted}
 use Rattle.place_core.specs.page.Words.{kind_of}
 use Rattle.place_core.specs.declared.body.Body.{Body}
+use Rattle.place_core.specs.declared.body.Body.TheVariants as body
+use Rattle.place_core.specs.declared.code.Code.{Code}
 use Rattle.place_core.specs.declared.code.Code.TheVariants as code
 use Rattle.place_core.specs.declared.element.Element.{Element}
 use Rattle.place_core.specs.declared.element.Element.TheVariants as element
 use Rattle.place_core.specs.declared.kind.Kind.{Kind}
 use Rattle.place_core.specs.declared.kind.Kind.TheVariants as kind
+use Rattle.place_core.specs.declared.parts.Parts.{Parts}
 use Rattle.place_core.specs.declared.place.Place.{Place}
 use Rattle.place_core.specs.declared.place.Place.TheVariants as place
+use Rattle.place_core.specs.declared.prefix.Prefix.{Prefix}
+use Rattle.place_core.specs.declared.prefix.Prefix.TheVariants as prefix
 use Rattle.place_core.specs.declared.quotes.Quotes.{Quotes}
 use Rattle.place_core.specs.declared.quotes.Quotes.TheVariants as quotes
 use Rattle.place_core.specs.declared.spots.Spots.{Spots}
@@ -28,6 +33,9 @@ use Rattle.place_core.specs.declared.tag_of.TagOf.{TagOf}
 use Rattle.place_core.specs.declared.tag_of.TagOf.TheVariants as tag
 use Rattle.place_core.specs.declared.tag_place.TagPlace.{TagPlace}
 use Rattle.place_core.specs.declared.value_place.ValuePlace.{ValuePlace}
+use Rattle.url_lexer.specs.Classes.{url_class_of}
+use Rattle.url_lexer.specs.Triples.{Triple, NoTriple, AfterPercent, AfterDigit, next_triple}
+use Rattle.url_step.specs.PartSets.{parts_next, parts_error}
 
 pub data Scan : Type 0 where
   -- at a place
@@ -41,6 +49,8 @@ pub data Scan : Type 0 where
   InAttributeName : TagOf → Bool → List ℕ → Scan
   -- at the beginning of a comment, or in what may be its end
   InCommentEnd : CommentState → Scan
+  -- in a value that is a URL, in a percent triple or a reference
+  InUrl : ValuePlace → Triple → Reference → Scan
   -- in a title, a textarea or a data block, in what may be its end tag, or in the latter a `<!--`
   InContentEnd : Element → Pending → Scan
   -- before the value of the `type` of a script, of this tag; and in it, with what it is so far, and the reference that is open in it
@@ -71,7 +81,7 @@ body_scan t typed None = At place.Text
 
 abbrev pub value_scan : TagOf → Bool → Option Kind → Scan
 value_scan t typed (Some kind.ScriptType) = BeforeType t
-value_scan t typed (Some k) = body_scan t typed (body_at k)
+value_scan t typed (Some k) = body_scan t typed (body_at (value_start k))
 value_scan t typed None = At place.Text
 
 -- in text, and in title, textarea and data blocks
@@ -132,22 +142,68 @@ with_quotes v q = At (place.Value (record { tag = v.tag; typed = v.typed; quotes
 abbrev pub bare_begun : Quotes
 bare_begun = quotes.Bare (record { uq = true; unbegun = false })
 
+-- In a URL, after bytes that it is fed, on all paths together: the sets of its parts, the percent triple, and the reference.
+abbrev pub parts_feeding : Feeding Parts
+parts_feeding = record {
+  feed = λ s b. parts_next s (url_class_of b) b;
+  refuses = λ s b. option_map refusal_code (parts_error s (url_class_of b));
+  refuses_names = λ s. true;
+}
+
+abbrev pub triple_behind : Triple → List ℕ → Triple
+triple_behind t [] = t
+triple_behind t (b ∷ bs) = triple_behind (next_triple t (url_class_of b)) bs
+
+abbrev pub url_scan : ValuePlace → Triple → Reference → Scan
+url_scan v NoTriple Closed = At (place.Value v)
+url_scan v t r = InUrl v t r
+
+abbrev pub with_parts : ValuePlace → Quotes → Parts → ValuePlace
+with_parts v q s = record { tag = v.tag; typed = v.typed; quotes = q; body = body.Url s }
+
+-- A value goes on, between these quotes, with the bytes that it is fed.
+abbrev pub value_fed : ValuePlace → Quotes → Body → Triple → Reference → Class → ℕ → Scan
+value_fed v q (body.Url s) t r c b =
+    url_scan (with_parts v q (feed_bytes parts_feeding s (undone_byte true r c b))) (triple_behind t (undone_byte true r c b)) (next_reference r c b)
+value_fed v q x t r c b = with_quotes v q
+
 abbrev pub bare_white : ValuePlace → Bool → Scan
 bare_white v true = in_tag v.tag v.typed only_before None
 bare_white v false = with_quotes v unbegun
 
-abbrev pub bare_next : ValuePlace → Bool → Class → Scan
-bare_next v uq White = bare_white v uq
-bare_next v uq QuotationMark = with_quotes v quotes.Dq
-bare_next v uq Apostrophe = with_quotes v quotes.Sq
-bare_next v uq GreaterThan = content_scan v.tag
-bare_next v uq c = with_quotes v bare_begun
+abbrev pub bare_next : ValuePlace → Bool → Triple → Reference → Class → ℕ → Scan
+bare_next v uq t r White b = bare_white v uq
+bare_next v uq t r QuotationMark b = with_quotes v quotes.Dq
+bare_next v uq t r Apostrophe b = with_quotes v quotes.Sq
+bare_next v uq t r GreaterThan b = content_scan v.tag
+bare_next v uq t r c b = value_fed v bare_begun v.body t r c b
 
-abbrev pub quoted_next : ValuePlace → Quotes → Class → Scan
-quoted_next v quotes.Dq QuotationMark = in_tag v.tag v.typed only_before None
-quoted_next v quotes.Sq Apostrophe = in_tag v.tag v.typed only_before None
-quoted_next v (quotes.Bare b) c = bare_next v b.uq c
-quoted_next v q c = with_quotes v q
+abbrev pub quoted_next : ValuePlace → Quotes → Triple → Reference → Class → ℕ → Scan
+quoted_next v quotes.Dq t r QuotationMark b = in_tag v.tag v.typed only_before None
+quoted_next v quotes.Sq t r Apostrophe b = in_tag v.tag v.typed only_before None
+quoted_next v (quotes.Bare s) t r c b = bare_next v s.uq t r c b
+quoted_next v q t r c b = value_fed v q v.body t r c b
+
+abbrev pub value_next : ValuePlace → Triple → Reference → Class → ℕ → Scan
+value_next v t r c b = quoted_next v v.quotes t r c b
+
+-- What is refused in a value: by its language, and then by its quotes. Where it is a URL that has begun on some paths and not on others, the first
+-- letter of a word that is looked for is not built yet; it is refused first, since what the paths spell from there on is not known.
+abbrev pub quoted_error : Quotes → Parts → Reference → Class → ℕ → Option PathCause
+quoted_error quotes.Dq s r c b = language_error parts_feeding (ends_value DoubleQuoted c) s r c b
+quoted_error quotes.Sq s r c b = language_error parts_feeding (ends_value SingleQuoted c) s r c b
+quoted_error (quotes.Bare x) s r c b =
+    if x.uq then language_error parts_feeding (ends_value Unquoted c) s r c b else first_byte_error parts_feeding s c b
+
+abbrev pub word_error : Parts → List ℕ → Option Code
+word_error s bytes = if (s.start && is_some s.opened) && begins_word bytes then Some code.NotBuilt else None
+
+abbrev pub parts_cause : Body → Quotes → Reference → Class → ℕ → Option PathCause
+parts_cause (body.Url s) q r c b = first_cause (at_hand (word_error s (undone_byte true r c b))) (quoted_error q s r c b)
+parts_cause x q r c b = None
+
+abbrev pub value_cause : ValuePlace → Reference → Class → ℕ → Option PathCause
+value_cause v r c b = first_cause (parts_cause v.body v.quotes r c b) (at_hand (value_error v c))
 
 -- The value of a script's `type`: where it begins, and the tag after it, by what the value is. Behind it a `type` has been seen, but in an
 -- end tag, of which none is remembered.
@@ -189,7 +245,7 @@ place_next place.Doctype c b = doctype_next c
 place_next (place.Comment dash) c b = comment_next c (comment_state dash)
 place_next (place.Rcdata e) c b = content_next c e
 place_next (place.Tag t) c b = tag_next t c b
-place_next (place.Value v) c b = quoted_next v v.quotes c
+place_next (place.Value v) c b = value_next v NoTriple Closed c b
 place_next (place.Block lt) c b = content_next c element.DataBlock
 place_next p c b = At p
 
@@ -251,6 +307,7 @@ scan_next (InTagName ends name) c b = tag_name_next c b ends name
 scan_next (InAttributeName t typed name) c b = attribute_name_next c b t typed (kind_of (element_on t) name) name
 scan_next (InCommentEnd s) c b = comment_next c s
 scan_next (InContentEnd e h) c b = content_end_next h c b e
+scan_next (InUrl v t r) c b = value_next v t r c b
 scan_next (BeforeType t) c b = before_type_next c b t
 scan_next (InType t q v r) c b = type_next (ends_value q c) c b t q v r
 
@@ -258,8 +315,13 @@ abbrev pub content_end_error : Element → Pending → Class → Option PathCaus
 content_end_error element.DataBlock h c = block_byte_error h c
 content_end_error e h c = None
 
+abbrev pub place_cause : Place → Class → ℕ → Option PathCause
+place_cause (place.Value v) c b = value_cause v Closed c b
+place_cause p c b = at_hand (place_error p c)
+
 abbrev pub scan_error : Scan → Class → ℕ → Option PathCause
-scan_error (At p) c b = at_hand (place_error p c b)
+scan_error (At p) c b = place_cause p c b
+scan_error (InUrl v t r) c b = value_cause v r c b
 scan_error (InTagName ends name) c b = at_hand (tag_name_error (tag_of_name ends name) c)
 scan_error (InAttributeName t typed name) c b = attribute_name_error t typed (kind_of (element_on t) name) (length name) c
 scan_error AfterLess c b = None
@@ -278,8 +340,17 @@ content_end_place e h = rest_place e
 abbrev pub whole_name_place : TagOf → Bool → Kind → Place
 whole_name_place t typed k = place.Tag (record { tag = t; typed = typed_with t typed k; spots = only_inside; kind = Some k })
 
+-- A reference with which a text ends in a URL is text as it stands.
+abbrev pub parts_with : Body → List ℕ → Body
+parts_with (body.Url s) bytes = body.Url (feed_bytes parts_feeding s bytes)
+parts_with x bytes = x
+
+abbrev pub with_body : ValuePlace → Body → Place
+with_body v x = place.Value (record { tag = v.tag; typed = v.typed; quotes = v.quotes; body = x })
+
 abbrev pub scan_place : Scan → Place
 scan_place (At p) = p
+scan_place (InUrl v t r) = with_body v (parts_with v.body (as_it_stands r))
 scan_place AfterLess = place.Text
 scan_place AfterLessSolidus = place.Text
 scan_place (InDeclaration pending) = place.Text
@@ -290,19 +361,35 @@ scan_place (InContentEnd e h) = content_end_place e h
 scan_place (BeforeType t) = place.Text
 scan_place (InType t q v r) = place.Text
 
--- the place that is shown there: in the value of a script's `type` there is none
-abbrev pub scan_shown : Scan → Option Place
-scan_shown (BeforeType t) = None
-scan_shown (InType t q v r) = None
-scan_shown f = Some (scan_place f)
+-- The place that is shown there, before the bytes that are left: in the value of a script's `type` there is none. In a URL the reference that stands
+-- before them is read with them: it is behind them where the next byte breaks it, and else it has not begun.
+abbrev pub parts_before : ReferenceStep → Body → Class → Form → List ℕ → Body
+parts_before Breaks x c f bytes = parts_with x (flushed true (is_equals_sign c) f bytes)
+parts_before step x c f bytes = x
+
+abbrev pub url_before : ValuePlace → Reference → List ℕ → Place
+url_before v (Open f bytes) (b ∷ bs) = with_body v (parts_before (turn (class_of b) f) v.body (class_of b) f bytes)
+url_before v r bs = with_body v (parts_with v.body (as_it_stands r))
+
+abbrev pub scan_shown : Scan → List ℕ → Option Place
+scan_shown (InUrl v t r) bs = Some (url_before v r bs)
+scan_shown (BeforeType t) bs = None
+scan_shown (InType t q v r) bs = None
+scan_shown f bs = Some (scan_place f)
 
 abbrev pub content_cut_error : Element → Pending → Option PathCause
 content_cut_error element.DataBlock h = block_cut_error h
 content_cut_error e h = None
 
+-- The bytes of a reference with which a text ends in a URL are refused each at its own place.
+abbrev pub open_cut_error : Body → List ℕ → Option PathCause
+open_cut_error (body.Url s) bytes = fed_error parts_feeding s bytes true (length bytes)
+open_cut_error x bytes = None
+
 abbrev pub scan_cut_error : Scan → Option PathCause
 scan_cut_error (InAttributeName t typed name) = unless_second (is_second_type typed (kind_of (element_on t) name)) (length name) None
 scan_cut_error (At p) = None
+scan_cut_error (InUrl v t r) = open_cut_error v.body (as_it_stands r)
 scan_cut_error AfterLess = None
 scan_cut_error AfterLessSolidus = None
 scan_cut_error (InDeclaration pending) = None
@@ -311,3 +398,33 @@ scan_cut_error (InCommentEnd s) = None
 scan_cut_error (InContentEnd e h) = content_cut_error e h
 scan_cut_error (BeforeType t) = at_hand (Some code.BadHTML)
 scan_cut_error (InType t q v r) = at_hand (Some code.BadHTML)
+
+-- What is refused at the end of a text in a URL, as a percent triple that has begun; and, which is not built yet, a beginning that spells some of a
+-- word that is looked for.
+abbrev pub if_unfinished : Triple → Option Code → Option Code
+if_unfinished NoTriple rest = rest
+if_unfinished AfterPercent rest = Some code.PartialEscape
+if_unfinished AfterDigit rest = Some code.PartialEscape
+
+abbrev pub if_word : Option Prefix → Option Code
+if_word None = None
+if_word (Some prefix.Off) = None
+if_word (Some p) = Some code.NotBuilt
+
+abbrev pub parts_cut_error : Body → Triple → List ℕ → Option Code
+parts_cut_error (body.Url s) t bytes = if_unfinished (triple_behind t bytes) (if_word (feed_bytes parts_feeding s bytes).opened)
+parts_cut_error x t bytes = None
+
+abbrev pub place_cut_error : Place → Option Code
+place_cut_error (place.Value v) = parts_cut_error v.body NoTriple []
+place_cut_error p = None
+
+abbrev pub scan_lexeme_error : Scan → Option Code
+scan_lexeme_error (At p) = place_cut_error p
+scan_lexeme_error (InUrl v t r) = parts_cut_error v.body t (as_it_stands r)
+scan_lexeme_error f = None
+
+-- whether the scan is between two lexemes of a URL
+abbrev pub is_scan_between : Scan → Bool
+is_scan_between (InUrl v t r) = false
+is_scan_between f = true

@@ -1,13 +1,19 @@
-ghost use Rattle.std.specs.Prelude.{◌≡◌, ◌≤◌, ℕ, List, is_some, length};
-ghost use Rattle.html_scan.specs.ScanViews.{scan_at, pending_from};
-ghost use Rattle.html_scan.specs.Scans.{scan_place, scan_shown};
+ghost use Rattle.std.specs.Prelude.{◌≡◌, ◌+◌, ◌≤◌, ℕ, List, true, drop, is_some, length};
+ghost use Rattle.place_core.specs.page.References as references;
+ghost use Rattle.html_scan.specs.ClassViews.{class_at};
+ghost use Rattle.html_scan.specs.ScanViews.{open_form_at, open_reference_at, reference_from, scan_at, pending_from};
+ghost use Rattle.html_scan.specs.Scans.{is_scan_between, parts_before, parts_with, scan_place, scan_shown, with_body};
+ghost use Rattle.html_scan.specs.Scans as spec;
 
+use crate::class::{Class, class_of};
 use crate::contents::rest_place;
 use crate::names::{kind_on, tag_named};
+use crate::references::{OpenReference, Outcome, ReferenceForm, is_equals, turn};
 use crate::scan::Scan;
 use crate::slices::pending;
 use crate::tags::{whole_attribute_name, whole_tag_name};
-use place_core::{Element, Place};
+use crate::urls::{at_cut, broken_parts, by_parts};
+use place_core::{Body, Element, Place, ValuePlace};
 
 /// The place where a text ends.
 pub fn end_place(text: &[u8], scan: Scan) -> Place
@@ -26,6 +32,11 @@ pub fn end_place(text: &[u8], scan: Scan) -> Place
             whole_attribute_name(tag, typed, kind)
         }
         Scan::InCommentEnd(_) => Place::Comment(true),
+        Scan::InUrl {
+            place,
+            reference,
+            ..
+        } => cut_place(text, place, reference),
         Scan::AfterContentLess(Element::DataBlock) => Place::Block(true),
         Scan::AfterContentLess(element) => rest_place(element),
         Scan::InContentName { element, .. } => rest_place(element),
@@ -34,14 +45,42 @@ pub fn end_place(text: &[u8], scan: Scan) -> Place
     }
 }
 
+// Where a text ends in a value, in which this reference may be open.
+fn cut_place(text: &[u8], place: ValuePlace, reference: Option<OpenReference>) -> Place
+    requires pending { reference_from reference ≤ length text.now }
+    ensures { result ≡ with_body place (parts_with place.body
+        (references.as_it_stands (open_reference_at text.now (length text.now) reference))) }
+{
+    Place::Value(ValuePlace {
+        body: cut_body(text, place.body, reference),
+        ..place
+    })
+}
+
+fn cut_body(text: &[u8], body: Body, reference: Option<OpenReference>) -> Body
+    requires pending { reference_from reference ≤ length text.now }
+    ensures { result ≡ parts_with body
+        (references.as_it_stands (open_reference_at text.now (length text.now) reference)) }
+{
+    match body {
+        Body::Url(parts) => Body::Url(at_cut(text, by_parts(parts), reference).parts),
+        Body::Plain | Body::NoHole | Body::Js(_) | Body::Css(_) => body,
+    }
+}
+
 /// The place that is shown where a text has been read to; none in the value of a script's `type`.
 pub fn shown_place(text: &[u8], index: usize, scan: Scan) -> Option<Place>
     requires inside { index ≤ length text.now }
     requires pending { pending_from scan ≤ index }
-    ensures { result ≡ scan_shown (scan_at text.now index scan) }
+    ensures { result ≡ scan_shown (scan_at text.now index scan) (drop index text.now) }
 {
     match scan {
         Scan::BeforeType(_) | Scan::InType { .. } => None,
+        Scan::InUrl {
+            place,
+            reference,
+            ..
+        } => Some(url_before(text, index, place, reference)),
         _ => {
             let (read, _) = text.split_at(index);
             Some(end_place(read, scan))
@@ -49,12 +88,71 @@ pub fn shown_place(text: &[u8], index: usize, scan: Scan) -> Option<Place>
     }
 }
 
+// In a URL, before the bytes that are left: behind a reference that the next of them breaks, and else before it.
+fn url_before(
+    text: &[u8],
+    index: usize,
+    place: ValuePlace,
+    reference: Option<OpenReference>,
+) -> Place
+    requires inside { index ≤ length text.now }
+    requires pending { reference_from reference ≤ index }
+    ensures { result ≡ spec.url_before place (open_reference_at text.now index reference)
+        (drop index text.now) }
+{
+    let (read, left) = text.split_at(index);
+    match reference {
+        None => cut_place(read, place, None),
+        Some(open) => match left.split_first() {
+            None => cut_place(read, place, reference),
+            Some((byte, _)) => {
+                let behind = pending(text, open.from + 1, index);
+                Place::Value(ValuePlace {
+                    body: body_before(place.body, open.form, behind, class_of(*byte)),
+                    ..place
+                })
+            }
+        },
+    }
+}
+
+fn body_before(body: Body, form: ReferenceForm, read: &[u8], class: Class) -> Body
+    ensures { result ≡ parts_before (references.turn (class_at class) (open_form_at form)) body
+        (class_at class) (open_form_at form) read.now }
+{
+    match turn(class, form) {
+        Outcome::Grows(_) | Outcome::Closes => body,
+        Outcome::Breaks => broken_body(body, is_equals(class), form, read),
+    }
+}
+
+fn broken_body(body: Body, equals: bool, form: ReferenceForm, read: &[u8]) -> Body
+    ensures { result
+        ≡ parts_with body (references.flushed true equals (open_form_at form) read.now) }
+{
+    match body {
+        Body::Url(parts) => Body::Url(broken_parts(parts, equals, form, read)),
+        Body::Plain | Body::NoHole | Body::Js(_) | Body::Css(_) => body,
+    }
+}
+
 /// Whether a place is shown where a text has been read to.
 pub fn is_shown(scan: Scan) -> bool
-    ensures { (text : List ℕ) (k : ℕ) → result ≡ is_some (scan_shown (scan_at text k scan)) }
+    ensures { (text : List ℕ) (k : ℕ) (left : List ℕ)
+        → result ≡ is_some (scan_shown (scan_at text k scan) left) }
 {
     match scan {
         Scan::BeforeType(_) | Scan::InType { .. } => false,
+        _ => true,
+    }
+}
+
+/// Whether the scan is between two lexemes of a URL, or in no URL.
+pub fn is_between(scan: Scan) -> bool
+    ensures { (text : List ℕ) (k : ℕ) → result ≡ is_scan_between (scan_at text k scan) }
+{
+    match scan {
+        Scan::InUrl { .. } => false,
         _ => true,
     }
 }

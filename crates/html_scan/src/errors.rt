@@ -1,32 +1,38 @@
-ghost use Rattle.std.specs.Prelude.{◌≡◌, ◌≤◌, IfSome, length, if◌then◌else◌};
+ghost use Rattle.std.specs.Prelude.{◌≡◌, ◌<◌, ◌≤◌, IfSome, get_or, length, if◌then◌else◌};
 ghost use Rattle.place_core.specs.declared.code.Code.TheVariants as code;
-ghost use Rattle.place_core.specs.place.Errors.{attribute_name_error, bare_error, block_byte_error, block_error, body_error, comment_error, content_error, equals_error, kind_error, place_error, quotes_error, tag_error, tag_name_error, unless_second, value_error};
+ghost use Rattle.place_core.specs.place.Errors.{attribute_name_error, bare_error, block_byte_error, block_error, comment_error, content_error, equals_error, kind_error, quotes_error, tag_error, tag_name_error, unless_second};
 ghost use Rattle.std.specs.Str.{str_to_ascii_lowercase as lower};
 ghost use Rattle.place_core.specs.page.Tags.{element_on, is_second_type};
 ghost use Rattle.place_core.specs.page.States.{PendingBangDash};
 ghost use Rattle.place_core.specs.page.Words.{kind_of};
 ghost use Rattle.html_scan.specs.ClassViews.{class_at};
-ghost use Rattle.html_scan.specs.ScanViews.{cause_at};
+ghost use Rattle.html_scan.specs.ScanViews.{cause_at, open_reference_at, reference_from};
+ghost use Rattle.html_scan.specs.Scans.{place_cause, value_cause};
 ghost use Rattle.place_core.specs.place.Errors as spec;
 ghost use Rattle.place_core.specs.page.Tags as tags;
 
 use crate::cause::Cause;
 use crate::class::Class;
 use crate::names::{kind_on, tag_named};
+use crate::references::OpenReference;
+use crate::url_refusals::refused_in_url;
 use place_core::{Bare, Body, Code, Element, Kind, Place, Quotes, TagOf, TagPlace, ValuePlace};
 
 /// Why a byte is refused at a place.
 #[inline(always)]
-pub fn at_place(place: Place, class: Class, byte: u8) -> Option<Code>
-    ensures { result ≡ place_error place (class_at class) byte }
+pub fn at_place(text: &[u8], index: usize, class: Class, place: Place) -> Option<Cause>
+    requires inside { index < length text.now }
+    ensures error { cause_at result
+        ≡ place_cause place (class_at class) (get_or text.now index 0) }
+    ensures bound { IfSome result (λ cause. (cause.back ≤ index) × (cause.shown ≤ index)) }
 {
     match place {
         Place::Text | Place::Doctype | Place::Rcdata(_) => None,
-        Place::Comment(dash) => in_comment(dash, class),
-        Place::Tag(tag) => in_tag(tag, class),
-        Place::Value(value) => in_value(value, class, byte),
-        Place::Block(less) => in_block(less, class),
-        Place::Script(_) | Place::Style(_) => Some(Code::NotBuilt),
+        Place::Comment(dash) => at_hand(in_comment(dash, class)),
+        Place::Tag(tag) => at_hand(in_tag(tag, class)),
+        Place::Value(value) => in_value(text, index, class, value, None),
+        Place::Block(less) => at_hand(in_block(less, class)),
+        Place::Script(_) | Place::Style(_) => at_hand(Some(Code::NotBuilt)),
     }
 }
 
@@ -123,23 +129,53 @@ fn equals_sign(name: bool, before: bool, kind: Option<Kind>) -> Option<Code>
     }
 }
 
-fn in_value(place: ValuePlace, class: Class, byte: u8) -> Option<Code>
-    ensures { result ≡ value_error place (class_at class) byte }
+// In a value, by its language and then by its quotes; where it is a URL, in this reference.
+#[inline(always)]
+fn in_value(
+    text: &[u8],
+    index: usize,
+    class: Class,
+    place: ValuePlace,
+    reference: Option<OpenReference>,
+) -> Option<Cause>
+    requires inside { index < length text.now }
+    requires pending { reference_from reference ≤ index }
+    ensures error { cause_at result ≡ value_cause place
+        (open_reference_at text.now index reference) (class_at class) (get_or text.now index 0) }
+    ensures bound { IfSome result (λ cause. (cause.back ≤ index) × (cause.shown ≤ index)) }
 {
-    match in_body(place.body, byte) {
-        Some(code) => Some(code),
-        None => in_quotes(place.tag, place.quotes, class),
+    match place.body {
+        Body::Plain | Body::NoHole => at_hand(in_quotes(place.tag, place.quotes, class)),
+        Body::Url(parts) => match refused_in_url(
+            text,
+            index,
+            class,
+            place.quotes,
+            parts,
+            reference,
+        ) {
+            Some(cause) => Some(cause),
+            None => at_hand(in_quotes(place.tag, place.quotes, class)),
+        },
+        Body::Js(_) | Body::Css(_) => at_hand(Some(Code::NotBuilt)),
     }
 }
 
-// What the language of a value refuses.
-fn in_body(body: Body, _byte: u8) -> Option<Code>
-    ensures { result ≡ body_error body _byte }
+/// The same, where it is a URL in a percent triple or in a reference.
+pub fn in_lexeme(
+    text: &[u8],
+    index: usize,
+    class: Class,
+    place: ValuePlace,
+    reference: Option<OpenReference>,
+) -> Option<Cause>
+    requires inside { index < length text.now }
+    requires pending { reference_from reference ≤ index }
+    ensures error { cause_at result ≡ value_cause place
+        (open_reference_at text.now index reference) (class_at class) (get_or text.now index 0) }
+    ensures bound { IfSome result (λ cause. (cause.back ≤ index) × (cause.shown ≤ index)) }
 {
-    match body {
-        Body::Plain | Body::NoHole => None,
-        Body::Url(_) | Body::Js(_) | Body::Css(_) => Some(Code::NotBuilt),
-    }
+    in_value(text, index, class, place, reference)
 }
 
 /// In a value, or before one, whatever its language.
@@ -217,8 +253,8 @@ fn of_kind(kind: Kind) -> Option<Code>
     ensures { result ≡ kind_error kind }
 {
     match kind {
-        Kind::Plain | Kind::NoHole | Kind::ScriptType => None,
-        Kind::Url | Kind::Script | Kind::Style => Some(Code::NotBuilt),
+        Kind::Plain | Kind::NoHole | Kind::Url | Kind::ScriptType => None,
+        Kind::Script | Kind::Style => Some(Code::NotBuilt),
     }
 }
 

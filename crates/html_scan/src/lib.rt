@@ -12,22 +12,33 @@ mod ends;
 mod errors;
 mod names;
 mod quoting;
+mod references;
 mod refusals;
 mod scan;
 mod slices;
 mod step;
 mod tags;
 mod texts;
+mod triple;
 mod types;
+mod url_refusals;
+mod urls;
 mod values;
 
 pub use cause::Cause;
 pub use class::{Class, Letter, class_of};
 pub use comment_stage::CommentStage;
-pub use ends::{end_place, is_shown, shown_place};
+pub use ends::{end_place, is_between, is_shown, shown_place};
 pub use quoting::Quoting;
-pub use refusals::{at_byte, at_end};
+pub use references::{
+    OpenReference, Outcome, ReferenceForm, broken_char, is_equals, meaning, turn,
+};
+pub use refusals::{at_byte, at_end, lexeme_at_end};
 pub use scan::Scan;
+pub use slices::pending;
 pub use step::next;
 pub use tags::INSIDE;
+pub use triple::Triple;
+pub use url_refusals::refused_in_url;
+pub use urls::broken_parts;
 pub use values::BEGUN;

@@ -3,21 +3,24 @@ ghost use Rattle.html_scan.specs.ClassViews.{class_at};
 ghost use Rattle.html_scan.specs.ScanViews.{cause_at, quoting_at, scan_at, pending_from};
 ghost use Rattle.place_core.specs.declared.code.Code.TheVariants as code;
 ghost use Rattle.place_core.specs.place.StatePlaces.{quotes_at};
-ghost use Rattle.html_scan.specs.Scans.{scan_cut_error, scan_error};
+ghost use Rattle.html_scan.specs.Scans.{place_cut_error, scan_cut_error, scan_error, scan_lexeme_error};
 
 use crate::cause::Cause;
 use crate::class::Class;
 use crate::errors::{
-    after_block_bang_dash, at_hand, at_place, in_attribute_name, in_quotes, in_tag_name, name_ends,
+    after_block_bang_dash, at_hand, at_place, in_attribute_name, in_lexeme, in_quotes, in_tag_name,
+    name_ends,
 };
 use crate::names::kind_on;
 use crate::quoting::Quoting;
 use crate::scan::Scan;
 use crate::slices::pending;
 use crate::tags::UNBEGUN;
+use crate::triple::Triple;
 use crate::types::type_tag;
+use crate::url_refusals::{of_open, of_unfinished};
 use crate::values::BEGUN;
-use place_core::{Code, Element, Quotes};
+use place_core::{Code, Element, Place, Quotes};
 
 /// Why a byte is refused after that many bytes of a text.
 #[inline(always)]
@@ -29,13 +32,18 @@ pub fn at_byte(text: &[u8], index: usize, class: Class, scan: Scan) -> Option<Ca
     ensures bound { IfSome result (λ cause. (cause.back ≤ index) × (cause.shown ≤ index)) }
 {
     match scan {
-        Scan::At(place) => at_hand(at_place(place, class, text[index])),
+        Scan::At(place) => at_place(text, index, class, place),
         Scan::InTagName { ends, from } => {
             at_hand(in_tag_name(ends, pending(text, from, index), class))
         }
         Scan::InAttributeName { tag, typed, from } => {
             in_attribute_name(tag, typed, pending(text, from, index), class)
         }
+        Scan::InUrl {
+            place,
+            reference,
+            ..
+        } => in_lexeme(text, index, class, place, reference),
         Scan::AfterBlockBangDash => after_block_bang_dash(class),
         Scan::BeforeType(tag) => at_hand(in_quotes(tag, UNBEGUN, class)),
         Scan::InType {
@@ -64,6 +72,11 @@ pub fn at_end(text: &[u8], scan: Scan) -> Option<Cause>
             let name = pending(text, from, text.len());
             name_ends(typed, kind_on(tag, name), name.len(), None)
         }
+        Scan::InUrl {
+            place,
+            reference,
+            ..
+        } => of_open(text, place.body, reference),
         Scan::BeforeType(_) | Scan::InType { .. } => at_hand(Some(Code::BadHTML)),
         Scan::InContentName {
             element: Element::DataBlock,
@@ -72,6 +85,38 @@ pub fn at_end(text: &[u8], scan: Scan) -> Option<Cause>
         Scan::AfterBlockBang => unfinished(2),
         Scan::AfterBlockBangDash => unfinished(3),
         _ => None,
+    }
+}
+
+/// Why the end of a text is refused in a lexeme of a URL that has begun, and is shown where the scan was last between two.
+pub fn lexeme_at_end(text: &[u8], scan: Scan) -> Option<Code>
+    requires pending { pending_from scan ≤ length text.now }
+    ensures { result ≡ scan_lexeme_error (scan_at text.now (length text.now) scan) }
+{
+    match scan {
+        Scan::At(place) => lexeme_at_place(text, place),
+        Scan::InUrl {
+            place,
+            triple,
+            reference,
+        } => of_unfinished(text, place.body, triple, reference),
+        _ => None,
+    }
+}
+
+fn lexeme_at_place(text: &[u8], place: Place) -> Option<Code>
+    ensures { result ≡ place_cut_error place }
+{
+    match place {
+        Place::Value(value) => of_unfinished(text, value.body, Triple::None, None),
+        Place::Text
+        | Place::Doctype
+        | Place::Comment(_)
+        | Place::Rcdata(_)
+        | Place::Tag(_)
+        | Place::Block(_)
+        | Place::Script(_)
+        | Place::Style(_) => None,
     }
 }
 

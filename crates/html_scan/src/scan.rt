@@ -1,6 +1,8 @@
 use crate::comment_stage::CommentStage;
 use crate::quoting::Quoting;
-use place_core::{Element, Place, TagOf};
+use crate::references::OpenReference;
+use crate::triple::Triple;
+use place_core::{Element, Place, TagOf, ValuePlace};
 
 /// Where a text has been read to: a place, or within a lexeme. What has been read of a name, or of the value of a `type`, begins
 /// at `from` in the text, and goes up to the byte at hand.
@@ -29,6 +31,12 @@ pub enum Scan {
     },
     /// In a comment, in what may be its end.
     InCommentEnd(CommentStage),
+    /// In a value that is a URL, in a percent triple or in a reference; elsewhere in it the text is at a place.
+    InUrl {
+        place: ValuePlace,
+        triple: Triple,
+        reference: Option<OpenReference>,
+    },
     /// In a title, a textarea or a data block, after `<`.
     AfterContentLess(Element),
     /// In a title, a textarea or a data block, after `</` and letters; `from` is where the `<` stands.

@@ -12,8 +12,9 @@ use crate::scan::Scan;
 use crate::slices::pending;
 use crate::tags::{in_attribute_name, in_tag, in_tag_name};
 use crate::texts::{after_less, after_solidus, in_declaration, in_doctype, in_text};
+use crate::triple::Triple;
 use crate::types::{before_type, in_type};
-use crate::values::in_value;
+use crate::values::{in_lexeme, in_value};
 use place_core::{Element, Place};
 
 /// The scan state after the byte at a place of a text, whether it is refused or not.
@@ -43,6 +44,11 @@ pub fn next(text: &[u8], index: usize, class: Class, scan: Scan) -> Scan
             in_attribute_name(class, tag, typed, pending(text, from, index), from)
         }
         Scan::InCommentEnd(stage) => in_comment_end(class, stage),
+        Scan::InUrl {
+            place,
+            triple,
+            reference,
+        } => in_lexeme(text, index, class, place, triple, reference),
         Scan::AfterContentLess(element) => after_content_less(class, element, index),
         Scan::InContentName { element, from } => {
             let grows = may_be_name_of(element, pending(text, from + 2, index + 1));
@@ -75,7 +81,7 @@ fn after_place(text: &[u8], index: usize, class: Class, place: Place) -> Scan
         Place::Comment(_) => in_comment(class),
         Place::Rcdata(element) => in_content(class, element),
         Place::Tag(tag) => in_tag(tag, class, index),
-        Place::Value(value) => Scan::At(in_value(value, class)),
+        Place::Value(value) => in_value(text, index, class, value, Triple::None, None),
         Place::Block(_) => in_content(class, Element::DataBlock),
         Place::Script(_) | Place::Style(_) => Scan::At(place),
     }

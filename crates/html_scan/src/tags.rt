@@ -12,7 +12,9 @@ ghost use Rattle.place_core.specs.page.Tags as tags;
 use crate::class::Class;
 use crate::names::{kind_on, tag_named};
 use crate::scan::Scan;
-use place_core::{Bare, Body, Element, Kind, Place, Quotes, Spots, TagOf, TagPlace, ValuePlace};
+use place_core::{
+    Bare, Body, Element, Kind, Parts, Place, Quotes, Spots, TagOf, TagPlace, ValuePlace,
+};
 
 // Where in a tag a path stands alone.
 const NAME: Spots = Spots {
@@ -42,6 +44,16 @@ const AFTER: Spots = Spots {
     before: false,
     inside: false,
     after: true,
+};
+
+// Where a URL begins.
+const URL_START: Parts = Parts {
+    start: true,
+    opened: None,
+    openhole: false,
+    prequery: false,
+    query: false,
+    bad: false,
 };
 
 /// Where a value has not begun.
@@ -161,6 +173,7 @@ fn value_begins(tag: TagOf, typed: bool, kind: Option<Kind>) -> Scan
     match kind {
         Some(Kind::Plain) => Scan::At(body_begins(tag, typed, Body::Plain)),
         Some(Kind::NoHole) => Scan::At(body_begins(tag, typed, Body::NoHole)),
+        Some(Kind::Url) => Scan::At(body_begins(tag, typed, Body::Url(URL_START))),
         Some(Kind::ScriptType) => Scan::BeforeType(tag),
         _ => Scan::At(Place::Text),
     }

@@ -83,8 +83,8 @@ pub fn in_type(class: Class, tag: TagOf, quoting: Quoting, value: &[u8], from: u
     begins(tag, quoting, from)
 }
 
-// Whether a byte ends a value.
-fn ends(quoting: Quoting, class: Class) -> bool
+/// Whether a byte ends a value.
+pub fn ends(quoting: Quoting, class: Class) -> bool
     ensures { result ≡ html.ends_value (quoting_at quoting) (class_at class) }
 {
     match (quoting, class) {

@@ -1,11 +1,16 @@
-ghost use Rattle.std.specs.Prelude.{◌≡◌};
+ghost use Rattle.std.specs.Prelude.{◌≡◌, ◌+◌, ◌<◌, ◌≤◌, get_or, length};
 ghost use Rattle.html_scan.specs.ClassViews.{class_at};
-ghost use Rattle.html_scan.specs.Scans.{At, bare_next, quoted_next};
+ghost use Rattle.html_scan.specs.ScanViews.{open_reference_at, pending_from, reference_from, scan_at, triple_at};
+ghost use Rattle.html_scan.specs.Scans.{At, bare_next, value_fed, value_next};
 ghost use Rattle.html_scan.specs.Scans as spec;
 
 use crate::class::Class;
+use crate::references::OpenReference;
+use crate::scan::Scan;
 use crate::tags::{UNBEGUN, before_name, content};
-use place_core::{Bare, Place, Quotes, ValuePlace};
+use crate::triple::Triple;
+use crate::urls::{UrlPoint, in_url};
+use place_core::{Bare, Body, Place, Quotes, ValuePlace};
 
 /// In a value without quotes that has begun.
 pub const BEGUN: Quotes = Quotes::Bare(Bare {
@@ -13,30 +18,103 @@ pub const BEGUN: Quotes = Quotes::Bare(Bare {
     unbegun: false,
 });
 
-/// In the value of an attribute.
+/// In the value of an attribute; where it is a URL, in this percent triple and this reference.
 #[inline(always)]
-pub fn in_value(place: ValuePlace, class: Class) -> Place
-    ensures { At result ≡ quoted_next place place.quotes (class_at class) }
+pub fn in_value(
+    text: &[u8],
+    index: usize,
+    class: Class,
+    place: ValuePlace,
+    triple: Triple,
+    reference: Option<OpenReference>,
+) -> Scan
+    requires inside { index < length text.now }
+    requires pending { reference_from reference ≤ index }
+    ensures scan { scan_at text.now (index + 1) result
+        ≡ value_next place (triple_at triple) (open_reference_at text.now index reference)
+        (class_at class) (get_or text.now index 0) }
+    ensures pending { pending_from result ≤ index + 1 }
 {
     match (place.quotes, class) {
-        (Quotes::Dq, Class::QuotationMark) => before_name(place.tag, place.typed),
-        (Quotes::Sq, Class::Apostrophe) => before_name(place.tag, place.typed),
-        (Quotes::Bare(bare), _) => in_bare(place, bare.uq, class),
-        (quotes, _) => with_quotes(place, quotes),
+        (Quotes::Dq, Class::QuotationMark) => Scan::At(before_name(place.tag, place.typed)),
+        (Quotes::Sq, Class::Apostrophe) => Scan::At(before_name(place.tag, place.typed)),
+        (Quotes::Bare(bare), _) => in_bare(text, index, class, place, bare.uq, triple, reference),
+        (quotes, _) => fed(text, index, class, place, quotes, triple, reference),
     }
 }
 
+/// The same, where it is a URL in a percent triple or in a reference.
+pub fn in_lexeme(
+    text: &[u8],
+    index: usize,
+    class: Class,
+    place: ValuePlace,
+    triple: Triple,
+    reference: Option<OpenReference>,
+) -> Scan
+    requires inside { index < length text.now }
+    requires pending { reference_from reference ≤ index }
+    ensures scan { scan_at text.now (index + 1) result
+        ≡ value_next place (triple_at triple) (open_reference_at text.now index reference)
+        (class_at class) (get_or text.now index 0) }
+    ensures pending { pending_from result ≤ index + 1 }
+{
+    in_value(text, index, class, place, triple, reference)
+}
+
 // In a value without quotes, or before one.
-fn in_bare(place: ValuePlace, begun: bool, class: Class) -> Place
-    ensures { At result ≡ bare_next place begun (class_at class) }
+fn in_bare(
+    text: &[u8],
+    index: usize,
+    class: Class,
+    place: ValuePlace,
+    begun: bool,
+    triple: Triple,
+    reference: Option<OpenReference>,
+) -> Scan
+    requires inside { index < length text.now }
+    requires pending { reference_from reference ≤ index }
+    ensures scan { scan_at text.now (index + 1) result
+        ≡ bare_next place begun (triple_at triple) (open_reference_at text.now index reference)
+        (class_at class) (get_or text.now index 0) }
+    ensures pending { pending_from result ≤ index + 1 }
 {
     match class {
-        Class::White if begun => before_name(place.tag, place.typed),
-        Class::White => with_quotes(place, UNBEGUN),
-        Class::QuotationMark => with_quotes(place, Quotes::Dq),
-        Class::Apostrophe => with_quotes(place, Quotes::Sq),
-        Class::GreaterThan => content(place.tag),
-        _ => with_quotes(place, BEGUN),
+        Class::White if begun => Scan::At(before_name(place.tag, place.typed)),
+        Class::White => Scan::At(with_quotes(place, UNBEGUN)),
+        Class::QuotationMark => Scan::At(with_quotes(place, Quotes::Dq)),
+        Class::Apostrophe => Scan::At(with_quotes(place, Quotes::Sq)),
+        Class::GreaterThan => Scan::At(content(place.tag)),
+        _ => fed(text, index, class, place, BEGUN, triple, reference),
+    }
+}
+
+// A byte of a value, between these quotes.
+#[inline(always)]
+fn fed(
+    text: &[u8],
+    index: usize,
+    class: Class,
+    place: ValuePlace,
+    quotes: Quotes,
+    triple: Triple,
+    reference: Option<OpenReference>,
+) -> Scan
+    requires inside { index < length text.now }
+    requires pending { reference_from reference ≤ index }
+    ensures scan { scan_at text.now (index + 1) result
+        ≡ value_fed place quotes place.body (triple_at triple)
+        (open_reference_at text.now index reference) (class_at class) (get_or text.now index 0) }
+    ensures pending { pending_from result ≤ index + 1 }
+{
+    match place.body {
+        Body::Url(parts) => {
+            let url = UrlPoint { parts, triple };
+            in_url(text, index, class, place, quotes, url, reference)
+        }
+        Body::Plain | Body::NoHole | Body::Js(_) | Body::Css(_) => Scan::At(with_quotes(
+            place, quotes,
+        )),
     }
 }
 

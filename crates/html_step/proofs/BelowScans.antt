@@ -10,15 +10,17 @@ use Rattle.place_core.specs.declared.tag_of.TagOf.{TagOf}
 use Rattle.place_core.specs.declared.tag_place.TagPlace.{TagPlace}
 use Rattle.place_core.specs.declared.value_place.ValuePlace.{ValuePlace}
 use Rattle.place_core.proofs.Semilattices.{none_some, one_value}
-use Rattle.html_scan.specs.Scans.{Scan, At, AfterLess, AfterLessSolidus, InDeclaration, InTagName, InAttributeName, InCommentEnd, InContentEnd, BeforeType, InType}
+use Rattle.html_scan.specs.Scans.{Scan, At, AfterLess, AfterLessSolidus, InDeclaration, InTagName, InAttributeName, InUrl, InCommentEnd, InContentEnd, BeforeType, InType}
 use Rattle.html_step.proofs.ScanOrder.{ScanBelow, ScanHas, comment-one}
 use Rattle.html_step.proofs.PlaceParts.{Under, TagBelow, ValueBelow, below-tag, below-value, below-rcdata}
 use Rattle.place_core.specs.page.References.{Reference}
+use Rattle.url_lexer.specs.Triples.{Triple}
 use Rattle.place_core.specs.page.Tags.{Quoting, Value, ValueState}
 
 pub whole-in : (f : Scan) (y : Member) → is_whole y ≡ true → ScanHas f y
 whole-in (At p) y e = rw e refl
 whole-in (InAttributeName t typed name) y e = rw e refl
+whole-in (InUrl v t r) y e = rw e refl
 whole-in AfterLess y e = e
 whole-in AfterLessSolidus y e = e
 whole-in (InDeclaration pending) y e = e
@@ -32,6 +34,7 @@ whole-in (InType t q v r) y e = e
 pub below-at : (P : Scan → Type 0) (p : Place) → ((a : Place) → Below a p → P (At a)) → (g : Scan) → ScanBelow g (At p) → P g
 below-at P p f (At a) h = f a h
 below-at P p f (InAttributeName t x n) h = absurd h
+below-at P p f (InUrl v t r) h = absurd h
 below-at P p f AfterLess h = cc
 below-at P p f AfterLessSolidus h = cc
 below-at P p f (InDeclaration pending) h = cc
@@ -111,6 +114,7 @@ rcdata-rigid e g h = below-at (λ (x : Scan). x ≡ At (place.Rcdata e)) (place.
 pub less-rigid : IsRigid AfterLess
 less-rigid (At p) h = absurd h
 less-rigid (InAttributeName t x n) h = absurd h
+less-rigid (InUrl w k d) h = absurd h
 less-rigid AfterLess h = h
 less-rigid AfterLessSolidus h = h
 less-rigid (InDeclaration pending) h = h
@@ -123,6 +127,7 @@ less-rigid (InType u q v r) h = h
 pub solidus-rigid : IsRigid AfterLessSolidus
 solidus-rigid (At p) h = absurd h
 solidus-rigid (InAttributeName t x n) h = absurd h
+solidus-rigid (InUrl w k d) h = absurd h
 solidus-rigid AfterLess h = h
 solidus-rigid AfterLessSolidus h = h
 solidus-rigid (InDeclaration pending) h = h
@@ -135,6 +140,7 @@ solidus-rigid (InType u q v r) h = h
 pub declaration-rigid : (l : List ℕ) → IsRigid (InDeclaration l)
 declaration-rigid l (At p) h = absurd h
 declaration-rigid l (InAttributeName t x n) h = absurd h
+declaration-rigid l (InUrl w k d) h = absurd h
 declaration-rigid l AfterLess h = h
 declaration-rigid l AfterLessSolidus h = h
 declaration-rigid l (InDeclaration pending) h = h
@@ -147,6 +153,7 @@ declaration-rigid l (InType u q v r) h = h
 pub tag-name-rigid : (z : Bool) (l : List ℕ) → IsRigid (InTagName z l)
 tag-name-rigid z l (At p) h = absurd h
 tag-name-rigid z l (InAttributeName t x n) h = absurd h
+tag-name-rigid z l (InUrl w k d) h = absurd h
 tag-name-rigid z l AfterLess h = h
 tag-name-rigid z l AfterLessSolidus h = h
 tag-name-rigid z l (InDeclaration pending) h = h
@@ -159,6 +166,7 @@ tag-name-rigid z l (InType u q v r) h = h
 pub comment-end-rigid : (z : CommentState) → IsRigid (InCommentEnd z)
 comment-end-rigid z (At p) h = absurd h
 comment-end-rigid z (InAttributeName t x n) h = absurd h
+comment-end-rigid z (InUrl w k d) h = absurd h
 comment-end-rigid z AfterLess h = h
 comment-end-rigid z AfterLessSolidus h = h
 comment-end-rigid z (InDeclaration pending) h = h
@@ -171,6 +179,7 @@ comment-end-rigid z (InType u q v r) h = h
 pub content-end-rigid : (z : Element) (l : Pending) → IsRigid (InContentEnd z l)
 content-end-rigid z l (At p) h = absurd h
 content-end-rigid z l (InAttributeName t x n) h = absurd h
+content-end-rigid z l (InUrl w k d) h = absurd h
 content-end-rigid z l AfterLess h = h
 content-end-rigid z l AfterLessSolidus h = h
 content-end-rigid z l (InDeclaration pending) h = h
@@ -183,6 +192,7 @@ content-end-rigid z l (InType u q v r) h = h
 pub before-type-rigid : (t : TagOf) → IsRigid (BeforeType t)
 before-type-rigid t (At p) h = absurd h
 before-type-rigid t (InAttributeName u x n) h = absurd h
+before-type-rigid t (InUrl w k d) h = absurd h
 before-type-rigid t AfterLess h = h
 before-type-rigid t AfterLessSolidus h = h
 before-type-rigid t (InDeclaration pending) h = h
@@ -195,6 +205,7 @@ before-type-rigid t (InType u q v r) h = h
 pub type-rigid : (t : TagOf) (o : Quoting) (w : Value ValueState) (c : Reference) → IsRigid (InType t o w c)
 type-rigid t o w c (At p) h = absurd h
 type-rigid t o w c (InAttributeName u x n) h = absurd h
+type-rigid t o w c (InUrl u k d) h = absurd h
 type-rigid t o w c AfterLess h = h
 type-rigid t o w c AfterLessSolidus h = h
 type-rigid t o w c (InDeclaration pending) h = h
@@ -227,6 +238,7 @@ pub below-attribute : (P : Scan → Type 0) (t : TagOf) (y : Bool) (n : List ℕ
 below-attribute P t y n f (InAttributeName u x m) h =
     subst (λ (v : TagOf). P (InAttributeName v x m)) (sym h.0) (subst (λ (l : List ℕ). P (InAttributeName t x l)) (sym h.2) (f x h.1))
 below-attribute P t y n f (At p) h = absurd h
+below-attribute P t y n f (InUrl v k r) h = absurd h
 below-attribute P t y n f AfterLess h = cc
 below-attribute P t y n f AfterLessSolidus h = cc
 below-attribute P t y n f (InDeclaration pending) h = cc
@@ -235,3 +247,19 @@ below-attribute P t y n f (InCommentEnd s) h = cc
 below-attribute P t y n f (InContentEnd e x) h = cc
 below-attribute P t y n f (BeforeType u) h = cc
 below-attribute P t y n f (InType u q v r) h = cc
+
+-- a URL in a percent triple or a reference
+pub below-url : (P : Scan → Type 0) (v : ValuePlace) (t : Triple) (r : Reference) → ((u : ValuePlace) → ValueBelow u v → P (InUrl u t r)) → (g : Scan)
+    → ScanBelow g (InUrl v t r) → P g
+below-url P v t r f (InUrl u k z) h =
+    subst (λ (x : Triple). P (InUrl u x z)) (sym h.1) (subst (λ (x : Reference). P (InUrl u t x)) (sym h.2) (f u h.0))
+below-url P v t r f (At p) h = absurd h
+below-url P v t r f (InAttributeName u x m) h = absurd h
+below-url P v t r f AfterLess h = cc
+below-url P v t r f AfterLessSolidus h = cc
+below-url P v t r f (InDeclaration pending) h = cc
+below-url P v t r f (InTagName ends name) h = cc
+below-url P v t r f (InCommentEnd s) h = cc
+below-url P v t r f (InContentEnd e x) h = cc
+below-url P v t r f (BeforeType u) h = cc
+below-url P v t r f (InType u q x z) h = cc

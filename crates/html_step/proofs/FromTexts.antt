@@ -1,6 +1,7 @@
 -- Members through whole texts.
 use Rattle.std.proofs.Common.{◌≡◌, ℕ, ◌+◌, List, [], ◌∷◌, Ok, refl, sym, ◌∙◌, subst}
 use Rattle.place_core.specs.page.Classes.{class_of}
+use Rattle.place_core.specs.place.Errors.{last_between}
 use Rattle.place_core.specs.place.Membership.{IsIn, Bears}
 use Rattle.place_core.specs.place.Places.{Has, IsValid}
 use Rattle.place_core.specs.page.States.{LexState}
@@ -8,38 +9,38 @@ use Rattle.place_core.specs.page.Tags.{ValueState}
 use Rattle.place_core.specs.declared.member.Member.{Member}
 use Rattle.place_core.specs.declared.place.Place.{Place}
 use Rattle.place_core.proofs.Semilattices.{one_value}
-use Rattle.html_scan.specs.Scans.{Scan, At, scan_cut_error, scan_error, scan_next, scan_place}
+use Rattle.html_scan.specs.Scans.{Scan, At, is_scan_between, scan_next}
 use Rattle.html_step.specs.Laws.{FromText, IsOrigin}
 use Rattle.html_step.specs.Origins.{origin}
 use Rattle.html_step.specs.Steps.{after_text, stepped}
 use Rattle.html_step.proofs.FromSteps.{from-byte, from-end}
 use Rattle.html_step.proofs.ScanOrder.{ScanBelow, ScanHas, ScanValid, scan-grows}
 use Rattle.html_step.proofs.OneTexts.{one-text}
-use Rattle.html_step.proofs.ValidSteps.{scan-valid}
-use Rattle.html_step.proofs.WholeTexts.{grows-text, not-refused, one-ok, text-steps}
+use Rattle.html_step.proofs.ValidSteps.{scan-valid, valid-within}
+use Rattle.html_step.proofs.WholeTexts.{end-ok, grows-text, step-ok, text-steps}
 
--- a member after the bytes comes from this one
-pub record FromBytes (k : ℕ) (bytes : List ℕ) (f : Scan) (y x : Member) : Type 0 where
+-- a member after the bytes comes from this one, from wherever the texts stand
+pub record FromBytes (bytes : List ℕ) (f : Scan) (y x : Member) : Type 0 where
   pub there : ScanHas f x
-  pub leads : (g : Scan) (a : Place) → ScanValid g → ScanBelow g f → ScanHas g x → stepped k bytes g ≡ Ok a → Has a y
+  pub leads : (k since : ℕ) (g : Scan) (a : Place) → ScanValid g → ScanBelow g f → ScanHas g x → stepped k since bytes g ≡ Ok a → Has a y
 
-pub from-bytes : (bytes : List ℕ) (k : ℕ) (f : Scan) (q : Place) (y : Member) → ScanValid f → stepped k bytes f ≡ Ok q → Has q y → FromBytes k bytes f y (origin bytes f y)
-from-bytes [] k f q y v e h =
-    let n = not-refused k (scan_cut_error f) (Ok (scan_place f)) q e in
-    let x = from-end f y (subst (λ (p : Place). Has p y) (one-ok q (scan_place f) (Ok (scan_place f)) n.1 refl) h) in
+pub from-bytes : (bytes : List ℕ) (k since : ℕ) (f : Scan) (q : Place) (y : Member) → ScanValid f → stepped k since bytes f ≡ Ok q → Has q y
+    → FromBytes bytes f y (origin bytes f y)
+from-bytes [] k since f q y v e h =
+    let n = end-ok k since f q e in
+    let x = from-end f y v n.cut (subst (λ (p : Place). Has p y) (sym n.place) h) in
     record {
       there = x.there;
-      leads = λ g a w l o d. let m = not-refused k (scan_cut_error g) (Ok (scan_place g)) a d in
-          subst (λ (p : Place). Has p y) (one-ok (scan_place g) a (Ok (scan_place g)) refl m.1) (x.leads g l o);
+      leads = λ k since g a w l o d. subst (λ (p : Place). Has p y) (end-ok k since g a d).place (x.leads g l o);
     }
-from-bytes (b ∷ bs) k f q y v e h =
-    let n = not-refused k (scan_error f (class_of b) b) (stepped (k + 1) bs (scan_next f (class_of b) b)) q e in
-    let r = from-bytes bs (k + 1) (scan_next f (class_of b) b) q y (scan-valid f (class_of b) b v) n.1 h in
+from-bytes (b ∷ bs) k since f q y v e h =
+    let n = step-ok k since b bs f q e in
+    let r = from-bytes bs (k + 1) (last_between k since (is_scan_between f)) (scan_next f (class_of b) b) q y (scan-valid f (class_of b) b v) n.1 h in
     let x = from-byte f (class_of b) b (origin bs (scan_next f (class_of b) b) y) v n.0 r.there in
     record {
       there = x.there;
-      leads = λ g a w l o d. let m = not-refused k (scan_error g (class_of b) b) (stepped (k + 1) bs (scan_next g (class_of b) b)) a d in
-          r.leads (scan_next g (class_of b) b) a (scan-valid g (class_of b) b w) (scan-grows g f (class_of b) b w l n.0).1 (x.leads g w l o) m.1;
+      leads = λ k since g a w l o d. r.leads (k + 1) (last_between k since (is_scan_between g)) (scan_next g (class_of b) b) a (scan-valid g (class_of b) b w)
+          (scan-grows g f (class_of b) b w l n.0).1 (x.leads g w l o) (step-ok k since b bs g a d).1;
     }
 
 -- what a path bears, its own place has
@@ -49,14 +50,14 @@ own-has p s x i h = subst (λ (a : Place). Has a x) (one_value h.own i.own (sym 
 -- on the paths that a place stands for
 pub from-text-at : (bytes : List ℕ) (p q : Place) (y : Member) → IsValid p → after_text bytes p ≡ Ok q → Has q y → IsOrigin bytes p y (origin bytes (At p) y)
 from-text-at bytes p q y v e h =
-    let r = from-bytes bytes 0 (At p) q y v (text-steps bytes p q e) h in (
+    let r = from-bytes bytes 0 0 (At p) q y (valid-within p v) (text-steps bytes p q e) h in (
       r.there,
       λ s i o.
           let g = grows-text bytes i.own p q i.valid v i.below e in
           record {
             own = g.0;
             stands = ((one-text bytes i.own s i.stands).0 g.0 g.1).1;
-            has = r.leads (At i.own) g.0 i.valid i.below (own-has p s (origin bytes (At p) y) i o) (text-steps bytes i.own g.0 g.1);
+            has = r.leads 0 0 (At i.own) g.0 (valid-within i.own i.valid) i.below (own-has p s (origin bytes (At p) y) i o) (text-steps bytes i.own g.0 g.1);
           },
     )
 

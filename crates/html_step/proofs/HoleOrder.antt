@@ -25,9 +25,10 @@ use Rattle.html_step.specs.Origins.{typed_origin}
 use Rattle.html_step.specs.HoleLaws.{IsHoleOrigin, IsHoleEvidence, AcceptsHole, CoversHole, FromHole, GrowsHole, OneHole, HoleEvidence, ValidHole}
 use Rattle.html_step.specs.Holes.{Holed, after_hole, named_by_data, plain_hole, value_hole, block_hole}
 use Rattle.html_step.proofs.BelowScans.{tag-place, value-place, below-at-block}
-use Rattle.html_step.proofs.FromSteps.{false-or, no, or-false, plain-typed}
+use Rattle.html_step.proofs.FromSteps.{false-or, no, or-false}
+use Rattle.html_step.proofs.FromValues.{typed-only}
 use Rattle.html_step.proofs.FromTexts.{own-has}
-use Rattle.html_step.proofs.ScanOrder.{built-same, one-spot, value-from}
+use Rattle.html_step.proofs.ScanOrder.{one-spot, value-from}
 use Rattle.html_step.proofs.HoleSteps.{OwnHole, own-at}
 use Rattle.html_step.proofs.PlaceParts.{TagBelow, Under, ValueBelow, below-tag, below-value, value-below, under-both, under-false}
 use Rattle.html_step.proofs.ShownSteps.{none-some}
@@ -58,9 +59,16 @@ plain-grows x y quotes.Dq r h e j f b = absurd (none_some r j)
 plain-grows x y quotes.Sq r h e j f b = absurd (none_some r j)
 plain-grows x y (quotes.Bare s) r h e j f b = absurd (none_some r j)
 
+plain-same : (b : Body) → joined_bodies b body.Plain ≡ Some body.Plain → b ≡ body.Plain
+plain-same body.Plain h = refl
+plain-same body.NoHole h = absurd (none_some body.Plain h)
+plain-same (body.Url p) h = absurd (none_some body.Plain h)
+plain-same (body.Js j) h = absurd (none_some body.Plain h)
+plain-same (body.Css c) h = absurd (none_some body.Plain h)
+
 value-grows : (x y : ValuePlace) (b : Body) → ValueBelow x y → y.body ≡ b → GrowsTo (value_hole b y) (place.Value x)
 value-grows x y body.Plain h e =
-    let same : x.body ≡ body.Plain = built-same x.body body.Plain 0 refl (subst (λ (z : Body). joined_bodies x.body z ≡ Some z) e h.body) in
+    let same : x.body ≡ body.Plain = plain-same x.body (subst (λ (z : Body). joined_bodies x.body z ≡ Some z) e h.body) in
     plain-grows x y x.quotes y.quotes h refl h.quotes refl same
 value-grows x y body.NoHole h e = tt
 value-grows x y (body.Url p) h e = tt
@@ -220,7 +228,7 @@ begun-value : ValuePlace → Place
 begun-value u = place.Value (record { tag = u.tag; typed = u.typed; quotes = bare_begun; body = u.body })
 
 plain-of : (u t : ValuePlace) → ValueBelow u t → t.body ≡ body.Plain → u.body ≡ body.Plain
-plain-of u t l e = built-same u.body body.Plain 0 refl (subst (λ (z : Body). joined_bodies u.body z ≡ Some z) e l.body)
+plain-of u t l e = plain-same u.body (subst (λ (z : Body). joined_bodies u.body z ≡ Some z) e l.body)
 
 -- what has quotes stays as it is
 quoted-after : (u : ValuePlace) (q r : Quotes) (y : Member) → u.quotes ≡ q → joined_quotes q r ≡ Some r → (r ≡ quotes.Dq) ⊎ (r ≡ quotes.Sq) → Has (place.Value u) y → HasAfter (plain_hole q u) y
@@ -251,7 +259,7 @@ bare-from-by t s y x e b h f =
     (λ u l o. let c = plain-of u t l b in subst (λ (z : Body). HasAfter (value_hole z u) y) (sym c) (bare-after u u.quotes s y (subst (λ (z : Quotes). joined_quotes u.quotes z ≡ Some z) e l.quotes) c (f u c o)))
 
 typed-of-value : (x : Bool) (q : Quotes) (b : Body) → b ≡ body.Plain → (x || (quotes_have q member.Typed || body_has b member.Typed)) ≡ true → x ≡ true
-typed-of-value x q b e h = plain-typed x q b 0 (ap (λ (z : Body). body_error z 0) e) h
+typed-of-value x q b e h = typed-only x q b (ap body_error e) h
 
 bare-from : (t : ValuePlace) (s : _) (y : Member) → t.quotes ≡ quotes.Bare s → t.body ≡ body.Plain → Begun t y → FromPlace (place.Value t) y (typed_origin y)
 bare-from t s member.Whole e b h = bare-from-by t s member.Whole member.Whole e b refl (λ u c o. refl)

@@ -1,11 +1,13 @@
 -- Holes, place by place.
-use Rattle.std.proofs.Common.{◌≡◌, Option, Some, None, Ok, Err, refl, subst, Bool, true, false, if◌then◌else◌}
+use Rattle.std.proofs.Common.{◌≡◌, Option, Some, None, option_map, Ok, Err, refl, subst, Bool, true, false, if◌then◌else◌}
 use Rattle.place_core.specs.place.Errors.{hole_error}
 use Rattle.place_core.specs.page.Paths.{at_hole}
 use Rattle.place_core.specs.page.References.{Closed, Open}
-use Rattle.place_core.specs.place.StatePlaces.{placed, tag_spot, only_inside, only_after}
+use Rattle.place_core.specs.place.StatePlaces.{placed, tag_spot, value_spot, quotes_at, only_inside, only_after}
+use Rattle.place_core.specs.place.UrlParts.{parts_of}
 use Rattle.place_core.specs.page.States.{LexState, Text, TagOpen, EndTagOpen, DeclarationOpen, InComment, Started, StartedDash, Inside, Dash, DashDash, Bang, Broken, BogusComment, InDoctype, TagName, WholeTagName, BeforeAttributeName, AttributeName, WholeAttributeName, AfterAttributeName, BeforeAttributeValue, AttributeValue, AfterAttributeValue, SelfClosingStartTag, Characters, Bytes, Nothing, PendingLess, PendingName, PendingBang, PendingBangDash, InContent, Unread, LessAtCut}
-use Rattle.place_core.specs.page.Tags.{Tag, ValueOf, Deciding, ValueState, languages, Quoting, DoubleQuoted, SingleQuoted, Unquoted, is_second_type}
+use Rattle.place_core.specs.page.Tags.{Tag, ValueOf, Deciding, ValueState, OfKind, OfUrl, languages, Quoting, DoubleQuoted, SingleQuoted, Unquoted, is_second_type}
+use Rattle.place_core.specs.declared.body.Body.TheVariants as body
 use Rattle.place_core.specs.declared.element.Element.TheVariants as element
 use Rattle.place_core.specs.declared.kind.Kind.{Kind}
 use Rattle.place_core.specs.declared.kind.Kind.TheVariants as kind
@@ -13,6 +15,8 @@ use Rattle.place_core.specs.declared.place.Place.{Place}
 use Rattle.place_core.specs.declared.place.Place.TheVariants as place
 use Rattle.html_step.specs.Holes.{Holed, after_hole}
 use Rattle.html_step.proofs.OnePath.{same-tag}
+use Rattle.url_lexer.specs.Parts.{UrlPart}
+use Rattle.url_lexer.specs.Spots.{url_spot}
 
 -- the answer at the place of a path
 abbrev pub OwnHole : Holed → Place → LexState ValueState → Type 0
@@ -24,20 +28,26 @@ abbrev WherePlaced : Option Place → LexState ValueState → Type 0
 WherePlaced None s = Unit {0}
 WherePlaced (Some p) s = OwnHole (after_hole p) p s
 
-value-own : (q : Quoting) (t : Tag) (k : Kind) → WherePlaced (placed (AttributeValue q t (ValueOf k) Closed)) (AttributeValue q t (ValueOf k) Closed)
-value-own DoubleQuoted t kind.Plain = (refl, refl)
-value-own SingleQuoted t kind.Plain = (refl, refl)
-value-own Unquoted t kind.Plain = (refl, refl)
-value-own q t kind.NoHole = refl
-value-own q t kind.Url = tt
-value-own q t kind.Script = tt
-value-own q t kind.Style = tt
-value-own q t kind.ScriptType = tt
+url-own : (o : Option UrlPart) (q : Quoting) (t : Tag) (s : LexState ValueState)
+    → WherePlaced (value_spot t (quotes_at q) (option_map (λ p. body.Url (parts_of p)) o)) s
+url-own None q t s = tt
+url-own (Some p) q t s = refl
+
+value-own : (q : Quoting) (t : Tag) (v : ValueState) → WherePlaced (placed (AttributeValue q t (ValueOf v) Closed)) (AttributeValue q t (ValueOf v) Closed)
+value-own DoubleQuoted t (OfKind kind.Plain) = (refl, refl)
+value-own SingleQuoted t (OfKind kind.Plain) = (refl, refl)
+value-own Unquoted t (OfKind kind.Plain) = (refl, refl)
+value-own q t (OfKind kind.NoHole) = refl
+value-own q t (OfKind kind.Url) = tt
+value-own q t (OfKind kind.Script) = tt
+value-own q t (OfKind kind.Style) = tt
+value-own q t (OfKind kind.ScriptType) = tt
+value-own q t (OfUrl u) = url-own (url_spot u) q t (AttributeValue q t (ValueOf (OfUrl u)) Closed)
 
 before-own : (t : Tag) (k : Kind) → WherePlaced (placed (BeforeAttributeValue t k)) (BeforeAttributeValue t k)
 before-own t kind.Plain = (refl, refl)
 before-own t kind.NoHole = refl
-before-own t kind.Url = tt
+before-own t kind.Url = refl
 before-own t kind.Script = tt
 before-own t kind.Style = tt
 before-own t kind.ScriptType = tt
@@ -72,7 +82,7 @@ own-hole (AttributeName t name) = tt
 own-hole (WholeAttributeName t k) = whole-own (is_second_type t.typed k) t k
 own-hole (AfterAttributeName t k) = after-own (is_second_type t.typed k) t k
 own-hole (BeforeAttributeValue t k) = before-own t k
-own-hole (AttributeValue q t (ValueOf k) Closed) = value-own q t k
+own-hole (AttributeValue q t (ValueOf v) Closed) = value-own q t v
 own-hole (AttributeValue q t (Deciding k before) Closed) = tt
 own-hole (AttributeValue q t v (Open f bytes)) = tt
 own-hole (AfterAttributeValue t) = (refl, refl)

@@ -1,18 +1,19 @@
 -- Where a text is stepped from the place of one path, the steps are the path's own.
 use Rattle.std.proofs.Common.{◌≡◌, ℕ, Bool, true, false, List, [], ◌∷◌, ◌++◌, length, Option, Some, None, refl, sym, ap, ◌∙◌}
-use Rattle.std.specs.Prelude.{⊤, ◌||◌, ◌+◌, ◌-◌, encode_utf8, if◌then◌else◌}
+use Rattle.std.specs.Prelude.{⊤, ◌||◌, ◌&&◌, ◌+◌, ◌-◌, encode_utf8, is_some, if◌then◌else◌}
 use Rattle.std.specs.Option.{option_map}
 use Rattle.place_core.specs.page.Classes.{Class, White, QuotationMark, Ampersand, Apostrophe, HyphenMinus, Solidus, LessThan, EqualsSign, GreaterThan, GraveAccent, Letter, ExclamationMark, class_of, is_equals_sign}
 use Rattle.place_core.specs.page.Comments.{OpensComment, OpensDoctype, Undecided, OpensNothing, Declaration, declared_by}
 use Rattle.place_core.specs.page.Contents.{may_be_name_of, is_name_of, next_loose, next_less, next_end_name, next_bang}
-use Rattle.place_core.specs.place.Errors.{byte_error, cut_error, at_hand, unless_second, content_error, kind_error, body_error, tag_error, bare_error, quotes_error, attribute_name_error, PathCause, fed_error, turned_error, language_error, first_byte_error, is_written, first_cause, first_error, place_before_bytes, value_before}
+use Rattle.place_core.specs.place.Errors.{byte_error, cut_error, at_hand, unless_second, content_error, kind_error, tag_error, bare_error, quotes_error, attribute_name_error, PathCause, fed_error, turned_error, language_error, first_byte_error, is_written, first_cause, first_error, place_before_bytes, value_before, cause_back, flushed_error, name_error, is_unknown_name, lexeme_error, is_between, is_closed_reference}
 use Rattle.place_core.specs.page.Html.{next, after_tag, next_declaration, next_before_name, next_name, next_after_name, next_before_value, ends_value}
 use Rattle.place_core.specs.page.Paths.{at_cut}
 use Rattle.place_core.specs.page.References.{Reference, settled, undone_byte, as_it_stands, Closed, Open, Form, ReferenceStep, Grows, Closes, Breaks, turn, meaning, flushed, plain_bytes, next_reference}
 use Rattle.place_core.specs.place.StatePlaces.{tag_spot, body_at, only_name, only_before, only_inside, only_after, value_spot, value_body, quotes_at, unbegun, placed}
 use Rattle.place_core.specs.page.States.{Template, LexState, Text, TagOpen, EndTagOpen, DeclarationOpen, CommentState, Started, StartedDash, Inside, Dash, DashDash, Bang, Broken, InComment, BogusComment, InDoctype, TagName, WholeTagName, BeforeAttributeName, AttributeName, WholeAttributeName, AfterAttributeName, BeforeAttributeValue, AttributeValue, AfterAttributeValue, SelfClosingStartTag, Characters, Bytes, Pending, Nothing, PendingLess, PendingName, PendingBang, PendingBangDash, InContent, Unread, LessAtCut}
-use Rattle.place_core.specs.page.Tags.{Tag, Value, ValueOf, Deciding, ValueState, languages, attribute_value_of, tag_of_name, element_on, is_start, tag_by_type, with_bytes, tag_with_value, without_value, Quoting, DoubleQuoted, SingleQuoted, Unquoted, is_second_type, typed_by, cut_value}
+use Rattle.place_core.specs.page.Tags.{Tag, Value, ValueOf, Deciding, ValueState, OfKind, OfUrl, languages, feed_value, feeding, feed_bytes, refusal_code, refuses_names_in, refuses_cut_of, refuses_url_cut, attribute_value_of, tag_of_name, element_on, is_start, tag_by_type, with_bytes, tag_with_value, without_value, Quoting, DoubleQuoted, SingleQuoted, Unquoted, is_second_type, typed_by, cut_value}
 use Rattle.place_core.specs.page.Words.{kind_of, is_script_type}
+use Rattle.place_core.specs.place.UrlParts.{parts_of, spells_word}
 use Rattle.place_core.specs.declared.body.Body.{Body}
 use Rattle.place_core.specs.declared.body.Body.TheVariants as body
 use Rattle.place_core.specs.declared.code.Code.{Code}
@@ -20,11 +21,22 @@ use Rattle.place_core.specs.declared.element.Element.{Element}
 use Rattle.place_core.specs.declared.element.Element.TheVariants as element
 use Rattle.place_core.specs.declared.kind.Kind.{Kind}
 use Rattle.place_core.specs.declared.kind.Kind.TheVariants as kind
+use Rattle.place_core.specs.declared.parts.Parts.{Parts}
 use Rattle.place_core.specs.declared.place.Place.TheVariants as place
 use Rattle.place_core.specs.declared.quotes.Quotes.{Quotes}
 use Rattle.place_core.specs.declared.tag_of.TagOf.{TagOf}
 use Rattle.place_core.specs.declared.tag_of.TagOf.TheVariants as tag
-use Rattle.html_scan.specs.Scans.{Scan, At, AfterLess, AfterLessSolidus, InDeclaration, InTagName, InAttributeName, InContentEnd, comment_scan, content_scan, value_scan, declaration_next, content_next, pending_less_next, end_name_next, attribute_name_next, tag_next, typed_with, scan_next, scan_error, scan_place, scan_cut_error, BeforeType, InType, bang_next, before_type_next, ended_type, in_tag, scan_shown, type_tag, rest_place}
+use Rattle.place_core.specs.declared.value_place.ValuePlace.{ValuePlace}
+use Rattle.html_scan.specs.Scans.{Scan, At, AfterLess, AfterLessSolidus, InDeclaration, InTagName, InAttributeName, InContentEnd, comment_scan, content_scan, value_scan, declaration_next, content_next, pending_less_next, end_name_next, attribute_name_next, tag_next, typed_with, scan_next, scan_error, scan_place, scan_cut_error, BeforeType, InType, bang_next, before_type_next, ended_type, in_tag, scan_shown, type_tag, rest_place, parts_feeding, triple_behind, url_scan, value_fed, value_next, value_cause, parts_cause, quoted_error, word_error, with_quotes, open_cut_error, parts_cut_error, if_unfinished, if_word, parts_before, scan_lexeme_error, is_scan_between}
+use Rattle.url_lexer.specs.Classes.{url_class_of}
+use Rattle.url_lexer.specs.Parts.{UrlPart, UrlStart, UrlOpen, UrlOpenhole, UrlPrequery, UrlQuery, UrlBad}
+use Rattle.url_lexer.specs.Prefixes.{Prefix, Off, Javascript, Vbscript, DataScheme, Differs}
+use Rattle.url_lexer.specs.Refusals.{UrlRefusal, refuses_cut_in}
+use Rattle.url_lexer.specs.Spots.{where_whole}
+use Rattle.url_lexer.specs.States.{Url, url_start, feed_url, feed_all}
+use Rattle.url_lexer.specs.Triples.{Triple, NoTriple, AfterPercent, AfterDigit, next_triple}
+use Rattle.url_step.specs.PartSets.{parts_error}
+use Rattle.url_step.proofs.OnePath.{one-error, one-next}
 use Rattle.std.proofs.lemmas.List.{append_assoc, append-nil}
 
 -- the scan state of a path's state
@@ -50,13 +62,21 @@ block_scanned h e = None
 abbrev pub first_type : Tag → Kind → Scan → Option Scan
 first_type t k f = if is_second_type t.typed k then None else Some f
 
+-- In a URL it has the percent triple and the reference; the parts are those of the path.
+abbrev pub url_value : Tag → Quotes → Parts → ValuePlace
+url_value t q s = record { tag = t.tag; typed = t.typed; quotes = q; body = body.Url s }
+
+abbrev pub url_scanned : Quoting → Tag → Url → Reference → Scan
+url_scanned q t u r = url_scan (url_value t (quotes_at q) (parts_of u.part)) u.triple r
+
 abbrev pub before_scanned : Tag → Value ValueState → Option Scan
 before_scanned t (ValueOf v) = option_map At (value_spot t unbegun (value_body (ValueOf v)))
 before_scanned t (Deciding kind.ScriptType before) = first_type t kind.ScriptType (BeforeType t.tag)
 before_scanned t (Deciding k before) = None
 
 abbrev pub value_scanned : Quoting → Tag → Value ValueState → Reference → Option Scan
-value_scanned q t (ValueOf v) r = option_map At (value_spot t (quotes_at q) (value_body (ValueOf v)))
+value_scanned q t (ValueOf (OfKind k)) r = option_map At (value_spot t (quotes_at q) (value_body (ValueOf (OfKind k))))
+value_scanned q t (ValueOf (OfUrl u)) r = Some (url_scanned q t u r)
 value_scanned q t (Deciding kind.ScriptType before) r = first_type t kind.ScriptType (InType t.tag q (Deciding kind.ScriptType before) r)
 value_scanned q t (Deciding k before) r = None
 
@@ -91,13 +111,13 @@ abbrev pub WhereScanned : Option Scan → (Scan → Type 0) → Type 0
 WhereScanned None P = ⊤
 WhereScanned (Some f) P = P f
 
-pub same-body : (bs : List ℕ) (k : Kind) → value_body (with_bytes languages (ValueOf k) bs) ≡ value_body (ValueOf k)
+pub same-body : (bs : List ℕ) (k : Kind) → value_body (with_bytes languages (ValueOf (OfKind k)) bs) ≡ value_body (ValueOf (OfKind k))
 same-body [] k = refl
 same-body (b ∷ bs) k = same-body bs k
 
-same-with : (t : Tag) (bs : List ℕ) (k : Kind) → tag_with_value t (with_bytes languages (ValueOf k) bs) ≡ t
-same-with t [] k = refl
-same-with t (b ∷ bs) k = same-with t bs k
+pub same-with : (t : Tag) (bs : List ℕ) (v : ValueState) → tag_with_value t (with_bytes languages (ValueOf v) bs) ≡ t
+same-with t [] v = refl
+same-with t (b ∷ bs) v = same-with t bs (feed_value v b)
 
 -- what an attribute without a value does to its tag: an empty `type` is that of a script
 untyped-tag : (t : TagOf) (typed : Bool) → tag_by_type t (typed || true) ≡ t
@@ -134,31 +154,143 @@ unless-first : (second : Bool) (len : ℕ) (o : Option Code) → unless_second s
 unless-first true len o h = absurd (some _ h)
 unless-first false len o h = refl
 
--- what the language of kinds refuses is nothing
-pub fed-none : (v : Value ValueState) (bs : List ℕ) (written : Bool) (n : ℕ) → fed_error languages v bs written n ≡ None
-fed-none v [] written n = refl
-fed-none (ValueOf k) (b ∷ bs) written n = fed-none (ValueOf k) bs written (if written then n - 1 else n)
-fed-none (Deciding k before) (b ∷ bs) written n = fed-none (Deciding k (before ++ b ∷ [])) bs written (if written then n - 1 else n)
+-- What refuses nothing: the language of a value that is no URL.
+abbrev pub IsNoUrl : Value ValueState → Type 0
+IsNoUrl (ValueOf (OfKind k)) = ⊤
+IsNoUrl (ValueOf (OfUrl u)) = ⊥
+IsNoUrl (Deciding k before) = ⊤
 
-turned-none : (v : Value ValueState) (step : ReferenceStep) (f : Form) (bytes : List ℕ) (c : Class) (b : ℕ) → turned_error languages v step f bytes c b ≡ None
-turned-none v (Grows g) f bytes c b = refl
-turned-none v Closes f bytes c b = fed-none v (encode_utf8 (meaning f bytes)) false (length bytes + 1)
-turned-none v Breaks f bytes c b =
-    rw (fed-none v (flushed true (is_equals_sign c) f bytes) (is_written (is_equals_sign c) f bytes) (length bytes + 1))
-    (fed-none (with_bytes languages v (flushed true (is_equals_sign c) f bytes)) (plain_bytes c b) false 0)
+pub fed-none : (v : Value ValueState) (bs : List ℕ) (written : Bool) (n : ℕ) → IsNoUrl v → fed_error (feeding languages) v bs written n ≡ None
+fed-none v [] written n y = refl
+fed-none (ValueOf (OfKind k)) (b ∷ bs) written n y = fed-none (ValueOf (OfKind k)) bs written (if written then n - 1 else n) tt
+fed-none (ValueOf (OfUrl u)) (b ∷ bs) written n y = absurd y
+fed-none (Deciding k before) (b ∷ bs) written n y = fed-none (Deciding k (before ++ b ∷ [])) bs written (if written then n - 1 else n) tt
 
-pub language-none : (ends : Bool) (v : Value ValueState) (r : Reference) (c : Class) (b : ℕ) → language_error languages ends v r c b ≡ None
-language-none true v Closed c b = refl
-language-none true v (Open f bytes) c b = fed-none v (flushed true false f bytes) (is_written false f bytes) (length bytes + 1)
-language-none false v Closed c b = fed-none v (plain_bytes c b) false 0
-language-none false v (Open f bytes) c b = turned-none v (turn c f) f bytes c b
+stays-no-url : (v : Value ValueState) (bs : List ℕ) → IsNoUrl v → IsNoUrl (feed_bytes (feeding languages) v bs)
+stays-no-url v [] y = y
+stays-no-url (ValueOf (OfKind k)) (b ∷ bs) y = stays-no-url (ValueOf (OfKind k)) bs tt
+stays-no-url (ValueOf (OfUrl u)) (b ∷ bs) y = absurd y
+stays-no-url (Deciding k before) (b ∷ bs) y = stays-no-url (Deciding k (before ++ b ∷ [])) bs tt
 
-pub first-byte-none : (v : Value ValueState) (c : Class) (b : ℕ) → first_byte_error languages v c b ≡ None
-first-byte-none v White b = refl
-first-byte-none v QuotationMark b = refl
-first-byte-none v Apostrophe b = refl
-first-byte-none v GreaterThan b = refl
-first-byte-none v c b = fed-none v (plain_bytes c b) false 0
+names-none : (v : Value ValueState) (x : Bool) (n : ℕ) → IsNoUrl v → name_error (refuses_names_in languages v && x) n ≡ None
+names-none (ValueOf (OfKind k)) x n y = refl
+names-none (ValueOf (OfUrl u)) x n y = absurd y
+names-none (Deciding k before) x n y = refl
+
+pub neither : (o p : Option PathCause) → o ≡ None → p ≡ None → first_cause o p ≡ None
+neither o p e f = rw e f
+
+turned-none : (v : Value ValueState) (step : ReferenceStep) (f : Form) (bytes : List ℕ) (c : Class) (b : ℕ) → IsNoUrl v
+    → turned_error (feeding languages) v step f bytes c b ≡ None
+turned-none v (Grows g) f bytes c b y = refl
+turned-none v Closes f bytes c b y =
+    neither (name_error (refuses_names_in languages v && is_unknown_name f bytes) (length bytes + 1)) _
+    (names-none v (is_unknown_name f bytes) (length bytes + 1) y)
+    (fed-none v (encode_utf8 (meaning f bytes)) false (length bytes + 1) y)
+turned-none v Breaks f bytes c b y =
+    neither (flushed_error (feeding languages) v (is_equals_sign c) f bytes) _
+    (fed-none v (flushed true (is_equals_sign c) f bytes) (is_written (is_equals_sign c) f bytes) (length bytes + 1) y)
+    (fed-none (feed_bytes (feeding languages) v (flushed true (is_equals_sign c) f bytes)) (plain_bytes c b) false 0
+    (stays-no-url v (flushed true (is_equals_sign c) f bytes) y))
+
+pub language-none : (ends : Bool) (v : Value ValueState) (r : Reference) (c : Class) (b : ℕ) → IsNoUrl v
+    → language_error (feeding languages) ends v r c b ≡ None
+language-none true v Closed c b y = refl
+language-none true v (Open f bytes) c b y = fed-none v (flushed true false f bytes) (is_written false f bytes) (length bytes + 1) y
+language-none false v Closed c b y = fed-none v (plain_bytes c b) false 0 y
+language-none false v (Open f bytes) c b y = turned-none v (turn c f) f bytes c b y
+
+pub first-byte-none : (v : Value ValueState) (c : Class) (b : ℕ) → IsNoUrl v → first_byte_error (feeding languages) v c b ≡ None
+first-byte-none v White b y = refl
+first-byte-none v QuotationMark b y = refl
+first-byte-none v Apostrophe b y = refl
+first-byte-none v GreaterThan b y = refl
+first-byte-none v c b y = fed-none v (plain_bytes c b) false 0 y
+
+-- A URL is fed byte by byte as the set of its part is.
+pub with-url : (u : Url) (bs : List ℕ) → with_bytes languages (ValueOf (OfUrl u)) bs ≡ ValueOf (OfUrl (feed_all u bs))
+with-url u [] = refl
+with-url u (b ∷ bs) = with-url (feed_url u b) bs
+
+feed-with-url : (u : Url) (bs : List ℕ) → feed_bytes (feeding languages) (ValueOf (OfUrl u)) bs ≡ ValueOf (OfUrl (feed_all u bs))
+feed-with-url u [] = refl
+feed-with-url u (b ∷ bs) = feed-with-url (feed_url u b) bs
+
+pub parts-all : (u : Url) (bs : List ℕ) → feed_bytes parts_feeding (parts_of u.part) bs ≡ parts_of (feed_all u bs).part
+parts-all u [] = refl
+parts-all u (b ∷ bs) = ap (λ (s : Parts). feed_bytes parts_feeding s bs) (one-next u.part (url_class_of b) b) ∙ parts-all (feed_url u b) bs
+
+pub triple-all : (u : Url) (bs : List ℕ) → triple_behind u.triple bs ≡ (feed_all u bs).triple
+triple-all u [] = refl
+triple-all u (b ∷ bs) = triple-all (feed_url u b) bs
+
+pub fed-one : (u : Url) (bs : List ℕ) (written : Bool) (n : ℕ)
+    → fed_error (feeding languages) (ValueOf (OfUrl u)) bs written n ≡ fed_error parts_feeding (parts_of u.part) bs written n
+fed-one u [] written n = refl
+fed-one u (b ∷ bs) written n =
+    let m = if written then n - 1 else n in
+    let rest = fed_error (feeding languages) (ValueOf (OfUrl (feed_url u b))) bs written m in
+    ap (λ (e : Option UrlRefusal). first_cause (cause_back n (option_map refusal_code e)) rest)
+    (sym (one-error u.part (url_class_of b)))
+    ∙ ap (first_cause (cause_back n (option_map refusal_code (parts_error (parts_of u.part) (url_class_of b)))))
+    (fed-one (feed_url u b) bs written m ∙ ap (λ (s : Parts). fed_error parts_feeding s bs written m) (sym (one-next u.part (url_class_of b) b)))
+
+-- bytes behind other ones
+fed-behind : (u : Url) (bs cs : List ℕ) (written : Bool) (n : ℕ)
+    → fed_error (feeding languages) (feed_bytes (feeding languages) (ValueOf (OfUrl u)) bs) cs written n
+    ≡ fed_error parts_feeding (feed_bytes parts_feeding (parts_of u.part) bs) cs written n
+fed-behind u bs cs written n =
+    ap (λ (v : Value ValueState). fed_error (feeding languages) v cs written n) (feed-with-url u bs) ∙ fed-one (feed_all u bs) cs written n
+    ∙ ap (λ (s : Parts). fed_error parts_feeding s cs written n) (sym (parts-all u bs))
+
+turned-one : (u : Url) (step : ReferenceStep) (f : Form) (bytes : List ℕ) (c : Class) (b : ℕ)
+    → turned_error (feeding languages) (ValueOf (OfUrl u)) step f bytes c b ≡ turned_error parts_feeding (parts_of u.part) step f bytes c b
+turned-one u (Grows g) f bytes c b = refl
+turned-one u Closes f bytes c b =
+    ap (first_cause (name_error (is_unknown_name f bytes) (length bytes + 1))) (fed-one u (encode_utf8 (meaning f bytes)) false (length bytes + 1))
+turned-one u Breaks f bytes c b =
+    let fl = flushed true (is_equals_sign c) f bytes in
+    let rest = fed_error (feeding languages) (feed_bytes (feeding languages) (ValueOf (OfUrl u)) fl) (plain_bytes c b) false 0 in
+    ap (λ (o : Option PathCause). first_cause o rest)
+    (fed-one u fl (is_written (is_equals_sign c) f bytes) (length bytes + 1))
+    ∙ ap (first_cause (flushed_error parts_feeding (parts_of u.part) (is_equals_sign c) f bytes)) (fed-behind u fl (plain_bytes c b) false 0)
+
+pub language-one : (ends : Bool) (u : Url) (r : Reference) (c : Class) (b : ℕ)
+    → language_error (feeding languages) ends (ValueOf (OfUrl u)) r c b ≡ language_error parts_feeding ends (parts_of u.part) r c b
+language-one true u Closed c b = refl
+language-one true u (Open f bytes) c b = fed-one u (flushed true false f bytes) (is_written false f bytes) (length bytes + 1)
+language-one false u Closed c b = fed-one u (plain_bytes c b) false 0
+language-one false u (Open f bytes) c b = turned-one u (turn c f) f bytes c b
+
+pub first-byte-one : (u : Url) (c : Class) (b : ℕ)
+    → first_byte_error (feeding languages) (ValueOf (OfUrl u)) c b ≡ first_byte_error parts_feeding (parts_of u.part) c b
+first-byte-one u White b = refl
+first-byte-one u QuotationMark b = refl
+first-byte-one u Apostrophe b = refl
+first-byte-one u GreaterThan b = refl
+first-byte-one u c b = fed-one u (plain_bytes c b) false 0
+
+-- One path has begun or has not, so no word is refused for it.
+pub word-none : (p : UrlPart) (bytes : List ℕ) → word_error (parts_of p) bytes ≡ None
+word-none UrlStart bytes = refl
+word-none (UrlOpen p) bytes = refl
+word-none UrlOpenhole bytes = refl
+word-none UrlPrequery bytes = refl
+word-none UrlQuery bytes = refl
+word-none UrlBad bytes = refl
+
+-- the scan state of a URL steps as its value does, whichever form it has
+pub url-scan-next : (v : ValuePlace) (t : Triple) (r : Reference) (c : Class) (b : ℕ) → scan_next (url_scan v t r) c b ≡ value_next v t r c b
+url-scan-next v NoTriple Closed c b = refl
+url-scan-next v NoTriple (Open f bytes) c b = refl
+url-scan-next v AfterPercent r c b = refl
+url-scan-next v AfterDigit r c b = refl
+
+pub url-scan-error : (v : ValuePlace) (t : Triple) (r : Reference) (c : Class) (b : ℕ) → scan_error (url_scan v t r) c b ≡ value_cause v r c b
+url-scan-error v NoTriple Closed c b = refl
+url-scan-error v NoTriple (Open f bytes) c b = refl
+url-scan-error v AfterPercent r c b = refl
+url-scan-error v AfterDigit r c b = refl
 
 pub only-hand : (o p : Option PathCause) → o ≡ None → first_cause o p ≡ p
 only-hand o p e = rw e refl
@@ -180,7 +312,7 @@ value-begins : (t : Tag) (typed : Bool) (k : Kind) → kind_error k ≡ None →
     → scanned (BeforeAttributeValue t k) ≡ Some (value_scan t.tag typed (Some k))
 value-begins t typed kind.Plain n f e = rw e refl
 value-begins t typed kind.NoHole n f e = rw e refl
-value-begins t typed kind.Url n f e = absurd (some _ n)
+value-begins t typed kind.Url n f e = rw e refl
 value-begins t typed kind.Script n f e = absurd (some _ n)
 value-begins t typed kind.Style n f e = absurd (some _ n)
 value-begins t typed kind.ScriptType n f e = not-second t kind.ScriptType (BeforeType t.tag) f
@@ -188,7 +320,7 @@ value-begins t typed kind.ScriptType n f e = not-second t kind.ScriptType (Befor
 value-begins-here : (t : Tag) (k : Kind) → kind_error k ≡ None → is_second_type t.typed k ≡ false → scanned (BeforeAttributeValue t k) ≡ Some (value_scan t.tag t.typed (Some k))
 value-begins-here t kind.Plain n f = refl
 value-begins-here t kind.NoHole n f = refl
-value-begins-here t kind.Url n f = absurd (some _ n)
+value-begins-here t kind.Url n f = refl
 value-begins-here t kind.Script n f = absurd (some _ n)
 value-begins-here t kind.Style n f = absurd (some _ n)
 value-begins-here t kind.ScriptType n f = not-second t kind.ScriptType (BeforeType t.tag) f
@@ -304,42 +436,146 @@ after-name-steps true t k c b e = tt
 after-name-steps false t k c b e = record { errors = refl; steps = after-name-next t k c b e }
 
 -- values of the kinds that are built
+abbrev place-of : Tag → Quotes → Body → ValuePlace
+place-of t q x = record { tag = t.tag; typed = t.typed; quotes = q; body = x }
+
 abbrev value-at : Tag → Quotes → Body → Scan
-value-at t q x = At (place.Value (record { tag = t.tag; typed = t.typed; quotes = q; body = x }))
+value-at t q x = At (place.Value (place-of t q x))
 
-unbegun-next : (t : Tag) (k : Kind) (x : Body) (c : Class) (b : ℕ) → value_body (attribute_value_of languages k) ≡ Some x → body_error x b ≡ None → without_value t k ≡ t → attribute_value_of languages k ≡ ValueOf k → at_hand (bare_error t.tag (record { uq = false; unbegun = true }) c) ≡ None
+-- a body that no byte changes
+abbrev StaysBody : Body → Type 0
+StaysBody x = (v : ValuePlace) (q : Quotes) (c : Class) (b : ℕ) → value_fed v q x NoTriple Closed c b ≡ with_quotes v q
+
+unbegun-next : (t : Tag) (k : Kind) (x : Body) (c : Class) (b : ℕ) → StaysBody x → body_at (OfKind k) ≡ Some x → without_value t k ≡ t
+    → attribute_value_of languages k ≡ ValueOf (OfKind k)
+    → at_hand (bare_error t.tag (record { uq = false; unbegun = true }) c) ≡ None
     → scanned (next_before_value languages c b t k) ≡ Some (scan_next (value-at t unbegun x) c b)
-unbegun-next t k x White b e w u v n = rw v (rw (sym (ap value_body v) ∙ e) refl)
-unbegun-next t k x QuotationMark b e w u v n = rw v (rw (sym (ap value_body v) ∙ e) refl)
-unbegun-next t k x Apostrophe b e w u v n = rw v (rw (sym (ap value_body v) ∙ e) refl)
-unbegun-next t k x GreaterThan b e w u v n = rw u (tag-ends t.tag (none-at-hand _ n))
-unbegun-next t k x LessThan b e w u v n = absurd (some _ n)
-unbegun-next t k x EqualsSign b e w u v n = absurd (some _ n)
-unbegun-next t k x GraveAccent b e w u v n = absurd (some _ n)
-unbegun-next t k x Ampersand b e w u v n = rw v (rw (sym (ap value_body v) ∙ e) refl)
-unbegun-next t k x _ b e w u v n = rw v (rw (sym (ap value_body v) ∙ e) refl)
+unbegun-next t k x White b g e u v n = rw v (rw e refl)
+unbegun-next t k x QuotationMark b g e u v n = rw v (rw e refl)
+unbegun-next t k x Apostrophe b g e u v n = rw v (rw e refl)
+unbegun-next t k x GreaterThan b g e u v n = rw u (tag-ends t.tag (none-at-hand _ n))
+unbegun-next t k x LessThan b g e u v n = absurd (some _ n)
+unbegun-next t k x EqualsSign b g e u v n = absurd (some _ n)
+unbegun-next t k x GraveAccent b g e u v n = absurd (some _ n)
+unbegun-next t k x Ampersand b g e u v n = rw v (rw e (ap Some (sym (g (place-of t unbegun x) (quotes_at Unquoted) Ampersand b))))
+unbegun-next t k x c b g e u v n = rw v (rw e (ap Some (sym (g (place-of t unbegun x) (quotes_at Unquoted) c b))))
 
-own-scanned : (bs : List ℕ) (q : Quoting) (t : Tag) (k : Kind) (r : Reference) → value_scanned q t (with_bytes languages (ValueOf k) bs) r ≡ value_scanned q t (ValueOf k) r
+own-scanned : (bs : List ℕ) (q : Quoting) (t : Tag) (k : Kind) (r : Reference)
+    → value_scanned q t (with_bytes languages (ValueOf (OfKind k)) bs) r ≡ value_scanned q t (ValueOf (OfKind k)) r
 own-scanned [] q t k r = refl
 own-scanned (b ∷ bs) q t k r = own-scanned bs q t k r
 
-own-there : (q : Quoting) (t : Tag) (k : Kind) (x : Body) (r : Reference) → body_at k ≡ Some x → value_scanned q t (ValueOf k) r ≡ Some (value-at t (quotes_at q) x)
+own-there : (q : Quoting) (t : Tag) (k : Kind) (x : Body) (r : Reference) → body_at (OfKind k) ≡ Some x
+    → value_scanned q t (ValueOf (OfKind k)) r ≡ Some (value-at t (quotes_at q) x)
 own-there q t k x r e = rw e refl
 
-value-next : (q : Quoting) (t : Tag) (k : Kind) (x : Body) (r : Reference) (c : Class) (b : ℕ) → body_at k ≡ Some x → at_hand (quotes_error t.tag (quotes_at q) c) ≡ None
-    → scanned (next languages Template (AttributeValue q t (ValueOf k) r) c b) ≡ Some (scan_next (value-at t (quotes_at q) x) c b)
-value-next DoubleQuoted t k x r QuotationMark b e n = rw (same-with t (settled true r) k) refl
-value-next DoubleQuoted t k x r c b e n = own-scanned (undone_byte true r c b) DoubleQuoted t k (next_reference r c b) ∙ own-there DoubleQuoted t k x (next_reference r c b) e
-value-next SingleQuoted t k x r Apostrophe b e n = rw (same-with t (settled true r) k) refl
-value-next SingleQuoted t k x r c b e n = own-scanned (undone_byte true r c b) SingleQuoted t k (next_reference r c b) ∙ own-there SingleQuoted t k x (next_reference r c b) e
-value-next Unquoted t k x r White b e n = rw (same-with t (settled true r) k) refl
-value-next Unquoted t k x r GreaterThan b e n = rw (same-with t (settled true r) k) (tag-ends t.tag (none-at-hand (content_error t.tag) n))
-value-next Unquoted t k x r QuotationMark b e n = absurd (some _ n)
-value-next Unquoted t k x r Apostrophe b e n = absurd (some _ n)
-value-next Unquoted t k x r LessThan b e n = absurd (some _ n)
-value-next Unquoted t k x r EqualsSign b e n = absurd (some _ n)
-value-next Unquoted t k x r GraveAccent b e n = absurd (some _ n)
-value-next Unquoted t k x r c b e n = own-scanned (undone_byte true r c b) Unquoted t k (next_reference r c b) ∙ own-there Unquoted t k x (next_reference r c b) e
+own-next : (bs : List ℕ) (q : Quoting) (t : Tag) (k : Kind) (x : Body) (r : Reference) (c : Class) (b : ℕ) → StaysBody x → body_at (OfKind k) ≡ Some x
+    → value_scanned q t (with_bytes languages (ValueOf (OfKind k)) bs) r
+    ≡ Some (value_fed (place-of t (quotes_at q) x) (quotes_at q) x NoTriple Closed c b)
+own-next bs q t k x r c b g e =
+    own-scanned bs q t k r ∙ own-there q t k x r e ∙ ap Some (sym (g (place-of t (quotes_at q) x) (quotes_at q) c b))
+
+value-next : (q : Quoting) (t : Tag) (k : Kind) (x : Body) (r : Reference) (c : Class) (b : ℕ) → StaysBody x → body_at (OfKind k) ≡ Some x
+    → at_hand (quotes_error t.tag (quotes_at q) c) ≡ None
+    → scanned (next languages Template (AttributeValue q t (ValueOf (OfKind k)) r) c b) ≡ Some (scan_next (value-at t (quotes_at q) x) c b)
+value-next DoubleQuoted t k x r QuotationMark b g e n = rw (same-with t (settled true r) (OfKind k)) refl
+value-next DoubleQuoted t k x r c b g e n = own-next (undone_byte true r c b) DoubleQuoted t k x (next_reference r c b) c b g e
+value-next SingleQuoted t k x r Apostrophe b g e n = rw (same-with t (settled true r) (OfKind k)) refl
+value-next SingleQuoted t k x r c b g e n = own-next (undone_byte true r c b) SingleQuoted t k x (next_reference r c b) c b g e
+value-next Unquoted t k x r White b g e n = rw (same-with t (settled true r) (OfKind k)) refl
+value-next Unquoted t k x r GreaterThan b g e n = rw (same-with t (settled true r) (OfKind k)) (tag-ends t.tag (none-at-hand (content_error t.tag) n))
+value-next Unquoted t k x r QuotationMark b g e n = absurd (some _ n)
+value-next Unquoted t k x r Apostrophe b g e n = absurd (some _ n)
+value-next Unquoted t k x r LessThan b g e n = absurd (some _ n)
+value-next Unquoted t k x r EqualsSign b g e n = absurd (some _ n)
+value-next Unquoted t k x r GraveAccent b g e n = absurd (some _ n)
+value-next Unquoted t k x r c b g e n = own-next (undone_byte true r c b) Unquoted t k x (next_reference r c b) c b g e
+
+-- URLs: what the bytes that are fed make of the scan state
+pub url-fed : (q : Quoting) (t : Tag) (u : Url) (bs : List ℕ) (r : Reference)
+    → value_scanned q t (with_bytes languages (ValueOf (OfUrl u)) bs) r
+    ≡ Some (url_scan (url_value t (quotes_at q) (feed_bytes parts_feeding (parts_of u.part) bs)) (triple_behind u.triple bs) r)
+url-fed q t u [] r = refl
+url-fed q t u (b ∷ bs) r =
+    let x = triple_behind (next_triple u.triple (url_class_of b)) bs in
+    url-fed q t (feed_url u b) bs r
+    ∙ ap (λ (s : Parts). Some (url_scan (url_value t (quotes_at q) (feed_bytes parts_feeding s bs)) x r))
+    (sym (one-next u.part (url_class_of b) b))
+
+url-next : (q : Quoting) (t : Tag) (u : Url) (r : Reference) (c : Class) (b : ℕ) → at_hand (quotes_error t.tag (quotes_at q) c) ≡ None
+    → scanned (next languages Template (AttributeValue q t (ValueOf (OfUrl u)) r) c b)
+    ≡ Some (value_next (url_value t (quotes_at q) (parts_of u.part)) u.triple r c b)
+url-next DoubleQuoted t u r QuotationMark b n = rw (same-with t (settled true r) (OfUrl u)) refl
+url-next DoubleQuoted t u r c b n = url-fed DoubleQuoted t u (undone_byte true r c b) (next_reference r c b)
+url-next SingleQuoted t u r Apostrophe b n = rw (same-with t (settled true r) (OfUrl u)) refl
+url-next SingleQuoted t u r c b n = url-fed SingleQuoted t u (undone_byte true r c b) (next_reference r c b)
+url-next Unquoted t u r White b n = rw (same-with t (settled true r) (OfUrl u)) refl
+url-next Unquoted t u r GreaterThan b n = rw (same-with t (settled true r) (OfUrl u)) (tag-ends t.tag (none-at-hand (content_error t.tag) n))
+url-next Unquoted t u r QuotationMark b n = absurd (some _ n)
+url-next Unquoted t u r Apostrophe b n = absurd (some _ n)
+url-next Unquoted t u r LessThan b n = absurd (some _ n)
+url-next Unquoted t u r EqualsSign b n = absurd (some _ n)
+url-next Unquoted t u r GraveAccent b n = absurd (some _ n)
+url-next Unquoted t u r c b n = url-fed Unquoted t u (undone_byte true r c b) (next_reference r c b)
+
+begin-url : (t : Tag) (c : Class) (b : ℕ) → at_hand (bare_error t.tag (record { uq = false; unbegun = true }) c) ≡ None
+    → scanned (next_before_value languages c b t kind.Url) ≡ Some (value_next (url_value t unbegun (parts_of UrlStart)) NoTriple Closed c b)
+begin-url t White b n = refl
+begin-url t QuotationMark b n = refl
+begin-url t Apostrophe b n = refl
+begin-url t GreaterThan b n = tag-ends t.tag (none-at-hand _ n)
+begin-url t LessThan b n = absurd (some _ n)
+begin-url t EqualsSign b n = absurd (some _ n)
+begin-url t GraveAccent b n = absurd (some _ n)
+begin-url t c b n = url-fed Unquoted t url_start (undone_byte true Closed c b) (next_reference Closed c b)
+
+-- what is refused of them
+last-none : (o p : Option PathCause) → first_cause o p ≡ None → p ≡ None
+last-none None p e = e
+last-none (Some x) p e = absurd (some _ e)
+
+quoted-at : (q : Quoting) (s : Parts) (r : Reference) (c : Class) (b : ℕ)
+    → quoted_error (quotes_at q) s r c b ≡ language_error parts_feeding (ends_value q c) s r c b
+quoted-at DoubleQuoted s r c b = refl
+quoted-at SingleQuoted s r c b = refl
+quoted-at Unquoted s r c b = refl
+
+no-word : (p : UrlPart) (bytes : List ℕ) (o : Option PathCause) → first_cause (at_hand (word_error (parts_of p) bytes)) o ≡ o
+no-word p bytes o = ap (λ (e : Option Code). first_cause (at_hand e) o) (word-none p bytes)
+
+url-errors : (q : Quoting) (t : Tag) (u : Url) (r : Reference) (c : Class) (b : ℕ)
+    → byte_error (AttributeValue q t (ValueOf (OfUrl u)) r) c b ≡ value_cause (url_value t (quotes_at q) (parts_of u.part)) r c b
+url-errors q t u r c b =
+    let s = parts_of u.part in
+    let own = language_error (feeding languages) (ends_value q c) (ValueOf (OfUrl u)) r c b in
+    ap (λ (x : Tag). first_cause own (at_hand (quotes_error x.tag (quotes_at q) c))) (same-with t (settled true r) (OfUrl u))
+    ∙ ap (λ (o : Option PathCause). first_cause o (at_hand (quotes_error t.tag (quotes_at q) c)))
+    (language-one (ends_value q c) u r c b ∙ sym (quoted-at q s r c b) ∙ sym (no-word u.part (undone_byte true r c b) (quoted_error (quotes_at q) s r c b)))
+
+begin-url-errors : (t : Tag) (c : Class) (b : ℕ)
+    → byte_error (BeforeAttributeValue t kind.Url) c b ≡ value_cause (url_value t unbegun (parts_of UrlStart)) Closed c b
+begin-url-errors t c b =
+    ap (λ (o : Option PathCause). first_cause o (at_hand (bare_error t.tag (record { uq = false; unbegun = true }) c)))
+    (first-byte-one url_start c b ∙ sym (no-word UrlStart (undone_byte true Closed c b) (first_byte_error parts_feeding (parts_of UrlStart) c b)))
+
+url-steps : (q : Quoting) (t : Tag) (u : Url) (r : Reference) (c : Class) (b : ℕ) → Agrees (AttributeValue q t (ValueOf (OfUrl u)) r) (url_scanned q t u r) c b
+url-steps q t u r c b =
+    let v = url_value t (quotes_at q) (parts_of u.part) in
+    record {
+      errors = url-errors q t u r c b ∙ sym (url-scan-error v u.triple r c b);
+      steps = λ n.
+          url-next q t u r c b
+          (last-none (parts_cause v.body v.quotes r c b) (at_hand (quotes_error t.tag (quotes_at q) c)) (sym (url-scan-error v u.triple r c b) ∙ n))
+          ∙ ap Some (sym (url-scan-next v u.triple r c b));
+    }
+
+begin-url-steps : (t : Tag) (c : Class) (b : ℕ) → Agrees (BeforeAttributeValue t kind.Url) (value-at t unbegun (body.Url (parts_of UrlStart))) c b
+begin-url-steps t c b =
+    let own = parts_cause (body.Url (parts_of UrlStart)) unbegun Closed c b in
+    record {
+      errors = begin-url-errors t c b;
+      steps = λ n. begin-url t c b (last-none own (at_hand (bare_error t.tag (record { uq = false; unbegun = true }) c)) n);
+    }
 
 -- the value of a type
 typed-by-type : (t : TagOf) (of_script : Bool) → is_start t || false ≡ is_start (tag_by_type t of_script)
@@ -413,7 +649,7 @@ before-type-steps : (typed : Bool) (t : Tag) (c : Class) (b : ℕ) → class_of 
     → WhereScanned (if typed then None else Some (BeforeType t.tag)) (λ f. Agrees (BeforeAttributeValue t kind.ScriptType) f c b)
 before-type-steps true t c b i e = tt
 before-type-steps false t c b i e = record {
-  errors = only-hand (first_byte_error languages (Deciding kind.ScriptType []) c b) _ (first-byte-none (Deciding kind.ScriptType []) c b);
+  errors = only-hand (first_byte_error (feeding languages) (Deciding kind.ScriptType []) c b) _ (first-byte-none (Deciding kind.ScriptType []) c b tt);
   steps = begin-type t c b i e;
 }
 
@@ -421,7 +657,8 @@ type-steps : (typed : Bool) (q : Quoting) (t : Tag) (before : List ℕ) (r : Ref
     → WhereScanned (if typed then None else Some (InType t.tag q (Deciding kind.ScriptType before) r)) (λ f. Agrees (AttributeValue q t (Deciding kind.ScriptType before) r) f c b)
 type-steps true q t before r c b i e = tt
 type-steps false q t before r c b i e = record {
-  errors = only-hand (language_error languages (ends_value q c) (Deciding kind.ScriptType before) r c b) _ (language-none (ends_value q c) (Deciding kind.ScriptType before) r c b)
+  errors = only-hand (language_error (feeding languages) (ends_value q c) (Deciding kind.ScriptType before) r c b) _
+      (language-none (ends_value q c) (Deciding kind.ScriptType before) r c b tt)
       ∙ ap (λ (u : TagOf). at_hand (quotes_error u (quotes_at q) c)) (ending-typed t (ended_type (Deciding kind.ScriptType before) r) e);
   steps = type-next q t before r c b i e;
 }
@@ -526,29 +763,45 @@ block-steps (PendingName letters) _ c b = tt
 block-steps PendingBang _ c b = tt
 block-steps PendingBangDash _ c b = tt
 
-unbegun-errors : (t : Tag) (k : Kind) (c : Class) (b : ℕ) → byte_error (BeforeAttributeValue t k) c b ≡ at_hand (first_error (kind_error k) (bare_error t.tag (record { uq = false; unbegun = true }) c))
-unbegun-errors t k c b = only-hand (first_byte_error languages (attribute_value_of languages k) c b) _ (first-byte-none (attribute_value_of languages k) c b)
+unbegun-errors : (t : Tag) (k : Kind) (c : Class) (b : ℕ) → IsNoUrl (attribute_value_of languages k)
+    → byte_error (BeforeAttributeValue t k) c b ≡ at_hand (first_error (kind_error k) (bare_error t.tag (record { uq = false; unbegun = true }) c))
+unbegun-errors t k c b y =
+    only-hand (first_byte_error (feeding languages) (attribute_value_of languages k) c b) _ (first-byte-none (attribute_value_of languages k) c b y)
 
 unbegun-steps : (t : Tag) (k : Kind) (c : Class) (b : ℕ) → class_of b ≡ c → WhereScanned (scanned (BeforeAttributeValue t k)) (λ f. Agrees (BeforeAttributeValue t k) f c b)
-unbegun-steps t kind.Plain c b i = record { errors = unbegun-errors t kind.Plain c b; steps = λ n. unbegun-next t kind.Plain body.Plain c b refl refl refl refl n }
-unbegun-steps t kind.NoHole c b i = record { errors = unbegun-errors t kind.NoHole c b; steps = λ n. unbegun-next t kind.NoHole body.NoHole c b refl refl refl refl n }
-unbegun-steps t kind.Url c b i = tt
+unbegun-steps t kind.Plain c b i = record {
+  errors = unbegun-errors t kind.Plain c b tt;
+  steps = λ n. unbegun-next t kind.Plain body.Plain c b (λ v q c b. refl) refl refl refl n;
+}
+unbegun-steps t kind.NoHole c b i = record {
+  errors = unbegun-errors t kind.NoHole c b tt;
+  steps = λ n. unbegun-next t kind.NoHole body.NoHole c b (λ v q c b. refl) refl refl refl n;
+}
+unbegun-steps t kind.Url c b i = begin-url-steps t c b
 unbegun-steps t kind.Script c b i = tt
 unbegun-steps t kind.Style c b i = tt
 unbegun-steps t kind.ScriptType c b i = before-type-steps t.typed t c b i refl
 
-value-errors : (q : Quoting) (t : Tag) (k : Kind) (r : Reference) (c : Class) (b : ℕ) → byte_error (AttributeValue q t (ValueOf k) r) c b ≡ at_hand (quotes_error t.tag (quotes_at q) c)
+value-errors : (q : Quoting) (t : Tag) (k : Kind) (r : Reference) (c : Class) (b : ℕ)
+    → byte_error (AttributeValue q t (ValueOf (OfKind k)) r) c b ≡ at_hand (quotes_error t.tag (quotes_at q) c)
 value-errors q t k r c b =
-    only-hand (language_error languages (ends_value q c) (ValueOf k) r c b) _ (language-none (ends_value q c) (ValueOf k) r c b)
-    ∙ ap (λ (u : Tag). at_hand (quotes_error u.tag (quotes_at q) c)) (same-with t (settled true r) k)
+    only-hand (language_error (feeding languages) (ends_value q c) (ValueOf (OfKind k)) r c b) _ (language-none (ends_value q c) (ValueOf (OfKind k)) r c b tt)
+    ∙ ap (λ (u : Tag). at_hand (quotes_error u.tag (quotes_at q) c)) (same-with t (settled true r) (OfKind k))
 
 value-steps : (q : Quoting) (t : Tag) (v : Value ValueState) (r : Reference) (c : Class) (b : ℕ) → class_of b ≡ c → WhereScanned (scanned (AttributeValue q t v r)) (λ f. Agrees (AttributeValue q t v r) f c b)
-value-steps q t (ValueOf kind.Plain) r c b i = record { errors = value-errors q t kind.Plain r c b; steps = λ n. value-next q t kind.Plain body.Plain r c b refl n }
-value-steps q t (ValueOf kind.NoHole) r c b i = record { errors = value-errors q t kind.NoHole r c b; steps = λ n. value-next q t kind.NoHole body.NoHole r c b refl n }
-value-steps q t (ValueOf kind.Url) r c b i = tt
-value-steps q t (ValueOf kind.Script) r c b i = tt
-value-steps q t (ValueOf kind.Style) r c b i = tt
-value-steps q t (ValueOf kind.ScriptType) r c b i = tt
+value-steps q t (ValueOf (OfKind kind.Plain)) r c b i = record {
+  errors = value-errors q t kind.Plain r c b;
+  steps = λ n. value-next q t kind.Plain body.Plain r c b (λ v q c b. refl) refl n;
+}
+value-steps q t (ValueOf (OfKind kind.NoHole)) r c b i = record {
+  errors = value-errors q t kind.NoHole r c b;
+  steps = λ n. value-next q t kind.NoHole body.NoHole r c b (λ v q c b. refl) refl n;
+}
+value-steps q t (ValueOf (OfKind kind.Url)) r c b i = tt
+value-steps q t (ValueOf (OfKind kind.Script)) r c b i = tt
+value-steps q t (ValueOf (OfKind kind.Style)) r c b i = tt
+value-steps q t (ValueOf (OfKind kind.ScriptType)) r c b i = tt
+value-steps q t (ValueOf (OfUrl u)) r c b i = url-steps q t u r c b
 value-steps q t (Deciding kind.ScriptType before) r c b i = type-steps t.typed q t before r c b i refl
 value-steps q t (Deciding k before) r c b i = tt
 
@@ -574,19 +827,21 @@ agrees (InContent e (Characters r) h) c b i = content-steps h e r c b
 agrees (InContent e Bytes h) c b i = block-steps h e c b
 agrees Unread c b i = tt
 
--- the end of a text, and the place that is shown there, whatever bytes are left
+-- the end of a text, whether it is between two lexemes there, and the place that is shown before the bytes that are left
 pub record Ends (s : LexState ValueState) (f : Scan) : Type 0 where
   pub errors : cut_error s ≡ scan_cut_error f
+  pub lexeme : lexeme_error s ≡ scan_lexeme_error f
+  pub between : is_between s ≡ is_scan_between f
   pub place : scan_cut_error f ≡ None → placed (at_cut languages s) ≡ Some (scan_place f)
-  pub shown : (bs : List ℕ) → place_before_bytes s bs ≡ scan_shown f
+  pub shown : (bs : List ℕ) → place_before_bytes s bs ≡ scan_shown f bs
 
 content-ends : (h : Pending) (e : Element) (r : Reference) → WhereScanned (content_scanned h e) (Ends (InContent e (Characters r) h))
-content-ends Nothing element.Title r = record { errors = refl; place = λ n. refl; shown = λ bs. refl }
-content-ends Nothing element.Textarea r = record { errors = refl; place = λ n. refl; shown = λ bs. refl }
-content-ends PendingLess element.Title r = record { errors = refl; place = λ n. refl; shown = λ bs. refl }
-content-ends PendingLess element.Textarea r = record { errors = refl; place = λ n. refl; shown = λ bs. refl }
-content-ends (PendingName letters) element.Title r = record { errors = refl; place = λ n. refl; shown = λ bs. refl }
-content-ends (PendingName letters) element.Textarea r = record { errors = refl; place = λ n. refl; shown = λ bs. refl }
+content-ends Nothing element.Title r = record { errors = refl; lexeme = refl; between = refl; place = λ n. refl; shown = λ bs. refl }
+content-ends Nothing element.Textarea r = record { errors = refl; lexeme = refl; between = refl; place = λ n. refl; shown = λ bs. refl }
+content-ends PendingLess element.Title r = record { errors = refl; lexeme = refl; between = refl; place = λ n. refl; shown = λ bs. refl }
+content-ends PendingLess element.Textarea r = record { errors = refl; lexeme = refl; between = refl; place = λ n. refl; shown = λ bs. refl }
+content-ends (PendingName letters) element.Title r = record { errors = refl; lexeme = refl; between = refl; place = λ n. refl; shown = λ bs. refl }
+content-ends (PendingName letters) element.Textarea r = record { errors = refl; lexeme = refl; between = refl; place = λ n. refl; shown = λ bs. refl }
 content-ends LessAtCut element.Title r = tt
 content-ends LessAtCut element.Textarea r = tt
 content-ends PendingBang element.Title r = tt
@@ -601,12 +856,12 @@ content-ends PendingBang _ r = tt
 content-ends PendingBangDash _ r = tt
 
 block-ends : (h : Pending) (e : Element) → WhereScanned (block_scanned h e) (Ends (InContent e Bytes h))
-block-ends Nothing element.DataBlock = record { errors = refl; place = λ n. refl; shown = λ bs. refl }
-block-ends LessAtCut element.DataBlock = record { errors = refl; place = λ n. refl; shown = λ bs. refl }
-block-ends PendingLess element.DataBlock = record { errors = refl; place = λ n. refl; shown = λ bs. refl }
-block-ends (PendingName letters) element.DataBlock = record { errors = refl; place = λ n. refl; shown = λ bs. refl }
-block-ends PendingBang element.DataBlock = record { errors = refl; place = λ n. refl; shown = λ bs. refl }
-block-ends PendingBangDash element.DataBlock = record { errors = refl; place = λ n. refl; shown = λ bs. refl }
+block-ends Nothing element.DataBlock = record { errors = refl; lexeme = refl; between = refl; place = λ n. refl; shown = λ bs. refl }
+block-ends LessAtCut element.DataBlock = record { errors = refl; lexeme = refl; between = refl; place = λ n. refl; shown = λ bs. refl }
+block-ends PendingLess element.DataBlock = record { errors = refl; lexeme = refl; between = refl; place = λ n. refl; shown = λ bs. refl }
+block-ends (PendingName letters) element.DataBlock = record { errors = refl; lexeme = refl; between = refl; place = λ n. refl; shown = λ bs. refl }
+block-ends PendingBang element.DataBlock = record { errors = refl; lexeme = refl; between = refl; place = λ n. refl; shown = λ bs. refl }
+block-ends PendingBangDash element.DataBlock = record { errors = refl; lexeme = refl; between = refl; place = λ n. refl; shown = λ bs. refl }
 block-ends Nothing _ = tt
 block-ends LessAtCut _ = tt
 block-ends PendingLess _ = tt
@@ -615,15 +870,17 @@ block-ends PendingBang _ = tt
 block-ends PendingBangDash _ = tt
 
 comment-ends : (s : CommentState) → Ends (InComment s) (comment_scan s)
-comment-ends Inside = record { errors = refl; place = λ n. refl; shown = λ bs. refl }
-comment-ends Broken = record { errors = refl; place = λ n. refl; shown = λ bs. refl }
-comment-ends _ = record { errors = refl; place = λ n. refl; shown = λ bs. refl }
+comment-ends Inside = record { errors = refl; lexeme = refl; between = refl; place = λ n. refl; shown = λ bs. refl }
+comment-ends Broken = record { errors = refl; lexeme = refl; between = refl; place = λ n. refl; shown = λ bs. refl }
+comment-ends _ = record { errors = refl; lexeme = refl; between = refl; place = λ n. refl; shown = λ bs. refl }
 
 attribute-ends : (t : Tag) (name : List ℕ) → Ends (AttributeName t name) (InAttributeName t.tag t.typed name)
 attribute-ends t name =
     let k = kind_of (element_on t.tag) name in
     record {
       errors = refl;
+      lexeme = refl;
+      between = refl;
       place = λ n. rw (unless-first (is_second_type t.typed k) (length name) None n, same-typed t k) refl;
       shown = λ bs. rw (same-typed t k) refl;
     }
@@ -631,42 +888,149 @@ attribute-ends t name =
 whole-name-ends : (second : Bool) (t : Tag) (k : Kind) → is_second_type t.typed k ≡ second
     → WhereScanned (if second then None else Some (At (place.Tag (tag_spot t only_inside (Some k))))) (Ends (WholeAttributeName t k))
 whole-name-ends true t k e = tt
-whole-name-ends false t k e = record { errors = refl; place = λ n. rw e refl; shown = λ bs. rw e refl }
+whole-name-ends false t k e = record { errors = refl; lexeme = refl; between = refl; place = λ n. rw e refl; shown = λ bs. rw e refl }
 
 after-name-ends : (second : Bool) (t : Tag) (k : Kind) → is_second_type t.typed k ≡ second
     → WhereScanned (if second then None else Some (At (place.Tag (tag_spot t only_after (Some k))))) (Ends (AfterAttributeName t k))
 after-name-ends true t k e = tt
-after-name-ends false t k e = record { errors = refl; place = λ n. rw e refl; shown = λ bs. rw e refl }
+after-name-ends false t k e = record { errors = refl; lexeme = refl; between = refl; place = λ n. rw e refl; shown = λ bs. rw e refl }
 
--- the body of a value of a kind does not change
-cut-body : (bs : List ℕ) (k : Kind) → value_body (cut_value languages (with_bytes languages (ValueOf k) bs)) ≡ value_body (ValueOf k)
+-- the body of a value of a kind does not change, and its language refuses nothing
+cut-body : (bs : List ℕ) (k : Kind) → value_body (cut_value languages (with_bytes languages (ValueOf (OfKind k)) bs)) ≡ value_body (ValueOf (OfKind k))
 cut-body [] k = refl
 cut-body (b ∷ bs) k = cut-body bs k
 
-body-before : (step : ReferenceStep) (k : Kind) (c : Class) (f : Form) (bytes : List ℕ) → value_body (cut_value languages (value_before step (ValueOf k) c f bytes)) ≡ value_body (ValueOf k)
+kind-whole : (bs : List ℕ) (k : Kind) → refuses_cut_of languages (with_bytes languages (ValueOf (OfKind k)) bs) ≡ None
+kind-whole [] k = refl
+kind-whole (b ∷ bs) k = kind-whole bs k
+
+body-before : (step : ReferenceStep) (k : Kind) (c : Class) (f : Form) (bytes : List ℕ)
+    → value_body (cut_value languages (value_before step (ValueOf (OfKind k)) c f bytes)) ≡ value_body (ValueOf (OfKind k))
 body-before Breaks k c f bytes = cut-body (flushed true (is_equals_sign c) f bytes) k
 body-before (Grows g) k c f bytes = refl
 body-before Closes k c f bytes = refl
 
-value-place : (q : Quoting) (t : Tag) (k : Kind) (x : Body) (r : Reference) → body_at k ≡ Some x → placed (at_cut languages (AttributeValue q t (ValueOf k) r)) ≡ Some (scan_place (value-at t (quotes_at q) x))
+value-place : (q : Quoting) (t : Tag) (k : Kind) (x : Body) (r : Reference) → body_at (OfKind k) ≡ Some x
+    → placed (at_cut languages (AttributeValue q t (ValueOf (OfKind k)) r)) ≡ Some (scan_place (value-at t (quotes_at q) x))
 value-place q t k x r e = rw (cut-body (as_it_stands r) k, e) refl
 
-value-shown : (q : Quoting) (t : Tag) (k : Kind) (x : Body) (r : Reference) (bs : List ℕ) → body_at k ≡ Some x → place_before_bytes (AttributeValue q t (ValueOf k) r) bs ≡ Some (scan_place (value-at t (quotes_at q) x))
+value-shown : (q : Quoting) (t : Tag) (k : Kind) (x : Body) (r : Reference) (bs : List ℕ) → body_at (OfKind k) ≡ Some x
+    → place_before_bytes (AttributeValue q t (ValueOf (OfKind k)) r) bs ≡ Some (scan_place (value-at t (quotes_at q) x))
 value-shown q t k x Closed bs e = value-place q t k x Closed e
 value-shown q t k x (Open f bytes) [] e = value-place q t k x (Open f bytes) e
 value-shown q t k x (Open f bytes) (b ∷ bs) e = rw (body-before (turn (class_of b) f) k (class_of b) f bytes, e) refl
 
-value-ends : (q : Quoting) (t : Tag) (k : Kind) (x : Body) (r : Reference) → body_at k ≡ Some x → Ends (AttributeValue q t (ValueOf k) r) (value-at t (quotes_at q) x)
-value-ends q t k x r e = record {
-  errors = fed-none (ValueOf k) (as_it_stands r) true (length (as_it_stands r));
+value-ends : (q : Quoting) (t : Tag) (k : Kind) (x : Body) (r : Reference) → body_at (OfKind k) ≡ Some x → parts_cut_error x NoTriple [] ≡ None
+    → Ends (AttributeValue q t (ValueOf (OfKind k)) r) (value-at t (quotes_at q) x)
+value-ends q t k x r e w = record {
+  errors = fed-none (ValueOf (OfKind k)) (as_it_stands r) true (length (as_it_stands r)) tt;
+  lexeme = kind-whole (as_it_stands r) k ∙ sym w;
+  between = refl;
   place = λ n. value-place q t k x r e;
   shown = λ bs. value-shown q t k x r bs e;
 }
+
+-- the end of a text in a URL
+url-body : (u : Url) (bs : List ℕ)
+    → value_body (cut_value languages (with_bytes languages (ValueOf (OfUrl u)) bs)) ≡ Some (body.Url (feed_bytes parts_feeding (parts_of u.part) bs))
+url-body u [] = refl
+url-body u (b ∷ bs) =
+    url-body (feed_url u b) bs ∙ ap (λ (s : Parts). Some (body.Url (feed_bytes parts_feeding s bs))) (sym (one-next u.part (url_class_of b) b))
+
+url-body-before : (step : ReferenceStep) (u : Url) (c : Class) (f : Form) (bytes : List ℕ)
+    → value_body (cut_value languages (value_before step (ValueOf (OfUrl u)) c f bytes)) ≡ Some (parts_before step (body.Url (parts_of u.part)) c f bytes)
+url-body-before Breaks u c f bytes = url-body u (flushed true (is_equals_sign c) f bytes)
+url-body-before (Grows g) u c f bytes = refl
+url-body-before Closes u c f bytes = refl
+
+word-whole : (p : Prefix) → refuses_url_cut None (spells_word (UrlOpen p)) ≡ if_word (parts_of (UrlOpen p)).opened
+word-whole Off = refl
+word-whole (Javascript n) = refl
+word-whole (Vbscript n) = refl
+word-whole (DataScheme n) = refl
+word-whole Differs = refl
+
+part-whole : (p : UrlPart) → refuses_url_cut None (spells_word p) ≡ if_word (parts_of p).opened
+part-whole UrlStart = refl
+part-whole (UrlOpen p) = word-whole p
+part-whole UrlOpenhole = refl
+part-whole UrlPrequery = refl
+part-whole UrlQuery = refl
+part-whole UrlBad = refl
+
+url-whole : (t : Triple) (p : UrlPart) → refuses_url_cut (refuses_cut_in t) (spells_word p) ≡ if_unfinished t (if_word (parts_of p).opened)
+url-whole NoTriple p = part-whole p
+url-whole AfterPercent p = refl
+url-whole AfterDigit p = refl
+
+url-lexeme : (u : Url) (bs : List ℕ)
+    → refuses_cut_of languages (with_bytes languages (ValueOf (OfUrl u)) bs) ≡ parts_cut_error (body.Url (parts_of u.part)) u.triple bs
+url-lexeme u [] = url-whole u.triple u.part
+url-lexeme u (b ∷ bs) =
+    url-lexeme (feed_url u b) bs
+    ∙ ap (λ (s : Parts). parts_cut_error (body.Url s) (next_triple u.triple (url_class_of b)) bs) (sym (one-next u.part (url_class_of b) b))
+
+-- what the scan state of a URL says there, whichever form it has
+pub url-scan-lexeme : (v : ValuePlace) (t : Triple) (r : Reference) → scan_lexeme_error (url_scan v t r) ≡ parts_cut_error v.body t (as_it_stands r)
+url-scan-lexeme v NoTriple Closed = refl
+url-scan-lexeme v NoTriple (Open f bytes) = refl
+url-scan-lexeme v AfterPercent r = refl
+url-scan-lexeme v AfterDigit r = refl
+
+url-scan-cut : (t : Tag) (q : Quotes) (s : Parts) (x : Triple) (r : Reference)
+    → scan_cut_error (url_scan (url_value t q s) x r) ≡ open_cut_error (body.Url s) (as_it_stands r)
+url-scan-cut t q s NoTriple Closed = refl
+url-scan-cut t q s NoTriple (Open f bytes) = refl
+url-scan-cut t q s AfterPercent r = refl
+url-scan-cut t q s AfterDigit r = refl
+
+url-scan-place : (t : Tag) (q : Quotes) (s : Parts) (x : Triple) (r : Reference)
+    → scan_place (url_scan (url_value t q s) x r) ≡ place.Value (url_value t q (feed_bytes parts_feeding s (as_it_stands r)))
+url-scan-place t q s NoTriple Closed = refl
+url-scan-place t q s NoTriple (Open f bytes) = refl
+url-scan-place t q s AfterPercent r = refl
+url-scan-place t q s AfterDigit r = refl
+
+url-between : (v : ValuePlace) (p : UrlPart) (t : Triple) (r : Reference)
+    → is_closed_reference r && is_some (where_whole t p) ≡ is_scan_between (url_scan v t r)
+url-between v p NoTriple Closed = refl
+url-between v p NoTriple (Open f bytes) = refl
+url-between v p AfterPercent Closed = refl
+url-between v p AfterPercent (Open f bytes) = refl
+url-between v p AfterDigit Closed = refl
+url-between v p AfterDigit (Open f bytes) = refl
+
+url-shown : (q : Quoting) (t : Tag) (u : Url) (x : Triple) (r : Reference) (bs : List ℕ)
+    → place_before_bytes (AttributeValue q t (ValueOf (OfUrl u)) r) bs ≡ scan_shown (url_scan (url_value t (quotes_at q) (parts_of u.part)) x r) bs
+url-shown q t u NoTriple Closed bs = refl
+url-shown q t u AfterPercent Closed bs = refl
+url-shown q t u AfterDigit Closed bs = refl
+url-shown q t u NoTriple (Open f bytes) [] = ap (value_spot t (quotes_at q)) (url-body u (as_it_stands (Open f bytes)))
+url-shown q t u NoTriple (Open f bytes) (b ∷ bs) = ap (value_spot t (quotes_at q)) (url-body-before (turn (class_of b) f) u (class_of b) f bytes)
+url-shown q t u AfterPercent (Open f bytes) [] = ap (value_spot t (quotes_at q)) (url-body u (as_it_stands (Open f bytes)))
+url-shown q t u AfterPercent (Open f bytes) (b ∷ bs) = ap (value_spot t (quotes_at q)) (url-body-before (turn (class_of b) f) u (class_of b) f bytes)
+url-shown q t u AfterDigit (Open f bytes) [] = ap (value_spot t (quotes_at q)) (url-body u (as_it_stands (Open f bytes)))
+url-shown q t u AfterDigit (Open f bytes) (b ∷ bs) = ap (value_spot t (quotes_at q)) (url-body-before (turn (class_of b) f) u (class_of b) f bytes)
+
+url-ends : (q : Quoting) (t : Tag) (u : Url) (r : Reference) → Ends (AttributeValue q t (ValueOf (OfUrl u)) r) (url_scanned q t u r)
+url-ends q t u r =
+    let v = url_value t (quotes_at q) (parts_of u.part) in
+    record {
+      errors = fed-one u (as_it_stands r) true (length (as_it_stands r)) ∙ sym (url-scan-cut t (quotes_at q) (parts_of u.part) u.triple r);
+      lexeme = url-lexeme u (as_it_stands r) ∙ sym (url-scan-lexeme v u.triple r);
+      between = url-between v u.part u.triple r;
+      place = λ n. ap (value_spot t (quotes_at q)) (url-body u (as_it_stands r)) ∙ ap Some (sym (url-scan-place t (quotes_at q) (parts_of u.part) u.triple r));
+      shown = url-shown q t u u.triple r;
+    }
 
 -- in the value of a type there is no place
 type-body : (bs before : List ℕ) → value_body (cut_value languages (with_bytes languages (Deciding kind.ScriptType before) bs)) ≡ None
 type-body [] before = refl
 type-body (b ∷ bs) before = type-body bs (before ++ b ∷ [])
+
+type-whole : (bs before : List ℕ) → refuses_cut_of languages (with_bytes languages (Deciding kind.ScriptType before) bs) ≡ None
+type-whole [] before = refl
+type-whole (b ∷ bs) before = type-whole bs (before ++ b ∷ [])
 
 type-before : (step : ReferenceStep) (before : List ℕ) (c : Class) (f : Form) (bytes : List ℕ) → value_body (cut_value languages (value_before step (Deciding kind.ScriptType before) c f bytes)) ≡ None
 type-before Breaks before c f bytes = type-body (flushed true (is_equals_sign c) f bytes) before
@@ -680,42 +1044,49 @@ type-shown q t before (Open f bytes) (b ∷ bs) = rw (type-before (turn (class_o
 
 type-ends : (typed : Bool) (q : Quoting) (t : Tag) (before : List ℕ) (r : Reference) → WhereScanned (if typed then None else Some (InType t.tag q (Deciding kind.ScriptType before) r)) (Ends (AttributeValue q t (Deciding kind.ScriptType before) r))
 type-ends true q t before r = tt
-type-ends false q t before r = record { errors = refl; place = λ n. absurd (some _ n); shown = type-shown q t before r }
+type-ends false q t before r = record {
+  errors = refl;
+  lexeme = type-whole (as_it_stands r) before;
+  between = refl;
+  place = λ n. absurd (some _ n);
+  shown = type-shown q t before r;
+}
 
 begin-type-ends : (typed : Bool) (t : Tag) → WhereScanned (if typed then None else Some (BeforeType t.tag)) (Ends (BeforeAttributeValue t kind.ScriptType))
 begin-type-ends true t = tt
-begin-type-ends false t = record { errors = refl; place = λ n. absurd (some _ n); shown = λ bs. refl }
+begin-type-ends false t = record { errors = refl; lexeme = refl; between = refl; place = λ n. absurd (some _ n); shown = λ bs. refl }
 
 pub ends-agree : (s : LexState ValueState) → WhereScanned (scanned s) (Ends s)
-ends-agree (Text r) = record { errors = refl; place = λ n. refl; shown = λ bs. refl }
-ends-agree (TagOpen r) = record { errors = refl; place = λ n. refl; shown = λ bs. refl }
-ends-agree (EndTagOpen r) = record { errors = refl; place = λ n. refl; shown = λ bs. refl }
-ends-agree (DeclarationOpen r pending) = record { errors = refl; place = λ n. refl; shown = λ bs. refl }
+ends-agree (Text r) = record { errors = refl; lexeme = refl; between = refl; place = λ n. refl; shown = λ bs. refl }
+ends-agree (TagOpen r) = record { errors = refl; lexeme = refl; between = refl; place = λ n. refl; shown = λ bs. refl }
+ends-agree (EndTagOpen r) = record { errors = refl; lexeme = refl; between = refl; place = λ n. refl; shown = λ bs. refl }
+ends-agree (DeclarationOpen r pending) = record { errors = refl; lexeme = refl; between = refl; place = λ n. refl; shown = λ bs. refl }
 ends-agree (InComment s) = comment-ends s
 ends-agree BogusComment = tt
-ends-agree InDoctype = record { errors = refl; place = λ n. refl; shown = λ bs. refl }
-ends-agree (TagName ends name) = record { errors = refl; place = λ n. refl; shown = λ bs. refl }
-ends-agree (WholeTagName t) = record { errors = refl; place = λ n. refl; shown = λ bs. refl }
-ends-agree (BeforeAttributeName t) = record { errors = refl; place = λ n. refl; shown = λ bs. refl }
+ends-agree InDoctype = record { errors = refl; lexeme = refl; between = refl; place = λ n. refl; shown = λ bs. refl }
+ends-agree (TagName ends name) = record { errors = refl; lexeme = refl; between = refl; place = λ n. refl; shown = λ bs. refl }
+ends-agree (WholeTagName t) = record { errors = refl; lexeme = refl; between = refl; place = λ n. refl; shown = λ bs. refl }
+ends-agree (BeforeAttributeName t) = record { errors = refl; lexeme = refl; between = refl; place = λ n. refl; shown = λ bs. refl }
 ends-agree (AttributeName t name) = attribute-ends t name
 ends-agree (WholeAttributeName t k) = whole-name-ends (is_second_type t.typed k) t k refl
 ends-agree (AfterAttributeName t k) = after-name-ends (is_second_type t.typed k) t k refl
-ends-agree (BeforeAttributeValue t kind.Plain) = record { errors = refl; place = λ n. refl; shown = λ bs. refl }
-ends-agree (BeforeAttributeValue t kind.NoHole) = record { errors = refl; place = λ n. refl; shown = λ bs. refl }
-ends-agree (BeforeAttributeValue t kind.Url) = tt
+ends-agree (BeforeAttributeValue t kind.Plain) = record { errors = refl; lexeme = refl; between = refl; place = λ n. refl; shown = λ bs. refl }
+ends-agree (BeforeAttributeValue t kind.NoHole) = record { errors = refl; lexeme = refl; between = refl; place = λ n. refl; shown = λ bs. refl }
+ends-agree (BeforeAttributeValue t kind.Url) = record { errors = refl; lexeme = refl; between = refl; place = λ n. refl; shown = λ bs. refl }
 ends-agree (BeforeAttributeValue t kind.Script) = tt
 ends-agree (BeforeAttributeValue t kind.Style) = tt
 ends-agree (BeforeAttributeValue t kind.ScriptType) = begin-type-ends t.typed t
-ends-agree (AttributeValue q t (ValueOf kind.Plain) r) = value-ends q t kind.Plain body.Plain r refl
-ends-agree (AttributeValue q t (ValueOf kind.NoHole) r) = value-ends q t kind.NoHole body.NoHole r refl
-ends-agree (AttributeValue q t (ValueOf kind.Url) r) = tt
-ends-agree (AttributeValue q t (ValueOf kind.Script) r) = tt
-ends-agree (AttributeValue q t (ValueOf kind.Style) r) = tt
-ends-agree (AttributeValue q t (ValueOf kind.ScriptType) r) = tt
+ends-agree (AttributeValue q t (ValueOf (OfKind kind.Plain)) r) = value-ends q t kind.Plain body.Plain r refl refl
+ends-agree (AttributeValue q t (ValueOf (OfKind kind.NoHole)) r) = value-ends q t kind.NoHole body.NoHole r refl refl
+ends-agree (AttributeValue q t (ValueOf (OfKind kind.Url)) r) = tt
+ends-agree (AttributeValue q t (ValueOf (OfKind kind.Script)) r) = tt
+ends-agree (AttributeValue q t (ValueOf (OfKind kind.Style)) r) = tt
+ends-agree (AttributeValue q t (ValueOf (OfKind kind.ScriptType)) r) = tt
+ends-agree (AttributeValue q t (ValueOf (OfUrl u)) r) = url-ends q t u r
 ends-agree (AttributeValue q t (Deciding kind.ScriptType before) r) = type-ends t.typed q t before r
 ends-agree (AttributeValue q t (Deciding k before) r) = tt
-ends-agree (AfterAttributeValue t) = record { errors = refl; place = λ n. refl; shown = λ bs. refl }
-ends-agree (SelfClosingStartTag t) = record { errors = refl; place = λ n. refl; shown = λ bs. refl }
+ends-agree (AfterAttributeValue t) = record { errors = refl; lexeme = refl; between = refl; place = λ n. refl; shown = λ bs. refl }
+ends-agree (SelfClosingStartTag t) = record { errors = refl; lexeme = refl; between = refl; place = λ n. refl; shown = λ bs. refl }
 ends-agree (InContent e (Characters r) h) = content-ends h e r
 ends-agree (InContent e Bytes h) = block-ends h e
 ends-agree Unread = tt

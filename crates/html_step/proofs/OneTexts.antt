@@ -1,22 +1,28 @@
 -- A whole text, from the place of one path.
-use Rattle.std.proofs.Common.{◌≡◌, ◌≤◌, ℕ, ◌+◌, ◌-◌, zero, suc, List, [], ◌∷◌, take, Option, Some, None, Result, Ok, Err, refl, sym, ap, ◌∙◌, subst, arith, Bool, true, false, ◌⊎◌, inl, inr}
+use Rattle.std.proofs.Common.{◌≡◌, ◌≤◌, ℕ, ◌+◌, ◌-◌, zero, suc, List, [], ◌∷◌, Option, Some, None, Result, Ok, Err, refl, sym, ap, ◌∙◌, subst, arith, Bool, true, false, ◌⊎◌, inl, inr}
 use Rattle.std.specs.Prelude.{⊤, is_some, if◌then◌else◌}
 use Rattle.std.specs.Option.{option_map}
 use Rattle.place_core.specs.page.Classes.{class_of}
-use Rattle.place_core.specs.place.Errors.{PathCause, PathRefusal, PathRefuses, byte_error, cut_error, refusal_from, standing_at, node, or_place, place_before_bytes, shown_from, shown_place}
+use Rattle.place_core.specs.place.Errors.{PathCause, PathRefusal, PathRefuses, refusal_from, standing_at, node, or_place, place_before_bytes, shown_from, shown_place, broken_off, is_between, last_between, lexeme_error}
 use Rattle.place_core.specs.page.Html.{next}
 use Rattle.place_core.specs.page.References.{Closed, Open}
-use Rattle.place_core.specs.place.StatePlaces.{placed}
+use Rattle.place_core.specs.place.UrlParts.{parts_of}
+use Rattle.place_core.specs.place.StatePlaces.{placed, quotes_at, value_spot}
 use Rattle.place_core.specs.page.States.{Template, LexState, Text, TagOpen, EndTagOpen, DeclarationOpen, Started, StartedDash, Inside, Dash, DashDash, Bang, Broken, InComment, BogusComment, InDoctype, TagName, WholeTagName, BeforeAttributeName, AttributeName, WholeAttributeName, AfterAttributeName, BeforeAttributeValue, AttributeValue, AfterAttributeValue, SelfClosingStartTag, Characters, Bytes, Nothing, PendingLess, PendingName, PendingBang, PendingBangDash, InContent, Unread, LessAtCut}
-use Rattle.place_core.specs.page.Tags.{ValueState, languages, ValueOf, Deciding, is_second_type}
+use Rattle.place_core.specs.page.Tags.{Tag, ValueState, OfKind, OfUrl, Quoting, languages, ValueOf, Deciding, is_second_type}
+use Rattle.place_core.specs.declared.body.Body.TheVariants as body
+use Rattle.place_core.specs.declared.code.Code.{Code}
 use Rattle.place_core.specs.declared.element.Element.TheVariants as element
 use Rattle.place_core.specs.declared.place.Place.{Place}
 use Rattle.place_core.specs.declared.step_err.StepErr.{StepErr}
-use Rattle.html_scan.specs.Scans.{Scan, At, scan_next, scan_error, scan_place, scan_cut_error, scan_shown}
+use Rattle.html_scan.specs.Scans.{Scan, At, scan_next, scan_error, scan_place, scan_cut_error, scan_lexeme_error, scan_shown, is_scan_between, url_scan}
 use Rattle.html_step.specs.Laws.{OneBefore, OneText}
-use Rattle.html_step.specs.Steps.{after_text, stepped, unless_refused, place_before, with_place_before, last_shown, or_shown, shown_or}
-use Rattle.html_step.proofs.OnePath.{scanned, Agrees, Ends, WhereScanned, agrees, ends-agree}
+use Rattle.html_step.specs.Steps.{after_text, stepped, unless_refused, unless_broken_off, place_before, with_place_before, or_shown, shown_scan}
+use Rattle.html_step.proofs.OnePath.{scanned, url_value, Agrees, Ends, WhereScanned, agrees, ends-agree}
 use Rattle.place_core.specs.declared.kind.Kind.TheVariants as kind
+use Rattle.url_lexer.specs.Parts.{UrlPart}
+use Rattle.url_lexer.specs.Spots.{where_whole}
+use Rattle.url_lexer.specs.Triples.{Triple, NoTriple, AfterPercent, AfterDigit}
 
 pub none : {A : Type 0} {x : A} → None ≡ Some x → ⊥
 none e = cc
@@ -24,6 +30,14 @@ none e = cc
 first-place : (second : Bool) (a p : Place) → (if second then None else Some a) ≡ Some p → (if second then None else Some (At a)) ≡ Some (At p)
 first-place true a p e = absurd (none e)
 first-place false a p e = ap (option_map At) e
+
+-- in a URL a path is at a place outside of percent triples
+url-place : (q : Quoting) (t : Tag) (x : Triple) (u : UrlPart) (p : Place)
+    → value_spot t (quotes_at q) (option_map (λ (a : UrlPart). body.Url (parts_of a)) (where_whole x u)) ≡ Some p
+    → Some (url_scan (url_value t (quotes_at q) (parts_of u)) x Closed) ≡ Some (At p)
+url-place q t NoTriple u p e = ap (option_map At) e
+url-place q t AfterPercent u p e = absurd (none e)
+url-place q t AfterDigit u p e = absurd (none e)
 
 -- a state that has a place is at it
 pub at-place : (s : LexState ValueState) (p : Place) → placed s ≡ Some p → scanned s ≡ Some (At p)
@@ -50,10 +64,11 @@ at-place (AfterAttributeName t k) p e = first-place (is_second_type t.typed k) _
 at-place (BeforeAttributeValue t kind.ScriptType) p e = absurd (none e)
 at-place (BeforeAttributeValue t kind.Plain) p e = ap (option_map At) e
 at-place (BeforeAttributeValue t kind.NoHole) p e = ap (option_map At) e
-at-place (BeforeAttributeValue t kind.Url) p e = absurd (none e)
+at-place (BeforeAttributeValue t kind.Url) p e = ap (option_map At) e
 at-place (BeforeAttributeValue t kind.Script) p e = absurd (none e)
 at-place (BeforeAttributeValue t kind.Style) p e = absurd (none e)
-at-place (AttributeValue q t (ValueOf v) Closed) p e = ap (option_map At) e
+at-place (AttributeValue q t (ValueOf (OfKind k)) Closed) p e = ap (option_map At) e
+at-place (AttributeValue q t (ValueOf (OfUrl u)) Closed) p e = url-place q t u.triple u.part p e
 at-place (AttributeValue q t (Deciding k before) Closed) p e = absurd (none e)
 at-place (AttributeValue q t v (Open f bytes)) p e = absurd (none e)
 at-place (AfterAttributeValue t) p e = ap (option_map At) e
@@ -91,25 +106,42 @@ pub ends-at : (s : LexState ValueState) (f : Scan) → scanned s ≡ Some f → 
 ends-at s f e = subst (λ (o : Option Scan). WhereScanned o (Ends s)) e (ends-agree s)
 
 -- what stepping from the scan state of a path's state says of the path
-abbrev pub Says : Result Place PathRefusal → ℕ → List ℕ → LexState ValueState → Type 0
-Says (Ok q) k bytes s = (refusal_from k bytes s ≡ None) × (placed (node bytes s) ≡ Some q)
-Says (Err r) k bytes s = refusal_from k bytes s ≡ Some r
+abbrev pub Says : Result Place PathRefusal → ℕ → ℕ → List ℕ → LexState ValueState → Type 0
+Says (Ok q) k since bytes s = (refusal_from k since bytes s ≡ None) × (placed (node bytes s) ≡ Some q)
+Says (Err r) k since bytes s = refusal_from k since bytes s ≡ Some r
 
-end-says : (k : ℕ) (o : Option PathCause) (s : LexState ValueState) (q : Place) → cut_error s ≡ o → (o ≡ None → placed (node [] s) ≡ Some q) → Says (unless_refused k o (Ok q)) k [] s
-end-says k None s q e p = (ap (λ (o : Option PathCause). standing_at k o None) e, p refl)
-end-says k (Some x) s q e p = ap (λ (o : Option PathCause). standing_at k o None) e
+end-answer : (k since after : ℕ) (o : Option PathCause) (l : Option Code) (s : LexState ValueState) (q : Place)
+    → refusal_from k since [] s ≡ standing_at k o (broken_off k after l)
+    → (o ≡ None → placed (node [] s) ≡ Some q) → Says (unless_refused k o (unless_broken_off k after l q)) k since [] s
+end-answer k since after None None s q e p = (e, p refl)
+end-answer k since after None (Some x) s q e p = e
+end-answer k since after (Some x) l s q e p = e
 
-byte-says : (k b : ℕ) (bs : List ℕ) (o : Option PathCause) (s : LexState ValueState) (r : Result Place PathRefusal) → byte_error s (class_of b) b ≡ o → (o ≡ None → Says r (k + 1) bs (next languages Template s (class_of b) b)) → Says (unless_refused k o r) k (b ∷ bs) s
-byte-says k b bs None s (Ok q) e more = (ap (λ (o : Option PathCause). standing_at k o (refusal_from (k + 1) bs (next languages Template s (class_of b) b))) e ∙ (more refl).0, (more refl).1)
-byte-says k b bs None s (Err r) e more = ap (λ (o : Option PathCause). standing_at k o (refusal_from (k + 1) bs (next languages Template s (class_of b) b))) e ∙ more refl
-byte-says k b bs (Some x) s r e more = ap (λ (o : Option PathCause). standing_at k o (refusal_from (k + 1) bs (next languages Template s (class_of b) b))) e
+end-says : (k since : ℕ) (s : LexState ValueState) (f : Scan) → Ends s f → Says (stepped k since [] f) k since [] s
+end-says k since s f a =
+    end-answer k since (last_between k since (is_scan_between f)) (scan_cut_error f) (scan_lexeme_error f) s (scan_place f)
+    (ap (λ (o : Option PathCause). standing_at k o (broken_off k (last_between k since (is_between s)) (lexeme_error s))) a.errors
+    ∙ ap (λ (x : Bool). standing_at k (scan_cut_error f) (broken_off k (last_between k since x) (lexeme_error s))) a.between
+    ∙ ap (λ (l : Option Code). standing_at k (scan_cut_error f) (broken_off k (last_between k since (is_scan_between f)) l)) a.lexeme)
+    a.place
 
-pub says : (bytes : List ℕ) (k : ℕ) (s : LexState ValueState) (f : Scan) → scanned s ≡ Some f → Says (stepped k bytes f) k bytes s
-says [] k s f e = let a = ends-at s f e in end-says k (scan_cut_error f) s (scan_place f) a.errors a.place
-says (b ∷ bs) k s f e =
+byte-answer : (k since after b : ℕ) (bs : List ℕ) (o : Option PathCause) (s : LexState ValueState) (r : Result Place PathRefusal)
+    → refusal_from k since (b ∷ bs) s ≡ standing_at k o (refusal_from (k + 1) after bs (next languages Template s (class_of b) b))
+    → (o ≡ None → Says r (k + 1) after bs (next languages Template s (class_of b) b)) → Says (unless_refused k o r) k since (b ∷ bs) s
+byte-answer k since after b bs None s (Ok q) e more = (e ∙ (more refl).0, (more refl).1)
+byte-answer k since after b bs None s (Err r) e more = e ∙ more refl
+byte-answer k since after b bs (Some x) s r e more = e
+
+pub says : (bytes : List ℕ) (k since : ℕ) (s : LexState ValueState) (f : Scan) → scanned s ≡ Some f → Says (stepped k since bytes f) k since bytes s
+says [] k since s f e = end-says k since s f (ends-at s f e)
+says (b ∷ bs) k since s f e =
     let a = agrees-at s f b e in
-    byte-says k b bs (scan_error f (class_of b) b) s (stepped (k + 1) bs (scan_next f (class_of b) b)) a.errors
-    (λ n. says bs (k + 1) (next languages Template s (class_of b) b) (scan_next f (class_of b) b) (a.steps n))
+    let t = next languages Template s (class_of b) b in
+    let after = last_between k since (is_scan_between f) in
+    byte-answer k since after b bs (scan_error f (class_of b) b) s (stepped (k + 1) after bs (scan_next f (class_of b) b))
+    (ap (λ (o : Option PathCause). standing_at k o (refusal_from (k + 1) (last_between k since (is_between s)) bs t)) a.errors
+    ∙ ap (λ (x : Bool). standing_at k (scan_error f (class_of b) b) (refusal_from (k + 1) (last_between k since x) bs t)) (ends-at s f e).between)
+    (λ n. says bs (k + 1) after t (scan_next f (class_of b) b) (a.steps n))
 
 -- the place that is shown before a byte, up to the one that is refused
 refused-late : (k n back : ℕ) → k + suc n ≤ k - back → ⊥
@@ -135,59 +167,52 @@ later : (k n : ℕ) (r : Result Place PathRefusal) → Reaches (k + suc n) r →
 later k n (Ok q) h = tt
 later k n (Err r) h = sooner k n r.at r.shown h
 
--- the last scan state that has a place has the path's last one
-abbrev Kept : Scan → Option Place → Type 0
-Kept before o = o ≡ scan_shown before
-
-shown-by : (a : Option Place) (f before : Scan) (o : Option Place) → scan_shown f ≡ a → Kept before o → Kept (shown_or (is_some a) f before) (or_place a o)
-shown-by (Some p) f before o e h = sym e
-shown-by None f before o e h = h
-
-one-of : (there : Bool) (f before : Scan) → is_some (scan_shown f) ≡ there → is_some (scan_shown before) ≡ true → is_some (scan_shown (shown_or there f before)) ≡ true
-one-of true f before e h = e
-one-of false f before e h = h
-
--- where a path is at a place, that is shown first
-first-shown : (n : ℕ) (bytes : List ℕ) (s : LexState ValueState) (p : Place) → scanned s ≡ Some (At p) → shown_from n bytes s None ≡ shown_from n bytes s (Some p)
-first-shown zero bytes s p e = rw ((ends-at s (At p) e).shown bytes) refl
-first-shown (suc n) [] s p e = rw ((ends-at s (At p) e).shown []) refl
-first-shown (suc n) (b ∷ bs) s p e = rw ((ends-at s (At p) e).shown (b ∷ bs)) refl
-
-shown-one : (f before : Scan) (o a : Option Place) → a ≡ scan_shown f → Kept before o → Kept (shown_or (is_some (scan_shown f)) f before) (or_place a o)
-shown-one f before o a e h = rw e (shown-by (scan_shown f) f before o refl h)
-
-pub shown-there : (n : ℕ) (bytes : List ℕ) (k : ℕ) (s : LexState ValueState) (f before : Scan) (o : Option Place) → scanned s ≡ Some f → Kept before o → Reaches (k + n) (stepped k bytes f)
-    → shown_from n bytes s o ≡ scan_shown (last_shown (take n bytes) f before)
-shown-there zero bytes k s f before o e h r = shown-one f before o (place_before_bytes s bytes) ((ends-at s f e).shown bytes) h
-shown-there (suc n) [] k s f before o e h r = shown-one f before o (place_before_bytes s []) ((ends-at s f e).shown []) h
-shown-there (suc n) (b ∷ bs) k s f before o e h r =
+-- the last place of a path, and the last one of its scan states
+pub shown-there : (n : ℕ) (bytes : List ℕ) (k since : ℕ) (s : LexState ValueState) (f : Scan) (o : Option Place) → scanned s ≡ Some f
+    → Reaches (k + n) (stepped k since bytes f)
+    → shown_from n bytes s o ≡ shown_scan n bytes f o
+shown-there zero bytes k since s f o e r = ap (λ (a : Option Place). or_place a o) ((ends-at s f e).shown bytes)
+shown-there (suc n) [] k since s f o e r = ap (λ (a : Option Place). or_place a o) ((ends-at s f e).shown [])
+shown-there (suc n) (b ∷ bs) k since s f o e r =
     let a = agrees-at s f b e in
-    let l = not-late k n (scan_error f (class_of b) b) (stepped (k + 1) bs (scan_next f (class_of b) b)) r in
-    shown-there n bs (k + 1) (next languages Template s (class_of b) b) (scan_next f (class_of b) b) (shown_or (is_some (scan_shown f)) f before) (or_place (place_before_bytes s (b ∷ bs)) o)
-    (a.steps l.0) (shown-one f before o (place_before_bytes s (b ∷ bs)) ((ends-at s f e).shown (b ∷ bs)) h)
-    (later k n (stepped (k + 1) bs (scan_next f (class_of b) b)) l.1)
+    let g = scan_next f (class_of b) b in
+    let after = last_between k since (is_scan_between f) in
+    let l = not-late k n (scan_error f (class_of b) b) (stepped (k + 1) after bs g) r in
+    shown-there n bs (k + 1) after (next languages Template s (class_of b) b) g (or_place (place_before_bytes s (b ∷ bs)) o) (a.steps l.0)
+    (later k n (stepped (k + 1) after bs g) l.1)
+    ∙ ap (λ (a : Option Place). shown_scan n bs g (or_place a o)) ((ends-at s f e).shown (b ∷ bs))
 
 -- from a place there is always one
-has-one : (bytes : List ℕ) (f before : Scan) → is_some (scan_shown before) ≡ true → is_some (scan_shown (last_shown bytes f before)) ≡ true
-has-one [] f before h = one-of (is_some (scan_shown f)) f before refl h
-has-one (b ∷ bs) f before h = has-one bs (scan_next f (class_of b) b) (shown_or (is_some (scan_shown f)) f before) (one-of (is_some (scan_shown f)) f before refl h)
+or-some : (a o : Option Place) → is_some o ≡ true → is_some (or_place a o) ≡ true
+or-some (Some p) o h = refl
+or-some None o h = h
+
+has-one : (n : ℕ) (bytes : List ℕ) (f : Scan) (o : Option Place) → is_some o ≡ true → is_some (shown_scan n bytes f o) ≡ true
+has-one zero bytes f o h = or-some (scan_shown f bytes) o h
+has-one (suc n) [] f o h = or-some (scan_shown f []) o h
+has-one (suc n) (b ∷ bs) f o h = has-one n bs (scan_next f (class_of b) b) (or_place (scan_shown f (b ∷ bs)) o) (or-some (scan_shown f (b ∷ bs)) o h)
+
+pub place-shown : (n : ℕ) (bytes : List ℕ) (p : Place) → is_some (shown_scan n bytes (At p) None) ≡ true
+place-shown zero bytes p = refl
+place-shown (suc n) [] p = refl
+place-shown (suc n) (b ∷ bs) p = has-one n bs (scan_next (At p) (class_of b) b) (Some p) refl
 
 some-shown : (o : Option Place) (p : Place) → is_some o ≡ true → o ≡ Some (or_shown o p)
 some-shown (Some q) p h = refl
 some-shown None p h = cc
 
-pub place-there : (n : ℕ) (bytes : List ℕ) (k : ℕ) (s : LexState ValueState) (p : Place) → placed s ≡ Some p → Reaches (k + n) (stepped k bytes (At p)) → shown_place n bytes s ≡ Some (place_before bytes n p)
-place-there n bytes k s p e r =
-    let last = scan_shown (last_shown (take n bytes) (At p) (At p)) in
-    first-shown n bytes s p (at-place s p e) ∙ shown-there n bytes k s (At p) (At p) (Some p) (at-place s p e) refl r
-    ∙ some-shown last p (has-one (take n bytes) (At p) (At p) refl)
+pub place-there : (n : ℕ) (bytes : List ℕ) (k since : ℕ) (s : LexState ValueState) (p : Place) → placed s ≡ Some p
+    → Reaches (k + n) (stepped k since bytes (At p))
+    → shown_place n bytes s ≡ Some (place_before bytes n p)
+place-there n bytes k since s p e r =
+    shown-there n bytes k since s (At p) None (at-place s p e) r ∙ some-shown (shown_scan n bytes (At p) None) p (place-shown n bytes p)
 
 -- the whole answer
 abbrev pub Whole : Result Place (StepErr Place) → List ℕ → LexState ValueState → Type 0
-Whole (Ok q) bytes s = (refusal_from 0 bytes s ≡ None) × (placed (node bytes s) ≡ Some q)
+Whole (Ok q) bytes s = (refusal_from 0 0 bytes s ≡ None) × (placed (node bytes s) ≡ Some q)
 Whole (Err e) bytes s = PathRefuses bytes s e
 
-whole-of : (bytes : List ℕ) (p : Place) (s : LexState ValueState) (r : Result Place PathRefusal) → Says r 0 bytes s
+whole-of : (bytes : List ℕ) (p : Place) (s : LexState ValueState) (r : Result Place PathRefusal) → Says r 0 0 bytes s
     → ((at : ℕ) → Reaches (0 + at) r → shown_place at bytes s ≡ Some (place_before bytes at p)) → Whole (with_place_before bytes p r) bytes s
 whole-of bytes p s (Ok q) h before = h
 whole-of bytes p s (Err r) h before = record { shown = r.shown; stands = h; before = before r.shown (inr (let e : 0 + r.shown ≤ r.shown = omega arith in e)) }
@@ -195,7 +220,7 @@ whole-of bytes p s (Err r) h before = record { shown = r.shown; stands = h; befo
 pub whole : (bytes : List ℕ) (p : Place) (s : LexState ValueState) → placed s ≡ Some p → Whole (after_text bytes p) bytes s
 whole bytes p s e =
     let f : scanned s ≡ Some (At p) = at-place s p e in
-    whole-of bytes p s (stepped 0 bytes (At p)) (says bytes 0 s (At p) f) (λ at h. place-there at bytes 0 s p e h)
+    whole-of bytes p s (stepped 0 0 bytes (At p)) (says bytes 0 0 s (At p) f) (λ at h. place-there at bytes 0 0 s p e h)
 
 pub one-text : OneText
 one-text bytes p s h = (
@@ -213,7 +238,7 @@ reaches bytes p at (Err r) o e h = (let l : at ≤ r.at = subst (ReachesAnswer a
 
 one-there : (bytes : List ℕ) (p : Place) (s : LexState ValueState) (at : ℕ) (o : Result Place (StepErr Place)) → placed s ≡ Some p → after_text bytes p ≡ o → ReachesAnswer at o
     → shown_place at bytes s ≡ Some (place_before bytes at p)
-one-there bytes p s at o h e r = place-there at bytes 0 s p h (reaches bytes p at (stepped 0 bytes (At p)) o e r)
+one-there bytes p s at o h e r = place-there at bytes 0 0 s p h (reaches bytes p at (stepped 0 0 bytes (At p)) o e r)
 
 pub one-before : OneBefore
 one-before bytes p s at h = (λ q e. one-there bytes p s at (Ok q) h e tt, λ x e l. one-there bytes p s at (Err x) h e l)

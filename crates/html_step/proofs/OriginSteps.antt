@@ -1,17 +1,23 @@
 -- Origins that are kept byte by byte, and what shows a refusal by them.
-use Rattle.std.proofs.Common.{◌≡◌, ◌<◌, ℕ, true, false, List, ◌∷◌, Option, Some, None, refl, sym, ap, ◌∙◌, arith}
+use Rattle.std.proofs.Common.{◌≡◌, ◌<◌, ◌≤◌, ℕ, Bool, true, false, List, [], ◌∷◌, ◌++◌, drop, length, Option, Some, None, refl, sym, ap, ◌∙◌, arith}
+use Rattle.std.proofs.lemmas.List.{drop_all}
 use Rattle.std.specs.Option.{is_some}
-use Rattle.std.specs.Prelude.{slice_index_or}
-use Rattle.place_core.specs.page.Classes.{Class, class_of}
+use Rattle.std.specs.Prelude.{encode_utf8, slice_index_or}
+use Rattle.place_core.specs.page.Classes.{Class, class_of, is_equals_sign}
+use Rattle.place_core.specs.page.References.{Form, Open, ReferenceStep, Breaks, Closes, flushed, meaning, plain_bytes, turn, turn_bytes, undone_byte}
+use Rattle.place_core.specs.page.Tags.{feed_bytes}
 use Rattle.place_core.specs.place.Errors.{PathCause}
 use Rattle.place_core.specs.declared.member.Member.{Member}
 use Rattle.place_core.specs.declared.member.Member.TheVariants as member
 use Rattle.html_scan.specs.ScanViews.{cause_at}
-use Rattle.html_scan.specs.Scans.{Scan, scan_error, scan_next}
+use Rattle.place_core.specs.declared.parts.Parts.{Parts}
+use Rattle.html_scan.specs.Scans.{Scan, parts_feeding, scan_error, scan_next}
 use Rattle.html_step.specs.Laws.{EvidenceData, apart, one, two}
 use Rattle.html_step.specs.OriginViews.{all_members, evidence_through, member_number}
-use Rattle.html_step.specs.Origins.{back_by, byte_origin, byte_shows, shows, unless_shown}
+use Rattle.html_step.specs.Origins.{back_by, byte_origin, byte_shows, end_shows, fed_origin, part_origin, shows, unless_shown}
 use Rattle.html_scan.specs.declared.cause.Cause.{Cause as ReadCause}
+use Rattle.url_lexer.specs.Classes.{url_class_of}
+use Rattle.url_step.specs.PartSets.{parts_next}
 
 -- each member stands at its number
 pub member-at : (f : Member → Member) (y : Member) → f (slice_index_or all_members (member_number y) member.Whole) ≡ f y
@@ -97,12 +103,14 @@ none-cause : (o : Option ReadCause) → is_some o ≡ false → cause_at o ≡ N
 none-cause None e = refl
 none-cause (Some x) e = absurd (no e)
 
-through : (m n : Member → Member) (f : Scan) (c : Class) (b : ℕ) (z : EvidenceData) → ((y : Member) → n y ≡ m (byte_origin f c b y)) → evidence_through n z ≡ evidence_through m (back_by f c b z)
+through : (m n : Member → Member) (f : Scan) (c : Class) (b : ℕ) (z : EvidenceData) → ((y : Member) → n y ≡ m (byte_origin f c b y))
+    → evidence_through n z ≡ evidence_through m (back_by f c b z)
 through m n f c b (one x) e = ap one (e x)
 through m n f c b (two x y) e = rw (e x, e y) refl
 through m n f c b apart e = refl
 
-pub evidence-then : (m n : Member → Member) (f g : Scan) (c : Class) (b : ℕ) (xs bs : List ℕ) (o : Option ReadCause) (r : EvidenceData) → xs ≡ b ∷ bs → c ≡ class_of b → cause_at o ≡ scan_error f c b → is_some o ≡ false
+pub evidence-then : (m n : Member → Member) (f g : Scan) (c : Class) (b : ℕ) (xs bs : List ℕ) (o : Option ReadCause) (r : EvidenceData) → xs ≡ b ∷ bs
+    → c ≡ class_of b → cause_at o ≡ scan_error f c b → is_some o ≡ false
     → ((y : Member) → n y ≡ m (byte_origin f c b y)) → g ≡ scan_next f c b → evidence_through m (shows xs f) ≡ r → evidence_through n (shows bs g) ≡ r
 evidence-then m n f g c b xs bs o r i k h j e l s =
     let none : scan_error f (class_of b) b ≡ None = ap (λ (x : Class). scan_error f x b) (sym k) ∙ sym h ∙ none-cause o j in
@@ -110,5 +118,35 @@ evidence-then m n f g c b xs bs o r i k h j e l s =
     let goes : (y : Member) → n y ≡ m (byte_origin f (class_of b) b y) = λ y. e y ∙ ap (λ (x : Class). m (byte_origin f x b y)) k in
     ap (λ (x : Scan). evidence_through n (shows bs x)) next
     ∙ through m n f (class_of b) b (shows bs (scan_next f (class_of b) b)) goes
-    ∙ sym (ap (λ (x : Option PathCause). evidence_through m (unless_shown x (byte_shows f (class_of b) b) (back_by f (class_of b) b (shows bs (scan_next f (class_of b) b))))) none)
+    ∙ sym (ap (λ (x : Option PathCause). evidence_through m
+    (unless_shown x (byte_shows f (class_of b) b) (back_by f (class_of b) b (shows bs (scan_next f (class_of b) b))))) none)
     ∙ sym (ap (λ (x : List ℕ). evidence_through m (shows x f)) i) ∙ s
+
+-- The bytes that a URL is fed, some after others.
+fed-more : (xs ys : List ℕ) (s : Parts) (y : Member) → fed_origin (xs ++ ys) s y ≡ fed_origin xs s (fed_origin ys (feed_bytes parts_feeding s xs) y)
+fed-more [] ys s y = refl
+fed-more (x ∷ xs) ys s y = ap (part_origin s (url_class_of x)) (fed-more xs ys (parts_next s (url_class_of x) x) y)
+
+-- those of a reference that its semicolon ends
+pub closes-origin : (m : Member → Member) (s : Parts) (f : Form) (read : List ℕ) (c : Class) (b : ℕ) (code : ℕ) (y : Member) → turn c f ≡ Closes
+    → code ≡ meaning f read
+    → m (fed_origin (encode_utf8 code) s y) ≡ m (fed_origin (undone_byte true (Open f read) c b) s y)
+closes-origin m s f read c b code y e i =
+    ap m (ap (λ (x : ℕ). fed_origin (encode_utf8 x) s y) i ∙ ap (λ (x : ReferenceStep). fed_origin (turn_bytes true x f read c b) s y) (sym e))
+
+-- those of a reference that a byte breaks, before the byte
+pub breaks-origin : (m n : Member → Member) (s w : Parts) (f : Form) (read : List ℕ) (c : Class) (b : ℕ) (equals : Bool) (y : Member) → turn c f ≡ Breaks
+    → equals ≡ is_equals_sign c
+    → w ≡ feed_bytes parts_feeding s (flushed true equals f read) → ((z : Member) → n z ≡ m (fed_origin (flushed true equals f read) s z))
+    → n (fed_origin (plain_bytes c b) w y) ≡ m (fed_origin (undone_byte true (Open f read) c b) s y)
+breaks-origin m n s w f read c b equals y e i j h =
+    h (fed_origin (plain_bytes c b) w y)
+    ∙ ap m (ap (λ (q : Parts). fed_origin (flushed true equals f read) s (fed_origin (plain_bytes c b) q y)) j
+    ∙ sym (fed-more (flushed true equals f read) (plain_bytes c b) s y)
+    ∙ ap (λ (x : Bool). fed_origin (flushed true x f read ++ plain_bytes c b) s y) i
+    ∙ ap (λ (x : ReferenceStep). fed_origin (turn_bytes true x f read c b) s y) (sym e))
+
+-- the end of a text shows its refusal by the members before it
+pub evidence-ends : (m : Member → Member) (text : List ℕ) (f : Scan) (i : ℕ) (x : Member) (r : EvidenceData) → length text ≤ i → x ≡ m (end_shows f)
+    → evidence_through m (shows (drop i text) f) ≡ r → one x ≡ r
+evidence-ends m text f i x r l h s = ap one h ∙ sym (ap (λ (xs : List ℕ). evidence_through m (shows xs f)) (drop_all i text l)) ∙ s

@@ -1,9 +1,9 @@
 -- Scan states that are below one another, their validity and their members; a step keeps the order.
-use Rattle.std.proofs.Common.{◌≡◌, ℕ, Bool, true, false, ◌||◌, ◌&&◌, List, length, Option, Some, None, if◌then◌else◌, refl, sym, ap, ◌∙◌, subst}
+use Rattle.std.proofs.Common.{◌≡◌, ℕ, Bool, true, false, ◌||◌, ◌&&◌, List, [], length, Option, Some, None, if◌then◌else◌, refl, sym, ap, ◌∙◌, subst}
 use Rattle.std.specs.Option.{is_some}
 use Rattle.place_core.specs.page.Classes.{Class, White, ExclamationMark, QuotationMark, Apostrophe, HyphenMinus, Solidus, LessThan, EqualsSign, GreaterThan, GraveAccent}
-use Rattle.place_core.specs.place.Errors.{at_hand, attribute_name_error, bare_error, body_error, comment_error, content_error, equals_error, first_error, kind_error, place_error, quotes_error, tag_error, unless_second, value_error, block_error}
-use Rattle.place_core.specs.place.Places.{Below, Has, IsValid, IsValidQuotes, IsValidTag, both_bare, is_whole, joined_kinds, joined_quotes, joined_bodies, some_bare, typed_has}
+use Rattle.place_core.specs.place.Errors.{PathCause, at_hand, attribute_name_error, bare_error, body_error, comment_error, content_error, equals_error, first_cause, first_error, kind_error, place_error, quotes_error, tag_error, unless_second, value_error, block_error}
+use Rattle.place_core.specs.place.Places.{Below, Has, IsValid, IsValidBody, IsValidQuotes, IsValidTag, both_bare, is_whole, joined_kinds, joined_quotes, joined_bodies, some_bare, typed_has}
 use Rattle.place_core.specs.place.StatePlaces.{only_after, only_before, only_inside, unbegun}
 use Rattle.place_core.specs.page.Words.{kind_of}
 use Rattle.place_core.specs.declared.bare.Bare.{Bare}
@@ -28,17 +28,29 @@ use Rattle.place_core.specs.declared.value_place.ValuePlace.{ValuePlace}
 use Rattle.place_core.proofs.JoinParts.{kinds_partial}
 use Rattle.place_core.proofs.Joins.{places_same}
 use Rattle.place_core.proofs.Semilattices.{none_some, one_value}
-use Rattle.html_scan.specs.Scans.{Scan, At, AfterLess, AfterLessSolidus, InDeclaration, InTagName, InAttributeName, InCommentEnd, InContentEnd, after_white, bare_begun, attribute_name_next, bare_next, bare_white, comment_next, comment_state, content_scan, scan_next, scan_error, scan_place, scan_cut_error, in_tag, quoted_next, tag_next, typed_with, value_scan, with_quotes, BeforeType, InType, rest_place, content_next}
+use Rattle.html_scan.specs.Scans.{Scan, At, AfterLess, AfterLessSolidus, InDeclaration, InTagName, InAttributeName, InUrl, InCommentEnd, InContentEnd, after_white, bare_begun, attribute_name_next, bare_next, bare_white, comment_next, comment_state, content_scan, scan_next, scan_error, scan_place, scan_cut_error, scan_lexeme_error, in_tag, quoted_next, tag_next, typed_with, value_scan, with_quotes, BeforeType, InType, rest_place, content_next, parts_feeding, triple_behind, url_scan, with_parts, value_fed, value_next, quoted_error, word_error, parts_cause, value_cause, place_cause, parts_with, with_body, open_cut_error, parts_cut_error, place_cut_error, if_word}
 use Rattle.html_step.proofs.OnePath.{none-at-hand, none-unless, some}
 use Rattle.html_step.proofs.PlaceParts.{Under, under-false, under-same, under-both, TagBelow, ValueBelow, below-tag, tag-below, below-value, value-below, below-rcdata, same-kinds}
-use Rattle.place_core.specs.page.Tags.{is_second_type, element_on}
+use Rattle.html_step.proofs.UrlOrder.{BegunIf, GoesBelow, bare-accepts, bare-goes, fed-grow, first-caused, language-accepts, language-goes, triple-ends, word-accepts, word-ends}
+use Rattle.place_core.specs.page.Html.{ends_value}
+use Rattle.place_core.specs.page.References.{Reference, Closed, Open, as_it_stands, next_reference, undone_byte}
+use Rattle.place_core.specs.page.Tags.{is_second_type, element_on, feed_bytes, DoubleQuoted, SingleQuoted}
+use Rattle.place_core.specs.place.NotBuiltPlaces.{both_parts}
+use Rattle.place_core.specs.place.UrlParts.{parts_of}
+use Rattle.place_core.specs.declared.parts.Parts.{Parts}
+use Rattle.url_lexer.specs.Parts.{UrlStart}
+use Rattle.url_lexer.specs.Triples.{Triple, NoTriple, AfterPercent, AfterDigit}
+use Rattle.url_step.specs.PartSets.{AreParts, PartsBelow}
 
 -- Between lexemes by the order of places. In a name of an attribute it only matters whether a `type` may have been seen.
+-- In a URL it is the order of values, in the same percent triple and the same reference.
 abbrev pub ScanBelow : Scan → Scan → Type 0
 ScanBelow (At a) (At b) = Below a b
 ScanBelow (At a) g = ⊥
 ScanBelow (InAttributeName t x n) (InAttributeName u y m) = (t ≡ u) × Under x y × (n ≡ m)
 ScanBelow (InAttributeName t x n) g = ⊥
+ScanBelow (InUrl v t r) (InUrl w u z) = ValueBelow v w × (t ≡ u) × (r ≡ z)
+ScanBelow (InUrl v t r) g = ⊥
 ScanBelow AfterLess g = AfterLess ≡ g
 ScanBelow AfterLessSolidus g = AfterLessSolidus ≡ g
 ScanBelow (InDeclaration pending) g = InDeclaration pending ≡ g
@@ -48,19 +60,40 @@ ScanBelow (InContentEnd e h) g = InContentEnd e h ≡ g
 ScanBelow (BeforeType t) g = BeforeType t ≡ g
 ScanBelow (InType t q v r) g = InType t q v r ≡ g
 
+-- Within a text the beginning of a URL may spell letters of a word. In a triple or a reference each path is in the value.
+abbrev pub HasBegun : Quotes → Type 0
+HasBegun quotes.Dq = Unit {0}
+HasBegun quotes.Sq = Unit {0}
+HasBegun (quotes.Bare s) = (s.uq ≡ true) × (s.unbegun ≡ false)
+
+abbrev pub UrlWithin : Body → Type 0
+UrlWithin (body.Url s) = AreParts s
+UrlWithin b = ⊥
+
+abbrev pub BodyWithin : Body → Type 0
+BodyWithin (body.Url s) = AreParts s
+BodyWithin b = IsValidBody b
+
+abbrev pub PlaceWithin : Place → Type 0
+PlaceWithin (place.Value v) = IsValidQuotes v.quotes × BodyWithin v.body
+PlaceWithin p = IsValid p
+
 abbrev pub ScanValid : Scan → Type 0
-ScanValid (At p) = IsValid p
-ScanValid (InContentEnd e h) = IsValid (rest_place e)
+ScanValid (At p) = PlaceWithin p
+ScanValid (InUrl v t r) = HasBegun v.quotes × UrlWithin v.body
+ScanValid (InContentEnd e h) = PlaceWithin (rest_place e)
 ScanValid f = Unit {0}
 
 abbrev pub ScanHas : Scan → Member → Type 0
 ScanHas (At p) m = Has p m
+ScanHas (InUrl v t r) m = Has (place.Value v) m
 ScanHas (InAttributeName t typed name) m = (is_whole m || typed_has typed m) ≡ true
 ScanHas f m = is_whole m ≡ true
 
 pub scan-same : (f : Scan) → ScanBelow f f
 scan-same (At p) = places_same p
 scan-same (InAttributeName t x n) = (refl, under-same x, refl)
+scan-same (InUrl v t r) = (below-value v v (places_same (place.Value v)), refl, refl)
 scan-same AfterLess = refl
 scan-same AfterLessSolidus = refl
 scan-same (InDeclaration pending) = refl
@@ -92,7 +125,7 @@ value-from t u x y q r b c e f g h = value-below (record { tag = t; typed = x; q
 begins-same : (t u : TagOf) (x y : Bool) (k : Kind) → kind_error k ≡ None → t ≡ u → Under x y → ScanBelow (value_scan t x (Some k)) (value_scan u y (Some k))
 begins-same t u x y kind.Plain n e f = value-from t u x y unbegun unbegun body.Plain body.Plain e f refl refl
 begins-same t u x y kind.NoHole n e f = value-from t u x y unbegun unbegun body.NoHole body.NoHole e f refl refl
-begins-same t u x y kind.Url n e f = absurd (some _ n)
+begins-same t u x y kind.Url n e f = value-from t u x y unbegun unbegun (body.Url (parts_of UrlStart)) (body.Url (parts_of UrlStart)) e f refl refl
 begins-same t u x y kind.Script n e f = absurd (some _ n)
 begins-same t u x y kind.Style n e f = absurd (some _ n)
 begins-same t u x y kind.ScriptType n e f = ap BeforeType e
@@ -161,20 +194,22 @@ tag-grows x y _ b v h n =
 
 -- Values.
 
-pub built-same : (b c : Body) (byte : ℕ) → body_error c byte ≡ None → joined_bodies b c ≡ Some c → b ≡ c
-built-same body.Plain body.Plain byte n h = refl
-built-same body.NoHole body.NoHole byte n h = refl
-built-same body.NoHole body.Plain byte n h = absurd (none_some body.Plain h)
-built-same (body.Url p) body.Plain byte n h = absurd (none_some body.Plain h)
-built-same (body.Js p) body.Plain byte n h = absurd (none_some body.Plain h)
-built-same (body.Css p) body.Plain byte n h = absurd (none_some body.Plain h)
-built-same body.Plain body.NoHole byte n h = absurd (none_some body.NoHole h)
-built-same (body.Url p) body.NoHole byte n h = absurd (none_some body.NoHole h)
-built-same (body.Js p) body.NoHole byte n h = absurd (none_some body.NoHole h)
-built-same (body.Css p) body.NoHole byte n h = absurd (none_some body.NoHole h)
-built-same b (body.Url p) byte n h = absurd (some _ n)
-built-same b (body.Js p) byte n h = absurd (some _ n)
-built-same b (body.Css p) byte n h = absurd (some _ n)
+pub plain-same : (b : Body) → joined_bodies b body.Plain ≡ Some body.Plain → b ≡ body.Plain
+plain-same body.Plain h = refl
+plain-same _ h = absurd (none_some body.Plain h)
+
+pub body-accepts : (b c : Body) → joined_bodies b c ≡ Some c → body_error c ≡ None → body_error b ≡ None
+body-accepts b (body.Js j) h n = absurd (some _ n)
+body-accepts b (body.Css j) h n = absurd (some _ n)
+body-accepts (body.Js j) c h n = absurd (none_some c h)
+body-accepts (body.Css j) c h n = absurd (none_some c h)
+body-accepts _ c h n = refl
+
+one-url : (s t : Parts) → body.Url s ≡ body.Url t → s ≡ t
+one-url s t e = cc
+
+pub parts-below : (s t : Parts) → joined_bodies (body.Url s) (body.Url t) ≡ Some (body.Url t) → PartsBelow s t
+parts-below s t h = one-url (both_parts s t) t (one_value (body.Url (both_parts s t)) (body.Url t) h)
 
 pub bare-white : (su sb ru rb : Bool) → (su || sb) ≡ true → Under su ru → Under sb rb → (ru && rb) ≡ false → (su ≡ ru) × (sb ≡ rb)
 bare-white true true true true s u b n = (refl, refl)
@@ -206,49 +241,141 @@ white-next : (x y : ValuePlace) (uq : Bool) → ValueBelow x y → ScanBelow (ba
 white-next x y true h = tag-after x y h
 white-next x y false h = value-goes x y unbegun h refl
 
-bare-grows : (x y : ValuePlace) (s r : Bare) (c : Class) → some_bare s ≡ true → ValueBelow x y → Under s.uq r.uq → Under s.unbegun r.unbegun → bare_error y.tag r c ≡ None
-    → (bare_error x.tag s c ≡ None) × ScanBelow (bare_next x s.uq c) (bare_next y r.uq c)
-bare-grows x y s r White v h u w n =
-    let e = bare-white s.uq s.unbegun r.uq r.unbegun v u w (if-none (r.uq && r.unbegun) code.AmbigContext n) in
-    (rw (e.0, e.1) n, rw e.0 (white-next x y r.uq h))
-bare-grows x y s r QuotationMark v h u w n =
-    let e : r.uq ≡ false = if-none r.uq code.BadHTML n in
+-- A URL goes on: in a percent triple or a reference, or at a place.
+pub url-below : (v w : ValuePlace) (t : Triple) (r : Reference) → ValueBelow v w → ScanBelow (url_scan v t r) (url_scan w t r)
+url-below v w NoTriple Closed h = value-below v w h
+url-below v w NoTriple (Open f bytes) h = (h, refl, refl)
+url-below v w AfterPercent r h = (h, refl, refl)
+url-below v w AfterDigit r h = (h, refl, refl)
+
+abbrev pub FedBelow : Body → Body → List ℕ → Type 0
+FedBelow b c bytes = joined_bodies (parts_with b bytes) (parts_with c bytes) ≡ Some (parts_with c bytes)
+
+fed-next : (x y : ValuePlace) (q : Quotes) (b d : Body) (t : Triple) (r : Reference) (c : Class) (byte : ℕ) → ValueBelow x y → joined_quotes q q ≡ Some q
+    → joined_bodies b d ≡ Some d
+    → FedBelow b d (undone_byte true r c byte) → ScanBelow (value_fed x q b t r c byte) (value_fed y q d t r c byte)
+fed-next x y q (body.Url s) (body.Url u) t r c byte h e k f =
+    let bytes = undone_byte true r c byte in
+    url-below (with_parts x q (feed_bytes parts_feeding s bytes)) (with_parts y q (feed_bytes parts_feeding u bytes))
+    (triple_behind t bytes) (next_reference r c byte)
+    (record { tag = h.tag; typed = h.typed; quotes = e; body = f })
+fed-next x y q (body.Url s) d t r c byte h e k f = absurd (none_some d k)
+fed-next x y q b (body.Url u) t r c byte h e k f = absurd (none_some (body.Url u) k)
+fed-next x y q _ d t r c byte h e k f = value-goes x y q h e
+
+-- what its language refuses, and where it leads
+fed-of : (q : Quotes) (r : Reference) (c : Class) (byte : ℕ) → ((s t : Parts) → PartsBelow s t → quoted_error q t r c byte ≡ None → GoesBelow s t r c byte)
+    → (b d : Body) → joined_bodies b d ≡ Some d → parts_cause d q r c byte ≡ None → FedBelow b d (undone_byte true r c byte)
+fed-of q r c byte f (body.Url s) (body.Url t) h n =
+    let bytes = undone_byte true r c byte in
+    ap (λ (z : Parts). Some (body.Url z)) (f s t (parts-below s t h) (first-caused (at_hand (word_error t bytes)) (quoted_error q t r c byte) n).1)
+fed-of q r c byte f (body.Url s) d h n = absurd (none_some d h)
+fed-of q r c byte f b (body.Url t) h n = absurd (none_some (body.Url t) h)
+fed-of q r c byte f _ d h n = h
+
+abbrev pub BegunWhereOpen : Reference → Quotes → Type 0
+BegunWhereOpen Closed q = Unit {0}
+BegunWhereOpen (Open f bytes) q = HasBegun q
+
+pub begun-if : (r : Reference) (s : Bare) → BegunWhereOpen r (quotes.Bare s) → BegunIf r s.uq
+begun-if Closed s v = tt
+begun-if (Open f bytes) s v = v.0
+
+pub begun-open : (r : Reference) (q : Quotes) → HasBegun q → BegunWhereOpen r q
+begun-open Closed q v = tt
+begun-open (Open f bytes) q v = v
+
+pub begun-valid : (q : Quotes) → HasBegun q → IsValidQuotes q
+begun-valid quotes.Dq v = tt
+begun-valid quotes.Sq v = tt
+begun-valid (quotes.Bare s) v = ap (λ (x : Bool). x || s.unbegun) v.0
+
+pub quoted-accepts : (q p : Quotes) (r : Reference) (c : Class) (b : ℕ) (s t : Parts) → joined_quotes q p ≡ Some p → BegunWhereOpen r q → PartsBelow s t
+    → quoted_error p t r c b ≡ None
+    → quoted_error q s r c b ≡ None
+quoted-accepts quotes.Dq quotes.Dq r c b s t j v h n = language-accepts (ends_value DoubleQuoted c) r c b s t h n
+quoted-accepts quotes.Sq quotes.Sq r c b s t j v h n = language-accepts (ends_value SingleQuoted c) r c b s t h n
+quoted-accepts (quotes.Bare x) (quotes.Bare y) r c b s t j v h n = bare-accepts x.uq y.uq r c b s t (bare-parts x y j).0 (begun-if r x v) h n
+quoted-accepts quotes.Dq quotes.Sq r c b s t j v h n = absurd (none_some quotes.Sq j)
+quoted-accepts quotes.Dq (quotes.Bare y) r c b s t j v h n = absurd (none_some (quotes.Bare y) j)
+quoted-accepts quotes.Sq quotes.Dq r c b s t j v h n = absurd (none_some quotes.Dq j)
+quoted-accepts quotes.Sq (quotes.Bare y) r c b s t j v h n = absurd (none_some (quotes.Bare y) j)
+quoted-accepts (quotes.Bare x) quotes.Dq r c b s t j v h n = absurd (none_some quotes.Dq j)
+quoted-accepts (quotes.Bare x) quotes.Sq r c b s t j v h n = absurd (none_some quotes.Sq j)
+
+pub cause-accepts : (b d : Body) (q p : Quotes) (r : Reference) (c : Class) (byte : ℕ) → joined_bodies b d ≡ Some d → joined_quotes q p ≡ Some p
+    → BegunWhereOpen r q
+    → parts_cause d p r c byte ≡ None → parts_cause b q r c byte ≡ None
+cause-accepts (body.Url s) (body.Url t) q p r c byte h j v n =
+    let bytes = undone_byte true r c byte in
+    let m = first-caused (at_hand (word_error t bytes)) (quoted_error p t r c byte) n in
+    ap (λ (o : Option Code). first_cause (at_hand o) (quoted_error q s r c byte))
+    (word-accepts s t bytes (parts-below s t h) (none-at-hand (word_error t bytes) m.0))
+    ∙ quoted-accepts q p r c byte s t j v (parts-below s t h) m.1
+cause-accepts (body.Url s) d q p r c byte h j v n = absurd (none_some d h)
+cause-accepts b (body.Url t) q p r c byte h j v n = absurd (none_some (body.Url t) h)
+cause-accepts _ d q p r c byte h j v n = refl
+
+-- a byte of a value, by its quotes
+bare-grows : (x y : ValuePlace) (s p : Bare) (t : Triple) (r : Reference) (c : Class) (b : ℕ) → some_bare s ≡ true → BegunWhereOpen r (quotes.Bare s)
+    → ValueBelow x y
+    → Under s.uq p.uq → Under s.unbegun p.unbegun → parts_cause y.body (quotes.Bare p) r c b ≡ None → bare_error y.tag p c ≡ None
+    → (bare_error x.tag s c ≡ None) × ScanBelow (bare_next x s.uq t r c b) (bare_next y p.uq t r c b)
+bare-grows x y s p t r White b v i h u w m n =
+    let e = bare-white s.uq s.unbegun p.uq p.unbegun v u w (if-none (p.uq && p.unbegun) code.AmbigContext n) in
+    (rw (e.0, e.1) n, rw e.0 (white-next x y p.uq h))
+bare-grows x y s p t r QuotationMark b v i h u w m n =
+    let e : p.uq ≡ false = if-none p.uq code.BadHTML n in
     let d : s.uq ≡ false = under-false s.uq (subst (Under s.uq) e u) in
     (rw d refl, value-goes x y quotes.Dq h refl)
-bare-grows x y s r Apostrophe v h u w n =
-    let e : r.uq ≡ false = if-none r.uq code.BadHTML n in
+bare-grows x y s p t r Apostrophe b v i h u w m n =
+    let e : p.uq ≡ false = if-none p.uq code.BadHTML n in
     let d : s.uq ≡ false = under-false s.uq (subst (Under s.uq) e u) in
     (rw d refl, value-goes x y quotes.Sq h refl)
-bare-grows x y s r GreaterThan v h u w n = (ap content_error h.tag ∙ n, ends-same x.tag y.tag h.tag)
-bare-grows x y s r LessThan v h u w n = absurd (some _ n)
-bare-grows x y s r EqualsSign v h u w n = absurd (some _ n)
-bare-grows x y s r GraveAccent v h u w n = absurd (some _ n)
-bare-grows x y s r _ v h u w n = (refl, value-goes x y bare_begun h refl)
+bare-grows x y s p t r GreaterThan b v i h u w m n = (ap content_error h.tag ∙ n, ends-same x.tag y.tag h.tag)
+bare-grows x y s p t r LessThan b v i h u w m n = absurd (some _ n)
+bare-grows x y s p t r EqualsSign b v i h u w m n = absurd (some _ n)
+bare-grows x y s p t r GraveAccent b v i h u w m n = absurd (some _ n)
+bare-grows x y s p t r c b v i h u w m n = (
+  refl,
+  fed-next x y bare_begun x.body y.body t r c b h refl h.body
+      (fed-of (quotes.Bare p) r c b (λ a d k e. bare-goes s.uq p.uq r c b a d tt u (begun-if r s i) k e) x.body y.body h.body m),
+)
 
-quotes-grow : (x y : ValuePlace) (q r : Quotes) (c : Class) → IsValidQuotes q → ValueBelow x y → joined_quotes q r ≡ Some r → quotes_error y.tag r c ≡ None
-    → (quotes_error x.tag q c ≡ None) × ScanBelow (quoted_next x q c) (quoted_next y r c)
-quotes-grow x y quotes.Dq quotes.Dq QuotationMark v h j n = (refl, tag-after x y h)
-quotes-grow x y quotes.Dq quotes.Dq _ v h j n = (refl, value-goes x y quotes.Dq h refl)
-quotes-grow x y quotes.Sq quotes.Sq Apostrophe v h j n = (refl, tag-after x y h)
-quotes-grow x y quotes.Sq quotes.Sq _ v h j n = (refl, value-goes x y quotes.Sq h refl)
-quotes-grow x y (quotes.Bare s) (quotes.Bare r) c v h j n = let p = bare-parts s r j in bare-grows x y s r c v h p.0 p.1 n
-quotes-grow x y quotes.Dq quotes.Sq c v h j n = absurd (none_some quotes.Sq j)
-quotes-grow x y quotes.Dq (quotes.Bare r) c v h j n = absurd (none_some (quotes.Bare r) j)
-quotes-grow x y quotes.Sq quotes.Dq c v h j n = absurd (none_some quotes.Dq j)
-quotes-grow x y quotes.Sq (quotes.Bare r) c v h j n = absurd (none_some (quotes.Bare r) j)
-quotes-grow x y (quotes.Bare s) quotes.Dq c v h j n = absurd (none_some quotes.Dq j)
-quotes-grow x y (quotes.Bare s) quotes.Sq c v h j n = absurd (none_some quotes.Sq j)
+quotes-grow : (x y : ValuePlace) (q p : Quotes) (t : Triple) (r : Reference) (c : Class) (b : ℕ) → IsValidQuotes q → BegunWhereOpen r q → ValueBelow x y
+    → joined_quotes q p ≡ Some p
+    → parts_cause y.body p r c b ≡ None → quotes_error y.tag p c ≡ None
+    → (quotes_error x.tag q c ≡ None) × ScanBelow (quoted_next x q t r c b) (quoted_next y p t r c b)
+quotes-grow x y quotes.Dq quotes.Dq t r QuotationMark b v i h j m n = (refl, tag-after x y h)
+quotes-grow x y quotes.Dq quotes.Dq t r c b v i h j m n =
+    (refl, fed-next x y quotes.Dq x.body y.body t r c b h refl h.body (fed-of quotes.Dq r c b (λ a d k e. language-goes r c b a d k e) x.body y.body h.body m))
+quotes-grow x y quotes.Sq quotes.Sq t r Apostrophe b v i h j m n = (refl, tag-after x y h)
+quotes-grow x y quotes.Sq quotes.Sq t r c b v i h j m n =
+    (refl, fed-next x y quotes.Sq x.body y.body t r c b h refl h.body (fed-of quotes.Sq r c b (λ a d k e. language-goes r c b a d k e) x.body y.body h.body m))
+quotes-grow x y (quotes.Bare s) (quotes.Bare p) t r c b v i h j m n = let u = bare-parts s p j in bare-grows x y s p t r c b v i h u.0 u.1 m n
+quotes-grow x y quotes.Dq quotes.Sq t r c b v i h j m n = absurd (none_some quotes.Sq j)
+quotes-grow x y quotes.Dq (quotes.Bare p) t r c b v i h j m n = absurd (none_some (quotes.Bare p) j)
+quotes-grow x y quotes.Sq quotes.Dq t r c b v i h j m n = absurd (none_some quotes.Dq j)
+quotes-grow x y quotes.Sq (quotes.Bare p) t r c b v i h j m n = absurd (none_some (quotes.Bare p) j)
+quotes-grow x y (quotes.Bare s) quotes.Dq t r c b v i h j m n = absurd (none_some quotes.Dq j)
+quotes-grow x y (quotes.Bare s) quotes.Sq t r c b v i h j m n = absurd (none_some quotes.Sq j)
 
 pub first-none : (o p : Option Code) → first_error o p ≡ None → (o ≡ None) × (p ≡ None)
 first-none None p n = (refl, n)
 first-none (Some e) p n = absurd (some _ n)
 
-value-grows : (x y : ValuePlace) (c : Class) (b : ℕ) → IsValidQuotes x.quotes → ValueBelow x y → value_error y c b ≡ None → (value_error x c b ≡ None) × ScanBelow (quoted_next x x.quotes c) (quoted_next y y.quotes c)
-value-grows x y c b v h n =
-    let f = first-none (body_error y.body b) (quotes_error y.tag y.quotes c) n in
-    let same : x.body ≡ y.body = built-same x.body y.body b f.0 h.body in
-    let g = quotes-grow x y x.quotes y.quotes c v h h.quotes f.1 in
-    (rw (same, f.0) g.0, g.1)
+value-grows : (x y : ValuePlace) (t : Triple) (r : Reference) (c : Class) (b : ℕ) → IsValidQuotes x.quotes → BegunWhereOpen r x.quotes → ValueBelow x y
+    → value_cause y r c b ≡ None
+    → (value_cause x r c b ≡ None) × ScanBelow (value_next x t r c b) (value_next y t r c b)
+value-grows x y t r c b v i h n =
+    let m = first-caused (parts_cause y.body y.quotes r c b) (at_hand (value_error y c)) n in
+    let f = first-none (body_error y.body) (quotes_error y.tag y.quotes c) (none-at-hand (value_error y c) m.1) in
+    let g = quotes-grow x y x.quotes y.quotes t r c b v i h h.quotes m.0 f.1 in
+    let p = cause-accepts x.body y.body x.quotes y.quotes r c b h.body h.quotes i m.0 in
+    let e : value_error x c ≡ None = ap (λ (o : Option Code). first_error o (quotes_error x.tag x.quotes c)) (body-accepts x.body y.body h.body f.0) ∙ g.0 in (
+      ap (λ (o : Option PathCause). first_cause o (at_hand (value_error x c))) p ∙ ap at_hand e,
+      g.1,
+    )
 
 -- Comments.
 
@@ -289,7 +416,7 @@ Grows f g c b = (scan_error f c b ≡ None) × ScanBelow (scan_next f c b) (scan
 same-grows : (f g : Scan) (c : Class) (b : ℕ) → f ≡ g → scan_error g c b ≡ None → Grows f g c b
 same-grows f g c b e n = (ap (λ (h : Scan). scan_error h c b) e ∙ n, subst (λ (h : Scan). ScanBelow (scan_next f c b) (scan_next h c b)) e (scan-same (scan_next f c b)))
 
-place-grows : (x y : Place) (c : Class) (b : ℕ) → IsValid x → Below x y → at_hand (place_error y c b) ≡ None → Grows (At x) (At y) c b
+place-grows : (x y : Place) (c : Class) (b : ℕ) → PlaceWithin x → Below x y → place_cause y c b ≡ None → Grows (At x) (At y) c b
 place-grows place.Text place.Text c b v h n = (n, scan-same (scan_next (At place.Text) c b))
 place-grows place.Text y c b v h n = absurd (none_some y h)
 place-grows place.Doctype place.Doctype c b v h n = (n, scan-same (scan_next (At place.Doctype) c b))
@@ -302,7 +429,7 @@ place-grows (place.Rcdata e) (place.Rcdata f) c b v h n = same-grows (At (place.
 place-grows (place.Rcdata e) y c b v h n = absurd (none_some y h)
 place-grows (place.Tag x) (place.Tag y) c b v h n = let g = tag-grows x y c b v (below-tag x y h) (none-at-hand (tag_error y c) n) in (hand-none (tag_error x c) g.0, g.1)
 place-grows (place.Tag x) y c b v h n = absurd (none_some y h)
-place-grows (place.Value x) (place.Value y) c b v h n = let g = value-grows x y c b v.0 (below-value x y h) (none-at-hand (value_error y c b) n) in (hand-none (value_error x c b) g.0, g.1)
+place-grows (place.Value x) (place.Value y) c b v h n = value-grows x y NoTriple Closed c b v.0 tt (below-value x y h) n
 place-grows (place.Value x) y c b v h n = absurd (none_some y h)
 place-grows x (place.Script j) c b v h n = absurd (some _ n)
 place-grows (place.Script i) y c b v h n = absurd (none_some y h)
@@ -345,6 +472,15 @@ attribute-grows t u x y m n c b e h f o =
     subst (λ (v : TagOf). scan_error (InAttributeName v y n) c b ≡ None → Grows (InAttributeName t x m) (InAttributeName v y n) c b) e
     (λ o. subst (λ (l : List ℕ). scan_error (InAttributeName t y l) c b ≡ None → Grows (InAttributeName t x m) (InAttributeName t y l) c b) f (λ o. name-grows t x y (kind_of (element_on t) m) m c b h o) o) o
 
+-- in a URL
+url-grows : (x y : ValuePlace) (t u : Triple) (r z : Reference) (c : Class) (b : ℕ) → HasBegun x.quotes → ValueBelow x y → t ≡ u → r ≡ z
+    → scan_error (InUrl y u z) c b ≡ None
+    → Grows (InUrl x t r) (InUrl y u z) c b
+url-grows x y t u r z c b v h e f n =
+    subst (λ (k : Triple). Grows (InUrl x t r) (InUrl y k z) c b) e
+    (subst (λ (k : Reference). scan_error (InUrl y u k) c b ≡ None → Grows (InUrl x t r) (InUrl y t k) c b) f
+    (λ n. value-grows x y t r c b (begun-valid x.quotes v) (begun-open r x.quotes v) h n) n)
+
 pub scan-grows : (f g : Scan) (c : Class) (b : ℕ) → ScanValid f → ScanBelow f g → scan_error g c b ≡ None → Grows f g c b
 scan-grows (At x) (At y) c b v h n = place-grows x y c b v h n
 scan-grows (At x) AfterLess c b v h n = absurd h
@@ -366,6 +502,19 @@ scan-grows (InAttributeName t x m) (InCommentEnd s) c b v h n = absurd h
 scan-grows (InAttributeName t x m) (InContentEnd e y) c b v h n = absurd h
 scan-grows (InAttributeName t x m) (BeforeType u) c b v h n = absurd h
 scan-grows (InAttributeName t x m) (InType u q w r) c b v h n = absurd h
+scan-grows (At x) (InUrl y t r) c b v h n = absurd h
+scan-grows (InAttributeName t x m) (InUrl y u r) c b v h n = absurd h
+scan-grows (InUrl x t r) (InUrl y u z) c b v h n = url-grows x y t u r z c b v.0 h.0 h.1 h.2 n
+scan-grows (InUrl x t r) (At y) c b v h n = absurd h
+scan-grows (InUrl x t r) AfterLess c b v h n = absurd h
+scan-grows (InUrl x t r) AfterLessSolidus c b v h n = absurd h
+scan-grows (InUrl x t r) (InDeclaration pending) c b v h n = absurd h
+scan-grows (InUrl x t r) (InTagName ends name) c b v h n = absurd h
+scan-grows (InUrl x t r) (InAttributeName u y l) c b v h n = absurd h
+scan-grows (InUrl x t r) (InCommentEnd s) c b v h n = absurd h
+scan-grows (InUrl x t r) (InContentEnd e y) c b v h n = absurd h
+scan-grows (InUrl x t r) (BeforeType u) c b v h n = absurd h
+scan-grows (InUrl x t r) (InType u q w z) c b v h n = absurd h
 scan-grows AfterLess g c b v h n = same-grows AfterLess g c b h n
 scan-grows AfterLessSolidus g c b v h n = same-grows AfterLessSolidus g c b h n
 scan-grows (InDeclaration pending) g c b v h n = same-grows (InDeclaration pending) g c b h n
@@ -378,47 +527,97 @@ scan-grows (InType t q w r) g c b v h n = same-grows (InType t q w r) g c b h n
 -- The end of a text.
 
 abbrev Ends : Scan → Scan → Type 0
-Ends f g = (scan_cut_error f ≡ None) × Below (scan_place f) (scan_place g)
+Ends f g = (scan_cut_error f ≡ None) × (scan_lexeme_error f ≡ None) × Below (scan_place f) (scan_place g)
 
-same-ends : (f g : Scan) → f ≡ g → scan_cut_error g ≡ None → Ends f g
-same-ends f g e n = (ap scan_cut_error e ∙ n, subst (λ (h : Scan). Below (scan_place f) (scan_place h)) e (places_same (scan_place f)))
+same-ends : (f g : Scan) → f ≡ g → scan_cut_error g ≡ None → scan_lexeme_error g ≡ None → Ends f g
+same-ends f g e n m =
+    (ap scan_cut_error e ∙ n, ap scan_lexeme_error e ∙ m, subst (λ (h : Scan). Below (scan_place f) (scan_place h)) e (places_same (scan_place f)))
 
 name-ends : (t : TagOf) (x y : Bool) (m : List ℕ) → Under x y → scan_cut_error (InAttributeName t y m) ≡ None → Ends (InAttributeName t x m) (InAttributeName t y m)
 name-ends t x y m u n =
     let k = kind_of (element_on t) m in
-    (unless-grows x y (length m) None k u n, one-spot t t (typed_with t x k) (typed_with t y k) only_inside (Some k) refl (typed-under t x y k u))
+    (unless-grows x y (length m) None k u n, refl, one-spot t t (typed_with t x k) (typed_with t y k) only_inside (Some k) refl (typed-under t x y k u))
 
 attribute-ends : (t u : TagOf) (x y : Bool) (m l : List ℕ) → t ≡ u → Under x y → m ≡ l → scan_cut_error (InAttributeName u y l) ≡ None → Ends (InAttributeName t x m) (InAttributeName u y l)
 attribute-ends t u x y m l e h f n =
     subst (λ (v : TagOf). scan_cut_error (InAttributeName v y l) ≡ None → Ends (InAttributeName t x m) (InAttributeName v y l)) e
     (subst (λ (z : List ℕ). scan_cut_error (InAttributeName t y z) ≡ None → Ends (InAttributeName t x m) (InAttributeName t y z)) f (λ o. name-ends t x y m h o)) n
 
-pub end-grows : (f g : Scan) → ScanBelow f g → scan_cut_error g ≡ None → Ends f g
-end-grows (At x) (At y) h n = (refl, h)
-end-grows (At x) AfterLess h n = absurd h
-end-grows (At x) AfterLessSolidus h n = absurd h
-end-grows (At x) (InDeclaration pending) h n = absurd h
-end-grows (At x) (InTagName ends name) h n = absurd h
-end-grows (At x) (InAttributeName t y m) h n = absurd h
-end-grows (At x) (InCommentEnd s) h n = absurd h
-end-grows (At x) (InContentEnd e y) h n = absurd h
-end-grows (At x) (BeforeType t) h n = absurd h
-end-grows (At x) (InType t q w r) h n = absurd h
-end-grows (InAttributeName t x m) (InAttributeName u y l) h n = attribute-ends t u x y m l h.0 h.1 h.2 n
-end-grows (InAttributeName t x m) (At y) h n = absurd h
-end-grows (InAttributeName t x m) AfterLess h n = absurd h
-end-grows (InAttributeName t x m) AfterLessSolidus h n = absurd h
-end-grows (InAttributeName t x m) (InDeclaration pending) h n = absurd h
-end-grows (InAttributeName t x m) (InTagName ends name) h n = absurd h
-end-grows (InAttributeName t x m) (InCommentEnd s) h n = absurd h
-end-grows (InAttributeName t x m) (InContentEnd e y) h n = absurd h
-end-grows (InAttributeName t x m) (BeforeType u) h n = absurd h
-end-grows (InAttributeName t x m) (InType u q w r) h n = absurd h
-end-grows AfterLess g h n = same-ends AfterLess g h n
-end-grows AfterLessSolidus g h n = same-ends AfterLessSolidus g h n
-end-grows (InDeclaration pending) g h n = same-ends (InDeclaration pending) g h n
-end-grows (InTagName ends name) g h n = same-ends (InTagName ends name) g h n
-end-grows (InCommentEnd s) g h n = same-ends (InCommentEnd s) g h n
-end-grows (InContentEnd e x) g h n = same-ends (InContentEnd e x) g h n
-end-grows (BeforeType t) g h n = same-ends (BeforeType t) g h n
-end-grows (InType t q w r) g h n = same-ends (InType t q w r) g h n
+-- a URL in which a text ends
+body-ends : (b d : Body) (t : Triple) (bytes : List ℕ) → joined_bodies b d ≡ Some d → open_cut_error d bytes ≡ None → parts_cut_error d t bytes ≡ None
+    → (open_cut_error b bytes ≡ None) × (parts_cut_error b t bytes ≡ None) × FedBelow b d bytes
+body-ends (body.Url s) (body.Url u) t bytes h n m =
+    let g = fed-grow bytes true (length bytes) s u (parts-below s u h) n in
+    let a = feed_bytes parts_feeding s bytes in
+    let z = feed_bytes parts_feeding u bytes in (
+      g.0,
+      triple-ends (triple_behind t bytes) (if_word a.opened) (if_word z.opened) (λ k. word-ends a.opened z.opened (ap (λ (x : Parts). x.opened) g.1) k) m,
+      ap (λ (x : Parts). Some (body.Url x)) g.1,
+    )
+body-ends (body.Url s) d t bytes h n m = absurd (none_some d h)
+body-ends b (body.Url u) t bytes h n m = absurd (none_some (body.Url u) h)
+body-ends _ d t bytes h n m = (refl, refl, h)
+
+none-open : (b : Body) → open_cut_error b [] ≡ None
+none-open (body.Url s) = refl
+none-open _ = refl
+
+place-ends : (x y : Place) → Below x y → place_cut_error y ≡ None → place_cut_error x ≡ None
+place-ends (place.Value x) (place.Value y) h m = (body-ends x.body y.body NoTriple [] (below-value x y h).body (none-open y.body) m).1
+place-ends (place.Value x) y h m = absurd (none_some y h)
+place-ends _ y h m = refl
+
+url-place : (x y : ValuePlace) (bytes : List ℕ) → ValueBelow x y → FedBelow x.body y.body bytes
+    → Below (with_body x (parts_with x.body bytes)) (with_body y (parts_with y.body bytes))
+url-place x y bytes h f = value-from x.tag y.tag x.typed y.typed x.quotes y.quotes (parts_with x.body bytes) (parts_with y.body bytes) h.tag h.typed h.quotes f
+
+url-ends : (x y : ValuePlace) (t u : Triple) (r z : Reference) → ValueBelow x y → t ≡ u → r ≡ z → scan_cut_error (InUrl y u z) ≡ None
+    → scan_lexeme_error (InUrl y u z) ≡ None
+    → Ends (InUrl x t r) (InUrl y u z)
+url-ends x y t u r z h e f n m =
+    subst (λ (k : Triple). scan_lexeme_error (InUrl y k z) ≡ None → Ends (InUrl x t r) (InUrl y k z)) e
+    (subst (λ (k : Reference). scan_cut_error (InUrl y u k) ≡ None → scan_lexeme_error (InUrl y t k) ≡ None → Ends (InUrl x t r) (InUrl y t k)) f
+    (λ n m. let d = body-ends x.body y.body t (as_it_stands r) h.body n m in (d.0, d.1, url-place x y (as_it_stands r) h d.2)) n) m
+
+pub end-grows : (f g : Scan) → ScanBelow f g → scan_cut_error g ≡ None → scan_lexeme_error g ≡ None → Ends f g
+end-grows (At x) (At y) h n m = (refl, place-ends x y h m, h)
+end-grows (InUrl x t r) (InUrl y u z) h n m = url-ends x y t u r z h.0 h.1 h.2 n m
+end-grows (InAttributeName t x m) (InAttributeName u y l) h n e = attribute-ends t u x y m l h.0 h.1 h.2 n
+end-grows (At x) (InUrl y u z) h n m = absurd h
+end-grows (At x) AfterLess h n m = absurd h
+end-grows (At x) AfterLessSolidus h n m = absurd h
+end-grows (At x) (InDeclaration pending) h n m = absurd h
+end-grows (At x) (InTagName ends name) h n m = absurd h
+end-grows (At x) (InAttributeName w y l) h n m = absurd h
+end-grows (At x) (InCommentEnd s) h n m = absurd h
+end-grows (At x) (InContentEnd e y) h n m = absurd h
+end-grows (At x) (BeforeType w) h n m = absurd h
+end-grows (At x) (InType w q v k) h n m = absurd h
+end-grows (InUrl x t r) (At y) h n m = absurd h
+end-grows (InUrl x t r) AfterLess h n m = absurd h
+end-grows (InUrl x t r) AfterLessSolidus h n m = absurd h
+end-grows (InUrl x t r) (InDeclaration pending) h n m = absurd h
+end-grows (InUrl x t r) (InTagName ends name) h n m = absurd h
+end-grows (InUrl x t r) (InAttributeName w y l) h n m = absurd h
+end-grows (InUrl x t r) (InCommentEnd s) h n m = absurd h
+end-grows (InUrl x t r) (InContentEnd e y) h n m = absurd h
+end-grows (InUrl x t r) (BeforeType w) h n m = absurd h
+end-grows (InUrl x t r) (InType w q v k) h n m = absurd h
+end-grows (InAttributeName t x o) (At y) h n m = absurd h
+end-grows (InAttributeName t x o) (InUrl y u z) h n m = absurd h
+end-grows (InAttributeName t x o) AfterLess h n m = absurd h
+end-grows (InAttributeName t x o) AfterLessSolidus h n m = absurd h
+end-grows (InAttributeName t x o) (InDeclaration pending) h n m = absurd h
+end-grows (InAttributeName t x o) (InTagName ends name) h n m = absurd h
+end-grows (InAttributeName t x o) (InCommentEnd s) h n m = absurd h
+end-grows (InAttributeName t x o) (InContentEnd e y) h n m = absurd h
+end-grows (InAttributeName t x o) (BeforeType w) h n m = absurd h
+end-grows (InAttributeName t x o) (InType w q v k) h n m = absurd h
+end-grows AfterLess g h n m = same-ends AfterLess g h n m
+end-grows AfterLessSolidus g h n m = same-ends AfterLessSolidus g h n m
+end-grows (InDeclaration pending) g h n m = same-ends (InDeclaration pending) g h n m
+end-grows (InTagName ends name) g h n m = same-ends (InTagName ends name) g h n m
+end-grows (InCommentEnd s) g h n m = same-ends (InCommentEnd s) g h n m
+end-grows (InContentEnd e x) g h n m = same-ends (InContentEnd e x) g h n m
+end-grows (BeforeType t) g h n m = same-ends (BeforeType t) g h n m
+end-grows (InType t q w r) g h n m = same-ends (InType t q w r) g h n m

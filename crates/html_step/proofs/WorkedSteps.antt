@@ -8,6 +8,9 @@ use Rattle.place_core.specs.declared.place.Place.TheVariants as place
 use Rattle.place_core.specs.declared.step_err.StepErr.{StepErr}
 use Rattle.html_step.specs.PlaceText.{place_text}
 use Rattle.html_step.specs.Steps.{after_text}
+use Rattle.place_core.specs.page.References.{flushed, meaning}
+use Rattle.place_core.specs.place.Errors.{is_unknown_name}
+use Rattle.url_lexer.specs.Classes.{url_class_of}
 
 -- the place after a text, or the code and the place before what is refused
 data Emitted : Type 0 where
@@ -63,6 +66,35 @@ second_type : step (codes "<script type type>") ≡ refused code.BadHTML 13 (cod
 unfolding class_of
 second_type = refl
 
-url_value : step (codes "<a href=") ≡ refused code.NotBuilt 7 (codes "tag other in url")
-unfolding class_of
-url_value = refl
+-- URLs: where one begins, in its beginning and behind it, and the place before what is refused
+before_a_url : step (codes "<a href=") ≡ after (codes "value other unbegun url start")
+unfolding class_of url_class_of
+before_a_url = refl
+
+begun_url : step (codes "<a href=' a") ≡ after (codes "value other sq url open")
+unfolding class_of url_class_of
+begun_url = refl
+
+behind_a_scheme : step (codes "<a href=http:") ≡ after (codes "value other uq url prequery")
+unfolding class_of url_class_of
+behind_a_scheme = refl
+
+behind_a_scheme_that_is_code : step (codes "<a href=\"JavaScript:") ≡ after (codes "value other dq url bad")
+unfolding class_of url_class_of
+behind_a_scheme_that_is_code = refl
+
+in_a_query : step (codes "<a href=\"/b?c&amp;d") ≡ after (codes "value other dq url query")
+unfolding class_of url_class_of meaning flushed is_unknown_name lib.Utf8.encode
+in_a_query = refl
+
+word_broken_off : step (codes "<a href=\"ja") ≡ refused code.NotBuilt 11 (codes "value other dq url open(ja)")
+unfolding class_of url_class_of
+word_broken_off = refl
+
+triple_broken_off : step (codes "<a href=\"/%4") ≡ refused code.PartialEscape 12 (codes "value other dq url prequery")
+unfolding class_of url_class_of
+triple_broken_off = refl
+
+unknown_name : step (codes "<a href=\"/&b;") ≡ refused code.BadHTML 10 (codes "value other dq url prequery")
+unfolding class_of url_class_of is_unknown_name
+unknown_name = refl

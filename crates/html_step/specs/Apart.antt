@@ -1,5 +1,5 @@
--- Two paths that met apart: at one point both were in the beginning of a URL, and it spelled different things on the two. No path is in a URL
--- yet, so nothing of this holds of any state today; what follows of it is stated, and stays as it is when URLs are read.
+-- Two paths that met apart: at one point both were in the beginning of a URL, and it spelled different things on the two. A text that could lead
+-- to that is refused (NotBuilt), so nothing of this holds of any state today; what follows of it is stated, and stays as it is when it is built.
 use Rattle.std.specs.Prelude.{◌≡◌, ℕ, List, Some, Ok, ◌⊎◌}
 use Rattle.place_core.specs.place.Errors.{node}
 use Rattle.place_core.specs.place.Membership.{IsIn, Bears}

@@ -1,6 +1,6 @@
 -- What a step over a whole text promises of the paths that a place stands for.
 use Rattle.std.specs.Prelude.{◌≡◌, ◌≤◌, ℕ, List, Some, None, Ok, Err}
-use Rattle.place_core.specs.place.Errors.{shown_place, PathRefuses, Clashes, refusal_from, node}
+use Rattle.place_core.specs.place.Errors.{shown_place, PathRefuses, Clashes, path_refusal, node}
 use Rattle.place_core.specs.place.Membership.{IsIn, Bears}
 use Rattle.place_core.specs.place.Places.{Below, Has, IsValid}
 use Rattle.place_core.specs.place.NotBuiltPlaces.{HasApart, side}
@@ -18,7 +18,7 @@ use Rattle.html_step.specs.Steps.{after_text, place_before}
 -- it, and else the path is refused, by this code, at this byte, after this place.
 abbrev pub OneText : Type 0
 OneText = (bytes : List ℕ) (p : Place) (s : LexState ValueState) → placed s ≡ Some p →
-    ((q : Place) → after_text bytes p ≡ Ok q → (refusal_from 0 bytes s ≡ None) × (placed (node bytes s) ≡ Some q))
+    ((q : Place) → after_text bytes p ≡ Ok q → (path_refusal bytes s ≡ None) × (placed (node bytes s) ≡ Some q))
     × ((e : StepErr Place) → after_text bytes p ≡ Err e → PathRefuses bytes s e)
 
 -- From the place of one path the place that is shown before a byte is the path's own, up to the byte that is refused.
@@ -62,7 +62,7 @@ TextEvidence = (bytes : List ℕ) (p : Place) (e : StepErr Place) → IsValid p 
 -- Where a text is accepted, no path that the place stands for is refused, and no two of them are refused together.
 abbrev pub AcceptsText : Type 0
 AcceptsText = (bytes : List ℕ) (p q : Place) (s : LexState ValueState) → IsValid p → after_text bytes p ≡ Ok q → IsIn p s →
-    (refusal_from 0 bytes s ≡ None)
+    (path_refusal bytes s ≡ None)
     × ((r : LexState ValueState) (e : Code) (at : ℕ) → IsIn p r → Clashes bytes s r e at → ⊥)
 
 -- A valid place below another one is accepted where that one is, and comes to one below.

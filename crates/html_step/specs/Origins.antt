@@ -1,17 +1,68 @@
 -- Which member of a place a member after a text comes from, and which one shows that a text is refused.
-use Rattle.std.specs.Prelude.{ℕ, Bool, List, [], ◌∷◌, Option, Some, None, if◌then◌else◌}
+use Rattle.std.specs.Prelude.{ℕ, Bool, true, List, [], ◌∷◌, Option, Some, None, is_some, if◌then◌else◌}
 use Rattle.place_core.specs.page.Classes.{Class, White, QuotationMark, Apostrophe, Solidus, LessThan, EqualsSign, GreaterThan, class_of}
+use Rattle.place_core.specs.page.References.{Reference, Closed, undone_byte, as_it_stands}
 use Rattle.place_core.specs.place.Errors.{PathCause, body_error}
+use Rattle.place_core.specs.declared.body.Body.{Body}
+use Rattle.place_core.specs.declared.body.Body.TheVariants as body
 use Rattle.place_core.specs.declared.code.Code.{Code}
+use Rattle.place_core.specs.declared.code.Code.TheVariants as code
 use Rattle.place_core.specs.declared.member.Member.{Member}
 use Rattle.place_core.specs.declared.member.Member.TheVariants as member
+use Rattle.place_core.specs.declared.parts.Parts.{Parts}
 use Rattle.place_core.specs.declared.place.Place.{Place}
 use Rattle.place_core.specs.declared.place.Place.TheVariants as place
 use Rattle.place_core.specs.declared.quotes.Quotes.{Quotes}
 use Rattle.place_core.specs.declared.quotes.Quotes.TheVariants as quotes
 use Rattle.place_core.specs.declared.spots.Spots.{Spots}
-use Rattle.html_scan.specs.Scans.{Scan, At, InAttributeName, scan_error, scan_next}
+use Rattle.place_core.specs.declared.value_place.ValuePlace.{ValuePlace}
+use Rattle.html_scan.specs.Scans.{Scan, At, InAttributeName, InUrl, parts_cause, scan_error, scan_cut_error, scan_lexeme_error, scan_next}
 use Rattle.html_step.specs.Laws.{EvidenceData, one, two, apart}
+use Rattle.url_lexer.specs.Classes.{url_class_of}
+use Rattle.url_lexer.specs.declared.class.UrlClass.{UrlClass}
+use Rattle.url_lexer.specs.declared.class.UrlClass.TheVariants as class
+use Rattle.url_step.specs.PartSets.{parts_next}
+
+-- In a URL, the part before a byte that a part behind it comes from: the first of those in which paths are, and from which a path comes there. Behind
+-- a `:`, a `/`, a `?` or `#`, and behind another character, which begins a URL.
+abbrev pub colon_origin : Parts → Member → Member
+colon_origin s member.PartPrequery = if s.start then member.PartStart else (if s.prequery then member.PartPrequery else member.PartOpen)
+colon_origin s member.PartBad = if s.bad then member.PartBad else member.PartOpen
+colon_origin s y = y
+
+abbrev pub slash_origin : Parts → Member → Member
+slash_origin s member.PartPrequery =
+    if s.start then member.PartStart
+    else (if is_some s.opened then member.PartOpen else (if s.openhole then member.PartOpenhole else member.PartPrequery))
+slash_origin s y = y
+
+abbrev pub mark_origin : Parts → Member → Member
+mark_origin s member.PartQuery =
+    if s.start then member.PartStart
+    else (if is_some s.opened then member.PartOpen
+    else (if s.openhole then member.PartOpenhole else (if s.prequery then member.PartPrequery else member.PartQuery)))
+mark_origin s y = y
+
+abbrev pub character_origin : Parts → Member → Member
+character_origin s member.PartOpen = if s.start then member.PartStart else member.PartOpen
+character_origin s y = y
+
+abbrev pub part_origin : Parts → UrlClass → Member → Member
+part_origin s class.TabOrNewline y = y
+part_origin s class.ControlOrSpace y = y
+part_origin s class.Colon y = colon_origin s y
+part_origin s class.Slash y = slash_origin s y
+part_origin s class.QueryMark y = mark_origin s y
+part_origin s c y = character_origin s y
+
+-- the one before several bytes that a URL is fed; the other members come from themselves
+abbrev pub fed_origin : List ℕ → Parts → Member → Member
+fed_origin [] s y = y
+fed_origin (b ∷ bs) s y = part_origin s (url_class_of b) (fed_origin bs (parts_next s (url_class_of b) b) y)
+
+abbrev pub body_origin : Body → List ℕ → Member → Member
+body_origin (body.Url s) bytes y = fed_origin bytes s y
+body_origin x bytes y = y
 
 -- White space in a tag leads from a name to before one, and from in a name to after one.
 abbrev pub white_origin : Spots → Member → Member
@@ -20,7 +71,7 @@ white_origin s member.BeforeSpot = if s.name then member.NameSpot else member.Be
 white_origin s member.AfterSpot = if s.inside then member.InsideSpot else member.AfterSpot
 white_origin s y = member.Whole
 
--- Elsewhere in a tag and in a value only that a `type` may have been seen stays as it is; all else holds of each path.
+-- Elsewhere in a tag only that a `type` may have been seen stays as it is; all else holds of each path.
 abbrev pub typed_origin : Member → Member
 typed_origin member.Typed = member.Typed
 typed_origin y = member.Whole
@@ -32,21 +83,54 @@ tag_origin c s y = typed_origin y
 abbrev pub name_origin : Bool → Member
 name_origin typed = if typed then member.Typed else member.Whole
 
--- the member before a byte that a member after it comes from
-abbrev pub place_origin : Place → Class → ℕ → Member → Member
-place_origin (place.Tag t) c b y = tag_origin c t.spots y
-place_origin (place.Value v) c b y = typed_origin y
-place_origin _ c b y = member.Whole
+-- In a value so do the parts of a URL, which come from those before the bytes that it is fed. White space and quotes before a value are not fed.
+abbrev pub in_value_origin : Member → Member
+in_value_origin member.PartStart = member.PartStart
+in_value_origin member.PartOpen = member.PartOpen
+in_value_origin member.PartOpenhole = member.PartOpenhole
+in_value_origin member.PartPrequery = member.PartPrequery
+in_value_origin member.PartQuery = member.PartQuery
+in_value_origin member.PartBad = member.PartBad
+in_value_origin y = typed_origin y
+
+abbrev pub fed_in : Quotes → Reference → Class → ℕ → List ℕ
+fed_in (quotes.Bare s) r White b = []
+fed_in (quotes.Bare s) r QuotationMark b = []
+fed_in (quotes.Bare s) r Apostrophe b = []
+fed_in q r c b = undone_byte true r c b
+
+abbrev pub value_origin : ValuePlace → Reference → Class → ℕ → Member → Member
+value_origin v r c b y = body_origin v.body (fed_in v.quotes r c b) (in_value_origin y)
+
+-- The member that a member after a byte comes from: behind the bytes that a URL is fed, and before them.
+abbrev pub place_origin : Place → Class → Member → Member
+place_origin (place.Tag t) c y = tag_origin c t.spots y
+place_origin (place.Value v) c y = in_value_origin y
+place_origin _ c y = member.Whole
+
+abbrev pub behind_origin : Scan → Class → Member → Member
+behind_origin (At p) c y = place_origin p c y
+behind_origin (InAttributeName t typed name) c y = name_origin typed
+behind_origin (InUrl v t r) c y = in_value_origin y
+behind_origin f c y = member.Whole
+
+abbrev pub place_fed_origin : Place → Class → ℕ → Member → Member
+place_fed_origin (place.Value v) c b y = body_origin v.body (fed_in v.quotes Closed c b) y
+place_fed_origin p c b y = y
+
+abbrev pub scan_fed_origin : Scan → Class → ℕ → Member → Member
+scan_fed_origin (At p) c b y = place_fed_origin p c b y
+scan_fed_origin (InUrl v t r) c b y = body_origin v.body (fed_in v.quotes r c b) y
+scan_fed_origin f c b y = y
 
 abbrev pub byte_origin : Scan → Class → ℕ → Member → Member
-byte_origin (At p) c b y = place_origin p c b y
-byte_origin (InAttributeName t typed name) c b y = name_origin typed
-byte_origin f c b y = member.Whole
+byte_origin f c b y = scan_fed_origin f c b (behind_origin f c y)
 
 -- the one before the end of a text
 abbrev pub end_origin : Scan → Member → Member
 end_origin (At p) y = y
 end_origin (InAttributeName t typed name) y = name_origin typed
+end_origin (InUrl v t r) y = body_origin v.body (as_it_stands r) y
 end_origin f y = member.Whole
 
 -- the one before a text
@@ -72,26 +156,52 @@ bare_shows QuotationMark = one member.UnquotedValue
 bare_shows Apostrophe = one member.UnquotedValue
 bare_shows c = one member.Whole
 
-abbrev pub value_shows : Option Code → Quotes → Class → EvidenceData
-value_shows (Some e) q c = one member.Whole
-value_shows None (quotes.Bare b) c = bare_shows c
-value_shows None q c = one member.Whole
+abbrev pub quotes_show : Option Code → Quotes → Class → EvidenceData
+quotes_show (Some e) q c = one member.Whole
+quotes_show None (quotes.Bare b) c = bare_shows c
+quotes_show None q c = one member.Whole
+
+-- What a URL refuses: the first letter of a word, where it begins on one path and has begun on another; a `:` behind a hole; and on each path a
+-- reference by a name that stands for no character.
+abbrev pub url_shows : Code → EvidenceData
+url_shows code.NotBuilt = two member.PartStart member.PartOpen
+url_shows code.BadHTML = one member.Whole
+url_shows e = one member.PartOpenhole
+
+abbrev pub url_or_quotes : Option PathCause → EvidenceData → EvidenceData
+url_or_quotes (Some e) later = url_shows e.code
+url_or_quotes None later = later
+
+abbrev pub value_shows : ValuePlace → Reference → Class → ℕ → EvidenceData
+value_shows v r c b = url_or_quotes (parts_cause v.body v.quotes r c b) (quotes_show (body_error v.body) v.quotes c)
 
 abbrev pub place_shows : Place → Class → ℕ → EvidenceData
 place_shows (place.Comment dash) c b = one member.CommentDash
 place_shows (place.Tag t) c b = one (tag_shows c t.spots)
-place_shows (place.Value v) c b = value_shows (body_error v.body b) v.quotes c
+place_shows (place.Value v) c b = value_shows v Closed c b
 place_shows (place.Block lt) c b = one member.BlockLt
 place_shows _ c b = one member.Whole
 
 abbrev pub byte_shows : Scan → Class → ℕ → EvidenceData
 byte_shows (At p) c b = place_shows p c b
 byte_shows (InAttributeName t typed name) c b = one (name_origin typed)
+byte_shows (InUrl v t r) c b = value_shows v r c b
 byte_shows f c b = one member.Whole
 
--- the end of a text is refused in a name alone
+-- The end of a text is refused in a name; and in a URL that ends in a percent triple, on each path, or in the beginning, where it spells letters of
+-- a word that is looked for.
+abbrev pub lexeme_shows : Option Code → Member → Member
+lexeme_shows (Some code.NotBuilt) x = x
+lexeme_shows o x = member.Whole
+
+abbrev pub url_end_shows : Option PathCause → Option Code → Body → List ℕ → Member
+url_end_shows (Some e) o x bytes = member.PartOpenhole
+url_end_shows None o x bytes = lexeme_shows o (body_origin x bytes member.PartOpen)
+
 abbrev pub end_shows : Scan → Member
 end_shows (InAttributeName t typed name) = name_origin typed
+end_shows (InUrl v t r) = url_end_shows (scan_cut_error (InUrl v t r)) (scan_lexeme_error (InUrl v t r)) v.body (as_it_stands r)
+end_shows (At p) = lexeme_shows (scan_lexeme_error (At p)) member.PartOpen
 end_shows f = member.Whole
 
 -- what shows the refusal of a text, by members before it

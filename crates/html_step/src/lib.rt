@@ -5,6 +5,7 @@ mod bodies;
 mod escape_evidences;
 mod escaper;
 mod evidence;
+mod fed_origins;
 mod hole;
 mod hole_evidences;
 mod hole_laws;

@@ -1,13 +1,16 @@
-ghost use Rattle.std.specs.Prelude.{◌≡◌, ◌<◌, ℕ, List};
+ghost use Rattle.std.specs.Prelude.{◌≡◌, ◌<◌, ◌≤◌, ℕ, List, get_or, length};
 ghost use Rattle.html_scan.specs.ClassViews.{class_at};
-ghost use Rattle.html_scan.specs.ScanViews.{scan_at};
+ghost use Rattle.html_scan.specs.ScanViews.{pending_from, scan_at};
 ghost use Rattle.html_step.specs.Origins.{byte_origin};
 ghost use Rattle.html_step.specs.OriginViews.{all_members, evidence_at, evidence_through, member_number, origin_at};
 ghost use Rattle.html_step.specs.Origins as spec;
+ghost use Rattle.url_lexer.specs.Classes as urls;
 
 use crate::evidence::Evidence;
+use crate::fed_origins::{behind_byte, behind_end};
 use html_scan::{Class, Scan};
-use place_core::{Member, Place, Spots};
+use place_core::{Member, Parts, Place, Spots};
+use url_lexer::{UrlClass, url_class_of};
 
 /// Which member before some bytes each member after them comes from, by the numbers of the 32 members.
 #[derive(Clone, Copy)]
@@ -41,17 +44,51 @@ impl Origins {
         }
     }
 
-    /// The same with one byte more, which is read at a scan state.
-    pub fn then(self, scan: Scan, class: Class, byte: u8) -> Origins
-        ensures { (text : List ℕ) (k : ℕ) (y : Member) → origin_at result y
-            ≡ origin_at self (byte_origin (scan_at text k scan) (class_at class) byte y) }
+    /// The same with one byte more of the text, which is read at a scan state.
+    pub fn then(self, text: &[u8], index: usize, class: Class, scan: Scan) -> Origins
+        requires inside { index < length text.now }
+        requires pending { pending_from scan ≤ index }
+        ensures { (y : Member) → origin_at result y ≡ origin_at self (byte_origin
+            (scan_at text.now index scan) (class_at class) (get_or text.now index 0) y) }
+    {
+        let fed = behind_byte(self, text, index, class, scan);
+        let members = members();
+        let mut before = members;
+        for number in 0..32 {
+            before[number] = fed.of(behind_origin(scan, class, members[number]));
+        }
+        Origins { before }
+    }
+
+    /// The same with one byte more that a URL is fed.
+    pub fn then_part(self, parts: Parts, byte: u8) -> Origins
+        ensures { (y : Member) → origin_at result y
+            ≡ origin_at self (spec.part_origin parts (urls.url_class_of byte) y) }
     {
         let members = members();
         let mut before = members;
         for number in 0..32 {
-            before[number] = self.of(origin(scan, class, byte, members[number]));
+            before[number] = self.of(part_origin(parts, byte, members[number]));
         }
         Origins { before }
+    }
+
+    /// The member before some bytes and the end of the text that a member after it comes from.
+    pub fn of_end(self, text: &[u8], scan: Scan, member: Member) -> Member
+        requires pending { pending_from scan ≤ length text.now }
+        ensures { result ≡ origin_at self
+            (spec.end_origin (scan_at text.now (length text.now) scan) member) }
+    {
+        match scan {
+            Scan::At(_) => self.of(member),
+            Scan::InAttributeName { typed, .. } => self.of(name_origin(typed)),
+            Scan::InUrl {
+                place,
+                reference,
+                ..
+            } => { behind_end(self, text, place.body, reference).of(member) }
+            _ => self.of(Member::Whole),
+        }
     }
 }
 
@@ -136,25 +173,100 @@ fn number(member: Member) -> usize
     }
 }
 
-// The member before a byte that a member after it comes from.
-fn origin(scan: Scan, class: Class, byte: u8, member: Member) -> Member
+// The member that a member after a byte comes from, behind the bytes that a URL is fed.
+fn behind_origin(scan: Scan, class: Class, member: Member) -> Member
     ensures { (text : List ℕ) (k : ℕ) → result
-        ≡ byte_origin (scan_at text k scan) (class_at class) byte member }
+        ≡ spec.behind_origin (scan_at text k scan) (class_at class) member }
 {
     match scan {
-        Scan::At(place) => place_origin(place, class, byte, member),
+        Scan::At(place) => place_origin(place, class, member),
         Scan::InAttributeName { typed, .. } => name_origin(typed),
+        Scan::InUrl { .. } => in_value_origin(member),
         _ => Member::Whole,
     }
 }
 
-fn place_origin(place: Place, class: Class, _byte: u8, member: Member) -> Member
-    ensures { result ≡ spec.place_origin place (class_at class) _byte member }
+fn place_origin(place: Place, class: Class, member: Member) -> Member
+    ensures { result ≡ spec.place_origin place (class_at class) member }
 {
     match place {
         Place::Tag(tag) => tag_origin(class, tag.spots, member),
-        Place::Value(_) => typed_origin(member),
+        Place::Value(_) => in_value_origin(member),
         _ => Member::Whole,
+    }
+}
+
+fn in_value_origin(member: Member) -> Member
+    ensures { result ≡ spec.in_value_origin member }
+{
+    match member {
+        Member::PartStart
+        | Member::PartOpen
+        | Member::PartOpenhole
+        | Member::PartPrequery
+        | Member::PartQuery
+        | Member::PartBad => member,
+        _ => typed_origin(member),
+    }
+}
+
+// In a URL, the part before a byte that a part behind it comes from.
+fn part_origin(parts: Parts, byte: u8, member: Member) -> Member
+    ensures { result ≡ spec.part_origin parts (urls.url_class_of byte) member }
+{
+    match url_class_of(byte) {
+        UrlClass::TabOrNewline | UrlClass::ControlOrSpace => member,
+        UrlClass::Colon => colon_origin(parts, member),
+        UrlClass::Slash => slash_origin(parts, member),
+        UrlClass::QueryMark => mark_origin(parts, member),
+        UrlClass::Percent | UrlClass::Hexadecimal | UrlClass::Other => {
+            character_origin(parts, member)
+        }
+    }
+}
+
+fn colon_origin(parts: Parts, member: Member) -> Member
+    ensures { result ≡ spec.colon_origin parts member }
+{
+    match member {
+        Member::PartPrequery if parts.start => Member::PartStart,
+        Member::PartPrequery if parts.prequery => Member::PartPrequery,
+        Member::PartPrequery => Member::PartOpen,
+        Member::PartBad if parts.bad => Member::PartBad,
+        Member::PartBad => Member::PartOpen,
+        _ => member,
+    }
+}
+
+fn slash_origin(parts: Parts, member: Member) -> Member
+    ensures { result ≡ spec.slash_origin parts member }
+{
+    match member {
+        Member::PartPrequery if parts.start => Member::PartStart,
+        Member::PartPrequery if parts.opened.is_some() => Member::PartOpen,
+        Member::PartPrequery if parts.openhole => Member::PartOpenhole,
+        _ => member,
+    }
+}
+
+fn mark_origin(parts: Parts, member: Member) -> Member
+    ensures { result ≡ spec.mark_origin parts member }
+{
+    match member {
+        Member::PartQuery if parts.start => Member::PartStart,
+        Member::PartQuery if parts.opened.is_some() => Member::PartOpen,
+        Member::PartQuery if parts.openhole => Member::PartOpenhole,
+        Member::PartQuery if parts.prequery => Member::PartPrequery,
+        _ => member,
+    }
+}
+
+fn character_origin(parts: Parts, member: Member) -> Member
+    ensures { result ≡ spec.character_origin parts member }
+{
+    match member {
+        Member::PartOpen if parts.start => Member::PartStart,
+        _ => member,
     }
 }
 
@@ -196,16 +308,4 @@ pub fn name_origin(typed: bool) -> Member
     ensures { result ≡ spec.name_origin typed }
 {
     if typed { Member::Typed } else { Member::Whole }
-}
-
-/// The member before the end of a text that a member after it comes from.
-pub fn end_origin(scan: Scan, member: Member) -> Member
-    ensures { (text : List ℕ) (k : ℕ)
-        → result ≡ spec.end_origin (scan_at text k scan) member }
-{
-    match scan {
-        Scan::At(_) => member,
-        Scan::InAttributeName { typed, .. } => name_origin(typed),
-        _ => Member::Whole,
-    }
 }

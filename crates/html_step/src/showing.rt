@@ -1,20 +1,24 @@
-ghost use Rattle.std.specs.Prelude.{◌≡◌, ◌<◌, ◌^◌, ℕ, List, Some, None, Ok, Err, length, Option};
-ghost use Rattle.place_core.specs.place.Errors.{body_error};
+ghost use Rattle.std.specs.Prelude.{◌≡◌, ◌<◌, ◌≤◌, ◌^◌, ℕ, None, Ok, Err, get_or, length};
+ghost use Rattle.place_core.specs.page.References.{as_it_stands};
 ghost use Rattle.place_core.specs.place.Places.{Has, IsValid};
+ghost use Rattle.place_core.specs.declared.member.Member.TheVariants as member;
 ghost use Rattle.place_core.specs.declared.step_err.StepErr.{StepErr};
 ghost use Rattle.html_scan.specs.ClassViews.{class_at};
-ghost use Rattle.html_scan.specs.ScanViews.{scan_at};
+ghost use Rattle.html_scan.specs.ScanViews.{open_reference_at, pending_from, reference_from, scan_at};
 ghost use Rattle.html_scan.specs.Scans.{At};
 ghost use Rattle.html_step.specs.Laws.{IsOrigin, IsEvidence};
 ghost use Rattle.html_step.specs.OriginViews.{evidence_at};
-ghost use Rattle.html_step.specs.Origins.{shows, value_shows};
+ghost use Rattle.html_step.specs.Origins.{quotes_show, shows, url_shows, value_shows};
 ghost use Rattle.html_step.specs.Origins as spec;
 ghost use Rattle.html_step.specs.Steps as steps;
 
 use crate::evidence::Evidence;
-use crate::origins::{Origins, end_origin, name_origin};
-use html_scan::{Class, Scan, at_byte, class_of, next};
-use place_core::{Body, Member, Place, Quotes, Spots, ValuePlace};
+use crate::fed_origins::behind_end;
+use crate::origins::{Origins, name_origin};
+use html_scan::{
+    Class, OpenReference, Scan, at_byte, at_end, class_of, lexeme_at_end, next, refused_in_url,
+};
+use place_core::{Body, Code, Member, Place, Quotes, Spots, ValuePlace};
 
 /// A member of a place that a member of the place after a text comes from: every path that bears the one comes to bear the other.
 /// Does not allocate.
@@ -45,10 +49,10 @@ fn origin(text: &[u8], place: Place, member: Member) -> Member
     let mut origins = Origins::same();
     for index in 0..text.len() {
         let class = class_of(text[index]);
-        origins = origins.then(scan, class, text[index]);
+        origins = origins.then(text, index, class, scan);
         scan = next(text, index, class, scan);
     }
-    origins.of(end_origin(scan, member))
+    origins.of_end(text, scan, member)
 }
 
 fn evidence(text: &[u8], place: Place) -> Evidence
@@ -59,50 +63,84 @@ fn evidence(text: &[u8], place: Place) -> Evidence
     for index in 0..text.len() {
         let class = class_of(text[index]);
         if at_byte(text, index, class, scan).is_some() {
-            return origins.of_evidence(byte_shows(scan, class, text[index]));
+            return origins.of_evidence(byte_shows(text, index, class, scan));
         }
-        origins = origins.then(scan, class, text[index]);
+        origins = origins.then(text, index, class, scan);
         scan = next(text, index, class, scan);
     }
-    Evidence::One(origins.of(end_shows(scan)))
+    Evidence::One(origins.of(end_shows(text, scan)))
 }
 
 // What shows that a byte is refused.
-fn byte_shows(scan: Scan, class: Class, byte: u8) -> Evidence
-    ensures { (text : List ℕ) (k : ℕ) → evidence_at result
-        ≡ spec.byte_shows (scan_at text k scan) (class_at class) byte }
+fn byte_shows(text: &[u8], index: usize, class: Class, scan: Scan) -> Evidence
+    requires inside { index < length text.now }
+    requires pending { pending_from scan ≤ index }
+    ensures { evidence_at result ≡ spec.byte_shows (scan_at text.now index scan)
+        (class_at class) (get_or text.now index 0) }
 {
     match scan {
-        Scan::At(place) => place_shows(place, class, byte),
+        Scan::At(place) => place_shows(text, index, class, place),
         Scan::InAttributeName { typed, .. } => Evidence::One(name_origin(typed)),
+        Scan::InUrl {
+            place,
+            reference,
+            ..
+        } => in_value(text, index, class, place, reference),
         _ => Evidence::One(Member::Whole),
     }
 }
 
-fn place_shows(place: Place, class: Class, byte: u8) -> Evidence
-    ensures { evidence_at result ≡ spec.place_shows place (class_at class) byte }
+fn place_shows(text: &[u8], index: usize, class: Class, place: Place) -> Evidence
+    requires inside { index < length text.now }
+    ensures { evidence_at result
+        ≡ spec.place_shows place (class_at class) (get_or text.now index 0) }
 {
     match place {
         Place::Comment(_) => Evidence::One(Member::CommentDash),
         Place::Tag(tag) => Evidence::One(tag_shows(class, tag.spots)),
-        Place::Value(value) => in_value(value, class, byte),
+        Place::Value(value) => in_value(text, index, class, value, None),
         Place::Block(_) => Evidence::One(Member::BlockLt),
         _ => Evidence::One(Member::Whole),
     }
 }
 
-fn in_value(place: ValuePlace, class: Class, _byte: u8) -> Evidence
-    ensures { evidence_at result
-        ≡ value_shows (body_error place.body _byte) place.quotes (class_at class) }
+// In a value, by what its language refuses and then by its quotes.
+fn in_value(
+    text: &[u8],
+    index: usize,
+    class: Class,
+    place: ValuePlace,
+    reference: Option<OpenReference>,
+) -> Evidence
+    requires inside { index < length text.now }
+    requires pending { reference_from reference ≤ index }
+    ensures { evidence_at result ≡ value_shows place
+        (open_reference_at text.now index reference) (class_at class) (get_or text.now index 0) }
 {
     match place.body {
         Body::Plain | Body::NoHole => in_quotes(place.quotes, class),
-        Body::Url(_) | Body::Js(_) | Body::Css(_) => Evidence::One(Member::Whole),
+        Body::Url(parts) => {
+            match refused_in_url(text, index, class, place.quotes, parts, reference) {
+                Some(cause) => in_url(cause.code),
+                None => in_quotes(place.quotes, class),
+            }
+        }
+        Body::Js(_) | Body::Css(_) => Evidence::One(Member::Whole),
+    }
+}
+
+fn in_url(code: Code) -> Evidence
+    ensures { evidence_at result ≡ url_shows code }
+{
+    match code {
+        Code::NotBuilt => Evidence::Two(Member::PartStart, Member::PartOpen),
+        Code::BadHTML => Evidence::One(Member::Whole),
+        _ => Evidence::One(Member::PartOpenhole),
     }
 }
 
 fn in_quotes(quotes: Quotes, class: Class) -> Evidence
-    ensures { evidence_at result ≡ value_shows None quotes (class_at class) }
+    ensures { evidence_at result ≡ quotes_show None quotes (class_at class) }
 {
     match quotes {
         Quotes::Bare(_) => bare_shows(class),
@@ -136,11 +174,42 @@ fn tag_shows(class: Class, spots: Spots) -> Member
 }
 
 // What shows that the end of a text is refused.
-fn end_shows(scan: Scan) -> Member
-    ensures { (text : List ℕ) (k : ℕ) → result ≡ spec.end_shows (scan_at text k scan) }
+fn end_shows(text: &[u8], scan: Scan) -> Member
+    requires pending { pending_from scan ≤ length text.now }
+    ensures { result ≡ spec.end_shows (scan_at text.now (length text.now) scan) }
 {
     match scan {
         Scan::InAttributeName { typed, .. } => name_origin(typed),
+        Scan::InUrl {
+            place,
+            reference,
+            ..
+        } => match at_end(text, scan) {
+            Some(_) => Member::PartOpenhole,
+            None => {
+                let opened = opened_before(text, place.body, reference);
+                lexeme_shows(lexeme_at_end(text, scan), opened)
+            }
+        },
+        Scan::At(_) => lexeme_shows(lexeme_at_end(text, scan), Member::PartOpen),
+        _ => Member::Whole,
+    }
+}
+
+// The member before the end of a text in a URL from which its beginning comes.
+fn opened_before(text: &[u8], body: Body, reference: Option<OpenReference>) -> Member
+    requires pending { reference_from reference ≤ length text.now }
+    ensures { result ≡ spec.body_origin body
+        (as_it_stands (open_reference_at text.now (length text.now) reference)) (member.PartOpen) }
+{
+    behind_end(Origins::same(), text, body, reference).of(Member::PartOpen)
+}
+
+fn lexeme_shows(code: Option<Code>, opened: Member) -> Member
+    ensures { result ≡ spec.lexeme_shows code opened }
+{
+    match code {
+        Some(Code::NotBuilt) => opened,
         _ => Member::Whole,
     }
 }

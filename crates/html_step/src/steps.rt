@@ -1,12 +1,15 @@
-ghost use Rattle.std.specs.Prelude.{◌≡◌, ◌<◌, ◌≤◌, ◌-◌, ◌^◌, IfErr, length};
+ghost use Rattle.std.specs.Prelude.{◌≡◌, ◌<◌, ◌≤◌, ◌-◌, ◌^◌, ℕ, List, IfErr, length};
+ghost use Rattle.place_core.specs.place.Errors as errors;
 ghost use Rattle.html_scan.specs.ScanViews.{scan_at, pending_from};
-ghost use Rattle.html_scan.specs.Scans.{At, scan_shown};
-ghost use Rattle.html_step.specs.Steps.{last_shown};
+ghost use Rattle.html_scan.specs.Scans.{At, is_scan_between, scan_lexeme_error, scan_place};
 ghost use Rattle.html_step.specs.StepViews.{stepped_at};
 ghost use Rattle.html_step.specs.Steps as spec;
 
 use crate::refusal::Refusal;
-use html_scan::{Cause, Scan, at_byte, at_end, class_of, end_place, is_shown, next, shown_place};
+use html_scan::{
+    Cause, Scan, at_byte, at_end, class_of, end_place, is_between, is_shown, lexeme_at_end, next,
+    shown_place,
+};
 use place_core::{Place, StepErr};
 
 /// The place after a text of a template, from the place before it; or why the text is refused and at which of its bytes, with
@@ -14,14 +17,17 @@ use place_core::{Place, StepErr};
 ///
 /// - `BadHTML`: in a tag, a quote or a `<` in or before a name, and a `=` before one; in a value without quotes a quote; there
 ///   and before such a value a `<`, a `=` or a grave accent; a second `type` of a script, at the first byte of its name; a text
-///   that ends in the value of a script's `type`.
+///   that ends in the value of a script's `type`; in a URL a reference by a name that stands for no character, at its `&`.
 /// - `SplitToken`: the first byte of a text that would go on with a name, or with what may be the end of a comment, in which
 ///   the text before it ended, or with a name that is a value of data, or with the `<` in which it ended in a data block; a text
 ///   that ends in a data block in a beginning of `</script` after its `</`, or in `<!` or `<!-`.
 /// - `HtmlInScript`: a `<!--` in a data block.
-/// - `AmbigContext`: a blank that on some paths ends a value without quotes, and on others stands before one.
-/// - `NotBuilt`: the `>` before the content of a script or a style; the `=` before a value that is a URL, a script or a style; and
-///   each byte at a place in one of these.
+/// - `AmbigContext`: a blank that on some paths ends a value without quotes, and on others stands before one; in the beginning of
+///   a URL a `:`, also as a reference, behind a value of data, or where paths have spelled different things.
+/// - `PartialEscape`: a text that ends in a percent triple of a URL.
+/// - `NotBuilt`: the `>` before the content of a script or a style; the `=` before a value that is a script or a style; and each
+///   byte at a place in one of these; a text that ends in the beginning of a URL where that spells the first letters of
+///   `javascript`, `vbscript` or `data`, and the first one of these where a URL begins on some paths and has begun on others.
 ///
 /// Takes no memory, and time in proportion to the length of the text.
 pub fn after_text(place: Place, text: &str) -> Result<Place, StepErr<Place>>
@@ -49,19 +55,18 @@ pub fn place_before(place: Place, text: &str, at: u32) -> Place
     ensures { result ≡ spec.place_before text.now at place }
 {
     let text = text.as_bytes();
-    let (before, _) = text.split_at((at as usize).min(text.len()));
-    shown(before, place)
+    shown(text, (at as usize).min(text.len()), place)
 }
 
-// The place that is shown where a text has been read.
-fn shown(text: &[u8], place: Place) -> Place
-    ensures { result ≡ spec.or_shown (scan_shown
-        (last_shown text.now (At place) (At place))) place }
+// The place that is shown before a byte of a text, or at its end.
+fn shown(text: &[u8], at: usize, place: Place) -> Place
+    requires inside { at ≤ length text.now }
+    ensures { result ≡ spec.place_before text.now at place }
 {
     let mut scan = Scan::At(place);
     let mut last = scan;
     let mut end = 0;
-    for index in 0..text.len() {
+    for index in 0..at {
         if is_shown(scan) {
             last = scan;
             end = index;
@@ -70,7 +75,7 @@ fn shown(text: &[u8], place: Place) -> Place
     }
     if is_shown(scan) {
         last = scan;
-        end = text.len();
+        end = at;
     }
     match shown_place(text, end, last) {
         Some(shown) => shown,
@@ -80,12 +85,14 @@ fn shown(text: &[u8], place: Place) -> Place
 
 // The place after a text, or what is refused there first.
 fn stepped(text: &[u8], place: Place) -> Result<Place, Refusal>
-    ensures place { stepped_at result ≡ spec.stepped 0 text.now (At place) }
+    ensures place { stepped_at result ≡ spec.stepped 0 0 text.now (At place) }
     ensures bound { IfErr result (λ refusal.
         (refusal.at ≤ length text.now) × (refusal.shown ≤ length text.now)) }
 {
     let mut scan = Scan::At(place);
+    let mut since = 0;
     for index in 0..text.len() {
+        since = last_between(index, since, scan);
         let class = class_of(text[index]);
         match at_byte(text, index, class, scan) {
             Some(cause) => return Err(refused(cause, index)),
@@ -94,6 +101,36 @@ fn stepped(text: &[u8], place: Place) -> Result<Place, Refusal>
     }
     match at_end(text, scan) {
         Some(cause) => Err(refused(cause, text.len())),
+        None => ended(text, last_between(text.len(), since, scan), scan),
+    }
+}
+
+// The last place in the text at which the scan was between two lexemes, by the one before.
+#[inline(always)]
+fn last_between(index: usize, since: usize, scan: Scan) -> usize
+    ensures last { (text : List ℕ) (k : ℕ) → result
+        ≡ errors.last_between index since (is_scan_between (scan_at text k scan)) }
+    ensures bound { since ≤ index → result ≤ index }
+{
+    if is_between(scan) { index } else { since }
+}
+
+// Where a text ends, unless it ends in a lexeme that is refused there, which has begun behind `since`.
+fn ended(text: &[u8], since: usize, scan: Scan) -> Result<Place, Refusal>
+    requires pending { pending_from scan ≤ length text.now }
+    requires since { since ≤ length text.now }
+    ensures place { let after = scan_at text.now (length text.now) scan
+        in stepped_at result ≡ spec.unless_broken_off (length text.now) since
+        (scan_lexeme_error after) (scan_place after) }
+    ensures bound { IfErr result (λ refusal.
+        (refusal.at ≤ length text.now) × (refusal.shown ≤ length text.now)) }
+{
+    match lexeme_at_end(text, scan) {
+        Some(code) => Err(Refusal {
+            code,
+            at: text.len(),
+            shown: since,
+        }),
         None => Ok(end_place(text, scan)),
     }
 }

@@ -7,7 +7,7 @@ use Rattle.place_core.specs.page.Characters.{itself, begins_at, whole_at, short_
 use Rattle.place_core.specs.page.References.{ReferenceRow, names, short_names, numbers, named_in, number_at, numbered_reference, number_in_reference, replacement}
 use Rattle.html_words.proofs.Encodings.{IsCode}
 
-low : (c : ℕ) → c < 55296 → IsCode c
+pub low : (c : ℕ) → c < 55296 → IsCode c
 low c h = record { low = omega arith; whole = inl h }
 
 replaced : IsCode replacement
@@ -18,10 +18,10 @@ code_if true x y f g = f refl
 code_if false x y f g = g refl
 
 -- the characters of a table are below the surrogates
-abbrev are_low : {A : Type 0} → List (ReferenceRow A) → Bool
+abbrev pub are_low : {A : Type 0} → List (ReferenceRow A) → Bool
 are_low rows = list_all (λ r. nat_lt r.code 55296) rows
 
-named_code : (rows : List (ReferenceRow (List ℕ))) (name : List ℕ) → are_low rows ≡ true → IsCode (named_in rows name)
+pub named_code : (rows : List (ReferenceRow (List ℕ))) (name : List ℕ) → are_low rows ≡ true → IsCode (named_in rows name)
 named_code [] name e = replaced
 named_code (r ∷ rows) name e =
     let h = and_parts (nat_lt r.code 55296) (are_low rows) e in
@@ -43,7 +43,7 @@ good_number n e =
       | inr f ↦ record { low = below; whole = inr (omega (arith, leb-false n 57343 f)) }
     ]
 
-numbered_code : (n : ℕ) → IsCode (numbered_reference n)
+pub numbered_code : (n : ℕ) → IsCode (numbered_reference n)
 numbered_code n = code_if (n == 0 || (nat_le 1114112 n || (nat_le 55296 n && nat_le n 57343))) _ _ (λ t. replaced) (λ f. number_code numbers n refl (good_number n f))
 
 -- the character of what was found

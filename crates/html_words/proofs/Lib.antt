@@ -9,5 +9,6 @@ mod Lengths
 mod Machine
 mod Numbers
 mod OneByOne
+mod Scalars
 mod ScriptExamples
 mod TypeWords

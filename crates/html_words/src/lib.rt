@@ -12,6 +12,7 @@ mod reference;
 mod script;
 mod script_value;
 mod special_name;
+mod stood_for;
 mod utf8;
 mod words;
 
@@ -22,4 +23,5 @@ pub use ref_chars::RefChars;
 pub use script::script_type;
 pub use script_value::script_type_in_value;
 pub use special_name::special;
+pub use stood_for::{named_char, numbered_char, short_char};
 pub use words::{begins, same};

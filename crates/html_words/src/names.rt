@@ -2,6 +2,7 @@
 ghost use Rattle.std.specs.Prelude.{◌≡◌, map};
 ghost use Rattle.place_core.specs.page.Characters.{begins_at, whole_at};
 ghost use Rattle.place_core.specs.page.References.{names, reference_row, short_names};
+ghost use Rattle.html_words.specs.ShortNames as short;
 ghost use Rattle.place_core.specs.page.References as spec;
 
 use crate::number::REPLACEMENT;
@@ -91,6 +92,13 @@ pub fn short_whole(name: &[u8]) -> (u32, usize)
     whole_in(name, &SHORT_NAMES)
 }
 
+/// Its character, where it is one.
+pub fn short_name(name: &[u8]) -> Option<u32>
+    ensures { result ≡ short.short_in short_names name.now }
+{
+    short_in(name, &SHORT_NAMES)
+}
+
 fn named_in(name: &[u8], rows: &[(&[u8], u32)]) -> u32
     ensures { result ≡ spec.named_in (map (λ r. reference_row r.0.now r.1) rows.now) name.now }
 {
@@ -122,4 +130,15 @@ fn whole_in(name: &[u8], rows: &[(&[u8], u32)]) -> (u32, usize)
         }
     }
     ITSELF
+}
+
+fn short_in(name: &[u8], rows: &[(&[u8], u32)]) -> Option<u32>
+    ensures { result ≡ short.short_in (map (λ r. reference_row r.0.now r.1) rows.now) name.now }
+{
+    for row in rows {
+        if row.0 == name {
+            return Some(row.1);
+        }
+    }
+    None
 }

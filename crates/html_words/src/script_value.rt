@@ -20,7 +20,8 @@ pub fn script_type_in_value(value: &[u8]) -> bool
 
 // Whether a value is one of these words, which are in lower case, up to white space and parameters at its end.
 fn is_any_type(value: &[u8], words: &[&[u8]]) -> bool
-    ensures { result ≡ spec.is_any_type (map (λ word. word.now) words.now) (undone_value value.now) }
+    ensures { result ≡ spec.is_any_type (map (λ word. word.now) words.now)
+        (undone_value value.now) }
 {
     for word in words {
         if is_type_word(value, word) {

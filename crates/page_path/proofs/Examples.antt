@@ -12,7 +12,7 @@ use Rattle.page_path.specs.Textual.{AreTextual, IsTextBy}
 use Rattle.place_core.specs.page.Classes.{class_of}
 use Rattle.place_core.specs.page.Html.{read, start}
 use Rattle.place_core.specs.page.Paths.{Hole, Written}
-use Rattle.place_core.specs.page.References.{Closed, meaning}
+use Rattle.place_core.specs.page.References.{Closed, flushed, meaning}
 use Rattle.place_core.specs.page.States.{Config, Page, LexState, TagOpen, Text}
 use Rattle.place_core.specs.page.Tags.{ValueState}
 use Rattle.place_core.specs.declared.place.Place.{Place}
@@ -27,6 +27,7 @@ use Rattle.tpl_tree.specs.Pipes.{command, dot, no_commands, single, with_fields}
 use Rattle.tpl_tree.specs.Trees.{NodesData, no_nodes, node}
 use Rattle.tpl_tree.specs.declared.node_kind.NodeKind.{NodeKind}
 use Rattle.tpl_tree.specs.declared.node_kind.NodeKind.TheVariants as kind
+use Rattle.url_lexer.specs.Classes.{url_class_of}
 
 abbrev name : List ℕ
 name = codes "a.html"
@@ -95,6 +96,10 @@ raw_in_a_name = refl
 raw_in_a_comment : read Page (codes "ab") start ≡ with_text (codes "a<!-- ") (codes "-->") (codes " -->b")
 unfolding class_of
 raw_in_a_comment = refl
+
+raw_behind_a_url : read Page (codes "<a href=/b?c&amp;d>&lt;</a>") start ≡ with_text (codes "<a href=/b?c&amp;d>") (codes "<") (codes "</a>")
+unfolding class_of url_class_of meaning flushed lib.Utf8.encode
+raw_behind_a_url = refl
 
 -- a value as it is reads as more than its text
 not_raw : read Page (codes "<b><i a></b>") start ≡ with_text (codes "<b>") (codes "<i a>") (codes "</b>") → ⊥

@@ -1,5 +1,5 @@
 -- Wherever a hole may stand on a path, its sanitizer keeps what it promises there, and what it writes reads back.
-use Rattle.std.proofs.Common.{◌≡◌, ℕ, List, [], Bool, true, false, Option, Some, None, if◌then◌else◌, Ok, Err, refl, subst, IsUtf8}
+use Rattle.std.proofs.Common.{◌≡◌, ℕ, List, [], Bool, true, false, Option, Some, None, option_map, if◌then◌else◌, Ok, Err, refl, subst, IsUtf8}
 use Rattle.html_step.proofs.HoleOrder.{covers-hole}
 use Rattle.html_step.specs.Holes.{Holed, after_hole, only}
 use Rattle.page_datum.specs.Data.{Data}
@@ -12,8 +12,10 @@ use Rattle.place_core.specs.page.Plain.{settled_state}
 use Rattle.place_core.specs.place.Places.{IsValid}
 use Rattle.place_core.specs.page.References.{Closed, Reference}
 use Rattle.place_core.specs.place.StatePlaces.{content_spot, only_after, only_inside, placed, tag_spot, quotes_at, value_body, value_spot, where_closed}
+use Rattle.place_core.specs.place.UrlParts.{parts_of}
 use Rattle.place_core.specs.page.States.{AfterAttributeName, AfterAttributeValue, AttributeValue, BeforeAttributeName, BeforeAttributeValue, Broken, Bytes, Characters, CommentState, Content, Pending, InComment, InContent, Inside, LessAtCut, Nothing, SelfClosingStartTag, LexState, Text, WholeAttributeName}
-use Rattle.place_core.specs.page.Tags.{DoubleQuoted, Quoting, SingleQuoted, Tag, Unquoted, Value, ValueOf, ValueState, is_second_type, languages, without_value}
+use Rattle.place_core.specs.page.Tags.{DoubleQuoted, Quoting, SingleQuoted, Tag, Unquoted, Value, ValueOf, ValueState, OfKind, OfUrl, is_second_type, languages, without_value}
+use Rattle.place_core.specs.declared.body.Body.TheVariants as body
 use Rattle.place_core.specs.declared.chain.Chain.{Chain}
 use Rattle.place_core.specs.declared.element.Element.{Element}
 use Rattle.place_core.specs.declared.element.Element.TheVariants as element
@@ -30,6 +32,8 @@ use Rattle.san_html.specs.ReadBack.{BeginsName, IsBackInBlock, IsBackInQuoted, I
 use Rattle.san_html.specs.Sanitizers.{attr_name, html, html_rows}
 use Rattle.text_norm.specs.HoleLaws.{IsBackBy, leaves_out}
 use Rattle.text_norm.specs.StandsLaws.{holds_nothing}
+use Rattle.url_lexer.specs.Parts.{UrlPart}
+use Rattle.url_lexer.specs.Spots.{url_spot}
 
 -- Nothing is held back, and bytes read back as a datum, where what the path's value has pending back is settled. In a comment there are none.
 abbrev pub BackUnless : Bool → LexState ValueState → Data → List ℕ → Type 0
@@ -89,22 +93,22 @@ in-block = record {
 in-comment : (s : CommentState) → IsSafe (only san.Drop) (InComment s)
 in-comment s = record { promised = λ datum u. refl; back = λ datum u. tt }
 
-in-double : (tag : Tag) → IsSafe (only san.Attr) (in_value DoubleQuoted tag (ValueOf kind.Plain))
+in-double : (tag : Tag) → IsSafe (only san.Attr) (in_value DoubleQuoted tag (ValueOf (OfKind kind.Plain)))
 in-double tag = record {
   promised = λ datum u. quoted-back (printed datum) u;
-  back = λ datum u. (refl, (quoted-back (printed datum) u).reads DoubleQuoted tag (ValueOf kind.Plain) [] refl);
+  back = λ datum u. (refl, (quoted-back (printed datum) u).reads DoubleQuoted tag (ValueOf (OfKind kind.Plain)) [] refl);
 }
 
-in-single : (tag : Tag) → IsSafe (only san.Attr) (in_value SingleQuoted tag (ValueOf kind.Plain))
+in-single : (tag : Tag) → IsSafe (only san.Attr) (in_value SingleQuoted tag (ValueOf (OfKind kind.Plain)))
 in-single tag = record {
   promised = λ datum u. quoted-back (printed datum) u;
-  back = λ datum u. (refl, (quoted-back (printed datum) u).reads SingleQuoted tag (ValueOf kind.Plain) [] refl);
+  back = λ datum u. (refl, (quoted-back (printed datum) u).reads SingleQuoted tag (ValueOf (OfKind kind.Plain)) [] refl);
 }
 
-in-unquoted : (tag : Tag) → IsSafe (only san.AttrNospace) (in_value Unquoted tag (ValueOf kind.Plain))
+in-unquoted : (tag : Tag) → IsSafe (only san.AttrNospace) (in_value Unquoted tag (ValueOf (OfKind kind.Plain)))
 in-unquoted tag = record {
   promised = λ datum u. unquoted-back (printed datum) u;
-  back = λ datum u. (refl, (unquoted-back (printed datum) u).reads tag (ValueOf kind.Plain) []);
+  back = λ datum u. (refl, (unquoted-back (printed datum) u).reads tag (ValueOf (OfKind kind.Plain)) []);
 }
 
 before-value : (tag : Tag) → IsSafe (only san.AttrNospace) (BeforeAttributeValue tag kind.Plain)
@@ -129,11 +133,18 @@ content-safe Nothing Bytes element.DataBlock = in-block
 content-safe LessAtCut Bytes element.DataBlock = tt
 content-safe _ _ _ = tt
 
+-- a hole in a URL is not built
+url-safe : (o : Option UrlPart) (q : Quoting) (tag : Tag) (s : LexState ValueState)
+    → SafeAt s (value_spot tag (quotes_at q) (option_map (λ p. body.Url (parts_of p)) o))
+url-safe None q tag s = tt
+url-safe (Some p) q tag s = tt
+
 value-safe : (r : Reference) (v : Value ValueState) (q : Quoting) (tag : Tag)
     → SafeAt (AttributeValue q tag v r) (where_closed r (value_spot tag (quotes_at q) (value_body v)))
-value-safe Closed (ValueOf kind.Plain) DoubleQuoted tag = in-double tag
-value-safe Closed (ValueOf kind.Plain) SingleQuoted tag = in-single tag
-value-safe Closed (ValueOf kind.Plain) Unquoted tag = in-unquoted tag
+value-safe Closed (ValueOf (OfKind kind.Plain)) DoubleQuoted tag = in-double tag
+value-safe Closed (ValueOf (OfKind kind.Plain)) SingleQuoted tag = in-single tag
+value-safe Closed (ValueOf (OfKind kind.Plain)) Unquoted tag = in-unquoted tag
+value-safe Closed (ValueOf (OfUrl u)) q tag = url-safe (url_spot u) q tag (AttributeValue q tag (ValueOf (OfUrl u)) Closed)
 value-safe _ _ _ tag = tt
 
 -- after a name, unless it is a second `type`, where a path is at no place

@@ -2,13 +2,15 @@
 use Rattle.std.proofs.Common.{◌≡◌, [], ◌∷◌, codes, refl, true, false, Some}
 use Rattle.place_core.specs.page.Characters.{char_at, characters_at}
 use Rattle.place_core.specs.page.Classes.{class_of}
-use Rattle.place_core.specs.page.Events.{Escape, StartTagBegins, EndTagBegins, AttributeBegins, AttributeNameEnds, TagEnds, Comment, DoctypeBegins, DoctypeEnds, event_text_bytes, block_bytes, value_bytes, attribute_name_bytes, doctype_bytes, tag_name_bytes}
+use Rattle.place_core.specs.page.Events.{Escape, StartTagBegins, EndTagBegins, AttributeBegins, AttributeNameEnds, ValueScheme, TagEnds, Comment, DoctypeBegins, DoctypeEnds, event_text_bytes, block_bytes, value_bytes, attribute_name_bytes, doctype_bytes, tag_name_bytes}
 use Rattle.place_core.specs.page.Html.{read, start}
 use Rattle.place_core.specs.page.References.{Closed, Open, Named, meaning, flushed, undone}
 use Rattle.place_core.specs.page.States.{Page, Template, Text, InComment, Inside, Unread, AttributeValue, BeforeAttributeValue, config}
-use Rattle.place_core.specs.page.Tags.{tag_named, ValueOf, Unquoted}
+use Rattle.place_core.specs.page.Tags.{tag_named, ValueOf, OfKind, Unquoted}
 use Rattle.place_core.specs.page.Utf8.{Before, decoded}
 use Rattle.place_core.specs.page.Words.{kind_of, is_special, is_script_type}
+use Rattle.url_lexer.specs.Classes.{url_class_of}
+use Rattle.url_lexer.specs.Events.{NoScheme}
 use Rattle.place_core.specs.declared.element.Element.TheVariants as element
 use Rattle.place_core.specs.declared.kind.Kind.TheVariants as kind
 
@@ -18,8 +20,8 @@ unfolding class_of meaning flushed lib.Utf8.encode
 paragraph = refl
 
 -- attributes: without a value, unquoted, and quoted with a reference; the tag closes itself
-attributes : read Page (codes "<a x Href=b c='&lt=1&lt;'/>") start ≡ config (Text Closed) (TagEnds true ∷ value_bytes (codes "&lt=1<") (AttributeNameEnds kind.Plain ∷ attribute_name_bytes (codes "c") (AttributeBegins ∷ value_bytes (codes "b") (AttributeNameEnds kind.Url ∷ attribute_name_bytes (codes "href") (AttributeBegins ∷ AttributeNameEnds kind.Plain ∷ attribute_name_bytes (codes "x") (AttributeBegins ∷ tag_name_bytes (codes "a") (StartTagBegins ∷ [])))))))
-unfolding class_of meaning flushed lib.Utf8.encode
+attributes : read Page (codes "<a x Href=b c='&lt=1&lt;'/>") start ≡ config (Text Closed) (TagEnds true ∷ value_bytes (codes "&lt=1<") (AttributeNameEnds kind.Plain ∷ attribute_name_bytes (codes "c") (AttributeBegins ∷ ValueScheme NoScheme ∷ value_bytes (codes "b") (AttributeNameEnds kind.Url ∷ attribute_name_bytes (codes "href") (AttributeBegins ∷ AttributeNameEnds kind.Plain ∷ attribute_name_bytes (codes "x") (AttributeBegins ∷ tag_name_bytes (codes "a") (StartTagBegins ∷ [])))))))
+unfolding class_of meaning flushed url_class_of lib.Utf8.encode
 attributes = refl
 
 -- the attributes of an end tag
@@ -51,7 +53,7 @@ unbegun : (read Page (codes "<p title= ") start).at ≡ BeforeAttributeValue (ta
 unfolding class_of meaning flushed lib.Utf8.encode
 unbegun = refl
 
-unquoted : (read Page (codes "<p title=a&l") start).at ≡ AttributeValue Unquoted (tag_named false (codes "p")) (ValueOf kind.Plain) (Open Named (codes "l"))
+unquoted : (read Page (codes "<p title=a&l") start).at ≡ AttributeValue Unquoted (tag_named false (codes "p")) (ValueOf (OfKind kind.Plain)) (Open Named (codes "l"))
 unfolding class_of meaning flushed lib.Utf8.encode
 unquoted = refl
 

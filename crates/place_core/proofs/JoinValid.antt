@@ -54,14 +54,12 @@ parts_some s t = ap (λ z. (s.start || t.start) || (z || ((s.openhole || t.openh
 of_first : (c a b : Bool) → c ≡ (a || b) → a ≡ true → c ≡ true
 of_first c a b e h = e ∙ ap (λ z. z || b) h
 
-prefix_valid : (p q : Prefix) (x : Bool) → IsValidPrefix (Some p) → IsValidPrefix (Some (if x then p else prefix.Differs))
-prefix_valid p q true h = h
-prefix_valid p q false h = tt
-
 prefixes_valid : (p q : Option Prefix) → IsValidPrefix p → IsValidPrefix q → IsValidPrefix (both_prefixes p q)
 prefixes_valid None q h k = k
 prefixes_valid (Some p) None h k = h
-prefixes_valid (Some p) (Some q) h k = prefix_valid p q (same_prefix p q) h
+prefixes_valid (Some prefix.Off) (Some prefix.Off) h k = tt
+prefixes_valid (Some prefix.Off) (Some _) h k = absurd k
+prefixes_valid (Some _) (Some q) h k = absurd h
 
 parts_valid : (s t : Parts) → IsValidParts s → IsValidParts t → IsValidParts (both_parts s t)
 parts_valid s t h k = (of_first (some_part (both_parts s t)) (some_part s) (some_part t) (parts_some s t) h.0, prefixes_valid s.opened t.opened h.1 k.1)

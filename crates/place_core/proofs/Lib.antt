@@ -8,6 +8,7 @@ pub mod Joins
 pub mod NotPlain
 pub mod PathExamples
 pub mod PlaceExamples
+pub mod UrlPathExamples
 pub mod Readings
 pub mod Semilattices
 pub mod Texts

@@ -4,7 +4,7 @@ use Rattle.place_core.specs.page.Classes.{class_of}
 use Rattle.place_core.specs.page.Plain.{IsPlain}
 use Rattle.place_core.specs.page.References.{Closed, meaning, flushed}
 use Rattle.place_core.specs.page.States.{Text, TagOpen, BeforeAttributeName, BeforeAttributeValue, AttributeValue, InContent, Characters, Bytes, Nothing, PendingName, config}
-use Rattle.place_core.specs.page.Tags.{tag_named, ValueOf, DoubleQuoted, Unquoted}
+use Rattle.place_core.specs.page.Tags.{tag_named, ValueOf, OfKind, DoubleQuoted, Unquoted}
 use Rattle.place_core.specs.declared.element.Element.TheVariants as element
 use Rattle.place_core.specs.declared.kind.Kind.TheVariants as kind
 
@@ -36,15 +36,15 @@ in_end_tag : IsPlain (codes "ript>") (config (InContent element.DataBlock Bytes 
 unfolding class_of meaning flushed lib.Utf8.encode
 in_end_tag p = p.1
 
-quote_in_value : IsPlain (codes "\"") (config (AttributeValue DoubleQuoted (tag_named false (codes "p")) (ValueOf kind.Plain) Closed) []) → ⊥
+quote_in_value : IsPlain (codes "\"") (config (AttributeValue DoubleQuoted (tag_named false (codes "p")) (ValueOf (OfKind kind.Plain)) Closed) []) → ⊥
 unfolding class_of meaning flushed lib.Utf8.encode
 quote_in_value p = cc
 
-in_handler : IsPlain (codes "a") (config (AttributeValue DoubleQuoted (tag_named false (codes "p")) (ValueOf kind.Script) Closed) []) → ⊥
+in_handler : IsPlain (codes "a") (config (AttributeValue DoubleQuoted (tag_named false (codes "p")) (ValueOf (OfKind kind.Script)) Closed) []) → ⊥
 unfolding class_of meaning flushed lib.Utf8.encode
-in_handler p = p.1
+in_handler p = p.1.leads
 
-blank_in_unquoted : IsPlain (codes "a b") (config (AttributeValue Unquoted (tag_named false (codes "p")) (ValueOf kind.Plain) Closed) []) → ⊥
+blank_in_unquoted : IsPlain (codes "a b") (config (AttributeValue Unquoted (tag_named false (codes "p")) (ValueOf (OfKind kind.Plain)) Closed) []) → ⊥
 unfolding class_of meaning flushed lib.Utf8.encode
 blank_in_unquoted p = cc
 

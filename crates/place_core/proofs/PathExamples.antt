@@ -1,7 +1,7 @@
 -- Worked examples of how paths are read: nodes with their cuts, holes, places, and what is refused, by computing.
 use Rattle.std.proofs.Common.{◌≡◌, [], ◌∷◌, codes, refl, true, false, Some, None}
 use Rattle.place_core.specs.page.Classes.{White, class_of}
-use Rattle.place_core.specs.place.Errors.{byte_clash, node, refusal_from, states}
+use Rattle.place_core.specs.place.Errors.{byte_clash, node, path_refusal, states}
 use Rattle.place_core.specs.page.Events.{TextByte, StartTagBegins, AttributeBegins, AttributeNameEnds, TagEnds, Mark, event_text_bytes, value_bytes, attribute_name_bytes, tag_name_bytes}
 use Rattle.place_core.specs.page.Html.{read, start}
 use Rattle.place_core.specs.page.Paths.{Written, Hole, at_hole, read_path}
@@ -76,35 +76,35 @@ unfolding class_of meaning flushed lib.Utf8.encode
 in_reference = refl
 
 -- what is refused, and where
-no_refusal : refusal_from 0 (codes "<p a=b c='d' e>f</p g=h><!-- i --><title>j</title>") (Text Closed) ≡ None
+no_refusal : path_refusal (codes "<p a=b c='d' e>f</p g=h><!-- i --><title>j</title>") (Text Closed) ≡ None
 unfolding class_of meaning flushed lib.Utf8.encode
 no_refusal = refl
 
-equals_refused : refusal_from 0 (codes "<a x='y'=z>") (Text Closed) ≡ Some (record { code = code.BadHTML; at = 8; shown = 8 })
+equals_refused : path_refusal (codes "<a x='y'=z>") (Text Closed) ≡ Some (record { code = code.BadHTML; at = 8; shown = 8 })
 unfolding class_of meaning flushed lib.Utf8.encode
 equals_refused = refl
 
-second_type : refusal_from 0 (codes "<script type a TYPE>") (Text Closed) ≡ Some (record { code = code.BadHTML; at = 15; shown = 15 })
+second_type : path_refusal (codes "<script type a TYPE>") (Text Closed) ≡ Some (record { code = code.BadHTML; at = 15; shown = 15 })
 unfolding class_of meaning flushed lib.Utf8.encode
 second_type = refl
 
-second_type_cut : refusal_from 0 (codes "<script type Type") (Text Closed) ≡ Some (record { code = code.BadHTML; at = 13; shown = 13 })
+second_type_cut : path_refusal (codes "<script type Type") (Text Closed) ≡ Some (record { code = code.BadHTML; at = 13; shown = 13 })
 unfolding class_of meaning flushed lib.Utf8.encode
 second_type_cut = refl
 
-url_not_built : refusal_from 0 (codes "<a href =") (Text Closed) ≡ Some (record { code = code.NotBuilt; at = 8; shown = 8 })
+style_not_built : path_refusal (codes "<a style =") (Text Closed) ≡ Some (record { code = code.NotBuilt; at = 9; shown = 9 })
 unfolding class_of meaning flushed lib.Utf8.encode
-url_not_built = refl
+style_not_built = refl
 
-script_not_built : refusal_from 0 (codes "<script/>") (Text Closed) ≡ Some (record { code = code.NotBuilt; at = 8; shown = 8 })
+script_not_built : path_refusal (codes "<script/>") (Text Closed) ≡ Some (record { code = code.NotBuilt; at = 8; shown = 8 })
 unfolding class_of meaning flushed lib.Utf8.encode
 script_not_built = refl
 
-name_goes_on : refusal_from 0 (codes "x") (at_hole languages (node (codes "<p ") (Text Closed))) ≡ Some (record { code = code.SplitToken; at = 0; shown = 0 })
+name_goes_on : path_refusal (codes "x") (at_hole languages (node (codes "<p ") (Text Closed))) ≡ Some (record { code = code.SplitToken; at = 0; shown = 0 })
 unfolding class_of meaning flushed lib.Utf8.encode
 name_goes_on = refl
 
-dash_goes_on : refusal_from 0 (codes "->") (node (codes "<!-- a -") (Text Closed)) ≡ Some (record { code = code.SplitToken; at = 0; shown = 0 })
+dash_goes_on : path_refusal (codes "->") (node (codes "<!-- a -") (Text Closed)) ≡ Some (record { code = code.SplitToken; at = 0; shown = 0 })
 unfolding class_of meaning flushed lib.Utf8.encode
 dash_goes_on = refl
 

@@ -5,3 +5,4 @@ pub mod Membership
 pub mod NotBuiltPlaces
 pub mod Places
 pub mod StatePlaces
+pub mod UrlParts

@@ -18,8 +18,8 @@ use crate::spots::Spots;
 use crate::tag_place::TagPlace;
 
 /// Whether a place is valid; paths come to no others. Each of its sets has a member, but for those of what a text ended in; a kind
-/// stands exactly where the place may be in or after an attribute's name; and what the beginning of a URL spells is at least one
-/// letter of its word, and no more than all.
+/// stands exactly where the place may be in or after an attribute's name; and the beginning of a URL spells none of `javascript`,
+/// `vbscript` and `data`, nor the first letters of one.
 pub fn is_valid(place: Place) -> bool
     ensures { IsTrue result ↔ IsValid place }
 {
@@ -93,15 +93,15 @@ fn is_valid_url(parts: Parts) -> bool
     some_part(parts) && is_valid_prefix(parts.opened)
 }
 
-// At least one letter is spelled, and at most all letters of the word.
+// Where a text may end, the beginning of a URL spells no word that is looked for.
 fn is_valid_prefix(prefix: Option<Prefix>) -> bool
     ensures { IsTrue result ↔ IsValidPrefix prefix }
 {
     match prefix {
-        Some(Prefix::Javascript(count)) => 1 <= count && count <= 10,
-        Some(Prefix::Vbscript(count)) => 1 <= count && count <= 8,
-        Some(Prefix::DataScheme(count)) => 1 <= count && count <= 4,
-        Some(Prefix::Off | Prefix::Differs) | None => true,
+        Some(
+            Prefix::Javascript(_) | Prefix::Vbscript(_) | Prefix::DataScheme(_) | Prefix::Differs,
+        ) => { false }
+        Some(Prefix::Off) | None => true,
     }
 }
 

@@ -1,7 +1,7 @@
 -- Where an edge is accepted from a place, no error stands there on a path that the place stands for.
 use Rattle.std.proofs.Common.{◌≡◌, ℕ, Bool, true, false, List, Option, Some, None, Result, Ok, Err, refl, sym, ap, ◌∙◌, subst, if◌then◌else◌, inl, inr}
 use Rattle.place_flow.specs.HtmlCovering.{behind_hole, behind_text}
-use Rattle.place_core.specs.place.Errors.{PathRefuses, RefusesHole, refusal_from}
+use Rattle.place_core.specs.place.Errors.{PathRefuses, RefusesHole, path_refusal}
 use Rattle.place_core.specs.place.Membership.{IsIn}
 use Rattle.place_core.specs.place.Places.{Below, IsValid}
 use Rattle.place_core.specs.place.StatePlaces.{placed}
@@ -12,7 +12,7 @@ use Rattle.place_core.specs.declared.place.Place.{Place}
 use Rattle.place_core.specs.declared.step_err.StepErr.{StepErr}
 use Rattle.html_step.proofs.EscapeOrder.{grows-escape}
 use Rattle.html_step.proofs.HoleOrder.{accepts-hole}
-use Rattle.html_step.proofs.TextEvidences.{accepts-text, none-refused}
+use Rattle.html_step.proofs.AcceptedTexts.{accepts-text, none-refused}
 use Rattle.html_step.specs.Holes.{Holed, after_hole}
 use Rattle.html_step.specs.Steps.{after_text}
 use Rattle.html_step.specs.declared.escaper.Escaper.TheVariants as escaper
@@ -52,7 +52,7 @@ taken-parts false x h = absurd h
 
 text-clear : (bytes : List ℕ) (p : Place) (s : LexState ValueState) (o : Result Place (StepErr Place)) → IsValid p → IsIn p s → after_text bytes p ≡ o → IsTaken (reaches_or_refused (behind_text o)) → (e : StepErr Place) → PathRefuses bytes s e → ⊥
 text-clear bytes p s (Ok q) v i is taken e r =
-    none-refused (record { code = e.code; at = e.at; shown = r.shown }) (refusal_from 0 bytes s) (accepts-text bytes p q s v is i).0 r.stands
+    none-refused (record { code = e.code; at = e.at; shown = r.shown }) (path_refusal bytes s) (accepts-text bytes p q s v is i).0 r.stands
 text-clear bytes p s (Err x) v i is taken e r = taken
 
 hole-clear : (p : Place) (s : LexState ValueState) (o : Holed) → IsValid p → IsIn p s → after_hole p ≡ o → IsTaken (reaches_or_refused (behind_hole o)) → (e : Code) → RefusesHole s e → ⊥

@@ -34,7 +34,7 @@ use Rattle.tpl_paths.specs.Edges.{Edge, Point, Within, before, calls, edges_in, 
 use Rattle.tpl_paths.specs.Paths.{IsPath, Move, Open, Standing, reached, signs_of, open_standing}
 use Rattle.tpl_tree.specs.Forests.{ForestData, number_named}
 use Rattle.html_step.proofs.MetApart.{met-apart}
-use Rattle.html_step.proofs.TextEvidences.{accepts-text}
+use Rattle.html_step.proofs.AcceptedTexts.{accepts-text}
 use Rattle.html_step.specs.Apart.{ClashesApart}
 use Rattle.place_chart.proofs.ConflictFreeCharts.{root-is-chart}
 use Rattle.place_laws.proofs.TwoPaths.{IsShownApart, shown-along}

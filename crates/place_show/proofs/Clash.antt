@@ -1,7 +1,7 @@
 -- A text that the join of the places of two paths refuses at a byte that each of them takes is refused on the two together, and that is shown.
 use Rattle.std.proofs.Common.{◌≡◌, ◌<◌, ℕ, zero, suc, List, [], ◌∷◌, take, Option, Some, None, Result, Ok, Err, refl, sym, ap, ◌∙◌, arith, ◌⊎◌, inl, inr}
-use Rattle.html_step.proofs.Clashing.{IsUnbegun, IsUnquoted, clash-is}
 use Rattle.html_step.proofs.OneTexts.{one-before, one-text}
+use Rattle.html_step.proofs.OwnClash.{no-own-clash}
 use Rattle.html_step.proofs.TextEvidences.{evidence-text}
 use Rattle.html_step.specs.Apart.{PartWithin}
 use Rattle.html_step.specs.Laws.{IsEvidence, EvidenceData, apart, one, two}
@@ -11,12 +11,12 @@ use Rattle.place_core.proofs.JoinValid.{the_join_valid}
 use Rattle.place_core.proofs.Joins.{the_join_above}
 use Rattle.place_core.proofs.Semilattices.{one_value}
 use Rattle.place_core.specs.page.Classes.{class_of}
-use Rattle.place_core.specs.place.Errors.{Clashes, PathRefusal, PathRefuses, refusal_from, shown_place}
+use Rattle.place_core.specs.place.Errors.{Clashes, PathRefusal, PathRefuses, path_refusal, shown_place}
 use Rattle.place_core.specs.page.Html.{next}
 use Rattle.place_core.specs.place.Membership.{Bears, IsIn}
 use Rattle.place_core.specs.place.Places.{Has, IsValid, joined}
 use Rattle.place_core.specs.place.StatePlaces.{placed}
-use Rattle.place_core.specs.page.States.{BeforeAttributeValue, LexState, Template}
+use Rattle.place_core.specs.page.States.{LexState, Template}
 use Rattle.place_core.specs.page.Tags.{ValueState, languages}
 use Rattle.place_core.specs.declared.code.Code.{Code}
 use Rattle.place_core.specs.declared.member.Member.{Member}
@@ -39,16 +39,9 @@ abbrev ClashEither : List ℕ → LexState ValueState → LexState ValueState �
 ClashEither bytes s r e at = Clashes bytes s r e at ⊎ Clashes bytes r s e at
 
 -- no path clashes with itself
-not-both : (s : LexState ValueState) → IsUnbegun s → IsUnquoted s → ⊥
-not-both (BeforeAttributeValue t k) h i = i
-not-both _ h i = h
-
 not-twice : (bytes : List ℕ) (s : LexState ValueState) (e : Code) (at : ℕ) → Clashes bytes s s e at → ⊥
 not-twice [] s e at c = c
-not-twice (b ∷ bs) s e zero c = elim (clash-is s s (class_of b) b e c).1 [
-  | inl d ↦ not-both s d.0 d.1
-  | inr d ↦ not-both s d.1 d.0
-]
+not-twice (b ∷ bs) s e zero c = no-own-clash s (class_of b) b e c
 not-twice (b ∷ bs) s e (suc at) c = not-twice bs (next languages Template s (class_of b) b) e at c.2
 
 none-refused : (r : PathRefusal) (o : Option PathRefusal) → o ≡ None → o ≡ Some r → ⊥
@@ -61,10 +54,10 @@ other-byte at n x y o e f i j lt = (let same = ap (λ (r : PathRefusal). r.at) (
 module _ (bytes : List ℕ) (p : Place) (s : LexState ValueState) (own : placed s ≡ Some p) (at : ℕ) where
   -- likewise, is not refused there alone
   not-alone : (o : Result Place (StepErr Place)) → after_text bytes p ≡ o → TakesByte at o → (e : StepErr Place) → e.at ≡ at → PathRefuses bytes s e → ⊥
-  not-alone (Ok q) h takes e i r = none-refused (record { code = e.code; at = e.at; shown = r.shown }) (refusal_from 0 bytes s) ((one-text bytes p s own).0 q h).0 r.stands
+  not-alone (Ok q) h takes e i r = none-refused (record { code = e.code; at = e.at; shown = r.shown }) (path_refusal bytes s) ((one-text bytes p s own).0 q h).0 r.stands
   not-alone (Err x) h takes e i r =
       let d = (one-text bytes p s own).1 x h in
-      other-byte at x.at (record { code = x.code; at = x.at; shown = d.shown }) (record { code = e.code; at = e.at; shown = r.shown }) (refusal_from 0 bytes s) d.stands r.stands i refl takes
+      other-byte at x.at (record { code = x.code; at = x.at; shown = d.shown }) (record { code = e.code; at = e.at; shown = r.shown }) (path_refusal bytes s) d.stands r.stands i refl takes
 
   -- likewise, and is there at its place before it
   own-before : (o : Result Place (StepErr Place)) → after_text bytes p ≡ o → TakesByte at o → shown_place at bytes s ≡ Some (place_before bytes at p)

@@ -172,7 +172,7 @@ pub record HoleClashes (forest : ForestData) (sh : Showing) (a b : Seen) (w v : 
 
 -- Two paths that met apart: where both stood at one point with the same calls open, or at a byte within the text after it, they were in the
 -- beginning of a URL that spelled different things; both took the same moves from there, stayed in it, and a text is refused on both at a byte.
--- Each is shown at its place at the last such point. No two paths meet so today, since no path is in a URL.
+-- Each is shown at its place at the last such point. No two paths meet so today, since a text in which two come apart is refused.
 pub record MetApart (forest : ForestData) (sh : Showing) (a b : Seen) (w v : PathReplay) (ms ns : List Move)
     : Type 0 where
   pub bytes : List ℕ

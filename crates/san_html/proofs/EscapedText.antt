@@ -6,12 +6,12 @@ use Rattle.std.proofs.lemmas.Bool.{cases_lt, and_parts, and_from, agree_below, n
 use Rattle.std.proofs.lemmas.Str.{encode_ascii}
 use Rattle.esc_table.specs.Replaced.{row_written, replaced_all}
 use Rattle.place_core.specs.page.Classes.{class_of}
-use Rattle.place_core.specs.page.Events.{LexEvent, TextByte, BlockByte, ValueByte, event_text_bytes, block_bytes}
+use Rattle.place_core.specs.page.Events.{LexEvent, TextByte, BlockByte, ValueByte, event_text_bytes, block_bytes, value_bytes}
 use Rattle.place_core.specs.page.Html.{read}
-use Rattle.place_core.specs.page.Plain.{only_text, only_block, only_value, IsPlain}
+use Rattle.place_core.specs.page.Plain.{only_text, only_block, HasBytes, IsPlain, IsPlainInState}
 use Rattle.place_core.specs.page.References.{Closed, meaning, flushed, undone}
-use Rattle.place_core.specs.page.States.{Page, Text, config}
-use Rattle.place_core.specs.page.Tags.{Tag, Value, ValueOf, ValueState, languages, with_bytes, emitted_bytes, Quoting, DoubleQuoted, SingleQuoted, Unquoted}
+use Rattle.place_core.specs.page.States.{Page, Text, Config, config}
+use Rattle.place_core.specs.page.Tags.{Tag, Value, ValueOf, Deciding, ValueState, OfKind, languages, with_byte, with_bytes, emitted_bytes, Quoting, DoubleQuoted, SingleQuoted, Unquoted}
 use Rattle.place_core.specs.declared.element.Element.{Element}
 use Rattle.place_core.specs.declared.element.Element.TheVariants as element
 use Rattle.place_core.specs.declared.kind.Kind.{Kind}
@@ -74,14 +74,28 @@ only-block : (bs : List ℕ) (t : List LexEvent) → only_block t ≡ true → o
 only-block [] t e = e
 only-block (b ∷ bs) t e = only-block bs (BlockByte b ∷ t) e
 
--- a value of a kind holds nothing but the kind, and its bytes are told as they are
-pub same-kind : (k : Kind) (bs : List ℕ) → with_bytes languages (ValueOf k) bs ≡ ValueOf k
+-- a value of a kind holds nothing but the kind
+pub same-kind : (k : Kind) (bs : List ℕ) → with_bytes languages (ValueOf (OfKind k)) bs ≡ ValueOf (OfKind k)
 same-kind k [] = refl
 same-kind k (b ∷ bs) = same-kind k bs
 
-pub only-value : (k : Kind) (bs : List ℕ) (t : List LexEvent) → only_value t ≡ true → only_value (emitted_bytes languages (ValueOf k) bs t) ≡ true
-only-value k [] t e = e
-only-value k (b ∷ bs) t e = only-value k bs (ValueByte b ∷ t) e
+-- bytes of any value are told as they are
+pub value-told : (bs : List ℕ) (v : Value ValueState) (t : List LexEvent) → emitted_bytes languages v bs t ≡ value_bytes bs t
+value-told [] v t = refl
+value-told (b ∷ bs) (ValueOf v) t = value-told bs (with_byte languages (ValueOf v) b) (ValueByte b ∷ t)
+value-told (b ∷ bs) (Deciding k before) t = value-told bs (with_byte languages (Deciding k before) b) (ValueByte b ∷ t)
+
+-- bytes that a value of kind Plain reads as a text are plain in it
+pub plain-in-kind : (q : Quoting) (tag : Tag) (text : List ℕ) (d : Config ValueState) → HasBytes q text → d ≡ read_value q tag (ValueOf (OfKind kind.Plain)) text []
+    → IsPlainInState (OfKind kind.Plain) q tag d
+plain-in-kind q tag text d some e = rw e (record {
+  value = text;
+  after = OfKind kind.Plain;
+  within = ap (in_value q tag) (same-kind kind.Plain text);
+  emitted = value-told text (ValueOf (OfKind kind.Plain)) [];
+  some = some;
+  leads = refl;
+})
 
 -- bytes that tell nothing but a text are plain
 text-plain : (text bytes : List ℕ) (t : List LexEvent) → read Page bytes (config (Text Closed) []) ≡ config (Text Closed) (event_text_bytes text []) → IsPlain bytes (config (Text Closed) t)
@@ -93,14 +107,15 @@ rcdata-plain x text bytes t e = (refl, rw e (refl, only-text text [] refl))
 block-plain : (text bytes : List ℕ) (t : List LexEvent) → read Page bytes (config in_block []) ≡ config in_block (block_bytes text []) → IsPlain bytes (config in_block t)
 block-plain text bytes t e = (refl, rw e (refl, only-block text [] refl))
 
-quoted-plain : (q : Quoting) (tag : Tag) (text bytes : List ℕ) (t : List LexEvent) → reads_quoted q ≡ true → read Page bytes (config (in_value q tag (ValueOf kind.Plain)) []) ≡ read_value q tag (ValueOf kind.Plain) text [] → IsPlain bytes (config (in_value q tag (ValueOf kind.Plain)) t)
-quoted-plain DoubleQuoted tag text bytes t q e = (refl, rw e (ap (in_value DoubleQuoted tag) (same-kind kind.Plain text), only-value kind.Plain text [] refl))
-quoted-plain SingleQuoted tag text bytes t q e = (refl, rw e (ap (in_value SingleQuoted tag) (same-kind kind.Plain text), only-value kind.Plain text [] refl))
+quoted-plain : (q : Quoting) (tag : Tag) (text bytes : List ℕ) (t : List LexEvent) → reads_quoted q ≡ true → read Page bytes (config (in_value q tag (ValueOf (OfKind kind.Plain))) []) ≡ read_value q tag (ValueOf (OfKind kind.Plain)) text []
+    → IsPlain bytes (config (in_value q tag (ValueOf (OfKind kind.Plain))) t)
+quoted-plain DoubleQuoted tag text bytes t q e = (refl, plain-in-kind DoubleQuoted tag text (read Page bytes (config (in_value DoubleQuoted tag (ValueOf (OfKind kind.Plain))) [])) tt e)
+quoted-plain SingleQuoted tag text bytes t q e = (refl, plain-in-kind SingleQuoted tag text (read Page bytes (config (in_value SingleQuoted tag (ValueOf (OfKind kind.Plain))) [])) tt e)
 quoted-plain Unquoted tag text bytes t q e = cc
 
 -- in text the value counts for nothing
 abbrev no_value : Value ValueState
-no_value = ValueOf kind.Plain
+no_value = ValueOf (OfKind kind.Plain)
 
 text-reads : (cs : List ℕ) (t : List LexEvent) → read Page (replaced_all html_rows cs) (config (Text Closed) t) ≡ config (Text Closed) (event_text_bytes (read_as_text (encode_utf8_all cs)) t)
 text-reads cs t = takes-text (λ (v : Value ValueState). Text Closed) emitting_text is_own_in_text html_rows text-place text-rows text-covered cs no_value t
@@ -127,7 +142,7 @@ back-in-rcdata cs = record {
 
 pub back-in-quoted : (cs : List ℕ) → IsBackInQuoted (encode_utf8_all cs) (replaced_all html_rows cs)
 back-in-quoted cs = record {
-  plain = λ q tag t h. quoted-plain q tag (read_as_text (encode_utf8_all cs)) (replaced_all html_rows cs) t h (quoted-reads q tag (ValueOf kind.Plain) cs [] h);
+  plain = λ q tag t h. quoted-plain q tag (read_as_text (encode_utf8_all cs)) (replaced_all html_rows cs) t h (quoted-reads q tag (ValueOf (OfKind kind.Plain)) cs [] h);
   reads = λ q tag v t h. quoted-reads q tag v cs t h;
 }
 

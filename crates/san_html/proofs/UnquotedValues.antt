@@ -6,19 +6,19 @@ use Rattle.std.proofs.lemmas.Bool.{cases_lt, cases_Bool, and_parts, agree_below,
 use Rattle.std.proofs.lemmas.Str.{encode_ascii, length-encode, len_utf8_bounds}
 use Rattle.esc_table.specs.Replaced.{row_written, replaced_all}
 use Rattle.place_core.specs.page.Classes.{Class, White, QuotationMark, Ampersand, Apostrophe, GreaterThan, class_of}
-use Rattle.place_core.specs.page.Events.{LexEvent, ValueByte}
+use Rattle.place_core.specs.page.Events.{LexEvent}
 use Rattle.place_core.specs.page.Html.{read}
-use Rattle.place_core.specs.page.Plain.{IsPlainUnquoted, begins_at_once}
+use Rattle.place_core.specs.page.Plain.{IsPlainInState, begins_at_once}
 use Rattle.place_core.specs.page.References.{meaning, flushed}
 use Rattle.place_core.specs.page.States.{Page, BeforeAttributeValue, config}
-use Rattle.place_core.specs.page.Tags.{Tag, Value, ValueOf, ValueState, languages, attribute_value_of, emitted_bytes, Unquoted}
+use Rattle.place_core.specs.page.Tags.{Tag, Value, ValueOf, ValueState, OfKind, languages, attribute_value_of, emitted_bytes, Unquoted}
 use Rattle.place_core.specs.declared.kind.Kind.{Kind}
 use Rattle.place_core.specs.declared.kind.Kind.TheVariants as kind
 use Rattle.place_core.proofs.Bytes.{class-high, class-white}
 use Rattle.place_core.proofs.Readings.{is_own_in_unquoted, begins_unquoted, unquoted-byte, unbegun-byte, emitted_bytes-append}
 use Rattle.san_html.specs.ReadBack.{as_byte, read_as_text, as_unquoted, in_value, read_value, IsBackInUnquoted}
 use Rattle.san_html.specs.Sanitizers.{attr_nospace, attr_nospace_rows, failsafe}
-use Rattle.san_html.proofs.EscapedText.{same-kind, only-value}
+use Rattle.san_html.proofs.EscapedText.{plain-in-kind}
 use Rattle.san_html.proofs.Results.{for-text}
 use Rattle.san_html.proofs.Rows.{AllRows, written-has}
 use Rattle.san_html.proofs.Takes.{AllHigh, encode-high, Place, Takes, is_covered, all_true, covered, takes-text}
@@ -97,28 +97,28 @@ unquoted-some : (text : List ℕ) → text ≢ [] → as_unquoted text ≡ read_
 unquoted-some [] n = absurd (n refl)
 unquoted-some (b ∷ bs) n = refl
 
-emitted-some : (bs : List ℕ) (e : LexEvent) (t : List LexEvent) → emitted_bytes languages (ValueOf kind.Plain) bs (e ∷ t) ≢ []
-emitted-some [] e t h = cc
-emitted-some (b ∷ bs) e t h = emitted-some bs (ValueByte b) (e ∷ t) h
-
-byte-some : (b : ℕ) (bs : List ℕ) → emitted_bytes languages (ValueOf kind.Plain) (as_byte b ++ bs) [] ≢ []
+byte-some : (b : ℕ) (bs : List ℕ) → as_byte b ++ bs ≢ []
 byte-some b bs = elim (cases_Bool (b == 0)) [
-  | inl e ↦ rw e (emitted-some (191 ∷ 189 ∷ bs) (ValueByte 239) [])
-  | inr e ↦ rw e (emitted-some bs (ValueByte b) [])
+  | inl e ↦ rw e (λ h. cc)
+  | inr e ↦ rw e (λ h. cc)
 ]
 
-text-some : (text : List ℕ) → text ≢ [] → emitted_bytes languages (ValueOf kind.Plain) (read_as_text text) [] ≢ []
+text-some : (text : List ℕ) → text ≢ [] → read_as_text text ≢ []
 text-some [] n = absurd (n refl)
 text-some (b ∷ bs) n = byte-some b (read_as_text bs)
 
-unquoted-plain : (tag : Tag) (text bytes : List ℕ) → text ≢ [] → read Page bytes (config (in_value Unquoted tag (ValueOf kind.Plain)) []) ≡ read_value Unquoted tag (ValueOf kind.Plain) (read_as_text text) [] → IsPlainUnquoted tag (read Page bytes (config (in_value Unquoted tag (ValueOf kind.Plain)) []))
-unquoted-plain tag text bytes n e = rw e (record { within = ap (in_value Unquoted tag) (same-kind kind.Plain (read_as_text text)); emitted = only-value kind.Plain (read_as_text text) [] refl; some = text-some text n })
+abbrev of_plain : Value ValueState
+of_plain = ValueOf (OfKind kind.Plain)
+
+unquoted-plain : (tag : Tag) (text bytes : List ℕ) → text ≢ [] → read Page bytes (config (in_value Unquoted tag of_plain) []) ≡ read_value Unquoted tag of_plain (read_as_text text) []
+    → IsPlainInState (OfKind kind.Plain) Unquoted tag (read Page bytes (config (in_value Unquoted tag of_plain) []))
+unquoted-plain tag text bytes n e = plain-in-kind Unquoted tag (read_as_text text) (read Page bytes (config (in_value Unquoted tag of_plain) [])) (text-some text n) e
 
 back : (text bytes : List ℕ) → text ≢ [] → begins bytes ≡ true → ((tag : Tag) (v : Value ValueState) (t : List LexEvent) → read Page bytes (config (in_value Unquoted tag v) t) ≡ read_value Unquoted tag v (read_as_text text) t) → IsBackInUnquoted text bytes
 back text bytes n h reads = record {
-  plain = λ tag t. (refl, unquoted-plain tag text bytes n (reads tag (ValueOf kind.Plain) []));
+  plain = λ tag t. (refl, unquoted-plain tag text bytes n (reads tag of_plain []));
   reads = λ tag v t. rw (unquoted-some text n) (reads tag v t);
-  plain_unbegun = λ tag t. (refl, (at-once bytes h, subst (IsPlainUnquoted tag) (sym (unbegun bytes tag kind.Plain [] h)) (unquoted-plain tag text bytes n (reads tag (ValueOf kind.Plain) []))));
+  plain_unbegun = λ tag t. (refl, (at-once bytes h, subst (IsPlainInState (OfKind kind.Plain) Unquoted tag) (sym (unbegun bytes tag kind.Plain [] h)) (unquoted-plain tag text bytes n (reads tag of_plain []))));
   reads_unbegun = λ tag k t. unbegun bytes tag k t h ∙ rw (unquoted-some text n) (reads tag (attribute_value_of languages k) t);
 }
 
@@ -133,9 +133,9 @@ back-some (c ∷ cs) n = back (encode_utf8_all (c ∷ cs)) (replaced_all attr_no
 back-failsafe : IsBackInUnquoted [] failsafe
 unfolding class_of
 back-failsafe = record {
-  plain = λ tag t. (refl, record { within = refl; emitted = refl; some = λ e. cc });
+  plain = λ tag t. (refl, plain-in-kind Unquoted tag failsafe (read Page failsafe (config (in_value Unquoted tag of_plain) [])) (λ e. cc) refl);
   reads = λ tag v t. refl;
-  plain_unbegun = λ tag t. (refl, (refl, record { within = refl; emitted = refl; some = λ e. cc }));
+  plain_unbegun = λ tag t. (refl, (refl, plain-in-kind Unquoted tag failsafe (read Page failsafe (config (BeforeAttributeValue tag kind.Plain) [])) (λ e. cc) refl));
   reads_unbegun = λ tag k t. refl;
 }
 

@@ -7,7 +7,7 @@ use Rattle.place_core.specs.page.Html.{read}
 use Rattle.place_core.specs.page.Plain.{IsPlain}
 use Rattle.place_core.specs.page.References.{Closed, undone}
 use Rattle.place_core.specs.page.States.{Page, LexState, Text, InContent, Characters, Bytes, Nothing, BeforeAttributeName, AfterAttributeName, AfterAttributeValue, SelfClosingStartTag, AttributeName, BeforeAttributeValue, AttributeValue, Config, config}
-use Rattle.place_core.specs.page.Tags.{Tag, Value, ValueOf, ValueState, languages, attribute_value_of, with_bytes, emitted_bytes, Quoting, Unquoted, without_value}
+use Rattle.place_core.specs.page.Tags.{Tag, Value, ValueOf, ValueState, OfKind, languages, attribute_value_of, with_bytes, emitted_bytes, Quoting, Unquoted, without_value}
 use Rattle.place_core.specs.declared.element.Element.{Element}
 use Rattle.place_core.specs.declared.element.Element.TheVariants as element
 use Rattle.place_core.specs.declared.kind.Kind.{Kind}
@@ -63,13 +63,13 @@ read_value q tag v text t = config (in_value q tag (with_bytes languages v text)
 
 pub record IsBackInQuoted (text bytes : List ℕ) : Type 0 where
   pub plain : (q : Quoting) (tag : Tag) (t : List LexEvent) →
-      reads_quoted q ≡ true → IsPlain bytes (config (in_value q tag (ValueOf kind.Plain)) t)
+      reads_quoted q ≡ true → IsPlain bytes (config (in_value q tag (ValueOf (OfKind kind.Plain))) t)
   pub reads : (q : Quoting) (tag : Tag) (v : Value ValueState) (t : List LexEvent) →
       reads_quoted q ≡ true → read Page bytes (config (in_value q tag v) t) ≡ read_value q tag v (read_as_text text) t
 
 -- in an unquoted value that has begun, of any kind, and where one is to begin
 pub record IsBackInUnquoted (text bytes : List ℕ) : Type 0 where
-  pub plain : (tag : Tag) (t : List LexEvent) → IsPlain bytes (config (in_value Unquoted tag (ValueOf kind.Plain)) t)
+  pub plain : (tag : Tag) (t : List LexEvent) → IsPlain bytes (config (in_value Unquoted tag (ValueOf (OfKind kind.Plain))) t)
   pub reads : (tag : Tag) (v : Value ValueState) (t : List LexEvent) →
       read Page bytes (config (in_value Unquoted tag v) t) ≡ read_value Unquoted tag v (as_unquoted text) t
   pub plain_unbegun : (tag : Tag) (t : List LexEvent) → IsPlain bytes (config (BeforeAttributeValue tag kind.Plain) t)

@@ -4,11 +4,13 @@ use Rattle.std.proofs.lemmas.List.{append_assoc, append-nil}
 use Rattle.place_core.specs.page.Classes.{Class, White, ExclamationMark, QuotationMark, NumberSign, Ampersand, Apostrophe, HyphenMinus, Solidus, Digit, Semicolon, LessThan, EqualsSign, GreaterThan, QuestionMark, GraveAccent, Letter, OtherByte}
 use Rattle.place_core.specs.page.Comments.{Declaration, OpensComment, OpensDoctype, Undecided, OpensNothing, declared_by, next_comment, closes_comment}
 use Rattle.place_core.specs.page.Contents.{may_be_name_of, is_name_of}
-use Rattle.place_core.specs.page.References.{Reference, Closed, Open, ReferenceStep, Grows, Closes, Breaks, turn, reference_turned, as_it_stands, begin_reference, next_reference, plain_bytes}
+use Rattle.place_core.specs.page.References.{Reference, Closed, Open, ReferenceStep, Grows, Closes, Breaks, turn, reference_turned, as_it_stands, begin_reference, next_reference, plain_bytes, undone_byte}
 use Rattle.place_core.specs.page.States.{CommentState, Started, StartedDash, Inside, Dash, DashDash, Bang, Broken, Pending, Nothing, PendingLess, LessAtCut, PendingName, PendingBang, PendingBangDash}
 use Rattle.place_core.specs.page.Html.{ends_value}
-use Rattle.place_core.specs.page.Tags.{element_on, tag_of_name, Value, ValueState, Quoting, DoubleQuoted, SingleQuoted, Unquoted}
+use Rattle.place_core.specs.page.Tags.{element_on, feed_bytes, tag_of_name, Value, ValueState, Quoting, DoubleQuoted, SingleQuoted, Unquoted}
 use Rattle.place_core.specs.page.Words.{kind_of}
+use Rattle.place_core.specs.declared.body.Body.{Body}
+use Rattle.place_core.specs.declared.body.Body.TheVariants as body
 use Rattle.place_core.specs.declared.element.Element.{Element}
 use Rattle.place_core.specs.declared.element.Element.TheVariants as element
 use Rattle.place_core.specs.declared.kind.Kind.{Kind}
@@ -22,7 +24,8 @@ use Rattle.place_core.specs.declared.tag_of.TagOf.TheVariants as tag
 use Rattle.place_core.specs.declared.tag_place.TagPlace.{TagPlace}
 use Rattle.place_core.specs.declared.value_place.ValuePlace.{ValuePlace}
 use Rattle.std.proofs.Common.{Option, Some, None}
-use Rattle.html_scan.specs.Scans.{Scan, At, AfterLess, AfterLessSolidus, InDeclaration, InTagName, InAttributeName, InCommentEnd, InContentEnd, BeforeType, InType, after_type, attribute_name_next, bare_next, before_type_next, bare_white, comment_closed, comment_scan, comment_next, comment_state, content_end_next, content_scan, content_next, declaration_next, doctype_next, end_name_next, ended_type, in_type, pending_less_next, bang_next, scan_next, quoted_next, tag_name_next, tag_next, text_scan, type_next, type_tag, value_scan, type_begun}
+use Rattle.html_scan.specs.Scans.{Scan, At, AfterLess, AfterLessSolidus, InDeclaration, InTagName, InAttributeName, InCommentEnd, InContentEnd, InUrl, BeforeType, InType, after_type, attribute_name_next, bare_begun, bare_next, before_type_next, bare_white, comment_closed, comment_scan, comment_next, comment_state, content_end_next, content_scan, content_next, declaration_next, doctype_next, end_name_next, ended_type, in_type, pending_less_next, bang_next, scan_next, quoted_next, tag_name_next, tag_next, text_scan, type_next, type_tag, value_scan, type_begun, parts_feeding, triple_behind, url_scan, value_fed, with_parts}
+use Rattle.url_lexer.specs.Triples.{Triple, NoTriple, AfterPercent, AfterDigit}
 use Rattle.text_norm.specs.Scanned.{declaration_open, scan_open, scan_out}
 use Rattle.text_norm.specs.Kept.{bears, change_of, scan_kept, hides, less_kept, reference_kept, stays}
 use Rattle.text_norm.specs.Written.{declaration_out, end_name_out, text_escaped, loose_out, reference_out, text_out, turn_out}
@@ -223,71 +226,74 @@ loose-value t typed None = record { less = refl; shown = refl }
 loose-value t typed (Some kind.ScriptType) = record { less = refl; shown = refl }
 loose-value t typed (Some k) = record { less = refl; shown = refl }
 
-in_double : (c : Class) (b : ℕ) (v : ValuePlace) (r : Reference) → Spelled c b → KeepsBytes (At (place.Value v)) (quoted_next v quotes.Dq c) r (next_reference r c b) c b (reference_out r c b)
-in_double White b v r p = with_references (At (place.Value v)) (quoted_next v quotes.Dq White) r White b p refl refl (λ h. absurd (yes h)) refl refl refl refl
-in_double ExclamationMark b v r p = with_references (At (place.Value v)) (quoted_next v quotes.Dq ExclamationMark) r ExclamationMark b p refl refl (λ h. absurd (yes h)) refl refl refl refl
-in_double QuotationMark b v r p = with_references (At (place.Value v)) (quoted_next v quotes.Dq QuotationMark) r QuotationMark b p refl refl (λ h. ends_at_quotation r b) refl refl refl refl
-in_double NumberSign b v r p = with_references (At (place.Value v)) (quoted_next v quotes.Dq NumberSign) r NumberSign b p refl refl (λ h. absurd (yes h)) refl refl refl refl
-in_double Ampersand b v r p = with_references (At (place.Value v)) (quoted_next v quotes.Dq Ampersand) r Ampersand b p refl refl (λ h. absurd (yes h)) refl refl refl refl
-in_double Apostrophe b v r p = with_references (At (place.Value v)) (quoted_next v quotes.Dq Apostrophe) r Apostrophe b p refl refl (λ h. absurd (yes h)) refl refl refl refl
-in_double HyphenMinus b v r p = with_references (At (place.Value v)) (quoted_next v quotes.Dq HyphenMinus) r HyphenMinus b p refl refl (λ h. absurd (yes h)) refl refl refl refl
-in_double Solidus b v r p = with_references (At (place.Value v)) (quoted_next v quotes.Dq Solidus) r Solidus b p refl refl (λ h. absurd (yes h)) refl refl refl refl
-in_double Digit b v r p = with_references (At (place.Value v)) (quoted_next v quotes.Dq Digit) r Digit b p refl refl (λ h. absurd (yes h)) refl refl refl refl
-in_double Semicolon b v r p = with_references (At (place.Value v)) (quoted_next v quotes.Dq Semicolon) r Semicolon b p refl refl (λ h. absurd (yes h)) refl refl refl refl
-in_double LessThan b v r p = with_references (At (place.Value v)) (quoted_next v quotes.Dq LessThan) r LessThan b p refl refl (λ h. absurd (yes h)) refl refl refl refl
-in_double EqualsSign b v r p = with_references (At (place.Value v)) (quoted_next v quotes.Dq EqualsSign) r EqualsSign b p refl refl (λ h. absurd (yes h)) refl refl refl refl
-in_double GreaterThan b v r p = with_references (At (place.Value v)) (quoted_next v quotes.Dq GreaterThan) r GreaterThan b p refl refl (λ h. absurd (yes h)) refl refl refl refl
-in_double QuestionMark b v r p = with_references (At (place.Value v)) (quoted_next v quotes.Dq QuestionMark) r QuestionMark b p refl refl (λ h. absurd (yes h)) refl refl refl refl
-in_double GraveAccent b v r p = with_references (At (place.Value v)) (quoted_next v quotes.Dq GraveAccent) r GraveAccent b p refl refl (λ h. absurd (yes h)) refl refl refl refl
-in_double (Letter l) b v r p = with_references (At (place.Value v)) (quoted_next v quotes.Dq (Letter l)) r (Letter l) b p refl refl (λ h. absurd (yes h)) refl refl refl refl
-in_double OtherByte b v r p = with_references (At (place.Value v)) (quoted_next v quotes.Dq OtherByte) r OtherByte b p refl refl (λ h. absurd (yes h)) refl refl refl refl
+-- A value is read by a scan state: text with references, in which no `<` is pending back.
+record ReadsValue (f : Scan) : Type 0 where
+  less : less_kept f ≡ []
+  shown : hides f ≡ false
+  moves : (g : Scan) → stays f g ≡ false
+  kept : (c : Class) (b : ℕ) (r : Reference) → scan_kept f c b r ≡ next_reference r c b
 
-in_single : (c : Class) (b : ℕ) (v : ValuePlace) (r : Reference) → Spelled c b → KeepsBytes (At (place.Value v)) (quoted_next v quotes.Sq c) r (next_reference r c b) c b (reference_out r c b)
-in_single White b v r p = with_references (At (place.Value v)) (quoted_next v quotes.Sq White) r White b p refl refl (λ h. absurd (yes h)) refl refl refl refl
-in_single ExclamationMark b v r p = with_references (At (place.Value v)) (quoted_next v quotes.Sq ExclamationMark) r ExclamationMark b p refl refl (λ h. absurd (yes h)) refl refl refl refl
-in_single QuotationMark b v r p = with_references (At (place.Value v)) (quoted_next v quotes.Sq QuotationMark) r QuotationMark b p refl refl (λ h. absurd (yes h)) refl refl refl refl
-in_single NumberSign b v r p = with_references (At (place.Value v)) (quoted_next v quotes.Sq NumberSign) r NumberSign b p refl refl (λ h. absurd (yes h)) refl refl refl refl
-in_single Ampersand b v r p = with_references (At (place.Value v)) (quoted_next v quotes.Sq Ampersand) r Ampersand b p refl refl (λ h. absurd (yes h)) refl refl refl refl
-in_single Apostrophe b v r p = with_references (At (place.Value v)) (quoted_next v quotes.Sq Apostrophe) r Apostrophe b p refl refl (λ h. ends_at_apostrophe r b) refl refl refl refl
-in_single HyphenMinus b v r p = with_references (At (place.Value v)) (quoted_next v quotes.Sq HyphenMinus) r HyphenMinus b p refl refl (λ h. absurd (yes h)) refl refl refl refl
-in_single Solidus b v r p = with_references (At (place.Value v)) (quoted_next v quotes.Sq Solidus) r Solidus b p refl refl (λ h. absurd (yes h)) refl refl refl refl
-in_single Digit b v r p = with_references (At (place.Value v)) (quoted_next v quotes.Sq Digit) r Digit b p refl refl (λ h. absurd (yes h)) refl refl refl refl
-in_single Semicolon b v r p = with_references (At (place.Value v)) (quoted_next v quotes.Sq Semicolon) r Semicolon b p refl refl (λ h. absurd (yes h)) refl refl refl refl
-in_single LessThan b v r p = with_references (At (place.Value v)) (quoted_next v quotes.Sq LessThan) r LessThan b p refl refl (λ h. absurd (yes h)) refl refl refl refl
-in_single EqualsSign b v r p = with_references (At (place.Value v)) (quoted_next v quotes.Sq EqualsSign) r EqualsSign b p refl refl (λ h. absurd (yes h)) refl refl refl refl
-in_single GreaterThan b v r p = with_references (At (place.Value v)) (quoted_next v quotes.Sq GreaterThan) r GreaterThan b p refl refl (λ h. absurd (yes h)) refl refl refl refl
-in_single QuestionMark b v r p = with_references (At (place.Value v)) (quoted_next v quotes.Sq QuestionMark) r QuestionMark b p refl refl (λ h. absurd (yes h)) refl refl refl refl
-in_single GraveAccent b v r p = with_references (At (place.Value v)) (quoted_next v quotes.Sq GraveAccent) r GraveAccent b p refl refl (λ h. absurd (yes h)) refl refl refl refl
-in_single (Letter l) b v r p = with_references (At (place.Value v)) (quoted_next v quotes.Sq (Letter l)) r (Letter l) b p refl refl (λ h. absurd (yes h)) refl refl refl refl
-in_single OtherByte b v r p = with_references (At (place.Value v)) (quoted_next v quotes.Sq OtherByte) r OtherByte b p refl refl (λ h. absurd (yes h)) refl refl refl refl
+-- and it goes on, or begins, in this one
+record GoesOn (g : Scan) : Type 0 where
+  less : less_kept g ≡ []
+  bears : bears g ≡ true
+  shown : hides g ≡ false
 
-in_bare_white : (uq : Bool) (b : ℕ) (v : ValuePlace) (r : Reference) → Spelled White b → KeepsBytes (At (place.Value v)) (bare_white v uq) r (next_reference r White b) White b (reference_out r White b)
-in_bare_white true b v r p = with_references (At (place.Value v)) (bare_white v true) r White b p refl refl (λ h. ends_at_white r b) refl refl refl refl
-in_bare_white false b v r p = with_references (At (place.Value v)) (bare_white v false) r White b p refl refl (λ h. absurd (yes h)) refl refl refl refl
+goes_on_url : (v : ValuePlace) (t : Triple) (z : Reference) → GoesOn (url_scan v t z)
+goes_on_url v NoTriple Closed = record { less = refl; bears = refl; shown = refl }
+goes_on_url v NoTriple (Open f bytes) = record { less = refl; bears = refl; shown = refl }
+goes_on_url v AfterPercent z = record { less = refl; bears = refl; shown = refl }
+goes_on_url v AfterDigit z = record { less = refl; bears = refl; shown = refl }
 
-in_bare : (c : Class) (b : ℕ) (v : ValuePlace) (uq : Bool) (r : Reference) → Spelled c b → KeepsBytes (At (place.Value v)) (bare_next v uq c) r (next_reference r c b) c b (reference_out r c b)
-in_bare White b v uq r p = in_bare_white uq b v r p
-in_bare ExclamationMark b v uq r p = with_references (At (place.Value v)) (bare_next v uq ExclamationMark) r ExclamationMark b p refl refl (λ h. absurd (yes h)) refl refl refl refl
-in_bare QuotationMark b v uq r p = with_references (At (place.Value v)) (bare_next v uq QuotationMark) r QuotationMark b p refl refl (λ h. absurd (yes h)) refl refl refl refl
-in_bare NumberSign b v uq r p = with_references (At (place.Value v)) (bare_next v uq NumberSign) r NumberSign b p refl refl (λ h. absurd (yes h)) refl refl refl refl
-in_bare Ampersand b v uq r p = with_references (At (place.Value v)) (bare_next v uq Ampersand) r Ampersand b p refl refl (λ h. absurd (yes h)) refl refl refl refl
-in_bare Apostrophe b v uq r p = with_references (At (place.Value v)) (bare_next v uq Apostrophe) r Apostrophe b p refl refl (λ h. absurd (yes h)) refl refl refl refl
-in_bare HyphenMinus b v uq r p = with_references (At (place.Value v)) (bare_next v uq HyphenMinus) r HyphenMinus b p refl refl (λ h. absurd (yes h)) refl refl refl refl
-in_bare Solidus b v uq r p = with_references (At (place.Value v)) (bare_next v uq Solidus) r Solidus b p refl refl (λ h. absurd (yes h)) refl refl refl refl
-in_bare Digit b v uq r p = with_references (At (place.Value v)) (bare_next v uq Digit) r Digit b p refl refl (λ h. absurd (yes h)) refl refl refl refl
-in_bare Semicolon b v uq r p = with_references (At (place.Value v)) (bare_next v uq Semicolon) r Semicolon b p refl refl (λ h. absurd (yes h)) refl refl refl refl
-in_bare LessThan b v uq r p = with_references (At (place.Value v)) (bare_next v uq LessThan) r LessThan b p refl refl (λ h. absurd (yes h)) refl refl refl refl
-in_bare EqualsSign b v uq r p = with_references (At (place.Value v)) (bare_next v uq EqualsSign) r EqualsSign b p refl refl (λ h. absurd (yes h)) refl refl refl refl
-in_bare GreaterThan b v uq r p = with_references (At (place.Value v)) (content_scan v.tag) r GreaterThan b p refl (loose-content v.tag).less (λ h. ends_at_greater r b) (loose-content v.tag).shown refl refl refl
-in_bare QuestionMark b v uq r p = with_references (At (place.Value v)) (bare_next v uq QuestionMark) r QuestionMark b p refl refl (λ h. absurd (yes h)) refl refl refl refl
-in_bare GraveAccent b v uq r p = with_references (At (place.Value v)) (bare_next v uq GraveAccent) r GraveAccent b p refl refl (λ h. absurd (yes h)) refl refl refl refl
-in_bare (Letter l) b v uq r p = with_references (At (place.Value v)) (bare_next v uq (Letter l)) r (Letter l) b p refl refl (λ h. absurd (yes h)) refl refl refl refl
-in_bare OtherByte b v uq r p = with_references (At (place.Value v)) (bare_next v uq OtherByte) r OtherByte b p refl refl (λ h. absurd (yes h)) refl refl refl refl
+goes_on_fed : (x : Body) (v : ValuePlace) (q : Quotes) (t : Triple) (z : Reference) (c : Class) (b : ℕ) → GoesOn (value_fed v q x t z c b)
+goes_on_fed (body.Url s) v q t z c b =
+    goes_on_url (with_parts v q (feed_bytes parts_feeding s (undone_byte true z c b))) (triple_behind t (undone_byte true z c b)) (next_reference z c b)
+goes_on_fed body.Plain v q t z c b = record { less = refl; bears = refl; shown = refl }
+goes_on_fed body.NoHole v q t z c b = record { less = refl; bears = refl; shown = refl }
+goes_on_fed (body.Js j) v q t z c b = record { less = refl; bears = refl; shown = refl }
+goes_on_fed (body.Css j) v q t z c b = record { less = refl; bears = refl; shown = refl }
 
-in_quotes : (q : Quotes) (c : Class) (b : ℕ) (v : ValuePlace) (r : Reference) → Spelled c b → KeepsBytes (At (place.Value v)) (quoted_next v q c) r (next_reference r c b) c b (reference_out r c b)
-in_quotes quotes.Dq c b v r p = in_double c b v r p
-in_quotes quotes.Sq c b v r p = in_single c b v r p
-in_quotes (quotes.Bare u) c b v r p = in_bare c b v u.uq r p
+goes_on : (f g : Scan) (r : Reference) (c : Class) (b : ℕ) → Spelled c b → ReadsValue f → GoesOn g → KeepsBytes f g r (next_reference r c b) c b (reference_out r c b)
+goes_on f g r c b p i o = with_references f g r c b p i.less o.less (λ h. absurd (yes (sym o.bears ∙ h))) o.shown i.shown (i.moves g) (i.kept c b r)
+
+ends_it : (f g : Scan) (r : Reference) (c : Class) (b : ℕ) → Spelled c b → ReadsValue f → IsLoose g → next_reference r c b ≡ Closed → KeepsBytes f g r (next_reference r c b) c b (reference_out r c b)
+ends_it f g r c b p i o e = with_references f g r c b p i.less o.less (λ h. e) o.shown i.shown (i.moves g) (i.kept c b r)
+
+-- The reference of the scan state is that of the path; which one is pending back in the page is said beside it.
+in_double : (f : Scan) → ReadsValue f → (c : Class) (b : ℕ) (v : ValuePlace) (t : Triple) (z r : Reference) → Spelled c b
+    → KeepsBytes f (quoted_next v quotes.Dq t z c b) r (next_reference r c b) c b (reference_out r c b)
+in_double f i QuotationMark b v t z r p = ends_it f (quoted_next v quotes.Dq t z QuotationMark b) r QuotationMark b p i (record { less = refl; shown = refl }) (ends_at_quotation r b)
+in_double f i c b v t z r p = goes_on f (value_fed v quotes.Dq v.body t z c b) r c b p i (goes_on_fed v.body v quotes.Dq t z c b)
+
+in_single : (f : Scan) → ReadsValue f → (c : Class) (b : ℕ) (v : ValuePlace) (t : Triple) (z r : Reference) → Spelled c b
+    → KeepsBytes f (quoted_next v quotes.Sq t z c b) r (next_reference r c b) c b (reference_out r c b)
+in_single f i Apostrophe b v t z r p = ends_it f (quoted_next v quotes.Sq t z Apostrophe b) r Apostrophe b p i (record { less = refl; shown = refl }) (ends_at_apostrophe r b)
+in_single f i c b v t z r p = goes_on f (value_fed v quotes.Sq v.body t z c b) r c b p i (goes_on_fed v.body v quotes.Sq t z c b)
+
+in_bare_white : (f : Scan) → ReadsValue f → (uq : Bool) (b : ℕ) (v : ValuePlace) (r : Reference) → Spelled White b
+    → KeepsBytes f (bare_white v uq) r (next_reference r White b) White b (reference_out r White b)
+in_bare_white f i true b v r p = ends_it f (bare_white v true) r White b p i (record { less = refl; shown = refl }) (ends_at_white r b)
+in_bare_white f i false b v r p = goes_on f (bare_white v false) r White b p i (record { less = refl; bears = refl; shown = refl })
+
+in_bare : (f : Scan) → ReadsValue f → (c : Class) (b : ℕ) (v : ValuePlace) (uq : Bool) (t : Triple) (z r : Reference) → Spelled c b
+    → KeepsBytes f (bare_next v uq t z c b) r (next_reference r c b) c b (reference_out r c b)
+in_bare f i White b v uq t z r p = in_bare_white f i uq b v r p
+in_bare f i QuotationMark b v uq t z r p = goes_on f (bare_next v uq t z QuotationMark b) r QuotationMark b p i (record { less = refl; bears = refl; shown = refl })
+in_bare f i Apostrophe b v uq t z r p = goes_on f (bare_next v uq t z Apostrophe b) r Apostrophe b p i (record { less = refl; bears = refl; shown = refl })
+in_bare f i GreaterThan b v uq t z r p = ends_it f (content_scan v.tag) r GreaterThan b p i (loose-content v.tag) (ends_at_greater r b)
+in_bare f i c b v uq t z r p = goes_on f (value_fed v bare_begun v.body t z c b) r c b p i (goes_on_fed v.body v bare_begun t z c b)
+
+in_quotes : (f : Scan) → ReadsValue f → (q : Quotes) (c : Class) (b : ℕ) (v : ValuePlace) (t : Triple) (z r : Reference) → Spelled c b
+    → KeepsBytes f (quoted_next v q t z c b) r (next_reference r c b) c b (reference_out r c b)
+in_quotes f i quotes.Dq c b v t z r p = in_double f i c b v t z r p
+in_quotes f i quotes.Sq c b v t z r p = in_single f i c b v t z r p
+in_quotes f i (quotes.Bare u) c b v t z r p = in_bare f i c b v u.uq t z r p
+
+reads-place : (v : ValuePlace) → ReadsValue (At (place.Value v))
+reads-place v = record { less = refl; shown = refl; moves = λ g. refl; kept = λ c b r. refl }
+
+reads-url : (v : ValuePlace) (t : Triple) (z : Reference) → ReadsValue (InUrl v t z)
+reads-url v t z = record { less = refl; shown = refl; moves = λ g. refl; kept = λ c b r. refl }
 
 loose-tag : (c : Class) (t : TagPlace) (b : ℕ) → IsLoose (tag_next t c b)
 loose-tag White t b = record { less = refl; shown = refl }
@@ -830,7 +836,7 @@ at_place place.Text c b r p closed = in_text c b r p
 at_place (place.Rcdata element.DataBlock) c b r p closed =
     without_references (At (place.Rcdata element.DataBlock)) (content_next c element.DataBlock) r c b refl (loose-block c) refl refl refl (closed refl)
 at_place (place.Rcdata e) c b r p closed = in_rcdata e refl c b r p
-at_place (place.Value v) c b r p closed = in_quotes v.quotes c b v r p
+at_place (place.Value v) c b r p closed = in_quotes (At (place.Value v)) (reads-place v) v.quotes c b v NoTriple Closed r p
 at_place (place.Tag t) c b r p closed = without_references (At (place.Tag t)) (tag_next t c b) r c b refl (loose-tag c t b) refl refl refl (closed refl)
 at_place place.Doctype c b r p closed = without_references (At place.Doctype) (doctype_next c) r c b refl (loose-doctype c) refl refl refl (closed refl)
 at_place (place.Comment dash) c b r p closed = leaves c (comment_state dash) (At (place.Comment dash)) r b refl
@@ -856,5 +862,6 @@ law (InTagName ends name) c b r i p closed = without_references (InTagName ends 
 law (InAttributeName t typed name) c b r i p closed = without_references (InAttributeName t typed name) (attribute_name_next c b t typed (kind_of (element_on t) name) name) r c b refl (loose-attribute_name c b t typed (kind_of (element_on t) name) name) refl refl refl (closed refl)
 law (InCommentEnd s) c b r i p closed = leaves c s (InCommentEnd s) r b refl
 law (InContentEnd e h) c b r i p closed = at_end e h c b r i p closed
+law (InUrl v t z) c b r i p closed = in_quotes (InUrl v t z) (reads-url v t z) v.quotes c b v t z r p
 law (BeforeType t) c b r i p closed = before_type c b t r p
 law (InType t q v z) c b r i p closed = within_type (ends_value q c) q c b t v z r refl p

@@ -2,7 +2,7 @@
 use Rattle.std.proofs.Common.{◌≡◌, ℕ, List, [], ◌∷◌, ◌++◌, refl, sym, ap, ◌∙◌, subst}
 use Rattle.std.specs.Str.{str_to_ascii_lowercase}
 use Rattle.html_scan.proofs.Lowered.{kind_lowered}
-use Rattle.place_core.specs.page.Events.{AttributeBegins, AttributeNameByte, BlockByte, LexEvent, Mark, TextByte, ValueByte, attribute_name_bytes, block_bytes, event_text_bytes, value_bytes}
+use Rattle.place_core.specs.page.Events.{AttributeBegins, AttributeNameByte, BlockByte, LexEvent, Mark, TextByte, ValueByte, ValueScheme, attribute_name_bytes, block_bytes, event_text_bytes, value_bytes}
 use Rattle.place_core.specs.page.Classes.{class_of}
 use Rattle.place_core.specs.page.Html.{emits, next, read, read_over}
 use Rattle.place_core.specs.place.Errors.{node, states}
@@ -10,17 +10,19 @@ use Rattle.place_core.specs.page.Paths.{at_cut, at_hole, mark_in, read_node}
 use Rattle.place_core.specs.page.Plain.{IsPlain, IsPlainName}
 use Rattle.place_core.specs.page.States.{AttributeName, BeforeAttributeValue, CommentState, Config, InComment, LexState, Page, Template, Text, WholeAttributeName, config}
 use Rattle.place_core.specs.page.References.{Closed}
-use Rattle.place_core.specs.page.Tags.{DoubleQuoted, Quoting, SingleQuoted, Tag, Unquoted, Value, ValueOf, ValueState, element_on, emitted_bytes, languages, with_bytes}
+use Rattle.place_core.specs.page.Tags.{DoubleQuoted, Quoting, SingleQuoted, Tag, Unquoted, Value, ValueOf, ValueState, OfKind, OfUrl, element_on, emitted_bytes, ends_state, languages, with_bytes}
 use Rattle.place_core.specs.page.Words.{kind_of}
 use Rattle.place_core.specs.declared.element.Element.{Element}
 use Rattle.place_core.specs.declared.kind.Kind.{Kind}
 use Rattle.place_core.specs.declared.kind.Kind.TheVariants as kind
+use Rattle.san_html.proofs.EscapedText.{same-kind, value-told}
 use Rattle.san_html.specs.ReadBack.{BeginsName, IsBackInBlock, IsBackInQuoted, IsBackInRcdata, IsBackInTag, IsBackInText, IsBackInUnquoted, as_name, as_unquoted, in_block, in_rcdata, in_value, read_as_text}
 use Rattle.text_norm.proofs.EmittedAlike.{EmitsAlike, IsNoMark, node-alike}
 use Rattle.text_norm.proofs.Emits.{same-state}
 use Rattle.text_norm.proofs.HarmlessNames.{harmless-kind}
 use Rattle.text_norm.specs.Fillings.{BlockSite, Filling, Fills, FillsBy, HtmlAlike, HtmlFits, NameSite, QuotedSite, TextSite, UnquotedSite, filling, fillings_at}
 use Rattle.text_norm.specs.Standing.{TextStands, WholeAttribute}
+use Rattle.url_lexer.specs.Events.{told_scheme}
 
 -- one event more on both sides, where the page may have the path's own event
 pub keeps-by : (Fits : Filling → List LexEvent → List LexEvent → Type 0) (Alike : LexEvent → LexEvent → Type 0) → ((e : LexEvent) → Alike e e)
@@ -36,8 +38,12 @@ pub fills-mark : (v : Filling) (vs : List Filling) (run t u : List LexEvent) →
 fills-mark v vs run t u fits f = (v, vs, run, u, refl, refl, fits, f)
 
 -- what the language of values brings
+own-ends : (vs : List Filling) (v : ValueState) (t u : List LexEvent) → Fills t vs u → Fills (ends_state v t) vs (ends_state v u)
+own-ends vs (OfKind k) t u f = f
+own-ends vs (OfUrl z) t u f = fills-keep vs (ValueScheme (told_scheme z.free z.scheme)) t u tt f
+
 own-emits : (vs : List Filling) → EmitsAlike ValueState languages (λ t u. Fills t vs u)
-own-emits vs = record { emits = λ v b t u f. fills-keep vs (ValueByte b) t u tt f; ends = λ v t u f. f }
+own-emits vs = record { emits = λ v b t u f. fills-keep vs (ValueByte b) t u tt f; ends = own-ends vs }
 
 -- the text of a node
 pub fills-node : (vs : List Filling) (bytes : List ℕ) (s : LexState ValueState) (t u : List LexEvent) → Fills t vs u
@@ -69,14 +75,6 @@ value-run (b ∷ bs) t u = value-run bs (ValueByte b ∷ t) u
 pub name-run : (bs : List ℕ) (t u : List LexEvent) → attribute_name_bytes bs (t ++ u) ≡ attribute_name_bytes bs t ++ u
 name-run [] t u = refl
 name-run (b ∷ bs) t u = name-run bs (AttributeNameByte b ∷ t) u
-
-pub kind-emitted : (k : Kind) (bs : List ℕ) (t : List LexEvent) → emitted_bytes languages (ValueOf k) bs t ≡ value_bytes bs t
-kind-emitted k [] t = refl
-kind-emitted k (b ∷ bs) t = kind-emitted k bs (ValueByte b ∷ t)
-
-pub kind-stays : (k : Kind) (bs : List ℕ) → with_bytes languages (ValueOf k) bs ≡ ValueOf k
-kind-stays k [] = refl
-kind-stays k (b ∷ bs) = kind-stays k bs
 
 -- The bytes of a hole lead the page on as its path is led with a mark, and emit what fills the mark.
 pub record IsLed (s : LexState ValueState) (text bytes : List ℕ) (vs : List Filling) (t u : List LexEvent) (d : Config ValueState) : Type 0 where
@@ -119,51 +117,51 @@ pub comment-leads : (s : CommentState) (text : List ℕ) → Leads (InComment s)
 comment-leads s text vs t u d f l = record { emitted = u; fills = f; stands = l }
 
 in-kind : (q : Quoting) (tag : Tag) (k : Kind) (bs : List ℕ) (u : List LexEvent)
-    → config (in_value q tag (with_bytes languages (ValueOf k) bs)) (emitted_bytes languages (ValueOf k) bs u)
-    ≡ config (in_value q tag (ValueOf k)) (value_bytes bs [] ++ u)
+    → config (in_value q tag (with_bytes languages (ValueOf (OfKind k)) bs)) (emitted_bytes languages (ValueOf (OfKind k)) bs u)
+    ≡ config (in_value q tag (ValueOf (OfKind k))) (value_bytes bs [] ++ u)
 in-kind q tag k bs u =
-    ap (λ (z : Value ValueState). config (in_value q tag z) (emitted_bytes languages (ValueOf k) bs u)) (kind-stays k bs)
-    ∙ ap (config (in_value q tag (ValueOf k))) (kind-emitted k bs u ∙ value-run bs [] u)
+    ap (λ (z : Value ValueState). config (in_value q tag z) (emitted_bytes languages (ValueOf (OfKind k)) bs u)) (same-kind k bs)
+    ∙ ap (config (in_value q tag (ValueOf (OfKind k)))) (value-told bs (ValueOf (OfKind k)) u ∙ value-run bs [] u)
 
 -- the page is in the same value, where it stands for a path that is in one of this kind
-in-own-value : (q : Quoting) (tag : Tag) (k : Kind) (u : List LexEvent) (d : Config ValueState) → TextStands languages (in_value q tag (ValueOf k)) u d
-    → d ≡ config (in_value q tag (ValueOf k)) u
-in-own-value q tag k u d l = same-state (in_value q tag (ValueOf k)) u d refl l
+in-own-value : (q : Quoting) (tag : Tag) (k : Kind) (u : List LexEvent) (d : Config ValueState) → TextStands languages (in_value q tag (ValueOf (OfKind k))) u d
+    → d ≡ config (in_value q tag (ValueOf (OfKind k))) u
+in-own-value q tag k u d l = same-state (in_value q tag (ValueOf (OfKind k))) u d refl l
 
-own-value : (q : Quoting) (tag : Tag) (k : Kind) (t : List LexEvent) (d : Config ValueState) → d ≡ config (in_value q tag (ValueOf k)) t
-    → TextStands languages (in_value q tag (ValueOf k)) t d
-own-value q tag k t d e = record { there = k; alike = refl; stands = e }
+own-value : (q : Quoting) (tag : Tag) (k : Kind) (t : List LexEvent) (d : Config ValueState) → d ≡ config (in_value q tag (ValueOf (OfKind k))) t
+    → TextStands languages (in_value q tag (ValueOf (OfKind k))) t d
+own-value q tag k t d e = record { there = OfKind k; alike = refl; stands = e }
 
-pub double-leads : (tag : Tag) (text bytes : List ℕ) → IsBackInQuoted text bytes → Leads (in_value DoubleQuoted tag (ValueOf kind.Plain)) text bytes
+pub double-leads : (tag : Tag) (text bytes : List ℕ) → IsBackInQuoted text bytes → Leads (in_value DoubleQuoted tag (ValueOf (OfKind kind.Plain))) text bytes
 double-leads tag text bytes back vs t u d f l =
     let run = value_bytes (read_as_text text) [] in
     record {
       emitted = run ++ u;
       fills = fills-mark (filling QuotedSite text) vs run t u refl f;
       stands = own-value DoubleQuoted tag kind.Plain (run ++ u) (read Page bytes d)
-          (ap (read Page bytes) (in-own-value DoubleQuoted tag kind.Plain u d l) ∙ back.reads DoubleQuoted tag (ValueOf kind.Plain) u refl
+          (ap (read Page bytes) (in-own-value DoubleQuoted tag kind.Plain u d l) ∙ back.reads DoubleQuoted tag (ValueOf (OfKind kind.Plain)) u refl
           ∙ in-kind DoubleQuoted tag kind.Plain (read_as_text text) u);
     }
 
-pub single-leads : (tag : Tag) (text bytes : List ℕ) → IsBackInQuoted text bytes → Leads (in_value SingleQuoted tag (ValueOf kind.Plain)) text bytes
+pub single-leads : (tag : Tag) (text bytes : List ℕ) → IsBackInQuoted text bytes → Leads (in_value SingleQuoted tag (ValueOf (OfKind kind.Plain))) text bytes
 single-leads tag text bytes back vs t u d f l =
     let run = value_bytes (read_as_text text) [] in
     record {
       emitted = run ++ u;
       fills = fills-mark (filling QuotedSite text) vs run t u refl f;
       stands = own-value SingleQuoted tag kind.Plain (run ++ u) (read Page bytes d)
-          (ap (read Page bytes) (in-own-value SingleQuoted tag kind.Plain u d l) ∙ back.reads SingleQuoted tag (ValueOf kind.Plain) u refl
+          (ap (read Page bytes) (in-own-value SingleQuoted tag kind.Plain u d l) ∙ back.reads SingleQuoted tag (ValueOf (OfKind kind.Plain)) u refl
           ∙ in-kind SingleQuoted tag kind.Plain (read_as_text text) u);
     }
 
-pub unquoted-leads : (tag : Tag) (text bytes : List ℕ) → IsBackInUnquoted text bytes → Leads (in_value Unquoted tag (ValueOf kind.Plain)) text bytes
+pub unquoted-leads : (tag : Tag) (text bytes : List ℕ) → IsBackInUnquoted text bytes → Leads (in_value Unquoted tag (ValueOf (OfKind kind.Plain))) text bytes
 unquoted-leads tag text bytes back vs t u d f l =
     let run = value_bytes (as_unquoted text) [] in
     record {
       emitted = run ++ u;
       fills = fills-mark (filling UnquotedSite text) vs run t u refl f;
       stands = own-value Unquoted tag kind.Plain (run ++ u) (read Page bytes d)
-          (ap (read Page bytes) (in-own-value Unquoted tag kind.Plain u d l) ∙ back.reads tag (ValueOf kind.Plain) u
+          (ap (read Page bytes) (in-own-value Unquoted tag kind.Plain u d l) ∙ back.reads tag (ValueOf (OfKind kind.Plain)) u
           ∙ in-kind Unquoted tag kind.Plain (as_unquoted text) u);
     }
 

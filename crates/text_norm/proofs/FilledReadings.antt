@@ -5,13 +5,14 @@ use Rattle.place_core.specs.page.Html.{read, start}
 use Rattle.place_core.specs.page.Paths.{Hole, Symbol, Written, at_hole, mark_in, read_node, read_path}
 use Rattle.place_core.specs.page.References.{Closed, Open, Reference}
 use Rattle.place_core.specs.page.States.{AfterAttributeName, AfterAttributeValue, AttributeValue, BeforeAttributeName, BeforeAttributeValue, Bytes, Characters, Config, Content, InContent, LexState, Nothing, Page, Pending, SelfClosingStartTag, Text, config}
-use Rattle.place_core.specs.page.Tags.{DoubleQuoted, Quoting, SingleQuoted, Tag, Deciding, Unquoted, Value, ValueOf, ValueState, languages, with_bytes}
+use Rattle.place_core.specs.page.Tags.{DoubleQuoted, Quoting, SingleQuoted, Tag, Deciding, Unquoted, Value, ValueOf, ValueState, OfKind, OfUrl, languages, with_bytes}
 use Rattle.place_core.specs.place.Errors.{node}
 use Rattle.place_core.specs.declared.element.Element.{Element}
 use Rattle.place_core.specs.declared.kind.Kind.{Kind}
 use Rattle.place_core.specs.declared.kind.Kind.TheVariants as kind
+use Rattle.san_html.proofs.EscapedText.{same-kind, value-told}
 use Rattle.san_html.specs.ReadBack.{as_name, as_unquoted, in_value, read_as_text}
-use Rattle.text_norm.proofs.FilledMarks.{fills-keep, fills-mark, fills-node, kind-emitted, kind-stays, name-run, text-run, value-run, node-state}
+use Rattle.text_norm.proofs.FilledMarks.{fills-keep, fills-mark, fills-node, name-run, text-run, value-run, node-state}
 use Rattle.text_norm.specs.FilledReadings.{FilledPathsAreReadings, HolesTake, IsNoBlock, NoneInBlocks, ReadingsAreFilledPaths, TakesContent, TakesHole, TakesValue, holes_filled, holes_in, read_filled}
 use Rattle.text_norm.specs.Fillings.{BlockSite, Filling, Fills, FitsAt, MarkSite, NameSite, QuotedSite, TextSite, UnquotedSite, filling, fillings_along, fillings_at}
 
@@ -64,25 +65,25 @@ by-run site text vs run t u emitted fits e f =
     subst (Fills (Mark ∷ t) (filling site text ∷ vs)) (sym e) (fills-mark (filling site text) vs run t u fits f)
 
 in-kind : (q : Quoting) (tag : Tag) (k : Kind) (bs : List ℕ)
-    → in_value q tag (with_bytes languages (ValueOf k) bs) ≡ in_value q tag (ValueOf k)
-in-kind q tag k bs = ap (in_value q tag) (kind-stays k bs)
+    → in_value q tag (with_bytes languages (ValueOf (OfKind k)) bs) ≡ in_value q tag (ValueOf (OfKind k))
+in-kind q tag k bs = ap (in_value q tag) (same-kind k bs)
 
 value-hole : (q : Quoting) (tag : Tag) (k : Kind) (text : List ℕ) (vs : List Filling) (t u : List LexEvent) → Fills t vs u
-    → IsFilledHole (in_value q tag (ValueOf k)) text vs t u
+    → IsFilledHole (in_value q tag (ValueOf (OfKind k))) text vs t u
 value-hole Unquoted tag k text vs t u f = record {
   at = in-kind Unquoted tag k (as_unquoted text);
   fills = by-run UnquotedSite text vs (value_bytes (as_unquoted text) []) t u _ refl
-      (kind-emitted k (as_unquoted text) u ∙ value-run (as_unquoted text) [] u) f;
+      (value-told (as_unquoted text) (ValueOf (OfKind k)) u ∙ value-run (as_unquoted text) [] u) f;
 }
 value-hole DoubleQuoted tag k text vs t u f = record {
   at = in-kind DoubleQuoted tag k (read_as_text text);
   fills = by-run QuotedSite text vs (value_bytes (read_as_text text) []) t u _ refl
-      (kind-emitted k (read_as_text text) u ∙ value-run (read_as_text text) [] u) f;
+      (value-told (read_as_text text) (ValueOf (OfKind k)) u ∙ value-run (read_as_text text) [] u) f;
 }
 value-hole SingleQuoted tag k text vs t u f = record {
   at = in-kind SingleQuoted tag k (read_as_text text);
   fills = by-run QuotedSite text vs (value_bytes (read_as_text text) []) t u _ refl
-      (kind-emitted k (read_as_text text) u ∙ value-run (read_as_text text) [] u) f;
+      (value-told (read_as_text text) (ValueOf (OfKind k)) u ∙ value-run (read_as_text text) [] u) f;
 }
 
 name-fills : (text : List ℕ) (vs : List Filling) (t u : List LexEvent) → Fills t vs u
@@ -94,15 +95,16 @@ name-fills text vs t u f =
 before-hole : (tag : Tag) (k : Kind) (text : List ℕ) (vs : List Filling) (t u : List LexEvent) → TakesHole (BeforeAttributeValue tag k)
     → Fills t vs u → IsFilledHole (BeforeAttributeValue tag k) text vs t u
 before-hole tag kind.ScriptType text vs t u h f = absurd h
+before-hole tag kind.Url text vs t u h f = absurd h
 before-hole tag k text vs t u h f = record {
   at = in-kind Unquoted tag k (as_unquoted text);
   fills = by-run UnquotedSite text vs (value_bytes (as_unquoted text) []) t u _ refl
-      (kind-emitted k (as_unquoted text) u ∙ value-run (as_unquoted text) [] u) f;
+      (value-told (as_unquoted text) (ValueOf (OfKind k)) u ∙ value-run (as_unquoted text) [] u) f;
 }
 
 attribute-hole : (v : Value ValueState) (r : Reference) (q : Quoting) (tag : Tag) (text : List ℕ) (vs : List Filling) (t u : List LexEvent)
     → TakesValue v r → Fills t vs u → IsFilledHole (AttributeValue q tag v r) text vs t u
-attribute-hole (ValueOf k) Closed q tag text vs t u h f = value-hole q tag k text vs t u f
+attribute-hole (ValueOf (OfKind k)) Closed q tag text vs t u h f = value-hole q tag k text vs t u f
 attribute-hole _ _ q tag text vs t u h f = absurd h
 
 content-hole : (y : Content) (p : Pending) (e : Element) (text : List ℕ) (vs : List Filling) (t u : List LexEvent)
@@ -178,14 +180,15 @@ readings-are-filled-paths symbols texts page h e =
 -- each filling of holes that have one run has one
 attribute-run : (v : Value ValueState) (r : Reference) (q : Quoting) (tag : Tag) (text : List ℕ) (vs : List Filling) → TakesValue v r
     → HaveOneRun vs → HaveOneRun (fillings_at (AttributeValue q tag v r) text vs)
-attribute-run (ValueOf k) Closed DoubleQuoted tag text vs h o = (tt, o)
-attribute-run (ValueOf k) Closed SingleQuoted tag text vs h o = (tt, o)
-attribute-run (ValueOf k) Closed Unquoted tag text vs h o = (tt, o)
+attribute-run (ValueOf (OfKind k)) Closed DoubleQuoted tag text vs h o = (tt, o)
+attribute-run (ValueOf (OfKind k)) Closed SingleQuoted tag text vs h o = (tt, o)
+attribute-run (ValueOf (OfKind k)) Closed Unquoted tag text vs h o = (tt, o)
 attribute-run _ _ q tag text vs h o = absurd h
 
 before-run : (k : Kind) (tag : Tag) (text : List ℕ) (vs : List Filling) → TakesHole (BeforeAttributeValue tag k)
     → HaveOneRun vs → HaveOneRun (fillings_at (BeforeAttributeValue tag k) text vs)
 before-run kind.ScriptType tag text vs h o = absurd h
+before-run kind.Url tag text vs h o = absurd h
 before-run k tag text vs h o = (tt, o)
 
 content-run : (y : Content) (p : Pending) (e : Element) (text : List ℕ) (vs : List Filling) → TakesContent y p
@@ -266,8 +269,9 @@ content-count (Characters r) _ e text vs t n = inr (no-filling (marks t) (length
 attribute-count : (v : Value ValueState) (r : Reference) (q : Quoting) (tag : Tag) (text : List ℕ) (vs : List Filling) (t : List LexEvent)
     → Counted (TakesValue v r) (length (fillings_at (AttributeValue q tag v r) text vs) + marks t)
     (marks (mark_in languages (AttributeValue q tag v r) t) + length vs)
-attribute-count (ValueOf k) Closed q tag text vs t = inl (tt, one-mark (marks t) (length vs))
-attribute-count (ValueOf k) (Open f h) q tag text vs t = inr (no-filling (marks t) (length vs))
+attribute-count (ValueOf (OfKind k)) Closed q tag text vs t = inl (tt, one-mark (marks t) (length vs))
+attribute-count (ValueOf (OfUrl u)) Closed q tag text vs t = inr (no-filling (marks t) (length vs))
+attribute-count (ValueOf v) (Open f h) q tag text vs t = inr (no-filling (marks t) (length vs))
 attribute-count (Deciding k before) Closed q tag text vs t = inr (no-filling (marks t) (length vs))
 attribute-count (Deciding k before) (Open f h) q tag text vs t = inr (no-filling (marks t) (length vs))
 
@@ -275,6 +279,7 @@ before-count : (k : Kind) (tag : Tag) (text : List ℕ) (vs : List Filling) (t :
     → Counted (TakesHole (BeforeAttributeValue tag k)) (length (fillings_at (BeforeAttributeValue tag k) text vs) + marks t)
     (marks (mark_in languages (BeforeAttributeValue tag k) t) + length vs)
 before-count kind.ScriptType tag text vs t = inr (no-filling (marks t) (length vs))
+before-count kind.Url tag text vs t = inr (no-filling (marks t) (length vs))
 before-count k tag text vs t = inl (tt, one-mark (marks t) (length vs))
 
 hole-count : (s : LexState ValueState) (text : List ℕ) (vs : List Filling) (t : List LexEvent) → IsNoBlock s

@@ -1,5 +1,5 @@
 -- The bytes of a hole lead the page's reading where the hole leads the path.
-use Rattle.std.proofs.Common.{◌≡◌, ℕ, Bool, true, false, List, [], ◌∷◌, Option, Some, None, if◌then◌else◌, Ok, Err, inl, refl, sym, ap, ◌∙◌, subst}
+use Rattle.std.proofs.Common.{◌≡◌, ℕ, Bool, true, false, List, [], ◌∷◌, Option, Some, None, option_map, if◌then◌else◌, Ok, Err, inl, refl, sym, ap, ◌∙◌, subst}
 use Rattle.page_datum.specs.Data.{Data}
 use Rattle.page_datum.specs.Printed.{printed}
 use Rattle.place_core.specs.page.Events.{LexEvent, Mark, AttributeBegins}
@@ -10,24 +10,29 @@ use Rattle.place_core.specs.page.Plain.{IsPlain, IsPlainName}
 use Rattle.html_scan.proofs.Lowered.{kind_lowered}
 use Rattle.place_core.specs.page.References.{Closed, Open}
 use Rattle.place_core.specs.page.Shape.{HolePart, PageReads, state_past_hole, marked}
-use Rattle.place_core.specs.place.StatePlaces.{only_after, only_inside, placed, tag_spot}
+use Rattle.place_core.specs.place.StatePlaces.{only_after, only_inside, placed, quotes_at, tag_spot, value_spot}
+use Rattle.place_core.specs.place.UrlParts.{parts_of}
 use Rattle.place_core.specs.page.States.{Started, StartedDash, Inside, Dash, DashDash, Bang, Broken, Page, LexState, Text, TagOpen, EndTagOpen, DeclarationOpen, InComment, BogusComment, InDoctype, TagName, WholeTagName, BeforeAttributeName, AttributeName, WholeAttributeName, AfterAttributeName, BeforeAttributeValue, AttributeValue, AfterAttributeValue, SelfClosingStartTag, Characters, Bytes, Nothing, PendingLess, LessAtCut, PendingName, PendingBang, PendingBangDash, InContent, Unread, Config, config}
-use Rattle.place_core.specs.page.Tags.{Tag, ValueOf, Deciding, ValueState, languages, is_second_type, Quoting, DoubleQuoted, SingleQuoted, Unquoted, element_on, without_value}
+use Rattle.place_core.specs.page.Tags.{Tag, ValueOf, Deciding, ValueState, OfKind, OfUrl, languages, is_second_type, Quoting, DoubleQuoted, SingleQuoted, Unquoted, element_on, without_value}
+use Rattle.place_core.specs.declared.body.Body.TheVariants as body
 use Rattle.place_core.specs.declared.chain.Chain.{Chain}
 use Rattle.place_core.specs.declared.element.Element.{Element}
 use Rattle.place_core.specs.declared.element.Element.TheVariants as element
 use Rattle.place_core.specs.declared.kind.Kind.TheVariants as kind
 use Rattle.place_core.specs.declared.place.Place.{Place}
 use Rattle.place_core.specs.declared.place.Place.TheVariants as place
+use Rattle.place_core.specs.declared.quotes.Quotes.{Quotes}
 use Rattle.place_core.specs.declared.san.San.TheVariants as san
-use Rattle.san_html.specs.ReadBack.{IsBackInQuoted, IsBackInUnquoted, IsBackInTag, BeginsName, in_block, in_value}
+use Rattle.url_lexer.specs.Parts.{UrlPart}
+use Rattle.url_lexer.specs.Spots.{url_spot}
+use Rattle.san_html.specs.ReadBack.{IsBackInQuoted, IsBackInUnquoted, IsBackInTag, BeginsName, in_block, in_value, reads_quoted}
 use Rattle.html_step.specs.Holes.{Holed, after_hole, only}
 use Rattle.html_step.proofs.HoleOrder.{covers-hole}
 use Rattle.text_norm.specs.HoleLaws.{ArePlain, IsBackBy, KeepsHole, hole_parts}
 use Rattle.text_norm.specs.Standing.{TextStands, WholeAttribute}
 use Rattle.text_norm.proofs.Emits.{same-state}
 use Rattle.text_norm.proofs.HarmlessNames.{harmless-kind}
-use Rattle.text_norm.proofs.KindsKeep.{kinds-keep}
+use Rattle.text_norm.proofs.LanguagesKeep.{languages-keep}
 use Rattle.text_norm.proofs.ValuesKeep.{hole-alike}
 
 -- What a hole in a state has to show: its bytes are plain, and lead to where the page stands for the state after it.
@@ -101,42 +106,60 @@ block-keeps x datum bytes t d h k l =
     (λ k. subst (λ (z : Config ValueState). Kept (only san.Html) in_block bytes t z) (sym l)
     (kept in_block bytes t (config in_block t) (k.2.plain t) (ap (behind in_block (Mark ∷ t)) ((k.2.plain t).1).0))) k
 
--- a value behind a hole
-in-plain : (q : Quoting) (tag : Tag) (t : List LexEvent) (d : Config ValueState) → d ≡ config (in_value q tag (ValueOf kind.Plain)) (Mark ∷ t) → TextStands languages (in_value q tag (ValueOf kind.Plain)) (Mark ∷ t) d
-in-plain q tag t d h = subst (λ (z : Config ValueState). TextStands languages (in_value q tag (ValueOf kind.Plain)) (Mark ∷ t) z) (sym h) (hole-alike kinds-keep q tag kind.Plain kind.Plain kind.Plain t refl refl)
+-- Bytes that are plain in a value lead the page to where it stands for the path behind the hole, whatever its language knows of them.
+value-leads : (q : Quoting) (tag : Tag) (v w : ValueState) (bytes : List ℕ) (t : List LexEvent) → languages.AreAlike v w
+    → IsPlain bytes (config (in_value q tag (ValueOf w)) t)
+    → (let s = in_value q tag (ValueOf v) in
+    TextStands languages (at_hole languages s) (mark_in languages s t) (marked bytes (config (in_value q tag (ValueOf w)) t)))
+value-leads q tag v w bytes t a p =
+    subst (TextStands languages (at_hole languages (in_value q tag (ValueOf v))) (Mark ∷ t))
+    (sym (ap (behind (in_value q tag (ValueOf w)) (Mark ∷ t)) p.1.within))
+    (hole-alike languages-keep q tag v w p.1.after p.1.value t a p.1.leads)
 
--- where the bytes lead that are plain in an unquoted value, and before one
-unquoted : (tag : Tag) (bytes : List ℕ) (t : List LexEvent) → IsPlain bytes (config (in_value Unquoted tag (ValueOf kind.Plain)) t)
-    → marked bytes (config (in_value Unquoted tag (ValueOf kind.Plain)) t) ≡ config (in_value Unquoted tag (ValueOf kind.Plain)) (Mark ∷ t)
-unquoted tag bytes t p = ap (behind (in_value Unquoted tag (ValueOf kind.Plain)) (Mark ∷ t)) p.1.within
+-- likewise where an unquoted value is to begin
+abbrev unbegun : Tag → LexState ValueState
+unbegun tag = BeforeAttributeValue tag kind.Plain
 
-unbegun : (tag : Tag) (bytes : List ℕ) (t : List LexEvent) → IsPlain bytes (config (BeforeAttributeValue tag kind.Plain) t)
-    → marked bytes (config (BeforeAttributeValue tag kind.Plain) t) ≡ config (in_value Unquoted tag (ValueOf kind.Plain)) (Mark ∷ t)
-unbegun tag bytes t p = ap (behind (BeforeAttributeValue tag kind.Plain) (Mark ∷ t)) p.1.1.within
+unbegun-leads : (tag : Tag) (bytes : List ℕ) (t : List LexEvent) → IsPlain bytes (config (unbegun tag) t)
+    → TextStands languages (at_hole languages (unbegun tag)) (mark_in languages (unbegun tag) t) (marked bytes (config (unbegun tag) t))
+unbegun-leads tag bytes t p =
+    subst (TextStands languages (at_hole languages (unbegun tag)) (Mark ∷ t)) (sym (ap (behind (unbegun tag) (Mark ∷ t)) p.1.1.within))
+    (hole-alike languages-keep Unquoted tag (OfKind kind.Plain) (OfKind kind.Plain) p.1.1.after p.1.1.value t refl p.1.1.leads)
 
-unbegun-keeps : (tag : Tag) (x : Chain) (datum : Data) (bytes : List ℕ) (t : List LexEvent) (d : Config ValueState) → only san.AttrNospace ≡ x → IsBackBy x datum bytes → d ≡ config (BeforeAttributeValue tag kind.Plain) t → Kept x (BeforeAttributeValue tag kind.Plain) bytes t d
+abbrev in_plain : Quoting → Tag → LexState ValueState
+in_plain q tag = in_value q tag (ValueOf (OfKind kind.Plain))
+
+plain-leads : (q : Quoting) (tag : Tag) (bytes : List ℕ) (t : List LexEvent) → IsPlain bytes (config (in_plain q tag) t)
+    → TextStands languages (at_hole languages (in_plain q tag)) (mark_in languages (in_plain q tag) t) (marked bytes (config (in_plain q tag) t))
+plain-leads q tag bytes t p = value-leads q tag (OfKind kind.Plain) (OfKind kind.Plain) bytes t refl p
+
+unbegun-keeps : (tag : Tag) (x : Chain) (datum : Data) (bytes : List ℕ) (t : List LexEvent) (d : Config ValueState) → only san.AttrNospace ≡ x
+    → IsBackBy x datum bytes → d ≡ config (unbegun tag) t → Kept x (unbegun tag) bytes t d
 unbegun-keeps tag x datum bytes t d e k l =
-    subst (λ (z : Chain). IsBackBy z datum bytes → Kept z (BeforeAttributeValue tag kind.Plain) bytes t d) e
-    (λ (k : IsBackInUnquoted (printed datum) bytes). subst (λ (z : Config ValueState). Kept (only san.AttrNospace) (BeforeAttributeValue tag kind.Plain) bytes t z) (sym l)
-    (kept (BeforeAttributeValue tag kind.Plain) bytes t (config (BeforeAttributeValue tag kind.Plain) t) (k.plain_unbegun tag t) (in-plain Unquoted tag t _ (unbegun tag bytes t (k.plain_unbegun tag t))))) k
+    subst (λ (z : Chain). IsBackBy z datum bytes → Kept z (unbegun tag) bytes t d) e
+    (λ (k : IsBackInUnquoted (printed datum) bytes). subst (Kept (only san.AttrNospace) (unbegun tag) bytes t) (sym l)
+    (kept (unbegun tag) bytes t (config (unbegun tag) t) (k.plain_unbegun tag t) (unbegun-leads tag bytes t (k.plain_unbegun tag t)))) k
 
-unquoted-keeps : (tag : Tag) (x : Chain) (datum : Data) (bytes : List ℕ) (t : List LexEvent) (d : Config ValueState) → only san.AttrNospace ≡ x → IsBackBy x datum bytes → d ≡ config (in_value Unquoted tag (ValueOf kind.Plain)) t → Kept x (in_value Unquoted tag (ValueOf kind.Plain)) bytes t d
+unquoted-keeps : (tag : Tag) (x : Chain) (datum : Data) (bytes : List ℕ) (t : List LexEvent) (d : Config ValueState) → only san.AttrNospace ≡ x
+    → IsBackBy x datum bytes → d ≡ config (in_plain Unquoted tag) t → Kept x (in_plain Unquoted tag) bytes t d
 unquoted-keeps tag x datum bytes t d e k l =
-    subst (λ (z : Chain). IsBackBy z datum bytes → Kept z (in_value Unquoted tag (ValueOf kind.Plain)) bytes t d) e
-    (λ (k : IsBackInUnquoted (printed datum) bytes). subst (λ (z : Config ValueState). Kept (only san.AttrNospace) (in_value Unquoted tag (ValueOf kind.Plain)) bytes t z) (sym l)
-    (kept (in_value Unquoted tag (ValueOf kind.Plain)) bytes t (config (in_value Unquoted tag (ValueOf kind.Plain)) t) (k.plain tag t) (in-plain Unquoted tag t _ (unquoted tag bytes t (k.plain tag t))))) k
+    let s = in_plain Unquoted tag in
+    subst (λ (z : Chain). IsBackBy z datum bytes → Kept z s bytes t d) e
+    (λ (k : IsBackInUnquoted (printed datum) bytes). subst (Kept (only san.AttrNospace) s bytes t) (sym l)
+    (kept s bytes t (config s t) (k.plain tag t) (plain-leads Unquoted tag bytes t (k.plain tag t)))) k
 
-double-keeps : (tag : Tag) (x : Chain) (datum : Data) (bytes : List ℕ) (t : List LexEvent) (d : Config ValueState) → only san.Attr ≡ x → IsBackBy x datum bytes → d ≡ config (in_value DoubleQuoted tag (ValueOf kind.Plain)) t → Kept x (in_value DoubleQuoted tag (ValueOf kind.Plain)) bytes t d
-double-keeps tag x datum bytes t d e k l =
-    subst (λ (z : Chain). IsBackBy z datum bytes → Kept z (in_value DoubleQuoted tag (ValueOf kind.Plain)) bytes t d) e
-    (λ (k : IsBackInQuoted (printed datum) bytes). subst (λ (z : Config ValueState). Kept (only san.Attr) (in_value DoubleQuoted tag (ValueOf kind.Plain)) bytes t z) (sym l)
-    (kept (in_value DoubleQuoted tag (ValueOf kind.Plain)) bytes t (config (in_value DoubleQuoted tag (ValueOf kind.Plain)) t) (k.plain DoubleQuoted tag t refl) (in-plain DoubleQuoted tag t _ (ap (behind (in_value DoubleQuoted tag (ValueOf kind.Plain)) (Mark ∷ t)) ((k.plain DoubleQuoted tag t refl).1).0)))) k
+quoted-keeps : (q : Quoting) (tag : Tag) (x : Chain) (datum : Data) (bytes : List ℕ) (t : List LexEvent) (d : Config ValueState) → reads_quoted q ≡ true
+    → only san.Attr ≡ x → IsBackBy x datum bytes → d ≡ config (in_plain q tag) t → Kept x (in_plain q tag) bytes t d
+quoted-keeps q tag x datum bytes t d n e k l =
+    let s = in_plain q tag in
+    subst (λ (z : Chain). IsBackBy z datum bytes → Kept z s bytes t d) e
+    (λ (k : IsBackInQuoted (printed datum) bytes). subst (Kept (only san.Attr) s bytes t) (sym l)
+    (kept s bytes t (config s t) (k.plain q tag t n) (plain-leads q tag bytes t (k.plain q tag t n)))) k
 
-single-keeps : (tag : Tag) (x : Chain) (datum : Data) (bytes : List ℕ) (t : List LexEvent) (d : Config ValueState) → only san.Attr ≡ x → IsBackBy x datum bytes → d ≡ config (in_value SingleQuoted tag (ValueOf kind.Plain)) t → Kept x (in_value SingleQuoted tag (ValueOf kind.Plain)) bytes t d
-single-keeps tag x datum bytes t d e k l =
-    subst (λ (z : Chain). IsBackBy z datum bytes → Kept z (in_value SingleQuoted tag (ValueOf kind.Plain)) bytes t d) e
-    (λ (k : IsBackInQuoted (printed datum) bytes). subst (λ (z : Config ValueState). Kept (only san.Attr) (in_value SingleQuoted tag (ValueOf kind.Plain)) bytes t z) (sym l)
-    (kept (in_value SingleQuoted tag (ValueOf kind.Plain)) bytes t (config (in_value SingleQuoted tag (ValueOf kind.Plain)) t) (k.plain SingleQuoted tag t refl) (in-plain SingleQuoted tag t _ (ap (behind (in_value SingleQuoted tag (ValueOf kind.Plain)) (Mark ∷ t)) ((k.plain SingleQuoted tag t refl).1).0)))) k
+-- no value may stand in a URL yet
+url-refused : (o : Option UrlPart) (q : Quotes) (tag : Tag) (x : Chain) → HoleOf (value_spot tag q (option_map (λ p. body.Url (parts_of p)) o)) x → ⊥
+url-refused None q tag x h = h
+url-refused (Some p) q tag x h = refused _ _ h.1
 
 hole-keeps : (s : LexState ValueState) (x : Chain) (datum : Data) (bytes : List ℕ) (t : List LexEvent) (d : Config ValueState) → HoleOf (placed s) x → IsBackBy x datum bytes → TextStands languages s t d → Kept x s bytes t d
 hole-keeps (Text Closed) x datum bytes t d h k l =
@@ -171,18 +194,22 @@ hole-keeps (SelfClosingStartTag tag) x datum bytes t d h k l =
     name-keeps (SelfClosingStartTag tag) tag x datum bytes t d (its-of (placed (SelfClosingStartTag tag)) x h) refl (λ p. named (SelfClosingStartTag tag) tag bytes (Mark ∷ AttributeBegins ∷ t) (read Page bytes (config (SelfClosingStartTag tag) [])) p.1) l k
 hole-keeps (BeforeAttributeValue tag kind.Plain) x datum bytes t d h k l = unbegun-keeps tag x datum bytes t d (its-of (placed (BeforeAttributeValue tag kind.Plain)) x h) k l
 hole-keeps (BeforeAttributeValue tag kind.NoHole) x datum bytes t d h k l = absurd (refused _ _ h.1)
-hole-keeps (BeforeAttributeValue tag kind.Url) x datum bytes t d h k l = absurd h
+hole-keeps (BeforeAttributeValue tag kind.Url) x datum bytes t d h k l = absurd (refused _ _ h.1)
 hole-keeps (BeforeAttributeValue tag kind.Script) x datum bytes t d h k l = absurd h
 hole-keeps (BeforeAttributeValue tag kind.Style) x datum bytes t d h k l = absurd h
 hole-keeps (BeforeAttributeValue tag kind.ScriptType) x datum bytes t d h k l = absurd h
-hole-keeps (AttributeValue DoubleQuoted tag (ValueOf kind.Plain) Closed) x datum bytes t d h k l = double-keeps tag x datum bytes t d (its-of (placed (in_value DoubleQuoted tag (ValueOf kind.Plain))) x h) k (same-state (in_value DoubleQuoted tag (ValueOf kind.Plain)) t d refl l)
-hole-keeps (AttributeValue SingleQuoted tag (ValueOf kind.Plain) Closed) x datum bytes t d h k l = single-keeps tag x datum bytes t d (its-of (placed (in_value SingleQuoted tag (ValueOf kind.Plain))) x h) k (same-state (in_value SingleQuoted tag (ValueOf kind.Plain)) t d refl l)
-hole-keeps (AttributeValue Unquoted tag (ValueOf kind.Plain) Closed) x datum bytes t d h k l = unquoted-keeps tag x datum bytes t d (its-of (placed (in_value Unquoted tag (ValueOf kind.Plain))) x h) k (same-state (in_value Unquoted tag (ValueOf kind.Plain)) t d refl l)
-hole-keeps (AttributeValue q tag (ValueOf kind.NoHole) Closed) x datum bytes t d h k l = absurd (refused _ _ h.1)
-hole-keeps (AttributeValue q tag (ValueOf kind.Url) Closed) x datum bytes t d h k l = absurd h
-hole-keeps (AttributeValue q tag (ValueOf kind.Script) Closed) x datum bytes t d h k l = absurd h
-hole-keeps (AttributeValue q tag (ValueOf kind.Style) Closed) x datum bytes t d h k l = absurd h
-hole-keeps (AttributeValue q tag (ValueOf kind.ScriptType) Closed) x datum bytes t d h k l = absurd h
+hole-keeps (AttributeValue DoubleQuoted tag (ValueOf (OfKind kind.Plain)) Closed) x datum bytes t d h k l =
+    quoted-keeps DoubleQuoted tag x datum bytes t d refl (its-of (placed (in_plain DoubleQuoted tag)) x h) k (same-state (in_plain DoubleQuoted tag) t d refl l)
+hole-keeps (AttributeValue SingleQuoted tag (ValueOf (OfKind kind.Plain)) Closed) x datum bytes t d h k l =
+    quoted-keeps SingleQuoted tag x datum bytes t d refl (its-of (placed (in_plain SingleQuoted tag)) x h) k (same-state (in_plain SingleQuoted tag) t d refl l)
+hole-keeps (AttributeValue Unquoted tag (ValueOf (OfKind kind.Plain)) Closed) x datum bytes t d h k l =
+    unquoted-keeps tag x datum bytes t d (its-of (placed (in_plain Unquoted tag)) x h) k (same-state (in_plain Unquoted tag) t d refl l)
+hole-keeps (AttributeValue q tag (ValueOf (OfKind kind.NoHole)) Closed) x datum bytes t d h k l = absurd (refused _ _ h.1)
+hole-keeps (AttributeValue q tag (ValueOf (OfKind kind.Url)) Closed) x datum bytes t d h k l = absurd h
+hole-keeps (AttributeValue q tag (ValueOf (OfKind kind.Script)) Closed) x datum bytes t d h k l = absurd h
+hole-keeps (AttributeValue q tag (ValueOf (OfKind kind.Style)) Closed) x datum bytes t d h k l = absurd h
+hole-keeps (AttributeValue q tag (ValueOf (OfKind kind.ScriptType)) Closed) x datum bytes t d h k l = absurd h
+hole-keeps (AttributeValue q tag (ValueOf (OfUrl u)) Closed) x datum bytes t d h k l = absurd (url-refused (url_spot u) (quotes_at q) tag x h)
 hole-keeps (AttributeValue q tag (Deciding j before) Closed) x datum bytes t d h k l = absurd h
 hole-keeps (AttributeValue q tag v (Open f b)) x datum bytes t d h k l = absurd h
 hole-keeps (InContent element.Title (Characters Closed) Nothing) x datum bytes t d h k l = content-keeps element.Title x datum bytes t d (its (place.Rcdata element.Title) x h) k l

@@ -1,5 +1,5 @@
 -- Wherever a hole may stand on a path, what its sanitizer promises leads the page on.
-use Rattle.std.proofs.Common.{◌≡◌, ℕ, Bool, true, false, List, [], Option, Some, None, if◌then◌else◌, Ok, Err, refl, subst, sym}
+use Rattle.std.proofs.Common.{◌≡◌, ℕ, Bool, true, false, List, [], Option, Some, None, option_map, if◌then◌else◌, Ok, Err, refl, subst, sym}
 use Rattle.html_step.proofs.HoleOrder.{covers-hole}
 use Rattle.html_step.specs.Holes.{Holed, after_hole}
 use Rattle.page_datum.specs.Data.{Data}
@@ -9,7 +9,9 @@ use Rattle.place_core.specs.place.Places.{IsValid}
 use Rattle.place_core.specs.page.References.{Closed, Reference}
 use Rattle.place_core.specs.place.StatePlaces.{content_spot, only_after, only_inside, placed, tag_spot, quotes_at, value_body, value_spot, where_closed}
 use Rattle.place_core.specs.page.States.{AfterAttributeName, AfterAttributeValue, AttributeValue, BeforeAttributeName, BeforeAttributeValue, Broken, Bytes, Characters, Content, CommentState, Pending, InComment, InContent, Inside, LessAtCut, Nothing, SelfClosingStartTag, LexState, Text, WholeAttributeName}
-use Rattle.place_core.specs.page.Tags.{DoubleQuoted, Quoting, SingleQuoted, Tag, Unquoted, Value, ValueOf, ValueState, is_second_type, without_value}
+use Rattle.place_core.specs.page.Tags.{DoubleQuoted, Quoting, SingleQuoted, Tag, Unquoted, Value, ValueOf, ValueState, OfKind, OfUrl, is_second_type, without_value}
+use Rattle.place_core.specs.place.UrlParts.{parts_of}
+use Rattle.place_core.specs.declared.body.Body.TheVariants as body
 use Rattle.place_core.specs.declared.chain.Chain.{Chain}
 use Rattle.place_core.specs.declared.element.Element.{Element}
 use Rattle.place_core.specs.declared.element.Element.TheVariants as element
@@ -17,6 +19,9 @@ use Rattle.place_core.specs.declared.kind.Kind.{Kind}
 use Rattle.place_core.specs.declared.kind.Kind.TheVariants as kind
 use Rattle.place_core.specs.declared.place.Place.{Place}
 use Rattle.place_core.specs.declared.place.Place.TheVariants as place
+use Rattle.place_core.specs.declared.quotes.Quotes.{Quotes}
+use Rattle.url_lexer.specs.Parts.{UrlPart}
+use Rattle.url_lexer.specs.Spots.{url_spot}
 use Rattle.text_norm.proofs.FilledMarks.{Leads, block-leads, comment-leads, content-leads, double-leads, name-leads, single-leads, text-leads, unbegun-leads, unquoted-leads}
 use Rattle.text_norm.specs.HoleLaws.{IsBackBy}
 
@@ -42,11 +47,17 @@ content-safe Nothing Bytes element.DataBlock = λ datum bytes k. block-leads (pr
 content-safe LessAtCut Bytes element.DataBlock = tt
 content-safe _ _ _ = tt
 
+-- no value may stand in a URL yet
+url-safe : (o : Option UrlPart) (s : LexState ValueState) (q : Quotes) (tag : Tag) → SafeAt s (value_spot tag q (option_map (λ p. body.Url (parts_of p)) o))
+url-safe None s q tag = tt
+url-safe (Some p) s q tag = tt
+
 value-safe : (r : Reference) (v : Value ValueState) (q : Quoting) (tag : Tag)
     → SafeAt (AttributeValue q tag v r) (where_closed r (value_spot tag (quotes_at q) (value_body v)))
-value-safe Closed (ValueOf kind.Plain) DoubleQuoted tag = λ datum. double-leads tag (printed datum)
-value-safe Closed (ValueOf kind.Plain) SingleQuoted tag = λ datum. single-leads tag (printed datum)
-value-safe Closed (ValueOf kind.Plain) Unquoted tag = λ datum. unquoted-leads tag (printed datum)
+value-safe Closed (ValueOf (OfKind kind.Plain)) DoubleQuoted tag = λ datum. double-leads tag (printed datum)
+value-safe Closed (ValueOf (OfKind kind.Plain)) SingleQuoted tag = λ datum. single-leads tag (printed datum)
+value-safe Closed (ValueOf (OfKind kind.Plain)) Unquoted tag = λ datum. unquoted-leads tag (printed datum)
+value-safe Closed (ValueOf (OfUrl u)) q tag = url-safe (url_spot u) (AttributeValue q tag (ValueOf (OfUrl u)) Closed) (quotes_at q) tag
 value-safe _ _ _ tag = tt
 
 -- after a name, unless it is a second `type`, where a path is at no place

@@ -2,7 +2,7 @@
 use Rattle.std.proofs.Common.{◌≡◌, ℕ, ◌+◌, Bool, true, false, codes, List, [], ◌∷◌, ◌++◌, length, Option, Some, None, refl, sym, ap, ◌∙◌, subst}
 use Rattle.place_core.specs.page.Classes.{Class, GreaterThan, class_of}
 use Rattle.place_core.specs.page.Comments.{closes_comment, comment_ended, next_in_comment}
-use Rattle.place_core.specs.place.Errors.{PathCause, PathRefusal, at_hand, byte_error, content_error, cut_error, ending_tag, first_byte_error, first_error, kind_error, language_error, quotes_error, refusal_from, standing_at, states, tag_error}
+use Rattle.place_core.specs.place.Errors.{PathCause, PathRefusal, at_hand, broken_off, byte_error, content_error, cut_error, ending_tag, first_byte_error, first_error, is_between, kind_error, language_error, last_between, lexeme_error, quotes_error, refusal_from, standing_at, states, tag_error}
 use Rattle.place_core.specs.page.Events.{LexEvent, event_text_bytes}
 use Rattle.place_core.specs.page.Html.{ends_value, next, read_over, emits}
 use Rattle.place_core.specs.place.Membership.{IsIn}
@@ -10,7 +10,7 @@ use Rattle.place_core.specs.page.Paths.{at_cut, read_node, emits_cut}
 use Rattle.place_core.specs.page.References.{Reference, Closed, Open, as_it_stands, settled}
 use Rattle.place_core.specs.place.StatePlaces.{only_before, quotes_at, tag_spot}
 use Rattle.place_core.specs.page.States.{Page, Template, LexState, Text, TagOpen, EndTagOpen, DeclarationOpen, CommentState, InComment, BogusComment, InDoctype, TagName, WholeTagName, BeforeAttributeName, AttributeName, WholeAttributeName, AfterAttributeName, BeforeAttributeValue, AttributeValue, AfterAttributeValue, SelfClosingStartTag, Characters, Bytes, Nothing, PendingLess, LessAtCut, PendingName, PendingBang, PendingBangDash, InContent, Unread, Config, config}
-use Rattle.place_core.specs.page.Tags.{Tag, ValueLanguage, Value, ValueOf, Deciding, ValueState, languages, Quoting, Unquoted, tag_of_name, attribute_value_of}
+use Rattle.place_core.specs.page.Tags.{Tag, ValueLanguage, Value, ValueOf, Deciding, ValueState, languages, feeding, Quoting, Unquoted, tag_of_name, attribute_value_of}
 use Rattle.place_core.specs.declared.code.Code.{Code}
 use Rattle.place_core.specs.declared.kind.Kind.{Kind}
 use Rattle.place_core.proofs.Readings.{over-append}
@@ -25,7 +25,7 @@ use Rattle.text_norm.proofs.ContentKeeps.{in-block, in-content}
 use Rattle.text_norm.proofs.Runs.{on}
 use Rattle.text_norm.proofs.TagsKeep.{after-name, before-leads, in-name, in-tag-name, in-whole-name, in-whole-tag}
 use Rattle.text_norm.proofs.TextKeeps.{class_solidus, in-declaration, in-end-tag-open, in-tag-open, in-text}
-use Rattle.text_norm.proofs.KindsKeep.{kinds-keep}
+use Rattle.text_norm.proofs.LanguagesKeep.{languages-keep}
 use Rattle.text_norm.proofs.ValuesKeep.{before-value, both-none, cut-alike, fed-taken, in-value}
 
 -- a tag at whose end no content is refused
@@ -52,8 +52,8 @@ first-second None b n = n
 first-second (Some e) b n = absurd (some _ n)
 
 -- what a language and what the rest refuse of a value
-value-taken : (tag : Tag) (k : Kind) (c : Class) (b : ℕ) → byte_error (BeforeAttributeValue tag k) c b ≡ None → first_byte_error languages (attribute_value_of languages k) c b ≡ None
-value-taken tag k c b n = (both-none (first_byte_error languages (attribute_value_of languages k) c b) _ n).0
+value-taken : (tag : Tag) (k : Kind) (c : Class) (b : ℕ) → byte_error (BeforeAttributeValue tag k) c b ≡ None → first_byte_error (feeding languages) (attribute_value_of languages k) c b ≡ None
+value-taken tag k c b n = (both-none (first_byte_error (feeding languages) (attribute_value_of languages k) c b) _ n).0
 
 value-built : (tag : Tag) (k : Kind) (c : Class) (b : ℕ) → byte_error (BeforeAttributeValue tag k) c b ≡ None → c ≡ GreaterThan → content_error tag.tag ≡ None
 value-built tag k c b n e = none-at-hand _ (first-second (kind_error k) (content_error tag.tag) (subst (λ (z : Class). byte_error (BeforeAttributeValue tag k) z b ≡ None) e n))
@@ -84,10 +84,10 @@ follows (BeforeAttributeName tag) c b t d e n h = before-leads languages tag c b
 follows (AttributeName tag name) c b t d e n h = in-name languages tag name c b t d e (name-built tag name c b n) h
 follows (WholeAttributeName tag k) c b t d e n h = in-whole-name languages tag k c b t d e (none-at-hand _ n) h
 follows (AfterAttributeName tag k) c b t d e n h = after-name languages tag k c b t d e (after-built tag k c b n) h
-follows (BeforeAttributeValue tag k) c b t d e n h = before-value kinds-keep tag k c b t d e (value-taken tag k c b n) (value-built tag k c b n) h
+follows (BeforeAttributeValue tag k) c b t d e n h = before-value languages-keep tag k c b t d e (value-taken tag k c b n) (value-built tag k c b n) h
 follows (AttributeValue q tag v r) c b t d e n h =
-    let m = both-none (language_error languages (ends_value q c) v r c b) _ n in
-    in-value kinds-keep q tag v r c b t d e m.0 (bare-built q tag v r c m.1) h
+    let m = both-none (language_error (feeding languages) (ends_value q c) v r c b) _ n in
+    in-value languages-keep q tag v r c b t d e m.0 (bare-built q tag v r c m.1) h
 follows (AfterAttributeValue tag) c b t d e n h = before-leads languages tag c b _ (page languages (b ∷ []) d) (ends-built tag c n) (rw (h, e) refl)
 follows (SelfClosingStartTag tag) c b t d e n h = before-leads languages tag c b _ (page languages (b ∷ []) d) (ends-built tag c n) (rw (h, e) refl)
 follows (InContent x (Characters r) pending) c b t d e n h = in-content languages x r pending c b t d e h
@@ -95,59 +95,68 @@ follows (InContent x Bytes pending) c b t d e n h = in-block languages x pending
 follows Unread c b t d e n h = absurd (some _ n)
 
 -- the end of the node
-cut-follows : (s : LexState ValueState) (t : List LexEvent) (d : Config ValueState) → cut_error s ≡ None → TextStands languages s t d
+cut-follows : (s : LexState ValueState) (t : List LexEvent) (d : Config ValueState) → cut_error s ≡ None → lexeme_error s ≡ None → TextStands languages s t d
     → TextStands languages (at_cut languages s) (emits_cut languages s t) (page languages (cut_out s) d)
-cut-follows (Text Closed) t d n h = h
-cut-follows (Text (Open f bytes)) t d n h = h.cut
-cut-follows (TagOpen r) t d n h = h.less
-cut-follows (EndTagOpen r) t d n h = on languages (as_it_stands r ++ codes "&lt;") (codes "/") d _ h.less ∙ rw class_solidus refl
-cut-follows (DeclarationOpen r pending) t d n h =
+cut-follows (Text Closed) t d n m h = h
+cut-follows (Text (Open f bytes)) t d n m h = h.cut
+cut-follows (TagOpen r) t d n m h = h.less
+cut-follows (EndTagOpen r) t d n m h = on languages (as_it_stands r ++ codes "&lt;") (codes "/") d _ h.less ∙ rw class_solidus refl
+cut-follows (DeclarationOpen r pending) t d n m h =
     on languages (as_it_stands r ++ codes "&lt;") (codes "!" ++ pending) d _ h.less ∙ h.own (event_text_bytes (codes "<") (event_text_bytes (settled false r) t))
-cut-follows (InComment s) t d n h = h
-cut-follows BogusComment t d n h = absurd h
-cut-follows InDoctype t d n h = h
-cut-follows (TagName ends name) t d n h = record { ends = ends; name = name; named = refl; at = h }
-cut-follows (WholeTagName tag) t d n h = h
-cut-follows (BeforeAttributeName tag) t d n h = h
-cut-follows (AttributeName tag name) t d n h = record { name = name; named = refl; at = h }
-cut-follows (WholeAttributeName tag k) t d n h = h
-cut-follows (AfterAttributeName tag k) t d n h = h
-cut-follows (BeforeAttributeValue tag k) t d n h = h
-cut-follows (AttributeValue q tag (ValueOf v) r) t d n h = cut-alike kinds-keep q tag v r t d (fed-taken languages v (as_it_stands r) true (length (as_it_stands r)) n) h
-cut-follows (AttributeValue q tag (Deciding k before) r) t d n h = absurd (some _ n)
-cut-follows (AfterAttributeValue tag) t d n h = h
-cut-follows (SelfClosingStartTag tag) t d n h = h
-cut-follows (InContent e (Characters Closed) Nothing) t d n h = h
-cut-follows (InContent e (Characters (Open f bytes)) Nothing) t d n h = h.cut
-cut-follows (InContent e (Characters Closed) PendingLess) t d n h = h.less
-cut-follows (InContent e (Characters Closed) (PendingName letters)) t d n h = on languages (codes "&lt;") (codes "/" ++ letters) d _ h.less ∙ h.own (event_text_bytes (codes "<") t)
-cut-follows (InContent e (Characters (Open f bytes)) PendingLess) t d n h = absurd h
-cut-follows (InContent e (Characters (Open f bytes)) (PendingName letters)) t d n h = absurd h
-cut-follows (InContent e (Characters r) LessAtCut) t d n h = absurd h
-cut-follows (InContent e (Characters r) PendingBang) t d n h = absurd h
-cut-follows (InContent e (Characters r) PendingBangDash) t d n h = absurd h
-cut-follows (InContent e Bytes Nothing) t d n h = h
-cut-follows (InContent e Bytes PendingLess) t d n h = h
-cut-follows (InContent e Bytes LessAtCut) t d n h = h
-cut-follows (InContent e Bytes (PendingName letters)) t d n h = absurd (some _ n)
-cut-follows (InContent e Bytes PendingBang) t d n h = absurd (some _ n)
-cut-follows (InContent e Bytes PendingBangDash) t d n h = absurd (some _ n)
-cut-follows Unread t d n h = h
+cut-follows (InComment s) t d n m h = h
+cut-follows BogusComment t d n m h = absurd h
+cut-follows InDoctype t d n m h = h
+cut-follows (TagName ends name) t d n m h = record { ends = ends; name = name; named = refl; at = h }
+cut-follows (WholeTagName tag) t d n m h = h
+cut-follows (BeforeAttributeName tag) t d n m h = h
+cut-follows (AttributeName tag name) t d n m h = record { name = name; named = refl; at = h }
+cut-follows (WholeAttributeName tag k) t d n m h = h
+cut-follows (AfterAttributeName tag k) t d n m h = h
+cut-follows (BeforeAttributeValue tag k) t d n m h = h
+cut-follows (AttributeValue q tag (ValueOf v) r) t d n m h = cut-alike languages-keep q tag v r t d (fed-taken languages v (as_it_stands r) true (length (as_it_stands r)) n) m h
+cut-follows (AttributeValue q tag (Deciding k before) r) t d n m h = absurd (some _ n)
+cut-follows (AfterAttributeValue tag) t d n m h = h
+cut-follows (SelfClosingStartTag tag) t d n m h = h
+cut-follows (InContent e (Characters Closed) Nothing) t d n m h = h
+cut-follows (InContent e (Characters (Open f bytes)) Nothing) t d n m h = h.cut
+cut-follows (InContent e (Characters Closed) PendingLess) t d n m h = h.less
+cut-follows (InContent e (Characters Closed) (PendingName letters)) t d n m h = on languages (codes "&lt;") (codes "/" ++ letters) d _ h.less ∙ h.own (event_text_bytes (codes "<") t)
+cut-follows (InContent e (Characters (Open f bytes)) PendingLess) t d n m h = absurd h
+cut-follows (InContent e (Characters (Open f bytes)) (PendingName letters)) t d n m h = absurd h
+cut-follows (InContent e (Characters r) LessAtCut) t d n m h = absurd h
+cut-follows (InContent e (Characters r) PendingBang) t d n m h = absurd h
+cut-follows (InContent e (Characters r) PendingBangDash) t d n m h = absurd h
+cut-follows (InContent e Bytes Nothing) t d n m h = h
+cut-follows (InContent e Bytes PendingLess) t d n m h = h
+cut-follows (InContent e Bytes LessAtCut) t d n m h = h
+cut-follows (InContent e Bytes (PendingName letters)) t d n m h = absurd (some _ n)
+cut-follows (InContent e Bytes PendingBang) t d n m h = absurd (some _ n)
+cut-follows (InContent e Bytes PendingBangDash) t d n m h = absurd (some _ n)
+cut-follows Unread t d n m h = h
 
 -- what is refused at no byte
 goes : (k : ℕ) (o : Option PathCause) (rest : Option PathRefusal) → standing_at k o rest ≡ None → (o ≡ None) × (rest ≡ None)
 goes k None rest n = (refl, n)
 goes k (Some e) rest n = absurd (some _ n)
 
-pub keeps-from : (bytes : List ℕ) (k : ℕ) (s : LexState ValueState) (t : List LexEvent) (d : Config ValueState) → refusal_from k bytes s ≡ None → TextStands languages s t d
+-- nor at the node's end
+whole : (k since : ℕ) (o : Option Code) → broken_off k since o ≡ None → o ≡ None
+whole k since None n = refl
+whole k since (Some e) n = absurd (some _ n)
+
+pub keeps-from : (bytes : List ℕ) (k since : ℕ) (s : LexState ValueState) (t : List LexEvent) (d : Config ValueState) → refusal_from k since bytes s ≡ None → TextStands languages s t d
     → (let c = read_node languages bytes (config s t) in TextStands languages c.at c.emitted (page languages (written languages bytes s) d))
-keeps-from [] k s t d n h = cut-follows s t d (goes k (cut_error s) None n).0 h
-keeps-from (b ∷ bs) k s t d n h =
-    let m = goes k (byte_error s (class_of b) b) (refusal_from (k + 1) bs (next languages Template s (class_of b) b)) n in
+keeps-from [] k since s t d n h =
+    let here = last_between k since (is_between s) in
+    let m = goes k (cut_error s) (broken_off k here (lexeme_error s)) n in
+    cut-follows s t d m.0 (whole k here (lexeme_error s) m.1) h
+keeps-from (b ∷ bs) k since s t d n h =
     let z = next languages Template s (class_of b) b in
+    let later = last_between k since (is_between s) in
+    let m = goes k (byte_error s (class_of b) b) (refusal_from (k + 1) later bs z) n in
     let u = emits languages Template s (class_of b) b t in
     let o = out s (class_of b) b in
-    rw (over-append languages Page o (written languages bs z) d) (keeps-from bs (k + 1) z u (page languages o d) m.1 (follows s (class_of b) b t d refl m.0 h))
+    rw (over-append languages Page o (written languages bs z) d) (keeps-from bs (k + 1) later z u (page languages o d) m.1 (follows s (class_of b) b t d refl m.0 h))
 
 -- the states of a reading are those of its bytes
 same-states : (bytes : List ℕ) (s : LexState ValueState) (t : List LexEvent) → (read_over languages Template bytes (config s t)).at ≡ states bytes s
@@ -160,5 +169,5 @@ keeps-shape bytes p q s t d v i e h =
     let n = ((one-text bytes i.own s i.stands).0 g.0 g.1).0 in
     let c = read_node languages bytes (config s t) in (
       subst (IsIn q) (sym (ap (at_cut languages) (same-states bytes s t))) (covers-text bytes p q s v i e),
-      subst (λ (z : List ℕ). TextStands languages c.at c.emitted (page languages z d)) (written-on-paths bytes p q s v i e) (keeps-from bytes 0 s t d n h),
+      subst (λ (z : List ℕ). TextStands languages c.at c.emitted (page languages z d)) (written-on-paths bytes p q s v i e) (keeps-from bytes 0 0 s t d n h),
     )

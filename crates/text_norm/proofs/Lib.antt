@@ -12,7 +12,7 @@ mod HarmlessNames
 pub mod HoleKeeps
 pub mod HolesLead
 pub mod Keeps
-pub mod KindsKeep
+pub mod LanguagesKeep
 mod Kept
 mod Loops
 pub mod PagesFill

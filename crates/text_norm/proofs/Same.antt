@@ -4,10 +4,11 @@ use Rattle.place_core.specs.page.Classes.{Class, White, ExclamationMark, Quotati
 use Rattle.place_core.specs.page.Comments.{Declaration, OpensComment, OpensDoctype, Undecided, OpensNothing, closes_comment, comment_ended, declared_by, next_in_comment, next_in_doctype}
 use Rattle.place_core.specs.page.Contents.{may_be_name_of, is_name_of, next_bang, next_end_name, next_in_content, next_less, next_loose}
 use Rattle.place_core.specs.page.Html.{after_tag, ends_value, next, next_after_name, next_after_value, next_before_name, next_before_value, next_declaration, next_end_tag_open, next_name, next_tag_name, next_tag_open, next_text, next_value}
+use Rattle.place_core.specs.place.Errors.{last_between}
 use Rattle.place_core.specs.place.Places.{Below}
 use Rattle.place_core.specs.page.References.{Reference, Closed, Open, as_it_stands, begin_reference, next_reference, settled}
 use Rattle.place_core.specs.page.States.{CommentState, Started, StartedDash, Inside, Dash, DashDash, Bang, Broken, Template, LexState, Text, TagOpen, EndTagOpen, DeclarationOpen, InComment, BogusComment, InDoctype, TagName, WholeTagName, BeforeAttributeName, AttributeName, WholeAttributeName, AfterAttributeName, BeforeAttributeValue, AttributeValue, AfterAttributeValue, SelfClosingStartTag, Characters, Bytes, Pending, Nothing, PendingLess, LessAtCut, PendingName, PendingBang, PendingBangDash, InContent, Unread}
-use Rattle.place_core.specs.page.Tags.{Tag, ValueState, languages, Quoting, DoubleQuoted, SingleQuoted, Unquoted, Value, ValueOf, Deciding, element_on, is_second_type, tag_of_name, with_bytes, tag_with_value, without_value}
+use Rattle.place_core.specs.page.Tags.{Tag, ValueState, OfKind, OfUrl, languages, Quoting, DoubleQuoted, SingleQuoted, Unquoted, Value, ValueOf, Deciding, element_on, is_second_type, tag_of_name, with_bytes, tag_with_value, without_value}
 use Rattle.place_core.specs.declared.element.Element.{Element}
 use Rattle.place_core.specs.declared.element.Element.TheVariants as element
 use Rattle.place_core.specs.page.Words.{kind_of}
@@ -19,18 +20,19 @@ use Rattle.place_core.specs.declared.tag_of.TagOf.{TagOf}
 use Rattle.place_core.specs.declared.tag_of.TagOf.TheVariants as which
 use Rattle.place_core.specs.declared.value_place.ValuePlace.{ValuePlace}
 use Rattle.place_core.proofs.Semilattices.{none_some, one_value}
-use Rattle.html_scan.specs.Scans.{Scan, At, AfterLess, AfterLessSolidus, InDeclaration, InTagName, InAttributeName, InCommentEnd, InContentEnd, BeforeType, InType, scan_error, scan_next}
+use Rattle.html_scan.specs.Scans.{Scan, At, AfterLess, AfterLessSolidus, InDeclaration, InTagName, InAttributeName, InCommentEnd, InContentEnd, InUrl, BeforeType, InType, scan_error, scan_next, url_scan, is_scan_between}
 use Rattle.html_step.proofs.PlaceParts.{below-rcdata}
 use Rattle.html_step.proofs.ScanOrder.{ScanBelow, ScanValid, scan-grows}
-use Rattle.html_step.proofs.OnePath.{WhereScanned, content_scanned, scanned}
+use Rattle.html_step.proofs.OnePath.{WhereScanned, content_scanned, scanned, url_scanned}
 use Rattle.html_step.proofs.OneTexts.{agrees-at, at-place}
-use Rattle.html_step.proofs.ValidSteps.{scan-valid}
+use Rattle.html_step.proofs.ValidSteps.{scan-valid, valid-within}
 use Rattle.html_step.proofs.WholeTexts.{grows-text, not-refused, text-steps}
 use Rattle.html_step.specs.Steps.{stepped}
+use Rattle.url_lexer.specs.Triples.{Triple, NoTriple, AfterPercent, AfterDigit}
 use Rattle.text_norm.specs.Laws.{WrittenOnPaths}
 use Rattle.place_core.specs.place.StatePlaces.{only_after, only_inside, placed, tag_spot}
 use Rattle.text_norm.specs.Scanned.{declaration_open, less_open, scan_cut_out, scan_open, scan_out, written_from}
-use Rattle.text_norm.specs.Written.{cut_out, out, reference_out, value_out, written}
+use Rattle.text_norm.specs.Written.{cut_out, out, reference_out, text_escaped, value_out, written}
 
 -- A scan state and one above it.
 record Same (f g : Scan) (c : Class) (b : ℕ) (r : Reference) : Type 0 where
@@ -70,6 +72,7 @@ scan-same (At a) (InTagName ends name) c b r h = absurd h
 scan-same (At a) (InAttributeName t x n) c b r h = absurd h
 scan-same (At a) (InCommentEnd s) c b r h = absurd h
 scan-same (At a) (InContentEnd e k) c b r h = absurd h
+scan-same (At a) (InUrl v t z) c b r h = absurd h
 scan-same (At a) (BeforeType t) c b r h = absurd h
 scan-same (At a) (InType t q v z) c b r h = absurd h
 scan-same (InAttributeName t x n) (InAttributeName u y m) c b r h = record { outs = refl; opens = refl }
@@ -80,8 +83,20 @@ scan-same (InAttributeName t x n) (InDeclaration pending) c b r h = absurd h
 scan-same (InAttributeName t x n) (InTagName ends name) c b r h = absurd h
 scan-same (InAttributeName t x n) (InCommentEnd s) c b r h = absurd h
 scan-same (InAttributeName t x n) (InContentEnd e k) c b r h = absurd h
+scan-same (InAttributeName t x n) (InUrl v u z) c b r h = absurd h
 scan-same (InAttributeName t x n) (BeforeType u) c b r h = absurd h
 scan-same (InAttributeName t x n) (InType u q v z) c b r h = absurd h
+scan-same (InUrl v t z) (InUrl w u y) c b r h = record { outs = refl; opens = refl }
+scan-same (InUrl v t z) (At p) c b r h = absurd h
+scan-same (InUrl v t z) AfterLess c b r h = absurd h
+scan-same (InUrl v t z) AfterLessSolidus c b r h = absurd h
+scan-same (InUrl v t z) (InDeclaration pending) c b r h = absurd h
+scan-same (InUrl v t z) (InTagName ends name) c b r h = absurd h
+scan-same (InUrl v t z) (InAttributeName u x n) c b r h = absurd h
+scan-same (InUrl v t z) (InCommentEnd s) c b r h = absurd h
+scan-same (InUrl v t z) (InContentEnd e k) c b r h = absurd h
+scan-same (InUrl v t z) (BeforeType u) c b r h = absurd h
+scan-same (InUrl v t z) (InType u q x y) c b r h = absurd h
 scan-same AfterLess g c b r h = rigid AfterLess g c b r h
 scan-same AfterLessSolidus g c b r h = rigid AfterLessSolidus g c b r h
 scan-same (InDeclaration pending) g c b r h = rigid (InDeclaration pending) g c b r h
@@ -100,6 +115,7 @@ cut-same (At a) (InTagName ends name) r h = absurd h
 cut-same (At a) (InAttributeName t x n) r h = absurd h
 cut-same (At a) (InCommentEnd s) r h = absurd h
 cut-same (At a) (InContentEnd e k) r h = absurd h
+cut-same (At a) (InUrl v t z) r h = absurd h
 cut-same (At a) (BeforeType t) r h = absurd h
 cut-same (At a) (InType t q v z) r h = absurd h
 cut-same (InAttributeName t x n) (InAttributeName u y m) r h = refl
@@ -110,8 +126,20 @@ cut-same (InAttributeName t x n) (InDeclaration pending) r h = absurd h
 cut-same (InAttributeName t x n) (InTagName ends name) r h = absurd h
 cut-same (InAttributeName t x n) (InCommentEnd s) r h = absurd h
 cut-same (InAttributeName t x n) (InContentEnd e k) r h = absurd h
+cut-same (InAttributeName t x n) (InUrl v u z) r h = absurd h
 cut-same (InAttributeName t x n) (BeforeType u) r h = absurd h
 cut-same (InAttributeName t x n) (InType u q v z) r h = absurd h
+cut-same (InUrl v t z) (InUrl w u y) r h = refl
+cut-same (InUrl v t z) (At p) r h = absurd h
+cut-same (InUrl v t z) AfterLess r h = absurd h
+cut-same (InUrl v t z) AfterLessSolidus r h = absurd h
+cut-same (InUrl v t z) (InDeclaration pending) r h = absurd h
+cut-same (InUrl v t z) (InTagName ends name) r h = absurd h
+cut-same (InUrl v t z) (InAttributeName u x n) r h = absurd h
+cut-same (InUrl v t z) (InCommentEnd s) r h = absurd h
+cut-same (InUrl v t z) (InContentEnd e k) r h = absurd h
+cut-same (InUrl v t z) (BeforeType u) r h = absurd h
+cut-same (InUrl v t z) (InType u q x y) r h = absurd h
 cut-same AfterLess g r h = ap (λ (z : Scan). scan_cut_out z r) h
 cut-same AfterLessSolidus g r h = ap (λ (z : Scan). scan_cut_out z r) h
 cut-same (InDeclaration pending) g r h = ap (λ (z : Scan). scan_cut_out z r) h
@@ -322,23 +350,41 @@ WritesFrom s c b f = (r : Reference) → opened s ≡ Some r → Writes s f c b 
 before-value-writes : (tag : Tag) (k : Kind) (c : Class) (b : ℕ) → WritesAt (BeforeAttributeValue tag k) c b
 before-value-writes tag kind.Plain c b = λ r e. at-one (BeforeAttributeValue tag kind.Plain) _ c b Closed r e (record { outs = refl; opens = before-value-opens c b tag kind.Plain })
 before-value-writes tag kind.NoHole c b = λ r e. at-one (BeforeAttributeValue tag kind.NoHole) _ c b Closed r e (record { outs = refl; opens = before-value-opens c b tag kind.NoHole })
-before-value-writes tag kind.Url c b = tt
+before-value-writes tag kind.Url c b =
+    λ r e. at-one (BeforeAttributeValue tag kind.Url) _ c b Closed r e (record { outs = refl; opens = before-value-opens c b tag kind.Url })
 before-value-writes tag kind.Script c b = tt
 before-value-writes tag kind.Style c b = tt
 before-value-writes tag kind.ScriptType c b =
     where-first (is_second_type tag.typed kind.ScriptType) (BeforeType tag.tag) (WritesFrom (BeforeAttributeValue tag kind.ScriptType) c b)
     (λ r e. at-one (BeforeAttributeValue tag kind.ScriptType) (BeforeType tag.tag) c b Closed r e (record { outs = refl; opens = before-value-opens c b tag kind.ScriptType }))
 
-value-writes-at : (q : Quoting) (tag : Tag) (k : Kind) (a : Reference) (v : ValuePlace) (c : Class) (b : ℕ) → Writes (AttributeValue q tag (ValueOf k) a) (At (place.Value v)) c b a
+value-writes-at : (q : Quoting) (tag : Tag) (k : ValueState) (a : Reference) (v : ValuePlace) (c : Class) (b : ℕ)
+    → Writes (AttributeValue q tag (ValueOf k) a) (At (place.Value v)) c b a
 value-writes-at q tag k a v c b = (let w = value-writes (ends_value q c) q tag (ValueOf k) a c b refl in record { outs = w.0; opens = w.1 })
 
+url-writes-at : (q : Quoting) (tag : Tag) (k : ValueState) (a : Reference) (v : ValuePlace) (t : Triple) (z : Reference) (c : Class) (b : ℕ)
+    → Writes (AttributeValue q tag (ValueOf k) a) (InUrl v t z) c b a
+url-writes-at q tag k a v t z c b = (let w = value-writes (ends_value q c) q tag (ValueOf k) a c b refl in record { outs = w.0; opens = w.1 })
+
+-- a URL, in a percent triple or a reference, or in neither
+url-writes : (q : Quoting) (tag : Tag) (k : ValueState) (a : Reference) (v : ValuePlace) (t : Triple) (z : Reference) (c : Class) (b : ℕ)
+    → Writes (AttributeValue q tag (ValueOf k) a) (url_scan v t z) c b a
+url-writes q tag k a v NoTriple Closed c b = value-writes-at q tag k a v c b
+url-writes q tag k a v NoTriple (Open f h) c b = url-writes-at q tag k a v NoTriple (Open f h) c b
+url-writes q tag k a v AfterPercent z c b = url-writes-at q tag k a v AfterPercent z c b
+url-writes q tag k a v AfterDigit z c b = url-writes-at q tag k a v AfterDigit z c b
+
 in-value-writes : (q : Quoting) (tag : Tag) (v : Value ValueState) (a : Reference) (c : Class) (b : ℕ) → WritesAt (AttributeValue q tag v a) c b
-in-value-writes q tag (ValueOf kind.Plain) a c b = λ r e. at-one (AttributeValue q tag (ValueOf kind.Plain) a) _ c b a r e (value-writes-at q tag kind.Plain a _ c b)
-in-value-writes q tag (ValueOf kind.NoHole) a c b = λ r e. at-one (AttributeValue q tag (ValueOf kind.NoHole) a) _ c b a r e (value-writes-at q tag kind.NoHole a _ c b)
-in-value-writes q tag (ValueOf kind.Url) a c b = tt
-in-value-writes q tag (ValueOf kind.Script) a c b = tt
-in-value-writes q tag (ValueOf kind.Style) a c b = tt
-in-value-writes q tag (ValueOf kind.ScriptType) a c b = tt
+in-value-writes q tag (ValueOf (OfKind kind.Plain)) a c b =
+    λ r e. at-one (AttributeValue q tag (ValueOf (OfKind kind.Plain)) a) _ c b a r e (value-writes-at q tag (OfKind kind.Plain) a _ c b)
+in-value-writes q tag (ValueOf (OfKind kind.NoHole)) a c b =
+    λ r e. at-one (AttributeValue q tag (ValueOf (OfKind kind.NoHole)) a) _ c b a r e (value-writes-at q tag (OfKind kind.NoHole) a _ c b)
+in-value-writes q tag (ValueOf (OfKind kind.Url)) a c b = tt
+in-value-writes q tag (ValueOf (OfKind kind.Script)) a c b = tt
+in-value-writes q tag (ValueOf (OfKind kind.Style)) a c b = tt
+in-value-writes q tag (ValueOf (OfKind kind.ScriptType)) a c b = tt
+in-value-writes q tag (ValueOf (OfUrl u)) a c b =
+    λ r e. at-one (AttributeValue q tag (ValueOf (OfUrl u)) a) (url_scanned q tag u a) c b a r e (url-writes q tag (OfUrl u) a _ u.triple a c b)
 in-value-writes q tag (Deciding kind.ScriptType before) a c b =
     let s = AttributeValue q tag (Deciding kind.ScriptType before) a in
     let f = InType tag.tag q (Deciding kind.ScriptType before) a in
@@ -475,13 +521,20 @@ block-cuts e (PendingName letters) = tt
 block-cuts e PendingBang = tt
 block-cuts e PendingBangDash = tt
 
+url-cuts : (v : ValuePlace) (t : Triple) (z r : Reference) → text_escaped r ≡ scan_cut_out (url_scan v t z) r
+url-cuts v NoTriple Closed r = refl
+url-cuts v NoTriple (Open f h) r = refl
+url-cuts v AfterPercent z r = refl
+url-cuts v AfterDigit z r = refl
+
 value-cuts : (q : Quoting) (tag : Tag) (v : Value ValueState) (a : Reference) → CutAt (AttributeValue q tag v a)
-value-cuts q tag (ValueOf kind.Plain) a = λ r e. by-one (At place.Text) a r _ e refl
-value-cuts q tag (ValueOf kind.NoHole) a = λ r e. by-one (At place.Text) a r _ e refl
-value-cuts q tag (ValueOf kind.Url) a = tt
-value-cuts q tag (ValueOf kind.Script) a = tt
-value-cuts q tag (ValueOf kind.Style) a = tt
-value-cuts q tag (ValueOf kind.ScriptType) a = tt
+value-cuts q tag (ValueOf (OfKind kind.Plain)) a = λ r e. by-one (At place.Text) a r _ e refl
+value-cuts q tag (ValueOf (OfKind kind.NoHole)) a = λ r e. by-one (At place.Text) a r _ e refl
+value-cuts q tag (ValueOf (OfKind kind.Url)) a = tt
+value-cuts q tag (ValueOf (OfKind kind.Script)) a = tt
+value-cuts q tag (ValueOf (OfKind kind.Style)) a = tt
+value-cuts q tag (ValueOf (OfKind kind.ScriptType)) a = tt
+value-cuts q tag (ValueOf (OfUrl u)) a = λ r e. by-one (url_scanned q tag u a) a r (text_escaped a) e (url-cuts _ u.triple a a)
 value-cuts q tag (Deciding kind.ScriptType before) a =
     let s = AttributeValue q tag (Deciding kind.ScriptType before) a in
     where-first (is_second_type tag.typed kind.ScriptType) (InType tag.tag q (Deciding kind.ScriptType before) a) (CutFrom s) (λ r e. by-one (At place.Text) a r _ e refl)
@@ -490,7 +543,7 @@ value-cuts q tag (Deciding _ before) a = tt
 before-cuts : (tag : Tag) (k : Kind) → CutAt (BeforeAttributeValue tag k)
 before-cuts tag kind.Plain = λ r e. by-one (At place.Text) Closed r _ e refl
 before-cuts tag kind.NoHole = λ r e. by-one (At place.Text) Closed r _ e refl
-before-cuts tag kind.Url = tt
+before-cuts tag kind.Url = λ r e. by-one (At place.Text) Closed r _ e refl
 before-cuts tag kind.Script = tt
 before-cuts tag kind.Style = tt
 before-cuts tag kind.ScriptType =
@@ -562,27 +615,29 @@ writes-at s f b r e o = subst (λ (z : Option Scan). WhereScanned z (λ g. (a : 
 cuts-at : (s : LexState ValueState) (f : Scan) (r : Reference) → scanned s ≡ Some f → opened s ≡ Some r → cut_out s ≡ scan_cut_out f r
 cuts-at s f r e o = subst (λ (z : Option Scan). WhereScanned z (λ g. (a : Reference) → opened s ≡ Some a → cut_out s ≡ scan_cut_out g a)) e (cuts s) r o
 
-same-from : (bytes : List ℕ) (k : ℕ) (s : LexState ValueState) (f : Scan) (r : Reference) (q : Place) → scanned s ≡ Some f → opened s ≡ Some r → stepped k bytes f ≡ Ok q
+same-from : (bytes : List ℕ) (k since : ℕ) (s : LexState ValueState) (f : Scan) (r : Reference) (q : Place) → scanned s ≡ Some f → opened s ≡ Some r → stepped k since bytes f ≡ Ok q
     → written languages bytes s ≡ written_from bytes f r
-same-from [] k s f r q e o h = cuts-at s f r e o
-same-from (b ∷ bs) k s f r q e o h =
-    let n = not-refused k (scan_error f (class_of b) b) (stepped (k + 1) bs (scan_next f (class_of b) b)) q h in
+same-from [] k since s f r q e o h = cuts-at s f r e o
+same-from (b ∷ bs) k since s f r q e o h =
+    let later = last_between k since (is_scan_between f) in
+    let n = not-refused k (scan_error f (class_of b) b) (stepped (k + 1) later bs (scan_next f (class_of b) b)) q h in
     let w = writes-at s f b r e o in
     ap₂ (λ (x y : List ℕ). x ++ y) w.outs
-    (same-from bs (k + 1) (next languages Template s (class_of b) b) (scan_next f (class_of b) b) (scan_open f (class_of b) b r) q ((agrees-at s f b e).steps n.0) w.opens n.1)
+    (same-from bs (k + 1) later (next languages Template s (class_of b) b) (scan_next f (class_of b) b) (scan_open f (class_of b) b r) q ((agrees-at s f b e).steps n.0) w.opens n.1)
 
-above-from : (bytes : List ℕ) (k : ℕ) (f g : Scan) (r : Reference) (q : Place) → ScanValid f → ScanBelow f g → stepped k bytes g ≡ Ok q → written_from bytes f r ≡ written_from bytes g r
-above-from [] k f g r q v h e = cut-same f g r h
-above-from (b ∷ bs) k f g r q v h e =
-    let n = not-refused k (scan_error g (class_of b) b) (stepped (k + 1) bs (scan_next g (class_of b) b)) q e in
+above-from : (bytes : List ℕ) (k since : ℕ) (f g : Scan) (r : Reference) (q : Place) → ScanValid f → ScanBelow f g → stepped k since bytes g ≡ Ok q → written_from bytes f r ≡ written_from bytes g r
+above-from [] k since f g r q v h e = cut-same f g r h
+above-from (b ∷ bs) k since f g r q v h e =
+    let later = last_between k since (is_scan_between g) in
+    let n = not-refused k (scan_error g (class_of b) b) (stepped (k + 1) later bs (scan_next g (class_of b) b)) q e in
     let m = scan-grows f g (class_of b) b v h n.0 in
     let w = scan-same f g (class_of b) b r h in
     ap₂ (λ (x y : List ℕ). x ++ y) w.outs
-    (above-from bs (k + 1) (scan_next f (class_of b) b) (scan_next g (class_of b) b) (scan_open f (class_of b) b r) q (scan-valid f (class_of b) b v) m.1 n.1
+    (above-from bs (k + 1) later (scan_next f (class_of b) b) (scan_next g (class_of b) b) (scan_open f (class_of b) b r) q (scan-valid f (class_of b) b v) m.1 n.1
     ∙ ap (λ (z : Reference). written_from bs (scan_next g (class_of b) b) z) w.opens)
 
 pub written-on-paths : WrittenOnPaths
 written-on-paths bytes p q s v i e =
     let g = grows-text bytes i.own p q i.valid v i.below e in
-    same-from bytes 0 s (At i.own) Closed g.0 (at-place s i.own i.stands) (closed-at s i.own i.stands) (text-steps bytes i.own g.0 g.1)
-    ∙ above-from bytes 0 (At i.own) (At p) Closed q i.valid i.below (text-steps bytes p q e)
+    same-from bytes 0 0 s (At i.own) Closed g.0 (at-place s i.own i.stands) (closed-at s i.own i.stands) (text-steps bytes i.own g.0 g.1)
+    ∙ above-from bytes 0 0 (At i.own) (At p) Closed q (valid-within i.own i.valid) i.below (text-steps bytes p q e)

@@ -10,7 +10,7 @@ use Rattle.place_core.specs.page.Paths.{Hole, read_path}
 use Rattle.place_core.specs.page.References.{Closed}
 use Rattle.place_core.specs.page.Shape.{marked_over}
 use Rattle.place_core.specs.page.States.{Page, Template, LexState, AttributeValue, Config, config}
-use Rattle.place_core.specs.page.Tags.{end_tag, ValueLanguage, ValueOf, DoubleQuoted}
+use Rattle.place_core.specs.page.Tags.{end_tag, ValueLanguage, ValueOf, feeding, DoubleQuoted}
 use Rattle.place_core.specs.declared.code.Code.{Code}
 use Rattle.place_core.specs.declared.code.Code.TheVariants as code
 use Rattle.text_norm.specs.Standing.{StandsInValue}
@@ -46,13 +46,15 @@ toy = record {
   feed = λ v b. after_byte b;
   emits = told;
   refuses = refused;
+  refuses_names = λ v. false;
   ends = λ v t. t;
   after_cut = λ v. v;
+  refuses_cut = λ v. None;
   settled = λ v. v;
   emits_settled = λ v t. t;
   after_hole = λ v. Behind;
   behind = λ before after. after;
-  LeadsPlain = λ before after. ⊤;
+  LeadsPlain = λ before bytes after. ⊤;
   AreAlike = AreAlike;
 }
 
@@ -82,9 +84,9 @@ toy-keeps = record {
   emits = toy-emits;
   feeds = λ v w b a n. alike-itself (after_byte b);
   ends = λ v w t a. refl;
-  after_cut = λ v w a. a;
+  after_cut = λ v w a n. a;
   settles = λ v w t a. refl;
-  hole = λ v w after a p. tt;
+  hole = λ v w after bytes a p. tt;
 }
 
 -- A page with the bytes of a hole in a value, and then a text, and the path of that text behind a hole.
@@ -104,7 +106,7 @@ differ = (refl, refl)
 
 stands : StandsInValue toy DoubleQuoted end_tag (ValueOf Behind) Closed (Mark ∷ []) (page_behind (codes "a*") [])
 unfolding class_of
-stands = hole-alike toy-keeps DoubleQuoted end_tag Loose Loose Starred [] refl tt
+stands = hole-alike toy-keeps DoubleQuoted end_tag Loose Loose Starred (codes "a*") [] refl tt
 
 -- the next byte brings them together, and they have told the same
 together : page_behind (codes "a*") (codes "b*/") ≡ path_behind (codes "b*/")
@@ -119,7 +121,7 @@ changed : (page_behind (codes "a*") (codes "/")).emitted ≡ (path_behind (codes
 unfolding class_of
 changed e = other-event (Mark ∷ []) e
 
-is-refused : language_error toy false (ValueOf Behind) Closed Solidus 47 ≡ None → ⊥
+is-refused : language_error (feeding toy) false (ValueOf Behind) Closed Solidus 47 ≡ None → ⊥
 is-refused e = cc
 
 -- the states between which a hole can change the text that is written behind it are not alike
@@ -133,8 +135,10 @@ unaware = record {
   feed = toy.feed;
   emits = toy.emits;
   refuses = toy.refuses;
+  refuses_names = toy.refuses_names;
   ends = toy.ends;
   after_cut = toy.after_cut;
+  refuses_cut = toy.refuses_cut;
   settled = toy.settled;
   emits_settled = toy.emits_settled;
   after_hole = λ v. v;
@@ -144,7 +148,7 @@ unaware = record {
 }
 
 no-laws : ValueLanguageLaws Toy unaware → ⊥
-no-laws l = not-alike (l.hole Loose Loose Starred refl tt)
+no-laws l = not-alike (l.hole Loose Loose Starred [] refl tt)
 
 -- nor has one that tells nothing apart: were all its states alike, a byte would be told alike in all
 abbrev blind : ValueLanguage Toy
@@ -153,8 +157,10 @@ blind = record {
   feed = toy.feed;
   emits = toy.emits;
   refuses = λ v b. None;
+  refuses_names = toy.refuses_names;
   ends = toy.ends;
   after_cut = toy.after_cut;
+  refuses_cut = toy.refuses_cut;
   settled = toy.settled;
   emits_settled = toy.emits_settled;
   after_hole = toy.after_hole;

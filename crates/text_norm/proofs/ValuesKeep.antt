@@ -1,15 +1,15 @@
 -- What is written of a value leads the page's reading where the path's leads. In a language of values the page may be in another state than the path,
 -- which is alike; all that is asked of the language is its laws.
-use Rattle.std.proofs.Common.{◌≡◌, ℕ, ◌-◌, Bool, true, false, codes, List, [], ◌∷◌, ◌++◌, Option, Some, None, if◌then◌else◌, refl, sym, ap, ap₂, ◌∙◌, subst}
+use Rattle.std.proofs.Common.{◌≡◌, ℕ, ◌+◌, ◌-◌, Bool, true, false, ◌&&◌, codes, encode_utf8, length, List, [], ◌∷◌, ◌++◌, Option, Some, None, if◌then◌else◌, refl, sym, ap, ap₂, ◌∙◌, subst}
 use Rattle.std.specs.Prelude.{⊤}
 use Rattle.std.proofs.lemmas.List.{append-nil, append_assoc}
 use Rattle.place_core.specs.page.Classes.{Class, White, QuotationMark, Ampersand, Apostrophe, GreaterThan, class_of, is_equals_sign}
-use Rattle.place_core.specs.place.Errors.{PathCause, cause_back, content_error, ending_tag, fed_error, first_byte_error, first_cause, language_error, turned_error}
+use Rattle.place_core.specs.place.Errors.{PathCause, cause_back, content_error, ending_tag, fed_error, first_byte_error, first_cause, language_error, name_error, is_unknown_name, turned_error}
 use Rattle.place_core.specs.page.Events.{LexEvent, Mark, TagEnds}
 use Rattle.place_core.specs.page.Html.{ends_value, next_after_value, next_before_value, next_value, emits_after_value, emits_before_value, emits_value}
-use Rattle.place_core.specs.page.References.{Form, Begun, Reference, Closed, Open, ReferenceStep, Grows, Closes, Breaks, flushed, next_reference, plain_bytes, settled, turn, turn_bytes, undone_byte, as_it_stands}
+use Rattle.place_core.specs.page.References.{Form, Begun, Reference, Closed, Open, ReferenceStep, Grows, Closes, Breaks, flushed, meaning, next_reference, plain_bytes, settled, turn, turn_bytes, undone_byte, as_it_stands}
 use Rattle.place_core.specs.page.States.{AttributeValue, BeforeAttributeValue, Config, config}
-use Rattle.place_core.specs.page.Tags.{Tag, ValueLanguage, Value, ValueOf, Deciding, Quoting, DoubleQuoted, SingleQuoted, Unquoted, cut_value, emitted_bytes, emitted_end, emitted_settled, holed_value, attribute_value_of, value_behind, with_bytes, tag_with_value, without_value}
+use Rattle.place_core.specs.page.Tags.{Tag, ValueLanguage, Value, ValueOf, Deciding, Quoting, DoubleQuoted, SingleQuoted, Unquoted, cut_value, emitted_bytes, emitted_end, emitted_settled, holed_value, attribute_value_of, value_behind, with_bytes, feeding, feed_bytes, refuses_cut_of, tag_with_value, without_value}
 use Rattle.place_core.specs.declared.code.Code.{Code}
 use Rattle.place_core.specs.declared.kind.Kind.{Kind}
 use Rattle.place_core.specs.declared.kind.Kind.TheVariants as kind
@@ -36,6 +36,10 @@ pub own-fed : {B : Type 0} (x : ValueLanguage B) (v : B) (bs : List ℕ) → wit
 own-fed x v [] = refl
 own-fed x v (b ∷ bs) = own-fed x (x.feed v b) bs
 
+own-feeding : {B : Type 0} (x : ValueLanguage B) (v : B) (bs : List ℕ) → feed_bytes (feeding x) (ValueOf v) bs ≡ ValueOf (fed x v bs)
+own-feeding x v [] = refl
+own-feeding x v (b ∷ bs) = own-feeding x (x.feed v b) bs
+
 pub own-type : {B : Type 0} (x : ValueLanguage B) (k : Kind) (before bs : List ℕ) → with_bytes x (Deciding k before) bs ≡ Deciding k (before ++ bs)
 own-type x k before [] = ap (Deciding k) (sym (append-nil before))
 own-type x k before (b ∷ bs) = own-type x k (before ++ b ∷ []) bs ∙ ap (Deciding k) (append_assoc before (b ∷ []) bs)
@@ -49,31 +53,34 @@ no-cause : (back : ℕ) (o : Option Code) → cause_back back o ≡ None → o �
 no-cause back None n = refl
 no-cause back (Some e) n = absurd (some _ n)
 
-pub fed-taken : {B : Type 0} (x : ValueLanguage B) (v : B) (bs : List ℕ) (written : Bool) (back : ℕ) → fed_error x (ValueOf v) bs written back ≡ None → AreTaken x v bs
+pub fed-taken : {B : Type 0} (x : ValueLanguage B) (v : B) (bs : List ℕ) (written : Bool) (back : ℕ) → fed_error (feeding x) (ValueOf v) bs written back ≡ None → AreTaken x v bs
 fed-taken x v [] written back n = tt
 fed-taken x v (b ∷ bs) written back n =
     let later = if written then back - 1 else back in
-    let m = both-none (cause_back back (x.refuses v b)) (fed_error x (ValueOf (x.feed v b)) bs written later) n in
+    let m = both-none (cause_back back (x.refuses v b)) (fed_error (feeding x) (ValueOf (x.feed v b)) bs written later) n in
     (no-cause back (x.refuses v b) m.0, fed-taken x (x.feed v b) bs written later m.1)
 
 taken-append : {B : Type 0} (x : ValueLanguage B) (v : B) (xs ys : List ℕ) → AreTaken x v xs → AreTaken x (fed x v xs) ys → AreTaken x v (xs ++ ys)
 taken-append x v [] ys h k = k
 taken-append x v (b ∷ xs) ys h k = (h.0, taken-append x (x.feed v b) xs ys h.1 k)
 
-turned-taken : {B : Type 0} (x : ValueLanguage B) (v : B) (n : ReferenceStep) (f : Form) (bytes : List ℕ) (c : Class) (b : ℕ) → turned_error x (ValueOf v) n f bytes c b ≡ None → AreTaken x v (turn_bytes true n f bytes c b)
+turned-taken : {B : Type 0} (x : ValueLanguage B) (v : B) (n : ReferenceStep) (f : Form) (bytes : List ℕ) (c : Class) (b : ℕ) → turned_error (feeding x) (ValueOf v) n f bytes c b ≡ None → AreTaken x v (turn_bytes true n f bytes c b)
 turned-taken x v (Grows g) f bytes c b n = tt
-turned-taken x v Closes f bytes c b n = fed-taken x v _ false _ n
+turned-taken x v Closes f bytes c b n =
+    let unknown = name_error (x.refuses_names v && is_unknown_name f bytes) (length bytes + 1) in
+    let m = both-none unknown (fed_error (feeding x) (ValueOf v) (encode_utf8 (meaning f bytes)) false (length bytes + 1)) n in
+    fed-taken x v (encode_utf8 (meaning f bytes)) false (length bytes + 1) m.1
 turned-taken {B} x v Breaks f bytes c b n =
     let name = flushed true (is_equals_sign c) f bytes in
-    let m = both-none _ (fed_error x (with_bytes x (ValueOf v) name) (plain_bytes c b) false 0) n in
+    let m = both-none _ (fed_error (feeding x) (feed_bytes (feeding x) (ValueOf v) name) (plain_bytes c b) false 0) n in
     taken-append x v name (plain_bytes c b) (fed-taken x v name _ _ m.0)
-    (fed-taken x (fed x v name) (plain_bytes c b) false 0 (subst (λ (z : Value B). fed_error x z (plain_bytes c b) false 0 ≡ None) (own-fed x v name) m.1))
+    (fed-taken x (fed x v name) (plain_bytes c b) false 0 (subst (λ (z : Value B). fed_error (feeding x) z (plain_bytes c b) false 0 ≡ None) (own-feeding x v name) m.1))
 
-taken-on : {B : Type 0} (x : ValueLanguage B) (v : B) (r : Reference) (c : Class) (b : ℕ) → language_error x false (ValueOf v) r c b ≡ None → AreTaken x v (undone_byte true r c b)
+taken-on : {B : Type 0} (x : ValueLanguage B) (v : B) (r : Reference) (c : Class) (b : ℕ) → language_error (feeding x) false (ValueOf v) r c b ≡ None → AreTaken x v (undone_byte true r c b)
 taken-on x v Closed c b n = fed-taken x v (plain_bytes c b) false 0 n
 taken-on x v (Open f bytes) c b n = turned-taken x v (turn c f) f bytes c b n
 
-taken-end : {B : Type 0} (x : ValueLanguage B) (v : B) (r : Reference) (c : Class) (b : ℕ) → language_error x true (ValueOf v) r c b ≡ None → AreTaken x v (settled true r)
+taken-end : {B : Type 0} (x : ValueLanguage B) (v : B) (r : Reference) (c : Class) (b : ℕ) → language_error (feeding x) true (ValueOf v) r c b ≡ None → AreTaken x v (settled true r)
 taken-end x v Closed c b n = tt
 taken-end x v (Open f bytes) c b n = fed-taken x v (flushed true false f bytes) _ _ n
 
@@ -115,7 +122,7 @@ goes-on-alike {B} {x} l q tag v r c b t d e s k h =
     }
 
 goes-on : {B : Type 0} {x : ValueLanguage B} → ValueLanguageLaws B x → (q : Quoting) (tag : Tag) (v : Value B) (r : Reference) (c : Class) (b : ℕ) (t : List LexEvent) (d : Config B) → class_of b ≡ c
-    → ends_value q c ≡ false → language_error x false v r c b ≡ None → StandsInValue x q tag v r t d
+    → ends_value q c ≡ false → language_error (feeding x) false v r c b ≡ None → StandsInValue x q tag v r t d
     → StandsInValue x q tag (with_bytes x v (undone_byte true r c b)) (next_reference r c b) (emitted_bytes x v (undone_byte true r c b) t) (page x (reference_out r c b) d)
 goes-on {B} {x} l q tag (ValueOf v) r c b t d e s n h =
     let u = undone_byte true r c b in
@@ -157,7 +164,7 @@ abbrev IsBuilt : {B : Type 0} → ValueLanguage B → Quoting → Class → Tag 
 IsBuilt x q c tag v r = q ≡ Unquoted → c ≡ GreaterThan → content_error (ending_tag x tag v r).tag ≡ None
 
 ends-there : {B : Type 0} {x : ValueLanguage B} → ValueLanguageLaws B x → (q : Quoting) (tag : Tag) (v : Value B) (r : Reference) (c : Class) (b : ℕ) (t : List LexEvent) (d : Config B) → class_of b ≡ c
-    → ends_value q c ≡ true → language_error x true v r c b ≡ None → IsBuilt x q c tag v r → StandsInValue x q tag v r t d
+    → ends_value q c ≡ true → language_error (feeding x) true v r c b ≡ None → IsBuilt x q c tag v r → StandsInValue x q tag v r t d
     → TextStands x (next_value x true q c b tag v r) (emits_value x true q c b v r t) (page x (as_it_stands r ++ b ∷ []) d)
 ends-there {B} {x} l q tag (ValueOf v) r c b t d e s k n h =
     let u = emits_value x true q c b (ValueOf v) r t in
@@ -169,38 +176,39 @@ ends-there {B} {x} l q tag (Deciding j before) r c b t d e s k n h =
     after-end x q (tag_with_value tag z) c b (emits_value x true q c b (Deciding j before) r t) (page x (as_it_stands r ++ b ∷ []) d) n (at-end x q tag (Deciding j before) r c b t d e s h)
 
 in-value-by : {B : Type 0} {x : ValueLanguage B} → ValueLanguageLaws B x → (ends : Bool) (q : Quoting) (tag : Tag) (v : Value B) (r : Reference) (c : Class) (b : ℕ) (t : List LexEvent) (d : Config B) → class_of b ≡ c
-    → ends_value q c ≡ ends → language_error x ends v r c b ≡ None → IsBuilt x q c tag v r → StandsInValue x q tag v r t d
+    → ends_value q c ≡ ends → language_error (feeding x) ends v r c b ≡ None → IsBuilt x q c tag v r → StandsInValue x q tag v r t d
     → TextStands x (next_value x ends q c b tag v r) (emits_value x ends q c b v r t) (page x (value_out ends c b r) d)
 in-value-by l true q tag v r c b t d e s k n h = ends-there l q tag v r c b t d e s k n h
 in-value-by l false q tag v r c b t d e s k n h = goes-on l q tag v r c b t d e s k h
 
 pub in-value : {B : Type 0} {x : ValueLanguage B} → ValueLanguageLaws B x → (q : Quoting) (tag : Tag) (v : Value B) (r : Reference) (c : Class) (b : ℕ) (t : List LexEvent) (d : Config B) → class_of b ≡ c
-    → language_error x (ends_value q c) v r c b ≡ None → (q ≡ Unquoted → c ≡ GreaterThan → content_error (ending_tag x tag v r).tag ≡ None) → StandsInValue x q tag v r t d
+    → language_error (feeding x) (ends_value q c) v r c b ≡ None → (q ≡ Unquoted → c ≡ GreaterThan → content_error (ending_tag x tag v r).tag ≡ None) → StandsInValue x q tag v r t d
     → TextStands x (next_value x (ends_value q c) q c b tag v r) (emits_value x (ends_value q c) q c b v r t) (page x (value_out (ends_value q c) c b r) d)
 in-value l q tag v r c b t d e k n h = in-value-by l (ends_value q c) q tag v r c b t d e refl k n h
 
--- the end of a node, where nothing of the value is refused
+-- the end of a node, where nothing of the value is refused, nor that it ends there
 pub cut-alike : {B : Type 0} {x : ValueLanguage B} → ValueLanguageLaws B x → (q : Quoting) (tag : Tag) (v : B) (r : Reference) (t : List LexEvent) (d : Config B) → AreTaken x v (as_it_stands r)
-    → StandsAlike B x q tag v r t d
+    → refuses_cut_of x (with_bytes x (ValueOf v) (as_it_stands r)) ≡ None → StandsAlike B x q tag v r t d
     → StandsInValue x q tag (cut_value x (with_bytes x (ValueOf v) (as_it_stands r))) Closed (emitted_bytes x (ValueOf v) (as_it_stands r) t) (page x (text_escaped r) d)
-cut-alike {B} {x} l q tag v Closed t d k h = record { there = h.there; alike = l.after_cut v h.there h.alike; stands = h.stands }
-cut-alike {B} {x} l q tag v (Open f bytes) t d k h =
+cut-alike {B} {x} l q tag v Closed t d k n h = record { there = h.there; alike = l.after_cut v h.there h.alike n; stands = h.stands }
+cut-alike {B} {x} l q tag v (Open f bytes) t d k n h =
     let u = 38 ∷ bytes in
     let w = h.there in
+    let whole : x.refuses_cut (fed x v u) ≡ None = subst (λ (z : Value B). refuses_cut_of x z ≡ None) (own-fed x v u) n in
     subst (λ (z : Value B). StandsInValue x q tag (cut_value x z) Closed (emitted_bytes x (ValueOf v) u t) (page x (text_escaped (Open f bytes)) d)) (sym (own-fed x v u))
     (record {
       there = fed x w u;
-      alike = l.after_cut (fed x v u) (fed x w u) (alike-fed l u v w h.alike k);
+      alike = l.after_cut (fed x v u) (fed x w u) (alike-fed l u v w h.alike k) whole;
       stands = h.stands.cut ∙ ap₂ (λ (z : Value B) (y : List LexEvent). config (AttributeValue q tag z Closed) y) (own-fed x w u) (alike-emitted l u v w t h.alike k);
     })
 
 -- a hole in a value, and before one, whose bytes lead the page to `after`
-pub hole-alike : {B : Type 0} {x : ValueLanguage B} → ValueLanguageLaws B x → (q : Quoting) (tag : Tag) (v w after : B) (t : List LexEvent) → x.AreAlike v w → x.LeadsPlain (x.settled w) after
+pub hole-alike : {B : Type 0} {x : ValueLanguage B} → ValueLanguageLaws B x → (q : Quoting) (tag : Tag) (v w after : B) (bytes : List ℕ) (t : List LexEvent) → x.AreAlike v w → x.LeadsPlain (x.settled w) bytes after
     → StandsInValue x q tag (holed_value x (ValueOf v)) Closed (Mark ∷ emitted_settled x (ValueOf v) t)
     (config (AttributeValue q tag (value_behind x (Some (ValueOf (x.settled w))) (ValueOf after)) Closed) (Mark ∷ emitted_settled x (ValueOf w) t))
-hole-alike {B} {x} l q tag v w after t a p = record {
+hole-alike {B} {x} l q tag v w after bytes t a p = record {
   there = x.behind (x.settled w) after;
-  alike = l.hole v w after a p;
+  alike = l.hole v w after bytes a p;
   stands = ap (λ (z : List LexEvent). config (AttributeValue q tag (ValueOf (x.behind (x.settled w) after)) Closed) (Mark ∷ z)) (l.settles v w t a);
 }
 
@@ -225,7 +233,7 @@ unquoted-amp x tag k t d h = record {
 }
 
 pub before-value : {B : Type 0} {x : ValueLanguage B} → ValueLanguageLaws B x → (tag : Tag) (k : Kind) (c : Class) (b : ℕ) (t : List LexEvent) (d : Config B) → class_of b ≡ c
-    → first_byte_error x (attribute_value_of x k) c b ≡ None → (c ≡ GreaterThan → content_error tag.tag ≡ None) → d ≡ config (BeforeAttributeValue tag k) t
+    → first_byte_error (feeding x) (attribute_value_of x k) c b ≡ None → (c ≡ GreaterThan → content_error tag.tag ≡ None) → d ≡ config (BeforeAttributeValue tag k) t
     → TextStands x (next_before_value x c b tag k) (emits_before_value x c b k t) (page x (reference_out Closed c b) d)
 before-value l tag k White b t d e o n h = rw (h, e) refl
 before-value {B} {x} l tag k QuotationMark b t d e o n h = begun-there l DoubleQuoted tag k Closed t (page x (b ∷ []) d) (rw (h, e) refl)

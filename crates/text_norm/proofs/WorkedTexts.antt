@@ -8,9 +8,15 @@ use Rattle.place_core.specs.page.Shape.{shape_of}
 use Rattle.place_core.specs.page.States.{Page, LexState, Text, config}
 use Rattle.place_core.specs.page.Tags.{ValueState, languages}
 use Rattle.place_core.specs.place.Places.{Below, IsValid}
+use Rattle.place_core.specs.place.UrlParts.{parts_of}
+use Rattle.place_core.specs.declared.body.Body.TheVariants as body
 use Rattle.place_core.specs.declared.place.Place.{Place}
 use Rattle.place_core.specs.declared.place.Place.TheVariants as place
+use Rattle.place_core.specs.declared.quotes.Quotes.TheVariants as quotes
 use Rattle.place_core.specs.declared.san.San.TheVariants as san
+use Rattle.place_core.specs.declared.tag_of.TagOf.TheVariants as which
+use Rattle.url_lexer.specs.Classes.{url_class_of}
+use Rattle.url_lexer.specs.Parts.{UrlPrequery}
 use Rattle.page_datum.specs.Data.{Data}
 use Rattle.html_step.specs.Holes.{only}
 use Rattle.text_norm.specs.Scanned.{written_at}
@@ -70,6 +76,14 @@ all_paths : written_at (codes "a<!-- b -->&#3<b x=&y") place.Text ≡ codes "a&#
 unfolding class_of
 all_paths = refl
 
+-- a URL of which several paths are past the beginning: what is read in it, as a percent triple, is no text of the page
+abbrev past_beginning : Place
+past_beginning = place.Value (record { tag = which.End; typed = false; quotes = quotes.Dq; body = body.Url (parts_of UrlPrequery) })
+
+url_on_all_paths : written_at (codes "b?c=%4&#49;&am") past_beginning ≡ codes "b?c=%4&#49;&amp;am"
+unfolding class_of url_class_of meaning lib.Utf8.encode
+url_on_all_paths = refl
+
 -- Two nodes after one another, from text: what is written of them, and that a page reads it in the path's shape.
 abbrev node_after : List ℕ → LexState ValueState → LexState ValueState
 node_after bytes s = (read_node languages bytes (config s [])).at
@@ -103,6 +117,10 @@ name_over_nodes = (refl, refl)
 value_over_nodes : IsReadBack (codes "<b title='&#X4") (codes "1;'>") (codes "<b title='&amp;#X41;'>")
 unfolding class_of meaning lib.Utf8.encode
 value_over_nodes = (refl, refl)
+
+url_over_nodes : IsReadBack (codes "<a href='/b?c&am") (codes "p;d'>") (codes "<a href='/b?c&amp;amp;d'>")
+unfolding class_of url_class_of meaning lib.Utf8.encode
+url_over_nodes = (refl, refl)
 
 title_over_nodes : IsReadBack (codes "<title>a</tit") (codes "le></title>") (codes "<title>a&lt;/title></title>")
 unfolding class_of meaning lib.Utf8.encode

@@ -6,7 +6,7 @@ use Rattle.place_core.specs.page.Html.{read, start}
 use Rattle.place_core.specs.page.Paths.{Hole, Symbol, Written, at_hole, read_node}
 use Rattle.place_core.specs.page.References.{Closed, Reference}
 use Rattle.place_core.specs.page.States.{AfterAttributeName, AfterAttributeValue, AttributeValue, BeforeAttributeName, BeforeAttributeValue, Bytes, Characters, Config, Content, InContent, LexState, Nothing, Page, Pending, SelfClosingStartTag, Text, WholeAttributeName, config}
-use Rattle.place_core.specs.page.Tags.{Quoting, Tag, Unquoted, Value, ValueOf, ValueState, attribute_value_of, languages, without_value}
+use Rattle.place_core.specs.page.Tags.{Quoting, Tag, Unquoted, Value, ValueOf, ValueState, OfKind, attribute_value_of, languages, without_value}
 use Rattle.place_core.specs.place.Errors.{node}
 use Rattle.place_core.specs.declared.kind.Kind.TheVariants as kind
 use Rattle.san_html.specs.ReadBack.{as_name, as_unquoted, read_as_text, read_value}
@@ -66,7 +66,7 @@ TakesContent (Characters r) Nothing = ⊤
 TakesContent y h = ⊥
 
 abbrev pub TakesValue : Value ValueState → Reference → Type 0
-TakesValue (ValueOf v) Closed = ⊤
+TakesValue (ValueOf (OfKind k)) Closed = ⊤
 TakesValue v r = ⊥
 
 abbrev pub TakesHole : LexState ValueState → Type 0

@@ -52,8 +52,8 @@ pub fn emits_the_same()
     ensures { EmitsTheSame }
 {}
 
-/// Where a page's reading corresponds to a path and nothing is pending, it is in the path's very state, and has emitted the same. So it is
-/// at the place text, where pages end. A theorem; the call does nothing at run time.
+/// Where a page's reading corresponds to a path that is in no URL, and nothing is pending, it is in the path's very state, and has emitted
+/// the same. So it is at the place text, where pages end. A theorem; the call does nothing at run time.
 pub fn stands_where_nothing_is_pending()
     ensures { StandsWhereNothingIsPending }
 {}

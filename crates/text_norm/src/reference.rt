@@ -1,71 +1,21 @@
 ghost use Rattle.std.specs.Prelude.{◌≡◌, ◌+◌, ◌^◌, ◌<◌, ◌≤◌, ℕ, List, [], IfSome, false, get_or, length, Option};
 ghost use Rattle.place_core.specs.page.References.{begin_reference, next_reference};
-ghost use Rattle.place_core.specs.page.References as references;
 ghost use Rattle.html_scan.specs.ClassViews.{class_at};
 ghost use Rattle.html_scan.specs.ScanViews.{scan_at};
 ghost use Rattle.text_norm.specs.Kept.{Continues, IsReadTo, place_kept, scan_kept, less_kept, reference_kept};
 ghost use Rattle.text_norm.specs.Kept as spec;
 ghost use Rattle.text_norm.specs.Scanned.{rcdata_open};
-ghost use Rattle.text_norm.specs.ReferenceViews.{form_at, reference_view, step_at};
+ghost use Rattle.text_norm.specs.ReferenceViews.{reference_view};
 
-use html_scan::{Class, Letter, Scan};
+use html_scan::{Class, Outcome, ReferenceForm, Scan, turn};
 use place_core::{Element, Place};
-
-/// How far a reference has come.
-#[derive(Clone, Copy)]
-pub enum Form {
-    /// `&`.
-    Begun,
-    /// `&` and a name.
-    Named,
-    /// `&#`.
-    Hashed,
-    /// `&#` and digits.
-    Decimal,
-    /// `&#x`.
-    HexMark,
-    /// `&#x` and digits.
-    Hexadecimal,
-}
 
 /// A reference that has begun: its form, and where the bytes after its `&` begin and end in the text.
 #[derive(Clone, Copy)]
 pub struct Opened {
-    pub form: Form,
+    pub form: ReferenceForm,
     pub from: usize,
     pub to: usize,
-}
-
-/// What a byte does to an open reference.
-#[derive(Clone, Copy)]
-pub enum ReferenceTurn {
-    /// The reference goes on.
-    Grows(Form),
-    /// The reference ends with the byte.
-    Closes,
-    /// The reference ended before the byte.
-    Breaks,
-}
-
-// What a byte does to an open reference. (HTML Standard, sections 13.2.5.72 to 13.2.5.79.)
-fn turn(class: Class, form: Form) -> ReferenceTurn
-    ensures { step_at result ≡ references.turn (class_at class) (form_at form) }
-{
-    match (class, form) {
-        (Class::Letter(_), Form::Begun | Form::Named) => ReferenceTurn::Grows(Form::Named),
-        (Class::Letter(Letter::X), Form::Hashed) => ReferenceTurn::Grows(Form::HexMark),
-        (Class::Letter(Letter::Hexadecimal), Form::HexMark | Form::Hexadecimal) =>
-            ReferenceTurn::Grows(Form::Hexadecimal),
-        (Class::Digit, Form::Begun | Form::Named) => ReferenceTurn::Grows(Form::Named),
-        (Class::Digit, Form::Hashed | Form::Decimal) => ReferenceTurn::Grows(Form::Decimal),
-        (Class::Digit, Form::HexMark | Form::Hexadecimal) => ReferenceTurn::Grows(
-            Form::Hexadecimal,
-        ),
-        (Class::NumberSign, Form::Begun) => ReferenceTurn::Grows(Form::Hashed),
-        (Class::Semicolon, Form::Named | Form::Decimal | Form::Hexadecimal) =>
-            ReferenceTurn::Closes,
-        _ => ReferenceTurn::Breaks,
-    }
 }
 
 /// The reference that is open after a byte where none was open.
@@ -78,7 +28,7 @@ pub fn begun(class: Class, index: usize) -> Option<Opened>
 {
     match class {
         Class::Ampersand => Some(Opened {
-            form: Form::Begun,
+            form: ReferenceForm::Begun,
             from: index + 1,
             to: index + 1,
         }),
@@ -99,13 +49,13 @@ fn after_byte(reference: Option<Opened>, class: Class, index: usize) -> Option<O
     match reference {
         None => begun(class, index),
         Some(opened) => match turn(class, opened.form) {
-            ReferenceTurn::Grows(form) => Some(Opened {
+            Outcome::Grows(form) => Some(Opened {
                 form,
                 to: index + 1,
                 ..opened
             }),
-            ReferenceTurn::Closes => None,
-            ReferenceTurn::Breaks => begun(class, index),
+            Outcome::Closes => None,
+            Outcome::Breaks => begun(class, index),
         },
     }
 }
@@ -149,6 +99,7 @@ fn moved(before: Scan, class: Class, reference: Option<Opened>, index: usize) ->
 {
     match before {
         Scan::At(place) => moved_at(place, class, reference, index),
+        Scan::InUrl { .. } => after_byte(reference, class, index),
         Scan::BeforeType(_) => after_byte(reference, class, index),
         Scan::InType { .. } => after_byte(reference, class, index),
         _ => None,

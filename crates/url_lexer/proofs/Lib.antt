@@ -3,7 +3,7 @@ mod ByteFacts
 mod Clashes
 mod CodeSchemes
 mod Examples
-mod Language
+pub mod Language
 mod NotExamples
 mod QueryMarks
 mod ReadBack

@@ -12,7 +12,8 @@ use Rattle.url_lexer.specs.Refusals.{AmbigContext}
 use Rattle.url_lexer.specs.TwoPaths.{are_apart, refuses_hole_on_two}
 use Rattle.url_lexer.specs.declared.class.UrlClass.TheVariants as class
 use Rattle.url_step.specs.PartLaws.{CoversParts, CoversUrls, PartsAgree}
-use Rattle.url_step.specs.PartSets.{placed_prefix, parts_of, PartsBelow, spells_apart, parts_next, parts_error, parts_at_hole, parts_hole_error}
+use Rattle.place_core.specs.place.UrlParts.{placed_prefix, parts_of}
+use Rattle.url_step.specs.PartSets.{PartsBelow, spells_apart, parts_next, parts_error, parts_at_hole, parts_hole_error}
 use Rattle.url_step.proofs.Growth.{if-none, parts-grow}
 use Rattle.url_step.proofs.OnePath.{one-next, one-error, one-hole-error, one-at-hole}
 

@@ -7,7 +7,8 @@ use Rattle.url_lexer.specs.declared.class.UrlClass.{UrlClass}
 use Rattle.url_lexer.specs.declared.class.UrlClass.TheVariants as class
 use Rattle.place_core.specs.declared.parts.Parts.{Parts}
 use Rattle.url_step.specs.PartLaws.{IsExactOnOnePart}
-use Rattle.url_step.specs.PartSets.{placed_prefix, spelled_prefix, parts_of, parts_next, parts_error, parts_at_hole, parts_hole_error}
+use Rattle.place_core.specs.place.UrlParts.{placed_prefix, parts_of}
+use Rattle.url_step.specs.PartSets.{spelled_prefix, parts_next, parts_error, parts_at_hole, parts_hole_error}
 
 pub spelled-placed : (p : Prefix) → spelled_prefix (placed_prefix p) ≡ p
 spelled-placed Off = refl

@@ -10,7 +10,8 @@ use Rattle.url_lexer.specs.Prefixes.{Prefix, is_whole_word}
 use Rattle.url_lexer.specs.declared.class.UrlClass.{UrlClass}
 use Rattle.url_lexer.specs.declared.class.UrlClass.TheVariants as class
 use Rattle.url_step.specs.PartOrigins.{PartBears, IsPartOrigin, IsPartHoleOrigin, PartsComeFrom, PartsComeFromHole}
-use Rattle.url_step.specs.PartSets.{placed_prefix, spelled_prefix, parts_of, HasPart, first_spelled, next_spelled, spells_code, spells_no_code, spells_apart, parts_next, parts_error}
+use Rattle.place_core.specs.place.UrlParts.{placed_prefix, parts_of}
+use Rattle.url_step.specs.PartSets.{spelled_prefix, HasPart, first_spelled, next_spelled, spells_code, spells_no_code, spells_apart, parts_next, parts_error}
 use Rattle.url_step.proofs.Growth.{Inside, itself, apart, inside, if-none, not-apart, opened-below}
 use Rattle.url_step.proofs.OnePath.{spelled-placed}
 

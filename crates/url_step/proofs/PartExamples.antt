@@ -7,7 +7,8 @@ use Rattle.url_lexer.specs.Parts.{UrlStart, UrlOpen, UrlOpenhole, UrlPrequery, U
 use Rattle.url_lexer.specs.Prefixes.{Off, Javascript, DataScheme, Differs}
 use Rattle.url_lexer.specs.Refusals.{AmbigContext, BadHTML}
 use Rattle.url_lexer.specs.declared.class.UrlClass.TheVariants as class
-use Rattle.url_step.specs.PartSets.{parts_of, HasPart, parts_next, parts_error, parts_at_hole, parts_hole_error, spells_apart}
+use Rattle.place_core.specs.place.UrlParts.{parts_of}
+use Rattle.url_step.specs.PartSets.{HasPart, parts_next, parts_error, parts_at_hole, parts_hole_error, spells_apart}
 
 -- a set behind a text
 abbrev behind : Parts → List ℕ → Parts

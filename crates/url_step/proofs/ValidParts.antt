@@ -1,7 +1,7 @@
 -- A valid set of parts comes to valid ones: what the beginning spells is at most a whole word, and some part is there.
 use Rattle.std.proofs.Common.{◌≡◌, ◌<◌, ◌==◌, ℕ, zero, suc, Bool, true, false, ◌||◌, not, codes, List, [], ◌∷◌, Option, Some, None, option_map, is_some, length, if◌then◌else◌, refl, ap, ◌∙◌, arith}
 use Rattle.std.specs.Char.{to_ascii_lowercase}
-use Rattle.place_core.specs.place.NotBuiltPlaces.{both_prefixes, same_prefix, IsValidParts, IsValidPrefix}
+use Rattle.place_core.specs.place.NotBuiltPlaces.{both_prefixes, same_prefix}
 use Rattle.place_core.specs.declared.parts.Parts.{Parts}
 use Rattle.place_core.specs.declared.prefix.Prefix.{Prefix}
 use Rattle.place_core.specs.declared.prefix.Prefix.TheVariants as prefix
@@ -10,7 +10,8 @@ use Rattle.url_lexer.specs.Prefixes.{is_letter, letter_behind, longer, is_whole_
 use Rattle.url_lexer.specs.declared.class.UrlClass.{UrlClass}
 use Rattle.url_lexer.specs.declared.class.UrlClass.TheVariants as class
 use Rattle.url_step.specs.PartLaws.{PartsStayValid}
-use Rattle.url_step.specs.PartSets.{placed_prefix, spelled_prefix, first_spelled, next_spelled, spells_code, spells_no_code, parts_next}
+use Rattle.place_core.specs.place.UrlParts.{placed_prefix}
+use Rattle.url_step.specs.PartSets.{AreParts, IsSpelled, spelled_prefix, first_spelled, next_spelled, spells_code, spells_no_code, parts_next}
 
 no : false ≡ true → ⊥
 no e = cc
@@ -22,47 +23,47 @@ letter-bound (y ∷ ys) zero b h = omega arith
 letter-bound (y ∷ ys) (suc n) b h = (let r = letter-bound ys n b h in omega arith)
 
 javascript-valid : (n b : ℕ) (k : Bool) → is_letter (letter_behind (codes "javascript") n) b ≡ k
-    → IsValidPrefix (Some (placed_prefix (longer k (spelling.Javascript (suc n)))))
+    → IsSpelled (Some (placed_prefix (longer k (spelling.Javascript (suc n)))))
 javascript-valid n b true h = (let r : n < 10 = letter-bound (codes "javascript") n b h in (omega arith, omega arith))
 javascript-valid n b false h = tt
 
 vbscript-valid : (n b : ℕ) (k : Bool) → is_letter (letter_behind (codes "vbscript") n) b ≡ k
-    → IsValidPrefix (Some (placed_prefix (longer k (spelling.Vbscript (suc n)))))
+    → IsSpelled (Some (placed_prefix (longer k (spelling.Vbscript (suc n)))))
 vbscript-valid n b true h = (let r : n < 8 = letter-bound (codes "vbscript") n b h in (omega arith, omega arith))
 vbscript-valid n b false h = tt
 
 data-valid : (n b : ℕ) (k : Bool) → is_letter (letter_behind (codes "data") n) b ≡ k
-    → IsValidPrefix (Some (placed_prefix (longer k (spelling.DataScheme (suc n)))))
+    → IsSpelled (Some (placed_prefix (longer k (spelling.DataScheme (suc n)))))
 data-valid n b true h = (let r : n < 4 = letter-bound (codes "data") n b h in (omega arith, omega arith))
 data-valid n b false h = tt
 
-next-valid : (b : ℕ) (p : Prefix) → IsValidPrefix (Some (next_spelled b p))
+next-valid : (b : ℕ) (p : Prefix) → IsSpelled (Some (next_spelled b p))
 next-valid b prefix.Off = tt
 next-valid b (prefix.Javascript n) = javascript-valid n b (is_letter (letter_behind (codes "javascript") n) b) refl
 next-valid b (prefix.Vbscript n) = vbscript-valid n b (is_letter (letter_behind (codes "vbscript") n) b) refl
 next-valid b (prefix.DataScheme n) = data-valid n b (is_letter (letter_behind (codes "data") n) b) refl
 next-valid b prefix.Differs = tt
 
-mapped-valid : (b : ℕ) (o : Option Prefix) → IsValidPrefix (option_map (next_spelled b) o)
+mapped-valid : (b : ℕ) (o : Option Prefix) → IsSpelled (option_map (next_spelled b) o)
 mapped-valid b None = tt
 mapped-valid b (Some p) = next-valid b p
 
-first-by : (x y z : Bool) → IsValidPrefix (Some (placed_prefix
+first-by : (x y z : Bool) → IsSpelled (Some (placed_prefix
     (if x then spelling.Javascript 1 else (if y then spelling.Vbscript 1 else (if z then spelling.DataScheme 1 else spelling.Off)))))
 first-by true y z = (omega arith, omega arith)
 first-by false true z = (omega arith, omega arith)
 first-by false false true = (omega arith, omega arith)
 first-by false false false = tt
 
-first-valid : (b : ℕ) (x : Bool) → IsValidPrefix (first_spelled x b)
+first-valid : (b : ℕ) (x : Bool) → IsSpelled (first_spelled x b)
 first-valid b true = first-by (to_ascii_lowercase b == 106) (to_ascii_lowercase b == 118) (to_ascii_lowercase b == 100)
 first-valid b false = tt
 
-joined-by : (p : Prefix) (x : Bool) → IsValidPrefix (Some p) → IsValidPrefix (Some (if x then p else prefix.Differs))
+joined-by : (p : Prefix) (x : Bool) → IsSpelled (Some p) → IsSpelled (Some (if x then p else prefix.Differs))
 joined-by p true h = h
 joined-by p false h = tt
 
-joined-valid : (o r : Option Prefix) → IsValidPrefix o → IsValidPrefix r → IsValidPrefix (both_prefixes o r)
+joined-valid : (o r : Option Prefix) → IsSpelled o → IsSpelled r → IsSpelled (both_prefixes o r)
 joined-valid None r h k = k
 joined-valid (Some p) None h k = h
 joined-valid (Some p) (Some q) h k = joined-by p (same_prefix p q) h
@@ -114,7 +115,7 @@ colon-some true o h p q b e = or-true h
 colon-some false (Some x) h p q b e = scheme-some h p q b (is_whole_word (spelled_prefix x))
 colon-some false None h p q b e = e
 
-valid-next : (s : Parts) → IsValidParts s → (c : UrlClass) (b : ℕ) → IsValidParts (parts_next s c b)
+valid-next : (s : Parts) → AreParts s → (c : UrlClass) (b : ℕ) → AreParts (parts_next s c b)
 valid-next s v class.TabOrNewline b = v
 valid-next s v class.ControlOrSpace b =
     (ap (λ (z : Bool). s.start || (z || (s.openhole || (s.prequery || (s.query || s.bad))))) (blank-some b s.opened) ∙ v.0, mapped-valid b s.opened)

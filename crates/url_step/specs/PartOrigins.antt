@@ -9,7 +9,8 @@ use Rattle.url_lexer.specs.Refusals.{UrlRefusal, url_refuses_class, refuses_hole
 use Rattle.url_lexer.specs.TwoPaths.{refuses_hole_on_two}
 use Rattle.url_lexer.specs.declared.class.UrlClass.{UrlClass}
 use Rattle.url_lexer.specs.declared.class.UrlClass.TheVariants as class
-use Rattle.url_step.specs.PartSets.{parts_of, HasPart, parts_next, parts_error, parts_at_hole, parts_hole_error}
+use Rattle.place_core.specs.place.UrlParts.{parts_of}
+use Rattle.url_step.specs.PartSets.{HasPart, parts_next, parts_error, parts_at_hole, parts_hole_error}
 
 -- the part of a path is this member, whatever the beginning spells
 abbrev pub PartBears : UrlPart → Member → Type 0

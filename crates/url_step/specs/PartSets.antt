@@ -1,6 +1,8 @@
 -- The parts of a URL at which several paths of a template stand, as one set: what a byte of text and a hole make of the set, and what is refused.
-use Rattle.std.specs.Prelude.{◌≡◌, ◌+◌, ℕ, Bool, true, false, ◌||◌, not, nat_lt, Option, Some, None, option_map, is_some, Result, Ok, Err, if◌then◌else◌}
-use Rattle.place_core.specs.place.NotBuiltPlaces.{both_parts, both_prefixes}
+use Rattle.std.specs.Prelude.{⊤, ◌≡◌, ◌≤◌, ◌+◌, ℕ, Bool, true, false, ◌||◌, not, nat_lt, Option, Some, None, option_map, is_some, Result, Ok, Err, if◌then◌else◌}
+use Rattle.place_core.specs.page.Tags.{refusal_code}
+use Rattle.place_core.specs.place.NotBuiltPlaces.{both_parts, both_prefixes, some_part}
+use Rattle.place_core.specs.place.UrlParts.{parts_of, placed_prefix}
 use Rattle.place_core.specs.declared.code.Code.{Code}
 use Rattle.place_core.specs.declared.code.Code.TheVariants as code
 use Rattle.place_core.specs.declared.parts.Parts.{Parts}
@@ -12,29 +14,13 @@ use Rattle.url_lexer.specs.Refusals.{UrlRefusal, AmbigContext, BadHTML, PartialE
 use Rattle.url_lexer.specs.declared.class.UrlClass.{UrlClass}
 use Rattle.url_lexer.specs.declared.class.UrlClass.TheVariants as class
 
--- a prefix of the lexer as a place has it, and back
-abbrev pub placed_prefix : spelling.Prefix → Prefix
-placed_prefix spelling.Off = prefix.Off
-placed_prefix (spelling.Javascript n) = prefix.Javascript n
-placed_prefix (spelling.Vbscript n) = prefix.Vbscript n
-placed_prefix (spelling.DataScheme n) = prefix.DataScheme n
-placed_prefix spelling.Differs = prefix.Differs
-
+-- a prefix of a place as the lexer has it
 abbrev pub spelled_prefix : Prefix → spelling.Prefix
 spelled_prefix prefix.Off = spelling.Off
 spelled_prefix (prefix.Javascript n) = spelling.Javascript n
 spelled_prefix (prefix.Vbscript n) = spelling.Vbscript n
 spelled_prefix (prefix.DataScheme n) = spelling.DataScheme n
 spelled_prefix prefix.Differs = spelling.Differs
-
--- the set of one path
-abbrev pub parts_of : UrlPart → Parts
-parts_of UrlStart = record { start = true; opened = None; openhole = false; prequery = false; query = false; bad = false }
-parts_of (UrlOpen p) = record { start = false; opened = Some (placed_prefix p); openhole = false; prequery = false; query = false; bad = false }
-parts_of UrlOpenhole = record { start = false; opened = None; openhole = true; prequery = false; query = false; bad = false }
-parts_of UrlPrequery = record { start = false; opened = None; openhole = false; prequery = true; query = false; bad = false }
-parts_of UrlQuery = record { start = false; opened = None; openhole = false; prequery = false; query = true; bad = false }
-parts_of UrlBad = record { start = false; opened = None; openhole = false; prequery = false; query = false; bad = true }
 
 -- One set is below another: joining them gives that one. A part is in a set: the set of a path that is there is below it. So a set whose prefix is
 -- the one that differs stands for paths with any prefix.
@@ -43,6 +29,18 @@ PartsBelow s t = both_parts s t ≡ t
 
 abbrev pub HasPart : Parts → UrlPart → Type 0
 HasPart s p = PartsBelow (parts_of p) s
+
+-- There is a part; and where the beginning spells letters of a word it is at least one letter, and at most all.
+abbrev pub IsSpelled : Option Prefix → Type 0
+IsSpelled (Some (prefix.Javascript n)) = (1 ≤ n) × (n ≤ 10)
+IsSpelled (Some (prefix.Vbscript n)) = (1 ≤ n) × (n ≤ 8)
+IsSpelled (Some (prefix.DataScheme n)) = (1 ≤ n) × (n ≤ 4)
+IsSpelled (Some prefix.Off) = ⊤
+IsSpelled (Some prefix.Differs) = ⊤
+IsSpelled None = ⊤
+
+abbrev pub AreParts : Parts → Type 0
+AreParts s = (some_part s ≡ true) × IsSpelled s.opened
 
 -- what the beginning spells behind a character; where the URL has not begun, it begins with the character
 abbrev pub first_spelled : Bool → ℕ → Option Prefix
@@ -149,11 +147,6 @@ abbrev pub parts_hole_error : Parts → Option UrlRefusal
 parts_hole_error s = if nat_lt 1 (part_count s) then Some AmbigContext else if_bad s.bad
 
 -- as the code answers: by the codes of errors, and at a hole with the set behind it where nothing is refused
-abbrev pub refusal_code : UrlRefusal → Code
-refusal_code AmbigContext = code.AmbigContext
-refusal_code BadHTML = code.BadHTML
-refusal_code PartialEscape = code.PartialEscape
-
 abbrev pub parts_or_refusal : Option UrlRefusal → Parts → Result Parts Code
 parts_or_refusal None s = Ok s
 parts_or_refusal (Some e) s = Err (refusal_code e)

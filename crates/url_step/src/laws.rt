@@ -54,7 +54,7 @@ pub fn covers_urls()
     ensures { CoversUrls }
 {}
 
-/// A valid set comes to valid ones. A theorem; the call does nothing at run time.
+/// A set that has a part comes to sets that have one, and no more of a word is spelled than it has. A theorem; the call does nothing at run time.
 pub fn parts_stay_valid()
     ensures { PartsStayValid }
 {}

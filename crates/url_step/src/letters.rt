@@ -1,6 +1,7 @@
 ghost use Rattle.std.specs.Prelude.{◌≡◌, ◌<◌, true, length};
 ghost use Rattle.url_lexer.specs.Prefixes.{is_letter, letter_behind, prefix_of_first};
-ghost use Rattle.url_step.specs.PartSets.{next_spelled, placed_prefix};
+ghost use Rattle.place_core.specs.place.UrlParts.{placed_prefix};
+ghost use Rattle.url_step.specs.PartSets.{next_spelled};
 ghost use Rattle.url_step.specs.PartSets as spec;
 
 use place_core::Prefix;

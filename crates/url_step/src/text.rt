@@ -1,7 +1,8 @@
 ghost use Rattle.std.specs.Prelude.{◌≡◌, option_map};
 ghost use Rattle.place_core.specs.place.NotBuiltPlaces.{both_prefixes};
 ghost use Rattle.url_lexer.specs.Classes as classes;
-ghost use Rattle.url_step.specs.PartSets.{first_spelled, next_spelled, parts_error, parts_next, refusal_code};
+ghost use Rattle.place_core.specs.page.Tags.{refusal_code};
+ghost use Rattle.url_step.specs.PartSets.{first_spelled, next_spelled, parts_error, parts_next};
 ghost use Rattle.url_step.specs.PartSets as spec;
 
 use crate::letters;

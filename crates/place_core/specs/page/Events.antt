@@ -2,6 +2,7 @@
 use Rattle.std.specs.Prelude.{ℕ, Bool, List, [], ◌∷◌}
 use Rattle.std.specs.Char.{to_ascii_lowercase}
 use Rattle.place_core.specs.declared.kind.Kind.{Kind}
+use Rattle.url_lexer.specs.Events.{ToldScheme}
 
 pub data LexEvent : Type 0 where
   -- a byte of a text, a title or a textarea, with references undone
@@ -20,6 +21,8 @@ pub data LexEvent : Type 0 where
   AttributeNameByte : ℕ → LexEvent
   AttributeNameEnds : Kind → LexEvent
   ValueByte : ℕ → LexEvent
+  -- a value that is a URL ends, and this is its scheme
+  ValueScheme : ToldScheme → LexEvent
   -- the tag ends, and closes itself or not
   TagEnds : Bool → LexEvent
   -- a comment begins; its bytes are not told. The texts of a template tell none, since no comment of theirs is written

@@ -1,19 +1,18 @@
 -- When the bytes of a hole are plain in their place: they lie in one token, no reference lies partly in them, and they begin and end nothing else.
-use Rattle.std.specs.Prelude.{◌≡◌, ◌≢◌, ℕ, Bool, true, false, not, IsTrue, List, [], ◌∷◌}
+use Rattle.std.specs.Prelude.{⊤, ◌≡◌, ◌≢◌, ℕ, Bool, true, false, not, IsTrue, List, [], ◌∷◌}
 use Rattle.std.specs.Char.{is_ascii_alphanumeric, is_ascii_whitespace}
 use Rattle.std.specs.List.{list_all}
 use Rattle.std.specs.Str.{str_to_ascii_lowercase}
-use Rattle.place_core.specs.page.Events.{LexEvent, TextByte, BlockByte, AttributeBegins, ValueByte, attribute_name_bytes}
+use Rattle.place_core.specs.page.Events.{LexEvent, TextByte, BlockByte, AttributeBegins, attribute_name_bytes, value_bytes}
 use Rattle.place_core.specs.page.Html.{read}
 use Rattle.place_core.specs.page.References.{Reference, Closed}
 use Rattle.place_core.specs.page.States.{Page, LexState, Text, BeforeAttributeName, AfterAttributeName, AfterAttributeValue, SelfClosingStartTag, AttributeName, BeforeAttributeValue, AttributeValue, Content, Characters, Bytes, Pending, Nothing, InContent, Config, config}
-use Rattle.place_core.specs.page.Tags.{Tag, Value, ValueOf, Quoting, Unquoted, without_value, ValueLanguage, settled_value, emitted_settled, languages, ValueState}
+use Rattle.place_core.specs.page.Tags.{Tag, Value, ValueOf, Deciding, Quoting, Unquoted, attribute_value_of, without_value, ValueLanguage, settled_value, emitted_settled, languages, ValueState}
 use Rattle.place_core.specs.page.Words.{is_special}
 use Rattle.place_core.specs.declared.element.Element.{Element}
 use Rattle.place_core.specs.declared.kind.Kind.{Kind}
-use Rattle.place_core.specs.declared.kind.Kind.TheVariants as kind
 
--- nothing was told but bytes of a text, of a data block, or of a value
+-- nothing was told but bytes of a text, or of a data block
 abbrev pub only_text : List LexEvent → Bool
 only_text [] = true
 only_text (TextByte b ∷ t) = only_text t
@@ -24,11 +23,6 @@ only_block [] = true
 only_block (BlockByte b ∷ t) = only_block t
 only_block (_ ∷ t) = false
 
-abbrev pub only_value : List LexEvent → Bool
-only_value [] = true
-only_value (ValueByte b ∷ t) = only_value t
-only_value (_ ∷ t) = false
-
 -- The bytes are one whole name of an attribute, letters and digits, and no name that data may not make; the lexer is in it. What stands after
 -- the hole may still add to the name: that is seen where the name ends.
 pub record IsPlainName (tag : Tag) (bytes : List ℕ) (d : Config ValueState) : Type 0 where
@@ -38,20 +32,24 @@ pub record IsPlainName (tag : Tag) (bytes : List ℕ) (d : Config ValueState) : 
   pub letters : list_all is_ascii_alphanumeric bytes ≡ true
   pub harmless : is_special bytes ≡ false
 
--- the bytes lie in an unquoted value, and there is one at least
-pub record IsPlainUnquoted (tag : Tag) (d : Config ValueState) : Type 0 where
-  pub within : d.at ≡ AttributeValue Unquoted tag (ValueOf kind.Plain) Closed
-  pub emitted : IsTrue (only_value d.emitted)
-  pub some : d.emitted ≢ []
+-- an unquoted value has one byte at least
+abbrev pub HasBytes : Quoting → List ℕ → Type 0
+HasBytes Unquoted bytes = bytes ≢ []
+HasBytes q bytes = ⊤
 
-abbrev pub IsPlainQuoted : Quoting → Tag → Config ValueState → Type 0
-IsPlainQuoted Unquoted tag d = IsPlainUnquoted tag d
-IsPlainQuoted q tag d = (d.at ≡ AttributeValue q tag (ValueOf kind.Plain) Closed) × IsTrue (only_value d.emitted)
+-- The bytes lie in a value, which reads these bytes of them, with their references undone, and in its language they are plain.
+pub record IsPlainInState (v : ValueState) (q : Quoting) (tag : Tag) (d : Config ValueState) : Type 0 where
+  pub value : List ℕ
+  pub after : ValueState
+  pub within : d.at ≡ AttributeValue q tag (ValueOf after) Closed
+  pub emitted : d.emitted ≡ value_bytes value []
+  pub some : HasBytes q value
+  pub leads : languages.LeadsPlain v value after
 
--- in the value of an attribute of kind Plain; the other kinds have no plain holes yet
+-- in the value of an attribute; where it decides how an element is read, no bytes are plain
 abbrev pub IsPlainValue : Value ValueState → Quoting → Tag → Config ValueState → Type 0
-IsPlainValue (ValueOf kind.Plain) q tag d = IsPlainQuoted q tag d
-IsPlainValue _ q tag d = ⊥
+IsPlainValue (ValueOf v) q tag d = IsPlainInState v q tag d
+IsPlainValue (Deciding k before) q tag d = ⊥
 
 -- where an unquoted value is to begin: the value begins with the first byte
 abbrev pub begins_at_once : List ℕ → Bool
@@ -59,8 +57,7 @@ begins_at_once [] = false
 begins_at_once (b ∷ bs) = not (is_ascii_whitespace b)
 
 abbrev pub IsPlainBefore : Kind → Tag → List ℕ → Config ValueState → Type 0
-IsPlainBefore kind.Plain tag bytes d = (begins_at_once bytes ≡ true) × IsPlainUnquoted tag d
-IsPlainBefore _ tag bytes d = ⊥
+IsPlainBefore k tag bytes d = (begins_at_once bytes ≡ true) × IsPlainValue (attribute_value_of languages k) Unquoted tag d
 
 -- inside a text, a value: no reference is open where the hole begins
 abbrev pub WhereClosed : Reference → Type 0 → Type 0

@@ -1,8 +1,16 @@
 -- What the lexer of HTML remembers of the tag that it reads, and of the value in it.
-use Rattle.std.specs.Prelude.{◌≡◌, ℕ, Bool, true, false, ◌||◌, bytes_eq, codes, List, [], ◌∷◌, ◌++◌, Option, Some, None, if◌then◌else◌}
-use Rattle.place_core.specs.page.Events.{LexEvent, ValueByte}
+use Rattle.std.specs.Prelude.{◌≡◌, ℕ, Bool, true, false, ◌||◌, bytes_eq, codes, List, [], ◌∷◌, ◌++◌, Option, Some, None, option_map, if◌then◌else◌}
+use Rattle.url_lexer.specs.Alike.{UrlsAlike}
+use Rattle.url_lexer.specs.Events.{told_scheme}
+use Rattle.url_lexer.specs.Holes.{url_after_cut, url_after_hole, url_behind}
+use Rattle.url_lexer.specs.Plain.{UrlLeadsPlain, ArePlainBytes}
+use Rattle.url_lexer.specs.Refusals.{UrlRefusal, AmbigContext, BadHTML, PartialEscape, UrlCutRefusal, url_refuses, url_refuses_cut}
+use Rattle.url_lexer.specs.States.{Url, url_start, feed_url}
+use Rattle.place_core.specs.page.Events.{LexEvent, ValueByte, ValueScheme}
 use Rattle.place_core.specs.page.Words.{is_script_type}
+use Rattle.place_core.specs.place.UrlParts.{spells_word}
 use Rattle.place_core.specs.declared.code.Code.{Code}
+use Rattle.place_core.specs.declared.code.Code.TheVariants as code
 use Rattle.place_core.specs.declared.element.Element.{Element}
 use Rattle.place_core.specs.declared.element.Element.TheVariants as element
 use Rattle.place_core.specs.declared.kind.Kind.{Kind}
@@ -45,48 +53,112 @@ is_start tag.End = false
 is_start (tag.Start e) = true
 
 -- A language of values: how the bytes of a value are read, with references undone. `start` is its state where a value of a kind begins.
--- - A byte leads to the state `feed` and tells `emits`; in the text of a template it may be refused (`refuses`). The end of the value tells
---   `ends`. The end of a node leads a path to the state `after_cut`.
+-- - A byte leads to the state `feed` and tells `emits`; in the text of a template it may be refused (`refuses`). Where `refuses_names` says so,
+--   a reference by a name that stands for no character is refused there. The end of the value tells `ends`.
+-- - The end of a node leads a path to the state `after_cut`, where it is not refused (`refuses_cut`).
 -- - A hole: what is pending back before it is told first (`emits_settled`), which leads to the state `settled`. It leads a path to the state
 --   `after_hole`. It leads a page to the state `behind`, by the state before the bytes of the hole and the one after them. `LeadsPlain` says
---   that bytes which are plain may lead from the one to the other.
+--   that these bytes, of which the value has such, are plain, and lead from the one to the other.
 -- - A page that stands for a path is in a state that is alike (`AreAlike`): so it tells the same of the bytes that follow.
 pub record ValueLanguage (B : Type 0) : Type 1 where
   pub start : Kind → B
   pub feed : B → ℕ → B
   pub emits : B → ℕ → List LexEvent → List LexEvent
   pub refuses : B → ℕ → Option Code
+  pub refuses_names : B → Bool
   pub ends : B → List LexEvent → List LexEvent
   pub after_cut : B → B
+  pub refuses_cut : B → Option Code
   pub settled : B → B
   pub emits_settled : B → List LexEvent → List LexEvent
   pub after_hole : B → B
   pub behind : B → B → B
-  pub LeadsPlain : B → B → Type 0
+  pub LeadsPlain : B → List ℕ → B → Type 0
   pub AreAlike : B → B → Type 0
 
--- The language whose only state is the kind, and which tells each byte. It is all that is read of values so far.
-abbrev pub kinds : ValueLanguage Kind
-kinds = record {
-  start = λ k. k;
-  feed = λ k b. k;
-  emits = λ k b t. ValueByte b ∷ t;
-  refuses = λ k b. None;
-  ends = λ k t. t;
-  after_cut = λ k. k;
-  settled = λ k. k;
-  emits_settled = λ k t. t;
-  after_hole = λ k. k;
-  behind = λ before after. after;
-  LeadsPlain = λ before after. after ≡ before;
-  AreAlike = λ v w. w ≡ v;
-}
+-- A value of which the bytes are told and nothing else is read, by its kind; and a URL.
+pub data ValueState : Type 0 where
+  OfKind : Kind → ValueState
+  OfUrl : Url → ValueState
 
-abbrev pub ValueState : Type 0
-ValueState = Kind
+abbrev pub value_start : Kind → ValueState
+value_start kind.Url = OfUrl url_start
+value_start k = OfKind k
 
+abbrev pub feed_value : ValueState → ℕ → ValueState
+feed_value (OfKind k) b = OfKind k
+feed_value (OfUrl u) b = OfUrl (feed_url u b)
+
+-- the code of what is refused in a URL
+abbrev pub refusal_code : UrlRefusal → Code
+refusal_code AmbigContext = code.AmbigContext
+refusal_code BadHTML = code.BadHTML
+refusal_code PartialEscape = code.PartialEscape
+
+abbrev pub refuses_in_value : ValueState → ℕ → Option Code
+refuses_in_value (OfKind k) b = None
+refuses_in_value (OfUrl u) b = option_map refusal_code (url_refuses u b)
+
+abbrev pub refuses_value_names : ValueState → Bool
+refuses_value_names (OfKind k) = false
+refuses_value_names (OfUrl u) = true
+
+-- the end of a URL tells its scheme
+abbrev pub ends_state : ValueState → List LexEvent → List LexEvent
+ends_state (OfKind k) t = t
+ends_state (OfUrl u) t = ValueScheme (told_scheme u.free u.scheme) ∷ t
+
+abbrev pub value_after_cut : ValueState → ValueState
+value_after_cut (OfKind k) = OfKind k
+value_after_cut (OfUrl u) = OfUrl (url_after_cut u)
+
+-- A percent triple that has begun. And, which is not built yet, a beginning that spells some of `javascript`, `vbscript` or `data`.
+abbrev pub refuses_url_cut : Option UrlCutRefusal → Bool → Option Code
+refuses_url_cut (Some e) word = Some (refusal_code e.refusal)
+refuses_url_cut None true = Some code.NotBuilt
+refuses_url_cut None false = None
+
+abbrev pub refuses_value_cut : ValueState → Option Code
+refuses_value_cut (OfKind k) = None
+refuses_value_cut (OfUrl u) = refuses_url_cut (url_refuses_cut u) (spells_word u.part)
+
+abbrev pub value_after_hole : ValueState → ValueState
+value_after_hole (OfKind k) = OfKind k
+value_after_hole (OfUrl u) = OfUrl (url_after_hole u)
+
+abbrev pub value_state_behind : ValueState → ValueState → ValueState
+value_state_behind (OfUrl u) (OfUrl w) = OfUrl (url_behind u w)
+value_state_behind before after = after
+
+-- Of a value that is text all bytes are plain. Of the other kinds none are, since no hole may stand there, or they are not built yet.
+abbrev pub LeadsPlainState : ValueState → List ℕ → ValueState → Type 0
+LeadsPlainState (OfKind kind.Plain) bytes after = after ≡ OfKind kind.Plain
+LeadsPlainState (OfUrl u) bytes (OfUrl w) = UrlLeadsPlain u w × ArePlainBytes u.part bytes
+LeadsPlainState before bytes after = ⊥
+
+abbrev pub StatesAlike : ValueState → ValueState → Type 0
+StatesAlike (OfKind k) after = after ≡ OfKind k
+StatesAlike (OfUrl u) (OfUrl w) = UrlsAlike u w
+StatesAlike (OfUrl u) (OfKind k) = ⊥
+
+-- the languages that are read so far
 abbrev pub languages : ValueLanguage ValueState
-languages = kinds
+languages = record {
+  start = value_start;
+  feed = feed_value;
+  emits = λ v b t. ValueByte b ∷ t;
+  refuses = refuses_in_value;
+  refuses_names = refuses_value_names;
+  ends = ends_state;
+  after_cut = value_after_cut;
+  refuses_cut = refuses_value_cut;
+  settled = λ v. v;
+  emits_settled = λ v t. t;
+  after_hole = value_after_hole;
+  behind = value_state_behind;
+  LeadsPlain = LeadsPlainState;
+  AreAlike = StatesAlike;
+}
 
 -- How the value of an attribute is read: in its language; or, where it decides how the content of the element is read, as bytes that are
 -- kept, with the kind that says what they decide.
@@ -97,6 +169,17 @@ pub data Value (B : Type 0) : Type 0 where
 abbrev pub attribute_value_of : {B : Type 0} → ValueLanguage B → Kind → Value B
 attribute_value_of x kind.ScriptType = Deciding kind.ScriptType []
 attribute_value_of x k = ValueOf (x.start k)
+
+-- How bytes are read one by one: where a byte leads, why it is refused, and whether a reference by a name that stands for no character is. The
+-- value of one path is read so, and the values of all paths at a place together.
+pub record Feeding (S : Type 0) : Type 0 where
+  pub feed : S → ℕ → S
+  pub refuses : S → ℕ → Option Code
+  pub refuses_names : S → Bool
+
+abbrev pub feed_bytes : {S : Type 0} → Feeding S → S → List ℕ → S
+feed_bytes m s [] = s
+feed_bytes m s (b ∷ bs) = feed_bytes m (m.feed s b) bs
 
 abbrev pub with_byte : {B : Type 0} → ValueLanguage B → Value B → ℕ → Value B
 with_byte x (ValueOf v) b = ValueOf (x.feed v b)
@@ -115,10 +198,21 @@ abbrev pub emitted_bytes : {B : Type 0} → ValueLanguage B → Value B → List
 emitted_bytes x v [] t = t
 emitted_bytes x v (b ∷ bs) t = emitted_bytes x (with_byte x v b) bs (emitted_byte x v b t)
 
--- what refuses a byte of a value
+-- what refuses a byte of a value, a name in it, and the end of a node
 abbrev pub refuses_byte : {B : Type 0} → ValueLanguage B → Value B → ℕ → Option Code
 refuses_byte x (ValueOf v) b = x.refuses v b
 refuses_byte x (Deciding k before) b = None
+
+abbrev pub refuses_names_in : {B : Type 0} → ValueLanguage B → Value B → Bool
+refuses_names_in x (ValueOf v) = x.refuses_names v
+refuses_names_in x (Deciding k before) = false
+
+abbrev pub feeding : {B : Type 0} → ValueLanguage B → Feeding (Value B)
+feeding x = record { feed = with_byte x; refuses = refuses_byte x; refuses_names = refuses_names_in x }
+
+abbrev pub refuses_cut_of : {B : Type 0} → ValueLanguage B → Value B → Option Code
+refuses_cut_of x (ValueOf v) = x.refuses_cut v
+refuses_cut_of x (Deciding k before) = None
 
 -- a value after the end of a node, and after a hole on a path
 abbrev pub cut_value : {B : Type 0} → ValueLanguage B → Value B → Value B

@@ -1,14 +1,21 @@
 -- Where a text of a template is refused, and by which code: the conditions that stand on the places of paths, byte by byte, at the end of a
 -- node and at a hole. The checks of a byte have one order, whether one path stands at a place or several do.
-use Rattle.std.specs.Prelude.{◌≡◌, ℕ, zero, suc, ◌+◌, ◌-◌, bytes_eq, encode_utf8, Bool, true, false, ◌&&◌, ◌||◌, List, [], ◌∷◌, length, Option, Some, None, if◌then◌else◌}
+use Rattle.std.specs.Prelude.{◌≡◌, ℕ, zero, suc, ◌+◌, ◌-◌, ◌==◌, bytes_eq, encode_utf8, Bool, true, false, ◌&&◌, ◌||◌, List, [], ◌∷◌, length, Option, Some, None, is_some, if◌then◌else◌}
 use Rattle.place_core.specs.page.Classes.{Class, White, ExclamationMark, QuotationMark, Apostrophe, HyphenMinus, Solidus, LessThan, EqualsSign, GreaterThan, GraveAccent, is_equals_sign, class_of}
 use Rattle.place_core.specs.page.Html.{next, ends_value}
 use Rattle.place_core.specs.page.Paths.{at_cut}
-use Rattle.place_core.specs.page.References.{Form, Reference, Closed, Open, ReferenceStep, Grows, Closes, Breaks, turn, meaning, flushed, plain_bytes, settled, as_it_stands}
+use Rattle.place_core.specs.page.References.{Form, Named, Reference, Closed, Open, ReferenceStep, Grows, Closes, Breaks, turn, names, named_in, replacement, meaning, flushed, undone_byte, plain_bytes, settled, as_it_stands}
 use Rattle.place_core.specs.place.StatePlaces.{placed, value_spot, value_body, tag_spot, only_name, only_before, only_inside, only_after, quotes_at}
 use Rattle.place_core.specs.page.States.{Template, LexState, Text, TagOpen, EndTagOpen, DeclarationOpen, InComment, Broken, CommentState, BogusComment, InDoctype, TagName, WholeTagName, BeforeAttributeName, AttributeName, WholeAttributeName, AfterAttributeName, BeforeAttributeValue, AttributeValue, AfterAttributeValue, SelfClosingStartTag, Characters, Bytes, Pending, Nothing, PendingLess, LessAtCut, PendingName, PendingBang, PendingBangDash, InContent, Unread}
-use Rattle.place_core.specs.page.Tags.{Tag, is_second_type, Value, attribute_value_of, ValueOf, Deciding, ValueLanguage, with_byte, with_bytes, refuses_byte, cut_value, tag_with_value, ValueState, languages, tag_of_name, element_on, Unquoted}
+use Rattle.place_core.specs.page.Tags.{Tag, is_second_type, Value, attribute_value_of, ValueOf, Deciding, ValueLanguage, with_bytes, Feeding, feeding, feed_bytes, refuses_cut_of, cut_value, tag_with_value, ValueState, OfKind, OfUrl, languages, tag_of_name, element_on, Unquoted}
 use Rattle.place_core.specs.page.Words.{kind_of}
+use Rattle.place_core.specs.place.UrlParts.{is_url_start, is_word_prefix}
+use Rattle.url_lexer.specs.Classes.{url_class_of}
+use Rattle.url_lexer.specs.Prefixes.{prefix_of_first}
+use Rattle.url_lexer.specs.Spots.{url_spot}
+use Rattle.url_lexer.specs.TwoPaths.{is_open}
+use Rattle.url_lexer.specs.declared.class.UrlClass.{UrlClass}
+use Rattle.url_lexer.specs.declared.class.UrlClass.TheVariants as class
 use Rattle.place_core.specs.declared.bare.Bare.{Bare}
 use Rattle.place_core.specs.declared.body.Body.{Body}
 use Rattle.place_core.specs.declared.body.Body.TheVariants as body
@@ -27,7 +34,7 @@ use Rattle.place_core.specs.declared.tag_of.TagOf.TheVariants as tag
 use Rattle.place_core.specs.declared.tag_place.TagPlace.{TagPlace}
 use Rattle.place_core.specs.declared.value_place.ValuePlace.{ValuePlace}
 
--- What is not built yet: a tag that ends and enters the content of a script or a style, and values of these kinds and URLs.
+-- What is not built yet: a tag that ends and enters the content of a script or a style, and values of these kinds.
 abbrev pub content_error : TagOf → Option Code
 content_error tag.End = None
 content_error (tag.Start element.Title) = None
@@ -40,17 +47,17 @@ content_error (tag.Start element.Other) = None
 abbrev pub kind_error : Kind → Option Code
 kind_error kind.Plain = None
 kind_error kind.NoHole = None
-kind_error kind.Url = Some code.NotBuilt
+kind_error kind.Url = None
 kind_error kind.Script = Some code.NotBuilt
 kind_error kind.Style = Some code.NotBuilt
 kind_error kind.ScriptType = None
 
-abbrev pub body_error : Body → ℕ → Option Code
-body_error body.Plain b = None
-body_error body.NoHole b = None
-body_error (body.Url parts) b = Some code.NotBuilt
-body_error (body.Js js) b = Some code.NotBuilt
-body_error (body.Css css) b = Some code.NotBuilt
+abbrev pub body_error : Body → Option Code
+body_error body.Plain = None
+body_error body.NoHole = None
+body_error (body.Url parts) = None
+body_error (body.Js js) = Some code.NotBuilt
+body_error (body.Css css) = Some code.NotBuilt
 
 -- A byte in a tag, by the spots at which paths stand. An equals sign begins a value after a name alone. A quotation mark, an apostrophe or a `<`
 -- is part of no name. A byte that begins a name goes on with none that has ended.
@@ -91,8 +98,9 @@ abbrev pub first_error : Option Code → Option Code → Option Code
 first_error (Some e) o = Some e
 first_error None o = o
 
-abbrev pub value_error : ValuePlace → Class → ℕ → Option Code
-value_error v c b = first_error (body_error v.body b) (quotes_error v.tag v.quotes c)
+-- a byte in a value, but for what its language refuses
+abbrev pub value_error : ValuePlace → Class → Option Code
+value_error v c = first_error (body_error v.body) (quotes_error v.tag v.quotes c)
 
 -- Where a node ended in what may have been the end of a comment, a byte that would go on with it.
 abbrev pub comment_error : Bool → Class → Option Code
@@ -107,17 +115,17 @@ block_error true Solidus = Some code.SplitToken
 block_error true ExclamationMark = Some code.SplitToken
 block_error lt c = None
 
--- a byte at a place
-abbrev pub place_error : Place → Class → ℕ → Option Code
-place_error place.Text c b = None
-place_error place.Doctype c b = None
-place_error (place.Comment dash) c b = comment_error dash c
-place_error (place.Rcdata e) c b = None
-place_error (place.Tag t) c b = tag_error t c
-place_error (place.Value v) c b = value_error v c b
-place_error (place.Script js) c b = Some code.NotBuilt
-place_error (place.Style css) c b = Some code.NotBuilt
-place_error (place.Block lt) c b = block_error lt c
+-- a byte at a place, but for what the language of a value refuses
+abbrev pub place_error : Place → Class → Option Code
+place_error place.Text c = None
+place_error place.Doctype c = None
+place_error (place.Comment dash) c = comment_error dash c
+place_error (place.Rcdata e) c = None
+place_error (place.Tag t) c = tag_error t c
+place_error (place.Value v) c = value_error v c
+place_error (place.Script js) c = Some code.NotBuilt
+place_error (place.Style css) c = Some code.NotBuilt
+place_error (place.Block lt) c = block_error lt c
 
 -- A cause stands at the byte at hand, or that many bytes of the text before it (`back`). The place that is shown for it is the one before the
 -- lexeme in which it stands, which begins that many bytes before the one at hand (`shown`).
@@ -177,37 +185,48 @@ attribute_name_error t typed k len c = None
 
 -- In a value: what its language refuses of the bytes that it is fed. The bytes of a reference that is written as a character stand at its `&`; those
 -- of one that is text as it stands (`written`) stand each at its own place.
-abbrev pub fed_error : {B : Type 0} → ValueLanguage B → Value B → List ℕ → Bool → ℕ → Option PathCause
-fed_error x v [] written back = None
-fed_error x v (b ∷ bs) written back =
-    first_cause (cause_back back (refuses_byte x v b)) (fed_error x (with_byte x v b) bs written (if written then back - 1 else back))
+abbrev pub fed_error : {S : Type 0} → Feeding S → S → List ℕ → Bool → ℕ → Option PathCause
+fed_error m s [] written back = None
+fed_error m s (b ∷ bs) written back =
+    first_cause (cause_back back (m.refuses s b)) (fed_error m (m.feed s b) bs written (if written then back - 1 else back))
 
-abbrev pub is_written : Bool → Form → List ℕ → Bool
+unfoldable pub is_written : Bool → Form → List ℕ → Bool
 is_written equals f bytes = bytes_eq (flushed true equals f bytes) (38 ∷ bytes)
 
-abbrev pub flushed_error : {B : Type 0} → ValueLanguage B → Value B → Bool → Form → List ℕ → Option PathCause
-flushed_error x v equals f bytes = fed_error x v (flushed true equals f bytes) (is_written equals f bytes) (length bytes + 1)
+abbrev pub flushed_error : {S : Type 0} → Feeding S → S → Bool → Form → List ℕ → Option PathCause
+flushed_error m s equals f bytes = fed_error m s (flushed true equals f bytes) (is_written equals f bytes) (length bytes + 1)
 
-abbrev pub turned_error : {B : Type 0} → ValueLanguage B → Value B → ReferenceStep → Form → List ℕ → Class → ℕ → Option PathCause
-turned_error x v (Grows g) f bytes c b = None
-turned_error x v Closes f bytes c b = fed_error x v (encode_utf8 (meaning f bytes)) false (length bytes + 1)
-turned_error x v Breaks f bytes c b =
-    first_cause (flushed_error x v (is_equals_sign c) f bytes) (fed_error x (with_bytes x v (flushed true (is_equals_sign c) f bytes)) (plain_bytes c b) false 0)
+-- A reference by a name that stands for no character of the profile is refused at its `&`, where what it stands for matters.
+unfoldable pub is_unknown_name : Form → List ℕ → Bool
+is_unknown_name Named bytes = named_in names bytes == replacement
+is_unknown_name f bytes = false
+
+abbrev pub name_error : Bool → ℕ → Option PathCause
+name_error true back = cause_back back (Some code.BadHTML)
+name_error false back = None
+
+abbrev pub turned_error : {S : Type 0} → Feeding S → S → ReferenceStep → Form → List ℕ → Class → ℕ → Option PathCause
+turned_error m s (Grows g) f bytes c b = None
+turned_error m s Closes f bytes c b =
+    first_cause (name_error (m.refuses_names s && is_unknown_name f bytes) (length bytes + 1))
+    (fed_error m s (encode_utf8 (meaning f bytes)) false (length bytes + 1))
+turned_error m s Breaks f bytes c b =
+    first_cause (flushed_error m s (is_equals_sign c) f bytes) (fed_error m (feed_bytes m s (flushed true (is_equals_sign c) f bytes)) (plain_bytes c b) false 0)
 
 -- the first argument says whether the byte ends the value
-abbrev pub language_error : {B : Type 0} → ValueLanguage B → Bool → Value B → Reference → Class → ℕ → Option PathCause
-language_error x true v Closed c b = None
-language_error x true v (Open f bytes) c b = flushed_error x v false f bytes
-language_error x false v Closed c b = fed_error x v (plain_bytes c b) false 0
-language_error x false v (Open f bytes) c b = turned_error x v (turn c f) f bytes c b
+abbrev pub language_error : {S : Type 0} → Feeding S → Bool → S → Reference → Class → ℕ → Option PathCause
+language_error m true s Closed c b = None
+language_error m true s (Open f bytes) c b = flushed_error m s false f bytes
+language_error m false s Closed c b = fed_error m s (plain_bytes c b) false 0
+language_error m false s (Open f bytes) c b = turned_error m s (turn c f) f bytes c b
 
 -- where a value is to begin, the byte that begins it without quotes
-abbrev pub first_byte_error : {B : Type 0} → ValueLanguage B → Value B → Class → ℕ → Option PathCause
-first_byte_error x v White b = None
-first_byte_error x v QuotationMark b = None
-first_byte_error x v Apostrophe b = None
-first_byte_error x v GreaterThan b = None
-first_byte_error x v c b = fed_error x v (plain_bytes c b) false 0
+abbrev pub first_byte_error : {S : Type 0} → Feeding S → S → Class → ℕ → Option PathCause
+first_byte_error m s White b = None
+first_byte_error m s QuotationMark b = None
+first_byte_error m s Apostrophe b = None
+first_byte_error m s GreaterThan b = None
+first_byte_error m s c b = fed_error m s (plain_bytes c b) false 0
 
 -- the tag where a value ends
 abbrev pub ending_tag : {B : Type 0} → ValueLanguage B → Tag → Value B → Reference → Tag
@@ -233,9 +252,9 @@ byte_error (AttributeName t name) c b = attribute_name_error t.tag t.typed (kind
 byte_error (WholeAttributeName t k) c b = at_hand (tag_error (tag_spot t only_inside (Some k)) c)
 byte_error (AfterAttributeName t k) c b = at_hand (tag_error (tag_spot t only_after (Some k)) c)
 byte_error (BeforeAttributeValue t k) c b =
-    first_cause (first_byte_error languages (attribute_value_of languages k) c b) (at_hand (first_error (kind_error k) (bare_error t.tag (record { uq = false; unbegun = true }) c)))
+    first_cause (first_byte_error (feeding languages) (attribute_value_of languages k) c b) (at_hand (first_error (kind_error k) (bare_error t.tag (record { uq = false; unbegun = true }) c)))
 byte_error (AttributeValue q t v r) c b =
-    first_cause (language_error languages (ends_value q c) v r c b) (at_hand (quotes_error (ending_tag languages t v r).tag (quotes_at q) c))
+    first_cause (language_error (feeding languages) (ends_value q c) v r c b) (at_hand (quotes_error (ending_tag languages t v r).tag (quotes_at q) c))
 byte_error (AfterAttributeValue t) c b = at_hand (tag_error (tag_spot t only_before None) c)
 byte_error (SelfClosingStartTag t) c b = at_hand (tag_error (tag_spot t only_before None) c)
 byte_error (InContent e (Characters r) h) c b = None
@@ -266,7 +285,7 @@ cut_error (AttributeName t name) = unless_second (is_second_type t.typed (kind_o
 cut_error (WholeAttributeName t k) = None
 cut_error (AfterAttributeName t k) = None
 cut_error (BeforeAttributeValue t k) = at_hand (begun_cut_error k)
-cut_error (AttributeValue q t (ValueOf v) r) = fed_error languages (ValueOf v) (as_it_stands r) true (length (as_it_stands r))
+cut_error (AttributeValue q t (ValueOf v) r) = fed_error (feeding languages) (ValueOf v) (as_it_stands r) true (length (as_it_stands r))
 cut_error (AttributeValue q t (Deciding k before) r) = at_hand (Some code.BadHTML)
 cut_error (AfterAttributeValue t) = None
 cut_error (SelfClosingStartTag t) = None
@@ -274,16 +293,67 @@ cut_error (InContent e (Characters r) h) = None
 cut_error (InContent e Bytes h) = block_cut_error h
 cut_error Unread = None
 
+-- What the language of a value refuses at the end of a node, as a lexeme that has begun.
+abbrev pub lexeme_error : LexState ValueState → Option Code
+lexeme_error (AttributeValue q t v r) = refuses_cut_of languages (with_bytes languages v (as_it_stands r))
+lexeme_error s = None
+
+-- Whether a path is between two lexemes of such a language: no reference is open, and no percent triple. Where it ends in one, the place that is shown
+-- is the last one between two.
+abbrev pub is_closed_reference : Reference → Bool
+is_closed_reference Closed = true
+is_closed_reference (Open f bytes) = false
+
+abbrev pub is_between_in : ValueState → Reference → Bool
+is_between_in (OfKind k) r = true
+is_between_in (OfUrl u) r = is_closed_reference r && is_some (url_spot u)
+
+abbrev pub is_between : LexState ValueState → Bool
+is_between (AttributeValue q t (ValueOf v) r) = is_between_in v r
+is_between s = true
+
 -- a value of a kind that has a place where it begins
 abbrev pub begun_clash : Kind → Option Code
 begun_clash kind.ScriptType = None
 begun_clash k = Some code.AmbigContext
 
 -- What stands on two paths together: white space, where one is in a value without quotes and the other before a value.
+abbrev pub white_clash : LexState ValueState → LexState ValueState → Class → Option Code
+white_clash (BeforeAttributeValue t k) (AttributeValue Unquoted u (ValueOf v) r) White = begun_clash k
+white_clash (AttributeValue Unquoted u (ValueOf v) r) (BeforeAttributeValue t k) White = begun_clash k
+white_clash s r c = None
+
+-- And, which is not built yet, the first letter of `javascript`, `vbscript` or `data`, where a URL begins on one path and has begun on the other: they
+-- spell different things from there on.
+-- the blanks that may stand before a URL, as those of `&#9j`, do not begin it
+abbrev pub begins_word_by : UrlClass → ℕ → Bool → Bool
+begins_word_by class.TabOrNewline b behind = behind
+begins_word_by class.ControlOrSpace b behind = behind
+begins_word_by c b behind = is_word_prefix (prefix_of_first b)
+
+abbrev pub begins_word : List ℕ → Bool
+begins_word [] = false
+begins_word (b ∷ bs) = begins_word_by (url_class_of b) b (begins_word bs)
+
+abbrev pub begins_url : LexState ValueState → Bool
+begins_url (BeforeAttributeValue t kind.Url) = true
+begins_url (AttributeValue q t (ValueOf (OfUrl u)) r) = is_url_start u.part
+begins_url s = false
+
+abbrev pub has_begun_url : LexState ValueState → Bool
+has_begun_url (AttributeValue q t (ValueOf (OfUrl u)) r) = is_open u.part
+has_begun_url s = false
+
+abbrev pub fed_at : LexState ValueState → Class → ℕ → List ℕ
+fed_at (AttributeValue q t v r) c b = undone_byte true r c b
+fed_at s c b = plain_bytes c b
+
+abbrev pub word_clash : LexState ValueState → LexState ValueState → Class → ℕ → Option Code
+word_clash s r c b =
+    if ((begins_url s && has_begun_url r) || (begins_url r && has_begun_url s)) && begins_word (fed_at s c b) then Some code.NotBuilt else None
+
 abbrev pub byte_clash : LexState ValueState → LexState ValueState → Class → ℕ → Option Code
-byte_clash (BeforeAttributeValue t k) (AttributeValue Unquoted u (ValueOf v) r) White b = begun_clash k
-byte_clash (AttributeValue Unquoted u (ValueOf v) r) (BeforeAttributeValue t k) White b = begun_clash k
-byte_clash s r c b = None
+byte_clash s r c b = first_error (white_clash s r c) (word_clash s r c b)
 
 -- Where a value of data may not stand: in a name, which it would go on with, and where it would decide how the page is read.
 abbrev pub body_hole_error : Body → Option Code
@@ -320,9 +390,24 @@ abbrev pub standing_at : ℕ → Option PathCause → Option PathRefusal → Opt
 standing_at k None rest = rest
 standing_at k (Some e) rest = Some (record { code = e.code; at = k - e.back; shown = k - e.shown })
 
-abbrev pub refusal_from : ℕ → List ℕ → LexState ValueState → Option PathRefusal
-refusal_from k [] s = standing_at k (cut_error s) None
-refusal_from k (b ∷ bs) s = standing_at k (byte_error s (class_of b) b) (refusal_from (k + 1) bs (next languages Template s (class_of b) b))
+-- the last point between two lexemes, by the one before
+abbrev pub last_between : ℕ → ℕ → Bool → ℕ
+last_between k before true = k
+last_between k before false = before
+
+abbrev pub broken_off : ℕ → ℕ → Option Code → Option PathRefusal
+broken_off k since None = None
+broken_off k since (Some e) = Some (record { code = e; at = k; shown = since })
+
+-- of bytes that stand at `k` in their text, where `since` is the last point between two lexemes before
+abbrev pub refusal_from : ℕ → ℕ → List ℕ → LexState ValueState → Option PathRefusal
+refusal_from k since [] s = standing_at k (cut_error s) (broken_off k (last_between k since (is_between s)) (lexeme_error s))
+refusal_from k since (b ∷ bs) s =
+    standing_at k (byte_error s (class_of b) b)
+    (refusal_from (k + 1) (last_between k since (is_between s)) bs (next languages Template s (class_of b) b))
+
+abbrev pub path_refusal : List ℕ → LexState ValueState → Option PathRefusal
+path_refusal bytes s = refusal_from 0 0 bytes s
 
 -- the state that a text leads to, byte by byte, and as a whole node
 abbrev pub states : List ℕ → LexState ValueState → LexState ValueState
@@ -361,7 +446,7 @@ shown_place k bytes s = shown_from k bytes s None
 -- A text is refused on the path that has come to a state: by this code, at this byte, and the place before its lexeme is this one.
 pub record PathRefuses (bytes : List ℕ) (s : LexState ValueState) (e : StepErr Place) : Type 0 where
   pub shown : ℕ
-  pub stands : refusal_from 0 bytes s ≡ Some (record { code = e.code; at = e.at; shown = shown })
+  pub stands : path_refusal bytes s ≡ Some (record { code = e.code; at = e.at; shown = shown })
   pub before : shown_place shown bytes s ≡ Some e.before
 
 -- A hole is refused on the path that has come to a state, which is at a place.

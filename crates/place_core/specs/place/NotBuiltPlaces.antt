@@ -1,4 +1,4 @@
--- The parts of places that no page reaches yet: scripts, styles and URLs. They join, have members and are valid as the others; see Places.
+-- The parts of places in scripts, styles and URLs. They join, have members and are valid as the others; see Places. No page reaches scripts and styles yet.
 use Rattle.std.specs.Prelude.{Bool, true, false, ◌≡◌, ◌≤◌, ◌||◌, ◌==◌, Option, Some, None, is_some, if◌then◌else◌, ⊤}
 use Rattle.place_core.specs.declared.css.Css.{Css}
 use Rattle.place_core.specs.declared.css.Css.TheVariants as css
@@ -141,7 +141,7 @@ css_has css.UrlFresh m = false
 css_has css.UrlEnd m = false
 
 -- The member that two paths bear which met in the beginning of a URL, having spelled different things; that they did is told of no
--- place while URLs are not read.
+-- place, since a text that could part two paths so is refused.
 abbrev pub side : Member
 side = member.PartOpen
 
@@ -154,13 +154,13 @@ some_sense s = s.re || (s.div || s.brace)
 abbrev pub some_part : Parts → Bool
 some_part s = s.start || (is_some s.opened || (s.openhole || (s.prequery || (s.query || s.bad))))
 
--- at least one letter, and at most all letters of the word
+-- Where a text may end, the beginning of a URL spells none of the words, since that paths spell different ones is not told yet.
 abbrev pub IsValidPrefix : Option Prefix → Type 0
-IsValidPrefix (Some (prefix.Javascript n)) = (1 ≤ n) × (n ≤ 10)
-IsValidPrefix (Some (prefix.Vbscript n)) = (1 ≤ n) × (n ≤ 8)
-IsValidPrefix (Some (prefix.DataScheme n)) = (1 ≤ n) × (n ≤ 4)
+IsValidPrefix (Some (prefix.Javascript n)) = ⊥
+IsValidPrefix (Some (prefix.Vbscript n)) = ⊥
+IsValidPrefix (Some (prefix.DataScheme n)) = ⊥
 IsValidPrefix (Some prefix.Off) = ⊤
-IsValidPrefix (Some prefix.Differs) = ⊤
+IsValidPrefix (Some prefix.Differs) = ⊥
 IsValidPrefix None = ⊤
 
 abbrev pub IsValidParts : Parts → Type 0

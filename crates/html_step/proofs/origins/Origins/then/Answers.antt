@@ -6,7 +6,7 @@ use Rattle.html_scan.specs.ClassViews.{class_at}
 use Rattle.html_scan.specs.ScanViews.{scan_at}
 use Rattle.html_step.proofs.OriginSteps.{member-at, number-below}
 use Rattle.html_step.specs.OriginViews.{all_members, member_number, origin_at}
-use Rattle.html_step.specs.Origins.{byte_origin}
+use Rattle.html_step.specs.Origins.{behind_origin}
 use Rattle.place_core.specs.declared.member.Member.{Member}
 use Rattle.place_core.specs.declared.member.Member.TheVariants as member
 use Rattle.html_step.proofs.origins.Origins.then.Goals as goal
@@ -17,21 +17,25 @@ loop-number-preserved c =
     let i = c.loop-number.number in
     let inv = c.loop-number.invariant in
     let v = c.of.result in
+    let fed = c.behind_byte-fed.result in
     let count = inv.count in
     let below = c.loop-number-test.true in
     record {
       count = length-set before i v ∙ count;
       origins = λ text k n lt. (
-          let f : ℕ → Member = λ m. origin_at c.args.self (byte_origin (scan_at text k c.args.scan) (class_at c.args.class) c.args.byte (slice_index_or all_members m member.Whole)) in
-          let is : v ≡ f i = c.of.ensures ∙ ap (origin_at c.args.self) (c.origin.ensures text k)
-          ∙ ap (λ (xs : List Member). origin_at c.args.self (byte_origin (scan_at text k c.args.scan) (class_at c.args.class) c.args.byte (slice_index_or xs i member.Whole))) c.members-members.ensures in
+          let f : ℕ → Member = λ m. origin_at fed (behind_origin (scan_at text k c.args.scan) (class_at c.args.class) (slice_index_or all_members m member.Whole)) in
+          let is : v ≡ f i = c.of.ensures ∙ ap (origin_at fed) (c.behind_origin.ensures text k)
+          ∙ ap (λ (xs : List Member). origin_at fed (behind_origin (scan_at text k c.args.scan) (class_at c.args.class) (slice_index_or xs i member.Whole))) c.members-members.ensures in
           subst (λ (w : Member). slice_index_or (set before i w) n member.Whole ≡ f n) (sym is)
           (fill_by_more f before i member.Whole (omega (arith, count, below)) (λ m less. inv.origins text k m less) n lt));
     }
 
 pub returns : goal.returns
-returns c = λ text k y.
+returns c = λ y.
     let below = number-below y in
     let end = c.loop-number-test.false in
+    let text = c.args.text.now in
+    let k = c.args.index in
     c.loop-number.invariant.origins text k (member_number y) (omega (arith, below, end))
-    ∙ member-at (λ m. origin_at c.args.self (byte_origin (scan_at text k c.args.scan) (class_at c.args.class) c.args.byte m)) y
+    ∙ member-at (λ m. origin_at c.behind_byte-fed.result (behind_origin (scan_at text k c.args.scan) (class_at c.args.class) m)) y
+    ∙ c.behind_byte-fed.ensures (behind_origin (scan_at text k c.args.scan) (class_at c.args.class) y)

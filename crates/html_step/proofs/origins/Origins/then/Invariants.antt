@@ -3,7 +3,7 @@ use Rattle.std.specs.Prelude.{slice_index_or}
 use Rattle.html_scan.specs.ClassViews.{class_at}
 use Rattle.html_scan.specs.ScanViews.{scan_at}
 use Rattle.html_step.specs.OriginViews.{all_members, origin_at}
-use Rattle.html_step.specs.Origins.{byte_origin}
+use Rattle.html_step.specs.Origins.{behind_origin}
 use Rattle.place_core.specs.declared.member.Member.TheVariants as member
 use Rattle.html_step.proofs.origins.Origins.then.Given as goal
 
@@ -11,5 +11,5 @@ abbrev pub invariant-loop-number : goal.invariant-loop-number
 invariant-loop-number l = record {
   count : length l.before ≡ 32;
   origins : (text : List ℕ) (k n : ℕ) → n < l.number → slice_index_or l.before n member.Whole
-      ≡ origin_at l.self (byte_origin (scan_at text k l.scan) (class_at l.class) l.byte (slice_index_or all_members n member.Whole));
+      ≡ origin_at l.fed (behind_origin (scan_at text k l.scan) (class_at l.class) (slice_index_or all_members n member.Whole));
 }

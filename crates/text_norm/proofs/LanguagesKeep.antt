@@ -1,0 +1,76 @@
+-- The languages of values that are read so far: the kinds, in whose states a page and a path are the same, and the URLs.
+use Rattle.std.proofs.Common.{◌≡◌, ℕ, Bool, List, [], ◌∷◌, Option, Some, None, option_map, refl, sym, ap, subst}
+use Rattle.place_core.specs.page.Events.{LexEvent, ValueScheme}
+use Rattle.place_core.specs.page.Tags.{ValueState, OfKind, OfUrl, languages, value_start, feed_value, refusal_code, refuses_in_value, ends_state, value_after_cut, refuses_url_cut, refuses_value_cut, value_after_hole, value_state_behind, LeadsPlainState, StatesAlike}
+use Rattle.place_core.specs.declared.kind.Kind.{Kind}
+use Rattle.place_core.specs.declared.kind.Kind.TheVariants as kind
+use Rattle.url_lexer.specs.Alike.{UrlsAlike}
+use Rattle.url_lexer.specs.Events.{ToldScheme, NoScheme, UrlEvent, UrlByte, UrlEnds, told_scheme}
+use Rattle.url_lexer.specs.Refusals.{UrlRefusal, UrlCutRefusal, url_refuses, url_refuses_cut}
+use Rattle.url_lexer.specs.States.{Url}
+use Rattle.place_core.specs.place.UrlParts.{spells_word}
+use Rattle.url_lexer.proofs.Language.{language-laws}
+use Rattle.html_step.proofs.OnePath.{some}
+use Rattle.text_norm.specs.ValueLaws.{ValueLanguageLaws}
+
+-- what is not refused of a URL
+not-refused : (o : Option UrlRefusal) → option_map refusal_code o ≡ None → o ≡ None
+not-refused None n = refl
+not-refused (Some e) n = absurd (some _ n)
+
+not-cut : (o : Option UrlCutRefusal) (word : Bool) → refuses_url_cut o word ≡ None → o ≡ None
+not-cut None word n = refl
+not-cut (Some e) word n = absurd (some _ n)
+
+-- the scheme that the end of a URL tells
+abbrev scheme_in : List UrlEvent → ToldScheme
+scheme_in (UrlEnds s ∷ t) = s
+scheme_in (UrlByte b ∷ t) = NoScheme
+scheme_in [] = NoScheme
+
+same-scheme : (u z : Url) → UrlsAlike u z → told_scheme z.free z.scheme ≡ told_scheme u.free u.scheme
+same-scheme u z a = ap scheme_in (language-laws.ends u z [] a)
+
+-- a value begins in the same state
+begins : (k : Kind) → StatesAlike (value_start k) (value_start k)
+begins kind.Url = language-laws.begins
+begins k = refl
+
+feeds : (v w : ValueState) (b : ℕ) → StatesAlike v w → refuses_in_value v b ≡ None → StatesAlike (feed_value v b) (feed_value w b)
+feeds (OfKind k) w b a n = ap (λ (z : ValueState). feed_value z b) a
+feeds (OfUrl u) (OfUrl z) b a n = language-laws.feeds u z b a (not-refused (url_refuses u b) n)
+feeds (OfUrl u) (OfKind k) b a n = absurd a
+
+ends : (v w : ValueState) (t : List LexEvent) → StatesAlike v w → ends_state w t ≡ ends_state v t
+ends (OfKind k) w t a = ap (λ (z : ValueState). ends_state z t) a
+ends (OfUrl u) (OfUrl z) t a = ap (λ (s : ToldScheme). ValueScheme s ∷ t) (same-scheme u z a)
+ends (OfUrl u) (OfKind k) t a = absurd a
+
+after-cut : (v w : ValueState) → StatesAlike v w → refuses_value_cut v ≡ None → StatesAlike (value_after_cut v) w
+after-cut (OfKind k) w a n = a
+after-cut (OfUrl u) (OfUrl z) a n = language-laws.after_cut u z a (not-cut (url_refuses_cut u) (spells_word u.part) n)
+after-cut (OfUrl u) (OfKind k) a n = absurd a
+
+-- a hole
+kind-hole : (k : Kind) (after : ValueState) (bytes : List ℕ) → LeadsPlainState (OfKind k) bytes after → after ≡ OfKind k
+kind-hole kind.Plain after bytes p = p
+kind-hole _ after bytes p = absurd p
+
+hole : (v w after : ValueState) (bytes : List ℕ) → StatesAlike v w → LeadsPlainState w bytes after
+    → StatesAlike (value_after_hole v) (value_state_behind w after)
+hole (OfKind k) w after bytes a p =
+    subst (λ (z : ValueState). LeadsPlainState z bytes after → value_state_behind z after ≡ OfKind k) (sym a) (λ p. kind-hole k after bytes p) p
+hole (OfUrl u) (OfUrl z) (OfUrl y) bytes a p = language-laws.hole u z y a p.0
+hole (OfUrl u) (OfUrl z) (OfKind k) bytes a p = absurd p
+hole (OfUrl u) (OfKind k) after bytes a p = absurd a
+
+pub languages-keep : ValueLanguageLaws ValueState languages
+languages-keep = record {
+  begins = begins;
+  emits = λ v w b t a n. refl;
+  feeds = feeds;
+  ends = ends;
+  after_cut = after-cut;
+  settles = λ v w t a. refl;
+  hole = hole;
+}
