@@ -6,4 +6,5 @@ mod run;
 mod table;
 
 pub use replacing::{push_replaced, replace};
+pub use run::run_len;
 pub use table::Table;

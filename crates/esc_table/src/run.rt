@@ -42,8 +42,8 @@ fn lead_byte(character: char) -> u8
     character.encode_utf8(&mut buffer).as_bytes()[0]
 }
 
-/// How many bytes at the beginning are kept. They are looked at eight at a time.
-pub(crate) fn run_len(kept: &[bool; 256], bytes: &[u8]) -> usize
+/// How many bytes at the beginning are kept, by a truth for each byte. They are looked at eight at a time. Does not allocate.
+pub fn run_len(kept: &[bool; 256], bytes: &[u8]) -> usize
     ensures len { result ≡ prefix_len (is_kept_byte kept.now) bytes.now }
     ensures bound { result ≤ length bytes.now }
 {

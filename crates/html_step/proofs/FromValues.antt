@@ -116,7 +116,7 @@ typed-origin : (b : Body) (bytes : List ℕ) (x : Bool) (y : Member) → typed_h
 typed-origin b bytes x member.Typed h = (body-typed b bytes, h)
 typed-origin b bytes x _ h = absurd (no h)
 
-typed-more : (x z : Bool) (y : Member) → typed_has x y ≡ true → z ≡ true → typed_has z y ≡ true
+pub typed-more : (x z : Bool) (y : Member) → typed_has x y ≡ true → z ≡ true → typed_has z y ≡ true
 typed-more x z member.Typed h k = k
 typed-more x z _ h k = absurd (no h)
 
@@ -131,7 +131,7 @@ spot-origin : (b : Body) (bytes : List ℕ) (y : Member) → spots_have only_bef
 spot-origin b bytes member.BeforeSpot h = body-whole b bytes
 spot-origin b bytes _ h = absurd (no h)
 
-part-kept : (s : Parts) (y : Member) → parts_have s y ≡ true → in_value_origin y ≡ y
+pub part-kept : (s : Parts) (y : Member) → parts_have s y ≡ true → in_value_origin y ≡ y
 part-kept s member.PartStart h = refl
 part-kept s member.PartOpen h = refl
 part-kept s member.PartOpenhole h = refl

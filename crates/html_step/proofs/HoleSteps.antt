@@ -1,5 +1,5 @@
 -- Holes, place by place.
-use Rattle.std.proofs.Common.{◌≡◌, Option, Some, None, option_map, Ok, Err, refl, subst, Bool, true, false, if◌then◌else◌}
+use Rattle.std.proofs.Common.{◌≡◌, Option, Some, None, option_map, Ok, Err, refl, sym, ap, subst, Bool, true, false, if◌then◌else◌}
 use Rattle.place_core.specs.place.Errors.{hole_error}
 use Rattle.place_core.specs.page.Paths.{at_hole}
 use Rattle.place_core.specs.page.References.{Closed, Open}
@@ -13,10 +13,13 @@ use Rattle.place_core.specs.declared.kind.Kind.{Kind}
 use Rattle.place_core.specs.declared.kind.Kind.TheVariants as kind
 use Rattle.place_core.specs.declared.place.Place.{Place}
 use Rattle.place_core.specs.declared.place.Place.TheVariants as place
-use Rattle.html_step.specs.Holes.{Holed, after_hole}
+use Rattle.place_core.specs.declared.quotes.Quotes.{Quotes}
+use Rattle.html_step.specs.Holes.{Holed, after_hole, holed_quotes}
 use Rattle.html_step.proofs.OnePath.{same-tag}
-use Rattle.url_lexer.specs.Parts.{UrlPart}
-use Rattle.url_lexer.specs.Spots.{url_spot}
+use Rattle.url_lexer.specs.Parts.{UrlPart, UrlStart, UrlOpen, UrlOpenhole, UrlPrequery, UrlQuery, UrlBad, part_at_hole}
+use Rattle.url_lexer.specs.Spots.{where_whole}
+use Rattle.url_lexer.specs.States.{Url}
+use Rattle.url_lexer.specs.Triples.{Triple, NoTriple, AfterPercent, AfterDigit}
 
 -- the answer at the place of a path
 abbrev pub OwnHole : Holed → Place → LexState ValueState → Type 0
@@ -28,10 +31,33 @@ abbrev WherePlaced : Option Place → LexState ValueState → Type 0
 WherePlaced None s = Unit {0}
 WherePlaced (Some p) s = OwnHole (after_hole p) p s
 
-url-own : (o : Option UrlPart) (q : Quoting) (t : Tag) (s : LexState ValueState)
-    → WherePlaced (value_spot t (quotes_at q) (option_map (λ p. body.Url (parts_of p)) o)) s
-url-own None q t s = tt
-url-own (Some p) q t s = refl
+-- in a URL, from the part of the path
+holed-same : (q : Quoting) → holed_quotes (quotes_at q) ≡ quotes_at q
+holed-same DoubleQuoted = refl
+holed-same SingleQuoted = refl
+holed-same Unquoted = refl
+
+in-part : Tag → Quotes → UrlPart → Place
+in-part t q p = place.Value (record { tag = t.tag; typed = t.typed; quotes = q; body = body.Url (parts_of p) })
+
+part-own : (p : UrlPart) (q : Quotes) (t : Tag) (s : LexState ValueState) → placed (at_hole languages s) ≡ Some (in-part t (holed_quotes q) (part_at_hole p))
+    → OwnHole (after_hole (in-part t q p)) (in-part t q p) s
+unfolding in-part
+part-own UrlStart q t s e = (refl, e)
+part-own (UrlOpen x) q t s e = (refl, e)
+part-own UrlOpenhole q t s e = (refl, e)
+part-own UrlPrequery q t s e = (refl, e)
+part-own UrlQuery q t s e = (refl, e)
+part-own UrlBad q t s e = refl
+
+url-own : (x : Triple) (u : Url) (q : Quoting) (t : Tag)
+    → WherePlaced (value_spot t (quotes_at q) (option_map (λ p. body.Url (parts_of p)) (where_whole x u.part))) (AttributeValue q t (ValueOf (OfUrl u)) Closed)
+unfolding in-part
+url-own NoTriple u q t =
+    part-own u.part (quotes_at q) t (AttributeValue q t (ValueOf (OfUrl u)) Closed)
+    (ap (λ (z : Quotes). Some (in-part t z (part_at_hole u.part))) (sym (holed-same q)))
+url-own AfterPercent u q t = tt
+url-own AfterDigit u q t = tt
 
 value-own : (q : Quoting) (t : Tag) (v : ValueState) → WherePlaced (placed (AttributeValue q t (ValueOf v) Closed)) (AttributeValue q t (ValueOf v) Closed)
 value-own DoubleQuoted t (OfKind kind.Plain) = (refl, refl)
@@ -42,12 +68,12 @@ value-own q t (OfKind kind.Url) = tt
 value-own q t (OfKind kind.Script) = tt
 value-own q t (OfKind kind.Style) = tt
 value-own q t (OfKind kind.ScriptType) = tt
-value-own q t (OfUrl u) = url-own (url_spot u) q t (AttributeValue q t (ValueOf (OfUrl u)) Closed)
+value-own q t (OfUrl u) = url-own u.triple u q t
 
 before-own : (t : Tag) (k : Kind) → WherePlaced (placed (BeforeAttributeValue t k)) (BeforeAttributeValue t k)
 before-own t kind.Plain = (refl, refl)
 before-own t kind.NoHole = refl
-before-own t kind.Url = refl
+before-own t kind.Url = (refl, refl)
 before-own t kind.Script = tt
 before-own t kind.Style = tt
 before-own t kind.ScriptType = tt

@@ -7,9 +7,12 @@ pub mod FromParts
 pub mod FromSteps
 pub mod FromTexts
 pub mod FromValues
+pub mod HoleMembers
 pub mod HoleOrder
 pub mod HoleSteps
+pub mod HolesShown
 pub mod MetApart
+pub mod OnePart
 pub mod OnePath
 pub mod OneTexts
 pub mod OriginSteps
@@ -21,6 +24,7 @@ pub mod ShownTexts
 pub mod ShownUrls
 pub mod TextEvidences
 pub mod UrlOrder
+pub mod UrlPlaces
 pub mod ValidSteps
 pub mod WholeTexts
 pub mod WordPaths

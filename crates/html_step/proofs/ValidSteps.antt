@@ -230,7 +230,7 @@ prefix-within None v = tt
 prefix-within (Some prefix.Off) v = tt
 prefix-within (Some _) v = absurd v
 
-body-within : (b : Body) → IsValidBody b → BodyWithin b
+pub body-within : (b : Body) → IsValidBody b → BodyWithin b
 body-within (body.Url s) v = (v.0, prefix-within s.opened v.1)
 body-within _ v = v
 

@@ -1,16 +1,21 @@
--- Small texts, stepped from text and printed.
-use Rattle.std.proofs.Common.{◌≡◌, codes, refl, Result, Ok, Err, List, ℕ}
+-- Small texts, stepped from text and printed; and holes behind them.
+use Rattle.std.proofs.Common.{◌≡◌, codes, refl, true, false, Result, Ok, Err, List, Option, Some, None, ℕ}
 use Rattle.place_core.specs.page.Classes.{class_of}
 use Rattle.place_core.specs.declared.code.Code.{Code}
 use Rattle.place_core.specs.declared.code.Code.TheVariants as code
+use Rattle.place_core.specs.declared.chain.Chain.{Chain}
+use Rattle.place_core.specs.declared.parts.Parts.{Parts}
 use Rattle.place_core.specs.declared.place.Place.{Place}
 use Rattle.place_core.specs.declared.place.Place.TheVariants as place
+use Rattle.place_core.specs.declared.san.San.TheVariants as san
 use Rattle.place_core.specs.declared.step_err.StepErr.{StepErr}
+use Rattle.html_step.specs.Holes.{Holed, after_hole, all_of, both_of}
 use Rattle.html_step.specs.PlaceText.{place_text}
 use Rattle.html_step.specs.Steps.{after_text}
 use Rattle.place_core.specs.page.References.{flushed, meaning}
 use Rattle.place_core.specs.place.Errors.{is_unknown_name}
 use Rattle.url_lexer.specs.Classes.{url_class_of}
+use Rattle.url_step.specs.PartSets.{hole_answer}
 
 -- the place after a text, or the code and the place before what is refused
 data Emitted : Type 0 where
@@ -98,3 +103,46 @@ triple_broken_off = refl
 unknown_name : step (codes "<a href=\"/&b;") ≡ refused code.BadHTML 10 (codes "value other dq url prequery")
 unfolding class_of url_class_of is_unknown_name
 unknown_name = refl
+
+-- Holes in URLs: what is done to the value, and the place after it
+abbrev filled : Holed → Result (List ℕ × Chain) Code
+filled (Ok h) = Ok (place_text h.0, h.1)
+filled (Err e) = Err e
+
+abbrev filled_behind : Result Place (StepErr Place) → Option (Result (List ℕ × Chain) Code)
+filled_behind (Ok p) = Some (filled (after_hole p))
+filled_behind (Err e) = None
+
+abbrev hole_behind : List ℕ → Option (Result (List ℕ × Chain) Code)
+hole_behind bytes = filled_behind (after_text bytes place.Text)
+
+hole_first : hole_behind (codes "<a href=\"") ≡ Some (Ok (codes "value other dq url openhole", all_of san.UrlFilter san.UrlNorm san.Attr))
+unfolding class_of url_class_of
+hole_first = refl
+
+hole_without_quotes : hole_behind (codes "<a href=") ≡ Some (Ok (codes "value other uq url openhole", all_of san.UrlFilter san.UrlNorm san.AttrNospace))
+unfolding class_of url_class_of
+hole_without_quotes = refl
+
+hole_in_the_beginning : hole_behind (codes "<a href='a") ≡ Some (Ok (codes "value other sq url openhole", both_of san.UrlOpen san.Attr))
+unfolding class_of url_class_of
+hole_in_the_beginning = refl
+
+hole_in_a_path : hole_behind (codes "<a href=\"/b/") ≡ Some (Ok (codes "value other dq url prequery", both_of san.UrlNorm san.Attr))
+unfolding class_of url_class_of
+hole_in_a_path = refl
+
+hole_in_a_query : hole_behind (codes "<a href=\"/b?c=") ≡ Some (Ok (codes "value other dq url query", both_of san.UrlQuery san.Attr))
+unfolding class_of url_class_of
+hole_in_a_query = refl
+
+hole_behind_code : hole_behind (codes "<a href=\"javascript:") ≡ Some (Err code.BadHTML)
+unfolding class_of url_class_of
+hole_behind_code = refl
+
+in_two_parts : Parts
+in_two_parts = record { start = false; opened = None; openhole = false; prequery = true; query = true; bad = false }
+
+hole_in_two_parts : hole_answer in_two_parts ≡ Err code.AmbigContext
+unfolding in_two_parts
+hole_in_two_parts = refl

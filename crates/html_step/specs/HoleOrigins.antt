@@ -1,7 +1,9 @@
--- Which member of a place a member after a hole comes from, and which one shows that a hole is refused, or an escaper.
-use Rattle.std.specs.Prelude.{is_some, if◌then◌else◌}
+-- Which member of a place a member after a hole comes from, and which ones show that a hole is refused, or an escaper.
+use Rattle.std.specs.Prelude.{is_some, Result, Err, if◌then◌else◌}
 use Rattle.place_core.specs.declared.body.Body.{Body}
 use Rattle.place_core.specs.declared.body.Body.TheVariants as body
+use Rattle.place_core.specs.declared.code.Code.{Code}
+use Rattle.place_core.specs.declared.code.Code.TheVariants as code
 use Rattle.place_core.specs.declared.css.Css.{Css}
 use Rattle.place_core.specs.declared.css.Css.TheVariants as css
 use Rattle.place_core.specs.declared.member.Member.{Member}
@@ -11,26 +13,68 @@ use Rattle.place_core.specs.declared.place.Place.{Place}
 use Rattle.place_core.specs.declared.place.Place.TheVariants as place
 use Rattle.place_core.specs.declared.quotes.Quotes.{Quotes}
 use Rattle.place_core.specs.declared.quotes.Quotes.TheVariants as quotes
-use Rattle.html_step.specs.Origins.{typed_origin}
+use Rattle.url_step.specs.PartSets.{hole_answer}
+use Rattle.html_step.specs.Laws.{EvidenceData, one, two}
+use Rattle.html_step.specs.Origins.{in_value_origin, typed_origin}
 use Rattle.html_step.specs.declared.escaper.Escaper.{Escaper}
 use Rattle.html_step.specs.declared.escaper.Escaper.TheVariants as escaper
+
+-- In a URL a path that is in the beginning behind the hole comes from the first of these parts that is there; the other parts stay as they are.
+abbrev pub part_hole_origin : Parts → Member → Member
+part_hole_origin s member.PartOpenhole =
+    if s.start then member.PartStart else (if is_some s.opened then member.PartOpen else member.PartOpenhole)
+part_hole_origin s y = y
+
+abbrev pub body_hole_origin : Body → Member → Member
+body_hole_origin (body.Url s) y = part_hole_origin s y
+body_hole_origin b y = y
 
 -- a value without quotes has begun after the hole, and else the place stays as it is
 abbrev pub quotes_origin : Quotes → Member → Member
 quotes_origin quotes.Dq y = y
 quotes_origin quotes.Sq y = y
-quotes_origin (quotes.Bare b) y = typed_origin y
+quotes_origin (quotes.Bare b) y = in_value_origin y
 
 abbrev pub hole_origin : Place → Member → Member
 hole_origin (place.Tag t) y = typed_origin y
-hole_origin (place.Value v) y = quotes_origin v.quotes y
+hole_origin (place.Value v) y = body_hole_origin v.body (quotes_origin v.quotes y)
 hole_origin p y = y
 
+-- Where several parts of a URL are there, the first two of them: the first one behind each, and so these two.
+abbrev pub behind_prequery : Parts → Member
+behind_prequery p = if p.query then member.PartQuery else member.PartBad
+
+abbrev pub behind_openhole : Parts → Member
+behind_openhole p = if p.prequery then member.PartPrequery else behind_prequery p
+
+abbrev pub behind_open : Parts → Member
+behind_open p = if p.openhole then member.PartOpenhole else behind_openhole p
+
+abbrev pub behind_start : Parts → Member
+behind_start p = if is_some p.opened then member.PartOpen else behind_open p
+
+abbrev pub first_two : Parts → EvidenceData
+first_two p =
+    if p.start then two member.PartStart (behind_start p)
+    else (if is_some p.opened then two member.PartOpen (behind_open p)
+    else (if p.openhole then two member.PartOpenhole (behind_openhole p)
+    else (if p.prequery then two member.PartPrequery (behind_prequery p) else two member.PartQuery member.PartBad)))
+
+-- in a URL several parts are refused together, and else each path behind a scheme that is code
+abbrev pub url_hole_shows : Result Parts Code → Parts → EvidenceData
+url_hole_shows (Err code.AmbigContext) p = first_two p
+url_hole_shows o p = one member.PartBad
+
+abbrev pub value_hole_shows : Body → EvidenceData
+value_hole_shows (body.Url p) = url_hole_shows (hole_answer p) p
+value_hole_shows b = one member.Whole
+
 -- in a name the hole would go on with it, and in a data block with a `<`; elsewhere each path is refused
-abbrev pub hole_shows : Place → Member
-hole_shows (place.Tag t) = if t.spots.name then member.NameSpot else member.InsideSpot
-hole_shows (place.Block lt) = member.BlockLt
-hole_shows p = member.Whole
+abbrev pub hole_shows : Place → EvidenceData
+hole_shows (place.Tag t) = one (if t.spots.name then member.NameSpot else member.InsideSpot)
+hole_shows (place.Block lt) = one member.BlockLt
+hole_shows (place.Value v) = value_hole_shows v.body
+hole_shows p = one member.Whole
 
 -- In a URL the first part of it that is not its query shows that a value is not written as in one; elsewhere no path is in a query.
 abbrev pub parts_show : Parts → Member

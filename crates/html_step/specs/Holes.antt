@@ -1,5 +1,5 @@
 -- A value of data at a place: what is done to it, and the place after it, or why none may stand there; and where a template may name an escaper.
-use Rattle.std.specs.Prelude.{Bool, true, false, not, is_none, ◌||◌, ◌&&◌, [], ◌∷◌, Some, Result, Ok, Err}
+use Rattle.std.specs.Prelude.{Bool, true, false, not, is_none, ◌||◌, ◌&&◌, [], ◌∷◌, Some, Result, Ok, Err, if◌then◌else◌}
 use Rattle.place_core.specs.place.StatePlaces.{only_inside}
 use Rattle.place_core.specs.declared.body.Body.{Body}
 use Rattle.place_core.specs.declared.body.Body.TheVariants as body
@@ -19,15 +19,22 @@ use Rattle.place_core.specs.declared.san.San.TheVariants as san
 use Rattle.place_core.specs.declared.tag_place.TagPlace.{TagPlace}
 use Rattle.place_core.specs.declared.value_place.ValuePlace.{ValuePlace}
 use Rattle.html_scan.specs.Scans.{bare_begun}
+use Rattle.url_step.specs.PartSets.{hole_answer}
 use Rattle.html_step.specs.declared.escaper.Escaper.{Escaper}
 use Rattle.html_step.specs.declared.escaper.Escaper.TheVariants as escaper
 
 abbrev pub Holed : Type 0
 Holed = Result (Place × Chain) Code
 
--- a chain of one
+-- a chain of one sanitizer, of two, and of three; it has room for three, and what is past its count is not read
 abbrev pub only : San → Chain
 only s = record { count = 1; sans = s ∷ s ∷ s ∷ [] }
+
+abbrev pub both_of : San → San → Chain
+both_of s t = record { count = 2; sans = s ∷ t ∷ t ∷ [] }
+
+abbrev pub all_of : San → San → San → Chain
+all_of s t u = record { count = 3; sans = s ∷ t ∷ u ∷ [] }
 
 -- The name of an attribute, which is a plain one: where paths stand in a name, the value would go on with it.
 abbrev pub named_by_data : Bool → TagPlace → Holed
@@ -40,10 +47,32 @@ plain_hole quotes.Dq v = Ok (place.Value v, only san.Attr)
 plain_hole quotes.Sq v = Ok (place.Value v, only san.Attr)
 plain_hole (quotes.Bare b) v = Ok (place.Value (record { tag = v.tag; typed = v.typed; quotes = bare_begun; body = v.body }), only san.AttrNospace)
 
+-- In a URL the last sanitizer is that of the value's quotes; without quotes the value has begun.
+abbrev pub last_of : Quotes → San
+last_of quotes.Dq = san.Attr
+last_of quotes.Sq = san.Attr
+last_of (quotes.Bare b) = san.AttrNospace
+
+abbrev pub holed_quotes : Quotes → Quotes
+holed_quotes quotes.Dq = quotes.Dq
+holed_quotes quotes.Sq = quotes.Sq
+holed_quotes (quotes.Bare b) = bare_begun
+
+-- Where all paths are in one part of the URL, those before it are that part's: data may choose the scheme only where the hole is the first of the
+-- URL; in the beginning, also behind a hole, it may end none.
+abbrev pub url_chain : Parts → San → Chain
+url_chain p last = if p.start then all_of san.UrlFilter san.UrlNorm last else (if p.prequery then both_of san.UrlNorm last
+    else (if p.query then both_of san.UrlQuery last else both_of san.UrlOpen last))
+
+abbrev pub url_holed : ValuePlace → Parts → Result Parts Code → Holed
+url_holed v before (Ok after) =
+    Ok (place.Value (record { tag = v.tag; typed = v.typed; quotes = holed_quotes v.quotes; body = body.Url after }), url_chain before (last_of v.quotes))
+url_holed v before (Err e) = Err e
+
 abbrev pub value_hole : Body → ValuePlace → Holed
 value_hole body.Plain v = plain_hole v.quotes v
 value_hole body.NoHole v = Err code.BadHTML
-value_hole (body.Url parts) v = Err code.NotBuilt
+value_hole (body.Url parts) v = url_holed v parts (hole_answer parts)
 value_hole (body.Js js) v = Err code.NotBuilt
 value_hole (body.Css css) v = Err code.NotBuilt
 

@@ -1,16 +1,21 @@
 ghost use Rattle.std.specs.Prelude.{◌≡◌, ◌||◌};
+ghost use Rattle.url_step.specs.PartSets.{hole_answer};
 ghost use Rattle.html_step.specs.Holes as spec;
 
 use html_scan::{BEGUN, INSIDE};
-use place_core::{Body, Chain, Code, Kind, Place, Quotes, San, TagPlace, ValuePlace};
+use place_core::{Body, Chain, Code, Kind, Parts, Place, Quotes, San, TagPlace, ValuePlace};
+use url_step::at_hole;
 
 /// What is done to a value of data at a place, and the place after it; or why no value may stand there. (HTML Standard, section
 /// 13.2.5; Go's `html/template`.) The causes:
 ///
-/// - `BadHTML`: in a doctype, and in an attribute in which no value of data may stand.
+/// - `BadHTML`: in a doctype, and in an attribute in which no value of data may stand; in a URL behind a scheme that is code, as
+///   `javascript:`.
 /// - `SplitToken`: in the name of a tag or of an attribute, which the value would go on with; in a data block, after a text that
 ///   ends in `<`.
-/// - `NotBuilt`: in a script, a style, and a value that is a URL, a script or a style.
+/// - `AmbigContext`: in a URL where some paths are in one part of it and some in another, as before a `?` and behind one: no one
+///   chain of sanitizers fits all.
+/// - `NotBuilt`: in a script, a style, and a value that is a script or a style.
 ///
 /// Does not allocate.
 pub fn after_hole(place: Place) -> Result<(Place, Chain), Code>
@@ -59,8 +64,57 @@ fn in_value(place: ValuePlace) -> Result<(Place, Chain), Code>
     match place.body {
         Body::Plain => in_plain_value(place),
         Body::NoHole => Err(Code::BadHTML),
-        Body::Url(_) | Body::Js(_) | Body::Css(_) => Err(Code::NotBuilt),
+        Body::Url(parts) => in_url(place, parts),
+        Body::Js(_) | Body::Css(_) => Err(Code::NotBuilt),
     }
+}
+
+// In a URL where all paths are in one part of it; without quotes, the value has begun.
+fn in_url(place: ValuePlace, parts: Parts) -> Result<(Place, Chain), Code>
+    ensures { result ≡ spec.url_holed place parts (hole_answer parts) }
+{
+    let after = at_hole(parts)?;
+    let holed = Place::Value(ValuePlace {
+        quotes: holed_quotes(place.quotes),
+        body: Body::Url(after),
+        ..place
+    });
+    Ok((holed, url_chain(parts, last_of(place.quotes))))
+}
+
+fn holed_quotes(quotes: Quotes) -> Quotes
+    ensures { result ≡ spec.holed_quotes quotes }
+{
+    match quotes {
+        Quotes::Dq | Quotes::Sq => quotes,
+        Quotes::Bare(_) => BEGUN,
+    }
+}
+
+// The last sanitizer of a chain, by the quotes of the value.
+fn last_of(quotes: Quotes) -> San
+    ensures { result ≡ spec.last_of quotes }
+{
+    match quotes {
+        Quotes::Dq | Quotes::Sq => San::Attr,
+        Quotes::Bare(_) => San::AttrNospace,
+    }
+}
+
+// The chain of the part of a URL: only where the value is the first of it may it choose a scheme.
+fn url_chain(parts: Parts, last: San) -> Chain
+    ensures { result ≡ spec.url_chain parts last }
+{
+    if parts.start {
+        return all_of(San::UrlFilter, San::UrlNorm, last);
+    }
+    if parts.prequery {
+        return both_of(San::UrlNorm, last);
+    }
+    if parts.query {
+        return both_of(San::UrlQuery, last);
+    }
+    both_of(San::UrlOpen, last)
 }
 
 // In a value that is read as text; without quotes, the value has begun.
@@ -85,5 +139,23 @@ fn only(san: San) -> Chain
     Chain {
         count: 1,
         sans: [san; 3],
+    }
+}
+
+fn both_of(first: San, second: San) -> Chain
+    ensures { result ≡ spec.both_of first second }
+{
+    Chain {
+        count: 2,
+        sans: [first, second, second],
+    }
+}
+
+fn all_of(first: San, second: San, third: San) -> Chain
+    ensures { result ≡ spec.all_of first second third }
+{
+    Chain {
+        count: 3,
+        sans: [first, second, third],
     }
 }

@@ -1,14 +1,16 @@
 ghost use Rattle.std.specs.Prelude.{◌≡◌, Ok, Err};
 ghost use Rattle.place_core.specs.place.Places.{Has, IsValid};
 ghost use Rattle.html_step.specs.HoleLaws.{IsHoleOrigin, IsHoleEvidence};
-ghost use Rattle.html_step.specs.HoleOrigins.{hole_origin, hole_shows};
+ghost use Rattle.url_step.specs.PartSets.{hole_answer};
+ghost use Rattle.html_step.specs.HoleOrigins.{body_hole_origin, hole_origin, hole_shows, part_hole_origin, url_hole_shows, value_hole_shows};
 ghost use Rattle.html_step.specs.OriginViews.{evidence_at};
 ghost use Rattle.html_step.specs.HoleOrigins as spec;
 ghost use Rattle.html_step.specs.Holes as holes;
 
 use crate::evidence::Evidence;
-use crate::origins::typed_origin;
-use place_core::{Chain, Code, Member, Place, Quotes};
+use crate::origins::{in_value_origin, typed_origin};
+use place_core::{Body, Chain, Code, Member, Parts, Place, Quotes};
+use url_step::at_hole;
 
 /// A member of a place that a member of the place after a hole comes from: every path that bears the one comes to bear the other.
 /// Does not allocate.
@@ -28,7 +30,7 @@ pub fn hole_evidence(place: Place) -> Evidence
     ensures { (e : Code) → holes.after_hole place ≡ Err e
         → IsHoleEvidence place e (evidence_at result) }
 {
-    Evidence::One(evidence(place))
+    evidence(place)
 }
 
 fn origin(place: Place, member: Member) -> Member
@@ -36,7 +38,7 @@ fn origin(place: Place, member: Member) -> Member
 {
     match place {
         Place::Tag(_) => typed_origin(member),
-        Place::Value(value) => quotes_origin(value.quotes, member),
+        Place::Value(value) => body_origin(value.body, quotes_origin(value.quotes, member)),
         _ => member,
     }
 }
@@ -46,17 +48,112 @@ fn quotes_origin(quotes: Quotes, member: Member) -> Member
 {
     match quotes {
         Quotes::Dq | Quotes::Sq => member,
-        Quotes::Bare(_) => typed_origin(member),
+        Quotes::Bare(_) => in_value_origin(member),
     }
 }
 
-fn evidence(place: Place) -> Member
-    ensures { result ≡ hole_shows place }
+fn body_origin(body: Body, member: Member) -> Member
+    ensures { result ≡ body_hole_origin body member }
+{
+    match body {
+        Body::Url(parts) => part_origin(parts, member),
+        _ => member,
+    }
+}
+
+// In a URL, a path in its beginning behind the hole was in the first of these parts.
+fn part_origin(parts: Parts, member: Member) -> Member
+    ensures { result ≡ part_hole_origin parts member }
+{
+    match member {
+        Member::PartOpenhole if parts.start => Member::PartStart,
+        Member::PartOpenhole if parts.opened.is_some() => Member::PartOpen,
+        _ => member,
+    }
+}
+
+fn evidence(place: Place) -> Evidence
+    ensures { evidence_at result ≡ hole_shows place }
 {
     match place {
-        Place::Tag(tag) if tag.spots.name => Member::NameSpot,
-        Place::Tag(_) => Member::InsideSpot,
-        Place::Block(_) => Member::BlockLt,
-        _ => Member::Whole,
+        Place::Tag(tag) if tag.spots.name => Evidence::One(Member::NameSpot),
+        Place::Tag(_) => Evidence::One(Member::InsideSpot),
+        Place::Value(value) => in_value(value.body),
+        Place::Block(_) => Evidence::One(Member::BlockLt),
+        _ => Evidence::One(Member::Whole),
     }
+}
+
+fn in_value(body: Body) -> Evidence
+    ensures { evidence_at result ≡ value_hole_shows body }
+{
+    match body {
+        Body::Url(parts) => in_url(parts),
+        _ => Evidence::One(Member::Whole),
+    }
+}
+
+// In a URL several parts are refused together, and else each path behind a scheme that is code.
+fn in_url(parts: Parts) -> Evidence
+    ensures { evidence_at result ≡ url_hole_shows (hole_answer parts) parts }
+{
+    match at_hole(parts) {
+        Err(Code::AmbigContext) => first_two(parts),
+        _ => Evidence::One(Member::PartBad),
+    }
+}
+
+// The first two parts of several.
+fn first_two(parts: Parts) -> Evidence
+    ensures { evidence_at result ≡ spec.first_two parts }
+{
+    if parts.start {
+        return Evidence::Two(Member::PartStart, behind_start(parts));
+    }
+    if parts.opened.is_some() {
+        return Evidence::Two(Member::PartOpen, behind_open(parts));
+    }
+    if parts.openhole {
+        return Evidence::Two(Member::PartOpenhole, behind_openhole(parts));
+    }
+    if parts.prequery {
+        return Evidence::Two(Member::PartPrequery, behind_prequery(parts));
+    }
+    Evidence::Two(Member::PartQuery, Member::PartBad)
+}
+
+fn behind_start(parts: Parts) -> Member
+    ensures { result ≡ spec.behind_start parts }
+{
+    if parts.opened.is_some() {
+        return Member::PartOpen;
+    }
+    behind_open(parts)
+}
+
+fn behind_open(parts: Parts) -> Member
+    ensures { result ≡ spec.behind_open parts }
+{
+    if parts.openhole {
+        return Member::PartOpenhole;
+    }
+    behind_openhole(parts)
+}
+
+fn behind_openhole(parts: Parts) -> Member
+    ensures { result ≡ spec.behind_openhole parts }
+{
+    if parts.prequery {
+        return Member::PartPrequery;
+    }
+    behind_prequery(parts)
+}
+
+fn behind_prequery(parts: Parts) -> Member
+    ensures { result ≡ spec.behind_prequery parts }
+{
+    if parts.query {
+        return Member::PartQuery;
+    }
+    Member::PartBad
 }

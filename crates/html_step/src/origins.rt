@@ -196,7 +196,8 @@ fn place_origin(place: Place, class: Class, member: Member) -> Member
     }
 }
 
-fn in_value_origin(member: Member) -> Member
+/// In a value: the member before a byte, or a hole, from which one behind the bytes that its URL is fed comes.
+pub fn in_value_origin(member: Member) -> Member
     ensures { result ≡ spec.in_value_origin member }
 {
     match member {

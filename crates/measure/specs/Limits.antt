@@ -3,7 +3,7 @@ use Rattle.std.specs.Prelude.{ℕ}
 use Rattle.tpl_token.specs.Answers.{max_template_text}
 use Rattle.page_datum.specs.Reading.{max_length}
 use Rattle.measure.specs.declared.request.Measured.{Measured}
-use Rattle.measure.specs.declared.request.Measured.TheVariants.{Tokens, Parse, Gather, Infer, Html, AttrNospace, Characters, Steps, Written, Data, Turns, Calls, Keys, Page, Pages, Dropped, Names, Slices, Looks, Locks}
+use Rattle.measure.specs.declared.request.Measured.TheVariants.{Tokens, Parse, Gather, Infer, Html, AttrNospace, UrlNorm, Characters, Steps, Written, Data, Turns, Calls, Keys, Page, Pages, Dropped, Names, Slices, Looks, Locks}
 
 abbrev pub most_of : Measured → ℕ
 most_of Data = max_length
@@ -21,6 +21,7 @@ most_of Gather = max_template_text
 most_of Infer = max_template_text
 most_of Html = max_template_text
 most_of AttrNospace = max_template_text
+most_of UrlNorm = max_template_text
 most_of Characters = max_template_text
 most_of Steps = max_template_text
 most_of Written = max_template_text

@@ -27,6 +27,8 @@ pub fn input_of(alloc: Global, input: Input, size: usize) -> Result<String, Allo
         Input::Objects => objects(alloc, size),
         Input::Sections => repeated(alloc, "", SECTION, "", size),
         Input::PageSections => page_sections(alloc, size),
+        Input::Urls => repeated(alloc, "", URL, "", size),
+        Input::Links => repeated(alloc, "", LINK, "", size),
         Input::Chain => chain(alloc, size),
         Input::Pairs => pairs(alloc, size),
         Input::Nests => nests(alloc, TAGS, size),
@@ -37,6 +39,12 @@ pub fn input_of(alloc: Global, input: Input, size: usize) -> Result<String, Allo
 
 // A section of a page.
 const SECTION: &str = "<p title=\"{{.a}}\">{{if .b}}x{{else}}<b>{{end}}</p>\n";
+
+// A tag with a URL.
+const URL: &str = "<a href=\"/list/a%20b?c=d&amp;e=&#102;\">";
+
+// A link with two values in its URL.
+const LINK: &str = "<a href=\"/list/{{.v}}?q={{.w}}\">{{.v}}</a>\n";
 
 // A section of a page with a hole.
 const PAGE_HOLE: &str = "<p>{{.v}}</p>\n";

@@ -32,6 +32,7 @@ use page_datum::{DataRefused, print_datum, read_datum};
 use page_io::{Memory, Text};
 use place_core::{Chars, TEXT};
 use san_html::{attr_nospace, html};
+use san_url::url_norm;
 use std::alloc::{AllocError, Global};
 use std::env;
 use std::io::ErrorKind;
@@ -53,12 +54,18 @@ fn main(rt: HostRuntime) -> ExitCode {
             let _ = eprintln!(&rt; "      gather-values");
             let _ = eprintln!(&rt; "      infer-sections infer-chain infer-pairs infer-nested");
             let _ = eprintln!(&rt; "      infer-values");
-            let _ = eprintln!(&rt; "      html-text html-markup nospace-text nospace-markup");
+            let _ = eprintln!(&rt;
+                "      html-text html-markup nospace-text nospace-markup norm-text norm-markup"
+            );
             let _ = eprintln!(&rt; "      characters-text characters-references");
-            let _ = eprintln!(&rt; "      steps-text steps-tags written-text written-tags");
+            let _ = eprintln!(&rt;
+                "      steps-text steps-tags steps-urls written-text written-tags written-urls"
+            );
             let _ = eprintln!(&rt; "      data-numbers data-text data-lists data-objects");
             let _ = eprintln!(&rt; "      execute-turns execute-calls execute-keys");
-            let _ = eprintln!(&rt; "      page-sections page-text pages-sections pages-text");
+            let _ = eprintln!(&rt;
+                "      page-sections page-links page-text pages-sections pages-links pages-text"
+            );
             let _ = eprintln!(&rt; "      page-variables page-dropped page-names page-slices");
             let _ = eprintln!(&rt; "      looks-1 looks-4 locks-1 locks-4");
             return ExitCode::from(2);
@@ -117,6 +124,7 @@ fn counted<R: Threads + Wait + Sync>(
             text.as_str(),
             attr_nospace(alloc, text.as_str()),
         ),
+        Measured::UrlNorm => written_counted(alloc, text.as_str(), url_norm(alloc, text.as_str())),
         Measured::Characters => characters_counted(alloc, text.as_str()),
         Measured::Steps => place_told(alloc, text.as_str()),
         Measured::Written => written_counted(

@@ -19,6 +19,8 @@ pub enum Measured {
     Html,
     /// It is sanitized for an unquoted value.
     AttrNospace,
+    /// It is sanitized for a URL in which no scheme can end any more.
+    UrlNorm,
     /// Its characters are read with references undone, as the value of an attribute.
     Characters,
     /// It is stepped, from text to the place after it.
@@ -80,6 +82,10 @@ pub enum Input {
     Sections,
     /// Sections of a page of two kinds in turn, one with a hole, one with a list.
     PageSections,
+    /// Tags with a URL as the value of an attribute, which has a reference and a percent triple, again and again.
+    Urls,
+    /// Links, each with a value as its path and one in its query, again and again.
+    Links,
     /// Variables; after each one the one with half its number is used.
     Variables,
     /// Templates, each of which calls the next one in eight places.
@@ -129,12 +135,16 @@ pub fn words_named(word: &str) -> Option<(Measured, Input)> {
         "html-markup" => Some((Measured::Html, Input::Markup)),
         "nospace-text" => Some((Measured::AttrNospace, Input::Text)),
         "nospace-markup" => Some((Measured::AttrNospace, Input::Markup)),
+        "norm-text" => Some((Measured::UrlNorm, Input::Text)),
+        "norm-markup" => Some((Measured::UrlNorm, Input::Markup)),
         "characters-text" => Some((Measured::Characters, Input::Text)),
         "characters-references" => Some((Measured::Characters, Input::References)),
         "steps-text" => Some((Measured::Steps, Input::Text)),
         "steps-tags" => Some((Measured::Steps, Input::Tags)),
+        "steps-urls" => Some((Measured::Steps, Input::Urls)),
         "written-text" => Some((Measured::Written, Input::Text)),
         "written-tags" => Some((Measured::Written, Input::Tags)),
+        "written-urls" => Some((Measured::Written, Input::Urls)),
         "data-numbers" => Some((Measured::Data, Input::Numbers)),
         "data-text" => Some((Measured::Data, Input::Texts)),
         "data-lists" => Some((Measured::Data, Input::Lists)),
@@ -143,12 +153,14 @@ pub fn words_named(word: &str) -> Option<(Measured, Input)> {
         "execute-calls" => Some((Measured::Calls, Input::Numbers)),
         "execute-keys" => Some((Measured::Keys, Input::Objects)),
         "page-sections" => Some((Measured::Page, Input::PageSections)),
+        "page-links" => Some((Measured::Page, Input::Links)),
         "page-text" => Some((Measured::Page, Input::Text)),
         "page-variables" => Some((Measured::Page, Input::Variables)),
         "page-dropped" => Some((Measured::Dropped, Input::Numbers)),
         "page-names" => Some((Measured::Names, Input::Numbers)),
         "page-slices" => Some((Measured::Slices, Input::Numbers)),
         "pages-sections" => Some((Measured::Pages, Input::PageSections)),
+        "pages-links" => Some((Measured::Pages, Input::Links)),
         "pages-text" => Some((Measured::Pages, Input::Text)),
         "looks-1" => Some((Measured::Looks, Input::One)),
         "looks-4" => Some((Measured::Looks, Input::Four)),
@@ -178,6 +190,7 @@ pub fn most(call: Measured) -> usize
         | Measured::Infer
         | Measured::Html
         | Measured::AttrNospace
+        | Measured::UrlNorm
         | Measured::Characters
         | Measured::Steps
         | Measured::Written

@@ -40,6 +40,7 @@ pub fn page_counted(
 pub fn data_of(input: Input) -> &'static str {
     match input {
         Input::PageSections => "{\"l\":[\"a b\",\"c\"],\"v\":\"<&\",\"w\":7}",
+        Input::Links => "{\"v\":\"a b\",\"w\":\"c&d\"}",
         _ => "null",
     }
 }

@@ -1,4 +1,4 @@
--- The page of events, read without knowing where values stand in it, comes to where their path comes, with its marks filled by the values.
+-- The page of events, read without knowing where values stand in it, goes beside its reading with marks, which are filled by the values.
 use Rattle.std.proofs.Common.{ℕ, List, [], ◌∷◌, ◌++◌, Option, ap, ◌∙◌}
 use Rattle.html_step.specs.Steps.{after_text}
 use Rattle.page_path.proofs.Finding.{AllFind, Finds, event_symbols, symbols_from}
@@ -14,7 +14,8 @@ use Rattle.place_core.specs.page.Paths.{at_hole}
 use Rattle.place_core.specs.page.States.{Config, LexState}
 use Rattle.place_core.specs.page.Tags.{ValueState, languages}
 use Rattle.place_core.specs.declared.place.Place.{Place}
-use Rattle.text_norm.specs.Fillings.{Filling, Fills}
+use Rattle.text_norm.proofs.FilledMarks.{StandsRaw}
+use Rattle.text_norm.specs.Fillings.{Filling}
 use Rattle.text_norm.specs.Standing.{TextStands}
 use Rattle.tpl_events.specs.Events.{Emission, ExecEvent, enters, gives_hole, gives_text, leaves}
 use Rattle.tpl_paths.specs.Edges.{before}
@@ -34,33 +35,33 @@ module _ (forest : ForestData) (chart : ChartByName Place) where
       (page_bytes (event_pieces forest e ts s ++ pieces_from forest gs us (state_behind forest e ts s))) s vs t d)
 
   event-filled : (e : ExecEvent) (gs : List Emission) (ps : List (Pair Place)) (ts : List (List ℕ)) (s : LexState ValueState)
-      (vs : List Filling) (t u : List LexEvent) (d : Config ValueState) → Finds forest chart e ps ts s → IsTextual forest chart e ps
-      → Fills t vs u → TextStands languages s u d
+      (vs : List Filling) (t : List LexEvent) (m d : Config ValueState) → Finds forest chart e ps ts s → IsTextual forest chart e ps
+      → TextStands languages s t m → StandsRaw vs m d
       → (let r = state_behind forest e ts s in
-      (vs : List Filling) (t u : List LexEvent) (c : Config ValueState) → Fills t vs u → TextStands languages r u c
-      → FilledFrom gs (open_behind forest e ts) r vs t c)
+      (vs : List Filling) (t : List LexEvent) (m d : Config ValueState) → TextStands languages r t m → StandsRaw vs m d
+      → FilledFrom gs (open_behind forest e ts) r vs t d)
       → FilledAt e gs ts s vs t d
-  event-filled e gs [] ts s vs t u d f is_text k l rest = absurd f
-  event-filled (gives_text n) gs (p ∷ ps) ts s vs t u d f is_text k l rest =
+  event-filled e gs [] ts s vs t m d f is_text l k rest = absurd f
+  event-filled (gives_text n) gs (p ∷ ps) ts s vs t m d f is_text l k rest =
       let h = f.here in
       let bytes = bytes_in (kind_in forest ts n) in
       let accepted = ap (λ (o : Option NodeKind). after_text (bytes_in o) h.place) h.innermost ∙ f.accepted in
-      text-filled bytes h.place f.next s vs t u d (symbols_from forest gs ts) (texts_of gs)
-      (page_bytes (pieces_from forest gs ts (node bytes s))) h.valid h.is_in accepted k l (rest vs)
-  event-filled (gives_hole n datum) gs (p ∷ ps) ts s vs t u d f is_text k l rest =
+      text-filled bytes h.place f.next s vs t m d (symbols_from forest gs ts) (texts_of gs)
+      (page_bytes (pieces_from forest gs ts (node bytes s))) h.valid h.is_in accepted l k (rest vs)
+  event-filled (gives_hole n datum) gs (p ∷ ps) ts s vs t m d f is_text l k rest =
       let h = f.here in
       let text = text-at-place (chart p.template p.entry (before n)) h.place f.next f.chain datum h.there f.accepted is_text in
-      hole-filled h.place f.next f.chain datum s vs t u d (symbols_from forest gs ts) (texts_of gs)
-      (pieces_from forest gs ts (at_hole languages s)) h.valid h.is_in f.accepted text k l rest
-  event-filled (enters n) gs (p ∷ ps) ts s vs t u d f is_text k l rest = rest vs t u d k l
-  event-filled leaves gs (p ∷ ps) ts s vs t u d f is_text k l rest = rest vs t u d k l
+      hole-filled h.place f.next f.chain datum s vs t m d (symbols_from forest gs ts) (texts_of gs)
+      (pieces_from forest gs ts (at_hole languages s)) h.valid h.is_in f.accepted text l k rest
+  event-filled (enters n) gs (p ∷ ps) ts s vs t m d f is_text l k rest = rest vs t m d l k
+  event-filled leaves gs (p ∷ ps) ts s vs t m d f is_text l k rest = rest vs t m d l k
 
   pub events-filled : (gs : List Emission) (ps : List (Pair Place)) (ts : List (List ℕ)) (s : LexState ValueState) (vs : List Filling)
-      (t u : List LexEvent) (d : Config ValueState) → AllFind forest chart gs ps ts s → AreTextual forest chart gs ps → Fills t vs u
-      → TextStands languages s u d → FilledFrom gs ts s vs t d
-  events-filled [] ps ts s vs t u d f are_texts k l = record { emitted = u; fills = k; stands = l }
-  events-filled (g ∷ gs) ps ts s vs t u d f are_texts k l =
+      (t : List LexEvent) (m d : Config ValueState) → AllFind forest chart gs ps ts s → AreTextual forest chart gs ps
+      → TextStands languages s t m → StandsRaw vs m d → FilledFrom gs ts s vs t d
+  events-filled [] ps ts s vs t m d f are_texts l k = record { end = m; stands = l; beside = k }
+  events-filled (g ∷ gs) ps ts s vs t m d f are_texts l k =
       let e = g.event in
       let qs = sign_pairs forest chart (move_sign e) ps in
-      event-filled e gs ps ts s vs t u d f.0 are_texts.0 k l
-      (λ vs t u c k l. events-filled gs qs (open_behind forest e ts) (state_behind forest e ts s) vs t u c f.1 are_texts.1 k l)
+      event-filled e gs ps ts s vs t m d f.0 are_texts.0 l k
+      (λ vs t m d l k. events-filled gs qs (open_behind forest e ts) (state_behind forest e ts s) vs t m d f.1 are_texts.1 l k)

@@ -1,5 +1,5 @@
 -- Small pages, by the definition alone, and pages that are none.
-use Rattle.std.proofs.Common.{◌≡◌, ℕ, false, true, codes, List, [], ◌∷◌, Some, length, refl, ap, ◌∙◌, arith, IsUtf8}
+use Rattle.std.proofs.Common.{◌≡◌, ℕ, false, true, codes, List, [], ◌∷◌, ◌++◌, Some, length, refl, ap, ◌∙◌, arith, IsUtf8}
 use Rattle.std.proofs.lemmas.Bool.{false≢true}
 use Rattle.std.proofs.lemmas.Str.{is_utf8-from_IsUtf8}
 use Rattle.std.specs.Str.{chars, is_utf8}
@@ -7,7 +7,7 @@ use Rattle.esc_table.proofs.Runs.{replaced-encodes}
 use Rattle.html_step.specs.Holes.{only}
 use Rattle.page_datum.specs.Data.{dict, entry, no_entries, null, text}
 use Rattle.page_path.specs.Pages.{PagePiece, page_bytes, pieces_of, value, value_pieces, words}
-use Rattle.page_path.specs.Soundness.{IsSound, ReadBack}
+use Rattle.page_path.specs.Soundness.{AreValuesBack, IsSound}
 use Rattle.page_path.specs.Textual.{AreTextual, IsTextBy}
 use Rattle.place_core.specs.page.Classes.{class_of}
 use Rattle.place_core.specs.page.Html.{read, start}
@@ -57,6 +57,27 @@ in_an_empty_value : page_bytes (pieces (codes "<a title=") [] (codes ">")) ≡ c
 unfolding class_of
 in_an_empty_value = refl
 
+-- in a URL: a scheme that data may not choose, in any case, and `&` and `/` in the query
+failsafe_in_quotes : html (codes "#ZgotmplZ") ≡ codes "#ZgotmplZ"
+unfolding lib.Utf8.encode
+failsafe_in_quotes = replaced-encodes html_rows (codes "#ZgotmplZ") refl
+
+triples_in_quotes : html (codes "a%26b%2f") ≡ codes "a%26b%2f"
+unfolding lib.Utf8.encode
+triples_in_quotes = replaced-encodes html_rows (codes "a%26b%2f") refl
+
+in_a_url : page_bytes (pieces (codes "<a href='") (codes "JavaScript:a") (codes "'>")) ≡ codes "<a href='#ZgotmplZ'>"
+unfolding class_of url_class_of
+in_a_url = ap (λ (bytes : List ℕ). codes "<a href='" ++ bytes ++ codes "'>") failsafe_in_quotes
+
+in_a_query : page_bytes (pieces (codes "<a href='?a=") (codes "a&b/") (codes "'>")) ≡ codes "<a href='?a=a%26b%2f'>"
+unfolding class_of url_class_of
+in_a_query = ap (λ (bytes : List ℕ). codes "<a href='?a=" ++ bytes ++ codes "'>") triples_in_quotes
+
+in_an_empty_url : page_bytes (pieces (codes "<a href=/") [] (codes ">")) ≡ codes "<a href=/ZgotmplZ>"
+unfolding class_of url_class_of
+in_an_empty_url = refl
+
 -- with another sanitizer after Drop the value is not left out
 dropped_first : value_pieces (record { count = 2; sans = san.Drop ∷ san.AttrNospace ∷ san.AttrNospace ∷ [] }) (text (codes "a"))
     ≡ value (text (codes "a")) (codes "ZgotmplZ") ∷ []
@@ -73,7 +94,7 @@ as_it_is h = let same = ap length (h.bytes ∙ ap page_bytes in_a_tag) in omega 
 in_another_state : (c d : LexState ValueState) → c ≡ TagOpen Closed → d ≡ Text Closed → c ≡ d → ⊥
 in_another_state c d e f g = cc
 
-not_back : ReadBack (words (codes "<b>") ∷ value (text (codes "<")) (codes "<") ∷ words (codes "</b>") ∷ []) start → ⊥
+not_back : AreValuesBack (words (codes "<b>") ∷ value (text (codes "<")) (codes "<") ∷ words (codes "</b>") ∷ []) start → ⊥
 unfolding class_of
 not_back h = in_another_state (TagOpen Closed) (Text Closed) refl refl h.0.1.0
 

@@ -1,19 +1,21 @@
 -- Wherever a hole may stand on a path, its sanitizer keeps what it promises there, and what it writes reads back.
-use Rattle.std.proofs.Common.{◌≡◌, ℕ, List, [], Bool, true, false, Option, Some, None, option_map, if◌then◌else◌, Ok, Err, refl, subst, IsUtf8}
+use Rattle.std.proofs.Common.{◌≡◌, ℕ, List, [], Bool, true, false, Option, Some, None, option_map, if◌then◌else◌, Ok, Err, refl, sym, ap, subst, IsUtf8}
 use Rattle.html_step.proofs.HoleOrder.{covers-hole}
-use Rattle.html_step.specs.Holes.{Holed, after_hole, only}
+use Rattle.html_step.specs.Holes.{Holed, after_hole, all_of, both_of, last_of, only}
 use Rattle.page_datum.specs.Data.{Data}
 use Rattle.page_datum.specs.Printed.{printed}
 use Rattle.page_path.specs.Pages.{chain_bytes}
 use Rattle.page_path.specs.Soundness.{IsBack, IsNameBack}
 use Rattle.page_path.specs.Textual.{IsTextBy}
+use Rattle.page_path.proofs.UrlBack.{in-url, part-back, quoted-back, unbegun-back, url-back}
+use Rattle.place_core.specs.page.Events.{LexEvent}
 use Rattle.place_core.specs.place.Membership.{IsIn}
 use Rattle.place_core.specs.page.Plain.{settled_state}
 use Rattle.place_core.specs.place.Places.{IsValid}
 use Rattle.place_core.specs.page.References.{Closed, Reference}
 use Rattle.place_core.specs.place.StatePlaces.{content_spot, only_after, only_inside, placed, tag_spot, quotes_at, value_body, value_spot, where_closed}
 use Rattle.place_core.specs.place.UrlParts.{parts_of}
-use Rattle.place_core.specs.page.States.{AfterAttributeName, AfterAttributeValue, AttributeValue, BeforeAttributeName, BeforeAttributeValue, Broken, Bytes, Characters, CommentState, Content, Pending, InComment, InContent, Inside, LessAtCut, Nothing, SelfClosingStartTag, LexState, Text, WholeAttributeName}
+use Rattle.place_core.specs.page.States.{AfterAttributeName, AfterAttributeValue, AttributeValue, BeforeAttributeName, BeforeAttributeValue, Broken, Bytes, Characters, CommentState, Config, Content, Pending, InComment, InContent, Inside, LessAtCut, Nothing, SelfClosingStartTag, LexState, Text, WholeAttributeName}
 use Rattle.place_core.specs.page.Tags.{DoubleQuoted, Quoting, SingleQuoted, Tag, Unquoted, Value, ValueOf, ValueState, OfKind, OfUrl, is_second_type, languages, without_value}
 use Rattle.place_core.specs.declared.body.Body.TheVariants as body
 use Rattle.place_core.specs.declared.chain.Chain.{Chain}
@@ -24,21 +26,36 @@ use Rattle.place_core.specs.declared.kind.Kind.TheVariants as kind
 use Rattle.place_core.specs.declared.place.Place.{Place}
 use Rattle.place_core.specs.declared.place.Place.TheVariants as place
 use Rattle.place_core.specs.declared.san.San.TheVariants as san
-use Rattle.san_html.proofs.EscapedText.{back-in-block, back-in-quoted, back-in-rcdata, back-in-text}
+use Rattle.san_html.proofs.EscapedText.{back-in-block, back-in-rcdata, back-in-text}
 use Rattle.san_html.proofs.Names.{tag-back}
 use Rattle.san_html.proofs.Results.{for-text}
 use Rattle.san_html.proofs.UnquotedValues.{unquoted-back}
-use Rattle.san_html.specs.ReadBack.{BeginsName, IsBackInBlock, IsBackInQuoted, IsBackInRcdata, IsBackInText, in_block, in_rcdata, in_value}
+use Rattle.san_html.specs.ReadBack.{BeginsName, IsBackInBlock, IsBackInRcdata, IsBackInText, in_block, in_rcdata, in_value}
 use Rattle.san_html.specs.Sanitizers.{attr_name, html, html_rows}
-use Rattle.text_norm.specs.HoleLaws.{IsBackBy, leaves_out}
+use Rattle.san_url.specs.Back.{IsBackInPart}
+use Rattle.text_norm.proofs.Emits.{same-state}
+use Rattle.text_norm.specs.HoleLaws.{IsBackBy, IsBackInBeginning, leaves_out}
+use Rattle.text_norm.specs.Standing.{TextStands}
 use Rattle.text_norm.specs.StandsLaws.{holds_nothing}
-use Rattle.url_lexer.specs.Parts.{UrlPart}
-use Rattle.url_lexer.specs.Spots.{url_spot}
+use Rattle.url_lexer.specs.Parts.{UrlPart, UrlStart, UrlOpen, UrlOpenhole, UrlPrequery, UrlQuery, UrlBad}
+use Rattle.url_lexer.specs.Prefixes.{Prefix}
+use Rattle.url_lexer.specs.Sanitizers.{url_open}
+use Rattle.url_lexer.specs.Spots.{where_whole}
+use Rattle.url_lexer.specs.States.{Url}
+use Rattle.url_lexer.specs.Triples.{Triple, NoTriple, AfterPercent, AfterDigit}
 
--- Nothing is held back, and bytes read back as a datum, where what the path's value has pending back is settled. In a comment there are none.
+-- Bytes read back as a datum on each page that stands for the path, where what its value has pending back is settled. In a comment there are none.
 abbrev pub BackUnless : Bool → LexState ValueState → Data → List ℕ → Type 0
 BackUnless true s datum bytes = Unit {0}
-BackUnless false s datum bytes = (holds_nothing s ≡ true) × IsBack (settled_state languages s) datum bytes
+BackUnless false s datum bytes =
+    (t : List LexEvent) (d : Config ValueState) → TextStands languages s t d → IsBack (settled_state languages d.at) datum bytes
+
+-- where nothing is pending back from the page it is in the path's state
+same-back : (s : LexState ValueState) (datum : Data) (bytes : List ℕ) → holds_nothing s ≡ true → IsBack (settled_state languages s) datum bytes
+    → BackUnless false s datum bytes
+same-back s datum bytes free back t d l =
+    subst (λ (z : LexState ValueState). IsBack (settled_state languages z) datum bytes)
+    (sym (ap (λ (c : Config ValueState). c.at) (same-state s t d free l))) back
 
 abbrev pub BackIn : Chain → LexState ValueState → Data → List ℕ → Type 0
 BackIn c s datum bytes = BackUnless (leaves_out c) s datum bytes
@@ -69,52 +86,52 @@ block-back text u = for-text IsBackInBlock html_rows back-in-block text u
 html-back : (text : List ℕ) → IsUtf8 text → IsBackInText text (html text) × IsBackInRcdata text (html text) × IsBackInBlock text (html text)
 html-back text u = (text-back text u, rcdata-back text u, block-back text u)
 
-quoted-back : (text : List ℕ) → IsUtf8 text → IsBackInQuoted text (html text)
-quoted-back text u = for-text IsBackInQuoted html_rows back-in-quoted text u
-
 in-text : IsSafe (only san.Html) (Text Closed)
 in-text = record {
   promised = λ datum u. html-back (printed datum) u;
-  back = λ datum u. (refl, (text-back (printed datum) u).reads []);
+  back = λ datum u. same-back (Text Closed) datum _ refl ((text-back (printed datum) u).reads []);
 }
 
 in-content : (e : Element) → IsSafe (only san.Html) (in_rcdata e)
 in-content e = record {
   promised = λ datum u. html-back (printed datum) u;
-  back = λ datum u. (refl, (rcdata-back (printed datum) u).reads e []);
+  back = λ datum u. same-back (in_rcdata e) datum _ refl ((rcdata-back (printed datum) u).reads e []);
 }
 
 in-block : IsSafe (only san.Html) in_block
 in-block = record {
   promised = λ datum u. html-back (printed datum) u;
-  back = λ datum u. (refl, (block-back (printed datum) u).undoes);
+  back = λ datum u. same-back in_block datum _ refl (block-back (printed datum) u).undoes;
 }
 
 in-comment : (s : CommentState) → IsSafe (only san.Drop) (InComment s)
 in-comment s = record { promised = λ datum u. refl; back = λ datum u. tt }
 
-in-double : (tag : Tag) → IsSafe (only san.Attr) (in_value DoubleQuoted tag (ValueOf (OfKind kind.Plain)))
+abbrev of_plain : Value ValueState
+of_plain = ValueOf (OfKind kind.Plain)
+
+in-double : (tag : Tag) → IsSafe (only san.Attr) (in_value DoubleQuoted tag of_plain)
 in-double tag = record {
   promised = λ datum u. quoted-back (printed datum) u;
-  back = λ datum u. (refl, (quoted-back (printed datum) u).reads DoubleQuoted tag (ValueOf (OfKind kind.Plain)) [] refl);
+  back = λ datum u. same-back (in_value DoubleQuoted tag of_plain) datum _ refl ((quoted-back (printed datum) u).reads DoubleQuoted tag of_plain [] refl);
 }
 
-in-single : (tag : Tag) → IsSafe (only san.Attr) (in_value SingleQuoted tag (ValueOf (OfKind kind.Plain)))
+in-single : (tag : Tag) → IsSafe (only san.Attr) (in_value SingleQuoted tag of_plain)
 in-single tag = record {
   promised = λ datum u. quoted-back (printed datum) u;
-  back = λ datum u. (refl, (quoted-back (printed datum) u).reads SingleQuoted tag (ValueOf (OfKind kind.Plain)) [] refl);
+  back = λ datum u. same-back (in_value SingleQuoted tag of_plain) datum _ refl ((quoted-back (printed datum) u).reads SingleQuoted tag of_plain [] refl);
 }
 
-in-unquoted : (tag : Tag) → IsSafe (only san.AttrNospace) (in_value Unquoted tag (ValueOf (OfKind kind.Plain)))
+in-unquoted : (tag : Tag) → IsSafe (only san.AttrNospace) (in_value Unquoted tag of_plain)
 in-unquoted tag = record {
   promised = λ datum u. unquoted-back (printed datum) u;
-  back = λ datum u. (refl, (unquoted-back (printed datum) u).reads tag (ValueOf (OfKind kind.Plain)) []);
+  back = λ datum u. same-back (in_value Unquoted tag of_plain) datum _ refl ((unquoted-back (printed datum) u).reads tag of_plain []);
 }
 
 before-value : (tag : Tag) → IsSafe (only san.AttrNospace) (BeforeAttributeValue tag kind.Plain)
 before-value tag = record {
   promised = λ datum u. unquoted-back (printed datum) u;
-  back = λ datum u. (refl, (unquoted-back (printed datum) u).reads_unbegun tag kind.Plain []);
+  back = λ datum u. same-back (BeforeAttributeValue tag kind.Plain) datum _ refl ((unquoted-back (printed datum) u).reads_unbegun tag kind.Plain []);
 }
 
 before-name : (s : LexState ValueState) (tag : Tag) → BeginsName s tag → holds_nothing s ≡ true
@@ -122,7 +139,7 @@ before-name : (s : LexState ValueState) (tag : Tag) → BeginsName s tag → hol
     → IsSafe (only san.AttrName) s
 before-name s tag begins free same = record {
   promised = λ datum u. tag-back (printed datum);
-  back = λ datum u. (free, same datum (attr_name (printed datum)) ((tag-back (printed datum)).reads s tag [] begins));
+  back = λ datum u. same-back s datum _ free (same datum (attr_name (printed datum)) ((tag-back (printed datum)).reads s tag [] begins));
 }
 
 -- likewise, and so wherever a hole is accepted
@@ -133,18 +150,71 @@ content-safe Nothing Bytes element.DataBlock = in-block
 content-safe LessAtCut Bytes element.DataBlock = tt
 content-safe _ _ _ = tt
 
--- a hole in a URL is not built
-url-safe : (o : Option UrlPart) (q : Quoting) (tag : Tag) (s : LexState ValueState)
-    → SafeAt s (value_spot tag (quotes_at q) (option_map (λ p. body.Url (parts_of p)) o))
-url-safe None q tag s = tt
-url-safe (Some p) q tag s = tt
+-- in a URL, by its part; behind a scheme that is code no hole is accepted, and inside a percent triple there is no place
+in-url-start : (q : Quoting) (tag : Tag) (u : Url) → u.part ≡ UrlStart
+    → IsSafe (all_of san.UrlFilter san.UrlNorm (last_of (quotes_at q))) (in_value q tag (ValueOf (OfUrl u)))
+in-url-start q tag u is = record {
+  promised = λ datum utf8. in-url UrlStart (IsBackInPart UrlStart (printed datum)) q (printed datum) utf8 (part-back UrlStart (printed datum) utf8 refl);
+  back = λ datum utf8 t d l. url-back UrlStart q tag u datum is utf8 refl t d l;
+}
+
+in-beginning : (text : List ℕ) → IsUtf8 text → IsBackInBeginning text (url_open text)
+in-beginning text utf8 = record {
+  in_open = λ spelled. part-back (UrlOpen spelled) text utf8 refl;
+  in_openhole = part-back UrlOpenhole text utf8 refl;
+}
+
+in-url-open : (spelled : Prefix) (q : Quoting) (tag : Tag) (u : Url) → u.part ≡ UrlOpen spelled
+    → IsSafe (both_of san.UrlOpen (last_of (quotes_at q))) (in_value q tag (ValueOf (OfUrl u)))
+in-url-open spelled q tag u is = record {
+  promised = λ datum utf8. in-url UrlOpenhole (IsBackInBeginning (printed datum)) q (printed datum) utf8 (in-beginning (printed datum) utf8);
+  back = λ datum utf8 t d l. url-back (UrlOpen spelled) q tag u datum is utf8 refl t d l;
+}
+
+in-url-openhole : (q : Quoting) (tag : Tag) (u : Url) → u.part ≡ UrlOpenhole
+    → IsSafe (both_of san.UrlOpen (last_of (quotes_at q))) (in_value q tag (ValueOf (OfUrl u)))
+in-url-openhole q tag u is = record {
+  promised = λ datum utf8. in-url UrlOpenhole (IsBackInBeginning (printed datum)) q (printed datum) utf8 (in-beginning (printed datum) utf8);
+  back = λ datum utf8 t d l. url-back UrlOpenhole q tag u datum is utf8 refl t d l;
+}
+
+in-url-prequery : (q : Quoting) (tag : Tag) (u : Url) → u.part ≡ UrlPrequery
+    → IsSafe (both_of san.UrlNorm (last_of (quotes_at q))) (in_value q tag (ValueOf (OfUrl u)))
+in-url-prequery q tag u is = record {
+  promised = λ datum utf8. in-url UrlPrequery (IsBackInPart UrlPrequery (printed datum)) q (printed datum) utf8 (part-back UrlPrequery (printed datum) utf8 refl);
+  back = λ datum utf8 t d l. url-back UrlPrequery q tag u datum is utf8 refl t d l;
+}
+
+in-url-query : (q : Quoting) (tag : Tag) (u : Url) → u.part ≡ UrlQuery
+    → IsSafe (both_of san.UrlQuery (last_of (quotes_at q))) (in_value q tag (ValueOf (OfUrl u)))
+in-url-query q tag u is = record {
+  promised = λ datum utf8. in-url UrlQuery (IsBackInPart UrlQuery (printed datum)) q (printed datum) utf8 (part-back UrlQuery (printed datum) utf8 refl);
+  back = λ datum utf8 t d l. url-back UrlQuery q tag u datum is utf8 refl t d l;
+}
+
+before-url : (tag : Tag) → IsSafe (all_of san.UrlFilter san.UrlNorm san.AttrNospace) (BeforeAttributeValue tag kind.Url)
+before-url tag = record {
+  promised = λ datum utf8. in-url UrlStart (IsBackInPart UrlStart (printed datum)) Unquoted (printed datum) utf8 (part-back UrlStart (printed datum) utf8 refl);
+  back = λ datum utf8. same-back (BeforeAttributeValue tag kind.Url) datum _ refl (unbegun-back tag (printed datum) utf8);
+}
+
+url-safe : (r : Triple) (p : UrlPart) (q : Quoting) (tag : Tag) (u : Url) → u.part ≡ p
+    → SafeAt (in_value q tag (ValueOf (OfUrl u))) (value_spot tag (quotes_at q) (option_map (λ p. body.Url (parts_of p)) (where_whole r p)))
+url-safe NoTriple UrlStart q tag u is = in-url-start q tag u is
+url-safe NoTriple (UrlOpen spelled) q tag u is = in-url-open spelled q tag u is
+url-safe NoTriple UrlOpenhole q tag u is = in-url-openhole q tag u is
+url-safe NoTriple UrlPrequery q tag u is = in-url-prequery q tag u is
+url-safe NoTriple UrlQuery q tag u is = in-url-query q tag u is
+url-safe NoTriple UrlBad q tag u is = tt
+url-safe AfterPercent p q tag u is = tt
+url-safe AfterDigit p q tag u is = tt
 
 value-safe : (r : Reference) (v : Value ValueState) (q : Quoting) (tag : Tag)
     → SafeAt (AttributeValue q tag v r) (where_closed r (value_spot tag (quotes_at q) (value_body v)))
 value-safe Closed (ValueOf (OfKind kind.Plain)) DoubleQuoted tag = in-double tag
 value-safe Closed (ValueOf (OfKind kind.Plain)) SingleQuoted tag = in-single tag
 value-safe Closed (ValueOf (OfKind kind.Plain)) Unquoted tag = in-unquoted tag
-value-safe Closed (ValueOf (OfUrl u)) q tag = url-safe (url_spot u) q tag (AttributeValue q tag (ValueOf (OfUrl u)) Closed)
+value-safe Closed (ValueOf (OfUrl u)) q tag = url-safe u.triple u.part q tag u refl
 value-safe _ _ _ tag = tt
 
 -- after a name, unless it is a second `type`, where a path is at no place
@@ -168,6 +238,7 @@ safe-at (WholeAttributeName tag k) = whole-name-safe (is_second_type tag.typed k
 safe-at (AfterAttributeValue tag) = before-name (AfterAttributeValue tag) tag refl refl (λ datum bytes h. h)
 safe-at (SelfClosingStartTag tag) = before-name (SelfClosingStartTag tag) tag refl refl (λ datum bytes h. h)
 safe-at (BeforeAttributeValue tag kind.Plain) = before-value tag
+safe-at (BeforeAttributeValue tag kind.Url) = before-url tag
 safe-at (AttributeValue q tag v r) = value-safe r v q tag
 safe-at (InContent e x h) = content-safe h x e
 safe-at _ = tt

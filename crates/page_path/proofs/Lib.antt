@@ -12,4 +12,5 @@ pub mod Signs
 pub mod Sound
 pub mod TextsRead
 pub mod Together
+pub mod UrlBack
 pub mod Walked

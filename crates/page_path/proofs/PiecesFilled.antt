@@ -1,4 +1,4 @@
--- The bytes of a page, read without knowing where values stand in it, and the symbols of its path with its marks filled: a text, and a hole,
+-- The bytes of a page, read without knowing where values stand in it, beside the reading with marks that stands for its path: a text, and a hole,
 -- before more.
 use Rattle.std.proofs.Common.{◌≡◌, ℕ, Bool, true, false, List, [], ◌∷◌, ◌++◌, Ok, refl, sym, ap, ◌∙◌, subst}
 use Rattle.std.specs.Prelude.{if◌then◌else◌}
@@ -23,47 +23,44 @@ use Rattle.place_core.specs.page.States.{Config, Page, LexState, config}
 use Rattle.place_core.specs.page.Tags.{ValueState, languages}
 use Rattle.place_core.specs.declared.chain.Chain.{Chain}
 use Rattle.place_core.specs.declared.place.Place.{Place}
-use Rattle.text_norm.proofs.FilledMarks.{fills-node}
+use Rattle.text_norm.proofs.FilledMarks.{StandsRaw, raw-text}
 use Rattle.text_norm.proofs.HoleKeeps.{keeps-hole}
 use Rattle.text_norm.proofs.HolesLead.{hole-leads}
 use Rattle.text_norm.proofs.Keeps.{keeps-shape}
+use Rattle.text_norm.proofs.PagesFill.{over-hole}
 use Rattle.text_norm.proofs.Same.{written-on-paths}
-use Rattle.text_norm.specs.Fillings.{Filling, Fills, fillings_along, fillings_at}
+use Rattle.text_norm.specs.Fillings.{Filling, fillings_along, fillings_at}
 use Rattle.text_norm.specs.HoleLaws.{ArePlainUnless, leaves_out}
 use Rattle.text_norm.specs.Standing.{TextStands, page}
 use Rattle.text_norm.specs.Written.{written}
 
--- bytes that are read to where it stands for the path after these symbols, with its marks filled by the values with these texts
+-- Where bytes and the symbols of a path lead: the reading with marks, which stands for the path, and that of bytes alone beside it, with its marks
+-- filled by the values with these texts.
 pub record IsFilled (symbols : List Symbol) (texts : List (List ℕ)) (bytes : List ℕ) (s : LexState ValueState) (vs : List Filling)
     (t : List LexEvent) (d : Config ValueState) : Type 0 where
-  pub emitted : List LexEvent
-  pub fills : Fills (read_path languages symbols (config s t)).emitted (fillings_along symbols texts s vs) emitted
-  pub stands : TextStands languages (read_path languages symbols (config s t)).at emitted (read Page bytes d)
+  pub end : Config ValueState
+  pub stands : StandsFor (read_path languages symbols (config s t)) end
+  pub beside : StandsRaw (fillings_along symbols texts s vs) end (read Page bytes d)
 
 -- a text
-pub text-filled : (bytes : List ℕ) (p q : Place) (s : LexState ValueState) (vs : List Filling) (t u : List LexEvent) (d : Config ValueState)
-    (symbols : List Symbol) (texts : List (List ℕ)) (more : List ℕ) → IsValid p → IsIn p s → after_text bytes p ≡ Ok q → Fills t vs u
-    → TextStands languages s u d
-    → ((t u : List LexEvent) (e : Config ValueState) → Fills t vs u → TextStands languages (node bytes s) u e
-    → IsFilled symbols texts more (node bytes s) vs t e)
+pub text-filled : (bytes : List ℕ) (p q : Place) (s : LexState ValueState) (vs : List Filling) (t : List LexEvent) (m d : Config ValueState)
+    (symbols : List Symbol) (texts : List (List ℕ)) (more : List ℕ) → IsValid p → IsIn p s → after_text bytes p ≡ Ok q
+    → TextStands languages s t m → StandsRaw vs m d
+    → ((t : List LexEvent) (m d : Config ValueState) → TextStands languages (node bytes s) t m → StandsRaw vs m d
+    → IsFilled symbols texts more (node bytes s) vs t d)
     → IsFilled (Written bytes ∷ symbols) texts (written languages bytes s ++ more) s vs t d
-text-filled bytes p q s vs t u d symbols texts more v i accepted f l rest =
+text-filled bytes p q s vs t m d symbols texts more v i accepted l f rest =
     let c = read_node languages bytes (config s t) in
-    let z = read_node languages bytes (config s u) in
-    let e = read Page (written languages bytes s) d in
+    let out = written languages bytes s in
     let own = sym (written-on-paths bytes p q s v i accepted) in
-    let here = subst (λ (w : List ℕ). StandsFor z (page languages w d)) own (keeps-shape bytes p q s u d v i accepted l).1 in
-    let r = rest c.emitted z.emitted e (fills-node vs bytes s t u f)
-    (subst (λ (a : LexState ValueState). TextStands languages a z.emitted e) (node-state bytes s u) here) in
-    let same = sym (node-state bytes s t) in
+    let here = subst (λ (w : List ℕ). StandsFor c (page languages w m)) own (keeps-shape bytes p q s t m v i accepted l).1 in
+    let same = node-state bytes s t in
+    let r = rest c.emitted (read Page out m) (read Page out d)
+    (subst (λ (a : LexState ValueState). TextStands languages a c.emitted (read Page out m)) same here) (raw-text vs out m d f) in
     record {
-      emitted = r.emitted;
-      fills = subst (λ (a : LexState ValueState). Fills (read_path languages symbols (config a c.emitted)).emitted
-          (fillings_along symbols texts (node bytes s) vs) r.emitted) same r.fills;
-      stands = subst (TextStands languages (read_path languages symbols c).at r.emitted)
-          (sym (read-append Page (written languages bytes s) more d))
-          (subst (λ (a : LexState ValueState). TextStands languages (read_path languages symbols (config a c.emitted)).at r.emitted
-          (read Page more e)) same r.stands);
+      end = r.end;
+      stands = subst (λ (a : LexState ValueState). StandsFor (read_path languages symbols (config a c.emitted)) r.end) (sym same) r.stands;
+      beside = subst (StandsRaw (fillings_along symbols texts (node bytes s) vs) r.end) (sym (read-append Page out more d)) r.beside;
     }
 
 -- the bytes of a hole before more pieces
@@ -73,24 +70,25 @@ hole-bytes true datum bytes d more p = ap (λ (z : List ℕ). z ++ page_bytes mo
 hole-bytes false datum bytes d more p = refl
 
 -- a hole
-pub hole-filled : (p q : Place) (c : Chain) (datum : Data) (s : LexState ValueState) (vs : List Filling) (t u : List LexEvent)
-    (d : Config ValueState) (symbols : List Symbol) (texts : List (List ℕ)) (more : List PagePiece)
-    → IsValid p → IsIn p s → after_hole p ≡ Ok (q, c) → IsTextBy c datum → Fills t vs u → TextStands languages s u d
-    → ((vs : List Filling) (t u : List LexEvent) (e : Config ValueState) → Fills t vs u → TextStands languages (at_hole languages s) u e
-    → IsFilled symbols texts (page_bytes more) (at_hole languages s) vs t e)
+pub hole-filled : (p q : Place) (c : Chain) (datum : Data) (s : LexState ValueState) (vs : List Filling) (t : List LexEvent)
+    (m d : Config ValueState) (symbols : List Symbol) (texts : List (List ℕ)) (more : List PagePiece)
+    → IsValid p → IsIn p s → after_hole p ≡ Ok (q, c) → IsTextBy c datum → TextStands languages s t m → StandsRaw vs m d
+    → ((vs : List Filling) (t : List LexEvent) (m d : Config ValueState) → TextStands languages (at_hole languages s) t m → StandsRaw vs m d
+    → IsFilled symbols texts (page_bytes more) (at_hole languages s) vs t d)
     → IsFilled (Hole ∷ symbols) (printed datum ∷ texts) (page_bytes (hole_pieces (placed s) datum ++ more)) s vs t d
-hole-filled p q c datum s vs t u d symbols texts more v i accepted is_text f l rest =
+hole-filled p q c datum s vs t m d symbols texts more v i accepted is_text l f rest =
     let own = chain_bytes c datum in
     let back = (is-safe p q c s v i accepted).promised datum is_text in
-    let led = hole-leads p q c s datum own v i accepted back vs t u d f l in
-    let kept = keeps-hole p q c datum own s u d v i accepted back l in
-    let r = rest (fillings_at s (printed datum) vs) (mark_in languages s t) led.emitted (read Page own d) led.fills led.stands in
+    let leads = hole-leads p q c s datum own v i accepted back in
+    let kept = keeps-hole p q c datum own s t m v i accepted back l in
+    let e = kept.2.0 in
+    let r = rest (fillings_at s (printed datum) vs) (mark_in languages s t) e (read Page own d) kept.2.2
+    (over-hole (leaves_out c) s (printed datum) own vs t m d e leads kept.1 kept.2.1 l f) in
     let bytes = ap (λ (ps : List PagePiece). page_bytes (ps ++ more)) (on-path p q c s datum v i accepted)
-    ∙ hole-bytes (leaves_out c) datum own d more kept.1 in
+    ∙ hole-bytes (leaves_out c) datum own m more kept.1 in
     let same = ap (λ (z : List ℕ). read Page z d) bytes ∙ read-append Page own (page_bytes more) d in
     record {
-      emitted = r.emitted;
-      fills = r.fills;
-      stands = subst (TextStands languages (read_path languages symbols (config (at_hole languages s) (mark_in languages s t))).at r.emitted) (sym same)
-          r.stands;
+      end = r.end;
+      stands = r.stands;
+      beside = subst (StandsRaw (fillings_along symbols texts (at_hole languages s) (fillings_at s (printed datum) vs)) r.end) (sym same) r.beside;
     }

@@ -7,7 +7,7 @@ use Rattle.page_path.proofs.HolesBack.{BackUnless, is-safe}
 use Rattle.page_path.proofs.OwnPieces.{on-path}
 use Rattle.page_datum.specs.Data.{Data}
 use Rattle.page_path.specs.Pages.{PagePiece, chain_bytes, hole_pieces, page_parts, value, words}
-use Rattle.page_path.specs.Soundness.{IsBack, ReadBack}
+use Rattle.page_path.specs.Soundness.{AreValuesBack}
 use Rattle.page_path.specs.Textual.{IsTextBy}
 use Rattle.place_core.specs.page.Classes.{class_of}
 use Rattle.place_core.specs.place.Errors.{node, states}
@@ -15,7 +15,6 @@ use Rattle.place_core.specs.page.Events.{LexEvent}
 use Rattle.place_core.specs.page.Html.{next, read, read_over, emits}
 use Rattle.place_core.specs.place.Membership.{IsIn}
 use Rattle.place_core.specs.page.Paths.{Hole, Symbol, Written, at_cut, at_hole, mark_in, read_node, read_path}
-use Rattle.place_core.specs.page.Plain.{settled_state}
 use Rattle.place_core.specs.place.Places.{IsValid}
 use Rattle.place_core.specs.page.Shape.{HolePart, ShapePart, PageReads, TextPart, marked}
 use Rattle.place_core.specs.place.StatePlaces.{placed}
@@ -26,7 +25,6 @@ use Rattle.place_core.specs.declared.place.Place.{Place}
 use Rattle.text_norm.proofs.HoleKeeps.{keeps-hole}
 use Rattle.text_norm.proofs.Keeps.{keeps-shape}
 use Rattle.text_norm.proofs.Same.{written-on-paths}
-use Rattle.text_norm.proofs.Emits.{same-state}
 use Rattle.text_norm.specs.HoleLaws.{ArePlainUnless, leaves_out, parts_unless}
 use Rattle.text_norm.specs.Standing.{TextStands, page}
 use Rattle.text_norm.specs.Written.{written}
@@ -34,7 +32,7 @@ use Rattle.text_norm.specs.Written.{written}
 -- pieces that are read to an end, and whose values read back
 pub record AreRead (pieces : List PagePiece) (d end : Config ValueState) : Type 0 where
   pub reads : PageReads (page_parts pieces) d end
-  pub back : ReadBack pieces d
+  pub back : AreValuesBack pieces d
 
 -- the page's reading stands for the path
 abbrev pub StandsFor : Config ValueState → Config ValueState → Type 0
@@ -82,11 +80,7 @@ plain-read : (left_out : Bool) (datum : Data) (bytes : List ℕ) (s : LexState V
 plain-read true datum bytes s t d e end pieces p r b l h = subst (λ (z : Config ValueState). AreRead pieces z end) r h
 plain-read false datum bytes s t d e end pieces p (inl r) b l h =
     let there = subst (λ (z : Config ValueState). AreRead pieces z end) r.1 h in
-    let at = sym (ap (λ (c : Config ValueState). c.at) (same-state s t d b.0 l)) in
-    record {
-      reads = inl (p, there.reads);
-      back = (p, subst (λ (z : LexState ValueState). IsBack (settled_state languages z) datum bytes) at b.1, there.back);
-    }
+    record { reads = inl (p, there.reads); back = (p, b t d l, there.back) }
 plain-read false datum bytes s t d e end pieces p (inr r) b l h = absurd (r.0 p)
 
 -- a hole

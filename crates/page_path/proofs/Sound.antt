@@ -31,9 +31,10 @@ use Rattle.place_infer.specs.ChartViews.{ChartData}
 use Rattle.place_infer.specs.Inferring.{EndsInText, root_numbers}
 use Rattle.place_chart.specs.Exact.{point_place, places_at, places_of}
 use Rattle.place_chart.specs.Summaries.{chart_of}
+use Rattle.text_norm.proofs.PagesFill.{in-text-filled}
 use Rattle.text_norm.proofs.PiecesKeep.{stands-at-start}
 use Rattle.text_norm.proofs.Emits.{in-text, same-state}
-use Rattle.text_norm.specs.Fillings.{Fills, FillsPath, fillings_along}
+use Rattle.text_norm.specs.Fillings.{FillsPath, fillings_along}
 use Rattle.text_norm.specs.Standing.{TextStands}
 use Rattle.text_norm.specs.StandsLaws.{holds_nothing}
 use Rattle.tpl_events.specs.Events.{Emission, ExecEvent, enters, gives_hole, gives_text, leaves}
@@ -149,11 +150,9 @@ raw-read : (symbols : List Symbol) (texts : List (List ℕ)) (bytes : List ℕ) 
     → IsFilled symbols texts bytes start.at [] start.emitted start → FillsPath symbols texts bytes
 raw-read symbols texts bytes own f =
     let c = read_path languages symbols start in
-    let same = same-state c.at f.emitted (read Page bytes start) (ap holds_nothing own) f.stands in
-    record {
-      ends = ap (λ (z : Config ValueState). z.at) same;
-      events = subst (Fills c.emitted (fillings_along symbols texts start.at [])) (sym (ap (λ (z : Config ValueState). z.emitted) same)) f.fills;
-    }
+    let is_in = subst (IsIn place.Text) (sym own) stands-at-start.0 in
+    let there = in-text-filled c f.end (read Page bytes start) (fillings_along symbols texts start.at []) is_in f.stands f.beside in
+    record { ends = there.0; events = there.1 }
 
 pub pages-are-sound : PagesAreSound
 pages-are-sound forest names chart root datum r done textual =
@@ -167,7 +166,7 @@ pages-are-sound forest names chart root datum r done textual =
     let page = events-read forest (places_of forest chart.summaries) run.events (pair root place.Text ∷ []) (root ∷ []) start.at start.emitted start
     v.found.find textual stands-at-start.1 in
     let filled = events-filled forest (places_of forest chart.summaries) run.events (pair root place.Text ∷ []) (root ∷ []) start.at []
-    start.emitted start.emitted start v.found.find textual (refl, refl) stands-at-start.1 in
+    start.emitted start start v.found.find textual stands-at-start.1 (record { at = refl; fills = (refl, refl) }) in
     let bytes = page_bytes (pieces_of forest root datum) in
     let same = sym v.found.same in
     let stands = subst (λ (z : List Symbol). StandsFor (read_path languages z start) page.end) same page.stands in

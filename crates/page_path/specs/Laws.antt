@@ -14,7 +14,7 @@ use Rattle.place_core.specs.declared.place.Place.TheVariants as place
 use Rattle.place_infer.specs.ChartViews.{ChartData}
 use Rattle.place_infer.specs.Inferring.{IsChartOfSet}
 use Rattle.place_chart.specs.Exact.{places_of}
-use Rattle.text_norm.specs.FilledReadings.{NoneInBlocks, read_filled}
+use Rattle.text_norm.specs.FilledReadings.{AreSaidByTexts, read_filled}
 use Rattle.tpl_events.specs.Events.{Emission}
 use Rattle.tpl_exec.specs.Meaning.{meaning}
 use Rattle.page_path.specs.Taken.{choices, move_sign}
@@ -47,12 +47,12 @@ SoundPagesHaveTheShapeOfTheirPath = (forest : ForestData) (root : List ℕ) (dat
     → PageReads (page_parts (pieces_of forest root datum)) start end
     → shape_of end ≡ shape_of (path_read sound.takes.path)
 
--- A page that is sound reads as its path does with the text of each value in its hole, where no hole of the path is in a data block.
+-- A page that is sound reads as its path does with the text of each value in its hole, where no hole of the path is in a data block or a URL.
 abbrev pub SoundPagesReadWithTheirTexts : Type 0
 SoundPagesReadWithTheirTexts = (forest : ForestData) (root : List ℕ) (datum : Data) (page : List ℕ)
     → (sound : IsSound forest root datum page)
     → (let symbols = path_symbols sound.takes.path in
-    NoneInBlocks symbols start.at → read Page page start ≡ read_filled symbols (texts_of (meaning forest root datum).events) start)
+    AreSaidByTexts symbols start.at → read Page page start ≡ read_filled symbols (texts_of (meaning forest root datum).events) start)
 
 -- Along events each may be given to a writer that goes by the chart, and what that writes, where these pairs are open, is what is written
 -- by the path.

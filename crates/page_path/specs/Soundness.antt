@@ -11,10 +11,10 @@ use Rattle.place_core.specs.page.Plain.{IsPlain, settled_config}
 use Rattle.place_core.specs.page.References.{Closed, undone}
 use Rattle.place_core.specs.page.Shape.{PageReads, ShapePart, marked}
 use Rattle.place_core.specs.page.States.{AfterAttributeName, AfterAttributeValue, AttributeName, AttributeValue, BeforeAttributeName, BeforeAttributeValue, Bytes, Characters, Config, InContent, Nothing, Page, SelfClosingStartTag, LexState, Text, config}
-use Rattle.place_core.specs.page.Tags.{Tag, Unquoted, ValueState, languages, attribute_value_of, without_value}
-use Rattle.san_html.specs.ReadBack.{read_value, as_name, read_as_text, as_unquoted}
+use Rattle.place_core.specs.page.Tags.{Deciding, OfKind, OfUrl, Quoting, Tag, Unquoted, Value, ValueOf, ValueState, languages, attribute_value_of, without_value}
+use Rattle.san_html.specs.ReadBack.{read_value, as_name, read_as_text}
 use Rattle.text_norm.specs.FilledReadings.{value_text}
-use Rattle.text_norm.specs.Fillings.{FillsPath}
+use Rattle.text_norm.specs.Fillings.{FillsPath, url_bytes}
 use Rattle.tpl_events.specs.Events.{Emission, ExecEvent, enters, gives_hole, gives_text, leaves}
 use Rattle.tpl_exec.specs.Meaning.{Finish, finish_of, finished, meaning, stopped}
 use Rattle.tpl_exec.specs.Runs.{End}
@@ -22,6 +22,8 @@ use Rattle.tpl_paths.specs.Edges.{Edge, calls, fills, finish_point, passes, pick
 use Rattle.tpl_paths.specs.Paths.{IsPath, Move, along, at_root, back, choices_of, reached, signs_of, open_standing}
 use Rattle.page_path.specs.Taken.{choices, signs}
 use Rattle.tpl_tree.specs.Forests.{ForestData}
+use Rattle.url_lexer.specs.Back.{ReadsBack}
+use Rattle.url_lexer.specs.States.{Url}
 
 -- what a path has for a reader: its texts, and its holes
 abbrev pub edge_symbols : Edge → List Symbol → List Symbol
@@ -38,11 +40,25 @@ path_symbols (back ∷ ms) = path_symbols ms
 
 -- A value reads back in its place. In text, title and textarea its bytes, with references undone, are the text of the value, with NUL as
 -- U+FFFD. In a data block the same, where they are undone by themselves. In a value of an attribute they go on with that text, and where
--- the value has no quotes and the text is empty, with the failsafe. In a tag they are the name of an attribute: the text in lower case, or
--- the failsafe, where data may not make that name.
+-- the value has no quotes and the text is empty, with the failsafe `ZgotmplZ`. In a URL they go on with bytes that are the text with percent triples
+-- undone, as its part says, and without quotes, where there are none, with `ZgotmplZ`. In a tag they are the name of an attribute: the text in
+-- lower case, or `ZgotmplZ`, where data may not make that name.
 abbrev pub IsNameBack : Tag → LexState ValueState → List ℕ → List ℕ → Type 0
 IsNameBack tag s text bytes =
     read Page bytes (config s []) ≡ config (AttributeName tag (as_name text)) (attribute_name_bytes (as_name text) (AttributeBegins ∷ []))
+
+pub record IsUrlBack (q : Quoting) (tag : Tag) (u : Url) (s : LexState ValueState) (text bytes : List ℕ) : Type 0 where
+  pub characters : List ℕ
+  pub goes_on : read Page bytes (config s []) ≡ read_value q tag (ValueOf (OfUrl u)) (url_bytes q characters) []
+  pub reads : ReadsBack u.part text characters
+
+-- in a value of an attribute, by how it is read
+abbrev pub IsValueBack : Quoting → Tag → Value ValueState → LexState ValueState → List ℕ → List ℕ → Type 0
+IsValueBack q tag (ValueOf (OfKind k)) s text bytes =
+    read Page bytes (config s []) ≡ read_value q tag (ValueOf (OfKind k)) (value_text q text) []
+IsValueBack q tag (ValueOf (OfUrl u)) s text bytes = IsUrlBack q tag u s text bytes
+IsValueBack q tag (Deciding k before) s text bytes =
+    read Page bytes (config s []) ≡ read_value q tag (Deciding k before) (value_text q text) []
 
 abbrev pub IsBack : LexState ValueState → Data → List ℕ → Type 0
 IsBack (Text r) datum bytes = read Page bytes (config (Text r) []) ≡ config (Text Closed) (event_text_bytes (read_as_text (printed datum)) [])
@@ -50,10 +66,9 @@ IsBack (InContent e (Characters r) Nothing) datum bytes =
     read Page bytes (config (InContent e (Characters r) Nothing) [])
     ≡ config (InContent e (Characters Closed) Nothing) (event_text_bytes (read_as_text (printed datum)) [])
 IsBack (InContent e Bytes Nothing) datum bytes = undone false Closed bytes ≡ read_as_text (printed datum)
-IsBack (AttributeValue q tag v r) datum bytes =
-    read Page bytes (config (AttributeValue q tag v r) []) ≡ read_value q tag v (value_text q (printed datum)) []
+IsBack (AttributeValue q tag v r) datum bytes = IsValueBack q tag v (AttributeValue q tag v r) (printed datum) bytes
 IsBack (BeforeAttributeValue tag k) datum bytes =
-    read Page bytes (config (BeforeAttributeValue tag k) []) ≡ read_value Unquoted tag (attribute_value_of languages k) (as_unquoted (printed datum)) []
+    IsValueBack Unquoted tag (attribute_value_of languages k) (BeforeAttributeValue tag k) (printed datum) bytes
 IsBack (BeforeAttributeName tag) datum bytes = IsNameBack tag (BeforeAttributeName tag) (printed datum) bytes
 IsBack (AfterAttributeName tag k) datum bytes = IsNameBack (without_value tag k) (AfterAttributeName tag k) (printed datum) bytes
 IsBack (AfterAttributeValue tag) datum bytes = IsNameBack tag (AfterAttributeValue tag) (printed datum) bytes
@@ -61,10 +76,10 @@ IsBack (SelfClosingStartTag tag) datum bytes = IsNameBack tag (SelfClosingStartT
 IsBack s datum bytes = ⊥
 
 -- along the pieces of a page, each value is plain in its place and reads back there
-abbrev pub ReadBack : List PagePiece → Config ValueState → Type 0
-ReadBack [] c = ⊤
-ReadBack (words bytes ∷ ps) c = ReadBack ps (read Page bytes c)
-ReadBack (value datum bytes ∷ ps) c = IsPlain bytes c × IsBack (settled_config languages c).at datum bytes × ReadBack ps (marked bytes c)
+abbrev pub AreValuesBack : List PagePiece → Config ValueState → Type 0
+AreValuesBack [] c = ⊤
+AreValuesBack (words bytes ∷ ps) c = AreValuesBack ps (read Page bytes c)
+AreValuesBack (value datum bytes ∷ ps) c = IsPlain bytes c × IsBack (settled_config languages c).at datum bytes × AreValuesBack ps (marked bytes c)
 
 -- the texts of the values that an execution gives, in order
 abbrev pub event_texts : ExecEvent → List (List ℕ) → List (List ℕ)
@@ -112,11 +127,13 @@ pub record ReadsAs (parts : List ShapePart) (path : List Move) : Type 0 where
 -- 4. Read with a mark in the place of each value, the page comes to where that path comes, so its shape is the path's own.
 -- 5. Each value is plain in its place, and reads back there.
 -- 6. The whole page, read as bytes alone, without knowing where values begin and end, comes to where the path comes, and emits what the path
---    emits, but in the place of each mark the events of that value alone.
+--    emits, but in the place of each mark the events of that value alone. And where a hole is the first of a URL, the URL's end tells a scheme that
+--    is none, `http`, `https` or `mailto`. That no percent triple lies over an edge of a value, and that only the first value of a URL ends its
+--    scheme, the fifth says.
 pub record IsSound (forest : ForestData) (root : List ℕ) (datum : Data) (page : List ℕ) : Type 0 where
   pub finished : IsDone (meaning forest root datum).end
   pub bytes : page ≡ page_bytes (pieces_of forest root datum)
   pub takes : TakesPath forest root datum
   pub reads : ReadsAs (page_parts (pieces_of forest root datum)) takes.path
-  pub values : ReadBack (pieces_of forest root datum) start
+  pub values : AreValuesBack (pieces_of forest root datum) start
   pub raw : FillsPath (path_symbols takes.path) (texts_of (meaning forest root datum).events) page

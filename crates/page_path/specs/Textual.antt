@@ -34,24 +34,24 @@ abbrev mutual
   AreEntryTexts no_entries = ⊤
   AreEntryTexts (entry key d rest) = IsUtf8 key × AreTexts d × AreEntryTexts rest
 
--- What of a datum has to be UTF-8 for its first sanitizer: the printed text for one that may write more of it than ASCII, and all texts and
--- keys for that of a script's values, which reads the datum itself.
+-- What of a datum has to be UTF-8 for its first sanitizer: the printed text for one that may write more of it than ASCII, or writes triples for its
+-- bytes, and all texts and keys for that of a script's values, which reads the datum itself.
 abbrev pub IsTextFor : San → Data → Type 0
 IsTextFor san.Html datum = IsUtf8 (printed datum)
 IsTextFor san.Attr datum = IsUtf8 (printed datum)
 IsTextFor san.AttrNospace datum = IsUtf8 (printed datum)
 IsTextFor san.AttrName datum = ⊤
 IsTextFor san.Drop datum = ⊤
--- those of scripts, styles and URLs, which no context has yet
+IsTextFor san.UrlFilter datum = IsUtf8 (printed datum)
+IsTextFor san.UrlOpen datum = IsUtf8 (printed datum)
+IsTextFor san.UrlNorm datum = IsUtf8 (printed datum)
+IsTextFor san.UrlQuery datum = IsUtf8 (printed datum)
+-- those of scripts and styles, which no context has yet
 IsTextFor san.JsValue datum = AreTexts datum
 IsTextFor san.JsString datum = IsUtf8 (printed datum)
 IsTextFor san.JsRegexp datum = IsUtf8 (printed datum)
 IsTextFor san.CssValue datum = IsUtf8 (printed datum)
 IsTextFor san.CssString datum = IsUtf8 (printed datum)
-IsTextFor san.UrlFilter datum = IsUtf8 (printed datum)
-IsTextFor san.UrlOpen datum = IsUtf8 (printed datum)
-IsTextFor san.UrlNorm datum = IsUtf8 (printed datum)
-IsTextFor san.UrlQuery datum = IsUtf8 (printed datum)
 
 -- the same of a chain: only its first sanitizer reads the datum
 abbrev pub IsTextByList : List San → Data → Type 0

@@ -20,6 +20,10 @@ printed-alike san.Attr datum b = record { same = refl; textual = λ u. u }
 printed-alike san.AttrNospace datum b = record { same = refl; textual = λ u. u }
 printed-alike san.AttrName datum b = record { same = refl; textual = λ u. tt }
 printed-alike san.Drop datum b = record { same = refl; textual = λ u. tt }
+printed-alike san.UrlFilter datum b = record { same = refl; textual = λ u. u }
+printed-alike san.UrlOpen datum b = record { same = refl; textual = λ u. u }
+printed-alike san.UrlNorm datum b = record { same = refl; textual = λ u. u }
+printed-alike san.UrlQuery datum b = record { same = refl; textual = λ u. u }
 printed-alike _ datum b = absurd b
 
 -- what is printed of a text is the text

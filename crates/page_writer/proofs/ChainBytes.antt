@@ -1,5 +1,5 @@
 -- What is written for a value is what its chain gives, and what that is by the sanitizers of the chain.
-use Rattle.std.proofs.Common.{◌≡◌, ◌≤◌, ℕ, zero, suc, List, [], ◌∷◌, append-nil, arith, length, refl, take}
+use Rattle.std.proofs.Common.{◌≡◌, ◌≤◌, ℕ, zero, suc, List, [], ◌∷◌, OnOk, Result, Ok, Err, append-nil, arith, length, refl, take}
 use Rattle.std.specs.Prelude.{if◌then◌else◌, slice_index_or}
 use Rattle.page_datum.specs.Data.{Data}
 use Rattle.page_datum.specs.Printed.{printed}
@@ -29,6 +29,7 @@ value-bytes c datum = written-bytes (sanitizers c) datum
 behind-built : (x : San) → IsBuiltBehind x → IsBuilt x
 behind-built san.Attr b = tt
 behind-built san.AttrNospace b = tt
+behind-built san.UrlNorm b = tt
 behind-built _ b = absurd b
 
 -- a chain that has neither one nor two sanitizers has three
@@ -53,3 +54,8 @@ three zero sans e p b = absurd b
 three (suc zero) sans e p b = (let le = p (omega arith) in absurd (omega (arith, le)))
 three (suc (suc zero)) sans e p b = (let le = p (omega arith) in absurd (omega (arith, le)))
 three (suc (suc (suc n))) sans e p b = three-of n sans e b
+
+-- what holds whatever the result holds where it is `Ok`
+pub on_ok : {T E : Type 0} (result : Result T E) (P : Type 0) → P → OnOk result P
+on_ok (Ok x) P p = p
+on_ok (Err e) P p = tt

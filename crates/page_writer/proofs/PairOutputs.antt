@@ -1,28 +1,33 @@
 -- What a writer gives is what the chart's pair gives, event by event.
 use Rattle.std.proofs.Common.{◌≡◌, ℕ, Bool, true, false, List, [], ◌∷◌, Option, Some, Ok, Err, refl, sym, ap, ◌∙◌, subst}
-use Rattle.std.specs.Prelude.{◌||◌}
-use Rattle.html_step.specs.Holes.{after_hole, block_hole, Holed, named_by_data, plain_hole, value_hole}
+use Rattle.std.specs.Prelude.{◌||◌, Result, if◌then◌else◌}
+use Rattle.html_step.specs.Holes.{after_hole, all_of, block_hole, both_of, Holed, last_of, named_by_data, plain_hole, url_holed, value_hole}
 use Rattle.page_datum.specs.Data.{Data}
 use Rattle.page_path.specs.ByChart.{ChartMay, PairMayEnter, MayHole, MayText, pair_pieces, text_pieces}
 use Rattle.page_path.specs.Pages.{bytes_in, hole_pieces, holed_pieces}
 use Rattle.page_path.specs.Textual.{IsTextAt, IsTextHeld, IsTextual}
 use Rattle.page_writer.proofs.OpenPairs.{AreNumbers, number_at, row_at}
 use Rattle.page_writer.specs.Outputs.{AreOutputs, by_call, by_chain, output_at, output_in}
-use Rattle.page_writer.specs.Writing.{IsBuiltChain, IsCallNode, IsGivenText, IsTextNode, IsTextOutput, IsValue, MayGive, page_open_after, output_pieces, text_output, value_output}
+use Rattle.page_writer.specs.Writing.{IsBuiltBehind, IsBuiltChain, IsCallNode, IsGivenText, IsTextNode, IsTextOutput, IsValue, MayGive, page_open_after, output_pieces, text_output, value_output}
 use Rattle.page_writer.specs.declared.output.Output.{Output}
 use Rattle.page_writer.specs.declared.output.Output.TheVariants as output
 use Rattle.place_flow.specs.Covering.{Pair, sign_pairs}
 use Rattle.place_core.specs.declared.body.Body.{Body}
 use Rattle.place_core.specs.declared.body.Body.TheVariants as body
+use Rattle.place_core.specs.declared.code.Code.{Code}
+use Rattle.place_core.specs.declared.parts.Parts.{Parts}
 use Rattle.place_core.specs.declared.place.Place.{Place}
 use Rattle.place_core.specs.declared.place.Place.TheVariants as place
 use Rattle.place_core.specs.declared.quotes.Quotes.{Quotes}
 use Rattle.place_core.specs.declared.quotes.Quotes.TheVariants as quotes
+use Rattle.place_core.specs.declared.san.San.{San}
+use Rattle.place_core.specs.declared.san.San.TheVariants as san
 use Rattle.place_core.specs.declared.tag_place.TagPlace.{TagPlace}
 use Rattle.place_core.specs.declared.value_place.ValuePlace.{ValuePlace}
 use Rattle.place_infer.specs.ChartViews.{ArePairCalls, ChartData, called_by, holed_chain, pair_at}
 use Rattle.place_chart.specs.Exact.{places_of}
 use Rattle.text_norm.specs.Scanned.{written_at}
+use Rattle.url_step.specs.PartSets.{hole_answer}
 use Rattle.tpl_events.specs.Events.{ExecEvent, enters, gives_hole, gives_text, leaves}
 use Rattle.tpl_paths.specs.Edges.{before, node_kind_at, start_in}
 use Rattle.page_path.specs.Taken.{move_sign}
@@ -44,10 +49,27 @@ plain_built quotes.Dq v = (tt, tt)
 plain_built quotes.Sq v = (tt, tt)
 plain_built (quotes.Bare b) v = (tt, tt)
 
+last_built : (q : Quotes) → IsBuiltBehind (last_of q)
+last_built quotes.Dq = tt
+last_built quotes.Sq = tt
+last_built (quotes.Bare b) = tt
+
+url_built_by : (start prequery query : Bool) (last : San) → IsBuiltBehind last
+    → IsBuiltChain (if start then all_of san.UrlFilter san.UrlNorm last else (if prequery then both_of san.UrlNorm last
+    else (if query then both_of san.UrlQuery last else both_of san.UrlOpen last)))
+url_built_by true prequery query last b = (tt, (tt, (b, tt)))
+url_built_by false true query last b = (tt, (b, tt))
+url_built_by false false true last b = (tt, (b, tt))
+url_built_by false false false last b = (tt, (b, tt))
+
+url_built : (v : ValuePlace) (parts : Parts) (o : Result Parts Code) → HasBuiltChain (url_holed v parts o)
+url_built v parts (Ok after) = url_built_by parts.start parts.prequery parts.query (last_of v.quotes) (last_built v.quotes)
+url_built v parts (Err e) = tt
+
 value_built : (b : Body) (v : ValuePlace) → HasBuiltChain (value_hole b v)
 value_built body.Plain v = plain_built v.quotes v
 value_built body.NoHole v = tt
-value_built (body.Url parts) v = tt
+value_built (body.Url parts) v = url_built v parts (hole_answer parts)
 value_built (body.Js js) v = tt
 value_built (body.Css css) v = tt
 

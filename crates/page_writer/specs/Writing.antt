@@ -26,28 +26,29 @@ abbrev pub IsTextNode : Output → Type 0
 IsTextNode (output.Text bytes) = ⊤
 IsTextNode _ = ⊥
 
--- a sanitizer that is built and may be the first of its chain. Those of scripts, styles and URLs are not built.
+-- a sanitizer that is built and may be the first of its chain. Those of scripts and styles are not built.
 abbrev pub IsBuilt : San → Type 0
 IsBuilt san.Html = ⊤
 IsBuilt san.Attr = ⊤
 IsBuilt san.AttrNospace = ⊤
 IsBuilt san.AttrName = ⊤
 IsBuilt san.Drop = ⊤
+IsBuilt san.UrlFilter = ⊤
+IsBuilt san.UrlOpen = ⊤
+IsBuilt san.UrlNorm = ⊤
+IsBuilt san.UrlQuery = ⊤
 IsBuilt san.JsValue = ⊥
 IsBuilt san.JsString = ⊥
 IsBuilt san.JsRegexp = ⊥
 IsBuilt san.CssValue = ⊥
 IsBuilt san.CssString = ⊥
-IsBuilt san.UrlFilter = ⊥
-IsBuilt san.UrlOpen = ⊥
-IsBuilt san.UrlNorm = ⊥
-IsBuilt san.UrlQuery = ⊥
 
--- A sanitizer that is built and may be behind another one, as those of values are. It writes at least as many bytes as it reads, so what is
--- kept between two sanitizers is never more than what the page gets.
+-- A sanitizer that is built and may be behind another one, as those of values are, and in a URL that which keeps what may stand there. It writes
+-- at least as many bytes as it reads, so what is kept between two sanitizers is never more than what the page gets.
 abbrev pub IsBuiltBehind : San → Type 0
 IsBuiltBehind san.Attr = ⊤
 IsBuiltBehind san.AttrNospace = ⊤
+IsBuiltBehind san.UrlNorm = ⊤
 IsBuiltBehind san.Html = ⊥
 IsBuiltBehind san.AttrName = ⊥
 IsBuiltBehind san.Drop = ⊥
@@ -58,7 +59,6 @@ IsBuiltBehind san.CssValue = ⊥
 IsBuiltBehind san.CssString = ⊥
 IsBuiltBehind san.UrlFilter = ⊥
 IsBuiltBehind san.UrlOpen = ⊥
-IsBuiltBehind san.UrlNorm = ⊥
 IsBuiltBehind san.UrlQuery = ⊥
 
 abbrev pub AreBuiltBehind : List San → Type 0

@@ -8,10 +8,11 @@ use page_datum::{DatumRef, print_datum};
 use page_io::Memory;
 use place_core::{Chain, San};
 use san_html::{push_attr_name, push_attr_nospace, push_html};
+use san_url::{push_url_norm, push_url_open, push_url_query, url_filter};
 use std::alloc::Global;
 
 /// What a chain keeps of a value between two of its sanitizers: one text that a sanitizer reads, and one to which it writes. They are
-/// cleared and used again for the next value, and have no bytes while each chain is one sanitizer.
+/// cleared and used again for the next value, and have no bytes where no chain has two.
 #[derive(Drop)]
 pub struct ChainBuffer {
     first: String,
@@ -100,14 +101,11 @@ fn push_sanitized(out: &mut String, san: San, text: &str) -> Result<(), Memory>
         San::AttrNospace => push_attr_nospace(out, text),
         San::AttrName => push_attr_name(out, text),
         San::Drop => Ok(()),
-        San::JsValue
-        | San::JsString
-        | San::JsRegexp
-        | San::CssValue
-        | San::CssString
-        | San::UrlFilter
-        | San::UrlOpen
-        | San::UrlNorm
-        | San::UrlQuery => unreachable!(),
+        San::UrlFilter => Ok(out.push_str(url_filter(text))?),
+        San::UrlOpen => push_url_open(out, text),
+        San::UrlNorm => push_url_norm(out, text),
+        San::UrlQuery => push_url_query(out, text),
+        San::JsValue | San::JsString | San::JsRegexp | San::CssValue | San::CssString =>
+            unreachable!(),
     }
 }

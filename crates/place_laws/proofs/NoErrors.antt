@@ -1,11 +1,12 @@
 -- On the paths of a set that has a chart no error stands.
 use Rattle.std.proofs.Common.{◌≡◌, ℕ, List, [], ◌∷◌, All, Some, None, Result, Ok, Err, refl, sym, ap, ◌∙◌, subst, Bool, true, false, if◌then◌else◌}
 use Rattle.std.specs.Prelude.{Contains}
+use Rattle.html_step.specs.Holes.{Holed, after_hole}
 use Rattle.html_step.specs.Steps.{after_text}
 use Rattle.place_flow.specs.Covering.{IsClosedByName, IsCovered, IsStack, Pair, pair, pairs_along, read_moves}
-use Rattle.place_flow.specs.HtmlCovering.{behind_text, html_language}
+use Rattle.place_flow.specs.HtmlCovering.{behind_hole, behind_text, html_language}
 use Rattle.place_core.proofs.Joins.{the_join_least}
-use Rattle.place_core.specs.place.Errors.{Clashes}
+use Rattle.place_core.specs.place.Errors.{Clashes, ClashesHole}
 use Rattle.place_core.specs.place.Membership.{IsIn}
 use Rattle.place_core.specs.place.Places.{Below, IsValid, joined}
 use Rattle.place_core.specs.place.StatePlaces.{placed}
@@ -35,6 +36,7 @@ use Rattle.tpl_paths.specs.Paths.{IsPath, Move, Open, Standing, reached, signs_o
 use Rattle.tpl_tree.specs.Forests.{ForestData, number_named}
 use Rattle.html_step.proofs.MetApart.{met-apart}
 use Rattle.html_step.proofs.AcceptedTexts.{accepts-text}
+use Rattle.html_step.proofs.HoleOrder.{accepts-hole}
 use Rattle.html_step.specs.Apart.{ClashesApart}
 use Rattle.place_chart.proofs.ConflictFreeCharts.{root-is-chart}
 use Rattle.place_laws.proofs.TwoPaths.{IsShownApart, shown-along}
@@ -67,9 +69,15 @@ text-alone : (bytes : List ℕ) (p : Place) (s r : LexState ValueState) (o : Res
 text-alone bytes p s r (Ok q) e taken v i j c at clash = (accepts-text bytes p q s v e i).1 r c at j clash
 text-alone bytes p s r (Err x) e taken v i j c at clash = absurd taken
 
+-- nor does a hole
+hole-alone : (p : Place) (s r : LexState ValueState) (o : Holed) → after_hole p ≡ o → IsTaken (reaches_or_refused (behind_hole o)) → IsValid p → IsIn p s → IsIn p r
+    → (c : Code) → ClashesHole s r c → ⊥
+hole-alone p s r (Ok h) e taken v i j c clash = (accepts-hole p h.0 h.1 s c v e i).1 r j clash
+hole-alone p s r (Err x) e taken v i j c clash = absurd taken
+
 no-clash : (forest : ForestData) (e : Edge) (p : Place) (s r : LexState ValueState) → IsTaken (edge_step forest e p) → IsValid p → IsIn p s → IsIn p r → EdgeClashes e s r → ⊥
 no-clash forest (writes n bytes to) p s r taken v i j h = text-alone bytes p s r (after_text bytes p) refl taken v i j h.0 h.1 h.2
-no-clash forest (fills n pipe to) p s r taken v i j h = h.1
+no-clash forest (fills n pipe to) p s r taken v i j h = hole-alone p s r (after_hole p) refl taken v i j h.0 h.1
 no-clash forest (calls n name to) p s r taken v i j h = h
 no-clash forest (picks from choice to) p s r taken v i j h = h
 no-clash forest (passes from to) p s r taken v i j h = h

@@ -7,7 +7,7 @@ use Rattle.place_trace.specs.Replays.{IsPathReplay}
 use Rattle.place_trace.specs.declared.replay.ReplayedCall.{ReplayedCall}
 use Rattle.place_trace.specs.declared.replay.PathReplay.{PathReplay}
 use Rattle.place_show.proofs.Makings.{shows-one}
-use Rattle.place_show.specs.Ends.{is_text_place, last_of}
+use Rattle.place_show.specs.Ends.{is_text_place, last_node_of}
 use Rattle.place_show.specs.Made.{IsMadeOne}
 use Rattle.place_show.specs.Showings.{IsEndElsewhere, ShowsOne, template_end}
 use Rattle.place_show.specs.declared.showing.Showing.{Showing}
@@ -22,7 +22,7 @@ none-open [] h = refl
 none-open (o ∷ calls) h = absurd (omega (arith, h))
 
 pub end-shown : (forest : ForestData) (w : PathReplay) (sh : Showing) → w.template ≡ w.root → w.open_calls.items ≡ [] → w.point ≡ finish_point → w.place ≢ place.Text
-    → IsMadeOne forest w code.EndContext (template_end (tree_at forest w.root)) (last_of (tree_at forest w.root)) 0 w.place sh → IsPathReplay forest w → ShowsOne forest sh
+    → IsMadeOne forest w code.EndContext (template_end (tree_at forest w.root)) (last_node_of (tree_at forest w.root)) 0 w.place sh → IsPathReplay forest w → ShowsOne forest sh
 end-shown forest w sh root closed point elsewhere m is =
     let error : IsEndElsewhere forest sh m.seen w = record {
       code = m.made.code;
@@ -35,4 +35,4 @@ end-shown forest w sh root closed point elsewhere m is =
       last = m.made.node_is;
       byte = m.made.byte_is;
     } in
-    shows-one forest w code.EndContext (template_end (tree_at forest w.root)) (last_of (tree_at forest w.root)) 0 w.place sh m is (inr (inr (inr (inr error))))
+    shows-one forest w code.EndContext (template_end (tree_at forest w.root)) (last_node_of (tree_at forest w.root)) 0 w.place sh m is (inr (inr (inr (inr error))))

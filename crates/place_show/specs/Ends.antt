@@ -24,6 +24,6 @@ last_on nodes none None = none
 last_on nodes none (Some n) = last_node_from none n (nodes_from nodes n)
 
 -- likewise, of a template
-abbrev pub last_of : Option TreeData → ℕ
-last_of None = 0
-last_of (Some tree) = last_number tree.nodes
+abbrev pub last_node_of : Option TreeData → ℕ
+last_node_of None = 0
+last_node_of (Some tree) = last_number tree.nodes

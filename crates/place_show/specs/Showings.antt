@@ -17,7 +17,7 @@ use Rattle.place_flow.specs.Transfer.{may_use, use_at}
 use Rattle.place_trace.specs.Replays.{IsPathReplay, name_or_none}
 use Rattle.place_trace.specs.declared.chosen.Chosen.{Chosen}
 use Rattle.place_trace.specs.declared.replay.PathReplay.{PathReplay}
-use Rattle.place_show.specs.Ends.{last_of}
+use Rattle.place_show.specs.Ends.{last_node_of}
 use Rattle.place_show.specs.LastApart.{AreShownIn, IsLastAlong}
 use Rattle.place_show.specs.PathTexts.{ComesFirst}
 use Rattle.place_show.specs.declared.showing.Seen.{Seen}
@@ -127,7 +127,7 @@ pub record IsEndElsewhere (forest : ForestData) (sh : Showing) (seen : Seen) (w 
   pub at : seen.at ≡ w.place
   pub elsewhere : w.place ≢ place.Text
   pub line : sh.line ≡ template_end (tree_at forest w.root)
-  pub last : sh.node ≡ last_of (tree_at forest w.root)
+  pub last : sh.node ≡ last_node_of (tree_at forest w.root)
   pub byte : sh.byte ≡ 0
 
 abbrev pub OneError : ForestData → Showing → Seen → PathReplay → LexState ValueState → Type 0
@@ -157,8 +157,7 @@ pub record TextClashes (forest : ForestData) (sh : Showing) (a b : Seen) (w v : 
   pub places : AreShownIn sh.byte bytes s r a.at b.at
   pub line : sh.line ≡ line_of_byte forest w.template sh.node bytes sh.byte
 
--- A hole is refused on both together, each of which is at its place. No hole is today: it is one in a URL, of which the paths are in
--- different parts.
+-- A hole is refused on both together, each of which is at its place: it is in a URL, and the paths are in different parts of it.
 pub record HoleClashes (forest : ForestData) (sh : Showing) (a b : Seen) (w v : PathReplay)
     (s r : LexState ValueState) : Type 0 where
   pub pipe : Pipe

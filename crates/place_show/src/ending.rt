@@ -1,7 +1,7 @@
 ghost use Rattle.std.specs.Prelude.{◌≡◌};
 ghost use Rattle.place_core.specs.declared.code.Code.TheVariants as code;
 ghost use Rattle.place_show.specs.Answers.{IfFound, ShowsOn};
-ghost use Rattle.place_show.specs.Ends.{is_text_place, last_number, last_of};
+ghost use Rattle.place_show.specs.Ends.{is_text_place, last_number, last_node_of};
 ghost use Rattle.place_show.specs.Made.{IsMadeOne};
 ghost use Rattle.place_show.specs.Showings.{template_end};
 ghost use Rattle.tpl_tree.specs.Forests.{tree_at};
@@ -47,7 +47,7 @@ fn is_text(place: Place) -> bool
 fn ended(alloc: Global, forest: &Forest, replay: &PathReplay) -> Result<Option<Showing>, Memory>
     ensures { let w = replay.now in
         let root = tree_at forest.now w.root in
-        let is_made = IsMadeOne forest.now w code.EndContext (template_end root) (last_of root) 0 in
+        let is_made = IsMadeOne forest.now w code.EndContext (template_end root) (last_node_of root) 0 in
         IfFound (is_made w.place) result }
 {
     if replay.root as usize >= forest.count() {

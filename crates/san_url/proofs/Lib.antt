@@ -1,4 +1,5 @@
 mod Fronts
 mod Opening
-mod Parts
+pub mod Parts
 mod Runs
+pub mod WrittenAscii

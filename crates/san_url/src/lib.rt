@@ -2,6 +2,7 @@
 #![tactic(auto)]
 
 mod filter;
+mod kept;
 mod norm;
 mod open;
 mod query;

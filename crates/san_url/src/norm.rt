@@ -1,14 +1,17 @@
-ghost use Rattle.std.specs.Prelude.{◌≡◌, ◌<◌, ◌++◌, ◌||◌, IfOk, OnOk, IsTrue, string_bytes};
+ghost use Rattle.std.specs.Prelude.{◌≡◌, ◌<◌, ◌≤◌, ◌++◌, IfOk, OnOk, length, string_bytes};
 ghost use Rattle.san_url.specs.Back.{IsBackInPart};
+ghost use Rattle.san_url.specs.Runs.{IsWrittenBetween};
+ghost use Rattle.san_url.specs.Stays.{unkept_written};
 ghost use Rattle.url_lexer.specs.Kept as kept;
 ghost use Rattle.url_lexer.specs.Parts.{UrlPrequery};
 ghost use Rattle.url_lexer.specs.Sanitizers as spec;
 
-use crate::run::push_run;
+use crate::kept::kept_in_url;
+use crate::run::push_kept;
 use crate::triple::push_triple;
 use page_io::{Memory, Text};
 use std::alloc::Global;
-use url_lexer::{is_kept, written_is_plain, written_reads_back};
+use url_lexer::{written_is_plain, written_reads_back};
 
 /// What is written for a text in a URL where no scheme can end any more, before `?` and `#`: what may stand in a URL
 /// is kept, percent triples too, and every other byte is a percent triple. There it is plain, whatever the text, and
@@ -28,25 +31,41 @@ pub fn url_norm(alloc: Global, text: &str) -> Result<Text, Memory>
 pub fn push_url_norm(out: &mut String, text: &str) -> Result<(), Memory>
     ensures { OnOk result (string_bytes out.new ≡ string_bytes out.old ++ spec.url_norm text.now) }
 {
-    let bytes = text.as_bytes();
-    let mut start = 0;
-    for (at, byte) in bytes.iter().enumerate() {
-        if stays(*byte, &bytes[at + 1..]) {
-            continue;
-        }
-        push_run(out, text, start, at)?;
-        push_triple(out, *byte)?;
-        start = at + 1;
+    let mut at = 0;
+    while at < text.len() {
+        at = push_norm_from(out, text, at)?;
     }
-    push_run(out, text, start, bytes.len())
+    Ok(())
 }
 
-/// Whether a byte before these is kept, or begins a percent triple.
-pub(crate) fn stays(byte: u8, behind: &[u8]) -> bool
-    ensures value { result ≡ (kept.is_kept_in_url byte || kept.begins_triple byte behind.now) }
-    ensures ascii { IsTrue result → byte < 128 }
+// Appends the run of bytes that are kept from a place on, and what is written for the byte behind it, if there is one. Gives
+// the place of the rest.
+fn push_norm_from(out: &mut String, text: &str, at: usize) -> Result<usize, Memory>
+    requires inside { at < length text.now }
+    ensures written { IfOk result (λ rest. IsWrittenBetween spec.url_norm text.now at rest
+        (string_bytes out.old) (string_bytes out.new)) }
+    ensures later { IfOk result (λ rest. at < rest) }
+    ensures within { IfOk result (λ rest. rest ≤ length text.now) }
 {
-    is_kept(byte) || byte == b'%' && begins_with_digits(behind)
+    let bytes = text.as_bytes();
+    let end = push_kept(out, kept_in_url(), text, at)?;
+    if end == bytes.len() {
+        return Ok(end);
+    }
+    push_unkept(out, bytes[end], &bytes[end + 1..])?;
+    Ok(end + 1)
+}
+
+/// Appends what is written for a byte before these that stays nowhere by itself: `%` where it begins a percent triple, else its triple.
+pub(crate) fn push_unkept(out: &mut String, byte: u8, behind: &[u8]) -> Result<(), Memory>
+    ensures { OnOk result (string_bytes out.new
+        ≡ string_bytes out.old ++ unkept_written byte behind.now) }
+{
+    if byte == b'%' && begins_with_digits(behind) {
+        out.push('%')?;
+        return Ok(());
+    }
+    push_triple(out, byte)
 }
 
 fn begins_with_digits(bytes: &[u8]) -> bool

@@ -1,14 +1,15 @@
-ghost use Rattle.std.specs.Prelude.{◌≡◌, ◌<◌, ◌++◌, IfOk, OnOk, IsTrue, string_bytes};
+ghost use Rattle.std.specs.Prelude.{◌≡◌, ◌<◌, ◌≤◌, ◌++◌, IfOk, OnOk, length, string_bytes};
 ghost use Rattle.san_url.specs.Back.{IsBackInPart};
-ghost use Rattle.url_lexer.specs.Kept as kept;
+ghost use Rattle.san_url.specs.Runs.{IsWrittenBetween};
 ghost use Rattle.url_lexer.specs.Parts.{UrlQuery};
 ghost use Rattle.url_lexer.specs.Sanitizers as spec;
 
-use crate::run::push_run;
+use crate::kept::unreserved;
+use crate::run::push_kept;
 use crate::triple::push_triple;
 use page_io::{Memory, Text};
 use std::alloc::Global;
-use url_lexer::{is_unreserved, written_is_plain, written_reads_back};
+use url_lexer::{written_is_plain, written_reads_back};
 
 /// What is written for a text in the query or the fragment of a URL: unreserved bytes alone are kept, and every other
 /// byte is a percent triple, `%` too. There it is plain, whatever the text, and with its triples undone it is the
@@ -29,23 +30,27 @@ pub fn push_url_query(out: &mut String, text: &str) -> Result<(), Memory>
     ensures { OnOk result (string_bytes out.new
         ≡ string_bytes out.old ++ spec.url_query text.now) }
 {
-    let bytes = text.as_bytes();
-    let mut start = 0;
-    for (at, byte) in bytes.iter().enumerate() {
-        if stays(*byte) {
-            continue;
-        }
-        push_run(out, text, start, at)?;
-        push_triple(out, *byte)?;
-        start = at + 1;
+    let mut at = 0;
+    while at < text.len() {
+        at = push_query_from(out, text, at)?;
     }
-    push_run(out, text, start, bytes.len())
+    Ok(())
 }
 
-// Whether a byte is kept.
-fn stays(byte: u8) -> bool
-    ensures value { result ≡ kept.is_unreserved byte }
-    ensures ascii { IsTrue result → byte < 128 }
+// Appends the run of unreserved bytes from a place on, and the percent triple of the byte behind it, if there is one. Gives the
+// place of the rest.
+fn push_query_from(out: &mut String, text: &str, at: usize) -> Result<usize, Memory>
+    requires inside { at < length text.now }
+    ensures written { IfOk result (λ rest. IsWrittenBetween spec.url_query text.now at rest
+        (string_bytes out.old) (string_bytes out.new)) }
+    ensures later { IfOk result (λ rest. at < rest) }
+    ensures within { IfOk result (λ rest. rest ≤ length text.now) }
 {
-    is_unreserved(byte)
+    let bytes = text.as_bytes();
+    let end = push_kept(out, unreserved(), text, at)?;
+    if end == bytes.len() {
+        return Ok(end);
+    }
+    push_triple(out, bytes[end])?;
+    Ok(end + 1)
 }

@@ -1,30 +1,35 @@
--- Two emitted lists in a relation that each event other than a mark keeps stay in it while the same bytes are read from the same state.
-use Rattle.std.proofs.Common.{◌≡◌, ℕ, Bool, true, false, codes, List, [], ◌∷◌, ◌++◌, refl, subst, sym}
+-- Two emitted lists in a relation that each event of HTML keeps stay in it while the same bytes are read from states that are the same, but for
+-- those of a value's language, which brings what it emits.
+use Rattle.std.proofs.Common.{ℕ, Bool, true, false, codes, List, [], ◌∷◌, ◌++◌, subst, sym}
 use Rattle.std.specs.Char.{to_ascii_lowercase}
 use Rattle.place_core.specs.page.Classes.{Class, White, ExclamationMark, QuotationMark, Apostrophe, HyphenMinus, Solidus, LessThan, EqualsSign, GreaterThan, QuestionMark, Letter, class_of}
 use Rattle.place_core.specs.page.Comments.{Declaration, OpensComment, OpensDoctype, Undecided, OpensNothing, declared_by, emits_doctype}
 use Rattle.place_core.specs.page.Contents.{content_bytes, pending_bytes, emits_content_cut, is_name_of, may_be_name_of, emits_bang, emits_bang_dash, emits_closed, emits_content, emits_end_name, emits_in_content, emits_less, emits_loose}
-use Rattle.place_core.specs.page.Events.{LexEvent, AttributeBegins, AttributeNameByte, AttributeNameEnds, BlockByte, Comment, DoctypeBegins, DoctypeByte, DoctypeEnds, EndTagBegins, Escape, Mark, StartTagBegins, TagEnds, TagNameByte, TextByte, UnreadByte, ValueByte, block_bytes, doctype_bytes, tag_name_bytes, event_text_bytes}
-use Rattle.place_core.specs.page.Html.{ends_value, next, read_over, emits, emits_after_name, emits_after_value, emits_before_name, emits_before_value, emits_bogus, emits_comment, emits_declaration, emits_end_tag_open, emits_name, emits_self_closing, emits_tag_name, emits_tag_open, emits_text, emits_value, emits_whole_name}
+use Rattle.place_core.specs.page.Events.{LexEvent, AttributeBegins, AttributeNameByte, AttributeNameEnds, BlockByte, Comment, DoctypeBegins, DoctypeByte, DoctypeEnds, EndTagBegins, Escape, Mark, StartTagBegins, TagEnds, TagNameByte, TextByte, UnreadByte, ValueByte, ValueScheme, block_bytes, doctype_bytes, tag_name_bytes, event_text_bytes}
+use Rattle.place_core.specs.page.Html.{byte_over, ends_value, read_over, emits, emits_after_name, emits_after_value, emits_before_name, emits_before_value, emits_bogus, emits_comment, emits_declaration, emits_end_tag_open, emits_name, emits_self_closing, emits_tag_name, emits_tag_open, emits_text, emits_value, emits_whole_name}
 use Rattle.place_core.specs.page.Paths.{read_node, emits_cut}
 use Rattle.place_core.specs.page.References.{Reference, Closed, as_it_stands, settled, undone_byte}
-use Rattle.place_core.specs.page.States.{AfterAttributeName, AfterAttributeValue, AttributeName, AttributeValue, BeforeAttributeName, BeforeAttributeValue, BogusComment, Bytes, Characters, Content, DeclarationOpen, EndTagOpen, Pending, PendingBang, PendingBangDash, PendingLess, LessAtCut, PendingName, InComment, InContent, InDoctype, Nothing, Page, LexMode, SelfClosingStartTag, LexState, TagName, TagOpen, Template, Text, Unread, WholeAttributeName, WholeTagName, config}
-use Rattle.place_core.specs.page.Tags.{ValueLanguage, Quoting, Unquoted, Deciding, Value, ValueOf, element_on, emitted_byte, emitted_bytes, emitted_end, attribute_value_of, with_byte, with_bytes}
+use Rattle.place_core.specs.page.States.{AfterAttributeName, AfterAttributeValue, AttributeName, AttributeValue, BeforeAttributeName, BeforeAttributeValue, BogusComment, Bytes, Characters, Content, DeclarationOpen, EndTagOpen, Pending, PendingBang, PendingBangDash, PendingLess, LessAtCut, PendingName, InComment, InContent, InDoctype, Nothing, Page, LexMode, SelfClosingStartTag, LexState, TagName, TagOpen, Template, Text, Unread, WholeAttributeName, WholeTagName, Config}
+use Rattle.place_core.specs.page.Tags.{ValueLanguage, Quoting, Unquoted, Deciding, ValueOf, element_on, emitted_bytes, emitted_end, attribute_value_of, with_bytes}
 use Rattle.place_core.specs.page.Words.{kind_of}
 use Rattle.place_core.specs.declared.element.Element.{Element}
 use Rattle.place_core.specs.declared.kind.Kind.{Kind}
+use Rattle.place_core.specs.declared.kind.Kind.TheVariants as kind
+use Rattle.text_norm.proofs.StatesBeside.{IsFedAlike, IsOutside, StandBeside, cut-beside, next-beside}
 
--- an event that is no mark
-abbrev pub IsNoMark : LexEvent → Type 0
-IsNoMark Mark = ⊥
-IsNoMark _ = Unit {0}
+-- an event that HTML emits by itself: neither a mark nor what the end of a value tells
+abbrev pub IsOwn : LexEvent → Type 0
+IsOwn Mark = ⊥
+IsOwn (ValueScheme s) = ⊥
+IsOwn _ = Unit {0}
 
 -- what a language brings: what it emits of a byte, and at a value's end, keeps the relation
-pub record EmitsAlike (B : Type 0) (x : ValueLanguage B) (F : List LexEvent → List LexEvent → Type 0) : Type 0 where
-  pub emits : (v : B) (b : ℕ) (t u : List LexEvent) → F t u → F (x.emits v b t) (x.emits v b u)
-  pub ends : (v : B) (t u : List LexEvent) → F t u → F (x.ends v t) (x.ends v u)
+pub record EmitsAlike (B : Type 0) (x : ValueLanguage B) (Related : B → B → Type 0) (F : List LexEvent → List LexEvent → Type 0) : Type 0 where
+  pub fed : IsFedAlike B x Related
+  pub emits : (v w : B) (b : ℕ) (t u : List LexEvent) → Related v w → F t u → F (x.emits v b t) (x.emits w b u)
+  pub ends : (v w : B) (t u : List LexEvent) → Related v w → F t u → F (x.ends v t) (x.ends w u)
 
-module _ (F : List LexEvent → List LexEvent → Type 0) (keep : (e : LexEvent) (t u : List LexEvent) → IsNoMark e → F t u → F (e ∷ t) (e ∷ u)) where
+module _ (F : List LexEvent → List LexEvent → Type 0) (keep : (e : LexEvent) (t u : List LexEvent) → IsOwn e → F t u → F (e ∷ t) (e ∷ u)) where
   texts : (bs : List ℕ) (t u : List LexEvent) → F t u → F (event_text_bytes bs t) (event_text_bytes bs u)
   texts [] t u f = f
   texts (b ∷ bs) t u f = texts bs (TextByte b ∷ t) (TextByte b ∷ u) (keep (TextByte b) t u tt f)
@@ -52,7 +57,7 @@ module _ (F : List LexEvent → List LexEvent → Type 0) (keep : (e : LexEvent)
   in-bogus Template pending c b t u f = in-text c b Closed (event_text_bytes pending t) (event_text_bytes pending u) (texts pending t u f)
 
   -- a byte of a name behind what begins one
-  named : (e g : LexEvent) (t u : List LexEvent) → IsNoMark e → IsNoMark g → F t u → F (e ∷ g ∷ t) (e ∷ g ∷ u)
+  named : (e g : LexEvent) (t u : List LexEvent) → IsOwn e → IsOwn g → F t u → F (e ∷ g ∷ t) (e ∷ g ∷ u)
   named e g t u p q f = keep e (g ∷ t) (g ∷ u) p (keep g t u q f)
 
   in-tag-open : (m : LexMode) (c : Class) (b : ℕ) (r : Reference) (t u : List LexEvent) → F t u → F (emits_tag_open m c b r t) (emits_tag_open m c b r u)
@@ -170,77 +175,126 @@ module _ (F : List LexEvent → List LexEvent → Type 0) (keep : (e : LexEvent)
   cut-content Bytes LessAtCut t u f = f
   cut-content Bytes h t u f = blocks (pending_bytes h) t u f
 
-  module _ (B : Type 0) (x : ValueLanguage B) (own : EmitsAlike B x F) where
-    emitted-byte : (v : Value B) (b : ℕ) (t u : List LexEvent) → F t u → F (emitted_byte x v b t) (emitted_byte x v b u)
-    emitted-byte (ValueOf v) b t u f = own.emits v b t u f
-    emitted-byte (Deciding k before) b t u f = keep (ValueByte b) t u tt f
+  module _ (B : Type 0) (x : ValueLanguage B) (Related : B → B → Type 0) (own : EmitsAlike B x Related F) where
+    -- the bytes of a value, and its end
+    pub emitted-bytes : (bs : List ℕ) (v w : B) (t u : List LexEvent) → Related v w → F t u → F (emitted_bytes x (ValueOf v) bs t) (emitted_bytes x (ValueOf w) bs u)
+    emitted-bytes [] v w t u a f = f
+    emitted-bytes (b ∷ bs) v w t u a f = emitted-bytes bs (x.feed v b) (x.feed w b) (x.emits v b t) (x.emits w b u) (own.fed.feeds v w b a) (own.emits v w b t u a f)
 
-    pub emitted-bytes : (bs : List ℕ) (v : Value B) (t u : List LexEvent) → F t u → F (emitted_bytes x v bs t) (emitted_bytes x v bs u)
-    emitted-bytes [] v t u f = f
-    emitted-bytes (b ∷ bs) v t u f = emitted-bytes bs (with_byte x v b) (emitted_byte x v b t) (emitted_byte x v b u) (emitted-byte v b t u f)
+    emitted-end : (bs : List ℕ) (v w : B) (t u : List LexEvent) → Related v w → F t u
+        → F (emitted_end x (with_bytes x (ValueOf v) bs) t) (emitted_end x (with_bytes x (ValueOf w) bs) u)
+    emitted-end [] v w t u a f = own.ends v w t u a f
+    emitted-end (b ∷ bs) v w t u a f = emitted-end bs (x.feed v b) (x.feed w b) t u (own.fed.feeds v w b a) f
 
-    emitted-end : (v : Value B) (t u : List LexEvent) → F t u → F (emitted_end x v t) (emitted_end x v u)
-    emitted-end (ValueOf v) t u f = own.ends v t u f
-    emitted-end (Deciding k before) t u f = f
+    type-bytes : (bs : List ℕ) (k : Kind) (before : List ℕ) (t u : List LexEvent) → F t u → F (emitted_bytes x (Deciding k before) bs t) (emitted_bytes x (Deciding k before) bs u)
+    type-bytes [] k before t u f = f
+    type-bytes (b ∷ bs) k before t u f = type-bytes bs k (before ++ b ∷ []) (ValueByte b ∷ t) (ValueByte b ∷ u) (keep (ValueByte b) t u tt f)
 
-    in-value : (ends : Bool) (q : Quoting) (c : Class) (b : ℕ) (v : Value B) (r : Reference) (t u : List LexEvent) → F t u
-        → F (emits_value x ends q c b v r t) (emits_value x ends q c b v r u)
-    in-value true q c b v r t u f =
-        after-value q c b _ _ (emitted-end (with_bytes x v (settled true r)) _ _ (emitted-bytes (settled true r) v t u f))
-    in-value false q c b v r t u f = emitted-bytes (undone_byte true r c b) v t u f
+    type-end : (bs : List ℕ) (k : Kind) (before : List ℕ) (t u : List LexEvent) → F t u
+        → F (emitted_end x (with_bytes x (Deciding k before) bs) t) (emitted_end x (with_bytes x (Deciding k before) bs) u)
+    type-end [] k before t u f = f
+    type-end (b ∷ bs) k before t u f = type-end bs k (before ++ b ∷ []) t u f
+
+    in-value : (ends : Bool) (q : Quoting) (c : Class) (b : ℕ) (v w : B) (r : Reference) (t u : List LexEvent) → Related v w → F t u
+        → F (emits_value x ends q c b (ValueOf v) r t) (emits_value x ends q c b (ValueOf w) r u)
+    in-value true q c b v w r t u a f =
+        let bs = settled true r in
+        after-value q c b _ _ (emitted-end bs v w _ _ a (emitted-bytes bs v w t u a f))
+    in-value false q c b v w r t u a f = emitted-bytes (undone_byte true r c b) v w t u a f
+
+    in-type : (ends : Bool) (q : Quoting) (c : Class) (b : ℕ) (k : Kind) (before : List ℕ) (r : Reference) (t u : List LexEvent) → F t u
+        → F (emits_value x ends q c b (Deciding k before) r t) (emits_value x ends q c b (Deciding k before) r u)
+    in-type true q c b k before r t u f =
+        let bs = settled true r in
+        after-value q c b _ _ (type-end bs k before _ _ (type-bytes bs k before t u f))
+    in-type false q c b k before r t u f = type-bytes (undone_byte true r c b) k before t u f
+
+    -- a value that begins
+    begun-end : (k : Kind) (t u : List LexEvent) → F t u → F (emitted_end x (attribute_value_of x k) t) (emitted_end x (attribute_value_of x k) u)
+    begun-end kind.ScriptType t u f = f
+    begun-end kind.Plain t u f = own.ends _ _ t u (own.fed.starts kind.Plain) f
+    begun-end kind.NoHole t u f = own.ends _ _ t u (own.fed.starts kind.NoHole) f
+    begun-end kind.Url t u f = own.ends _ _ t u (own.fed.starts kind.Url) f
+    begun-end kind.Script t u f = own.ends _ _ t u (own.fed.starts kind.Script) f
+    begun-end kind.Style t u f = own.ends _ _ t u (own.fed.starts kind.Style) f
+
+    first-byte : (c : Class) (b : ℕ) (k : Kind) (t u : List LexEvent) → F t u
+        → F (emits_value x false Unquoted c b (attribute_value_of x k) Closed t) (emits_value x false Unquoted c b (attribute_value_of x k) Closed u)
+    first-byte c b kind.ScriptType t u f = in-type false Unquoted c b kind.ScriptType [] Closed t u f
+    first-byte c b kind.Plain t u f = in-value false Unquoted c b _ _ Closed t u (own.fed.starts kind.Plain) f
+    first-byte c b kind.NoHole t u f = in-value false Unquoted c b _ _ Closed t u (own.fed.starts kind.NoHole) f
+    first-byte c b kind.Url t u f = in-value false Unquoted c b _ _ Closed t u (own.fed.starts kind.Url) f
+    first-byte c b kind.Script t u f = in-value false Unquoted c b _ _ Closed t u (own.fed.starts kind.Script) f
+    first-byte c b kind.Style t u f = in-value false Unquoted c b _ _ Closed t u (own.fed.starts kind.Style) f
 
     before-value : (c : Class) (b : ℕ) (k : Kind) (t u : List LexEvent) → F t u → F (emits_before_value x c b k t) (emits_before_value x c b k u)
     before-value White b k t u f = f
     before-value QuotationMark b k t u f = f
     before-value Apostrophe b k t u f = f
-    before-value GreaterThan b k t u f = keep (TagEnds false) _ _ tt (emitted-end (attribute_value_of x k) t u f)
-    before-value c b k t u f = in-value false Unquoted c b (attribute_value_of x k) Closed t u f
+    before-value GreaterThan b k t u f = keep (TagEnds false) _ _ tt (begun-end k t u f)
+    before-value c b k t u f = first-byte c b k t u f
 
-    -- a byte in each state
-    pub emits-alike : (m : LexMode) (s : LexState B) (c : Class) (b : ℕ) (t u : List LexEvent) → F t u → F (emits x m s c b t) (emits x m s c b u)
-    emits-alike m (Text r) c b t u f = in-text c b r t u f
-    emits-alike m (TagOpen r) c b t u f = in-tag-open m c b r t u f
-    emits-alike m (EndTagOpen r) c b t u f = in-end-tag-open m c b r t u f
-    emits-alike m (DeclarationOpen r pending) c b t u f = in-declaration (declared_by (pending ++ b ∷ [])) m c b r pending t u f
-    emits-alike m (InComment s) c b t u f = f
-    emits-alike m BogusComment c b t u f = f
-    emits-alike m InDoctype c b t u f = in-doctype c b t u f
-    emits-alike m (TagName ends name) c b t u f = in-tag-name c b t u f
-    emits-alike m (WholeTagName tag) c b t u f = before-name c b t u f
-    emits-alike m (BeforeAttributeName tag) c b t u f = before-name c b t u f
-    emits-alike m (AttributeName tag name) c b t u f = in-name c b (kind_of (element_on tag.tag) name) t u f
-    emits-alike m (WholeAttributeName tag k) c b t u f = whole-name c b k t u f
-    emits-alike m (AfterAttributeName tag k) c b t u f = after-name c b t u f
-    emits-alike m (BeforeAttributeValue tag k) c b t u f = before-value c b k t u f
-    emits-alike m (AttributeValue q tag v r) c b t u f = in-value (ends_value q c) q c b v r t u f
-    emits-alike m (AfterAttributeValue tag) c b t u f = before-name c b t u f
-    emits-alike m (SelfClosingStartTag tag) c b t u f = self-closing c b t u f
-    emits-alike m (InContent e y h) c b t u f = in-content h c b e y t u f
-    emits-alike m Unread c b t u f = keep (UnreadByte b) t u tt f
+    -- a byte in each state that is in no value of a language
+    self-emits : (m : LexMode) (s : LexState B) (c : Class) (b : ℕ) (t u : List LexEvent) → IsOutside s → F t u → F (emits x m s c b t) (emits x m s c b u)
+    self-emits m (Text r) c b t u o f = in-text c b r t u f
+    self-emits m (TagOpen r) c b t u o f = in-tag-open m c b r t u f
+    self-emits m (EndTagOpen r) c b t u o f = in-end-tag-open m c b r t u f
+    self-emits m (DeclarationOpen r pending) c b t u o f = in-declaration (declared_by (pending ++ b ∷ [])) m c b r pending t u f
+    self-emits m (InComment s) c b t u o f = f
+    self-emits m BogusComment c b t u o f = f
+    self-emits m InDoctype c b t u o f = in-doctype c b t u f
+    self-emits m (TagName ends name) c b t u o f = in-tag-name c b t u f
+    self-emits m (WholeTagName tag) c b t u o f = before-name c b t u f
+    self-emits m (BeforeAttributeName tag) c b t u o f = before-name c b t u f
+    self-emits m (AttributeName tag name) c b t u o f = in-name c b (kind_of (element_on tag.tag) name) t u f
+    self-emits m (WholeAttributeName tag k) c b t u o f = whole-name c b k t u f
+    self-emits m (AfterAttributeName tag k) c b t u o f = after-name c b t u f
+    self-emits m (BeforeAttributeValue tag k) c b t u o f = before-value c b k t u f
+    self-emits m (AttributeValue q tag (ValueOf v) r) c b t u o f = absurd o
+    self-emits m (AttributeValue q tag (Deciding k before) r) c b t u o f = in-type (ends_value q c) q c b k before r t u f
+    self-emits m (AfterAttributeValue tag) c b t u o f = before-name c b t u f
+    self-emits m (SelfClosingStartTag tag) c b t u o f = self-closing c b t u f
+    self-emits m (InContent e y h) c b t u o f = in-content h c b e y t u f
+    self-emits m Unread c b t u o f = keep (UnreadByte b) t u tt f
 
-    -- a node's end in each state
-    pub cut-alike : (s : LexState B) (t u : List LexEvent) → F t u → F (emits_cut x s t) (emits_cut x s u)
-    cut-alike (Text r) t u f = texts (as_it_stands r) t u f
-    cut-alike (TagOpen r) t u f = texts (codes "<") _ _ (texts (settled false r) t u f)
-    cut-alike (EndTagOpen r) t u f = texts (codes "</") _ _ (texts (settled false r) t u f)
-    cut-alike (DeclarationOpen r pending) t u f = texts (codes "<!" ++ pending) _ _ (texts (settled false r) t u f)
-    cut-alike (AttributeValue q tag v r) t u f = emitted-bytes (as_it_stands r) v t u f
-    cut-alike (InContent e y h) t u f = cut-content y h t u f
-    cut-alike _ t u f = f
+    -- a byte, from one beside the other
+    pub emits-alike : (m : LexMode) (s z : LexState B) (c : Class) (b : ℕ) (t u : List LexEvent) → StandBeside Related s z → F t u
+        → F (emits x m s c b t) (emits x m z c b u)
+    emits-alike m (AttributeValue q tag (ValueOf v) r) z c b t u a f =
+        subst (λ (y : LexState B). F (emits x m (AttributeValue q tag (ValueOf v) r) c b t) (emits x m y c b u)) (sym a.1)
+        (in-value (ends_value q c) q c b v a.0 r t u a.2 f)
+    emits-alike m s z c b t u a f = subst (λ (y : LexState B). F (emits x m s c b t) (emits x m y c b u)) (sym a) (self-emits m s c b t u tt f)
 
-    over-alike : (m : LexMode) (bytes : List ℕ) (s : LexState B) (t u : List LexEvent) → F t u
-        → ((read_over x m bytes (config s u)).at ≡ (read_over x m bytes (config s t)).at)
-        × F (read_over x m bytes (config s t)).emitted (read_over x m bytes (config s u)).emitted
-    over-alike m [] s t u f = (refl, f)
-    over-alike m (b ∷ bs) s t u f =
-        let c = class_of b in
-        over-alike m bs (next x m s c b) (emits x m s c b t) (emits x m s c b u) (emits-alike m s c b t u f)
+    -- a node's end
+    self-cut : (s : LexState B) (t u : List LexEvent) → IsOutside s → F t u → F (emits_cut x s t) (emits_cut x s u)
+    self-cut (Text r) t u o f = texts (as_it_stands r) t u f
+    self-cut (TagOpen r) t u o f = texts (codes "<") _ _ (texts (settled false r) t u f)
+    self-cut (EndTagOpen r) t u o f = texts (codes "</") _ _ (texts (settled false r) t u f)
+    self-cut (DeclarationOpen r pending) t u o f = texts (codes "<!" ++ pending) _ _ (texts (settled false r) t u f)
+    self-cut (AttributeValue q tag (ValueOf v) r) t u o f = absurd o
+    self-cut (AttributeValue q tag (Deciding k before) r) t u o f = type-bytes (as_it_stands r) k before t u f
+    self-cut (InContent e y h) t u o f = cut-content y h t u f
+    self-cut _ t u o f = f
+
+    pub cut-alike : (s z : LexState B) (t u : List LexEvent) → StandBeside Related s z → F t u → F (emits_cut x s t) (emits_cut x z u)
+    cut-alike (AttributeValue q tag (ValueOf v) r) z t u a f =
+        subst (λ (y : LexState B). F (emits_cut x (AttributeValue q tag (ValueOf v) r) t) (emits_cut x y u)) (sym a.1)
+        (emitted-bytes (as_it_stands r) v a.0 t u a.2 f)
+    cut-alike s z t u a f = subst (λ (y : LexState B). F (emits_cut x s t) (emits_cut x y u)) (sym a) (self-cut s t u tt f)
+
+    -- bytes that both read
+    pub over-alike : (m : LexMode) (bytes : List ℕ) (c d : Config B) → StandBeside Related c.at d.at → F c.emitted d.emitted
+        → StandBeside Related (read_over x m bytes c).at (read_over x m bytes d).at × F (read_over x m bytes c).emitted (read_over x m bytes d).emitted
+    over-alike m [] c d a f = (a, f)
+    over-alike m (b ∷ bs) c d a f =
+        over-alike m bs (byte_over x m b c) (byte_over x m b d) (next-beside B x Related own.fed m c.at d.at (class_of b) b a)
+        (emits-alike m c.at d.at (class_of b) b c.emitted d.emitted a f)
 
     -- the text of a node
-    pub node-alike : (bytes : List ℕ) (s : LexState B) (t u : List LexEvent) → F t u
-        → F (read_node x bytes (config s t)).emitted (read_node x bytes (config s u)).emitted
-    node-alike bytes s t u f =
-        let o = over-alike Template bytes s t u f in
-        let c = read_over x Template bytes (config s t) in
-        let d = read_over x Template bytes (config s u) in
-        subst (λ (z : LexState B). F (emits_cut x c.at c.emitted) (emits_cut x z d.emitted)) (sym o.0) (cut-alike c.at c.emitted d.emitted o.1)
+    pub node-alike : (bytes : List ℕ) (c d : Config B) → StandBeside Related c.at d.at → F c.emitted d.emitted
+        → StandBeside Related (read_node x bytes c).at (read_node x bytes d).at × F (read_node x bytes c).emitted (read_node x bytes d).emitted
+    node-alike bytes c d a f =
+        let o = over-alike Template bytes c d a f in
+        let y = read_over x Template bytes c in
+        let z = read_over x Template bytes d in
+        (cut-beside B x Related own.fed y.at z.at o.0, cut-alike y.at z.at y.emitted z.emitted o.0 o.1)

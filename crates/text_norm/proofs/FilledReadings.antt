@@ -1,24 +1,29 @@
 -- A page fills its path with texts where it reads as the path with these texts does.
-use Rattle.std.proofs.Common.{◌≡◌, ◌≤◌, ◌+◌, ℕ, suc, List, [], ◌∷◌, ◌++◌, ◌⊎◌, inl, inr, length, arith, refl, sym, ap, ap₂, ◌∙◌, subst}
-use Rattle.place_core.specs.page.Events.{AttributeBegins, LexEvent, Mark, attribute_name_bytes, event_text_bytes, value_bytes}
+use Rattle.std.proofs.Common.{◌≡◌, ◌≤◌, ◌+◌, ℕ, suc, Bool, List, [], ◌∷◌, ◌++◌, ◌⊎◌, inl, inr, length, arith, refl, sym, ap, ap₂, ◌∙◌, subst}
+use Rattle.place_core.specs.page.Events.{AttributeBegins, LexEvent, Mark, ValueScheme, attribute_name_bytes, event_text_bytes, value_bytes}
 use Rattle.place_core.specs.page.Html.{read, start}
 use Rattle.place_core.specs.page.Paths.{Hole, Symbol, Written, at_hole, mark_in, read_node, read_path}
 use Rattle.place_core.specs.page.References.{Closed, Open, Reference}
 use Rattle.place_core.specs.page.States.{AfterAttributeName, AfterAttributeValue, AttributeValue, BeforeAttributeName, BeforeAttributeValue, Bytes, Characters, Config, Content, InContent, LexState, Nothing, Page, Pending, SelfClosingStartTag, Text, config}
-use Rattle.place_core.specs.page.Tags.{DoubleQuoted, Quoting, SingleQuoted, Tag, Deciding, Unquoted, Value, ValueOf, ValueState, OfKind, OfUrl, languages, with_bytes}
+use Rattle.place_core.specs.page.Tags.{DoubleQuoted, Quoting, SingleQuoted, Tag, Deciding, Unquoted, Value, ValueOf, ValueState, OfKind, OfUrl, attribute_value_of, emitted_settled, ends_state, holed_value, languages, with_bytes}
 use Rattle.place_core.specs.place.Errors.{node}
 use Rattle.place_core.specs.declared.element.Element.{Element}
 use Rattle.place_core.specs.declared.kind.Kind.{Kind}
 use Rattle.place_core.specs.declared.kind.Kind.TheVariants as kind
 use Rattle.san_html.proofs.EscapedText.{same-kind, value-told}
 use Rattle.san_html.specs.ReadBack.{as_name, as_unquoted, in_value, read_as_text}
-use Rattle.text_norm.proofs.FilledMarks.{fills-keep, fills-mark, fills-node, name-run, text-run, value-run, node-state}
-use Rattle.text_norm.specs.FilledReadings.{FilledPathsAreReadings, HolesTake, IsNoBlock, NoneInBlocks, ReadingsAreFilledPaths, TakesContent, TakesHole, TakesValue, holes_filled, holes_in, read_filled}
-use Rattle.text_norm.specs.Fillings.{BlockSite, Filling, Fills, FitsAt, MarkSite, NameSite, QuotedSite, TextSite, UnquotedSite, filling, fillings_along, fillings_at}
+use Rattle.text_norm.proofs.EmittedAlike.{EmitsAlike, IsOwn, node-alike}
+use Rattle.text_norm.proofs.FilledMarks.{RawBeside, fills-keep, fills-mark, name-run, text-run, value-run, node-state, raw-fed, raw-node}
+use Rattle.text_norm.proofs.StatesBeside.{StandBeside}
+use Rattle.text_norm.specs.FilledReadings.{FilledPathsAreReadings, HolesTake, IsSaidByText, IsSaidInValue, AreSaidByTexts, ReadingsAreFilledPaths, TakesContent, TakesHole, TakesValue, holes_filled, holes_in, read_filled}
+use Rattle.text_norm.specs.Fillings.{BlockSite, Filling, Fills, FitsAt, MarkSite, NameSite, QuotedSite, TextSite, UnquotedSite, UrlSite, filling, fillings_along, fillings_at}
+use Rattle.url_lexer.specs.Events.{Free, Named, NoScheme, ToldScheme, scheme_at_end, told_scheme}
+use Rattle.url_lexer.specs.Schemes.{UrlScheme, SchemeAhead, SchemeSoFar, SchemeIs, SchemeAbsent, SchemeUnknown}
 
 -- Where a mark has one run, what the path emits and its fillings determine what the page emits.
 abbrev pub IsOneRun : MarkSite → Type 0
 IsOneRun BlockSite = ⊥
+IsOneRun (UrlSite q part) = ⊥
 IsOneRun _ = Unit {0}
 
 abbrev pub HaveOneRun : List Filling → Type 0
@@ -35,24 +40,90 @@ rest_of (w ∷ ws) = ws
 
 one-run : (site : MarkSite) (text : List ℕ) (r q : List LexEvent) → IsOneRun site → FitsAt site text r → FitsAt site text q → r ≡ q
 one-run BlockSite text r q n f g = absurd n
+one-run (UrlSite s part) text r q n f g = absurd n
 one-run TextSite text r q n f g = f ∙ sym g
 one-run QuotedSite text r q n f g = f ∙ sym g
 one-run UnquotedSite text r q n f g = f ∙ sym g
 one-run NameSite text r q n f g = f ∙ sym g
 
-pub fills-one : (t : List LexEvent) (vs : List Filling) (u w : List LexEvent) → HaveOneRun vs → Fills t vs u → Fills t vs w → u ≡ w
-fills-one [] vs u w h f g = f.1 ∙ sym g.1
-fills-one (Mark ∷ t) vs u w h f g =
+-- no scheme is one that data chooses
+abbrev pub AreSure : List LexEvent → Type 0
+AreSure [] = Unit {0}
+AreSure (ValueScheme Free ∷ t) = ⊥
+AreSure (e ∷ t) = AreSure t
+
+scheme-one : (s r q : ToldScheme) (a b : LexEvent) → r ≡ s → q ≡ s → a ≡ ValueScheme r → b ≡ ValueScheme q → a ≡ b
+scheme-one s r q a b e h k l = k ∙ ap ValueScheme (e ∙ sym h) ∙ sym l
+
+pub fills-one : (t : List LexEvent) (vs : List Filling) (u w : List LexEvent) → HaveOneRun vs → AreSure t → Fills t vs u → Fills t vs w → u ≡ w
+fills-one [] vs u w h n f g = f.1 ∙ sym g.1
+fills-one (Mark ∷ t) vs u w h n f g =
     let same = sym f.4 ∙ g.4 in
     let value : f.0 ≡ g.0 = ap (head_or f.0) same in
     let values : f.1 ≡ g.1 = ap rest_of same in
     let own : HaveOneRun (f.0 ∷ f.1) = subst HaveOneRun f.4 h in
     let also : FitsAt f.0.site f.0.text g.2 = subst (λ (v : Filling). FitsAt v.site v.text g.2) (sym value) g.6 in
     let run : f.2 ≡ g.2 = one-run f.0.site f.0.text f.2 g.2 own.0 f.6 also in
-    let rest : f.3 ≡ g.3 = fills-one t f.1 f.3 g.3 own.1 f.7 (subst (λ (z : List Filling). Fills t z g.3) (sym values) g.7) in
+    let rest : f.3 ≡ g.3 = fills-one t f.1 f.3 g.3 own.1 n f.7 (subst (λ (z : List Filling). Fills t z g.3) (sym values) g.7) in
     f.5 ∙ ap₂ (λ (a b : List LexEvent). a ++ b) run rest ∙ sym g.5
-fills-one (e ∷ t) vs u w h f g =
-    f.2 ∙ ap₂ (λ (a : LexEvent) (b : List LexEvent). a ∷ b) (f.3 ∙ sym g.3) (fills-one t vs f.1 g.1 h f.4 g.4) ∙ sym g.2
+fills-one (ValueScheme Free ∷ t) vs u w h n f g = absurd n
+fills-one (ValueScheme (Named letters) ∷ t) vs u w h n f g =
+    f.2 ∙ ap₂ (λ (a : LexEvent) (b : List LexEvent). a ∷ b) (scheme-one (Named letters) f.3.0 g.3.0 f.0 g.0 f.3.2 g.3.2 f.3.1 g.3.1) (fills-one t vs f.1 g.1 h n f.4 g.4) ∙ sym g.2
+fills-one (ValueScheme NoScheme ∷ t) vs u w h n f g =
+    f.2 ∙ ap₂ (λ (a : LexEvent) (b : List LexEvent). a ∷ b) (scheme-one NoScheme f.3.0 g.3.0 f.0 g.0 f.3.2 g.3.2 f.3.1 g.3.1) (fills-one t vs f.1 g.1 h n f.4 g.4) ∙ sym g.2
+fills-one (e ∷ t) vs u w h n f g =
+    f.2 ∙ ap₂ (λ (a : LexEvent) (b : List LexEvent). a ∷ b) (f.3 ∙ sym g.3) (fills-one t vs f.1 g.1 h n f.4 g.4) ∙ sym g.2
+
+-- A path without holes in URLs is sure of each scheme: in its values no hole has made one free.
+abbrev pub IsSure : LexState ValueState → Type 0
+IsSure s = StandBeside RawBeside s s
+
+keeps-sure : (e : LexEvent) (t u : List LexEvent) → IsOwn e → AreSure u → AreSure (e ∷ u)
+keeps-sure (ValueScheme s) t u o f = absurd o
+keeps-sure Mark t u o f = absurd o
+keeps-sure _ t u o f = f
+
+sure-scheme : (s : UrlScheme) (t : List LexEvent) → AreSure t → AreSure (ValueScheme (scheme_at_end s) ∷ t)
+sure-scheme SchemeAhead t f = f
+sure-scheme (SchemeSoFar letters) t f = f
+sure-scheme (SchemeIs letters) t f = f
+sure-scheme SchemeAbsent t f = f
+sure-scheme SchemeUnknown t f = f
+
+sure-ends : (v w : ValueState) (t u : List LexEvent) → RawBeside v w → AreSure u → AreSure (ends_state w u)
+sure-ends (OfKind k) w t u a f = subst (λ (z : ValueState). AreSure (ends_state z u)) (sym a) f
+sure-ends (OfUrl z) (OfUrl w) t u a f = subst (λ (b : Bool). AreSure (ValueScheme (told_scheme b w.scheme) ∷ u)) (sym a.bound) (sure-scheme w.scheme u f)
+sure-ends (OfUrl z) (OfKind k) t u a f = absurd a
+
+sure-emits : EmitsAlike ValueState languages RawBeside (λ t u. AreSure u)
+sure-emits = record { fed = raw-fed; emits = λ v w b t u a f. f; ends = sure-ends }
+
+sure-node : (bytes : List ℕ) (c : Config ValueState) → IsSure c.at → AreSure c.emitted → AreSure (read_node languages bytes c).emitted
+sure-node bytes c a f = (node-alike (λ t u. AreSure u) keeps-sure ValueState languages RawBeside sure-emits bytes c c a f).1
+
+sure-settled : (v : Value ValueState) (t : List LexEvent) → AreSure t → AreSure (emitted_settled languages v t)
+sure-settled (ValueOf v) t f = f
+sure-settled (Deciding k before) t f = f
+
+sure-mark : (s : LexState ValueState) (t : List LexEvent) → AreSure t → AreSure (mark_in languages s t)
+sure-mark (Text r) t f = f
+sure-mark (BeforeAttributeName tag) t f = f
+sure-mark (AfterAttributeName tag k) t f = f
+sure-mark (BeforeAttributeValue tag k) t f = sure-settled (attribute_value_of languages k) t f
+sure-mark (AttributeValue q tag v r) t f = sure-settled v t f
+sure-mark (AfterAttributeValue tag) t f = f
+sure-mark (SelfClosingStartTag tag) t f = f
+sure-mark (InContent e y h) t f = f
+sure-mark _ t f = f
+
+sure-value-hole : (v : Value ValueState) (r : Reference) (q : Quoting) (tag : Tag) → TakesValue v r → IsSure (AttributeValue q tag (holed_value languages v) r)
+sure-value-hole (ValueOf (OfKind k)) Closed q tag h = (OfKind k, refl, refl)
+sure-value-hole _ _ q tag h = absurd h
+
+sure-hole : (s : LexState ValueState) → TakesHole s → IsSure s → IsSure (at_hole languages s)
+sure-hole (AttributeValue q tag v r) h a = sure-value-hole v r q tag h
+sure-hole (BeforeAttributeValue tag k) h a = sure-value-hole (attribute_value_of languages k) Closed Unquoted tag h
+sure-hole _ h a = refl
 
 -- a hole with its text in the place of its mark
 record IsFilledHole (s : LexState ValueState) (text : List ℕ) (vs : List Filling) (t u : List LexEvent) : Type 0 where
@@ -130,22 +201,26 @@ hole-filled (AfterAttributeValue tag) text vs t u h f = record { at = refl; fill
 hole-filled (SelfClosingStartTag tag) text vs t u h f = record { at = refl; fills = name-fills text vs t u f }
 hole-filled _ text vs t u h f = record { at = refl; fills = f }
 
--- the path with texts fills the path with marks, and is in its state
+-- the path with texts fills the path with marks, is in its state, and is sure of its schemes
 record IsFilledReading (symbols : List Symbol) (texts : List (List ℕ)) (s : LexState ValueState) (vs : List Filling) (t u : List LexEvent)
     : Type 0 where
   at : (read_filled symbols texts (config s u)).at ≡ (read_path languages symbols (config s t)).at
   fills : Fills (read_path languages symbols (config s t)).emitted (fillings_along symbols texts s vs)
       (read_filled symbols texts (config s u)).emitted
+  sure : AreSure (read_path languages symbols (config s t)).emitted
 
 reading-fills : (symbols : List Symbol) (texts : List (List ℕ)) (s : LexState ValueState) (vs : List Filling) (t u : List LexEvent)
-    → HolesTake symbols texts s → Fills t vs u → IsFilledReading symbols texts s vs t u
-reading-fills [] texts s vs t u h f = record { at = refl; fills = f }
-reading-fills (Written bytes ∷ symbols) texts s vs t u h f =
+    → HolesTake symbols texts s → IsSure s → AreSure t → Fills t vs u → IsFilledReading symbols texts s vs t u
+reading-fills [] texts s vs t u h a n f = record { at = refl; fills = f; sure = n }
+reading-fills (Written bytes ∷ symbols) texts s vs t u h a n f =
     let c = read_node languages bytes (config s t) in
     let d = read_node languages bytes (config s u) in
-    let r = reading-fills symbols texts (node bytes s) vs c.emitted d.emitted h (fills-node vs bytes s t u f) in
     let p = sym (node-state bytes s t) in
     let q = sym (node-state bytes s u) in
+    let k = raw-node vs bytes (config s t) (config s u) (record { at = a; fills = f }) in
+    let there = subst (λ (z : LexState ValueState). StandBeside RawBeside z (node bytes s)) (node-state bytes s t)
+    (subst (StandBeside RawBeside c.at) (node-state bytes s u) k.at) in
+    let r = reading-fills symbols texts (node bytes s) vs c.emitted d.emitted h there (sure-node bytes (config s t) a n) k.fills in
     record {
       at = subst (λ (z : LexState ValueState). (read_filled symbols texts (config z d.emitted)).at ≡ (read_path languages symbols c).at) q
           (subst (λ (z : LexState ValueState). (read_filled symbols texts (config (node bytes s) d.emitted)).at
@@ -154,23 +229,25 @@ reading-fills (Written bytes ∷ symbols) texts s vs t u h f =
           (read_filled symbols texts (config z d.emitted)).emitted) q
           (subst (λ (z : LexState ValueState). Fills (read_path languages symbols (config z c.emitted)).emitted
           (fillings_along symbols texts (node bytes s) vs) (read_filled symbols texts (config (node bytes s) d.emitted)).emitted) p r.fills);
+      sure = subst (λ (z : LexState ValueState). AreSure (read_path languages symbols (config z c.emitted)).emitted) p r.sure;
     }
-reading-fills (Hole ∷ symbols) [] s vs t u h f = absurd h
-reading-fills (Hole ∷ symbols) (text ∷ texts) s vs t u h f =
+reading-fills (Hole ∷ symbols) [] s vs t u h a n f = absurd h
+reading-fills (Hole ∷ symbols) (text ∷ texts) s vs t u h a n f =
     let b = hole-filled s text vs t u h.0 f in
     let emitted = (holes_filled s text u).emitted in
-    let r = reading-fills symbols texts (at_hole languages s) (fillings_at s text vs) (mark_in languages s t) emitted h.1 b.fills in
+    let r = reading-fills symbols texts (at_hole languages s) (fillings_at s text vs) (mark_in languages s t) emitted h.1 (sure-hole s h.0 a) (sure-mark s t n) b.fills in
     let own = sym b.at in
     let marked = read_path languages symbols (config (at_hole languages s) (mark_in languages s t)) in
     record {
       at = subst (λ (z : LexState ValueState). (read_filled symbols texts (config z emitted)).at ≡ marked.at) own r.at;
       fills = subst (λ (z : LexState ValueState). Fills marked.emitted (fillings_along symbols texts (at_hole languages s) (fillings_at s text vs))
           (read_filled symbols texts (config z emitted)).emitted) own r.fills;
+      sure = r.sure;
     }
 
 pub readings-are-filled-paths : ReadingsAreFilledPaths
 readings-are-filled-paths symbols texts page h e =
-    let r = reading-fills symbols texts start.at [] [] [] h (refl, refl) in
+    let r = reading-fills symbols texts start.at [] [] [] h refl tt (refl, refl) in
     let path = read_path languages symbols start in
     record {
       ends = ap (λ (c : Config ValueState). c.at) e ∙ r.at;
@@ -227,25 +304,28 @@ fills-count [] vs u f = ap length f.0
 fills-count (Mark ∷ t) vs u f = ap length f.4 ∙ ap suc (fills-count t f.1 f.3 f.7)
 fills-count (e ∷ t) vs u f = fills-count t vs f.1 f.4
 
-record IsFilledSomehow (t : List LexEvent) : Type 0 where
-  by : List Filling
-  page : List LexEvent
-  fills : Fills t by page
+keeps-marks : (n : ℕ) (e : LexEvent) (t u : List LexEvent) → IsOwn e → marks t ≡ n → marks (e ∷ t) ≡ n
+keeps-marks n Mark t u o f = absurd o
+keeps-marks n _ t u o f = f
 
-somehow : (t : List LexEvent) → IsFilledSomehow t
-somehow [] = record { by = []; page = []; fills = (refl, refl) }
-somehow (Mark ∷ t) =
-    let a = somehow t in
-    record { by = filling TextSite [] ∷ a.by; page = a.page; fills = fills-mark (filling TextSite []) a.by [] t a.page refl a.fills }
-somehow (e ∷ t) =
-    let a = somehow t in
-    record { by = a.by; page = e ∷ a.page; fills = fills-keep a.by e t a.page tt a.fills }
+same-marks : (v : ValueState) (t : List LexEvent) → marks (ends_state v t) ≡ marks t
+same-marks (OfKind k) t = refl
+same-marks (OfUrl u) t = refl
+
+marks-emits : (n : ℕ) → EmitsAlike ValueState languages (λ v w. Unit {0}) (λ t u. marks t ≡ n)
+marks-emits n = record {
+  fed = record { starts = λ k. tt; feeds = λ v w b a. tt; cuts = λ v w a. tt };
+  emits = λ v w b t u a f. f;
+  ends = λ v w t u a f. same-marks v t ∙ f;
+}
+
+beside-itself : (s : LexState ValueState) → StandBeside (λ v w. Unit {0}) s s
+beside-itself (AttributeValue q tag (ValueOf v) r) = (v, refl, tt)
+beside-itself _ = refl
 
 node-marks : (bytes : List ℕ) (s : LexState ValueState) (t : List LexEvent) → marks (read_node languages bytes (config s t)).emitted ≡ marks t
 node-marks bytes s t =
-    let a = somehow t in
-    sym (fills-count (read_node languages bytes (config s t)).emitted a.by _ (fills-node a.by bytes s t a.page a.fills))
-    ∙ fills-count t a.by a.page a.fills
+    (node-alike (λ a b. marks a ≡ marks t) (keeps-marks (marks t)) ValueState languages (λ v w. Unit {0}) (marks-emits (marks t)) bytes (config s t) (config s t) (beside-itself s) refl).1
 
 -- either that holds and the numbers are the same, or the first one is less
 abbrev Counted : Type 0 → ℕ → ℕ → Type 0
@@ -260,34 +340,34 @@ no-filling m l = omega arith
 no-mark : (m l : ℕ) → l + m ≡ m + l
 no-mark m l = omega arith
 
-content-count : (y : Content) (p : Pending) (e : Element) (text : List ℕ) (vs : List Filling) (t : List LexEvent) → IsNoBlock (InContent e y p)
+content-count : (y : Content) (p : Pending) (e : Element) (text : List ℕ) (vs : List Filling) (t : List LexEvent) → IsSaidByText (InContent e y p)
     → Counted (TakesContent y p) (length (fillings_at (InContent e y p) text vs) + marks t) (marks (mark_in languages (InContent e y p) t) + length vs)
 content-count Bytes p e text vs t n = absurd n
 content-count (Characters r) Nothing e text vs t n = inl (tt, one-mark (marks t) (length vs))
 content-count (Characters r) _ e text vs t n = inr (no-filling (marks t) (length vs))
 
 attribute-count : (v : Value ValueState) (r : Reference) (q : Quoting) (tag : Tag) (text : List ℕ) (vs : List Filling) (t : List LexEvent)
-    → Counted (TakesValue v r) (length (fillings_at (AttributeValue q tag v r) text vs) + marks t)
+    → IsSaidInValue v → Counted (TakesValue v r) (length (fillings_at (AttributeValue q tag v r) text vs) + marks t)
     (marks (mark_in languages (AttributeValue q tag v r) t) + length vs)
-attribute-count (ValueOf (OfKind k)) Closed q tag text vs t = inl (tt, one-mark (marks t) (length vs))
-attribute-count (ValueOf (OfUrl u)) Closed q tag text vs t = inr (no-filling (marks t) (length vs))
-attribute-count (ValueOf v) (Open f h) q tag text vs t = inr (no-filling (marks t) (length vs))
-attribute-count (Deciding k before) Closed q tag text vs t = inr (no-filling (marks t) (length vs))
-attribute-count (Deciding k before) (Open f h) q tag text vs t = inr (no-filling (marks t) (length vs))
+attribute-count (ValueOf (OfKind k)) Closed q tag text vs t n = inl (tt, one-mark (marks t) (length vs))
+attribute-count (ValueOf (OfUrl u)) r q tag text vs t n = absurd n
+attribute-count (ValueOf (OfKind k)) (Open f h) q tag text vs t n = inr (no-filling (marks t) (length vs))
+attribute-count (Deciding k before) Closed q tag text vs t n = inr (no-filling (marks t) (length vs))
+attribute-count (Deciding k before) (Open f h) q tag text vs t n = inr (no-filling (marks t) (length vs))
 
-before-count : (k : Kind) (tag : Tag) (text : List ℕ) (vs : List Filling) (t : List LexEvent)
+before-count : (k : Kind) (tag : Tag) (text : List ℕ) (vs : List Filling) (t : List LexEvent) → IsSaidByText (BeforeAttributeValue tag k)
     → Counted (TakesHole (BeforeAttributeValue tag k)) (length (fillings_at (BeforeAttributeValue tag k) text vs) + marks t)
     (marks (mark_in languages (BeforeAttributeValue tag k) t) + length vs)
-before-count kind.ScriptType tag text vs t = inr (no-filling (marks t) (length vs))
-before-count kind.Url tag text vs t = inr (no-filling (marks t) (length vs))
-before-count k tag text vs t = inl (tt, one-mark (marks t) (length vs))
+before-count kind.ScriptType tag text vs t n = inr (no-filling (marks t) (length vs))
+before-count kind.Url tag text vs t n = absurd n
+before-count k tag text vs t n = inl (tt, one-mark (marks t) (length vs))
 
-hole-count : (s : LexState ValueState) (text : List ℕ) (vs : List Filling) (t : List LexEvent) → IsNoBlock s
+hole-count : (s : LexState ValueState) (text : List ℕ) (vs : List Filling) (t : List LexEvent) → IsSaidByText s
     → Counted (TakesHole s) (length (fillings_at s text vs) + marks t) (marks (mark_in languages s t) + length vs)
 hole-count (Text r) text vs t n = inl (tt, one-mark (marks t) (length vs))
 hole-count (InContent e y p) text vs t n = content-count y p e text vs t n
-hole-count (AttributeValue q tag v r) text vs t n = attribute-count v r q tag text vs t
-hole-count (BeforeAttributeValue tag k) text vs t n = before-count k tag text vs t
+hole-count (AttributeValue q tag v r) text vs t n = attribute-count v r q tag text vs t n
+hole-count (BeforeAttributeValue tag k) text vs t n = before-count k tag text vs t n
 hole-count (BeforeAttributeName tag) text vs t n = inl (tt, one-mark (marks t) (length vs))
 hole-count (AfterAttributeName tag k) text vs t n = inl (tt, one-mark (marks t) (length vs))
 hole-count (AfterAttributeValue tag) text vs t n = inl (tt, one-mark (marks t) (length vs))
@@ -307,7 +387,7 @@ suc-one : (n m : ℕ) → suc n ≡ suc m → n ≡ m
 suc-one n m e = omega (arith, e)
 
 path-count : (symbols : List Symbol) (texts : List (List ℕ)) (s : LexState ValueState) (vs : List Filling) (t : List LexEvent)
-    → holes_in symbols ≡ length texts → NoneInBlocks symbols s
+    → holes_in symbols ≡ length texts → AreSaidByTexts symbols s
     → Counted (HolesTake symbols texts s) (length (fillings_along symbols texts s vs) + marks t)
     (marks (read_path languages symbols (config s t)).emitted + length vs)
 path-count [] texts s vs t e n = inl (tt, no-mark (marks t) (length vs))
@@ -337,6 +417,6 @@ filled-paths-are-readings symbols texts page enough none f =
     let count = fills-count path.emitted along (read Page page start).emitted f.events in
     let h = of-count (HolesTake symbols texts start.at) (length along) (marks path.emitted) count
     (path-count symbols texts start.at [] [] enough none) in
-    let r = reading-fills symbols texts start.at [] [] [] h (refl, refl) in
-    let same = fills-one path.emitted along _ _ (runs-along symbols texts start.at [] h tt) f.events r.fills in
+    let r = reading-fills symbols texts start.at [] [] [] h refl tt (refl, refl) in
+    let same = fills-one path.emitted along _ _ (runs-along symbols texts start.at [] h tt) r.sure f.events r.fills in
     ap₂ (λ (s : LexState ValueState) (t : List LexEvent). config s t) (f.ends ∙ sym r.at) same

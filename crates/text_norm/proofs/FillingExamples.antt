@@ -1,15 +1,20 @@
 -- Small pages that fill their paths, and pages that do not.
-use Rattle.std.proofs.Common.{◌≡◌, ◌+◌, ℕ, codes, List, [], ◌∷◌, length, refl, ap, arith}
+use Rattle.std.proofs.Common.{◌≡◌, ◌+◌, ℕ, true, codes, List, [], ◌∷◌, length, refl, sym, ap, ◌∙◌, subst, arith}
 use Rattle.place_core.specs.page.Classes.{class_of}
-use Rattle.place_core.specs.page.Events.{AttributeBegins, LexEvent, Mark, TextByte}
+use Rattle.place_core.specs.page.Events.{AttributeBegins, LexEvent, Mark, TextByte, ValueScheme}
 use Rattle.place_core.specs.page.Html.{read, start}
 use Rattle.place_core.specs.page.Paths.{Hole, Symbol, Written, read_path}
 use Rattle.place_core.specs.page.References.{Closed, meaning}
 use Rattle.place_core.specs.page.States.{Page, Text}
-use Rattle.place_core.specs.page.Tags.{languages}
+use Rattle.place_core.specs.page.Tags.{DoubleQuoted, OfKind, Unquoted, languages}
+use Rattle.place_core.specs.declared.kind.Kind.TheVariants as kind
 use Rattle.text_norm.proofs.FilledMarks.{fills-keep, fills-mark, fills-node}
 use Rattle.text_norm.proofs.FilledReadings.{fills-one}
-use Rattle.text_norm.specs.Fillings.{BlockSite, Fills, FillsPath, NameSite, TextSite, UnquotedSite, filling}
+use Rattle.text_norm.specs.Fillings.{BlockSite, Fills, FillsPath, IsChosen, NameSite, TextSite, UnquotedSite, UrlSite, filling}
+use Rattle.url_lexer.specs.Classes.{url_class_of}
+use Rattle.url_lexer.specs.Events.{Named, NoScheme, ToldScheme}
+use Rattle.url_lexer.specs.Parts.{UrlStart, UrlQuery}
+use Rattle.url_lexer.specs.Schemes.{is_safe_scheme}
 
 -- a text, a hole, another text
 abbrev around : List ℕ → List ℕ → List Symbol
@@ -26,7 +31,7 @@ page_events page = (read Page page start).emitted
 
 -- what was emitted before the hole is the path's own
 begun : (before : List ℕ) → Fills (read_path languages (Written before ∷ []) start).emitted [] (read_path languages (Written before ∷ []) start).emitted
-begun before = fills-node [] before (Text Closed) [] [] (refl, refl)
+begun before = fills-node [] before (Text Closed) [] [] refl (refl, refl)
 
 -- <b>{{.}}</b> with `<`, and with `a`
 in_a_tag : FillsAround (codes "<b>") (codes "<") (codes "</b>") (codes "<b>&lt;</b>")
@@ -37,7 +42,7 @@ in_a_tag =
     let run : List LexEvent = TextByte 60 ∷ [] in
     let u = page_events (codes "<b>&lt;") in
     let f = begun (codes "<b>") in
-    record { ends = refl; events = fills-node (v ∷ []) (codes "</b>") (Text Closed) (Mark ∷ t) u (fills-mark v [] run t t refl f) }
+    record { ends = refl; events = fills-node (v ∷ []) (codes "</b>") (Text Closed) (Mark ∷ t) u refl (fills-mark v [] run t t refl f) }
 
 in_bold : FillsAround (codes "<b>") (codes "a") (codes "</b>") (codes "<b>a</b>")
 unfolding class_of meaning lib.Utf8.encode
@@ -47,7 +52,7 @@ in_bold =
     let run : List LexEvent = TextByte 97 ∷ [] in
     let u = page_events (codes "<b>a") in
     let f = begun (codes "<b>") in
-    record { ends = refl; events = fills-node (v ∷ []) (codes "</b>") (Text Closed) (Mark ∷ t) u (fills-mark v [] run t t refl f) }
+    record { ends = refl; events = fills-node (v ∷ []) (codes "</b>") (Text Closed) (Mark ∷ t) u refl (fills-mark v [] run t t refl f) }
 
 -- <a title={{.}}> with the empty text, whose value is the failsafe
 in_an_empty_value : FillsAround (codes "<a title=") [] (codes ">") (codes "<a title=ZgotmplZ>")
@@ -59,7 +64,7 @@ in_an_empty_value =
     let f = begun (codes "<a title=") in
     record {
       ends = refl;
-      events = fills-node (v ∷ []) (codes ">") (read Page (codes "<a title=Z") start).at (Mark ∷ t) u (fills-mark v [] _ t t refl f);
+      events = fills-node (v ∷ []) (codes ">") (read Page (codes "<a title=Z") start).at (Mark ∷ t) u (OfKind kind.Plain, refl, refl) (fills-mark v [] _ t t refl f);
     }
 
 -- <a {{.}}=c> with a name
@@ -88,7 +93,7 @@ escaped_tag =
     let v = filling TextSite (codes "<i a>") in
     let u = page_events (codes "<b>&lt;i a&gt;") in
     let f = begun (codes "<b>") in
-    record { ends = refl; events = fills-node (v ∷ []) (codes "</b>") (Text Closed) (Mark ∷ t) u (fills-mark v [] _ t t refl f) }
+    record { ends = refl; events = fills-node (v ∷ []) (codes "</b>") (Text Closed) (Mark ∷ t) u refl (fills-mark v [] _ t t refl f) }
 
 not_as_it_is : FillsAround (codes "<b>") (codes "<i a>") (codes "</b>") (codes "<b><i a></b>") → ⊥
 unfolding class_of meaning lib.Utf8.encode
@@ -96,7 +101,7 @@ not_as_it_is h =
     let page = page_events (codes "<b><i a></b>") in
     let own = page_events (codes "<b>&lt;i a&gt;</b>") in
     let path = path_around (codes "<b>") (codes "</b>") in
-    let same : page ≡ own = fills-one path (filling TextSite (codes "<i a>") ∷ []) page own (tt, tt) h.events escaped_tag.events in
+    let same : page ≡ own = fills-one path (filling TextSite (codes "<i a>") ∷ []) page own (tt, tt) tt h.events escaped_tag.events in
     let lengths = ap (length {A = LexEvent}) same in
     omega (arith, lengths)
 
@@ -107,7 +112,7 @@ not_another h =
     let page = page_events (codes "<b>b</b>") in
     let own = page_events (codes "<b>a</b>") in
     let path = path_around (codes "<b>") (codes "</b>") in
-    let same : page ≡ own = fills-one path (filling TextSite (codes "a") ∷ []) page own (tt, tt) h.events in_bold.events in
+    let same : page ≡ own = fills-one path (filling TextSite (codes "a") ∷ []) page own (tt, tt) tt h.events in_bold.events in
     let sums = ap text_sum same in
     omega (arith, sums)
 
@@ -117,7 +122,7 @@ not_nothing h =
     let page = page_events (codes "<b></b>") in
     let own = page_events (codes "<b>a</b>") in
     let path = path_around (codes "<b>") (codes "</b>") in
-    let same : page ≡ own = fills-one path (filling TextSite (codes "a") ∷ []) page own (tt, tt) h.events in_bold.events in
+    let same : page ≡ own = fills-one path (filling TextSite (codes "a") ∷ []) page own (tt, tt) tt h.events in_bold.events in
     let lengths = ap (length {A = LexEvent}) same in
     omega (arith, lengths)
 
@@ -127,7 +132,7 @@ not_a_comment h =
     let page = page_events (codes "<b><!--a--></b>") in
     let own = page_events (codes "<b>a</b>") in
     let path = path_around (codes "<b>") (codes "</b>") in
-    let same : page ≡ own = fills-one path (filling TextSite (codes "a") ∷ []) page own (tt, tt) h.events in_bold.events in
+    let same : page ≡ own = fills-one path (filling TextSite (codes "a") ∷ []) page own (tt, tt) tt h.events in_bold.events in
     let sums = ap text_sum same in
     omega (arith, sums)
 
@@ -138,7 +143,7 @@ not_two_names h =
     let page = page_events (codes "<a aB onclick=c>") in
     let own = page_events (codes "<a aB=c>") in
     let path = path_around (codes "<a ") (codes "=c>") in
-    let same : page ≡ own = fills-one path (filling NameSite (codes "aB") ∷ []) page own (tt, tt) h.events in_a_name.events in
+    let same : page ≡ own = fills-one path (filling NameSite (codes "aB") ∷ []) page own (tt, tt) tt h.events in_a_name.events in
     let lengths = ap (length {A = LexEvent}) same in
     omega (arith, lengths)
 
@@ -155,7 +160,7 @@ in_a_block =
     let f = begun block_begins in
     record {
       ends = refl;
-      events = fills-node (v ∷ []) (codes "</script>") (read Page block_begins start).at (Mark ∷ t) u
+      events = fills-node (v ∷ []) (codes "</script>") (read Page block_begins start).at (Mark ∷ t) u refl
           (fills-mark v [] _ t t (record { bytes = codes "&lt;"; emitted = refl; undoes = refl }) f);
     }
 
@@ -168,6 +173,80 @@ in_a_block_by_number =
     let f = begun block_begins in
     record {
       ends = refl;
-      events = fills-node (v ∷ []) (codes "</script>") (read Page block_begins start).at (Mark ∷ t) u
+      events = fills-node (v ∷ []) (codes "</script>") (read Page block_begins start).at (Mark ∷ t) u refl
           (fills-mark v [] _ t t (record { bytes = codes "&#60;"; emitted = refl; undoes = refl }) f);
     }
+
+-- In a URL the scheme is told at the end. <a href="{{.}}"> with `javascript:a`, which stands as the failsafe.
+abbrev link : List ℕ
+link = codes "<a href=\""
+
+abbrev link_ends : List ℕ
+link_ends = codes "\">"
+
+in_a_url : FillsAround link (codes "javascript:a") link_ends (codes "<a href=\"#ZgotmplZ\">")
+unfolding class_of url_class_of meaning lib.Utf8.encode
+in_a_url =
+    let t = page_events link in
+    let v = filling (UrlSite DoubleQuoted UrlStart) (codes "javascript:a") in
+    let own = fills-mark v [] _ t t (record { bytes = codes "#ZgotmplZ"; emitted = refl; allowed = tt; reads = refl }) (begun link) in
+    record { ends = refl; events = (_, _, refl, refl, (_, _, refl, (NoScheme, refl, tt), own)) }
+
+-- with `HTTP:a`, whose scheme data may choose
+with_a_scheme : FillsAround link (codes "HTTP:a") link_ends (codes "<a href=\"HTTP:a\">")
+unfolding class_of url_class_of meaning lib.Utf8.encode
+with_a_scheme =
+    let t = page_events link in
+    let v = filling (UrlSite DoubleQuoted UrlStart) (codes "HTTP:a") in
+    let own = fills-mark v [] _ t t (record { bytes = codes "HTTP:a"; emitted = refl; allowed = tt; reads = refl }) (begun link) in
+    record { ends = refl; events = (_, _, refl, refl, (_, _, refl, (Named (codes "http"), refl, refl), own)) }
+
+-- in a query, <a href="?q={{.}}"> with `a&b`
+abbrev query_link : List ℕ
+query_link = codes "<a href=\"?q="
+
+in_a_query : FillsAround query_link (codes "a&b") link_ends (codes "<a href=\"?q=a%26b\">")
+unfolding class_of url_class_of meaning lib.Utf8.encode
+in_a_query =
+    let t = page_events query_link in
+    let v = filling (UrlSite DoubleQuoted UrlQuery) (codes "a&b") in
+    let own = fills-mark v [] _ t t (record { bytes = codes "a%26b"; emitted = refl; allowed = refl; reads = refl }) (begun query_link) in
+    record { ends = refl; events = (_, _, refl, refl, (_, _, refl, (NoScheme, refl, refl), own)) }
+
+-- <a href={{.}}> with the empty text, whose value is the failsafe
+abbrev bare_link : List ℕ
+bare_link = codes "<a href="
+
+in_an_empty_url : FillsAround bare_link [] (codes ">") (codes "<a href=ZgotmplZ>")
+unfolding class_of url_class_of meaning lib.Utf8.encode
+in_an_empty_url =
+    let t = page_events bare_link in
+    let v = filling (UrlSite Unquoted UrlStart) [] in
+    let own = fills-mark v [] _ t t (record { bytes = []; emitted = refl; allowed = tt; reads = refl }) (begun bare_link) in
+    record { ends = refl; events = (_, _, refl, refl, (_, _, refl, (NoScheme, refl, tt), own)) }
+
+-- No text fills <a href="{{.}}"> with a page whose scheme is code.
+abbrev second_scheme : List LexEvent → ToldScheme
+second_scheme (e ∷ ValueScheme s ∷ t) = s
+second_scheme t = NoScheme
+
+abbrev code_page : List ℕ
+code_page = codes "<a href=\"javascript:a\">"
+
+unsafe : is_safe_scheme (codes "javascript") ≡ true → ⊥
+unsafe e = cc
+
+code_scheme : second_scheme (page_events code_page) ≡ Named (codes "javascript")
+unfolding class_of url_class_of meaning lib.Utf8.encode
+code_scheme = refl
+
+not_code : (text : List ℕ) → FillsAround link text link_ends code_page → ⊥
+unfolding class_of url_class_of meaning lib.Utf8.encode
+not_code text h =
+    let ends = h.events in
+    let told = ends.4 in
+    let scheme = told.3 in
+    let whole : page_events code_page ≡ ends.0 ∷ ValueScheme scheme.0 ∷ told.1 =
+    ends.2 ∙ ap (λ (z : List LexEvent). ends.0 ∷ z) (told.2 ∙ ap (λ (z : LexEvent). z ∷ told.1) scheme.1) in
+    let named : scheme.0 ≡ Named (codes "javascript") = sym (ap second_scheme whole) ∙ code_scheme in
+    unsafe (subst IsChosen named scheme.2)

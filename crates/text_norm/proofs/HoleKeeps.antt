@@ -23,16 +23,21 @@ use Rattle.place_core.specs.declared.place.Place.{Place}
 use Rattle.place_core.specs.declared.place.Place.TheVariants as place
 use Rattle.place_core.specs.declared.quotes.Quotes.{Quotes}
 use Rattle.place_core.specs.declared.san.San.TheVariants as san
-use Rattle.url_lexer.specs.Parts.{UrlPart}
-use Rattle.url_lexer.specs.Spots.{url_spot}
+use Rattle.url_lexer.specs.Parts.{UrlPart, UrlStart, UrlOpen, UrlOpenhole, UrlPrequery, UrlQuery, UrlBad}
+use Rattle.url_lexer.specs.Refusals.{refuses_hole_in}
+use Rattle.url_lexer.specs.Spots.{where_whole}
+use Rattle.url_lexer.specs.States.{Url, url_start}
+use Rattle.url_lexer.specs.Triples.{Triple, NoTriple, AfterPercent, AfterDigit}
+use Rattle.url_lexer.proofs.Language.{language-laws}
 use Rattle.san_html.specs.ReadBack.{IsBackInQuoted, IsBackInUnquoted, IsBackInTag, BeginsName, in_block, in_value, reads_quoted}
-use Rattle.html_step.specs.Holes.{Holed, after_hole, only}
+use Rattle.html_step.specs.Holes.{Holed, after_hole, last_of, only, url_chain}
 use Rattle.html_step.proofs.HoleOrder.{covers-hole}
-use Rattle.text_norm.specs.HoleLaws.{ArePlain, IsBackBy, KeepsHole, hole_parts}
+use Rattle.text_norm.specs.HoleLaws.{ArePlain, ArePlainUnless, IsBackBy, KeepsHole, hole_parts, leaves_out, parts_unless}
 use Rattle.text_norm.specs.Standing.{TextStands, WholeAttribute}
 use Rattle.text_norm.proofs.Emits.{same-state}
 use Rattle.text_norm.proofs.HarmlessNames.{harmless-kind}
 use Rattle.text_norm.proofs.LanguagesKeep.{languages-keep}
+use Rattle.text_norm.proofs.UrlHoles.{url-begun, url-has-part, url-hole, url-plain}
 use Rattle.text_norm.proofs.ValuesKeep.{hole-alike}
 
 -- What a hole in a state has to show: its bytes are plain, and lead to where the page stands for the state after it.
@@ -72,6 +77,9 @@ its-name false a x h = its a x h
 not-name : (second : Bool) (a : Place) (x : Chain) → (HoleOf (Some a) x → ⊥) → HoleOf (if second then None else Some a) x → ⊥
 not-name true a x n h = h
 not-name false a x n h = n h
+
+true-false : true ≡ false → ⊥
+true-false e = cc
 
 refused : {E A : Type 0} (e : E) (y : A) → Err e ≡ Ok y → ⊥
 refused e y h = cc
@@ -156,10 +164,72 @@ quoted-keeps q tag x datum bytes t d n e k l =
     (λ (k : IsBackInQuoted (printed datum) bytes). subst (Kept (only san.Attr) s bytes t) (sym l)
     (kept s bytes t (config s t) (k.plain q tag t n) (plain-leads q tag bytes t (k.plain q tag t n)))) k
 
--- no value may stand in a URL yet
-url-refused : (o : Option UrlPart) (q : Quotes) (tag : Tag) (x : Chain) → HoleOf (value_spot tag q (option_map (λ p. body.Url (parts_of p)) o)) x → ⊥
-url-refused None q tag x h = h
-url-refused (Some p) q tag x h = refused _ _ h.1
+-- In a URL: which part it is, and the chain of that part.
+record IsUrlAccepted (t : Triple) (p : UrlPart) (q : Quotes) (x : Chain) : Type 0 where
+  whole : t ≡ NoTriple
+  holes : refuses_hole_in p ≡ None
+  chain : url_chain (parts_of p) (last_of q) ≡ x
+
+url-accepted : (t : Triple) (p : UrlPart) (q : Quotes) (tag : Tag) (x : Chain) → HoleOf (value_spot tag q (option_map (λ p. body.Url (parts_of p)) (where_whole t p))) x → IsUrlAccepted t p q x
+url-accepted NoTriple UrlStart q tag x h = record { whole = refl; holes = refl; chain = ap chain_in h.1 }
+url-accepted NoTriple (UrlOpen p) q tag x h = record { whole = refl; holes = refl; chain = ap chain_in h.1 }
+url-accepted NoTriple UrlOpenhole q tag x h = record { whole = refl; holes = refl; chain = ap chain_in h.1 }
+url-accepted NoTriple UrlPrequery q tag x h = record { whole = refl; holes = refl; chain = ap chain_in h.1 }
+url-accepted NoTriple UrlQuery q tag x h = record { whole = refl; holes = refl; chain = ap chain_in h.1 }
+url-accepted NoTriple UrlBad q tag x h = absurd (refused _ _ h.1)
+url-accepted AfterPercent p q tag x h = absurd h
+url-accepted AfterDigit p q tag x h = absurd h
+
+-- a chain that does not leave the value out
+kept-by : (left_out : Bool) (s : LexState ValueState) (bytes : List ℕ) (t : List LexEvent) (d : Config ValueState) → left_out ≡ false → IsPlain bytes d
+    → TextStands languages (at_hole languages s) (mark_in languages s t) (marked bytes d)
+    → ArePlainUnless left_out bytes d × ((e : Config ValueState) × PageReads (parts_unless left_out bytes) d e × TextStands languages (at_hole languages s) (mark_in languages s t) e)
+kept-by true s bytes t d e p h = absurd (true-false e)
+kept-by false s bytes t d e p h = kept s bytes t d p h
+
+abbrev in_url : Quoting → Tag → Url → LexState ValueState
+in_url q tag u = in_value q tag (ValueOf (OfUrl u))
+
+url-keeps-there : (q : Quoting) (tag : Tag) (u : Url) (v : ValueState) (datum : Data) (bytes : List ℕ) (t : List LexEvent) (d : Config ValueState) → u.triple ≡ NoTriple
+    → refuses_hole_in u.part ≡ None → (k : IsBackBy (url_chain (parts_of u.part) (last_of (quotes_at q))) datum bytes) → languages.AreAlike (OfUrl u) v → d ≡ config (in_value q tag (ValueOf v)) t
+    → Kept (url_chain (parts_of u.part) (last_of (quotes_at q))) (in_url q tag u) bytes t d
+url-keeps-there q tag u (OfKind k) datum bytes t d e n b a l = absurd a
+url-keeps-there q tag u (OfUrl w) datum bytes t d e n b a l =
+    let x = url_chain (parts_of u.part) (last_of (quotes_at q)) in
+    let s = in_url q tag u in
+    let h = url-hole q u datum bytes e n b in
+    let m = config (in_url q tag w) t in
+    let plain : IsPlain bytes m = (refl, url-plain q tag u w (printed datum) bytes h (read Page bytes (config (in_url q tag w) [])) a (h.reads tag w [])) in
+    subst (Kept x s bytes t) (sym l)
+    (kept-by (leaves_out x) s bytes t m (url-has-part u.part (last_of (quotes_at q))) plain (value-leads q tag (OfUrl u) (OfUrl w) bytes t a plain))
+
+url-keeps : (q : Quoting) (tag : Tag) (u : Url) (x : Chain) (datum : Data) (bytes : List ℕ) (t : List LexEvent) (d : Config ValueState)
+    → IsUrlAccepted u.triple u.part (quotes_at q) x → IsBackBy x datum bytes → TextStands languages (in_url q tag u) t d → Kept x (in_url q tag u) bytes t d
+url-keeps q tag u x datum bytes t d h k l =
+    subst (λ (z : Chain). IsBackBy z datum bytes → Kept z (in_url q tag u) bytes t d) h.chain
+    (λ b. url-keeps-there q tag u l.there datum bytes t d h.whole h.holes b l.alike l.stands) k
+
+-- likewise where one without quotes is to begin
+abbrev url_unbegun : Tag → LexState ValueState
+url_unbegun tag = BeforeAttributeValue tag kind.Url
+
+url-begun-plain : (tag : Tag) (datum : Data) (bytes : List ℕ) (t : List LexEvent) → IsBackBy (url_chain (parts_of UrlStart) san.AttrNospace) datum bytes → IsPlain bytes (config (url_unbegun tag) t)
+url-begun-plain tag datum bytes t k =
+    let b = url-begun tag datum bytes k in
+    (refl, (b.at_once, url-plain Unquoted tag url_start url_start (printed datum) bytes b.hole (read Page bytes (config (url_unbegun tag) [])) language-laws.begins (b.reads_unbegun tag [])))
+
+url-begun-leads : (tag : Tag) (bytes : List ℕ) (t : List LexEvent) → IsPlain bytes (config (url_unbegun tag) t)
+    → TextStands languages (at_hole languages (url_unbegun tag)) (mark_in languages (url_unbegun tag) t) (marked bytes (config (url_unbegun tag) t))
+url-begun-leads tag bytes t p =
+    subst (TextStands languages (at_hole languages (url_unbegun tag)) (Mark ∷ t)) (sym (ap (behind (url_unbegun tag) (Mark ∷ t)) p.1.1.within))
+    (hole-alike languages-keep Unquoted tag (OfUrl url_start) (OfUrl url_start) p.1.1.after p.1.1.value t language-laws.begins p.1.1.leads)
+
+url-begun-keeps : (tag : Tag) (x : Chain) (datum : Data) (bytes : List ℕ) (t : List LexEvent) (d : Config ValueState) → url_chain (parts_of UrlStart) san.AttrNospace ≡ x
+    → IsBackBy x datum bytes → d ≡ config (url_unbegun tag) t → Kept x (url_unbegun tag) bytes t d
+url-begun-keeps tag x datum bytes t d e k l =
+    subst (λ (z : Chain). IsBackBy z datum bytes → Kept z (url_unbegun tag) bytes t d) e
+    (λ b. subst (Kept (url_chain (parts_of UrlStart) san.AttrNospace) (url_unbegun tag) bytes t) (sym l)
+    (kept (url_unbegun tag) bytes t (config (url_unbegun tag) t) (url-begun-plain tag datum bytes t b) (url-begun-leads tag bytes t (url-begun-plain tag datum bytes t b)))) k
 
 hole-keeps : (s : LexState ValueState) (x : Chain) (datum : Data) (bytes : List ℕ) (t : List LexEvent) (d : Config ValueState) → HoleOf (placed s) x → IsBackBy x datum bytes → TextStands languages s t d → Kept x s bytes t d
 hole-keeps (Text Closed) x datum bytes t d h k l =
@@ -194,7 +264,7 @@ hole-keeps (SelfClosingStartTag tag) x datum bytes t d h k l =
     name-keeps (SelfClosingStartTag tag) tag x datum bytes t d (its-of (placed (SelfClosingStartTag tag)) x h) refl (λ p. named (SelfClosingStartTag tag) tag bytes (Mark ∷ AttributeBegins ∷ t) (read Page bytes (config (SelfClosingStartTag tag) [])) p.1) l k
 hole-keeps (BeforeAttributeValue tag kind.Plain) x datum bytes t d h k l = unbegun-keeps tag x datum bytes t d (its-of (placed (BeforeAttributeValue tag kind.Plain)) x h) k l
 hole-keeps (BeforeAttributeValue tag kind.NoHole) x datum bytes t d h k l = absurd (refused _ _ h.1)
-hole-keeps (BeforeAttributeValue tag kind.Url) x datum bytes t d h k l = absurd (refused _ _ h.1)
+hole-keeps (BeforeAttributeValue tag kind.Url) x datum bytes t d h k l = url-begun-keeps tag x datum bytes t d (its-of (placed (url_unbegun tag)) x h) k l
 hole-keeps (BeforeAttributeValue tag kind.Script) x datum bytes t d h k l = absurd h
 hole-keeps (BeforeAttributeValue tag kind.Style) x datum bytes t d h k l = absurd h
 hole-keeps (BeforeAttributeValue tag kind.ScriptType) x datum bytes t d h k l = absurd h
@@ -209,7 +279,7 @@ hole-keeps (AttributeValue q tag (ValueOf (OfKind kind.Url)) Closed) x datum byt
 hole-keeps (AttributeValue q tag (ValueOf (OfKind kind.Script)) Closed) x datum bytes t d h k l = absurd h
 hole-keeps (AttributeValue q tag (ValueOf (OfKind kind.Style)) Closed) x datum bytes t d h k l = absurd h
 hole-keeps (AttributeValue q tag (ValueOf (OfKind kind.ScriptType)) Closed) x datum bytes t d h k l = absurd h
-hole-keeps (AttributeValue q tag (ValueOf (OfUrl u)) Closed) x datum bytes t d h k l = absurd (url-refused (url_spot u) (quotes_at q) tag x h)
+hole-keeps (AttributeValue q tag (ValueOf (OfUrl u)) Closed) x datum bytes t d h k l = url-keeps q tag u x datum bytes t d (url-accepted u.triple u.part (quotes_at q) tag x h) k l
 hole-keeps (AttributeValue q tag (Deciding j before) Closed) x datum bytes t d h k l = absurd h
 hole-keeps (AttributeValue q tag v (Open f b)) x datum bytes t d h k l = absurd h
 hole-keeps (InContent element.Title (Characters Closed) Nothing) x datum bytes t d h k l = content-keeps element.Title x datum bytes t d (its (place.Rcdata element.Title) x h) k l

@@ -23,9 +23,11 @@ pub mod Runs
 pub mod Same
 mod Slices
 mod Spelled
+mod StatesBeside
 mod Steps
 pub mod TagsKeep
 pub mod TextKeeps
 pub mod ToyLanguage
+mod UrlHoles
 pub mod ValuesKeep
 pub mod WorkedTexts

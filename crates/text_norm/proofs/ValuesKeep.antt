@@ -102,7 +102,7 @@ alike-end {B} {x} l bs v w t a k =
     ∙ l.ends (fed x v bs) (fed x w bs) (emitted_bytes x (ValueOf v) bs t) (alike-fed l bs v w a k)
     ∙ sym (ap (λ (z : Value B). emitted_end x z (emitted_bytes x (ValueOf v) bs t)) (own-fed x v bs))
 
-own-tag : {B : Type 0} (x : ValueLanguage B) (tag : Tag) (v : B) (bs : List ℕ) → tag_with_value tag (with_bytes x (ValueOf v) bs) ≡ tag
+pub own-tag : {B : Type 0} (x : ValueLanguage B) (tag : Tag) (v : B) (bs : List ℕ) → tag_with_value tag (with_bytes x (ValueOf v) bs) ≡ tag
 own-tag x tag v bs = ap (tag_with_value tag) (own-fed x v bs)
 
 -- a byte that does not end it

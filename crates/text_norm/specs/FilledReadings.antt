@@ -6,7 +6,7 @@ use Rattle.place_core.specs.page.Html.{read, start}
 use Rattle.place_core.specs.page.Paths.{Hole, Symbol, Written, at_hole, read_node}
 use Rattle.place_core.specs.page.References.{Closed, Reference}
 use Rattle.place_core.specs.page.States.{AfterAttributeName, AfterAttributeValue, AttributeValue, BeforeAttributeName, BeforeAttributeValue, Bytes, Characters, Config, Content, InContent, LexState, Nothing, Page, Pending, SelfClosingStartTag, Text, WholeAttributeName, config}
-use Rattle.place_core.specs.page.Tags.{Quoting, Tag, Unquoted, Value, ValueOf, ValueState, OfKind, attribute_value_of, languages, without_value}
+use Rattle.place_core.specs.page.Tags.{Quoting, Tag, Deciding, Unquoted, Value, ValueOf, ValueState, OfKind, OfUrl, attribute_value_of, languages, without_value}
 use Rattle.place_core.specs.place.Errors.{node}
 use Rattle.place_core.specs.declared.kind.Kind.TheVariants as kind
 use Rattle.san_html.specs.ReadBack.{as_name, as_unquoted, read_as_text, read_value}
@@ -17,8 +17,8 @@ abbrev pub value_text : Quoting → List ℕ → List ℕ
 value_text Unquoted text = as_unquoted text
 value_text q text = read_as_text text
 
--- A hole emits its text in the place of a mark. A hole in a comment emits nothing. In a data block the text does not say which bytes stand
--- there, so a hole in one emits nothing either, and no law below speaks of such a path.
+-- A hole emits its text in the place of a mark. A hole in a comment emits nothing. In a data block and in a URL the text does not say which bytes
+-- stand there: of a path with a hole in one no law below speaks.
 abbrev pub name_filled : Tag → List ℕ → List LexEvent → Config ValueState
 name_filled tag text t = config (WholeAttributeName tag kind.Plain) (attribute_name_bytes (as_name text) (AttributeBegins ∷ t))
 
@@ -45,22 +45,31 @@ holes_in [] = 0
 holes_in (Written bytes ∷ symbols) = holes_in symbols
 holes_in (Hole ∷ symbols) = suc (holes_in symbols)
 
--- no hole of a path stands in a data block
-abbrev pub IsNoBlock : LexState ValueState → Type 0
-IsNoBlock (InContent e Bytes h) = ⊥
-IsNoBlock s = ⊤
+-- The text of a value says which bytes stand in its hole: it stands neither in a data block, where references may be written otherwise, nor in a URL,
+-- where percent triples may.
+abbrev pub IsSaidInValue : Value ValueState → Type 0
+IsSaidInValue (ValueOf (OfKind k)) = ⊤
+IsSaidInValue (ValueOf (OfUrl u)) = ⊥
+IsSaidInValue (Deciding k before) = ⊤
 
-abbrev pub NoneInBlocks : List Symbol → LexState ValueState → Type 0
-NoneInBlocks [] s = ⊤
-NoneInBlocks (Written bytes ∷ symbols) s = NoneInBlocks symbols (node bytes s)
-NoneInBlocks (Hole ∷ symbols) s = IsNoBlock s × NoneInBlocks symbols (at_hole languages s)
+abbrev pub IsSaidByText : LexState ValueState → Type 0
+IsSaidByText (InContent e Bytes h) = ⊥
+IsSaidByText (AttributeValue q tag v r) = IsSaidInValue v
+IsSaidByText (BeforeAttributeValue tag k) = IsSaidInValue (attribute_value_of languages k)
+IsSaidByText s = ⊤
+
+-- so do all texts of a path
+abbrev pub AreSaidByTexts : List Symbol → LexState ValueState → Type 0
+AreSaidByTexts [] s = ⊤
+AreSaidByTexts (Written bytes ∷ symbols) s = AreSaidByTexts symbols (node bytes s)
+AreSaidByTexts (Hole ∷ symbols) s = IsSaidByText s × AreSaidByTexts symbols (at_hole languages s)
 
 -- A page that fills its path reads as the path does with the texts in its holes.
 abbrev pub FilledPathsAreReadings : Type 0
 FilledPathsAreReadings = (symbols : List Symbol) (texts : List (List ℕ)) (page : List ℕ) → holes_in symbols ≡ length texts
-    → NoneInBlocks symbols start.at → FillsPath symbols texts page → read Page page start ≡ read_filled symbols texts start
+    → AreSaidByTexts symbols start.at → FillsPath symbols texts page → read Page page start ≡ read_filled symbols texts start
 
--- where a mark is filled, and by one run: neither in a data block, nor where nothing fills it
+-- where a mark is filled, and by one run: neither in a data block or a URL, nor where nothing fills it
 abbrev pub TakesContent : Content → Pending → Type 0
 TakesContent (Characters r) Nothing = ⊤
 TakesContent y h = ⊥

@@ -15,7 +15,10 @@ use Rattle.place_core.specs.declared.place.Place.{Place}
 use Rattle.place_core.specs.declared.san.San.{San}
 use Rattle.place_core.specs.declared.san.San.TheVariants as san
 use Rattle.html_step.specs.Holes.{after_hole}
-use Rattle.san_html.specs.ReadBack.{IsBackInText, IsBackInRcdata, IsBackInBlock, IsBackInQuoted, IsBackInUnquoted, IsBackInTag}
+use Rattle.san_html.specs.ReadBack.{IsBackInText, IsBackInRcdata, IsBackInBlock, IsBackInQuoted, IsBackInUnquoted, IsBackInTag, read_as_text}
+use Rattle.san_url.specs.Back.{IsBackInPart}
+use Rattle.url_lexer.specs.Parts.{UrlStart, UrlOpen, UrlOpenhole, UrlPrequery, UrlQuery}
+use Rattle.url_lexer.specs.Prefixes.{Prefix}
 use Rattle.text_norm.specs.Standing.{TextStands}
 
 -- the sanitizers of a chain, in order
@@ -27,6 +30,39 @@ abbrev pub Alone : List San → Type 0 → Type 0
 Alone [] promise = promise
 Alone (y ∷ ys) promise = ⊥
 
+-- one of a sanitizer that has one behind it, which is the last; and of one that has `url_norm` behind it, and then the last
+abbrev pub BeforeLast : List San → (San → Type 0) → Type 0
+BeforeLast [] Promise = ⊥
+BeforeLast (last ∷ []) Promise = Promise last
+BeforeLast (x ∷ y ∷ ys) Promise = ⊥
+
+abbrev pub BehindNorm : San → Type 0 → Type 0
+BehindNorm san.UrlNorm promise = promise
+BehindNorm x promise = ⊥
+
+abbrev pub BeforeNorm : List San → (San → Type 0) → Type 0
+BeforeNorm [] Promise = ⊥
+BeforeNorm (x ∷ behind) Promise = BehindNorm x (BeforeLast behind Promise)
+
+-- The sanitizer of a value's quotes, of the characters that come to it.
+abbrev pub IsBackByLast : San → List ℕ → List ℕ → Type 0
+IsBackByLast san.Attr characters bytes = IsBackInQuoted characters bytes
+IsBackByLast san.AttrNospace characters bytes = IsBackInUnquoted characters bytes
+IsBackByLast last characters bytes = ⊥
+
+-- In a URL: the characters that the sanitizers of its part give are plain in each part where a hole has these sanitizers, and read back there. The
+-- last sanitizer reads them as they are, since none is NUL.
+pub record IsBackInUrl (IsBackThere : List ℕ → Type 0) (last : San) (bytes : List ℕ) : Type 0 where
+  pub characters : List ℕ
+  pub there : IsBackThere characters
+  pub as_they_are : read_as_text characters ≡ characters
+  pub written : IsBackByLast last characters bytes
+
+-- in the beginning, whatever it spells, and behind a hole in it
+pub record IsBackInBeginning (text characters : List ℕ) : Type 0 where
+  pub in_open : (p : Prefix) → IsBackInPart (UrlOpen p) text characters
+  pub in_openhole : IsBackInPart UrlOpenhole text characters
+
 -- What a chain promises of its bytes for a datum, by its first sanitizer and those behind it. The text of a datum is what is printed of it.
 abbrev pub IsBackByFirst : San → List San → Data → List ℕ → Type 0
 IsBackByFirst san.Html behind datum bytes = Alone behind (IsBackInText (printed datum) bytes × IsBackInRcdata (printed datum) bytes × IsBackInBlock (printed datum) bytes)
@@ -34,16 +70,16 @@ IsBackByFirst san.Attr behind datum bytes = Alone behind (IsBackInQuoted (printe
 IsBackByFirst san.AttrNospace behind datum bytes = Alone behind (IsBackInUnquoted (printed datum) bytes)
 IsBackByFirst san.AttrName behind datum bytes = Alone behind (IsBackInTag (printed datum) bytes)
 IsBackByFirst san.Drop behind datum bytes = Alone behind (bytes ≡ [])
--- those of scripts, styles and URLs, whatever is behind them, which no context has yet
+IsBackByFirst san.UrlFilter behind datum bytes = BeforeNorm behind (λ last. IsBackInUrl (IsBackInPart UrlStart (printed datum)) last bytes)
+IsBackByFirst san.UrlOpen behind datum bytes = BeforeLast behind (λ last. IsBackInUrl (IsBackInBeginning (printed datum)) last bytes)
+IsBackByFirst san.UrlNorm behind datum bytes = BeforeLast behind (λ last. IsBackInUrl (IsBackInPart UrlPrequery (printed datum)) last bytes)
+IsBackByFirst san.UrlQuery behind datum bytes = BeforeLast behind (λ last. IsBackInUrl (IsBackInPart UrlQuery (printed datum)) last bytes)
+-- those of scripts and styles, whatever is behind them, which no context has yet
 IsBackByFirst san.JsValue behind datum bytes = ⊥
 IsBackByFirst san.JsString behind datum bytes = ⊥
 IsBackByFirst san.JsRegexp behind datum bytes = ⊥
 IsBackByFirst san.CssValue behind datum bytes = ⊥
 IsBackByFirst san.CssString behind datum bytes = ⊥
-IsBackByFirst san.UrlFilter behind datum bytes = ⊥
-IsBackByFirst san.UrlOpen behind datum bytes = ⊥
-IsBackByFirst san.UrlNorm behind datum bytes = ⊥
-IsBackByFirst san.UrlQuery behind datum bytes = ⊥
 
 abbrev pub IsBackByList : List San → Data → List ℕ → Type 0
 IsBackByList [] datum bytes = ⊥

@@ -65,13 +65,14 @@ pub fn pages_read_as_paths()
 {}
 
 /// A page of pieces that are accepted from text to text, read as bytes alone, without knowing where values begin and end, ends in text and
-/// emits what its path emits, but in the place of each mark the events of its value. A theorem; the call does nothing at run time.
+/// emits what its path emits, but in the place of each mark the events of its value, and of a URL whose scheme data may choose none, `http`,
+/// `https` or `mailto`. A theorem; the call does nothing at run time.
 pub fn pages_fill_paths()
     ensures { PagesFillPaths }
 {}
 
 /// A page that fills its path with texts reads, as bytes alone, as the path does with these texts in its holes, where none of them is in a
-/// data block. A theorem; the call does nothing at run time.
+/// data block or a URL. A theorem; the call does nothing at run time.
 pub fn filled_paths_are_readings()
     ensures { FilledPathsAreReadings }
 {}

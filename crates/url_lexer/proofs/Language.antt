@@ -3,7 +3,7 @@ use Rattle.std.proofs.Common.{◌≡◌, ℕ, Bool, true, false, ◌||◌, List,
 use Rattle.std.specs.Prelude.{⊤}
 use Rattle.url_lexer.specs.Alike.{UrlsAlike, SchemesAlike, SchemeIsDecided, IsPastBeginning, at_start, in_beginning, behind_letters, behind_slash, behind_first, decided, decided_by_data}
 use Rattle.url_lexer.specs.Classes.{url_class_of}
-use Rattle.url_lexer.specs.Events.{UrlEvent, UrlEnds, told_scheme}
+use Rattle.url_lexer.specs.Events.{Free, UrlEvent, UrlEnds, free_scheme, told_scheme}
 use Rattle.url_lexer.specs.Holes.{url_after_cut, url_after_hole, url_behind, url_settled}
 use Rattle.url_lexer.specs.Laws.{UrlLanguageLaws}
 use Rattle.url_lexer.specs.Parts.{UrlPart, UrlStart, UrlOpen, UrlOpenhole, UrlPrequery, UrlQuery, UrlBad, next_part, part_at_hole, part_behind_scheme}
@@ -140,15 +140,22 @@ byte-alike v w b a e = record {
   schemes = schemes-go v.part v.free v.scheme w.scheme (url_class_of b) b a.schemes e;
 }
 
--- the end of the URL
+-- the end of the URL: behind a hole that was its first, data may have chosen the scheme that has ended
+pub free-harmless : (s : UrlScheme) → IsHarmless s → free_scheme s ≡ Free
+free-harmless SchemeAhead h = refl
+free-harmless (SchemeSoFar l) h = refl
+free-harmless (SchemeIs l) h = rw h refl
+free-harmless SchemeAbsent h = refl
+free-harmless SchemeUnknown h = refl
+
 schemes-end : (p : UrlPart) (f : Bool) (s r : UrlScheme) → SchemesAlike p f s r → told_scheme f r ≡ told_scheme f s
 schemes-end p f s r at_start = refl
 schemes-end p f s r (in_beginning q l) = refl
 schemes-end p f s r (behind_letters l) = refl
 schemes-end p f s r behind_slash = refl
-schemes-end p f s r (behind_first t h) = refl
+schemes-end p f s r (behind_first t h) = free-harmless t h
 schemes-end p f s r (decided q t g h) = refl
-schemes-end p f s r (decided_by_data q t g h k) = refl
+schemes-end p f s r (decided_by_data q t g h k) = free-harmless t k
 
 end-alike : (v w : Url) (t : List UrlEvent) → UrlsAlike v w → UrlEnds (told_scheme w.free w.scheme) ∷ t ≡ UrlEnds (told_scheme v.free v.scheme) ∷ t
 end-alike v w t a =

@@ -6,10 +6,10 @@ mod Examples
 pub mod Language
 mod NotExamples
 mod QueryMarks
-mod ReadBack
+pub mod ReadBack
 mod Reading
 mod Spots
 mod WholePages
 mod WholeTriples
-mod WrittenBytes
+pub mod WrittenBytes
 mod WrittenPages

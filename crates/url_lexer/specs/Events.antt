@@ -1,9 +1,9 @@
 -- What a URL tells as it is read: each of its bytes, and at its end the scheme.
-use Rattle.std.specs.Prelude.{ℕ, Bool, true, false, List, [], ◌∷◌}
-use Rattle.url_lexer.specs.Schemes.{UrlScheme, SchemeAhead, SchemeSoFar, SchemeIs, SchemeAbsent, SchemeUnknown}
+use Rattle.std.specs.Prelude.{ℕ, Bool, true, false, List, [], ◌∷◌, if◌then◌else◌}
+use Rattle.url_lexer.specs.Schemes.{UrlScheme, SchemeAhead, SchemeSoFar, SchemeIs, SchemeAbsent, SchemeUnknown, is_safe_scheme}
 use Rattle.url_lexer.specs.States.{Url, feed_url}
 
--- a scheme by its letters, none, or one that data chooses
+-- a scheme by its letters, none, or none or one that data chooses
 pub data ToldScheme : Type 0 where
   Named : List ℕ → ToldScheme
   NoScheme : ToldScheme
@@ -29,8 +29,13 @@ scheme_at_end (SchemeIs letters) = Named letters
 scheme_at_end SchemeAbsent = NoScheme
 scheme_at_end SchemeUnknown = NoScheme
 
+-- behind a hole that was the first of the URL: none, or one that data may choose; any other that had ended there would be told by its letters
+abbrev pub free_scheme : UrlScheme → ToldScheme
+free_scheme (SchemeIs letters) = if is_safe_scheme letters then Free else Named letters
+free_scheme s = Free
+
 abbrev pub told_scheme : Bool → UrlScheme → ToldScheme
-told_scheme true s = Free
+told_scheme true s = free_scheme s
 told_scheme false s = scheme_at_end s
 
 abbrev pub url_ends : Url → List UrlEvent → List UrlEvent

@@ -130,7 +130,8 @@ abbrev pub value_state_behind : ValueState → ValueState → ValueState
 value_state_behind (OfUrl u) (OfUrl w) = OfUrl (url_behind u w)
 value_state_behind before after = after
 
--- Of a value that is text all bytes are plain. Of the other kinds none are, since no hole may stand there, or they are not built yet.
+-- Of a value that is text all bytes are plain, and of a URL those that `url_lexer` says. Of the other kinds none are, since no hole may stand there, or
+-- they are not built yet.
 abbrev pub LeadsPlainState : ValueState → List ℕ → ValueState → Type 0
 LeadsPlainState (OfKind kind.Plain) bytes after = after ≡ OfKind kind.Plain
 LeadsPlainState (OfUrl u) bytes (OfUrl w) = UrlLeadsPlain u w × ArePlainBytes u.part bytes

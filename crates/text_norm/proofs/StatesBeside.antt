@@ -1,0 +1,251 @@
+-- Two readings of the same bytes whose states are the same but for the state of a value's language, which is related.
+use Rattle.std.proofs.Common.{◌≡◌, ℕ, Bool, true, false, List, [], ◌∷◌, ◌++◌, refl, sym, ap, ◌∙◌, subst}
+use Rattle.place_core.specs.page.Classes.{Class, White, ExclamationMark, QuotationMark, Apostrophe, HyphenMinus, Solidus, LessThan, EqualsSign, GreaterThan, QuestionMark, Letter}
+use Rattle.place_core.specs.page.Comments.{Declaration, OpensComment, OpensDoctype, Undecided, OpensNothing, closes_comment, comment_ended, declared_by, next_in_bogus, next_in_comment, next_in_doctype}
+use Rattle.place_core.specs.page.Contents.{is_name_of, may_be_name_of, next_bang, next_end_name, next_in_content, next_less, next_loose}
+use Rattle.place_core.specs.page.Html.{after_tag, content_of, ends_value, next, next_after_name, next_after_value, next_before_name, next_before_value, next_bogus, next_declaration, next_end_tag_open, next_name, next_tag_name, next_tag_open, next_text, next_value}
+use Rattle.place_core.specs.page.Paths.{at_cut}
+use Rattle.place_core.specs.page.References.{Reference, Closed, as_it_stands, next_reference, settled, undone_byte}
+use Rattle.place_core.specs.page.States.{AfterAttributeName, AfterAttributeValue, AttributeName, AttributeValue, BeforeAttributeName, BeforeAttributeValue, BogusComment, Bytes, CommentState, Content, DeclarationOpen, EndTagOpen, InComment, InContent, InDoctype, LessAtCut, LexMode, LexState, Nothing, Page, Pending, PendingBang, PendingBangDash, PendingLess, PendingName, SelfClosingStartTag, TagName, TagOpen, Template, Text, Unread, WholeAttributeName, WholeTagName}
+use Rattle.place_core.specs.page.Tags.{Deciding, Quoting, Tag, Unquoted, Value, ValueLanguage, ValueOf, attribute_value_of, cut_value, element_on, tag_of_name, tag_with_value, with_bytes, without_value}
+use Rattle.place_core.specs.page.Words.{kind_of}
+use Rattle.place_core.specs.declared.element.Element.{Element}
+use Rattle.place_core.specs.declared.element.Element.TheVariants as element
+use Rattle.place_core.specs.declared.kind.Kind.{Kind}
+use Rattle.place_core.specs.declared.kind.Kind.TheVariants as kind
+use Rattle.place_core.specs.declared.tag_of.TagOf.{TagOf}
+use Rattle.place_core.specs.declared.tag_of.TagOf.TheVariants as tag
+use Rattle.text_norm.proofs.ValuesKeep.{fed, own-fed, own-tag, own-type}
+
+abbrev pub StandBeside : {B : Type 0} → (B → B → Type 0) → LexState B → LexState B → Type 0
+StandBeside {B} Related (AttributeValue q tag (ValueOf v) r) z = (w : B) × (z ≡ AttributeValue q tag (ValueOf w) r) × Related v w
+StandBeside Related s z = z ≡ s
+
+-- a state that is in no value of a language
+abbrev pub IsOutside : {B : Type 0} → LexState B → Type 0
+IsOutside (AttributeValue q tag (ValueOf v) r) = ⊥
+IsOutside s = Unit {0}
+
+pub outside-beside : {B : Type 0} (Related : B → B → Type 0) (s : LexState B) → IsOutside s → StandBeside Related s s
+outside-beside Related (AttributeValue q tag (ValueOf v) r) o = absurd o
+outside-beside Related _ o = refl
+
+-- Where a byte leads from such a state, unless it begins a value.
+module _ (B : Type 0) where
+  content-outside : (e : Element) → IsOutside {B = B} (content_of e)
+  content-outside element.Title = tt
+  content-outside element.Textarea = tt
+  content-outside element.DataBlock = tt
+  content-outside element.Script = tt
+  content-outside element.Style = tt
+  content-outside element.Other = tt
+
+  tag-outside : (t : TagOf) → IsOutside {B = B} (after_tag t)
+  tag-outside tag.End = tt
+  tag-outside (tag.Start e) = content-outside e
+
+  text-outside : (c : Class) (b : ℕ) (r : Reference) → IsOutside {B = B} (next_text c b r)
+  text-outside LessThan b r = tt
+  text-outside _ b r = tt
+
+  in-bogus-outside : (c : Class) → IsOutside {B = B} (next_in_bogus c)
+  in-bogus-outside GreaterThan = tt
+  in-bogus-outside _ = tt
+
+  bogus-outside : (m : LexMode) (c : Class) (b : ℕ) → IsOutside {B = B} (next_bogus m c b)
+  bogus-outside Page c b = in-bogus-outside c
+  bogus-outside Template c b = text-outside c b Closed
+
+  tag-open-outside : (m : LexMode) (c : Class) (b : ℕ) (r : Reference) → IsOutside {B = B} (next_tag_open m c b r)
+  tag-open-outside m (Letter l) b r = tt
+  tag-open-outside m Solidus b r = tt
+  tag-open-outside m ExclamationMark b r = tt
+  tag-open-outside m QuestionMark b r = bogus-outside m QuestionMark b
+  tag-open-outside m c b r = text-outside c b Closed
+
+  end-tag-open-outside : (m : LexMode) (c : Class) (b : ℕ) → IsOutside {B = B} (next_end_tag_open m c b)
+  end-tag-open-outside m (Letter l) b = tt
+  end-tag-open-outside m c b = bogus-outside m c b
+
+  declaration-outside : (o : Declaration) (m : LexMode) (c : Class) (b : ℕ) (r : Reference) (pending : List ℕ) → IsOutside {B = B} (next_declaration o m c b r pending)
+  declaration-outside OpensComment m c b r pending = tt
+  declaration-outside OpensDoctype m c b r pending = tt
+  declaration-outside Undecided m c b r pending = tt
+  declaration-outside OpensNothing m c b r pending = bogus-outside m c b
+
+  ended-outside : (closes : Bool) → IsOutside {B = B} (comment_ended closes)
+  ended-outside true = tt
+  ended-outside false = tt
+
+  comment-outside : (c : Class) (s : CommentState) → IsOutside {B = B} (next_in_comment c s)
+  comment-outside GreaterThan s = ended-outside (closes_comment s)
+  comment-outside _ s = tt
+
+  doctype-outside : (c : Class) → IsOutside {B = B} (next_in_doctype c)
+  doctype-outside GreaterThan = tt
+  doctype-outside _ = tt
+
+  tag-name-outside : (c : Class) (b : ℕ) (ends : Bool) (name : List ℕ) → IsOutside {B = B} (next_tag_name c b ends name)
+  tag-name-outside White b ends name = tt
+  tag-name-outside Solidus b ends name = tt
+  tag-name-outside GreaterThan b ends name = tag-outside (tag_of_name ends name)
+  tag-name-outside _ b ends name = tt
+
+  before-name-outside : (c : Class) (b : ℕ) (t : Tag) → IsOutside {B = B} (next_before_name c b t)
+  before-name-outside White b t = tt
+  before-name-outside Solidus b t = tt
+  before-name-outside GreaterThan b t = tag-outside t.tag
+  before-name-outside _ b t = tt
+
+  name-outside : (c : Class) (b : ℕ) (t : Tag) (k : Kind) (name : List ℕ) → IsOutside {B = B} (next_name c b t k name)
+  name-outside White b t k name = tt
+  name-outside Solidus b t k name = tt
+  name-outside GreaterThan b t k name = tag-outside (without_value t k).tag
+  name-outside EqualsSign b t k name = tt
+  name-outside _ b t k name = tt
+
+  after-name-outside : (c : Class) (b : ℕ) (t : Tag) (k : Kind) → IsOutside {B = B} (next_after_name c b t k)
+  after-name-outside White b t k = tt
+  after-name-outside EqualsSign b t k = tt
+  after-name-outside c b t k = before-name-outside c b (without_value t k)
+
+  pub after-value-outside : (q : Quoting) (c : Class) (b : ℕ) (t : Tag) → IsOutside {B = B} (next_after_value q c b t)
+  after-value-outside Unquoted c b t = before-name-outside c b t
+  after-value-outside q c b t = tt
+
+  loose-outside : (c : Class) (b : ℕ) (e : Element) (y : Content) → IsOutside {B = B} (next_loose c b e y)
+  loose-outside LessThan b e y = tt
+  loose-outside _ b e y = tt
+
+  less-outside : (c : Class) (b : ℕ) (e : Element) (y : Content) → IsOutside {B = B} (next_less c b e y)
+  less-outside Solidus b e y = tt
+  less-outside ExclamationMark b e Bytes = tt
+  less-outside c b e y = loose-outside c b e y
+
+  end-name-outside : (grows whole : Bool) (c : Class) (b : ℕ) (e : Element) (y : Content) (letters : List ℕ) → IsOutside {B = B} (next_end_name grows whole c b e y letters)
+  end-name-outside true whole (Letter l) b e y letters = tt
+  end-name-outside grows true White b e y letters = tt
+  end-name-outside grows true Solidus b e y letters = tt
+  end-name-outside grows true GreaterThan b e y letters = tt
+  end-name-outside grows whole c b e y letters = loose-outside c b e y
+
+  bang-outside : (c : Class) (b : ℕ) (e : Element) (y : Content) → IsOutside {B = B} (next_bang c b e y)
+  bang-outside HyphenMinus b e y = tt
+  bang-outside c b e y = loose-outside c b e y
+
+  in-content-outside : (h : Pending) (c : Class) (b : ℕ) (e : Element) (y : Content) → IsOutside {B = B} (next_in_content h c b e y)
+  in-content-outside Nothing c b e y = loose-outside c b e y
+  in-content-outside PendingLess c b e y = less-outside c b e y
+  in-content-outside LessAtCut c b e y = loose-outside c b e y
+  in-content-outside (PendingName letters) c b e y = end-name-outside (may_be_name_of e (letters ++ b ∷ [])) (is_name_of e letters) c b e y letters
+  in-content-outside PendingBang c b e y = bang-outside c b e y
+  in-content-outside PendingBangDash c b e y = loose-outside c b e y
+
+-- what a relation of the states of a language has to keep: where a value begins, at a byte, and at the end of a node
+pub record IsFedAlike (B : Type 0) (x : ValueLanguage B) (Related : B → B → Type 0) : Type 0 where
+  pub starts : (k : Kind) → Related (x.start k) (x.start k)
+  pub feeds : (v w : B) (b : ℕ) → Related v w → Related (x.feed v b) (x.feed w b)
+  pub cuts : (v w : B) → Related v w → Related (x.after_cut v) (x.after_cut w)
+
+module _ (B : Type 0) (x : ValueLanguage B) (Related : B → B → Type 0) (own : IsFedAlike B x Related) where
+  pub fed-beside : (bs : List ℕ) (v w : B) → Related v w → Related (fed x v bs) (fed x w bs)
+  fed-beside [] v w a = a
+  fed-beside (b ∷ bs) v w a = fed-beside bs (x.feed v b) (x.feed w b) (own.feeds v w b a)
+
+  equal-beside : (s z : LexState B) → IsOutside s → z ≡ s → StandBeside Related s z
+  equal-beside s z o e = subst (StandBeside Related s) (sym e) (outside-beside Related s o)
+
+  -- bytes of a value
+  bytes-beside : (bs : List ℕ) (q : Quoting) (t : Tag) (v w : B) (r : Reference) → Related v w
+      → StandBeside Related (AttributeValue q t (with_bytes x (ValueOf v) bs) r) (AttributeValue q t (with_bytes x (ValueOf w) bs) r)
+  bytes-beside bs q t v w r a =
+      subst (λ (z : Value B). StandBeside Related (AttributeValue q t z r) (AttributeValue q t (with_bytes x (ValueOf w) bs) r)) (sym (own-fed x v bs))
+      (fed x w bs, ap (λ (z : Value B). AttributeValue q t z r) (own-fed x w bs), fed-beside bs v w a)
+
+  type-outside : (bs : List ℕ) (q : Quoting) (t : Tag) (k : Kind) (before : List ℕ) (r : Reference) → IsOutside (AttributeValue q t (with_bytes x (Deciding k before) bs) r)
+  type-outside bs q t k before r = subst (λ (z : Value B). IsOutside (AttributeValue q t z r)) (sym (own-type x k before bs)) tt
+
+  value-beside : (ends : Bool) (q : Quoting) (c : Class) (b : ℕ) (t : Tag) (v w : B) (r : Reference) → Related v w
+      → StandBeside Related (next_value x ends q c b t (ValueOf v) r) (next_value x ends q c b t (ValueOf w) r)
+  value-beside true q c b t v w r a =
+      let bs = settled true r in
+      equal-beside _ _ (after-value-outside B q c b (tag_with_value t (with_bytes x (ValueOf v) bs)))
+      (ap (next_after_value q c b) (own-tag x t w bs ∙ sym (own-tag x t v bs)))
+  value-beside false q c b t v w r a = bytes-beside (undone_byte true r c b) q t v w (next_reference r c b) a
+
+  type-beside : (ends : Bool) (q : Quoting) (c : Class) (b : ℕ) (t : Tag) (k : Kind) (before : List ℕ) (r : Reference) → IsOutside (next_value x ends q c b t (Deciding k before) r)
+  type-beside true q c b t k before r = after-value-outside B q c b (tag_with_value t (with_bytes x (Deciding k before) (settled true r)))
+  type-beside false q c b t k before r = type-outside (undone_byte true r c b) q t k before (next_reference r c b)
+
+  begun-beside : (q : Quoting) (t : Tag) (k : Kind) → StandBeside Related (AttributeValue q t (attribute_value_of x k) Closed) (AttributeValue q t (attribute_value_of x k) Closed)
+  begun-beside q t kind.ScriptType = refl
+  begun-beside q t kind.Plain = (x.start kind.Plain, refl, own.starts kind.Plain)
+  begun-beside q t kind.NoHole = (x.start kind.NoHole, refl, own.starts kind.NoHole)
+  begun-beside q t kind.Url = (x.start kind.Url, refl, own.starts kind.Url)
+  begun-beside q t kind.Script = (x.start kind.Script, refl, own.starts kind.Script)
+  begun-beside q t kind.Style = (x.start kind.Style, refl, own.starts kind.Style)
+
+  first-beside : (c : Class) (b : ℕ) (t : Tag) (k : Kind) → (let z = next_value x false Unquoted c b t (attribute_value_of x k) Closed in StandBeside Related z z)
+  first-beside c b t kind.ScriptType = outside-beside Related (next_value x false Unquoted c b t (Deciding kind.ScriptType []) Closed) (type-beside false Unquoted c b t kind.ScriptType [] Closed)
+  first-beside c b t kind.Plain = value-beside false Unquoted c b t _ _ Closed (own.starts kind.Plain)
+  first-beside c b t kind.NoHole = value-beside false Unquoted c b t _ _ Closed (own.starts kind.NoHole)
+  first-beside c b t kind.Url = value-beside false Unquoted c b t _ _ Closed (own.starts kind.Url)
+  first-beside c b t kind.Script = value-beside false Unquoted c b t _ _ Closed (own.starts kind.Script)
+  first-beside c b t kind.Style = value-beside false Unquoted c b t _ _ Closed (own.starts kind.Style)
+
+  before-value-beside : (c : Class) (b : ℕ) (t : Tag) (k : Kind) → StandBeside Related (next_before_value x c b t k) (next_before_value x c b t k)
+  before-value-beside White b t k = refl
+  before-value-beside QuotationMark b t k = begun-beside _ t k
+  before-value-beside Apostrophe b t k = begun-beside _ t k
+  before-value-beside GreaterThan b t k = outside-beside Related _ (tag-outside B (without_value t k).tag)
+  before-value-beside c b t k = first-beside c b t k
+
+  -- a byte, from one state
+  self-beside : (m : LexMode) (s : LexState B) (c : Class) (b : ℕ) → IsOutside s → StandBeside Related (next x m s c b) (next x m s c b)
+  self-beside m (Text r) c b o = outside-beside Related _ (text-outside B c b r)
+  self-beside m (TagOpen r) c b o = outside-beside Related _ (tag-open-outside B m c b r)
+  self-beside m (EndTagOpen r) c b o = outside-beside Related _ (end-tag-open-outside B m c b)
+  self-beside m (DeclarationOpen r pending) c b o = outside-beside Related _ (declaration-outside B (declared_by (pending ++ b ∷ [])) m c b r pending)
+  self-beside m (InComment s) c b o = outside-beside Related _ (comment-outside B c s)
+  self-beside m BogusComment c b o = outside-beside Related _ (in-bogus-outside B c)
+  self-beside m InDoctype c b o = outside-beside Related _ (doctype-outside B c)
+  self-beside m (TagName ends name) c b o = outside-beside Related _ (tag-name-outside B c b ends name)
+  self-beside m (WholeTagName t) c b o = outside-beside Related _ (before-name-outside B c b t)
+  self-beside m (BeforeAttributeName t) c b o = outside-beside Related _ (before-name-outside B c b t)
+  self-beside m (AttributeName t name) c b o = outside-beside Related _ (name-outside B c b t (kind_of (element_on t.tag) name) name)
+  self-beside m (WholeAttributeName t k) c b o = outside-beside Related _ (after-name-outside B c b t k)
+  self-beside m (AfterAttributeName t k) c b o = outside-beside Related _ (after-name-outside B c b t k)
+  self-beside m (BeforeAttributeValue t k) c b o = before-value-beside c b t k
+  self-beside m (AttributeValue q t (Deciding k before) r) c b o = outside-beside Related _ (type-beside (ends_value q c) q c b t k before r)
+  self-beside m (AttributeValue q t (ValueOf v) r) c b o = absurd o
+  self-beside m (AfterAttributeValue t) c b o = outside-beside Related _ (before-name-outside B c b t)
+  self-beside m (SelfClosingStartTag t) c b o = outside-beside Related _ (before-name-outside B c b t)
+  self-beside m (InContent e y h) c b o = outside-beside Related _ (in-content-outside B h c b e y)
+  self-beside m Unread c b o = refl
+
+  -- a byte, from one beside the other
+  pub next-beside : (m : LexMode) (s z : LexState B) (c : Class) (b : ℕ) → StandBeside Related s z → StandBeside Related (next x m s c b) (next x m z c b)
+  next-beside m (AttributeValue q t (ValueOf v) r) z c b a =
+      subst (λ (y : LexState B). StandBeside Related (next x m (AttributeValue q t (ValueOf v) r) c b) (next x m y c b)) (sym a.1)
+      (value-beside (ends_value q c) q c b t v a.0 r a.2)
+  next-beside m s z c b a = subst (λ (y : LexState B). StandBeside Related (next x m s c b) (next x m y c b)) (sym a) (self-beside m s c b tt)
+
+  -- the end of a node
+  cut-value-beside : (bs : List ℕ) (q : Quoting) (t : Tag) (v w : B) → Related v w
+      → StandBeside Related (AttributeValue q t (cut_value x (with_bytes x (ValueOf v) bs)) Closed) (AttributeValue q t (cut_value x (with_bytes x (ValueOf w) bs)) Closed)
+  cut-value-beside bs q t v w a =
+      subst (λ (z : Value B). StandBeside Related (AttributeValue q t (cut_value x z) Closed) (AttributeValue q t (cut_value x (with_bytes x (ValueOf w) bs)) Closed)) (sym (own-fed x v bs))
+      (x.after_cut (fed x w bs), ap (λ (z : Value B). AttributeValue q t (cut_value x z) Closed) (own-fed x w bs), own.cuts (fed x v bs) (fed x w bs) (fed-beside bs v w a))
+
+  cut-type-outside : (bs : List ℕ) (q : Quoting) (t : Tag) (k : Kind) (before : List ℕ) → IsOutside (AttributeValue q t (cut_value x (with_bytes x (Deciding k before) bs)) Closed)
+  cut-type-outside bs q t k before = subst (λ (z : Value B). IsOutside (AttributeValue q t (cut_value x z) Closed)) (sym (own-type x k before bs)) tt
+
+  self-cut-beside : (s : LexState B) → IsOutside s → StandBeside Related (at_cut x s) (at_cut x s)
+  self-cut-beside (AttributeValue q t (ValueOf v) r) o = absurd o
+  self-cut-beside (AttributeValue q t (Deciding k before) r) o = outside-beside Related (at_cut x (AttributeValue q t (Deciding k before) r)) (cut-type-outside (as_it_stands r) q t k before)
+  self-cut-beside _ o = refl
+
+  pub cut-beside : (s z : LexState B) → StandBeside Related s z → StandBeside Related (at_cut x s) (at_cut x z)
+  cut-beside (AttributeValue q t (ValueOf v) r) z a =
+      subst (λ (y : LexState B). StandBeside Related (at_cut x (AttributeValue q t (ValueOf v) r)) (at_cut x y)) (sym a.1) (cut-value-beside (as_it_stands r) q t v a.0 a.2)
+  cut-beside s z a = subst (λ (y : LexState B). StandBeside Related (at_cut x s) (at_cut x y)) (sym a) (self-cut-beside s tt)
