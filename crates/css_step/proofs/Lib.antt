@@ -1,0 +1,4 @@
+pub mod OneStylePath
+pub mod StyleGrowth
+pub mod StyleParts
+mod StyleScanExamples

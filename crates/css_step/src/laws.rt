@@ -1,0 +1,37 @@
+ghost use Rattle.css_step.specs.StyleScanLaws.{IsExactOnOneStyle};
+ghost use Rattle.css_step.specs.StyleSetLaws.{CoversStyles, EmptyTextsKeepStyles, StylesGrow};
+ghost use Rattle.css_step.specs.StyleValidity.{StylesAgree, StylesStayValid};
+
+/// From the place of one path, what a byte of text, the end of a node and a hole make of it and what is refused is the path's own. A
+/// theorem; the call does nothing at run time.
+pub fn is_exact_on_one_style()
+    ensures { IsExactOnOneStyle }
+{}
+
+/// Where nothing is refused, no path at the place is refused, and each comes to the place behind the byte, the end of the node and the
+/// hole. A theorem; the call does nothing at run time.
+pub fn covers_styles()
+    ensures { CoversStyles }
+{}
+
+/// A text of no bytes keeps the place, and its end is not refused. A theorem; the call does nothing at run time.
+pub fn empty_texts_keep_styles()
+    ensures { EmptyTextsKeepStyles }
+{}
+
+/// What a place accepts, each place below it accepts, and the places behind are one below the other. A theorem; the call does nothing at
+/// run time.
+pub fn styles_grow()
+    ensures { StylesGrow }
+{}
+
+/// Two paths in one URL have spelled the same at a `:` that is accepted, and are in one part of it at a hole that is. A theorem; the call
+/// does nothing at run time.
+pub fn styles_agree()
+    ensures { StylesAgree }
+{}
+
+/// Sets of parts of a URL come to such sets. A theorem; the call does nothing at run time.
+pub fn styles_stay_valid()
+    ensures { StylesStayValid }
+{}
