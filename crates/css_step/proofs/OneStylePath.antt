@@ -21,7 +21,7 @@ use Rattle.url_lexer.specs.States.{Url, url_start, feed_url}
 use Rattle.url_lexer.specs.Triples.{Triple, NoTriple, AfterPercent, AfterDigit, next_triple}
 use Rattle.url_step.specs.PartSets.{parts_next, parts_at_hole}
 use Rattle.url_step.proofs.OnePath.{one-next, one-error, one-hole-error, one-at-hole}
-use Rattle.css_step.specs.StyleScans.{StyleScan, ScanWord, ScanSolidus, ScanLessThan, ScanStarBefore, ScanString, ScanFresh, ScanEnded, style_between, ScanCode, ScanComment, ScanBareUrl, ScanQuotedUrl, style_tails, style_split_word, style_scan_start, style_between_next, style_split_next, style_word_next, style_solidus_next, style_comment_next, style_string_next, style_bare_next, style_fresh_next, style_quoted_next, style_ended_next, style_tails_error, style_url_error, style_bare_error, style_fresh_error, style_quoted_error, style_string_place, style_quoted_place, style_at_hole, style_hole_error}
+use Rattle.css_step.specs.StyleScans.{StyleScan, ScanWord, ScanSplitEscape, ScanSolidus, ScanLessThan, ScanStarBefore, ScanString, ScanFresh, ScanEnded, style_between, ScanCode, ScanComment, ScanBareUrl, ScanQuotedUrl, style_tails, style_split_word, style_scan_start, style_between_next, style_split_next, style_word_next, style_solidus_next, style_comment_next, style_string_next, style_bare_next, style_fresh_next, style_quoted_next, style_ended_next, style_tails_error, style_url_error, style_bare_error, style_fresh_error, style_quoted_error, style_string_place, style_quoted_place, style_at_hole, style_hole_error}
 use Rattle.css_step.specs.StyleScanLaws.{style_place, IsStyleScan, scans_between, scans_less_than, scans_word, scans_solidus, scans_comment, scans_string, scans_behind_hole, scans_split_word, scans_solidus_before, scans_less_than_before, scans_star_before, scans_fresh, scans_bare, scans_quoted, scans_ended, OneStyle, IsExactOnOneStyle}
 
 pub given : {A : Type 0} (a : A) → Some a ≡ None → ⊥
@@ -255,7 +255,18 @@ string-hole-error : (q : Quote) → style_hole_error (style_string_place q) ≡ 
 string-hole-error DoubleQuote = refl
 string-hole-error SingleQuote = refl
 
--- a word from before the text, by its escape
+-- a word from before the text, in an escape, and by its escape
+open-split : (e : StyleEscape) (x : StyleCutRefusal) → refuses_in_escape e ≡ Some x → OneStyle (Out (SplitWord e)) (ScanSplitEscape e)
+open-split e x r = record {
+  error = λ c b. refl;
+  next = λ c b n. split e c b;
+  cut_error = refl;
+  place = λ p n. known-place (CodeSpot true false false) p n;
+  after_cut = λ n. absurd (given x (sym r ∙ n));
+  hole_error = refl;
+  after_hole = λ n m. scans_behind_hole false false;
+}
+
 one-split : (e : StyleEscape) → OneStyle (Out (SplitWord e)) (style_split_word e)
 one-split NoEscape = record {
   error = λ c b. split-error c;
@@ -266,33 +277,9 @@ one-split NoEscape = record {
   hole_error = refl;
   after_hole = λ n m. scans_behind_hole false false;
 }
-one-split AfterBackslash = record {
-  error = λ c b. refl;
-  next = λ c b n. split AfterBackslash c b;
-  cut_error = refl;
-  place = λ p n. known-place (CodeSpot true false false) p n;
-  after_cut = λ n. absurd (given _ n);
-  hole_error = refl;
-  after_hole = λ n m. scans_behind_hole false false;
-}
-one-split (HexDigits k) = record {
-  error = λ c b. refl;
-  next = λ c b n. split (HexDigits k) c b;
-  cut_error = refl;
-  place = λ p n. known-place (CodeSpot true false false) p n;
-  after_cut = λ n. absurd (given _ n);
-  hole_error = refl;
-  after_hole = λ n m. scans_behind_hole false false;
-}
-one-split AfterReturn = record {
-  error = λ c b. refl;
-  next = λ c b n. split AfterReturn c b;
-  cut_error = refl;
-  place = λ p n. known-place (CodeSpot true false false) p n;
-  after_cut = λ n. absurd (given _ n);
-  hole_error = refl;
-  after_hole = λ n m. scans_behind_hole false false;
-}
+one-split AfterBackslash = open-split AfterBackslash _ refl
+one-split (HexDigits k) = open-split (HexDigits k) _ refl
+one-split AfterReturn = open-split AfterReturn _ refl
 
 one-comment : (star : Bool) → OneStyle (Out (Comment star)) (ScanComment star)
 one-comment true = record {

@@ -13,7 +13,7 @@ use Rattle.place_core.specs.declared.css.Css.{Css}
 use Rattle.place_core.specs.declared.css.Css.TheVariants as css
 use Rattle.place_core.specs.declared.css_tails.CssTails.{CssTails}
 use Rattle.place_core.specs.declared.parts.Parts.{Parts}
-use Rattle.place_core.specs.place.NotBuiltPlaces.{joined_css, both_css_tails, both_parts}
+use Rattle.place_core.specs.place.LanguagePlaces.{joined_css, both_css_tails, both_parts}
 use Rattle.url_lexer.specs.Classes.{url_class_of}
 use Rattle.url_lexer.specs.Refusals.{UrlRefusal}
 use Rattle.url_lexer.specs.States.{Url}

@@ -11,35 +11,35 @@ use Rattle.place_core.proofs.Semilattices.{one_value, union_through}
 use Rattle.place_core.specs.declared.css.Css.{Css}
 use Rattle.place_core.specs.declared.css.Css.TheVariants as css
 use Rattle.place_core.specs.declared.parts.Parts.{Parts}
-use Rattle.place_core.specs.place.NotBuiltPlaces.{both_parts}
+use Rattle.place_core.specs.place.LanguagePlaces.{both_parts, IsValidCss, IsValidParts}
 use Rattle.place_core.specs.place.UrlParts.{parts_of}
 use Rattle.url_lexer.specs.Classes.{url_class_of}
 use Rattle.url_lexer.specs.Parts.{UrlPart, UrlStart}
 use Rattle.url_lexer.specs.States.{Url}
 use Rattle.url_lexer.specs.Triples.{Triple, NoTriple}
 use Rattle.url_lexer.specs.declared.class.UrlClass.TheVariants as url_class
-use Rattle.url_step.specs.PartSets.{AreParts, HasPart, parts_next, parts_error, parts_hole_error}
+use Rattle.url_step.specs.PartSets.{HasPart, parts_next, parts_error, parts_hole_error}
 use Rattle.url_step.proofs.Covering.{parts-agree}
 use Rattle.url_step.proofs.ValidParts.{parts-stay-valid}
 use Rattle.css_step.specs.StyleScans.{StyleScan, ScanCode, ScanWord, ScanSplitEscape, ScanSolidus, ScanLessThan, ScanComment, ScanStarBefore, ScanString, ScanFresh, ScanBareUrl, ScanQuotedUrl, ScanEnded, style_split_word, style_comment_start, style_scan_start, style_between_next, style_split_next, style_code_next, style_word_next, style_solidus_next, style_comment_next, style_string_next, style_bare_next, style_fresh_next, style_quoted_next, style_ended_next, style_scan_next, style_url_error, style_quoted_error, style_string_place, style_quoted_place, style_scan_place, style_at_hole, style_hole_error}
 use Rattle.css_step.specs.StyleScanLaws.{IsStyleScan, scans_between, scans_less_than, scans_word, scans_solidus, scans_comment, scans_string, scans_behind_hole, scans_split_word, scans_solidus_before, scans_less_than_before, scans_star_before, scans_fresh, scans_bare, scans_quoted, scans_ended}
 use Rattle.css_step.specs.StyleSetLaws.{StyleScanBelow, below_itself, below_tails, below_split_word, below_star, below_bare, below_quoted}
-use Rattle.css_step.specs.StyleValidity.{AreStyleParts, StylesStayValid, style_part, AgreeStyles, StylesAgree}
+use Rattle.css_step.specs.StyleValidity.{StylesStayValid, style_part, AgreeStyles, StylesAgree}
 use Rattle.css_step.proofs.StyleGrowth.{url-none}
 
 abbrev AreScanParts : StyleScan → Type 0
-AreScanParts n = AreStyleParts (style_scan_place n)
+AreScanParts n = IsValidCss (style_scan_place n)
 
 -- a quote and its place
-string-parts : (q : Quote) → AreStyleParts (style_string_place q)
+string-parts : (q : Quote) → IsValidCss (style_string_place q)
 string-parts DoubleQuote = tt
 string-parts SingleQuote = tt
 
-quoted-parts : (q : Quote) (s : Parts) → AreParts s → AreStyleParts (style_quoted_place q s)
+quoted-parts : (q : Quote) (s : Parts) → IsValidParts s → IsValidCss (style_quoted_place q s)
 quoted-parts DoubleQuote s h = h
 quoted-parts SingleQuote s h = h
 
-parts-quoted : (q : Quote) (s : Parts) → AreStyleParts (style_quoted_place q s) → AreParts s
+parts-quoted : (q : Quote) (s : Parts) → IsValidCss (style_quoted_place q s) → IsValidParts s
 parts-quoted DoubleQuote s h = h
 parts-quoted SingleQuote s h = h
 
@@ -92,13 +92,13 @@ in-string-parts false SingleQuote e class.Apostrophe b = tt
 in-string-parts false q e class.ReverseSolidus b = string-parts q
 in-string-parts false q e c b = string-parts q
 
-bare-parts : (s : Parts) (t : Triple) (c : StyleClass) (b : ℕ) → AreParts s → AreScanParts (style_bare_next s t c b)
+bare-parts : (s : Parts) (t : Triple) (c : StyleClass) (b : ℕ) → IsValidParts s → AreScanParts (style_bare_next s t c b)
 bare-parts s t class.Blank b h = tt
 bare-parts s t class.Newline b h = tt
 bare-parts s t class.RightParenthesis b h = tt
 bare-parts s t _ b h = (parts-stay-valid s h).next (url_class_of b) b
 
-start-parts : AreParts (parts_of UrlStart)
+start-parts : IsValidParts (parts_of UrlStart)
 start-parts = (refl, tt)
 
 fresh-parts : (c : StyleClass) (b : ℕ) → AreScanParts (style_fresh_next c b)
@@ -108,7 +108,7 @@ fresh-parts class.QuotationMark b = start-parts
 fresh-parts class.Apostrophe b = start-parts
 fresh-parts c b = bare-parts (parts_of UrlStart) NoTriple c b start-parts
 
-in-quoted-parts : (taken : Bool) (q : Quote) (e : StyleEscape) (s : Parts) (t : Triple) (c : StyleClass) (b : ℕ) → AreParts s → AreScanParts (style_quoted_next taken q e s t c b)
+in-quoted-parts : (taken : Bool) (q : Quote) (e : StyleEscape) (s : Parts) (t : Triple) (c : StyleClass) (b : ℕ) → IsValidParts s → AreScanParts (style_quoted_next taken q e s t c b)
 in-quoted-parts true q e s t c b h = quoted-parts q (parts_next s (url_class_of b) b) ((parts-stay-valid s h).next (url_class_of b) b)
 in-quoted-parts false DoubleQuote e s t class.QuotationMark b h = tt
 in-quoted-parts false SingleQuote e s t class.Apostrophe b h = tt
@@ -138,7 +138,7 @@ comment-start-parts : (star : Bool) → AreScanParts (style_comment_start star)
 comment-start-parts true = tt
 comment-start-parts false = tt
 
-begun-parts : (c : Css) → AreStyleParts c → AreScanParts (style_scan_start c)
+begun-parts : (c : Css) → IsValidCss c → AreScanParts (style_scan_start c)
 begun-parts (css.Code x) h = tt
 begun-parts css.Dq h = tt
 begun-parts css.Sq h = tt
@@ -149,7 +149,7 @@ begun-parts (css.UrlSq s) h = h
 begun-parts css.UrlEnd h = tt
 begun-parts (css.Comment star) h = comment-start-parts star
 
-hole-parts : (c : Css) → AreStyleParts c → AreStyleParts (style_at_hole c)
+hole-parts : (c : Css) → IsValidCss c → IsValidCss (style_at_hole c)
 hole-parts (css.Code x) h = tt
 hole-parts css.Dq h = tt
 hole-parts css.Sq h = tt

@@ -5,7 +5,7 @@ use Rattle.css_lexer.specs.Escapes.{HexDigits}
 use Rattle.css_lexer.specs.RefusalCodes.{RefusalCode, AmbigContext, BadHTML, PartialEscape, SplitToken, BadString, at_end}
 use Rattle.place_core.specs.declared.css.Css.{Css}
 use Rattle.place_core.specs.declared.css.Css.TheVariants as css
-use Rattle.place_core.specs.place.NotBuiltPlaces.{both_parts, joined_css}
+use Rattle.place_core.specs.place.LanguagePlaces.{both_parts, joined_css}
 use Rattle.place_core.specs.place.UrlParts.{parts_of}
 use Rattle.url_lexer.specs.Classes.{url_class_of}
 use Rattle.url_lexer.specs.Parts.{UrlOpenhole, UrlPrequery, UrlQuery}

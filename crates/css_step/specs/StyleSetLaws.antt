@@ -11,7 +11,7 @@ use Rattle.css_lexer.specs.declared.class.StyleClass.{StyleClass}
 use Rattle.place_core.specs.declared.css.Css.{Css}
 use Rattle.place_core.specs.declared.css_tails.CssTails.{CssTails}
 use Rattle.place_core.specs.declared.parts.Parts.{Parts}
-use Rattle.place_core.specs.place.NotBuiltPlaces.{joined_css, both_css_tails}
+use Rattle.place_core.specs.place.LanguagePlaces.{joined_css, both_css_tails}
 use Rattle.url_lexer.specs.States.{Url}
 use Rattle.url_lexer.specs.Triples.{Triple}
 use Rattle.url_step.specs.PartSets.{PartsBelow}

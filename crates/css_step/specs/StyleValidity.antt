@@ -1,34 +1,22 @@
 -- The parts of the URLs in styles: that they stay sets of parts (`StylesStayValid`); and that two paths in one URL have spelled the same at a `:` that is
 -- accepted, and are in one part at a hole that is (`StylesAgree`).
-use Rattle.std.specs.Prelude.{⊤, ◌≡◌, ℕ, Option, Some, None, false}
+use Rattle.std.specs.Prelude.{◌≡◌, ℕ, Option, Some, None, false}
 use Rattle.css_lexer.specs.States.{Fresh, Bare, Quoted, Ended, Style, Out, InUrl}
 use Rattle.css_lexer.specs.declared.class.StyleClass.{StyleClass}
 use Rattle.css_lexer.specs.declared.class.StyleClass.TheVariants as class
 use Rattle.place_core.specs.declared.css.Css.{Css}
-use Rattle.place_core.specs.declared.css.Css.TheVariants as css
 use Rattle.url_lexer.specs.Parts.{UrlPart}
 use Rattle.url_lexer.specs.States.{Url}
 use Rattle.url_lexer.specs.TwoPaths.{are_apart, refuses_hole_on_two}
-use Rattle.url_step.specs.PartSets.{AreParts}
 use Rattle.css_step.specs.StyleScans.{StyleScan, style_scan_start, style_scan_next, style_scan_error, style_scan_place, style_at_hole, style_hole_error}
 use Rattle.css_step.specs.StyleSetLaws.{HasStyle}
+use Rattle.place_core.specs.place.LanguagePlaces.{IsValidCss}
 
-abbrev pub AreStyleParts : Css → Type 0
-AreStyleParts (css.Code x) = ⊤
-AreStyleParts css.Dq = ⊤
-AreStyleParts css.Sq = ⊤
-AreStyleParts css.UrlFresh = ⊤
-AreStyleParts (css.Url s) = AreParts s
-AreStyleParts (css.UrlDq s) = AreParts s
-AreStyleParts (css.UrlSq s) = AreParts s
-AreStyleParts css.UrlEnd = ⊤
-AreStyleParts (css.Comment star) = ⊤
-
--- They are, at the beginning of a text, behind a byte, and behind a hole.
+-- They are sets of parts at the beginning of a text, behind a byte, and behind a hole.
 pub record StylesStayValid : Type 0 where
-  pub start : (c : Css) → AreStyleParts c → AreStyleParts (style_scan_place (style_scan_start c))
-  pub next : (n : StyleScan) (c : StyleClass) (b : ℕ) → AreStyleParts (style_scan_place n) → AreStyleParts (style_scan_place (style_scan_next n c b))
-  pub at_hole : (c : Css) → AreStyleParts c → AreStyleParts (style_at_hole c)
+  pub start : (c : Css) → IsValidCss c → IsValidCss (style_scan_place (style_scan_start c))
+  pub next : (n : StyleScan) (c : StyleClass) (b : ℕ) → IsValidCss (style_scan_place n) → IsValidCss (style_scan_place (style_scan_next n c b))
+  pub at_hole : (c : Css) → IsValidCss c → IsValidCss (style_at_hole c)
 
 -- the part of the URL in which a path is
 abbrev pub style_part : Style Url → Option UrlPart

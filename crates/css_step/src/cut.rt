@@ -9,7 +9,7 @@ ghost use Rattle.css_step.specs.StyleScans.{style_scan_cut_error, style_scan_pla
 ghost use Rattle.css_step.specs.StyleScans.{style_scan_start, style_string_place};
 ghost use Rattle.url_lexer.specs.Refusals.{refuses_cut_in};
 
-use crate::scan::{StyleEscape, StyleQuote, StyleScan, StyleTriple};
+use crate::scan::{NO_TAILS, StyleEscape, StyleQuote, StyleScan, StyleTriple};
 use place_core::{Code, Css, CssTails, Parts};
 
 /// Why the end of a node is refused in a style. The error stands `back` bytes before the end; the place that is shown stands
@@ -81,18 +81,15 @@ pub fn place(scan: StyleScan) -> Css
         StyleScan::Code(tails) => Css::Code(tails),
         StyleScan::Word(_, _) | StyleScan::SplitEscape(_) => Css::Code(CssTails {
             word: true,
-            slash: false,
-            lt: false,
+            ..NO_TAILS
         }),
         StyleScan::Solidus => Css::Code(CssTails {
-            word: false,
             slash: true,
-            lt: false,
+            ..NO_TAILS
         }),
         StyleScan::LessThan => Css::Code(CssTails {
-            word: false,
-            slash: false,
             lt: true,
+            ..NO_TAILS
         }),
         StyleScan::Comment(star) => Css::Comment(star),
         StyleScan::StarBefore => Css::Comment(true),

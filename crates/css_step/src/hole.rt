@@ -1,43 +1,7 @@
 ghost use Rattle.std.specs.Prelude.{◌≡◌};
-ghost use Rattle.css_lexer.specs.Urls.{url_refusal};
-ghost use Rattle.css_step.specs.StyleScanViews.{style_hole_answer, style_or_refusal};
-ghost use Rattle.url_step.specs.PartSets.{parts_at_hole, parts_hole_error};
-ghost use Rattle.place_core.specs.declared.css.Css.TheVariants as css;
+ghost use Rattle.css_step.specs.StyleScanViews.{style_hole_answer};
 
 use place_core::{Code, Css, CssTails, Parts};
-
-// A hole in a URL without quotes.
-fn in_bare(parts: Parts) -> Result<Css, Code>
-    ensures { result ≡ style_or_refusal (url_refusal (parts_hole_error parts))
-        (css.Url (parts_at_hole parts)) }
-{
-    match url_step::at_hole(parts) {
-        Ok(after) => Ok(Css::Url(after)),
-        Err(code) => Err(code),
-    }
-}
-
-// A hole in a URL in double quotes.
-fn in_double(parts: Parts) -> Result<Css, Code>
-    ensures { result ≡ style_or_refusal (url_refusal (parts_hole_error parts))
-        (css.UrlDq (parts_at_hole parts)) }
-{
-    match url_step::at_hole(parts) {
-        Ok(after) => Ok(Css::UrlDq(after)),
-        Err(code) => Err(code),
-    }
-}
-
-// A hole in a URL in single quotes.
-fn in_single(parts: Parts) -> Result<Css, Code>
-    ensures { result ≡ style_or_refusal (url_refusal (parts_hole_error parts))
-        (css.UrlSq (parts_at_hole parts)) }
-{
-    match url_step::at_hole(parts) {
-        Ok(after) => Ok(Css::UrlSq(after)),
-        Err(code) => Err(code),
-    }
-}
 
 /// The place behind a hole, or why it is refused: it stands behind a URL, or its URL refuses it.
 pub fn at_hole(place: Css) -> Result<Css, Code>
@@ -59,9 +23,9 @@ pub fn at_hole(place: Css) -> Result<Css, Code>
             query: false,
             bad: false,
         })),
-        Css::Url(parts) => in_bare(parts),
-        Css::UrlDq(parts) => in_double(parts),
-        Css::UrlSq(parts) => in_single(parts),
+        Css::Url(parts) => url_step::at_hole(parts).map(Css::Url),
+        Css::UrlDq(parts) => url_step::at_hole(parts).map(Css::UrlDq),
+        Css::UrlSq(parts) => url_step::at_hole(parts).map(Css::UrlSq),
         Css::UrlEnd => Err(Code::BadString),
         Css::Comment(star) => Ok(Css::Comment(star)),
     }

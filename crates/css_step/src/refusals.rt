@@ -8,7 +8,7 @@ ghost use Rattle.css_step.specs.StyleScans.{style_bare_error, style_fresh_error}
 ghost use Rattle.css_step.specs.StyleScans.{style_quoted_error, style_scan_error};
 ghost use Rattle.css_step.specs.StyleScans.{style_tails_error, style_url_error};
 
-use crate::scan::{StyleEscape, StyleQuote, StyleScan};
+use crate::scan::{StyleEscape, StyleQuote, StyleScan, URL_START};
 use crate::text::is_taken;
 use css_lexer::{StyleClass, class_of};
 use place_core::{Code, CssTails, Parts};
@@ -130,18 +130,7 @@ pub fn refused(scan: StyleScan, byte: u8) -> Option<Code>
         StyleScan::SplitEscape(escape) => in_split(escape, class),
         StyleScan::StarBefore => behind_star(class),
         StyleScan::InString(_, escape) => in_string(is_taken(escape, byte), class),
-        StyleScan::Fresh => in_fresh(
-            Parts {
-                start: true,
-                opened: None,
-                openhole: false,
-                prequery: false,
-                query: false,
-                bad: false,
-            },
-            class,
-            byte,
-        ),
+        StyleScan::Fresh => in_fresh(URL_START, class, byte),
         StyleScan::BareUrl(parts, _) => in_bare(parts, class, byte),
         StyleScan::QuotedUrl(quote, escape, parts, _) => {
             in_quoted(is_taken(escape, byte), quote, parts, class, byte)

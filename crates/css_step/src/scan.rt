@@ -1,5 +1,22 @@
 use place_core::{CssTails, Parts};
 
+/// No path ended in what may go on.
+pub const NO_TAILS: CssTails = CssTails {
+    word: false,
+    slash: false,
+    lt: false,
+};
+
+/// Where a URL begins.
+pub const URL_START: Parts = Parts {
+    start: true,
+    opened: None,
+    openhole: false,
+    prequery: false,
+    query: false,
+    bad: false,
+};
+
 /// How much of the word `url`, in any case, a word is so far.
 #[derive(Clone, Copy)]
 pub enum StyleWord {

@@ -12,7 +12,9 @@ ghost use Rattle.css_step.specs.StyleScans.{style_split_word, style_string_next,
 ghost use Rattle.url_lexer.specs.Classes as url_classes;
 ghost use Rattle.url_lexer.specs.Triples.{next_triple};
 
-use crate::scan::{StyleEscape, StyleQuote, StyleScan, StyleTriple, StyleWord};
+use crate::scan::{
+    NO_TAILS, StyleEscape, StyleQuote, StyleScan, StyleTriple, StyleWord, URL_START,
+};
 use css_lexer::{StyleClass, class_of};
 use place_core::{CssTails, Parts};
 use url_lexer::{UrlClass, url_class_of};
@@ -64,7 +66,8 @@ fn behind_taken(byte: u8) -> StyleEscape
 
 // The same in a string.
 fn behind_taken_in_string(escape: StyleEscape, byte: u8) -> StyleEscape
-    ensures { style_escape_at result ≡ escapes.behind_taken_in_string (style_escape_at escape) byte }
+    ensures { style_escape_at result
+        ≡ escapes.behind_taken_in_string (style_escape_at escape) byte }
 {
     match escape {
         StyleEscape::Backslash => {
@@ -134,11 +137,7 @@ fn between(class: StyleClass, byte: u8) -> StyleScan
         | StyleClass::RightParenthesis
         | StyleClass::Asterisk
         | StyleClass::Punctuation
-        | StyleClass::OtherByte => StyleScan::Code(CssTails {
-            word: false,
-            slash: false,
-            lt: false,
-        }),
+        | StyleClass::OtherByte => StyleScan::Code(NO_TAILS),
     }
 }
 
@@ -149,8 +148,7 @@ fn split_word(escape: StyleEscape) -> StyleScan
     match escape {
         StyleEscape::None => StyleScan::Code(CssTails {
             word: true,
-            slash: false,
-            lt: false,
+            ..NO_TAILS
         }),
         StyleEscape::Backslash => StyleScan::SplitEscape(StyleEscape::Backslash),
         StyleEscape::Digits(count) => StyleScan::SplitEscape(StyleEscape::Digits(count)),
@@ -214,11 +212,7 @@ fn in_comment(star: bool, class: StyleClass) -> StyleScan
     ensures { style_scan_at result ≡ style_comment_next star class }
 {
     match (star, class) {
-        (true, StyleClass::Solidus) => StyleScan::Code(CssTails {
-            word: false,
-            slash: false,
-            lt: false,
-        }),
+        (true, StyleClass::Solidus) => StyleScan::Code(NO_TAILS),
         (_, StyleClass::Asterisk) => StyleScan::Comment(true),
         _ => StyleScan::Comment(false),
     }
@@ -238,11 +232,7 @@ fn in_string(
     match (taken, quote, class) {
         (true, _, _) => StyleScan::InString(quote, behind_taken_in_string(escape, byte)),
         (false, StyleQuote::Double, StyleClass::QuotationMark)
-        | (false, StyleQuote::Single, StyleClass::Apostrophe) => StyleScan::Code(CssTails {
-            word: false,
-            slash: false,
-            lt: false,
-        }),
+        | (false, StyleQuote::Single, StyleClass::Apostrophe) => StyleScan::Code(NO_TAILS),
         (false, _, StyleClass::ReverseSolidus) => {
             StyleScan::InString(quote, StyleEscape::Backslash)
         }
@@ -257,11 +247,7 @@ fn in_bare(parts: Parts, triple: StyleTriple, class: StyleClass, byte: u8) -> St
 {
     match class {
         StyleClass::Blank | StyleClass::Newline => StyleScan::Ended,
-        StyleClass::RightParenthesis => StyleScan::Code(CssTails {
-            word: false,
-            slash: false,
-            lt: false,
-        }),
+        StyleClass::RightParenthesis => StyleScan::Code(NO_TAILS),
         _ => StyleScan::BareUrl(url_step::next(parts, byte), triple_after(triple, byte)),
     }
 }
@@ -270,21 +256,13 @@ fn in_bare(parts: Parts, triple: StyleTriple, class: StyleClass, byte: u8) -> St
 fn in_fresh(class: StyleClass, byte: u8) -> StyleScan
     ensures { style_scan_at result ≡ style_fresh_next class byte }
 {
-    let parts = Parts {
-        start: true,
-        opened: None,
-        openhole: false,
-        prequery: false,
-        query: false,
-        bad: false,
-    };
     match class {
         StyleClass::Blank | StyleClass::Newline => StyleScan::Fresh,
         StyleClass::QuotationMark => {
             StyleScan::QuotedUrl(
                 StyleQuote::Double,
                 StyleEscape::None,
-                parts,
+                URL_START,
                 StyleTriple::None,
             )
         }
@@ -292,11 +270,11 @@ fn in_fresh(class: StyleClass, byte: u8) -> StyleScan
             StyleScan::QuotedUrl(
                 StyleQuote::Single,
                 StyleEscape::None,
-                parts,
+                URL_START,
                 StyleTriple::None,
             )
         }
-        _ => in_bare(parts, StyleTriple::None, class, byte),
+        _ => in_bare(URL_START, StyleTriple::None, class, byte),
     }
 }
 
@@ -333,11 +311,7 @@ fn behind_url(class: StyleClass) -> StyleScan
     ensures { style_scan_at result ≡ style_ended_next class }
 {
     match class {
-        StyleClass::RightParenthesis => StyleScan::Code(CssTails {
-            word: false,
-            slash: false,
-            lt: false,
-        }),
+        StyleClass::RightParenthesis => StyleScan::Code(NO_TAILS),
         _ => StyleScan::Ended,
     }
 }

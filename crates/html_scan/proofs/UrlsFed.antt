@@ -1,21 +1,18 @@
 -- What a byte makes of a URL, by what it does to the reference that is open; and what is refused of the bytes that the URL is fed.
-use Rattle.std.proofs.Common.{◌≡◌, ℕ, ◌+◌, ◌-◌, ◌==◌, ◌≤◌, ◌/◌, ◌<◌, Bool, true, false, cond, List, [], ◌∷◌, ◌++◌, length, bytes_eq, encode_utf8, nat_lt, refl, sym, ap, ◌∙◌, arith, inl, inr}
+use Rattle.std.proofs.Common.{◌≡◌, ℕ, ◌+◌, ◌==◌, ◌≤◌, ◌/◌, ◌<◌, Bool, true, false, List, [], ◌∷◌, ◌++◌, length, bytes_eq, encode_utf8, refl, sym, ap, ◌∙◌, arith, inl, inr}
 use Rattle.std.proofs.lemmas.Bool.{cases_lt, lt-ltb, le-ltb}
 use Rattle.std.proofs.lemmas.Bool.Decides.{nat_tests}
-use Rattle.std.specs.Prelude.{get_or, drop}
-use Rattle.std.proofs.lemmas.List.{append-nil, drop_more}
+use Rattle.std.specs.Prelude.{get_or}
 use Rattle.std.proofs.lemmas.Slice.Eq.{bytes_eq-Decides}
 use Rattle.place_core.specs.page.Classes.{Class, is_equals_sign}
-use Rattle.place_core.specs.page.References.{Form, Closed, Open, Grows, Closes, Breaks, turn, meaning, flushed, plain_bytes, undone_byte}
+use Rattle.place_core.specs.page.References.{Form, Closed, Open, Grows, Closes, Breaks, turn, meaning, flushed, plain_bytes}
 use Rattle.place_core.specs.page.Tags.{Feeding, feed_bytes}
-use Rattle.place_core.specs.place.Errors.{begins_word, begins_word_by, fed_error, flushed_error, is_written}
-use Rattle.place_core.specs.place.UrlParts.{is_word_prefix}
+use Rattle.place_core.specs.place.Errors.{fed_error, flushed_error, is_written}
 use Rattle.place_core.specs.declared.body.Body.TheVariants as body
 use Rattle.place_core.specs.declared.parts.Parts.{Parts}
 use Rattle.place_core.specs.declared.quotes.Quotes.{Quotes}
 use Rattle.place_core.specs.declared.value_place.ValuePlace.{ValuePlace}
 use Rattle.url_lexer.specs.Classes.{url_class_of}
-use Rattle.url_lexer.specs.Prefixes.{prefix_of_first}
 use Rattle.url_lexer.specs.Triples.{Triple, next_triple}
 use Rattle.html_scan.specs.Scans.{parts_feeding, triple_behind, url_scan, with_parts, value_fed}
 use Rattle.html_scan.specs.Slices.{pending}
@@ -81,33 +78,3 @@ pub flushed_written : {S : Type 0} (m : Feeding S) (s : S) (equals : Bool) (f : 
     → fed_error m s (38 ∷ read) true (length read + 1) ≡ flushed_error m s equals f read
 unfolding is_written
 flushed_written m s equals f read e = rw (e, (bytes_eq-Decides (38 ∷ read) (38 ∷ read)).1 refl) refl
-
--- A reference as it stands begins with its `&`, which is no letter of a word.
-pub written_tells : (bytes read more : List ℕ) → bytes ≡ 38 ∷ read → false ≡ begins_word (bytes ++ more)
-unfolding url_class_of
-written_tells bytes read more e = rw e refl
-
--- A reference tells the first letter of a word by the bytes that it is.
-pub closed_tells : (f : Form) (read : List ℕ) (c : Class) (b code : ℕ) (tells : Bool) → Closes ≡ turn c f → code ≡ meaning f read
-    → tells ≡ begins_word (encode_utf8 code ++ []) → tells ≡ begins_word (undone_byte true (Open f read) c b)
-closed_tells f read c b code tells e m h = h ∙ ap begins_word (append-nil (encode_utf8 code)) ∙ rw (← e, m) refl
-
-pub broken_tells : (f : Form) (read : List ℕ) (c : Class) (b : ℕ) (equals tells : Bool) → Breaks ≡ turn c f → equals ≡ is_equals_sign c
-    → tells ≡ begins_word (flushed true equals f read ++ plain_bytes c b) → tells ≡ begins_word (undone_byte true (Open f read) c b)
-broken_tells f read c b equals tells e n h = h ∙ rw (← e, n) refl
-
--- Blanks are passed over, and what is none decides.
-pub blank_passed : (bytes more : List ℕ) (i d b : ℕ) (blank z : Bool) → i < length bytes → b ≡ get_or bytes i d → blank ≡ true
-    → ((behind : Bool) → begins_word_by (url_class_of b) b behind ≡ cond blank behind (is_word_prefix (prefix_of_first b)))
-    → begins_word (drop i bytes ++ more) ≡ z → begins_word (drop (i + 1) bytes ++ more) ≡ z
-blank_passed bytes more i d b blank z inside same e told h =
-    let rest = begins_word (drop (i + 1) bytes ++ more) in
-    sym (told rest ∙ ap (λ (x : Bool). cond x rest (is_word_prefix (prefix_of_first b))) e) ∙ (rw (drop_more bytes i d inside, ← same) at h)
-
-pub letter_told : (bytes more : List ℕ) (i d b : ℕ) (blank letter : Bool) → i < length bytes → b ≡ get_or bytes i d → blank ≡ false
-    → letter ≡ is_word_prefix (prefix_of_first b)
-    → ((behind : Bool) → begins_word_by (url_class_of b) b behind ≡ cond blank behind (is_word_prefix (prefix_of_first b)))
-    → begins_word (drop i bytes ++ more) ≡ begins_word (bytes ++ more) → letter ≡ begins_word (bytes ++ more)
-letter_told bytes more i d b blank letter inside same e l told h =
-    let rest = begins_word (drop (i + 1) bytes ++ more) in
-    l ∙ sym (told rest ∙ ap (λ (x : Bool). cond x rest (is_word_prefix (prefix_of_first b))) e) ∙ (rw (drop_more bytes i d inside, ← same) at h)

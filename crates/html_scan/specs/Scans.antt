@@ -1,12 +1,12 @@
 -- How a text is stepped, byte by byte, for all the paths that stand at a place together. Between lexemes they are at a place, which has sets; in
 -- a lexeme they are all in the same one. What is left out of the states of the lexer is what no place depends on: references in text and in
 -- values that are text.
-use Rattle.std.specs.Prelude.{ℕ, Bool, true, false, ◌||◌, ◌&&◌, List, [], ◌∷◌, ◌++◌, length, Option, Some, None, option_map, is_some, if◌then◌else◌}
+use Rattle.std.specs.Prelude.{ℕ, Bool, true, false, ◌||◌, List, [], ◌∷◌, ◌++◌, length, Option, Some, None, option_map, if◌then◌else◌}
 use Rattle.std.specs.Char.{to_ascii_lowercase}
 use Rattle.place_core.specs.page.Classes.{Class, White, ExclamationMark, QuotationMark, Apostrophe, HyphenMinus, Solidus, LessThan, EqualsSign, GreaterThan, Letter, class_of, is_equals_sign}
 use Rattle.place_core.specs.page.Comments.{Declaration, OpensComment, OpensDoctype, Undecided, OpensNothing, declared_by, next_comment, closes_comment}
 use Rattle.place_core.specs.page.Contents.{may_be_name_of, is_name_of}
-use Rattle.place_core.specs.place.Errors.{PathCause, place_error, value_error, fed_error, language_error, first_byte_error, first_cause, begins_word, at_hand, quotes_error, block_byte_error, block_cut_error, tag_name_error, attribute_name_error, unless_second}
+use Rattle.place_core.specs.place.Errors.{PathCause, place_error, value_error, fed_error, language_error, first_byte_error, first_cause, at_hand, quotes_error, block_byte_error, block_cut_error, tag_name_error, attribute_name_error, unless_second}
 use Rattle.place_core.specs.page.Html.{ends_value}
 use Rattle.place_core.specs.page.References.{Form, Reference, Closed, Open, ReferenceStep, Breaks, turn, flushed, next_reference, undone_byte, settled, as_it_stands}
 use Rattle.place_core.specs.place.StatePlaces.{only_name, only_before, only_inside, only_after, unbegun, body_at, quotes_at}
@@ -24,8 +24,6 @@ use Rattle.place_core.specs.declared.kind.Kind.TheVariants as kind
 use Rattle.place_core.specs.declared.parts.Parts.{Parts}
 use Rattle.place_core.specs.declared.place.Place.{Place}
 use Rattle.place_core.specs.declared.place.Place.TheVariants as place
-use Rattle.place_core.specs.declared.prefix.Prefix.{Prefix}
-use Rattle.place_core.specs.declared.prefix.Prefix.TheVariants as prefix
 use Rattle.place_core.specs.declared.quotes.Quotes.{Quotes}
 use Rattle.place_core.specs.declared.quotes.Quotes.TheVariants as quotes
 use Rattle.place_core.specs.declared.spots.Spots.{Spots}
@@ -187,19 +185,15 @@ quoted_next v q t r c b = value_fed v q v.body t r c b
 abbrev pub value_next : ValuePlace → Triple → Reference → Class → ℕ → Scan
 value_next v t r c b = quoted_next v v.quotes t r c b
 
--- What is refused in a value: by its language, and then by its quotes. Where it is a URL that has begun on some paths and not on others, the first
--- letter of a word that is looked for is not built yet; it is refused first, since what the paths spell from there on is not known.
+-- What is refused in a value: by its language, and then by its quotes.
 abbrev pub quoted_error : Quotes → Parts → Reference → Class → ℕ → Option PathCause
 quoted_error quotes.Dq s r c b = language_error parts_feeding (ends_value DoubleQuoted c) s r c b
 quoted_error quotes.Sq s r c b = language_error parts_feeding (ends_value SingleQuoted c) s r c b
 quoted_error (quotes.Bare x) s r c b =
     if x.uq then language_error parts_feeding (ends_value Unquoted c) s r c b else first_byte_error parts_feeding s c b
 
-abbrev pub word_error : Parts → List ℕ → Option Code
-word_error s bytes = if (s.start && is_some s.opened) && begins_word bytes then Some code.NotBuilt else None
-
 abbrev pub parts_cause : Body → Quotes → Reference → Class → ℕ → Option PathCause
-parts_cause (body.Url s) q r c b = first_cause (at_hand (word_error s (undone_byte true r c b))) (quoted_error q s r c b)
+parts_cause (body.Url s) q r c b = quoted_error q s r c b
 parts_cause x q r c b = None
 
 abbrev pub value_cause : ValuePlace → Reference → Class → ℕ → Option PathCause
@@ -399,29 +393,14 @@ scan_cut_error (InContentEnd e h) = content_cut_error e h
 scan_cut_error (BeforeType t) = at_hand (Some code.BadHTML)
 scan_cut_error (InType t q v r) = at_hand (Some code.BadHTML)
 
--- What is refused at the end of a text in a URL, as a percent triple that has begun; and, which is not built yet, a beginning that spells some of a
--- word that is looked for.
-abbrev pub if_unfinished : Triple → Option Code → Option Code
-if_unfinished NoTriple rest = rest
-if_unfinished AfterPercent rest = Some code.PartialEscape
-if_unfinished AfterDigit rest = Some code.PartialEscape
-
-abbrev pub if_word : Option Prefix → Option Code
-if_word None = None
-if_word (Some prefix.Off) = None
-if_word (Some p) = Some code.NotBuilt
-
-abbrev pub parts_cut_error : Body → Triple → List ℕ → Option Code
-parts_cut_error (body.Url s) t bytes = if_unfinished (triple_behind t bytes) (if_word (feed_bytes parts_feeding s bytes).opened)
-parts_cut_error x t bytes = None
-
-abbrev pub place_cut_error : Place → Option Code
-place_cut_error (place.Value v) = parts_cut_error v.body NoTriple []
-place_cut_error p = None
+-- What is refused at the end of a text in a URL: a percent triple that has begun.
+abbrev pub if_unfinished : Triple → Option Code
+if_unfinished NoTriple = None
+if_unfinished AfterPercent = Some code.PartialEscape
+if_unfinished AfterDigit = Some code.PartialEscape
 
 abbrev pub scan_lexeme_error : Scan → Option Code
-scan_lexeme_error (At p) = place_cut_error p
-scan_lexeme_error (InUrl v t r) = parts_cut_error v.body t (as_it_stands r)
+scan_lexeme_error (InUrl v t r) = if_unfinished (triple_behind t (as_it_stands r))
 scan_lexeme_error f = None
 
 -- whether the scan is between two lexemes of a URL

@@ -12,7 +12,7 @@ use crate::references::{OpenReference, Outcome, ReferenceForm, is_equals, turn};
 use crate::scan::Scan;
 use crate::slices::pending;
 use crate::tags::{whole_attribute_name, whole_tag_name};
-use crate::urls::{at_cut, broken_parts, by_parts};
+use crate::urls::{broken_parts, parts_at_cut};
 use place_core::{Body, Element, Place, ValuePlace};
 
 /// The place where a text ends.
@@ -63,7 +63,7 @@ fn cut_body(text: &[u8], body: Body, reference: Option<OpenReference>) -> Body
         (references.as_it_stands (open_reference_at text.now (length text.now) reference)) }
 {
     match body {
-        Body::Url(parts) => Body::Url(at_cut(text, by_parts(parts), reference).parts),
+        Body::Url(parts) => Body::Url(parts_at_cut(text, parts, reference)),
         Body::Plain | Body::NoHole | Body::Js(_) | Body::Css(_) => body,
     }
 }

@@ -3,7 +3,7 @@ ghost use Rattle.html_scan.specs.ClassViews.{class_at};
 ghost use Rattle.html_scan.specs.ScanViews.{cause_at, quoting_at, scan_at, pending_from};
 ghost use Rattle.place_core.specs.declared.code.Code.TheVariants as code;
 ghost use Rattle.place_core.specs.place.StatePlaces.{quotes_at};
-ghost use Rattle.html_scan.specs.Scans.{place_cut_error, scan_cut_error, scan_error, scan_lexeme_error};
+ghost use Rattle.html_scan.specs.Scans.{scan_cut_error, scan_error, scan_lexeme_error};
 
 use crate::cause::Cause;
 use crate::class::Class;
@@ -16,11 +16,10 @@ use crate::quoting::Quoting;
 use crate::scan::Scan;
 use crate::slices::pending;
 use crate::tags::UNBEGUN;
-use crate::triple::Triple;
 use crate::types::type_tag;
 use crate::url_refusals::{of_open, of_unfinished};
 use crate::values::BEGUN;
-use place_core::{Code, Element, Place, Quotes};
+use place_core::{Code, Element, Quotes};
 
 /// Why a byte is refused after that many bytes of a text.
 #[inline(always)]
@@ -94,29 +93,12 @@ pub fn lexeme_at_end(text: &[u8], scan: Scan) -> Option<Code>
     ensures { result ≡ scan_lexeme_error (scan_at text.now (length text.now) scan) }
 {
     match scan {
-        Scan::At(place) => lexeme_at_place(text, place),
         Scan::InUrl {
-            place,
             triple,
             reference,
-        } => of_unfinished(text, place.body, triple, reference),
+            ..
+        } => of_unfinished(text, triple, reference),
         _ => None,
-    }
-}
-
-fn lexeme_at_place(text: &[u8], place: Place) -> Option<Code>
-    ensures { result ≡ place_cut_error place }
-{
-    match place {
-        Place::Value(value) => of_unfinished(text, value.body, Triple::None, None),
-        Place::Text
-        | Place::Doctype
-        | Place::Comment(_)
-        | Place::Rcdata(_)
-        | Place::Tag(_)
-        | Place::Block(_)
-        | Place::Script(_)
-        | Place::Style(_) => None,
     }
 }
 

@@ -134,7 +134,8 @@ pub fn in_attribute_name(class: Class, tag: TagOf, typed: bool, name: &[u8], fro
 
 // After the name of an attribute, and a blank.
 fn after_name(tag: TagOf, typed: bool, kind: Kind) -> Place
-    ensures { At result ≡ spec.in_tag tag (spec.typed_with tag typed kind) only_after (Some kind) }
+    ensures { At result
+        ≡ spec.in_tag tag (spec.typed_with tag typed kind) only_after (Some kind) }
 {
     Place::Tag(TagPlace {
         tag,
@@ -167,7 +168,8 @@ fn after_white(spots: Spots) -> Spots
 
 // Where a value of this kind begins; of one that is not read yet, it is refused.
 fn value_begins(tag: TagOf, typed: bool, kind: Option<Kind>) -> Scan
-    ensures scan { (text : List ℕ) (k : ℕ) → scan_at text k result ≡ value_scan tag typed kind }
+    ensures scan { (text : List ℕ) (k : ℕ)
+        → scan_at text k result ≡ value_scan tag typed kind }
     ensures pending { pending_from result ≡ 0 }
 {
     match kind {

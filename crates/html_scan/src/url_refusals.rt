@@ -1,17 +1,12 @@
 // What is refused in a value that is a URL, on all paths together.
-ghost use Rattle.std.specs.Prelude.{◌≡◌, ◌+◌, ◌∷◌, ◌++◌, ◌<◌, ◌≤◌, ℕ, Bool, IfSome, List, [], true, false, encode_utf8, get_or, length, if◌then◌else◌};
+ghost use Rattle.std.specs.Prelude.{◌≡◌, ◌+◌, ◌∷◌, ◌<◌, ◌≤◌, ℕ, IfSome, [], true, false, encode_utf8, get_or, length};
 ghost use Rattle.place_core.specs.page.Classes as classes;
-ghost use Rattle.place_core.specs.page.References.{Closes, Closed, Open, as_it_stands, flushed, plain_bytes, undone_byte};
+ghost use Rattle.place_core.specs.page.References.{Closes, as_it_stands, plain_bytes};
 ghost use Rattle.place_core.specs.place.Errors.{fed_error, first_byte_error, flushed_error, language_error, turned_error};
-ghost use Rattle.place_core.specs.place.Errors as errors;
-ghost use Rattle.place_core.specs.place.UrlParts.{is_word_prefix};
 ghost use Rattle.place_core.specs.declared.body.Body.TheVariants as body;
-ghost use Rattle.url_lexer.specs.Classes as classes_of_urls;
-ghost use Rattle.url_lexer.specs.Prefixes.{prefix_of_first};
 ghost use Rattle.html_scan.specs.ClassViews.{class_at};
 ghost use Rattle.html_scan.specs.ScanViews.{cause_at, open_form_at, open_reference_at, reference_from, triple_at};
-ghost use Rattle.html_scan.specs.Scans.{if_word, open_cut_error, parts_cause, parts_cut_error, parts_feeding, quoted_error, word_error};
-ghost use Rattle.html_scan.specs.Scans as scans;
+ghost use Rattle.html_scan.specs.Scans.{if_unfinished, open_cut_error, parts_cause, parts_feeding, triple_behind};
 ghost use Rattle.place_core.specs.page.References as references;
 
 use crate::cause::Cause;
@@ -24,9 +19,8 @@ use crate::references::{
 use crate::slices::pending;
 use crate::triple::Triple;
 use crate::types::ends;
-use crate::urls::{UrlPoint, at_cut, broken_parts};
-use place_core::{Body, Code, Parts, Prefix, Quotes};
-use url_lexer::{UrlClass, url_class_of};
+use crate::urls::{broken_parts, triple_at_cut};
+use place_core::{Body, Code, Parts, Quotes};
 
 /// Why a byte is refused in a URL, between these quotes.
 pub fn refused_in_url(
@@ -40,27 +34,6 @@ pub fn refused_in_url(
     requires inside { index < length text.now }
     requires pending { reference_from reference ≤ index }
     ensures error { cause_at result ≡ parts_cause (body.Url parts) quotes
-        (open_reference_at text.now index reference) (class_at class) (get_or text.now index 0) }
-    ensures bound { IfSome result (λ cause. (cause.back ≤ index) × (cause.shown ≤ index)) }
-{
-    match of_word(text, index, class, parts, reference) {
-        Some(code) => at_hand(Some(code)),
-        None => in_quotes(text, index, class, quotes, parts, reference),
-    }
-}
-
-// What the language refuses, by the quotes.
-fn in_quotes(
-    text: &[u8],
-    index: usize,
-    class: Class,
-    quotes: Quotes,
-    parts: Parts,
-    reference: Option<OpenReference>,
-) -> Option<Cause>
-    requires inside { index < length text.now }
-    requires pending { reference_from reference ≤ index }
-    ensures error { cause_at result ≡ quoted_error quotes parts
         (open_reference_at text.now index reference) (class_at class) (get_or text.now index 0) }
     ensures bound { IfSome result (λ cause. (cause.back ≤ index) × (cause.shown ≤ index)) }
 {
@@ -262,127 +235,6 @@ fn of_first_byte(parts: Parts, class: Class, byte: u8) -> Option<Cause>
     }
 }
 
-// The first letter of a word that is looked for, where some paths are where the URL begins and others are in its beginning.
-fn of_word(
-    text: &[u8],
-    index: usize,
-    class: Class,
-    parts: Parts,
-    reference: Option<OpenReference>,
-) -> Option<Code>
-    requires inside { index < length text.now }
-    requires pending { reference_from reference ≤ index }
-    ensures { result ≡ word_error parts (undone_byte true
-        (open_reference_at text.now index reference) (class_at class) (get_or text.now index 0)) }
-{
-    if parts.start && parts.opened.is_some() {
-        if tells_word(text, index, class, reference) {
-            return Some(Code::NotBuilt);
-        }
-        return None;
-    }
-    None
-}
-
-fn tells_word(text: &[u8], index: usize, class: Class, reference: Option<OpenReference>) -> bool
-    requires inside { index < length text.now }
-    requires pending { reference_from reference ≤ index }
-    ensures { result ≡ errors.begins_word (undone_byte true
-        (open_reference_at text.now index reference) (class_at class) (get_or text.now index 0)) }
-{
-    match reference {
-        None => plain_tells_word(class, text[index]),
-        Some(open) => {
-            let read = pending(text, open.from + 1, index);
-            reference_tells_word(open.form, read, class, text[index])
-        }
-    }
-}
-
-fn plain_tells_word(class: Class, byte: u8) -> bool
-    ensures { result ≡ errors.begins_word (plain_bytes (class_at class) byte) }
-{
-    match class {
-        Class::Ampersand => false,
-        _ => {
-            if is_blank(byte) {
-                return false;
-            }
-            is_word_letter(byte)
-        }
-    }
-}
-
-fn reference_tells_word(form: ReferenceForm, read: &[u8], class: Class, byte: u8) -> bool
-    ensures { result ≡ errors.begins_word
-        (undone_byte true (Open (open_form_at form) read.now) (class_at class) byte) }
-{
-    match turn(class, form) {
-        Outcome::Grows(_) => false,
-        Outcome::Closes => char_tells_word(meaning(form, read), false),
-        Outcome::Breaks => {
-            let behind = plain_tells_word(class, byte);
-            broken_tells_word(is_equals(class), form, read, behind)
-        }
-    }
-}
-
-// In a reference that no semicolon ends, before bytes that tell a word or not. As it stands it begins with its `&`.
-fn broken_tells_word(equals: bool, form: ReferenceForm, read: &[u8], behind: bool) -> bool
-    ensures { (more : List ℕ) → behind ≡ errors.begins_word more → result
-        ≡ errors.begins_word (flushed true equals (open_form_at form) read.now ++ more) }
-{
-    match broken_char(equals, form, read) {
-        Some(found) => char_tells_word(found, behind),
-        None => false,
-    }
-}
-
-fn char_tells_word(found: char, behind: bool) -> bool
-    ensures { (more : List ℕ) → behind ≡ errors.begins_word more
-        → result ≡ errors.begins_word (encode_utf8 found ++ more) }
-{
-    let mut buffer = [0; 4];
-    tell_word(found.encode_utf8(&mut buffer).as_bytes(), behind)
-}
-
-// Whether the first byte of a URL, behind the blanks that may stand before it, is the first letter of a word.
-fn tell_word(bytes: &[u8], behind: bool) -> bool
-    ensures { (more : List ℕ) → behind ≡ errors.begins_word more
-        → result ≡ errors.begins_word (bytes.now ++ more) }
-{
-    for byte in bytes {
-        if !is_blank(*byte) {
-            return is_word_letter(*byte);
-        }
-    }
-    behind
-}
-
-// Whether a byte is left out where a URL begins.
-fn is_blank(byte: u8) -> bool
-    ensures { (behind : Bool)
-        → errors.begins_word_by (classes_of_urls.url_class_of byte) byte behind
-        ≡ (if result then behind else is_word_prefix (prefix_of_first byte)) }
-{
-    matches!(
-        url_class_of(byte),
-        UrlClass::TabOrNewline | UrlClass::ControlOrSpace
-    )
-}
-
-// Whether a byte is the first letter of `javascript`, `vbscript` or `data`, in any case.
-fn is_word_letter(byte: u8) -> bool
-    ensures { result ≡ is_word_prefix (prefix_of_first byte) }
-{
-    match byte.to_ascii_lowercase() {
-        b'j' => true,
-        b'v' => true,
-        b'd' => true,
-        _ => false,
-    }
-}
-
 /// Why the end of a text is refused in a reference, each byte of which is text as it stands.
 pub fn of_open(text: &[u8], body: Body, reference: Option<OpenReference>) -> Option<Cause>
     requires pending { reference_from reference ≤ length text.now }
@@ -400,40 +252,14 @@ pub fn of_open(text: &[u8], body: Body, reference: Option<OpenReference>) -> Opt
     }
 }
 
-/// Why the end of a text is refused in a lexeme that has begun: in a percent triple; or, which is not built yet, in a beginning of a
-/// URL that spells some of a word that is looked for.
-pub fn of_unfinished(
-    text: &[u8],
-    body: Body,
-    triple: Triple,
-    reference: Option<OpenReference>,
-) -> Option<Code>
+/// Why the end of a text is refused in a lexeme that has begun: in a percent triple.
+pub fn of_unfinished(text: &[u8], triple: Triple, reference: Option<OpenReference>) -> Option<Code>
     requires pending { reference_from reference ≤ length text.now }
-    ensures { result ≡ parts_cut_error body (triple_at triple)
-        (as_it_stands (open_reference_at text.now (length text.now) reference)) }
+    ensures { result ≡ if_unfinished (triple_behind (triple_at triple)
+        (as_it_stands (open_reference_at text.now (length text.now) reference))) }
 {
-    match body {
-        Body::Url(parts) => of_point(at_cut(text, UrlPoint { parts, triple }, reference)),
-        Body::Plain | Body::NoHole | Body::Js(_) | Body::Css(_) => None,
-    }
-}
-
-fn of_point(url: UrlPoint) -> Option<Code>
-    ensures { result ≡ scans.if_unfinished (triple_at url.triple) (if_word url.parts.opened) }
-{
-    match url.triple {
-        Triple::None => of_beginning(url.parts.opened),
+    match triple_at_cut(text, triple, reference) {
+        Triple::None => None,
         Triple::AfterPercent | Triple::AfterDigit => Some(Code::PartialEscape),
-    }
-}
-
-fn of_beginning(opened: Option<Prefix>) -> Option<Code>
-    ensures { result ≡ if_word opened }
-{
-    match opened {
-        None | Some(Prefix::Off) => None,
-        Some(
-            Prefix::Javascript(_) | Prefix::Vbscript(_) | Prefix::DataScheme(_) | Prefix::Differs,
-        ) => Some(Code::NotBuilt),
     }
 }

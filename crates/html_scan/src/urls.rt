@@ -30,16 +30,6 @@ pub struct UrlPoint {
     pub triple: Triple,
 }
 
-/// The same where the triple does not matter.
-pub fn by_parts(parts: Parts) -> UrlPoint
-    ensures { result.parts ≡ parts }
-{
-    UrlPoint {
-        parts,
-        triple: Triple::None,
-    }
-}
-
 /// In a URL, between these quotes: the scan state after a byte that does not end the value.
 pub fn in_url(
     text: &[u8],
@@ -162,17 +152,33 @@ fn at_point(
     }
 }
 
-/// Where a text ends in a URL, and a reference with which it ends is text as it stands.
-pub fn at_cut(text: &[u8], url: UrlPoint, reference: Option<OpenReference>) -> UrlPoint
+/// The parts of a URL where a text ends, and a reference with which it ends is text as it stands.
+pub fn parts_at_cut(text: &[u8], parts: Parts, reference: Option<OpenReference>) -> Parts
     requires pending { reference_from reference ≤ length text.now }
-    ensures parts { result.parts ≡ feed_bytes parts_feeding url.parts
-        (as_it_stands (open_reference_at text.now (length text.now) reference)) }
-    ensures triple { triple_at result.triple ≡ triple_behind (triple_at url.triple)
+    ensures { result ≡ feed_bytes parts_feeding parts
         (as_it_stands (open_reference_at text.now (length text.now) reference)) }
 {
     match reference {
-        None => url,
-        Some(open) => written(url, pending(text, open.from + 1, text.len())),
+        None => parts,
+        Some(open) => {
+            let read = pending(text, open.from + 1, text.len());
+            parts_after(url_step::next(parts, b'&'), read)
+        }
+    }
+}
+
+/// The percent triple in which a text ends.
+pub fn triple_at_cut(text: &[u8], triple: Triple, reference: Option<OpenReference>) -> Triple
+    requires pending { reference_from reference ≤ length text.now }
+    ensures { triple_at result ≡ triple_behind (triple_at triple)
+        (as_it_stands (open_reference_at text.now (length text.now) reference)) }
+{
+    match reference {
+        None => triple,
+        Some(open) => {
+            let read = pending(text, open.from + 1, text.len());
+            triple_after_bytes(triple_after(triple, b'&'), read)
+        }
     }
 }
 
@@ -194,7 +200,11 @@ pub fn broken_parts(parts: Parts, equals: bool, form: ReferenceForm, read: &[u8]
     ensures { result ≡ feed_bytes parts_feeding parts
         (flushed true equals (open_form_at form) read.now) }
 {
-    broken(by_parts(parts), equals, form, read).parts
+    let url = UrlPoint {
+        parts,
+        triple: Triple::None,
+    };
+    broken(url, equals, form, read).parts
 }
 
 // Behind a reference that its semicolon ends.
@@ -229,11 +239,30 @@ fn after_bytes(url: UrlPoint, bytes: &[u8]) -> UrlPoint
     ensures parts { result.parts ≡ feed_bytes parts_feeding url.parts bytes.now }
     ensures triple { triple_at result.triple ≡ triple_behind (triple_at url.triple) bytes.now }
 {
-    let mut point = url;
-    for byte in bytes {
-        point = after_byte(point, *byte);
+    UrlPoint {
+        parts: parts_after(url.parts, bytes),
+        triple: triple_after_bytes(url.triple, bytes),
     }
-    point
+}
+
+fn parts_after(parts: Parts, bytes: &[u8]) -> Parts
+    ensures { result ≡ feed_bytes parts_feeding parts bytes.now }
+{
+    let mut fed = parts;
+    for byte in bytes {
+        fed = url_step::next(fed, *byte);
+    }
+    fed
+}
+
+fn triple_after_bytes(triple: Triple, bytes: &[u8]) -> Triple
+    ensures { triple_at result ≡ triple_behind (triple_at triple) bytes.now }
+{
+    let mut read = triple;
+    for byte in bytes {
+        read = triple_after(read, *byte);
+    }
+    read
 }
 
 fn after_byte(url: UrlPoint, byte: u8) -> UrlPoint

@@ -1,62 +1,194 @@
 -- Whole texts: what is accepted is refused on no path, and on no two.
-use Rattle.std.proofs.Common.{◌≡◌, ℕ, ◌+◌, zero, suc, true, List, [], ◌∷◌, Option, Some, None, Ok, sym, ◌∙◌, subst}
+use Rattle.std.proofs.Common.{◌≡◌, ℕ, ◌+◌, zero, suc, false, true, List, [], ◌∷◌, length, Option, Some, None, Result, Ok, refl, sym, ap, ◌∙◌, subst, ⊎_elim}
 use Rattle.place_core.specs.page.Classes.{Class, class_of}
-use Rattle.place_core.specs.place.Errors.{PathRefusal, Clashes, begins_word, byte_clash, fed_at, last_between}
+use Rattle.place_core.specs.page.References.{Reference, as_it_stands}
+use Rattle.place_core.specs.place.ApartPlaces.{ArePlacesApart, opened_apart, beginning_at, spell_apart}
+use Rattle.place_core.specs.place.Errors.{PathCause, PathRefusal, broken_off, cut_error, is_between, last_between, lexeme_error, path_refusal, place_before_bytes, standing_at}
+use Rattle.place_core.specs.place.PathPairs.{ApartBefore, Clashes, ClashesApart, MeetsColon, byte_clash, is_in_beginning, state_before, unknown_beginning, unknown_part}
 use Rattle.place_core.specs.page.Html.{next}
-use Rattle.place_core.specs.page.States.{Template, LexState}
-use Rattle.place_core.specs.page.Tags.{ValueState, languages}
+use Rattle.place_core.specs.page.States.{AttributeValue, Template, LexState}
+use Rattle.place_core.specs.page.Tags.{Deciding, OfKind, OfUrl, Quoting, Tag, ValueOf, ValueState, languages}
+use Rattle.place_core.specs.place.StatePlaces.{quotes_at}
+use Rattle.place_core.specs.place.UrlParts.{parts_of, placed_prefix}
 use Rattle.place_core.specs.declared.code.Code.{Code}
+use Rattle.place_core.specs.declared.code.Code.TheVariants as code
+use Rattle.place_core.specs.declared.parts.Parts.{Parts}
 use Rattle.place_core.specs.declared.place.Place.{Place}
-use Rattle.html_scan.specs.Scans.{Scan, At, is_scan_between, scan_error, scan_next}
+use Rattle.place_core.specs.declared.prefix.Prefix.{Prefix}
+use Rattle.place_core.proofs.Semilattices.{none_some, one_value}
+use Rattle.html_scan.specs.Scans.{Scan, At, if_unfinished, is_scan_between, scan_error, scan_next, triple_behind}
 use Rattle.html_step.specs.Laws.{AcceptsText}
+use Rattle.html_step.specs.Origins.{is_apart, scan_parts}
 use Rattle.html_step.specs.Steps.{stepped}
-use Rattle.html_step.proofs.Clashing.{ClashIs, at-open, at-start, begun-grows, both-refuse, clash-is, fed-same, fed_in, has-unbegun, has-unquoted, open-grows, start-grows, unbegun-grows, white_first, white_second, word_first, word_second, words-refuse}
+use Rattle.html_step.proofs.ApartParts.{both-apart, no-colon-fed}
+use Rattle.html_step.proofs.Characters.{ReferencePlain, stands-no-colon}
+use Rattle.html_step.proofs.Clashing.{ClashIs, begun-grows, both-refuse, clash-is, has-unbegun, has-unquoted, unbegun-grows, white_first, white_second}
+use Rattle.html_step.proofs.OnePath.{scanned, url-scan-cut, url-scan-lexeme, url_scanned, url_value}
+use Rattle.html_step.proofs.OneTexts.{Says, agrees-at, at-place, ends-at, one-text, says}
+use Rattle.html_step.proofs.ReadScans.{Takes, not-broken, read-below, read-end, read-on, read-valid, scan_read, takes}
+use Rattle.html_step.proofs.ReadStates.{Unknown, open-parts, own-place, read-state, shown-read, unknown, url-before}
 use Rattle.html_step.proofs.ScanOrder.{ScanBelow, ScanValid, scan-grows}
-use Rattle.html_step.proofs.OnePath.{scanned}
-use Rattle.html_step.proofs.OneTexts.{agrees-at, at-place, one-text}
-use Rattle.html_step.proofs.ValidSteps.{scan-valid, valid-within}
-use Rattle.html_step.proofs.WholeTexts.{grows-text, step-ok, text-steps}
+use Rattle.html_step.proofs.UrlScans.{ScanPlain, above-parts, below-reference, scan-plain, scan_reference, url-reference}
+use Rattle.html_step.proofs.ValidSteps.{scan-valid}
+use Rattle.html_step.proofs.WholeTexts.{accepts-anywhere, grows-from, grows-text, refused-not, step-ok, text-steps}
+use Rattle.url_lexer.specs.Parts.{UrlOpen}
+use Rattle.url_lexer.specs.Prefixes as spelling
+use Rattle.url_lexer.specs.States.{Url}
+use Rattle.url_lexer.specs.Triples.{Triple, NoTriple, AfterPercent, AfterDigit}
+use Rattle.url_step.specs.PartSets.{PartsBelow}
+
+no : false ≡ true → ⊥
+no e = cc
 
 pub none-refused : (r : PathRefusal) (o : Option PathRefusal) → o ≡ None → o ≡ Some r → ⊥
 none-refused r o e f = let same : None ≡ Some r = sym e ∙ f in cc
 
-word-fed : (s : LexState ValueState) (g f : Scan) (c : Class) (b : ℕ) → fed_in g c b ≡ fed_at s c b → ScanBelow g f → begins_word (fed_at s c b) ≡ true
-    → begins_word (fed_in f c b) ≡ true
-word-fed s g f c b e l w = subst (λ (x : List ℕ). begins_word x ≡ true) (sym e ∙ fed-same g f c b l) w
-
 no-clash-by : (s t : LexState ValueState) (g h f : Scan) (c : Class) (b : ℕ) → scanned s ≡ Some g → scanned t ≡ Some h → ScanBelow g f → ScanBelow h f
-    → scan_error f c b ≡ None → ClashIs s t c b → ⊥
+    → scan_error f c b ≡ None → ClashIs s t c → ⊥
 no-clash-by s t g h f c b i j l m n (white_first w u a) =
     both-refuse f b (begun-grows h f m (has-unquoted t h j a)) (unbegun-grows g f l (has-unbegun s g i u)) (subst (λ (y : Class). scan_error f y b ≡ None) w n)
 no-clash-by s t g h f c b i j l m n (white_second w a u) =
     both-refuse f b (begun-grows g f l (has-unquoted s g i a)) (unbegun-grows h f m (has-unbegun t h j u)) (subst (λ (y : Class). scan_error f y b ≡ None) w n)
-no-clash-by s t g h f c b i j l m n (word_first x y w) =
-    let a = at-start s g c b i x in
-    words-refuse f c b (start-grows g f l a.has) (open-grows h f m (at-open t h c b j y).has) (word-fed s g f c b a.fed l w) n
-no-clash-by s t g h f c b i j l m n (word_second x y w) =
-    let a = at-open s g c b i x in
-    words-refuse f c b (start-grows h f m (at-start t h c b j y).has) (open-grows g f l a.has) (word-fed s g f c b a.fed l w) n
 
 no-clash : (s t : LexState ValueState) (g h f : Scan) (c : Class) (b : ℕ) (e : Code) → scanned s ≡ Some g → scanned t ≡ Some h → ScanBelow g f → ScanBelow h f
-    → scan_error f c b ≡ None → byte_clash s t c b ≡ Some e → ⊥
-no-clash s t g h f c b e i j l m n x = no-clash-by s t g h f c b i j l m n (clash-is s t c b e x)
+    → scan_error f c b ≡ None → byte_clash s t c ≡ Some e → ⊥
+no-clash s t g h f c b e i j l m n x = no-clash-by s t g h f c b i j l m n (clash-is s t c e x)
+
+-- At the end of a text no `:` is refused: a reference that is open has none in it, and a percent triple is refused by another code.
+lexeme-code : (t : Triple) (x : PathRefusal) (k since : ℕ) → broken_off k since (if_unfinished t) ≡ Some x → x.code ≡ code.AmbigContext → ⊥
+lexeme-code NoTriple x k since h i = absurd (none_some x h)
+lexeme-code AfterPercent x k since h i =
+    (let same : code.PartialEscape ≡ code.AmbigContext = ap (λ (y : PathRefusal). y.code) (one_value (record { code = code.PartialEscape; at = k; shown = since }) x h) ∙ i in cc)
+lexeme-code AfterDigit x k since h i =
+    (let same : code.PartialEscape ≡ code.AmbigContext = ap (λ (y : PathRefusal). y.code) (one_value (record { code = code.PartialEscape; at = k; shown = since }) x h) ∙ i in cc)
+
+end-refused : (s : LexState ValueState) (t : Triple) (x : PathRefusal) → cut_error s ≡ None → lexeme_error s ≡ if_unfinished t → x.code ≡ code.AmbigContext
+    → path_refusal [] s ≡ Some x → ⊥
+end-refused s t x n l i h =
+    let last = last_between 0 0 (is_between s) in
+    lexeme-code t x 0 last
+    (ap (broken_off 0 last) (sym l) ∙ sym (ap (λ (o : Option PathCause). standing_at 0 o (broken_off 0 last (lexeme_error s))) n) ∙ h) i
+
+end-url : (q : Quoting) (t : Tag) (u : Url) (r : Reference) (x : PathRefusal) → ReferencePlain r → x.code ≡ code.AmbigContext
+    → path_refusal [] (AttributeValue q t (ValueOf (OfUrl u)) r) ≡ Some x → ⊥
+end-url q t u r x n i h =
+    let s = AttributeValue q t (ValueOf (OfUrl u)) r in
+    let v = url_value t (quotes_at q) (parts_of u.part) in
+    let d = ends-at s (url_scanned q t u r) refl in
+    let cut : cut_error s ≡ None = d.errors ∙ url-scan-cut t (quotes_at q) (parts_of u.part) u.triple r
+    ∙ no-colon-fed (as_it_stands r) (parts_of u.part) true (length (as_it_stands r)) (stands-no-colon r n) in
+    end-refused s (triple_behind u.triple (as_it_stands r)) x cut (d.lexeme ∙ url-scan-lexeme v u.triple r) i h
+
+end-meets : (s : LexState ValueState) (g : Scan) (at : ℕ) → scanned s ≡ Some g → ScanPlain g → MeetsColon [] s at → ⊥
+end-meets (AttributeValue q t (ValueOf (OfUrl u)) r) g at e n m =
+    let same : url_scanned q t u r ≡ g = one_value (url_scanned q t u r) g e in
+    let plain : ReferencePlain r = subst ReferencePlain (ap scan_reference (sym same) ∙ url-reference (url_value t (quotes_at q) (parts_of u.part)) u.triple r) n in
+    end-url q t (record { part = unknown_part u.part; scheme = u.scheme; triple = u.triple; free = u.free }) r
+    (record { code = code.AmbigContext; at = at; shown = m.shown }) plain refl m.refused
+end-meets (AttributeValue q t (ValueOf (OfKind k)) r) g at e n m = absurd (no m.begins)
+end-meets (AttributeValue q t (Deciding k before) r) g at e n m = absurd (no m.begins)
+end-meets _ g at e n m = absurd (no m.begins)
+
+-- Two paths that are apart before a byte: the scan state says so, where it is read, and so it stands for the path of which it is not known what it
+-- spells, which is accepted.
+pub record Reads (s : LexState ValueState) (g f : Scan) (b : ℕ) (bs : List ℕ) : Type 0 where
+  pub at : scanned (state_before s (b ∷ bs)) ≡ Some (scan_read g (b ∷ bs))
+  pub valid : ScanValid (scan_read g (b ∷ bs))
+  pub below : ScanBelow (scan_read g (b ∷ bs)) (scan_read f (b ∷ bs))
+  pub spelled : spelling.Prefix
+  pub parts : scan_parts (scan_read g (b ∷ bs)) ≡ Some (parts_of (UrlOpen spelled))
+  pub shown : (own : Place) → place_before_bytes s (b ∷ bs) ≡ Some own → beginning_at own ≡ Some (placed_prefix spelled)
+
+pub reads : (s : LexState ValueState) (g f : Scan) (b : ℕ) (bs : List ℕ) → scanned s ≡ Some g → ScanValid g → ScanValid f → Takes f b → ScanBelow g f
+    → is_in_beginning (state_before s (b ∷ bs)) ≡ true → Reads s g f b bs
+reads s g f b bs e v w a l o =
+    let u = url-before s (b ∷ bs) o in
+    let at = read-state s g (b ∷ bs) u e in
+    let p = open-parts (state_before s (b ∷ bs)) (scan_read g (b ∷ bs)) o at in
+    let d = shown-read (scan_read g (b ∷ bs)) b bs (parts_of (UrlOpen p.0)) p.1 (not-broken g b bs) in
+    record {
+      at = at;
+      valid = read-valid g (b ∷ bs) v;
+      below = read-below g f b bs w a l;
+      spelled = p.0;
+      parts = p.1;
+      shown = λ own h. ap beginning_at (one_value own d.place (sym h ∙ own-place s g (b ∷ bs) u e ∙ d.is)) ∙ d.opened;
+    }
+
+differ-apart : (p q : Place) (x y : Prefix) → beginning_at p ≡ Some x → beginning_at q ≡ Some y → ArePlacesApart p q → spell_apart x y ≡ true
+differ-apart p q x y e i h = sym (ap (λ (o : Option Prefix). opened_apart o (beginning_at q)) e ∙ ap (opened_apart (Some x)) i) ∙ h
+
+-- the parts of the scan state that is read
+read-apart : (s t : LexState ValueState) (g h f : Scan) (b : ℕ) (bs : List ℕ) (x : Reads s g f b bs) (y : Reads t h f b bs)
+    → spell_apart (placed_prefix x.spelled) (placed_prefix y.spelled) ≡ true
+    → (p : Parts) × (scan_parts (scan_read f (b ∷ bs)) ≡ Some p) × (is_apart (Some p) ≡ true)
+read-apart s t g h f b bs x y a =
+    let p = above-parts (scan_read g (b ∷ bs)) (scan_read f (b ∷ bs)) (parts_of (UrlOpen x.spelled)) x.below x.parts in
+    let q = above-parts (scan_read h (b ∷ bs)) (scan_read f (b ∷ bs)) (parts_of (UrlOpen y.spelled)) y.below y.parts in
+    let same : q.0 ≡ p.0 = one_value q.0 p.0 (sym q.1 ∙ p.1) in (
+      p.0,
+      p.1,
+      both-apart (placed_prefix x.spelled) (placed_prefix y.spelled) p.0.opened a (ap (λ (z : Parts). z.opened) p.2)
+          (ap (λ (z : Parts). z.opened) (subst (λ (z : Parts). PartsBelow (parts_of (UrlOpen y.spelled)) z) same q.2)),
+    )
+
+unknown-accepted : (bytes : List ℕ) (k since : ℕ) (s : LexState ValueState) (f : Scan) (q : Place) (u : Unknown s f) (x : PathRefusal) → stepped k since bytes f ≡ Ok q
+    → path_refusal bytes (unknown_beginning s) ≡ Some x → ⊥
+unknown-accepted bytes k since s f q u x o h =
+    let a = grows-from bytes 0 0 0 u.scan f q u.valid u.below (accepts-anywhere bytes k since 0 0 f q o) in
+    none-refused x (path_refusal bytes (unknown_beginning s))
+    (subst (λ (r : Result Place PathRefusal). Says r 0 0 bytes (unknown_beginning s)) a.1 (says bytes 0 0 (unknown_beginning s) u.scan u.at)).0 h
+
+never-apart : (bs : List ℕ) (k since : ℕ) (f : Scan) (q : Place) (s t : LexState ValueState) (g h : Scan) (e : Code) (at : ℕ) → scanned s ≡ Some g
+    → scanned t ≡ Some h → ScanValid g → ScanValid h → ScanBelow g f → ScanBelow h f → ScanValid f → ScanPlain f
+    → stepped k since bs f ≡ Ok q → ApartBefore bs s t → ClashesApart bs (state_before s bs) (state_before t bs) e at → ⊥
+never-apart [] k since f q s t g h e at i j v w l m z p o a c =
+    let u = url-before s [] c.one.begins in
+    end-meets (state_before s []) (scan_read g []) at (read-state s g [] u i)
+    (subst ReferencePlain (sym (ap scan_reference (read-end g) ∙ below-reference g f l)) p) c.one
+never-apart (b ∷ bs) k since f q s t g h e at i j v w l m z p o a c =
+    let n = step-ok k since b bs f q o in
+    let x = reads s g f b bs i v z (takes f b z n.0) l c.one.begins in
+    let y = reads t h f b bs j w z (takes f b z n.0) m c.other.begins in
+    let d = read-apart s t g h f b bs x y
+    (differ-apart a.own a.other_own (placed_prefix x.spelled) (placed_prefix y.spelled) (x.shown a.own a.stands) (y.shown a.other_own a.other_stands) a.apart) in
+    let r = read-on f b bs z n.0 in
+    let last = last_between k since (is_scan_between f) in
+    let over = last_between k since (is_scan_between (scan_read f (b ∷ bs))) in
+    let rest : stepped (k + 1) over bs (scan_next (scan_read f (b ∷ bs)) (class_of b) b) ≡ Ok q =
+    ap (stepped (k + 1) over bs) r.next ∙ accepts-anywhere bs (k + 1) last (k + 1) over (scan_next f (class_of b) b) q n.1 in
+    unknown-accepted (b ∷ bs) k since (state_before s (b ∷ bs)) (scan_read f (b ∷ bs)) q
+    (unknown (state_before s (b ∷ bs)) (scan_read g (b ∷ bs)) (scan_read f (b ∷ bs)) d.0 c.one.begins x.at d.1 d.2 x.valid x.below)
+    (record { code = code.AmbigContext; at = at; shown = c.one.shown })
+    (refused-not k (scan_error (scan_read f (b ∷ bs)) (class_of b) b) (stepped (k + 1) over bs (scan_next (scan_read f (b ∷ bs)) (class_of b) b)) q r.error rest)
+    c.one.refused
 
 never-clashes : (bytes : List ℕ) (k since : ℕ) (f : Scan) (q : Place) (s t : LexState ValueState) (g h : Scan) (e : Code) (at : ℕ) → scanned s ≡ Some g
-    → scanned t ≡ Some h → ScanValid g → ScanValid h → ScanBelow g f → ScanBelow h f
+    → scanned t ≡ Some h → ScanValid g → ScanValid h → ScanBelow g f → ScanBelow h f → ScanValid f → ScanPlain f
     → stepped k since bytes f ≡ Ok q → Clashes bytes s t e at → ⊥
-never-clashes [] k since f q s t g h e at i j v w l m o c = c
-never-clashes (b ∷ bs) k since f q s t g h e zero i j v w l m o c = no-clash s t g h f (class_of b) b e i j l m (step-ok k since b bs f q o).0 c
-never-clashes (b ∷ bs) k since f q s t g h e (suc at) i j v w l m o c =
+never-clashes [] k since f q s t g h e at i j v w l m z p o c = c
+never-clashes (b ∷ bs) k since f q s t g h e zero i j v w l m z p o c = no-clash s t g h f (class_of b) b e i j l m (step-ok k since b bs f q o).0 c
+never-clashes (b ∷ bs) k since f q s t g h e (suc at) i j v w l m z p o c =
     let n = step-ok k since b bs f q o in
     let x = scan-grows g f (class_of b) b v l n.0 in
     let y = scan-grows h f (class_of b) b w m n.0 in
-    never-clashes bs (k + 1) (last_between k since (is_scan_between f)) (scan_next f (class_of b) b) q
-    (next languages Template s (class_of b) b) (next languages Template t (class_of b) b) (scan_next g (class_of b) b) (scan_next h (class_of b) b) e at
-    ((agrees-at s g b i).steps x.0) ((agrees-at t h b j).steps y.0) (scan-valid g (class_of b) b v) (scan-valid h (class_of b) b w) x.1 y.1 n.1 c.2
+    let after = next languages Template s (class_of b) b in
+    let other = next languages Template t (class_of b) b in
+    let i = (agrees-at s g b i).steps x.0 in
+    let j = (agrees-at t h b j).steps y.0 in
+    let last = last_between k since (is_scan_between f) in
+    let v = scan-valid g (class_of b) b v in
+    let w = scan-valid h (class_of b) b w in
+    let p = scan-plain f b z p in
+    let z = scan-valid f (class_of b) b z in
+    ⊎_elim
+    (λ d. never-apart bs (k + 1) last (scan_next f (class_of b) b) q after other (scan_next g (class_of b) b) (scan_next h (class_of b) b) e at i j v w x.1 y.1 z p n.1 d.0 d.1)
+    (λ d. never-clashes bs (k + 1) last (scan_next f (class_of b) b) q after other (scan_next g (class_of b) b) (scan_next h (class_of b) b) e at i j v w x.1 y.1 z p n.1 d)
+    c.2
 
 pub accepts-text : AcceptsText
 accepts-text bytes p q s v e i = (
   (let g = grows-text bytes i.own p q i.valid v i.below e in ((one-text bytes i.own s i.stands).0 g.0 g.1).0),
   λ t x at j c. never-clashes bytes 0 0 (At p) q s t (At i.own) (At j.own) x at (at-place s i.own i.stands) (at-place t j.own j.stands)
-      (valid-within i.own i.valid) (valid-within j.own j.valid) i.below j.below (text-steps bytes p q e) c,
+      i.valid j.valid i.below j.below v tt (text-steps bytes p q e) c,
 )

@@ -2,7 +2,7 @@
 use Rattle.std.proofs.Common.{◌≡◌, Bool, true, false, ◌||◌, ◌&&◌, not, Option, Some, None, refl, sym, ap, ◌∙◌, subst}
 use Rattle.std.specs.Option.{is_some, is_none}
 use Rattle.place_core.specs.place.Places.{Below, Has, IsValid, IsValidBody, joined_bodies, joined_quotes, quotes_have, body_has, typed_has, is_whole}
-use Rattle.place_core.specs.place.NotBuiltPlaces.{IsValidCss, both_parts, both_prefixes, joined_css, parts_have, css_has, some_part}
+use Rattle.place_core.specs.place.LanguagePlaces.{IsValidCss, both_parts, both_prefixes, joined_css, parts_have, css_has, some_part}
 use Rattle.place_core.specs.declared.body.Body.{Body}
 use Rattle.place_core.specs.declared.body.Body.TheVariants as body
 use Rattle.place_core.specs.declared.css.Css.{Css}

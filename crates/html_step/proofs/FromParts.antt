@@ -4,7 +4,7 @@ use Rattle.place_core.specs.page.Classes.{Class}
 use Rattle.place_core.specs.page.References.{Form, Reference, Closed, Open, ReferenceStep, Grows, Closes, Breaks, turn, turn_bytes, undone_byte}
 use Rattle.place_core.specs.page.Tags.{feed_bytes, refusal_code}
 use Rattle.place_core.specs.place.Errors.{PathCause, cause_back, fed_error, first_cause, language_error, turned_error}
-use Rattle.place_core.specs.place.NotBuiltPlaces.{both_prefixes, parts_have}
+use Rattle.place_core.specs.place.LanguagePlaces.{both_prefixes, parts_have}
 use Rattle.place_core.specs.declared.code.Code.{Code}
 use Rattle.place_core.specs.declared.member.Member.{Member}
 use Rattle.place_core.specs.declared.member.Member.TheVariants as member

@@ -1,9 +1,9 @@
 -- Each member after a byte comes from one member before it.
-use Rattle.std.proofs.Common.{◌≡◌, ℕ, Bool, true, false, ◌||◌, ◌&&◌, List, [], ◌∷◌, if◌then◌else◌, Option, Some, None, refl, sym, ap, ◌∙◌, subst}
+use Rattle.std.proofs.Common.{◌≡◌, ℕ, Bool, true, false, ◌||◌, List, [], ◌∷◌, if◌then◌else◌, Option, Some, None, refl, sym, ap, ◌∙◌, subst}
 use Rattle.std.specs.Char.{to_ascii_lowercase}
 use Rattle.place_core.specs.page.Classes.{Class, White, QuotationMark, Apostrophe, HyphenMinus, Solidus, LessThan, EqualsSign, GreaterThan}
-use Rattle.place_core.specs.place.Errors.{at_hand, kind_error, place_error, tag_error}
-use Rattle.place_core.specs.place.Places.{Has, IsValidTag, dash_has, is_whole, typed_has, block_has}
+use Rattle.place_core.specs.place.Errors.{kind_error, tag_error}
+use Rattle.place_core.specs.place.Places.{Has, IsValid, IsValidTag, dash_has, is_whole, typed_has}
 use Rattle.place_core.specs.place.StatePlaces.{unbegun}
 use Rattle.place_core.specs.place.UrlParts.{parts_of}
 use Rattle.place_core.specs.declared.body.Body.{Body}
@@ -16,22 +16,18 @@ use Rattle.place_core.specs.declared.member.Member.TheVariants as member
 use Rattle.place_core.specs.declared.place.Place.{Place}
 use Rattle.place_core.specs.declared.place.Place.TheVariants as place
 use Rattle.place_core.specs.declared.quotes.Quotes.{Quotes}
-use Rattle.place_core.specs.declared.quotes.Quotes.TheVariants as quotes
-use Rattle.place_core.specs.declared.spots.Spots.{Spots}
 use Rattle.place_core.specs.declared.tag_of.TagOf.{TagOf}
-use Rattle.place_core.specs.declared.tag_of.TagOf.TheVariants as tag
 use Rattle.place_core.specs.declared.tag_place.TagPlace.{TagPlace}
 use Rattle.place_core.specs.declared.value_place.ValuePlace.{ValuePlace}
 use Rattle.place_core.proofs.Joins.{places_same}
-use Rattle.place_core.proofs.Semilattices.{none_some}
 use Rattle.html_scan.specs.Scans.{Scan, At, AfterLess, AfterLessSolidus, InDeclaration, InTagName, InAttributeName, InUrl, InCommentEnd, InContentEnd, comment_next, comment_state, place_cause, scan_cut_error, scan_error, scan_next, scan_place, tag_next, value_scan, BeforeType, InType, content_next}
 use Rattle.html_step.specs.Origins.{byte_origin, end_origin, name_origin, tag_origin, typed_origin, value_origin, white_origin}
 use Rattle.html_step.proofs.BelowScans.{IsRigid, below-at, below-at-tag, below-at-value, below-attribute, below-url, comment-end-rigid, content-end-rigid, declaration-rigid, doctype-rigid, less-rigid, rcdata-rigid, solidus-rigid, tag-name-rigid, text-rigid, whole-in, before-type-rigid, type-rigid}
 use Rattle.html_step.proofs.FromValues.{ValueFrom, content-whole, end-from, no-less, value-from, value_has}
-use Rattle.html_step.proofs.ScanOrder.{PlaceWithin, ScanBelow, ScanHas, ScanValid, UrlWithin, begun-open, begun-valid, has-kind}
+use Rattle.html_step.proofs.ScanOrder.{ScanBelow, ScanHas, ScanValid, UrlWithin, begun-open, begun-valid, has-kind}
 use Rattle.html_step.proofs.OnePath.{none-at-hand, some}
-use Rattle.html_step.proofs.PlaceParts.{TagBelow, ValueBelow, below-tag, under-false}
-use Rattle.place_core.specs.page.References.{Reference, Closed, as_it_stands}
+use Rattle.html_step.proofs.PlaceParts.{TagBelow, below-tag, under-false}
+use Rattle.place_core.specs.page.References.{Reference, Closed}
 use Rattle.url_lexer.specs.Parts.{UrlStart}
 use Rattle.url_lexer.specs.Triples.{Triple, NoTriple}
 
@@ -209,7 +205,7 @@ block-whole LessThan y h = h
 block-whole _ y h = no-less y h
 
 -- From any scan state.
-pub from-place : (p : Place) (c : Class) (b : ℕ) (y : Member) → PlaceWithin p → place_cause p c b ≡ None → ScanHas (scan_next (At p) c b) y
+pub from-place : (p : Place) (c : Class) (b : ℕ) (y : Member) → IsValid p → place_cause p c b ≡ None → ScanHas (scan_next (At p) c b) y
     → From (At p) c b y (byte_origin (At p) c b y)
 from-place place.Text c b y v n h = from-rigid (At place.Text) text-rigid c b y h
 from-place place.Doctype c b y v n h = from-rigid (At place.Doctype) doctype-rigid c b y h

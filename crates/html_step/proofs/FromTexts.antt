@@ -1,5 +1,5 @@
 -- Members through whole texts.
-use Rattle.std.proofs.Common.{◌≡◌, ℕ, ◌+◌, List, [], ◌∷◌, Ok, refl, sym, ◌∙◌, subst}
+use Rattle.std.proofs.Common.{◌≡◌, ℕ, ◌+◌, List, [], ◌∷◌, Ok, sym, ◌∙◌, subst}
 use Rattle.place_core.specs.page.Classes.{class_of}
 use Rattle.place_core.specs.place.Errors.{last_between}
 use Rattle.place_core.specs.place.Membership.{IsIn, Bears}
@@ -16,7 +16,7 @@ use Rattle.html_step.specs.Steps.{after_text, stepped}
 use Rattle.html_step.proofs.FromSteps.{from-byte, from-end}
 use Rattle.html_step.proofs.ScanOrder.{ScanBelow, ScanHas, ScanValid, scan-grows}
 use Rattle.html_step.proofs.OneTexts.{one-text}
-use Rattle.html_step.proofs.ValidSteps.{scan-valid, valid-within}
+use Rattle.html_step.proofs.ValidSteps.{scan-valid}
 use Rattle.html_step.proofs.WholeTexts.{end-ok, grows-text, step-ok, text-steps}
 
 -- a member after the bytes comes from this one, from wherever the texts stand
@@ -50,14 +50,14 @@ own-has p s x i h = subst (λ (a : Place). Has a x) (one_value h.own i.own (sym 
 -- on the paths that a place stands for
 pub from-text-at : (bytes : List ℕ) (p q : Place) (y : Member) → IsValid p → after_text bytes p ≡ Ok q → Has q y → IsOrigin bytes p y (origin bytes (At p) y)
 from-text-at bytes p q y v e h =
-    let r = from-bytes bytes 0 0 (At p) q y (valid-within p v) (text-steps bytes p q e) h in (
+    let r = from-bytes bytes 0 0 (At p) q y v (text-steps bytes p q e) h in (
       r.there,
       λ s i o.
           let g = grows-text bytes i.own p q i.valid v i.below e in
           record {
             own = g.0;
             stands = ((one-text bytes i.own s i.stands).0 g.0 g.1).1;
-            has = r.leads 0 0 (At i.own) g.0 (valid-within i.own i.valid) i.below (own-has p s (origin bytes (At p) y) i o) (text-steps bytes i.own g.0 g.1);
+            has = r.leads 0 0 (At i.own) g.0 i.valid i.below (own-has p s (origin bytes (At p) y) i o) (text-steps bytes i.own g.0 g.1);
           },
     )
 

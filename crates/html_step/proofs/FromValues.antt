@@ -1,11 +1,11 @@
 -- Each member after a byte of a value, and after its end, comes from one member of the value before it.
-use Rattle.std.proofs.Common.{◌≡◌, ℕ, Bool, true, false, ◌||◌, ◌&&◌, List, [], if◌then◌else◌, Option, Some, None, refl, sym, ap, ◌∙◌, subst}
+use Rattle.std.proofs.Common.{◌≡◌, ℕ, Bool, true, false, ◌||◌, ◌&&◌, List, [], if◌then◌else◌, Some, None, refl, sym, ap, subst}
 use Rattle.place_core.specs.page.Classes.{Class, White, QuotationMark, Apostrophe, LessThan, EqualsSign, GreaterThan, GraveAccent}
 use Rattle.place_core.specs.page.References.{Reference, Closed, Open, as_it_stands, next_reference, plain_bytes, undone_byte}
 use Rattle.place_core.specs.page.Tags.{feed_bytes}
 use Rattle.place_core.specs.place.Errors.{bare_error, body_error, at_hand, fed_error, language_error, quotes_error, value_error}
-use Rattle.place_core.specs.place.NotBuiltPlaces.{parts_have}
-use Rattle.place_core.specs.place.Places.{Has, IsValidQuotes, body_has, bare_has, is_whole, joined_bodies, joined_quotes, quotes_have, some_bare, spots_have, typed_has}
+use Rattle.place_core.specs.place.LanguagePlaces.{parts_have}
+use Rattle.place_core.specs.place.Places.{Has, IsValidQuotes, body_has, is_whole, joined_bodies, joined_quotes, quotes_have, some_bare, spots_have, typed_has}
 use Rattle.place_core.specs.place.StatePlaces.{only_before, unbegun}
 use Rattle.place_core.specs.declared.bare.Bare.{Bare}
 use Rattle.place_core.specs.declared.body.Body.{Body}
@@ -23,7 +23,7 @@ use Rattle.place_core.specs.declared.tag_of.TagOf.TheVariants as tag
 use Rattle.place_core.specs.declared.value_place.ValuePlace.{ValuePlace}
 use Rattle.place_core.proofs.Joins.{places_same}
 use Rattle.place_core.proofs.Semilattices.{none_some}
-use Rattle.html_scan.specs.Scans.{Scan, InUrl, bare_begun, bare_next, bare_white, content_scan, in_tag, open_cut_error, parts_cause, parts_feeding, parts_with, quoted_error, quoted_next, scan_place, triple_behind, url_scan, value_cause, value_fed, value_next, with_parts, with_quotes, word_error}
+use Rattle.html_scan.specs.Scans.{Scan, bare_begun, bare_next, bare_white, content_scan, in_tag, open_cut_error, parts_cause, parts_feeding, parts_with, quoted_error, quoted_next, triple_behind, url_scan, value_cause, value_fed, value_next, with_parts, with_quotes}
 use Rattle.html_step.specs.Origins.{body_origin, fed_in, fed_origin, in_value_origin, value_origin}
 use Rattle.html_step.proofs.BelowScans.{whole-in}
 use Rattle.html_step.proofs.FromParts.{AreTaken, fed-from, fed-quoted, fed-taken, fed-typed, fed-whole, first-no-cause, language-taken, or-behind, or-either, or-first}
@@ -290,7 +290,7 @@ goes-same u v q =
 taken-by : (x : Body) (q : Quotes) (r : Reference) (c : Class) (b : ℕ) → parts_cause x q r c b ≡ None
     → ((s : Parts) → quoted_error q s r c b ≡ None → AreTaken (undone_byte true r c b) s)
     → BodyTaken x (undone_byte true r c b)
-taken-by (body.Url s) q r c b n f = f s (first-no-cause (at_hand (word_error s (undone_byte true r c b))) (quoted_error q s r c b) n).1
+taken-by (body.Url s) q r c b n f = f s n
 taken-by _ q r c b n f = tt
 
 bare-taken : (x : Bool) (r : Reference) (s : Parts) (c : Class) (b : ℕ) → BegunIf r x

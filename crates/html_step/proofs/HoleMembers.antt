@@ -1,6 +1,6 @@
 -- A part of a URL behind a hole comes from one part before it.
 use Rattle.std.proofs.Common.{◌≡◌, Bool, true, false, ◌||◌, is_some, if◌then◌else◌, refl}
-use Rattle.place_core.specs.place.NotBuiltPlaces.{parts_have}
+use Rattle.place_core.specs.place.LanguagePlaces.{parts_have}
 use Rattle.place_core.specs.declared.member.Member.{Member}
 use Rattle.place_core.specs.declared.member.Member.TheVariants as member
 use Rattle.place_core.specs.declared.parts.Parts.{Parts}

@@ -2,9 +2,10 @@
 use Rattle.std.proofs.Common.{◌≡◌, Bool, true, false, ◌||◌, Option, Some, None, option_map, Ok, Err, if◌then◌else◌, refl, sym, ap, ◌∙◌, subst, ◌⊎◌, inl, inr}
 use Rattle.place_core.specs.page.States.{LexState}
 use Rattle.place_core.specs.page.Tags.{ValueState, refusal_code}
-use Rattle.place_core.specs.place.Errors.{ClashesHole, body_error, body_hole_error, hole_error, parts_clash, url_hole_error, url_part_at}
+use Rattle.place_core.specs.place.Errors.{body_error, body_hole_error, hole_error, url_hole_error}
+use Rattle.place_core.specs.place.PathPairs.{ClashesHole, parts_clash, url_part_at}
 use Rattle.place_core.specs.place.Membership.{IsIn, Bears}
-use Rattle.place_core.specs.place.NotBuiltPlaces.{IsValidParts, parts_have}
+use Rattle.place_core.specs.place.LanguagePlaces.{IsValidParts, parts_have}
 use Rattle.place_core.specs.place.Places.{Below, Has, IsValid, IsValidBody, IsValidQuotes, body_has, is_whole, joined_bodies, joined_quotes, quotes_have, typed_has}
 use Rattle.place_core.specs.place.StatePlaces.{only_inside, placed}
 use Rattle.place_core.specs.place.UrlParts.{parts_of}
@@ -42,7 +43,6 @@ use Rattle.html_step.proofs.OnePart.{same-chain}
 use Rattle.html_step.proofs.PlaceParts.{TagBelow, Under, ValueBelow, below-tag, below-value, value-below, under-both, under-false}
 use Rattle.html_step.proofs.ShownSteps.{none-some, parts-of-below}
 use Rattle.html_step.proofs.UrlPlaces.{InUrl, url-part, url-place}
-use Rattle.html_step.proofs.ValidSteps.{body-within}
 use Rattle.url_lexer.specs.Parts.{UrlPart}
 use Rattle.url_lexer.specs.Refusals.{UrlRefusal}
 use Rattle.url_lexer.specs.TwoPaths.{refuses_hole_on_two}
@@ -181,7 +181,7 @@ holed-valid (quotes.Bare b) = refl
 
 url-valid : (x : ValuePlace) (s : Parts) (o : Option UrlRefusal) → IsValidBody (body.Url s) → ValidTo (url_holed x s (parts_or_refusal o (parts_at_hole s)))
 url-valid x s (Some e) v = tt
-url-valid x s None v = (holed-valid x.quotes, ((parts-stay-valid s (body-within (body.Url s) v)).at_hole.0, tt))
+url-valid x s None v = (holed-valid x.quotes, (parts-stay-valid s v).at_hole)
 
 value-valid : (x : ValuePlace) (b : Body) → IsValid (place.Value x) → x.body ≡ b → ValidTo (value_hole b x)
 value-valid x body.Plain v e = plain-valid x x.quotes v

@@ -1,7 +1,7 @@
 -- A hole in a URL that is refused is refused on the paths behind a scheme that is code, or on any two in the first two parts that are there.
 use Rattle.std.proofs.Common.{◌≡◌, ◌+◌, Bool, true, false, nat_lt, Option, Some, None, option_map, is_some, if◌then◌else◌, refl, sym, ap, ◌∙◌}
 use Rattle.place_core.specs.page.Tags.{refusal_code}
-use Rattle.place_core.specs.place.NotBuiltPlaces.{parts_have}
+use Rattle.place_core.specs.place.LanguagePlaces.{parts_have}
 use Rattle.place_core.specs.declared.code.Code.{Code}
 use Rattle.place_core.specs.declared.code.Code.TheVariants as code
 use Rattle.place_core.specs.declared.member.Member.{Member}

@@ -1,6 +1,6 @@
 -- A set of parts below one of which all paths are in one part has that part.
 use Rattle.std.proofs.Common.{◌≡◌, ◌≤◌, ◌+◌, Bool, true, false, ◌||◌, Option, Some, None, is_some, nat_lt, if◌then◌else◌, refl, sym, ap, ◌∙◌, arith, ltb-false}
-use Rattle.place_core.specs.place.NotBuiltPlaces.{both_prefixes, some_part}
+use Rattle.place_core.specs.place.LanguagePlaces.{both_prefixes, some_part}
 use Rattle.place_core.specs.declared.chain.Chain.{Chain}
 use Rattle.place_core.specs.declared.parts.Parts.{Parts}
 use Rattle.place_core.specs.declared.prefix.Prefix.{Prefix}

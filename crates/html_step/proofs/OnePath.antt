@@ -11,9 +11,9 @@ use Rattle.place_core.specs.page.Paths.{at_cut}
 use Rattle.place_core.specs.page.References.{Reference, settled, undone_byte, as_it_stands, Closed, Open, Form, ReferenceStep, Grows, Closes, Breaks, turn, meaning, flushed, plain_bytes, next_reference}
 use Rattle.place_core.specs.place.StatePlaces.{tag_spot, body_at, only_name, only_before, only_inside, only_after, value_spot, value_body, quotes_at, unbegun, placed}
 use Rattle.place_core.specs.page.States.{Template, LexState, Text, TagOpen, EndTagOpen, DeclarationOpen, CommentState, Started, StartedDash, Inside, Dash, DashDash, Bang, Broken, InComment, BogusComment, InDoctype, TagName, WholeTagName, BeforeAttributeName, AttributeName, WholeAttributeName, AfterAttributeName, BeforeAttributeValue, AttributeValue, AfterAttributeValue, SelfClosingStartTag, Characters, Bytes, Pending, Nothing, PendingLess, PendingName, PendingBang, PendingBangDash, InContent, Unread, LessAtCut}
-use Rattle.place_core.specs.page.Tags.{Tag, Value, ValueOf, Deciding, ValueState, OfKind, OfUrl, languages, feed_value, feeding, feed_bytes, refusal_code, refuses_names_in, refuses_cut_of, refuses_url_cut, attribute_value_of, tag_of_name, element_on, is_start, tag_by_type, with_bytes, tag_with_value, without_value, Quoting, DoubleQuoted, SingleQuoted, Unquoted, is_second_type, typed_by, cut_value}
+use Rattle.place_core.specs.page.Tags.{Tag, Value, ValueOf, Deciding, ValueState, OfKind, OfUrl, languages, feed_value, feeding, feed_bytes, refusal_code, refuses_names_in, refuses_cut_of, attribute_value_of, tag_of_name, element_on, is_start, tag_by_type, with_bytes, tag_with_value, without_value, Quoting, DoubleQuoted, SingleQuoted, Unquoted, is_second_type, typed_by, cut_value}
 use Rattle.place_core.specs.page.Words.{kind_of, is_script_type}
-use Rattle.place_core.specs.place.UrlParts.{parts_of, spells_word}
+use Rattle.place_core.specs.place.UrlParts.{parts_of}
 use Rattle.place_core.specs.declared.body.Body.{Body}
 use Rattle.place_core.specs.declared.body.Body.TheVariants as body
 use Rattle.place_core.specs.declared.code.Code.{Code}
@@ -27,11 +27,10 @@ use Rattle.place_core.specs.declared.quotes.Quotes.{Quotes}
 use Rattle.place_core.specs.declared.tag_of.TagOf.{TagOf}
 use Rattle.place_core.specs.declared.tag_of.TagOf.TheVariants as tag
 use Rattle.place_core.specs.declared.value_place.ValuePlace.{ValuePlace}
-use Rattle.html_scan.specs.Scans.{Scan, At, AfterLess, AfterLessSolidus, InDeclaration, InTagName, InAttributeName, InContentEnd, comment_scan, content_scan, value_scan, declaration_next, content_next, pending_less_next, end_name_next, attribute_name_next, tag_next, typed_with, scan_next, scan_error, scan_place, scan_cut_error, BeforeType, InType, bang_next, before_type_next, ended_type, in_tag, scan_shown, type_tag, rest_place, parts_feeding, triple_behind, url_scan, value_fed, value_next, value_cause, parts_cause, quoted_error, word_error, with_quotes, open_cut_error, parts_cut_error, if_unfinished, if_word, parts_before, scan_lexeme_error, is_scan_between}
+use Rattle.html_scan.specs.Scans.{Scan, At, AfterLess, AfterLessSolidus, InDeclaration, InTagName, InAttributeName, InContentEnd, comment_scan, content_scan, value_scan, declaration_next, content_next, pending_less_next, end_name_next, attribute_name_next, tag_next, typed_with, scan_next, scan_error, scan_place, scan_cut_error, BeforeType, InType, bang_next, before_type_next, ended_type, in_tag, scan_shown, type_tag, rest_place, parts_feeding, triple_behind, url_scan, value_fed, value_next, value_cause, parts_cause, quoted_error, with_quotes, open_cut_error, if_unfinished, parts_before, scan_lexeme_error, is_scan_between}
 use Rattle.url_lexer.specs.Classes.{url_class_of}
-use Rattle.url_lexer.specs.Parts.{UrlPart, UrlStart, UrlOpen, UrlOpenhole, UrlPrequery, UrlQuery, UrlBad}
-use Rattle.url_lexer.specs.Prefixes.{Prefix, Off, Javascript, Vbscript, DataScheme, Differs}
-use Rattle.url_lexer.specs.Refusals.{UrlRefusal, refuses_cut_in}
+use Rattle.url_lexer.specs.Parts.{UrlPart, UrlStart}
+use Rattle.url_lexer.specs.Refusals.{UrlCutRefusal, UrlRefusal, refuses_cut_in}
 use Rattle.url_lexer.specs.Spots.{where_whole}
 use Rattle.url_lexer.specs.States.{Url, url_start, feed_url, feed_all}
 use Rattle.url_lexer.specs.Triples.{Triple, NoTriple, AfterPercent, AfterDigit, next_triple}
@@ -269,15 +268,6 @@ first-byte-one u QuotationMark b = refl
 first-byte-one u Apostrophe b = refl
 first-byte-one u GreaterThan b = refl
 first-byte-one u c b = fed-one u (plain_bytes c b) false 0
-
--- One path has begun or has not, so no word is refused for it.
-pub word-none : (p : UrlPart) (bytes : List ℕ) → word_error (parts_of p) bytes ≡ None
-word-none UrlStart bytes = refl
-word-none (UrlOpen p) bytes = refl
-word-none UrlOpenhole bytes = refl
-word-none UrlPrequery bytes = refl
-word-none UrlQuery bytes = refl
-word-none UrlBad bytes = refl
 
 -- the scan state of a URL steps as its value does, whichever form it has
 pub url-scan-next : (v : ValuePlace) (t : Triple) (r : Reference) (c : Class) (b : ℕ) → scan_next (url_scan v t r) c b ≡ value_next v t r c b
@@ -540,9 +530,6 @@ quoted-at DoubleQuoted s r c b = refl
 quoted-at SingleQuoted s r c b = refl
 quoted-at Unquoted s r c b = refl
 
-no-word : (p : UrlPart) (bytes : List ℕ) (o : Option PathCause) → first_cause (at_hand (word_error (parts_of p) bytes)) o ≡ o
-no-word p bytes o = ap (λ (e : Option Code). first_cause (at_hand e) o) (word-none p bytes)
-
 url-errors : (q : Quoting) (t : Tag) (u : Url) (r : Reference) (c : Class) (b : ℕ)
     → byte_error (AttributeValue q t (ValueOf (OfUrl u)) r) c b ≡ value_cause (url_value t (quotes_at q) (parts_of u.part)) r c b
 url-errors q t u r c b =
@@ -550,13 +537,13 @@ url-errors q t u r c b =
     let own = language_error (feeding languages) (ends_value q c) (ValueOf (OfUrl u)) r c b in
     ap (λ (x : Tag). first_cause own (at_hand (quotes_error x.tag (quotes_at q) c))) (same-with t (settled true r) (OfUrl u))
     ∙ ap (λ (o : Option PathCause). first_cause o (at_hand (quotes_error t.tag (quotes_at q) c)))
-    (language-one (ends_value q c) u r c b ∙ sym (quoted-at q s r c b) ∙ sym (no-word u.part (undone_byte true r c b) (quoted_error (quotes_at q) s r c b)))
+    (language-one (ends_value q c) u r c b ∙ sym (quoted-at q s r c b))
 
 begin-url-errors : (t : Tag) (c : Class) (b : ℕ)
     → byte_error (BeforeAttributeValue t kind.Url) c b ≡ value_cause (url_value t unbegun (parts_of UrlStart)) Closed c b
 begin-url-errors t c b =
     ap (λ (o : Option PathCause). first_cause o (at_hand (bare_error t.tag (record { uq = false; unbegun = true }) c)))
-    (first-byte-one url_start c b ∙ sym (no-word UrlStart (undone_byte true Closed c b) (first_byte_error parts_feeding (parts_of UrlStart) c b)))
+    (first-byte-one url_start c b)
 
 url-steps : (q : Quoting) (t : Tag) (u : Url) (r : Reference) (c : Class) (b : ℕ) → Agrees (AttributeValue q t (ValueOf (OfUrl u)) r) (url_scanned q t u r) c b
 url-steps q t u r c b =
@@ -920,11 +907,11 @@ value-shown q t k x Closed bs e = value-place q t k x Closed e
 value-shown q t k x (Open f bytes) [] e = value-place q t k x (Open f bytes) e
 value-shown q t k x (Open f bytes) (b ∷ bs) e = rw (body-before (turn (class_of b) f) k (class_of b) f bytes, e) refl
 
-value-ends : (q : Quoting) (t : Tag) (k : Kind) (x : Body) (r : Reference) → body_at (OfKind k) ≡ Some x → parts_cut_error x NoTriple [] ≡ None
+value-ends : (q : Quoting) (t : Tag) (k : Kind) (x : Body) (r : Reference) → body_at (OfKind k) ≡ Some x
     → Ends (AttributeValue q t (ValueOf (OfKind k)) r) (value-at t (quotes_at q) x)
-value-ends q t k x r e w = record {
+value-ends q t k x r e = record {
   errors = fed-none (ValueOf (OfKind k)) (as_it_stands r) true (length (as_it_stands r)) tt;
-  lexeme = kind-whole (as_it_stands r) k ∙ sym w;
+  lexeme = kind-whole (as_it_stands r) k;
   between = refl;
   place = λ n. value-place q t k x r e;
   shown = λ bs. value-shown q t k x r bs e;
@@ -943,41 +930,23 @@ url-body-before Breaks u c f bytes = url-body u (flushed true (is_equals_sign c)
 url-body-before (Grows g) u c f bytes = refl
 url-body-before Closes u c f bytes = refl
 
-word-whole : (p : Prefix) → refuses_url_cut None (spells_word (UrlOpen p)) ≡ if_word (parts_of (UrlOpen p)).opened
-word-whole Off = refl
-word-whole (Javascript n) = refl
-word-whole (Vbscript n) = refl
-word-whole (DataScheme n) = refl
-word-whole Differs = refl
+url-whole : (t : Triple) → option_map (λ (e : UrlCutRefusal). refusal_code e.refusal) (refuses_cut_in t) ≡ if_unfinished t
+url-whole NoTriple = refl
+url-whole AfterPercent = refl
+url-whole AfterDigit = refl
 
-part-whole : (p : UrlPart) → refuses_url_cut None (spells_word p) ≡ if_word (parts_of p).opened
-part-whole UrlStart = refl
-part-whole (UrlOpen p) = word-whole p
-part-whole UrlOpenhole = refl
-part-whole UrlPrequery = refl
-part-whole UrlQuery = refl
-part-whole UrlBad = refl
-
-url-whole : (t : Triple) (p : UrlPart) → refuses_url_cut (refuses_cut_in t) (spells_word p) ≡ if_unfinished t (if_word (parts_of p).opened)
-url-whole NoTriple p = part-whole p
-url-whole AfterPercent p = refl
-url-whole AfterDigit p = refl
-
-url-lexeme : (u : Url) (bs : List ℕ)
-    → refuses_cut_of languages (with_bytes languages (ValueOf (OfUrl u)) bs) ≡ parts_cut_error (body.Url (parts_of u.part)) u.triple bs
-url-lexeme u [] = url-whole u.triple u.part
-url-lexeme u (b ∷ bs) =
-    url-lexeme (feed_url u b) bs
-    ∙ ap (λ (s : Parts). parts_cut_error (body.Url s) (next_triple u.triple (url_class_of b)) bs) (sym (one-next u.part (url_class_of b) b))
+url-lexeme : (u : Url) (bs : List ℕ) → refuses_cut_of languages (with_bytes languages (ValueOf (OfUrl u)) bs) ≡ if_unfinished (triple_behind u.triple bs)
+url-lexeme u [] = url-whole u.triple
+url-lexeme u (b ∷ bs) = url-lexeme (feed_url u b) bs
 
 -- what the scan state of a URL says there, whichever form it has
-pub url-scan-lexeme : (v : ValuePlace) (t : Triple) (r : Reference) → scan_lexeme_error (url_scan v t r) ≡ parts_cut_error v.body t (as_it_stands r)
+pub url-scan-lexeme : (v : ValuePlace) (t : Triple) (r : Reference) → scan_lexeme_error (url_scan v t r) ≡ if_unfinished (triple_behind t (as_it_stands r))
 url-scan-lexeme v NoTriple Closed = refl
 url-scan-lexeme v NoTriple (Open f bytes) = refl
 url-scan-lexeme v AfterPercent r = refl
 url-scan-lexeme v AfterDigit r = refl
 
-url-scan-cut : (t : Tag) (q : Quotes) (s : Parts) (x : Triple) (r : Reference)
+pub url-scan-cut : (t : Tag) (q : Quotes) (s : Parts) (x : Triple) (r : Reference)
     → scan_cut_error (url_scan (url_value t q s) x r) ≡ open_cut_error (body.Url s) (as_it_stands r)
 url-scan-cut t q s NoTriple Closed = refl
 url-scan-cut t q s NoTriple (Open f bytes) = refl
@@ -1076,8 +1045,8 @@ ends-agree (BeforeAttributeValue t kind.Url) = record { errors = refl; lexeme = 
 ends-agree (BeforeAttributeValue t kind.Script) = tt
 ends-agree (BeforeAttributeValue t kind.Style) = tt
 ends-agree (BeforeAttributeValue t kind.ScriptType) = begin-type-ends t.typed t
-ends-agree (AttributeValue q t (ValueOf (OfKind kind.Plain)) r) = value-ends q t kind.Plain body.Plain r refl refl
-ends-agree (AttributeValue q t (ValueOf (OfKind kind.NoHole)) r) = value-ends q t kind.NoHole body.NoHole r refl refl
+ends-agree (AttributeValue q t (ValueOf (OfKind kind.Plain)) r) = value-ends q t kind.Plain body.Plain r refl
+ends-agree (AttributeValue q t (ValueOf (OfKind kind.NoHole)) r) = value-ends q t kind.NoHole body.NoHole r refl
 ends-agree (AttributeValue q t (ValueOf (OfKind kind.Url)) r) = tt
 ends-agree (AttributeValue q t (ValueOf (OfKind kind.Script)) r) = tt
 ends-agree (AttributeValue q t (ValueOf (OfKind kind.Style)) r) = tt

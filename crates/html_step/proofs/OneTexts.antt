@@ -155,7 +155,7 @@ late : {A : Type 0} (k n back shown : ℕ) → (k + suc n ≤ k - back) ⊎ (k +
 late k n back shown (inl h) = absurd (refused-late k n back h)
 late k n back shown (inr h) = absurd (refused-late k n shown h)
 
-not-late : (k n : ℕ) (o : Option PathCause) (r : Result Place PathRefusal) → Reaches (k + suc n) (unless_refused k o r) → (o ≡ None) × Reaches (k + suc n) r
+pub not-late : (k n : ℕ) (o : Option PathCause) (r : Result Place PathRefusal) → Reaches (k + suc n) (unless_refused k o r) → (o ≡ None) × Reaches (k + suc n) r
 not-late k n None r h = (refl, h)
 not-late k n (Some x) r h = late k n x.back x.shown h
 
@@ -163,7 +163,7 @@ sooner : (k n a b : ℕ) → (k + suc n ≤ a) ⊎ (k + suc n ≤ b) → (k + 1 
 sooner k n a b (inl h) = inl (omega (arith, h))
 sooner k n a b (inr h) = inr (omega (arith, h))
 
-later : (k n : ℕ) (r : Result Place PathRefusal) → Reaches (k + suc n) r → Reaches (k + 1 + n) r
+pub later : (k n : ℕ) (r : Result Place PathRefusal) → Reaches (k + suc n) r → Reaches (k + 1 + n) r
 later k n (Ok q) h = tt
 later k n (Err r) h = sooner k n r.at r.shown h
 

@@ -1,5 +1,5 @@
 -- Origins that are kept byte by byte, and what shows a refusal by them.
-use Rattle.std.proofs.Common.{◌≡◌, ◌<◌, ◌≤◌, ℕ, Bool, true, false, List, [], ◌∷◌, ◌++◌, drop, length, Option, Some, None, refl, sym, ap, ◌∙◌, arith}
+use Rattle.std.proofs.Common.{◌≡◌, ◌<◌, ◌≤◌, ℕ, Bool, true, false, List, [], ◌∷◌, ◌++◌, drop, length, Option, Some, None, refl, sym, ap, ◌∙◌, arith, if◌then◌else◌}
 use Rattle.std.proofs.lemmas.List.{drop_all}
 use Rattle.std.specs.Option.{is_some}
 use Rattle.std.specs.Prelude.{encode_utf8, slice_index_or}
@@ -13,8 +13,8 @@ use Rattle.html_scan.specs.ScanViews.{cause_at}
 use Rattle.place_core.specs.declared.parts.Parts.{Parts}
 use Rattle.html_scan.specs.Scans.{Scan, parts_feeding, scan_error, scan_next}
 use Rattle.html_step.specs.Laws.{EvidenceData, apart, one, two}
-use Rattle.html_step.specs.OriginViews.{all_members, evidence_through, member_number}
-use Rattle.html_step.specs.Origins.{back_by, byte_origin, byte_shows, end_shows, fed_origin, part_origin, shows, unless_shown}
+use Rattle.html_step.specs.OriginViews.{all_members, apart_through, evidence_through, member_number}
+use Rattle.html_step.specs.Origins.{back_by, byte_origin, byte_shows, end_shows, fed_origin, is_apart, part_origin, scan_parts, shows, unless_shown}
 use Rattle.html_scan.specs.declared.cause.Cause.{Cause as ReadCause}
 use Rattle.url_lexer.specs.Classes.{url_class_of}
 use Rattle.url_step.specs.PartSets.{parts_next}
@@ -92,8 +92,8 @@ number-below member.CssStar = omega arith
 no : true ≡ false → ⊥
 no e = cc
 
--- before any byte a member shows what it shows
-pub through-same : (m : Member → Member) → ((y : Member) → m y ≡ y) → (z : EvidenceData) → evidence_through m z ≡ z
+-- before any byte each shows what it shows
+pub through-same : (m : Member → Member) → ((y : Member) → m y ≡ y) → (z : EvidenceData) → evidence_through m apart z ≡ z
 through-same m e (one x) = ap one (e x)
 through-same m e (two x y) = rw (e x, e y) refl
 through-same m e apart = refl
@@ -103,24 +103,32 @@ none-cause : (o : Option ReadCause) → is_some o ≡ false → cause_at o ≡ N
 none-cause None e = refl
 none-cause (Some x) e = absurd (no e)
 
-through : (m n : Member → Member) (f : Scan) (c : Class) (b : ℕ) (z : EvidenceData) → ((y : Member) → n y ≡ m (byte_origin f c b y))
-    → evidence_through n z ≡ evidence_through m (back_by f c b z)
-through m n f c b (one x) e = ap one (e x)
-through m n f c b (two x y) e = rw (e x, e y) refl
-through m n f c b apart e = refl
+apart-back : (m : Member → Member) (met : EvidenceData) (x : Bool)
+    → apart_through m met x ≡ evidence_through m met (if x then apart else two member.PartStart member.PartOpen)
+apart-back m met true = refl
+apart-back m met false = refl
 
-pub evidence-then : (m n : Member → Member) (f g : Scan) (c : Class) (b : ℕ) (xs bs : List ℕ) (o : Option ReadCause) (r : EvidenceData) → xs ≡ b ∷ bs
+through : (m n : Member → Member) (met after : EvidenceData) (f : Scan) (c : Class) (b : ℕ) (z : EvidenceData) → ((y : Member) → n y ≡ m (byte_origin f c b y))
+    → after ≡ apart_through m met (is_apart (scan_parts f))
+    → evidence_through n after z ≡ evidence_through m met (back_by f c b z)
+through m n met after f c b (one x) e d = ap one (e x)
+through m n met after f c b (two x y) e d = rw (e x, e y) refl
+through m n met after f c b apart e d = d ∙ apart-back m met (is_apart (scan_parts f))
+
+pub evidence-then : (m n : Member → Member) (met after : EvidenceData) (f g : Scan) (c : Class) (b : ℕ) (xs bs : List ℕ) (o : Option ReadCause) (r : EvidenceData)
+    → xs ≡ b ∷ bs
     → c ≡ class_of b → cause_at o ≡ scan_error f c b → is_some o ≡ false
-    → ((y : Member) → n y ≡ m (byte_origin f c b y)) → g ≡ scan_next f c b → evidence_through m (shows xs f) ≡ r → evidence_through n (shows bs g) ≡ r
-evidence-then m n f g c b xs bs o r i k h j e l s =
+    → ((y : Member) → n y ≡ m (byte_origin f c b y)) → after ≡ apart_through m met (is_apart (scan_parts f)) → g ≡ scan_next f c b
+    → evidence_through m met (shows xs f) ≡ r → evidence_through n after (shows bs g) ≡ r
+evidence-then m n met after f g c b xs bs o r i k h j e d l s =
     let none : scan_error f (class_of b) b ≡ None = ap (λ (x : Class). scan_error f x b) (sym k) ∙ sym h ∙ none-cause o j in
     let next : g ≡ scan_next f (class_of b) b = l ∙ ap (λ (x : Class). scan_next f x b) k in
     let goes : (y : Member) → n y ≡ m (byte_origin f (class_of b) b y) = λ y. e y ∙ ap (λ (x : Class). m (byte_origin f x b y)) k in
-    ap (λ (x : Scan). evidence_through n (shows bs x)) next
-    ∙ through m n f (class_of b) b (shows bs (scan_next f (class_of b) b)) goes
-    ∙ sym (ap (λ (x : Option PathCause). evidence_through m
+    ap (λ (x : Scan). evidence_through n after (shows bs x)) next
+    ∙ through m n met after f (class_of b) b (shows bs (scan_next f (class_of b) b)) goes d
+    ∙ sym (ap (λ (x : Option PathCause). evidence_through m met
     (unless_shown x (byte_shows f (class_of b) b) (back_by f (class_of b) b (shows bs (scan_next f (class_of b) b))))) none)
-    ∙ sym (ap (λ (x : List ℕ). evidence_through m (shows x f)) i) ∙ s
+    ∙ sym (ap (λ (x : List ℕ). evidence_through m met (shows x f)) i) ∙ s
 
 -- The bytes that a URL is fed, some after others.
 fed-more : (xs ys : List ℕ) (s : Parts) (y : Member) → fed_origin (xs ++ ys) s y ≡ fed_origin xs s (fed_origin ys (feed_bytes parts_feeding s xs) y)
@@ -147,6 +155,7 @@ breaks-origin m n s w f read c b equals y e i j h =
     ∙ ap (λ (x : ReferenceStep). fed_origin (turn_bytes true x f read c b) s y) (sym e))
 
 -- the end of a text shows its refusal by the members before it
-pub evidence-ends : (m : Member → Member) (text : List ℕ) (f : Scan) (i : ℕ) (x : Member) (r : EvidenceData) → length text ≤ i → x ≡ m (end_shows f)
-    → evidence_through m (shows (drop i text) f) ≡ r → one x ≡ r
-evidence-ends m text f i x r l h s = ap one h ∙ sym (ap (λ (xs : List ℕ). evidence_through m (shows xs f)) (drop_all i text l)) ∙ s
+pub evidence-ends : (m : Member → Member) (met : EvidenceData) (text : List ℕ) (f : Scan) (i : ℕ) (x : Member) (r : EvidenceData) → length text ≤ i
+    → x ≡ m (end_shows f)
+    → evidence_through m met (shows (drop i text) f) ≡ r → one x ≡ r
+evidence-ends m met text f i x r l h s = ap one h ∙ sym (ap (λ (xs : List ℕ). evidence_through m met (shows xs f)) (drop_all i text l)) ∙ s

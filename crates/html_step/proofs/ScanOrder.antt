@@ -1,9 +1,9 @@
 -- Scan states that are below one another, their validity and their members; a step keeps the order.
-use Rattle.std.proofs.Common.{◌≡◌, ℕ, Bool, true, false, ◌||◌, ◌&&◌, List, [], length, Option, Some, None, if◌then◌else◌, refl, sym, ap, ◌∙◌, subst}
+use Rattle.std.proofs.Common.{◌≡◌, ℕ, Bool, true, false, ◌||◌, ◌&&◌, List, length, Option, Some, None, if◌then◌else◌, refl, sym, ap, ◌∙◌, subst}
 use Rattle.std.specs.Option.{is_some}
 use Rattle.place_core.specs.page.Classes.{Class, White, ExclamationMark, QuotationMark, Apostrophe, HyphenMinus, Solidus, LessThan, EqualsSign, GreaterThan, GraveAccent}
-use Rattle.place_core.specs.place.Errors.{PathCause, at_hand, attribute_name_error, bare_error, body_error, comment_error, content_error, equals_error, first_cause, first_error, kind_error, place_error, quotes_error, tag_error, unless_second, value_error, block_error}
-use Rattle.place_core.specs.place.Places.{Below, Has, IsValid, IsValidBody, IsValidQuotes, IsValidTag, both_bare, is_whole, joined_kinds, joined_quotes, joined_bodies, some_bare, typed_has}
+use Rattle.place_core.specs.place.Errors.{PathCause, at_hand, attribute_name_error, bare_error, body_error, comment_error, content_error, equals_error, first_cause, first_error, kind_error, quotes_error, tag_error, unless_second, value_error, block_error}
+use Rattle.place_core.specs.place.Places.{Below, Has, IsValid, IsValidQuotes, IsValidTag, both_bare, is_whole, joined_kinds, joined_quotes, joined_bodies, some_bare, typed_has}
 use Rattle.place_core.specs.place.StatePlaces.{only_after, only_before, only_inside, unbegun}
 use Rattle.place_core.specs.page.Words.{kind_of}
 use Rattle.place_core.specs.declared.bare.Bare.{Bare}
@@ -28,19 +28,19 @@ use Rattle.place_core.specs.declared.value_place.ValuePlace.{ValuePlace}
 use Rattle.place_core.proofs.JoinParts.{kinds_partial}
 use Rattle.place_core.proofs.Joins.{places_same}
 use Rattle.place_core.proofs.Semilattices.{none_some, one_value}
-use Rattle.html_scan.specs.Scans.{Scan, At, AfterLess, AfterLessSolidus, InDeclaration, InTagName, InAttributeName, InUrl, InCommentEnd, InContentEnd, after_white, bare_begun, attribute_name_next, bare_next, bare_white, comment_next, comment_state, content_scan, scan_next, scan_error, scan_place, scan_cut_error, scan_lexeme_error, in_tag, quoted_next, tag_next, typed_with, value_scan, with_quotes, BeforeType, InType, rest_place, content_next, parts_feeding, triple_behind, url_scan, with_parts, value_fed, value_next, quoted_error, word_error, parts_cause, value_cause, place_cause, parts_with, with_body, open_cut_error, parts_cut_error, place_cut_error, if_word}
+use Rattle.html_scan.specs.Scans.{Scan, At, AfterLess, AfterLessSolidus, InDeclaration, InTagName, InAttributeName, InUrl, InCommentEnd, InContentEnd, after_white, bare_begun, attribute_name_next, bare_next, bare_white, comment_next, comment_state, content_scan, scan_next, scan_error, scan_place, scan_cut_error, scan_lexeme_error, in_tag, quoted_next, tag_next, typed_with, value_scan, with_quotes, BeforeType, InType, rest_place, content_next, parts_feeding, triple_behind, url_scan, with_parts, value_fed, value_next, quoted_error, parts_cause, value_cause, place_cause, parts_with, with_body, open_cut_error}
 use Rattle.html_step.proofs.OnePath.{none-at-hand, none-unless, some}
 use Rattle.html_step.proofs.PlaceParts.{Under, under-false, under-same, under-both, TagBelow, ValueBelow, below-tag, tag-below, below-value, value-below, below-rcdata, same-kinds}
-use Rattle.html_step.proofs.UrlOrder.{BegunIf, GoesBelow, bare-accepts, bare-goes, fed-grow, first-caused, language-accepts, language-goes, triple-ends, word-accepts, word-ends}
+use Rattle.html_step.proofs.UrlOrder.{BegunIf, GoesBelow, bare-accepts, bare-goes, fed-grow, first-caused, language-accepts, language-goes}
 use Rattle.place_core.specs.page.Html.{ends_value}
 use Rattle.place_core.specs.page.References.{Reference, Closed, Open, as_it_stands, next_reference, undone_byte}
 use Rattle.place_core.specs.page.Tags.{is_second_type, element_on, feed_bytes, DoubleQuoted, SingleQuoted}
-use Rattle.place_core.specs.place.NotBuiltPlaces.{both_parts}
+use Rattle.place_core.specs.place.LanguagePlaces.{both_parts, IsValidParts}
 use Rattle.place_core.specs.place.UrlParts.{parts_of}
 use Rattle.place_core.specs.declared.parts.Parts.{Parts}
 use Rattle.url_lexer.specs.Parts.{UrlStart}
 use Rattle.url_lexer.specs.Triples.{Triple, NoTriple, AfterPercent, AfterDigit}
-use Rattle.url_step.specs.PartSets.{AreParts, PartsBelow}
+use Rattle.url_step.specs.PartSets.{PartsBelow}
 
 -- Between lexemes by the order of places. In a name of an attribute it only matters whether a `type` may have been seen.
 -- In a URL it is the order of values, in the same percent triple and the same reference.
@@ -60,28 +60,20 @@ ScanBelow (InContentEnd e h) g = InContentEnd e h ≡ g
 ScanBelow (BeforeType t) g = BeforeType t ≡ g
 ScanBelow (InType t q v r) g = InType t q v r ≡ g
 
--- Within a text the beginning of a URL may spell letters of a word. In a triple or a reference each path is in the value.
+-- In a triple or a reference each path is in the value.
 abbrev pub HasBegun : Quotes → Type 0
 HasBegun quotes.Dq = Unit {0}
 HasBegun quotes.Sq = Unit {0}
 HasBegun (quotes.Bare s) = (s.uq ≡ true) × (s.unbegun ≡ false)
 
 abbrev pub UrlWithin : Body → Type 0
-UrlWithin (body.Url s) = AreParts s
+UrlWithin (body.Url s) = IsValidParts s
 UrlWithin b = ⊥
 
-abbrev pub BodyWithin : Body → Type 0
-BodyWithin (body.Url s) = AreParts s
-BodyWithin b = IsValidBody b
-
-abbrev pub PlaceWithin : Place → Type 0
-PlaceWithin (place.Value v) = IsValidQuotes v.quotes × BodyWithin v.body
-PlaceWithin p = IsValid p
-
 abbrev pub ScanValid : Scan → Type 0
-ScanValid (At p) = PlaceWithin p
+ScanValid (At p) = IsValid p
 ScanValid (InUrl v t r) = HasBegun v.quotes × UrlWithin v.body
-ScanValid (InContentEnd e h) = PlaceWithin (rest_place e)
+ScanValid (InContentEnd e h) = IsValid (rest_place e)
 ScanValid f = Unit {0}
 
 abbrev pub ScanHas : Scan → Member → Type 0
@@ -205,7 +197,7 @@ body-accepts (body.Js j) c h n = absurd (none_some c h)
 body-accepts (body.Css j) c h n = absurd (none_some c h)
 body-accepts _ c h n = refl
 
-one-url : (s t : Parts) → body.Url s ≡ body.Url t → s ≡ t
+pub one-url : (s t : Parts) → body.Url s ≡ body.Url t → s ≡ t
 one-url s t e = cc
 
 pub parts-below : (s t : Parts) → joined_bodies (body.Url s) (body.Url t) ≡ Some (body.Url t) → PartsBelow s t
@@ -267,8 +259,7 @@ fed-next x y q _ d t r c byte h e k f = value-goes x y q h e
 fed-of : (q : Quotes) (r : Reference) (c : Class) (byte : ℕ) → ((s t : Parts) → PartsBelow s t → quoted_error q t r c byte ≡ None → GoesBelow s t r c byte)
     → (b d : Body) → joined_bodies b d ≡ Some d → parts_cause d q r c byte ≡ None → FedBelow b d (undone_byte true r c byte)
 fed-of q r c byte f (body.Url s) (body.Url t) h n =
-    let bytes = undone_byte true r c byte in
-    ap (λ (z : Parts). Some (body.Url z)) (f s t (parts-below s t h) (first-caused (at_hand (word_error t bytes)) (quoted_error q t r c byte) n).1)
+    ap (λ (z : Parts). Some (body.Url z)) (f s t (parts-below s t h) n)
 fed-of q r c byte f (body.Url s) d h n = absurd (none_some d h)
 fed-of q r c byte f b (body.Url t) h n = absurd (none_some (body.Url t) h)
 fed-of q r c byte f _ d h n = h
@@ -306,12 +297,7 @@ quoted-accepts (quotes.Bare x) quotes.Sq r c b s t j v h n = absurd (none_some q
 pub cause-accepts : (b d : Body) (q p : Quotes) (r : Reference) (c : Class) (byte : ℕ) → joined_bodies b d ≡ Some d → joined_quotes q p ≡ Some p
     → BegunWhereOpen r q
     → parts_cause d p r c byte ≡ None → parts_cause b q r c byte ≡ None
-cause-accepts (body.Url s) (body.Url t) q p r c byte h j v n =
-    let bytes = undone_byte true r c byte in
-    let m = first-caused (at_hand (word_error t bytes)) (quoted_error p t r c byte) n in
-    ap (λ (o : Option Code). first_cause (at_hand o) (quoted_error q s r c byte))
-    (word-accepts s t bytes (parts-below s t h) (none-at-hand (word_error t bytes) m.0))
-    ∙ quoted-accepts q p r c byte s t j v (parts-below s t h) m.1
+cause-accepts (body.Url s) (body.Url t) q p r c byte h j v n = quoted-accepts q p r c byte s t j v (parts-below s t h) n
 cause-accepts (body.Url s) d q p r c byte h j v n = absurd (none_some d h)
 cause-accepts b (body.Url t) q p r c byte h j v n = absurd (none_some (body.Url t) h)
 cause-accepts _ d q p r c byte h j v n = refl
@@ -416,7 +402,7 @@ Grows f g c b = (scan_error f c b ≡ None) × ScanBelow (scan_next f c b) (scan
 same-grows : (f g : Scan) (c : Class) (b : ℕ) → f ≡ g → scan_error g c b ≡ None → Grows f g c b
 same-grows f g c b e n = (ap (λ (h : Scan). scan_error h c b) e ∙ n, subst (λ (h : Scan). ScanBelow (scan_next f c b) (scan_next h c b)) e (scan-same (scan_next f c b)))
 
-place-grows : (x y : Place) (c : Class) (b : ℕ) → PlaceWithin x → Below x y → place_cause y c b ≡ None → Grows (At x) (At y) c b
+place-grows : (x y : Place) (c : Class) (b : ℕ) → IsValid x → Below x y → place_cause y c b ≡ None → Grows (At x) (At y) c b
 place-grows place.Text place.Text c b v h n = (n, scan-same (scan_next (At place.Text) c b))
 place-grows place.Text y c b v h n = absurd (none_some y h)
 place-grows place.Doctype place.Doctype c b v h n = (n, scan-same (scan_next (At place.Doctype) c b))
@@ -544,28 +530,12 @@ attribute-ends t u x y m l e h f n =
     (subst (λ (z : List ℕ). scan_cut_error (InAttributeName t y z) ≡ None → Ends (InAttributeName t x m) (InAttributeName t y z)) f (λ o. name-ends t x y m h o)) n
 
 -- a URL in which a text ends
-body-ends : (b d : Body) (t : Triple) (bytes : List ℕ) → joined_bodies b d ≡ Some d → open_cut_error d bytes ≡ None → parts_cut_error d t bytes ≡ None
-    → (open_cut_error b bytes ≡ None) × (parts_cut_error b t bytes ≡ None) × FedBelow b d bytes
-body-ends (body.Url s) (body.Url u) t bytes h n m =
-    let g = fed-grow bytes true (length bytes) s u (parts-below s u h) n in
-    let a = feed_bytes parts_feeding s bytes in
-    let z = feed_bytes parts_feeding u bytes in (
-      g.0,
-      triple-ends (triple_behind t bytes) (if_word a.opened) (if_word z.opened) (λ k. word-ends a.opened z.opened (ap (λ (x : Parts). x.opened) g.1) k) m,
-      ap (λ (x : Parts). Some (body.Url x)) g.1,
-    )
-body-ends (body.Url s) d t bytes h n m = absurd (none_some d h)
-body-ends b (body.Url u) t bytes h n m = absurd (none_some (body.Url u) h)
-body-ends _ d t bytes h n m = (refl, refl, h)
-
-none-open : (b : Body) → open_cut_error b [] ≡ None
-none-open (body.Url s) = refl
-none-open _ = refl
-
-place-ends : (x y : Place) → Below x y → place_cut_error y ≡ None → place_cut_error x ≡ None
-place-ends (place.Value x) (place.Value y) h m = (body-ends x.body y.body NoTriple [] (below-value x y h).body (none-open y.body) m).1
-place-ends (place.Value x) y h m = absurd (none_some y h)
-place-ends _ y h m = refl
+body-ends : (b d : Body) (bytes : List ℕ) → joined_bodies b d ≡ Some d → open_cut_error d bytes ≡ None → (open_cut_error b bytes ≡ None) × FedBelow b d bytes
+body-ends (body.Url s) (body.Url u) bytes h n =
+    let g = fed-grow bytes true (length bytes) s u (parts-below s u h) n in (g.0, ap (λ (x : Parts). Some (body.Url x)) g.1)
+body-ends (body.Url s) d bytes h n = absurd (none_some d h)
+body-ends b (body.Url u) bytes h n = absurd (none_some (body.Url u) h)
+body-ends _ d bytes h n = (refl, h)
 
 url-place : (x y : ValuePlace) (bytes : List ℕ) → ValueBelow x y → FedBelow x.body y.body bytes
     → Below (with_body x (parts_with x.body bytes)) (with_body y (parts_with y.body bytes))
@@ -577,10 +547,10 @@ url-ends : (x y : ValuePlace) (t u : Triple) (r z : Reference) → ValueBelow x 
 url-ends x y t u r z h e f n m =
     subst (λ (k : Triple). scan_lexeme_error (InUrl y k z) ≡ None → Ends (InUrl x t r) (InUrl y k z)) e
     (subst (λ (k : Reference). scan_cut_error (InUrl y u k) ≡ None → scan_lexeme_error (InUrl y t k) ≡ None → Ends (InUrl x t r) (InUrl y t k)) f
-    (λ n m. let d = body-ends x.body y.body t (as_it_stands r) h.body n m in (d.0, d.1, url-place x y (as_it_stands r) h d.2)) n) m
+    (λ n m. let d = body-ends x.body y.body (as_it_stands r) h.body n in (d.0, m, url-place x y (as_it_stands r) h d.1)) n) m
 
 pub end-grows : (f g : Scan) → ScanBelow f g → scan_cut_error g ≡ None → scan_lexeme_error g ≡ None → Ends f g
-end-grows (At x) (At y) h n m = (refl, place-ends x y h m, h)
+end-grows (At x) (At y) h n m = (refl, refl, h)
 end-grows (InUrl x t r) (InUrl y u z) h n m = url-ends x y t u r z h.0 h.1 h.2 n m
 end-grows (InAttributeName t x m) (InAttributeName u y l) h n e = attribute-ends t u x y m l h.0 h.1 h.2 n
 end-grows (At x) (InUrl y u z) h n m = absurd h

@@ -1,11 +1,11 @@
 -- What refuses a byte: one member, on whatever path bears it, or two.
-use Rattle.std.proofs.Common.{◌≡◌, ℕ, Bool, true, false, ◌||◌, ◌&&◌, List, [], ◌∷◌, length, Option, Some, None, is_some, if◌then◌else◌, refl, sym, ap, ◌∙◌, subst}
-use Rattle.place_core.specs.page.Classes.{Class, White, QuotationMark, Apostrophe, Solidus, LessThan, EqualsSign, GreaterThan, GraveAccent, class_of}
-use Rattle.place_core.specs.page.References.{Reference, Closed, Open, as_it_stands, undone_byte}
+use Rattle.std.proofs.Common.{◌≡◌, ◌≤◌, ℕ, Bool, true, false, ◌||◌, ◌&&◌, List, length, Option, Some, None, if◌then◌else◌, refl, sym, ap, ◌∙◌, subst, arith}
+use Rattle.place_core.specs.page.Classes.{Class, White, QuotationMark, Apostrophe, Solidus, LessThan, EqualsSign, GreaterThan, GraveAccent, class_of, is_equals_sign}
+use Rattle.place_core.specs.page.References.{Form, Reference, Closed, Open, Breaks, as_it_stands, flushed, turn}
 use Rattle.place_core.specs.page.Tags.{feed_bytes}
-use Rattle.place_core.specs.place.Errors.{PathCause, at_hand, bare_error, begins_word, body_error, comment_error, content_error, equals_error, fed_error, first_cause, first_error, quotes_error, tag_error, value_error, block_error}
-use Rattle.place_core.specs.place.NotBuiltPlaces.{parts_have}
-use Rattle.place_core.specs.place.Places.{Below, Has, IsValidQuotes, IsValidTag, body_has, joined_bodies, joined_kinds, joined_quotes, quotes_have}
+use Rattle.place_core.specs.place.Errors.{PathCause, at_hand, bare_error, body_error, comment_error, content_error, equals_error, first_cause, first_error, quotes_error, tag_error, value_error, block_error}
+use Rattle.place_core.specs.place.LanguagePlaces.{parts_have}
+use Rattle.place_core.specs.place.Places.{Below, Has, IsValid, IsValidQuotes, IsValidTag, body_has, joined_bodies, joined_kinds, joined_quotes, quotes_have}
 use Rattle.place_core.specs.declared.bare.Bare.{Bare}
 use Rattle.place_core.specs.declared.body.Body.{Body}
 use Rattle.place_core.specs.declared.body.Body.TheVariants as body
@@ -17,45 +17,53 @@ use Rattle.place_core.specs.declared.member.Member.TheVariants as member
 use Rattle.place_core.specs.declared.parts.Parts.{Parts}
 use Rattle.place_core.specs.declared.place.Place.{Place}
 use Rattle.place_core.specs.declared.place.Place.TheVariants as place
-use Rattle.place_core.specs.declared.prefix.Prefix.{Prefix}
-use Rattle.place_core.specs.declared.prefix.Prefix.TheVariants as prefix
 use Rattle.place_core.specs.declared.quotes.Quotes.{Quotes}
 use Rattle.place_core.specs.declared.quotes.Quotes.TheVariants as quotes
 use Rattle.place_core.specs.declared.tag_of.TagOf.{TagOf}
+use Rattle.place_core.specs.declared.tag_of.TagOf.TheVariants as tag
+use Rattle.place_core.proofs.Joins.{places_same}
 use Rattle.place_core.specs.declared.tag_place.TagPlace.{TagPlace}
 use Rattle.place_core.specs.declared.value_place.ValuePlace.{ValuePlace}
 use Rattle.place_core.proofs.Semilattices.{none_some, one_value}
-use Rattle.html_scan.specs.Scans.{Scan, At, AfterLess, AfterLessSolidus, InDeclaration, InTagName, InAttributeName, InUrl, InCommentEnd, InContentEnd, if_unfinished, if_word, open_cut_error, parts_cause, parts_cut_error, parts_feeding, place_cause, place_cut_error, quoted_error, scan_cut_error, scan_error, scan_lexeme_error, triple_behind, value_cause, word_error, BeforeType, InType}
+use Rattle.html_scan.specs.Scans.{Scan, At, AfterLess, AfterLessSolidus, InDeclaration, InTagName, InAttributeName, InUrl, InCommentEnd, InContentEnd, open_cut_error, parts_cause, parts_feeding, place_cause, quoted_error, scan_cut_error, scan_error, scan_lexeme_error, value_cause, BeforeType, InType, parts_with, triple_behind, url_scan}
 use Rattle.html_step.specs.Laws.{EvidenceData, apart, one, two}
-use Rattle.html_step.specs.Origins.{bare_shows, body_origin, byte_shows, end_shows, fed_origin, lexeme_shows, name_origin, place_shows, quotes_show, tag_shows, url_end_shows, url_or_quotes, url_shows, value_shows}
+use Rattle.html_step.specs.Origins.{bare_shows, body_parts, body_refusal_shows, byte_shows, colon_shows, end_shows, is_apart, name_origin, place_shows, quotes_show, scan_parts, tag_shows, url_or_quotes, url_shows, value_shows}
 use Rattle.html_step.proofs.BelowScans.{IsRigid, below-at, below-at-comment, below-at-tag, below-at-value, below-attribute, below-url, tag-name-rigid, whole-in, below-at-block, before-type-rigid, content-end-rigid, type-rigid}
-use Rattle.html_step.proofs.Clashing.{fed_in}
-use Rattle.html_step.proofs.ClearUrls.{BodyClear, IsClear, NeverApart, PlaceClear, ScanClear, clear-agree, clear-bytes, no-word}
-use Rattle.html_step.proofs.FromParts.{fed-from, fed-taken, or-either, same-opened}
+use Rattle.html_step.proofs.ApartParts.{IsAmbiguous, apart-inside, bytes-stay, hole-before, hole-bytes, no-colon-fed, or-not}
+use Rattle.html_step.proofs.Characters.{ReferencePlain, stands-no-colon}
+use Rattle.html_step.proofs.FromParts.{or-behind, or-either, or-first}
 use Rattle.html_step.proofs.FromSteps.{no, or-false, untyped-rigid}
 use Rattle.html_step.proofs.FromValues.{in-body, out-part, value_has}
-use Rattle.html_step.proofs.ScanOrder.{BegunWhereOpen, PlaceWithin, ScanBelow, ScanHas, ScanValid, bare-parts, begun-open, begun-valid, cause-accepts, kind-of-some, parts-below, some-none}
-use Rattle.html_step.proofs.ShownUrls.{UrlShown, fed-shown, on_each, on_hole, quoted-shown, same-quoted}
-use Rattle.html_step.proofs.UrlOrder.{fed-grow, word-accepts}
+use Rattle.html_step.proofs.ScanOrder.{HasBegun, BegunWhereOpen, ScanBelow, ScanHas, ScanValid, bare-parts, begun-open, begun-valid, cause-accepts, kind-of-some, parts-below, some-none}
+use Rattle.html_step.proofs.ReadScans.{Behind, Broken, quoted-read, read_turn, read_value}
+use Rattle.html_step.proofs.UrlScans.{ScanPlain, reference_length, scan_reference}
+use Rattle.html_step.proofs.ShownUrls.{UrlShown, on_behind, on_each, on_first, quoted-shown, same-quoted}
 use Rattle.html_step.proofs.OnePath.{some}
-use Rattle.html_step.proofs.PlaceParts.{Under, TagBelow, ValueBelow, same-kinds, under-false}
-use Rattle.url_lexer.specs.Classes.{url_class_of}
+use Rattle.html_step.proofs.PlaceParts.{Under, TagBelow, ValueBelow, same-kinds, under-false, below-value}
 use Rattle.url_lexer.specs.Triples.{Triple, NoTriple, AfterPercent, AfterDigit}
-use Rattle.url_step.specs.PartSets.{PartsBelow}
-use Rattle.url_step.proofs.Growth.{opened-below}
+use Rattle.url_step.specs.PartSets.{PartsBelow, spells_apart}
 
--- Two members that show together that a byte is refused: white space, where a value without quotes has begun on some paths; the first letter of a
--- word, where a URL has begun on some.
+-- Two members that show together that a byte is refused: white space, where a value without quotes has begun on some paths; a `:` that breaks a
+-- reference in which a URL begins on some paths and has begun on others, so that they come apart in it.
 pub data TwoShown (f : Scan) (c : Class) (b : ℕ) (e : PathCause) (x y : Member) : Type 0 where
   by_white : c ≡ White → x ≡ member.UnquotedValue → y ≡ member.UnbegunValue → ScanHas f member.UnquotedValue → ScanHas f member.UnbegunValue
       → e ≡ record { code = code.AmbigContext; back = 0; shown = 0 } → TwoShown f c b e x y
-  by_word : begins_word (fed_in f c b) ≡ true → x ≡ member.PartStart → y ≡ member.PartOpen → ScanHas f member.PartStart
-      → ScanHas f member.PartOpen → e ≡ record { code = code.NotBuilt; back = 0; shown = 0 } → TwoShown f c b e x y
+  by_colon : (v : ValuePlace) (t : Triple) (k : Form) (bytes : List ℕ) (s : Parts) → f ≡ InUrl v t (Open k bytes) → v.body ≡ body.Url s → turn c k ≡ Breaks
+      → Broken s k bytes c ≡ None → spells_apart s.opened ≡ false → spells_apart (Behind s k bytes c).opened ≡ true
+      → (Behind s k bytes c).openhole ≡ false → quoted_error v.quotes s (Open k bytes) c b ≡ Some e
+      → x ≡ member.PartStart → y ≡ member.PartOpen → e ≡ record { code = code.AmbigContext; back = 0; shown = 0 } → TwoShown f c b e x y
+
+-- That paths met apart shows it of each path of which it is not known what it spells.
+pub record ApartShown (f : Scan) (c : Class) (b : ℕ) (e : PathCause) : Type 0 where
+  pub there : is_apart (scan_parts f) ≡ true
+  pub code : e.code ≡ code.AmbigContext
+  pub back : e.back ≤ reference_length (scan_reference f)
+  pub refuses : (g : Scan) → ScanValid g → ScanBelow g f → is_apart (scan_parts g) ≡ true → scan_error g c b ≡ Some e
 
 abbrev pub ShownByte : Scan → Class → ℕ → PathCause → EvidenceData → Type 0
 ShownByte f c b e (one x) = ScanHas f x × ((g : Scan) → ScanValid g → ScanBelow g f → ScanHas g x → scan_error g c b ≡ Some e)
 ShownByte f c b e (two x y) = TwoShown f c b e x y
-ShownByte f c b e apart = ⊥
+ShownByte f c b e apart = ApartShown f c b e
 
 pub none-some : {A : Type 0} (x : A) → None ≡ Some x → ⊥
 none-some x e = cc
@@ -138,10 +146,17 @@ abbrev pub ValueOne : ValuePlace → Reference → Class → ℕ → PathCause �
 ValueOne v r c b e x = Has (place.Value v) x
     × ((u : ValuePlace) → IsValidQuotes u.quotes → BegunWhereOpen r u.quotes → ValueBelow u v → Has (place.Value u) x → value_cause u r c b ≡ Some e)
 
+pub record ValueApart (v : ValuePlace) (r : Reference) (c : Class) (b : ℕ) (e : PathCause) : Type 0 where
+  pub there : is_apart (body_parts v.body) ≡ true
+  pub code : e.code ≡ code.AmbigContext
+  pub back : e.back ≤ reference_length r
+  pub refuses : (u : ValuePlace) → IsValidQuotes u.quotes → BegunWhereOpen r u.quotes → ValueBelow u v → is_apart (body_parts u.body) ≡ true
+      → value_cause u r c b ≡ Some e
+
 abbrev pub ValueShown : ValuePlace → Scan → Reference → Class → ℕ → PathCause → EvidenceData → Type 0
 ValueShown v f r c b e (one x) = ValueOne v r c b e x
 ValueShown v f r c b e (two x y) = TwoShown f c b e x y
-ValueShown v f r c b e apart = ⊥
+ValueShown v f r c b e apart = ValueApart v r c b e
 
 same-body-error : (b c : Body) → joined_bodies b c ≡ Some c → body_error b ≡ body_error c
 same-body-error body.Plain body.Plain h = refl
@@ -267,20 +282,13 @@ evidence-in-quotes t f r c b e (Some x) into m n h =
     (λ u l o. ap (λ (y : Option Code). at_hand (first_error y (quotes_error u.tag u.quotes c))) (same-body-error u.body t.body l.body ∙ n)
     ∙ sym (ap (λ (y : Option Code). at_hand (first_error y (quotes_error t.tag t.quotes c))) n) ∙ h)
 
--- What a URL refuses.
-word-is : (x : Bool) (k : Code) → (if x then Some code.NotBuilt else None) ≡ Some k → (x ≡ true) × (code.NotBuilt ≡ k)
-word-is true k h = (refl, one_value code.NotBuilt k h)
-word-is false k h = absurd (none_some k h)
-
--- the same is refused of each value below, whose parts are refused so
-url-cause : (u v : ValuePlace) (s t : Parts) (r : Reference) (c : Class) (b : ℕ) (e : PathCause) → c ≡ class_of b → u.body ≡ body.Url t
+-- What a URL refuses: the same is refused of each value below, whose parts are refused so.
+url-cause : (u v : ValuePlace) (t : Parts) (r : Reference) (c : Class) (b : ℕ) (e : PathCause) → c ≡ class_of b → u.body ≡ body.Url t
     → BegunWhereOpen r u.quotes
-    → joined_quotes u.quotes v.quotes ≡ Some v.quotes → PartsBelow t s → word_error s (undone_byte true r c b) ≡ None → quoted_error v.quotes t r c b ≡ Some e
+    → joined_quotes u.quotes v.quotes ≡ Some v.quotes → quoted_error v.quotes t r c b ≡ Some e
     → value_cause u r c b ≡ Some e
-url-cause u v s t r c b e k d i j l w h =
+url-cause u v t r c b e k d i j h =
     ap (λ (x : Body). first_cause (parts_cause x u.quotes r c b) (at_hand (value_error u c))) d
-    ∙ ap (λ (o : Option Code). first_cause (first_cause (at_hand o) (quoted_error u.quotes t r c b)) (at_hand (value_error u c)))
-    (word-accepts t s (undone_byte true r c b) l w)
     ∙ ap (λ (o : Option PathCause). first_cause o (at_hand (value_error u c))) (same-quoted u.quotes v.quotes r t c b k j i ∙ h)
 
 -- the parts of a value below a URL
@@ -288,67 +296,146 @@ pub parts-of-below : (b : Body) (s : Parts) → joined_bodies b (body.Url s) ≡
 parts-of-below (body.Url t) s h = (t, refl, parts-below t s h)
 parts-of-below b s h = absurd (none_some (body.Url s) h)
 
-url-by : (v : ValuePlace) (f : Scan) (s : Parts) (r : Reference) (c : Class) (b : ℕ) (e : PathCause) → c ≡ class_of b → v.body ≡ body.Url s
-    → word_error s (undone_byte true r c b) ≡ None → UrlShown s e (λ t. quoted_error v.quotes t r c b) → ValueShown v f r c b e (url_shows e.code)
-url-by v f s r c b e k d w (on_each i refuses) =
-    subst (λ (z : Code). ValueShown v f r c b e (url_shows z)) (sym i) (
-      refl,
-      λ u q a l o.
-          let p = parts-of-below u.body s (subst (λ (z : Body). joined_bodies u.body z ≡ Some z) d l.body) in
-          url-cause u v s p.0 r c b e k p.1 a l.quotes p.2 w (refuses p.0),
-    )
-url-by v f s r c b e k d w (on_hole i there refuses) =
-    subst (λ (z : Code). ValueShown v f r c b e (url_shows z)) (sym i) (
-      subst (λ (z : Body). value_has v.typed v.quotes z member.PartOpenhole ≡ true) (sym d) (in-body v.typed v.quotes (body.Url s) member.PartOpenhole there),
-      λ u q a l o.
-          let p = parts-of-below u.body s (subst (λ (z : Body). joined_bodies u.body z ≡ Some z) d l.body) in
-          let hole = out-part s p.0 u.typed u.quotes member.PartOpenhole there
-          (subst (λ (z : Body). value_has u.typed u.quotes z member.PartOpenhole ≡ true) p.1 o) in
-          url-cause u v s p.0 r c b e k p.1 a l.quotes p.2 w (refuses p.0 p.2 hole),
-    )
+-- a value below is refused where its parts are
+each-below : (P : Parts → Type 0) (v : ValuePlace) (s : Parts) (r : Reference) (c : Class) (b : ℕ) (e : PathCause) → c ≡ class_of b → v.body ≡ body.Url s
+    → ((t : Parts) → PartsBelow t s → P t → quoted_error v.quotes t r c b ≡ Some e)
+    → (u : ValuePlace) → BegunWhereOpen r u.quotes → ValueBelow u v → ((t : Parts) → u.body ≡ body.Url t → P t) → value_cause u r c b ≡ Some e
+each-below P v s r c b e k d refuses u a l f =
+    let p = parts-of-below u.body s (subst (λ (z : Body). joined_bodies u.body z ≡ Some z) d l.body) in
+    url-cause u v p.0 r c b e k p.1 a l.quotes (refuses p.0 p.2 (f p.0 p.1))
 
-url-word : (v : ValuePlace) (f : Scan) (s : Parts) (r : Reference) (c : Class) (b : ℕ) (e : PathCause) (k : Code)
-    → ((y : Member) → Has (place.Value v) y → ScanHas f y)
-    → fed_in f c b ≡ undone_byte true r c b → v.body ≡ body.Url s → word_error s (undone_byte true r c b) ≡ Some k → at_hand (Some k) ≡ Some e
-    → ValueShown v f r c b e (url_shows e.code)
-url-word v f s r c b e k into i d w h =
-    let z = word-is ((s.start && is_some s.opened) && begins_word (undone_byte true r c b)) k w in
-    let x = both-true (s.start && is_some s.opened) (begins_word (undone_byte true r c b)) z.0 in
-    let y = both-true s.start (is_some s.opened) x.0 in
-    let is : e ≡ record { code = code.NotBuilt; back = 0; shown = 0 } =
-    one-cause e (record { code = k; back = 0; shown = 0 }) (sym h) ∙ ap (λ (m : Code). record { code = m; back = 0; shown = 0 }) (sym z.1) in
-    let has : (m : Member) → parts_have s m ≡ true → ScanHas f m =
-    λ m a. into m (subst (λ (o : Body). value_has v.typed v.quotes o m ≡ true) (sym d) (in-body v.typed v.quotes (body.Url s) m a)) in
-    subst (λ (m : Code). ValueShown v f r c b e (url_shows m)) (sym (ap (λ (m : PathCause). m.code) is))
-    (by_word (ap begins_word i ∙ x.1) refl refl (has member.PartStart y.0) (has member.PartOpen y.1) is)
+hole-there : (v : ValuePlace) (s : Parts) → v.body ≡ body.Url s → s.openhole ≡ true → Has (place.Value v) member.PartOpenhole
+hole-there v s d h =
+    subst (λ (z : Body). value_has v.typed v.quotes z member.PartOpenhole ≡ true) (sym d) (in-body v.typed v.quotes (body.Url s) member.PartOpenhole h)
 
-url-either : (v : ValuePlace) (f : Scan) (s : Parts) (r : Reference) (c : Class) (b : ℕ) (e : PathCause) (o : Option Code)
-    → ((y : Member) → Has (place.Value v) y → ScanHas f y)
-    → fed_in f c b ≡ undone_byte true r c b → c ≡ class_of b → BegunWhereOpen r v.quotes → IsClear s → v.body ≡ body.Url s
-    → word_error s (undone_byte true r c b) ≡ o
-    → first_cause (at_hand o) (quoted_error v.quotes s r c b) ≡ Some e → ValueShown v f r c b e (url_shows e.code)
-url-either v f s r c b e (Some k) into i g a n d w h = url-word v f s r c b e k into i d w h
-url-either v f s r c b e None into i g a n d w h =
-    url-by v f s r c b e g d w (quoted-shown v.quotes r s c b e a (clear-bytes (undone_byte true r c b) s n (no-word s (undone_byte true r c b) w)).0 h)
+hole-in : (s t : Parts) (u : ValuePlace) → s.openhole ≡ true → Has (place.Value u) member.PartOpenhole → u.body ≡ body.Url t → t.openhole ≡ true
+hole-in s t u h o d =
+    out-part s t u.typed u.quotes member.PartOpenhole h (subst (λ (z : Body). value_has u.typed u.quotes z member.PartOpenhole ≡ true) d o)
 
-evidence-url : (v : ValuePlace) (f : Scan) (x : Body) (r : Reference) (c : Class) (b : ℕ) (e : PathCause) → ((y : Member) → Has (place.Value v) y → ScanHas f y)
-    → fed_in f c b ≡ undone_byte true r c b → c ≡ class_of b → BegunWhereOpen r v.quotes → BodyClear x → v.body ≡ x → parts_cause x v.quotes r c b ≡ Some e
-    → ValueShown v f r c b e (url_shows e.code)
-evidence-url v f (body.Url s) r c b e into i g a n d h = url-either v f s r c b e (word_error s (undone_byte true r c b)) into i g a n d refl h
-evidence-url v f _ r c b e into i g a n d h = absurd (none_some e h)
+-- a `:` behind a hole
+one-hole : (v : ValuePlace) (s : Parts) (r : Reference) (c : Class) (b : ℕ) (e : PathCause) → c ≡ class_of b → v.body ≡ body.Url s → s.openhole ≡ true
+    → ((t : Parts) → PartsBelow t s → t.openhole ≡ true → quoted_error v.quotes t r c b ≡ Some e) → ValueOne v r c b e member.PartOpenhole
+one-hole v s r c b e k d h refuses = (
+  hole-there v s d h,
+  λ u q a l o. each-below (λ (t : Parts). t.openhole ≡ true) v s r c b e k d refuses u a l (λ t m. hole-in s t u h o m),
+)
+
+behind-hole : (xs : List ℕ) (s t : Parts) → IsAmbiguous (feed_bytes parts_feeding s xs) → t.openhole ≡ true → IsAmbiguous (feed_bytes parts_feeding t xs)
+behind-hole xs s t i k =
+    let z = feed_bytes parts_feeding s xs in
+    let w = feed_bytes parts_feeding t xs in
+    or-first w.openhole (spells_apart w.opened)
+    (or-either (w.openhole ≡ true) z.openhole (spells_apart z.opened) i (λ h. hole-bytes xs s t h k) (λ h. (bytes-stay xs s t (apart-inside z h)).hole k))
+
+-- one where paths have spelled different things
+behind-apart : (xs : List ℕ) (s t : Parts) → s.openhole ≡ false → IsAmbiguous (feed_bytes parts_feeding s xs) → spells_apart t.opened ≡ true
+    → IsAmbiguous (feed_bytes parts_feeding t xs)
+behind-apart xs s t n i k =
+    let z = feed_bytes parts_feeding s xs in
+    let w = feed_bytes parts_feeding t xs in
+    or-behind w.openhole (spells_apart w.opened)
+    (or-either (spells_apart w.opened ≡ true) z.openhole (spells_apart z.opened) i (λ h. absurd (no (sym n ∙ hole-before xs s h)))
+    (λ h. (bytes-stay xs s t (apart-inside z h)).met k))
+
+value-apart : (v : ValuePlace) (s : Parts) (r : Reference) (c : Class) (b : ℕ) (e : PathCause) → c ≡ class_of b → v.body ≡ body.Url s
+    → spells_apart s.opened ≡ true → e.code ≡ code.AmbigContext → e.back ≤ reference_length r
+    → ((t : Parts) → PartsBelow t s → spells_apart t.opened ≡ true → quoted_error v.quotes t r c b ≡ Some e) → ValueApart v r c b e
+value-apart v s r c b e k d h i l refuses = record {
+  there = ap (λ (z : Body). is_apart (body_parts z)) d ∙ h;
+  code = i;
+  back = l;
+  refuses = λ u q a m o.
+      each-below (λ (t : Parts). spells_apart t.opened ≡ true) v s r c b e k d refuses u a m (λ t n. sym (ap (λ (z : Body). is_apart (body_parts z)) n) ∙ o);
+}
+
+abbrev code_is_html : Code → Bool
+code_is_html code.BadHTML = true
+code_is_html e = false
+
+shows-code : (s : Parts) (e : Code) → (if code_is_html e then one member.Whole else colon_shows s) ≡ url_shows s e
+shows-code s code.BadHTML = refl
+shows-code s _ = refl
+
+not-open : {A : Type 0} (k : Form) (bytes : List ℕ) → Closed ≡ Open k bytes → A
+not-open k bytes h = cc
+
+-- where it is neither, they come apart in the reference that the byte breaks
+neither-behind : (xs : List ℕ) (s : Parts) → s.openhole ≡ false → IsAmbiguous (feed_bytes parts_feeding s xs)
+    → (spells_apart (feed_bytes parts_feeding s xs).opened ≡ true) × ((feed_bytes parts_feeding s xs).openhole ≡ false)
+neither-behind xs s n i =
+    let z = feed_bytes parts_feeding s xs in
+    let none = or-not z.openhole (λ h. no (sym n ∙ hole-before xs s h)) in
+    (or-either (spells_apart z.opened ≡ true) z.openhole (spells_apart z.opened) i (λ h. absurd (no (sym none ∙ h))) (λ h. h), none)
+
+neither-here : (x y : Bool) → x ≡ false → y ≡ false → (x || y) ≡ true → ⊥
+neither-here false y i j h = no (sym j ∙ h)
+neither-here true y i j h = no (sym i)
+
+other-code : code.BadHTML ≡ code.AmbigContext → ⊥
+other-code e = cc
+
+abbrev only-url : Parts → ValuePlace
+only-url s = record { tag = tag.End; typed = false; quotes = quotes.Dq; body = body.Url s }
+
+parts-same : (s : Parts) → PartsBelow s s
+parts-same s = parts-below s s ((below-value (only-url s) (only-url s) (places_same (place.Value (only-url s)))).body)
+
+colon-by : (v : ValuePlace) (f : Scan) (s : Parts) (r : Reference) (c : Class) (b : ℕ) (e : PathCause) (x y : Bool) → s.openhole ≡ x → spells_apart s.opened ≡ y
+    → ((k : Form) (bytes : List ℕ) → r ≡ Open k bytes → (t : Triple) × (f ≡ InUrl v t (Open k bytes))) → c ≡ class_of b → v.body ≡ body.Url s
+    → UrlShown s r c e (λ t. quoted_error v.quotes t r c b)
+    → ValueShown v f r c b e (if code_is_html e.code then one member.Whole else
+    (if x then one member.PartOpenhole else (if y then apart else two member.PartStart member.PartOpen)))
+colon-by v f s r c b e x y hx hy into k d (on_each i refuses) =
+    subst (λ (z : Bool). ValueShown v f r c b e (if z then one member.Whole else
+    (if x then one member.PartOpenhole else (if y then apart else two member.PartStart member.PartOpen)))) (sym (ap code_is_html i))
+    (refl, λ u q a l o. each-below (λ (t : Parts). Unit {0}) v s r c b e k d (λ t m n. refuses t) u a l (λ t m. tt))
+colon-by v f s r c b e true y hx hy into k d (on_first back i l there refuses) =
+    subst (λ (z : Bool). ValueShown v f r c b e (if z then one member.Whole else one member.PartOpenhole)) (sym (ap (λ (z : PathCause). code_is_html z.code) i))
+    (one-hole v s r c b e k d hx (λ t m n. refuses t (or-first t.openhole (spells_apart t.opened) n)))
+colon-by v f s r c b e true y hx hy into k d (on_behind w bytes j q i n there refuses) =
+    subst (λ (z : Bool). ValueShown v f r c b e (if z then one member.Whole else one member.PartOpenhole)) (sym (ap (λ (z : PathCause). code_is_html z.code) i))
+    (one-hole v s r c b e k d hx (λ t m o. refuses t m (behind-hole (flushed true (is_equals_sign c) w bytes) s t there o)))
+colon-by v f s r c b e false true hx hy into k d (on_first back i l there refuses) =
+    subst (λ (z : Bool). ValueShown v f r c b e (if z then one member.Whole else apart)) (sym (ap (λ (z : PathCause). code_is_html z.code) i))
+    (value-apart v s r c b e k d hy (ap (λ (z : PathCause). z.code) i) (subst (λ (z : ℕ). z ≤ reference_length r) (sym (ap (λ (z : PathCause). z.back) i)) l)
+    (λ t m n. refuses t (or-behind t.openhole (spells_apart t.opened) n)))
+colon-by v f s r c b e false true hx hy into k d (on_behind w bytes j q i n there refuses) =
+    subst (λ (z : Bool). ValueShown v f r c b e (if z then one member.Whole else apart)) (sym (ap (λ (z : PathCause). code_is_html z.code) i))
+    (value-apart v s r c b e k d hy (ap (λ (z : PathCause). z.code) i)
+    (subst (λ (z : ℕ). z ≤ reference_length r) (sym (ap (λ (z : PathCause). z.back) i)) (omega arith))
+    (λ t m o. refuses t m (behind-apart (flushed true (is_equals_sign c) w bytes) s t hx there o)))
+colon-by v f s r c b e false false hx hy into k d (on_first back i l there refuses) = absurd (neither-here s.openhole (spells_apart s.opened) hx hy there)
+colon-by v f s r c b e false false hx hy into k d (on_behind w bytes j q i n there refuses) =
+    let at = into w bytes j in
+    let m = neither-behind (flushed true (is_equals_sign c) w bytes) s hx there in
+    subst (λ (z : Bool). ValueShown v f r c b e (if z then one member.Whole else two member.PartStart member.PartOpen))
+    (sym (ap (λ (z : PathCause). code_is_html z.code) i))
+    (by_colon v at.0 w bytes s at.1 d q n hy m.0 m.1
+    (sym (ap (λ (z : Reference). quoted_error v.quotes s z c b) j) ∙ refuses s (parts-same s) there) refl refl i)
+
+evidence-url : (v : ValuePlace) (f : Scan) (x : Body) (r : Reference) (c : Class) (b : ℕ) (e : PathCause)
+    → ((k : Form) (bytes : List ℕ) → r ≡ Open k bytes → (t : Triple) × (f ≡ InUrl v t (Open k bytes)))
+    → c ≡ class_of b → BegunWhereOpen r v.quotes → ReferencePlain r → v.body ≡ x → parts_cause x v.quotes r c b ≡ Some e
+    → ValueShown v f r c b e (body_refusal_shows x e.code)
+evidence-url v f (body.Url s) r c b e into g a n d h =
+    subst (ValueShown v f r c b e) (shows-code s e.code)
+    (colon-by v f s r c b e s.openhole (spells_apart s.opened) refl refl into g d (quoted-shown v.quotes r s c b e a n h))
+evidence-url v f _ r c b e into g a n d h = absurd (none_some e h)
 
 by-cause : (v : ValuePlace) (f : Scan) (r : Reference) (c : Class) (b : ℕ) (e : PathCause) (o : Option PathCause)
     → ((y : Member) → Has (place.Value v) y → ScanHas f y)
-    → fed_in f c b ≡ undone_byte true r c b → c ≡ class_of b → BegunWhereOpen r v.quotes → BodyClear v.body → parts_cause v.body v.quotes r c b ≡ o
-    → first_cause o (at_hand (value_error v c)) ≡ Some e → ValueShown v f r c b e (url_or_quotes o (quotes_show (body_error v.body) v.quotes c))
-by-cause v f r c b e None into i g a n m h = evidence-in-quotes v f r c b e (body_error v.body) into m refl h
-by-cause v f r c b e (Some x) into i g a n m h =
-    subst (λ (z : PathCause). ValueShown v f r c b e (url_shows z.code)) (sym (one_value x e h)) (evidence-url v f v.body r c b e into i g a n refl (m ∙ h))
+    → ((k : Form) (bytes : List ℕ) → r ≡ Open k bytes → (t : Triple) × (f ≡ InUrl v t (Open k bytes)))
+    → c ≡ class_of b → BegunWhereOpen r v.quotes → ReferencePlain r → parts_cause v.body v.quotes r c b ≡ o
+    → first_cause o (at_hand (value_error v c)) ≡ Some e → ValueShown v f r c b e (url_or_quotes o v.body (quotes_show (body_error v.body) v.quotes c))
+by-cause v f r c b e None has into g a n m h = evidence-in-quotes v f r c b e (body_error v.body) has m refl h
+by-cause v f r c b e (Some x) has into g a n m h =
+    subst (λ (z : PathCause). ValueShown v f r c b e (body_refusal_shows v.body z.code)) (sym (one_value x e h)) (evidence-url v f v.body r c b e into g a n refl (m ∙ h))
 
 evidence-value-byte : (v : ValuePlace) (f : Scan) (r : Reference) (c : Class) (b : ℕ) (e : PathCause) → ((y : Member) → Has (place.Value v) y → ScanHas f y)
-    → fed_in f c b ≡ undone_byte true r c b → c ≡ class_of b → BegunWhereOpen r v.quotes → BodyClear v.body → value_cause v r c b ≡ Some e
+    → ((k : Form) (bytes : List ℕ) → r ≡ Open k bytes → (t : Triple) × (f ≡ InUrl v t (Open k bytes)))
+    → c ≡ class_of b → BegunWhereOpen r v.quotes → ReferencePlain r → value_cause v r c b ≡ Some e
     → ValueShown v f r c b e (value_shows v r c b)
-evidence-value-byte v f r c b e into i g a n h = by-cause v f r c b e (parts_cause v.body v.quotes r c b) into i g a n refl h
+evidence-value-byte v f r c b e has into g a n h = by-cause v f r c b e (parts_cause v.body v.quotes r c b) has into g a n refl h
 
 -- at a place, and in a triple or a reference
 at-value : (v : ValuePlace) (c : Class) (b : ℕ) (e : PathCause) (y : EvidenceData) → ValueShown v (At (place.Value v)) Closed c b e y
@@ -356,7 +443,13 @@ at-value : (v : ValuePlace) (c : Class) (b : ℕ) (e : PathCause) (y : EvidenceD
 at-value v c b e (one x) h =
     (h.0, λ g w l o. below-at-value (λ (g : Scan). ScanValid g → ScanHas g x → scan_error g c b ≡ Some e) v (λ u l w o. h.1 u w.0 tt l o) g l w o)
 at-value v c b e (two x y) h = h
-at-value v c b e apart h = absurd h
+at-value v c b e apart h = record {
+  there = h.there;
+  code = h.code;
+  back = h.back;
+  refuses = λ g w l o.
+      below-at-value (λ (g : Scan). ScanValid g → is_apart (scan_parts g) ≡ true → scan_error g c b ≡ Some e) v (λ u l w o. h.refuses u w.0 tt l o) g l w o;
+}
 
 in-url : (v : ValuePlace) (t : Triple) (r : Reference) (c : Class) (b : ℕ) (e : PathCause) (y : EvidenceData) → ValueShown v (InUrl v t r) r c b e y
     → ShownByte (InUrl v t r) c b e y
@@ -366,7 +459,14 @@ in-url v t r c b e (one x) h = (
       (λ u l w o. h.1 u (begun-valid u.quotes w.0) (begun-open r u.quotes w.0) l o) g l w o,
 )
 in-url v t r c b e (two x y) h = h
-in-url v t r c b e apart h = absurd h
+in-url v t r c b e apart h = record {
+  there = h.there;
+  code = h.code;
+  back = h.back;
+  refuses = λ g w l o.
+      below-url (λ (g : Scan). ScanValid g → is_apart (scan_parts g) ≡ true → scan_error g c b ≡ Some e) v t r
+      (λ u l w o. h.refuses u (begun-valid u.quotes w.0) (begun-open r u.quotes w.0) l o) g l w o;
+}
 
 -- in a comment
 evidence-comment : (dash : Bool) (c : Class) (byte : ℕ) (e : PathCause) → at_hand (comment_error dash c) ≡ Some e
@@ -401,18 +501,18 @@ evidence-unbuilt : (p : Place) (c : Class) (b : ℕ) (e : PathCause) → ((a : P
     → at_hand (Some code.NotBuilt) ≡ Some e → ShownByte (At p) c b e (one member.Whole)
 evidence-unbuilt p c b e f h = (refl, λ g v l o. below-at (λ (g : Scan). scan_error g c b ≡ Some e) p (λ a l. f a l ∙ h) g l)
 
-evidence-place : (p : Place) (c : Class) (b : ℕ) (e : PathCause) → c ≡ class_of b → PlaceWithin p → PlaceClear p → place_cause p c b ≡ Some e
+evidence-place : (p : Place) (c : Class) (b : ℕ) (e : PathCause) → c ≡ class_of b → IsValid p → place_cause p c b ≡ Some e
     → ShownByte (At p) c b e (place_shows p c b)
-evidence-place place.Text c b e k v n h = absurd (none-some e h)
-evidence-place place.Doctype c b e k v n h = absurd (none-some e h)
-evidence-place (place.Comment dash) c b e k v n h = evidence-comment dash c b e h
-evidence-place (place.Rcdata x) c b e k v n h = absurd (none-some e h)
-evidence-place (place.Tag t) c b e k v n h = evidence-tag-byte t c b e v h
-evidence-place (place.Value x) c b e k v n h =
-    at-value x c b e (value_shows x Closed c b) (evidence-value-byte x (At (place.Value x)) Closed c b e (λ y o. o) refl k tt n h)
-evidence-place (place.Script j) c b e k v n h = evidence-unbuilt (place.Script j) c b e (script-error j c b) h
-evidence-place (place.Style j) c b e k v n h = evidence-unbuilt (place.Style j) c b e (style-error j c b) h
-evidence-place (place.Block less) c b e k v n h = evidence-block less c b e h
+evidence-place place.Text c b e k v h = absurd (none-some e h)
+evidence-place place.Doctype c b e k v h = absurd (none-some e h)
+evidence-place (place.Comment dash) c b e k v h = evidence-comment dash c b e h
+evidence-place (place.Rcdata x) c b e k v h = absurd (none-some e h)
+evidence-place (place.Tag t) c b e k v h = evidence-tag-byte t c b e v h
+evidence-place (place.Value x) c b e k v h =
+    at-value x c b e (value_shows x Closed c b) (evidence-value-byte x (At (place.Value x)) Closed c b e (λ y o. o) (λ z bytes h. not-open z bytes h) k tt tt h)
+evidence-place (place.Script j) c b e k v h = evidence-unbuilt (place.Script j) c b e (script-error j c b) h
+evidence-place (place.Style j) c b e k v h = evidence-unbuilt (place.Style j) c b e (style-error j c b) h
+evidence-place (place.Block less) c b e k v h = evidence-block less c b e h
 
 evidence-attribute : (t : TagOf) (typed : Bool) (name : List ℕ) (c : Class) (b : ℕ) (e : PathCause)
     → scan_error (InAttributeName t typed name) c b ≡ Some e → ShownByte (InAttributeName t typed name) c b e (one (name_origin typed))
@@ -423,20 +523,46 @@ evidence-attribute t true name c b e h = (
       (λ x u o. subst (λ (z : Bool). scan_error (InAttributeName t z name) c b ≡ Some e) (sym o) h) g l o,
 )
 
-pub evidence-byte : (f : Scan) (c : Class) (b : ℕ) (e : PathCause) → c ≡ class_of b → ScanValid f → ScanClear f → scan_error f c b ≡ Some e
+pub evidence-byte : (f : Scan) (c : Class) (b : ℕ) (e : PathCause) → c ≡ class_of b → ScanValid f → ScanPlain f → scan_error f c b ≡ Some e
     → ShownByte f c b e (byte_shows f c b)
-evidence-byte (At p) c b e k v n h = evidence-place p c b e k v n h
+evidence-byte (At p) c b e k v n h = evidence-place p c b e k v h
 evidence-byte AfterLess c b e k v n h = absurd (none-some e h)
 evidence-byte AfterLessSolidus c b e k v n h = absurd (none-some e h)
 evidence-byte (InDeclaration pending) c b e k v n h = absurd (none-some e h)
 evidence-byte (InTagName end name) c b e k v n h = evidence-rigid (InTagName end name) c b e (tag-name-rigid end name) h
 evidence-byte (InAttributeName t typed name) c b e k v n h = evidence-attribute t typed name c b e h
 evidence-byte (InUrl w t r) c b e k v n h =
-    in-url w t r c b e (value_shows w r c b) (evidence-value-byte w (InUrl w t r) r c b e (λ y o. o) refl k (begun-open r w.quotes v.0) n h)
+    in-url w t r c b e (value_shows w r c b) (evidence-value-byte w (InUrl w t r) r c b e (λ y o. o) (λ z bytes i. (t, ap (InUrl w t) i)) k (begun-open r w.quotes v.0) n h)
 evidence-byte (InCommentEnd s) c b e k v n h = absurd (none-some e h)
 evidence-byte (InContentEnd x y) c b e k v n h = evidence-rigid (InContentEnd x y) c b e (content-end-rigid x y) h
 evidence-byte (BeforeType t) c b e k v n h = evidence-rigid (BeforeType t) c b e (before-type-rigid t) h
 evidence-byte (InType t q w r) c b e k v n h = evidence-rigid (InType t q w r) c b e (type-rigid t q w r) h
+
+-- a `:` behind a reference that it breaks, in which they come apart, where this has been read
+read-apart : (v : ValuePlace) (s : Parts) (c : Class) (b : ℕ) (e : PathCause) → c ≡ class_of b → v.body ≡ body.Url s → spells_apart s.opened ≡ true
+    → e.code ≡ code.AmbigContext → UrlShown s Closed c e (λ t. quoted_error v.quotes t Closed c b) → ValueApart v Closed c b e
+read-apart v s c b e k d h i (on_each j refuses) = absurd (other-code (sym j ∙ i))
+read-apart v s c b e k d h i (on_first back j l there refuses) =
+    value-apart v s Closed c b e k d h i (subst (λ (z : ℕ). z ≤ 0) (sym (ap (λ (z : PathCause). z.back) j)) l)
+    (λ t m n. refuses t (or-behind t.openhole (spells_apart t.opened) n))
+read-apart v s c b e k d h i (on_behind w bytes j q n m there refuses) = not-open w bytes j
+
+url-apart : (v : ValuePlace) (t : Triple) (c : Class) (b : ℕ) (e : PathCause) → ValueApart v Closed c b e → ApartShown (url_scan v t Closed) c b e
+url-apart v NoTriple c b e h = at-value v c b e apart h
+url-apart v AfterPercent c b e h = in-url v AfterPercent Closed c b e apart h
+url-apart v AfterDigit c b e h = in-url v AfterDigit Closed c b e apart h
+
+pub evidence-read : (v : ValuePlace) (t : Triple) (f : Form) (bytes : List ℕ) (s : Parts) (b : ℕ) (e : PathCause) → v.body ≡ body.Url s → HasBegun v.quotes
+    → turn (class_of b) f ≡ Breaks → Broken s f bytes (class_of b) ≡ None → spells_apart (Behind s f bytes (class_of b)).opened ≡ true
+    → e.code ≡ code.AmbigContext → quoted_error v.quotes s (Open f bytes) (class_of b) b ≡ Some e
+    → ApartShown (read_turn Breaks v t f bytes (class_of b)) (class_of b) b e
+evidence-read v t f bytes s b e d g k n a i h =
+    let c = class_of b in
+    let xs = flushed true (is_equals_sign c) f bytes in
+    let w = read_value v xs in
+    url-apart w (triple_behind t xs) c b e
+    (read-apart w (Behind s f bytes c) c b e refl (ap (λ (x : Body). parts_with x xs) d) a i
+    (quoted-shown v.quotes Closed (Behind s f bytes c) c b e tt tt (quoted-read v.quotes s f bytes c b g k n ∙ h)))
 
 -- The end of a text: what is refused before it, or there.
 pub record ShownCut (f : Scan) (e : PathCause) (x : Member) : Type 0 where
@@ -456,46 +582,14 @@ cut-attribute t true name e h = record {
 cut-rigid : (f : Scan) (e : PathCause) → IsRigid f → scan_cut_error f ≡ Some e → ShownCut f e member.Whole
 cut-rigid f e r h = record { there = whole-in f member.Whole refl; refuses = λ g l o. ap scan_cut_error (r g l) ∙ h }
 
--- the bytes of a reference that is open begin no word
-ampersand-begins : (bytes : List ℕ) → begins_word (38 ∷ bytes) ≡ false
-unfolding url_class_of
-ampersand-begins bytes = refl
+-- in a URL no `:` is part of the reference with which it ends
+cut-url : (b : Body) (r : Reference) → ReferencePlain r → open_cut_error b (as_it_stands r) ≡ None
+cut-url (body.Url s) r n = no-colon-fed (as_it_stands r) s true (length (as_it_stands r)) (stands-no-colon r n)
+cut-url _ r n = refl
 
-no-word-cut : (r : Reference) → begins_word (as_it_stands r) ≡ false
-no-word-cut Closed = refl
-no-word-cut (Open f bytes) = ampersand-begins bytes
-
-and-false : (x y : Bool) → y ≡ false → (x && y) ≡ false
-and-false true y h = h
-and-false false y h = refl
-
-pub clear-cut : (s : Parts) (r : Reference) → IsClear s → NeverApart (as_it_stands r) s × IsClear (feed_bytes parts_feeding s (as_it_stands r))
-clear-cut s r n = clear-bytes (as_it_stands r) s n (and-false (s.start && is_some s.opened) (begins_word (as_it_stands r)) (no-word-cut r))
-
-cut-url : (v : ValuePlace) (t : Triple) (r : Reference) (x : Body) (e : PathCause) → BodyClear x → v.body ≡ x → open_cut_error x (as_it_stands r) ≡ Some e
-    → ShownCut (InUrl v t r) e member.PartOpenhole
-cut-url v t r (body.Url s) e n d h =
-    let f = fed-shown (as_it_stands r) s true (length (as_it_stands r)) e (clear-cut s r n).0 h in
-    record {
-      there = subst (λ (z : Body). value_has v.typed v.quotes z member.PartOpenhole ≡ true) (sym d)
-          (in-body v.typed v.quotes (body.Url s) member.PartOpenhole f.there);
-      refuses = λ g l o. below-url (λ (g : Scan). ScanHas g member.PartOpenhole → scan_cut_error g ≡ Some e) v t r
-          (λ u l o. let p = parts-of-below u.body s (subst (λ (z : Body). joined_bodies u.body z ≡ Some z) d l.body) in
-          ap (λ (z : Body). open_cut_error z (as_it_stands r)) p.1
-          ∙ f.refuses p.0 p.2 (out-part s p.0 u.typed u.quotes member.PartOpenhole f.there
-          (subst (λ (z : Body). value_has u.typed u.quotes z member.PartOpenhole ≡ true) p.1 o))) g l o;
-    }
-cut-url v t r _ e n d h = absurd (none_some e h)
-
-cut-in-url : (v : ValuePlace) (t : Triple) (r : Reference) (e : PathCause) (o : Option PathCause) (p : Option Code) → BodyClear v.body
-    → open_cut_error v.body (as_it_stands r) ≡ Some e
-    → open_cut_error v.body (as_it_stands r) ≡ o → ShownCut (InUrl v t r) e (url_end_shows o p v.body (as_it_stands r))
-cut-in-url v t r e (Some x) p n h i = cut-url v t r v.body e n refl h
-cut-in-url v t r e None p n h i = absurd (none_some e (sym i ∙ h))
-
-pub evidence-cut : (f : Scan) (e : PathCause) → ScanClear f → scan_cut_error f ≡ Some e → ShownCut f e (end_shows f)
+pub evidence-cut : (f : Scan) (e : PathCause) → ScanPlain f → scan_cut_error f ≡ Some e → ShownCut f e (end_shows f)
 evidence-cut (InAttributeName t typed name) e n h = cut-attribute t typed name e h
-evidence-cut (InUrl v t r) e n h = cut-in-url v t r e (scan_cut_error (InUrl v t r)) (scan_lexeme_error (InUrl v t r)) n h refl
+evidence-cut (InUrl v t r) e n h = absurd (none_some e (sym (cut-url v.body r n) ∙ h))
 evidence-cut (At p) e n h = absurd (none-some e h)
 evidence-cut AfterLess e n h = absurd (none-some e h)
 evidence-cut AfterLessSolidus e n h = absurd (none-some e h)
@@ -506,123 +600,23 @@ evidence-cut (InContentEnd x y) e n h = cut-rigid (InContentEnd x y) e (content-
 evidence-cut (BeforeType t) e n h = cut-rigid (BeforeType t) e (before-type-rigid t) h
 evidence-cut (InType t q w r) e n h = cut-rigid (InType t q w r) e (type-rigid t q w r) h
 
--- and at the end a percent triple, or a beginning that spells letters of a word
+-- and at the end a percent triple, on each path
 pub record ShownLexeme (f : Scan) (e : Code) (x : Member) : Type 0 where
   pub there : ScanHas f x
   pub refuses : (g : Scan) → ScanBelow g f → ScanHas g x → (scan_cut_error g ≡ None) × (scan_lexeme_error g ≡ Some e)
 
-abbrev is_unfinished : Triple → Bool
-is_unfinished NoTriple = false
-is_unfinished AfterPercent = true
-is_unfinished AfterDigit = true
-
-word-code : (o : Option Prefix) (e : Code) → if_word o ≡ Some e → (code.NotBuilt ≡ e) × (is_some o ≡ true)
-word-code None e h = absurd (none_some e h)
-word-code (Some prefix.Off) e h = absurd (none_some e h)
-word-code (Some (prefix.Javascript n)) e h = (one_value code.NotBuilt e h, refl)
-word-code (Some (prefix.Vbscript n)) e h = (one_value code.NotBuilt e h, refl)
-word-code (Some (prefix.DataScheme n)) e h = (one_value code.NotBuilt e h, refl)
-word-code (Some prefix.Differs) e h = (one_value code.NotBuilt e h, refl)
-
--- a set below that is in the beginning spells the same there
-same-word : (s t : Parts) → IsClear s → PartsBelow t s → parts_have t member.PartOpen ≡ true → if_word t.opened ≡ if_word s.opened
-same-word s t n l o = ap if_word (same-opened t.opened s.opened o (clear-agree s.start s.opened n) (opened-below t s l))
-
-at-lexeme : (v : ValuePlace) (x : Body) (e : Code) → BodyClear x → v.body ≡ x → parts_cut_error x NoTriple [] ≡ Some e
-    → ShownLexeme (At (place.Value v)) e (lexeme_shows (Some e) member.PartOpen)
-at-lexeme v (body.Url s) e n d h =
-    let w = word-code s.opened e h in
-    subst (λ (z : Code). ShownLexeme (At (place.Value v)) e (lexeme_shows (Some z) member.PartOpen)) w.0
-    (record {
-      there = subst (λ (z : Body). value_has v.typed v.quotes z member.PartOpen ≡ true) (sym d) (in-body v.typed v.quotes (body.Url s) member.PartOpen w.1);
-      refuses = λ g l o. below-at-value (λ (g : Scan). ScanHas g member.PartOpen → (scan_cut_error g ≡ None) × (scan_lexeme_error g ≡ Some e)) v
-          (λ u l o. let p = parts-of-below u.body s (subst (λ (z : Body). joined_bodies u.body z ≡ Some z) d l.body) in
-          let m = out-part s p.0 u.typed u.quotes member.PartOpen w.1 (subst (λ (z : Body). value_has u.typed u.quotes z member.PartOpen ≡ true) p.1 o) in
-          (refl, ap (λ (z : Body). parts_cut_error z NoTriple []) p.1 ∙ same-word s p.0 n p.2 m ∙ h)) g l o;
-    })
-at-lexeme v _ e n d h = absurd (none_some e h)
-
-place-lexeme : (p : Place) (e : Code) → PlaceClear p → place_cut_error p ≡ Some e → ShownLexeme (At p) e (lexeme_shows (Some e) member.PartOpen)
-place-lexeme (place.Value v) e n h = at-lexeme v v.body e n refl h
-place-lexeme _ e n h = absurd (none_some e h)
-
--- in a reference or a triple: the bytes of the one are fed first
-cut-none : (u : ValuePlace) (s t : Parts) (r : Reference) → u.body ≡ body.Url t → PartsBelow t s
-    → fed_error parts_feeding s (as_it_stands r) true (length (as_it_stands r)) ≡ None
-    → open_cut_error u.body (as_it_stands r) ≡ None
-cut-none u s t r d l h = ap (λ (z : Body). open_cut_error z (as_it_stands r)) d ∙ (fed-grow (as_it_stands r) true (length (as_it_stands r)) t s l h).0
-
-partial-is : (k : Triple) (o : Option Code) (e : Code) → is_unfinished k ≡ true → if_unfinished k o ≡ Some e → code.PartialEscape ≡ e
-partial-is NoTriple o e j h = absurd (no j)
-partial-is AfterPercent o e j h = one_value code.PartialEscape e h
-partial-is AfterDigit o e j h = one_value code.PartialEscape e h
-
-partial-any : (k : Triple) (o p : Option Code) → is_unfinished k ≡ true → if_unfinished k o ≡ if_unfinished k p
-partial-any NoTriple o p j = absurd (no j)
-partial-any AfterPercent o p j = refl
-partial-any AfterDigit o p j = refl
-
-unfinished-shown : (v : ValuePlace) (t k : Triple) (r : Reference) (s : Parts) (e : Code) → v.body ≡ body.Url s
-    → fed_error parts_feeding s (as_it_stands r) true (length (as_it_stands r)) ≡ None → triple_behind t (as_it_stands r) ≡ k → is_unfinished k ≡ true
-    → if_unfinished k (if_word (feed_bytes parts_feeding s (as_it_stands r)).opened) ≡ Some e
-    → ShownLexeme (InUrl v t r) e (lexeme_shows (Some e) (fed_origin (as_it_stands r) s member.PartOpen))
-unfinished-shown v t k r s e d i a j h =
-    let bytes = as_it_stands r in
-    let here = if_word (feed_bytes parts_feeding s bytes).opened in
-    subst (λ (z : Code). ShownLexeme (InUrl v t r) e (lexeme_shows (Some z) (fed_origin bytes s member.PartOpen))) (partial-is k here e j h)
-    (record {
-      there = refl;
-      refuses = λ g l o. below-url (λ (g : Scan). (scan_cut_error g ≡ None) × (scan_lexeme_error g ≡ Some e)) v t r
-          (λ u l. let p = parts-of-below u.body s (subst (λ (z : Body). joined_bodies u.body z ≡ Some z) d l.body) in
-          let below = if_word (feed_bytes parts_feeding p.0 bytes).opened in (
-            cut-none u s p.0 r p.1 p.2 i,
-            ap (λ (z : Body). parts_cut_error z t bytes) p.1 ∙ ap (λ (z : Triple). if_unfinished z below) a ∙ partial-any k below here j ∙ h,
-          )) g l;
-    })
-
-triple-shown : (v : ValuePlace) (t k : Triple) (r : Reference) (s : Parts) (e : Code) → v.body ≡ body.Url s
-    → fed_error parts_feeding s (as_it_stands r) true (length (as_it_stands r)) ≡ None
-    → IsClear s → triple_behind t (as_it_stands r) ≡ k → if_unfinished k (if_word (feed_bytes parts_feeding s (as_it_stands r)).opened) ≡ Some e
-    → ShownLexeme (InUrl v t r) e (lexeme_shows (Some e) (fed_origin (as_it_stands r) s member.PartOpen))
-triple-shown v t NoTriple r s e d i n k h =
-    let bytes = as_it_stands r in
-    let w = word-code (feed_bytes parts_feeding s bytes).opened e h in
-    let f = fed-from bytes s member.PartOpen (fed-taken bytes s true (length bytes) i) w.1 in
-    let x = fed_origin bytes s member.PartOpen in
-    subst (λ (z : Code). ShownLexeme (InUrl v t r) e (lexeme_shows (Some z) x)) w.0
-    (record {
-      there = subst (λ (z : Body). value_has v.typed v.quotes z x ≡ true) (sym d) (in-body v.typed v.quotes (body.Url s) x f.there);
-      refuses = λ g l o. below-url (λ (g : Scan). ScanHas g x → (scan_cut_error g ≡ None) × (scan_lexeme_error g ≡ Some e)) v t r
-          (λ u l o. let p = parts-of-below u.body s (subst (λ (z : Body). joined_bodies u.body z ≡ Some z) d l.body) in
-          let m = out-part s p.0 u.typed u.quotes x f.there (subst (λ (z : Body). value_has u.typed u.quotes z x ≡ true) p.1 o) in
-          let b = (fed-grow bytes true (length bytes) p.0 s p.2 i).1 in (
-            cut-none u s p.0 r p.1 p.2 i,
-            ap (λ (z : Body). parts_cut_error z t bytes) p.1 ∙ ap (λ (z : Triple). if_unfinished z (if_word (feed_bytes parts_feeding p.0 bytes).opened)) k
-                ∙ same-word (feed_bytes parts_feeding s bytes) (feed_bytes parts_feeding p.0 bytes) (clear-cut s r n).1 b (f.leads p.0 p.2 m) ∙ h,
-          )) g l o;
-    })
-triple-shown v t AfterPercent r s e d i n k h = unfinished-shown v t AfterPercent r s e d i k refl h
-triple-shown v t AfterDigit r s e d i n k h = unfinished-shown v t AfterDigit r s e d i k refl h
-
-url-lexeme : (v : ValuePlace) (t : Triple) (r : Reference) (x : Body) (e : Code) → BodyClear x → v.body ≡ x → open_cut_error x (as_it_stands r) ≡ None
-    → parts_cut_error x t (as_it_stands r) ≡ Some e → ShownLexeme (InUrl v t r) e (lexeme_shows (Some e) (body_origin x (as_it_stands r) member.PartOpen))
-url-lexeme v t r (body.Url s) e n d i h = triple-shown v t (triple_behind t (as_it_stands r)) r s e d i n refl h
-url-lexeme v t r _ e n d i h = absurd (none_some e h)
-
-end-is : (f : Scan) (e : Code) (o : Option PathCause) (p : Option Code) (x : Body) (bytes : List ℕ) → o ≡ None → p ≡ Some e
-    → ShownLexeme f e (lexeme_shows (Some e) (body_origin x bytes member.PartOpen)) → ShownLexeme f e (url_end_shows o p x bytes)
-end-is f e o p x bytes i j h = rw (i, j) h
-
-pub evidence-lexeme : (f : Scan) (e : Code) → ScanClear f → scan_cut_error f ≡ None → scan_lexeme_error f ≡ Some e → ShownLexeme f e (end_shows f)
-evidence-lexeme (At p) e n i h = subst (λ (o : Option Code). ShownLexeme (At p) e (lexeme_shows o member.PartOpen)) (sym h) (place-lexeme p e n h)
-evidence-lexeme (InUrl v t r) e n i h =
-    end-is (InUrl v t r) e (scan_cut_error (InUrl v t r)) (scan_lexeme_error (InUrl v t r)) v.body (as_it_stands r) i h (url-lexeme v t r v.body e n refl i h)
-evidence-lexeme (InAttributeName t typed name) e n i h = absurd (none_some e h)
-evidence-lexeme AfterLess e n i h = absurd (none_some e h)
-evidence-lexeme AfterLessSolidus e n i h = absurd (none_some e h)
-evidence-lexeme (InDeclaration pending) e n i h = absurd (none_some e h)
-evidence-lexeme (InTagName end name) e n i h = absurd (none_some e h)
-evidence-lexeme (InCommentEnd s) e n i h = absurd (none_some e h)
-evidence-lexeme (InContentEnd x y) e n i h = absurd (none_some e h)
-evidence-lexeme (BeforeType t) e n i h = absurd (none_some e h)
-evidence-lexeme (InType t q w r) e n i h = absurd (none_some e h)
+pub evidence-lexeme : (f : Scan) (e : Code) → ScanPlain f → scan_lexeme_error f ≡ Some e → ShownLexeme f e (end_shows f)
+evidence-lexeme (InUrl v t r) e n h = record {
+  there = refl;
+  refuses = λ g l o. below-url (λ (g : Scan). (scan_cut_error g ≡ None) × (scan_lexeme_error g ≡ Some e)) v t r (λ u l. (cut-url u.body r n, h)) g l;
+}
+evidence-lexeme (InAttributeName t typed name) e n h = absurd (none_some e h)
+evidence-lexeme (At p) e n h = absurd (none_some e h)
+evidence-lexeme AfterLess e n h = absurd (none_some e h)
+evidence-lexeme AfterLessSolidus e n h = absurd (none_some e h)
+evidence-lexeme (InDeclaration pending) e n h = absurd (none_some e h)
+evidence-lexeme (InTagName end name) e n h = absurd (none_some e h)
+evidence-lexeme (InCommentEnd s) e n h = absurd (none_some e h)
+evidence-lexeme (InContentEnd x y) e n h = absurd (none_some e h)
+evidence-lexeme (BeforeType t) e n h = absurd (none_some e h)
+evidence-lexeme (InType t q w r) e n h = absurd (none_some e h)

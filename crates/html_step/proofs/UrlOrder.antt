@@ -1,25 +1,22 @@
 -- What a URL is fed on all paths together: a set of parts below one that is accepted is accepted, and comes to one below; and valid sets lead to such.
-use Rattle.std.proofs.Common.{◌≡◌, ℕ, ◌+◌, ◌-◌, Bool, true, false, ◌||◌, ◌&&◌, List, [], ◌∷◌, ◌++◌, length, Option, Some, None, if◌then◌else◌, refl, sym, ap, ◌∙◌}
+use Rattle.std.proofs.Common.{◌≡◌, ℕ, ◌+◌, ◌-◌, Bool, true, false, ◌&&◌, List, [], ◌∷◌, ◌++◌, length, Option, Some, None, if◌then◌else◌, refl, sym, ap, ◌∙◌}
 use Rattle.std.specs.Prelude.{encode_utf8}
-use Rattle.std.specs.Option.{option_map, is_some}
+use Rattle.std.specs.Option.{option_map}
 use Rattle.place_core.specs.page.Classes.{Class, White, QuotationMark, Apostrophe, GreaterThan, is_equals_sign}
 use Rattle.place_core.specs.page.Html.{ends_value}
 use Rattle.place_core.specs.page.References.{Form, Reference, Closed, Open, ReferenceStep, Grows, Closes, Breaks, turn, meaning, flushed, plain_bytes, turn_bytes, undone_byte}
 use Rattle.place_core.specs.page.Tags.{feed_bytes, refusal_code, Unquoted}
-use Rattle.place_core.specs.place.Errors.{PathCause, begins_word, cause_back, fed_error, first_byte_error, first_cause, flushed_error, is_unknown_name, is_written, language_error, name_error, turned_error}
-use Rattle.place_core.specs.place.NotBuiltPlaces.{both_prefixes}
+use Rattle.place_core.specs.place.Errors.{PathCause, cause_back, fed_error, first_byte_error, first_cause, flushed_error, is_unknown_name, is_written, language_error, name_error, turned_error}
+use Rattle.place_core.specs.place.LanguagePlaces.{IsValidParts}
 use Rattle.place_core.specs.declared.code.Code.{Code}
-use Rattle.place_core.specs.declared.code.Code.TheVariants as code
 use Rattle.place_core.specs.declared.parts.Parts.{Parts}
-use Rattle.place_core.specs.declared.prefix.Prefix.{Prefix}
 use Rattle.place_core.proofs.Semilattices.{no_map}
-use Rattle.html_scan.specs.Scans.{if_unfinished, if_word, parts_feeding, word_error}
+use Rattle.html_scan.specs.Scans.{parts_feeding}
 use Rattle.html_step.proofs.PlaceParts.{Under}
 use Rattle.url_lexer.specs.Classes.{url_class_of}
 use Rattle.url_lexer.specs.Refusals.{UrlRefusal}
-use Rattle.url_lexer.specs.Triples.{Triple, NoTriple, AfterPercent, AfterDigit}
-use Rattle.url_step.specs.PartSets.{AreParts, PartsBelow, parts_error, parts_next}
-use Rattle.url_step.proofs.Growth.{Inside, apart, inside, itself, parts-grow}
+use Rattle.url_step.specs.PartSets.{PartsBelow, parts_error, parts_next}
+use Rattle.url_step.proofs.Growth.{parts-grow}
 use Rattle.url_step.proofs.ValidParts.{parts-stay-valid}
 
 no : false ≡ true → ⊥
@@ -52,7 +49,7 @@ fed-grow (b ∷ bs) written back s t h n =
       m.1,
     )
 
-pub fed-valid : (bytes : List ℕ) (s : Parts) → AreParts s → AreParts (feed_bytes parts_feeding s bytes)
+pub fed-valid : (bytes : List ℕ) (s : Parts) → IsValidParts s → IsValidParts (feed_bytes parts_feeding s bytes)
 fed-valid [] s v = v
 fed-valid (b ∷ bs) s v = fed-valid bs (parts_next s (url_class_of b) b) ((parts-stay-valid s v).next (url_class_of b) b)
 
@@ -139,52 +136,3 @@ bare-goes true false r c b s t g i v h n = absurd (no (sym i))
 bare-goes false w (Open f bytes) c b s t g i v h n = absurd (no v)
 bare-goes false true Closed c b s t g i v h n = (fed-grow (plain_bytes c b) false 0 s t h n).1
 bare-goes false false Closed c b s t g i v h n = (fed-grow (plain_bytes c b) false 0 s t h n).1
-
--- the first letter of a word
-some-under : (o p : Option Prefix) → both_prefixes o p ≡ p → Under (is_some o) (is_some p)
-some-under None p h = refl
-some-under (Some x) (Some y) h = refl
-some-under (Some x) None h = absurd (some x h)
-
-pub under-all : (a b c d : Bool) → Under a b → Under c d → Under (a && c) (b && d)
-under-all true true c d h k = k
-under-all true false c d h k = absurd (no (sym h))
-under-all false b c d h k = refl
-
-word-none : (x : Bool) → (if x then Some code.NotBuilt else None) ≡ None → x ≡ false
-word-none true n = absurd (some _ n)
-word-none false n = refl
-
-not-both : (x y w : Bool) → Under x y → (y && w) ≡ false → (x && w) ≡ false
-not-both true true w i e = e
-not-both true false w i e = absurd (no (sym i))
-not-both false y w i e = refl
-
-pub word-accepts : (s t : Parts) (bytes : List ℕ) → PartsBelow s t → word_error t bytes ≡ None → word_error s bytes ≡ None
-word-accepts s t bytes h n =
-    let starts : Under s.start t.start = ap (λ (z : Parts). z.start) h in
-    let opens : Under (is_some s.opened) (is_some t.opened) = some-under s.opened t.opened (ap (λ (z : Parts). z.opened) h) in
-    let both = under-all s.start t.start (is_some s.opened) (is_some t.opened) starts opens in
-    let none = word-none ((t.start && is_some t.opened) && begins_word bytes) n in
-    ap (λ (x : Bool). if x then Some code.NotBuilt else None)
-    (not-both (s.start && is_some s.opened) (t.start && is_some t.opened) (begins_word bytes) both none)
-
--- the end of a text
-word-inside : (p q : Prefix) → Inside p q → if_word (Some q) ≡ None → if_word (Some p) ≡ None
-word-inside p q (itself r) n = n
-word-inside p q (apart r) n = absurd (some _ n)
-
-pub word-ends : (o p : Option Prefix) → both_prefixes o p ≡ p → if_word p ≡ None → if_word o ≡ None
-word-ends None p h n = refl
-word-ends (Some x) None h n = absurd (some x h)
-word-ends (Some x) (Some y) h n = word-inside x y (inside x y h) n
-
-pub triple-ends : (t : Triple) (o p : Option Code) → (p ≡ None → o ≡ None) → if_unfinished t p ≡ None → if_unfinished t o ≡ None
-triple-ends NoTriple o p f n = f n
-triple-ends AfterPercent o p f n = n
-triple-ends AfterDigit o p f n = n
-
-pub triple-rest : (t : Triple) (o : Option Code) → if_unfinished t o ≡ None → o ≡ None
-triple-rest NoTriple o n = n
-triple-rest AfterPercent o n = absurd (some _ n)
-triple-rest AfterDigit o n = absurd (some _ n)

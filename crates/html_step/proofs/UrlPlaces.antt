@@ -1,6 +1,6 @@
 -- The place of a path in a URL has the part of the path alone.
 use Rattle.std.proofs.Common.{◌≡◌, Bool, true, false, Option, Some, None, option_map, if◌then◌else◌, refl, sym, ◌∙◌, subst}
-use Rattle.place_core.specs.place.Errors.{url_part_at}
+use Rattle.place_core.specs.place.PathPairs.{url_part_at}
 use Rattle.place_core.specs.page.References.{Closed, Open}
 use Rattle.place_core.specs.place.StatePlaces.{content_spot, only_after, only_inside, placed, quotes_at, tag_spot, value_spot}
 use Rattle.place_core.specs.place.UrlParts.{parts_of}

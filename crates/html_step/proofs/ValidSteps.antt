@@ -3,7 +3,7 @@ use Rattle.std.proofs.Common.{◌≡◌, ℕ, Bool, true, false, ◌||◌, List,
 use Rattle.place_core.specs.page.Classes.{Class, White, QuotationMark, Apostrophe, Solidus, LessThan, EqualsSign, GreaterThan, Letter, ExclamationMark, HyphenMinus}
 use Rattle.place_core.specs.page.Comments.{Declaration, OpensComment, OpensDoctype, Undecided, OpensNothing, closes_comment, declared_by, next_comment}
 use Rattle.place_core.specs.page.Contents.{is_name_of, may_be_name_of}
-use Rattle.place_core.specs.place.NotBuiltPlaces.{IsValidParts, IsValidPrefix}
+use Rattle.place_core.specs.place.LanguagePlaces.{IsValidParts}
 use Rattle.place_core.specs.place.Places.{IsValid, IsValidBody, IsValidTag, is_rcdata}
 use Rattle.place_core.specs.page.States.{CommentState, Inside, Broken, Pending, Nothing, PendingLess, PendingName, PendingBang, PendingBangDash, LessAtCut}
 use Rattle.place_core.specs.page.Tags.{tag_of_name, element_on, feed_bytes, Quoting, DoubleQuoted, SingleQuoted, Unquoted, Value, ValueState}
@@ -20,19 +20,15 @@ use Rattle.place_core.specs.declared.tag_of.TagOf.{TagOf}
 use Rattle.place_core.specs.declared.tag_of.TagOf.TheVariants as tag
 use Rattle.place_core.specs.declared.tag_place.TagPlace.{TagPlace}
 use Rattle.place_core.specs.declared.value_place.ValuePlace.{ValuePlace}
-use Rattle.html_scan.specs.Scans.{Scan, At, AfterLess, AfterLessSolidus, InDeclaration, InTagName, InAttributeName, InUrl, InCommentEnd, InContentEnd, attribute_name_next, bare_begun, bare_white, comment_closed, comment_scan, comment_next, comment_state, content_end_next, content_scan, content_next, declaration_next, end_name_next, scan_next, scan_place, quoted_next, tag_name_next, tag_next, value_scan, BeforeType, InType, rest_place, content_end_place, pending_less_next, before_type_next, after_type, type_next, type_begun, type_tag, ended_type, if_word, parts_cut_error, parts_feeding, parts_with, place_cut_error, scan_lexeme_error, triple_behind, url_scan, value_fed, with_parts}
-use Rattle.html_step.proofs.OnePath.{some}
-use Rattle.html_step.proofs.ScanOrder.{BodyWithin, HasBegun, PlaceWithin, ScanValid, UrlWithin, begun-valid}
-use Rattle.html_step.proofs.UrlOrder.{fed-valid, triple-rest}
+use Rattle.html_scan.specs.Scans.{Scan, At, AfterLess, AfterLessSolidus, InDeclaration, InTagName, InAttributeName, InUrl, InCommentEnd, InContentEnd, attribute_name_next, bare_begun, bare_white, comment_closed, comment_scan, comment_next, comment_state, content_end_next, content_scan, content_next, declaration_next, end_name_next, scan_next, scan_place, quoted_next, tag_name_next, tag_next, value_scan, BeforeType, InType, rest_place, content_end_place, pending_less_next, before_type_next, after_type, type_next, type_begun, type_tag, ended_type, parts_feeding, parts_with, triple_behind, url_scan, value_fed, with_parts}
+use Rattle.html_step.proofs.ScanOrder.{HasBegun, ScanValid, UrlWithin, begun-valid}
+use Rattle.html_step.proofs.UrlOrder.{fed-valid}
 use Rattle.place_core.specs.page.Html.{ends_value}
 use Rattle.place_core.specs.page.References.{Reference, Closed, Open, as_it_stands, next_reference, undone_byte}
 use Rattle.place_core.specs.declared.body.Body.{Body}
 use Rattle.place_core.specs.declared.body.Body.TheVariants as body
 use Rattle.place_core.specs.declared.parts.Parts.{Parts}
-use Rattle.place_core.specs.declared.prefix.Prefix.{Prefix}
-use Rattle.place_core.specs.declared.prefix.Prefix.TheVariants as prefix
 use Rattle.url_lexer.specs.Triples.{Triple, NoTriple, AfterPercent, AfterDigit}
-use Rattle.url_step.specs.PartSets.{AreParts, IsSpelled}
 
 some-white : (n b i a : Bool) → (n || (b || (i || a))) ≡ true → ((n || b) || (i || a)) ≡ true
 some-white true b i a h = refl
@@ -65,24 +61,24 @@ tag-valid t EqualsSign b v = equals-valid t.tag t.typed t.kind
 tag-valid t _ b v = tt
 
 -- values
-white-valid : (v : ValuePlace) (uq : Bool) → BodyWithin v.body → ScanValid (bare_white v uq)
+white-valid : (v : ValuePlace) (uq : Bool) → IsValidBody v.body → ScanValid (bare_white v uq)
 white-valid v true h = (refl, refl)
 white-valid v false h = (refl, h)
 
-url-valid : (v : ValuePlace) (q : Quotes) (s : Parts) (t : Triple) (r : Reference) → HasBegun q → AreParts s → ScanValid (url_scan (with_parts v q s) t r)
+url-valid : (v : ValuePlace) (q : Quotes) (s : Parts) (t : Triple) (r : Reference) → HasBegun q → IsValidParts s → ScanValid (url_scan (with_parts v q s) t r)
 url-valid v q s NoTriple Closed b h = (begun-valid q b, h)
 url-valid v q s NoTriple (Open f bytes) b h = (b, h)
 url-valid v q s AfterPercent r b h = (b, h)
 url-valid v q s AfterDigit r b h = (b, h)
 
-fed-value-valid : (v : ValuePlace) (q : Quotes) (x : Body) (t : Triple) (r : Reference) (c : Class) (b : ℕ) → HasBegun q → BodyWithin v.body → BodyWithin x
+fed-value-valid : (v : ValuePlace) (q : Quotes) (x : Body) (t : Triple) (r : Reference) (c : Class) (b : ℕ) → HasBegun q → IsValidBody v.body → IsValidBody x
     → ScanValid (value_fed v q x t r c b)
 fed-value-valid v q (body.Url s) t r c b g h k =
     let bytes = undone_byte true r c b in
     url-valid v q (feed_bytes parts_feeding s bytes) (triple_behind t bytes) (next_reference r c b) g (fed-valid bytes s k)
 fed-value-valid v q _ t r c b g h k = (begun-valid q g, h)
 
-quotes-valid : (v : ValuePlace) (q : Quotes) (t : Triple) (r : Reference) (c : Class) (b : ℕ) → BodyWithin v.body → ScanValid (quoted_next v q t r c b)
+quotes-valid : (v : ValuePlace) (q : Quotes) (t : Triple) (r : Reference) (c : Class) (b : ℕ) → IsValidBody v.body → ScanValid (quoted_next v q t r c b)
 quotes-valid v quotes.Dq t r QuotationMark b h = (refl, refl)
 quotes-valid v quotes.Dq t r c b h = fed-value-valid v quotes.Dq v.body t r c b tt h h
 quotes-valid v quotes.Sq t r Apostrophe b h = (refl, refl)
@@ -106,11 +102,11 @@ comment-valid : (s : CommentState) (c : Class) → ScanValid (comment_next c s)
 comment-valid s GreaterThan = closed-valid (closes_comment s)
 comment-valid s _ = scan-of-valid (next_comment s _)
 
-loose-valid : (c : Class) (e : Element) → PlaceWithin (rest_place e) → ScanValid (content_next c e)
+loose-valid : (c : Class) (e : Element) → IsValid (rest_place e) → ScanValid (content_next c e)
 loose-valid LessThan e v = v
 loose-valid _ e v = v
 
-pending-less-valid : (c : Class) (e : Element) → PlaceWithin (rest_place e) → ScanValid (pending_less_next c e)
+pending-less-valid : (c : Class) (e : Element) → IsValid (rest_place e) → ScanValid (pending_less_next c e)
 pending-less-valid Solidus e v = v
 pending-less-valid ExclamationMark element.DataBlock v = v
 pending-less-valid ExclamationMark element.Title v = v
@@ -121,7 +117,7 @@ pending-less-valid ExclamationMark element.Other v = v
 pending-less-valid LessThan e v = v
 pending-less-valid _ e v = v
 
-rcdata-rest : (e : Element) → is_rcdata e ≡ true → PlaceWithin (rest_place e)
+rcdata-rest : (e : Element) → is_rcdata e ≡ true → IsValid (rest_place e)
 rcdata-rest element.DataBlock v = tt
 rcdata-rest element.Title v = v
 rcdata-rest element.Textarea v = v
@@ -129,7 +125,7 @@ rcdata-rest element.Script v = v
 rcdata-rest element.Style v = v
 rcdata-rest element.Other v = v
 
-place-valid : (p : Place) (c : Class) (b : ℕ) → PlaceWithin p → ScanValid (scan_next (At p) c b)
+place-valid : (p : Place) (c : Class) (b : ℕ) → IsValid p → ScanValid (scan_next (At p) c b)
 place-valid place.Text LessThan b v = tt
 place-valid place.Text _ b v = tt
 place-valid place.Doctype GreaterThan b v = tt
@@ -162,7 +158,7 @@ attribute-valid GreaterThan b t typed k name = content-valid t
 attribute-valid EqualsSign b t typed k name = begins-valid t typed k
 attribute-valid _ b t typed k name = tt
 
-end-name-valid : (grows whole : Bool) (c : Class) (b : ℕ) (e : Element) (letters : List ℕ) → PlaceWithin (rest_place e)
+end-name-valid : (grows whole : Bool) (c : Class) (b : ℕ) (e : Element) (letters : List ℕ) → IsValid (rest_place e)
     → ScanValid (end_name_next grows whole c b e letters)
 end-name-valid true whole (Letter l) b e letters v = v
 end-name-valid true true White b e letters v = (refl, refl)
@@ -180,7 +176,7 @@ end-name-valid false true _ b e letters v = v
 end-name-valid false false LessThan b e letters v = v
 end-name-valid false false _ b e letters v = v
 
-content-end-valid : (h : Pending) (c : Class) (b : ℕ) (e : Element) → PlaceWithin (rest_place e) → ScanValid (content_end_next h c b e)
+content-end-valid : (h : Pending) (c : Class) (b : ℕ) (e : Element) → IsValid (rest_place e) → ScanValid (content_end_next h c b e)
 content-end-valid PendingLess c b e v = pending-less-valid c e v
 content-end-valid (PendingName letters) c b e v = end-name-valid (may_be_name_of e (letters ++ b ∷ [])) (is_name_of e letters) c b e letters v
 content-end-valid Nothing c b e v = loose-valid c e v
@@ -204,7 +200,7 @@ type-valid : (ends : Bool) (t : TagOf) (q : Quoting) (w : Value ValueState) (r :
 type-valid true t q w r c b = after-type-valid q c (type_tag t (ended_type w r))
 type-valid false t q w r c b = tt
 
-url-body : (b : Body) → UrlWithin b → BodyWithin b
+url-body : (b : Body) → UrlWithin b → IsValidBody b
 url-body (body.Url s) v = v
 url-body _ v = absurd v
 
@@ -224,44 +220,12 @@ scan-valid (InContentEnd e h) c b v = content-end-valid h c b e v
 scan-valid (BeforeType t) c b v = before-type-valid t c b
 scan-valid (InType t q w r) c b v = type-valid (ends_value q c) t q w r c b
 
--- A place is valid where no text is open in it, and so is one at which a text ends that is accepted.
-prefix-within : (o : Option Prefix) → IsValidPrefix o → IsSpelled o
-prefix-within None v = tt
-prefix-within (Some prefix.Off) v = tt
-prefix-within (Some _) v = absurd v
+-- and so is the place at which a text ends
+url-end : (b : Body) (bytes : List ℕ) → UrlWithin b → IsValidBody (parts_with b bytes)
+url-end (body.Url s) bytes v = fed-valid bytes s v
+url-end _ bytes v = absurd v
 
-pub body-within : (b : Body) → IsValidBody b → BodyWithin b
-body-within (body.Url s) v = (v.0, prefix-within s.opened v.1)
-body-within _ v = v
-
-pub valid-within : (p : Place) → IsValid p → PlaceWithin p
-valid-within (place.Value x) v = (v.0, body-within x.body v.1)
-valid-within _ v = v
-
-prefix-ends : (o : Option Prefix) → if_word o ≡ None → IsValidPrefix o
-prefix-ends None n = tt
-prefix-ends (Some prefix.Off) n = tt
-prefix-ends (Some _) n = absurd (some _ n)
-
-parts-end : (s : Parts) (t : Triple) (bytes : List ℕ) → AreParts s → parts_cut_error (body.Url s) t bytes ≡ None
-    → IsValidParts (feed_bytes parts_feeding s bytes)
-parts-end s t bytes v n =
-    let after = feed_bytes parts_feeding s bytes in
-    ((fed-valid bytes s v).0, prefix-ends after.opened (triple-rest (triple_behind t bytes) (if_word after.opened) n))
-
-body-end : (b : Body) → BodyWithin b → parts_cut_error b NoTriple [] ≡ None → IsValidBody b
-body-end (body.Url s) v n = parts-end s NoTriple [] v n
-body-end _ v n = v
-
-url-end : (b : Body) (t : Triple) (bytes : List ℕ) → UrlWithin b → parts_cut_error b t bytes ≡ None → IsValidBody (parts_with b bytes)
-url-end (body.Url s) t bytes v n = parts-end s t bytes v n
-url-end _ t bytes v n = absurd v
-
-place-end : (p : Place) → PlaceWithin p → place_cut_error p ≡ None → IsValid p
-place-end (place.Value x) v n = (v.0, body-end x.body v.1 n)
-place-end _ v n = v
-
-content-end-place-valid : (e : Element) (h : Pending) → PlaceWithin (rest_place e) → IsValid (content_end_place e h)
+content-end-place-valid : (e : Element) (h : Pending) → IsValid (rest_place e) → IsValid (content_end_place e h)
 content-end-place-valid element.DataBlock PendingLess v = tt
 content-end-place-valid element.DataBlock _ v = v
 content-end-place-valid element.Title h v = v
@@ -270,15 +234,15 @@ content-end-place-valid element.Script h v = v
 content-end-place-valid element.Style h v = v
 content-end-place-valid element.Other h v = v
 
-pub end-valid : (f : Scan) → ScanValid f → scan_lexeme_error f ≡ None → IsValid (scan_place f)
-end-valid (At p) v n = place-end p v n
-end-valid (InUrl x t r) v n = (begun-valid x.quotes v.0, url-end x.body t (as_it_stands r) v.1 n)
-end-valid AfterLess v n = tt
-end-valid AfterLessSolidus v n = tt
-end-valid (InDeclaration pending) v n = tt
-end-valid (InTagName ends name) v n = (refl, refl)
-end-valid (InAttributeName t typed name) v n = (refl, refl)
-end-valid (InCommentEnd s) v n = tt
-end-valid (InContentEnd e h) v n = content-end-place-valid e h v
-end-valid (BeforeType t) v n = tt
-end-valid (InType t q w r) v n = tt
+pub end-valid : (f : Scan) → ScanValid f → IsValid (scan_place f)
+end-valid (At p) v = v
+end-valid (InUrl x t r) v = (begun-valid x.quotes v.0, url-end x.body (as_it_stands r) v.1)
+end-valid AfterLess v = tt
+end-valid AfterLessSolidus v = tt
+end-valid (InDeclaration pending) v = tt
+end-valid (InTagName ends name) v = (refl, refl)
+end-valid (InAttributeName t typed name) v = (refl, refl)
+end-valid (InCommentEnd s) v = tt
+end-valid (InContentEnd e h) v = content-end-place-valid e h v
+end-valid (BeforeType t) v = tt
+end-valid (InType t q w r) v = tt

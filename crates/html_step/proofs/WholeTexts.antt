@@ -11,7 +11,7 @@ use Rattle.html_step.specs.Laws.{CoversText, GrowsText, ValidText}
 use Rattle.html_step.specs.Steps.{after_text, stepped, unless_broken_off, unless_refused, with_place_before}
 use Rattle.html_step.proofs.ScanOrder.{ScanBelow, ScanValid, end-grows, scan-grows}
 use Rattle.html_step.proofs.OneTexts.{one-text}
-use Rattle.html_step.proofs.ValidSteps.{scan-valid, end-valid, valid-within}
+use Rattle.html_step.proofs.ValidSteps.{scan-valid, end-valid}
 
 -- an answer is one
 pub one-ok : (x y : Place) (o : Result Place PathRefusal) → o ≡ Ok x → o ≡ Ok y → x ≡ y
@@ -67,11 +67,24 @@ end-ok k since f q e =
     let m = not-broken-off k last (scan_lexeme_error f) (scan_place f) q n.1 in
     record { cut = n.0; lexeme = m.0; place = m.1 }
 
+-- what is accepted is so wherever the text stands
+pub accepts-anywhere : (bytes : List ℕ) (k since j begun : ℕ) (f : Scan) (q : Place) → stepped k since bytes f ≡ Ok q → stepped j begun bytes f ≡ Ok q
+accepts-anywhere [] k since j begun f q e =
+    let n = end-ok k since f q e in
+    let last = last_between j begun (is_scan_between f) in
+    refused-not j (scan_cut_error f) (unless_broken_off j last (scan_lexeme_error f) (scan_place f)) q n.cut
+    (ap (λ (o : Option Code). unless_broken_off j last o (scan_place f)) n.lexeme ∙ ap Ok n.place)
+accepts-anywhere (b ∷ bs) k since j begun f q e =
+    let n = step-ok k since b bs f q e in
+    let last = last_between j begun (is_scan_between f) in
+    refused-not j (scan_error f (class_of b) b) (stepped (j + 1) last bs (scan_next f (class_of b) b)) q n.0
+    (accepts-anywhere bs (k + 1) (last_between k since (is_scan_between f)) (j + 1) last (scan_next f (class_of b) b) q n.1)
+
 -- the order, wherever the texts stand
 abbrev pub GrowsFrom : ℕ → ℕ → List ℕ → Scan → Place → Type 0
 GrowsFrom k since bytes f q = (a : Place) × (stepped k since bytes f ≡ Ok a) × Below a q
 
-grows-from : (bytes : List ℕ) (k since begun : ℕ) (f g : Scan) (q : Place) → ScanValid f → ScanBelow f g → stepped k begun bytes g ≡ Ok q
+pub grows-from : (bytes : List ℕ) (k since begun : ℕ) (f g : Scan) (q : Place) → ScanValid f → ScanBelow f g → stepped k begun bytes g ≡ Ok q
     → GrowsFrom k since bytes f q
 grows-from [] k since begun f g q v h e =
     let n = end-ok k begun g q e in
@@ -92,18 +105,18 @@ grows-from (b ∷ bs) k since begun f g q v h e =
 
 pub grows-text : GrowsText
 grows-text bytes p r q v w h e =
-    let g = grows-from bytes 0 0 0 (At p) (At r) q (valid-within p v) h (text-steps bytes r q e) in
+    let g = grows-from bytes 0 0 0 (At p) (At r) q v h (text-steps bytes r q e) in
     (g.0, steps-text bytes p g.0 g.1, g.2)
 
 -- what is valid
 valid-from : (bytes : List ℕ) (k since : ℕ) (f : Scan) (q : Place) → ScanValid f → stepped k since bytes f ≡ Ok q → IsValid q
-valid-from [] k since f q v e = (let n = end-ok k since f q e in subst IsValid n.place (end-valid f v n.lexeme))
+valid-from [] k since f q v e = (let n = end-ok k since f q e in subst IsValid n.place (end-valid f v))
 valid-from (b ∷ bs) k since f q v e =
     let n = step-ok k since b bs f q e in
     valid-from bs (k + 1) (last_between k since (is_scan_between f)) (scan_next f (class_of b) b) q (scan-valid f (class_of b) b v) n.1
 
 pub valid-text : ValidText
-valid-text bytes p q v e = valid-from bytes 0 0 (At p) q (valid-within p v) (text-steps bytes p q e)
+valid-text bytes p q v e = valid-from bytes 0 0 (At p) q v (text-steps bytes p q e)
 
 -- the paths that a place stands for
 pub covers-text : CoversText

@@ -92,9 +92,9 @@ in_a_query : step (codes "<a href=\"/b?c&amp;d") ≡ after (codes "value other d
 unfolding class_of url_class_of meaning flushed is_unknown_name lib.Utf8.encode
 in_a_query = refl
 
-word_broken_off : step (codes "<a href=\"ja") ≡ refused code.NotBuilt 11 (codes "value other dq url open(ja)")
+ends_in_a_word : step (codes "<a href=\"ja") ≡ after (codes "value other dq url open(ja)")
 unfolding class_of url_class_of
-word_broken_off = refl
+ends_in_a_word = refl
 
 triple_broken_off : step (codes "<a href=\"/%4") ≡ refused code.PartialEscape 12 (codes "value other dq url prequery")
 unfolding class_of url_class_of

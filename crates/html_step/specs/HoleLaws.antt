@@ -1,6 +1,7 @@
 -- What a step over a hole, and the naming of an escaper, promise of the paths that a place stands for.
 use Rattle.std.specs.Prelude.{◌≡◌, true, false, Some, None, Ok, Err}
-use Rattle.place_core.specs.place.Errors.{ClashesHole, RefusesHole, hole_error}
+use Rattle.place_core.specs.place.Errors.{RefusesHole, hole_error}
+use Rattle.place_core.specs.place.PathPairs.{ClashesHole}
 use Rattle.place_core.specs.place.Membership.{IsIn, Bears}
 use Rattle.place_core.specs.page.Paths.{at_hole}
 use Rattle.place_core.specs.place.Places.{Below, Has, IsValid}

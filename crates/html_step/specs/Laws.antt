@@ -1,9 +1,10 @@
 -- What a step over a whole text promises of the paths that a place stands for.
 use Rattle.std.specs.Prelude.{◌≡◌, ◌≤◌, ℕ, List, Some, None, Ok, Err}
-use Rattle.place_core.specs.place.Errors.{shown_place, PathRefuses, Clashes, path_refusal, node}
+use Rattle.place_core.specs.place.Errors.{shown_place, PathRefuses, path_refusal, node}
+use Rattle.place_core.specs.place.PathPairs.{Clashes}
 use Rattle.place_core.specs.place.Membership.{IsIn, Bears}
 use Rattle.place_core.specs.place.Places.{Below, Has, IsValid}
-use Rattle.place_core.specs.place.NotBuiltPlaces.{HasApart, side}
+use Rattle.place_core.specs.place.ApartPlaces.{HasApart, side}
 use Rattle.place_core.specs.place.StatePlaces.{placed}
 use Rattle.place_core.specs.page.States.{LexState}
 use Rattle.place_core.specs.page.Tags.{ValueState}
@@ -11,7 +12,7 @@ use Rattle.place_core.specs.declared.code.Code.{Code}
 use Rattle.place_core.specs.declared.member.Member.{Member}
 use Rattle.place_core.specs.declared.place.Place.{Place}
 use Rattle.place_core.specs.declared.step_err.StepErr.{StepErr}
-use Rattle.html_step.specs.Apart.{ClashesApart}
+use Rattle.place_core.specs.place.PathPairs.{ClashesApart}
 use Rattle.html_step.specs.Steps.{after_text, place_before}
 
 -- From the place of one path the step is the path's own: where it is taken the path is refused nowhere in the text and comes to the place after

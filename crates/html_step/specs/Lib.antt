@@ -1,4 +1,6 @@
 pub mod Apart
+pub mod ApartInText
+pub mod ApartScans
 pub mod HoleLaws
 pub mod HoleOrigins
 pub mod Holes

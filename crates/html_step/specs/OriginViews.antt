@@ -1,5 +1,5 @@
 -- The origins of members and what shows a refusal, as the code keeps them.
-use Rattle.std.specs.Prelude.{ℕ, List, [], ◌∷◌, slice_index_or}
+use Rattle.std.specs.Prelude.{ℕ, Bool, List, [], ◌∷◌, slice_index_or, if◌then◌else◌}
 use Rattle.place_core.specs.declared.member.Member.{Member}
 use Rattle.place_core.specs.declared.member.Member.TheVariants as member
 use Rattle.html_step.specs.Laws.{EvidenceData, apart, one, two}
@@ -62,8 +62,11 @@ evidence_at (evidence.One x) = one x
 evidence_at (evidence.Two x y) = two x y
 evidence_at evidence.Apart = apart
 
--- what shows the same before some bytes
-abbrev pub evidence_through : (Member → Member) → EvidenceData → EvidenceData
-evidence_through f (one x) = one (f x)
-evidence_through f (two x y) = two (f x) (f y)
-evidence_through f apart = apart
+-- What shows the same before some bytes, by the members from which members come there, and by what shows there that two paths met apart.
+abbrev pub evidence_through : (Member → Member) → EvidenceData → EvidenceData → EvidenceData
+evidence_through f met (one x) = one (f x)
+evidence_through f met (two x y) = two (f x) (f y)
+evidence_through f met apart = met
+
+abbrev pub apart_through : (Member → Member) → EvidenceData → Bool → EvidenceData
+apart_through f met kept = if kept then met else two (f member.PartStart) (f member.PartOpen)

@@ -1,5 +1,5 @@
 -- Which member of a place a member after a text comes from, and which one shows that a text is refused.
-use Rattle.std.specs.Prelude.{ℕ, Bool, true, List, [], ◌∷◌, Option, Some, None, is_some, if◌then◌else◌}
+use Rattle.std.specs.Prelude.{ℕ, Bool, true, false, List, [], ◌∷◌, Option, Some, None, is_some, if◌then◌else◌}
 use Rattle.place_core.specs.page.Classes.{Class, White, QuotationMark, Apostrophe, Solidus, LessThan, EqualsSign, GreaterThan, class_of}
 use Rattle.place_core.specs.page.References.{Reference, Closed, undone_byte, as_it_stands}
 use Rattle.place_core.specs.place.Errors.{PathCause, body_error}
@@ -16,12 +16,12 @@ use Rattle.place_core.specs.declared.quotes.Quotes.{Quotes}
 use Rattle.place_core.specs.declared.quotes.Quotes.TheVariants as quotes
 use Rattle.place_core.specs.declared.spots.Spots.{Spots}
 use Rattle.place_core.specs.declared.value_place.ValuePlace.{ValuePlace}
-use Rattle.html_scan.specs.Scans.{Scan, At, InAttributeName, InUrl, parts_cause, scan_error, scan_cut_error, scan_lexeme_error, scan_next}
+use Rattle.html_scan.specs.Scans.{Scan, At, InAttributeName, InUrl, parts_cause, scan_error, scan_next}
 use Rattle.html_step.specs.Laws.{EvidenceData, one, two, apart}
 use Rattle.url_lexer.specs.Classes.{url_class_of}
 use Rattle.url_lexer.specs.declared.class.UrlClass.{UrlClass}
 use Rattle.url_lexer.specs.declared.class.UrlClass.TheVariants as class
-use Rattle.url_step.specs.PartSets.{parts_next}
+use Rattle.url_step.specs.PartSets.{parts_next, spells_apart}
 
 -- In a URL, the part before a byte that a part behind it comes from: the first of those in which paths are, and from which a path comes there. Behind
 -- a `:`, a `/`, a `?` or `#`, and behind another character, which begins a URL.
@@ -161,19 +161,44 @@ quotes_show (Some e) q c = one member.Whole
 quotes_show None (quotes.Bare b) c = bare_shows c
 quotes_show None q c = one member.Whole
 
--- What a URL refuses: the first letter of a word, where it begins on one path and has begun on another; a `:` behind a hole; and on each path a
--- reference by a name that stands for no character.
-abbrev pub url_shows : Code → EvidenceData
-url_shows code.NotBuilt = two member.PartStart member.PartOpen
-url_shows code.BadHTML = one member.Whole
-url_shows e = one member.PartOpenhole
+-- The parts of a URL at which a scan state stands; and whether paths in its beginning have spelled different things.
+abbrev pub body_parts : Body → Option Parts
+body_parts (body.Url s) = Some s
+body_parts x = None
 
-abbrev pub url_or_quotes : Option PathCause → EvidenceData → EvidenceData
-url_or_quotes (Some e) later = url_shows e.code
-url_or_quotes None later = later
+abbrev pub place_parts : Place → Option Parts
+place_parts (place.Value v) = body_parts v.body
+place_parts p = None
+
+abbrev pub scan_parts : Scan → Option Parts
+scan_parts (At p) = place_parts p
+scan_parts (InUrl v t r) = body_parts v.body
+scan_parts f = None
+
+abbrev pub is_apart : Option Parts → Bool
+is_apart (Some s) = spells_apart s.opened
+is_apart None = false
+
+-- What a URL refuses: on each path a reference by a name that stands for no character; a `:` behind a hole, or where paths have spelled different
+-- things. These come apart where a URL begins on one path and has begun on the other, so two paths show it together where they come apart in the
+-- bytes that are fed before the `:`.
+abbrev pub colon_shows : Parts → EvidenceData
+colon_shows s = if s.openhole then one member.PartOpenhole else (if spells_apart s.opened then apart else two member.PartStart member.PartOpen)
+
+abbrev pub url_shows : Parts → Code → EvidenceData
+url_shows s code.BadHTML = one member.Whole
+url_shows s e = colon_shows s
+
+abbrev pub body_refusal_shows : Body → Code → EvidenceData
+body_refusal_shows (body.Url s) e = url_shows s e
+body_refusal_shows x e = one member.Whole
+
+abbrev pub url_or_quotes : Option PathCause → Body → EvidenceData → EvidenceData
+url_or_quotes (Some e) x later = body_refusal_shows x e.code
+url_or_quotes None x later = later
 
 abbrev pub value_shows : ValuePlace → Reference → Class → ℕ → EvidenceData
-value_shows v r c b = url_or_quotes (parts_cause v.body v.quotes r c b) (quotes_show (body_error v.body) v.quotes c)
+value_shows v r c b = url_or_quotes (parts_cause v.body v.quotes r c b) v.body (quotes_show (body_error v.body) v.quotes c)
 
 abbrev pub place_shows : Place → Class → ℕ → EvidenceData
 place_shows (place.Comment dash) c b = one member.CommentDash
@@ -188,27 +213,17 @@ byte_shows (InAttributeName t typed name) c b = one (name_origin typed)
 byte_shows (InUrl v t r) c b = value_shows v r c b
 byte_shows f c b = one member.Whole
 
--- The end of a text is refused in a name; and in a URL that ends in a percent triple, on each path, or in the beginning, where it spells letters of
--- a word that is looked for.
-abbrev pub lexeme_shows : Option Code → Member → Member
-lexeme_shows (Some code.NotBuilt) x = x
-lexeme_shows o x = member.Whole
-
-abbrev pub url_end_shows : Option PathCause → Option Code → Body → List ℕ → Member
-url_end_shows (Some e) o x bytes = member.PartOpenhole
-url_end_shows None o x bytes = lexeme_shows o (body_origin x bytes member.PartOpen)
-
+-- The end of a text is refused in a name, and elsewhere on each path.
 abbrev pub end_shows : Scan → Member
 end_shows (InAttributeName t typed name) = name_origin typed
-end_shows (InUrl v t r) = url_end_shows (scan_cut_error (InUrl v t r)) (scan_lexeme_error (InUrl v t r)) v.body (as_it_stands r)
-end_shows (At p) = lexeme_shows (scan_lexeme_error (At p)) member.PartOpen
 end_shows f = member.Whole
 
--- what shows the refusal of a text, by members before it
+-- What shows the refusal of a text, by members before it. That two paths met apart they show where it was so before, and else two members do, on
+-- whose paths the byte makes them come apart.
 abbrev pub back_by : Scan → Class → ℕ → EvidenceData → EvidenceData
 back_by f c b (one x) = one (byte_origin f c b x)
 back_by f c b (two x y) = two (byte_origin f c b x) (byte_origin f c b y)
-back_by f c b apart = apart
+back_by f c b apart = if is_apart (scan_parts f) then apart else two member.PartStart member.PartOpen
 
 abbrev pub unless_shown : Option PathCause → EvidenceData → EvidenceData → EvidenceData
 unless_shown (Some e) here later = here

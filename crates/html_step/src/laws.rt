@@ -44,7 +44,7 @@ pub fn keeps_valid()
 {}
 
 /// What says of a place that two of its paths met apart in the beginning of a URL is kept by texts and joins, ends at a hole, and comes
-/// from where they met. No two do yet. A theorem; the call does nothing at run time.
+/// from where they met, or came apart within a text. A theorem; the call does nothing at run time.
 pub fn paths_that_met_apart()
     ensures { ApartLaws }
 {}

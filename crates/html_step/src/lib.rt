@@ -9,6 +9,7 @@ mod fed_origins;
 mod hole;
 mod hole_evidences;
 mod hole_laws;
+mod last_point;
 mod laws;
 mod origins;
 mod predefined;
@@ -28,6 +29,7 @@ pub use hole_laws::{
     hole_keeps_valid, hole_members_come_from_one, hole_of_one_path, refused_escaper_has_evidence,
     refused_hole_has_evidence,
 };
+pub use last_point::last_apart;
 pub use laws::{
     accepts_all_paths, covers_paths, keeps_order, keeps_valid, members_come_from_one, one_path,
     one_path_before, paths_that_met_apart, refusal_has_evidence,

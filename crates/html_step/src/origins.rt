@@ -1,15 +1,15 @@
-ghost use Rattle.std.specs.Prelude.{◌≡◌, ◌<◌, ◌≤◌, ℕ, List, get_or, length};
+ghost use Rattle.std.specs.Prelude.{◌≡◌, ◌<◌, ◌≤◌, ℕ, List, Some, get_or, length};
 ghost use Rattle.html_scan.specs.ClassViews.{class_at};
 ghost use Rattle.html_scan.specs.ScanViews.{pending_from, scan_at};
 ghost use Rattle.html_step.specs.Origins.{byte_origin};
-ghost use Rattle.html_step.specs.OriginViews.{all_members, evidence_at, evidence_through, member_number, origin_at};
+ghost use Rattle.html_step.specs.OriginViews.{all_members, apart_through, evidence_at, evidence_through, member_number, origin_at};
 ghost use Rattle.html_step.specs.Origins as spec;
 ghost use Rattle.url_lexer.specs.Classes as urls;
 
 use crate::evidence::Evidence;
 use crate::fed_origins::{behind_byte, behind_end};
 use html_scan::{Class, Scan};
-use place_core::{Member, Parts, Place, Spots};
+use place_core::{Body, Member, Parts, Place, Prefix, Spots};
 use url_lexer::{UrlClass, url_class_of};
 
 /// Which member before some bytes each member after them comes from, by the numbers of the 32 members.
@@ -33,14 +33,27 @@ impl Origins {
         self.before[number(member)]
     }
 
-    /// The members that show the same, before the bytes.
-    pub fn of_evidence(self, evidence: Evidence) -> Evidence
-        ensures { evidence_at result ≡ evidence_through (origin_at self) (evidence_at evidence) }
+    /// What shows the same before the bytes, where this shows there that two paths met apart.
+    pub fn of_evidence(self, evidence: Evidence, apart: Evidence) -> Evidence
+        ensures { evidence_at result
+            ≡ evidence_through (origin_at self) (evidence_at apart) (evidence_at evidence) }
     {
         match evidence {
             Evidence::One(member) => Evidence::One(self.of(member)),
             Evidence::Two(one, other) => Evidence::Two(self.of(one), self.of(other)),
-            Evidence::Apart => Evidence::Apart,
+            Evidence::Apart => apart,
+        }
+    }
+
+    /// What shows before the bytes that two paths met apart behind one byte more, which is read at this scan state.
+    pub fn of_apart(self, scan: Scan, apart: Evidence) -> Evidence
+        ensures { (text : List ℕ) (k : ℕ) → evidence_at result ≡ apart_through (origin_at self)
+            (evidence_at apart) (spec.is_apart (spec.scan_parts (scan_at text k scan))) }
+    {
+        if scan_is_apart(scan) {
+            apart
+        } else {
+            Evidence::Two(self.of(Member::PartStart), self.of(Member::PartOpen))
         }
     }
 
@@ -89,6 +102,37 @@ impl Origins {
             } => { behind_end(self, text, place.body, reference).of(member) }
             _ => self.of(Member::Whole),
         }
+    }
+}
+
+// Whether paths in the beginning of a URL have spelled different things at a scan state.
+fn scan_is_apart(scan: Scan) -> bool
+    ensures { (text : List ℕ) (k : ℕ) → result
+        ≡ spec.is_apart (spec.scan_parts (scan_at text k scan)) }
+{
+    match scan {
+        Scan::At(Place::Value(value)) => is_apart(value.body),
+        Scan::InUrl { place, .. } => is_apart(place.body),
+        _ => false,
+    }
+}
+
+fn is_apart(body: Body) -> bool
+    ensures { result ≡ spec.is_apart (spec.body_parts body) }
+{
+    match body {
+        Body::Url(parts) => spells_apart(parts),
+        Body::Plain | Body::NoHole | Body::Js(_) | Body::Css(_) => false,
+    }
+}
+
+/// Whether paths in the beginning of a URL have spelled different things.
+pub fn spells_apart(parts: Parts) -> bool
+    ensures { result ≡ spec.is_apart (Some parts) }
+{
+    match parts.opened {
+        Some(Prefix::Differs) => true,
+        Some(_) | None => false,
     }
 }
 

@@ -1,7 +1,5 @@
-ghost use Rattle.std.specs.Prelude.{◌≡◌, ◌<◌, ◌≤◌, ◌^◌, ℕ, None, Ok, Err, get_or, length};
-ghost use Rattle.place_core.specs.page.References.{as_it_stands};
+ghost use Rattle.std.specs.Prelude.{◌≡◌, ◌<◌, ◌≤◌, ◌^◌, ℕ, List, None, Ok, Err, get_or, length};
 ghost use Rattle.place_core.specs.place.Places.{Has, IsValid};
-ghost use Rattle.place_core.specs.declared.member.Member.TheVariants as member;
 ghost use Rattle.place_core.specs.declared.step_err.StepErr.{StepErr};
 ghost use Rattle.html_scan.specs.ClassViews.{class_at};
 ghost use Rattle.html_scan.specs.ScanViews.{open_reference_at, pending_from, reference_from, scan_at};
@@ -13,12 +11,9 @@ ghost use Rattle.html_step.specs.Origins as spec;
 ghost use Rattle.html_step.specs.Steps as steps;
 
 use crate::evidence::Evidence;
-use crate::fed_origins::behind_end;
-use crate::origins::{Origins, name_origin};
-use html_scan::{
-    Class, OpenReference, Scan, at_byte, at_end, class_of, lexeme_at_end, next, refused_in_url,
-};
-use place_core::{Body, Code, Member, Place, Quotes, Spots, ValuePlace};
+use crate::origins::{Origins, name_origin, spells_apart};
+use html_scan::{Class, OpenReference, Scan, at_byte, class_of, next, refused_in_url};
+use place_core::{Body, Code, Member, Parts, Place, Quotes, Spots, ValuePlace};
 
 /// A member of a place that a member of the place after a text comes from: every path that bears the one comes to bear the other.
 /// Does not allocate.
@@ -60,15 +55,17 @@ fn evidence(text: &[u8], place: Place) -> Evidence
 {
     let mut scan = Scan::At(place);
     let mut origins = Origins::same();
+    let mut apart = Evidence::Apart;
     for index in 0..text.len() {
         let class = class_of(text[index]);
         if at_byte(text, index, class, scan).is_some() {
-            return origins.of_evidence(byte_shows(text, index, class, scan));
+            return origins.of_evidence(byte_shows(text, index, class, scan), apart);
         }
+        apart = origins.of_apart(scan, apart);
         origins = origins.then(text, index, class, scan);
         scan = next(text, index, class, scan);
     }
-    Evidence::One(origins.of(end_shows(text, scan)))
+    Evidence::One(origins.of(end_shows(scan)))
 }
 
 // What shows that a byte is refused.
@@ -121,7 +118,7 @@ fn in_value(
         Body::Plain | Body::NoHole => in_quotes(place.quotes, class),
         Body::Url(parts) => {
             match refused_in_url(text, index, class, place.quotes, parts, reference) {
-                Some(cause) => in_url(cause.code),
+                Some(cause) => in_url(parts, cause.code),
                 None => in_quotes(place.quotes, class),
             }
         }
@@ -129,13 +126,14 @@ fn in_value(
     }
 }
 
-fn in_url(code: Code) -> Evidence
-    ensures { evidence_at result ≡ url_shows code }
+fn in_url(parts: Parts, code: Code) -> Evidence
+    ensures { evidence_at result ≡ url_shows parts code }
 {
     match code {
-        Code::NotBuilt => Evidence::Two(Member::PartStart, Member::PartOpen),
         Code::BadHTML => Evidence::One(Member::Whole),
-        _ => Evidence::One(Member::PartOpenhole),
+        _ if parts.openhole => Evidence::One(Member::PartOpenhole),
+        _ if spells_apart(parts) => Evidence::Apart,
+        _ => Evidence::Two(Member::PartStart, Member::PartOpen),
     }
 }
 
@@ -174,42 +172,11 @@ fn tag_shows(class: Class, spots: Spots) -> Member
 }
 
 // What shows that the end of a text is refused.
-fn end_shows(text: &[u8], scan: Scan) -> Member
-    requires pending { pending_from scan ≤ length text.now }
-    ensures { result ≡ spec.end_shows (scan_at text.now (length text.now) scan) }
+fn end_shows(scan: Scan) -> Member
+    ensures { (text : List ℕ) (k : ℕ) → result ≡ spec.end_shows (scan_at text k scan) }
 {
     match scan {
         Scan::InAttributeName { typed, .. } => name_origin(typed),
-        Scan::InUrl {
-            place,
-            reference,
-            ..
-        } => match at_end(text, scan) {
-            Some(_) => Member::PartOpenhole,
-            None => {
-                let opened = opened_before(text, place.body, reference);
-                lexeme_shows(lexeme_at_end(text, scan), opened)
-            }
-        },
-        Scan::At(_) => lexeme_shows(lexeme_at_end(text, scan), Member::PartOpen),
-        _ => Member::Whole,
-    }
-}
-
-// The member before the end of a text in a URL from which its beginning comes.
-fn opened_before(text: &[u8], body: Body, reference: Option<OpenReference>) -> Member
-    requires pending { reference_from reference ≤ length text.now }
-    ensures { result ≡ spec.body_origin body
-        (as_it_stands (open_reference_at text.now (length text.now) reference)) (member.PartOpen) }
-{
-    behind_end(Origins::same(), text, body, reference).of(Member::PartOpen)
-}
-
-fn lexeme_shows(code: Option<Code>, opened: Member) -> Member
-    ensures { result ≡ spec.lexeme_shows code opened }
-{
-    match code {
-        Some(Code::NotBuilt) => opened,
         _ => Member::Whole,
     }
 }

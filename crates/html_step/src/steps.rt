@@ -26,8 +26,7 @@ use place_core::{Place, StepErr};
 ///   a URL a `:`, also as a reference, behind a value of data, or where paths have spelled different things.
 /// - `PartialEscape`: a text that ends in a percent triple of a URL.
 /// - `NotBuilt`: the `>` before the content of a script or a style; the `=` before a value that is a script or a style; and each
-///   byte at a place in one of these; a text that ends in the beginning of a URL where that spells the first letters of
-///   `javascript`, `vbscript` or `data`, and the first one of these where a URL begins on some paths and has begun on others.
+///   byte at a place in one of these.
 ///
 /// Takes no memory, and time in proportion to the length of the text.
 pub fn after_text(place: Place, text: &str) -> Result<Place, StepErr<Place>>

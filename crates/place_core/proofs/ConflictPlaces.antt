@@ -3,9 +3,9 @@ use Rattle.std.proofs.Common.{◌≡◌, Bool, true, false, ◌||◌, Option, So
 use Rattle.std.specs.Prelude.{IfSome}
 use Rattle.place_core.specs.place.JoinLaws.{AreInConflict, Conflict, join_shows, name_shows, tags_show}
 use Rattle.place_core.specs.place.Places.{joined, joined_elements, joined_tags, joined_kinds, joined_quotes, joined_bodies, tag_place, value_place, joined_tag_places, joined_value_places, same_kind, same_element}
-use Rattle.place_core.specs.place.NotBuiltPlaces.{joined_js, joined_css}
+use Rattle.place_core.specs.place.LanguagePlaces.{joined_js, joined_css}
 use Rattle.place_core.specs.place.Places.{both_spots, both_bare, Has, IsValid, IsValidTag, Below}
-use Rattle.place_core.specs.place.NotBuiltPlaces.{both_senses, both_js_tails, both_css_tails, both_parts}
+use Rattle.place_core.specs.place.LanguagePlaces.{both_senses, both_js_tails, both_css_tails, both_parts}
 use Rattle.place_core.specs.declared.bare.Bare.{Bare}
 use Rattle.place_core.specs.declared.body.Body.{Body}
 use Rattle.place_core.specs.declared.body.Body.TheVariants as body

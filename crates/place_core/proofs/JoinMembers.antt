@@ -3,11 +3,11 @@ use Rattle.std.proofs.Common.{◌≡◌, Bool, true, false, ◌||◌, ◌⊎◌,
 use Rattle.std.specs.Prelude.{IfSome}
 use Rattle.place_core.specs.place.JoinLaws.{JoinHas, HasGrows}
 use Rattle.place_core.specs.place.Places.{both_spots, both_bare}
-use Rattle.place_core.specs.place.NotBuiltPlaces.{both_senses, both_js_tails, both_css_tails, both_prefixes, both_parts}
+use Rattle.place_core.specs.place.LanguagePlaces.{both_senses, both_js_tails, both_css_tails, both_prefixes, both_parts}
 use Rattle.place_core.specs.place.Places.{joined, joined_elements, joined_tags, joined_kinds, joined_quotes, joined_bodies, tag_place, value_place, joined_tag_places, joined_value_places}
-use Rattle.place_core.specs.place.NotBuiltPlaces.{joined_js, joined_css}
+use Rattle.place_core.specs.place.LanguagePlaces.{joined_js, joined_css}
 use Rattle.place_core.specs.place.Places.{spots_have, bare_has, dash_has, block_has, typed_has, quotes_have, body_has, part_has, is_whole}
-use Rattle.place_core.specs.place.NotBuiltPlaces.{senses_have, js_tails_have, css_tails_have, parts_have, regexp_has, js_star_has, css_star_has, js_has, css_has}
+use Rattle.place_core.specs.place.LanguagePlaces.{senses_have, js_tails_have, css_tails_have, parts_have, regexp_has, js_star_has, css_star_has, js_has, css_has}
 use Rattle.place_core.specs.declared.bare.Bare.{Bare}
 use Rattle.place_core.specs.declared.body.Body.{Body}
 use Rattle.place_core.specs.declared.body.Body.TheVariants as body

@@ -2,9 +2,9 @@
 use Rattle.std.proofs.Common.{◌≡◌, ℕ, Bool, true, false, ◌||◌, ◌==◌, Option, Some, None, option_map, if◌then◌else◌, refl, sym, ap, ap₂, ◌∙◌, subst, eq-eqb, eqb-true}
 use Rattle.std.specs.Prelude.{IfSome}
 use Rattle.place_core.specs.place.Places.{both_spots, both_bare, same_element, same_kind}
-use Rattle.place_core.specs.place.NotBuiltPlaces.{both_senses, both_js_tails, both_css_tails, both_prefixes, both_parts, same_prefix}
+use Rattle.place_core.specs.place.LanguagePlaces.{both_senses, both_js_tails, both_css_tails, both_prefixes, both_parts, same_prefix}
 use Rattle.place_core.specs.place.Places.{joined_elements, joined_tags, joined_kinds, joined_quotes, joined_bodies, tag_place, value_place, joined_tag_places, joined_value_places}
-use Rattle.place_core.specs.place.NotBuiltPlaces.{joined_js, joined_css}
+use Rattle.place_core.specs.place.LanguagePlaces.{joined_js, joined_css}
 use Rattle.place_core.proofs.Semilattices.{IsUnion, IsPartial, IsTest, none_some, one_value, row_through, row_left, row_least, of_union, both, both_unions, or_union, or_same, or_swapped, or_grouped, if_same, of_test, pairs, of_pairs, of_shape, both_some}
 use Rattle.place_core.specs.declared.body.Body.{Body}
 use Rattle.place_core.specs.declared.body.Body.TheVariants as body

@@ -3,11 +3,11 @@ use Rattle.std.proofs.Common.{◌≡◌, Bool, true, false, ◌||◌, Option, So
 use Rattle.std.specs.Prelude.{IfSome}
 use Rattle.place_core.specs.place.JoinLaws.{JoinKeepsValid}
 use Rattle.place_core.specs.place.Places.{both_spots, both_bare, same_kind, same_element}
-use Rattle.place_core.specs.place.NotBuiltPlaces.{both_senses, both_prefixes, both_parts, same_prefix}
+use Rattle.place_core.specs.place.LanguagePlaces.{both_senses, both_prefixes, both_parts, same_prefix}
 use Rattle.place_core.specs.place.Places.{joined, joined_tags, joined_kinds, joined_quotes, joined_bodies, tag_place, value_place, joined_tag_places, joined_value_places}
-use Rattle.place_core.specs.place.NotBuiltPlaces.{joined_js, joined_css}
+use Rattle.place_core.specs.place.LanguagePlaces.{joined_js, joined_css}
 use Rattle.place_core.specs.place.Places.{some_spot, some_bare, is_rcdata, IsValid, IsValidQuotes, IsValidBody, IsValidTag}
-use Rattle.place_core.specs.place.NotBuiltPlaces.{some_sense, some_part, IsValidPrefix, IsValidParts, IsValidJs, IsValidCss}
+use Rattle.place_core.specs.place.LanguagePlaces.{some_sense, some_part, IsSpelled, IsValidParts, IsValidJs, IsValidCss}
 use Rattle.place_core.specs.declared.bare.Bare.{Bare}
 use Rattle.place_core.specs.declared.body.Body.{Body}
 use Rattle.place_core.specs.declared.body.Body.TheVariants as body
@@ -54,12 +54,14 @@ parts_some s t = ap (λ z. (s.start || t.start) || (z || ((s.openhole || t.openh
 of_first : (c a b : Bool) → c ≡ (a || b) → a ≡ true → c ≡ true
 of_first c a b e h = e ∙ ap (λ z. z || b) h
 
-prefixes_valid : (p q : Option Prefix) → IsValidPrefix p → IsValidPrefix q → IsValidPrefix (both_prefixes p q)
+two_valid : (p q : Prefix) (x : Bool) → IsSpelled (Some p) → IsSpelled (Some (if x then p else prefix.Differs))
+two_valid p q true h = h
+two_valid p q false h = tt
+
+pub prefixes_valid : (p q : Option Prefix) → IsSpelled p → IsSpelled q → IsSpelled (both_prefixes p q)
 prefixes_valid None q h k = k
 prefixes_valid (Some p) None h k = h
-prefixes_valid (Some prefix.Off) (Some prefix.Off) h k = tt
-prefixes_valid (Some prefix.Off) (Some _) h k = absurd k
-prefixes_valid (Some _) (Some q) h k = absurd h
+prefixes_valid (Some p) (Some q) h k = two_valid p q (same_prefix p q) h
 
 parts_valid : (s t : Parts) → IsValidParts s → IsValidParts t → IsValidParts (both_parts s t)
 parts_valid s t h k = (of_first (some_part (both_parts s t)) (some_part s) (some_part t) (parts_some s t) h.0, prefixes_valid s.opened t.opened h.1 k.1)

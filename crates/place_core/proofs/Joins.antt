@@ -3,7 +3,7 @@ use Rattle.std.proofs.Common.{◌≡◌, ◌||◌, Some, option_map, refl, sym, 
 use Rattle.std.specs.Prelude.{IfSome}
 use Rattle.place_core.specs.place.JoinLaws.{JoinIsLeast, JoinIsAbove, JoinSame, JoinSwapped, BelowIsOrder}
 use Rattle.place_core.specs.place.Places.{joined, joined_elements, joined_tag_places, joined_value_places}
-use Rattle.place_core.specs.place.NotBuiltPlaces.{joined_js, joined_css}
+use Rattle.place_core.specs.place.LanguagePlaces.{joined_js, joined_css}
 use Rattle.place_core.specs.declared.place.Place.{Place}
 use Rattle.place_core.specs.declared.place.Place.TheVariants as place
 use Rattle.place_core.proofs.Semilattices.{IsPartial, none_some, one_value, of_some, row_through, row_left, row_least, of_union, or_union}

@@ -1,3 +1,4 @@
+pub mod ApartPlacesFacts
 pub mod Bytes
 pub mod Equality
 pub mod Examples

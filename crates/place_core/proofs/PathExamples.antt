@@ -1,7 +1,8 @@
 -- Worked examples of how paths are read: nodes with their cuts, holes, places, and what is refused, by computing.
 use Rattle.std.proofs.Common.{◌≡◌, [], ◌∷◌, codes, refl, true, false, Some, None}
 use Rattle.place_core.specs.page.Classes.{White, class_of}
-use Rattle.place_core.specs.place.Errors.{byte_clash, node, path_refusal, states}
+use Rattle.place_core.specs.place.Errors.{node, path_refusal, states}
+use Rattle.place_core.specs.place.PathPairs.{byte_clash}
 use Rattle.place_core.specs.page.Events.{TextByte, StartTagBegins, AttributeBegins, AttributeNameEnds, TagEnds, Mark, event_text_bytes, value_bytes, attribute_name_bytes, tag_name_bytes}
 use Rattle.place_core.specs.page.Html.{read, start}
 use Rattle.place_core.specs.page.Paths.{Written, Hole, at_hole, read_path}
@@ -109,6 +110,6 @@ unfolding class_of meaning flushed lib.Utf8.encode
 dash_goes_on = refl
 
 -- two paths, of which neither is refused alone
-blank_clash : byte_clash (node (codes "<p x=") (Text Closed)) (node (codes "<p x=a") (Text Closed)) White 32 ≡ Some code.AmbigContext
+blank_clash : byte_clash (node (codes "<p x=") (Text Closed)) (node (codes "<p x=a") (Text Closed)) White ≡ Some code.AmbigContext
 unfolding class_of meaning flushed lib.Utf8.encode
 blank_clash = refl

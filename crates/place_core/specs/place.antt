@@ -1,8 +1,10 @@
 -- Contexts (places): how they join, what members they have, and which errors a path shows.
+pub mod ApartPlaces
 pub mod Errors
 pub mod JoinLaws
 pub mod Membership
-pub mod NotBuiltPlaces
+pub mod PathPairs
+pub mod LanguagePlaces
 pub mod Places
 pub mod StatePlaces
 pub mod UrlParts

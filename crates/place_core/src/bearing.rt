@@ -1,6 +1,6 @@
 ghost use Rattle.std.specs.Prelude.{◌≡◌, ◌↔◌, ◌||◌, IsTrue};
 ghost use Rattle.place_core.specs.place.Places.{bare_has, body_has, part_has, quotes_have, spots_have, Has};
-ghost use Rattle.place_core.specs.place.NotBuiltPlaces.{css_has, css_tails_have, js_has, js_tails_have, parts_have, senses_have};
+ghost use Rattle.place_core.specs.place.LanguagePlaces.{css_has, css_tails_have, js_has, js_tails_have, parts_have, senses_have};
 ghost use Rattle.place_core.specs.place.Places as spec;
 
 use crate::bare::Bare;

@@ -1,9 +1,9 @@
 ghost use Rattle.std.specs.Prelude.{◌≡◌};
 ghost use Rattle.place_core.specs.place.Places.{joined, joined_bodies, joined_elements, joined_kinds};
-ghost use Rattle.place_core.specs.place.NotBuiltPlaces.{joined_css, joined_js};
+ghost use Rattle.place_core.specs.place.LanguagePlaces.{joined_css, joined_js};
 ghost use Rattle.place_core.specs.place.Places.{joined_quotes, joined_tag_places, joined_tags, joined_value_places};
 ghost use Rattle.place_core.specs.place.Places as spec;
-ghost use Rattle.place_core.specs.place.NotBuiltPlaces as not_built;
+ghost use Rattle.place_core.specs.place.LanguagePlaces as languages;
 
 use crate::bare::Bare;
 use crate::body::Body;
@@ -80,7 +80,7 @@ fn both_bare(s: Bare, t: Bare) -> Bare
 }
 
 fn both_senses(s: Senses, t: Senses) -> Senses
-    ensures { result ≡ not_built.both_senses s t }
+    ensures { result ≡ languages.both_senses s t }
 {
     Senses {
         re: s.re || t.re,
@@ -90,7 +90,7 @@ fn both_senses(s: Senses, t: Senses) -> Senses
 }
 
 fn both_js_tails(s: JsTails, t: JsTails) -> JsTails
-    ensures { result ≡ not_built.both_js_tails s t }
+    ensures { result ≡ languages.both_js_tails s t }
 {
     JsTails {
         word: s.word || t.word,
@@ -104,7 +104,7 @@ fn both_js_tails(s: JsTails, t: JsTails) -> JsTails
 }
 
 fn both_css_tails(s: CssTails, t: CssTails) -> CssTails
-    ensures { result ≡ not_built.both_css_tails s t }
+    ensures { result ≡ languages.both_css_tails s t }
 {
     CssTails {
         word: s.word || t.word,
@@ -113,8 +113,8 @@ fn both_css_tails(s: CssTails, t: CssTails) -> CssTails
     }
 }
 
-fn same_prefix(p: Prefix, q: Prefix) -> bool
-    ensures { result ≡ not_built.same_prefix p q }
+pub(crate) fn same_prefix(p: Prefix, q: Prefix) -> bool
+    ensures { result ≡ languages.same_prefix p q }
 {
     match (p, q) {
         (Prefix::Off, Prefix::Off) => true,
@@ -127,7 +127,7 @@ fn same_prefix(p: Prefix, q: Prefix) -> bool
 }
 
 fn both_prefixes(p: Option<Prefix>, q: Option<Prefix>) -> Option<Prefix>
-    ensures { result ≡ not_built.both_prefixes p q }
+    ensures { result ≡ languages.both_prefixes p q }
 {
     match (p, q) {
         (None, _) => q,
@@ -141,7 +141,7 @@ fn both_prefixes(p: Option<Prefix>, q: Option<Prefix>) -> Option<Prefix>
 }
 
 fn both_parts(s: Parts, t: Parts) -> Parts
-    ensures { result ≡ not_built.both_parts s t }
+    ensures { result ≡ languages.both_parts s t }
 {
     Parts {
         start: s.start || t.start,

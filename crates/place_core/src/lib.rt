@@ -2,6 +2,7 @@
 // say where in a page something stands.
 #![tactic(auto)]
 
+mod apart;
 mod bare;
 mod bearing;
 mod body;
@@ -32,6 +33,7 @@ mod tag_place;
 mod validity;
 mod value_place;
 
+pub use apart::{has_apart, spells_apart};
 pub use bare::Bare;
 pub use bearing::{has, same};
 pub use body::Body;

@@ -1,8 +1,8 @@
 ghost use Rattle.std.specs.Prelude.{◌≡◌, ◌↔◌, IsTrue};
 ghost use Rattle.place_core.specs.place.Places.{IsValid, IsValidBody, IsValidQuotes, IsValidTag};
-ghost use Rattle.place_core.specs.place.NotBuiltPlaces.{IsValidCss, IsValidJs, IsValidParts, IsValidPrefix};
+ghost use Rattle.place_core.specs.place.LanguagePlaces.{IsSpelled, IsValidCss, IsValidJs, IsValidParts};
 ghost use Rattle.place_core.specs.place.Places as spec;
-ghost use Rattle.place_core.specs.place.NotBuiltPlaces as not_built;
+ghost use Rattle.place_core.specs.place.LanguagePlaces as languages;
 
 use crate::bare::Bare;
 use crate::body::Body;
@@ -18,8 +18,8 @@ use crate::spots::Spots;
 use crate::tag_place::TagPlace;
 
 /// Whether a place is valid; paths come to no others. Each of its sets has a member, but for those of what a text ended in; a kind
-/// stands exactly where the place may be in or after an attribute's name; and the beginning of a URL spells none of `javascript`,
-/// `vbscript` and `data`, nor the first letters of one.
+/// stands exactly where the place may be in or after an attribute's name; and where the beginning of a URL spells letters of
+/// `javascript`, `vbscript` or `data`, these are at least one and at most all.
 pub fn is_valid(place: Place) -> bool
     ensures { IsTrue result ↔ IsValid place }
 {
@@ -90,18 +90,18 @@ fn is_valid_css(css: Css) -> bool
 fn is_valid_url(parts: Parts) -> bool
     ensures { IsTrue result ↔ IsValidParts parts }
 {
-    some_part(parts) && is_valid_prefix(parts.opened)
+    some_part(parts) && is_spelled(parts.opened)
 }
 
-// Where a text may end, the beginning of a URL spells no word that is looked for.
-fn is_valid_prefix(prefix: Option<Prefix>) -> bool
-    ensures { IsTrue result ↔ IsValidPrefix prefix }
+// Where the beginning of a URL spells letters of a word, it is at least one of them, and at most all.
+fn is_spelled(prefix: Option<Prefix>) -> bool
+    ensures { IsTrue result ↔ IsSpelled prefix }
 {
     match prefix {
-        Some(
-            Prefix::Javascript(_) | Prefix::Vbscript(_) | Prefix::DataScheme(_) | Prefix::Differs,
-        ) => { false }
-        Some(Prefix::Off) | None => true,
+        Some(Prefix::Javascript(letters)) => 1 <= letters && letters <= 10,
+        Some(Prefix::Vbscript(letters)) => 1 <= letters && letters <= 8,
+        Some(Prefix::DataScheme(letters)) => 1 <= letters && letters <= 4,
+        Some(Prefix::Off | Prefix::Differs) | None => true,
     }
 }
 
@@ -118,13 +118,13 @@ fn some_bare(s: Bare) -> bool
 }
 
 fn some_sense(s: Senses) -> bool
-    ensures { result ≡ not_built.some_sense s }
+    ensures { result ≡ languages.some_sense s }
 {
     s.re || s.div || s.brace
 }
 
 fn some_part(s: Parts) -> bool
-    ensures { result ≡ not_built.some_part s }
+    ensures { result ≡ languages.some_part s }
 {
     s.start || s.opened.is_some() || s.openhole || s.prequery || s.query || s.bad
 }

@@ -1,11 +1,13 @@
 -- What an edge gives, and what is logged of it.
-use Rattle.std.proofs.Common.{◌≡◌, ℕ, List, [], ◌∷◌, ◌++◌, refl, sym, ap, ◌∙◌, subst, Option, Some, None, length, inl, inr}
+use Rattle.std.proofs.Common.{◌≡◌, ℕ, List, [], ◌∷◌, ◌++◌, refl, sym, ap, ◌∙◌, subst, Option, Some, None, length, ◌⊎◌, inl, inr}
 use Rattle.std.specs.Prelude.{All, slice_get}
 use Rattle.std.proofs.lemmas.List.{append-nil}
+use Rattle.place_core.proofs.ApartPlacesFacts.{apart-sides, below-apart, joins-apart, turned-apart}
 use Rattle.place_core.proofs.JoinMembers.{the_join_has}
 use Rattle.place_core.proofs.JoinValid.{the_join_valid}
 use Rattle.place_core.proofs.Joins.{the_join_above}
-use Rattle.place_core.specs.place.Places.{IsValid, joined}
+use Rattle.place_core.specs.place.ApartPlaces.{ArePlacesApart, HasApart, side}
+use Rattle.place_core.specs.place.Places.{Below, Has, IsValid, joined}
 use Rattle.place_core.specs.declared.place.Place.{Place}
 use Rattle.place_flow.proofs.PointStateLaws.{below_refl}
 use Rattle.place_flow.proofs.StepLaws.{step-keeps-valid}
@@ -17,11 +19,11 @@ use Rattle.place_flow.specs.declared.point_state.PointState.{PointState}
 use Rattle.place_flow.specs.declared.point_state.PointState.TheVariants.{Unreached, At, Conflict}
 use Rattle.place_flow.specs.declared.step.Step.{Step}
 use Rattle.place_flow.specs.declared.step.Step.TheVariants.{Reaches, Enters, Refused}
-use Rattle.place_derive.specs.Derivations.{AllGiven, IsDerivedBy, IsMadeDerivation, IsLoggedSummary}
+use Rattle.place_derive.specs.Derivations.{AllGiven, ApartGiven, IsDerivedBy, IsMadeDerivation, IsLoggedSummary}
 use Rattle.place_derive.specs.Tracing.{derivation_along, logged_along}
 use Rattle.place_derive.specs.declared.derivation.Derivation.{Derivation}
 use Rattle.place_derive.specs.declared.pair_edge.PairEdge.{PairEdge}
-use Rattle.place_derive.proofs.LogLaws.{made_push, weaken}
+use Rattle.place_derive.proofs.LogLaws.{both_weaken, made_push, weaken, weaken_apart}
 use Rattle.place_chart.proofs.Elements.{get_last, of_all}
 use Rattle.place_chart.proofs.FirstSummaries.{IsSummaryOf, first_is}
 use Rattle.place_chart.specs.Charts.{given, step_given}
@@ -32,6 +34,10 @@ use Rattle.tpl_tree.specs.Forests.{ForestData}
 
 pub on_on : {p q : Place} → At p ≡ At q → p ≡ q
 on_on e = cc
+
+-- places that are apart still are, where each has become one below it that has the side
+both_below : (a b c d : Place) → ArePlacesApart a b → Below c a → Has c side → Below d b → Has d side → ArePlacesApart c d
+both_below a b c d h below has other also = turned-apart d c (below-apart b d c (turned-apart c b (below-apart a c b h below has)) other also)
 
 on_is : (o : Option Place) (p : Place) → at_or_conflict o ≡ At p → o ≡ Some p
 on_is (Some q) p e = ap Some (on_on e)
@@ -58,7 +64,11 @@ derived_is forest log summaries all t e source derived v s = step_derived log su
 
 -- what was given last
 pub given_last : (log : List Derivation) (g : Derivation) → IsValid g.place → AllGiven (log ++ g ∷ []) g.template g.entry g.point g.place
-given_last log g v = (v, λ m h. record { number = length log; derivation = g; is = get_last log g; template = refl; entry = refl; point = refl; has = h; below = below_refl g.place })
+given_last log g v = record {
+  valid = v;
+  members = λ m h. record { number = length log; derivation = g; is = get_last log g; template = refl; entry = refl; point = refl; has = h; below = below_refl g.place };
+  apart = λ h. inl (record { number = length log; derivation = g; is = get_last log g; template = refl; entry = refl; point = refl; apart = h; below = below_refl g.place });
+}
 
 -- an edge of a pair, with what it gives, is logged
 pub record IsLogged (forest : ForestData) (roots : List ℕ) (first : Place) (log : List Derivation) (r : PairEdge) (by : PointState) : Type 0 where
@@ -77,7 +87,7 @@ along_logged forest roots first log r e source derived made is to from gives v =
 
 derived_valid : (log : List Derivation) (step : Step) (derived : Place) → IsDerivedBy log step derived → IsValid derived
 derived_valid log (Reaches q) derived h = h.1
-derived_valid log (Enters callee q) derived h = h.0
+derived_valid log (Enters callee q) derived h = h.valid
 derived_valid log Refused derived h = absurd h
 
 pub edge_logged : (forest : ForestData) (roots : List ℕ) (first : Place) (summaries : List Summary) (log : List Derivation) (r : PairEdge) (e : Edge) (at by : PointState) → All (IsLoggedSummary log) summaries → IsMadeDerivation forest roots first log → slice_get (edges_at forest r.template) r.number ≡ Some e → r.to ≡ to_of e
@@ -86,10 +96,20 @@ edge_logged forest roots first summaries log r e Unreached by logged made is to 
 edge_logged forest roots first summaries log r e (At source) Unreached logged made is to from g = nothing_logged forest roots first log r Unreached made (λ p s. cc)
 edge_logged forest roots first summaries log r e (At source) (At derived) logged made is to from g =
     let here = from source refl in
-    let gives = derived_is forest log summaries logged r.template e source derived here.0 (sym g) in
+    let gives = derived_is forest log summaries logged r.template e source derived here.valid (sym g) in
     along_logged forest roots first log r e source derived made is to here gives (derived_valid log (step_of forest r.template e source) derived gives)
 edge_logged forest roots first summaries log r e (At source) Conflict logged made is to from g = nothing_logged forest roots first log r Conflict made (λ p s. cc)
 edge_logged forest roots first summaries log r e Conflict by logged made is to from g = nothing_logged forest roots first log r by made (λ p s. (let none : Conflict ≡ At p = sym g ∙ s in cc))
+
+-- two paths met apart before one of the places that join, or do where these come together
+join_apart : (log : List Derivation) (t : ℕ) (e : Place) (k : Point) (a b p : Place) → AllGiven log t e k a → AllGiven log t e k b → Below a p × Below b p → (HasApart a ⊎ HasApart b) ⊎ ArePlacesApart a b → ApartGiven log t e k p
+join_apart log t e k a b p x y above (inl (inl h)) = weaken_apart log t e k a p (x.apart h) above.0
+join_apart log t e k a b p x y above (inl (inr h)) = weaken_apart log t e k b p (y.apart h) above.1
+join_apart log t e k a b p x y above (inr h) =
+    let sides = apart-sides a b h in
+    let one = x.members side sides.0 in
+    let other = y.members side sides.1 in
+    inr (both_weaken log t e k a b p one other above.0 above.1 (both_below a b one.derivation.place other.derivation.place h one.below one.has other.below other.has))
 
 -- each member of what was joined was given
 pub joined_given : (log : List Derivation) (t : ℕ) (e : Place) (k : Point) (a by : PointState) (p : Place) → ((q : Place) → a ≡ At q → AllGiven log t e k q) → ((q : Place) → by ≡ At q → AllGiven log t e k q) → joined_point_states a by ≡ At p → AllGiven log t e k p
@@ -99,13 +119,15 @@ joined_given log t e k (At a) (At b) p old new s =
     let j = on_is (joined a b) p s in
     let above = the_join_above a b p j in
     let x = old a refl in
-    let y = new b refl in (
-      the_join_valid a b p x.0 y.0 j,
-      λ m h. elim ((the_join_has a b p m j).0 h) [
-        | inl u ↦ weaken log t e k a p m (x.1 m u) above.0
-        | inr u ↦ weaken log t e k b p m (y.1 m u) above.1
-      ],
-    )
+    let y = new b refl in
+    record {
+      valid = the_join_valid a b p x.valid y.valid j;
+      members = λ m h. elim ((the_join_has a b p m j).0 h) [
+        | inl u ↦ weaken log t e k a p m (x.members m u) above.0
+        | inr u ↦ weaken log t e k b p m (y.members m u) above.1
+      ];
+      apart = λ h. join_apart log t e k a b p x y above (joins-apart a b p j h);
+    }
 joined_given log t e k (At a) Conflict p old new s = cc
 joined_given log t e k Conflict by p old new s = cc
 

@@ -56,7 +56,7 @@ module _ (forest : ForestData) (summaries : List Summary) (log : List Derivation
   conflict_with_is : (source : Place) (by old : PointState) (o : Option Why) → why_of by old ≡ o → slice_get (edges_at forest r.template) r.number ≡ Some e → HasEntry forest log r.template r.entry → AllGiven log r.template r.entry (from_of e) source
       → by ≡ given forest (chart_of summaries) r.template e (At source) → ((p : Place) → old ≡ At p → AllGiven log r.template r.entry (to_of e) p) → (conflict : FirstConflict) → conflict_with r source o ≡ Some conflict → IsFirstConflict forest log conflict
   conflict_with_is source by old None y is entered from g was conflict s = cc
-  conflict_with_is source by old (Some w) y is entered from g was conflict s = subst (IsFirstConflict forest log) (some_is s) (record { edge = e; is = is; entered = entered; from = from; why = why_is source by old from.0 g was w y })
+  conflict_with_is source by old (Some w) y is entered from g was conflict s = subst (IsFirstConflict forest log) (some_is s) (record { edge = e; is = is; entered = entered; from = from; why = why_is source by old from.valid g was w y })
 
   -- a conflict that is found is one
   pub conflict_is : (at by old : PointState) → slice_get (edges_at forest r.template) r.number ≡ Some e → HasEntry forest log r.template r.entry → ((p : Place) → at ≡ At p → AllGiven log r.template r.entry (from_of e) p)

@@ -33,7 +33,7 @@ call_grows forest roots first summaries log conflict r e source callee place i s
     let own : AllGiven log i.summary.template i.summary.entry (from_of e) source = of_all (IsLoggedSummary log) summaries r.summary i.summary i.is_summary h.logged.logged (from_of e) source (sym i.stands) in
     let from : AllGiven log r.template r.entry (from_of e) source = subst (λ (u : ℕ). AllGiven log u r.entry (from_of e) source) i.template (subst (λ (x : Place). AllGiven log i.summary.template x (from_of e) source) i.entry own) in
     record {
-      entry = record { point = refl; place = refl; valid = subst IsValidStep (sym s) (step-keeps-valid forest r.template e source from.0) };
+      entry = record { point = refl; place = refl; valid = subst IsValidStep (sym s) (step-keeps-valid forest r.template e source from.valid) };
       edge = e;
       is = i.is_edge;
       from = from;

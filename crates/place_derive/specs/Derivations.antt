@@ -1,5 +1,6 @@
 -- The log of what was given to the points of pairs, and of what it was made.
-use Rattle.std.specs.Prelude.{◌≡◌, ℕ, List, All, Some, Contains, slice_get, take, ⊤}
+use Rattle.std.specs.Prelude.{◌≡◌, ℕ, List, All, Some, Contains, slice_get, take, ⊤, ◌⊎◌}
+use Rattle.place_core.specs.place.ApartPlaces.{ArePlacesApart, HasApart, side}
 use Rattle.place_core.specs.place.Places.{Below, Has, IsValid}
 use Rattle.place_core.specs.declared.member.Member.{Member}
 use Rattle.place_core.specs.declared.place.Place.{Place}
@@ -27,9 +28,32 @@ pub record HasDerivation (log : List Derivation) (t : ℕ) (e : Place) (k : Poin
   pub has : Has derivation.place m
   pub below : Below derivation.place p
 
--- each member of a place was given to the point, and the place is valid
-abbrev pub AllGiven : List Derivation → ℕ → Place → Point → Place → Type 0
-AllGiven log t e k p = IsValid p × ((m : Member) → Has p m → HasDerivation log t e k p m)
+-- a derivation that gave it a place of which two paths met apart
+pub record HasApartDerivation (log : List Derivation) (t : ℕ) (e : Place) (k : Point) (p : Place) : Type 0 where
+  pub number : ℕ
+  pub derivation : Derivation
+  pub is : slice_get log number ≡ Some derivation
+  pub template : derivation.template ≡ t
+  pub entry : derivation.entry ≡ e
+  pub point : derivation.point ≡ k
+  pub apart : HasApart derivation.place
+  pub below : Below derivation.place p
+
+-- two derivations that gave it places that are apart
+pub record HasDerivationsApart (log : List Derivation) (t : ℕ) (e : Place) (k : Point) (p : Place) : Type 0 where
+  pub one : HasDerivation log t e k p side
+  pub other : HasDerivation log t e k p side
+  pub apart : ArePlacesApart one.derivation.place other.derivation.place
+
+-- that two paths of its place met apart was given to the point, or came there
+abbrev pub ApartGiven : List Derivation → ℕ → Place → Point → Place → Type 0
+ApartGiven log t e k p = HasApartDerivation log t e k p ⊎ HasDerivationsApart log t e k p
+
+-- all that a place says was given to the point, and the place is valid
+pub record AllGiven (log : List Derivation) (t : ℕ) (e : Place) (k : Point) (p : Place) : Type 0 where
+  pub valid : IsValid p
+  pub members : (m : Member) → Has p m → HasDerivation log t e k p m
+  pub apart : HasApart p → ApartGiven log t e k p
 
 abbrev pub IsLoggedSummary : List Derivation → Summary → Type 0
 IsLoggedSummary log summary = (k : Point) (p : Place) → point_state_in summary k ≡ At p → AllGiven log summary.template summary.entry k p

@@ -28,11 +28,11 @@ clear-append forest a s [] ns h k = k
 clear-append forest a s (along e ∷ ms) ns h k = (h.0, clear-append forest (along_edge forest a e) (edge_read html_language e s) ms ns h.1 k)
 clear-append forest a s (back ∷ ms) ns h k = clear-append forest (left_calls a.open_calls a) s ms ns h k
 
-pub stays : (forest : ForestData) (a : Standing) (s : LexState ValueState) → Goes forest a s a s
+unfoldable pub stays : (forest : ForestData) (a : Standing) (s : LexState ValueState) → Goes forest a s a s
 stays forest a s = record { moves = []; path = tt; clear = tt; stands = refl; reads = refl }
 
 -- one part after another
-pub goes-on : (forest : ForestData) (a b c : Standing) (s r u : LexState ValueState) → Goes forest a s b r → Goes forest b r c u → Goes forest a s c u
+unfoldable pub goes-on : (forest : ForestData) (a b c : Standing) (s r u : LexState ValueState) → Goes forest a s b r → Goes forest b r c u → Goes forest a s c u
 goes-on forest a b c s r u g h = record {
   moves = g.moves ++ h.moves;
   path = walk-append forest a g.moves h.moves g.path (subst (λ (x : Standing). IsPath forest x h.moves) (sym g.stands) h.path);
@@ -44,10 +44,10 @@ goes-on forest a b c s r u g h = record {
 }
 
 -- along an edge at which no error stands
-pub goes-along : (forest : ForestData) (os : List Open) (name : List ℕ) (e : Edge) (s : LexState ValueState) → Within e (edges_in forest name) → (Errs forest name e s → ⊥)
+unfoldable pub goes-along : (forest : ForestData) (os : List Open) (name : List ℕ) (e : Edge) (s : LexState ValueState) → Within e (edges_in forest name) → (Errs forest name e s → ⊥)
     → Goes forest (open_standing os name (from_of e)) s (along_edge forest (open_standing os name (from_of e)) e) (edge_read html_language e s)
 goes-along forest os name e s w c = record { moves = along e ∷ []; path = ((w, refl), tt); clear = (c, tt); stands = refl; reads = refl }
 
 -- out of a call
-pub goes-back : (forest : ForestData) (o : Open) (os : List Open) (name : List ℕ) (s : LexState ValueState) → Goes forest (open_standing (o ∷ os) name finish_point) s (open_standing os o.template o.back) s
+unfoldable pub goes-back : (forest : ForestData) (o : Open) (os : List Open) (name : List ℕ) (s : LexState ValueState) → Goes forest (open_standing (o ∷ os) name finish_point) s (open_standing os o.template o.back) s
 goes-back forest o os name s = record { moves = back ∷ []; path = ((tt, refl), tt); clear = tt; stands = refl; reads = refl }

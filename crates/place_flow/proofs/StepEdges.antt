@@ -19,7 +19,7 @@ pub record IsCall (forest : ForestData) (e : Edge) (c : ℕ) (p q : Place) : Typ
   pub number : number_named callee forest ≡ Some c
   pub place : q ≡ p
 
-no-reaches : (b : Bool) (o : Option ℕ) (p q : Place) → (if b then enters_or_refused o p else Refused) ≡ Reaches q → ⊥
+pub no-reaches : (b : Bool) (o : Option ℕ) (p q : Place) → (if b then enters_or_refused o p else Refused) ≡ Reaches q → ⊥
 no-reaches true (Some c) p q e = cc
 no-reaches true None p q e = cc
 no-reaches false o p q e = cc

@@ -1,10 +1,10 @@
 -- Which errors stand on a path, on two paths that meet, or on two that met apart before, where they go on along an edge; and paths on which
 -- none of one path stands.
 use Rattle.std.specs.Prelude.{◌≡◌, ℕ, false, List, [], ◌∷◌, Some, None, ◌⊎◌, ⊤}
-use Rattle.html_step.specs.Apart.{Apart, ClashesApart, Keeps, PartWithin}
+use Rattle.place_core.specs.place.PathPairs.{Apart, Clashes, ClashesApart, ClashesHole, Keeps, PartWithin}
 use Rattle.place_flow.specs.Covering.{edge_read, read_moves}
 use Rattle.place_flow.specs.HtmlCovering.{html_language}
-use Rattle.place_core.specs.place.Errors.{Clashes, ClashesHole, PathRefuses, RefusesHole}
+use Rattle.place_core.specs.place.Errors.{PathRefuses, RefusesHole}
 use Rattle.place_core.specs.place.StatePlaces.{placed}
 use Rattle.place_core.specs.page.States.{LexState}
 use Rattle.place_core.specs.page.Tags.{ValueState}

@@ -123,8 +123,8 @@ impl<'f> Flows<'f> {
         }
     }
 
-    // An edge of a template, by its number.
-    pub(crate) fn edge(&self, template: u32, number: usize) -> Option<Edge>
+    /// An edge of a template, by its number.
+    pub fn edge(&self, template: u32, number: usize) -> Option<Edge>
         ensures { result ≡ option_map edge_at (slice_get (edges_at self.now template) number) }
     {
         match self.edges(template).get(number) {

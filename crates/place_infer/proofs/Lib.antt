@@ -3,3 +3,4 @@ pub mod FoundCharts
 pub mod JudgedCharts
 pub mod KeptCalls
 pub mod KeptLaws
+pub mod SameForests

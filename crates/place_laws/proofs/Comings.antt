@@ -14,6 +14,7 @@ use Rattle.place_core.specs.declared.place.Place.{Place}
 use Rattle.tpl_paths.specs.Edges.{Edge, Point, Within, edges_in, finish_point, from_of, start_in, to_of}
 use Rattle.tpl_paths.specs.Paths.{Open, Standing, along_edge, open_standing}
 use Rattle.tpl_tree.specs.Forests.{ForestData, HasAscendingNames, tree_name_at, number_named}
+use Rattle.place_flow.proofs.PointStateLaws.{below_refl}
 use Rattle.place_flow.proofs.StepLaws.{step-covers}
 use Rattle.place_flow.specs.Flows.{start_at}
 use Rattle.place_flow.specs.Laws.{IsStepOrigin, StepCovers}
@@ -37,6 +38,14 @@ take_get (y ∷ xs) zero j x e = cc
 take_get [] (suc i) j x e = cc
 take_get (y ∷ xs) (suc i) zero x e = (omega arith, e)
 take_get (y ∷ xs) (suc i) (suc j) x e = (let h = take_get xs i j x e in let lt = h.0 in (omega (arith, lt), h.1))
+
+-- what the beginning of a log tells, the log does
+unfoldable pub of_part : (log : List Derivation) (i t : ℕ) (e : Place) (k : Point) (p : Place) (m : Member) → HasDerivation (take i log) t e k p m → HasDerivation log t e k p m
+of_part log i t e k p m h = record { number = h.number; derivation = h.derivation; is = (take_get log i h.number h.derivation h.is).1; template = h.template; entry = h.entry; point = h.point; has = h.has; below = h.below }
+
+-- what was given, of the very place that was derived
+pub itself : (log : List Derivation) (t : ℕ) (e : Place) (k : Point) (p : Place) (m : Member) → (h : HasDerivation log t e k p m) → HasDerivation log t e k h.derivation.place m
+itself log t e k p m h = record { number = h.number; derivation = h.derivation; is = h.is; template = h.template; entry = h.entry; point = h.point; has = h.has; below = below_refl h.derivation.place }
 
 -- a place stands for all that one below it stands for
 pub in-above : (p q : Place) (s : LexState ValueState) → Below p q → IsIn p s → IsIn q s
@@ -74,9 +83,9 @@ module _ (forest : ForestData) (up : HasAscendingNames forest) where
     -- along an edge
     pub along-comes : (edge : Edge) (p q : Place) (y : Member) (step : Step) → Within edge (edges_in forest name) → AllGiven log t e (from_of edge) p → step_of forest t edge p ≡ step → IsDerivedBy log step q → Has q y → Comes forest name e (to_of edge) q y
     along-comes edge p q y (Reaches r) w from is gives h =
-        let covers : (z : Member) → Has r z → (x : Member) × IsStepOrigin edge p r z x = subst (λ (st : Step). StepCovers st edge p) is (step-covers forest t edge p from.0) in
+        let covers : (z : Member) → Has r z → (x : Member) × IsStepOrigin edge p r z x = subst (λ (st : Step). StepCovers st edge p) is (step-covers forest t edge p from.valid) in
         let x = covers y (subst (λ (z : Place). Has z y) (sym gives.0) h) in
-        let c = all t name e (from_of edge) p x.0 at (from.1 x.0 x.1.has) in
+        let c = all t name e (from_of edge) p x.0 at (from.members x.0 x.1.has) in
         record {
           from = c.from;
           has = c.has;
@@ -84,15 +93,15 @@ module _ (forest : ForestData) (up : HasAscendingNames forest) where
             state = edge_read html_language edge l.state;
             goes = λ os. goes-on forest (open_standing os name (start_in forest name)) (open_standing os name (from_of edge)) (open_standing os name (to_of edge)) s l.state (edge_read html_language edge l.state) (l.goes os)
                 (subst (λ (b : Standing). Goes forest (open_standing os name (from_of edge)) l.state b (edge_read html_language edge l.state)) (stays-within forest t edge p r os name is)
-                (goes-along forest os name edge l.state w (step-clear forest t name edge p l.state number from.0 l.is_in (subst IsTaken (sym is) tt))));
+                (goes-along forest os name edge l.state w (step-clear forest t name edge p l.state number from.valid l.is_in (subst IsTaken (sym is) tt))));
             is_in = subst (λ (z : Place). IsIn z (edge_read html_language edge l.state)) gives.0 (x.1.is_in l.state l.is_in);
             bears = x.1.bears l.state l.is_in l.bears;
           });
         }
     along-comes edge p q y (Enters c r) w from is gives h =
         let call = is-call forest t edge p c r is in
-        let d = all c call.callee r finish_point q y (named forest c call.callee call.number) (gives.1 y h) in
-        let b = all t name e (from_of edge) p d.from at (from.1 d.from (subst (λ (z : Place). Has z d.from) call.place d.has)) in
+        let d = all c call.callee r finish_point q y (named forest c call.callee call.number) (gives.members y h) in
+        let b = all t name e (from_of edge) p d.from at (from.members d.from (subst (λ (z : Place). Has z d.from) call.place d.has)) in
         record {
           from = b.from;
           has = b.has;
@@ -101,7 +110,7 @@ module _ (forest : ForestData) (up : HasAscendingNames forest) where
             goes = λ os. (let o : Open = record { template = name; node = call.node; back = call.behind } in
                 goes-on forest (open_standing os name (start_in forest name)) (open_standing os name (from_of edge)) (open_standing os name (to_of edge)) s l.state u.state (l.goes os)
                 (goes-on forest (open_standing os name (from_of edge)) (open_standing (o ∷ os) call.callee (start_in forest call.callee)) (open_standing os name (to_of edge)) l.state l.state u.state
-                (goes-into t name edge c p r os l.state number w from.0 l.is_in is call)
+                (goes-into t name edge c p r os l.state number w from.valid l.is_in is call)
                 (goes-on forest (open_standing (o ∷ os) call.callee (start_in forest call.callee)) (open_standing (o ∷ os) call.callee finish_point) (open_standing os name (to_of edge)) l.state u.state u.state (u.goes (o ∷ os))
                 (subst (λ (x : Edge). Goes forest (open_standing (o ∷ os) call.callee finish_point) u.state (open_standing os name (to_of x)) u.state) (sym call.is) (goes-back forest o os call.callee u.state)))));
             is_in = u.is_in;

@@ -1,5 +1,7 @@
+pub mod ApartComings
 pub mod Arrivals
 pub mod Comings
+pub mod CommonMoves
 pub mod ConflictEdges
 pub mod NoErrors
 pub mod NoRefusal

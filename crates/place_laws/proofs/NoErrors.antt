@@ -6,7 +6,7 @@ use Rattle.html_step.specs.Steps.{after_text}
 use Rattle.place_flow.specs.Covering.{IsClosedByName, IsCovered, IsStack, Pair, pair, pairs_along, read_moves}
 use Rattle.place_flow.specs.HtmlCovering.{behind_hole, behind_text, html_language}
 use Rattle.place_core.proofs.Joins.{the_join_least}
-use Rattle.place_core.specs.place.Errors.{Clashes, ClashesHole}
+use Rattle.place_core.specs.place.PathPairs.{Clashes, ClashesApart, ClashesHole}
 use Rattle.place_core.specs.place.Membership.{IsIn}
 use Rattle.place_core.specs.place.Places.{Below, IsValid, joined}
 use Rattle.place_core.specs.place.StatePlaces.{placed}
@@ -37,7 +37,6 @@ use Rattle.tpl_tree.specs.Forests.{ForestData, number_named}
 use Rattle.html_step.proofs.MetApart.{met-apart}
 use Rattle.html_step.proofs.AcceptedTexts.{accepts-text}
 use Rattle.html_step.proofs.HoleOrder.{accepts-hole}
-use Rattle.html_step.specs.Apart.{ClashesApart}
 use Rattle.place_chart.proofs.ConflictFreeCharts.{root-is-chart}
 use Rattle.place_laws.proofs.TwoPaths.{IsShownApart, shown-along}
 

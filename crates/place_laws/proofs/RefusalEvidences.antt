@@ -2,7 +2,7 @@
 use Rattle.std.proofs.Common.{◌≡◌, ℕ, Bool, true, false, List, Option, Some, None, Result, Ok, Err, refl, ap, ◌∙◌, subst, if◌then◌else◌, ◌⊎◌, inl, inr}
 use Rattle.place_flow.specs.HtmlCovering.{behind_hole, behind_text}
 use Rattle.place_core.specs.place.Membership.{Bears, IsIn}
-use Rattle.place_core.specs.place.NotBuiltPlaces.{HasApart, side}
+use Rattle.place_core.specs.place.ApartPlaces.{HasApart, side}
 use Rattle.place_core.specs.place.Places.{Below, Has, IsValid}
 use Rattle.place_core.specs.place.StatePlaces.{placed}
 use Rattle.place_core.specs.page.States.{LexState}

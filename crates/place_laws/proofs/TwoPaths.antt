@@ -4,7 +4,7 @@ use Rattle.std.proofs.Common.{◌≡◌, ℕ, List, [], ◌∷◌, Option, Some,
 use Rattle.html_step.proofs.HoleOrder.{covers-hole, valid-hole}
 use Rattle.html_step.proofs.MetApart.{met-apart}
 use Rattle.html_step.proofs.WholeTexts.{covers-text, valid-text}
-use Rattle.html_step.specs.Apart.{Apart, Keeps, PartWithin}
+use Rattle.place_core.specs.place.PathPairs.{Apart, Keeps, PartWithin}
 use Rattle.html_step.specs.Holes.{Holed, after_hole}
 use Rattle.html_step.specs.Steps.{after_text}
 use Rattle.place_core.proofs.Joins.{the_order}
@@ -13,7 +13,7 @@ use Rattle.place_core.specs.page.States.{LexState}
 use Rattle.place_core.specs.page.Tags.{ValueState, languages}
 use Rattle.place_core.specs.place.Errors.{node}
 use Rattle.place_core.specs.place.Membership.{Bears, IsIn}
-use Rattle.place_core.specs.place.NotBuiltPlaces.{HasApart, side}
+use Rattle.place_core.specs.place.ApartPlaces.{HasApart, side}
 use Rattle.place_core.specs.place.Places.{Below, IsValid}
 use Rattle.place_core.specs.declared.chain.Chain.{Chain}
 use Rattle.place_core.specs.declared.place.Place.{Place}
@@ -92,7 +92,7 @@ shown-after bytes p q x e i (inl k) =
     }
 shown-after bytes p q x e i (inr w) =
     let both = met-apart.sides_within bytes x.one x.other w in
-    record { there = met-apart.parted bytes p q x.one x.other i.1 i.2 e w; one = both.0; other = both.1 }
+    record { there = met-apart.parted bytes p q x.one x.other i.0 i.1 i.2 e w; one = both.0; other = both.1 }
 
 texts : (bytes : List ℕ) (p q : Place) (x : Both) → behind_text (after_text bytes p) ≡ Some q → both_language.IsIn p x → both_language.IsIn q (after_both bytes x)
 texts bytes p q x e i =

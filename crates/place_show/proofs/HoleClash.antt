@@ -7,7 +7,8 @@ use Rattle.html_step.specs.Laws.{EvidenceData, apart, one, two}
 use Rattle.place_core.proofs.JoinMembers.{the_join_has}
 use Rattle.place_core.proofs.JoinValid.{the_join_valid}
 use Rattle.place_core.proofs.Joins.{places_same, the_join_above}
-use Rattle.place_core.specs.place.Errors.{ClashesHole, RefusesHole}
+use Rattle.place_core.specs.place.Errors.{RefusesHole}
+use Rattle.place_core.specs.place.PathPairs.{ClashesHole}
 use Rattle.place_core.specs.place.Membership.{Bears, IsIn}
 use Rattle.place_core.specs.place.Places.{Has, IsValid, joined}
 use Rattle.place_core.specs.place.StatePlaces.{placed}

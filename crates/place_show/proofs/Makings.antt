@@ -2,15 +2,17 @@
 use Rattle.std.proofs.Common.{◌≡◌, ℕ, List, Option, Some, None, sym, ap, ◌∙◌, map}
 use Rattle.place_core.specs.declared.code.Code.{Code}
 use Rattle.place_core.specs.declared.place.Place.{Place}
+use Rattle.place_core.proofs.Semilattices.{one_value}
 use Rattle.place_flow.specs.Flows.{nodes_at}
-use Rattle.place_trace.specs.Replays.{IsPathReplay, name_or_none}
+use Rattle.place_trace.specs.Replays.{IsPathReplay, name_or_none, opens_of}
 use Rattle.place_trace.specs.declared.replay.ReplayedCall.{ReplayedCall}
 use Rattle.place_trace.specs.declared.replay.PathReplay.{PathReplay}
 use Rattle.place_show.specs.Made.{IsShowingMade, IsMadeOne, IsMadeTwo, IsSeenAt}
 use Rattle.place_show.specs.Showings.{IsNodeShown, IsShownBy, Meet, OneError, ShowsOne, kind_of_node, shown_state}
 use Rattle.place_show.specs.declared.showing.Seen.{Seen}
 use Rattle.place_show.specs.declared.showing.Showing.{Showing}
-use Rattle.tpl_paths.specs.Edges.{before}
+use Rattle.tpl_paths.specs.Edges.{Point, before}
+use Rattle.tpl_paths.specs.Paths.{at_root, open_standing, reached}
 use Rattle.tpl_tree.specs.Forests.{ForestData, tree_name_at}
 use Rattle.tpl_tree.specs.Trees.{NodesData, head_kind, head_line, nodes_from}
 use Rattle.tpl_tree.specs.declared.node_kind.NodeKind.{NodeKind}
@@ -42,6 +44,20 @@ shown-by-other forest w v at sh seen other by meet s is = record {
 
 pub meets : (w v : PathReplay) → w.root ≡ v.root → w.template ≡ v.template → w.point ≡ v.point → w.open_calls.items ≡ v.open_calls.items → Meet w v
 meets w v root template point calls = record { root = sym root; template = sym template; point = sym point; open_calls = sym calls }
+
+-- where two paths meet both have come there by their moves
+pub meets-at : (forest : ForestData) (w v : PathReplay) (is : IsPathReplay forest w) (other : IsPathReplay forest v) (root : List ℕ) → Meet w v → tree_name_at forest w.root ≡ Some root
+    → reached forest (at_root forest root) other.moves ≡ reached forest (at_root forest root) is.moves
+meets-at forest w v is other root meet root_is =
+    let one_root : is.root_name ≡ root = one_value is.root_name root (sym is.root_is ∙ root_is) in
+    let other_root : other.root_name ≡ root = one_value other.root_name root (sym other.root_is ∙ (ap (tree_name_at forest) meet.root ∙ root_is)) in
+    let name : other.name ≡ is.name = one_value other.name is.name (sym other.name_is ∙ (ap (tree_name_at forest) meet.template ∙ is.name_is)) in
+    ap (λ (x : List ℕ). reached forest (at_root forest x) other.moves) (sym other_root)
+    ∙ (other.stands
+    ∙ (ap (λ (os : List ReplayedCall). open_standing (opens_of forest os) other.name v.point) meet.open_calls
+    ∙ (ap (λ (x : List ℕ). open_standing (opens_of forest w.open_calls.items) x v.point) name
+    ∙ (ap (λ (k : Point). open_standing (opens_of forest w.open_calls.items) is.name k) meet.point
+    ∙ (sym is.stands ∙ ap (λ (x : List ℕ). reached forest (at_root forest x) is.moves) one_root)))))
 
 pub shows-one : (forest : ForestData) (w : PathReplay) (c : Code) (line n byte : ℕ) (at : Place) (sh : Showing) (m : IsMadeOne forest w c line n byte at sh) (is : IsPathReplay forest w) → OneError forest sh m.seen w (shown_state is) → ShowsOne forest sh
 shows-one forest w c line n byte at sh m is error = record {

@@ -1,5 +1,5 @@
 -- An error of two paths that meet is shown by the two, in whichever order they come.
-use Rattle.std.proofs.Common.{ℕ, List, sym, ap, ◌∙◌, subst, take, ◌⊎◌, inl, inr}
+use Rattle.std.proofs.Common.{ℕ, List, sym, ap, ◌∙◌, subst, ◌⊎◌, inl, inr}
 use Rattle.html_step.proofs.MetApart.{met-apart}
 use Rattle.place_core.proofs.Joins.{places_partial}
 use Rattle.place_core.specs.page.States.{LexState}
@@ -57,7 +57,7 @@ module _ (forest : ForestData) (sh : Showing) (w v : PathReplay) (a b : Seen) (m
     meet = sym m.meet;
     met = turned-met m.common (path_state_after m.first) (path_state_after m.other_first) m.met;
     clash = met-apart.turns_clash m.bytes (path_state_after ms) (path_state_after ns) sh.code sh.byte m.clash;
-    places = turned-last m.common (take sh.byte m.bytes) (path_state_after m.first) (path_state_after m.other_first) a.at b.at m.places;
+    places = turned-last m.common sh.byte m.bytes (path_state_after m.first) (path_state_after m.other_first) a.at b.at m.places;
     line = m.line ∙ sym (ap (λ (u : ℕ). line_of_byte forest u sh.node m.bytes sh.byte) meet.template);
   }
 

@@ -7,7 +7,7 @@ use Rattle.place_core.specs.place.Errors.{PathCause, PathRefusal, last_between}
 use Rattle.place_core.specs.declared.code.Code.{Code}
 use Rattle.place_core.specs.declared.place.Place.{Place}
 use Rattle.place_core.specs.declared.step_err.StepErr.{StepErr}
-use Rattle.place_show.specs.Taking.{TakesByte}
+use Rattle.html_step.specs.ApartInText.{TakesByte}
 
 one-refusal : (x y : PathRefusal) (o : Result Place PathRefusal) → o ≡ Err x → o ≡ Err y → x ≡ y
 one-refusal x y o e f = cc

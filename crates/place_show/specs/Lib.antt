@@ -7,3 +7,5 @@ pub mod Made
 pub mod PathTexts
 pub mod Showings
 pub mod Taking
+pub mod Together
+pub mod Unknown

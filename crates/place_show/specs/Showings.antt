@@ -1,9 +1,10 @@
 -- An error that stands on a path, or on two that meet, as it is shown.
-use Rattle.std.specs.Prelude.{◌≡◌, ◌≢◌, ℕ, false, List, [], ◌∷◌, ◌++◌, All, Option, Some, None, map, take, ◌⊎◌}
+use Rattle.std.specs.Prelude.{◌≡◌, ◌≢◌, ℕ, false, List, [], ◌∷◌, ◌++◌, All, Option, Some, None, map, ◌⊎◌}
 use Rattle.place_flow.specs.Covering.{read_moves}
 use Rattle.place_flow.specs.HtmlCovering.{html_language}
-use Rattle.html_step.specs.Apart.{ClashesApart}
-use Rattle.place_core.specs.place.Errors.{Clashes, ClashesHole, PathRefuses, RefusesHole}
+use Rattle.place_core.specs.place.PathPairs.{ClashesApart}
+use Rattle.place_core.specs.place.Errors.{PathRefuses, RefusesHole}
+use Rattle.place_core.specs.place.PathPairs.{Clashes, ClashesHole}
 use Rattle.place_core.specs.page.Html.{start}
 use Rattle.place_core.specs.place.Places.{joined}
 use Rattle.place_core.specs.page.States.{LexState}
@@ -171,7 +172,7 @@ pub record HoleClashes (forest : ForestData) (sh : Showing) (a b : Seen) (w v : 
 
 -- Two paths that met apart: where both stood at one point with the same calls open, or at a byte within the text after it, they were in the
 -- beginning of a URL that spelled different things; both took the same moves from there, stayed in it, and a text is refused on both at a byte.
--- Each is shown at its place at the last such point. No two paths meet so today, since a text in which two come apart is refused.
+-- Each is shown at its place at the last such point.
 pub record MetApart (forest : ForestData) (sh : Showing) (a b : Seen) (w v : PathReplay) (ms ns : List Move)
     : Type 0 where
   pub bytes : List ℕ
@@ -185,7 +186,7 @@ pub record MetApart (forest : ForestData) (sh : Showing) (a b : Seen) (w v : Pat
   pub meet : reached forest (at_root forest sh.root) other_first ≡ reached forest (at_root forest sh.root) first
   pub met : MeetApart common (path_state_after first) (path_state_after other_first)
   pub clash : ClashesApart bytes (path_state_after ms) (path_state_after ns) sh.code sh.byte
-  pub places : IsLastAlong common (take sh.byte bytes) (path_state_after first) (path_state_after other_first) a.at b.at
+  pub places : IsLastAlong common sh.byte bytes (path_state_after first) (path_state_after other_first) a.at b.at
   pub line : sh.line ≡ line_of_byte forest w.template sh.node bytes sh.byte
 
 -- the code of places that do not join: at the head of a range, and after the parts of a control

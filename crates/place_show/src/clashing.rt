@@ -2,24 +2,24 @@ ghost use Rattle.std.specs.Prelude.{◌≡◌, ◌<◌, ◌^◌, IfSome, IsTrue,
 ghost use Rattle.place_show.specs.Answers.{IfFound, ShowsOnBoth};
 ghost use Rattle.place_show.specs.AtNodes.{ShowsTwoAt};
 ghost use Rattle.place_show.specs.Made.{IsMadeTwo};
-ghost use Rattle.place_show.specs.Taking.{AreRefusedTogether, TakesByte, TakesHoleAt};
+ghost use Rattle.place_show.specs.Taking.{AreRefusedTogether, TakesHoleAt};
 ghost use Rattle.tpl_tree.specs.Trees.{head_kind, head_line, nodes_from, nodes_size};
 ghost use Rattle.tpl_tree.specs.declared.node_kind.NodeKind.TheVariants as kind;
 ghost use Rattle.html_step.specs.Holes as holes;
-ghost use Rattle.html_step.specs.Steps as spec;
 
+use crate::beginnings::{shown_places, takes};
 use crate::making::{Mark, made_two, text_mark};
 use crate::showing::Showing;
-use html_step::{after_hole, after_text, place_before};
+use html_step::{after_hole, after_text};
 use page_io::{Memory, Text};
-use place_core::{Code, Place, join};
+use place_core::{Code, Place, has_apart, join};
 use place_trace::PathReplay;
 use std::alloc::Global;
 use tpl_paths::Point;
 use tpl_tree::{Forest, NodeKind, Tree};
 
 /// That a text or a hole is refused on two paths together, where these meet before it, if it is: a text at a byte that is refused on
-/// neither of them alone, nor is one before it; a hole that is refused on neither of them alone. Fails only if allocation fails.
+/// neither of them alone, nor is one before it, also where they are apart in the beginning of a URL before it; a hole that is refused on neither of them alone. Fails only if allocation fails.
 pub fn node_clash(
     alloc: Global,
     forest: &Forest,
@@ -86,6 +86,12 @@ fn clash(
         IfFound is_shown result }
 {
     let bytes = text.as_str();
+    if has_apart(replay.place) {
+        return Ok(None);
+    }
+    if has_apart(other.place) {
+        return Ok(None);
+    }
     let Some(both) = join(replay.place, other.place) else {
         return Ok(None);
     };
@@ -98,22 +104,12 @@ fn clash(
                 return Ok(None);
             }
             let mark = text_mark(tree, node, text, refused);
-            let at = place_before(replay.place, bytes, refused.at);
-            let other_at = place_before(other.place, bytes, refused.at);
-            made_two(alloc, forest, replay, other, mark, at, other_at)
+            match shown_places(replay.place, other.place, both, bytes, refused.at) {
+                Some((at, other_at)) => made_two(alloc, forest, replay, other, mark, at, other_at),
+                None => Ok(None),
+            }
         }
         Ok(_) => Ok(None),
-    }
-}
-
-// Whether a text is refused from a place after this byte, or nowhere.
-fn takes(place: Place, text: &str, byte: u32) -> bool
-    requires { length text.now < 2 ^ 32 }
-    ensures { IsTrue result → TakesByte byte (spec.after_text text.now place) }
-{
-    match after_text(place, text) {
-        Ok(_) => true,
-        Err(refused) => byte < refused.at,
     }
 }
 

@@ -3,12 +3,15 @@ ghost use Rattle.place_show.specs.Conflicts.{ShowsIn, ShowsOnEither};
 use crate::clashing::node_clash;
 use crate::ending::end_error;
 use crate::joining::join_error;
+use crate::met_apart::met_apart_error;
 use crate::nodes::node_error;
 use crate::showing::Showing;
 use page_io::Memory;
 use place_derive::{Derivation, FirstConflict};
 use place_flow::Flows;
-use place_trace::{Candidate, PathReplay, candidate_of_end, candidates_of_conflict, replayed};
+use place_trace::{
+    Candidate, Candidates, PathReplay, candidate_of_end, candidates_of_conflict, replayed,
+};
 use std::alloc::Global;
 use tpl_tree::Forest;
 
@@ -55,7 +58,9 @@ fn shown_by_two(
 ) -> Result<Option<Showing>, Memory>
     ensures { ShowsIn flows.now forest.now result }
 {
-    match (replayed(alloc, flows, one)?, replayed(alloc, flows, other)?) {
+    let one = replayed(alloc, flows, one.root, one.steps.as_slice())?;
+    let other = replayed(alloc, flows, other.root, other.steps.as_slice())?;
+    match (one, other) {
         (Some(replay), Some(other)) => error_of_two(alloc, forest, &replay, &other),
         _ => Ok(None),
     }
@@ -70,9 +75,25 @@ fn shown_by_one(
 ) -> Result<Option<Showing>, Memory>
     ensures { ShowsIn flows.now forest.now result }
 {
-    match replayed(alloc, flows, candidate)? {
+    match replayed(alloc, flows, candidate.root, candidate.steps.as_slice())? {
         Some(replay) => node_error(alloc, forest, &replay),
         None => Ok(None),
+    }
+}
+
+// The error that some candidates show, one or two.
+fn shown_by_paths(
+    alloc: Global,
+    forest: &Forest,
+    flows: &Flows,
+    candidates: &[Candidate],
+) -> Result<Option<Showing>, Memory>
+    ensures { ShowsIn flows.now forest.now result }
+{
+    match (candidates.get(0), candidates.get(1)) {
+        (Some(one), Some(other)) => shown_by_two(alloc, forest, flows, one, other),
+        (Some(one), None) => shown_by_one(alloc, forest, flows, one),
+        _ => Ok(None),
     }
 }
 
@@ -86,11 +107,9 @@ pub fn shown_conflict(
 ) -> Result<Option<Showing>, Memory>
     ensures { ShowsIn flows.now forest.now result }
 {
-    let candidates = candidates_of_conflict(alloc, forest, flows, log, conflict)?;
-    match (candidates.get(0), candidates.get(1)) {
-        (Some(one), Some(other)) => shown_by_two(alloc, forest, flows, one, other),
-        (Some(one), None) => shown_by_one(alloc, forest, flows, one),
-        _ => Ok(None),
+    match candidates_of_conflict(alloc, forest, flows, log, conflict)? {
+        Candidates::AtConflict(paths) => shown_by_paths(alloc, forest, flows, paths.as_slice()),
+        Candidates::MetApart(paths) => met_apart_error(alloc, forest, flows, &paths),
     }
 }
 
@@ -105,7 +124,12 @@ pub fn shown_end(
     ensures { ShowsIn flows.now forest.now result }
 {
     match candidate_of_end(alloc, flows, log, root)? {
-        Some(candidate) => match replayed(alloc, flows, &candidate)? {
+        Some(candidate) => match replayed(
+            alloc,
+            flows,
+            candidate.root,
+            candidate.steps.as_slice(),
+        )? {
             Some(replay) => end_error(alloc, forest, &replay),
             None => Ok(None),
         },

@@ -1,16 +1,20 @@
 // Counterexamples: the error of a set of templates, with the paths on which it stands.
 #![tactic(auto)]
 
+mod beginnings;
 mod clashing;
 mod conflicts;
 mod ending;
 mod joining;
 mod making;
+mod met_apart;
 mod nodes;
 mod ordering;
 mod printing;
 mod seen;
 mod showing;
+mod together;
+mod unknown;
 
 pub use conflicts::{shown_conflict, shown_end};
 pub use printing::{choice_text, path_text};

@@ -59,23 +59,30 @@ module _ (forest : ForestData) (w new : PathReplay) (is : IsPathReplay forest w)
     tells : told forest here (m ∷ []) ≡ map (told_of forest) more
     notes : new.chosen.items ≡ w.chosen.items ++ more
 
-  one-more : (m : Move) (more : List Chosen) → IsNext m more → IsPathReplay forest new
-  one-more m more next = record {
-    root_name = is.root_name;
-    root_is = ap (tree_name_at forest) next.same_root ∙ is.root_is;
-    name = next.name;
-    name_is = next.name_is;
-    moves = is.moves ++ m ∷ [];
-    path = walk-append forest root is.moves (m ∷ []) is.path (subst (λ (x : Standing). IsPath forest x (m ∷ [])) (sym is.stands) (next.moves, tt));
-    clear = clear-append forest root start.at is.moves (m ∷ []) is.clear (subst (λ (x : Standing). IsClear forest x state (m ∷ [])) (sym is.stands) next.clear);
-    stands = reached-append forest root is.moves (m ∷ []) ∙ (ap (λ (x : Standing). reached forest x (m ∷ [])) is.stands ∙ next.leads);
-    own = ap placed (read-append is.moves (m ∷ []) start.at) ∙ next.own;
-    valid = next.valid;
-    chosen =
-        told-append forest root is.moves (m ∷ [])
-        ∙ (ap₂ (λ (xs ys : List IsNameKnown). xs ++ ys) is.chosen (ap (λ (x : Standing). told forest x (m ∷ [])) is.stands ∙ next.tells)
-        ∙ (sym (map-append (told_of forest) w.chosen.items more) ∙ ap (map (told_of forest)) (sym next.notes)));
-  }
+  -- the path that goes on by a move
+  abbrev pub IsBy : Move → Type 0
+  IsBy m = (now : IsPathReplay forest new) × (now.moves ≡ is.moves ++ m ∷ [])
+
+  one-more : (m : Move) (more : List Chosen) → IsNext m more → IsBy m
+  one-more m more next = (
+    record {
+      root_name = is.root_name;
+      root_is = ap (tree_name_at forest) next.same_root ∙ is.root_is;
+      name = next.name;
+      name_is = next.name_is;
+      moves = is.moves ++ m ∷ [];
+      path = walk-append forest root is.moves (m ∷ []) is.path (subst (λ (x : Standing). IsPath forest x (m ∷ [])) (sym is.stands) (next.moves, tt));
+      clear = clear-append forest root start.at is.moves (m ∷ []) is.clear (subst (λ (x : Standing). IsClear forest x state (m ∷ [])) (sym is.stands) next.clear);
+      stands = reached-append forest root is.moves (m ∷ []) ∙ (ap (λ (x : Standing). reached forest x (m ∷ [])) is.stands ∙ next.leads);
+      own = ap placed (read-append is.moves (m ∷ []) start.at) ∙ next.own;
+      valid = next.valid;
+      chosen =
+          told-append forest root is.moves (m ∷ [])
+          ∙ (ap₂ (λ (xs ys : List IsNameKnown). xs ++ ys) is.chosen (ap (λ (x : Standing). told forest x (m ∷ [])) is.stands ∙ next.tells)
+          ∙ (sym (map-append (told_of forest) w.chosen.items more) ∙ ap (map (told_of forest)) (sym next.notes)));
+    },
+    refl,
+  )
 
   -- what is known of an edge that is taken
   module _ (number : ℕ) (up : HasAscendingNames forest) where
@@ -96,7 +103,7 @@ module _ (forest : ForestData) (w new : PathReplay) (is : IsPathReplay forest w)
     edge-valid e r step = subst IsValidStep step (step-keeps-valid forest w.template e w.place is.valid)
 
     pub arrived : (e : Edge) (to : Point) (q : Place) (choice : _) → slice_get (edges_at forest w.template) number ≡ Some e → w.point ≡ from_of e → to ≡ to_of e → choice ≡ choice_of e
-        → step_of forest w.template e w.place ≡ Reaches q → HasArrived w new to q choice → IsPathReplay forest new
+        → step_of forest w.template e w.place ≡ Reaches q → HasArrived w new to q choice → IsBy (along e)
     arrived e to q choice at from end picked step h = one-more (along e) (noted w.template w.point (choice_of e)) (record {
       same_root = h.same_root;
       name = is.name;
@@ -115,7 +122,7 @@ module _ (forest : ForestData) (w new : PathReplay) (is : IsPathReplay forest w)
 
     entered-call : (n : ℕ) (callee : List ℕ) (to : Point) (c : ℕ) (q : Place) → slice_get (edges_at forest w.template) number ≡ Some (calls n callee to) → w.point ≡ from_of (calls n callee to)
         → number_named callee forest ≡ Some c → q ≡ w.place → step_of forest w.template (calls n callee to) w.place ≡ Enters c q
-        → HasEntered w new c (start_at forest c) to q → IsPathReplay forest new
+        → HasEntered w new c (start_at forest c) to q → IsBy (along (calls n callee to))
     entered-call n callee to c q at from known same step h = one-more (along (calls n callee to)) [] (record {
       same_root = h.same_root;
       name = callee;
@@ -139,17 +146,17 @@ module _ (forest : ForestData) (w new : PathReplay) (is : IsPathReplay forest w)
             ap₂ call-of (sym is.name_is) (sym from) ∙ (sym (opens-more forest w.open_calls.items (call_to w to)) ∙ ap (opens_of forest) (sym h.opens))
 
     pub entered : (e : Edge) (to : Point) (c : ℕ) (q : Place) → slice_get (edges_at forest w.template) number ≡ Some e → w.point ≡ from_of e → to ≡ to_of e
-        → step_of forest w.template e w.place ≡ Enters c q → HasEntered w new c (start_at forest c) to q → IsPathReplay forest new
+        → step_of forest w.template e w.place ≡ Enters c q → HasEntered w new c (start_at forest c) to q → IsBy (along e)
     entered e to c q at from end step h =
         let k : IsCall forest e c w.place q = is-call forest w.template e w.place c q step in
-        subst (λ (d : Edge). slice_get (edges_at forest w.template) number ≡ Some d → w.point ≡ from_of d → to ≡ to_of d → step_of forest w.template d w.place ≡ Enters c q → IsPathReplay forest new)
+        subst (λ (d : Edge). slice_get (edges_at forest w.template) number ≡ Some d → w.point ≡ from_of d → to ≡ to_of d → step_of forest w.template d w.place ≡ Enters c q → IsBy (along d))
         (sym k.is)
         (λ a f t s. entered-call k.node k.callee k.behind c q a f k.number k.place s (subst (λ (x : Point). HasEntered w new c (start_at forest c) x q) t h))
         at from end step
 
   -- out of the innermost call
   pub went-back : (o : ReplayedCall) → o.template < length forest → w.point ≡ finish_point → w.open_calls.items ≡ new.open_calls.items ++ o ∷ [] → new.root ≡ w.root → new.template ≡ o.template
-      → new.point ≡ o.back → new.place ≡ w.place → new.chosen.items ≡ w.chosen.items → IsPathReplay forest new
+      → new.point ≡ o.back → new.place ≡ w.place → new.chosen.items ≡ w.chosen.items → IsBy back
   went-back o within end calls_are same_root template point own chosen =
       let n = has_name forest o.template within in
       let os : opens_of forest w.open_calls.items ≡ open_of forest o ∷ opens_of forest new.open_calls.items = ap (opens_of forest) calls_are ∙ opens-more forest new.open_calls.items o in

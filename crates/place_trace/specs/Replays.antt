@@ -1,5 +1,7 @@
 -- A path that is replayed: where it stands, the path's own place there, and what it chose.
-use Rattle.std.specs.Prelude.{◌≡◌, ℕ, List, [], ◌∷◌, Option, Some, None, map, reverse}
+use Rattle.std.specs.Prelude.{◌≡◌, ℕ, Bool, true, false, List, [], ◌∷◌, ◌++◌, Option, Some, None, Result, Ok, Err}
+use Rattle.std.specs.Prelude.{map, reverse, slice_get, ⊤}
+use Rattle.page_io.specs.declared.stop.Memory.{Memory}
 use Rattle.place_flow.specs.Covering.{read_moves}
 use Rattle.place_flow.specs.HtmlCovering.{html_language}
 use Rattle.place_core.specs.page.Html.{start}
@@ -9,6 +11,7 @@ use Rattle.place_trace.specs.declared.chosen.Chosen.{Chosen}
 use Rattle.place_trace.specs.declared.replay.ReplayedCall.{ReplayedCall}
 use Rattle.place_trace.specs.declared.replay.PathReplay.{PathReplay}
 use Rattle.place_flow.specs.Errors.{IsClear}
+use Rattle.place_flow.specs.Flows.{edges_at}
 use Rattle.tpl_paths.specs.Edges.{Edge, Point, calls, fills, passes, picks, writes}
 use Rattle.tpl_paths.specs.Paths.{IsPath, Move, Open, Standing, along, along_edge, at_root, back, left_calls, reached, open_standing}
 use Rattle.tpl_paths.specs.declared.choice.Way.{Way}
@@ -71,3 +74,26 @@ pub record IsPathReplay (forest : ForestData) (w : PathReplay) : Type 0 where
   pub own : placed (read_moves html_language moves start.at) ≡ Some w.place
   pub valid : IsValid w.place
   pub chosen : told forest (at_root forest root_name) moves ≡ map (told_of forest) w.chosen.items
+
+-- A path that is replayed goes on by a move.
+pub record GoesAlong (forest : ForestData) (old new : PathReplay) (m : Move) : Type 0 where
+  pub same_root : new.root ≡ old.root
+  pub goes : (is : IsPathReplay forest old) → (now : IsPathReplay forest new) × (now.moves ≡ is.moves ++ m ∷ [])
+
+-- what is reported of a path that is to go along an edge: where it went it goes on by that edge
+abbrev pub WentBy : ForestData → PathReplay → PathReplay → Edge → Result Bool Memory → Type 0
+WentBy forest old new e (Ok true) = GoesAlong forest old new (along e)
+WentBy forest old new e (Ok false) = ⊤
+WentBy forest old new e (Err m) = ⊤
+
+-- likewise, along the edge of a number
+abbrev pub WentAlong : ForestData → PathReplay → PathReplay → ℕ → Result Bool Memory → Type 0
+WentAlong forest old new number (Ok true) =
+    (e : Edge) × (slice_get (edges_at forest old.template) number ≡ Some e) × GoesAlong forest old new (along e)
+WentAlong forest old new number (Ok false) = ⊤
+WentAlong forest old new number (Err m) = ⊤
+
+-- what is reported of a path that is to go back out of a call: it did, or it is as it was
+abbrev pub WentBack : ForestData → PathReplay → PathReplay → Bool → Type 0
+WentBack forest old new true = GoesAlong forest old new back
+WentBack forest old new false = new ≡ old

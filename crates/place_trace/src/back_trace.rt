@@ -8,8 +8,8 @@ use place_flow::{Flows, Step, transfer};
 use std::alloc::Global;
 use tpl_paths::Point;
 
-// The most steps that are taken back.
-const MOST_STEPS: u32 = 67_108_864;
+/// The most steps that are taken back.
+pub const MOST_STEPS: u32 = 67_108_864;
 
 /// Where a back trace stands: at a point of a pair, with a member that the point has there.
 #[derive(Clone, Copy, Debug)]
@@ -63,6 +63,30 @@ impl BackTrace {
         }
     }
 
+    /// Another back trace that stands there, with no edges yet. Fails only if allocation fails.
+    pub fn fork(&self, alloc: Global) -> Result<BackTrace, Memory> {
+        let mut fork = BackTrace::new(alloc, self.at);
+        for call in &self.calls {
+            fork.calls.push(*call)?;
+        }
+        Ok(fork)
+    }
+
+    /// Where it stands.
+    pub fn standing(&self) -> Standing {
+        self.at
+    }
+
+    /// The edges that it came along, in the order of the path.
+    pub fn into_steps(self) -> Vec<u32> {
+        in_order(self.steps)
+    }
+
+    /// Goes on with a path that bears another member there.
+    pub fn bear(&mut self, member: Member) {
+        self.at = Standing { member, ..self.at };
+    }
+
     /// Lets the path take an edge before all that it takes now. Fails only if allocation fails.
     pub fn take(&mut self, edge: u32) -> Result<(), Memory> {
         self.steps.push(edge)?;
@@ -92,8 +116,8 @@ impl BackTrace {
         }
     }
 
-    // Goes back to the start of an edge.
-    fn back_to(&mut self, at: Standing, edge: u32) -> Result<bool, Memory> {
+    /// Goes back to the start of an edge.
+    pub fn back_to(&mut self, at: Standing, edge: u32) -> Result<bool, Memory> {
         self.take(edge)?;
         self.at = at;
         Ok(true)
@@ -134,6 +158,15 @@ impl BackTrace {
                 self.back_to(at, call.edge)
             }
             None => Ok(false),
+        }
+    }
+
+    /// Goes back as a derivation came that gave the point its place. Reports whether it went, and not to the start of a root. Fails only if
+    /// allocation fails.
+    pub fn back_by(&mut self, flows: &Flows, derivation: Derivation) -> Result<bool, Memory> {
+        match self.back(flows, derivation)? {
+            Back::At => Ok(true),
+            _ => Ok(false),
         }
     }
 
@@ -189,7 +222,14 @@ fn back_where(went: bool) -> Back {
 
 // The path of a root with these steps, of which the last one is the first here.
 fn candidate_of(root: u32, steps: Vec<u32>) -> Candidate {
+    Candidate {
+        root,
+        steps: in_order(steps),
+    }
+}
+
+fn in_order(steps: Vec<u32>) -> Vec<u32> {
     let mut steps = steps;
     steps.as_mut_slice().reverse();
-    Candidate { root, steps }
+    steps
 }

@@ -7,3 +7,24 @@ pub struct Candidate {
     /// stands. The edge of a call enters its template. At a template's end the path goes back by itself, which is no step.
     pub steps: Vec<u32>,
 }
+
+/// Two paths that may have met apart: at one point both were in the beginning of a URL, and it spelled different things on the two, or they
+/// came apart in the text behind that point. Nothing is promised of them.
+#[derive(Debug, Drop)]
+pub struct MetApart {
+    /// One of the two, to the point at which they met.
+    pub one: Candidate,
+    /// The other one.
+    pub other: Candidate,
+    /// The numbers of the edges that both take from there on.
+    pub common: Vec<u32>,
+}
+
+/// Paths that may show why something is in conflict.
+#[derive(Debug, Drop)]
+pub enum Candidates {
+    /// One path, or two that meet where the conflict is; none where the log does not say where they come from.
+    AtConflict(Vec<Candidate>),
+    /// Two that met apart before they came there.
+    MetApart(MetApart),
+}

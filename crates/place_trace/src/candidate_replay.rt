@@ -1,7 +1,7 @@
 ghost use Rattle.std.specs.Prelude.{IfOk, IfSome};
 ghost use Rattle.place_trace.specs.Replays.{IsPathReplay};
 
-use crate::{Candidate, PathReplay};
+use crate::PathReplay;
 use page_io::Memory;
 use place_flow::Flows;
 use std::alloc::Global;
@@ -17,18 +17,19 @@ fn return_from_ends(flows: &Flows, replay: &mut PathReplay)
     }
 }
 
-/// The path along the edges of a candidate, if that is one. Fails only if allocation fails.
+/// The path of a root along edges, as a candidate has them, if that is one. Fails only if allocation fails.
 pub fn replayed(
     alloc: Global,
     flows: &Flows,
-    candidate: &Candidate,
+    root: u32,
+    steps: &[u32],
 ) -> Result<Option<PathReplay>, Memory>
     ensures { IfOk result (λ replay. IfSome replay (IsPathReplay flows.now)) }
 {
-    let Some(mut replay) = PathReplay::new(alloc, flows, candidate.root) else {
+    let Some(mut replay) = PathReplay::new(alloc, flows, root) else {
         return Ok(None);
     };
-    for step in &candidate.steps {
+    for step in steps {
         return_from_ends(flows, &mut replay);
         if !replay.go_along(flows, *step as usize)? {
             return Ok(None);

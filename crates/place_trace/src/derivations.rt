@@ -1,5 +1,5 @@
 use page_io::Memory;
-use place_core::{Member, Place, has};
+use place_core::{Member, Place, has, has_apart, spells_apart};
 use place_derive::Derivation;
 use place_flow::{Flows, point_number};
 use std::alloc::Global;
@@ -107,7 +107,51 @@ fn replace(first: &mut Vec<u32>, point: usize, number: u32) -> u32 {
     old
 }
 
+/// What first gave a point of a pair a place at which two paths met apart in the beginning of a URL.
+#[derive(Clone, Copy, Debug)]
+pub enum FirstApart {
+    /// A derivation, whose derived place has it.
+    By(Derivation),
+    /// Two derivations, the derived places of which are apart.
+    ByTwo(Derivation, Derivation),
+}
+
+// What was found of a point's derivations so far.
+#[derive(Clone, Copy)]
+enum Search {
+    // None whose derived place is in the beginning of a URL.
+    Closed,
+    // The oldest one whose derived place is.
+    Opened(Derivation),
+    // What is looked for.
+    Apart(FirstApart),
+}
+
 impl<'l> Derivations<'l> {
+    /// What first gave a point of a pair a place at which two paths met apart, where something did.
+    pub fn first_apart(&self, template: u32, entry: Place, point: Point) -> Option<FirstApart> {
+        let mut search = Search::Closed;
+        let mut at = self.first(template, entry, point);
+        for _turn in 0..self.log.len() {
+            match at {
+                Some(number) => {
+                    search = self.search_on(search, number);
+                    at = self.next(number);
+                }
+                None => return found(search),
+            }
+        }
+        found(search)
+    }
+
+    // What was found once a further derivation was looked at.
+    fn search_on(&self, search: Search, number: usize) -> Search {
+        match self.derivation(number) {
+            Some(derivation) => searched(search, derivation),
+            None => search,
+        }
+    }
+
     /// The oldest derivation at a point of a pair whose derived place has a member.
     pub fn oldest(
         &self,
@@ -151,6 +195,34 @@ impl<'l> Derivations<'l> {
             Some(derivation) => has(derivation.place, member),
             None => false,
         }
+    }
+}
+
+fn searched(search: Search, derivation: Derivation) -> Search {
+    match search {
+        Search::Apart(_) => search,
+        _ if has_apart(derivation.place) => Search::Apart(FirstApart::By(derivation)),
+        Search::Opened(one) => {
+            if spells_apart(one.place, derivation.place) {
+                Search::Apart(FirstApart::ByTwo(one, derivation))
+            } else {
+                search
+            }
+        }
+        Search::Closed => {
+            if has(derivation.place, Member::PartOpen) {
+                Search::Opened(derivation)
+            } else {
+                search
+            }
+        }
+    }
+}
+
+fn found(search: Search) -> Option<FirstApart> {
+    match search {
+        Search::Apart(first) => Some(first),
+        _ => None,
     }
 }
 

@@ -1,7 +1,8 @@
 ghost use Rattle.place_trace.specs.Apart.{IsApartWhere};
 
+use crate::apart_trace::met_apart;
 use crate::back_trace::{BackTrace, Standing};
-use crate::candidate::Candidate;
+use crate::candidate::{Candidate, Candidates};
 use crate::derivations::{Derivations, derivations_of};
 use crate::edges::{edge_to_head, kind_at};
 use crate::showing::{clash_shown, node_shown};
@@ -16,7 +17,8 @@ use tpl_tree::Forest;
 
 /// Paths that may show why something is in conflict, by the log of what was given before, one or two:
 ///
-/// - where an edge is refused, paths that stand at its start: one that is refused there, or two that are refused together;
+/// - where an edge is refused, paths that stand at its start: one that is refused there, two that are refused together, or two that met
+///   apart before;
 /// - where places clash, a path of each that stand where these meet; where turns of a range end, both go on to its head.
 ///
 /// None where the log does not say where they come from. Fails if allocation fails, or on a path of more than 2^26 steps. It takes time in
@@ -27,7 +29,7 @@ pub fn candidates_of_conflict(
     flows: &Flows,
     log: &[Derivation],
     conflict: &FirstConflict,
-) -> Result<Vec<Candidate>, Memory> {
+) -> Result<Candidates, Memory> {
     let derivations = derivations_of(alloc, flows, log)?;
     match flows.ends(conflict.template, conflict.edge as usize) {
         Some((from, to)) => match conflict.why {
@@ -42,7 +44,7 @@ pub fn candidates_of_conflict(
                 derived,
             ),
         },
-        None => Ok(Vec::new(alloc)),
+        None => Ok(Candidates::AtConflict(Vec::new(alloc))),
     }
 }
 
@@ -72,7 +74,7 @@ fn of_refusal(
     derivations: &Derivations,
     conflict: &FirstConflict,
     from: Point,
-) -> Result<Vec<Candidate>, Memory> {
+) -> Result<Candidates, Memory> {
     let mut candidates = Vec::new(alloc);
     match refusal_shown(forest, conflict, from) {
         Evidence::One(member) => add_at(
@@ -98,10 +100,14 @@ fn of_refusal(
                 at(conflict, from, other),
             )?;
         }
-        // No place has two paths that met apart. Where one has, the log leads to them: to what first made the place one that has.
-        Evidence::Apart => unreachable!(),
+        Evidence::Apart => {
+            let standing = at(conflict, from, Member::PartOpen);
+            if let Some(apart) = met_apart(alloc, flows, derivations, standing)? {
+                return Ok(Candidates::MetApart(apart));
+            }
+        }
     }
-    Ok(candidates)
+    Ok(Candidates::AtConflict(candidates))
 }
 
 // What shows that an edge is refused at its start.
@@ -157,7 +163,7 @@ fn of_clash(
     to: Point,
     before: Place,
     derived: Place,
-) -> Result<Vec<Candidate>, Memory> {
+) -> Result<Candidates, Memory> {
     let mut candidates = Vec::new(alloc);
     let (one, other) = clash_shown(before, derived);
     let met = met_at(alloc, flows, conflict, to, one)?;
@@ -166,7 +172,7 @@ fn of_clash(
     if along.back_along(flows, conflict.edge, conflict.source)? {
         add(flows, derivations, &mut candidates, along)?;
     }
-    Ok(candidates)
+    Ok(Candidates::AtConflict(candidates))
 }
 
 // A back trace that begins where places meet, or at the head after.

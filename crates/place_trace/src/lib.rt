@@ -1,6 +1,7 @@
 // From the log of derivations back to candidate paths, and their replay along the edges of the templates.
 #![tactic(auto)]
 
+mod apart_trace;
 mod back_trace;
 mod calls;
 mod candidate;
@@ -15,7 +16,7 @@ mod points;
 mod replay;
 mod showing;
 
-pub use candidate::Candidate;
+pub use candidate::{Candidate, Candidates, MetApart};
 pub use candidate_replay::replayed;
 pub use chosen::Chosen;
 pub use finding::{candidate_of_end, candidates_of_conflict};

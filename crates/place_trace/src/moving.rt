@@ -1,7 +1,7 @@
 ghost use Rattle.std.specs.Prelude.{◌≡◌, ◌++◌, OnOk, Some, slice_get};
 ghost use Rattle.place_flow.specs.Flows.{choice_of, edges_at};
 ghost use Rattle.place_trace.specs.Moving.{HasEntered, HasArrived, noted};
-ghost use Rattle.place_trace.specs.Replays.{IsPathReplay};
+ghost use Rattle.place_trace.specs.Replays.{IsPathReplay, WentBy};
 ghost use Rattle.tpl_paths.specs.Edges.{from_of, to_of};
 ghost use Rattle.tpl_tree.specs.Forests.{HasAscendingNames};
 ghost use Rattle.tpl_paths.specs.Edges as spec;
@@ -80,10 +80,14 @@ pub(crate) fn go_on(
     number: usize,
     to: Point,
 ) -> Result<bool, Memory>
-    ensures { HasAscendingNames flows.now → (e : spec.Edge)
+    ensures path { HasAscendingNames flows.now → (e : spec.Edge)
         → slice_get (edges_at flows.now replay.old.template) number ≡ Some e
         → replay.old.point ≡ from_of e → to ≡ to_of e
         → OnOk result (IsPathReplay flows.now replay.old → IsPathReplay flows.now replay.new) }
+    ensures moves { HasAscendingNames flows.now → (e : spec.Edge)
+        → slice_get (edges_at flows.now replay.old.template) number ≡ Some e
+        → replay.old.point ≡ from_of e → to ≡ to_of e
+        → WentBy flows.now replay.old replay.new e result }
 {
     match transfer(flows, replay.template, number, replay.place) {
         Step::Reaches(place) => {

@@ -1,5 +1,5 @@
 ghost use Rattle.std.specs.Prelude.{◌≡◌, IfSome, IsTrue, OnOk};
-ghost use Rattle.place_trace.specs.Replays.{IsPathReplay};
+ghost use Rattle.place_trace.specs.Replays.{IsPathReplay, WentAlong, WentBack};
 
 use crate::calls::{close, innermost, same_calls};
 use crate::chosen::Chosen;
@@ -60,7 +60,9 @@ impl PathReplay {
     /// Goes on along an edge of the template, by its number, where the edge begins at the path's point and is not refused from the path's
     /// place; a call enters its template. Reports whether it went. Fails only if allocation fails.
     pub fn go_along(&mut self, flows: &Flows, number: usize) -> Result<bool, Memory>
-        ensures { OnOk result (IsPathReplay flows.now self.old → IsPathReplay flows.now self.new) }
+        ensures path { OnOk result (IsPathReplay flows.now self.old
+            → IsPathReplay flows.now self.new) }
+        ensures moves { WentAlong flows.now self.old self.new number result }
     {
         if self.template as usize >= flows.forest().count() {
             return Ok(false);
@@ -79,7 +81,8 @@ impl PathReplay {
 
     /// Goes back from the end of a template that was called to where its call goes on. Reports whether it went.
     pub fn go_back(&mut self, flows: &Flows) -> bool
-        ensures { IsPathReplay flows.now self.old → IsPathReplay flows.now self.new }
+        ensures path { IsPathReplay flows.now self.old → IsPathReplay flows.now self.new }
+        ensures moves { WentBack flows.now self.old self.new result }
     {
         if !same_point(self.point, Point::Finish) {
             return false;

@@ -1,14 +1,13 @@
 -- The languages of values that are read so far: the kinds, in whose states a page and a path are the same, and the URLs.
 use Rattle.std.proofs.Common.{◌≡◌, ℕ, Bool, List, [], ◌∷◌, Option, Some, None, option_map, refl, sym, ap, subst}
 use Rattle.place_core.specs.page.Events.{LexEvent, ValueScheme}
-use Rattle.place_core.specs.page.Tags.{ValueState, OfKind, OfUrl, languages, value_start, feed_value, refusal_code, refuses_in_value, ends_state, value_after_cut, refuses_url_cut, refuses_value_cut, value_after_hole, value_state_behind, LeadsPlainState, StatesAlike}
+use Rattle.place_core.specs.page.Tags.{ValueState, OfKind, OfUrl, languages, value_start, feed_value, refusal_code, refuses_in_value, ends_state, value_after_cut, refuses_value_cut, value_after_hole, value_state_behind, LeadsPlainState, StatesAlike}
 use Rattle.place_core.specs.declared.kind.Kind.{Kind}
 use Rattle.place_core.specs.declared.kind.Kind.TheVariants as kind
 use Rattle.url_lexer.specs.Alike.{UrlsAlike}
 use Rattle.url_lexer.specs.Events.{ToldScheme, NoScheme, UrlEvent, UrlByte, UrlEnds, told_scheme}
 use Rattle.url_lexer.specs.Refusals.{UrlRefusal, UrlCutRefusal, url_refuses, url_refuses_cut}
 use Rattle.url_lexer.specs.States.{Url}
-use Rattle.place_core.specs.place.UrlParts.{spells_word}
 use Rattle.url_lexer.proofs.Language.{language-laws}
 use Rattle.html_step.proofs.OnePath.{some}
 use Rattle.text_norm.specs.ValueLaws.{ValueLanguageLaws}
@@ -18,9 +17,9 @@ not-refused : (o : Option UrlRefusal) → option_map refusal_code o ≡ None →
 not-refused None n = refl
 not-refused (Some e) n = absurd (some _ n)
 
-not-cut : (o : Option UrlCutRefusal) (word : Bool) → refuses_url_cut o word ≡ None → o ≡ None
-not-cut None word n = refl
-not-cut (Some e) word n = absurd (some _ n)
+not-cut : (o : Option UrlCutRefusal) → option_map (λ (e : UrlCutRefusal). refusal_code e.refusal) o ≡ None → o ≡ None
+not-cut None n = refl
+not-cut (Some e) n = absurd (some _ n)
 
 -- the scheme that the end of a URL tells
 abbrev scheme_in : List UrlEvent → ToldScheme
@@ -48,7 +47,7 @@ ends (OfUrl u) (OfKind k) t a = absurd a
 
 after-cut : (v w : ValueState) → StatesAlike v w → refuses_value_cut v ≡ None → StatesAlike (value_after_cut v) w
 after-cut (OfKind k) w a n = a
-after-cut (OfUrl u) (OfUrl z) a n = language-laws.after_cut u z a (not-cut (url_refuses_cut u) (spells_word u.part) n)
+after-cut (OfUrl u) (OfUrl z) a n = language-laws.after_cut u z a (not-cut (url_refuses_cut u) n)
 after-cut (OfUrl u) (OfKind k) a n = absurd a
 
 -- a hole

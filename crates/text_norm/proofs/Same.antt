@@ -25,7 +25,7 @@ use Rattle.html_step.proofs.PlaceParts.{below-rcdata}
 use Rattle.html_step.proofs.ScanOrder.{ScanBelow, ScanValid, scan-grows}
 use Rattle.html_step.proofs.OnePath.{WhereScanned, content_scanned, scanned, url_scanned}
 use Rattle.html_step.proofs.OneTexts.{agrees-at, at-place}
-use Rattle.html_step.proofs.ValidSteps.{scan-valid, valid-within}
+use Rattle.html_step.proofs.ValidSteps.{scan-valid}
 use Rattle.html_step.proofs.WholeTexts.{grows-text, not-refused, text-steps}
 use Rattle.html_step.specs.Steps.{stepped}
 use Rattle.url_lexer.specs.Triples.{Triple, NoTriple, AfterPercent, AfterDigit}
@@ -640,4 +640,4 @@ pub written-on-paths : WrittenOnPaths
 written-on-paths bytes p q s v i e =
     let g = grows-text bytes i.own p q i.valid v i.below e in
     same-from bytes 0 0 s (At i.own) Closed g.0 (at-place s i.own i.stands) (closed-at s i.own i.stands) (text-steps bytes i.own g.0 g.1)
-    ∙ above-from bytes 0 0 (At i.own) (At p) Closed q (valid-within i.own i.valid) i.below (text-steps bytes p q e)
+    ∙ above-from bytes 0 0 (At i.own) (At p) Closed q i.valid i.below (text-steps bytes p q e)

@@ -1,6 +1,6 @@
 -- The parts in a set that refuses nothing: none is refused, no two are refused together, and each comes to a part in the next set.
 use Rattle.std.proofs.Common.{◌≡◌, Bool, true, false, not, Some, None, if◌then◌else◌, refl, sym, ap, ◌∙◌, subst}
-use Rattle.place_core.specs.place.NotBuiltPlaces.{both_parts, same_prefix}
+use Rattle.place_core.specs.place.LanguagePlaces.{both_parts, same_prefix}
 use Rattle.place_core.specs.declared.parts.Parts.{Parts}
 use Rattle.place_core.specs.declared.prefix.Prefix.{Prefix as PlacedPrefix}
 use Rattle.place_core.specs.declared.prefix.Prefix.TheVariants as prefix

@@ -1,6 +1,6 @@
 -- A set of parts below one that is accepted is accepted, and comes to one below.
 use Rattle.std.proofs.Common.{◌≡◌, ◌≤◌, ℕ, Bool, true, false, ◌||◌, Option, Some, None, option_map, is_some, nat_lt, if◌then◌else◌, refl, sym, ap, ◌∙◌, subst, arith, ltb-false, le-ltb}
-use Rattle.place_core.specs.place.NotBuiltPlaces.{both_prefixes, same_prefix}
+use Rattle.place_core.specs.place.LanguagePlaces.{both_prefixes, same_prefix}
 use Rattle.place_core.specs.declared.parts.Parts.{Parts}
 use Rattle.place_core.specs.declared.prefix.Prefix.{Prefix}
 use Rattle.place_core.specs.declared.prefix.Prefix.TheVariants as prefix

@@ -1,6 +1,6 @@
 -- Each member of the next set comes from a member of the set before.
 use Rattle.std.proofs.Common.{◌≡◌, ℕ, Bool, true, false, ◌||◌, not, Option, Some, None, option_map, is_some, refl, sym, ap, ◌∙◌, subst}
-use Rattle.place_core.specs.place.NotBuiltPlaces.{both_prefixes, parts_have}
+use Rattle.place_core.specs.place.LanguagePlaces.{both_prefixes, parts_have}
 use Rattle.place_core.specs.declared.member.Member.{Member}
 use Rattle.place_core.specs.declared.member.Member.TheVariants as member
 use Rattle.place_core.specs.declared.parts.Parts.{Parts}

@@ -1,6 +1,6 @@
 -- Worked examples of sets of parts: what texts and holes make of them, what is refused, and what is not so.
 use Rattle.std.proofs.Common.{◌≡◌, ℕ, true, false, codes, List, [], ◌∷◌, Some, None, refl, ap}
-use Rattle.place_core.specs.place.NotBuiltPlaces.{both_parts}
+use Rattle.place_core.specs.place.LanguagePlaces.{both_parts}
 use Rattle.place_core.specs.declared.parts.Parts.{Parts}
 use Rattle.url_lexer.specs.Classes.{url_class_of}
 use Rattle.url_lexer.specs.Parts.{UrlStart, UrlOpen, UrlOpenhole, UrlPrequery, UrlQuery, UrlBad}

@@ -1,7 +1,7 @@
 -- A valid set of parts comes to valid ones: what the beginning spells is at most a whole word, and some part is there.
 use Rattle.std.proofs.Common.{◌≡◌, ◌<◌, ◌==◌, ℕ, zero, suc, Bool, true, false, ◌||◌, not, codes, List, [], ◌∷◌, Option, Some, None, option_map, is_some, length, if◌then◌else◌, refl, ap, ◌∙◌, arith}
 use Rattle.std.specs.Char.{to_ascii_lowercase}
-use Rattle.place_core.specs.place.NotBuiltPlaces.{both_prefixes, same_prefix}
+use Rattle.place_core.specs.place.LanguagePlaces.{both_prefixes, IsSpelled, IsValidParts}
 use Rattle.place_core.specs.declared.parts.Parts.{Parts}
 use Rattle.place_core.specs.declared.prefix.Prefix.{Prefix}
 use Rattle.place_core.specs.declared.prefix.Prefix.TheVariants as prefix
@@ -11,7 +11,8 @@ use Rattle.url_lexer.specs.declared.class.UrlClass.{UrlClass}
 use Rattle.url_lexer.specs.declared.class.UrlClass.TheVariants as class
 use Rattle.url_step.specs.PartLaws.{PartsStayValid}
 use Rattle.place_core.specs.place.UrlParts.{placed_prefix}
-use Rattle.url_step.specs.PartSets.{AreParts, IsSpelled, spelled_prefix, first_spelled, next_spelled, spells_code, spells_no_code, parts_next}
+use Rattle.place_core.proofs.JoinValid.{prefixes_valid}
+use Rattle.url_step.specs.PartSets.{spelled_prefix, first_spelled, next_spelled, spells_code, spells_no_code, parts_next}
 
 no : false ≡ true → ⊥
 no e = cc
@@ -58,15 +59,6 @@ first-by false false false = tt
 first-valid : (b : ℕ) (x : Bool) → IsSpelled (first_spelled x b)
 first-valid b true = first-by (to_ascii_lowercase b == 106) (to_ascii_lowercase b == 118) (to_ascii_lowercase b == 100)
 first-valid b false = tt
-
-joined-by : (p : Prefix) (x : Bool) → IsSpelled (Some p) → IsSpelled (Some (if x then p else prefix.Differs))
-joined-by p true h = h
-joined-by p false h = tt
-
-joined-valid : (o r : Option Prefix) → IsSpelled o → IsSpelled r → IsSpelled (both_prefixes o r)
-joined-valid None r h k = k
-joined-valid (Some p) None h k = h
-joined-valid (Some p) (Some q) h k = joined-by p (same_prefix p q) h
 
 -- some part is there
 blank-some : (b : ℕ) (o : Option Prefix) → is_some (option_map (next_spelled b) o) ≡ is_some o
@@ -115,7 +107,7 @@ colon-some true o h p q b e = or-true h
 colon-some false (Some x) h p q b e = scheme-some h p q b (is_whole_word (spelled_prefix x))
 colon-some false None h p q b e = e
 
-valid-next : (s : Parts) → AreParts s → (c : UrlClass) (b : ℕ) → AreParts (parts_next s c b)
+valid-next : (s : Parts) → IsValidParts s → (c : UrlClass) (b : ℕ) → IsValidParts (parts_next s c b)
 valid-next s v class.TabOrNewline b = v
 valid-next s v class.ControlOrSpace b =
     (ap (λ (z : Bool). s.start || (z || (s.openhole || (s.prequery || (s.query || s.bad))))) (blank-some b s.opened) ∙ v.0, mapped-valid b s.opened)
@@ -125,7 +117,7 @@ valid-next s v class.QueryMark b = (mark-some s.start (is_some s.opened) s.openh
 valid-next s v _ b = (
   ap (λ (z : Bool). z || (s.openhole || (s.prequery || (s.query || s.bad)))) (begun-some b s.start s.opened)
       ∙ two-some s.start (is_some s.opened) (s.openhole || (s.prequery || (s.query || s.bad))) v.0,
-  joined-valid (first_spelled s.start b) (option_map (next_spelled b) s.opened) (first-valid b s.start) (mapped-valid b s.opened),
+  prefixes_valid (first_spelled s.start b) (option_map (next_spelled b) s.opened) (first-valid b s.start) (mapped-valid b s.opened),
 )
 
 pub parts-stay-valid : PartsStayValid

@@ -10,7 +10,8 @@ use Rattle.url_lexer.specs.declared.class.UrlClass.{UrlClass}
 use Rattle.url_lexer.specs.declared.class.UrlClass.TheVariants as class
 use Rattle.place_core.specs.declared.parts.Parts.{Parts}
 use Rattle.place_core.specs.place.UrlParts.{parts_of}
-use Rattle.url_step.specs.PartSets.{AreParts, PartsBelow, HasPart, parts_next, parts_error, parts_at_hole, parts_hole_error}
+use Rattle.url_step.specs.PartSets.{PartsBelow, HasPart, parts_next, parts_error, parts_at_hole, parts_hole_error}
+use Rattle.place_core.specs.place.LanguagePlaces.{IsValidParts}
 
 -- On the set of one path the step is the path's own, and so is what is refused; likewise at a hole.
 pub record OnePart (p : UrlPart) : Type 0 where
@@ -64,8 +65,8 @@ PartsGrow = (s t : Parts) → PartsBelow s t → GrowsParts s t
 
 -- A set with a part, and with a word of which no more is spelled than there is, comes to such ones.
 pub record StaysValidParts (s : Parts) : Type 0 where
-  pub next : (c : UrlClass) (b : ℕ) → AreParts (parts_next s c b)
-  pub at_hole : AreParts (parts_at_hole s)
+  pub next : (c : UrlClass) (b : ℕ) → IsValidParts (parts_next s c b)
+  pub at_hole : IsValidParts (parts_at_hole s)
 
 abbrev pub PartsStayValid : Type 0
-PartsStayValid = (s : Parts) → AreParts s → StaysValidParts s
+PartsStayValid = (s : Parts) → IsValidParts s → StaysValidParts s

@@ -3,7 +3,7 @@ use Rattle.std.specs.Prelude.{◌≡◌, ℕ, true, Some, None}
 use Rattle.place_core.specs.declared.member.Member.{Member}
 use Rattle.place_core.specs.declared.parts.Parts.{Parts}
 use Rattle.place_core.specs.declared.prefix.Prefix.TheVariants as prefix
-use Rattle.place_core.specs.place.NotBuiltPlaces.{parts_have}
+use Rattle.place_core.specs.place.LanguagePlaces.{parts_have}
 use Rattle.url_lexer.specs.Parts.{UrlPart, next_part, part_at_hole}
 use Rattle.url_lexer.specs.Refusals.{UrlRefusal, url_refuses_class, refuses_hole_in}
 use Rattle.url_lexer.specs.TwoPaths.{refuses_hole_on_two}

@@ -1,16 +1,15 @@
 -- The parts of a URL at which several paths of a template stand, as one set: what a byte of text and a hole make of the set, and what is refused.
-use Rattle.std.specs.Prelude.{⊤, ◌≡◌, ◌≤◌, ◌+◌, ℕ, Bool, true, false, ◌||◌, not, nat_lt, Option, Some, None, option_map, is_some, Result, Ok, Err, if◌then◌else◌}
+use Rattle.std.specs.Prelude.{◌≡◌, ◌+◌, ℕ, Bool, true, false, ◌||◌, not, nat_lt, Option, Some, None, option_map, is_some, Result, Ok, Err, if◌then◌else◌}
 use Rattle.place_core.specs.page.Tags.{refusal_code}
-use Rattle.place_core.specs.place.NotBuiltPlaces.{both_parts, both_prefixes, some_part}
+use Rattle.place_core.specs.place.LanguagePlaces.{both_parts, both_prefixes}
 use Rattle.place_core.specs.place.UrlParts.{parts_of, placed_prefix}
 use Rattle.place_core.specs.declared.code.Code.{Code}
-use Rattle.place_core.specs.declared.code.Code.TheVariants as code
 use Rattle.place_core.specs.declared.parts.Parts.{Parts}
 use Rattle.place_core.specs.declared.prefix.Prefix.{Prefix}
 use Rattle.place_core.specs.declared.prefix.Prefix.TheVariants as prefix
-use Rattle.url_lexer.specs.Parts.{UrlPart, UrlStart, UrlOpen, UrlOpenhole, UrlPrequery, UrlQuery, UrlBad}
+use Rattle.url_lexer.specs.Parts.{UrlPart}
 use Rattle.url_lexer.specs.Prefixes as spelling
-use Rattle.url_lexer.specs.Refusals.{UrlRefusal, AmbigContext, BadHTML, PartialEscape}
+use Rattle.url_lexer.specs.Refusals.{UrlRefusal, AmbigContext, BadHTML}
 use Rattle.url_lexer.specs.declared.class.UrlClass.{UrlClass}
 use Rattle.url_lexer.specs.declared.class.UrlClass.TheVariants as class
 
@@ -29,18 +28,6 @@ PartsBelow s t = both_parts s t ≡ t
 
 abbrev pub HasPart : Parts → UrlPart → Type 0
 HasPart s p = PartsBelow (parts_of p) s
-
--- There is a part; and where the beginning spells letters of a word it is at least one letter, and at most all.
-abbrev pub IsSpelled : Option Prefix → Type 0
-IsSpelled (Some (prefix.Javascript n)) = (1 ≤ n) × (n ≤ 10)
-IsSpelled (Some (prefix.Vbscript n)) = (1 ≤ n) × (n ≤ 8)
-IsSpelled (Some (prefix.DataScheme n)) = (1 ≤ n) × (n ≤ 4)
-IsSpelled (Some prefix.Off) = ⊤
-IsSpelled (Some prefix.Differs) = ⊤
-IsSpelled None = ⊤
-
-abbrev pub AreParts : Parts → Type 0
-AreParts s = (some_part s ≡ true) × IsSpelled s.opened
 
 -- what the beginning spells behind a character; where the URL has not begun, it begins with the character
 abbrev pub first_spelled : Bool → ℕ → Option Prefix

@@ -1,5 +1,5 @@
 ghost use Rattle.std.specs.Prelude.{◌≡◌, option_map};
-ghost use Rattle.place_core.specs.place.NotBuiltPlaces.{both_prefixes};
+ghost use Rattle.place_core.specs.place.LanguagePlaces.{both_prefixes};
 ghost use Rattle.url_lexer.specs.Classes as classes;
 ghost use Rattle.place_core.specs.page.Tags.{refusal_code};
 ghost use Rattle.url_step.specs.PartSets.{first_spelled, next_spelled, parts_error, parts_next};

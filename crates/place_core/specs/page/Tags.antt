@@ -4,11 +4,10 @@ use Rattle.url_lexer.specs.Alike.{UrlsAlike}
 use Rattle.url_lexer.specs.Events.{told_scheme}
 use Rattle.url_lexer.specs.Holes.{url_after_cut, url_after_hole, url_behind}
 use Rattle.url_lexer.specs.Plain.{UrlLeadsPlain, ArePlainBytes}
-use Rattle.url_lexer.specs.Refusals.{UrlRefusal, AmbigContext, BadHTML, PartialEscape, UrlCutRefusal, url_refuses, url_refuses_cut}
+use Rattle.url_lexer.specs.Refusals.{UrlRefusal, AmbigContext, BadHTML, PartialEscape, url_refuses, url_refuses_cut}
 use Rattle.url_lexer.specs.States.{Url, url_start, feed_url}
 use Rattle.place_core.specs.page.Events.{LexEvent, ValueByte, ValueScheme}
 use Rattle.place_core.specs.page.Words.{is_script_type}
-use Rattle.place_core.specs.place.UrlParts.{spells_word}
 use Rattle.place_core.specs.declared.code.Code.{Code}
 use Rattle.place_core.specs.declared.code.Code.TheVariants as code
 use Rattle.place_core.specs.declared.element.Element.{Element}
@@ -112,15 +111,10 @@ abbrev pub value_after_cut : ValueState → ValueState
 value_after_cut (OfKind k) = OfKind k
 value_after_cut (OfUrl u) = OfUrl (url_after_cut u)
 
--- A percent triple that has begun. And, which is not built yet, a beginning that spells some of `javascript`, `vbscript` or `data`.
-abbrev pub refuses_url_cut : Option UrlCutRefusal → Bool → Option Code
-refuses_url_cut (Some e) word = Some (refusal_code e.refusal)
-refuses_url_cut None true = Some code.NotBuilt
-refuses_url_cut None false = None
-
+-- in a URL a percent triple that has begun
 abbrev pub refuses_value_cut : ValueState → Option Code
 refuses_value_cut (OfKind k) = None
-refuses_value_cut (OfUrl u) = refuses_url_cut (url_refuses_cut u) (spells_word u.part)
+refuses_value_cut (OfUrl u) = option_map (λ e. refusal_code e.refusal) (url_refuses_cut u)
 
 abbrev pub value_after_hole : ValueState → ValueState
 value_after_hole (OfKind k) = OfKind k

@@ -1,22 +1,15 @@
 -- Where a text of a template is refused, and by which code: the conditions that stand on the places of paths, byte by byte, at the end of a
 -- node and at a hole. The checks of a byte have one order, whether one path stands at a place or several do.
-use Rattle.std.specs.Prelude.{◌≡◌, ℕ, zero, suc, ◌+◌, ◌-◌, ◌==◌, bytes_eq, encode_utf8, Bool, true, false, ◌&&◌, ◌||◌, List, [], ◌∷◌, length, Option, Some, None, is_some, option_map, if◌then◌else◌}
+use Rattle.std.specs.Prelude.{◌≡◌, ℕ, zero, suc, ◌+◌, ◌-◌, ◌==◌, bytes_eq, encode_utf8, Bool, true, false, ◌&&◌, ◌||◌, List, [], ◌∷◌, length, Option, Some, None, is_some, if◌then◌else◌}
 use Rattle.place_core.specs.page.Classes.{Class, White, ExclamationMark, QuotationMark, Apostrophe, HyphenMinus, Solidus, LessThan, EqualsSign, GreaterThan, GraveAccent, is_equals_sign, class_of}
 use Rattle.place_core.specs.page.Html.{next, ends_value}
 use Rattle.place_core.specs.page.Paths.{at_cut}
-use Rattle.place_core.specs.page.References.{Form, Named, Reference, Closed, Open, ReferenceStep, Grows, Closes, Breaks, turn, names, named_in, replacement, meaning, flushed, undone_byte, plain_bytes, settled, as_it_stands}
+use Rattle.place_core.specs.page.References.{Form, Named, Reference, Closed, Open, ReferenceStep, Grows, Closes, Breaks, turn, names, named_in, replacement, meaning, flushed, plain_bytes, settled, as_it_stands}
 use Rattle.place_core.specs.place.StatePlaces.{placed, value_spot, value_body, tag_spot, only_name, only_before, only_inside, only_after, quotes_at}
 use Rattle.place_core.specs.page.States.{Template, LexState, Text, TagOpen, EndTagOpen, DeclarationOpen, InComment, Broken, CommentState, BogusComment, InDoctype, TagName, WholeTagName, BeforeAttributeName, AttributeName, WholeAttributeName, AfterAttributeName, BeforeAttributeValue, AttributeValue, AfterAttributeValue, SelfClosingStartTag, Characters, Bytes, Pending, Nothing, PendingLess, LessAtCut, PendingName, PendingBang, PendingBangDash, InContent, Unread}
-use Rattle.place_core.specs.page.Tags.{Tag, is_second_type, Value, attribute_value_of, ValueOf, Deciding, ValueLanguage, with_bytes, Feeding, feeding, feed_bytes, refuses_cut_of, cut_value, refusal_code, tag_with_value, ValueState, OfKind, OfUrl, languages, tag_of_name, element_on, Unquoted}
+use Rattle.place_core.specs.page.Tags.{Tag, is_second_type, Value, attribute_value_of, ValueOf, Deciding, ValueLanguage, with_bytes, Feeding, feeding, feed_bytes, refuses_cut_of, cut_value, tag_with_value, ValueState, OfKind, OfUrl, languages, tag_of_name, element_on}
 use Rattle.place_core.specs.page.Words.{kind_of}
-use Rattle.place_core.specs.place.UrlParts.{is_url_start, is_word_prefix}
-use Rattle.url_lexer.specs.Classes.{url_class_of}
-use Rattle.url_lexer.specs.Parts.{UrlPart, UrlStart}
-use Rattle.url_lexer.specs.Prefixes.{prefix_of_first}
 use Rattle.url_lexer.specs.Spots.{url_spot}
-use Rattle.url_lexer.specs.TwoPaths.{is_open, refuses_hole_on_two}
-use Rattle.url_lexer.specs.declared.class.UrlClass.{UrlClass}
-use Rattle.url_lexer.specs.declared.class.UrlClass.TheVariants as class
 use Rattle.place_core.specs.declared.bare.Bare.{Bare}
 use Rattle.place_core.specs.declared.body.Body.{Body}
 use Rattle.place_core.specs.declared.body.Body.TheVariants as body
@@ -313,50 +306,8 @@ abbrev pub is_between : LexState ValueState → Bool
 is_between (AttributeValue q t (ValueOf v) r) = is_between_in v r
 is_between s = true
 
--- a value of a kind that has a place where it begins
-abbrev pub begun_clash : Kind → Option Code
-begun_clash kind.ScriptType = None
-begun_clash k = Some code.AmbigContext
-
--- What stands on two paths together: white space, where one is in a value without quotes and the other before a value.
-abbrev pub white_clash : LexState ValueState → LexState ValueState → Class → Option Code
-white_clash (BeforeAttributeValue t k) (AttributeValue Unquoted u (ValueOf v) r) White = begun_clash k
-white_clash (AttributeValue Unquoted u (ValueOf v) r) (BeforeAttributeValue t k) White = begun_clash k
-white_clash s r c = None
-
--- And, which is not built yet, the first letter of `javascript`, `vbscript` or `data`, where a URL begins on one path and has begun on the other: they
--- spell different things from there on. The blanks that may stand before a URL, as those of `&#9j`, do not begin it.
-abbrev pub begins_word_by : UrlClass → ℕ → Bool → Bool
-begins_word_by class.TabOrNewline b behind = behind
-begins_word_by class.ControlOrSpace b behind = behind
-begins_word_by c b behind = is_word_prefix (prefix_of_first b)
-
-abbrev pub begins_word : List ℕ → Bool
-begins_word [] = false
-begins_word (b ∷ bs) = begins_word_by (url_class_of b) b (begins_word bs)
-
-abbrev pub begins_url : LexState ValueState → Bool
-begins_url (BeforeAttributeValue t kind.Url) = true
-begins_url (AttributeValue q t (ValueOf (OfUrl u)) r) = is_url_start u.part
-begins_url s = false
-
-abbrev pub has_begun_url : LexState ValueState → Bool
-has_begun_url (AttributeValue q t (ValueOf (OfUrl u)) r) = is_open u.part
-has_begun_url s = false
-
-abbrev pub fed_at : LexState ValueState → Class → ℕ → List ℕ
-fed_at (AttributeValue q t v r) c b = undone_byte true r c b
-fed_at s c b = plain_bytes c b
-
-abbrev pub word_clash : LexState ValueState → LexState ValueState → Class → ℕ → Option Code
-word_clash s r c b =
-    if ((begins_url s && has_begun_url r) || (begins_url r && has_begun_url s)) && begins_word (fed_at s c b) then Some code.NotBuilt else None
-
-abbrev pub byte_clash : LexState ValueState → LexState ValueState → Class → ℕ → Option Code
-byte_clash s r c b = first_error (white_clash s r c) (word_clash s r c b)
-
 -- Where a value of data may not stand: in a name, which it would go on with, and where it would decide how the page is read; in a URL behind a
--- scheme that is code. Of paths that stand in several parts of a URL see `ClashesHole`.
+-- scheme that is code. Of paths that stand in several parts of a URL see `ClashesHole` of `PathPairs.antt`.
 abbrev pub url_hole_error : Bool → Option Code
 url_hole_error true = Some code.BadHTML
 url_hole_error false = None
@@ -378,19 +329,6 @@ hole_error (place.Value v) = body_hole_error v.body
 hole_error (place.Script js) = Some code.NotBuilt
 hole_error (place.Style css) = Some code.NotBuilt
 hole_error (place.Block lt) = if lt then Some code.SplitToken else None
-
--- Two paths at one hole are refused together there where both are in one URL, in different parts of it: no one chain of sanitizers fits both.
-abbrev pub url_part_at : LexState ValueState → Option UrlPart
-url_part_at (BeforeAttributeValue t kind.Url) = Some UrlStart
-url_part_at (AttributeValue q t (ValueOf (OfUrl u)) r) = Some u.part
-url_part_at s = None
-
-abbrev pub parts_clash : Option UrlPart → Option UrlPart → Option Code
-parts_clash (Some p) (Some q) = option_map refusal_code (refuses_hole_on_two p q)
-parts_clash o r = None
-
-abbrev pub ClashesHole : LexState ValueState → LexState ValueState → Code → Type 0
-ClashesHole s r e = parts_clash (url_part_at s) (url_part_at r) ≡ Some e
 
 -- What is refused of a text, and at which of its bytes; an error of the node's end stands at its length, or before that. And the byte before which
 -- the lexeme begins in which it stands.
@@ -467,11 +405,3 @@ pub record RefusesHole (s : LexState ValueState) (e : Code) : Type 0 where
   pub own : Place
   pub stands : placed s ≡ Some own
   pub refused : hole_error own ≡ Some e
-
--- Two paths, of which neither is refused before this byte of a text, are refused together there.
-abbrev pub Clashes : List ℕ → LexState ValueState → LexState ValueState → Code → ℕ → Type 0
-Clashes [] s r e at = ⊥
-Clashes (b ∷ bs) s r e zero = byte_clash s r (class_of b) b ≡ Some e
-Clashes (b ∷ bs) s r e (suc at) =
-    (byte_error s (class_of b) b ≡ None) × (byte_error r (class_of b) b ≡ None)
-    × Clashes bs (next languages Template s (class_of b) b) (next languages Template r (class_of b) b) e at

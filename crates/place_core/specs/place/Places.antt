@@ -18,7 +18,7 @@ use Rattle.place_core.specs.declared.tag_of.TagOf.{TagOf}
 use Rattle.place_core.specs.declared.tag_of.TagOf.TheVariants as tag
 use Rattle.place_core.specs.declared.tag_place.TagPlace.{TagPlace}
 use Rattle.place_core.specs.declared.value_place.ValuePlace.{ValuePlace}
-use Rattle.place_core.specs.place.NotBuiltPlaces.{both_parts, joined_js, joined_css, parts_have, js_has, css_has, IsValidParts, IsValidJs, IsValidCss}
+use Rattle.place_core.specs.place.LanguagePlaces.{both_parts, joined_js, joined_css, parts_have, js_has, css_has, IsValidParts, IsValidJs, IsValidCss}
 
 -- Sets are united.
 abbrev pub both_spots : Spots → Spots → Spots

@@ -1,0 +1,293 @@
+-- The scan state before the bytes that are left of a text: a reference that the next byte breaks has been read. The states of paths are read alike.
+use Rattle.std.proofs.Common.{◌≡◌, ℕ, ◌+◌, Bool, true, false, List, [], ◌∷◌, ◌++◌, length, Option, Some, None, refl, sym, ap, ◌∙◌, subst}
+use Rattle.place_core.specs.page.Classes.{Class, White, QuotationMark, Apostrophe, GreaterThan, class_of, is_equals_sign}
+use Rattle.place_core.specs.page.Html.{ends_value}
+use Rattle.place_core.specs.page.References.{Form, Reference, Closed, Open, ReferenceStep, Grows, Closes, Breaks, begin_reference, flushed, plain_bytes, reference_turned, turn, turn_bytes}
+use Rattle.place_core.specs.page.Tags.{feed_bytes, Quoting, DoubleQuoted, SingleQuoted, Unquoted}
+use Rattle.place_core.specs.place.Errors.{PathCause, body_error, at_hand, fed_error, first_cause, first_error, flushed_error, is_written, language_error, quotes_error, turned_error}
+use Rattle.place_core.specs.declared.body.Body.{Body}
+use Rattle.place_core.specs.declared.body.Body.TheVariants as body
+use Rattle.place_core.specs.declared.parts.Parts.{Parts}
+use Rattle.place_core.specs.declared.quotes.Quotes.{Quotes}
+use Rattle.place_core.specs.declared.quotes.Quotes.TheVariants as quotes
+use Rattle.place_core.specs.declared.value_place.ValuePlace.{ValuePlace}
+use Rattle.html_scan.specs.Scans.{Scan, InUrl, parts_cause, parts_feeding, parts_with, quoted_error, quoted_next, scan_error, scan_next, triple_behind, url_scan, value_cause, value_fed, with_parts}
+use Rattle.html_step.specs.Origins.{body_parts}
+use Rattle.html_step.proofs.BelowScans.{below-url}
+use Rattle.html_step.proofs.OnePath.{none-at-hand, some, url-scan-error, url-scan-next}
+use Rattle.html_step.proofs.PlaceParts.{ValueBelow}
+use Rattle.html_step.proofs.ScanOrder.{HasBegun, ScanBelow, ScanValid, UrlWithin, begun-valid, parts-below, url-below}
+use Rattle.html_step.proofs.UrlOrder.{fed-grow, fed-more, fed-valid, first-caused}
+use Rattle.html_step.proofs.UrlScans.{below-reference, scan_reference, url-reference}
+use Rattle.place_core.specs.place.Places.{IsValidBody, joined_bodies}
+use Rattle.place_core.proofs.Semilattices.{none_some, one_value}
+use Rattle.url_lexer.specs.States.{Url}
+use Rattle.url_lexer.specs.Triples.{Triple, NoTriple, AfterPercent, AfterDigit}
+use Rattle.url_lexer.specs.Classes.{url_class_of}
+use Rattle.url_lexer.specs.Triples.{next_triple}
+
+no : false ≡ true → ⊥
+no e = cc
+
+abbrev pub read_value : ValuePlace → List ℕ → ValuePlace
+read_value v bytes = record { tag = v.tag; typed = v.typed; quotes = v.quotes; body = parts_with v.body bytes }
+
+abbrev pub read_turn : ReferenceStep → ValuePlace → Triple → Form → List ℕ → Class → Scan
+read_turn Breaks v t f bytes c =
+    url_scan (read_value v (flushed true (is_equals_sign c) f bytes)) (triple_behind t (flushed true (is_equals_sign c) f bytes)) Closed
+read_turn step v t f bytes c = InUrl v t (Open f bytes)
+
+abbrev pub scan_read : Scan → List ℕ → Scan
+scan_read (InUrl v t (Open f bytes)) (b ∷ bs) = read_turn (turn (class_of b) f) v t f bytes (class_of b)
+scan_read f bs = f
+
+-- what a broken reference and the byte behind it refuse, and where they lead
+ends-no-equals : (q : Quoting) (c : Class) → ends_value q c ≡ true → is_equals_sign c ≡ false
+ends-no-equals DoubleQuoted QuotationMark h = refl
+ends-no-equals DoubleQuoted _ h = absurd (no h)
+ends-no-equals SingleQuoted Apostrophe h = refl
+ends-no-equals SingleQuoted _ h = absurd (no h)
+ends-no-equals Unquoted White h = refl
+ends-no-equals Unquoted GreaterThan h = refl
+ends-no-equals Unquoted _ h = absurd (no h)
+
+abbrev pub Broken : Parts → Form → List ℕ → Class → Option PathCause
+Broken s f bytes c = flushed_error parts_feeding s (is_equals_sign c) f bytes
+
+abbrev pub Behind : Parts → Form → List ℕ → Class → Parts
+Behind s f bytes c = feed_bytes parts_feeding s (flushed true (is_equals_sign c) f bytes)
+
+broken-accepted : (x : Bool) (s : Parts) (f : Form) (bytes : List ℕ) (c : Class) (b : ℕ) → turn c f ≡ Breaks → (x ≡ true → is_equals_sign c ≡ false)
+    → language_error parts_feeding x s (Open f bytes) c b ≡ None → Broken s f bytes c ≡ None
+broken-accepted true s f bytes c b k e n = ap (λ (y : Bool). flushed_error parts_feeding s y f bytes) (e refl) ∙ n
+broken-accepted false s f bytes c b k e n =
+    (first-caused (Broken s f bytes c) (fed_error parts_feeding (Behind s f bytes c) (plain_bytes c b) false 0)
+    (sym (ap (λ (z : ReferenceStep). turned_error parts_feeding s z f bytes c b) k) ∙ n)).0
+
+language-read : (x : Bool) (s : Parts) (f : Form) (bytes : List ℕ) (c : Class) (b : ℕ) → turn c f ≡ Breaks → (x ≡ true → is_equals_sign c ≡ false)
+    → Broken s f bytes c ≡ None
+    → language_error parts_feeding x (Behind s f bytes c) Closed c b ≡ language_error parts_feeding x s (Open f bytes) c b
+language-read true s f bytes c b k e n = sym (sym (ap (λ (y : Bool). flushed_error parts_feeding s y f bytes) (e refl)) ∙ n)
+language-read false s f bytes c b k e n =
+    sym (ap (λ (z : ReferenceStep). turned_error parts_feeding s z f bytes c b) k
+    ∙ ap (λ (o : Option PathCause). first_cause o (fed_error parts_feeding (Behind s f bytes c) (plain_bytes c b) false 0)) n)
+
+quoted-accepted : (q : Quotes) (s : Parts) (f : Form) (bytes : List ℕ) (c : Class) (b : ℕ) → HasBegun q → turn c f ≡ Breaks
+    → quoted_error q s (Open f bytes) c b ≡ None → Broken s f bytes c ≡ None
+quoted-accepted quotes.Dq s f bytes c b g k n = broken-accepted (ends_value DoubleQuoted c) s f bytes c b k (ends-no-equals DoubleQuoted c) n
+quoted-accepted quotes.Sq s f bytes c b g k n = broken-accepted (ends_value SingleQuoted c) s f bytes c b k (ends-no-equals SingleQuoted c) n
+quoted-accepted (quotes.Bare x) s f bytes c b g k n =
+    broken-accepted (ends_value Unquoted c) s f bytes c b k (ends-no-equals Unquoted c) (rw g.0 at n)
+
+pub quoted-read : (q : Quotes) (s : Parts) (f : Form) (bytes : List ℕ) (c : Class) (b : ℕ) → HasBegun q → turn c f ≡ Breaks → Broken s f bytes c ≡ None
+    → quoted_error q (Behind s f bytes c) Closed c b ≡ quoted_error q s (Open f bytes) c b
+quoted-read quotes.Dq s f bytes c b g k n = language-read (ends_value DoubleQuoted c) s f bytes c b k (ends-no-equals DoubleQuoted c) n
+quoted-read quotes.Sq s f bytes c b g k n = language-read (ends_value SingleQuoted c) s f bytes c b k (ends-no-equals SingleQuoted c) n
+quoted-read (quotes.Bare x) s f bytes c b g k n = rw g.0 (language-read (ends_value Unquoted c) s f bytes c b k (ends-no-equals Unquoted c) n)
+
+triple-more : (xs ys : List ℕ) (t : Triple) → triple_behind t (xs ++ ys) ≡ triple_behind (triple_behind t xs) ys
+triple-more [] ys t = refl
+triple-more (x ∷ xs) ys t = triple-more xs ys (next_triple t (url_class_of x))
+
+fed-read : (v : ValuePlace) (q : Quotes) (s : Parts) (t : Triple) (f : Form) (bytes : List ℕ) (c : Class) (b : ℕ) → turn c f ≡ Breaks
+    → value_fed (read_value v (flushed true (is_equals_sign c) f bytes)) q (body.Url (Behind s f bytes c)) (triple_behind t (flushed true (is_equals_sign c) f bytes)) Closed c b
+    ≡ value_fed v q (body.Url s) t (Open f bytes) c b
+fed-read v q s t f bytes c b k =
+    let xs = flushed true (is_equals_sign c) f bytes in
+    let ys = plain_bytes c b in
+    ap (λ (z : Parts). url_scan (with_parts v q z) (triple_behind (triple_behind t xs) ys) (begin_reference c)) (sym (fed-more xs ys s))
+    ∙ ap (λ (z : Triple). url_scan (with_parts v q (feed_bytes parts_feeding s (xs ++ ys))) z (begin_reference c)) (sym (triple-more xs ys t))
+    ∙ ap (λ (z : ReferenceStep). url_scan (with_parts v q (feed_bytes parts_feeding s (turn_bytes true z f bytes c b))) (triple_behind t (turn_bytes true z f bytes c b)) (reference_turned z bytes c b)) (sym k)
+
+body-read : (v : ValuePlace) (x : Body) (q : Quotes) (s : Parts) (t : Triple) (f : Form) (bytes : List ℕ) (c : Class) (b : ℕ) → turn c f ≡ Breaks → x ≡ body.Url s
+    → value_fed (read_value v (flushed true (is_equals_sign c) f bytes)) q (parts_with x (flushed true (is_equals_sign c) f bytes)) (triple_behind t (flushed true (is_equals_sign c) f bytes)) Closed c b
+    ≡ value_fed v q x t (Open f bytes) c b
+body-read v x q s t f bytes c b k e =
+    let xs = flushed true (is_equals_sign c) f bytes in
+    ap (λ (y : Body). value_fed (read_value v xs) q (parts_with y xs) (triple_behind t xs) Closed c b) e
+    ∙ fed-read v q s t f bytes c b k ∙ ap (λ (y : Body). value_fed v q y t (Open f bytes) c b) (sym e)
+
+next-read : (v : ValuePlace) (q : Quotes) (s : Parts) (t : Triple) (f : Form) (bytes : List ℕ) (c : Class) (b : ℕ) → HasBegun q → turn c f ≡ Breaks
+    → v.body ≡ body.Url s → quotes_error v.tag q c ≡ None
+    → quoted_next (read_value v (flushed true (is_equals_sign c) f bytes)) q (triple_behind t (flushed true (is_equals_sign c) f bytes)) Closed c b
+    ≡ quoted_next v q t (Open f bytes) c b
+next-read v quotes.Dq s t f bytes QuotationMark b g k e n = refl
+next-read v quotes.Dq s t f bytes c b g k e n = body-read v v.body quotes.Dq s t f bytes c b k e
+next-read v quotes.Sq s t f bytes Apostrophe b g k e n = refl
+next-read v quotes.Sq s t f bytes c b g k e n = body-read v v.body quotes.Sq s t f bytes c b k e
+next-read v (quotes.Bare x) s t f bytes White b g k e n = rw g.0 refl
+next-read v (quotes.Bare x) s t f bytes QuotationMark b g k e n = absurd (some _ (rw g.0 at n))
+next-read v (quotes.Bare x) s t f bytes Apostrophe b g k e n = absurd (some _ (rw g.0 at n))
+next-read v (quotes.Bare x) s t f bytes GreaterThan b g k e n = refl
+next-read v (quotes.Bare x) s t f bytes c b g k e n = body-read v v.body _ s t f bytes c b k e
+
+url-cause : (v : ValuePlace) (s : Parts) (r : Reference) (c : Class) (b : ℕ) → v.body ≡ body.Url s
+    → value_cause v r c b ≡ first_cause (quoted_error v.quotes s r c b) (at_hand (quotes_error v.tag v.quotes c))
+url-cause v s r c b e = ap (λ (x : Body). first_cause (parts_cause x v.quotes r c b) (at_hand (first_error (body_error x) (quotes_error v.tag v.quotes c)))) e
+
+cause-read : (v : ValuePlace) (s : Parts) (f : Form) (bytes : List ℕ) (c : Class) (b : ℕ) → v.body ≡ body.Url s → HasBegun v.quotes → turn c f ≡ Breaks
+    → Broken s f bytes c ≡ None
+    → value_cause (read_value v (flushed true (is_equals_sign c) f bytes)) Closed c b ≡ value_cause v (Open f bytes) c b
+cause-read v s f bytes c b e g k n =
+    let xs = flushed true (is_equals_sign c) f bytes in
+    url-cause (read_value v xs) (Behind s f bytes c) Closed c b (ap (λ (x : Body). parts_with x xs) e)
+    ∙ ap (λ (o : Option PathCause). first_cause o (at_hand (quotes_error v.tag v.quotes c))) (quoted-read v.quotes s f bytes c b g k n)
+    ∙ sym (url-cause v s (Open f bytes) c b e)
+
+url-within : (b : Body) → UrlWithin b → (s : Parts) × (b ≡ body.Url s)
+url-within (body.Url s) v = (s, refl)
+url-within _ v = absurd v
+
+-- the whole of it: what is refused there, and where it leads
+read-error-by : (z : ReferenceStep) (v : ValuePlace) (s : Parts) (t : Triple) (f : Form) (bytes : List ℕ) (c : Class) (b : ℕ) → turn c f ≡ z → v.body ≡ body.Url s
+    → HasBegun v.quotes → Broken s f bytes c ≡ None → scan_error (read_turn z v t f bytes c) c b ≡ value_cause v (Open f bytes) c b
+read-error-by Breaks v s t f bytes c b k e g n =
+    let xs = flushed true (is_equals_sign c) f bytes in
+    url-scan-error (read_value v xs) (triple_behind t xs) Closed c b ∙ cause-read v s f bytes c b e g k n
+read-error-by (Grows x) v s t f bytes c b k e g n = refl
+read-error-by Closes v s t f bytes c b k e g n = refl
+
+pub read-error : (v : ValuePlace) (s : Parts) (t : Triple) (f : Form) (bytes bs : List ℕ) (b : ℕ) → v.body ≡ body.Url s → HasBegun v.quotes
+    → Broken s f bytes (class_of b) ≡ None
+    → scan_error (scan_read (InUrl v t (Open f bytes)) (b ∷ bs)) (class_of b) b ≡ scan_error (InUrl v t (Open f bytes)) (class_of b) b
+read-error v s t f bytes bs b e g n = read-error-by (turn (class_of b) f) v s t f bytes (class_of b) b refl e g n
+
+pub record ReadOn (f g : Scan) (c : Class) (b : ℕ) : Type 0 where
+  pub error : scan_error g c b ≡ None
+  pub next : scan_next g c b ≡ scan_next f c b
+
+read-on-by : (z : ReferenceStep) (v : ValuePlace) (s : Parts) (t : Triple) (f : Form) (bytes : List ℕ) (c : Class) (b : ℕ) → turn c f ≡ z → v.body ≡ body.Url s
+    → HasBegun v.quotes → value_cause v (Open f bytes) c b ≡ None → ReadOn (InUrl v t (Open f bytes)) (read_turn z v t f bytes c) c b
+read-on-by Breaks v s t f bytes c b k e g n =
+    let xs = flushed true (is_equals_sign c) f bytes in
+    let m = first-caused (quoted_error v.quotes s (Open f bytes) c b) (at_hand (quotes_error v.tag v.quotes c)) (sym (url-cause v s (Open f bytes) c b e) ∙ n) in
+    record {
+      error = read-error-by Breaks v s t f bytes c b k e g (quoted-accepted v.quotes s f bytes c b g k m.0) ∙ n;
+      next = url-scan-next (read_value v xs) (triple_behind t xs) Closed c b
+          ∙ next-read v v.quotes s t f bytes c b g k e (none-at-hand (quotes_error v.tag v.quotes c) m.1);
+    }
+read-on-by (Grows x) v s t f bytes c b k e g n = record { error = n; next = refl }
+read-on-by Closes v s t f bytes c b k e g n = record { error = n; next = refl }
+
+pub read-on : (f : Scan) (b : ℕ) (bs : List ℕ) → ScanValid f → scan_error f (class_of b) b ≡ None → ReadOn f (scan_read f (b ∷ bs)) (class_of b) b
+read-on (InUrl v t (Open f bytes)) b bs w n =
+    (let s = url-within v.body w.1 in read-on-by (turn (class_of b) f) v s.0 t f bytes (class_of b) b refl s.1 w.0 n)
+read-on (InUrl v t Closed) b bs w n = record { error = n; next = refl }
+read-on f b bs w n = record { error = n; next = refl }
+
+-- a reference that is open in it is not broken by the byte
+abbrev pub NotBroken : Reference → ℕ → Type 0
+NotBroken Closed b = Unit {0}
+NotBroken (Open f bytes) b = turn (class_of b) f ≡ Breaks → ⊥
+
+not-broken-by : (z : ReferenceStep) (v : ValuePlace) (t : Triple) (f : Form) (bytes : List ℕ) (b : ℕ) → turn (class_of b) f ≡ z
+    → NotBroken (scan_reference (read_turn z v t f bytes (class_of b))) b
+not-broken-by Breaks v t f bytes b k =
+    (let xs = flushed true (is_equals_sign (class_of b)) f bytes in
+    subst (λ (r : Reference). NotBroken r b) (sym (url-reference (read_value v xs) (triple_behind t xs) Closed)) tt)
+not-broken-by (Grows g) v t f bytes b k = λ h. (let same : Grows g ≡ Breaks = sym k ∙ h in cc)
+not-broken-by Closes v t f bytes b k = λ h. (let same : Closes ≡ Breaks = sym k ∙ h in cc)
+
+pub not-broken : (f : Scan) (b : ℕ) (bs : List ℕ) → NotBroken (scan_reference (scan_read f (b ∷ bs))) b
+not-broken (InUrl v t (Open f bytes)) b bs = not-broken-by (turn (class_of b) f) v t f bytes b refl
+not-broken (InUrl v t Closed) b bs = tt
+not-broken f b bs = tt
+
+-- it is valid, and keeps the order
+within-valid : (b : Body) → UrlWithin b → IsValidBody b
+within-valid (body.Url s) w = w
+within-valid _ w = absurd w
+
+with-within : (b : Body) (bytes : List ℕ) → UrlWithin b → UrlWithin (parts_with b bytes)
+with-within (body.Url s) bytes w = fed-valid bytes s w
+with-within _ bytes w = absurd w
+
+url-valid : (v : ValuePlace) (t : Triple) (r : Reference) → HasBegun v.quotes → UrlWithin v.body → ScanValid (url_scan v t r)
+url-valid v NoTriple Closed g w = (begun-valid v.quotes g, within-valid v.body w)
+url-valid v NoTriple (Open f bytes) g w = (g, w)
+url-valid v AfterPercent r g w = (g, w)
+url-valid v AfterDigit r g w = (g, w)
+
+read-valid-by : (z : ReferenceStep) (v : ValuePlace) (t : Triple) (f : Form) (bytes : List ℕ) (c : Class) → HasBegun v.quotes → UrlWithin v.body
+    → ScanValid (read_turn z v t f bytes c)
+read-valid-by Breaks v t f bytes c g w =
+    let xs = flushed true (is_equals_sign c) f bytes in url-valid (read_value v xs) (triple_behind t xs) Closed g (with-within v.body xs w)
+read-valid-by (Grows x) v t f bytes c g w = (g, w)
+read-valid-by Closes v t f bytes c g w = (g, w)
+
+pub read-valid : (f : Scan) (bs : List ℕ) → ScanValid f → ScanValid (scan_read f bs)
+read-valid (InUrl v t (Open f bytes)) (b ∷ bs) w = read-valid-by (turn (class_of b) f) v t f bytes (class_of b) w.0 w.1
+read-valid (InUrl v t (Open f bytes)) [] w = w
+read-valid (InUrl v t Closed) bs w = w
+read-valid f bs w = w
+
+-- what is broken is taken
+pub record Takes (f : Scan) (b : ℕ) : Type 0 where
+  pub taken : (v : ValuePlace) (s : Parts) (t : Triple) (x : Form) (bytes : List ℕ) → f ≡ InUrl v t (Open x bytes) → v.body ≡ body.Url s
+      → turn (class_of b) x ≡ Breaks → Broken s x bytes (class_of b) ≡ None
+
+broken-of : (v : ValuePlace) (s : Parts) (f : Form) (bytes : List ℕ) (c : Class) (b : ℕ) → v.body ≡ body.Url s → HasBegun v.quotes → turn c f ≡ Breaks
+    → value_cause v (Open f bytes) c b ≡ None → Broken s f bytes c ≡ None
+broken-of v s f bytes c b e g k n =
+    quoted-accepted v.quotes s f bytes c b g k
+    (first-caused (quoted_error v.quotes s (Open f bytes) c b) (at_hand (quotes_error v.tag v.quotes c)) (sym (url-cause v s (Open f bytes) c b e) ∙ n)).0
+
+pub takes : (f : Scan) (b : ℕ) → ScanValid f → scan_error f (class_of b) b ≡ None → Takes f b
+takes f b w n = record {
+  taken = λ v s t x bytes i e k.
+      broken-of v s x bytes (class_of b) b e (subst ScanValid i w).0 k (subst (λ (y : Scan). scan_error y (class_of b) b ≡ None) i n);
+}
+
+one-url : (s t : Parts) → body.Url s ≡ body.Url t → s ≡ t
+one-url s t h = one_value s t (ap body_parts h)
+
+fed-bodies : (b d : Body) (s : Parts) (f : Form) (bytes : List ℕ) (c : Class) → joined_bodies b d ≡ Some d → d ≡ body.Url s → Broken s f bytes c ≡ None
+    → joined_bodies (parts_with b (flushed true (is_equals_sign c) f bytes)) (parts_with d (flushed true (is_equals_sign c) f bytes))
+    ≡ Some (parts_with d (flushed true (is_equals_sign c) f bytes))
+fed-bodies (body.Url a) (body.Url d) s f bytes c h e n =
+    let xs = flushed true (is_equals_sign c) f bytes in
+    let same : d ≡ s = one-url d s e in
+    ap (λ (z : Parts). Some (body.Url z))
+    (fed-grow xs (is_written (is_equals_sign c) f bytes) (length bytes + 1) a d (parts-below a d h)
+    (ap (λ (z : Parts). Broken z f bytes c) same ∙ n)).1
+fed-bodies b body.Plain s f bytes c h e n = cc
+fed-bodies b body.NoHole s f bytes c h e n = cc
+fed-bodies b (body.Js j) s f bytes c h e n = cc
+fed-bodies b (body.Css j) s f bytes c h e n = cc
+fed-bodies b (body.Url d) s f bytes c h e n = absurd (none_some (body.Url d) h)
+
+read-below-by : (z : ReferenceStep) (u v : ValuePlace) (s : Parts) (t : Triple) (f : Form) (bytes : List ℕ) (c : Class) → turn c f ≡ z → ValueBelow u v
+    → v.body ≡ body.Url s → (turn c f ≡ Breaks → Broken s f bytes c ≡ None) → ScanBelow (read_turn z u t f bytes c) (read_turn z v t f bytes c)
+read-below-by Breaks u v s t f bytes c k l e n =
+    let xs = flushed true (is_equals_sign c) f bytes in
+    url-below (read_value u xs) (read_value v xs) (triple_behind t xs) Closed
+    (record { tag = l.tag; typed = l.typed; quotes = l.quotes; body = fed-bodies u.body v.body s f bytes c l.body e (n k) })
+read-below-by (Grows x) u v s t f bytes c k l e n = (l, refl, refl)
+read-below-by Closes u v s t f bytes c k l e n = (l, refl, refl)
+
+read-below-url : (v : ValuePlace) (t : Triple) (f : Form) (bytes bs : List ℕ) (b : ℕ) → ScanValid (InUrl v t (Open f bytes)) → Takes (InUrl v t (Open f bytes)) b
+    → (g : Scan) → ScanBelow g (InUrl v t (Open f bytes)) → ScanBelow (scan_read g (b ∷ bs)) (scan_read (InUrl v t (Open f bytes)) (b ∷ bs))
+read-below-url v t f bytes bs b w a g l =
+    let s = url-within v.body w.1 in
+    below-url (λ (x : Scan). ScanBelow (scan_read x (b ∷ bs)) (scan_read (InUrl v t (Open f bytes)) (b ∷ bs))) v t (Open f bytes)
+    (λ u m. read-below-by (turn (class_of b) f) u v s.0 t f bytes (class_of b) refl m s.1 (λ k. a.taken v s.0 t f bytes refl s.1 k)) g l
+
+pub read-end : (f : Scan) → scan_read f [] ≡ f
+read-end (InUrl v t Closed) = refl
+read-end (InUrl v t (Open f bytes)) = refl
+read-end f = refl
+
+pub read-closed : (f : Scan) (bs : List ℕ) → scan_reference f ≡ Closed → scan_read f bs ≡ f
+read-closed (InUrl v t Closed) bs h = refl
+read-closed (InUrl v t (Open f bytes)) bs h = cc
+read-closed f bs h = refl
+
+closed-below : (g f : Scan) (bs : List ℕ) → ScanBelow g f → scan_reference f ≡ Closed → ScanBelow (scan_read g bs) (scan_read f bs)
+closed-below g f bs l h =
+    subst (λ (x : Scan). ScanBelow x (scan_read f bs)) (sym (read-closed g bs (below-reference g f l ∙ h)))
+    (subst (ScanBelow g) (sym (read-closed f bs h)) l)
+
+pub read-below : (g f : Scan) (b : ℕ) (bs : List ℕ) → ScanValid f → Takes f b → ScanBelow g f → ScanBelow (scan_read g (b ∷ bs)) (scan_read f (b ∷ bs))
+read-below g (InUrl v t (Open f bytes)) b bs w a l = read-below-url v t f bytes bs b w a g l
+read-below g (InUrl v t Closed) b bs w a l = closed-below g (InUrl v t Closed) (b ∷ bs) l refl
+read-below g f b bs w a l = closed-below g f (b ∷ bs) l refl

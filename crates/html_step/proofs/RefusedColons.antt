@@ -1,0 +1,618 @@
+-- Scan states in which paths have spelled different things: what they refuse at a `:` behind some bytes, and how two paths come apart before it.
+use Rattle.std.proofs.Common.{◌≡◌, ◌≤◌, ℕ, ◌+◌, ◌-◌, suc, Bool, true, false, ◌⊎◌, inl, inr, List, [], ◌∷◌, Option, Some, None, Result, Err, is_some, refl, sym, ap, ◌∙◌, subst, arith, ⊎_elim}
+use Rattle.place_core.specs.page.Classes.{Class, White, Ampersand, QuotationMark, Apostrophe, class_of, is_equals_sign}
+use Rattle.place_core.specs.page.Html.{next}
+use Rattle.place_core.specs.page.References.{Form, Reference, Closed, Open, ReferenceStep, Grows, Closes, Breaks, begin_reference, flushed, meaning, next_reference, reference_turned, turn, turn_bytes, undone_byte}
+use Rattle.place_core.specs.page.States.{AttributeValue, BeforeAttributeValue, LexState, Template}
+use Rattle.place_core.specs.page.Tags.{OfUrl, ValueOf, ValueState, feed_bytes, languages}
+use Rattle.place_core.specs.place.ApartPlaces.{opened_apart, beginning_at, spell_apart}
+use Rattle.place_core.specs.place.Errors.{PathCause, PathRefusal, broken_off, byte_error, cut_error, is_between, last_between, lexeme_error, place_before_bytes, refusal_from, standing_at}
+use Rattle.place_core.specs.place.PathPairs.{ApartBefore, Clashes, ClashesApart, MeetsColon, is_in_beginning, is_in_reference, state_before, unknown_beginning}
+use Rattle.place_core.specs.place.LanguagePlaces.{parts_have}
+use Rattle.place_core.specs.place.Places.{Has, joined_quotes}
+use Rattle.place_core.specs.place.StatePlaces.{quotes_at}
+use Rattle.place_core.specs.place.UrlParts.{parts_of, placed_prefix}
+use Rattle.place_core.specs.declared.body.Body.{Body}
+use Rattle.place_core.specs.declared.body.Body.TheVariants as body
+use Rattle.place_core.specs.declared.code.Code.{Code}
+use Rattle.place_core.specs.declared.code.Code.TheVariants as code
+use Rattle.place_core.specs.declared.kind.Kind.TheVariants as kind
+use Rattle.place_core.specs.declared.member.Member.{Member}
+use Rattle.place_core.specs.declared.member.Member.TheVariants as member
+use Rattle.place_core.specs.declared.parts.Parts.{Parts}
+use Rattle.place_core.specs.declared.place.Place.{Place}
+use Rattle.place_core.specs.declared.place.Place.TheVariants as place
+use Rattle.place_core.specs.declared.quotes.Quotes.{Quotes}
+use Rattle.place_core.specs.declared.quotes.Quotes.TheVariants as quotes
+use Rattle.place_core.specs.declared.value_place.ValuePlace.{ValuePlace}
+use Rattle.place_core.proofs.Semilattices.{none_some, one_value}
+use Rattle.html_scan.specs.Scans.{Scan, At, InUrl, is_scan_between, parts_feeding, parts_with, scan_error, scan_next, triple_behind}
+use Rattle.html_step.specs.Origins.{body_parts, fed_in, is_apart, scan_parts}
+use Rattle.html_step.specs.Steps.{stepped, unless_refused}
+use Rattle.html_step.proofs.ApartParts.{AriseIn, apart-inside, arise-in, bytes-stay, opens-apart, waits}
+use Rattle.html_step.proofs.Characters.{IsCharacter, NoColon, ReferencePlain, flushed-character, nothing, single, utf8-character}
+use Rattle.html_step.proofs.Clashing.{StartsUrl, is-open, is-start}
+use Rattle.html_step.proofs.FromValues.{in-body}
+use Rattle.html_step.proofs.OnePath.{scanned, url_scanned, url_value}
+use Rattle.html_step.proofs.OneTexts.{Says, agrees-at, says}
+use Rattle.html_step.proofs.PlaceParts.{below-value}
+use Rattle.html_step.proofs.ReadScans.{NotBroken, Takes, not-broken, read-below, read-closed, read-on, read-valid, read_turn, read_value, scan_read, takes}
+use Rattle.html_step.proofs.ReadStates.{UrlState, open-parts, own-place, read-between, read-state, shown-closed, unknown, url-of, url_state}
+use Rattle.html_step.proofs.ScanOrder.{ScanBelow, ScanHas, ScanValid, scan-grows}
+use Rattle.html_step.proofs.UrlScans.{ScanPlain, above-parts, below-parts, below-reference, goes, parts-body, reference_length, scan-fresh, scan-length, scan_fed, scan_reference, url-at, url-parts, url-reference}
+use Rattle.html_step.proofs.ValidSteps.{scan-valid}
+use Rattle.url_lexer.specs.Classes.{url_class_of}
+use Rattle.url_lexer.specs.Parts.{UrlPart, UrlStart, UrlOpen}
+use Rattle.url_lexer.specs.Prefixes as spelling
+use Rattle.url_lexer.specs.Prefixes.{prefix_of_first, prefix_with_letter}
+use Rattle.url_lexer.specs.Triples.{Triple}
+use Rattle.url_step.specs.PartSets.{PartsBelow, spells_apart}
+
+no : false ≡ true → ⊥
+no e = cc
+
+-- the parts of such a scan state
+pub record ApartIn (o : Option Parts) : Type 0 where
+  pub parts : Parts
+  pub is : o ≡ Some parts
+  pub apart : spells_apart parts.opened ≡ true
+
+pub apart-in : (o : Option Parts) → is_apart o ≡ true → ApartIn o
+apart-in (Some s) h = record { parts = s; is = refl; apart = h }
+apart-in None h = absurd (no h)
+
+pub parts-have : (g : Scan) (s : Parts) (y : Member) → scan_parts g ≡ Some s → parts_have s y ≡ true → ScanHas g y
+parts-have (At (place.Value v)) s y h k =
+    subst (λ (b : Body). Has (place.Value (record { tag = v.tag; typed = v.typed; quotes = v.quotes; body = b })) y) (sym (parts-body v.body s h))
+    (in-body v.typed v.quotes (body.Url s) y k)
+parts-have (InUrl v t r) s y h k =
+    subst (λ (b : Body). Has (place.Value (record { tag = v.tag; typed = v.typed; quotes = v.quotes; body = b })) y) (sym (parts-body v.body s h))
+    (in-body v.typed v.quotes (body.Url s) y k)
+parts-have (At _) s y h k = absurd (none_some s h)
+parts-have _ s y h k = absurd (none_some s h)
+
+-- Bytes that stand at `k` are refused of each path of which it is not known what it spells, by this.
+pub record ShownApart (k : ℕ) (bytes : List ℕ) (f : Scan) (r : PathRefusal) : Type 0 where
+  pub there : is_apart (scan_parts f) ≡ true
+  pub code : r.code ≡ code.AmbigContext
+  pub within : k ≤ r.at + reference_length (scan_reference f)
+  pub refuses : (since : ℕ) (g : Scan) → ScanValid g → ScanBelow g f → is_apart (scan_parts g) ≡ true → stepped k since bytes g ≡ Err r
+
+-- the bytes that a scan state is fed are those that one below is fed
+quotes-fed : (p q : Quotes) (r : Reference) (c : Class) (b : ℕ) → joined_quotes p q ≡ Some q → fed_in p r c b ≡ fed_in q r c b
+quotes-fed quotes.Dq quotes.Dq r c b h = refl
+quotes-fed quotes.Sq quotes.Sq r c b h = refl
+quotes-fed (quotes.Bare x) (quotes.Bare y) r White b h = refl
+quotes-fed (quotes.Bare x) (quotes.Bare y) r QuotationMark b h = refl
+quotes-fed (quotes.Bare x) (quotes.Bare y) r Apostrophe b h = refl
+quotes-fed (quotes.Bare x) (quotes.Bare y) r _ b h = refl
+quotes-fed quotes.Dq quotes.Sq r c b h = absurd (none_some quotes.Sq h)
+quotes-fed quotes.Dq (quotes.Bare y) r c b h = absurd (none_some (quotes.Bare y) h)
+quotes-fed quotes.Sq quotes.Dq r c b h = absurd (none_some quotes.Dq h)
+quotes-fed quotes.Sq (quotes.Bare y) r c b h = absurd (none_some (quotes.Bare y) h)
+quotes-fed (quotes.Bare x) quotes.Dq r c b h = absurd (none_some quotes.Dq h)
+quotes-fed (quotes.Bare x) quotes.Sq r c b h = absurd (none_some quotes.Sq h)
+
+pub fed-same : (g f : Scan) (s : Parts) (c : Class) (b : ℕ) → ScanBelow g f → scan_parts f ≡ Some s → scan_fed g c b ≡ scan_fed f c b
+fed-same (At (place.Value u)) (At (place.Value v)) s c b l h = quotes-fed u.quotes v.quotes Closed c b (below-value u v l).quotes
+fed-same (InUrl u t r) (InUrl v y z) s c b l h = ap (λ (x : Reference). fed_in u.quotes x c b) l.2 ∙ quotes-fed u.quotes v.quotes z c b l.0.quotes
+fed-same (At x) (At (place.Value v)) s c b l h = absurd (none_some (place.Value v) l)
+fed-same (At x) (InUrl v y z) s c b l h = absurd l
+fed-same (InUrl u t r) (At x) s c b l h = absurd l
+fed-same g (At (place.Value v)) s c b l h = (let p = below-parts g (At (place.Value v)) s l h in absurd (none_some p.0 p.1))
+fed-same g (InUrl v y z) s c b l h = (let p = below-parts g (InUrl v y z) s l h in absurd (none_some p.0 p.1))
+fed-same g f s c b l h = absurd (none_some s h)
+
+-- where a byte leads in a URL, that goes on in it
+pub goes-parts : (f : Scan) (s y : Parts) (c : Class) (b : ℕ) → ScanValid f → scan_parts f ≡ Some s → scan_parts (scan_next f c b) ≡ Some y
+    → scan_parts (scan_next f c b) ≡ Some (feed_bytes parts_feeding s (scan_fed f c b))
+goes-parts f s y c b w h k =
+    let u = url-at f s w h in
+    ⊎_elim (λ n. absurd (none_some y (sym n ∙ k)))
+    (λ e. e ∙ ap (λ (x : List ℕ). Some (feed_bytes parts_feeding s x)) (u.fed c b))
+    (goes f s u c b).parts
+
+-- a scan state of a URL comes from one, where paths have spelled different things in it
+pub before-apart : (f : Scan) (c : Class) (b : ℕ) (o : Option Parts) → scan_parts f ≡ o → is_apart (scan_parts (scan_next f c b)) ≡ true
+    → (s : Parts) × (scan_parts f ≡ Some s)
+before-apart f c b (Some s) h a = (s, h)
+before-apart f c b None h a = absurd (no (sym (scan-fresh f c b h).0 ∙ a))
+
+-- the path of which it is not known what it spells stays such a one
+next-apart : (g f : Scan) (c : Class) (b : ℕ) → ScanValid g → ScanValid f → ScanBelow g f → ScanBelow (scan_next g c b) (scan_next f c b)
+    → is_apart (scan_parts g) ≡ true → is_apart (scan_parts (scan_next f c b)) ≡ true → is_apart (scan_parts (scan_next g c b)) ≡ true
+next-apart g f c b v w l m a d =
+    let x = apart-in (scan_parts g) a in
+    let y = apart-in (scan_parts (scan_next f c b)) d in
+    let s = before-apart f c b (scan_parts f) refl d in
+    let p = goes-parts f s.0 y.parts c b w s.1 y.is in
+    let z = below-parts (scan_next g c b) (scan_next f c b) y.parts m y.is in
+    let q = goes-parts g x.parts z.0 c b v x.is z.1 in
+    let inside = apart-inside (feed_bytes parts_feeding s.0 (scan_fed f c b)) (ap is_apart (sym p) ∙ d) in
+    ap is_apart q
+    ∙ ap (λ (bytes : List ℕ). is_apart (Some (feed_bytes parts_feeding x.parts bytes))) (fed-same g f s.0 c b l s.1)
+    ∙ (bytes-stay (scan_fed f c b) s.0 x.parts inside).met x.apart
+
+refused-later : (k : ℕ) (o : Option PathCause) (r : Result Place PathRefusal) (e : PathRefusal) → o ≡ None → r ≡ Err e → unless_refused k o r ≡ Err e
+refused-later k o r e i h = ap (λ (y : Option PathCause). unless_refused k y r) i ∙ h
+
+-- before a byte, where it is so there
+pub kept-apart : (k b : ℕ) (bs : List ℕ) (f : Scan) (r : PathRefusal) → ScanValid f → scan_error f (class_of b) b ≡ None
+    → ShownApart (k + 1) bs (scan_next f (class_of b) b) r → is_apart (scan_parts f) ≡ true → ShownApart k (b ∷ bs) f r
+kept-apart k b bs f r w n d a =
+    let c = class_of b in
+    let x = apart-in (scan_parts f) a in
+    let long = scan-length f x.parts (url-at f x.parts w x.is) c b in
+    let there = d.within in
+    record {
+      there = a;
+      code = d.code;
+      within = omega (arith, long, there);
+      refuses = λ since g v l o.
+          let m = scan-grows g f c b v l n in
+          refused-later k (scan_error g c b) (stepped (k + 1) (last_between k since (is_scan_between g)) bs (scan_next g c b)) r m.0
+          (d.refuses (last_between k since (is_scan_between g)) (scan_next g c b) (scan-valid g c b v) m.1 (next-apart g f c b v w l m.1 o d.there));
+    }
+
+-- A refusal of bytes that stand at one place, where they stand at another.
+back-at : (k j i back : ℕ) → (k + j) - back ≡ k + i → j - back ≡ i
+back-at k j i back h = omega (arith, h)
+
+abbrev pub ShiftedTo : ℕ → PathRefusal → Option PathRefusal → Type 0
+ShiftedTo i r o = (shown : ℕ) × (o ≡ Some (record { code = r.code; at = i; shown = shown }))
+
+standing-shift : (k j i : ℕ) (o : Option PathCause) (rest other : Option PathRefusal) (r : PathRefusal) → standing_at (k + j) o rest ≡ Some r → r.at ≡ k + i
+    → (rest ≡ Some r → ShiftedTo i r other) → ShiftedTo i r (standing_at j o other)
+standing-shift k j i None rest other r h a f = f h
+standing-shift k j i (Some e) rest other r h a f =
+    let is : record { code = e.code; at = (k + j) - e.back; shown = (k + j) - e.shown } ≡ r = one_value (record { code = e.code; at = (k + j) - e.back; shown = (k + j) - e.shown }) r h in
+    let at : j - e.back ≡ i = back-at k j i e.back (ap (λ (x : PathRefusal). x.at) is ∙ a) in
+    let code : e.code ≡ r.code = ap (λ (x : PathRefusal). x.code) is in
+    (j - e.shown, rw (at, code) refl)
+
+broken-shift : (k j i since other : ℕ) (o : Option Code) (r : PathRefusal) → broken_off (k + j) since o ≡ Some r → r.at ≡ k + i → ShiftedTo i r (broken_off j other o)
+broken-shift k j i since other None r h a = absurd (none_some r h)
+broken-shift k j i since other (Some e) r h a =
+    let is : record { code = e; at = k + j; shown = since } ≡ r = one_value (record { code = e; at = k + j; shown = since }) r h in
+    let same : k + j ≡ k + i = ap (λ (x : PathRefusal). x.at) is ∙ a in
+    let at : j ≡ i = omega (arith, same) in
+    let code : e ≡ r.code = ap (λ (x : PathRefusal). x.code) is in
+    (other, rw (at, code) refl)
+
+pub refusal-shift : (bytes : List ℕ) (k j i since other : ℕ) (s : LexState ValueState) (r : PathRefusal) → refusal_from (k + j) since bytes s ≡ Some r → r.at ≡ k + i
+    → ShiftedTo i r (refusal_from j other bytes s)
+refusal-shift [] k j i since other s r h a =
+    let last = last_between (k + j) since (is_between s) in
+    let here = last_between j other (is_between s) in
+    standing-shift k j i (cut_error s) (broken_off (k + j) last (lexeme_error s)) (broken_off j here (lexeme_error s)) r h a
+    (λ m. broken-shift k j i last here (lexeme_error s) r m a)
+refusal-shift (b ∷ bs) k j i since other s r h a =
+    let after = next languages Template s (class_of b) b in
+    let last = last_between (k + j) since (is_between s) in
+    let here = last_between j other (is_between s) in
+    standing-shift k j i (byte_error s (class_of b) b) (refusal_from (k + j + 1) last bs after) (refusal_from (j + 1) here bs after) r h a
+    (λ m. refusal-shift bs k (j + 1) i last here after r
+    (subst (λ (n : ℕ). refusal_from n last bs after ≡ Some r) (let e : k + j + 1 ≡ k + (j + 1) = omega arith in e) m) a)
+
+-- A path before the bytes that are left of a text, where it is read: in the beginning of a URL, at a scan state below this one.
+pub record Point (s : LexState ValueState) (bs : List ℕ) (f : Scan) : Type 0 where
+  pub read : Scan
+  pub at : scanned (state_before s bs) ≡ Some read
+  pub valid : ScanValid read
+  pub below : ScanBelow read f
+  pub begins : is_in_beginning (state_before s bs) ≡ true
+  pub spelled : spelling.Prefix
+  pub place : Place
+  pub own : place_before_bytes s bs ≡ Some place
+  pub between : is_in_reference s bs ≡ false
+  pub opened : beginning_at place ≡ Some (placed_prefix spelled)
+
+point : (s : LexState ValueState) (g : Scan) (bs : List ℕ) (f : Scan) (p : spelling.Prefix) → UrlState s → scanned s ≡ Some g
+    → scan_parts (scan_read g bs) ≡ Some (parts_of (UrlOpen p)) → scan_reference (scan_read g bs) ≡ Closed → ScanValid g → ScanBelow (scan_read g bs) f
+    → Point s bs f
+point s g bs f p u e h k v l =
+    let at = read-state s g bs u e in
+    let d = shown-closed (scan_read g bs) bs (parts_of (UrlOpen p)) h k in
+    record {
+      read = scan_read g bs;
+      at = at;
+      valid = read-valid g bs v;
+      below = l;
+      begins = is-open (state_before s bs) (scan_read g bs) at (parts-have (scan_read g bs) (parts_of (UrlOpen p)) member.PartOpen h refl);
+      spelled = p;
+      place = d.place;
+      own = own-place s g bs u e ∙ d.is;
+      between = read-between s g bs u e k;
+      opened = d.opened;
+    }
+
+-- such a path meets the `:`
+pub meets : (bytes : List ℕ) (k i : ℕ) (f : Scan) (r : PathRefusal) (s : LexState ValueState) (g : Scan) → ShownApart k bytes f r → r.at ≡ k + i
+    → is_in_beginning s ≡ true → scanned s ≡ Some g → ScanValid g → ScanBelow g f → MeetsColon bytes s i
+meets bytes k i f r s g d a o e v l =
+    let x = apart-in (scan_parts f) d.there in
+    let u = unknown s g f x.parts o e x.is x.apart v l in
+    let none : k ≡ k + 0 = omega arith in
+    let refused : refusal_from (k + 0) 0 bytes (unknown_beginning s) ≡ Some r =
+    subst (λ (n : ℕ). refusal_from n 0 bytes (unknown_beginning s) ≡ Some r) none
+    (subst (λ (z : Result Place PathRefusal). Says z k 0 bytes (unknown_beginning s)) (d.refuses 0 u.scan u.valid u.below u.apart) (says bytes k 0 (unknown_beginning s) u.scan u.at)) in
+    let m = refusal-shift bytes k 0 i 0 0 (unknown_beginning s) r refused a in
+    record { shown = m.0; begins = o; refused = m.1 ∙ ap (λ (c : Code). Some (record { code = c; at = i; shown = m.0 })) d.code }
+
+-- Two paths are apart there, and are refused together at the `:`.
+abbrev pub ApartNow : List ℕ → LexState ValueState → LexState ValueState → Code → ℕ → Type 0
+ApartNow bytes s t c i = ApartBefore bytes s t × ClashesApart bytes (state_before s bytes) (state_before t bytes) c i
+
+apart-now : (bytes : List ℕ) (k i : ℕ) (f : Scan) (r : PathRefusal) (s t : LexState ValueState) → ShownApart k bytes f r → r.at ≡ k + i
+    → (x : Point s bytes f) (y : Point t bytes f)
+    → spell_apart (placed_prefix x.spelled) (placed_prefix y.spelled) ≡ true → ApartNow bytes s t r.code i
+apart-now bytes k i f r s t d a x y h = (
+  record {
+    own = x.place;
+    other_own = y.place;
+    between = x.between;
+    other_between = y.between;
+    stands = x.own;
+    other_stands = y.own;
+    apart = ap (λ (o : Option _). opened_apart o (beginning_at y.place)) x.opened ∙ ap (opened_apart (Some (placed_prefix x.spelled))) y.opened ∙ h;
+  },
+  record {
+    is = d.code;
+    one = meets bytes k i f r (state_before s bytes) x.read d a x.begins x.at x.valid x.below;
+    other = meets bytes k i f r (state_before t bytes) y.read d a y.begins y.at y.valid y.below;
+  },
+)
+
+-- from where the `:` is refused
+pub point-at : (k : ℕ) (bytes : List ℕ) (f : Scan) (r : PathRefusal) → ShownApart k bytes f r → scan_reference f ≡ Closed → (i : ℕ) × (r.at ≡ k + i)
+point-at k bytes f r d h =
+    let none : reference_length (scan_reference f) ≡ 0 = ap reference_length h in
+    let within = d.within in
+    (r.at - k, omega (arith, none, within))
+
+-- A path with a member at a scan state below this one.
+pub record Stands (s : LexState ValueState) (g f : Scan) (x : Member) : Type 0 where
+  pub at : scanned s ≡ Some g
+  pub valid : ScanValid g
+  pub below : ScanBelow g f
+  pub has : ScanHas g x
+
+-- a path on which a URL begins
+abbrev parts_where : Option Scan → Option Parts
+parts_where (Some g) = scan_parts g
+parts_where None = None
+
+abbrev reference_where : Option Scan → Reference
+reference_where (Some g) = scan_reference g
+reference_where None = Closed
+
+closed-open : (f : Form) (bytes : List ℕ) → Closed ≡ Open f bytes → ⊥
+closed-open f bytes h = cc
+
+pub start-parts : (s : LexState ValueState) (g : Scan) → StartsUrl s → scanned s ≡ Some g → scan_parts g ≡ Some (parts_of UrlStart)
+start-parts (BeforeAttributeValue t kind.Url) g a e = sym (ap parts_where e)
+start-parts (AttributeValue q t (ValueOf (OfUrl u)) r) g a e =
+    ap scan_parts (sym (one_value (url_scanned q t u r) g e)) ∙ url-parts (url_value t (quotes_at q) (parts_of u.part)) u.triple r
+    ∙ ap (λ (x : UrlPart). Some (parts_of x)) a
+start-parts _ g a e = absurd a
+
+starts-in : (s : LexState ValueState) (g : Scan) (f : Form) (bytes : List ℕ) → StartsUrl s → scanned s ≡ Some g → scan_reference g ≡ Open f bytes → UrlState s
+starts-in (AttributeValue q t (ValueOf (OfUrl u)) r) g f bytes a e h = url_state q t u r refl
+starts-in (BeforeAttributeValue t kind.Url) g f bytes a e h = absurd (closed-open f bytes (ap reference_where e ∙ h))
+starts-in _ g f bytes a e h = absurd a
+
+-- the bytes of a reference that the byte breaks
+abbrev pub turn_read : ReferenceStep → Form → List ℕ → Class → List ℕ
+turn_read Breaks f bytes c = flushed true (is_equals_sign c) f bytes
+turn_read step f bytes c = []
+
+abbrev pub read_bytes : Reference → ℕ → List ℕ
+read_bytes Closed b = []
+read_bytes (Open f bytes) b = turn_read (turn (class_of b) f) f bytes (class_of b)
+
+with-parts : (b : Body) (bytes : List ℕ) (s : Parts) → body_parts b ≡ Some s → body_parts (parts_with b bytes) ≡ Some (feed_bytes parts_feeding s bytes)
+with-parts (body.Url t) bytes s h = ap (λ (z : Parts). Some (feed_bytes parts_feeding z bytes)) (one_value t s h)
+with-parts _ bytes s h = absurd (none_some s h)
+
+turn-parts : (z : ReferenceStep) (v : ValuePlace) (t : Triple) (f : Form) (bytes : List ℕ) (c : Class) (s : Parts) → body_parts v.body ≡ Some s
+    → scan_parts (read_turn z v t f bytes c) ≡ Some (feed_bytes parts_feeding s (turn_read z f bytes c))
+turn-parts Breaks v t f bytes c s h =
+    let xs = flushed true (is_equals_sign c) f bytes in
+    url-parts (read_value v xs) (triple_behind t xs) Closed ∙ with-parts v.body xs s h
+turn-parts (Grows g) v t f bytes c s h = h
+turn-parts Closes v t f bytes c s h = h
+
+pub read-parts : (g : Scan) (b : ℕ) (bs : List ℕ) (s : Parts) → scan_parts g ≡ Some s
+    → scan_parts (scan_read g (b ∷ bs)) ≡ Some (feed_bytes parts_feeding s (read_bytes (scan_reference g) b))
+read-parts (InUrl v t (Open f bytes)) b bs s h = turn-parts (turn (class_of b) f) v t f bytes (class_of b) s h
+read-parts (InUrl v t Closed) b bs s h = h
+read-parts (At p) b bs s h = h
+read-parts _ b bs s h = absurd (none_some s h)
+
+-- so also of two paths below a scan state, of which a URL begins on the one
+opens-below : (h f : Scan) (s : Parts) (q : spelling.Prefix) → ScanBelow h f → scan_parts h ≡ Some (parts_of (UrlOpen q)) → scan_parts f ≡ Some s
+    → PartsBelow (parts_of (UrlOpen q)) s
+opens-below h f s q l i j =
+    (let p = above-parts h f (parts_of (UrlOpen q)) l i in subst (λ (z : Parts). PartsBelow (parts_of (UrlOpen q)) z) (one_value p.0 s (sym p.1 ∙ j)) p.2)
+
+-- Two paths of which the one begins the URL with the only byte that both are fed, and the other goes on in the beginning.
+record Parted (zs : List ℕ) (s : Parts) (q : spelling.Prefix) : Type 0 where
+  first : spelling.Prefix
+  other : spelling.Prefix
+  begins : feed_bytes parts_feeding (parts_of UrlStart) zs ≡ parts_of (UrlOpen first)
+  goes : feed_bytes parts_feeding (parts_of (UrlOpen q)) zs ≡ parts_of (UrlOpen other)
+  apart : spell_apart (placed_prefix first) (placed_prefix other) ≡ true
+
+parted : (zs : List ℕ) (s : Parts) (q : spelling.Prefix) → AriseIn zs s → spells_apart s.opened ≡ false → PartsBelow (parts_of (UrlOpen q)) s → Parted zs s q
+parted zs s q a n l =
+    let c = url_class_of a.byte in
+    let r = a.arise in
+    record {
+      first = prefix_of_first a.byte;
+      other = prefix_with_letter q a.byte;
+      begins = ap (feed_bytes parts_feeding (parts_of UrlStart)) a.is ∙ r.first;
+      goes = ap (feed_bytes parts_feeding (parts_of (UrlOpen q))) a.is ∙ r.goes q;
+      apart = opens-apart s c a.byte q r n l;
+    }
+
+-- What two members show of bytes: any two paths that bear them are refused together there, or come apart before the first byte.
+abbrev pub IsOpen : Reference → Type 0
+IsOpen Closed = ⊥
+IsOpen (Open f bytes) = Unit {0}
+
+abbrev pub ClashesFrom : Scan → List ℕ → LexState ValueState → LexState ValueState → Code → ℕ → Type 0
+ClashesFrom f bytes s t c i = Clashes bytes s t c i ⊎ (IsOpen (scan_reference f) × ApartNow bytes s t c i)
+
+pub record ShownTwo (k : ℕ) (bytes : List ℕ) (f : Scan) (r : PathRefusal) (x y : Member) : Type 0 where
+  pub behind : ℕ
+  pub at : r.at ≡ k + behind
+  pub one : ScanHas f x
+  pub other : ScanHas f y
+  pub clashes : (s t : LexState ValueState) (g h : Scan) → Stands s g f x → Stands t h f y → ClashesFrom f bytes s t r.code behind
+
+-- in the reference that the first byte breaks
+one-form : (x f : Form) (l bytes : List ℕ) → Open x l ≡ Open f bytes → x ≡ f
+one-form x f l bytes h = cc
+
+turn-is : (z : ReferenceStep) (v : ValuePlace) (t : Triple) (f : Form) (bytes : List ℕ) (c : Class) → z ≡ Breaks
+    → scan_reference (read_turn z v t f bytes c) ≡ Closed
+turn-is Breaks v t f bytes c e = (let xs = flushed true (is_equals_sign c) f bytes in url-reference (read_value v xs) (triple_behind t xs) Closed)
+turn-is (Grows g) v t f bytes c e = cc
+turn-is Closes v t f bytes c e = cc
+
+pub read-is : (g : Scan) (b : ℕ) (bs : List ℕ) (f : Form) (bytes : List ℕ) → scan_reference g ≡ Open f bytes → turn (class_of b) f ≡ Breaks
+    → scan_reference (scan_read g (b ∷ bs)) ≡ Closed
+read-is (InUrl v t (Open x l)) b bs f bytes h k =
+    turn-is (turn (class_of b) x) v t x l (class_of b) (ap (turn (class_of b)) (one-form x f l bytes h) ∙ k)
+read-is (InUrl v t Closed) b bs f bytes h k = absurd (closed-open f bytes h)
+read-is (At p) b bs f bytes h k = absurd (closed-open f bytes h)
+read-is _ b bs f bytes h k = absurd (closed-open f bytes h)
+
+pub broken-bytes : (r : Reference) (b : ℕ) (f : Form) (bytes : List ℕ) → r ≡ Open f bytes → turn (class_of b) f ≡ Breaks
+    → read_bytes r b ≡ flushed true (is_equals_sign (class_of b)) f bytes
+broken-bytes r b f bytes h k = ap (λ (x : Reference). read_bytes x b) h ∙ ap (λ (z : ReferenceStep). turn_read z f bytes (class_of b)) k
+
+pub two-read : (k b : ℕ) (bs : List ℕ) (f : Scan) (r : PathRefusal) (x : Form) (bytes : List ℕ) (s : Parts) → ScanValid f → scan_parts f ≡ Some s
+    → scan_reference f ≡ Open x bytes → NoColon bytes → turn (class_of b) x ≡ Breaks → Takes f b → spells_apart s.opened ≡ false
+    → ShownApart k (b ∷ bs) (scan_read f (b ∷ bs)) r → ShownTwo k (b ∷ bs) f r member.PartStart member.PartOpen
+unfolding point parted
+two-read k b bs f r x bytes s w i j plain e taken n d =
+    let zs = flushed true (is_equals_sign (class_of b)) x bytes in
+    let xs : read_bytes (scan_reference f) b ≡ zs = broken-bytes (scan_reference f) b x bytes j e in
+    let p = point-at k (b ∷ bs) (scan_read f (b ∷ bs)) r d (read-is f b bs x bytes j e) in
+    let z : spells_apart (feed_bytes parts_feeding s zs).opened ≡ true =
+    sym (ap is_apart (read-parts f b bs s i ∙ ap (λ (y : List ℕ). Some (feed_bytes parts_feeding s y)) xs)) ∙ d.there in
+    let a = arise-in zs s (flushed-character (is_equals_sign (class_of b)) x bytes plain) n z in
+    record {
+      behind = p.0;
+      at = p.1;
+      one = parts-have f s member.PartStart i a.arise.start;
+      other = parts-have f s member.PartOpen i (ap is_some a.arise.opened);
+      clashes = λ v t g h y u.
+          let hold = below-reference g f y.below ∙ j in
+          let starts = is-start v g y.at y.has in
+          let opens = is-open t h u.at u.has in
+          let q = open-parts t h opens u.at in
+          let m = parted zs s q.0 a n (opens-below h f s q.0 u.below q.1 i) in
+          let own = point v g (b ∷ bs) (scan_read f (b ∷ bs)) m.first (starts-in v g x bytes starts y.at hold) y.at
+          (read-parts g b bs (parts_of UrlStart) (start-parts v g starts y.at)
+          ∙ ap (λ (l : List ℕ). Some (feed_bytes parts_feeding (parts_of UrlStart) l)) (broken-bytes (scan_reference g) b x bytes hold e) ∙ ap Some m.begins)
+          (read-is g b bs x bytes hold e) y.valid (read-below g f b bs w taken y.below) in
+          let held = below-reference h f u.below ∙ j in
+          let other = point t h (b ∷ bs) (scan_read f (b ∷ bs)) m.other (url-of t opens) u.at
+          (read-parts h b bs (parts_of (UrlOpen q.0)) q.1
+          ∙ ap (λ (l : List ℕ). Some (feed_bytes parts_feeding (parts_of (UrlOpen q.0)) l)) (broken-bytes (scan_reference h) b x bytes held e) ∙ ap Some m.goes)
+          (read-is h b bs x bytes held e) u.valid (read-below h f b bs w taken u.below) in
+          inr (subst IsOpen (sym j) tt, apart-now (b ∷ bs) k p.0 (scan_read f (b ∷ bs)) r v t d p.1 own other m.apart);
+    }
+
+-- behind the first byte
+abbrev pub is_nothing : List ℕ → Bool
+is_nothing [] = true
+is_nothing (x ∷ xs) = false
+
+plain-character : (c : Class) (b : ℕ) → IsCharacter (undone_byte true Closed c b)
+plain-character Ampersand b = nothing refl
+plain-character _ b = single b refl
+
+turned-character : (z : ReferenceStep) (f : Form) (bytes : List ℕ) (c : Class) (b : ℕ) → (z ≡ Breaks → ⊥) → IsCharacter (turn_bytes true z f bytes c b)
+turned-character (Grows g) f bytes c b n = nothing refl
+turned-character Closes f bytes c b n = utf8-character (meaning f bytes)
+turned-character Breaks f bytes c b n = absurd (n refl)
+
+undone-character : (r : Reference) (b : ℕ) → NotBroken r b → IsCharacter (undone_byte true r (class_of b) b)
+undone-character Closed b n = plain-character (class_of b) b
+undone-character (Open f bytes) b n = turned-character (turn (class_of b) f) f bytes (class_of b) b n
+
+bare-character : (q : _) (r : Reference) (c : Class) (b : ℕ) → IsCharacter (undone_byte true r c b) → IsCharacter (fed_in (quotes.Bare q) r c b)
+bare-character q r White b h = nothing refl
+bare-character q r QuotationMark b h = nothing refl
+bare-character q r Apostrophe b h = nothing refl
+bare-character q r _ b h = h
+
+fed-character : (q : Quotes) (r : Reference) (b : ℕ) → NotBroken r b → IsCharacter (fed_in q r (class_of b) b)
+fed-character quotes.Dq r b n = undone-character r b n
+fed-character quotes.Sq r b n = undone-character r b n
+fed-character (quotes.Bare x) r b n = bare-character x r (class_of b) b (undone-character r b n)
+
+scan-character : (f : Scan) (b : ℕ) → NotBroken (scan_reference f) b → IsCharacter (scan_fed f (class_of b) b)
+scan-character (At (place.Value v)) b n = fed-character v.quotes Closed b n
+scan-character (InUrl v t r) b n = fed-character v.quotes r b n
+scan-character (At _) b n = nothing refl
+scan-character _ b n = nothing refl
+
+-- a byte that is fed leaves no reference open
+plain-closed : (c : Class) (b : ℕ) → is_nothing (undone_byte true Closed c b) ≡ false → begin_reference c ≡ Closed
+plain-closed Ampersand b h = absurd (no (sym h))
+plain-closed _ b h = refl
+
+turned-closed : (z : ReferenceStep) (f : Form) (bytes : List ℕ) (c : Class) (b : ℕ) → (z ≡ Breaks → ⊥) → is_nothing (turn_bytes true z f bytes c b) ≡ false
+    → reference_turned z bytes c b ≡ Closed
+turned-closed (Grows g) f bytes c b n h = absurd (no (sym h))
+turned-closed Closes f bytes c b n h = refl
+turned-closed Breaks f bytes c b n h = absurd (n refl)
+
+undone-closed : (r : Reference) (b : ℕ) → NotBroken r b → is_nothing (undone_byte true r (class_of b) b) ≡ false → next_reference r (class_of b) b ≡ Closed
+undone-closed Closed b n h = plain-closed (class_of b) b h
+undone-closed (Open f bytes) b n h = turned-closed (turn (class_of b) f) f bytes (class_of b) b n h
+
+bare-undone : (q : _) (r : Reference) (c : Class) (b : ℕ) → is_nothing (fed_in (quotes.Bare q) r c b) ≡ false → is_nothing (undone_byte true r c b) ≡ false
+bare-undone q r White b h = absurd (no (sym h))
+bare-undone q r QuotationMark b h = absurd (no (sym h))
+bare-undone q r Apostrophe b h = absurd (no (sym h))
+bare-undone q r _ b h = h
+
+fed-undone : (q : Quotes) (r : Reference) (c : Class) (b : ℕ) → is_nothing (fed_in q r c b) ≡ false → is_nothing (undone_byte true r c b) ≡ false
+fed-undone quotes.Dq r c b h = h
+fed-undone quotes.Sq r c b h = h
+fed-undone (quotes.Bare x) r c b h = bare-undone x r c b h
+
+next-closed : (f : Scan) (s : Parts) (b : ℕ) → ScanValid f → scan_parts f ≡ Some s → NotBroken (scan_reference f) b
+    → is_nothing (scan_fed f (class_of b) b) ≡ false
+    → scan_reference (scan_next f (class_of b) b) ≡ Closed
+next-closed f s b w i n h =
+    let u = url-at f s w i in
+    ⊎_elim (λ e. e)
+    (λ e. e ∙ undone-closed u.reference b (subst (λ (x : Reference). NotBroken x b) u.holds n)
+    (fed-undone u.value.quotes u.reference (class_of b) b (ap is_nothing (u.fed (class_of b) b) ∙ h)))
+    (goes f s u (class_of b) b).reference
+
+-- a path behind the byte
+behind-point : (v : LexState ValueState) (g f : Scan) (b : ℕ) (bs : List ℕ) (x : Parts) (p : spelling.Prefix) → ScanValid g → ScanValid f → ScanBelow g f
+    → scanned v ≡ Some g
+    → scan_error f (class_of b) b ≡ None → scan_reference (scan_next f (class_of b) b) ≡ Closed → is_apart (scan_parts (scan_next f (class_of b) b)) ≡ true
+    → scan_parts (scan_read g (b ∷ bs)) ≡ Some x → feed_bytes parts_feeding x (scan_fed (scan_read g (b ∷ bs)) (class_of b) b) ≡ parts_of (UrlOpen p)
+    → (q : Point (next languages Template v (class_of b) b) bs (scan_next f (class_of b) b)) × (q.spelled ≡ p)
+unfolding point
+behind-point v g f b bs x p vg vf l e n held apart i j =
+    let c = class_of b in
+    let m = scan-grows g f c b vg l n in
+    let a = agrees-at v g b e in
+    let at = a.steps m.0 in
+    let ro = read-on g b bs vg m.0 in
+    let d = apart-in (scan_parts (scan_next f c b)) apart in
+    let z = below-parts (scan_next g c b) (scan_next f c b) d.parts m.1 d.is in
+    let y = goes-parts (scan_read g (b ∷ bs)) x z.0 c b (read-valid g (b ∷ bs) vg) i (ap scan_parts ro.next ∙ z.1) in
+    let parts : scan_parts (scan_next g c b) ≡ Some (parts_of (UrlOpen p)) = ap scan_parts (sym ro.next) ∙ y ∙ ap Some j in
+    let closed = below-reference (scan_next g c b) (scan_next f c b) m.1 ∙ held in
+    let same = read-closed (scan_next g c b) bs closed in
+    let u = url-of (next languages Template v c b)
+    (is-open (next languages Template v c b) (scan_next g c b) at (parts-have (scan_next g c b) (parts_of (UrlOpen p)) member.PartOpen parts refl)) in (
+      point (next languages Template v c b) (scan_next g c b) bs (scan_next f c b) p u at (ap scan_parts same ∙ parts) (ap scan_reference same ∙ closed)
+          (scan-valid g c b vg) (subst (λ (y : Scan). ScanBelow y (scan_next f c b)) (sym same) m.1),
+      refl,
+    )
+
+pub two-next : (k b : ℕ) (bs : List ℕ) (f : Scan) (r : PathRefusal) (s y : Parts) → ScanValid f → scan_parts f ≡ Some s → scan_error f (class_of b) b ≡ None
+    → scan_parts (scan_read f (b ∷ bs)) ≡ Some y → spells_apart y.opened ≡ false
+    → ShownApart (k + 1) bs (scan_next f (class_of b) b) r → ShownTwo k (b ∷ bs) f r member.PartStart member.PartOpen
+two-next k b bs f r s y w i n j notyet d =
+    let c = class_of b in
+    let over = scan_read f (b ∷ bs) in
+    let ro = read-on f b bs w n in
+    let x = apart-in (scan_parts (scan_next f c b)) d.there in
+    let zs = scan_fed over c b in
+    let p = goes-parts over y x.parts c b (read-valid f (b ∷ bs) w) j (ap scan_parts ro.next ∙ x.is) in
+    let came : spells_apart (feed_bytes parts_feeding y zs).opened ≡ true = sym (ap is_apart (sym (ap scan_parts ro.next) ∙ p)) ∙ d.there in
+    let a = arise-in zs y (scan-character over b (not-broken f b bs)) notyet came in
+    let held : scan_reference (scan_next f c b) ≡ Closed =
+    ap scan_reference (sym ro.next) ∙ next-closed over y b (read-valid f (b ∷ bs) w) j (not-broken f b bs) (ap is_nothing a.is) in
+    let at = point-at (k + 1) bs (scan_next f c b) r d held in
+    let xs = read_bytes (scan_reference f) b in
+    let fed : feed_bytes parts_feeding s xs ≡ y = one_value (feed_bytes parts_feeding s xs) y (sym (read-parts f b bs s i) ∙ j) in
+    let wait = waits xs s (ap (λ (o : Parts). o.start) fed ∙ a.arise.start) in
+    let place = at.1 in
+    record {
+      behind = suc at.0;
+      at = omega (arith, place);
+      one = parts-have f s member.PartStart i wait.start;
+      other = parts-have f s member.PartOpen i (wait.opened (ap (λ (o : Parts). is_some o.opened) fed ∙ ap is_some a.arise.opened));
+      clashes = λ v t g h m u.
+          let starts = is-start v g m.at m.has in
+          let q = open-parts t h (is-open t h u.at u.has) u.at in
+          let wend = wait.goes q.0 in
+          let same = below-reference g f m.below in
+          let held-by = below-reference h f u.below in
+          let own : scan_parts (scan_read g (b ∷ bs)) ≡ Some (parts_of UrlStart) =
+          read-parts g b bs (parts_of UrlStart) (start-parts v g starts m.at)
+          ∙ ap (λ (l : Reference). Some (feed_bytes parts_feeding (parts_of UrlStart) (read_bytes l b))) same ∙ ap Some wait.first in
+          let other : scan_parts (scan_read h (b ∷ bs)) ≡ Some (parts_of (UrlOpen wend.0)) =
+          read-parts h b bs (parts_of (UrlOpen q.0)) q.1
+          ∙ ap (λ (l : Reference). Some (feed_bytes parts_feeding (parts_of (UrlOpen q.0)) (read_bytes l b))) held-by ∙ ap Some wend.1 in
+          let taken = takes f b w n in
+          let lower = read-below g f b bs w taken m.below in
+          let lower-by = read-below h f b bs w taken u.below in
+          let z = parted zs y wend.0 a notyet (opens-below (scan_read h (b ∷ bs)) over y wend.0 lower-by other j) in
+          let one = behind-point v g f b bs (parts_of UrlStart) z.first m.valid w m.below m.at n held d.there own
+          (ap (feed_bytes parts_feeding (parts_of UrlStart)) (fed-same (scan_read g (b ∷ bs)) over y c b lower j) ∙ z.begins) in
+          let two = behind-point t h f b bs (parts_of (UrlOpen wend.0)) z.other u.valid w u.below u.at n held d.there other
+          (ap (feed_bytes parts_feeding (parts_of (UrlOpen wend.0))) (fed-same (scan_read h (b ∷ bs)) over y c b lower-by j) ∙ z.goes) in
+          let differ : spell_apart (placed_prefix one.0.spelled) (placed_prefix two.0.spelled) ≡ true =
+          ap (λ (e : spelling.Prefix). spell_apart (placed_prefix e) (placed_prefix two.0.spelled)) one.1
+          ∙ ap (λ (e : spelling.Prefix). spell_apart (placed_prefix z.first) (placed_prefix e)) two.1 ∙ z.apart in
+          let ag = agrees-at v g b m.at in
+          let ah = agrees-at t h b u.at in
+          inl (
+            ag.errors ∙ (scan-grows g f c b m.valid m.below n).0,
+            ah.errors ∙ (scan-grows h f c b u.valid u.below n).0,
+            inl (apart-now bs (k + 1) at.0 (scan_next f c b) r (next languages Template v c b) (next languages Template t c b) d at.1 one.0 two.0 differ),
+          );
+    }
+
+-- before a byte behind which they are apart and before which they are not
+turn-cases : (z : ReferenceStep) (f : Form) (bytes : List ℕ) (c : Class) → (turn_read z f bytes c ≡ []) ⊎ (z ≡ Breaks)
+turn-cases Breaks f bytes c = inr refl
+turn-cases (Grows g) f bytes c = inl refl
+turn-cases Closes f bytes c = inl refl
+
+not-here : (b : ℕ) (bs : List ℕ) (f : Scan) (s : Parts) → scan_parts f ≡ Some s → spells_apart s.opened ≡ false → read_bytes (scan_reference f) b ≡ []
+    → is_apart (scan_parts (scan_read f (b ∷ bs))) ≡ true → ⊥
+not-here b bs f s i m e a =
+    no (sym (ap is_apart (read-parts f b bs s i ∙ ap (λ (l : List ℕ). Some (feed_bytes parts_feeding s l)) e) ∙ m) ∙ a)
+
+two-broken : (k b : ℕ) (bs : List ℕ) (f : Scan) (r : PathRefusal) (s : Parts) (x : Reference) → ScanValid f → ScanPlain f → scan_parts f ≡ Some s
+    → spells_apart s.opened ≡ false → scan_error f (class_of b) b ≡ None → scan_reference f ≡ x
+    → ShownApart k (b ∷ bs) (scan_read f (b ∷ bs)) r → ShownTwo k (b ∷ bs) f r member.PartStart member.PartOpen
+two-broken k b bs f r s Closed w plain i m n h d = absurd (not-here b bs f s i m (ap (λ (x : Reference). read_bytes x b) h) d.there)
+two-broken k b bs f r s (Open x bytes) w plain i m n h d =
+    ⊎_elim (λ e. absurd (not-here b bs f s i m (ap (λ (y : Reference). read_bytes y b) h ∙ e) d.there))
+    (λ e. two-read k b bs f r x bytes s w i h (subst ReferencePlain h plain) e (takes f b w n) m d)
+    (turn-cases (turn (class_of b) x) x bytes (class_of b))
+
+two-cases : (k b : ℕ) (bs : List ℕ) (f : Scan) (r : PathRefusal) (s : Parts) (o : Option Parts) (x : Bool) → ScanValid f → ScanPlain f → scan_parts f ≡ Some s
+    → spells_apart s.opened ≡ false → scan_error f (class_of b) b ≡ None → scan_parts (scan_read f (b ∷ bs)) ≡ o → is_apart o ≡ x
+    → ShownApart (k + 1) bs (scan_next f (class_of b) b) r → ShownTwo k (b ∷ bs) f r member.PartStart member.PartOpen
+two-cases k b bs f r s None x w plain i m n j a d = absurd (none_some (feed_bytes parts_feeding s (read_bytes (scan_reference f) b)) (sym j ∙ read-parts f b bs s i))
+two-cases k b bs f r s (Some y) false w plain i m n j a d = two-next k b bs f r s y w i n j a d
+two-cases k b bs f r s (Some y) true w plain i m n j a d =
+    let ro = read-on f b bs w n in
+    let kept = kept-apart k b bs (scan_read f (b ∷ bs)) r (read-valid f (b ∷ bs) w) ro.error
+    (subst (λ (g : Scan). ShownApart (k + 1) bs g r) (sym ro.next) d) (ap is_apart j ∙ a) in
+    two-broken k b bs f r s (scan_reference f) w plain i m n refl kept
+
+pub earlier-two : (k b : ℕ) (bs : List ℕ) (f : Scan) (r : PathRefusal) → ScanValid f → ScanPlain f → scan_error f (class_of b) b ≡ None
+    → ShownApart (k + 1) bs (scan_next f (class_of b) b) r → is_apart (scan_parts f) ≡ false → ShownTwo k (b ∷ bs) f r member.PartStart member.PartOpen
+earlier-two k b bs f r w plain n d a =
+    let s = before-apart f (class_of b) b (scan_parts f) refl d.there in
+    two-cases k b bs f r s.0 (scan_parts (scan_read f (b ∷ bs))) (is_apart (scan_parts (scan_read f (b ∷ bs)))) w plain s.1
+    (sym (ap is_apart s.1) ∙ a) n refl refl d

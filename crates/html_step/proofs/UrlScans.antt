@@ -1,0 +1,447 @@
+-- Scan states of URLs: their parts, and the reference that is open in them, where a byte leads.
+use Rattle.std.proofs.Common.{◌≡◌, ◌≤◌, ℕ, ◌+◌, suc, Bool, true, false, ◌⊎◌, inl, inr, List, [], ◌∷◌, ◌++◌, length, Option, Some, None, refl, sym, ap, ◌∙◌, subst, arith, length-append}
+use Rattle.place_core.specs.page.Classes.{Class, White, Ampersand, ExclamationMark, QuotationMark, Apostrophe, HyphenMinus, Solidus, LessThan, EqualsSign, GreaterThan, Letter, class_of}
+use Rattle.place_core.specs.page.Comments.{Declaration, OpensComment, OpensDoctype, Undecided, OpensNothing, closes_comment, declared_by, next_comment}
+use Rattle.place_core.specs.page.Contents.{is_name_of, may_be_name_of}
+use Rattle.place_core.specs.page.Html.{ends_value}
+use Rattle.place_core.specs.page.References.{Form, Reference, Closed, Open, ReferenceStep, Grows, Closes, Breaks, begin_reference, next_reference, reference_turned, turn, undone_byte}
+use Rattle.place_core.specs.page.States.{CommentState, Inside, Broken, Pending, Nothing, PendingLess, PendingName, PendingBang, PendingBangDash, LessAtCut}
+use Rattle.place_core.specs.page.Tags.{element_on, feed_bytes, tag_of_name, Quoting, DoubleQuoted, SingleQuoted, Unquoted, Value, ValueState}
+use Rattle.place_core.specs.page.Words.{kind_of}
+use Rattle.place_core.specs.declared.body.Body.{Body}
+use Rattle.place_core.specs.declared.body.Body.TheVariants as body
+use Rattle.place_core.specs.declared.element.Element.{Element}
+use Rattle.place_core.specs.declared.element.Element.TheVariants as element
+use Rattle.place_core.specs.declared.kind.Kind.{Kind}
+use Rattle.place_core.specs.declared.kind.Kind.TheVariants as kind
+use Rattle.place_core.specs.declared.parts.Parts.{Parts}
+use Rattle.place_core.specs.declared.place.Place.{Place}
+use Rattle.place_core.specs.declared.place.Place.TheVariants as place
+use Rattle.place_core.specs.declared.quotes.Quotes.{Quotes}
+use Rattle.place_core.specs.declared.quotes.Quotes.TheVariants as quotes
+use Rattle.place_core.specs.declared.tag_of.TagOf.{TagOf}
+use Rattle.place_core.specs.declared.tag_of.TagOf.TheVariants as tag
+use Rattle.place_core.specs.declared.tag_place.TagPlace.{TagPlace}
+use Rattle.place_core.specs.declared.value_place.ValuePlace.{ValuePlace}
+use Rattle.place_core.proofs.Semilattices.{none_some, one_value}
+use Rattle.html_scan.specs.Scans.{Scan, At, AfterLess, AfterLessSolidus, InDeclaration, InTagName, InAttributeName, InUrl, InCommentEnd, InContentEnd, BeforeType, InType, after_type, attribute_name_next, bare_white, before_type_next, comment_closed, comment_next, comment_scan, comment_state, content_end_next, content_next, content_scan, declaration_next, end_name_next, ended_type, parts_feeding, pending_less_next, quoted_next, rest_place, scan_error, scan_next, tag_name_next, tag_next, triple_behind, type_begun, type_next, type_tag, url_scan, value_cause, value_fed, value_next, value_scan, with_parts, with_quotes}
+use Rattle.html_step.specs.Origins.{body_parts, fed_in, is_apart, scan_parts}
+use Rattle.html_step.proofs.Characters.{ReferencePlain, next-plain}
+use Rattle.html_step.proofs.ScanOrder.{BegunWhereOpen, ScanBelow, ScanValid, begun-open, parts-below}
+use Rattle.html_step.proofs.PlaceParts.{below-value}
+use Rattle.place_core.specs.place.Places.{joined_bodies}
+use Rattle.url_lexer.specs.Triples.{Triple, NoTriple, AfterPercent, AfterDigit}
+use Rattle.url_step.specs.PartSets.{PartsBelow}
+
+abbrev pub scan_reference : Scan → Reference
+scan_reference (InUrl v t r) = r
+scan_reference f = Closed
+
+-- the bytes that its URL is fed
+abbrev pub scan_fed : Scan → Class → ℕ → List ℕ
+scan_fed (At (place.Value v)) c b = fed_in v.quotes Closed c b
+scan_fed (InUrl v t r) c b = fed_in v.quotes r c b
+scan_fed f c b = []
+
+pub parts-body : (b : Body) (s : Parts) → body_parts b ≡ Some s → b ≡ body.Url s
+parts-body (body.Url t) s h = ap body.Url (one_value t s h)
+parts-body _ s h = absurd (none_some s h)
+
+-- A scan state of a URL, at a place or in a triple or a reference.
+pub record UrlAt (f : Scan) (s : Parts) : Type 0 where
+  pub value : ValuePlace
+  pub triple : Triple
+  pub reference : Reference
+  pub body : value.body ≡ body.Url s
+  pub next : (c : Class) (b : ℕ) → scan_next f c b ≡ value_next value triple reference c b
+  pub error : (c : Class) (b : ℕ) → scan_error f c b ≡ value_cause value reference c b
+  pub holds : scan_reference f ≡ reference
+  pub begun : BegunWhereOpen reference value.quotes
+  pub fed : (c : Class) (b : ℕ) → fed_in value.quotes reference c b ≡ scan_fed f c b
+
+pub url-at : (f : Scan) (s : Parts) → ScanValid f → scan_parts f ≡ Some s → UrlAt f s
+url-at (At (place.Value v)) s w h = record {
+  value = v;
+  triple = NoTriple;
+  reference = Closed;
+  body = parts-body v.body s h;
+  next = λ c b. refl;
+  error = λ c b. refl;
+  holds = refl;
+  begun = tt;
+  fed = λ c b. refl;
+}
+url-at (InUrl v t r) s w h = record {
+  value = v;
+  triple = t;
+  reference = r;
+  body = parts-body v.body s h;
+  next = λ c b. refl;
+  error = λ c b. refl;
+  holds = refl;
+  begun = begun-open r v.quotes w.0;
+  fed = λ c b. refl;
+}
+url-at (At _) s w h = absurd (none_some s h)
+url-at _ s w h = absurd (none_some s h)
+
+pub url-parts : (v : ValuePlace) (t : Triple) (r : Reference) → scan_parts (url_scan v t r) ≡ body_parts v.body
+url-parts v NoTriple Closed = refl
+url-parts v NoTriple (Open f bytes) = refl
+url-parts v AfterPercent r = refl
+url-parts v AfterDigit r = refl
+
+pub url-reference : (v : ValuePlace) (t : Triple) (r : Reference) → scan_reference (url_scan v t r) ≡ r
+url-reference v NoTriple Closed = refl
+url-reference v NoTriple (Open f bytes) = refl
+url-reference v AfterPercent r = refl
+url-reference v AfterDigit r = refl
+
+-- a scan state below one of a URL is one
+bodies-below : (b : Body) (s : Parts) → joined_bodies b (body.Url s) ≡ Some (body.Url s) → (t : Parts) × (body_parts b ≡ Some t) × PartsBelow t s
+bodies-below (body.Url t) s h = (t, refl, parts-below t s h)
+bodies-below b s h = absurd (none_some (body.Url s) h)
+
+pub below-parts : (g f : Scan) (s : Parts) → ScanBelow g f → scan_parts f ≡ Some s → (t : Parts) × (scan_parts g ≡ Some t) × PartsBelow t s
+below-parts (At (place.Value u)) (At (place.Value v)) s l h = bodies-below u.body s (subst (λ (b : Body). joined_bodies u.body b ≡ Some b) (parts-body v.body s h) (below-value u v l).body)
+below-parts (At x) (At (place.Value v)) s l h = absurd (none_some (place.Value v) l)
+below-parts (At x) (At _) s l h = absurd (none_some s h)
+below-parts (InUrl u t r) (InUrl v y z) s l h = bodies-below u.body s (subst (λ (b : Body). joined_bodies u.body b ≡ Some b) (parts-body v.body s h) l.0.body)
+below-parts (At x) (InUrl v t r) s l h = absurd l
+below-parts (InUrl u t r) (At x) s l h = absurd l
+below-parts (InAttributeName t x n) (At y) s l h = absurd l
+below-parts (InAttributeName t x n) (InUrl v y r) s l h = absurd l
+below-parts AfterLess f s l h = absurd (none_some s (ap scan_parts l ∙ h))
+below-parts AfterLessSolidus f s l h = absurd (none_some s (ap scan_parts l ∙ h))
+below-parts (InDeclaration x) f s l h = absurd (none_some s (ap scan_parts l ∙ h))
+below-parts (InTagName x y) f s l h = absurd (none_some s (ap scan_parts l ∙ h))
+below-parts (InCommentEnd x) f s l h = absurd (none_some s (ap scan_parts l ∙ h))
+below-parts (InContentEnd x y) f s l h = absurd (none_some s (ap scan_parts l ∙ h))
+below-parts (BeforeType x) f s l h = absurd (none_some s (ap scan_parts l ∙ h))
+below-parts (InType x y z w) f s l h = absurd (none_some s (ap scan_parts l ∙ h))
+below-parts g _ s l h = absurd (none_some s h)
+
+bodies-above : (s : Parts) (b : Body) → joined_bodies (body.Url s) b ≡ Some b → (t : Parts) × (body_parts b ≡ Some t) × PartsBelow s t
+bodies-above s (body.Url t) h = (t, refl, parts-below s t h)
+bodies-above s b h = absurd (none_some b h)
+
+-- and a larger one
+pub above-parts : (g f : Scan) (s : Parts) → ScanBelow g f → scan_parts g ≡ Some s → (t : Parts) × (scan_parts f ≡ Some t) × PartsBelow s t
+above-parts (At (place.Value u)) (At (place.Value v)) s l h =
+    bodies-above s v.body (subst (λ (b : Body). joined_bodies b v.body ≡ Some v.body) (parts-body u.body s h) (below-value u v l).body)
+above-parts (InUrl u t r) (InUrl v y z) s l h =
+    bodies-above s v.body (subst (λ (b : Body). joined_bodies b v.body ≡ Some v.body) (parts-body u.body s h) l.0.body)
+above-parts (At (place.Value u)) (At x) s l h = absurd (none_some x l)
+above-parts (At (place.Value u)) _ s l h = absurd l
+above-parts (At _) f s l h = absurd (none_some s h)
+above-parts (InUrl u t r) _ s l h = absurd l
+above-parts _ f s l h = absurd (none_some s h)
+
+pub below-reference : (g f : Scan) → ScanBelow g f → scan_reference g ≡ scan_reference f
+below-reference (At x) (At y) l = refl
+below-reference (At x) (InUrl v y z) l = absurd l
+below-reference (At x) _ l = refl
+below-reference (InUrl u t r) (InUrl v y z) l = l.2
+below-reference (InUrl u t r) _ l = absurd l
+below-reference (InAttributeName t x n) (InUrl v y z) l = absurd l
+below-reference (InAttributeName t x n) _ l = refl
+below-reference AfterLess f l = ap scan_reference l
+below-reference AfterLessSolidus f l = ap scan_reference l
+below-reference (InDeclaration x) f l = ap scan_reference l
+below-reference (InTagName x y) f l = ap scan_reference l
+below-reference (InCommentEnd x) f l = ap scan_reference l
+below-reference (InContentEnd x y) f l = ap scan_reference l
+below-reference (BeforeType x) f l = ap scan_reference l
+below-reference (InType x y z w) f l = ap scan_reference l
+
+-- Where a byte leads in a URL: out of it, or on, behind the bytes that it is fed.
+pub record Goes (v : ValuePlace) (r : Reference) (c : Class) (b : ℕ) (s : Parts) (f : Scan) : Type 0 where
+  pub parts : (scan_parts f ≡ None) ⊎ (scan_parts f ≡ Some (feed_bytes parts_feeding s (fed_in v.quotes r c b)))
+  pub reference : (scan_reference f ≡ Closed) ⊎ (scan_reference f ≡ next_reference r c b)
+
+fed-on : (v : ValuePlace) (q : Quotes) (x : Body) (t : Triple) (r : Reference) (c : Class) (b : ℕ) (s : Parts) → x ≡ body.Url s
+    → (scan_parts (value_fed v q x t r c b) ≡ Some (feed_bytes parts_feeding s (undone_byte true r c b)))
+    × (scan_reference (value_fed v q x t r c b) ≡ next_reference r c b)
+fed-on v q x t r c b s e =
+    let bytes = undone_byte true r c b in
+    let w = with_parts v q (feed_bytes parts_feeding s bytes) in (
+      ap (λ (y : Body). scan_parts (value_fed v q y t r c b)) e ∙ url-parts w (triple_behind t bytes) (next_reference r c b),
+      ap (λ (y : Body). scan_reference (value_fed v q y t r c b)) e ∙ url-reference w (triple_behind t bytes) (next_reference r c b),
+    )
+
+goes-on : (v : ValuePlace) (q p : Quotes) (t : Triple) (r : Reference) (c : Class) (b : ℕ) (s : Parts) → v.body ≡ body.Url s → v.quotes ≡ p
+    → fed_in p r c b ≡ undone_byte true r c b → Goes v r c b s (value_fed v q v.body t r c b)
+goes-on v q p t r c b s e d i =
+    let f = fed-on v q v.body t r c b s e in
+    record {
+      parts = inr (f.0 ∙ ap (λ (bytes : List ℕ). Some (feed_bytes parts_feeding s bytes)) (sym (ap (λ (z : Quotes). fed_in z r c b) d ∙ i)));
+      reference = inr f.1;
+    }
+
+goes-kept : (v : ValuePlace) (q p : Quotes) (r : Reference) (c : Class) (b : ℕ) (s : Parts) → v.body ≡ body.Url s → v.quotes ≡ p → fed_in p r c b ≡ []
+    → Goes v r c b s (with_quotes v q)
+goes-kept v q p r c b s e d i = record {
+  parts = inr (ap body_parts e ∙ ap (λ (bytes : List ℕ). Some (feed_bytes parts_feeding s bytes)) (sym (ap (λ (z : Quotes). fed_in z r c b) d ∙ i)));
+  reference = inl refl;
+}
+
+goes-out : (v : ValuePlace) (r : Reference) (c : Class) (b : ℕ) (s : Parts) (f : Scan) → scan_parts f ≡ None → scan_reference f ≡ Closed → Goes v r c b s f
+goes-out v r c b s f h k = record { parts = inl h; reference = inl k }
+
+content-out : (t : TagOf) → (scan_parts (content_scan t) ≡ None) × (scan_reference (content_scan t) ≡ Closed)
+content-out tag.End = (refl, refl)
+content-out (tag.Start element.Title) = (refl, refl)
+content-out (tag.Start element.Textarea) = (refl, refl)
+content-out (tag.Start element.DataBlock) = (refl, refl)
+content-out (tag.Start _) = (refl, refl)
+
+goes-white : (v : ValuePlace) (uq : Bool) (p : Quotes) (r : Reference) (b : ℕ) (s : Parts) → v.body ≡ body.Url s → v.quotes ≡ p
+    → fed_in p r White b ≡ [] → Goes v r White b s (bare_white v uq)
+goes-white v true p r b s e d i = goes-out v r White b s _ refl refl
+goes-white v false p r b s e d i = goes-kept v _ p r White b s e d i
+
+goes-quoted : (v : ValuePlace) (q : Quotes) (t : Triple) (r : Reference) (c : Class) (b : ℕ) (s : Parts) → v.body ≡ body.Url s → v.quotes ≡ q
+    → Goes v r c b s (quoted_next v q t r c b)
+goes-quoted v quotes.Dq t r QuotationMark b s e d = goes-out v r QuotationMark b s _ refl refl
+goes-quoted v quotes.Dq t r c b s e d = goes-on v quotes.Dq quotes.Dq t r c b s e d refl
+goes-quoted v quotes.Sq t r Apostrophe b s e d = goes-out v r Apostrophe b s _ refl refl
+goes-quoted v quotes.Sq t r c b s e d = goes-on v quotes.Sq quotes.Sq t r c b s e d refl
+goes-quoted v (quotes.Bare x) t r White b s e d = goes-white v x.uq (quotes.Bare x) r b s e d refl
+goes-quoted v (quotes.Bare x) t r QuotationMark b s e d = goes-kept v quotes.Dq (quotes.Bare x) r QuotationMark b s e d refl
+goes-quoted v (quotes.Bare x) t r Apostrophe b s e d = goes-kept v quotes.Sq (quotes.Bare x) r Apostrophe b s e d refl
+goes-quoted v (quotes.Bare x) t r GreaterThan b s e d =
+    (let o = content-out v.tag in goes-out v r GreaterThan b s (content_scan v.tag) o.0 o.1)
+goes-quoted v (quotes.Bare x) t r c b s e d = goes-on v _ (quotes.Bare x) t r c b s e d refl
+
+pub goes : (f : Scan) (s : Parts) (u : UrlAt f s) (c : Class) (b : ℕ) → Goes u.value u.reference c b s (scan_next f c b)
+goes f s u c b =
+    subst (Goes u.value u.reference c b s) (sym (u.next c b)) (goes-quoted u.value u.value.quotes u.triple u.reference c b s u.body refl)
+
+-- Elsewhere no byte leads to a URL in which paths have spelled different things, nor into a reference.
+abbrev pub IsFresh : Scan → Type 0
+IsFresh f = (is_apart (scan_parts f) ≡ false) × (scan_reference f ≡ Closed)
+
+content-fresh : (t : TagOf) → IsFresh (content_scan t)
+content-fresh t = (let o = content-out t in (ap is_apart o.0, o.1))
+
+begins-fresh : (t : TagOf) (typed : Bool) (k : Kind) → IsFresh (value_scan t typed (Some k))
+begins-fresh t typed kind.Plain = (refl, refl)
+begins-fresh t typed kind.NoHole = (refl, refl)
+begins-fresh t typed kind.Url = (refl, refl)
+begins-fresh t typed kind.ScriptType = (refl, refl)
+begins-fresh t typed _ = (refl, refl)
+
+equals-fresh : (t : TagOf) (typed : Bool) (o : Option Kind) → IsFresh (value_scan t typed o)
+equals-fresh t typed (Some k) = begins-fresh t typed k
+equals-fresh t typed None = (refl, refl)
+
+tag-fresh : (t : TagPlace) (c : Class) (b : ℕ) → IsFresh (tag_next t c b)
+tag-fresh t White b = (refl, refl)
+tag-fresh t Solidus b = (refl, refl)
+tag-fresh t GreaterThan b = content-fresh t.tag
+tag-fresh t EqualsSign b = equals-fresh t.tag t.typed t.kind
+tag-fresh t _ b = (refl, refl)
+
+fed-fresh : (v : ValuePlace) (q : Quotes) (x : Body) (t : Triple) (r : Reference) (c : Class) (b : ℕ) → body_parts v.body ≡ None → body_parts x ≡ None
+    → IsFresh (value_fed v q x t r c b)
+fed-fresh v q (body.Url s) t r c b h k = absurd (none_some s (sym k))
+fed-fresh v q _ t r c b h k = (ap is_apart h, refl)
+
+white-fresh : (v : ValuePlace) (uq : Bool) → body_parts v.body ≡ None → IsFresh (bare_white v uq)
+white-fresh v true h = (refl, refl)
+white-fresh v false h = (ap is_apart h, refl)
+
+quotes-fresh : (v : ValuePlace) (q : Quotes) (t : Triple) (r : Reference) (c : Class) (b : ℕ) → body_parts v.body ≡ None → IsFresh (quoted_next v q t r c b)
+quotes-fresh v quotes.Dq t r QuotationMark b h = (refl, refl)
+quotes-fresh v quotes.Dq t r c b h = fed-fresh v quotes.Dq v.body t r c b h h
+quotes-fresh v quotes.Sq t r Apostrophe b h = (refl, refl)
+quotes-fresh v quotes.Sq t r c b h = fed-fresh v quotes.Sq v.body t r c b h h
+quotes-fresh v (quotes.Bare s) t r White b h = white-fresh v s.uq h
+quotes-fresh v (quotes.Bare s) t r QuotationMark b h = (ap is_apart h, refl)
+quotes-fresh v (quotes.Bare s) t r Apostrophe b h = (ap is_apart h, refl)
+quotes-fresh v (quotes.Bare s) t r GreaterThan b h = content-fresh v.tag
+quotes-fresh v (quotes.Bare s) t r c b h = fed-fresh v _ v.body t r c b h h
+
+closed-fresh : (closed : Bool) → IsFresh (comment_closed closed)
+closed-fresh true = (refl, refl)
+closed-fresh false = (refl, refl)
+
+scan-of-fresh : (s : CommentState) → IsFresh (comment_scan s)
+scan-of-fresh Inside = (refl, refl)
+scan-of-fresh Broken = (refl, refl)
+scan-of-fresh _ = (refl, refl)
+
+comment-fresh : (s : CommentState) (c : Class) → IsFresh (comment_next c s)
+comment-fresh s GreaterThan = closed-fresh (closes_comment s)
+comment-fresh s _ = scan-of-fresh (next_comment s _)
+
+rest-fresh : (e : Element) → IsFresh (At (rest_place e))
+rest-fresh element.DataBlock = (refl, refl)
+rest-fresh _ = (refl, refl)
+
+loose-fresh : (c : Class) (e : Element) → IsFresh (content_next c e)
+loose-fresh LessThan e = (refl, refl)
+loose-fresh _ e = rest-fresh e
+
+pending-less-fresh : (c : Class) (e : Element) → IsFresh (pending_less_next c e)
+pending-less-fresh Solidus e = (refl, refl)
+pending-less-fresh ExclamationMark element.DataBlock = (refl, refl)
+pending-less-fresh ExclamationMark _ = (refl, refl)
+pending-less-fresh LessThan e = (refl, refl)
+pending-less-fresh _ e = rest-fresh e
+
+text-fresh : (c : Class) (b : ℕ) → IsFresh (scan_next (At place.Text) c b)
+text-fresh LessThan b = (refl, refl)
+text-fresh _ b = (refl, refl)
+
+place-next-fresh : (p : Place) (c : Class) (b : ℕ) → scan_parts (At p) ≡ None → IsFresh (scan_next (At p) c b)
+place-next-fresh place.Text c b h = text-fresh c b
+place-next-fresh place.Doctype GreaterThan b h = (refl, refl)
+place-next-fresh place.Doctype _ b h = (refl, refl)
+place-next-fresh (place.Comment dash) c b h = comment-fresh (comment_state dash) c
+place-next-fresh (place.Rcdata e) c b h = loose-fresh c e
+place-next-fresh (place.Tag t) c b h = tag-fresh t c b
+place-next-fresh (place.Value x) c b h = quotes-fresh x x.quotes NoTriple Closed c b h
+place-next-fresh (place.Script j) c b h = (refl, refl)
+place-next-fresh (place.Style j) c b h = (refl, refl)
+place-next-fresh (place.Block lt) c b h = loose-fresh c element.DataBlock
+
+less-fresh : (c : Class) (b : ℕ) → IsFresh (scan_next AfterLess c b)
+less-fresh (Letter l) b = (refl, refl)
+less-fresh Solidus b = (refl, refl)
+less-fresh ExclamationMark b = (refl, refl)
+less-fresh LessThan b = (refl, refl)
+less-fresh _ b = (refl, refl)
+
+solidus-fresh : (c : Class) (b : ℕ) → IsFresh (scan_next AfterLessSolidus c b)
+solidus-fresh (Letter l) b = (refl, refl)
+solidus-fresh LessThan b = (refl, refl)
+solidus-fresh _ b = (refl, refl)
+
+declaration-fresh : (d : Declaration) (c : Class) (b : ℕ) (pending : List ℕ) → IsFresh (declaration_next d c b pending)
+declaration-fresh OpensComment c b pending = (refl, refl)
+declaration-fresh OpensDoctype c b pending = (refl, refl)
+declaration-fresh Undecided c b pending = (refl, refl)
+declaration-fresh OpensNothing c b pending = text-fresh c b
+
+tag-name-fresh : (c : Class) (b : ℕ) (ends : Bool) (name : List ℕ) → IsFresh (tag_name_next c b ends name)
+tag-name-fresh White b ends name = (refl, refl)
+tag-name-fresh Solidus b ends name = (refl, refl)
+tag-name-fresh GreaterThan b ends name = content-fresh (tag_of_name ends name)
+tag-name-fresh _ b ends name = (refl, refl)
+
+attribute-fresh : (c : Class) (b : ℕ) (t : TagOf) (typed : Bool) (k : Kind) (name : List ℕ) → IsFresh (attribute_name_next c b t typed k name)
+attribute-fresh White b t typed k name = (refl, refl)
+attribute-fresh Solidus b t typed k name = (refl, refl)
+attribute-fresh GreaterThan b t typed k name = content-fresh t
+attribute-fresh EqualsSign b t typed k name = begins-fresh t typed k
+attribute-fresh _ b t typed k name = (refl, refl)
+
+end-name-fresh : (grows whole : Bool) (c : Class) (b : ℕ) (e : Element) (letters : List ℕ) → IsFresh (end_name_next grows whole c b e letters)
+end-name-fresh true true (Letter l) b e letters = (refl, refl)
+end-name-fresh true false (Letter l) b e letters = (refl, refl)
+end-name-fresh false true (Letter l) b e letters = rest-fresh e
+end-name-fresh false false (Letter l) b e letters = rest-fresh e
+end-name-fresh true true White b e letters = (refl, refl)
+end-name-fresh false true White b e letters = (refl, refl)
+end-name-fresh true true Solidus b e letters = (refl, refl)
+end-name-fresh false true Solidus b e letters = (refl, refl)
+end-name-fresh true true GreaterThan b e letters = (refl, refl)
+end-name-fresh false true GreaterThan b e letters = (refl, refl)
+end-name-fresh true true c b e letters = loose-fresh c e
+end-name-fresh false true c b e letters = loose-fresh c e
+end-name-fresh true false c b e letters = loose-fresh c e
+end-name-fresh false false c b e letters = loose-fresh c e
+
+bang-fresh : (c : Class) (b : ℕ) (e : Element) → IsFresh (content_end_next PendingBang c b e)
+bang-fresh HyphenMinus b e = (refl, refl)
+bang-fresh LessThan b e = (refl, refl)
+bang-fresh _ b e = rest-fresh e
+
+content-end-fresh : (h : Pending) (c : Class) (b : ℕ) (e : Element) → IsFresh (content_end_next h c b e)
+content-end-fresh PendingLess c b e = pending-less-fresh c e
+content-end-fresh PendingBang c b e = bang-fresh c b e
+content-end-fresh (PendingName letters) c b e = end-name-fresh (may_be_name_of e (letters ++ b ∷ [])) (is_name_of e letters) c b e letters
+content-end-fresh PendingBangDash c b e = loose-fresh c e
+content-end-fresh LessAtCut c b e = loose-fresh c e
+content-end-fresh Nothing c b e = loose-fresh c e
+
+before-type-fresh : (c : Class) (b : ℕ) (t : TagOf) → IsFresh (before_type_next c b t)
+before-type-fresh White b t = (refl, refl)
+before-type-fresh QuotationMark b t = (refl, refl)
+before-type-fresh Apostrophe b t = (refl, refl)
+before-type-fresh GreaterThan b t = content-fresh (type_tag t type_begun)
+before-type-fresh _ b t = (refl, refl)
+
+after-type-fresh : (q : Quoting) (c : Class) (t : TagOf) → IsFresh (after_type q c t)
+after-type-fresh Unquoted GreaterThan t = content-fresh t
+after-type-fresh Unquoted _ t = (refl, refl)
+after-type-fresh DoubleQuoted c t = (refl, refl)
+after-type-fresh SingleQuoted c t = (refl, refl)
+
+type-fresh : (ends : Bool) (c : Class) (b : ℕ) (t : TagOf) (q : Quoting) (v : Value ValueState) (r : Reference) → IsFresh (type_next ends c b t q v r)
+type-fresh true c b t q v r = after-type-fresh q c (type_tag t (ended_type v r))
+type-fresh false c b t q v r = (refl, refl)
+
+pub scan-fresh : (f : Scan) (c : Class) (b : ℕ) → scan_parts f ≡ None → IsFresh (scan_next f c b)
+scan-fresh (At p) c b h = place-next-fresh p c b h
+scan-fresh AfterLess c b h = less-fresh c b
+scan-fresh AfterLessSolidus c b h = solidus-fresh c b
+scan-fresh (InDeclaration pending) c b h = declaration-fresh (declared_by (pending ++ b ∷ [])) c b pending
+scan-fresh (InTagName ends name) c b h = tag-name-fresh c b ends name
+scan-fresh (InAttributeName t typed name) c b h = attribute-fresh c b t typed (kind_of (element_on t) name) name
+scan-fresh (InUrl v t r) c b h = quotes-fresh v v.quotes t r c b h
+scan-fresh (InCommentEnd s) c b h = comment-fresh s c
+scan-fresh (InContentEnd e x) c b h = content-end-fresh x c b e
+scan-fresh (BeforeType t) c b h = before-type-fresh c b t
+scan-fresh (InType t q v r) c b h = type-fresh (ends_value q c) c b t q v r
+
+-- No reference that is open has a `:` in it.
+abbrev pub ScanPlain : Scan → Type 0
+ScanPlain f = ReferencePlain (scan_reference f)
+
+plain-by : (f g : Scan) (b : ℕ) (r : Reference) → scan_reference f ≡ r → (scan_reference g ≡ Closed) ⊎ (scan_reference g ≡ next_reference r (class_of b) b)
+    → ScanPlain f → ScanPlain g
+plain-by f g b r i (inl h) n = subst ReferencePlain (sym h) tt
+plain-by f g b r i (inr h) n = subst ReferencePlain (sym h) (next-plain r b (subst ReferencePlain i n))
+
+plain-cases : (f : Scan) (b : ℕ) (o : Option Parts) → scan_parts f ≡ o → ScanValid f → ScanPlain f → ScanPlain (scan_next f (class_of b) b)
+plain-cases f b None h v n = subst ReferencePlain (sym (scan-fresh f (class_of b) b h).1) tt
+plain-cases f b (Some s) h v n =
+    let u = url-at f s v h in
+    plain-by f (scan_next f (class_of b) b) b u.reference u.holds (goes f s u (class_of b) b).reference n
+
+pub scan-plain : (f : Scan) (b : ℕ) → ScanValid f → ScanPlain f → ScanPlain (scan_next f (class_of b) b)
+scan-plain f b v n = plain-cases f b (scan_parts f) refl v n
+
+-- How many bytes back the reference that is open begins.
+abbrev pub reference_length : Reference → ℕ
+reference_length Closed = 0
+reference_length (Open f bytes) = length bytes + 1
+
+begun-length : (c : Class) → reference_length (begin_reference c) ≤ 1
+begun-length Ampersand = omega arith
+begun-length _ = omega arith
+
+turned-length : (step : ReferenceStep) (f : Form) (bytes : List ℕ) (c : Class) (b : ℕ)
+    → reference_length (reference_turned step bytes c b) ≤ reference_length (Open f bytes) + 1
+turned-length (Grows g) f bytes c b = let l = length-append bytes (b ∷ []) in omega (arith, l)
+turned-length Closes f bytes c b = omega arith
+turned-length Breaks f bytes c b = let l = begun-length c in omega (arith, l)
+
+pub next-length : (r : Reference) (c : Class) (b : ℕ) → reference_length (next_reference r c b) ≤ reference_length r + 1
+next-length Closed c b = begun-length c
+next-length (Open f bytes) c b = turned-length (turn c f) f bytes c b
+
+length-by : (f g : Scan) (c : Class) (b : ℕ) (r : Reference) → scan_reference f ≡ r → (scan_reference g ≡ Closed) ⊎ (scan_reference g ≡ next_reference r c b)
+    → reference_length (scan_reference g) ≤ reference_length (scan_reference f) + 1
+length-by f g c b r i (inl h) = let e = ap reference_length h in omega (arith, e)
+length-by f g c b r i (inr h) =
+    let e = ap reference_length h in
+    let d = ap reference_length i in
+    let l = next-length r c b in
+    omega (arith, e, d, l)
+
+pub scan-length : (f : Scan) (s : Parts) (u : UrlAt f s) (c : Class) (b : ℕ)
+    → reference_length (scan_reference (scan_next f c b)) ≤ reference_length (scan_reference f) + 1
+scan-length f s u c b = length-by f (scan_next f c b) c b u.reference u.holds (goes f s u c b).reference

@@ -1,0 +1,131 @@
+-- What is refused on two paths together that meet before a text or a hole, none of which is refused alone; and paths that are apart in the
+-- beginning of a URL.
+use Rattle.std.specs.Prelude.{◌≡◌, ℕ, zero, suc, Bool, true, false, not, List, [], ◌∷◌, Option, Some, None, option_map, ◌⊎◌}
+use Rattle.place_core.specs.page.Classes.{Class, White, class_of}
+use Rattle.place_core.specs.page.Html.{next}
+use Rattle.place_core.specs.page.References.{Closed, Open, ReferenceStep, Breaks, turn}
+use Rattle.place_core.specs.page.States.{Template, LexState, BeforeAttributeValue, AttributeValue}
+use Rattle.place_core.specs.page.Tags.{ValueOf, ValueState, OfUrl, Unquoted, languages, refusal_code}
+use Rattle.place_core.specs.place.ApartPlaces.{ArePlacesApart, side}
+use Rattle.place_core.specs.place.Errors.{byte_error, node, path_refusal, place_before_bytes, value_before}
+use Rattle.place_core.specs.place.Membership.{Bears}
+use Rattle.place_core.specs.place.StatePlaces.{placed}
+use Rattle.url_lexer.specs.Parts.{UrlPart, UrlStart, UrlOpen}
+use Rattle.url_lexer.specs.Prefixes.{Differs}
+use Rattle.url_lexer.specs.TwoPaths.{is_open, refuses_hole_on_two}
+use Rattle.place_core.specs.declared.code.Code.{Code}
+use Rattle.place_core.specs.declared.code.Code.TheVariants as code
+use Rattle.place_core.specs.declared.kind.Kind.{Kind}
+use Rattle.place_core.specs.declared.kind.Kind.TheVariants as kind
+use Rattle.place_core.specs.declared.place.Place.{Place}
+
+-- A value of a kind that has a place where it begins.
+abbrev pub begun_clash : Kind → Option Code
+begun_clash kind.ScriptType = None
+begun_clash k = Some code.AmbigContext
+
+-- White space, where one path is in a value without quotes and the other before a value: it ends the one and does nothing to the other.
+abbrev pub byte_clash : LexState ValueState → LexState ValueState → Class → Option Code
+byte_clash (BeforeAttributeValue t k) (AttributeValue Unquoted u (ValueOf v) r) White = begun_clash k
+byte_clash (AttributeValue Unquoted u (ValueOf v) r) (BeforeAttributeValue t k) White = begun_clash k
+byte_clash s r c = None
+
+-- Two paths are apart at the end of a node: both are in the beginning of a URL, and it spells different things.
+pub record Apart (s r : LexState ValueState) : Type 0 where
+  pub own : Place
+  pub other_own : Place
+  pub stands : placed s ≡ Some own
+  pub other_stands : placed r ≡ Some other_own
+  pub apart : ArePlacesApart own other_own
+
+-- Whether a reference is open before the bytes that are left of a text, with which the next byte goes on.
+abbrev pub is_broken_by : ReferenceStep → Bool
+is_broken_by Breaks = true
+is_broken_by step = false
+
+abbrev pub is_in_reference : LexState ValueState → List ℕ → Bool
+is_in_reference (AttributeValue q t v (Open f bytes)) (b ∷ bs) = not (is_broken_by (turn (class_of b) f))
+is_in_reference s bs = false
+
+-- likewise, before the bytes that are left of a text, and not within a reference
+pub record ApartBefore (bytes : List ℕ) (s r : LexState ValueState) : Type 0 where
+  pub own : Place
+  pub other_own : Place
+  pub between : is_in_reference s bytes ≡ false
+  pub other_between : is_in_reference r bytes ≡ false
+  pub stands : place_before_bytes s bytes ≡ Some own
+  pub other_stands : place_before_bytes r bytes ≡ Some other_own
+  pub apart : ArePlacesApart own other_own
+
+-- The state before the bytes that are left of a text: a reference that the next byte breaks has been read.
+abbrev pub read_before : ReferenceStep → LexState ValueState → LexState ValueState → LexState ValueState
+read_before Breaks read s = read
+read_before step read s = s
+
+abbrev pub state_before : LexState ValueState → List ℕ → LexState ValueState
+state_before (AttributeValue q t v (Open f bytes)) (b ∷ bs) =
+    read_before (turn (class_of b) f) (AttributeValue q t (value_before Breaks v (class_of b) f bytes) Closed) (AttributeValue q t v (Open f bytes))
+state_before s bs = s
+
+-- A path that is in the beginning of a URL stays in it, at each byte of a text and at its end.
+abbrev pub is_in_beginning : LexState ValueState → Bool
+is_in_beginning (AttributeValue q t (ValueOf (OfUrl u)) r) = is_open u.part
+is_in_beginning s = false
+
+abbrev pub Keeps : List ℕ → LexState ValueState → Type 0
+Keeps [] s = Bears (node [] s) side
+Keeps (b ∷ bs) s = (is_in_beginning s ≡ true) × Keeps bs (next languages Template s (class_of b) b)
+
+-- Two paths come apart within a text, and both stay in the beginning from there to its end.
+abbrev pub PartWithin : List ℕ → LexState ValueState → LexState ValueState → Type 0
+PartWithin [] s r = ⊥
+PartWithin (b ∷ bs) s r =
+    (ApartBefore bs (next languages Template s (class_of b) b) (next languages Template r (class_of b) b)
+    × Keeps bs (state_before (next languages Template s (class_of b) b) bs)
+    × Keeps bs (state_before (next languages Template r (class_of b) b) bs))
+    ⊎ PartWithin bs (next languages Template s (class_of b) b) (next languages Template r (class_of b) b)
+
+-- The path with a beginning of which it is not known what it spells. A `:` is refused on it, as long as it stays in the beginning.
+abbrev pub unknown_part : UrlPart → UrlPart
+unknown_part (UrlOpen p) = UrlOpen Differs
+unknown_part p = p
+
+abbrev pub unknown_beginning : LexState ValueState → LexState ValueState
+unknown_beginning (AttributeValue q t (ValueOf (OfUrl u)) r) =
+    AttributeValue q t (ValueOf (OfUrl (record { part = unknown_part u.part; scheme = u.scheme; triple = u.triple; free = u.free }))) r
+unknown_beginning s = s
+
+pub record MeetsColon (bytes : List ℕ) (s : LexState ValueState) (at : ℕ) : Type 0 where
+  pub shown : ℕ
+  pub begins : is_in_beginning s ≡ true
+  pub refused : path_refusal bytes (unknown_beginning s) ≡ Some (record { code = code.AmbigContext; at = at; shown = shown })
+
+-- Two paths that met apart before a text are refused together at a `:` of it, where both stay in the beginning up to there.
+pub record ClashesApart (bytes : List ℕ) (s r : LexState ValueState) (e : Code) (at : ℕ) : Type 0 where
+  pub is : e ≡ code.AmbigContext
+  pub one : MeetsColon bytes s at
+  pub other : MeetsColon bytes r at
+
+-- Two paths, of which neither is refused before this byte of a text, are refused together there: for white space, or at a `:` behind a byte of
+-- the text behind which they were apart.
+abbrev pub Clashes : List ℕ → LexState ValueState → LexState ValueState → Code → ℕ → Type 0
+Clashes [] s r e at = ⊥
+Clashes (b ∷ bs) s r e zero = byte_clash s r (class_of b) ≡ Some e
+Clashes (b ∷ bs) s r e (suc at) =
+    (byte_error s (class_of b) b ≡ None) × (byte_error r (class_of b) b ≡ None)
+    × ((ApartBefore bs (next languages Template s (class_of b) b) (next languages Template r (class_of b) b)
+    × ClashesApart bs (state_before (next languages Template s (class_of b) b) bs) (state_before (next languages Template r (class_of b) b) bs) e at)
+    ⊎ Clashes bs (next languages Template s (class_of b) b) (next languages Template r (class_of b) b) e at)
+
+-- Two paths at one hole are refused together there where both are in one URL, in different parts of it: no one chain of sanitizers fits both.
+abbrev pub url_part_at : LexState ValueState → Option UrlPart
+url_part_at (BeforeAttributeValue t kind.Url) = Some UrlStart
+url_part_at (AttributeValue q t (ValueOf (OfUrl u)) r) = Some u.part
+url_part_at s = None
+
+abbrev pub parts_clash : Option UrlPart → Option UrlPart → Option Code
+parts_clash (Some p) (Some q) = option_map refusal_code (refuses_hole_on_two p q)
+parts_clash o r = None
+
+abbrev pub ClashesHole : LexState ValueState → LexState ValueState → Code → Type 0
+ClashesHole s r e = parts_clash (url_part_at s) (url_part_at r) ≡ Some e

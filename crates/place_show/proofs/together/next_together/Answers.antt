@@ -1,0 +1,16 @@
+use Rattle.std.proofs.Common.{refl, sym, subst, true}
+use Rattle.place_core.proofs.Semilattices.{of_some}
+use Rattle.place_show.proofs.GoingTogether.{next-on}
+use Rattle.place_show.specs.Together.{GoOnTogether, LastPlaces, StepTogether}
+use Rattle.place_show.proofs.together.next_together.Goals as goal
+
+pub returns-in-Some : goal.returns-in-Some
+returns-in-Some c = λ w0 v0 h.
+    let forest = c.args.flows.now in
+    let w = c.back_together.new.one in
+    let v = c.back_together.new.other in
+    let w1 = c.step_together.new.one in
+    let v1 = c.step_together.new.other in
+    let step = of_some (StepTogether true forest w v w1 v1) c.in_ok-found.field-0 c.in-Some.found c.in_ok-found.ensures c.in-Some.is in
+    subst (λ (x : LastPlaces). GoOnTogether forest w0 v0 w1 v1 x) (sym c.latest.ensures)
+    (next-on forest w0 v0 w v w1 v1 c.args.last c.in-Some.found step (c.if-not-back_together.ensures refl w0 v0 c.args.last h))
