@@ -1,0 +1,4 @@
+pub mod ScriptScanLaws
+pub mod ScriptScans
+pub mod ScriptSetLaws
+pub mod ScriptValidity

@@ -1,0 +1,45 @@
+ghost use Rattle.js_step.specs.ScriptScanLaws.{IsExactOnOneScript, ScriptsBeginAsOne};
+ghost use Rattle.js_step.specs.ScriptSetLaws.{EmptyTextsKeepScripts, ScriptSensesShare};
+ghost use Rattle.js_step.specs.ScriptSetLaws.{ScriptSensesUnite, ScriptTailsGrow};
+ghost use Rattle.js_step.specs.ScriptValidity.{ScriptsStayValid};
+
+/// Within a text, from the place of one path, what a byte of text, the end of a node and a hole make of it and what is refused is the
+/// path's own. A theorem; the call does nothing at run time.
+pub fn is_exact_on_one_script()
+    ensures { IsExactOnOneScript }
+{}
+
+/// A text of no bytes keeps the place, and its end is not refused. A theorem; the call does nothing at run time.
+pub fn empty_texts_keep_scripts()
+    ensures { EmptyTextsKeepScripts }
+{}
+
+/// A place has at least one sense of a slash behind each byte, at the end of a node and behind a hole. A theorem; the call does nothing
+/// at run time.
+pub fn scripts_stay_valid()
+    ensures { ScriptsStayValid }
+{}
+
+/// So it is at the first character of a text, where a node ended before it that leaves no bytes of HTML but `<`, `#` and `-`. A theorem;
+/// the call does nothing at run time.
+pub fn scripts_begin_as_one()
+    ensures { ScriptsBeginAsOne }
+{}
+
+/// What a place accepts is accepted where paths have ended in less before the text, and so by each path there. A theorem; the call does
+/// nothing at run time.
+pub fn script_tails_grow()
+    ensures { ScriptTailsGrow }
+{}
+
+/// Paths that differ in what a slash would be share their state in code and in comments but for that, behind each byte. A theorem; the
+/// call does nothing at run time.
+pub fn script_senses_share()
+    ensures { ScriptSensesShare }
+{}
+
+/// In code and in comments, each path is refused what the place refuses, whatever a slash would be there, and what it would be behind a
+/// byte is among the senses of the place behind it. A theorem; the call does nothing at run time.
+pub fn script_senses_unite()
+    ensures { ScriptSensesUnite }
+{}
