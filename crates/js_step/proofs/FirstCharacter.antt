@@ -537,40 +537,25 @@ still-before a h m e b f =
     ∙ (ap (λ (x : JsTails). script_scan (script_senses s) x (script_star_at a) (begun-state a (held_after h b) [])) held.tails
     ∙ ap script_alone_before (sym held.fed)))))
 
--- the end of a node
-same-cut : (a : At) (h m : List ℕ) → EndsBefore a h m → script_refuses_cut (begun-state a h m) ≡ script_refuses_cut (script_before a h m)
-same-cut _ _ _ (ends_code s h) = refl
-same-cut _ _ _ (ends_less s) = refl
-same-cut _ _ _ (ends_hash s) = refl
-same-cut _ _ _ (ends_word w h) = refl
-same-cut _ _ _ (ends_number h) = refl
-same-cut _ _ _ (ends_pluses odd h) = refl
-same-cut _ _ _ (ends_minuses odd h) = refl
-same-cut _ _ _ (ends_minus odd) = refl
-same-cut _ _ _ (ends_two_minuses odd) = refl
-same-cut _ _ _ ends_regexp_slash = refl
-same-cut _ _ _ (ends_slash h) = refl
-same-cut _ _ _ (ends_line s h) = refl
-same-cut _ _ _ (ends_block s star) = refl
-same-cut _ _ _ (ends_string q) = refl
-same-cut _ _ _ ends_regexp = refl
-
-same-end : (a : At) (h m : List ℕ) → EndsBefore a h m → refuses_end (begun-state a h m) ≡ refuses_end (script_before a h m)
-same-end _ _ _ (ends_code s h) = refl
-same-end _ _ _ (ends_less s) = refl
-same-end _ _ _ (ends_hash s) = refl
-same-end _ _ _ (ends_word w h) = refl
-same-end _ _ _ (ends_number h) = refl
-same-end _ _ _ (ends_pluses odd h) = refl
-same-end _ _ _ (ends_minuses odd h) = refl
-same-end _ _ _ (ends_minus odd) = refl
-same-end _ _ _ (ends_two_minuses odd) = refl
-same-end _ _ _ ends_regexp_slash = refl
-same-end _ _ _ (ends_slash h) = refl
-same-end _ _ _ (ends_line s h) = refl
-same-end _ _ _ (ends_block s star) = refl
-same-end _ _ _ (ends_string q) = refl
-same-end _ _ _ ends_regexp = refl
+-- the end of a node, and of a value
+same-ends : (a : At) (h m : List ℕ) → EndsBefore a h m
+    → (script_refuses_cut (begun-state a h m) ≡ script_refuses_cut (script_before a h m))
+    × (refuses_end (begun-state a h m) ≡ refuses_end (script_before a h m))
+same-ends _ _ _ (ends_code s h) = (refl, refl)
+same-ends _ _ _ (ends_less s) = (refl, refl)
+same-ends _ _ _ (ends_hash s) = (refl, refl)
+same-ends _ _ _ (ends_word w h) = (refl, refl)
+same-ends _ _ _ (ends_number h) = (refl, refl)
+same-ends _ _ _ (ends_pluses odd h) = (refl, refl)
+same-ends _ _ _ (ends_minuses odd h) = (refl, refl)
+same-ends _ _ _ (ends_minus odd) = (refl, refl)
+same-ends _ _ _ (ends_two_minuses odd) = (refl, refl)
+same-ends _ _ _ ends_regexp_slash = (refl, refl)
+same-ends _ _ _ (ends_slash h) = (refl, refl)
+same-ends _ _ _ (ends_line s h) = (refl, refl)
+same-ends _ _ _ (ends_block s star) = (refl, refl)
+same-ends _ _ _ (ends_string q) = (refl, refl)
+same-ends _ _ _ ends_regexp = (refl, refl)
 
 -- the place, where nothing is held back
 abbrev begun-place : At → List ℕ → Js
@@ -619,10 +604,10 @@ before-as-one a h m e = record {
   held = λ b f. subst IsBeforeText (sym (first-held a h m e b f).fed) (before_text a (held_after h b) [] (first-held a h m e b f).ends);
   cut_error =
       ap (cut-in a h m) (slash-error _ [] (script_begun_at a) (alone-differ (script_sense_at (script_begun_at a))))
-      ∙ (ap script_refuses_cut (own (begun-state a h m)) ∙ same-cut a h m e);
+      ∙ (ap script_refuses_cut (own (begun-state a h m)) ∙ (same-ends a h m e).0);
   end_error =
       ap (end-in a h m) (slash-error _ [] (script_begun_at a) (alone-differ (script_sense_at (script_begun_at a))))
-      ∙ (ap refuses_end (own (begun-state a h m)) ∙ same-end a h m e);
+      ∙ (ap refuses_end (own (begun-state a h m)) ∙ (same-ends a h m e).1);
   place = λ p k. place-at a (script_before a h m).trail p (own-spot (script_before a h m) p k) ∙ same-place a h m e;
   after_cut = λ p k. held-after-cut a h m e p k;
   after_hole = λ p k. held-after-hole a h m e p k;
