@@ -1,6 +1,7 @@
 -- From the place of one path, the step is the path's own.
 use Rattle.std.proofs.Common.{◌≡◌, ◌∙◌, ℕ, Bool, true, false, Option, Some, None, option_map, refl, sym, ap, subst}
 use Rattle.css_lexer.specs.Escapes.{StyleEscape, NoEscape, AfterBackslash, HexDigits, AfterReturn, behind_taken, behind_taken_in_string, behind_byte, is_taken_in_style}
+use Rattle.css_lexer.specs.Paths.{style_after_cut, style_after_hole}
 use Rattle.css_lexer.specs.RefusalCodes.{StyleCutRefusal, first_refusal}
 use Rattle.css_lexer.specs.Refusals.{refuses_split, refuses_behind_hole, refuses_string, refuses_asterisk, refuses_solidus, refuses_bare, refuses_fresh, refuses_quoted, refuses_ended, refuses_in_escape, style_refuses_hole}
 use Rattle.css_lexer.specs.Spots.{StyleSpot, CodeSpot, StringSpot, FreshSpot, UrlSpot, QuotedUrlSpot, EndedSpot, CommentSpot}
@@ -21,7 +22,7 @@ use Rattle.url_lexer.specs.States.{Url, url_start, feed_url}
 use Rattle.url_lexer.specs.Triples.{Triple, NoTriple, AfterPercent, AfterDigit, next_triple}
 use Rattle.url_step.specs.PartSets.{parts_next, parts_at_hole}
 use Rattle.url_step.proofs.OnePath.{one-next, one-error, one-hole-error, one-at-hole}
-use Rattle.css_step.specs.StyleScans.{StyleScan, ScanWord, ScanSplitEscape, ScanSolidus, ScanLessThan, ScanStarBefore, ScanString, ScanFresh, ScanEnded, style_between, ScanCode, ScanComment, ScanBareUrl, ScanQuotedUrl, style_tails, style_split_word, style_scan_start, style_between_next, style_split_next, style_word_next, style_solidus_next, style_comment_next, style_string_next, style_bare_next, style_fresh_next, style_quoted_next, style_ended_next, style_tails_error, style_url_error, style_bare_error, style_fresh_error, style_quoted_error, style_string_place, style_quoted_place, style_at_hole, style_hole_error}
+use Rattle.css_step.specs.StyleScans.{StyleScan, ScanWord, ScanSplitEscape, ScanSolidus, ScanLessThan, ScanStarBefore, ScanString, ScanFresh, ScanEnded, style_between, ScanCode, ScanComment, ScanBareUrl, ScanQuotedUrl, style_tails, style_split_word, style_comment_start, style_scan_start, style_between_next, style_split_next, style_word_next, style_solidus_next, style_comment_next, style_string_next, style_bare_next, style_fresh_next, style_quoted_next, style_ended_next, style_tails_error, style_url_error, style_bare_error, style_fresh_error, style_quoted_error, style_string_place, style_quoted_place, style_at_hole, style_hole_error}
 use Rattle.css_step.specs.StyleScanLaws.{style_place, IsStyleScan, scans_between, scans_less_than, scans_word, scans_solidus, scans_comment, scans_string, scans_behind_hole, scans_split_word, scans_solidus_before, scans_less_than_before, scans_star_before, scans_fresh, scans_bare, scans_quoted, scans_ended, OneStyle, IsExactOnOneStyle}
 
 pub given : {A : Type 0} (a : A) → Some a ≡ None → ⊥
@@ -281,25 +282,14 @@ one-split AfterBackslash = open-split AfterBackslash _ refl
 one-split (HexDigits k) = open-split (HexDigits k) _ refl
 one-split AfterReturn = open-split AfterReturn _ refl
 
-one-comment : (star : Bool) → OneStyle (Out (Comment star)) (ScanComment star)
-one-comment true = record {
-  error = λ c b. refl;
-  next = λ c b n. comment true c;
-  cut_error = refl;
-  place = λ p n. known-place (CommentSpot true) p n;
-  after_cut = λ n. scans_star_before;
-  hole_error = refl;
-  after_hole = λ n m. scans_star_before;
-}
-one-comment false = record {
-  error = λ c b. refl;
-  next = λ c b n. comment false c;
-  cut_error = refl;
-  place = λ p n. known-place (CommentSpot false) p n;
-  after_cut = λ n. scans_comment false;
-  hole_error = refl;
-  after_hole = λ n m. scans_comment false;
-}
+-- a comment, behind a `*` and not
+comment-cut : (star : Bool) → IsStyleScan (style_after_cut urls (Out (Comment star))) (style_comment_start star)
+comment-cut true = scans_star_before
+comment-cut false = scans_comment false
+
+comment-hole : (star : Bool) → IsStyleScan (style_after_hole urls (Out (Comment star))) (style_comment_start star)
+comment-hole true = scans_star_before
+comment-hole false = scans_comment false
 
 pub one-style : (v : Style Url) (n : StyleScan) → IsStyleScan v n → OneStyle v n
 one-style _ _ (scans_between k) = record {
@@ -338,7 +328,15 @@ one-style _ _ (scans_solidus k) = record {
   hole_error = refl;
   after_hole = λ n m. scans_behind_hole true false;
 }
-one-style _ _ (scans_comment star) = one-comment star
+one-style _ _ (scans_comment star) = record {
+  error = λ c b. refl;
+  next = λ c b n. comment star c;
+  cut_error = refl;
+  place = λ p n. known-place (CommentSpot star) p n;
+  after_cut = λ n. comment-cut star;
+  hole_error = refl;
+  after_hole = λ n m. comment-hole star;
+}
 one-style _ _ (scans_string q e) = record {
   error = λ c b. refl;
   next = λ c b n. string (is_taken_in_style e b) q e c b n;

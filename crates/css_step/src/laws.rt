@@ -1,5 +1,8 @@
+ghost use Rattle.css_step.specs.StyleOrigins.{StyleRefusalIsShown, StylesComeFrom};
+ghost use Rattle.css_step.specs.StyleOrigins.{StylesComeFromHole};
 ghost use Rattle.css_step.specs.StyleScanLaws.{IsExactOnOneStyle};
 ghost use Rattle.css_step.specs.StyleSetLaws.{CoversStyles, EmptyTextsKeepStyles, StylesGrow};
+ghost use Rattle.css_step.specs.StyleTexts.{StyleTextsComeFrom};
 ghost use Rattle.css_step.specs.StyleValidity.{StylesAgree, StylesStayValid};
 
 /// From the place of one path, what a byte of text, the end of a node and a hole make of it and what is refused is the path's own. A
@@ -34,4 +37,27 @@ pub fn styles_agree()
 /// Sets of parts of a URL come to such sets. A theorem; the call does nothing at run time.
 pub fn styles_stay_valid()
     ensures { StylesStayValid }
+{}
+
+/// Each member behind a byte comes from one before, on whatever path bears that one, and each path from one. A theorem; the call does
+/// nothing at run time.
+pub fn styles_come_from()
+    ensures { StylesComeFrom }
+{}
+
+/// Likewise at the end of a node and at a hole. A theorem; the call does nothing at run time.
+pub fn styles_come_from_hole()
+    ensures { StylesComeFromHole }
+{}
+
+/// What is refused is refused on each path that bears some member of the place, or on any two that bear two, or the place says that the
+/// prefixes of a URL differ. A theorem; the call does nothing at run time.
+pub fn style_refusal_is_shown()
+    ensures { StyleRefusalIsShown }
+{}
+
+/// The same of a whole text: each member behind it comes from one of the place where it begins, and what is refused behind it is refused
+/// on paths at that place. A theorem; the call does nothing at run time.
+pub fn style_texts_come_from()
+    ensures { StyleTextsComeFrom }
 {}

@@ -11,7 +11,8 @@ mod text;
 pub use cut::{StyleCut, place, refused_at_cut, start};
 pub use hole::at_hole;
 pub use laws::{
-    covers_styles, empty_texts_keep_styles, is_exact_on_one_style, styles_agree, styles_grow,
+    covers_styles, empty_texts_keep_styles, is_exact_on_one_style, style_refusal_is_shown,
+    style_texts_come_from, styles_agree, styles_come_from, styles_come_from_hole, styles_grow,
     styles_stay_valid,
 };
 pub use refusals::refused;

@@ -403,7 +403,7 @@ abbrev pub scan_lexeme_error : Scan → Option Code
 scan_lexeme_error (InUrl v t r) = if_unfinished (triple_behind t (as_it_stands r))
 scan_lexeme_error f = None
 
--- whether the scan is between two lexemes of a URL
-abbrev pub is_scan_between : Scan → Bool
-is_scan_between (InUrl v t r) = false
-is_scan_between f = true
+-- the reference that is open in a URL
+abbrev pub scan_reference : Scan → Reference
+scan_reference (InUrl v t r) = r
+scan_reference f = Closed

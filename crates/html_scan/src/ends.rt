@@ -2,7 +2,7 @@ ghost use Rattle.std.specs.Prelude.{◌≡◌, ◌+◌, ◌≤◌, ℕ, List, tr
 ghost use Rattle.place_core.specs.page.References as references;
 ghost use Rattle.html_scan.specs.ClassViews.{class_at};
 ghost use Rattle.html_scan.specs.ScanViews.{open_form_at, open_reference_at, reference_from, scan_at, pending_from};
-ghost use Rattle.html_scan.specs.Scans.{is_scan_between, parts_before, parts_with, scan_place, scan_shown, with_body};
+ghost use Rattle.html_scan.specs.Scans.{parts_before, parts_with, scan_place, scan_shown, with_body};
 ghost use Rattle.html_scan.specs.Scans as spec;
 
 use crate::class::{Class, class_of};
@@ -143,16 +143,6 @@ pub fn is_shown(scan: Scan) -> bool
 {
     match scan {
         Scan::BeforeType(_) | Scan::InType { .. } => false,
-        _ => true,
-    }
-}
-
-/// Whether the scan is between two lexemes of a URL, or in no URL.
-pub fn is_between(scan: Scan) -> bool
-    ensures { (text : List ℕ) (k : ℕ) → result ≡ is_scan_between (scan_at text k scan) }
-{
-    match scan {
-        Scan::InUrl { .. } => false,
         _ => true,
     }
 }

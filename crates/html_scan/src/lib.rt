@@ -11,6 +11,7 @@ mod declaration;
 mod ends;
 mod errors;
 mod names;
+mod percents;
 mod quoting;
 mod references;
 mod refusals;
@@ -28,7 +29,8 @@ mod values;
 pub use cause::Cause;
 pub use class::{Class, Letter, class_of};
 pub use comment_stage::CommentStage;
-pub use ends::{end_place, is_between, is_shown, shown_place};
+pub use ends::{end_place, is_shown, shown_place};
+pub use percents::last_percent;
 pub use quoting::Quoting;
 pub use references::{
     OpenReference, Outcome, ReferenceForm, broken_char, is_equals, meaning, turn,

@@ -3,7 +3,8 @@ use Rattle.std.proofs.Common.{◌≡◌, ℕ, ◌+◌, zero, suc, false, true, L
 use Rattle.place_core.specs.page.Classes.{Class, class_of}
 use Rattle.place_core.specs.page.References.{Reference, as_it_stands}
 use Rattle.place_core.specs.place.ApartPlaces.{ArePlacesApart, opened_apart, beginning_at, spell_apart}
-use Rattle.place_core.specs.place.Errors.{PathCause, PathRefusal, broken_off, cut_error, is_between, last_between, lexeme_error, path_refusal, place_before_bytes, standing_at}
+use Rattle.place_core.specs.place.Errors.{PathCause, PathRefusal, broken_off, cut_error, lexeme_error, path_refusal, place_before_bytes, standing_at}
+use Rattle.place_core.specs.place.LastPercent.{last_percent}
 use Rattle.place_core.specs.place.PathPairs.{ApartBefore, Clashes, ClashesApart, MeetsColon, byte_clash, is_in_beginning, state_before, unknown_beginning, unknown_part}
 use Rattle.place_core.specs.page.Html.{next}
 use Rattle.place_core.specs.page.States.{AttributeValue, Template, LexState}
@@ -16,21 +17,21 @@ use Rattle.place_core.specs.declared.parts.Parts.{Parts}
 use Rattle.place_core.specs.declared.place.Place.{Place}
 use Rattle.place_core.specs.declared.prefix.Prefix.{Prefix}
 use Rattle.place_core.proofs.Semilattices.{none_some, one_value}
-use Rattle.html_scan.specs.Scans.{Scan, At, if_unfinished, is_scan_between, scan_error, scan_next, triple_behind}
+use Rattle.html_scan.specs.Scans.{Scan, At, if_unfinished, scan_reference, scan_error, scan_next, triple_behind}
 use Rattle.html_step.specs.Laws.{AcceptsText}
 use Rattle.html_step.specs.Origins.{is_apart, scan_parts}
 use Rattle.html_step.specs.Steps.{stepped}
 use Rattle.html_step.proofs.ApartParts.{both-apart, no-colon-fed}
 use Rattle.html_step.proofs.Characters.{ReferencePlain, stands-no-colon}
 use Rattle.html_step.proofs.Clashing.{ClashIs, begun-grows, both-refuse, clash-is, has-unbegun, has-unquoted, unbegun-grows, white_first, white_second}
-use Rattle.html_step.proofs.OnePath.{scanned, url-scan-cut, url-scan-lexeme, url_scanned, url_value}
+use Rattle.html_step.proofs.OnePath.{scanned, url-scan-cut, url-scan-lexeme, url_scanned, url_value, url-reference}
 use Rattle.html_step.proofs.OneTexts.{Says, agrees-at, at-place, ends-at, one-text, says}
-use Rattle.html_step.proofs.ReadScans.{Takes, not-broken, read-below, read-end, read-on, read-valid, scan_read, takes}
+use Rattle.html_step.proofs.ReadScans.{Takes, not-broken, read-below, read-end, read-ok, read-valid, scan_read, takes}
 use Rattle.html_step.proofs.ReadStates.{Unknown, open-parts, own-place, read-state, shown-read, unknown, url-before}
 use Rattle.html_step.proofs.ScanOrder.{ScanBelow, ScanValid, scan-grows}
-use Rattle.html_step.proofs.UrlScans.{ScanPlain, above-parts, below-reference, scan-plain, scan_reference, url-reference}
+use Rattle.html_step.proofs.UrlScans.{ScanPlain, above-parts, below-reference, scan-plain}
 use Rattle.html_step.proofs.ValidSteps.{scan-valid}
-use Rattle.html_step.proofs.WholeTexts.{accepts-anywhere, grows-from, grows-text, refused-not, step-ok, text-steps}
+use Rattle.html_step.proofs.WholeTexts.{accepts-anywhere, grows-from, grows-text, step-ok, text-steps}
 use Rattle.url_lexer.specs.Parts.{UrlOpen}
 use Rattle.url_lexer.specs.Prefixes as spelling
 use Rattle.url_lexer.specs.States.{Url}
@@ -65,9 +66,8 @@ lexeme-code AfterDigit x k since h i =
 end-refused : (s : LexState ValueState) (t : Triple) (x : PathRefusal) → cut_error s ≡ None → lexeme_error s ≡ if_unfinished t → x.code ≡ code.AmbigContext
     → path_refusal [] s ≡ Some x → ⊥
 end-refused s t x n l i h =
-    let last = last_between 0 0 (is_between s) in
-    lexeme-code t x 0 last
-    (ap (broken_off 0 last) (sym l) ∙ sym (ap (λ (o : Option PathCause). standing_at 0 o (broken_off 0 last (lexeme_error s))) n) ∙ h) i
+    lexeme-code t x 0 0
+    (ap (broken_off 0 0) (sym l) ∙ sym (ap (λ (o : Option PathCause). standing_at 0 o (broken_off 0 0 (lexeme_error s))) n) ∙ h) i
 
 end-url : (q : Quoting) (t : Tag) (u : Url) (r : Reference) (x : PathRefusal) → ReferencePlain r → x.code ≡ code.AmbigContext
     → path_refusal [] (AttributeValue q t (ValueOf (OfUrl u)) r) ≡ Some x → ⊥
@@ -115,11 +115,11 @@ reads s g f b bs e v w a l o =
       shown = λ own h. ap beginning_at (one_value own d.place (sym h ∙ own-place s g (b ∷ bs) u e ∙ d.is)) ∙ d.opened;
     }
 
-differ-apart : (p q : Place) (x y : Prefix) → beginning_at p ≡ Some x → beginning_at q ≡ Some y → ArePlacesApart p q → spell_apart x y ≡ true
+pub differ-apart : (p q : Place) (x y : Prefix) → beginning_at p ≡ Some x → beginning_at q ≡ Some y → ArePlacesApart p q → spell_apart x y ≡ true
 differ-apart p q x y e i h = sym (ap (λ (o : Option Prefix). opened_apart o (beginning_at q)) e ∙ ap (opened_apart (Some x)) i) ∙ h
 
 -- the parts of the scan state that is read
-read-apart : (s t : LexState ValueState) (g h f : Scan) (b : ℕ) (bs : List ℕ) (x : Reads s g f b bs) (y : Reads t h f b bs)
+pub read-apart : (s t : LexState ValueState) (g h f : Scan) (b : ℕ) (bs : List ℕ) (x : Reads s g f b bs) (y : Reads t h f b bs)
     → spell_apart (placed_prefix x.spelled) (placed_prefix y.spelled) ≡ true
     → (p : Parts) × (scan_parts (scan_read f (b ∷ bs)) ≡ Some p) × (is_apart (Some p) ≡ true)
 read-apart s t g h f b bs x y a =
@@ -152,15 +152,10 @@ never-apart (b ∷ bs) k since f q s t g h e at i j v w l m z p o a c =
     let y = reads t h f b bs j w z (takes f b z n.0) m c.other.begins in
     let d = read-apart s t g h f b bs x y
     (differ-apart a.own a.other_own (placed_prefix x.spelled) (placed_prefix y.spelled) (x.shown a.own a.stands) (y.shown a.other_own a.other_stands) a.apart) in
-    let r = read-on f b bs z n.0 in
-    let last = last_between k since (is_scan_between f) in
-    let over = last_between k since (is_scan_between (scan_read f (b ∷ bs))) in
-    let rest : stepped (k + 1) over bs (scan_next (scan_read f (b ∷ bs)) (class_of b) b) ≡ Ok q =
-    ap (stepped (k + 1) over bs) r.next ∙ accepts-anywhere bs (k + 1) last (k + 1) over (scan_next f (class_of b) b) q n.1 in
     unknown-accepted (b ∷ bs) k since (state_before s (b ∷ bs)) (scan_read f (b ∷ bs)) q
-    (unknown (state_before s (b ∷ bs)) (scan_read g (b ∷ bs)) (scan_read f (b ∷ bs)) d.0 c.one.begins x.at d.1 d.2 x.valid x.below)
+    (unknown (state_before s (b ∷ bs)) (scan_read g (b ∷ bs)) (scan_read f (b ∷ bs)) d.0 c.one.begins x.at d.1 d.2 x.below)
     (record { code = code.AmbigContext; at = at; shown = c.one.shown })
-    (refused-not k (scan_error (scan_read f (b ∷ bs)) (class_of b) b) (stepped (k + 1) over bs (scan_next (scan_read f (b ∷ bs)) (class_of b) b)) q r.error rest)
+    (read-ok b bs k since f q z o)
     c.one.refused
 
 never-clashes : (bytes : List ℕ) (k since : ℕ) (f : Scan) (q : Place) (s t : LexState ValueState) (g h : Scan) (e : Code) (at : ℕ) → scanned s ≡ Some g
@@ -176,10 +171,10 @@ never-clashes (b ∷ bs) k since f q s t g h e (suc at) i j v w l m z p o c =
     let other = next languages Template t (class_of b) b in
     let i = (agrees-at s g b i).steps x.0 in
     let j = (agrees-at t h b j).steps y.0 in
-    let last = last_between k since (is_scan_between f) in
+    let last = last_percent k since (scan_reference f) (class_of b) b in
     let v = scan-valid g (class_of b) b v in
     let w = scan-valid h (class_of b) b w in
-    let p = scan-plain f b z p in
+    let p = scan-plain f b z n.0 p in
     let z = scan-valid f (class_of b) b z in
     ⊎_elim
     (λ d. never-apart bs (k + 1) last (scan_next f (class_of b) b) q after other (scan_next g (class_of b) b) (scan_next h (class_of b) b) e at i j v w x.1 y.1 z p n.1 d.0 d.1)

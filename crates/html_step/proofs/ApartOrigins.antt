@@ -1,20 +1,20 @@
 -- Where it comes from that two paths of a place met apart: they did before the text, and stay in the beginning of the URL; or they come apart within
 -- it, where one begins the URL with a byte and the other goes on with it.
-use Rattle.std.proofs.Common.{◌≡◌, ℕ, ◌+◌, Bool, true, false, not, ◌||◌, List, [], ◌∷◌, ◌++◌, length, encode_utf8, arith, Option, Some, None, Ok, is_some, option_map, if◌then◌else◌, refl, sym, ap, ap₂, ◌∙◌, subst, ◌⊎◌, inl, inr}
-use Rattle.place_core.specs.page.Classes.{Class, White, QuotationMark, Apostrophe, Ampersand, is_equals_sign, class_of}
+use Rattle.std.proofs.Common.{◌≡◌, ℕ, ◌+◌, Bool, true, false, ◌||◌, List, [], ◌∷◌, ◌++◌, length, arith, Option, Some, None, Ok, is_some, option_map, if◌then◌else◌, refl, sym, ap, ap₂, ◌∙◌, subst, ◌⊎◌, inl, inr}
+use Rattle.place_core.specs.page.Classes.{is_equals_sign, class_of}
 use Rattle.place_core.specs.page.Html.{next}
-use Rattle.place_core.specs.page.References.{Reference, Closed, Open, Form, ReferenceStep, Grows, Closes, Breaks, turn, flushed, meaning, plain_bytes, undone_byte, begin_reference, next_reference, as_it_stands, reference_turned, turn_bytes}
-use Rattle.place_core.specs.page.States.{Template, LexState, Text, TagOpen, EndTagOpen, DeclarationOpen, CommentState, Started, StartedDash, Inside, Dash, DashDash, Bang, Broken, InComment, BogusComment, InDoctype, TagName, WholeTagName, BeforeAttributeName, AttributeName, WholeAttributeName, AfterAttributeName, BeforeAttributeValue, AttributeValue, AfterAttributeValue, SelfClosingStartTag, Content, Characters, Bytes, Pending, Nothing, PendingLess, LessAtCut, PendingName, PendingBang, PendingBangDash, InContent, Unread}
-use Rattle.place_core.specs.page.Tags.{Tag, is_second_type, Value, ValueOf, Deciding, ValueState, OfKind, OfUrl, languages, feed_bytes, Quoting}
-use Rattle.place_core.specs.place.ApartPlaces.{ArePlacesApart, HasApart, opened_apart, beginning_at, beginning_in_body, side, spell_apart}
-use Rattle.place_core.specs.place.Errors.{is_written, last_between, node, place_before_bytes}
-use Rattle.place_core.specs.place.LanguagePlaces.{both_prefixes, parts_have}
+use Rattle.place_core.specs.page.References.{Reference, Closed, Open, Form, ReferenceStep, Grows, Closes, Breaks, turn, flushed, plain_bytes, next_reference, as_it_stands, reference_turned, turn_bytes}
+use Rattle.place_core.specs.page.States.{Template, LexState, Text, TagOpen, EndTagOpen, DeclarationOpen, Started, StartedDash, Inside, Dash, DashDash, Bang, Broken, InComment, BogusComment, InDoctype, TagName, WholeTagName, BeforeAttributeName, AttributeName, WholeAttributeName, AfterAttributeName, BeforeAttributeValue, AttributeValue, AfterAttributeValue, SelfClosingStartTag, Characters, Bytes, Pending, Nothing, PendingLess, LessAtCut, PendingName, PendingBang, PendingBangDash, InContent, Unread}
+use Rattle.place_core.specs.page.Tags.{is_second_type, ValueOf, Deciding, ValueState, OfKind, OfUrl, languages, feed_bytes}
+use Rattle.place_core.specs.place.ApartPlaces.{HasApart, opened_apart, beginning_at, beginning_in_body, side, spell_apart}
+use Rattle.place_core.specs.place.Errors.{is_written, node, place_before_bytes}
+use Rattle.place_core.specs.place.LastPercent.{last_percent}
+use Rattle.place_core.specs.place.LanguagePlaces.{both_prefixes}
 use Rattle.place_core.specs.place.Membership.{IsIn, Bears}
-use Rattle.place_core.specs.place.PathPairs.{ApartBefore, Keeps, PartWithin, state_before, is_in_beginning, is_in_reference, is_broken_by}
-use Rattle.place_core.specs.place.Places.{Below, Has, IsValid, body_has, joined_quotes, quotes_have}
-use Rattle.place_core.specs.place.StatePlaces.{placed, quotes_at}
+use Rattle.place_core.specs.place.PathPairs.{ApartBefore, Keeps, PartWithin, state_before, is_in_beginning, is_in_reference}
+use Rattle.place_core.specs.place.Places.{Has, IsValid, body_has, quotes_have}
+use Rattle.place_core.specs.place.StatePlaces.{quotes_at}
 use Rattle.place_core.specs.place.UrlParts.{parts_of, placed_prefix}
-use Rattle.place_core.specs.declared.bare.Bare.{Bare}
 use Rattle.place_core.specs.declared.body.Body.{Body}
 use Rattle.place_core.specs.declared.body.Body.TheVariants as body
 use Rattle.place_core.specs.declared.element.Element.{Element}
@@ -32,31 +32,30 @@ use Rattle.place_core.specs.declared.quotes.Quotes.{Quotes}
 use Rattle.place_core.specs.declared.quotes.Quotes.TheVariants as quotes
 use Rattle.place_core.specs.declared.value_place.ValuePlace.{ValuePlace}
 use Rattle.place_core.proofs.Semilattices.{none_some, one_value}
-use Rattle.html_scan.specs.Scans.{Scan, At, AfterLess, AfterLessSolidus, InDeclaration, InTagName, InAttributeName, InUrl, InCommentEnd, InContentEnd, BeforeType, InType, is_scan_between, scan_error, scan_next, scan_place, scan_shown, parts_before, parts_feeding, parts_with, triple_behind, url_before, url_scan, with_body}
-use Rattle.html_step.specs.Origins.{body_parts, byte_origin, fed_in, is_apart, place_parts, scan_parts}
+use Rattle.html_scan.specs.Scans.{Scan, At, InAttributeName, InUrl, InContentEnd, scan_reference, scan_error, scan_next, scan_place, parts_feeding, parts_with, with_body}
+use Rattle.html_step.specs.Origins.{body_parts, byte_origin, fed_in, scan_parts}
 use Rattle.html_step.specs.Steps.{after_text, stepped}
-use Rattle.html_step.proofs.ApartParts.{Arise, AriseIn, Waits, arise-in, differs-of, inside-bytes, is_inside, joined-some, mapped-some, of-differs, opens-apart, several-apart, waits, apart-inside}
-use Rattle.html_step.proofs.MetScans.{ScanApart, Stand, next-stand, end-opened, settled-stand, stand-in}
-use Rattle.html_step.proofs.BelowScans.{before-type-rigid, below-at, below-attribute, below-url, comment-end-rigid, content-end-rigid, declaration-rigid, less-rigid, solidus-rigid, tag-name-rigid, type-rigid, value-place}
-use Rattle.html_step.proofs.BuiltScans.{IsBuilt, language_body, scan-built}
-use Rattle.html_step.proofs.SettledScans.{read-taken, read_by, read_place, settled_scan}
-use Rattle.html_step.proofs.Characters.{NoColon, IsCharacter, ReferencePlain, ampersand-no-letter, flushed-character, nothing, single, utf8-character}
-use Rattle.html_step.proofs.FromSteps.{From, from-byte}
+use Rattle.html_step.proofs.ApartParts.{Arise, arise-in, inside-bytes, is_inside, mapped-some, of-differs, opens-apart, several-apart, waits, apart-inside}
+use Rattle.html_step.proofs.MetScans.{ScanApart, Stand, next-stand, end-opened, parts-apart, stand-in}
+use Rattle.html_step.proofs.ReadScans.{NotBroken, broken-of, read-closed, scan_read}
+use Rattle.html_step.proofs.ReadStates.{UrlState, own-place, read-between, read-state, shown-closed, url-of}
+use Rattle.html_step.proofs.RefusedColons.{broken-bytes, closed-open, fed-or, is_nothing, next-closed, parts_where, plain-closed, read-is, read-parts, reference_where, scan-character}
+use Rattle.html_step.proofs.Characters.{NoColon, IsCharacter, ampersand-no-letter, flushed-character, plain-character}
+use Rattle.html_step.proofs.FromSteps.{from-byte}
 use Rattle.html_step.proofs.FromTexts.{own-has}
-use Rattle.html_step.proofs.KeptBeginnings.{before-begins, keeps-back, keeps-fore, before-next, before-none, begins-value, is_url_value, kept-value, side-begins, sides-within, stays-there}
-use Rattle.html_step.proofs.OnePath.{block_scanned, content_scanned, scanned, url_scanned, url_value}
-use Rattle.html_step.proofs.OneTexts.{Says, agrees-at, at-place, ends-at, says}
+use Rattle.html_step.proofs.KeptBeginnings.{before-begins, keeps-back, keeps-fore, before-none, begins-value, is_url_value, side-begins, sides-within, stays-there}
+use Rattle.html_step.proofs.OnePath.{block_scanned, content_scanned, scanned, url_value}
+use Rattle.html_step.proofs.OneTexts.{Says, says}
 use Rattle.html_step.proofs.PlaceParts.{ValueBelow}
-use Rattle.html_step.proofs.ScanOrder.{begun-open, ScanBelow, ScanHas, ScanValid, UrlWithin, scan-grows}
+use Rattle.html_step.proofs.ScanOrder.{ScanBelow, ScanHas, ScanValid, UrlWithin}
 use Rattle.html_step.proofs.UrlOrder.{fed-grow, fed-more}
-use Rattle.html_step.proofs.UrlScans.{ScanPlain, UrlAt, parts-body, below-parts, below-reference, goes, scan-fresh, scan-plain, scan_fed, scan_reference, url-at, url-parts, url-reference}
+use Rattle.html_step.proofs.UrlScans.{NextUrl, ScanPlain, below-parts, below-reference, fed-same, goes-parts, next-url, parts-body, raw-opened, scan-fresh, scan-plain, scan_fed, url-parts}
 use Rattle.html_step.proofs.ValidSteps.{scan-valid}
-use Rattle.html_step.proofs.WholeTexts.{end-ok, grows-from, grows-text, step-ok, text-steps}
+use Rattle.html_step.proofs.WholeTexts.{end-ok, grows-from, step-ok, text-steps}
 use Rattle.url_lexer.specs.Classes.{url_class_of}
 use Rattle.url_lexer.specs.Parts.{UrlPart, UrlStart, UrlOpen, UrlOpenhole, UrlPrequery, UrlQuery, UrlBad}
 use Rattle.url_lexer.specs.Prefixes as spelling
-use Rattle.url_lexer.specs.States.{Url}
-use Rattle.url_lexer.specs.Triples.{Triple, NoTriple, AfterPercent, AfterDigit}
+use Rattle.url_lexer.specs.Triples.{Triple, NoTriple}
 use Rattle.url_lexer.specs.TwoPaths.{is_open}
 use Rattle.url_lexer.specs.declared.class.UrlClass.{UrlClass}
 use Rattle.url_lexer.specs.declared.class.UrlClass.TheVariants as class
@@ -66,33 +65,18 @@ no : false ≡ true → ⊥
 no e = cc
 
 -- A path's scan state in a URL has the set of the path's part.
-abbrev parts_where : Option Scan → Option Parts
-parts_where None = None
-parts_where (Some f) = scan_parts f
-
-abbrev in_reference : Reference → List ℕ → Bool
-in_reference (Open f bytes) (b ∷ bs) = not (is_broken_by (turn (class_of b) f))
-in_reference r bs = false
-
-abbrev reference_where : Option Scan → Reference
-reference_where None = Closed
-reference_where (Some f) = scan_reference f
-
 pub record UrlPath (s : LexState ValueState) (t : Parts) : Type 0 where
   pub part : UrlPart
   pub is : t ≡ parts_of part
   pub begins : is_open part ≡ true → is_in_beginning s ≡ true
   pub value : (f : Form) (bytes : List ℕ) → reference_where (scanned s) ≡ Open f bytes → is_url_value s ≡ true
 
-closed-not : (f : Form) (bytes : List ℕ) → Closed ≡ Open f bytes → ⊥
-closed-not f bytes e = cc
-
 start-path : (s : LexState ValueState) (t : Parts) → Some (parts_of UrlStart) ≡ Some t → reference_where (scanned s) ≡ Closed → UrlPath s t
 start-path s t h c = record {
   part = UrlStart;
   is = one_value t (parts_of UrlStart) (sym h);
   begins = λ e. absurd (no e);
-  value = λ f bytes e. absurd (closed-not f bytes (sym c ∙ e));
+  value = λ f bytes e. absurd (closed-open f bytes (sym c ∙ e));
 }
 
 second-parts : (second : Bool) (f : Scan) (t : Parts) → scan_parts f ≡ None → parts_where (if second then None else Some f) ≡ Some t → ⊥
@@ -238,70 +222,6 @@ part-members (InUrl v x r) t h =
 part-members (At _) t h = absurd (none_some t h)
 part-members _ t h = absurd (none_some t h)
 
-unfoldable at-url : (v : ValuePlace) (s : Parts) → body_parts v.body ≡ Some s → UrlAt (At (place.Value v)) s
-at-url v s h = record {
-  value = v;
-  triple = NoTriple;
-  reference = Closed;
-  body = parts-body v.body s h;
-  next = λ c b. refl;
-  error = λ c b. refl;
-  holds = refl;
-  begun = tt;
-  fed = λ c b. refl;
-}
-
-unfoldable in-url : (v : ValuePlace) (t : Triple) (r : Reference) (s : Parts) → ScanValid (InUrl v t r) → body_parts v.body ≡ Some s → UrlAt (InUrl v t r) s
-in-url v t r s w h = record {
-  value = v;
-  triple = t;
-  reference = r;
-  body = parts-body v.body s h;
-  next = λ c b. refl;
-  error = λ c b. refl;
-  holds = refl;
-  begun = begun-open r v.quotes w.0;
-  fed = λ c b. refl;
-}
-
--- where it leads: out of the URL, or on
-record NextUrl (f : Scan) (s : Parts) (c : Class) (b : ℕ) : Type 0 where
-  parts : (scan_parts (scan_next f c b) ≡ None) ⊎ (scan_parts (scan_next f c b) ≡ Some (feed_bytes parts_feeding s (scan_fed f c b)))
-  reference : (scan_reference (scan_next f c b) ≡ Closed) ⊎ (scan_reference (scan_next f c b) ≡ next_reference (scan_reference f) c b)
-
-next-url : (f : Scan) (s : Parts) (c : Class) (b : ℕ) → ScanValid f → scan_parts f ≡ Some s → NextUrl f s c b
-unfolding at-url in-url
-next-url (At (place.Value v)) s c b w h = (let n = goes (At (place.Value v)) s (at-url v s h) c b in record { parts = n.parts; reference = n.reference })
-next-url (InUrl v t r) s c b w h = (let n = goes (InUrl v t r) s (in-url v t r s w h) c b in record { parts = n.parts; reference = n.reference })
-next-url (At _) s c b w h = absurd (none_some s h)
-next-url _ s c b w h = absurd (none_some s h)
-
-bare-same : (x y : Bare) (r : Reference) (c : Class) (b : ℕ) → fed_in (quotes.Bare x) r c b ≡ fed_in (quotes.Bare y) r c b
-bare-same x y r White b = refl
-bare-same x y r QuotationMark b = refl
-bare-same x y r Apostrophe b = refl
-bare-same x y r _ b = refl
-
-quotes-same : (p q : Quotes) (r : Reference) (c : Class) (b : ℕ) → joined_quotes p q ≡ Some q → fed_in p r c b ≡ fed_in q r c b
-quotes-same quotes.Dq quotes.Dq r c b h = refl
-quotes-same quotes.Sq quotes.Sq r c b h = refl
-quotes-same (quotes.Bare x) (quotes.Bare y) r c b h = bare-same x y r c b
-quotes-same quotes.Dq quotes.Sq r c b h = absurd (none_some quotes.Sq h)
-quotes-same quotes.Dq (quotes.Bare y) r c b h = absurd (none_some (quotes.Bare y) h)
-quotes-same quotes.Sq quotes.Dq r c b h = absurd (none_some quotes.Dq h)
-quotes-same quotes.Sq (quotes.Bare y) r c b h = absurd (none_some (quotes.Bare y) h)
-quotes-same (quotes.Bare x) quotes.Dq r c b h = absurd (none_some quotes.Dq h)
-quotes-same (quotes.Bare x) quotes.Sq r c b h = absurd (none_some quotes.Sq h)
-
-fed-same : (g f : Scan) (s : Parts) (c : Class) (b : ℕ) → ScanBelow g f → scan_parts f ≡ Some s → scan_fed g c b ≡ scan_fed f c b
-fed-same g (At (place.Value v)) s c b l h =
-    below-at (λ (x : Scan). scan_fed x c b ≡ fed_in v.quotes Closed c b) (place.Value v)
-    (value-place (λ (x : Scan). scan_fed x c b ≡ fed_in v.quotes Closed c b) v (λ u m. quotes-same u.quotes v.quotes Closed c b m.quotes)) g l
-fed-same g (InUrl v t r) s c b l h =
-    below-url (λ (x : Scan). scan_fed x c b ≡ fed_in v.quotes r c b) v t r (λ u m. quotes-same u.quotes v.quotes r c b m.quotes) g l
-fed-same g (At _) s c b l h = absurd (none_some s h)
-fed-same g _ s c b l h = absurd (none_some s h)
-
 -- What bytes leave in the beginning of one set they leave in that of another.
 character-some : (x : Bool) (b : ℕ) (o : Option Prefix) → is_some o ≡ true → is_some (both_prefixes (first_spelled x b) (option_map (next_spelled b) o)) ≡ true
 character-some true b (Some p) h = refl
@@ -383,61 +303,15 @@ points-apart s r bs p q x y h = record {
   apart = ap₂ opened_apart x.opened y.opened ∙ h;
 }
 
-reference-is : (q : Quoting) (t : Tag) (u : Url) (r : Reference) (g : Scan) → scanned (AttributeValue q t (ValueOf (OfUrl u)) r) ≡ Some g → scan_reference g ≡ r
-reference-is q t u r g e =
-    ap scan_reference (one_value g (url_scanned q t u r) (sym e)) ∙ url-reference (url_value t (quotes_at q) (parts_of u.part)) u.triple r
-
-open-between : (r : Reference) (bs : List ℕ) (q : Quoting) (t : Tag) (v : Value ValueState) → is_in_reference (AttributeValue q t v r) bs ≡ in_reference r bs
-open-between Closed bs q t v = refl
-open-between (Open f bytes) [] q t v = refl
-open-between (Open f bytes) (b ∷ bs) q t v = refl
-
-between-is : (s : LexState ValueState) (g : Scan) (bs : List ℕ) → is_url_value s ≡ true → scanned s ≡ Some g
-    → is_in_reference s bs ≡ in_reference (scan_reference g) bs
-between-is (AttributeValue q t (ValueOf (OfUrl u)) r) g bs h e =
-    open-between r bs q t (ValueOf (OfUrl u)) ∙ ap (λ (x : Reference). in_reference x bs) (sym (reference-is q t u r g e))
-between-is (AttributeValue q t (ValueOf (OfKind k)) r) g bs h e = absurd (no h)
-between-is (AttributeValue q t (Deciding k before) r) g bs h e = absurd (no h)
-between-is _ g bs h e = absurd (no h)
-
--- the place that is shown
-nothing-opened : (b : Body) (t : Parts) → body_parts b ≡ Some t → beginning_in_body (parts_with b []) ≡ t.opened
-nothing-opened (body.Url s) t h = ap (λ (x : Parts). x.opened) (one_value s t h)
-nothing-opened _ t h = absurd (none_some t h)
+point-of : (s : LexState ValueState) (g : Scan) (bs : List ℕ) (p : spelling.Prefix) → UrlState s → scanned s ≡ Some g
+    → scan_parts (scan_read g bs) ≡ Some (parts_of (UrlOpen p)) → scan_reference (scan_read g bs) ≡ Closed → Keeps bs (state_before s bs) → Point s bs p
+point-of s g bs p u e h k m =
+    let d = shown-closed (scan_read g bs) bs (parts_of (UrlOpen p)) h k in
+    record { own = d.place; between = read-between s g bs u e k; stands = own-place s g bs u e ∙ d.is; opened = d.opened; keeps = m }
 
 body-opened : (b : Body) (t : Parts) (bytes : List ℕ) → body_parts b ≡ Some t → beginning_in_body (parts_with b bytes) ≡ (feed_bytes parts_feeding t bytes).opened
 body-opened (body.Url s) t bytes h = ap (λ (x : Parts). (feed_bytes parts_feeding x bytes).opened) (one_value s t h)
 body-opened _ t bytes h = absurd (none_some t h)
-
-value-opened : (b : Body) (t : Parts) → body_parts b ≡ Some t → beginning_in_body b ≡ t.opened
-value-opened (body.Url s) t h = ap (λ (x : Parts). x.opened) (one_value s t h)
-value-opened _ t h = absurd (none_some t h)
-
-closed-shown : (v : ValuePlace) (r : Reference) (bs : List ℕ) → r ≡ Closed → Some (url_before v r bs) ≡ Some (with_body v (parts_with v.body []))
-closed-shown v r bs e = ap (λ (x : Reference). Some (url_before v x bs)) e
-
-shown-closed : (g : Scan) (t : Parts) (bs : List ℕ) → scan_parts g ≡ Some t → scan_reference g ≡ Closed
-    → (p : Place) × (scan_shown g bs ≡ Some p) × (beginning_at p ≡ t.opened)
-shown-closed (At (place.Value v)) t bs h e = (place.Value v, refl, value-opened v.body t h)
-shown-closed (InUrl v x r) t bs h e = (with_body v (parts_with v.body []), closed-shown v r bs e, nothing-opened v.body t h)
-shown-closed (At _) t bs h e = absurd (none_some t h)
-shown-closed _ t bs h e = absurd (none_some t h)
-
-broken-shown : (v : ValuePlace) (r : Reference) (f : Form) (bytes : List ℕ) (b : ℕ) (bs : List ℕ) → r ≡ Open f bytes → turn (class_of b) f ≡ Breaks
-    → Some (url_before v r (b ∷ bs)) ≡ Some (with_body v (parts_with v.body (flushed true (is_equals_sign (class_of b)) f bytes)))
-broken-shown v r f bytes b bs e h =
-    ap (λ (x : Reference). Some (url_before v x (b ∷ bs))) e
-    ∙ ap (λ (x : ReferenceStep). Some (with_body v (parts_before x v.body (class_of b) f bytes))) h
-
-shown-broken : (g : Scan) (t : Parts) (f : Form) (bytes : List ℕ) (b : ℕ) (bs : List ℕ) → scan_parts g ≡ Some t → scan_reference g ≡ Open f bytes
-    → turn (class_of b) f ≡ Breaks
-    → (p : Place) × (scan_shown g (b ∷ bs) ≡ Some p)
-    × (beginning_at p ≡ (feed_bytes parts_feeding t (flushed true (is_equals_sign (class_of b)) f bytes)).opened)
-shown-broken (InUrl v x r) t f bytes b bs h e k =
-    let fl = flushed true (is_equals_sign (class_of b)) f bytes in
-    (with_body v (parts_with v.body fl), broken-shown v r f bytes b bs e k, body-opened v.body t fl h)
-shown-broken (At p) t f bytes b bs h e k = absurd (closed-not f bytes e)
-shown-broken _ t f bytes b bs h e k = absurd (none_some t h)
 
 -- Where two paths come apart behind a byte.
 abbrev pub PartFrom : Reference → List ℕ → LexState ValueState → LexState ValueState → Type 0
@@ -472,10 +346,7 @@ behind s g f b a z t h k n i j =
     let on = below-parts (scan_next g c b) (scan_next f c b) z m.below k in
     record {
       stand = m;
-      parts = elim ((next-url g t c b i.valid j).parts) [
-        | inl e ↦ absurd (none_some on.0 (sym e ∙ on.1))
-        | inr e ↦ e ∙ ap (λ (x : List ℕ). Some (feed_bytes parts_feeding t x)) (fed-same g f a c b i.below h)
-      ];
+      parts = goes-parts g t on.0 c b i.valid j on.1 ∙ ap (λ (x : List ℕ). Some (feed_bytes parts_feeding t x)) (fed-same g f a c b i.below h);
       reference = below-reference (scan_next g c b) (scan_next f c b) m.below;
     }
 
@@ -487,30 +358,14 @@ point-after s g f b bs bytes t p x c keep e =
     let u = next languages Template s (class_of b) b in
     let d = scan_next g (class_of b) b in
     let parts = x.parts ∙ ap Some e in
-    let shown = shown-closed d (parts_of (UrlOpen p)) bs parts (x.reference ∙ c) in
     let path = path-parts u d (parts_of (UrlOpen p)) x.stand.at parts in
     let value = begins-value u (opened-begins u (parts_of (UrlOpen p)) path refl) in
-    record {
-      own = shown.0;
-      between = between-is u d bs value x.stand.at ∙ ap (λ (r : Reference). in_reference r bs) (x.reference ∙ c);
-      stands = (ends-at u d x.stand.at).shown bs ∙ shown.1;
-      opened = shown.2;
-      keeps = keep u d x.stand ((part-members d (parts_of (UrlOpen p)) parts).opens refl);
-    }
+    let closed = x.reference ∙ c in
+    let same = read-closed d bs closed in
+    point-of u d bs p (url-of u value) x.stand.at (ap scan_parts same ∙ parts) (ap scan_reference same ∙ closed)
+    (keep u d x.stand ((part-members d (parts_of (UrlOpen p)) parts).opens refl))
 
 -- the point before it, where it breaks a reference that is open
-settled-parts : (g : Scan) (t : Parts) (f : Form) (bytes : List ℕ) (b : ℕ) (bs : List ℕ) → scan_parts g ≡ Some t → scan_reference g ≡ Open f bytes
-    → turn (class_of b) f ≡ Breaks
-    → scan_parts (settled_scan g (b ∷ bs)) ≡ Some (feed_bytes parts_feeding t (flushed true (is_equals_sign (class_of b)) f bytes))
-settled-parts (InUrl v x r) t f bytes b bs h e k =
-    let fl = flushed true (is_equals_sign (class_of b)) f bytes in
-    ap (λ (y : Reference). scan_parts (settled_scan (InUrl v x y) (b ∷ bs))) e
-    ∙ ap (λ (y : ReferenceStep). scan_parts (read_by y v x f bytes (class_of b))) k
-    ∙ url-parts (read_place v fl) (triple_behind x fl) Closed
-    ∙ ap (λ (y : Body). body_parts (parts_with y fl)) (parts-body v.body t h)
-settled-parts (At p) t f bytes b bs h e k = absurd (closed-not f bytes e)
-settled-parts _ t f bytes b bs h e k = absurd (none_some t h)
-
 point-before : (s : LexState ValueState) (g f : Scan) (b : ℕ) (bs : List ℕ) (a z t : Parts) (p : spelling.Prefix) (form : Form) (read : List ℕ)
     → ScanValid f → scan_error f (class_of b) b ≡ None → scan_parts f ≡ Some a → scan_parts (scan_next f (class_of b) b) ≡ Some z
     → is_inside (feed_bytes parts_feeding a (scan_fed f (class_of b) b)) ≡ true
@@ -522,7 +377,6 @@ point-before s g f b bs a z t p form read v n h k inside i j e d l keep spelled 
     let c = class_of b in
     let fl = flushed true (is_equals_sign c) form read in
     let own = below-reference g f i.below ∙ e in
-    let shown = shown-broken g t form read b bs j own d in
     let value = (path-parts s g t i.at j).value form read (ap reference_where i.at ∙ own) in
     let u = next languages Template s c b in
     let x = behind s g f b a z t h k n i j in
@@ -534,20 +388,13 @@ point-before s g f b bs a z t p form read v n h k inside i j e d l keep spelled 
     (open-bytes (plain_bytes c b) (feed_bytes parts_feeding a fl) (feed_bytes parts_feeding t fl) (ap (λ (y : Parts). is_some y.opened) spelled)
     (subst (λ (y : Parts). is_inside y ≡ true) (ap (feed_bytes parts_feeding a) l ∙ fed-more fl (plain_bytes c b) a) inside)) in
     let path = path-parts u (scan_next g c b) later x.stand.at x.parts in
-    let settled = settled-stand s g f b bs v n value i in
-    let there = settled-parts g t form read b bs j own d ∙ ap Some spelled in
-    record {
-      own = shown.0;
-      between = between-is s g (b ∷ bs) value i.at ∙ ap (λ (r : Reference). in_reference r (b ∷ bs)) own
-          ∙ ap (λ (y : ReferenceStep). not (is_broken_by y)) d;
-      stands = (ends-at s g i.at).shown (b ∷ bs) ∙ shown.1;
-      opened = shown.2 ∙ ap (λ (y : Parts). y.opened) spelled;
-      keeps = keeps-fore b bs s
-          (opened-begins (state_before s (b ∷ bs)) (parts_of (UrlOpen p))
-          (path-parts (state_before s (b ∷ bs)) (settled_scan g (b ∷ bs)) (parts_of (UrlOpen p)) settled.at there) refl)
-          (keeps-back bs u (opened-begins u later path some)
-          (keep u (scan_next g c b) x.stand ((part-members (scan_next g c b) later x.parts).opens some)));
-    }
+    let there = read-parts g b bs t j ∙ ap (λ (y : List ℕ). Some (feed_bytes parts_feeding t y)) (broken-bytes (scan_reference g) b form read own d) ∙ ap Some spelled in
+    point-of s g (b ∷ bs) p (url-of s value) i.at there (read-is g b bs form read own d)
+    (keeps-fore b bs s
+    (opened-begins (state_before s (b ∷ bs)) (parts_of (UrlOpen p))
+    (path-parts (state_before s (b ∷ bs)) (scan_read g (b ∷ bs)) (parts_of (UrlOpen p)) (read-state s g (b ∷ bs) (url-of s value) i.at) there) refl)
+    (keeps-back bs u (opened-begins u later path some)
+    (keep u (scan_next g c b) x.stand ((part-members (scan_next g c b) later x.parts).opens some))))
 
 -- How a byte makes two paths come apart that were not: behind it, or before it.
 data Arises (f : Scan) (b : ℕ) (a : Parts) : Type 0 where
@@ -556,39 +403,19 @@ data Arises (f : Scan) (b : ℕ) (a : Parts) : Type 0 where
       → scan_fed f (class_of b) b ≡ flushed true (is_equals_sign (class_of b)) form read ++ plain_bytes (class_of b) b
       → Comes (flushed true (is_equals_sign (class_of b)) form read) a → Arises f b a
 
-data PlainFed (c : Class) (b : ℕ) : Type 0 where
-  none_fed : plain_bytes c b ≡ [] → PlainFed c b
-  one_fed : plain_bytes c b ≡ b ∷ [] → begin_reference c ≡ Closed → PlainFed c b
+fed-some : (bytes : List ℕ) (a : Parts) → spells_apart a.opened ≡ false → spells_apart (feed_bytes parts_feeding a bytes).opened ≡ true
+    → is_nothing bytes ≡ false
+fed-some [] a n h = absurd (no (sym n ∙ h))
+fed-some (x ∷ xs) a n h = refl
 
-plain-fed : (c : Class) (b : ℕ) → PlainFed c b
-plain-fed Ampersand b = none_fed refl
-plain-fed _ b = one_fed refl refl
-
-fed-none : (bytes : List ℕ) (a : Parts) → bytes ≡ [] → spells_apart a.opened ≡ false → spells_apart (feed_bytes parts_feeding a bytes).opened ≡ true → ⊥
-fed-none bytes a e n h = no (sym n ∙ subst (λ (x : List ℕ). spells_apart (feed_bytes parts_feeding a x).opened ≡ true) e h)
-
--- the character itself
-record PlainComes (c : Class) (b : ℕ) (a : Parts) : Type 0 where
-  comes : Comes (plain_bytes c b) a
-  closes : begin_reference c ≡ Closed
-
-plain-comes : (c : Class) (b : ℕ) (a : Parts) → PlainFed c b → spells_apart a.opened ≡ false
-    → spells_apart (feed_bytes parts_feeding a (plain_bytes c b)).opened ≡ true → PlainComes c b a
-plain-comes c b a (none_fed e) n h = absurd (fed-none (plain_bytes c b) a e n h)
-plain-comes c b a (one_fed e k) n h = record { comes = character-comes (plain_bytes c b) a (single b e) n h; closes = k }
-
--- where a reference goes on, ends, or is broken
-next-is : (f : Scan) (s : Parts) (c : Class) (b : ℕ) → NextUrl f s c b → next_reference (scan_reference f) c b ≡ Closed → scan_reference (scan_next f c b) ≡ Closed
-next-is f s c b m e = elim m.reference [ inl k ↦ k | inr k ↦ k ∙ e ]
-
-closed-arises : (f : Scan) (b : ℕ) (a : Parts) → NextUrl f a (class_of b) b → scan_reference f ≡ Closed
-    → scan_fed f (class_of b) b ≡ plain_bytes (class_of b) b
+-- where no reference that is open is broken, by the character that the byte ends
+whole-arises : (f : Scan) (b : ℕ) (a : Parts) → ScanValid f → scan_parts f ≡ Some a → NotBroken (scan_reference f) b
     → spells_apart a.opened ≡ false → spells_apart (feed_bytes parts_feeding a (scan_fed f (class_of b) b)).opened ≡ true → Arises f b a
-closed-arises f b a m e l n h =
-    let c = class_of b in
-    let p = plain-comes c b a (plain-fed c b) n (subst (λ (x : List ℕ). spells_apart (feed_bytes parts_feeding a x).opened ≡ true) l h) in
-    after (subst (λ (x : List ℕ). Comes x a) (sym l) p.comes) (next-is f a c b m (ap (λ (r : Reference). next_reference r c b) e ∙ p.closes))
+whole-arises f b a v h k n d =
+    let fed = scan_fed f (class_of b) b in
+    after (character-comes fed a (scan-character f b k) n d) (next-closed f a b v h k (fed-some fed a n d))
 
+-- where one is, by its bytes, or by the character behind them
 broken-arises : (y : Bool) (f : Scan) (b : ℕ) (a : Parts) (form : Form) (read : List ℕ) → NextUrl f a (class_of b) b → scan_reference f ≡ Open form read
     → turn (class_of b) form ≡ Breaks → NoColon read
     → ((t : Parts) → PartsBelow t a → PartsBelow (feed_bytes parts_feeding t (flushed true (is_equals_sign (class_of b)) form read))
@@ -602,35 +429,14 @@ broken-arises true f b a form read m e k w grow l n h y =
 broken-arises false f b a form read m e k w grow l n h y =
     let c = class_of b in
     let fl = flushed true (is_equals_sign c) form read in
-    let p = plain-comes c b (feed_bytes parts_feeding a fl) (plain-fed c b) y
-    (ap (λ (x : Parts). spells_apart x.opened) (sym (ap (feed_bytes parts_feeding a) l ∙ fed-more fl (plain_bytes c b) a)) ∙ h) in
-    after (subst (λ (x : List ℕ). Comes x a) (sym l) (later-comes fl (plain_bytes c b) a grow p.comes))
-    (next-is f a c b m (ap (λ (r : Reference). next_reference r c b) e ∙ ap (λ (x : ReferenceStep). reference_turned x read c b) k ∙ p.closes))
-
-turned-arises : (x : ReferenceStep) (f : Scan) (b : ℕ) (a : Parts) (form : Form) (read : List ℕ) → NextUrl f a (class_of b) b
-    → scan_reference f ≡ Open form read
-    → turn (class_of b) form ≡ x → NoColon read
-    → (turn (class_of b) form ≡ Breaks → (t : Parts) → PartsBelow t a
-    → PartsBelow (feed_bytes parts_feeding t (flushed true (is_equals_sign (class_of b)) form read))
-    (feed_bytes parts_feeding a (flushed true (is_equals_sign (class_of b)) form read)))
-    → scan_fed f (class_of b) b ≡ turn_bytes true x form read (class_of b) b
-    → spells_apart a.opened ≡ false → spells_apart (feed_bytes parts_feeding a (scan_fed f (class_of b) b)).opened ≡ true → Arises f b a
-turned-arises (Grows g) f b a form read m e k w grow l n h = absurd (fed-none (scan_fed f (class_of b) b) a l n h)
-turned-arises Closes f b a form read m e k w grow l n h =
-    let c = class_of b in
-    after (subst (λ (x : List ℕ). Comes x a) (sym l) (character-comes (encode_utf8 (meaning form read)) a (utf8-character (meaning form read)) n
-    (subst (λ (x : List ℕ). spells_apart (feed_bytes parts_feeding a x).opened ≡ true) l h)))
-    (next-is f a c b m (ap (λ (r : Reference). next_reference r c b) e ∙ ap (λ (x : ReferenceStep). reference_turned x read c b) k))
-turned-arises Breaks f b a form read m e k w grow l n h =
-    broken-arises (spells_apart (feed_bytes parts_feeding a (flushed true (is_equals_sign (class_of b)) form read)).opened) f b a form read m e k w (grow k) l n h refl
-
-fed-or : (q : Quotes) (r : Reference) (c : Class) (b : ℕ) → (fed_in q r c b ≡ []) ⊎ (fed_in q r c b ≡ undone_byte true r c b)
-fed-or quotes.Dq r c b = inr refl
-fed-or quotes.Sq r c b = inr refl
-fed-or (quotes.Bare s) r White b = inl refl
-fed-or (quotes.Bare s) r QuotationMark b = inl refl
-fed-or (quotes.Bare s) r Apostrophe b = inl refl
-fed-or (quotes.Bare s) r _ b = inr refl
+    let over = feed_bytes parts_feeding a fl in
+    let d = ap (λ (x : Parts). spells_apart x.opened) (sym (ap (feed_bytes parts_feeding a) l ∙ fed-more fl (plain_bytes c b) a)) ∙ h in
+    let closes = plain-closed c b (fed-some (plain_bytes c b) over y d) in
+    after (subst (λ (x : List ℕ). Comes x a) (sym l) (later-comes fl (plain_bytes c b) a grow (character-comes (plain_bytes c b) over (plain-character c b) y d)))
+    (elim m.reference [
+      | inl j ↦ j
+      | inr j ↦ j ∙ ap (λ (r : Reference). next_reference r c b) e ∙ ap (λ (x : ReferenceStep). reference_turned x read c b) k ∙ closes
+    ])
 
 -- the bytes of the reference lead sets below to sets below, where they are not refused
 read-grows : (v : ValuePlace) (t : Triple) (form : Form) (read : List ℕ) (a : Parts) (b : ℕ) → ScanValid (InUrl v t (Open form read)) → body_parts v.body ≡ Some a
@@ -639,25 +445,32 @@ read-grows : (v : ValuePlace) (t : Triple) (form : Form) (read : List ℕ) (a : 
     (feed_bytes parts_feeding a (flushed true (is_equals_sign (class_of b)) form read))
 read-grows v t form read a b w h n k x l =
     (fed-grow (flushed true (is_equals_sign (class_of b)) form read) (is_written (is_equals_sign (class_of b)) form read) (length read + 1) x a l
-    (read-taken v.body v.tag v.typed v.quotes form read (class_of b) b k w.0 w.1 n a (parts-body v.body a h))).1
+    (broken-of v a form read (class_of b) b (parts-body v.body a h) w.0 k n)).1
+
+turned-arises : (x : ReferenceStep) (v : ValuePlace) (t : Triple) (form : Form) (read : List ℕ) (b : ℕ) (a : Parts) → turn (class_of b) form ≡ x
+    → ScanValid (InUrl v t (Open form read)) → NoColon read → scan_error (InUrl v t (Open form read)) (class_of b) b ≡ None → body_parts v.body ≡ Some a
+    → spells_apart a.opened ≡ false → spells_apart (feed_bytes parts_feeding a (fed_in v.quotes (Open form read) (class_of b) b)).opened ≡ true
+    → Arises (InUrl v t (Open form read)) b a
+turned-arises (Grows g) v t form read b a e w p n h y d =
+    whole-arises (InUrl v t (Open form read)) b a w h (λ k. let same : Grows g ≡ Breaks = sym e ∙ k in cc) y d
+turned-arises Closes v t form read b a e w p n h y d =
+    whole-arises (InUrl v t (Open form read)) b a w h (λ k. let same : Closes ≡ Breaks = sym e ∙ k in cc) y d
+turned-arises Breaks v t form read b a e w p n h y d =
+    let f = InUrl v t (Open form read) in
+    let c = class_of b in
+    elim (fed-or v.quotes (Open form read) c b) [
+      | inl i ↦ absurd (no (sym (fed-some (fed_in v.quotes (Open form read) c b) a y d) ∙ ap is_nothing i))
+      | inr i ↦ broken-arises (spells_apart (feed_bytes parts_feeding a (flushed true (is_equals_sign c) form read)).opened) f b a form read
+          (next-url f a c b w h) refl e p (read-grows v t form read a b w h n e)
+          (i ∙ ap (λ (x : ReferenceStep). turn_bytes true x form read c b) e) y d refl
+    ]
 
 arises : (f : Scan) (b : ℕ) (a : Parts) → ScanValid f → ScanPlain f → scan_error f (class_of b) b ≡ None → scan_parts f ≡ Some a
     → spells_apart a.opened ≡ false → spells_apart (feed_bytes parts_feeding a (scan_fed f (class_of b) b)).opened ≡ true → Arises f b a
-arises (At (place.Value v)) b a v0 w n h y d = elim (fed-or v.quotes Closed (class_of b) b) [
-  | inl e ↦ absurd (fed-none (fed_in v.quotes Closed (class_of b) b) a e y d)
-  | inr e ↦ closed-arises (At (place.Value v)) b a (next-url (At (place.Value v)) a (class_of b) b v0 h) refl e y d
-]
-arises (InUrl v t Closed) b a v0 w n h y d = elim (fed-or v.quotes Closed (class_of b) b) [
-  | inl e ↦ absurd (fed-none (fed_in v.quotes Closed (class_of b) b) a e y d)
-  | inr e ↦ closed-arises (InUrl v t Closed) b a (next-url (InUrl v t Closed) a (class_of b) b v0 h) refl e y d
-]
-arises (InUrl v t (Open form read)) b a v0 w n h y d = elim (fed-or v.quotes (Open form read) (class_of b) b) [
-  | inl e ↦ absurd (fed-none (fed_in v.quotes (Open form read) (class_of b) b) a e y d)
-  | inr e ↦ turned-arises (turn (class_of b) form) (InUrl v t (Open form read)) b a form read
-      (next-url (InUrl v t (Open form read)) a (class_of b) b v0 h) refl refl w (read-grows v t form read a b v0 h n) e y d
-]
-arises (At _) b a v0 w n h y d = absurd (none_some a h)
-arises _ b a v0 w n h y d = absurd (none_some a h)
+arises (At p) b a w v n h y d = whole-arises (At p) b a w h tt y d
+arises (InUrl v t Closed) b a w p n h y d = whole-arises (InUrl v t Closed) b a w h tt y d
+arises (InUrl v t (Open form read)) b a w p n h y d = turned-arises (turn (class_of b) form) v t form read b a refl w p n h y d
+arises _ b a w v n h y d = absurd (none_some a h)
 
 arises-start : (f : Scan) (b : ℕ) (a : Parts) → Arises f b a → a.start ≡ true
 arises-start f b a (after c e) = c.start
@@ -734,35 +547,6 @@ kept-all f b bs a z n h k inside keep s g i x =
     keeps-fore b bs s (before-begins s b bs (opened-begins s t.0 (path-parts s g t.0 i.at t.1) some) begins)
     (keeps-back bs u begins (keep u (scan_next g c b) m.stand ((part-members (scan_next g c b) later m.parts).opens opened)))
 
-parts-apart : (f : Scan) (a : Parts) → scan_parts f ≡ Some a → spells_apart a.opened ≡ true → ScanApart f
-parts-apart (At (place.Value v)) a h e = value-opened v.body a h ∙ differs-of a.opened e
-parts-apart (InUrl v t r) a h e = value-opened v.body a h ∙ differs-of a.opened e
-parts-apart (At _) a h e = absurd (none_some a h)
-parts-apart _ a h e = absurd (none_some a h)
-
-record ApartUrl (f : Scan) : Type 0 where
-  parts : Parts
-  is : scan_parts f ≡ Some parts
-  apart : spells_apart parts.opened ≡ true
-
-value-apart : (b : Body) → language_body b ≡ false → beginning_in_body b ≡ Some prefix.Differs → (s : Parts) × (body_parts b ≡ Some s) × (spells_apart s.opened ≡ true)
-value-apart (body.Url s) w h = (s, refl, of-differs s.opened h)
-value-apart body.Plain w h = absurd (none_some prefix.Differs h)
-value-apart body.NoHole w h = absurd (none_some prefix.Differs h)
-value-apart (body.Js j) w h = absurd (none_some prefix.Differs h)
-value-apart (body.Css c) w h = absurd (no (sym w))
-
-url-only : (b : Body) → UrlWithin b → language_body b ≡ false
-url-only (body.Url s) w = refl
-url-only _ w = absurd w
-
-apart-url : (f : Scan) → IsBuilt f → ScanValid f → ScanApart f → ApartUrl f
-apart-url (At (place.Value v)) w y h = (let s = value-apart v.body w h in record { parts = s.0; is = s.1; apart = s.2 })
-apart-url (InUrl v t r) w y h = (let s = value-apart v.body (url-only v.body y.1) h in record { parts = s.0; is = s.1; apart = s.2 })
-apart-url (At (place.Style c)) w y h = absurd (no (sym w))
-apart-url (At _) w y h = absurd (none_some prefix.Differs h)
-apart-url _ w y h = absurd (none_some prefix.Differs h)
-
 by-apart : (y : Bool) (f : Scan) (b : ℕ) (bs : List ℕ) (a z : Parts) → scan_parts f ≡ Some a → spells_apart a.opened ≡ y → ScanValid f → ScanPlain f
     → scan_error f (class_of b) b ≡ None → scan_parts (scan_next f (class_of b) b) ≡ Some z
     → spells_apart (feed_bytes parts_feeding a (scan_fed f (class_of b) b)).opened ≡ true
@@ -775,18 +559,15 @@ by-apart false f b bs a z h e v w n k apart inside keep =
     inr (member.PartStart, member.PartOpen, m.starts (arises-start f b a r), m.opens (arises-open f b a r), two-points f b bs a z v n h k inside keep r)
 
 -- by whether it was so before the byte
-apart-before : (o : Option Parts) (y : Bool) (f : Scan) (b : ℕ) (bs : List ℕ) (z : Parts) → scan_parts f ≡ o → is_apart o ≡ y → ScanValid f → ScanPlain f
-    → scan_error f (class_of b) b ≡ None → scan_parts (scan_next f (class_of b) b) ≡ Some z → spells_apart z.opened ≡ true
-    → KeepsAll bs (scan_next f (class_of b) b) → ComesFrom (b ∷ bs) f
-apart-before None y f b bs z h e v w n k d keep =
-    absurd (no (sym (sym (ap is_apart k) ∙ (scan-fresh f (class_of b) b h).0) ∙ d))
-apart-before (Some a) y f b bs z h e v w n k d keep =
-    let c = class_of b in
-    let fed : z ≡ feed_bytes parts_feeding a (scan_fed f c b) = elim ((next-url f a c b v h).parts)
-    [ inl m ↦ absurd (none_some z (sym m ∙ k)) | inr m ↦ one_value z (feed_bytes parts_feeding a (scan_fed f c b)) (sym k ∙ m) ] in
-    let apart : spells_apart (feed_bytes parts_feeding a (scan_fed f c b)).opened ≡ true = ap (λ (x : Parts). spells_apart x.opened) (sym fed) ∙ d in
-    let inside = apart-inside (feed_bytes parts_feeding a (scan_fed f c b)) apart in
-    by-apart y f b bs a z h e v w n k apart inside keep
+apart-before : (o : Option Parts) (f : Scan) (b : ℕ) (bs : List ℕ) → scan_parts f ≡ o → ScanValid f → ScanPlain f
+    → scan_error f (class_of b) b ≡ None → ScanApart (scan_next f (class_of b) b) → KeepsAll bs (scan_next f (class_of b) b) → ComesFrom (b ∷ bs) f
+apart-before None f b bs h v w n m keep = absurd (no (sym (scan-fresh f (class_of b) b h n).0 ∙ ap spells_apart m))
+apart-before (Some a) f b bs h v w n m keep =
+    let g = scan_next f (class_of b) b in
+    let fed = feed_bytes parts_feeding a (scan_fed f (class_of b) b) in
+    let on : scan_parts g ≡ Some fed = elim ((next-url f a (class_of b) b v h).parts) [ inl k ↦ absurd (no (sym k.1 ∙ ap spells_apart m)) | inr k ↦ k ] in
+    let apart = of-differs fed.opened (sym (raw-opened g fed on) ∙ m) in
+    by-apart (spells_apart a.opened) f b bs a fed h refl v w n on apart (apart-inside fed apart) keep
 
 -- at the end of the text
 end-parts : (v : ValuePlace) (r : Reference) (a : Parts) → body_parts v.body ≡ Some a
@@ -851,9 +632,8 @@ comes-from (b ∷ bs) k since f q v w e a =
     let c = class_of b in
     let f2 = scan_next f c b in
     let v2 = scan-valid f c b v in
-    elim (comes-from bs (k + 1) (last_between k since (is_scan_between f)) f2 q v2 (scan-plain f b v w) n.1 a) [
-      | inl m ↦ (let u = apart-url f2 (scan-built f c b n.0) v2 m.0 in
-          apart-before (scan_parts f) (is_apart (scan_parts f)) f b bs u.parts refl refl v w n.0 u.is u.apart m.1)
+    elim (comes-from bs (k + 1) (last_percent k since (scan_reference f) (class_of b) b) f2 q v2 (scan-plain f b v n.0 w) n.1 a) [
+      | inl m ↦ apart-before (scan_parts f) f b bs refl v w n.0 m.0 m.1
       | inr m ↦ (let x = from-byte f c b m.0 v n.0 m.2 in let z = from-byte f c b m.1 v n.0 m.3 in
           inr (
             byte_origin f c b m.0,

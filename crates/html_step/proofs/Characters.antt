@@ -5,7 +5,7 @@ use Rattle.std.specs.Prelude.{◌/◌, ◌%◌, cond, encode_utf8, nat_le, nat_l
 use Rattle.std.specs.Char.{is_ascii_hexdigit, to_ascii_lowercase}
 use Rattle.std.proofs.lemmas.Bool.{eqb-true, leb-true}
 use Rattle.place_core.specs.page.Classes.{Class, Ampersand, class_of}
-use Rattle.place_core.specs.page.References.{Form, Begun, Named, Hashed, Decimal, HexMark, Hexadecimal, ReferenceRow, Reference, Closed, Open, ReferenceStep, Grows, Closes, Breaks, as_it_stands, begin_reference, flushed, next_reference, reference_turned, short_names, turn, whole_in}
+use Rattle.place_core.specs.page.References.{Form, Begun, Named, Hashed, Decimal, HexMark, Hexadecimal, ReferenceRow, Reference, Closed, Open, ReferenceStep, Grows, Closes, Breaks, as_it_stands, begin_reference, flushed, next_reference, plain_bytes, reference_turned, short_names, turn, whole_in}
 use Rattle.url_lexer.specs.Classes.{url_class_of}
 use Rattle.url_lexer.specs.declared.class.UrlClass.{UrlClass}
 use Rattle.url_lexer.specs.declared.class.UrlClass.TheVariants as class
@@ -191,3 +191,8 @@ next-plain (Open f bytes) b n = turned-plain (turn (class_of b) f) f bytes b ref
 pub stands-no-colon : (r : Reference) → ReferencePlain r → NoColon (as_it_stands r)
 stands-no-colon Closed n = tt
 stands-no-colon (Open f bytes) n = (λ e. no (sym ampersand-class ∙ ap is_colon e), n)
+
+-- a byte outside of references
+pub plain-character : (c : Class) (b : ℕ) → IsCharacter (plain_bytes c b)
+plain-character Ampersand b = nothing refl
+plain-character _ b = single b refl

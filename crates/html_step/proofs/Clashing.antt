@@ -31,20 +31,19 @@ use Rattle.place_core.specs.declared.tag_of.TagOf.{TagOf}
 use Rattle.place_core.specs.declared.tag_place.TagPlace.{TagPlace}
 use Rattle.place_core.specs.declared.value_place.ValuePlace.{ValuePlace}
 use Rattle.place_core.proofs.JoinMembers.{the_has_grows}
+use Rattle.place_core.proofs.Semilattices.{none_some}
 use Rattle.html_scan.specs.Scans.{Scan, At, AfterLess, AfterLessSolidus, InDeclaration, InTagName, InAttributeName, InUrl, InCommentEnd, InContentEnd, scan_error, url_scan, value_cause, parts_cause, BeforeType, InType}
 use Rattle.html_step.proofs.PlaceParts.{value-below}
 use Rattle.html_step.proofs.ScanOrder.{ScanBelow, ScanHas, first-none, if-none}
 use Rattle.html_step.proofs.UrlOrder.{first-caused}
 use Rattle.html_step.proofs.OnePath.{WhereScanned, block_scanned, content_scanned, scanned, none-at-hand, some, url_value}
+use Rattle.html_step.proofs.FromSteps.{or-false}
 use Rattle.url_lexer.specs.Parts.{UrlPart, UrlStart, UrlOpen}
 use Rattle.url_lexer.specs.TwoPaths.{is_open}
 use Rattle.url_lexer.specs.Triples.{Triple, NoTriple, AfterPercent, AfterDigit}
 
 no : false ≡ true → ⊥
 no e = cc
-
-none-some : {A : Type 0} (x : A) → None ≡ Some x → ⊥
-none-some x e = cc
 
 neither : (x y : Bool) → x ≡ false → y ≡ false → (x || y) ≡ true → ⊥
 neither false y e f h = no (sym f ∙ h)
@@ -53,10 +52,6 @@ neither true y e f h = no (sym e)
 second-of : (x y : Bool) → x ≡ false → (x || y) ≡ true → y ≡ true
 second-of false y e h = h
 second-of true y e h = absurd (no (sym e))
-
-or-true : (x y : Bool) → y ≡ true → (x || y) ≡ true
-or-true true y h = refl
-or-true false y h = h
 
 both-false : (x y : Bool) → x ≡ false → y ≡ false → (x || y) ≡ false
 both-false false y e f = f
@@ -176,11 +171,6 @@ of-place : (m : Member) → OfValue m → (x : ValuePlace) → Has (place.Value 
 of-place m o x h =
     let rest = quotes_have x.quotes m || body_has x.body m in
     second-of (typed_has x.typed m) rest (o.typed x.typed) (second-of (is_whole m) (typed_has x.typed m || rest) o.whole h)
-
-place-of : (m : Member) (x : ValuePlace) → (quotes_have x.quotes m || body_has x.body m) ≡ true → Has (place.Value x) m
-place-of m x h =
-    let rest = quotes_have x.quotes m || body_has x.body m in
-    or-true (is_whole m) (typed_has x.typed m || rest) (or-true (typed_has x.typed m) rest h)
 
 url-of : (v : ValuePlace) (t : Triple) (r : Reference) (m : Member) → ScanHas (url_scan v t r) m → Has (place.Value v) m
 url-of v NoTriple Closed m h = h
@@ -381,32 +371,32 @@ pub data ClashIs (s r : LexState ValueState) (c : Class) : Type 0 where
   white_second : c ≡ White → IsUnquoted s → IsUnbegun r → ClashIs s r c
 
 is-begun : (k : Kind) (t : Tag) (e : Code) → begun_clash k ≡ Some e → IsUnbegun (BeforeAttributeValue t k)
-is-begun kind.ScriptType t e h = absurd (none-some e h)
+is-begun kind.ScriptType t e h = absurd (none_some e h)
 is-begun _ t e h = tt
 
 before-white : (t : Tag) (k : Kind) (r : LexState ValueState) (c : Class) (e : Code) → byte_clash (BeforeAttributeValue t k) r c ≡ Some e
     → ClashIs (BeforeAttributeValue t k) r c
 before-white t k (AttributeValue Unquoted u (ValueOf v) x) White e h = white_first refl (is-begun k t e h) tt
-before-white t k (AttributeValue Unquoted u (ValueOf v) x) _ e h = absurd (none-some e h)
-before-white t k (AttributeValue Unquoted u (Deciding j before) x) c e h = absurd (none-some e h)
-before-white t k (AttributeValue DoubleQuoted u v x) c e h = absurd (none-some e h)
-before-white t k (AttributeValue SingleQuoted u v x) c e h = absurd (none-some e h)
-before-white t k _ c e h = absurd (none-some e h)
+before-white t k (AttributeValue Unquoted u (ValueOf v) x) _ e h = absurd (none_some e h)
+before-white t k (AttributeValue Unquoted u (Deciding j before) x) c e h = absurd (none_some e h)
+before-white t k (AttributeValue DoubleQuoted u v x) c e h = absurd (none_some e h)
+before-white t k (AttributeValue SingleQuoted u v x) c e h = absurd (none_some e h)
+before-white t k _ c e h = absurd (none_some e h)
 
 unquoted-white : (t : Tag) (v : ValueState) (x : Reference) (r : LexState ValueState) (c : Class) (e : Code)
     → byte_clash (AttributeValue Unquoted t (ValueOf v) x) r c ≡ Some e
     → ClashIs (AttributeValue Unquoted t (ValueOf v) x) r c
 unquoted-white t v x (BeforeAttributeValue u k) White e h = white_second refl tt (is-begun k u e h)
-unquoted-white t v x (BeforeAttributeValue u k) _ e h = absurd (none-some e h)
-unquoted-white t v x _ c e h = absurd (none-some e h)
+unquoted-white t v x (BeforeAttributeValue u k) _ e h = absurd (none_some e h)
+unquoted-white t v x _ c e h = absurd (none_some e h)
 
 pub clash-is : (s r : LexState ValueState) (c : Class) (e : Code) → byte_clash s r c ≡ Some e → ClashIs s r c
 clash-is (BeforeAttributeValue t k) r c e h = before-white t k r c e h
 clash-is (AttributeValue Unquoted t (ValueOf v) x) r c e h = unquoted-white t v x r c e h
-clash-is (AttributeValue Unquoted t (Deciding k before) x) r c e h = absurd (none-some e h)
-clash-is (AttributeValue DoubleQuoted t v x) r c e h = absurd (none-some e h)
-clash-is (AttributeValue SingleQuoted t v x) r c e h = absurd (none-some e h)
-clash-is _ r c e h = absurd (none-some e h)
+clash-is (AttributeValue Unquoted t (Deciding k before) x) r c e h = absurd (none_some e h)
+clash-is (AttributeValue DoubleQuoted t v x) r c e h = absurd (none_some e h)
+clash-is (AttributeValue SingleQuoted t v x) r c e h = absurd (none_some e h)
+clash-is _ r c e h = absurd (none_some e h)
 
 -- A larger scan state has the members of a smaller one that values have.
 no-value-has : (m : Member) → OfValue m → (t : TagOf) (typed : Bool) (name : List ℕ) → Lacks m (InAttributeName t typed name)
@@ -455,10 +445,6 @@ bare-both : (t : TagOf) (q : Quotes) → quotes_have q member.UnquotedValue ≡ 
 bare-both t (quotes.Bare b) h k n = no (sym (if-none (b.uq && b.unbegun) code.AmbigContext n) ∙ rw (h, k) refl)
 bare-both t quotes.Dq h k n = no h
 bare-both t quotes.Sq h k n = no h
-
-or-false : (x : Bool) → (x || false) ≡ true → x ≡ true
-or-false true h = refl
-or-false false h = h
 
 unquoted-there : (b : Body) (q : Quotes) → body_error b ≡ None → (quotes_have q member.UnquotedValue || body_has b member.UnquotedValue) ≡ true
     → quotes_have q member.UnquotedValue ≡ true

@@ -67,7 +67,7 @@ from-tag t c b y x h f = record {
   leads = λ g v l o. below-at-tag (λ (g : Scan). ScanValid g → ScanHas g x → ScanHas (scan_next g c b) y) t (λ u l v o. f u v l o) g l v o;
 }
 
-or-last : (x y : Bool) → y ≡ true → (x || y) ≡ true
+pub or-last : (x y : Bool) → y ≡ true → (x || y) ≡ true
 or-last true y h = refl
 or-last false y h = h
 

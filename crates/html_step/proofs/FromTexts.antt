@@ -1,7 +1,7 @@
 -- Members through whole texts.
 use Rattle.std.proofs.Common.{◌≡◌, ℕ, ◌+◌, List, [], ◌∷◌, Ok, sym, ◌∙◌, subst}
 use Rattle.place_core.specs.page.Classes.{class_of}
-use Rattle.place_core.specs.place.Errors.{last_between}
+use Rattle.place_core.specs.place.LastPercent.{last_percent}
 use Rattle.place_core.specs.place.Membership.{IsIn, Bears}
 use Rattle.place_core.specs.place.Places.{Has, IsValid}
 use Rattle.place_core.specs.page.States.{LexState}
@@ -9,7 +9,7 @@ use Rattle.place_core.specs.page.Tags.{ValueState}
 use Rattle.place_core.specs.declared.member.Member.{Member}
 use Rattle.place_core.specs.declared.place.Place.{Place}
 use Rattle.place_core.proofs.Semilattices.{one_value}
-use Rattle.html_scan.specs.Scans.{Scan, At, is_scan_between, scan_next}
+use Rattle.html_scan.specs.Scans.{Scan, At, scan_reference, scan_next}
 use Rattle.html_step.specs.Laws.{FromText, IsOrigin}
 use Rattle.html_step.specs.Origins.{origin}
 use Rattle.html_step.specs.Steps.{after_text, stepped}
@@ -35,11 +35,11 @@ from-bytes [] k since f q y v e h =
     }
 from-bytes (b ∷ bs) k since f q y v e h =
     let n = step-ok k since b bs f q e in
-    let r = from-bytes bs (k + 1) (last_between k since (is_scan_between f)) (scan_next f (class_of b) b) q y (scan-valid f (class_of b) b v) n.1 h in
+    let r = from-bytes bs (k + 1) (last_percent k since (scan_reference f) (class_of b) b) (scan_next f (class_of b) b) q y (scan-valid f (class_of b) b v) n.1 h in
     let x = from-byte f (class_of b) b (origin bs (scan_next f (class_of b) b) y) v n.0 r.there in
     record {
       there = x.there;
-      leads = λ k since g a w l o d. r.leads (k + 1) (last_between k since (is_scan_between g)) (scan_next g (class_of b) b) a (scan-valid g (class_of b) b w)
+      leads = λ k since g a w l o d. r.leads (k + 1) (last_percent k since (scan_reference g) (class_of b) b) (scan_next g (class_of b) b) a (scan-valid g (class_of b) b w)
           (scan-grows g f (class_of b) b w l n.0).1 (x.leads g w l o) (step-ok k since b bs g a d).1;
     }
 

@@ -29,7 +29,7 @@ use Rattle.html_step.proofs.BelowScans.{whole-in}
 use Rattle.html_step.proofs.FromParts.{AreTaken, fed-from, fed-quoted, fed-taken, fed-typed, fed-whole, first-no-cause, language-taken, or-behind, or-either, or-first}
 use Rattle.html_step.proofs.OnePath.{none-at-hand, some}
 use Rattle.html_step.proofs.PlaceParts.{Under, ValueBelow, below-value}
-use Rattle.html_step.proofs.ScanOrder.{BegunWhereOpen, ScanHas, UrlWithin, bare-parts, bare-white, body-accepts, first-none, if-none, parts-below}
+use Rattle.html_step.proofs.ScanOrder.{BegunWhereOpen, ScanHas, UrlWithin, bare-parts, bare-white, body-accepts, first-none, if-none, parts-below, url-within}
 use Rattle.html_step.proofs.UrlOrder.{BegunIf}
 use Rattle.url_lexer.specs.Triples.{Triple, NoTriple, AfterPercent, AfterDigit}
 
@@ -412,13 +412,6 @@ end-part v r s y b a h =
           (url-leads s u.body u.typed u.quotes (as_it_stands r) y a (subst (λ (z : Body). joined_bodies u.body z ≡ Some z) b l.body) h
           (subst (Has (place.Value u)) e o));
     }
-
-url-within : (b : Body) → UrlWithin b → (s : Parts) × (b ≡ body.Url s)
-url-within (body.Url s) w = (s, refl)
-url-within body.Plain w = absurd w
-url-within body.NoHole w = absurd w
-url-within (body.Js j) w = absurd w
-url-within (body.Css j) w = absurd w
 
 pub end-from : (v : ValuePlace) (r : Reference) (y : Member) → UrlWithin v.body → open_cut_error v.body (as_it_stands r) ≡ None
     → value_has v.typed v.quotes (parts_with v.body (as_it_stands r)) y ≡ true → EndFrom v r y (body_origin v.body (as_it_stands r) y)

@@ -32,16 +32,16 @@ use Rattle.html_step.specs.Origins.{in_value_origin, typed_origin}
 use Rattle.html_step.specs.HoleLaws.{IsHoleOrigin, IsHoleEvidence, AcceptsHole, CoversHole, FromHole, GrowsHole, OneHole, HoleEvidence, ValidHole}
 use Rattle.html_step.specs.Holes.{Holed, after_hole, holed_quotes, last_of, named_by_data, plain_hole, url_holed, value_hole, block_hole}
 use Rattle.html_step.proofs.BelowScans.{tag-place, value-place, below-at-block}
-use Rattle.html_step.proofs.FromSteps.{false-or, no, or-false}
+use Rattle.html_step.proofs.FromSteps.{false-or, no, or-false, or-last}
 use Rattle.html_step.proofs.FromValues.{in-body, in-quotes, in-typed, in-whole, out-part, part-kept, typed-more, typed-only, value-cases, value_has}
 use Rattle.html_step.proofs.FromTexts.{own-has}
-use Rattle.html_step.proofs.ScanOrder.{one-spot, parts-below, value-from}
+use Rattle.html_step.proofs.ScanOrder.{one-spot, parts-below, value-from, block-below, plain-same}
 use Rattle.html_step.proofs.HoleMembers.{part-behind}
 use Rattle.html_step.proofs.HoleSteps.{OwnHole, own-at}
 use Rattle.html_step.proofs.HolesShown.{HoleShown, ShownWhere, hole-where, on_bad, on_two}
 use Rattle.html_step.proofs.OnePart.{same-chain}
-use Rattle.html_step.proofs.PlaceParts.{TagBelow, Under, ValueBelow, below-tag, below-value, value-below, under-both, under-false}
-use Rattle.html_step.proofs.ShownSteps.{none-some, parts-of-below}
+use Rattle.html_step.proofs.PlaceParts.{TagBelow, Under, ValueBelow, below-tag, below-value, value-below, under-both, under-none}
+use Rattle.html_step.proofs.ShownSteps.{parts-of-below}
 use Rattle.html_step.proofs.UrlPlaces.{InUrl, url-part, url-place}
 use Rattle.url_lexer.specs.Parts.{UrlPart}
 use Rattle.url_lexer.specs.Refusals.{UrlRefusal}
@@ -56,9 +56,6 @@ use Rattle.url_step.proofs.ValidParts.{parts-stay-valid}
 abbrev GrowsTo : Holed → Place → Type 0
 GrowsTo (Ok h) p = (a : Place) × (after_hole p ≡ Ok (a, h.1)) × Below a h.0
 GrowsTo (Err e) p = Unit {0}
-
-under-none : (x y : Bool) → Under x y → y ≡ false → x ≡ false
-under-none x y h e = under-false x (subst (Under x) e h)
 
 tag-grows : (x y : TagPlace) (n : Bool) → TagBelow x y → (y.spots.name || y.spots.inside) ≡ n → GrowsTo (named_by_data n y) (place.Tag x)
 tag-grows x y true h e = tt
@@ -77,13 +74,6 @@ plain-grows x y (quotes.Bare s) (quotes.Bare r) h e j f b = (
 plain-grows x y quotes.Dq r h e j f b = absurd (none_some r j)
 plain-grows x y quotes.Sq r h e j f b = absurd (none_some r j)
 plain-grows x y (quotes.Bare s) r h e j f b = absurd (none_some r j)
-
-plain-same : (b : Body) → joined_bodies b body.Plain ≡ Some body.Plain → b ≡ body.Plain
-plain-same body.Plain h = refl
-plain-same body.NoHole h = absurd (none_some body.Plain h)
-plain-same (body.Url p) h = absurd (none_some body.Plain h)
-plain-same (body.Js j) h = absurd (none_some body.Plain h)
-plain-same (body.Css c) h = absurd (none_some body.Plain h)
 
 -- in a URL
 same-last : (q r : Quotes) → joined_quotes q r ≡ Some r → last_of q ≡ last_of r
@@ -128,9 +118,6 @@ value-grows x y (body.Url p) h v e =
     url-grows x y w.0 p (parts_hole_error p) h (subst IsValidBody w.1 v.1) w.1 w.2 refl
 value-grows x y (body.Js p) h v e = tt
 value-grows x y (body.Css p) h v e = tt
-
-block-below : (x y : Bool) → Below (place.Block x) (place.Block y) → Under x y
-block-below x y h = let e : place.Block (x || y) ≡ place.Block y = one_value (place.Block (x || y)) (place.Block y) h in cc
 
 block-grows : (x y : Bool) → Under x y → GrowsTo (block_hole y) (place.Block x)
 block-grows x true u = tt
@@ -258,16 +245,16 @@ clash-by : (s r : LexState ValueState) (p : Place) (h : Place × Chain) (e : Cod
     → url_part_at s ≡ o → url_part_at r ≡ n → parts_clash o n ≡ Some e → ⊥
 clash-by s r p h e (Some x) (Some y) g i j k l m =
     let none = two-in p h i.own j.own x y g (url-place s x i.own k i.stands) (url-place r y j.own l j.stands) i.below j.below in
-    none-some e (sym (ap (option_map refusal_code) none) ∙ m)
-clash-by s r p h e (Some x) None g i j k l m = none-some e m
-clash-by s r p h e None n g i j k l m = none-some e m
+    none_some e (sym (ap (option_map refusal_code) none) ∙ m)
+clash-by s r p h e (Some x) None g i j k l m = none_some e m
+clash-by s r p h e None n g i j k l m = none_some e m
 
 pub accepts-hole : AcceptsHole
 accepts-hole p q c s e v h i = (
   λ r.
       let g = grows-hole i.own p q c i.valid v i.below h in
       let own : r.own ≡ i.own = one_value r.own i.own (sym r.stands ∙ i.stands) in
-      none-some e (sym ((one-hole i.own s i.stands).0 g.0 c g.1).0 ∙ subst (λ (a : Place). hole_error a ≡ Some e) own r.refused),
+      none_some e (sym ((one-hole i.own s i.stands).0 g.0 c g.1).0 ∙ subst (λ (a : Place). hole_error a ≡ Some e) own r.refused),
   λ r j k. clash-by s r p (q, c) e (url_part_at s) (url_part_at r) h i j refl refl k,
 )
 
@@ -327,14 +314,6 @@ from-value t y x h f = record {
   there = h;
   leads = λ a l o. value-place (λ (g : Scan). Has (scan_place g) x → HasAfter (after_hole (scan_place g)) y) t (λ u b o. f u b o) a l o;
 }
-
-abbrev is_begun_member : Member → Bool
-is_begun_member member.Whole = true
-is_begun_member member.UnquotedValue = true
-is_begun_member _ = false
-
-begun-value : ValuePlace → Place
-begun-value u = place.Value (record { tag = u.tag; typed = u.typed; quotes = bare_begun; body = u.body })
 
 plain-of : (u t : ValuePlace) → ValueBelow u t → t.body ≡ body.Plain → u.body ≡ body.Plain
 plain-of u t l e = plain-same u.body (subst (λ (z : Body). joined_bodies u.body z ≡ Some z) e l.body)
@@ -505,10 +484,6 @@ evidence-tag t x h f = record {
   there = h;
   refuses = λ a l o. tag-place (λ (g : Scan). Has (scan_place g) x → hole_error (scan_place g) ≡ Some code.SplitToken) t (λ u b o. ap (λ (z : Bool). if z then Some code.SplitToken else None) (f u b o)) a l o;
 }
-
-or-last : (x y : Bool) → y ≡ true → (x || y) ≡ true
-or-last true y h = refl
-or-last false y h = h
 
 tag-evidence : (t : TagPlace) (n i : Bool) → t.spots.name ≡ n → t.spots.inside ≡ i → ShownTo (named_by_data (n || i) t) (place.Tag t) (one (if n then member.NameSpot else member.InsideSpot))
 tag-evidence t true i n j = evidence-tag t member.NameSpot n (λ u b o. ap (λ (z : Bool). z || u.spots.inside) o)

@@ -1,25 +1,22 @@
 -- Paths in the beginning of a URL: what keeps them there, what the reference before a byte has to do with it, and the path of which it is not known
 -- what it has spelled.
 use Rattle.std.proofs.Common.{◌≡◌, ℕ, Bool, true, false, List, [], ◌∷◌, ◌++◌, Option, Some, None, is_some, option_map, if◌then◌else◌, refl, sym, ap, ◌∙◌, subst, ◌⊎◌, inl, inr}
-use Rattle.std.proofs.lemmas.List.{append-nil}
-use Rattle.place_core.specs.page.Classes.{Class, White, QuotationMark, Apostrophe, Solidus, GreaterThan, is_equals_sign, class_of}
+use Rattle.place_core.specs.page.Classes.{Class, White, Solidus, GreaterThan, is_equals_sign, class_of}
 use Rattle.place_core.specs.page.Html.{next, next_value, next_after_value, next_before_name, after_tag, ends_value}
 use Rattle.place_core.specs.page.Paths.{at_cut}
 use Rattle.place_core.specs.page.References.{Reference, Closed, Open, Form, ReferenceStep, Grows, Closes, Breaks, turn, flushed, plain_bytes, undone_byte, next_reference, settled, as_it_stands}
-use Rattle.place_core.specs.page.States.{Template, LexState, Text, TagOpen, EndTagOpen, DeclarationOpen, CommentState, Started, StartedDash, Inside, Dash, DashDash, Bang, Broken, InComment, BogusComment, InDoctype, TagName, WholeTagName, BeforeAttributeName, AttributeName, WholeAttributeName, AfterAttributeName, BeforeAttributeValue, AttributeValue, AfterAttributeValue, SelfClosingStartTag, Content, Characters, Bytes, Pending, Nothing, PendingLess, LessAtCut, PendingName, PendingBang, PendingBangDash, InContent, Unread}
+use Rattle.place_core.specs.page.States.{Template, LexState, Text, TagOpen, EndTagOpen, DeclarationOpen, Started, StartedDash, Inside, Dash, DashDash, Bang, Broken, InComment, BogusComment, InDoctype, TagName, WholeTagName, BeforeAttributeName, AttributeName, WholeAttributeName, AfterAttributeName, BeforeAttributeValue, AttributeValue, AfterAttributeValue, SelfClosingStartTag, Characters, Bytes, Nothing, PendingLess, LessAtCut, PendingName, PendingBang, PendingBangDash, InContent, Unread}
 use Rattle.place_core.specs.page.Tags.{Tag, is_second_type, Value, ValueOf, Deciding, ValueState, OfKind, OfUrl, languages, with_bytes, tag_with_value, cut_value, Quoting, DoubleQuoted, SingleQuoted, Unquoted}
-use Rattle.place_core.specs.place.ApartPlaces.{ArePlacesApart, beginning_at, side, HasApart}
-use Rattle.place_core.specs.place.Errors.{node, place_before_bytes, value_before}
+use Rattle.place_core.specs.place.ApartPlaces.{beginning_at, side}
+use Rattle.place_core.specs.place.Errors.{node, value_before}
 use Rattle.place_core.specs.place.Membership.{Bears}
-use Rattle.place_core.specs.place.PathPairs.{Apart, ApartBefore, ClashesApart, Keeps, PartWithin, read_before, state_before, is_in_beginning, unknown_beginning, unknown_part}
-use Rattle.place_core.specs.place.Places.{Has}
+use Rattle.place_core.specs.place.PathPairs.{ApartBefore, ClashesApart, Keeps, PartWithin, read_before, state_before, is_in_beginning, unknown_beginning, unknown_part}
 use Rattle.place_core.specs.place.UrlParts.{parts_of}
-use Rattle.place_core.specs.place.StatePlaces.{placed, value_body, value_spot, quotes_at, unbegun, unless_second_type}
+use Rattle.place_core.specs.place.StatePlaces.{placed, value_spot, quotes_at}
 use Rattle.place_core.specs.declared.code.Code.{Code}
 use Rattle.place_core.specs.declared.body.Body.TheVariants as body
 use Rattle.place_core.specs.declared.element.Element.{Element}
 use Rattle.place_core.specs.declared.element.Element.TheVariants as element
-use Rattle.place_core.specs.declared.kind.Kind.{Kind}
 use Rattle.place_core.specs.declared.kind.Kind.TheVariants as kind
 use Rattle.place_core.specs.declared.place.Place.{Place}
 use Rattle.place_core.specs.declared.place.Place.TheVariants as place
@@ -27,13 +24,12 @@ use Rattle.place_core.specs.declared.quotes.Quotes.{Quotes}
 use Rattle.place_core.specs.declared.tag_of.TagOf.{TagOf}
 use Rattle.place_core.specs.declared.tag_of.TagOf.TheVariants as tag
 use Rattle.place_core.specs.declared.tag_place.TagPlace.{TagPlace}
-use Rattle.place_core.proofs.ApartPlacesFacts.{has-side, side-has, turned-apart}
-use Rattle.place_core.proofs.Semilattices.{one_value}
+use Rattle.place_core.proofs.ApartPlacesFacts.{has-side, turned-apart}
 use Rattle.html_step.proofs.OnePath.{with-url}
+use Rattle.html_step.proofs.ReadScans.{ends-no-equals}
 use Rattle.url_lexer.specs.Classes.{url_class_of}
-use Rattle.url_lexer.specs.Holes.{url_after_cut}
 use Rattle.url_lexer.specs.Parts.{UrlPart, UrlStart, UrlOpen, UrlOpenhole, UrlPrequery, UrlQuery, UrlBad, next_part, part_behind_scheme}
-use Rattle.url_lexer.specs.Prefixes.{Prefix, Differs, is_whole_word}
+use Rattle.url_lexer.specs.Prefixes.{is_whole_word}
 use Rattle.url_lexer.specs.States.{Url, feed_url, feed_all}
 use Rattle.url_lexer.specs.Spots.{where_whole}
 use Rattle.url_lexer.specs.Triples.{Triple, NoTriple, AfterPercent, AfterDigit}
@@ -50,18 +46,10 @@ with-append [] ys v = refl
 with-append (x ∷ xs) ys (ValueOf v) = with-append xs ys _
 with-append (x ∷ xs) ys (Deciding k before) = with-append xs ys _
 
--- what ends a value is no equals sign
-pub no-equals : (q : Quoting) (c : Class) → ends_value q c ≡ true → is_equals_sign c ≡ false
-no-equals DoubleQuoted QuotationMark e = refl
-no-equals SingleQuoted Apostrophe e = refl
-no-equals Unquoted White e = refl
-no-equals Unquoted GreaterThan e = refl
-no-equals q c e = absurd (no e)
-
 broken-next : (e : Bool) (q : Quoting) (t : Tag) (v : Value ValueState) (f : Form) (bytes : List ℕ) (c : Class) (b : ℕ) → ends_value q c ≡ e → turn c f ≡ Breaks
     → next_value languages e q c b t (value_before Breaks v c f bytes) Closed ≡ next_value languages e q c b t v (Open f bytes)
 broken-next true q t v f bytes c b e h =
-    ap (λ (x : Bool). next_after_value q c b (tag_with_value t (with_bytes languages v (flushed true x f bytes)))) (no-equals q c e)
+    ap (λ (x : Bool). next_after_value q c b (tag_with_value t (with_bytes languages v (flushed true x f bytes)))) (ends-no-equals q c e)
 broken-next false q t v f bytes c b e h =
     rw h (ap (λ (x : Value ValueState). AttributeValue q t x (next_reference Closed c b)) (sym (with-append (flushed true (is_equals_sign c) f bytes) (plain_bytes c b) v)))
 
@@ -210,48 +198,49 @@ pub side-begins : (s : LexState ValueState) → Bears s side → is_in_beginning
 side-begins s h = placed-begins s (ap on_side h.stands ∙ has-side h.own h.has)
 
 -- So at the end of a node, and then its text ended in the value.
+abbrev pub is_url : Value ValueState → Bool
+is_url (ValueOf (OfUrl u)) = true
+is_url v = false
+
 abbrev pub is_url_value : LexState ValueState → Bool
-is_url_value (AttributeValue q t (ValueOf (OfUrl u)) r) = true
+is_url_value (AttributeValue q t v r) = is_url v
 is_url_value s = false
-
-kind-not : (bytes : List ℕ) (q : Quoting) (t : Tag) (k : Kind)
-    → is_in_beginning (AttributeValue q t (cut_value languages (with_bytes languages (ValueOf (OfKind k)) bytes)) Closed) ≡ false
-kind-not [] q t k = refl
-kind-not (b ∷ bs) q t k = kind-not bs q t k
-
-deciding-not : (bytes : List ℕ) (q : Quoting) (t : Tag) (k : Kind) (before : List ℕ)
-    → is_in_beginning (AttributeValue q t (cut_value languages (with_bytes languages (Deciding k before) bytes)) Closed) ≡ false
-deciding-not [] q t k before = refl
-deciding-not (b ∷ bs) q t k before = deciding-not bs q t k (before ++ b ∷ [])
-
-cut-value : (s : LexState ValueState) → is_in_beginning (at_cut languages s) ≡ true → is_url_value s ≡ true
-cut-value (AttributeValue q t (ValueOf (OfUrl u)) r) h = refl
-cut-value (AttributeValue q t (ValueOf (OfKind k)) r) h = absurd (no (sym (kind-not (as_it_stands r) q t k) ∙ h))
-cut-value (AttributeValue q t (Deciding k before) r) h = absurd (no (sym (deciding-not (as_it_stands r) q t k before) ∙ h))
-cut-value (Text r) h = absurd (no h)
-cut-value (TagOpen r) h = absurd (no h)
-cut-value (EndTagOpen r) h = absurd (no h)
-cut-value (DeclarationOpen r pending) h = absurd (no h)
-cut-value (InComment s) h = absurd (no h)
-cut-value BogusComment h = absurd (no h)
-cut-value InDoctype h = absurd (no h)
-cut-value (TagName ends name) h = absurd (no h)
-cut-value (WholeTagName t) h = absurd (no h)
-cut-value (BeforeAttributeName t) h = absurd (no h)
-cut-value (AttributeName t name) h = absurd (no h)
-cut-value (WholeAttributeName t k) h = absurd (no h)
-cut-value (AfterAttributeName t k) h = absurd (no h)
-cut-value (BeforeAttributeValue t k) h = absurd (no h)
-cut-value (AfterAttributeValue t) h = absurd (no h)
-cut-value (SelfClosingStartTag t) h = absurd (no h)
-cut-value (InContent e y p) h = absurd (no h)
-cut-value Unread h = absurd (no h)
 
 pub begins-value : (s : LexState ValueState) → is_in_beginning s ≡ true → is_url_value s ≡ true
 begins-value (AttributeValue q t (ValueOf (OfUrl u)) r) h = refl
 begins-value (AttributeValue q t (ValueOf (OfKind k)) r) h = absurd (no h)
 begins-value (AttributeValue q t (Deciding k before) r) h = absurd (no h)
 begins-value _ h = absurd (no h)
+
+with-url-value : (bytes : List ℕ) (v : Value ValueState) → is_url (with_bytes languages v bytes) ≡ is_url v
+with-url-value [] v = refl
+with-url-value (b ∷ bs) (ValueOf (OfUrl u)) = with-url-value bs (ValueOf (OfUrl (feed_url u b)))
+with-url-value (b ∷ bs) (ValueOf (OfKind k)) = with-url-value bs (ValueOf (OfKind k))
+with-url-value (b ∷ bs) (Deciding k before) = with-url-value bs (Deciding k (before ++ b ∷ []))
+
+cut-url-value : (v : Value ValueState) → is_url (cut_value languages v) ≡ is_url v
+cut-url-value (ValueOf (OfUrl u)) = refl
+cut-url-value (ValueOf (OfKind k)) = refl
+cut-url-value (Deciding k before) = refl
+
+cut-value : (s : LexState ValueState) → is_in_beginning (at_cut languages s) ≡ true → is_url_value s ≡ true
+cut-value (AttributeValue q t v r) h =
+    let bytes = as_it_stands r in
+    sym (cut-url-value (with_bytes languages v bytes) ∙ with-url-value bytes v) ∙ begins-value (AttributeValue q t (cut_value languages (with_bytes languages v bytes)) Closed) h
+cut-value _ h = absurd (no h)
+
+-- where the reference before the bytes that are left is read, a path is in a URL if it is in one where the reference is open
+before-url : (x : ReferenceStep) (q : Quoting) (t : Tag) (v : Value ValueState) (f : Form) (bytes : List ℕ) (c : Class)
+    → is_url_value (read_before x (AttributeValue q t (value_before Breaks v c f bytes) Closed) (AttributeValue q t v (Open f bytes))) ≡ is_url v
+before-url (Grows g) q t v f bytes c = refl
+before-url Closes q t v f bytes c = refl
+before-url Breaks q t v f bytes c = with-url-value (flushed true (is_equals_sign c) f bytes) v
+
+pub before-value : (s : LexState ValueState) (bs : List ℕ) → is_url_value (state_before s bs) ≡ is_url_value s
+before-value (AttributeValue q t v Closed) bs = refl
+before-value (AttributeValue q t v (Open f bytes)) [] = refl
+before-value (AttributeValue q t v (Open f bytes)) (b ∷ bs) = before-url (turn (class_of b) f) q t v f bytes (class_of b)
+before-value _ bs = refl
 
 pub kept-value : (bytes : List ℕ) (s : LexState ValueState) → Keeps bytes s → is_url_value s ≡ true
 kept-value [] s h = cut-value s (side-begins (node [] s) h)

@@ -7,7 +7,8 @@ use Rattle.place_core.specs.page.References.{Reference, Closed, Open}
 use Rattle.place_core.specs.page.States.{Template, LexState, Text, TagOpen, EndTagOpen, DeclarationOpen, CommentState, Started, StartedDash, Inside, Dash, DashDash, Bang, Broken, InComment, BogusComment, InDoctype, TagName, WholeTagName, BeforeAttributeName, AttributeName, WholeAttributeName, AfterAttributeName, BeforeAttributeValue, AttributeValue, AfterAttributeValue, SelfClosingStartTag, Characters, Bytes, Pending, Nothing, PendingLess, PendingName, PendingBang, PendingBangDash, InContent, Unread, LessAtCut}
 use Rattle.place_core.specs.page.Tags.{Tag, ValueState, OfKind, OfUrl, Quoting, languages, ValueOf, Deciding, is_second_type}
 use Rattle.place_core.specs.place.ApartPlaces.{ArePlacesApart, beginning_at, opened_apart}
-use Rattle.place_core.specs.place.Errors.{PathRefusal, last_between, place_before_bytes, shown_place, states}
+use Rattle.place_core.specs.place.Errors.{PathRefusal, place_before_bytes, shown_place, states}
+use Rattle.place_core.specs.place.LastPercent.{last_percent}
 use Rattle.place_core.specs.place.PathPairs.{ApartBefore, is_in_reference}
 use Rattle.place_core.specs.place.StatePlaces.{placed, quotes_at}
 use Rattle.place_core.specs.place.UrlParts.{parts_of}
@@ -18,7 +19,7 @@ use Rattle.place_core.specs.declared.place.Place.{Place}
 use Rattle.place_core.specs.declared.prefix.Prefix.{Prefix}
 use Rattle.place_core.specs.declared.value_place.ValuePlace.{ValuePlace}
 use Rattle.url_lexer.specs.Triples.{Triple, NoTriple, AfterPercent, AfterDigit}
-use Rattle.html_scan.specs.Scans.{Scan, At, scan_error, scan_next, scan_shown, is_scan_between, url_scan}
+use Rattle.html_scan.specs.Scans.{Scan, At, scan_error, scan_next, scan_shown, scan_reference, url_scan}
 use Rattle.html_step.specs.ApartInText.{AreApartAfter, AreNotApart, IsLastIn, TakesByte}
 use Rattle.html_step.specs.ApartScans.{AreScansApart, IsLastApart, AnswersLast, beginning_after, scan_beginning, unless_in_reference}
 use Rattle.html_step.specs.Steps.{after_text, place_before, scan_after, stepped, with_place_before}
@@ -188,7 +189,7 @@ states-there zero bytes k since s f e r = e
 states-there (suc n) [] k since s f e r = e
 states-there (suc n) (b ∷ bs) k since s f e r =
     let g = scan_next f (class_of b) b in
-    let after = last_between k since (is_scan_between f) in
+    let after = last_percent k since (scan_reference f) (class_of b) b in
     let l = not-late k n (scan_error f (class_of b) b) (stepped (k + 1) after bs g) r in
     states-there n bs (k + 1) after (next languages Template s (class_of b) b) g ((agrees-at s f b e).steps l.0)
     (later k n (stepped (k + 1) after bs g) l.1)

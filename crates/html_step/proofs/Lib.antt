@@ -2,7 +2,6 @@ pub mod AcceptedTexts
 pub mod ApartOrigins
 pub mod ApartParts
 pub mod BelowScans
-pub mod BuiltScans
 pub mod Characters
 pub mod Clashing
 pub mod EscapeOrder
@@ -29,7 +28,6 @@ pub mod ReadScans
 pub mod ReadStates
 pub mod RefusedColons
 pub mod ScanOrder
-pub mod SettledScans
 pub mod ShownSteps
 pub mod ShownTexts
 pub mod ShownUrls

@@ -1,11 +1,11 @@
 -- Two paths that met apart: what their place says of them.
-use Rattle.std.proofs.Common.{◌≡◌, ℕ, Bool, true, false, ◌||◌, List, [], ◌∷◌, Option, Some, None, Ok, Err, refl, sym, ap, ◌∙◌, subst}
+use Rattle.std.proofs.Common.{◌≡◌, ℕ, Bool, true, false, ◌||◌, List, Option, Some, None, Ok, Err, refl, sym, ap, ◌∙◌, subst}
 use Rattle.std.specs.Prelude.{⊤}
 use Rattle.place_core.specs.page.States.{LexState}
 use Rattle.place_core.specs.page.Tags.{ValueState}
-use Rattle.place_core.specs.place.ApartPlaces.{HasApart, beginning_at, side}
-use Rattle.place_core.specs.place.Membership.{IsIn, Bears}
-use Rattle.place_core.specs.place.PathPairs.{ClashesApart, Keeps, PartWithin, unknown_beginning}
+use Rattle.place_core.specs.place.ApartPlaces.{HasApart, beginning_at}
+use Rattle.place_core.specs.place.Membership.{IsIn}
+use Rattle.place_core.specs.place.PathPairs.{ClashesApart, unknown_beginning}
 use Rattle.place_core.specs.place.Places.{IsValid}
 use Rattle.place_core.specs.declared.body.Body.{Body}
 use Rattle.place_core.specs.declared.body.Body.TheVariants as body
@@ -21,7 +21,7 @@ use Rattle.place_core.specs.declared.tag_place.TagPlace.{TagPlace}
 use Rattle.place_core.specs.declared.value_place.ValuePlace.{ValuePlace}
 use Rattle.place_core.proofs.ApartPlacesFacts.{above-apart, apart-has, apart-sides, are-apart, below-apart, joins-apart, met-here, path-sides, turned-apart, turned-paths}
 use Rattle.place_core.proofs.Semilattices.{none_some}
-use Rattle.html_scan.specs.Scans.{Scan, At}
+use Rattle.html_scan.specs.Scans.{At}
 use Rattle.html_step.specs.Apart.{ApartLaws}
 use Rattle.html_step.specs.Holes.{Holed, after_hole, block_hole, named_by_data, plain_hole, url_holed, value_hole}
 use Rattle.html_step.specs.Steps.{after_text}

@@ -8,14 +8,12 @@ use Rattle.place_core.specs.declared.san.San.{San}
 use Rattle.html_step.specs.Holes.{all_of, both_of, url_chain}
 use Rattle.place_core.specs.declared.san.San.TheVariants as san
 use Rattle.html_step.proofs.PlaceParts.{Under}
+use Rattle.html_step.proofs.OnePath.{some}
 use Rattle.url_step.specs.PartSets.{PartsBelow, one_if, part_count, parts_hole_error}
 use Rattle.url_step.proofs.Growth.{hole-none}
 
 no : false ≡ true → ⊥
 no e = cc
-
-some : (p : Prefix) → Some p ≡ None → ⊥
-some p e = cc
 
 one-grows : (x y : Bool) → Under x y → one_if x ≤ one_if y
 one-grows true true e = omega arith

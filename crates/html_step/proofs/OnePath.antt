@@ -1,11 +1,12 @@
 -- Where a text is stepped from the place of one path, the steps are the path's own.
 use Rattle.std.proofs.Common.{◌≡◌, ℕ, Bool, true, false, List, [], ◌∷◌, ◌++◌, length, Option, Some, None, refl, sym, ap, ◌∙◌}
-use Rattle.std.specs.Prelude.{⊤, ◌||◌, ◌&&◌, ◌+◌, ◌-◌, encode_utf8, is_some, if◌then◌else◌}
+use Rattle.std.specs.Prelude.{⊤, ◌||◌, ◌&&◌, ◌+◌, ◌-◌, encode_utf8, if◌then◌else◌}
 use Rattle.std.specs.Option.{option_map}
 use Rattle.place_core.specs.page.Classes.{Class, White, QuotationMark, Ampersand, Apostrophe, HyphenMinus, Solidus, LessThan, EqualsSign, GreaterThan, GraveAccent, Letter, ExclamationMark, class_of, is_equals_sign}
 use Rattle.place_core.specs.page.Comments.{OpensComment, OpensDoctype, Undecided, OpensNothing, Declaration, declared_by}
 use Rattle.place_core.specs.page.Contents.{may_be_name_of, is_name_of, next_loose, next_less, next_end_name, next_bang}
-use Rattle.place_core.specs.place.Errors.{byte_error, cut_error, at_hand, unless_second, content_error, kind_error, tag_error, bare_error, quotes_error, attribute_name_error, PathCause, fed_error, turned_error, language_error, first_byte_error, is_written, first_cause, first_error, place_before_bytes, value_before, cause_back, flushed_error, name_error, is_unknown_name, lexeme_error, is_between, is_closed_reference}
+use Rattle.place_core.specs.place.LastPercent.{url_reference}
+use Rattle.place_core.specs.place.Errors.{byte_error, cut_error, at_hand, unless_second, content_error, kind_error, tag_error, bare_error, quotes_error, attribute_name_error, PathCause, fed_error, turned_error, language_error, first_byte_error, is_written, first_cause, first_error, place_before_bytes, value_before, cause_back, flushed_error, name_error, is_unknown_name, lexeme_error}
 use Rattle.place_core.specs.page.Html.{next, after_tag, next_declaration, next_before_name, next_name, next_after_name, next_before_value, ends_value}
 use Rattle.place_core.specs.page.Paths.{at_cut}
 use Rattle.place_core.specs.page.References.{Reference, settled, undone_byte, as_it_stands, Closed, Open, Form, ReferenceStep, Grows, Closes, Breaks, turn, meaning, flushed, plain_bytes, next_reference}
@@ -27,16 +28,14 @@ use Rattle.place_core.specs.declared.quotes.Quotes.{Quotes}
 use Rattle.place_core.specs.declared.tag_of.TagOf.{TagOf}
 use Rattle.place_core.specs.declared.tag_of.TagOf.TheVariants as tag
 use Rattle.place_core.specs.declared.value_place.ValuePlace.{ValuePlace}
-use Rattle.html_scan.specs.Scans.{Scan, At, AfterLess, AfterLessSolidus, InDeclaration, InTagName, InAttributeName, InContentEnd, comment_scan, content_scan, value_scan, declaration_next, content_next, pending_less_next, end_name_next, attribute_name_next, tag_next, typed_with, scan_next, scan_error, scan_place, scan_cut_error, BeforeType, InType, bang_next, before_type_next, ended_type, in_tag, scan_shown, type_tag, rest_place, parts_feeding, triple_behind, url_scan, value_fed, value_next, value_cause, parts_cause, quoted_error, with_quotes, open_cut_error, if_unfinished, parts_before, scan_lexeme_error, is_scan_between}
+use Rattle.html_scan.specs.Scans.{Scan, At, AfterLess, AfterLessSolidus, InDeclaration, InTagName, InAttributeName, InContentEnd, comment_scan, content_scan, value_scan, declaration_next, content_next, pending_less_next, end_name_next, attribute_name_next, tag_next, typed_with, scan_next, scan_error, scan_place, scan_cut_error, BeforeType, InType, bang_next, before_type_next, ended_type, in_tag, scan_shown, type_tag, rest_place, parts_feeding, triple_behind, url_scan, value_fed, value_next, value_cause, parts_cause, quoted_error, with_quotes, open_cut_error, if_unfinished, parts_before, scan_lexeme_error, scan_reference}
 use Rattle.url_lexer.specs.Classes.{url_class_of}
-use Rattle.url_lexer.specs.Parts.{UrlPart, UrlStart}
+use Rattle.url_lexer.specs.Parts.{UrlStart}
 use Rattle.url_lexer.specs.Refusals.{UrlCutRefusal, UrlRefusal, refuses_cut_in}
-use Rattle.url_lexer.specs.Spots.{where_whole}
 use Rattle.url_lexer.specs.States.{Url, url_start, feed_url, feed_all}
 use Rattle.url_lexer.specs.Triples.{Triple, NoTriple, AfterPercent, AfterDigit, next_triple}
 use Rattle.url_step.specs.PartSets.{parts_error}
 use Rattle.url_step.proofs.OnePath.{one-error, one-next}
-use Rattle.std.proofs.lemmas.List.{append_assoc, append-nil}
 
 -- the scan state of a path's state
 abbrev pub content_scanned : Pending → Element → Option Scan
@@ -109,10 +108,6 @@ pub record Agrees (s : LexState ValueState) (f : Scan) (c : Class) (b : ℕ) : T
 abbrev pub WhereScanned : Option Scan → (Scan → Type 0) → Type 0
 WhereScanned None P = ⊤
 WhereScanned (Some f) P = P f
-
-pub same-body : (bs : List ℕ) (k : Kind) → value_body (with_bytes languages (ValueOf (OfKind k)) bs) ≡ value_body (ValueOf (OfKind k))
-same-body [] k = refl
-same-body (b ∷ bs) k = same-body bs k
 
 pub same-with : (t : Tag) (bs : List ℕ) (v : ValueState) → tag_with_value t (with_bytes languages (ValueOf v) bs) ≡ t
 same-with t [] v = refl
@@ -218,10 +213,6 @@ feed-with-url u (b ∷ bs) = feed-with-url (feed_url u b) bs
 pub parts-all : (u : Url) (bs : List ℕ) → feed_bytes parts_feeding (parts_of u.part) bs ≡ parts_of (feed_all u bs).part
 parts-all u [] = refl
 parts-all u (b ∷ bs) = ap (λ (s : Parts). feed_bytes parts_feeding s bs) (one-next u.part (url_class_of b) b) ∙ parts-all (feed_url u b) bs
-
-pub triple-all : (u : Url) (bs : List ℕ) → triple_behind u.triple bs ≡ (feed_all u bs).triple
-triple-all u [] = refl
-triple-all u (b ∷ bs) = triple-all (feed_url u b) bs
 
 pub fed-one : (u : Url) (bs : List ℕ) (written : Bool) (n : ℕ)
     → fed_error (feeding languages) (ValueOf (OfUrl u)) bs written n ≡ fed_error parts_feeding (parts_of u.part) bs written n
@@ -586,10 +577,6 @@ pub type-stays : (before bs : List ℕ) → Typed (with_bytes languages (Decidin
 type-stays before [] = record { value = before; is = refl }
 type-stays before (b ∷ bs) = type-stays (before ++ b ∷ []) bs
 
-pub type-value : (before bs : List ℕ) → with_bytes languages (Deciding kind.ScriptType before) bs ≡ Deciding kind.ScriptType (before ++ bs)
-type-value before [] = ap (Deciding kind.ScriptType) (sym (append-nil before))
-type-value before (b ∷ bs) = type-value (before ++ b ∷ []) bs ∙ ap (Deciding kind.ScriptType) (append_assoc before (b ∷ []) bs)
-
 type-goes : (q : Quoting) (t : Tag) (z : Value ValueState) (r : Reference) → Typed z → t.typed ≡ false → value_scanned q t z r ≡ Some (InType t.tag q z r)
 type-goes q t z r o e = rw o.is (not-second t kind.ScriptType (InType t.tag q (Deciding kind.ScriptType o.value) r) e)
 
@@ -814,21 +801,21 @@ agrees (InContent e (Characters r) h) c b i = content-steps h e r c b
 agrees (InContent e Bytes h) c b i = block-steps h e c b
 agrees Unread c b i = tt
 
--- the end of a text, whether it is between two lexemes there, and the place that is shown before the bytes that are left
+-- the end of a text, the reference that is open there, and the place that is shown before the bytes that are left
 pub record Ends (s : LexState ValueState) (f : Scan) : Type 0 where
   pub errors : cut_error s ≡ scan_cut_error f
   pub lexeme : lexeme_error s ≡ scan_lexeme_error f
-  pub between : is_between s ≡ is_scan_between f
+  pub reference : url_reference s ≡ scan_reference f
   pub place : scan_cut_error f ≡ None → placed (at_cut languages s) ≡ Some (scan_place f)
   pub shown : (bs : List ℕ) → place_before_bytes s bs ≡ scan_shown f bs
 
 content-ends : (h : Pending) (e : Element) (r : Reference) → WhereScanned (content_scanned h e) (Ends (InContent e (Characters r) h))
-content-ends Nothing element.Title r = record { errors = refl; lexeme = refl; between = refl; place = λ n. refl; shown = λ bs. refl }
-content-ends Nothing element.Textarea r = record { errors = refl; lexeme = refl; between = refl; place = λ n. refl; shown = λ bs. refl }
-content-ends PendingLess element.Title r = record { errors = refl; lexeme = refl; between = refl; place = λ n. refl; shown = λ bs. refl }
-content-ends PendingLess element.Textarea r = record { errors = refl; lexeme = refl; between = refl; place = λ n. refl; shown = λ bs. refl }
-content-ends (PendingName letters) element.Title r = record { errors = refl; lexeme = refl; between = refl; place = λ n. refl; shown = λ bs. refl }
-content-ends (PendingName letters) element.Textarea r = record { errors = refl; lexeme = refl; between = refl; place = λ n. refl; shown = λ bs. refl }
+content-ends Nothing element.Title r = record { errors = refl; lexeme = refl; reference = refl; place = λ n. refl; shown = λ bs. refl }
+content-ends Nothing element.Textarea r = record { errors = refl; lexeme = refl; reference = refl; place = λ n. refl; shown = λ bs. refl }
+content-ends PendingLess element.Title r = record { errors = refl; lexeme = refl; reference = refl; place = λ n. refl; shown = λ bs. refl }
+content-ends PendingLess element.Textarea r = record { errors = refl; lexeme = refl; reference = refl; place = λ n. refl; shown = λ bs. refl }
+content-ends (PendingName letters) element.Title r = record { errors = refl; lexeme = refl; reference = refl; place = λ n. refl; shown = λ bs. refl }
+content-ends (PendingName letters) element.Textarea r = record { errors = refl; lexeme = refl; reference = refl; place = λ n. refl; shown = λ bs. refl }
 content-ends LessAtCut element.Title r = tt
 content-ends LessAtCut element.Textarea r = tt
 content-ends PendingBang element.Title r = tt
@@ -843,12 +830,12 @@ content-ends PendingBang _ r = tt
 content-ends PendingBangDash _ r = tt
 
 block-ends : (h : Pending) (e : Element) → WhereScanned (block_scanned h e) (Ends (InContent e Bytes h))
-block-ends Nothing element.DataBlock = record { errors = refl; lexeme = refl; between = refl; place = λ n. refl; shown = λ bs. refl }
-block-ends LessAtCut element.DataBlock = record { errors = refl; lexeme = refl; between = refl; place = λ n. refl; shown = λ bs. refl }
-block-ends PendingLess element.DataBlock = record { errors = refl; lexeme = refl; between = refl; place = λ n. refl; shown = λ bs. refl }
-block-ends (PendingName letters) element.DataBlock = record { errors = refl; lexeme = refl; between = refl; place = λ n. refl; shown = λ bs. refl }
-block-ends PendingBang element.DataBlock = record { errors = refl; lexeme = refl; between = refl; place = λ n. refl; shown = λ bs. refl }
-block-ends PendingBangDash element.DataBlock = record { errors = refl; lexeme = refl; between = refl; place = λ n. refl; shown = λ bs. refl }
+block-ends Nothing element.DataBlock = record { errors = refl; lexeme = refl; reference = refl; place = λ n. refl; shown = λ bs. refl }
+block-ends LessAtCut element.DataBlock = record { errors = refl; lexeme = refl; reference = refl; place = λ n. refl; shown = λ bs. refl }
+block-ends PendingLess element.DataBlock = record { errors = refl; lexeme = refl; reference = refl; place = λ n. refl; shown = λ bs. refl }
+block-ends (PendingName letters) element.DataBlock = record { errors = refl; lexeme = refl; reference = refl; place = λ n. refl; shown = λ bs. refl }
+block-ends PendingBang element.DataBlock = record { errors = refl; lexeme = refl; reference = refl; place = λ n. refl; shown = λ bs. refl }
+block-ends PendingBangDash element.DataBlock = record { errors = refl; lexeme = refl; reference = refl; place = λ n. refl; shown = λ bs. refl }
 block-ends Nothing _ = tt
 block-ends LessAtCut _ = tt
 block-ends PendingLess _ = tt
@@ -857,9 +844,9 @@ block-ends PendingBang _ = tt
 block-ends PendingBangDash _ = tt
 
 comment-ends : (s : CommentState) → Ends (InComment s) (comment_scan s)
-comment-ends Inside = record { errors = refl; lexeme = refl; between = refl; place = λ n. refl; shown = λ bs. refl }
-comment-ends Broken = record { errors = refl; lexeme = refl; between = refl; place = λ n. refl; shown = λ bs. refl }
-comment-ends _ = record { errors = refl; lexeme = refl; between = refl; place = λ n. refl; shown = λ bs. refl }
+comment-ends Inside = record { errors = refl; lexeme = refl; reference = refl; place = λ n. refl; shown = λ bs. refl }
+comment-ends Broken = record { errors = refl; lexeme = refl; reference = refl; place = λ n. refl; shown = λ bs. refl }
+comment-ends _ = record { errors = refl; lexeme = refl; reference = refl; place = λ n. refl; shown = λ bs. refl }
 
 attribute-ends : (t : Tag) (name : List ℕ) → Ends (AttributeName t name) (InAttributeName t.tag t.typed name)
 attribute-ends t name =
@@ -867,7 +854,7 @@ attribute-ends t name =
     record {
       errors = refl;
       lexeme = refl;
-      between = refl;
+      reference = refl;
       place = λ n. rw (unless-first (is_second_type t.typed k) (length name) None n, same-typed t k) refl;
       shown = λ bs. rw (same-typed t k) refl;
     }
@@ -875,12 +862,12 @@ attribute-ends t name =
 whole-name-ends : (second : Bool) (t : Tag) (k : Kind) → is_second_type t.typed k ≡ second
     → WhereScanned (if second then None else Some (At (place.Tag (tag_spot t only_inside (Some k))))) (Ends (WholeAttributeName t k))
 whole-name-ends true t k e = tt
-whole-name-ends false t k e = record { errors = refl; lexeme = refl; between = refl; place = λ n. rw e refl; shown = λ bs. rw e refl }
+whole-name-ends false t k e = record { errors = refl; lexeme = refl; reference = refl; place = λ n. rw e refl; shown = λ bs. rw e refl }
 
 after-name-ends : (second : Bool) (t : Tag) (k : Kind) → is_second_type t.typed k ≡ second
     → WhereScanned (if second then None else Some (At (place.Tag (tag_spot t only_after (Some k))))) (Ends (AfterAttributeName t k))
 after-name-ends true t k e = tt
-after-name-ends false t k e = record { errors = refl; lexeme = refl; between = refl; place = λ n. rw e refl; shown = λ bs. rw e refl }
+after-name-ends false t k e = record { errors = refl; lexeme = refl; reference = refl; place = λ n. rw e refl; shown = λ bs. rw e refl }
 
 -- the body of a value of a kind does not change, and its language refuses nothing
 cut-body : (bs : List ℕ) (k : Kind) → value_body (cut_value languages (with_bytes languages (ValueOf (OfKind k)) bs)) ≡ value_body (ValueOf (OfKind k))
@@ -912,7 +899,7 @@ value-ends : (q : Quoting) (t : Tag) (k : Kind) (x : Body) (r : Reference) → b
 value-ends q t k x r e = record {
   errors = fed-none (ValueOf (OfKind k)) (as_it_stands r) true (length (as_it_stands r)) tt;
   lexeme = kind-whole (as_it_stands r) k;
-  between = refl;
+  reference = refl;
   place = λ n. value-place q t k x r e;
   shown = λ bs. value-shown q t k x r bs e;
 }
@@ -960,14 +947,11 @@ url-scan-place t q s NoTriple (Open f bytes) = refl
 url-scan-place t q s AfterPercent r = refl
 url-scan-place t q s AfterDigit r = refl
 
-url-between : (v : ValuePlace) (p : UrlPart) (t : Triple) (r : Reference)
-    → is_closed_reference r && is_some (where_whole t p) ≡ is_scan_between (url_scan v t r)
-url-between v p NoTriple Closed = refl
-url-between v p NoTriple (Open f bytes) = refl
-url-between v p AfterPercent Closed = refl
-url-between v p AfterPercent (Open f bytes) = refl
-url-between v p AfterDigit Closed = refl
-url-between v p AfterDigit (Open f bytes) = refl
+pub url-reference : (v : ValuePlace) (t : Triple) (r : Reference) → scan_reference (url_scan v t r) ≡ r
+url-reference v NoTriple Closed = refl
+url-reference v NoTriple (Open f bytes) = refl
+url-reference v AfterPercent r = refl
+url-reference v AfterDigit r = refl
 
 url-shown : (q : Quoting) (t : Tag) (u : Url) (x : Triple) (r : Reference) (bs : List ℕ)
     → place_before_bytes (AttributeValue q t (ValueOf (OfUrl u)) r) bs ≡ scan_shown (url_scan (url_value t (quotes_at q) (parts_of u.part)) x r) bs
@@ -987,7 +971,7 @@ url-ends q t u r =
     record {
       errors = fed-one u (as_it_stands r) true (length (as_it_stands r)) ∙ sym (url-scan-cut t (quotes_at q) (parts_of u.part) u.triple r);
       lexeme = url-lexeme u (as_it_stands r) ∙ sym (url-scan-lexeme v u.triple r);
-      between = url-between v u.part u.triple r;
+      reference = sym (url-reference v u.triple r);
       place = λ n. ap (value_spot t (quotes_at q)) (url-body u (as_it_stands r)) ∙ ap Some (sym (url-scan-place t (quotes_at q) (parts_of u.part) u.triple r));
       shown = url-shown q t u u.triple r;
     }
@@ -1016,32 +1000,32 @@ type-ends true q t before r = tt
 type-ends false q t before r = record {
   errors = refl;
   lexeme = type-whole (as_it_stands r) before;
-  between = refl;
+  reference = refl;
   place = λ n. absurd (some _ n);
   shown = type-shown q t before r;
 }
 
 begin-type-ends : (typed : Bool) (t : Tag) → WhereScanned (if typed then None else Some (BeforeType t.tag)) (Ends (BeforeAttributeValue t kind.ScriptType))
 begin-type-ends true t = tt
-begin-type-ends false t = record { errors = refl; lexeme = refl; between = refl; place = λ n. absurd (some _ n); shown = λ bs. refl }
+begin-type-ends false t = record { errors = refl; lexeme = refl; reference = refl; place = λ n. absurd (some _ n); shown = λ bs. refl }
 
 pub ends-agree : (s : LexState ValueState) → WhereScanned (scanned s) (Ends s)
-ends-agree (Text r) = record { errors = refl; lexeme = refl; between = refl; place = λ n. refl; shown = λ bs. refl }
-ends-agree (TagOpen r) = record { errors = refl; lexeme = refl; between = refl; place = λ n. refl; shown = λ bs. refl }
-ends-agree (EndTagOpen r) = record { errors = refl; lexeme = refl; between = refl; place = λ n. refl; shown = λ bs. refl }
-ends-agree (DeclarationOpen r pending) = record { errors = refl; lexeme = refl; between = refl; place = λ n. refl; shown = λ bs. refl }
+ends-agree (Text r) = record { errors = refl; lexeme = refl; reference = refl; place = λ n. refl; shown = λ bs. refl }
+ends-agree (TagOpen r) = record { errors = refl; lexeme = refl; reference = refl; place = λ n. refl; shown = λ bs. refl }
+ends-agree (EndTagOpen r) = record { errors = refl; lexeme = refl; reference = refl; place = λ n. refl; shown = λ bs. refl }
+ends-agree (DeclarationOpen r pending) = record { errors = refl; lexeme = refl; reference = refl; place = λ n. refl; shown = λ bs. refl }
 ends-agree (InComment s) = comment-ends s
 ends-agree BogusComment = tt
-ends-agree InDoctype = record { errors = refl; lexeme = refl; between = refl; place = λ n. refl; shown = λ bs. refl }
-ends-agree (TagName ends name) = record { errors = refl; lexeme = refl; between = refl; place = λ n. refl; shown = λ bs. refl }
-ends-agree (WholeTagName t) = record { errors = refl; lexeme = refl; between = refl; place = λ n. refl; shown = λ bs. refl }
-ends-agree (BeforeAttributeName t) = record { errors = refl; lexeme = refl; between = refl; place = λ n. refl; shown = λ bs. refl }
+ends-agree InDoctype = record { errors = refl; lexeme = refl; reference = refl; place = λ n. refl; shown = λ bs. refl }
+ends-agree (TagName ends name) = record { errors = refl; lexeme = refl; reference = refl; place = λ n. refl; shown = λ bs. refl }
+ends-agree (WholeTagName t) = record { errors = refl; lexeme = refl; reference = refl; place = λ n. refl; shown = λ bs. refl }
+ends-agree (BeforeAttributeName t) = record { errors = refl; lexeme = refl; reference = refl; place = λ n. refl; shown = λ bs. refl }
 ends-agree (AttributeName t name) = attribute-ends t name
 ends-agree (WholeAttributeName t k) = whole-name-ends (is_second_type t.typed k) t k refl
 ends-agree (AfterAttributeName t k) = after-name-ends (is_second_type t.typed k) t k refl
-ends-agree (BeforeAttributeValue t kind.Plain) = record { errors = refl; lexeme = refl; between = refl; place = λ n. refl; shown = λ bs. refl }
-ends-agree (BeforeAttributeValue t kind.NoHole) = record { errors = refl; lexeme = refl; between = refl; place = λ n. refl; shown = λ bs. refl }
-ends-agree (BeforeAttributeValue t kind.Url) = record { errors = refl; lexeme = refl; between = refl; place = λ n. refl; shown = λ bs. refl }
+ends-agree (BeforeAttributeValue t kind.Plain) = record { errors = refl; lexeme = refl; reference = refl; place = λ n. refl; shown = λ bs. refl }
+ends-agree (BeforeAttributeValue t kind.NoHole) = record { errors = refl; lexeme = refl; reference = refl; place = λ n. refl; shown = λ bs. refl }
+ends-agree (BeforeAttributeValue t kind.Url) = record { errors = refl; lexeme = refl; reference = refl; place = λ n. refl; shown = λ bs. refl }
 ends-agree (BeforeAttributeValue t kind.Script) = tt
 ends-agree (BeforeAttributeValue t kind.Style) = tt
 ends-agree (BeforeAttributeValue t kind.ScriptType) = begin-type-ends t.typed t
@@ -1054,8 +1038,8 @@ ends-agree (AttributeValue q t (ValueOf (OfKind kind.ScriptType)) r) = tt
 ends-agree (AttributeValue q t (ValueOf (OfUrl u)) r) = url-ends q t u r
 ends-agree (AttributeValue q t (Deciding kind.ScriptType before) r) = type-ends t.typed q t before r
 ends-agree (AttributeValue q t (Deciding k before) r) = tt
-ends-agree (AfterAttributeValue t) = record { errors = refl; lexeme = refl; between = refl; place = λ n. refl; shown = λ bs. refl }
-ends-agree (SelfClosingStartTag t) = record { errors = refl; lexeme = refl; between = refl; place = λ n. refl; shown = λ bs. refl }
+ends-agree (AfterAttributeValue t) = record { errors = refl; lexeme = refl; reference = refl; place = λ n. refl; shown = λ bs. refl }
+ends-agree (SelfClosingStartTag t) = record { errors = refl; lexeme = refl; reference = refl; place = λ n. refl; shown = λ bs. refl }
 ends-agree (InContent e (Characters r) h) = content-ends h e r
 ends-agree (InContent e Bytes h) = block-ends h e
 ends-agree Unread = tt

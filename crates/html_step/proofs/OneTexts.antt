@@ -3,9 +3,10 @@ use Rattle.std.proofs.Common.{◌≡◌, ◌≤◌, ℕ, ◌+◌, ◌-◌, zero,
 use Rattle.std.specs.Prelude.{⊤, is_some, if◌then◌else◌}
 use Rattle.std.specs.Option.{option_map}
 use Rattle.place_core.specs.page.Classes.{class_of}
-use Rattle.place_core.specs.place.Errors.{PathCause, PathRefusal, PathRefuses, refusal_from, standing_at, node, or_place, place_before_bytes, shown_from, shown_place, broken_off, is_between, last_between, lexeme_error}
+use Rattle.place_core.specs.place.Errors.{PathCause, PathRefusal, PathRefuses, refusal_from, standing_at, node, or_place, place_before_bytes, shown_from, shown_place, broken_off, lexeme_error}
+use Rattle.place_core.specs.place.LastPercent.{last_percent, url_reference}
 use Rattle.place_core.specs.page.Html.{next}
-use Rattle.place_core.specs.page.References.{Closed, Open}
+use Rattle.place_core.specs.page.References.{Reference, Closed, Open}
 use Rattle.place_core.specs.place.UrlParts.{parts_of}
 use Rattle.place_core.specs.place.StatePlaces.{placed, quotes_at, value_spot}
 use Rattle.place_core.specs.page.States.{Template, LexState, Text, TagOpen, EndTagOpen, DeclarationOpen, Started, StartedDash, Inside, Dash, DashDash, Bang, Broken, InComment, BogusComment, InDoctype, TagName, WholeTagName, BeforeAttributeName, AttributeName, WholeAttributeName, AfterAttributeName, BeforeAttributeValue, AttributeValue, AfterAttributeValue, SelfClosingStartTag, Characters, Bytes, Nothing, PendingLess, PendingName, PendingBang, PendingBangDash, InContent, Unread, LessAtCut}
@@ -15,7 +16,7 @@ use Rattle.place_core.specs.declared.code.Code.{Code}
 use Rattle.place_core.specs.declared.element.Element.TheVariants as element
 use Rattle.place_core.specs.declared.place.Place.{Place}
 use Rattle.place_core.specs.declared.step_err.StepErr.{StepErr}
-use Rattle.html_scan.specs.Scans.{Scan, At, scan_next, scan_error, scan_place, scan_cut_error, scan_lexeme_error, scan_shown, is_scan_between, url_scan}
+use Rattle.html_scan.specs.Scans.{Scan, At, scan_next, scan_error, scan_place, scan_cut_error, scan_lexeme_error, scan_shown, scan_reference, url_scan}
 use Rattle.html_step.specs.Laws.{OneBefore, OneText}
 use Rattle.html_step.specs.Steps.{after_text, stepped, unless_refused, unless_broken_off, place_before, with_place_before, or_shown, shown_scan}
 use Rattle.html_step.proofs.OnePath.{scanned, url_value, Agrees, Ends, WhereScanned, agrees, ends-agree}
@@ -119,10 +120,9 @@ end-answer k since after (Some x) l s q e p = e
 
 end-says : (k since : ℕ) (s : LexState ValueState) (f : Scan) → Ends s f → Says (stepped k since [] f) k since [] s
 end-says k since s f a =
-    end-answer k since (last_between k since (is_scan_between f)) (scan_cut_error f) (scan_lexeme_error f) s (scan_place f)
-    (ap (λ (o : Option PathCause). standing_at k o (broken_off k (last_between k since (is_between s)) (lexeme_error s))) a.errors
-    ∙ ap (λ (x : Bool). standing_at k (scan_cut_error f) (broken_off k (last_between k since x) (lexeme_error s))) a.between
-    ∙ ap (λ (l : Option Code). standing_at k (scan_cut_error f) (broken_off k (last_between k since (is_scan_between f)) l)) a.lexeme)
+    end-answer k since since (scan_cut_error f) (scan_lexeme_error f) s (scan_place f)
+    (ap (λ (o : Option PathCause). standing_at k o (broken_off k since (lexeme_error s))) a.errors
+    ∙ ap (λ (l : Option Code). standing_at k (scan_cut_error f) (broken_off k since l)) a.lexeme)
     a.place
 
 byte-answer : (k since after b : ℕ) (bs : List ℕ) (o : Option PathCause) (s : LexState ValueState) (r : Result Place PathRefusal)
@@ -137,10 +137,10 @@ says [] k since s f e = end-says k since s f (ends-at s f e)
 says (b ∷ bs) k since s f e =
     let a = agrees-at s f b e in
     let t = next languages Template s (class_of b) b in
-    let after = last_between k since (is_scan_between f) in
+    let after = last_percent k since (scan_reference f) (class_of b) b in
     byte-answer k since after b bs (scan_error f (class_of b) b) s (stepped (k + 1) after bs (scan_next f (class_of b) b))
-    (ap (λ (o : Option PathCause). standing_at k o (refusal_from (k + 1) (last_between k since (is_between s)) bs t)) a.errors
-    ∙ ap (λ (x : Bool). standing_at k (scan_error f (class_of b) b) (refusal_from (k + 1) (last_between k since x) bs t)) (ends-at s f e).between)
+    (ap (λ (o : Option PathCause). standing_at k o (refusal_from (k + 1) (last_percent k since (url_reference s) (class_of b) b) bs t)) a.errors
+    ∙ ap (λ (x : Reference). standing_at k (scan_error f (class_of b) b) (refusal_from (k + 1) (last_percent k since x (class_of b) b) bs t)) (ends-at s f e).reference)
     (λ n. says bs (k + 1) after t (scan_next f (class_of b) b) (a.steps n))
 
 -- the place that is shown before a byte, up to the one that is refused
@@ -176,7 +176,7 @@ shown-there (suc n) [] k since s f o e r = ap (λ (a : Option Place). or_place a
 shown-there (suc n) (b ∷ bs) k since s f o e r =
     let a = agrees-at s f b e in
     let g = scan_next f (class_of b) b in
-    let after = last_between k since (is_scan_between f) in
+    let after = last_percent k since (scan_reference f) (class_of b) b in
     let l = not-late k n (scan_error f (class_of b) b) (stepped (k + 1) after bs g) r in
     shown-there n bs (k + 1) after (next languages Template s (class_of b) b) g (or_place (place_before_bytes s (b ∷ bs)) o) (a.steps l.0)
     (later k n (stepped (k + 1) after bs g) l.1)

@@ -1,5 +1,5 @@
 -- No path is refused together with itself.
-use Rattle.std.proofs.Common.{◌≡◌, Option, Some, None, refl, sym, ◌∙◌}
+use Rattle.std.proofs.Common.{◌≡◌, Some, None, refl, sym, ◌∙◌}
 use Rattle.place_core.specs.page.Classes.{Class}
 use Rattle.place_core.specs.page.States.{AttributeValue, BeforeAttributeValue, LexState}
 use Rattle.place_core.specs.page.Tags.{Deciding, DoubleQuoted, SingleQuoted, Unquoted, ValueOf, ValueState}

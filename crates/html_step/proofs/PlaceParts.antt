@@ -1,5 +1,5 @@
 -- What it says of the parts of two places in tags, or in values, that one is below the other.
-use Rattle.std.proofs.Common.{◌≡◌, Bool, true, false, ◌||◌, Option, Some, None, if◌then◌else◌, refl, sym, ap, ◌∙◌}
+use Rattle.std.proofs.Common.{◌≡◌, Bool, true, false, ◌||◌, Option, Some, None, if◌then◌else◌, refl, sym, subst, ap, ◌∙◌}
 use Rattle.place_core.specs.place.Places.{Below, both_spots, joined_bodies, joined_elements, joined_kinds, joined_quotes, joined_tag_places, joined_tags, joined_value_places, same_element, same_kind, tag_place, value_place}
 use Rattle.place_core.specs.declared.body.Body.{Body}
 use Rattle.place_core.specs.declared.element.Element.{Element}
@@ -23,8 +23,8 @@ pub under-false : (x : Bool) → Under x false → x ≡ false
 under-false true h = h
 under-false false h = refl
 
-pub under-true : (y : Bool) → Under true y → y ≡ true
-under-true y h = sym h
+pub under-none : (x y : Bool) → Under x y → y ≡ false → x ≡ false
+under-none x y h e = under-false x (subst (Under x) e h)
 
 pub under-same : (x : Bool) → Under x x
 under-same true = refl

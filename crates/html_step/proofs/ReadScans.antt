@@ -1,5 +1,5 @@
 -- The scan state before the bytes that are left of a text: a reference that the next byte breaks has been read. The states of paths are read alike.
-use Rattle.std.proofs.Common.{◌≡◌, ℕ, ◌+◌, Bool, true, false, List, [], ◌∷◌, ◌++◌, length, Option, Some, None, refl, sym, ap, ◌∙◌, subst}
+use Rattle.std.proofs.Common.{◌≡◌, ℕ, ◌+◌, Bool, true, false, List, [], ◌∷◌, ◌++◌, length, Option, Some, None, Ok, refl, sym, ap, ◌∙◌, subst}
 use Rattle.place_core.specs.page.Classes.{Class, White, QuotationMark, Apostrophe, GreaterThan, class_of, is_equals_sign}
 use Rattle.place_core.specs.page.Html.{ends_value}
 use Rattle.place_core.specs.page.References.{Form, Reference, Closed, Open, ReferenceStep, Grows, Closes, Breaks, begin_reference, flushed, plain_bytes, reference_turned, turn, turn_bytes}
@@ -8,21 +8,24 @@ use Rattle.place_core.specs.place.Errors.{PathCause, body_error, at_hand, fed_er
 use Rattle.place_core.specs.declared.body.Body.{Body}
 use Rattle.place_core.specs.declared.body.Body.TheVariants as body
 use Rattle.place_core.specs.declared.parts.Parts.{Parts}
+use Rattle.place_core.specs.declared.place.Place.{Place}
+use Rattle.place_core.specs.place.LastPercent.{last_percent}
 use Rattle.place_core.specs.declared.quotes.Quotes.{Quotes}
 use Rattle.place_core.specs.declared.quotes.Quotes.TheVariants as quotes
 use Rattle.place_core.specs.declared.value_place.ValuePlace.{ValuePlace}
-use Rattle.html_scan.specs.Scans.{Scan, InUrl, parts_cause, parts_feeding, parts_with, quoted_error, quoted_next, scan_error, scan_next, triple_behind, url_scan, value_cause, value_fed, with_parts}
-use Rattle.html_step.specs.Origins.{body_parts}
+use Rattle.html_scan.specs.Scans.{Scan, InUrl, parts_cause, parts_feeding, parts_with, quoted_error, quoted_next, scan_error, scan_next, triple_behind, url_scan, value_cause, value_fed, with_parts, scan_reference}
+use Rattle.html_step.specs.Steps.{stepped}
 use Rattle.html_step.proofs.BelowScans.{below-url}
-use Rattle.html_step.proofs.OnePath.{none-at-hand, some, url-scan-error, url-scan-next}
+use Rattle.html_step.proofs.OnePath.{none-at-hand, some, url-scan-error, url-scan-next, url-reference}
 use Rattle.html_step.proofs.PlaceParts.{ValueBelow}
-use Rattle.html_step.proofs.ScanOrder.{HasBegun, ScanBelow, ScanValid, UrlWithin, begun-valid, parts-below, url-below}
-use Rattle.html_step.proofs.UrlOrder.{fed-grow, fed-more, fed-valid, first-caused}
-use Rattle.html_step.proofs.UrlScans.{below-reference, scan_reference, url-reference}
-use Rattle.place_core.specs.place.Places.{IsValidBody, joined_bodies}
-use Rattle.place_core.proofs.Semilattices.{none_some, one_value}
-use Rattle.url_lexer.specs.States.{Url}
-use Rattle.url_lexer.specs.Triples.{Triple, NoTriple, AfterPercent, AfterDigit}
+use Rattle.html_step.proofs.ScanOrder.{HasBegun, ScanBelow, ScanValid, UrlWithin, one-url, parts-below, url-below, url-within}
+use Rattle.html_step.proofs.UrlOrder.{fed-grow, fed-more, first-caused}
+use Rattle.html_step.proofs.UrlScans.{below-reference}
+use Rattle.html_step.proofs.ValidSteps.{url-valid, with-within}
+use Rattle.html_step.proofs.WholeTexts.{accepts-anywhere, refused-not, step-ok}
+use Rattle.place_core.specs.place.Places.{joined_bodies}
+use Rattle.place_core.proofs.Semilattices.{none_some}
+use Rattle.url_lexer.specs.Triples.{Triple}
 use Rattle.url_lexer.specs.Classes.{url_class_of}
 use Rattle.url_lexer.specs.Triples.{next_triple}
 
@@ -42,14 +45,12 @@ scan_read (InUrl v t (Open f bytes)) (b ∷ bs) = read_turn (turn (class_of b) f
 scan_read f bs = f
 
 -- what a broken reference and the byte behind it refuse, and where they lead
-ends-no-equals : (q : Quoting) (c : Class) → ends_value q c ≡ true → is_equals_sign c ≡ false
+pub ends-no-equals : (q : Quoting) (c : Class) → ends_value q c ≡ true → is_equals_sign c ≡ false
 ends-no-equals DoubleQuoted QuotationMark h = refl
-ends-no-equals DoubleQuoted _ h = absurd (no h)
 ends-no-equals SingleQuoted Apostrophe h = refl
-ends-no-equals SingleQuoted _ h = absurd (no h)
 ends-no-equals Unquoted White h = refl
 ends-no-equals Unquoted GreaterThan h = refl
-ends-no-equals Unquoted _ h = absurd (no h)
+ends-no-equals q c h = absurd (no h)
 
 abbrev pub Broken : Parts → Form → List ℕ → Class → Option PathCause
 Broken s f bytes c = flushed_error parts_feeding s (is_equals_sign c) f bytes
@@ -134,10 +135,6 @@ cause-read v s f bytes c b e g k n =
     ∙ ap (λ (o : Option PathCause). first_cause o (at_hand (quotes_error v.tag v.quotes c))) (quoted-read v.quotes s f bytes c b g k n)
     ∙ sym (url-cause v s (Open f bytes) c b e)
 
-url-within : (b : Body) → UrlWithin b → (s : Parts) × (b ≡ body.Url s)
-url-within (body.Url s) v = (s, refl)
-url-within _ v = absurd v
-
 -- the whole of it: what is refused there, and where it leads
 read-error-by : (z : ReferenceStep) (v : ValuePlace) (s : Parts) (t : Triple) (f : Form) (bytes : List ℕ) (c : Class) (b : ℕ) → turn c f ≡ z → v.body ≡ body.Url s
     → HasBegun v.quotes → Broken s f bytes c ≡ None → scan_error (read_turn z v t f bytes c) c b ≡ value_cause v (Open f bytes) c b
@@ -146,11 +143,6 @@ read-error-by Breaks v s t f bytes c b k e g n =
     url-scan-error (read_value v xs) (triple_behind t xs) Closed c b ∙ cause-read v s f bytes c b e g k n
 read-error-by (Grows x) v s t f bytes c b k e g n = refl
 read-error-by Closes v s t f bytes c b k e g n = refl
-
-pub read-error : (v : ValuePlace) (s : Parts) (t : Triple) (f : Form) (bytes bs : List ℕ) (b : ℕ) → v.body ≡ body.Url s → HasBegun v.quotes
-    → Broken s f bytes (class_of b) ≡ None
-    → scan_error (scan_read (InUrl v t (Open f bytes)) (b ∷ bs)) (class_of b) b ≡ scan_error (InUrl v t (Open f bytes)) (class_of b) b
-read-error v s t f bytes bs b e g n = read-error-by (turn (class_of b) f) v s t f bytes (class_of b) b refl e g n
 
 pub record ReadOn (f g : Scan) (c : Class) (b : ℕ) : Type 0 where
   pub error : scan_error g c b ≡ None
@@ -175,6 +167,17 @@ read-on (InUrl v t (Open f bytes)) b bs w n =
 read-on (InUrl v t Closed) b bs w n = record { error = n; next = refl }
 read-on f b bs w n = record { error = n; next = refl }
 
+pub read-ok : (b : ℕ) (bs : List ℕ) (k since : ℕ) (f : Scan) (q : Place) → ScanValid f → stepped k since (b ∷ bs) f ≡ Ok q
+    → stepped k since (b ∷ bs) (scan_read f (b ∷ bs)) ≡ Ok q
+read-ok b bs k since f q w e =
+    let n = step-ok k since b bs f q e in
+    let m = read-on f b bs w n.0 in
+    let g = scan_read f (b ∷ bs) in
+    let last = last_percent k since (scan_reference f) (class_of b) b in
+    let over = last_percent k since (scan_reference g) (class_of b) b in
+    refused-not k (scan_error g (class_of b) b) (stepped (k + 1) over bs (scan_next g (class_of b) b)) q m.error
+    (ap (stepped (k + 1) over bs) m.next ∙ accepts-anywhere bs (k + 1) last (k + 1) over (scan_next f (class_of b) b) q n.1)
+
 -- a reference that is open in it is not broken by the byte
 abbrev pub NotBroken : Reference → ℕ → Type 0
 NotBroken Closed b = Unit {0}
@@ -194,20 +197,6 @@ not-broken (InUrl v t Closed) b bs = tt
 not-broken f b bs = tt
 
 -- it is valid, and keeps the order
-within-valid : (b : Body) → UrlWithin b → IsValidBody b
-within-valid (body.Url s) w = w
-within-valid _ w = absurd w
-
-with-within : (b : Body) (bytes : List ℕ) → UrlWithin b → UrlWithin (parts_with b bytes)
-with-within (body.Url s) bytes w = fed-valid bytes s w
-with-within _ bytes w = absurd w
-
-url-valid : (v : ValuePlace) (t : Triple) (r : Reference) → HasBegun v.quotes → UrlWithin v.body → ScanValid (url_scan v t r)
-url-valid v NoTriple Closed g w = (begun-valid v.quotes g, within-valid v.body w)
-url-valid v NoTriple (Open f bytes) g w = (g, w)
-url-valid v AfterPercent r g w = (g, w)
-url-valid v AfterDigit r g w = (g, w)
-
 read-valid-by : (z : ReferenceStep) (v : ValuePlace) (t : Triple) (f : Form) (bytes : List ℕ) (c : Class) → HasBegun v.quotes → UrlWithin v.body
     → ScanValid (read_turn z v t f bytes c)
 read-valid-by Breaks v t f bytes c g w =
@@ -226,7 +215,7 @@ pub record Takes (f : Scan) (b : ℕ) : Type 0 where
   pub taken : (v : ValuePlace) (s : Parts) (t : Triple) (x : Form) (bytes : List ℕ) → f ≡ InUrl v t (Open x bytes) → v.body ≡ body.Url s
       → turn (class_of b) x ≡ Breaks → Broken s x bytes (class_of b) ≡ None
 
-broken-of : (v : ValuePlace) (s : Parts) (f : Form) (bytes : List ℕ) (c : Class) (b : ℕ) → v.body ≡ body.Url s → HasBegun v.quotes → turn c f ≡ Breaks
+pub broken-of : (v : ValuePlace) (s : Parts) (f : Form) (bytes : List ℕ) (c : Class) (b : ℕ) → v.body ≡ body.Url s → HasBegun v.quotes → turn c f ≡ Breaks
     → value_cause v (Open f bytes) c b ≡ None → Broken s f bytes c ≡ None
 broken-of v s f bytes c b e g k n =
     quoted-accepted v.quotes s f bytes c b g k
@@ -237,9 +226,6 @@ takes f b w n = record {
   taken = λ v s t x bytes i e k.
       broken-of v s x bytes (class_of b) b e (subst ScanValid i w).0 k (subst (λ (y : Scan). scan_error y (class_of b) b ≡ None) i n);
 }
-
-one-url : (s t : Parts) → body.Url s ≡ body.Url t → s ≡ t
-one-url s t h = one_value s t (ap body_parts h)
 
 fed-bodies : (b d : Body) (s : Parts) (f : Form) (bytes : List ℕ) (c : Class) → joined_bodies b d ≡ Some d → d ≡ body.Url s → Broken s f bytes c ≡ None
     → joined_bodies (parts_with b (flushed true (is_equals_sign c) f bytes)) (parts_with d (flushed true (is_equals_sign c) f bytes))

@@ -1,10 +1,10 @@
 -- States of paths in a URL before the bytes that are left of a text, where a reference that the next byte breaks has been read: their scan state, their
 -- place, and the path of which it is not known what it spells.
-use Rattle.std.proofs.Common.{◌≡◌, ℕ, ◌+◌, true, false, not, List, [], ◌∷◌, ◌++◌, Some, refl, sym, ap, ◌∙◌, subst}
+use Rattle.std.proofs.Common.{◌≡◌, ℕ, true, false, not, List, [], ◌∷◌, Some, refl, sym, ap, ◌∙◌, subst}
 use Rattle.place_core.specs.page.Classes.{Class, class_of, is_equals_sign}
 use Rattle.place_core.specs.page.References.{Form, Reference, Closed, Open, ReferenceStep, Grows, Closes, Breaks, flushed, turn}
 use Rattle.place_core.specs.page.States.{LexState, AttributeValue}
-use Rattle.place_core.specs.page.Tags.{Deciding, OfKind, OfUrl, Tag, Value, ValueOf, ValueState, cut_value, languages, with_bytes, Quoting}
+use Rattle.place_core.specs.page.Tags.{Deciding, OfKind, OfUrl, Tag, Value, ValueOf, ValueState, cut_value, languages, with_bytes, Quoting, DoubleQuoted, SingleQuoted, Unquoted}
 use Rattle.place_core.specs.place.ApartPlaces.{beginning_at, beginning_in_body}
 use Rattle.place_core.specs.place.Errors.{place_before_bytes, value_before}
 use Rattle.place_core.specs.place.PathPairs.{is_broken_by, is_in_beginning, is_in_reference, read_before, state_before, unknown_beginning, unknown_part}
@@ -14,23 +14,24 @@ use Rattle.place_core.specs.place.StatePlaces.{quotes_at, value_body, value_spot
 use Rattle.place_core.specs.place.UrlParts.{parts_of}
 use Rattle.place_core.specs.declared.body.Body.{Body}
 use Rattle.place_core.specs.declared.body.Body.TheVariants as body
-use Rattle.place_core.specs.declared.kind.Kind.{Kind}
 use Rattle.place_core.specs.declared.parts.Parts.{Parts}
 use Rattle.place_core.specs.declared.place.Place.{Place}
 use Rattle.place_core.specs.declared.place.Place.TheVariants as place
 use Rattle.place_core.specs.declared.quotes.Quotes.{Quotes}
 use Rattle.place_core.specs.declared.value_place.ValuePlace.{ValuePlace}
 use Rattle.place_core.proofs.Semilattices.{none_some, one_value}
-use Rattle.html_scan.specs.Scans.{Scan, At, InUrl, parts_before, parts_with, scan_shown, url_scan, with_body}
+use Rattle.html_scan.specs.Scans.{Scan, At, InUrl, parts_before, parts_with, scan_shown, url_scan, with_body, scan_reference}
 use Rattle.html_step.specs.Origins.{body_parts, is_apart, scan_parts}
 use Rattle.html_step.proofs.ApartParts.{unknown-below}
 use Rattle.html_step.proofs.FromValues.{nothing-fed}
+use Rattle.html_step.proofs.KeptBeginnings.{before-value, begins-value, is_url_value}
 use Rattle.html_step.proofs.OnePath.{scanned, url-fed, url_scanned, url_value}
 use Rattle.html_step.proofs.OneTexts.{ends-at}
 use Rattle.html_step.proofs.PlaceParts.{ValueBelow, below-value, value-below}
 use Rattle.html_step.proofs.ReadScans.{NotBroken, read_turn, scan_read}
-use Rattle.html_step.proofs.ScanOrder.{ScanBelow, ScanValid}
-use Rattle.html_step.proofs.UrlScans.{parts-body, scan_reference, url-parts}
+use Rattle.html_step.proofs.ScanOrder.{HasBegun, ScanBelow, ScanValid}
+use Rattle.html_step.proofs.UrlScans.{parts-body, url-parts}
+use Rattle.html_step.proofs.ValidSteps.{url-valid}
 use Rattle.url_lexer.specs.Parts.{UrlPart, UrlStart, UrlOpen, UrlOpenhole, UrlPrequery, UrlQuery, UrlBad}
 use Rattle.url_lexer.specs.Prefixes as spelling
 use Rattle.url_lexer.specs.States.{Url}
@@ -45,44 +46,15 @@ no e = cc
 pub data UrlState (s : LexState ValueState) : Type 0 where
   url_state : (q : Quoting) (t : Tag) (u : Url) (r : Reference) → s ≡ AttributeValue q t (ValueOf (OfUrl u)) r → UrlState s
 
-pub url-of : (s : LexState ValueState) → is_in_beginning s ≡ true → UrlState s
+pub url-of : (s : LexState ValueState) → is_url_value s ≡ true → UrlState s
 url-of (AttributeValue q t (ValueOf (OfUrl u)) r) h = url_state q t u r refl
 url-of (AttributeValue q t (ValueOf (OfKind k)) r) h = absurd (no h)
 url-of (AttributeValue q t (Deciding k before) r) h = absurd (no h)
 url-of _ h = absurd (no h)
 
-kind-with : (k : Kind) (bytes : List ℕ) → with_bytes languages (ValueOf (OfKind k)) bytes ≡ ValueOf (OfKind k)
-kind-with k [] = refl
-kind-with k (b ∷ bs) = kind-with k bs
-
-deciding-with : (k : Kind) (before bytes : List ℕ) → (after : List ℕ) × (with_bytes languages (Deciding k before) bytes ≡ Deciding k after)
-deciding-with k before [] = (before, refl)
-deciding-with k before (b ∷ bs) = deciding-with k (before ++ b ∷ []) bs
-
-kind-read : (z : ReferenceStep) (q : Quoting) (t : Tag) (k : Kind) (f : Form) (bytes xs : List ℕ)
-    → is_in_beginning (read_before z (AttributeValue q t (with_bytes languages (ValueOf (OfKind k)) xs) Closed) (AttributeValue q t (ValueOf (OfKind k)) (Open f bytes))) ≡ false
-kind-read Breaks q t k f bytes xs = ap (λ (v : Value ValueState). is_in_beginning (AttributeValue q t v Closed)) (kind-with k xs)
-kind-read (Grows g) q t k f bytes xs = refl
-kind-read Closes q t k f bytes xs = refl
-
-deciding-read : (z : ReferenceStep) (q : Quoting) (t : Tag) (k : Kind) (before : List ℕ) (f : Form) (bytes xs : List ℕ)
-    → is_in_beginning (read_before z (AttributeValue q t (with_bytes languages (Deciding k before) xs) Closed) (AttributeValue q t (Deciding k before) (Open f bytes))) ≡ false
-deciding-read Breaks q t k before f bytes xs = ap (λ (v : Value ValueState). is_in_beginning (AttributeValue q t v Closed)) (deciding-with k before xs).1
-deciding-read (Grows g) q t k before f bytes xs = refl
-deciding-read Closes q t k before f bytes xs = refl
-
 -- a path that is in the beginning when it is read is in a URL before
 pub url-before : (s : LexState ValueState) (bs : List ℕ) → is_in_beginning (state_before s bs) ≡ true → UrlState s
-url-before (AttributeValue q t (ValueOf (OfUrl u)) r) bs h = url_state q t u r refl
-url-before (AttributeValue q t (ValueOf (OfKind k)) Closed) bs h = absurd (no h)
-url-before (AttributeValue q t (ValueOf (OfKind k)) (Open f bytes)) [] h = absurd (no h)
-url-before (AttributeValue q t (ValueOf (OfKind k)) (Open f bytes)) (b ∷ bs) h =
-    absurd (no (sym (kind-read (turn (class_of b) f) q t k f bytes (flushed true (is_equals_sign (class_of b)) f bytes)) ∙ h))
-url-before (AttributeValue q t (Deciding k before) Closed) bs h = absurd (no h)
-url-before (AttributeValue q t (Deciding k before) (Open f bytes)) [] h = absurd (no h)
-url-before (AttributeValue q t (Deciding k before) (Open f bytes)) (b ∷ bs) h =
-    absurd (no (sym (deciding-read (turn (class_of b) f) q t k before f bytes (flushed true (is_equals_sign (class_of b)) f bytes)) ∙ h))
-url-before _ bs h = absurd (no h)
+url-before s bs h = url-of s (sym (before-value s bs) ∙ begins-value (state_before s bs) h)
 
 -- its scan state
 url-open : (v : ValuePlace) (t : Triple) (f : Form) (bytes : List ℕ) → url_scan v t (Open f bytes) ≡ InUrl v t (Open f bytes)
@@ -119,12 +91,9 @@ read-url q t u (Open f bytes) (b ∷ bs) =
     turn-state (turn (class_of b) f) q t u f bytes (class_of b)
     ∙ ap (λ (g : Scan). Some (scan_read g (b ∷ bs))) (sym (url-open (url_value t (quotes_at q) (parts_of u.part)) u.triple f bytes))
 
-one-scan : (x y : Scan) → Some x ≡ Some y → x ≡ y
-one-scan x y e = one_value x y e
-
 pub read-state : (s : LexState ValueState) (g : Scan) (bs : List ℕ) → UrlState s → scanned s ≡ Some g → scanned (state_before s bs) ≡ Some (scan_read g bs)
 read-state s g bs (url_state q t u r i) e =
-    let same : url_scanned q t u r ≡ g = one-scan (url_scanned q t u r) g (sym (ap scanned i) ∙ e) in
+    let same : url_scanned q t u r ≡ g = one_value (url_scanned q t u r) g (sym (ap scanned i) ∙ e) in
     ap (λ (x : LexState ValueState). scanned (state_before x bs)) i ∙ read-url q t u r bs ∙ ap (λ (x : Scan). Some (scan_read x bs)) same
 
 -- where no reference is open then, none is open before with which the next byte goes on
@@ -146,7 +115,7 @@ url-between q t u (Open f bytes) (b ∷ bs) h =
 pub read-between : (s : LexState ValueState) (g : Scan) (bs : List ℕ) → UrlState s → scanned s ≡ Some g → scan_reference (scan_read g bs) ≡ Closed
     → is_in_reference s bs ≡ false
 read-between s g bs (url_state q t u r i) e h =
-    let same : url_scanned q t u r ≡ g = one-scan (url_scanned q t u r) g (sym (ap scanned i) ∙ e) in
+    let same : url_scanned q t u r ≡ g = one_value (url_scanned q t u r) g (sym (ap scanned i) ∙ e) in
     ap (λ (x : LexState ValueState). is_in_reference x bs) i ∙ url-between q t u r bs (ap (λ (x : Scan). scan_reference (scan_read x bs)) same ∙ h)
 
 -- its place is that of the state in which it is read
@@ -222,7 +191,7 @@ unknown-apart UrlPrequery h = absurd (no h)
 unknown-apart UrlQuery h = absurd (no h)
 unknown-apart UrlBad h = absurd (no h)
 
-unknown-valid : (x : UrlPart) → is_open x ≡ true → IsValidParts (parts_of (unknown_part x))
+pub unknown-valid : (x : UrlPart) → is_open x ≡ true → IsValidParts (parts_of (unknown_part x))
 unknown-valid (UrlOpen p) h = (refl, tt)
 unknown-valid UrlStart h = absurd (no h)
 unknown-valid UrlOpenhole h = absurd (no h)
@@ -230,12 +199,10 @@ unknown-valid UrlPrequery h = absurd (no h)
 unknown-valid UrlQuery h = absurd (no h)
 unknown-valid UrlBad h = absurd (no h)
 
-valid-as : (v w : ValuePlace) (t : Triple) (r : Reference) (a d : Parts) → v.quotes ≡ w.quotes → v.body ≡ body.Url a → w.body ≡ body.Url d → IsValidParts d
-    → ScanValid (url_scan v t r) → ScanValid (url_scan w t r)
-valid-as v w NoTriple Closed a d q e i p h = rw (sym q, i) (h.0, p)
-valid-as v w NoTriple (Open f bytes) a d q e i p h = rw (sym q, i) (h.0, p)
-valid-as v w AfterPercent r a d q e i p h = rw (sym q, i) (h.0, p)
-valid-as v w AfterDigit r a d q e i p h = rw (sym q, i) (h.0, p)
+pub begun-at : (q : Quoting) → HasBegun (quotes_at q)
+begun-at DoubleQuoted = tt
+begun-at SingleQuoted = tt
+begun-at Unquoted = (refl, refl)
 
 value-as : (t : Tag) (q : Quotes) (a d s : Parts) (w : ValuePlace) → w.body ≡ body.Url s → PartsBelow d s → ValueBelow (url_value t q a) w → ValueBelow (url_value t q d) w
 value-as t q a d s w e p l = record {
@@ -245,7 +212,7 @@ value-as t q a d s w e p l = record {
   body = subst (λ (x : Body). joined_bodies (body.Url d) x ≡ Some x) (sym e) (ap (λ (z : Parts). Some (body.Url z)) p);
 }
 
-at-as : (t : Tag) (q : Quotes) (a d s : Parts) (f : Scan) → scan_parts f ≡ Some s → PartsBelow d s → ScanBelow (At (place.Value (url_value t q a))) f
+pub at-as : (t : Tag) (q : Quotes) (a d s : Parts) (f : Scan) → scan_parts f ≡ Some s → PartsBelow d s → ScanBelow (At (place.Value (url_value t q a))) f
     → ScanBelow (At (place.Value (url_value t q d))) f
 at-as t q a d s (At (place.Value w)) h p l =
     value-below (url_value t q d) w (value-as t q a d s w (parts-body w.body s h) p (below-value (url_value t q a) w l))
@@ -267,26 +234,25 @@ below-as t q a d s AfterPercent r f h p l = in-as t q a d s AfterPercent r f h p
 below-as t q a d s AfterDigit r f h p l = in-as t q a d s AfterDigit r f h p l
 
 unknown-url : (q : Quoting) (t : Tag) (u : Url) (r : Reference) (f : Scan) (s : Parts) → is_open u.part ≡ true → scan_parts f ≡ Some s
-    → is_apart (Some s) ≡ true → ScanValid (url_scanned q t u r) → ScanBelow (url_scanned q t u r) f → Unknown (AttributeValue q t (ValueOf (OfUrl u)) r) f
-unknown-url q t u r f s o h a w l =
+    → is_apart (Some s) ≡ true → ScanBelow (url_scanned q t u r) f → Unknown (AttributeValue q t (ValueOf (OfUrl u)) r) f
+unknown-url q t u r f s o h a l =
     let x = parts_of (unknown_part u.part) in
-    let v = url_value t (quotes_at q) (parts_of u.part) in
     record {
       scan = url_scan (url_value t (quotes_at q) x) u.triple r;
       at = refl;
-      valid = valid-as v (url_value t (quotes_at q) x) u.triple r (parts_of u.part) x refl refl refl (unknown-valid u.part o) w;
+      valid = url-valid (url_value t (quotes_at q) x) u.triple r (begun-at q) (unknown-valid u.part o);
       below = below-as t (quotes_at q) (parts_of u.part) x s u.triple r f h (unknown-below u.part s o a) l;
       apart = ap is_apart (url-parts (url_value t (quotes_at q) x) u.triple r) ∙ unknown-apart u.part o;
     }
 
 pub unknown : (s : LexState ValueState) (g f : Scan) (p : Parts) → is_in_beginning s ≡ true → scanned s ≡ Some g → scan_parts f ≡ Some p
-    → is_apart (Some p) ≡ true → ScanValid g → ScanBelow g f → Unknown s f
-unknown (AttributeValue q t (ValueOf (OfUrl u)) r) g f p o e h a w l =
-    let same : url_scanned q t u r ≡ g = one-scan (url_scanned q t u r) g e in
-    unknown-url q t u r f p o h a (subst ScanValid (sym same) w) (subst (λ (x : Scan). ScanBelow x f) (sym same) l)
-unknown (AttributeValue q t (ValueOf (OfKind k)) r) g f p o e h a w l = absurd (no o)
-unknown (AttributeValue q t (Deciding k before) r) g f p o e h a w l = absurd (no o)
-unknown _ g f p o e h a w l = absurd (no o)
+    → is_apart (Some p) ≡ true → ScanBelow g f → Unknown s f
+unknown (AttributeValue q t (ValueOf (OfUrl u)) r) g f p o e h a l =
+    let same : url_scanned q t u r ≡ g = one_value (url_scanned q t u r) g e in
+    unknown-url q t u r f p o h a (subst (λ (x : Scan). ScanBelow x f) (sym same) l)
+unknown (AttributeValue q t (ValueOf (OfKind k)) r) g f p o e h a l = absurd (no o)
+unknown (AttributeValue q t (Deciding k before) r) g f p o e h a l = absurd (no o)
+unknown _ g f p o e h a l = absurd (no o)
 
 -- the parts of a path, by its state
 open-part : (x : UrlPart) → is_open x ≡ true → (p : spelling.Prefix) × (x ≡ UrlOpen p)
@@ -299,7 +265,7 @@ open-part UrlBad h = absurd (no h)
 
 pub open-parts : (s : LexState ValueState) (g : Scan) → is_in_beginning s ≡ true → scanned s ≡ Some g → (p : spelling.Prefix) × (scan_parts g ≡ Some (parts_of (UrlOpen p)))
 open-parts (AttributeValue q t (ValueOf (OfUrl u)) r) g o e =
-    let same : url_scanned q t u r ≡ g = one-scan (url_scanned q t u r) g e in
+    let same : url_scanned q t u r ≡ g = one_value (url_scanned q t u r) g e in
     let p = open-part u.part o in
     (p.0, ap scan_parts (sym same) ∙ url-parts (url_value t (quotes_at q) (parts_of u.part)) u.triple r ∙ ap (λ (x : UrlPart). Some (parts_of x)) p.1)
 open-parts (AttributeValue q t (ValueOf (OfKind k)) r) g o e = absurd (no o)

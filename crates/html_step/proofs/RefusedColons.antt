@@ -6,10 +6,11 @@ use Rattle.place_core.specs.page.References.{Form, Reference, Closed, Open, Refe
 use Rattle.place_core.specs.page.States.{AttributeValue, BeforeAttributeValue, LexState, Template}
 use Rattle.place_core.specs.page.Tags.{OfUrl, ValueOf, ValueState, feed_bytes, languages}
 use Rattle.place_core.specs.place.ApartPlaces.{opened_apart, beginning_at, spell_apart}
-use Rattle.place_core.specs.place.Errors.{PathCause, PathRefusal, broken_off, byte_error, cut_error, is_between, last_between, lexeme_error, place_before_bytes, refusal_from, standing_at}
+use Rattle.place_core.specs.place.Errors.{PathCause, PathRefusal, broken_off, byte_error, cut_error, lexeme_error, place_before_bytes, refusal_from, standing_at}
+use Rattle.place_core.specs.place.LastPercent.{last_percent, url_reference}
 use Rattle.place_core.specs.place.PathPairs.{ApartBefore, Clashes, ClashesApart, MeetsColon, is_in_beginning, is_in_reference, state_before, unknown_beginning}
 use Rattle.place_core.specs.place.LanguagePlaces.{parts_have}
-use Rattle.place_core.specs.place.Places.{Has, joined_quotes}
+use Rattle.place_core.specs.place.Places.{Has}
 use Rattle.place_core.specs.place.StatePlaces.{quotes_at}
 use Rattle.place_core.specs.place.UrlParts.{parts_of, placed_prefix}
 use Rattle.place_core.specs.declared.body.Body.{Body}
@@ -26,20 +27,20 @@ use Rattle.place_core.specs.declared.quotes.Quotes.{Quotes}
 use Rattle.place_core.specs.declared.quotes.Quotes.TheVariants as quotes
 use Rattle.place_core.specs.declared.value_place.ValuePlace.{ValuePlace}
 use Rattle.place_core.proofs.Semilattices.{none_some, one_value}
-use Rattle.html_scan.specs.Scans.{Scan, At, InUrl, is_scan_between, parts_feeding, parts_with, scan_error, scan_next, triple_behind}
+use Rattle.html_scan.specs.Scans.{Scan, At, InUrl, scan_reference, parts_feeding, parts_with, scan_error, scan_next, triple_behind}
 use Rattle.html_step.specs.Origins.{body_parts, fed_in, is_apart, scan_parts}
 use Rattle.html_step.specs.Steps.{stepped, unless_refused}
 use Rattle.html_step.proofs.ApartParts.{AriseIn, apart-inside, arise-in, bytes-stay, opens-apart, waits}
-use Rattle.html_step.proofs.Characters.{IsCharacter, NoColon, ReferencePlain, flushed-character, nothing, single, utf8-character}
+use Rattle.html_step.proofs.Characters.{IsCharacter, NoColon, ReferencePlain, flushed-character, nothing, utf8-character, plain-character}
 use Rattle.html_step.proofs.Clashing.{StartsUrl, is-open, is-start}
 use Rattle.html_step.proofs.FromValues.{in-body}
-use Rattle.html_step.proofs.OnePath.{scanned, url_scanned, url_value}
+use Rattle.html_step.proofs.OnePath.{scanned, url_scanned, url_value, url-reference}
 use Rattle.html_step.proofs.OneTexts.{Says, agrees-at, says}
-use Rattle.html_step.proofs.PlaceParts.{below-value}
+use Rattle.html_step.proofs.KeptBeginnings.{begins-value}
 use Rattle.html_step.proofs.ReadScans.{NotBroken, Takes, not-broken, read-below, read-closed, read-on, read-valid, read_turn, read_value, scan_read, takes}
 use Rattle.html_step.proofs.ReadStates.{UrlState, open-parts, own-place, read-between, read-state, shown-closed, unknown, url-of, url_state}
 use Rattle.html_step.proofs.ScanOrder.{ScanBelow, ScanHas, ScanValid, scan-grows}
-use Rattle.html_step.proofs.UrlScans.{ScanPlain, above-parts, below-parts, below-reference, goes, parts-body, reference_length, scan-fresh, scan-length, scan_fed, scan_reference, url-at, url-parts, url-reference}
+use Rattle.html_step.proofs.UrlScans.{ScanPlain, above-parts, below-parts, below-reference, fed-same, goes, goes-parts, parts-body, raw-opened, reference_length, scan-fresh, scan-length, scan_fed, url-at, url-parts}
 use Rattle.html_step.proofs.ValidSteps.{scan-valid}
 use Rattle.url_lexer.specs.Classes.{url_class_of}
 use Rattle.url_lexer.specs.Parts.{UrlPart, UrlStart, UrlOpen}
@@ -78,53 +79,21 @@ pub record ShownApart (k : ℕ) (bytes : List ℕ) (f : Scan) (r : PathRefusal) 
   pub within : k ≤ r.at + reference_length (scan_reference f)
   pub refuses : (since : ℕ) (g : Scan) → ScanValid g → ScanBelow g f → is_apart (scan_parts g) ≡ true → stepped k since bytes g ≡ Err r
 
--- the bytes that a scan state is fed are those that one below is fed
-quotes-fed : (p q : Quotes) (r : Reference) (c : Class) (b : ℕ) → joined_quotes p q ≡ Some q → fed_in p r c b ≡ fed_in q r c b
-quotes-fed quotes.Dq quotes.Dq r c b h = refl
-quotes-fed quotes.Sq quotes.Sq r c b h = refl
-quotes-fed (quotes.Bare x) (quotes.Bare y) r White b h = refl
-quotes-fed (quotes.Bare x) (quotes.Bare y) r QuotationMark b h = refl
-quotes-fed (quotes.Bare x) (quotes.Bare y) r Apostrophe b h = refl
-quotes-fed (quotes.Bare x) (quotes.Bare y) r _ b h = refl
-quotes-fed quotes.Dq quotes.Sq r c b h = absurd (none_some quotes.Sq h)
-quotes-fed quotes.Dq (quotes.Bare y) r c b h = absurd (none_some (quotes.Bare y) h)
-quotes-fed quotes.Sq quotes.Dq r c b h = absurd (none_some quotes.Dq h)
-quotes-fed quotes.Sq (quotes.Bare y) r c b h = absurd (none_some (quotes.Bare y) h)
-quotes-fed (quotes.Bare x) quotes.Dq r c b h = absurd (none_some quotes.Dq h)
-quotes-fed (quotes.Bare x) quotes.Sq r c b h = absurd (none_some quotes.Sq h)
-
-pub fed-same : (g f : Scan) (s : Parts) (c : Class) (b : ℕ) → ScanBelow g f → scan_parts f ≡ Some s → scan_fed g c b ≡ scan_fed f c b
-fed-same (At (place.Value u)) (At (place.Value v)) s c b l h = quotes-fed u.quotes v.quotes Closed c b (below-value u v l).quotes
-fed-same (InUrl u t r) (InUrl v y z) s c b l h = ap (λ (x : Reference). fed_in u.quotes x c b) l.2 ∙ quotes-fed u.quotes v.quotes z c b l.0.quotes
-fed-same (At x) (At (place.Value v)) s c b l h = absurd (none_some (place.Value v) l)
-fed-same (At x) (InUrl v y z) s c b l h = absurd l
-fed-same (InUrl u t r) (At x) s c b l h = absurd l
-fed-same g (At (place.Value v)) s c b l h = (let p = below-parts g (At (place.Value v)) s l h in absurd (none_some p.0 p.1))
-fed-same g (InUrl v y z) s c b l h = (let p = below-parts g (InUrl v y z) s l h in absurd (none_some p.0 p.1))
-fed-same g f s c b l h = absurd (none_some s h)
-
--- where a byte leads in a URL, that goes on in it
-pub goes-parts : (f : Scan) (s y : Parts) (c : Class) (b : ℕ) → ScanValid f → scan_parts f ≡ Some s → scan_parts (scan_next f c b) ≡ Some y
-    → scan_parts (scan_next f c b) ≡ Some (feed_bytes parts_feeding s (scan_fed f c b))
-goes-parts f s y c b w h k =
-    let u = url-at f s w h in
-    ⊎_elim (λ n. absurd (none_some y (sym n ∙ k)))
-    (λ e. e ∙ ap (λ (x : List ℕ). Some (feed_bytes parts_feeding s x)) (u.fed c b))
-    (goes f s u c b).parts
-
 -- a scan state of a URL comes from one, where paths have spelled different things in it
-pub before-apart : (f : Scan) (c : Class) (b : ℕ) (o : Option Parts) → scan_parts f ≡ o → is_apart (scan_parts (scan_next f c b)) ≡ true
-    → (s : Parts) × (scan_parts f ≡ Some s)
-before-apart f c b (Some s) h a = (s, h)
-before-apart f c b None h a = absurd (no (sym (scan-fresh f c b h).0 ∙ a))
+pub before-apart : (f : Scan) (c : Class) (b : ℕ) (o : Option Parts) → scan_parts f ≡ o → scan_error f c b ≡ None
+    → is_apart (scan_parts (scan_next f c b)) ≡ true → (s : Parts) × (scan_parts f ≡ Some s)
+before-apart f c b (Some s) h n a = (s, h)
+before-apart f c b None h n a =
+    let d = apart-in (scan_parts (scan_next f c b)) a in
+    absurd (no (sym (scan-fresh f c b h n).0 ∙ ap spells_apart (raw-opened (scan_next f c b) d.parts d.is) ∙ d.apart))
 
 -- the path of which it is not known what it spells stays such a one
-next-apart : (g f : Scan) (c : Class) (b : ℕ) → ScanValid g → ScanValid f → ScanBelow g f → ScanBelow (scan_next g c b) (scan_next f c b)
+next-apart : (g f : Scan) (c : Class) (b : ℕ) → ScanValid g → ScanValid f → scan_error f c b ≡ None → ScanBelow g f → ScanBelow (scan_next g c b) (scan_next f c b)
     → is_apart (scan_parts g) ≡ true → is_apart (scan_parts (scan_next f c b)) ≡ true → is_apart (scan_parts (scan_next g c b)) ≡ true
-next-apart g f c b v w l m a d =
+next-apart g f c b v w n l m a d =
     let x = apart-in (scan_parts g) a in
     let y = apart-in (scan_parts (scan_next f c b)) d in
-    let s = before-apart f c b (scan_parts f) refl d in
+    let s = before-apart f c b (scan_parts f) refl n d in
     let p = goes-parts f s.0 y.parts c b w s.1 y.is in
     let z = below-parts (scan_next g c b) (scan_next f c b) y.parts m y.is in
     let q = goes-parts g x.parts z.0 c b v x.is z.1 in
@@ -133,7 +102,7 @@ next-apart g f c b v w l m a d =
     ∙ ap (λ (bytes : List ℕ). is_apart (Some (feed_bytes parts_feeding x.parts bytes))) (fed-same g f s.0 c b l s.1)
     ∙ (bytes-stay (scan_fed f c b) s.0 x.parts inside).met x.apart
 
-refused-later : (k : ℕ) (o : Option PathCause) (r : Result Place PathRefusal) (e : PathRefusal) → o ≡ None → r ≡ Err e → unless_refused k o r ≡ Err e
+pub refused-later : (k : ℕ) (o : Option PathCause) (r : Result Place PathRefusal) (e : PathRefusal) → o ≡ None → r ≡ Err e → unless_refused k o r ≡ Err e
 refused-later k o r e i h = ap (λ (y : Option PathCause). unless_refused k y r) i ∙ h
 
 -- before a byte, where it is so there
@@ -142,7 +111,7 @@ pub kept-apart : (k b : ℕ) (bs : List ℕ) (f : Scan) (r : PathRefusal) → Sc
 kept-apart k b bs f r w n d a =
     let c = class_of b in
     let x = apart-in (scan_parts f) a in
-    let long = scan-length f x.parts (url-at f x.parts w x.is) c b in
+    let long = scan-length f x.parts c b w x.is in
     let there = d.within in
     record {
       there = a;
@@ -150,8 +119,8 @@ kept-apart k b bs f r w n d a =
       within = omega (arith, long, there);
       refuses = λ since g v l o.
           let m = scan-grows g f c b v l n in
-          refused-later k (scan_error g c b) (stepped (k + 1) (last_between k since (is_scan_between g)) bs (scan_next g c b)) r m.0
-          (d.refuses (last_between k since (is_scan_between g)) (scan_next g c b) (scan-valid g c b v) m.1 (next-apart g f c b v w l m.1 o d.there));
+          refused-later k (scan_error g c b) (stepped (k + 1) (last_percent k since (scan_reference g) (class_of b) b) bs (scan_next g c b)) r m.0
+          (d.refuses (last_percent k since (scan_reference g) (class_of b) b) (scan_next g c b) (scan-valid g c b v) m.1 (next-apart g f c b v w n l m.1 o d.there));
     }
 
 -- A refusal of bytes that stand at one place, where they stand at another.
@@ -182,14 +151,12 @@ broken-shift k j i since other (Some e) r h a =
 pub refusal-shift : (bytes : List ℕ) (k j i since other : ℕ) (s : LexState ValueState) (r : PathRefusal) → refusal_from (k + j) since bytes s ≡ Some r → r.at ≡ k + i
     → ShiftedTo i r (refusal_from j other bytes s)
 refusal-shift [] k j i since other s r h a =
-    let last = last_between (k + j) since (is_between s) in
-    let here = last_between j other (is_between s) in
-    standing-shift k j i (cut_error s) (broken_off (k + j) last (lexeme_error s)) (broken_off j here (lexeme_error s)) r h a
-    (λ m. broken-shift k j i last here (lexeme_error s) r m a)
+    standing-shift k j i (cut_error s) (broken_off (k + j) since (lexeme_error s)) (broken_off j other (lexeme_error s)) r h a
+    (λ m. broken-shift k j i since other (lexeme_error s) r m a)
 refusal-shift (b ∷ bs) k j i since other s r h a =
     let after = next languages Template s (class_of b) b in
-    let last = last_between (k + j) since (is_between s) in
-    let here = last_between j other (is_between s) in
+    let last = last_percent (k + j) since (url_reference s) (class_of b) b in
+    let here = last_percent j other (url_reference s) (class_of b) b in
     standing-shift k j i (byte_error s (class_of b) b) (refusal_from (k + j + 1) last bs after) (refusal_from (j + 1) here bs after) r h a
     (λ m. refusal-shift bs k (j + 1) i last here after r
     (subst (λ (n : ℕ). refusal_from n last bs after ≡ Some r) (let e : k + j + 1 ≡ k + (j + 1) = omega arith in e) m) a)
@@ -231,7 +198,7 @@ pub meets : (bytes : List ℕ) (k i : ℕ) (f : Scan) (r : PathRefusal) (s : Lex
     → is_in_beginning s ≡ true → scanned s ≡ Some g → ScanValid g → ScanBelow g f → MeetsColon bytes s i
 meets bytes k i f r s g d a o e v l =
     let x = apart-in (scan_parts f) d.there in
-    let u = unknown s g f x.parts o e x.is x.apart v l in
+    let u = unknown s g f x.parts o e x.is x.apart l in
     let none : k ≡ k + 0 = omega arith in
     let refused : refusal_from (k + 0) 0 bytes (unknown_beginning s) ≡ Some r =
     subst (λ (n : ℕ). refusal_from n 0 bytes (unknown_beginning s) ≡ Some r) none
@@ -278,15 +245,15 @@ pub record Stands (s : LexState ValueState) (g f : Scan) (x : Member) : Type 0 w
   pub has : ScanHas g x
 
 -- a path on which a URL begins
-abbrev parts_where : Option Scan → Option Parts
+abbrev pub parts_where : Option Scan → Option Parts
 parts_where (Some g) = scan_parts g
 parts_where None = None
 
-abbrev reference_where : Option Scan → Reference
+abbrev pub reference_where : Option Scan → Reference
 reference_where (Some g) = scan_reference g
 reference_where None = Closed
 
-closed-open : (f : Form) (bytes : List ℕ) → Closed ≡ Open f bytes → ⊥
+pub closed-open : (f : Form) (bytes : List ℕ) → Closed ≡ Open f bytes → ⊥
 closed-open f bytes h = cc
 
 pub start-parts : (s : LexState ValueState) (g : Scan) → StartsUrl s → scanned s ≡ Some g → scan_parts g ≡ Some (parts_of UrlStart)
@@ -419,7 +386,7 @@ two-read k b bs f r x bytes s w i j plain e taken n d =
           ∙ ap (λ (l : List ℕ). Some (feed_bytes parts_feeding (parts_of UrlStart) l)) (broken-bytes (scan_reference g) b x bytes hold e) ∙ ap Some m.begins)
           (read-is g b bs x bytes hold e) y.valid (read-below g f b bs w taken y.below) in
           let held = below-reference h f u.below ∙ j in
-          let other = point t h (b ∷ bs) (scan_read f (b ∷ bs)) m.other (url-of t opens) u.at
+          let other = point t h (b ∷ bs) (scan_read f (b ∷ bs)) m.other (url-of t (begins-value t opens)) u.at
           (read-parts h b bs (parts_of (UrlOpen q.0)) q.1
           ∙ ap (λ (l : List ℕ). Some (feed_bytes parts_feeding (parts_of (UrlOpen q.0)) l)) (broken-bytes (scan_reference h) b x bytes held e) ∙ ap Some m.goes)
           (read-is h b bs x bytes held e) u.valid (read-below h f b bs w taken u.below) in
@@ -431,10 +398,6 @@ abbrev pub is_nothing : List ℕ → Bool
 is_nothing [] = true
 is_nothing (x ∷ xs) = false
 
-plain-character : (c : Class) (b : ℕ) → IsCharacter (undone_byte true Closed c b)
-plain-character Ampersand b = nothing refl
-plain-character _ b = single b refl
-
 turned-character : (z : ReferenceStep) (f : Form) (bytes : List ℕ) (c : Class) (b : ℕ) → (z ≡ Breaks → ⊥) → IsCharacter (turn_bytes true z f bytes c b)
 turned-character (Grows g) f bytes c b n = nothing refl
 turned-character Closes f bytes c b n = utf8-character (meaning f bytes)
@@ -444,25 +407,25 @@ undone-character : (r : Reference) (b : ℕ) → NotBroken r b → IsCharacter (
 undone-character Closed b n = plain-character (class_of b) b
 undone-character (Open f bytes) b n = turned-character (turn (class_of b) f) f bytes (class_of b) b n
 
-bare-character : (q : _) (r : Reference) (c : Class) (b : ℕ) → IsCharacter (undone_byte true r c b) → IsCharacter (fed_in (quotes.Bare q) r c b)
-bare-character q r White b h = nothing refl
-bare-character q r QuotationMark b h = nothing refl
-bare-character q r Apostrophe b h = nothing refl
-bare-character q r _ b h = h
+pub fed-or : (q : Quotes) (r : Reference) (c : Class) (b : ℕ) → (fed_in q r c b ≡ []) ⊎ (fed_in q r c b ≡ undone_byte true r c b)
+fed-or quotes.Dq r c b = inr refl
+fed-or quotes.Sq r c b = inr refl
+fed-or (quotes.Bare s) r White b = inl refl
+fed-or (quotes.Bare s) r QuotationMark b = inl refl
+fed-or (quotes.Bare s) r Apostrophe b = inl refl
+fed-or (quotes.Bare s) r _ b = inr refl
 
 fed-character : (q : Quotes) (r : Reference) (b : ℕ) → NotBroken r b → IsCharacter (fed_in q r (class_of b) b)
-fed-character quotes.Dq r b n = undone-character r b n
-fed-character quotes.Sq r b n = undone-character r b n
-fed-character (quotes.Bare x) r b n = bare-character x r (class_of b) b (undone-character r b n)
+fed-character q r b n = ⊎_elim (λ e. nothing e) (λ e. subst IsCharacter (sym e) (undone-character r b n)) (fed-or q r (class_of b) b)
 
-scan-character : (f : Scan) (b : ℕ) → NotBroken (scan_reference f) b → IsCharacter (scan_fed f (class_of b) b)
+pub scan-character : (f : Scan) (b : ℕ) → NotBroken (scan_reference f) b → IsCharacter (scan_fed f (class_of b) b)
 scan-character (At (place.Value v)) b n = fed-character v.quotes Closed b n
 scan-character (InUrl v t r) b n = fed-character v.quotes r b n
 scan-character (At _) b n = nothing refl
 scan-character _ b n = nothing refl
 
 -- a byte that is fed leaves no reference open
-plain-closed : (c : Class) (b : ℕ) → is_nothing (undone_byte true Closed c b) ≡ false → begin_reference c ≡ Closed
+pub plain-closed : (c : Class) (b : ℕ) → is_nothing (undone_byte true Closed c b) ≡ false → begin_reference c ≡ Closed
 plain-closed Ampersand b h = absurd (no (sym h))
 plain-closed _ b h = refl
 
@@ -476,18 +439,10 @@ undone-closed : (r : Reference) (b : ℕ) → NotBroken r b → is_nothing (undo
 undone-closed Closed b n h = plain-closed (class_of b) b h
 undone-closed (Open f bytes) b n h = turned-closed (turn (class_of b) f) f bytes (class_of b) b n h
 
-bare-undone : (q : _) (r : Reference) (c : Class) (b : ℕ) → is_nothing (fed_in (quotes.Bare q) r c b) ≡ false → is_nothing (undone_byte true r c b) ≡ false
-bare-undone q r White b h = absurd (no (sym h))
-bare-undone q r QuotationMark b h = absurd (no (sym h))
-bare-undone q r Apostrophe b h = absurd (no (sym h))
-bare-undone q r _ b h = h
-
 fed-undone : (q : Quotes) (r : Reference) (c : Class) (b : ℕ) → is_nothing (fed_in q r c b) ≡ false → is_nothing (undone_byte true r c b) ≡ false
-fed-undone quotes.Dq r c b h = h
-fed-undone quotes.Sq r c b h = h
-fed-undone (quotes.Bare x) r c b h = bare-undone x r c b h
+fed-undone q r c b h = ⊎_elim (λ e. absurd (no (sym h ∙ ap is_nothing e))) (λ e. sym (ap is_nothing e) ∙ h) (fed-or q r c b)
 
-next-closed : (f : Scan) (s : Parts) (b : ℕ) → ScanValid f → scan_parts f ≡ Some s → NotBroken (scan_reference f) b
+pub next-closed : (f : Scan) (s : Parts) (b : ℕ) → ScanValid f → scan_parts f ≡ Some s → NotBroken (scan_reference f) b
     → is_nothing (scan_fed f (class_of b) b) ≡ false
     → scan_reference (scan_next f (class_of b) b) ≡ Closed
 next-closed f s b w i n h =
@@ -516,8 +471,8 @@ behind-point v g f b bs x p vg vf l e n held apart i j =
     let parts : scan_parts (scan_next g c b) ≡ Some (parts_of (UrlOpen p)) = ap scan_parts (sym ro.next) ∙ y ∙ ap Some j in
     let closed = below-reference (scan_next g c b) (scan_next f c b) m.1 ∙ held in
     let same = read-closed (scan_next g c b) bs closed in
-    let u = url-of (next languages Template v c b)
-    (is-open (next languages Template v c b) (scan_next g c b) at (parts-have (scan_next g c b) (parts_of (UrlOpen p)) member.PartOpen parts refl)) in (
+    let u = url-of (next languages Template v c b) (begins-value (next languages Template v c b)
+    (is-open (next languages Template v c b) (scan_next g c b) at (parts-have (scan_next g c b) (parts_of (UrlOpen p)) member.PartOpen parts refl))) in (
       point (next languages Template v c b) (scan_next g c b) bs (scan_next f c b) p u at (ap scan_parts same ∙ parts) (ap scan_reference same ∙ closed)
           (scan-valid g c b vg) (subst (λ (y : Scan). ScanBelow y (scan_next f c b)) (sym same) m.1),
       refl,
@@ -613,6 +568,6 @@ two-cases k b bs f r s (Some y) true w plain i m n j a d =
 pub earlier-two : (k b : ℕ) (bs : List ℕ) (f : Scan) (r : PathRefusal) → ScanValid f → ScanPlain f → scan_error f (class_of b) b ≡ None
     → ShownApart (k + 1) bs (scan_next f (class_of b) b) r → is_apart (scan_parts f) ≡ false → ShownTwo k (b ∷ bs) f r member.PartStart member.PartOpen
 earlier-two k b bs f r w plain n d a =
-    let s = before-apart f (class_of b) b (scan_parts f) refl d.there in
+    let s = before-apart f (class_of b) b (scan_parts f) refl n d.there in
     two-cases k b bs f r s.0 (scan_parts (scan_read f (b ∷ bs))) (is_apart (scan_parts (scan_read f (b ∷ bs)))) w plain s.1
     (sym (ap is_apart s.1) ∙ a) n refl refl d

@@ -70,6 +70,10 @@ abbrev pub UrlWithin : Body → Type 0
 UrlWithin (body.Url s) = IsValidParts s
 UrlWithin b = ⊥
 
+pub url-within : (b : Body) → UrlWithin b → (s : Parts) × (b ≡ body.Url s)
+url-within (body.Url s) v = (s, refl)
+url-within _ v = absurd v
+
 abbrev pub ScanValid : Scan → Type 0
 ScanValid (At p) = IsValid p
 ScanValid (InUrl v t r) = HasBegun v.quotes × UrlWithin v.body
@@ -383,7 +387,7 @@ comment-grows false false _ h n = (refl, refl)
 
 -- Data blocks.
 
-block-below : (x y : Bool) → Below (place.Block x) (place.Block y) → Under x y
+pub block-below : (x y : Bool) → Below (place.Block x) (place.Block y) → Under x y
 block-below x y h = let e : place.Block (x || y) ≡ place.Block y = one_value (place.Block (x || y)) (place.Block y) h in cc
 
 block-grows : (x y : Bool) (c : Class) → Under x y → block_error y c ≡ None → block_error x c ≡ None

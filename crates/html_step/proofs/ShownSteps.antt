@@ -25,7 +25,7 @@ use Rattle.place_core.proofs.Joins.{places_same}
 use Rattle.place_core.specs.declared.tag_place.TagPlace.{TagPlace}
 use Rattle.place_core.specs.declared.value_place.ValuePlace.{ValuePlace}
 use Rattle.place_core.proofs.Semilattices.{none_some, one_value}
-use Rattle.html_scan.specs.Scans.{Scan, At, AfterLess, AfterLessSolidus, InDeclaration, InTagName, InAttributeName, InUrl, InCommentEnd, InContentEnd, open_cut_error, parts_cause, parts_feeding, place_cause, quoted_error, scan_cut_error, scan_error, scan_lexeme_error, value_cause, BeforeType, InType, parts_with, triple_behind, url_scan}
+use Rattle.html_scan.specs.Scans.{Scan, At, AfterLess, AfterLessSolidus, InDeclaration, InTagName, InAttributeName, InUrl, InCommentEnd, InContentEnd, open_cut_error, parts_cause, parts_feeding, place_cause, quoted_error, scan_cut_error, scan_error, scan_lexeme_error, value_cause, BeforeType, InType, parts_with, triple_behind, url_scan, scan_reference}
 use Rattle.html_step.specs.Laws.{EvidenceData, apart, one, two}
 use Rattle.html_step.specs.Origins.{bare_shows, body_parts, body_refusal_shows, byte_shows, colon_shows, end_shows, is_apart, name_origin, place_shows, quotes_show, scan_parts, tag_shows, url_or_quotes, url_shows, value_shows}
 use Rattle.html_step.proofs.BelowScans.{IsRigid, below-at, below-at-comment, below-at-tag, below-at-value, below-attribute, below-url, tag-name-rigid, whole-in, below-at-block, before-type-rigid, content-end-rigid, type-rigid}
@@ -36,10 +36,10 @@ use Rattle.html_step.proofs.FromSteps.{no, or-false, untyped-rigid}
 use Rattle.html_step.proofs.FromValues.{in-body, out-part, value_has}
 use Rattle.html_step.proofs.ScanOrder.{HasBegun, BegunWhereOpen, ScanBelow, ScanHas, ScanValid, bare-parts, begun-open, begun-valid, cause-accepts, kind-of-some, parts-below, some-none}
 use Rattle.html_step.proofs.ReadScans.{Behind, Broken, quoted-read, read_turn, read_value}
-use Rattle.html_step.proofs.UrlScans.{ScanPlain, reference_length, scan_reference}
+use Rattle.html_step.proofs.UrlScans.{ScanPlain, reference_length}
 use Rattle.html_step.proofs.ShownUrls.{UrlShown, on_behind, on_each, on_first, quoted-shown, same-quoted}
 use Rattle.html_step.proofs.OnePath.{some}
-use Rattle.html_step.proofs.PlaceParts.{Under, TagBelow, ValueBelow, same-kinds, under-false, below-value}
+use Rattle.html_step.proofs.PlaceParts.{Under, TagBelow, ValueBelow, same-kinds, below-value, under-none}
 use Rattle.url_lexer.specs.Triples.{Triple, NoTriple, AfterPercent, AfterDigit}
 use Rattle.url_step.specs.PartSets.{PartsBelow, spells_apart}
 
@@ -65,9 +65,6 @@ ShownByte f c b e (one x) = ScanHas f x × ((g : Scan) → ScanValid g → ScanB
 ShownByte f c b e (two x y) = TwoShown f c b e x y
 ShownByte f c b e apart = ApartShown f c b e
 
-pub none-some : {A : Type 0} (x : A) → None ≡ Some x → ⊥
-none-some x e = cc
-
 one-cause : (x y : PathCause) → Some x ≡ Some y → x ≡ y
 one-cause x y e = one_value x y e
 
@@ -80,9 +77,6 @@ evidence-tag : (t : TagPlace) (c : Class) (byte : ℕ) (e : PathCause) (x : Memb
     → ShownByte (At (place.Tag t)) c byte e (one x)
 evidence-tag t c byte e x h f =
     (h, λ g v l o. below-at-tag (λ (g : Scan). ScanValid g → ScanHas g x → scan_error g c byte ≡ Some e) t (λ u l v o. f u v l o) g l v o)
-
-under-none : (x y : Bool) → Under x y → y ≡ false → x ≡ false
-under-none x y h e = under-false x (subst (Under x) e h)
 
 evidence-equals : (t : TagPlace) (byte : ℕ) (e : PathCause) (n b : Bool) → IsValidTag t → t.spots.name ≡ n → t.spots.before ≡ b
     → at_hand (tag_error t EqualsSign) ≡ Some e
@@ -127,12 +121,12 @@ evidence-goes t c byte e false true q n j h =
     (λ u v l o. q u ∙ ap (λ (x : Bool). goes_on_error (x || u.spots.inside)) (under-none u.spots.name t.spots.name l.name n) ∙ ap goes_on_error o
     ∙ sym (ap (λ (x : Bool). goes_on_error (x || t.spots.inside)) n ∙ ap goes_on_error j) ∙ sym (q t) ∙ h)
 evidence-goes t c byte e false false q n j h = absurd
-    (none-some e (sym (ap (λ (x : Bool). goes_on_error (x || t.spots.inside)) n ∙ ap goes_on_error j) ∙ sym (q t) ∙ h))
+    (none_some e (sym (ap (λ (x : Bool). goes_on_error (x || t.spots.inside)) n ∙ ap goes_on_error j) ∙ sym (q t) ∙ h))
 
 evidence-tag-byte : (t : TagPlace) (c : Class) (byte : ℕ) (e : PathCause) → IsValidTag t → at_hand (tag_error t c) ≡ Some e
     → ShownByte (At (place.Tag t)) c byte e (one (tag_shows c t.spots))
-evidence-tag-byte t White byte e v h = absurd (none-some e h)
-evidence-tag-byte t Solidus byte e v h = absurd (none-some e h)
+evidence-tag-byte t White byte e v h = absurd (none_some e h)
+evidence-tag-byte t Solidus byte e v h = absurd (none_some e h)
 evidence-tag-byte t GreaterThan byte e v h = evidence-tag t GreaterThan byte e member.Whole refl
     (λ u w l o. ap (λ (x : TagOf). at_hand (content_error x)) l.tag ∙ h)
 evidence-tag-byte t EqualsSign byte e v h = evidence-equals t byte e t.spots.name t.spots.before v refl refl h
@@ -231,11 +225,11 @@ evidence-uq t p r c b e m q n uq h same =
 
 if-some : (b : Bool) (e : Code) (x : PathCause) → at_hand (if b then Some e else None) ≡ Some x → b ≡ true
 if-some true e x h = refl
-if-some false e x h = absurd (none-some x h)
+if-some false e x h = absurd (none_some x h)
 
 if-is : (b : Bool) (e : Code) (x : PathCause) → at_hand (if b then Some e else None) ≡ Some x → x ≡ record { code = e; back = 0; shown = 0 }
 if-is true e x h = one-cause x (record { code = e; back = 0; shown = 0 }) (sym h)
-if-is false e x h = absurd (none-some x h)
+if-is false e x h = absurd (none_some x h)
 
 both-true : (x y : Bool) → (x && y) ≡ true → (x ≡ true) × (y ≡ true)
 both-true true true h = (refl, refl)
@@ -262,15 +256,15 @@ evidence-bare-byte t f p r LessThan b e into m q n h = evidence-bare t p r LessT
 evidence-bare-byte t f p r EqualsSign b e into m q n h = evidence-bare t p r EqualsSign b e m q n h (λ s. refl)
 evidence-bare-byte t f p r GraveAccent b e into m q n h = evidence-bare t p r GraveAccent b e m q n h (λ s. refl)
 evidence-bare-byte t f p r GreaterThan b e into m q n h = evidence-bare t p r GreaterThan b e m q n h (λ s. refl)
-evidence-bare-byte t f p r _ b e into m q n h = absurd (none-some e h)
+evidence-bare-byte t f p r _ b e into m q n h = absurd (none_some e h)
 
 evidence-quoted : (t : ValuePlace) (f : Scan) (q : Quotes) (r : Reference) (c : Class) (b : ℕ) (e : PathCause)
     → ((y : Member) → Has (place.Value t) y → ScanHas f y)
     → parts_cause t.body t.quotes r c b ≡ None → t.quotes ≡ q → body_error t.body ≡ None → at_hand (quotes_error t.tag q c) ≡ Some e
     → ValueShown t f r c b e (quotes_show None q c)
 evidence-quoted t f (quotes.Bare p) r c b e into m q n h = evidence-bare-byte t f p r c b e into m q n h
-evidence-quoted t f quotes.Dq r c b e into m q n h = absurd (none-some e h)
-evidence-quoted t f quotes.Sq r c b e into m q n h = absurd (none-some e h)
+evidence-quoted t f quotes.Dq r c b e into m q n h = absurd (none_some e h)
+evidence-quoted t f quotes.Sq r c b e into m q n h = absurd (none_some e h)
 
 evidence-in-quotes : (t : ValuePlace) (f : Scan) (r : Reference) (c : Class) (b : ℕ) (e : PathCause) (o : Option Code)
     → ((y : Member) → Has (place.Value t) y → ScanHas f y)
@@ -476,7 +470,7 @@ evidence-comment true c byte e h = (
   λ g v l o. below-at-comment (λ (g : Scan). ScanHas g member.CommentDash → scan_error g c byte ≡ Some e) true
       (λ x u o. subst (λ (z : Bool). at_hand (comment_error z c) ≡ Some e) (sym o) h) g l o,
 )
-evidence-comment false c byte e h = absurd (none-some e h)
+evidence-comment false c byte e h = absurd (none_some e h)
 
 -- in a data block, after a `<`
 evidence-block : (less : Bool) (c : Class) (byte : ℕ) (e : PathCause) → at_hand (block_error less c) ≡ Some e
@@ -486,7 +480,7 @@ evidence-block true c byte e h = (
   λ g v l o. below-at-block (λ (g : Scan). ScanHas g member.BlockLt → scan_error g c byte ≡ Some e) true
       (λ x u o. subst (λ (z : Bool). at_hand (block_error z c) ≡ Some e) (sym o) h) g l o,
 )
-evidence-block false c byte e h = absurd (none-some e h)
+evidence-block false c byte e h = absurd (none_some e h)
 
 -- what is not built at all
 script-error : (j : _) (c : Class) (b : ℕ) (a : Place) → Below a (place.Script j) → place_cause a c b ≡ at_hand (Some code.NotBuilt)
@@ -503,10 +497,10 @@ evidence-unbuilt p c b e f h = (refl, λ g v l o. below-at (λ (g : Scan). scan_
 
 evidence-place : (p : Place) (c : Class) (b : ℕ) (e : PathCause) → c ≡ class_of b → IsValid p → place_cause p c b ≡ Some e
     → ShownByte (At p) c b e (place_shows p c b)
-evidence-place place.Text c b e k v h = absurd (none-some e h)
-evidence-place place.Doctype c b e k v h = absurd (none-some e h)
+evidence-place place.Text c b e k v h = absurd (none_some e h)
+evidence-place place.Doctype c b e k v h = absurd (none_some e h)
 evidence-place (place.Comment dash) c b e k v h = evidence-comment dash c b e h
-evidence-place (place.Rcdata x) c b e k v h = absurd (none-some e h)
+evidence-place (place.Rcdata x) c b e k v h = absurd (none_some e h)
 evidence-place (place.Tag t) c b e k v h = evidence-tag-byte t c b e v h
 evidence-place (place.Value x) c b e k v h =
     at-value x c b e (value_shows x Closed c b) (evidence-value-byte x (At (place.Value x)) Closed c b e (λ y o. o) (λ z bytes h. not-open z bytes h) k tt tt h)
@@ -526,14 +520,14 @@ evidence-attribute t true name c b e h = (
 pub evidence-byte : (f : Scan) (c : Class) (b : ℕ) (e : PathCause) → c ≡ class_of b → ScanValid f → ScanPlain f → scan_error f c b ≡ Some e
     → ShownByte f c b e (byte_shows f c b)
 evidence-byte (At p) c b e k v n h = evidence-place p c b e k v h
-evidence-byte AfterLess c b e k v n h = absurd (none-some e h)
-evidence-byte AfterLessSolidus c b e k v n h = absurd (none-some e h)
-evidence-byte (InDeclaration pending) c b e k v n h = absurd (none-some e h)
+evidence-byte AfterLess c b e k v n h = absurd (none_some e h)
+evidence-byte AfterLessSolidus c b e k v n h = absurd (none_some e h)
+evidence-byte (InDeclaration pending) c b e k v n h = absurd (none_some e h)
 evidence-byte (InTagName end name) c b e k v n h = evidence-rigid (InTagName end name) c b e (tag-name-rigid end name) h
 evidence-byte (InAttributeName t typed name) c b e k v n h = evidence-attribute t typed name c b e h
 evidence-byte (InUrl w t r) c b e k v n h =
     in-url w t r c b e (value_shows w r c b) (evidence-value-byte w (InUrl w t r) r c b e (λ y o. o) (λ z bytes i. (t, ap (InUrl w t) i)) k (begun-open r w.quotes v.0) n h)
-evidence-byte (InCommentEnd s) c b e k v n h = absurd (none-some e h)
+evidence-byte (InCommentEnd s) c b e k v n h = absurd (none_some e h)
 evidence-byte (InContentEnd x y) c b e k v n h = evidence-rigid (InContentEnd x y) c b e (content-end-rigid x y) h
 evidence-byte (BeforeType t) c b e k v n h = evidence-rigid (BeforeType t) c b e (before-type-rigid t) h
 evidence-byte (InType t q w r) c b e k v n h = evidence-rigid (InType t q w r) c b e (type-rigid t q w r) h
@@ -590,12 +584,12 @@ cut-url _ r n = refl
 pub evidence-cut : (f : Scan) (e : PathCause) → ScanPlain f → scan_cut_error f ≡ Some e → ShownCut f e (end_shows f)
 evidence-cut (InAttributeName t typed name) e n h = cut-attribute t typed name e h
 evidence-cut (InUrl v t r) e n h = absurd (none_some e (sym (cut-url v.body r n) ∙ h))
-evidence-cut (At p) e n h = absurd (none-some e h)
-evidence-cut AfterLess e n h = absurd (none-some e h)
-evidence-cut AfterLessSolidus e n h = absurd (none-some e h)
-evidence-cut (InDeclaration pending) e n h = absurd (none-some e h)
-evidence-cut (InTagName end name) e n h = absurd (none-some e h)
-evidence-cut (InCommentEnd s) e n h = absurd (none-some e h)
+evidence-cut (At p) e n h = absurd (none_some e h)
+evidence-cut AfterLess e n h = absurd (none_some e h)
+evidence-cut AfterLessSolidus e n h = absurd (none_some e h)
+evidence-cut (InDeclaration pending) e n h = absurd (none_some e h)
+evidence-cut (InTagName end name) e n h = absurd (none_some e h)
+evidence-cut (InCommentEnd s) e n h = absurd (none_some e h)
 evidence-cut (InContentEnd x y) e n h = cut-rigid (InContentEnd x y) e (content-end-rigid x y) h
 evidence-cut (BeforeType t) e n h = cut-rigid (BeforeType t) e (before-type-rigid t) h
 evidence-cut (InType t q w r) e n h = cut-rigid (InType t q w r) e (type-rigid t q w r) h

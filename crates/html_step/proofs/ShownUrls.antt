@@ -1,8 +1,8 @@
 -- What a URL refuses on all paths together: a `:` where the beginning is behind a hole, or paths have spelled different things in it; and a name that
 -- stands for no character.
-use Rattle.std.proofs.Common.{◌≡◌, ◌≤◌, ℕ, ◌+◌, ◌-◌, Bool, true, false, ◌&&◌, List, [], ◌∷◌, length, Option, Some, None, option_map, if◌then◌else◌, refl, sym, ap, ◌∙◌, arith}
+use Rattle.std.proofs.Common.{◌≡◌, ◌≤◌, ℕ, ◌+◌, Bool, true, false, ◌&&◌, List, [], ◌∷◌, length, Option, Some, None, option_map, if◌then◌else◌, refl, sym, ap, ◌∙◌, arith}
 use Rattle.std.specs.Prelude.{encode_utf8}
-use Rattle.place_core.specs.page.Classes.{Class, White, Ampersand, QuotationMark, Apostrophe, GreaterThan, class_of, is_equals_sign}
+use Rattle.place_core.specs.page.Classes.{Class, White, QuotationMark, Apostrophe, GreaterThan, class_of, is_equals_sign}
 use Rattle.place_core.specs.page.Html.{ends_value}
 use Rattle.place_core.specs.page.References.{Form, Reference, Closed, Open, ReferenceStep, Grows, Closes, Breaks, turn, meaning, flushed, plain_bytes}
 use Rattle.place_core.specs.page.Tags.{refusal_code, Quoting, DoubleQuoted, SingleQuoted, Unquoted}
@@ -16,14 +16,14 @@ use Rattle.place_core.specs.declared.quotes.Quotes.TheVariants as quotes
 use Rattle.place_core.proofs.Semilattices.{none_some, one_value}
 use Rattle.html_scan.specs.Scans.{parts_feeding, quoted_error}
 use Rattle.html_step.proofs.ApartParts.{IsAmbiguous, character-shown, no-error}
-use Rattle.html_step.proofs.Characters.{IsCharacter, NoColon, ReferencePlain, colon-byte, flushed-character, nothing, single, utf8-character}
+use Rattle.html_step.proofs.Characters.{IsCharacter, NoColon, ReferencePlain, colon-byte, flushed-character, utf8-character, plain-character}
 use Rattle.html_step.proofs.PlaceParts.{Under}
 use Rattle.html_step.proofs.ScanOrder.{BegunWhereOpen, bare-parts}
 use Rattle.html_step.proofs.ReadScans.{Behind, Broken}
 use Rattle.html_step.proofs.UrlOrder.{BegunIf, fed-grow}
 use Rattle.html_step.proofs.UrlScans.{reference_length}
 use Rattle.url_lexer.specs.Classes.{url_class_of}
-use Rattle.url_lexer.specs.Refusals.{UrlRefusal, AmbigContext}
+use Rattle.url_lexer.specs.Refusals.{UrlRefusal}
 use Rattle.url_step.specs.PartSets.{PartsBelow}
 
 no : false ≡ true → ⊥
@@ -43,10 +43,6 @@ by-character : (bytes : List ℕ) (s : Parts) (r : Reference) (c : Class) (writt
     → fed_error parts_feeding s bytes written back ≡ Some e → UrlShown s r c e (λ t. fed_error parts_feeding t bytes written back)
 by-character bytes s r c written back e a l h =
     (let d = character-shown bytes s written back e a h in on_first back d.is l d.there d.refuses)
-
-plain-character : (c : Class) (b : ℕ) → IsCharacter (plain_bytes c b)
-plain-character Ampersand b = nothing refl
-plain-character _ b = single b refl
 
 closes-shown : (x : Bool) (bytes : List ℕ) (s : Parts) (r : Reference) (c : Class) (back : ℕ) (e : PathCause) → IsCharacter bytes → back ≤ reference_length r
     → first_cause (name_error x back) (fed_error parts_feeding s bytes false back) ≡ Some e

@@ -1,7 +1,8 @@
 -- Whole texts: what is refused is shown by one path or by two.
 use Rattle.std.proofs.Common.{◌≡◌, ℕ, ◌+◌, ◌-◌, Bool, true, false, suc, List, [], ◌∷◌, Option, Some, None, Result, Ok, Err, refl, sym, ap, ◌∙◌, subst, arith, inl, inr, if◌then◌else◌}
 use Rattle.place_core.specs.page.Classes.{White, class_of}
-use Rattle.place_core.specs.place.Errors.{PathCause, PathRefusal, PathRefuses, byte_error, last_between}
+use Rattle.place_core.specs.place.Errors.{PathCause, PathRefusal, PathRefuses, byte_error}
+use Rattle.place_core.specs.place.LastPercent.{last_percent}
 use Rattle.place_core.specs.place.ApartPlaces.{HasApart, beginning_in_body, side}
 use Rattle.place_core.specs.place.PathPairs.{Clashes, ClashesApart, MeetsColon, byte_clash}
 use Rattle.place_core.specs.page.Html.{next}
@@ -25,13 +26,12 @@ use Rattle.place_core.specs.declared.member.Member.{Member}
 use Rattle.place_core.specs.declared.member.Member.TheVariants as member
 use Rattle.place_core.specs.declared.place.Place.{Place}
 use Rattle.place_core.specs.declared.step_err.StepErr.{StepErr}
-use Rattle.html_scan.specs.Scans.{Scan, At, AfterLess, AfterLessSolidus, InDeclaration, InTagName, InAttributeName, InUrl, InCommentEnd, InContentEnd, BeforeType, InType, is_scan_between, scan_cut_error, scan_error, scan_lexeme_error, scan_next, scan_place}
+use Rattle.html_scan.specs.Scans.{Scan, At, InUrl, scan_reference, scan_cut_error, scan_error, scan_lexeme_error, scan_next, scan_place}
 use Rattle.html_step.specs.Laws.{IsEvidence, EvidenceData, TextEvidence, apart, one, two}
 use Rattle.html_step.specs.Origins.{back_by, body_parts, byte_origin, byte_shows, end_shows, is_apart, scan_parts, shows, unless_shown}
 use Rattle.html_step.specs.Steps.{after_text, place_before, stepped, unless_broken_off, unless_refused, with_place_before}
-use Rattle.html_step.proofs.BelowScans.{before-type-rigid, below-at, below-attribute, below-url, comment-end-rigid, content-end-rigid, declaration-rigid, less-rigid, solidus-rigid, tag-name-rigid, type-rigid}
 use Rattle.html_step.proofs.ApartParts.{differs-of}
-use Rattle.html_step.proofs.RefusedColons.{ClashesFrom, ShownApart, ShownTwo, Stands, earlier-two, kept-apart, meets, two-read}
+use Rattle.html_step.proofs.RefusedColons.{ClashesFrom, ShownApart, ShownTwo, Stands, earlier-two, kept-apart, meets, two-read, refused-later}
 use Rattle.html_step.proofs.Characters.{ReferencePlain}
 use Rattle.html_step.proofs.Clashing.{clash, is-open, is-unbegun, is-unquoted}
 use Rattle.html_step.proofs.FromSteps.{From, from-byte}
@@ -40,7 +40,7 @@ use Rattle.html_step.proofs.ScanOrder.{ScanBelow, ScanHas, ScanValid, scan-grows
 use Rattle.html_step.proofs.OneTexts.{agrees-at, at-place, one-text}
 use Rattle.html_step.proofs.ReadScans.{Broken, Takes, read_turn, scan_read}
 use Rattle.html_step.proofs.ShownSteps.{ApartShown, ShownByte, ShownCut, ShownLexeme, TwoShown, by_colon, by_white, evidence-byte, evidence-cut, evidence-lexeme, evidence-read}
-use Rattle.html_step.proofs.UrlScans.{ScanPlain, scan-plain, scan_reference}
+use Rattle.html_step.proofs.UrlScans.{ScanPlain, below-reference, scan-plain}
 use Rattle.html_step.proofs.ValidSteps.{scan-valid}
 
 abbrev pub ShownBytes : ℕ → ℕ → List ℕ → Scan → PathRefusal → EvidenceData → Type 0
@@ -78,9 +78,6 @@ hand-is k o r x e i h = one-err e (record { code = x.code; at = k - x.back; show
 later-refused : (k : ℕ) (o : Option PathCause) (r : Result Place PathRefusal) (e : PathRefusal) → o ≡ None → unless_refused k o r ≡ Err e → r ≡ Err e
 later-refused k o r e i h = sym (ap (λ (y : Option PathCause). unless_refused k y r) i) ∙ h
 
-refused-later : (k : ℕ) (o : Option PathCause) (r : Result Place PathRefusal) (e : PathRefusal) → o ≡ None → r ≡ Err e → unless_refused k o r ≡ Err e
-refused-later k o r e i h = ap (λ (y : Option PathCause). unless_refused k y r) i ∙ h
-
 -- two paths that are refused together at the byte at hand
 at-hand-is : (k : ℕ) (r : PathRefusal) (x : PathCause) (c : Code) → r ≡ record { code = x.code; at = k - x.back; shown = k - x.shown }
     → x ≡ record { code = c; back = 0; shown = 0 }
@@ -89,20 +86,6 @@ at-hand-is k r x c e i =
     let is : r ≡ record { code = c; at = k - 0; shown = k - 0 } = e
     ∙ ap (λ (y : PathCause). record { code = y.code; at = k - y.back; shown = k - y.shown }) i in
     (ap (λ (y : PathRefusal). y.at) is ∙ (let z : k - 0 ≡ k + 0 = omega arith in z), ap (λ (y : PathRefusal). y.code) is)
-
--- a scan state below is between two lexemes where this one is
-same-between : (g f : Scan) → ScanBelow g f → is_scan_between g ≡ is_scan_between f
-same-between g (InUrl v t r) l = below-url (λ (x : Scan). is_scan_between x ≡ false) v t r (λ u m. refl) g l
-same-between g (At p) l = below-at (λ (x : Scan). is_scan_between x ≡ true) p (λ a m. refl) g l
-same-between g (InAttributeName t typed name) l = below-attribute (λ (x : Scan). is_scan_between x ≡ true) t typed name (λ x m. refl) g l
-same-between g AfterLess l = ap is_scan_between (less-rigid g l)
-same-between g AfterLessSolidus l = ap is_scan_between (solidus-rigid g l)
-same-between g (InDeclaration pending) l = ap is_scan_between (declaration-rigid pending g l)
-same-between g (InTagName ends name) l = ap is_scan_between (tag-name-rigid ends name g l)
-same-between g (InCommentEnd s) l = ap is_scan_between (comment-end-rigid s g l)
-same-between g (InContentEnd e x) l = ap is_scan_between (content-end-rigid e x g l)
-same-between g (BeforeType t) l = ap is_scan_between (before-type-rigid t g l)
-same-between g (InType t q v r) l = ap is_scan_between (type-rigid t q v r g l)
 
 white-clashes : (f : Scan) (b : ℕ) → class_of b ≡ White → (s t : LexState ValueState) (g h : Scan) → Stands s g f member.UnquotedValue
     → Stands t h f member.UnbegunValue
@@ -130,7 +113,7 @@ apart-byte k b bs f r x is d =
       code = ap (λ (y : PathRefusal). y.code) is ∙ d.code;
       within = omega (arith, at, back);
       refuses = λ since g v l o.
-          ap (λ (y : Option PathCause). unless_refused k y (stepped (k + 1) (last_between k since (is_scan_between g)) bs (scan_next g (class_of b) b)))
+          ap (λ (y : Option PathCause). unless_refused k y (stepped (k + 1) (last_percent k since (scan_reference g) (class_of b) b) bs (scan_next g (class_of b) b)))
           (d.refuses g v l o) ∙ ap Err (sym is);
     }
 
@@ -178,7 +161,7 @@ two-evidence k since b bs f r e x y v plain z i (by_colon w t form bytes s at d 
 
 -- what is left of a text behind a byte
 abbrev Rest : ℕ → ℕ → ℕ → List ℕ → Scan → Result Place PathRefusal
-Rest k since b bs f = stepped (k + 1) (last_between k since (is_scan_between f)) bs (scan_next f (class_of b) b)
+Rest k since b bs f = stepped (k + 1) (last_percent k since (scan_reference f) (class_of b) b) bs (scan_next f (class_of b) b)
 
 byte-evidence : (k since b : ℕ) (bs : List ℕ) (f : Scan) (r : PathRefusal) (x : PathCause) (y : EvidenceData) → ScanValid f → ScanPlain f
     → scan_error f (class_of b) b ≡ Some x
@@ -196,7 +179,7 @@ byte-evidence k since b bs f r x apart v plain e h d =
 
 -- the end of a text
 abbrev AtEnd : ℕ → ℕ → Scan → Result Place PathRefusal
-AtEnd k since f = unless_broken_off k (last_between k since (is_scan_between f)) (scan_lexeme_error f) (scan_place f)
+AtEnd k since f = unless_broken_off k since (scan_lexeme_error f) (scan_place f)
 
 cut-evidence : (k since : ℕ) (f : Scan) (r : PathRefusal) (x : PathCause) → scan_cut_error f ≡ Some x → stepped k since [] f ≡ Err r
     → ShownCut f x (end_shows f)
@@ -204,11 +187,10 @@ cut-evidence : (k since : ℕ) (f : Scan) (r : PathRefusal) (x : PathCause) → 
 cut-evidence k since f r x e h s =
     (s.there, λ g v l o. hand-refused k (scan_cut_error f) (scan_cut_error g) (AtEnd k since f) (AtEnd k since g) x r e (s.refuses g l o) h)
 
-broken-off : (k a d : ℕ) (o p : Option Code) (x : Code) (q s : Place) (r : PathRefusal) → o ≡ Some x → p ≡ Some x → a ≡ d
-    → unless_broken_off k a o q ≡ Err r → unless_broken_off k d p s ≡ Err r
-broken-off k a d o p x q s r i j e h =
-    ap (λ (y : Option Code). unless_broken_off k d y s) j ∙ ap (λ (z : ℕ). unless_broken_off k z (Some x) s) (sym e)
-    ∙ sym (ap (λ (y : Option Code). unless_broken_off k a y q) i) ∙ h
+broken-off : (k a : ℕ) (o p : Option Code) (x : Code) (q s : Place) (r : PathRefusal) → o ≡ Some x → p ≡ Some x
+    → unless_broken_off k a o q ≡ Err r → unless_broken_off k a p s ≡ Err r
+broken-off k a o p x q s r i j h =
+    ap (λ (y : Option Code). unless_broken_off k a y s) j ∙ sym (ap (λ (y : Option Code). unless_broken_off k a y q) i) ∙ h
 
 lexeme-evidence : (k since : ℕ) (f : Scan) (r : PathRefusal) (x : Code) → scan_cut_error f ≡ None → scan_lexeme_error f ≡ Some x → AtEnd k since f ≡ Err r
     → ShownLexeme f x (end_shows f) → ShownBytes k since [] f r (one (end_shows f))
@@ -216,9 +198,7 @@ lexeme-evidence k since f r x n e h s = (
   s.there,
   λ g v l o. let m = s.refuses g l o in
       refused-later k (scan_cut_error g) (AtEnd k since g) r m.0
-      (broken-off k (last_between k since (is_scan_between f)) (last_between k since (is_scan_between g)) (scan_lexeme_error f) (scan_lexeme_error g) x
-      (scan_place f) (scan_place g) r
-      e m.1 (sym (ap (last_between k since) (same-between g f l))) h),
+      (broken-off k since (scan_lexeme_error f) (scan_lexeme_error g) x (scan_place f) (scan_place g) r e m.1 h),
 )
 
 next-stands : (s : LexState ValueState) (g f : Scan) (b : ℕ) (x : Member) → scan_error f (class_of b) b ≡ None
@@ -248,14 +228,14 @@ apart-earlier k since b bs f r true v plain n d a = kept-apart k b bs f r v n d 
 apart-earlier k since b bs f r false v plain n d a = earlier-two k b bs f r v plain n d a
 
 earlier : (k since b : ℕ) (bs : List ℕ) (f : Scan) (r : PathRefusal) (z : EvidenceData) → ScanValid f → ScanPlain f → scan_error f (class_of b) b ≡ None
-    → ShownBytes (k + 1) (last_between k since (is_scan_between f)) bs (scan_next f (class_of b) b) r z
+    → ShownBytes (k + 1) (last_percent k since (scan_reference f) (class_of b) b) bs (scan_next f (class_of b) b) r z
     → ShownBytes k since (b ∷ bs) f r (back_by f (class_of b) b z)
 earlier k since b bs f r (one x) v plain n d =
     (let o = from-byte f (class_of b) b x v n d.0 in (
       o.there,
       λ g w l p. let m = scan-grows g f (class_of b) b w l n in
           refused-later k (scan_error g (class_of b) b) (Rest k since b bs g) r m.0
-          (ap (λ (y : Bool). stepped (k + 1) (last_between k since y) bs (scan_next g (class_of b) b)) (same-between g f l)
+          (ap (λ (y : Reference). stepped (k + 1) (last_percent k since y (class_of b) b) bs (scan_next g (class_of b) b)) (below-reference g f l)
           ∙ d.1 (scan_next g (class_of b) b) (scan-valid g (class_of b) b w) m.1 (o.leads g w l p)),
     ))
 earlier k since b bs f r (two x y) v plain n d =
@@ -282,7 +262,7 @@ lexeme-cases : (k since : ℕ) (f : Scan) (r : PathRefusal) (o : Option Code) �
 lexeme-cases k since f r (Some x) n i e h = lexeme-evidence k since f r x i e h (evidence-lexeme f x n e)
 lexeme-cases k since f r None n i e h =
     absurd (err-ok (scan_place f) r (Ok (scan_place f)) refl
-    (sym (ap (λ (y : Option Code). unless_broken_off k (last_between k since (is_scan_between f)) y (scan_place f)) e) ∙ h))
+    (sym (ap (λ (y : Option Code). unless_broken_off k since y (scan_place f)) e) ∙ h))
 
 end-cases : (k since : ℕ) (f : Scan) (r : PathRefusal) (o : Option PathCause) → ScanPlain f → scan_cut_error f ≡ o → stepped k since [] f ≡ Err r
     → ShownBytes k since [] f r (one (end_shows f))
@@ -292,7 +272,7 @@ end-cases k since f r None n e h = lexeme-cases k since f r (scan_lexeme_error f
 byte-cases : (k since b : ℕ) (bs : List ℕ) (f : Scan) (r : PathRefusal) (z : EvidenceData) (o : Option PathCause) → scan_error f (class_of b) b ≡ o
     → ScanValid f → ScanPlain f
     → stepped k since (b ∷ bs) f ≡ Err r
-    → (scan_error f (class_of b) b ≡ None → ShownBytes (k + 1) (last_between k since (is_scan_between f)) bs (scan_next f (class_of b) b) r z)
+    → (scan_error f (class_of b) b ≡ None → ShownBytes (k + 1) (last_percent k since (scan_reference f) (class_of b) b) bs (scan_next f (class_of b) b) r z)
     → ShownBytes k since (b ∷ bs) f r (unless_shown o (byte_shows f (class_of b) b) (back_by f (class_of b) b z))
 byte-cases k since b bs f r z (Some x) e v n h more = byte-evidence k since b bs f r x (byte_shows f (class_of b) b) v n e h
     (evidence-byte f (class_of b) b x refl v n e)
@@ -303,8 +283,8 @@ evidence-bytes : (bytes : List ℕ) (k since : ℕ) (f : Scan) (r : PathRefusal)
 evidence-bytes [] k since f r v n h = end-cases k since f r (scan_cut_error f) n refl h
 evidence-bytes (b ∷ bs) k since f r v n h =
     byte-cases k since b bs f r (shows bs (scan_next f (class_of b) b)) (scan_error f (class_of b) b) refl v n h
-    (λ e. evidence-bytes bs (k + 1) (last_between k since (is_scan_between f)) (scan_next f (class_of b) b) r (scan-valid f (class_of b) b v)
-    (scan-plain f b v n)
+    (λ e. evidence-bytes bs (k + 1) (last_percent k since (scan_reference f) (class_of b) b) (scan_next f (class_of b) b) r (scan-valid f (class_of b) b v)
+    (scan-plain f b v e n)
     (later-refused k (scan_error f (class_of b) b) (Rest k since b bs f) r e h))
 
 -- the whole answer

@@ -13,6 +13,7 @@ use Rattle.place_core.specs.declared.parts.Parts.{Parts}
 use Rattle.place_core.proofs.Semilattices.{no_map}
 use Rattle.html_scan.specs.Scans.{parts_feeding}
 use Rattle.html_step.proofs.PlaceParts.{Under}
+use Rattle.html_step.proofs.OnePath.{some}
 use Rattle.url_lexer.specs.Classes.{url_class_of}
 use Rattle.url_lexer.specs.Refusals.{UrlRefusal}
 use Rattle.url_step.specs.PartSets.{PartsBelow, parts_error, parts_next}
@@ -21,9 +22,6 @@ use Rattle.url_step.proofs.ValidParts.{parts-stay-valid}
 
 no : false ≡ true → ⊥
 no e = cc
-
-some : {A : Type 0} (x : A) → Some x ≡ None → ⊥
-some x e = cc
 
 pub first-caused : (o p : Option PathCause) → first_cause o p ≡ None → (o ≡ None) × (p ≡ None)
 first-caused None p n = (refl, n)

@@ -19,6 +19,7 @@ use Rattle.place_core.specs.declared.value_place.ValuePlace.{ValuePlace}
 use Rattle.url_lexer.specs.Parts.{UrlPart}
 use Rattle.url_lexer.specs.Triples.{Triple, NoTriple, AfterPercent, AfterDigit}
 use Rattle.url_lexer.specs.Spots.{where_whole}
+use Rattle.html_step.proofs.ScanOrder.{one-url}
 
 abbrev NoUrl : Body → Type 0
 NoUrl (body.Url p) = ⊥
@@ -129,9 +130,6 @@ pub record AtPart (s : LexState ValueState) (r : Parts) : Type 0 where
   pub part : UrlPart
   pub is : url_part_at s ≡ Some part
   pub parts : r ≡ parts_of part
-
-one-url : (s t : Parts) → body.Url s ≡ body.Url t → s ≡ t
-one-url s t e = cc
 
 at-part-by : (s : LexState ValueState) (o : Option UrlPart) (v : ValuePlace) (r : Parts) → url_part_at s ≡ o → Fits o (place.Value v) → v.body ≡ body.Url r → AtPart s r
 at-part-by s (Some p) v r e h b = record { part = p; is = e; parts = one-url r (parts_of p) (sym b ∙ h) }

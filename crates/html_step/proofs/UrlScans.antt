@@ -1,5 +1,5 @@
 -- Scan states of URLs: their parts, and the reference that is open in them, where a byte leads.
-use Rattle.std.proofs.Common.{◌≡◌, ◌≤◌, ℕ, ◌+◌, suc, Bool, true, false, ◌⊎◌, inl, inr, List, [], ◌∷◌, ◌++◌, length, Option, Some, None, refl, sym, ap, ◌∙◌, subst, arith, length-append}
+use Rattle.std.proofs.Common.{◌≡◌, ◌≤◌, ℕ, ◌+◌, Bool, true, false, ◌⊎◌, inl, inr, List, [], ◌∷◌, ◌++◌, length, Option, Some, None, refl, sym, ap, ◌∙◌, subst, arith, length-append, ⊎_elim}
 use Rattle.place_core.specs.page.Classes.{Class, White, Ampersand, ExclamationMark, QuotationMark, Apostrophe, HyphenMinus, Solidus, LessThan, EqualsSign, GreaterThan, Letter, class_of}
 use Rattle.place_core.specs.page.Comments.{Declaration, OpensComment, OpensDoctype, Undecided, OpensNothing, closes_comment, declared_by, next_comment}
 use Rattle.place_core.specs.page.Contents.{is_name_of, may_be_name_of}
@@ -24,18 +24,18 @@ use Rattle.place_core.specs.declared.tag_of.TagOf.TheVariants as tag
 use Rattle.place_core.specs.declared.tag_place.TagPlace.{TagPlace}
 use Rattle.place_core.specs.declared.value_place.ValuePlace.{ValuePlace}
 use Rattle.place_core.proofs.Semilattices.{none_some, one_value}
-use Rattle.html_scan.specs.Scans.{Scan, At, AfterLess, AfterLessSolidus, InDeclaration, InTagName, InAttributeName, InUrl, InCommentEnd, InContentEnd, BeforeType, InType, after_type, attribute_name_next, bare_white, before_type_next, comment_closed, comment_next, comment_scan, comment_state, content_end_next, content_next, content_scan, declaration_next, end_name_next, ended_type, parts_feeding, pending_less_next, quoted_next, rest_place, scan_error, scan_next, tag_name_next, tag_next, triple_behind, type_begun, type_next, type_tag, url_scan, value_cause, value_fed, value_next, value_scan, with_parts, with_quotes}
-use Rattle.html_step.specs.Origins.{body_parts, fed_in, is_apart, scan_parts}
+use Rattle.html_scan.specs.Scans.{Scan, At, AfterLess, AfterLessSolidus, InDeclaration, InTagName, InAttributeName, InUrl, InCommentEnd, InContentEnd, BeforeType, InType, after_type, attribute_name_next, bare_white, before_type_next, comment_closed, comment_next, comment_scan, comment_state, content_end_next, content_next, content_scan, declaration_next, end_name_next, ended_type, parts_cause, parts_feeding, pending_less_next, quoted_next, rest_place, scan_error, scan_next, tag_name_next, tag_next, triple_behind, type_begun, type_next, type_tag, url_scan, value_cause, value_fed, value_next, value_scan, with_parts, with_quotes, scan_reference}
+use Rattle.html_step.proofs.OnePath.{none-at-hand, url-reference}
+use Rattle.html_step.specs.Origins.{body_parts, fed_in, scan_parts}
 use Rattle.html_step.proofs.Characters.{ReferencePlain, next-plain}
-use Rattle.html_step.proofs.ScanOrder.{BegunWhereOpen, ScanBelow, ScanValid, begun-open, parts-below}
+use Rattle.html_step.proofs.ScanOrder.{BegunWhereOpen, ScanBelow, ScanValid, begun-open, first-none, parts-below}
+use Rattle.html_step.proofs.UrlOrder.{first-caused}
+use Rattle.place_core.specs.place.ApartPlaces.{beginning_at, beginning_in_body}
+use Rattle.place_core.specs.place.Errors.{at_hand, body_error, quotes_error, value_error}
 use Rattle.html_step.proofs.PlaceParts.{below-value}
-use Rattle.place_core.specs.place.Places.{joined_bodies}
+use Rattle.place_core.specs.place.Places.{joined_bodies, joined_quotes}
 use Rattle.url_lexer.specs.Triples.{Triple, NoTriple, AfterPercent, AfterDigit}
-use Rattle.url_step.specs.PartSets.{PartsBelow}
-
-abbrev pub scan_reference : Scan → Reference
-scan_reference (InUrl v t r) = r
-scan_reference f = Closed
+use Rattle.url_step.specs.PartSets.{PartsBelow, spells_apart}
 
 -- the bytes that its URL is fed
 abbrev pub scan_fed : Scan → Class → ℕ → List ℕ
@@ -46,6 +46,21 @@ scan_fed f c b = []
 pub parts-body : (b : Body) (s : Parts) → body_parts b ≡ Some s → b ≡ body.Url s
 parts-body (body.Url t) s h = ap body.Url (one_value t s h)
 parts-body _ s h = absurd (none_some s h)
+
+-- what a scan state has of the beginning, as it stands
+abbrev pub raw_place : Scan → Place
+raw_place (At p) = p
+raw_place (InUrl v t r) = place.Value v
+raw_place f = place.Text
+
+pub raw-opened : (f : Scan) (s : Parts) → scan_parts f ≡ Some s → beginning_at (raw_place f) ≡ s.opened
+raw-opened (At (place.Value v)) s h = ap beginning_in_body (parts-body v.body s h)
+raw-opened (InUrl v t r) s h = ap beginning_in_body (parts-body v.body s h)
+raw-opened (At _) s h = absurd (none_some s h)
+raw-opened _ s h = absurd (none_some s h)
+
+abbrev pub has_met : Scan → Bool
+has_met f = spells_apart (beginning_at (raw_place f))
 
 -- A scan state of a URL, at a place or in a triple or a reference.
 pub record UrlAt (f : Scan) (s : Parts) : Type 0 where
@@ -90,12 +105,6 @@ url-parts v NoTriple Closed = refl
 url-parts v NoTriple (Open f bytes) = refl
 url-parts v AfterPercent r = refl
 url-parts v AfterDigit r = refl
-
-pub url-reference : (v : ValuePlace) (t : Triple) (r : Reference) → scan_reference (url_scan v t r) ≡ r
-url-reference v NoTriple Closed = refl
-url-reference v NoTriple (Open f bytes) = refl
-url-reference v AfterPercent r = refl
-url-reference v AfterDigit r = refl
 
 -- a scan state below one of a URL is one
 bodies-below : (b : Body) (s : Parts) → joined_bodies b (body.Url s) ≡ Some (body.Url s) → (t : Parts) × (body_parts b ≡ Some t) × PartsBelow t s
@@ -154,9 +163,34 @@ below-reference (InContentEnd x y) f l = ap scan_reference l
 below-reference (BeforeType x) f l = ap scan_reference l
 below-reference (InType x y z w) f l = ap scan_reference l
 
+-- the bytes that a scan state is fed are those that one below is fed
+quotes-fed : (p q : Quotes) (r : Reference) (c : Class) (b : ℕ) → joined_quotes p q ≡ Some q → fed_in p r c b ≡ fed_in q r c b
+quotes-fed quotes.Dq quotes.Dq r c b h = refl
+quotes-fed quotes.Sq quotes.Sq r c b h = refl
+quotes-fed (quotes.Bare x) (quotes.Bare y) r White b h = refl
+quotes-fed (quotes.Bare x) (quotes.Bare y) r QuotationMark b h = refl
+quotes-fed (quotes.Bare x) (quotes.Bare y) r Apostrophe b h = refl
+quotes-fed (quotes.Bare x) (quotes.Bare y) r _ b h = refl
+quotes-fed quotes.Dq quotes.Sq r c b h = absurd (none_some quotes.Sq h)
+quotes-fed quotes.Dq (quotes.Bare y) r c b h = absurd (none_some (quotes.Bare y) h)
+quotes-fed quotes.Sq quotes.Dq r c b h = absurd (none_some quotes.Dq h)
+quotes-fed quotes.Sq (quotes.Bare y) r c b h = absurd (none_some (quotes.Bare y) h)
+quotes-fed (quotes.Bare x) quotes.Dq r c b h = absurd (none_some quotes.Dq h)
+quotes-fed (quotes.Bare x) quotes.Sq r c b h = absurd (none_some quotes.Sq h)
+
+pub fed-same : (g f : Scan) (s : Parts) (c : Class) (b : ℕ) → ScanBelow g f → scan_parts f ≡ Some s → scan_fed g c b ≡ scan_fed f c b
+fed-same (At (place.Value u)) (At (place.Value v)) s c b l h = quotes-fed u.quotes v.quotes Closed c b (below-value u v l).quotes
+fed-same (InUrl u t r) (InUrl v y z) s c b l h = ap (λ (x : Reference). fed_in u.quotes x c b) l.2 ∙ quotes-fed u.quotes v.quotes z c b l.0.quotes
+fed-same (At x) (At (place.Value v)) s c b l h = absurd (none_some (place.Value v) l)
+fed-same (At x) (InUrl v y z) s c b l h = absurd l
+fed-same (InUrl u t r) (At x) s c b l h = absurd l
+fed-same g (At (place.Value v)) s c b l h = (let p = below-parts g (At (place.Value v)) s l h in absurd (none_some p.0 p.1))
+fed-same g (InUrl v y z) s c b l h = (let p = below-parts g (InUrl v y z) s l h in absurd (none_some p.0 p.1))
+fed-same g f s c b l h = absurd (none_some s h)
+
 -- Where a byte leads in a URL: out of it, or on, behind the bytes that it is fed.
 pub record Goes (v : ValuePlace) (r : Reference) (c : Class) (b : ℕ) (s : Parts) (f : Scan) : Type 0 where
-  pub parts : (scan_parts f ≡ None) ⊎ (scan_parts f ≡ Some (feed_bytes parts_feeding s (fed_in v.quotes r c b)))
+  pub parts : ((scan_parts f ≡ None) × (has_met f ≡ false)) ⊎ (scan_parts f ≡ Some (feed_bytes parts_feeding s (fed_in v.quotes r c b)))
   pub reference : (scan_reference f ≡ Closed) ⊎ (scan_reference f ≡ next_reference r c b)
 
 fed-on : (v : ValuePlace) (q : Quotes) (x : Body) (t : Triple) (r : Reference) (c : Class) (b : ℕ) (s : Parts) → x ≡ body.Url s
@@ -185,26 +219,29 @@ goes-kept v q p r c b s e d i = record {
   reference = inl refl;
 }
 
-goes-out : (v : ValuePlace) (r : Reference) (c : Class) (b : ℕ) (s : Parts) (f : Scan) → scan_parts f ≡ None → scan_reference f ≡ Closed → Goes v r c b s f
-goes-out v r c b s f h k = record { parts = inl h; reference = inl k }
+abbrev pub IsFresh : Scan → Type 0
+IsFresh f = (has_met f ≡ false) × (scan_reference f ≡ Closed)
 
-content-out : (t : TagOf) → (scan_parts (content_scan t) ≡ None) × (scan_reference (content_scan t) ≡ Closed)
-content-out tag.End = (refl, refl)
-content-out (tag.Start element.Title) = (refl, refl)
-content-out (tag.Start element.Textarea) = (refl, refl)
-content-out (tag.Start element.DataBlock) = (refl, refl)
-content-out (tag.Start _) = (refl, refl)
+goes-out : (v : ValuePlace) (r : Reference) (c : Class) (b : ℕ) (s : Parts) (f : Scan) → scan_parts f ≡ None → IsFresh f → Goes v r c b s f
+goes-out v r c b s f h k = record { parts = inl (h, k.0); reference = inl k.1 }
+
+content-out : (t : TagOf) → (scan_parts (content_scan t) ≡ None) × IsFresh (content_scan t)
+content-out tag.End = (refl, (refl, refl))
+content-out (tag.Start element.Title) = (refl, (refl, refl))
+content-out (tag.Start element.Textarea) = (refl, (refl, refl))
+content-out (tag.Start element.DataBlock) = (refl, (refl, refl))
+content-out (tag.Start _) = (refl, (refl, refl))
 
 goes-white : (v : ValuePlace) (uq : Bool) (p : Quotes) (r : Reference) (b : ℕ) (s : Parts) → v.body ≡ body.Url s → v.quotes ≡ p
     → fed_in p r White b ≡ [] → Goes v r White b s (bare_white v uq)
-goes-white v true p r b s e d i = goes-out v r White b s _ refl refl
+goes-white v true p r b s e d i = goes-out v r White b s _ refl (refl, refl)
 goes-white v false p r b s e d i = goes-kept v _ p r White b s e d i
 
 goes-quoted : (v : ValuePlace) (q : Quotes) (t : Triple) (r : Reference) (c : Class) (b : ℕ) (s : Parts) → v.body ≡ body.Url s → v.quotes ≡ q
     → Goes v r c b s (quoted_next v q t r c b)
-goes-quoted v quotes.Dq t r QuotationMark b s e d = goes-out v r QuotationMark b s _ refl refl
+goes-quoted v quotes.Dq t r QuotationMark b s e d = goes-out v r QuotationMark b s _ refl (refl, refl)
 goes-quoted v quotes.Dq t r c b s e d = goes-on v quotes.Dq quotes.Dq t r c b s e d refl
-goes-quoted v quotes.Sq t r Apostrophe b s e d = goes-out v r Apostrophe b s _ refl refl
+goes-quoted v quotes.Sq t r Apostrophe b s e d = goes-out v r Apostrophe b s _ refl (refl, refl)
 goes-quoted v quotes.Sq t r c b s e d = goes-on v quotes.Sq quotes.Sq t r c b s e d refl
 goes-quoted v (quotes.Bare x) t r White b s e d = goes-white v x.uq (quotes.Bare x) r b s e d refl
 goes-quoted v (quotes.Bare x) t r QuotationMark b s e d = goes-kept v quotes.Dq (quotes.Bare x) r QuotationMark b s e d refl
@@ -217,12 +254,27 @@ pub goes : (f : Scan) (s : Parts) (u : UrlAt f s) (c : Class) (b : ℕ) → Goes
 goes f s u c b =
     subst (Goes u.value u.reference c b s) (sym (u.next c b)) (goes-quoted u.value u.value.quotes u.triple u.reference c b s u.body refl)
 
--- Elsewhere no byte leads to a URL in which paths have spelled different things, nor into a reference.
-abbrev pub IsFresh : Scan → Type 0
-IsFresh f = (is_apart (scan_parts f) ≡ false) × (scan_reference f ≡ Closed)
+pub record NextUrl (f : Scan) (s : Parts) (c : Class) (b : ℕ) : Type 0 where
+  pub parts : ((scan_parts (scan_next f c b) ≡ None) × (has_met (scan_next f c b) ≡ false)) ⊎ (scan_parts (scan_next f c b) ≡ Some (feed_bytes parts_feeding s (scan_fed f c b)))
+  pub reference : (scan_reference (scan_next f c b) ≡ Closed) ⊎ (scan_reference (scan_next f c b) ≡ next_reference (scan_reference f) c b)
 
+pub next-url : (f : Scan) (s : Parts) (c : Class) (b : ℕ) → ScanValid f → scan_parts f ≡ Some s → NextUrl f s c b
+next-url f s c b w h =
+    let u = url-at f s w h in
+    let n = goes f s u c b in
+    let g = scan_next f c b in
+    record {
+      parts = subst (λ (x : List ℕ). ((scan_parts g ≡ None) × (has_met g ≡ false)) ⊎ (scan_parts g ≡ Some (feed_bytes parts_feeding s x))) (u.fed c b) n.parts;
+      reference = subst (λ (r : Reference). (scan_reference g ≡ Closed) ⊎ (scan_reference g ≡ next_reference r c b)) (sym u.holds) n.reference;
+    }
+
+pub goes-parts : (f : Scan) (s y : Parts) (c : Class) (b : ℕ) → ScanValid f → scan_parts f ≡ Some s → scan_parts (scan_next f c b) ≡ Some y
+    → scan_parts (scan_next f c b) ≡ Some (feed_bytes parts_feeding s (scan_fed f c b))
+goes-parts f s y c b w h k = ⊎_elim (λ n. absurd (none_some y (sym n.0 ∙ k))) (λ e. e) (next-url f s c b w h).parts
+
+-- Elsewhere no byte that is accepted leads to where paths have spelled different things, nor into a reference.
 content-fresh : (t : TagOf) → IsFresh (content_scan t)
-content-fresh t = (let o = content-out t in (ap is_apart o.0, o.1))
+content-fresh t = (content-out t).1
 
 begins-fresh : (t : TagOf) (typed : Bool) (k : Kind) → IsFresh (value_scan t typed (Some k))
 begins-fresh t typed kind.Plain = (refl, refl)
@@ -242,25 +294,38 @@ tag-fresh t GreaterThan b = content-fresh t.tag
 tag-fresh t EqualsSign b = equals-fresh t.tag t.typed t.kind
 tag-fresh t _ b = (refl, refl)
 
-fed-fresh : (v : ValuePlace) (q : Quotes) (x : Body) (t : Triple) (r : Reference) (c : Class) (b : ℕ) → body_parts v.body ≡ None → body_parts x ≡ None
+fed-fresh : (v : ValuePlace) (q : Quotes) (x : Body) (t : Triple) (r : Reference) (c : Class) (b : ℕ) → IsFresh (At (place.Value v)) → body_parts x ≡ None
     → IsFresh (value_fed v q x t r c b)
 fed-fresh v q (body.Url s) t r c b h k = absurd (none_some s (sym k))
-fed-fresh v q _ t r c b h k = (ap is_apart h, refl)
+fed-fresh v q _ t r c b h k = h
 
-white-fresh : (v : ValuePlace) (uq : Bool) → body_parts v.body ≡ None → IsFresh (bare_white v uq)
+white-fresh : (v : ValuePlace) (uq : Bool) → IsFresh (At (place.Value v)) → IsFresh (bare_white v uq)
 white-fresh v true h = (refl, refl)
-white-fresh v false h = (ap is_apart h, refl)
+white-fresh v false h = h
 
-quotes-fresh : (v : ValuePlace) (q : Quotes) (t : Triple) (r : Reference) (c : Class) (b : ℕ) → body_parts v.body ≡ None → IsFresh (quoted_next v q t r c b)
-quotes-fresh v quotes.Dq t r QuotationMark b h = (refl, refl)
-quotes-fresh v quotes.Dq t r c b h = fed-fresh v quotes.Dq v.body t r c b h h
-quotes-fresh v quotes.Sq t r Apostrophe b h = (refl, refl)
-quotes-fresh v quotes.Sq t r c b h = fed-fresh v quotes.Sq v.body t r c b h h
-quotes-fresh v (quotes.Bare s) t r White b h = white-fresh v s.uq h
-quotes-fresh v (quotes.Bare s) t r QuotationMark b h = (ap is_apart h, refl)
-quotes-fresh v (quotes.Bare s) t r Apostrophe b h = (ap is_apart h, refl)
-quotes-fresh v (quotes.Bare s) t r GreaterThan b h = content-fresh v.tag
-quotes-fresh v (quotes.Bare s) t r c b h = fed-fresh v _ v.body t r c b h h
+quotes-fresh : (v : ValuePlace) (q : Quotes) (t : Triple) (r : Reference) (c : Class) (b : ℕ) → IsFresh (At (place.Value v)) → body_parts v.body ≡ None
+    → IsFresh (quoted_next v q t r c b)
+quotes-fresh v quotes.Dq t r QuotationMark b h k = (refl, refl)
+quotes-fresh v quotes.Dq t r c b h k = fed-fresh v quotes.Dq v.body t r c b h k
+quotes-fresh v quotes.Sq t r Apostrophe b h k = (refl, refl)
+quotes-fresh v quotes.Sq t r c b h k = fed-fresh v quotes.Sq v.body t r c b h k
+quotes-fresh v (quotes.Bare s) t r White b h k = white-fresh v s.uq h
+quotes-fresh v (quotes.Bare s) t r QuotationMark b h k = h
+quotes-fresh v (quotes.Bare s) t r Apostrophe b h k = h
+quotes-fresh v (quotes.Bare s) t r GreaterThan b h k = content-fresh v.tag
+quotes-fresh v (quotes.Bare s) t r c b h k = fed-fresh v _ v.body t r c b h k
+
+body-fresh : (b : Body) → body_parts b ≡ None → body_error b ≡ None → spells_apart (beginning_in_body b) ≡ false
+body-fresh (body.Url s) k n = absurd (none_some s (sym k))
+body-fresh (body.Css c) k n = absurd (none_some _ (sym n))
+body-fresh _ k n = refl
+
+value-fresh : (v : ValuePlace) (t : Triple) (r : Reference) (c : Class) (b : ℕ) → body_parts v.body ≡ None → value_cause v r c b ≡ None
+    → IsFresh (quoted_next v v.quotes t r c b)
+value-fresh v t r c b k n =
+    let m = first-caused (parts_cause v.body v.quotes r c b) (at_hand (value_error v c)) n in
+    let e = (first-none (body_error v.body) (quotes_error v.tag v.quotes c) (none-at-hand (value_error v c) m.1)).0 in
+    quotes-fresh v v.quotes t r c b (body-fresh v.body k e, refl) k
 
 closed-fresh : (closed : Bool) → IsFresh (comment_closed closed)
 closed-fresh true = (refl, refl)
@@ -294,17 +359,17 @@ text-fresh : (c : Class) (b : ℕ) → IsFresh (scan_next (At place.Text) c b)
 text-fresh LessThan b = (refl, refl)
 text-fresh _ b = (refl, refl)
 
-place-next-fresh : (p : Place) (c : Class) (b : ℕ) → scan_parts (At p) ≡ None → IsFresh (scan_next (At p) c b)
-place-next-fresh place.Text c b h = text-fresh c b
-place-next-fresh place.Doctype GreaterThan b h = (refl, refl)
-place-next-fresh place.Doctype _ b h = (refl, refl)
-place-next-fresh (place.Comment dash) c b h = comment-fresh (comment_state dash) c
-place-next-fresh (place.Rcdata e) c b h = loose-fresh c e
-place-next-fresh (place.Tag t) c b h = tag-fresh t c b
-place-next-fresh (place.Value x) c b h = quotes-fresh x x.quotes NoTriple Closed c b h
-place-next-fresh (place.Script j) c b h = (refl, refl)
-place-next-fresh (place.Style j) c b h = (refl, refl)
-place-next-fresh (place.Block lt) c b h = loose-fresh c element.DataBlock
+place-next-fresh : (p : Place) (c : Class) (b : ℕ) → scan_parts (At p) ≡ None → scan_error (At p) c b ≡ None → IsFresh (scan_next (At p) c b)
+place-next-fresh place.Text c b h n = text-fresh c b
+place-next-fresh place.Doctype GreaterThan b h n = (refl, refl)
+place-next-fresh place.Doctype _ b h n = (refl, refl)
+place-next-fresh (place.Comment dash) c b h n = comment-fresh (comment_state dash) c
+place-next-fresh (place.Rcdata e) c b h n = loose-fresh c e
+place-next-fresh (place.Tag t) c b h n = tag-fresh t c b
+place-next-fresh (place.Value x) c b h n = value-fresh x NoTriple Closed c b h n
+place-next-fresh (place.Script j) c b h n = (refl, refl)
+place-next-fresh (place.Style j) c b h n = absurd (none_some _ (sym n))
+place-next-fresh (place.Block lt) c b h n = loose-fresh c element.DataBlock
 
 less-fresh : (c : Class) (b : ℕ) → IsFresh (scan_next AfterLess c b)
 less-fresh (Letter l) b = (refl, refl)
@@ -383,36 +448,34 @@ type-fresh : (ends : Bool) (c : Class) (b : ℕ) (t : TagOf) (q : Quoting) (v : 
 type-fresh true c b t q v r = after-type-fresh q c (type_tag t (ended_type v r))
 type-fresh false c b t q v r = (refl, refl)
 
-pub scan-fresh : (f : Scan) (c : Class) (b : ℕ) → scan_parts f ≡ None → IsFresh (scan_next f c b)
-scan-fresh (At p) c b h = place-next-fresh p c b h
-scan-fresh AfterLess c b h = less-fresh c b
-scan-fresh AfterLessSolidus c b h = solidus-fresh c b
-scan-fresh (InDeclaration pending) c b h = declaration-fresh (declared_by (pending ++ b ∷ [])) c b pending
-scan-fresh (InTagName ends name) c b h = tag-name-fresh c b ends name
-scan-fresh (InAttributeName t typed name) c b h = attribute-fresh c b t typed (kind_of (element_on t) name) name
-scan-fresh (InUrl v t r) c b h = quotes-fresh v v.quotes t r c b h
-scan-fresh (InCommentEnd s) c b h = comment-fresh s c
-scan-fresh (InContentEnd e x) c b h = content-end-fresh x c b e
-scan-fresh (BeforeType t) c b h = before-type-fresh c b t
-scan-fresh (InType t q v r) c b h = type-fresh (ends_value q c) c b t q v r
+pub scan-fresh : (f : Scan) (c : Class) (b : ℕ) → scan_parts f ≡ None → scan_error f c b ≡ None → IsFresh (scan_next f c b)
+scan-fresh (At p) c b h n = place-next-fresh p c b h n
+scan-fresh AfterLess c b h n = less-fresh c b
+scan-fresh AfterLessSolidus c b h n = solidus-fresh c b
+scan-fresh (InDeclaration pending) c b h n = declaration-fresh (declared_by (pending ++ b ∷ [])) c b pending
+scan-fresh (InTagName ends name) c b h n = tag-name-fresh c b ends name
+scan-fresh (InAttributeName t typed name) c b h n = attribute-fresh c b t typed (kind_of (element_on t) name) name
+scan-fresh (InUrl v t r) c b h n = value-fresh v t r c b h n
+scan-fresh (InCommentEnd s) c b h n = comment-fresh s c
+scan-fresh (InContentEnd e x) c b h n = content-end-fresh x c b e
+scan-fresh (BeforeType t) c b h n = before-type-fresh c b t
+scan-fresh (InType t q v r) c b h n = type-fresh (ends_value q c) c b t q v r
 
 -- No reference that is open has a `:` in it.
 abbrev pub ScanPlain : Scan → Type 0
 ScanPlain f = ReferencePlain (scan_reference f)
 
-plain-by : (f g : Scan) (b : ℕ) (r : Reference) → scan_reference f ≡ r → (scan_reference g ≡ Closed) ⊎ (scan_reference g ≡ next_reference r (class_of b) b)
-    → ScanPlain f → ScanPlain g
-plain-by f g b r i (inl h) n = subst ReferencePlain (sym h) tt
-plain-by f g b r i (inr h) n = subst ReferencePlain (sym h) (next-plain r b (subst ReferencePlain i n))
+plain-by : (g : Scan) (b : ℕ) (r : Reference) → (scan_reference g ≡ Closed) ⊎ (scan_reference g ≡ next_reference r (class_of b) b) → ReferencePlain r → ScanPlain g
+plain-by g b r (inl h) n = subst ReferencePlain (sym h) tt
+plain-by g b r (inr h) n = subst ReferencePlain (sym h) (next-plain r b n)
 
-plain-cases : (f : Scan) (b : ℕ) (o : Option Parts) → scan_parts f ≡ o → ScanValid f → ScanPlain f → ScanPlain (scan_next f (class_of b) b)
-plain-cases f b None h v n = subst ReferencePlain (sym (scan-fresh f (class_of b) b h).1) tt
-plain-cases f b (Some s) h v n =
-    let u = url-at f s v h in
-    plain-by f (scan_next f (class_of b) b) b u.reference u.holds (goes f s u (class_of b) b).reference n
+plain-cases : (f : Scan) (b : ℕ) (o : Option Parts) → scan_parts f ≡ o → ScanValid f → scan_error f (class_of b) b ≡ None → ScanPlain f
+    → ScanPlain (scan_next f (class_of b) b)
+plain-cases f b None h v m n = subst ReferencePlain (sym (scan-fresh f (class_of b) b h m).1) tt
+plain-cases f b (Some s) h v m n = plain-by (scan_next f (class_of b) b) b (scan_reference f) (next-url f s (class_of b) b v h).reference n
 
-pub scan-plain : (f : Scan) (b : ℕ) → ScanValid f → ScanPlain f → ScanPlain (scan_next f (class_of b) b)
-scan-plain f b v n = plain-cases f b (scan_parts f) refl v n
+pub scan-plain : (f : Scan) (b : ℕ) → ScanValid f → scan_error f (class_of b) b ≡ None → ScanPlain f → ScanPlain (scan_next f (class_of b) b)
+scan-plain f b v m n = plain-cases f b (scan_parts f) refl v m n
 
 -- How many bytes back the reference that is open begins.
 abbrev pub reference_length : Reference → ℕ
@@ -433,15 +496,11 @@ pub next-length : (r : Reference) (c : Class) (b : ℕ) → reference_length (ne
 next-length Closed c b = begun-length c
 next-length (Open f bytes) c b = turned-length (turn c f) f bytes c b
 
-length-by : (f g : Scan) (c : Class) (b : ℕ) (r : Reference) → scan_reference f ≡ r → (scan_reference g ≡ Closed) ⊎ (scan_reference g ≡ next_reference r c b)
-    → reference_length (scan_reference g) ≤ reference_length (scan_reference f) + 1
-length-by f g c b r i (inl h) = let e = ap reference_length h in omega (arith, e)
-length-by f g c b r i (inr h) =
-    let e = ap reference_length h in
-    let d = ap reference_length i in
-    let l = next-length r c b in
-    omega (arith, e, d, l)
+length-by : (g : Scan) (c : Class) (b : ℕ) (r : Reference) → (scan_reference g ≡ Closed) ⊎ (scan_reference g ≡ next_reference r c b)
+    → reference_length (scan_reference g) ≤ reference_length r + 1
+length-by g c b r (inl h) = let e = ap reference_length h in omega (arith, e)
+length-by g c b r (inr h) = let e = ap reference_length h in let l = next-length r c b in omega (arith, e, l)
 
-pub scan-length : (f : Scan) (s : Parts) (u : UrlAt f s) (c : Class) (b : ℕ)
+pub scan-length : (f : Scan) (s : Parts) (c : Class) (b : ℕ) → ScanValid f → scan_parts f ≡ Some s
     → reference_length (scan_reference (scan_next f c b)) ≤ reference_length (scan_reference f) + 1
-scan-length f s u c b = length-by f (scan_next f c b) c b u.reference u.holds (goes f s u c b).reference
+scan-length f s c b w h = length-by (scan_next f c b) c b (scan_reference f) (next-url f s c b w h).reference

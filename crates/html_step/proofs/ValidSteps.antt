@@ -3,7 +3,6 @@ use Rattle.std.proofs.Common.{◌≡◌, ℕ, Bool, true, false, ◌||◌, List,
 use Rattle.place_core.specs.page.Classes.{Class, White, QuotationMark, Apostrophe, Solidus, LessThan, EqualsSign, GreaterThan, Letter, ExclamationMark, HyphenMinus}
 use Rattle.place_core.specs.page.Comments.{Declaration, OpensComment, OpensDoctype, Undecided, OpensNothing, closes_comment, declared_by, next_comment}
 use Rattle.place_core.specs.page.Contents.{is_name_of, may_be_name_of}
-use Rattle.place_core.specs.place.LanguagePlaces.{IsValidParts}
 use Rattle.place_core.specs.place.Places.{IsValid, IsValidBody, IsValidTag, is_rcdata}
 use Rattle.place_core.specs.page.States.{CommentState, Inside, Broken, Pending, Nothing, PendingLess, PendingName, PendingBang, PendingBangDash, LessAtCut}
 use Rattle.place_core.specs.page.Tags.{tag_of_name, element_on, feed_bytes, Quoting, DoubleQuoted, SingleQuoted, Unquoted, Value, ValueState}
@@ -27,7 +26,6 @@ use Rattle.place_core.specs.page.Html.{ends_value}
 use Rattle.place_core.specs.page.References.{Reference, Closed, Open, as_it_stands, next_reference, undone_byte}
 use Rattle.place_core.specs.declared.body.Body.{Body}
 use Rattle.place_core.specs.declared.body.Body.TheVariants as body
-use Rattle.place_core.specs.declared.parts.Parts.{Parts}
 use Rattle.url_lexer.specs.Triples.{Triple, NoTriple, AfterPercent, AfterDigit}
 
 some-white : (n b i a : Bool) → (n || (b || (i || a))) ≡ true → ((n || b) || (i || a)) ≡ true
@@ -65,17 +63,25 @@ white-valid : (v : ValuePlace) (uq : Bool) → IsValidBody v.body → ScanValid 
 white-valid v true h = (refl, refl)
 white-valid v false h = (refl, h)
 
-url-valid : (v : ValuePlace) (q : Quotes) (s : Parts) (t : Triple) (r : Reference) → HasBegun q → IsValidParts s → ScanValid (url_scan (with_parts v q s) t r)
-url-valid v q s NoTriple Closed b h = (begun-valid q b, h)
-url-valid v q s NoTriple (Open f bytes) b h = (b, h)
-url-valid v q s AfterPercent r b h = (b, h)
-url-valid v q s AfterDigit r b h = (b, h)
+pub within-valid : (b : Body) → UrlWithin b → IsValidBody b
+within-valid (body.Url s) w = w
+within-valid _ w = absurd w
+
+pub with-within : (b : Body) (bytes : List ℕ) → UrlWithin b → UrlWithin (parts_with b bytes)
+with-within (body.Url s) bytes w = fed-valid bytes s w
+with-within _ bytes w = absurd w
+
+pub url-valid : (v : ValuePlace) (t : Triple) (r : Reference) → HasBegun v.quotes → UrlWithin v.body → ScanValid (url_scan v t r)
+url-valid v NoTriple Closed g w = (begun-valid v.quotes g, within-valid v.body w)
+url-valid v NoTriple (Open f bytes) g w = (g, w)
+url-valid v AfterPercent r g w = (g, w)
+url-valid v AfterDigit r g w = (g, w)
 
 fed-value-valid : (v : ValuePlace) (q : Quotes) (x : Body) (t : Triple) (r : Reference) (c : Class) (b : ℕ) → HasBegun q → IsValidBody v.body → IsValidBody x
     → ScanValid (value_fed v q x t r c b)
 fed-value-valid v q (body.Url s) t r c b g h k =
     let bytes = undone_byte true r c b in
-    url-valid v q (feed_bytes parts_feeding s bytes) (triple_behind t bytes) (next_reference r c b) g (fed-valid bytes s k)
+    url-valid (with_parts v q (feed_bytes parts_feeding s bytes)) (triple_behind t bytes) (next_reference r c b) g (fed-valid bytes s k)
 fed-value-valid v q _ t r c b g h k = (begun-valid q g, h)
 
 quotes-valid : (v : ValuePlace) (q : Quotes) (t : Triple) (r : Reference) (c : Class) (b : ℕ) → IsValidBody v.body → ScanValid (quoted_next v q t r c b)
@@ -200,10 +206,6 @@ type-valid : (ends : Bool) (t : TagOf) (q : Quoting) (w : Value ValueState) (r :
 type-valid true t q w r c b = after-type-valid q c (type_tag t (ended_type w r))
 type-valid false t q w r c b = tt
 
-url-body : (b : Body) → UrlWithin b → IsValidBody b
-url-body (body.Url s) v = v
-url-body _ v = absurd v
-
 pub scan-valid : (f : Scan) (c : Class) (b : ℕ) → ScanValid f → ScanValid (scan_next f c b)
 scan-valid (At p) c b v = place-valid p c b v
 scan-valid AfterLess Solidus b v = tt
@@ -212,7 +214,7 @@ scan-valid AfterLess _ b v = tt
 scan-valid AfterLessSolidus LessThan b v = tt
 scan-valid AfterLessSolidus _ b v = tt
 scan-valid (InDeclaration pending) c b v = declaration-valid (declared_by (pending ++ b ∷ [])) c b pending
-scan-valid (InUrl x t r) c b v = quotes-valid x x.quotes t r c b (url-body x.body v.1)
+scan-valid (InUrl x t r) c b v = quotes-valid x x.quotes t r c b (within-valid x.body v.1)
 scan-valid (InTagName ends name) c b v = name-valid c b ends name
 scan-valid (InAttributeName t typed name) c b v = attribute-valid c b t typed (kind_of (element_on t) name) name
 scan-valid (InCommentEnd s) c b v = comment-valid s c
@@ -221,10 +223,6 @@ scan-valid (BeforeType t) c b v = before-type-valid t c b
 scan-valid (InType t q w r) c b v = type-valid (ends_value q c) t q w r c b
 
 -- and so is the place at which a text ends
-url-end : (b : Body) (bytes : List ℕ) → UrlWithin b → IsValidBody (parts_with b bytes)
-url-end (body.Url s) bytes v = fed-valid bytes s v
-url-end _ bytes v = absurd v
-
 content-end-place-valid : (e : Element) (h : Pending) → IsValid (rest_place e) → IsValid (content_end_place e h)
 content-end-place-valid element.DataBlock PendingLess v = tt
 content-end-place-valid element.DataBlock _ v = v
@@ -236,7 +234,7 @@ content-end-place-valid element.Other h v = v
 
 pub end-valid : (f : Scan) → ScanValid f → IsValid (scan_place f)
 end-valid (At p) v = v
-end-valid (InUrl x t r) v = (begun-valid x.quotes v.0, url-end x.body (as_it_stands r) v.1)
+end-valid (InUrl x t r) v = (begun-valid x.quotes v.0, within-valid (parts_with x.body (as_it_stands r)) (with-within x.body (as_it_stands r) v.1))
 end-valid AfterLess v = tt
 end-valid AfterLessSolidus v = tt
 end-valid (InDeclaration pending) v = tt

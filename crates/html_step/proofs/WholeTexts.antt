@@ -1,12 +1,13 @@
 -- Whole texts, byte by byte from scan states: they keep the order of places, and what is valid.
 use Rattle.std.proofs.Common.{◌≡◌, ℕ, ◌+◌, List, [], ◌∷◌, Option, Some, None, Result, Ok, Err, refl, sym, ap, ◌∙◌, subst}
 use Rattle.place_core.specs.page.Classes.{class_of}
-use Rattle.place_core.specs.place.Errors.{PathCause, PathRefusal, last_between}
+use Rattle.place_core.specs.place.Errors.{PathCause, PathRefusal}
+use Rattle.place_core.specs.place.LastPercent.{last_percent}
 use Rattle.place_core.specs.place.Places.{Below, IsValid}
 use Rattle.place_core.specs.declared.code.Code.{Code}
 use Rattle.place_core.specs.declared.place.Place.{Place}
 use Rattle.place_core.specs.declared.step_err.StepErr.{StepErr}
-use Rattle.html_scan.specs.Scans.{Scan, At, is_scan_between, scan_cut_error, scan_error, scan_lexeme_error, scan_next, scan_place}
+use Rattle.html_scan.specs.Scans.{Scan, At, scan_reference, scan_cut_error, scan_error, scan_lexeme_error, scan_next, scan_place}
 use Rattle.html_step.specs.Laws.{CoversText, GrowsText, ValidText}
 use Rattle.html_step.specs.Steps.{after_text, stepped, unless_broken_off, unless_refused, with_place_before}
 use Rattle.html_step.proofs.ScanOrder.{ScanBelow, ScanValid, end-grows, scan-grows}
@@ -51,9 +52,9 @@ steps-text bytes p q e = ap (with_place_before bytes p) e
 
 -- what an accepted text refuses nowhere: the byte at hand, or its end
 pub step-ok : (k since b : ℕ) (bs : List ℕ) (f : Scan) (q : Place) → stepped k since (b ∷ bs) f ≡ Ok q
-    → (scan_error f (class_of b) b ≡ None) × (stepped (k + 1) (last_between k since (is_scan_between f)) bs (scan_next f (class_of b) b) ≡ Ok q)
+    → (scan_error f (class_of b) b ≡ None) × (stepped (k + 1) (last_percent k since (scan_reference f) (class_of b) b) bs (scan_next f (class_of b) b) ≡ Ok q)
 step-ok k since b bs f q e =
-    not-refused k (scan_error f (class_of b) b) (stepped (k + 1) (last_between k since (is_scan_between f)) bs (scan_next f (class_of b) b)) q e
+    not-refused k (scan_error f (class_of b) b) (stepped (k + 1) (last_percent k since (scan_reference f) (class_of b) b) bs (scan_next f (class_of b) b)) q e
 
 pub record EndOk (f : Scan) (q : Place) : Type 0 where
   pub cut : scan_cut_error f ≡ None
@@ -62,23 +63,21 @@ pub record EndOk (f : Scan) (q : Place) : Type 0 where
 
 pub end-ok : (k since : ℕ) (f : Scan) (q : Place) → stepped k since [] f ≡ Ok q → EndOk f q
 end-ok k since f q e =
-    let last = last_between k since (is_scan_between f) in
-    let n = not-refused k (scan_cut_error f) (unless_broken_off k last (scan_lexeme_error f) (scan_place f)) q e in
-    let m = not-broken-off k last (scan_lexeme_error f) (scan_place f) q n.1 in
+    let n = not-refused k (scan_cut_error f) (unless_broken_off k since (scan_lexeme_error f) (scan_place f)) q e in
+    let m = not-broken-off k since (scan_lexeme_error f) (scan_place f) q n.1 in
     record { cut = n.0; lexeme = m.0; place = m.1 }
 
 -- what is accepted is so wherever the text stands
 pub accepts-anywhere : (bytes : List ℕ) (k since j begun : ℕ) (f : Scan) (q : Place) → stepped k since bytes f ≡ Ok q → stepped j begun bytes f ≡ Ok q
 accepts-anywhere [] k since j begun f q e =
     let n = end-ok k since f q e in
-    let last = last_between j begun (is_scan_between f) in
-    refused-not j (scan_cut_error f) (unless_broken_off j last (scan_lexeme_error f) (scan_place f)) q n.cut
-    (ap (λ (o : Option Code). unless_broken_off j last o (scan_place f)) n.lexeme ∙ ap Ok n.place)
+    refused-not j (scan_cut_error f) (unless_broken_off j begun (scan_lexeme_error f) (scan_place f)) q n.cut
+    (ap (λ (o : Option Code). unless_broken_off j begun o (scan_place f)) n.lexeme ∙ ap Ok n.place)
 accepts-anywhere (b ∷ bs) k since j begun f q e =
     let n = step-ok k since b bs f q e in
-    let last = last_between j begun (is_scan_between f) in
+    let last = last_percent j begun (scan_reference f) (class_of b) b in
     refused-not j (scan_error f (class_of b) b) (stepped (j + 1) last bs (scan_next f (class_of b) b)) q n.0
-    (accepts-anywhere bs (k + 1) (last_between k since (is_scan_between f)) (j + 1) last (scan_next f (class_of b) b) q n.1)
+    (accepts-anywhere bs (k + 1) (last_percent k since (scan_reference f) (class_of b) b) (j + 1) last (scan_next f (class_of b) b) q n.1)
 
 -- the order, wherever the texts stand
 abbrev pub GrowsFrom : ℕ → ℕ → List ℕ → Scan → Place → Type 0
@@ -88,18 +87,17 @@ pub grows-from : (bytes : List ℕ) (k since begun : ℕ) (f g : Scan) (q : Plac
     → GrowsFrom k since bytes f q
 grows-from [] k since begun f g q v h e =
     let n = end-ok k begun g q e in
-    let m = end-grows f g h n.cut n.lexeme in
-    let last = last_between k since (is_scan_between f) in (
+    let m = end-grows f g h n.cut n.lexeme in (
       scan_place f,
-      refused-not k (scan_cut_error f) (unless_broken_off k last (scan_lexeme_error f) (scan_place f)) (scan_place f) m.0
-          (ap (λ (o : Option Code). unless_broken_off k last o (scan_place f)) m.1),
+      refused-not k (scan_cut_error f) (unless_broken_off k since (scan_lexeme_error f) (scan_place f)) (scan_place f) m.0
+          (ap (λ (o : Option Code). unless_broken_off k since o (scan_place f)) m.1),
       subst (Below (scan_place f)) n.place m.2,
     )
 grows-from (b ∷ bs) k since begun f g q v h e =
     let n = step-ok k begun b bs g q e in
     let m = scan-grows f g (class_of b) b v h n.0 in
-    let last = last_between k since (is_scan_between f) in
-    let other = last_between k begun (is_scan_between g) in
+    let last = last_percent k since (scan_reference f) (class_of b) b in
+    let other = last_percent k begun (scan_reference g) (class_of b) b in
     let r = grows-from bs (k + 1) last other (scan_next f (class_of b) b) (scan_next g (class_of b) b) q (scan-valid f (class_of b) b v) m.1 n.1 in
     (r.0, refused-not k (scan_error f (class_of b) b) (stepped (k + 1) last bs (scan_next f (class_of b) b)) r.0 m.0 r.1, r.2)
 
@@ -113,7 +111,7 @@ valid-from : (bytes : List ℕ) (k since : ℕ) (f : Scan) (q : Place) → ScanV
 valid-from [] k since f q v e = (let n = end-ok k since f q e in subst IsValid n.place (end-valid f v))
 valid-from (b ∷ bs) k since f q v e =
     let n = step-ok k since b bs f q e in
-    valid-from bs (k + 1) (last_between k since (is_scan_between f)) (scan_next f (class_of b) b) q (scan-valid f (class_of b) b v) n.1
+    valid-from bs (k + 1) (last_percent k since (scan_reference f) (class_of b) b) (scan_next f (class_of b) b) q (scan-valid f (class_of b) b v) n.1
 
 pub valid-text : ValidText
 valid-text bytes p q v e = valid-from bytes 0 0 (At p) q v (text-steps bytes p q e)

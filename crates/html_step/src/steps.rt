@@ -1,13 +1,12 @@
 ghost use Rattle.std.specs.Prelude.{◌≡◌, ◌<◌, ◌≤◌, ◌-◌, ◌^◌, ℕ, List, IfErr, length};
-ghost use Rattle.place_core.specs.place.Errors as errors;
 ghost use Rattle.html_scan.specs.ScanViews.{scan_at, pending_from};
-ghost use Rattle.html_scan.specs.Scans.{At, is_scan_between, scan_lexeme_error, scan_place};
+ghost use Rattle.html_scan.specs.Scans.{At, scan_lexeme_error, scan_place};
 ghost use Rattle.html_step.specs.StepViews.{stepped_at};
 ghost use Rattle.html_step.specs.Steps as spec;
 
 use crate::refusal::Refusal;
 use html_scan::{
-    Cause, Scan, at_byte, at_end, class_of, end_place, is_between, is_shown, lexeme_at_end, next,
+    Cause, Scan, at_byte, at_end, class_of, end_place, is_shown, last_percent, lexeme_at_end, next,
     shown_place,
 };
 use place_core::{Place, StepErr};
@@ -91,8 +90,8 @@ fn stepped(text: &[u8], place: Place) -> Result<Place, Refusal>
     let mut scan = Scan::At(place);
     let mut since = 0;
     for index in 0..text.len() {
-        since = last_between(index, since, scan);
         let class = class_of(text[index]);
+        since = last_percent(text, index, since, class, scan);
         match at_byte(text, index, class, scan) {
             Some(cause) => return Err(refused(cause, index)),
             None => scan = next(text, index, class, scan),
@@ -100,21 +99,11 @@ fn stepped(text: &[u8], place: Place) -> Result<Place, Refusal>
     }
     match at_end(text, scan) {
         Some(cause) => Err(refused(cause, text.len())),
-        None => ended(text, last_between(text.len(), since, scan), scan),
+        None => ended(text, since, scan),
     }
 }
 
-// The last place in the text at which the scan was between two lexemes, by the one before.
-#[inline(always)]
-fn last_between(index: usize, since: usize, scan: Scan) -> usize
-    ensures last { (text : List ℕ) (k : ℕ) → result
-        ≡ errors.last_between index since (is_scan_between (scan_at text k scan)) }
-    ensures bound { since ≤ index → result ≤ index }
-{
-    if is_between(scan) { index } else { since }
-}
-
-// Where a text ends, unless it ends in a lexeme that is refused there, which has begun behind `since`.
+// Where a text ends, unless it ends in a lexeme that is refused there, which has begun at `since`.
 fn ended(text: &[u8], since: usize, scan: Scan) -> Result<Place, Refusal>
     requires pending { pending_from scan ≤ length text.now }
     requires since { since ≤ length text.now }

@@ -10,8 +10,8 @@ use Rattle.place_flow.specs.Transfer.{step_of}
 use Rattle.place_flow.specs.PointStates.{IsValidPointState, PointStateBelow}
 use Rattle.place_flow.specs.declared.point_state.PointState.{PointState}
 use Rattle.place_flow.specs.declared.point_state.PointState.TheVariants.{Unreached, At, Conflict}
-use Rattle.place_flow.specs.declared.step.Step.{Step}
-use Rattle.place_flow.specs.declared.step.Step.TheVariants.{Reaches, Enters, Refused}
+use Rattle.place_flow.specs.declared.step.EdgeStep.{EdgeStep}
+use Rattle.place_flow.specs.declared.step.EdgeStep.TheVariants.{Reaches, Enters, Refused}
 use Rattle.place_flow.proofs.PointStateLaws.{below_refl}
 use Rattle.place_flow.proofs.StepLaws.{step-keeps-order, step-keeps-valid}
 use Rattle.place_chart.specs.Charts.{ChartByNumber, IsClosedByNumber, IsEntered, EdgeLeads, StepEnters, step_given}
@@ -33,7 +33,7 @@ module _ (forest : ForestData) (chart : ChartByNumber) (closed : IsClosedByNumbe
     pub entered : IsEntered forest chart t place
 
   -- a step above one that enters a template enters it above, or it is refused
-  step_above : (t u : ℕ) (q p : Place) (to : Point) (s : Step) → IsValid q → IsEntered forest chart t q → StepBelow (Enters u p) s → IsValidStep s → StepEnters forest chart s → PointStateBelow (step_given chart s) (chart t q to)
+  step_above : (t u : ℕ) (q p : Place) (to : Point) (s : EdgeStep) → IsValid q → IsEntered forest chart t q → StepBelow (Enters u p) s → IsValidStep s → StepEnters forest chart s → PointStateBelow (step_given chart s) (chart t q to)
       → IsAbove u p ⊎ IsConflictChart forest chart
   step_above t u q p to (Reaches x) v en be w es gives = absurd be
   step_above t u q p to (Enters d x) v en be w es gives = inl (record { place = x; valid = w; above = be.1; entered = subst (λ (c : ℕ). IsEntered forest chart c x) (sym be.0) es })
@@ -46,7 +46,7 @@ module _ (forest : ForestData) (chart : ChartByNumber) (closed : IsClosedByNumbe
       let l = subst (λ (s : PointState). EdgeLeads forest chart t e s (chart t q (to_of e))) at (edge_leads forest chart t q n e closed v is) in
       let x : IsValid r = subst IsValidPointState at (closed.valid t q (from_of e) v) in
       step_above t u q p (to_of e) (step_of forest t e r) v en
-      (subst (λ (s : Step). StepBelow s (step_of forest t e r)) enters (step-keeps-order forest t e a r w x be))
+      (subst (λ (s : EdgeStep). StepBelow s (step_of forest t e r)) enters (step-keeps-order forest t e a r w x be))
       (step-keeps-valid forest t e r x) l.enters l.gives
   called_above t u q a p n e Conflict v w en is enters at be = inr (record { template = t; entry = q; point = from_of e; valid = v; entered = en; conflict = at })
 

@@ -14,8 +14,8 @@ use Rattle.place_flow.specs.Transfer.{edge_step, enters_or_refused, reaches_or_r
 use Rattle.place_flow.specs.PointStates.{IsValidPointState, IsConflictFree, PointStateBelow}
 use Rattle.place_flow.specs.declared.point_state.PointState.{PointState}
 use Rattle.place_flow.specs.declared.point_state.PointState.TheVariants.{Unreached, At, Conflict}
-use Rattle.place_flow.specs.declared.step.Step.{Step}
-use Rattle.place_flow.specs.declared.step.Step.TheVariants.{Refused}
+use Rattle.place_flow.specs.declared.step.EdgeStep.{EdgeStep}
+use Rattle.place_flow.specs.declared.step.EdgeStep.TheVariants.{Refused}
 use Rattle.place_flow.proofs.PointStateLaws.{below_refl}
 use Rattle.place_chart.specs.Charts.{ChartByNumber, IsClosedByNumber, IsEntered, EdgeLeads, StepEnters, step_given}
 use Rattle.place_chart.specs.Summaries.{IsValidSummary, IsConflictFreeSummary, chart_of, summary_of, point_state_of}
@@ -72,11 +72,11 @@ leads_on (Some q) chart s w v be = holds s q w v be
 leads_on None chart s w v be = absurd (not_conflict s w be)
 
 -- what leads on is not refused
-record Goes (forest : ForestData) (chart : ChartByNumber) (step : Step) (s : PointState) : Type 0 where
+record Goes (forest : ForestData) (chart : ChartByNumber) (step : EdgeStep) (s : PointState) : Type 0 where
   pub enters : StepEnters forest chart step
   pub gives : PointStateBelow (step_given chart step) s
 
-goes : (forest : ForestData) (chart : ChartByNumber) (b : Bool) (step : Step) (s : PointState) → IsConflictFree s → StepEnters forest chart (if b then step else Refused) → PointStateBelow (step_given chart (if b then step else Refused)) s → Goes forest chart step s
+goes : (forest : ForestData) (chart : ChartByNumber) (b : Bool) (step : EdgeStep) (s : PointState) → IsConflictFree s → StepEnters forest chart (if b then step else Refused) → PointStateBelow (step_given chart (if b then step else Refused)) s → Goes forest chart step s
 goes forest chart true step s w en be = record { enters = en; gives = be }
 goes forest chart false step s w en be = absurd (not_conflict s w be)
 

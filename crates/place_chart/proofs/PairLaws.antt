@@ -11,8 +11,8 @@ use Rattle.place_flow.specs.Transfer.{step_of}
 use Rattle.place_flow.specs.PointStates.{IsValidPointState, IsConflictFree, PointStateBelow}
 use Rattle.place_flow.specs.declared.point_state.PointState.{PointState}
 use Rattle.place_flow.specs.declared.point_state.PointState.TheVariants.{Unreached, At, Conflict}
-use Rattle.place_flow.specs.declared.step.Step.{Step}
-use Rattle.place_flow.specs.declared.step.Step.TheVariants.{Reaches, Enters, Refused}
+use Rattle.place_flow.specs.declared.step.EdgeStep.{EdgeStep}
+use Rattle.place_flow.specs.declared.step.EdgeStep.TheVariants.{Reaches, Enters, Refused}
 use Rattle.place_chart.specs.Charts.{ChartByNumber, EdgeEnters, IsClosedByNumber, IsEntered, EdgeLeads, StepEnters, given, step_given}
 use Rattle.place_chart.specs.Summaries.{IsSummaryBelow, IsValidSummary, IsConflictFreeSummary, chart_of, summary_of, point_state_in, point_state_of}
 use Rattle.place_chart.specs.declared.summary.Summary.{Summary}
@@ -37,7 +37,7 @@ of_valid (Some summary) k h = (h summary refl).point_states k
 pub chart_valid : (summaries : List Summary) → All IsValidSummary summaries → (t : ℕ) (p : Place) (k : Point) → IsValidPointState (chart_of summaries t p k)
 chart_valid summaries all t p k = of_valid (summary_of summaries t p) k (λ summary e. first_summary_is IsValidSummary summaries t p summary all e)
 
-step_given_valid : (summaries : List Summary) → All IsValidSummary summaries → (step : Step) → IsValidStep step → IsValidPointState (step_given (chart_of summaries) step)
+step_given_valid : (summaries : List Summary) → All IsValidSummary summaries → (step : EdgeStep) → IsValidStep step → IsValidPointState (step_given (chart_of summaries) step)
 step_given_valid summaries all (Reaches q) v = v
 step_given_valid summaries all (Enters callee q) v = chart_valid summaries all callee q finish_point
 step_given_valid summaries all Refused v = tt
@@ -66,7 +66,7 @@ module _ (forest : ForestData) (chart : ChartByNumber) where
   chart_below summaries t p q k all v en be = of_below summaries t p q k (summary_of summaries t p) (first_is summaries t p) all v en be
 
   -- what a step from less gives is less
-  step_given_keeps : (summaries : List Summary) → All (IsSummaryBelow forest chart) summaries → (s u : Step) → IsValidStep u → StepBelow s u → StepEnters forest chart u → PointStateBelow (step_given (chart_of summaries) s) (step_given chart u)
+  step_given_keeps : (summaries : List Summary) → All (IsSummaryBelow forest chart) summaries → (s u : EdgeStep) → IsValidStep u → StepBelow s u → StepEnters forest chart u → PointStateBelow (step_given (chart_of summaries) s) (step_given chart u)
   step_given_keeps summaries all s Refused v be en = below_conflict (step_given (chart_of summaries) s)
   step_given_keeps summaries all (Reaches p) (Reaches q) v be en = be
   step_given_keeps summaries all (Reaches p) (Enters d q) v be en = absurd be

@@ -10,7 +10,7 @@ use Rattle.place_flow.specs.Transfer.{step_of}
 use Rattle.place_flow.specs.PointStates.{PointStateBelow}
 use Rattle.place_flow.specs.declared.point_state.PointState.{PointState}
 use Rattle.place_flow.specs.declared.point_state.PointState.TheVariants.{Unreached, At, Conflict}
-use Rattle.place_flow.specs.declared.step.Step.TheVariants.{Enters}
+use Rattle.place_flow.specs.declared.step.EdgeStep.TheVariants.{Enters}
 use Rattle.place_chart.specs.Charts.{ChartByNumber, EdgeEnters, IsClosedByNumber, IsEntered, EdgeLeads, StepEnters}
 use Rattle.place_chart.specs.Summaries.{IsSummaryBelow, chart_of, summary_of, point_state_in, point_state_of}
 use Rattle.place_chart.specs.declared.summary.Summary.{Summary}

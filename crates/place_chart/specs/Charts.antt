@@ -7,8 +7,8 @@ use Rattle.place_flow.specs.Transfer.{step_of}
 use Rattle.place_flow.specs.PointStates.{IsValidPointState, PointStateBelow}
 use Rattle.place_flow.specs.declared.point_state.PointState.{PointState}
 use Rattle.place_flow.specs.declared.point_state.PointState.TheVariants.{Unreached, At, Conflict}
-use Rattle.place_flow.specs.declared.step.Step.{Step}
-use Rattle.place_flow.specs.declared.step.Step.TheVariants.{Reaches, Enters, Refused}
+use Rattle.place_flow.specs.declared.step.EdgeStep.{EdgeStep}
+use Rattle.place_flow.specs.declared.step.EdgeStep.TheVariants.{Reaches, Enters, Refused}
 use Rattle.tpl_paths.specs.Edges.{Edge, Point, finish_point, from_of, to_of}
 use Rattle.tpl_tree.specs.Forests.{ForestData}
 
@@ -18,7 +18,7 @@ ChartByNumber = ℕ → Place → Point → PointState
 
 -- What a step gives to the end of its edge: the place where it lands; what the template that it enters has at its end; and what is refused
 -- is in conflict.
-abbrev pub step_given : ChartByNumber → Step → PointState
+abbrev pub step_given : ChartByNumber → EdgeStep → PointState
 step_given chart (Reaches q) = At q
 step_given chart (Enters callee q) = chart callee q finish_point
 step_given chart Refused = Conflict
@@ -34,7 +34,7 @@ abbrev pub IsEntered : ForestData → ChartByNumber → ℕ → Place → Type 0
 IsEntered forest chart t p = PointStateBelow (At p) (chart t p (start_at forest t))
 
 -- a call enters its template in the place before it
-abbrev pub StepEnters : ForestData → ChartByNumber → Step → Type 0
+abbrev pub StepEnters : ForestData → ChartByNumber → EdgeStep → Type 0
 StepEnters forest chart (Reaches q) = ⊤
 StepEnters forest chart (Enters callee q) = IsEntered forest chart callee q
 StepEnters forest chart Refused = ⊤

@@ -4,7 +4,7 @@ use Rattle.place_core.specs.declared.place.Place.{Place}
 use Rattle.place_flow.specs.Flows.{edges_at}
 use Rattle.place_flow.specs.Transfer.{step_of}
 use Rattle.place_flow.specs.declared.point_state.PointState.TheVariants.{At, Conflict}
-use Rattle.place_flow.specs.declared.step.Step.TheVariants.{Enters}
+use Rattle.place_flow.specs.declared.step.EdgeStep.TheVariants.{Enters}
 use Rattle.place_chart.specs.Charts.{IsClosedByNumber, IsEntered}
 use Rattle.place_chart.specs.Summaries.{AreLeast, IsValidSummary, chart_of, point_state_in}
 use Rattle.place_chart.specs.declared.summary.Summary.{Summary}

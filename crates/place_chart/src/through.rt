@@ -5,18 +5,22 @@ ghost use Rattle.place_chart.specs.Summaries.{chart_of};
 ghost use Rattle.tpl_paths.specs.Edges as spec;
 
 use crate::summaries::Summaries;
-use place_flow::{Flows, PointState, Step, transfer};
+use place_flow::{EdgeStep, Flows, PointState, transfer};
 use tpl_paths::Point;
 
 /// What a step gives to the end of its edge: the place where it lands; what the template that it enters has at its end; and what is
 /// refused is in conflict.
-pub fn through_step(summaries: &Summaries, step: Step) -> PointState
+pub fn through_step(summaries: &Summaries, step: EdgeStep) -> PointState
     ensures { result ≡ step_given (chart_of summaries.now) step }
 {
     match step {
-        Step::Reaches(place) => PointState::At(place),
-        Step::Enters(callee, place) => summaries.point_state_of_pair(callee, place, Point::Finish),
-        Step::Refused => PointState::Conflict,
+        EdgeStep::Reaches(place) => PointState::At(place),
+        EdgeStep::Enters(callee, place) => summaries.point_state_of_pair(
+            callee,
+            place,
+            Point::Finish,
+        ),
+        EdgeStep::Refused => PointState::Conflict,
     }
 }
 

@@ -5,6 +5,7 @@ pub mod JoinLaws
 pub mod Membership
 pub mod PathPairs
 pub mod LanguagePlaces
+pub mod LastPercent
 pub mod Places
 pub mod StatePlaces
 pub mod UrlParts

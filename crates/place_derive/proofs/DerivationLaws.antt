@@ -17,8 +17,8 @@ use Rattle.place_flow.specs.Transfer.{step_of}
 use Rattle.place_flow.specs.PointStates.{joined_point_states, at_or_conflict}
 use Rattle.place_flow.specs.declared.point_state.PointState.{PointState}
 use Rattle.place_flow.specs.declared.point_state.PointState.TheVariants.{Unreached, At, Conflict}
-use Rattle.place_flow.specs.declared.step.Step.{Step}
-use Rattle.place_flow.specs.declared.step.Step.TheVariants.{Reaches, Enters, Refused}
+use Rattle.place_flow.specs.declared.step.EdgeStep.{EdgeStep}
+use Rattle.place_flow.specs.declared.step.EdgeStep.TheVariants.{Reaches, Enters, Refused}
 use Rattle.place_derive.specs.Derivations.{AllGiven, ApartGiven, IsDerivedBy, IsMadeDerivation, IsLoggedSummary}
 use Rattle.place_derive.specs.Tracing.{derivation_along, logged_along}
 use Rattle.place_derive.specs.declared.derivation.Derivation.{Derivation}
@@ -54,7 +54,7 @@ pub chart_logged : (log : List Derivation) (summaries : List Summary) → All (I
 chart_logged log summaries all t p k q e = of_logged log summaries all t p k q (summary_of summaries t p) (first_is summaries t p) e
 
 -- a place that a step gives is a derived place
-step_derived : (log : List Derivation) (summaries : List Summary) → All (IsLoggedSummary log) summaries → (step : Step) (derived : Place) → IsValidStep step → step_given (chart_of summaries) step ≡ At derived → IsDerivedBy log step derived
+step_derived : (log : List Derivation) (summaries : List Summary) → All (IsLoggedSummary log) summaries → (step : EdgeStep) (derived : Place) → IsValidStep step → step_given (chart_of summaries) step ≡ At derived → IsDerivedBy log step derived
 step_derived log summaries all (Reaches q) derived v e = (on_on e, subst IsValid (on_on e) v)
 step_derived log summaries all (Enters callee q) derived v e = chart_logged log summaries all callee q finish_point derived e
 step_derived log summaries all Refused derived v e = cc
@@ -85,7 +85,7 @@ along_logged forest roots first log r e source derived made is to from gives v =
   gives = λ p s. subst (λ (q : Place). AllGiven (log ++ derivation_along r source derived ∷ []) r.template r.entry r.to q) (on_on s) (given_last log (derivation_along r source derived) v);
 }
 
-derived_valid : (log : List Derivation) (step : Step) (derived : Place) → IsDerivedBy log step derived → IsValid derived
+derived_valid : (log : List Derivation) (step : EdgeStep) (derived : Place) → IsDerivedBy log step derived → IsValid derived
 derived_valid log (Reaches q) derived h = h.1
 derived_valid log (Enters callee q) derived h = h.valid
 derived_valid log Refused derived h = absurd h

@@ -8,8 +8,8 @@ use Rattle.place_flow.specs.Transfer.{step_of}
 use Rattle.place_flow.specs.PointStates.{IsConflictFree, joined_point_states, at_or_conflict}
 use Rattle.place_flow.specs.declared.point_state.PointState.{PointState}
 use Rattle.place_flow.specs.declared.point_state.PointState.TheVariants.{Unreached, At, Conflict}
-use Rattle.place_flow.specs.declared.step.Step.{Step}
-use Rattle.place_flow.specs.declared.step.Step.TheVariants.{Reaches, Enters, Refused as refused_step}
+use Rattle.place_flow.specs.declared.step.EdgeStep.{EdgeStep}
+use Rattle.place_flow.specs.declared.step.EdgeStep.TheVariants.{Reaches, Enters, Refused as refused_step}
 use Rattle.place_derive.specs.Derivations.{AllGiven, HasEntry, IsDerivedBy, IsLoggedSummary}
 use Rattle.place_derive.specs.FirstConflicts.{IsFirstConflict, IsWhy}
 use Rattle.place_derive.specs.Tracing.{clash_of, conflict_of, conflict_with, why_of}
@@ -36,7 +36,7 @@ no_conflict (At p) w e = cc
 no_conflict Conflict w e = w
 
 -- while nothing is in conflict, what a step gives is in conflict only where it is refused
-conflict_refused : (summaries : List Summary) → All IsConflictFreeSummary summaries → (step : Step) → step_given (chart_of summaries) step ≡ Conflict → step ≡ refused_step
+conflict_refused : (summaries : List Summary) → All IsConflictFreeSummary summaries → (step : EdgeStep) → step_given (chart_of summaries) step ≡ Conflict → step ≡ refused_step
 conflict_refused summaries conflict_free (Reaches q) e = cc
 conflict_refused summaries conflict_free (Enters callee q) e = absurd (no_conflict (chart_of summaries callee q finish_point) (chart_conflict_free summaries conflict_free callee q finish_point) e)
 conflict_refused summaries conflict_free refused_step e = refl

@@ -9,8 +9,8 @@ use Rattle.place_core.specs.place.Places.{Below}
 use Rattle.place_core.specs.declared.member.Member.{Member}
 use Rattle.place_core.specs.declared.place.Place.{Place}
 use Rattle.place_flow.proofs.PointStateLaws.{below_trans}
-use Rattle.place_flow.specs.declared.step.Step.{Step}
-use Rattle.place_flow.specs.declared.step.Step.TheVariants.{Reaches, Enters, Refused}
+use Rattle.place_flow.specs.declared.step.EdgeStep.{EdgeStep}
+use Rattle.place_flow.specs.declared.step.EdgeStep.TheVariants.{Reaches, Enters, Refused}
 use Rattle.place_derive.specs.Derivations.{AllGiven, ApartGiven, IsEnteredPair, HasEntry, HasDerivation, HasDerivationsApart, IsDerivedBy, IsDerivation, IsMadeDerivation, IsLoggedSummary}
 use Rattle.place_derive.specs.declared.derivation.Derivation.{Derivation}
 use Rattle.place_chart.proofs.Elements.{get_last, get_left, push_cases}
@@ -43,7 +43,7 @@ module _ (log more : List Derivation) where
   pub all_left : (t : ℕ) (e : Place) (k : Point) (p : Place) → AllGiven log t e k p → AllGiven (log ++ more) t e k p
   all_left t e k p h = record { valid = h.valid; members = λ m x. derivation_left t e k p m (h.members m x); apart = λ x. apart_left t e k p (h.apart x) }
 
-  pub derived_left : (step : Step) (derived : Place) → IsDerivedBy log step derived → IsDerivedBy (log ++ more) step derived
+  pub derived_left : (step : EdgeStep) (derived : Place) → IsDerivedBy log step derived → IsDerivedBy (log ++ more) step derived
   derived_left (Reaches q) derived h = h
   derived_left (Enters callee q) derived h = all_left callee q finish_point derived h
   derived_left Refused derived h = h

@@ -9,7 +9,7 @@ use Rattle.place_flow.specs.Laws.{IsValidStep}
 use Rattle.place_flow.specs.Transfer.{step_of}
 use Rattle.place_flow.specs.declared.point_state.PointState.{PointState}
 use Rattle.place_flow.specs.declared.point_state.PointState.TheVariants.{At}
-use Rattle.place_flow.specs.declared.step.Step.TheVariants.{Enters}
+use Rattle.place_flow.specs.declared.step.EdgeStep.TheVariants.{Enters}
 use Rattle.place_derive.specs.Derivations.{AllGiven, IsDerivation, IsLoggedSummary}
 use Rattle.place_derive.specs.FirstConflicts.{IsSoundLog}
 use Rattle.place_derive.specs.Tracing.{IsPairEdge, StayIn, derivation_entering}

@@ -7,8 +7,8 @@ use Rattle.place_core.specs.declared.place.Place.{Place}
 use Rattle.place_flow.specs.Flows.{edges_at, start_at}
 use Rattle.place_flow.specs.Transfer.{step_of}
 use Rattle.place_flow.specs.declared.point_state.PointState.TheVariants.{At}
-use Rattle.place_flow.specs.declared.step.Step.{Step}
-use Rattle.place_flow.specs.declared.step.Step.TheVariants.{Reaches, Enters, Refused}
+use Rattle.place_flow.specs.declared.step.EdgeStep.{EdgeStep}
+use Rattle.place_flow.specs.declared.step.EdgeStep.TheVariants.{Reaches, Enters, Refused}
 use Rattle.place_derive.specs.declared.derivation.DerivedFrom.{DerivedFrom}
 use Rattle.place_derive.specs.declared.derivation.DerivedFrom.TheVariants.{Root, Called, Along}
 use Rattle.place_derive.specs.declared.derivation.Derivation.{Derivation}
@@ -59,7 +59,7 @@ abbrev pub IsLoggedSummary : List Derivation → Summary → Type 0
 IsLoggedSummary log summary = (k : Point) (p : Place) → point_state_in summary k ≡ At p → AllGiven log summary.template summary.entry k p
 
 -- what a step gives: the place where it lands, or what was given before to the end of the template that it enters
-abbrev pub IsDerivedBy : List Derivation → Step → Place → Type 0
+abbrev pub IsDerivedBy : List Derivation → EdgeStep → Place → Type 0
 IsDerivedBy log (Reaches q) derived = (q ≡ derived) × IsValid derived
 IsDerivedBy log (Enters callee q) derived = AllGiven log callee q finish_point derived
 IsDerivedBy log Refused derived = ⊥

@@ -4,7 +4,7 @@ use Rattle.place_core.specs.place.Places.{joined}
 use Rattle.place_core.specs.declared.place.Place.{Place}
 use Rattle.place_flow.specs.Flows.{edges_at}
 use Rattle.place_flow.specs.Transfer.{step_of}
-use Rattle.place_flow.specs.declared.step.Step.TheVariants.{Refused as refused_step}
+use Rattle.place_flow.specs.declared.step.EdgeStep.TheVariants.{Refused as refused_step}
 use Rattle.place_derive.specs.Derivations.{AllGiven, HasEntry, IsDerivedBy, IsLog}
 use Rattle.place_derive.specs.declared.derivation.Derivation.{Derivation}
 use Rattle.place_derive.specs.declared.conflict.FirstConflict.{FirstConflict}

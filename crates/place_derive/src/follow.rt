@@ -14,7 +14,7 @@ use crate::pair_edge::PairEdge;
 use page_io::Memory;
 use place_chart::{point_state_at, through_step};
 use place_core::Place;
-use place_flow::{Flows, PointState, Step, transfer};
+use place_flow::{EdgeStep, Flows, PointState, transfer};
 use std::alloc::Global;
 use tpl_paths::Point;
 
@@ -35,7 +35,7 @@ impl Derived {
         flows: &Flows,
         edge: PairEdge,
         source: Place,
-        step: Step,
+        step: EdgeStep,
     ) -> Result<Option<usize>, Memory>
         ensures sound { OnOk result ((roots : List ℕ) (first : SpecPlace) (e : spec.Edge)
             → IsPairEdge flows.now self.old.summaries edge e (point_state.At source)
@@ -49,7 +49,7 @@ impl Derived {
         ensures length { length self.old.summaries ≤ length self.new.summaries }
     {
         match step {
-            Step::Enters(callee, place) => {
+            EdgeStep::Enters(callee, place) => {
                 let from = DerivedFrom::Called(edge.template, edge.entry, edge.number);
                 self.enter(alloc, flows, callee, place, from, source)
             }

@@ -15,7 +15,7 @@ use Rattle.tpl_tree.specs.declared.node_kind.NodeKind.TheVariants as kind
 use Rattle.place_flow.specs.FlowViews.{IsNodeNumber}
 use Rattle.place_flow.specs.Flows.{edges_at, nodes_at}
 use Rattle.place_flow.specs.Transfer.{step_of}
-use Rattle.place_flow.specs.declared.step.Step.{Step}
+use Rattle.place_flow.specs.declared.step.EdgeStep.{EdgeStep}
 
 pub got-within : (es : List Edge) (n : ℕ) (e : Edge) → slice_get es n ≡ Some e → Within e es
 got-within [] zero e h = cc
@@ -54,7 +54,7 @@ some-one : {A : Type 0} (x y : A) → Some x ≡ Some y → x ≡ y
 some-one x y e = cc
 
 -- a step along an edge of a template, from what is told of the tree and of the edge
-pub along-edge : (flows forest : ForestData) (t n : ℕ) (place : Place) (tree : TreeData) (edge : ReadEdge) (r : Step) (e : Edge) → forest ≡ flows → Some tree ≡ tree_at forest t
+pub along-edge : (flows forest : ForestData) (t n : ℕ) (place : Place) (tree : TreeData) (edge : ReadEdge) (r : EdgeStep) (e : Edge) → forest ≡ flows → Some tree ≡ tree_at forest t
     → Some edge ≡ option_map edge_at (slice_get (edges_at flows t) n)
     → ((u : ℕ) (d : Edge) → nodes_at forest u ≡ tree.nodes → edge_at d ≡ edge → IsNodeNumber tree.nodes d → r ≡ step_of forest u d place)
     → slice_get (edges_at flows t) n ≡ Some e → r ≡ step_of flows t e place

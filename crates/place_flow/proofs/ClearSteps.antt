@@ -22,8 +22,8 @@ use Rattle.place_flow.specs.declared.uses.EscaperUse.TheVariants as uses
 use Rattle.tpl_paths.specs.Edges.{Edge, calls, fills, from_of, passes, picks, writes}
 use Rattle.tpl_tree.specs.Forests.{ForestData, number_named}
 use Rattle.place_flow.specs.Transfer.{edge_step, enters_or_refused, reaches_or_refused, may_use, step_of, use_at}
-use Rattle.place_flow.specs.declared.step.Step.{Step}
-use Rattle.place_flow.specs.declared.step.Step.TheVariants.{Reaches, Enters, Refused}
+use Rattle.place_flow.specs.declared.step.EdgeStep.{EdgeStep}
+use Rattle.place_flow.specs.declared.step.EdgeStep.TheVariants.{Reaches, Enters, Refused}
 use Rattle.place_flow.specs.Errors.{EdgeRefuses, Errs, Misuses}
 use Rattle.place_flow.proofs.NamedParts.{same_use}
 
@@ -31,7 +31,7 @@ use Rattle.place_flow.proofs.NamedParts.{same_use}
 pub one_place : (o : Option Place) (a b : Place) → o ≡ Some a → o ≡ Some b → a ≡ b
 one_place o a b e f = cc
 
-abbrev pub IsTaken : Step → Type 0
+abbrev pub IsTaken : EdgeStep → Type 0
 IsTaken (Reaches q) = Unit {0}
 IsTaken (Enters c q) = Unit {0}
 IsTaken Refused = ⊥
@@ -46,7 +46,7 @@ may-below p a uses.Misused v b h = cc
 not-both : (b : Bool) → b ≡ true → b ≡ false → ⊥
 not-both b e f = cc
 
-taken-parts : (b : Bool) (x : Step) → IsTaken (if b then x else Refused) → (b ≡ true) × IsTaken x
+taken-parts : (b : Bool) (x : EdgeStep) → IsTaken (if b then x else Refused) → (b ≡ true) × IsTaken x
 taken-parts true x h = (refl, h)
 taken-parts false x h = absurd h
 

@@ -8,7 +8,7 @@ use Rattle.tpl_paths.specs.Edges.{Edge, Point, before, calls, fills, from_of, pa
 use Rattle.tpl_paths.specs.Paths.{Open, along_edge, open_standing}
 use Rattle.tpl_tree.specs.Forests.{ForestData, number_named}
 use Rattle.place_flow.specs.Transfer.{enters_or_refused, reaches_or_refused, may_use, step_of, use_at}
-use Rattle.place_flow.specs.declared.step.Step.TheVariants.{Reaches, Enters, Refused}
+use Rattle.place_flow.specs.declared.step.EdgeStep.TheVariants.{Reaches, Enters, Refused}
 
 -- an edge that calls a template, and enters it in the place before it
 pub record IsCall (forest : ForestData) (e : Edge) (c : ℕ) (p q : Place) : Type 0 where

@@ -19,8 +19,8 @@ use Rattle.tpl_tree.specs.Forests.{ForestData, number_named}
 use Rattle.tpl_tree.specs.declared.pipe.Pipe.{Pipe}
 use Rattle.place_flow.specs.Laws.{EachStepCovers, IsValidStep, StepBelow, StepCovers, StepKeepsOrder, StepKeepsValid}
 use Rattle.place_flow.specs.Transfer.{edge_step, enters_or_refused, reaches_or_refused, may_use, use_at}
-use Rattle.place_flow.specs.declared.step.Step.{Step}
-use Rattle.place_flow.specs.declared.step.Step.TheVariants.{Reaches, Enters, Refused}
+use Rattle.place_flow.specs.declared.step.EdgeStep.{EdgeStep}
+use Rattle.place_flow.specs.declared.step.EdgeStep.TheVariants.{Reaches, Enters, Refused}
 
 no : false ≡ true → ⊥
 no e = cc
@@ -32,12 +32,12 @@ may-keeps (uses.Last predefined.Html) p q v b h = grows-escape escaper.Html p q 
 may-keeps (uses.Last predefined.Urlquery) p q v b h = grows-escape escaper.Urlquery p q v b h
 may-keeps uses.Misused p q v b h = h
 
-below_refused : (s : Step) → StepBelow s Refused
+below_refused : (s : EdgeStep) → StepBelow s Refused
 below_refused (Reaches p) = tt
 below_refused (Enters c p) = tt
 below_refused Refused = tt
 
-guard-keeps : (a b : Bool) (s r : Step) → (b ≡ true → a ≡ true) → StepBelow s r → StepBelow (if a then s else Refused) (if b then r else Refused)
+guard-keeps : (a b : Bool) (s r : EdgeStep) → (b ≡ true → a ≡ true) → StepBelow s r → StepBelow (if a then s else Refused) (if b then r else Refused)
 guard-keeps true true s r f h = h
 guard-keeps false true s r f h = absurd (no (f refl))
 guard-keeps true false s r f h = below_refused s
@@ -73,7 +73,7 @@ step-keeps-order forest t e p q v w b =
     guard-keeps (may_use p (use_at forest t (from_of e))) (may_use q (use_at forest t (from_of e))) (edge_step forest e p) (edge_step forest e q)
     (may-keeps (use_at forest t (from_of e)) p q v b) (edge-keeps forest e p q v w b)
 
-guard-valid : (a : Bool) (s : Step) → IsValidStep s → IsValidStep (if a then s else Refused)
+guard-valid : (a : Bool) (s : EdgeStep) → IsValidStep s → IsValidStep (if a then s else Refused)
 guard-valid true s h = h
 guard-valid false s h = tt
 
@@ -99,7 +99,7 @@ edge-valid forest (passes from to) p v = v
 pub step-keeps-valid : StepKeepsValid
 step-keeps-valid forest t e p v = guard-valid (may_use p (use_at forest t (from_of e))) (edge_step forest e p) (edge-valid forest e p v)
 
-guard-covers : (a : Bool) (s : Step) (e : Edge) (p : Place) → StepCovers s e p → StepCovers (if a then s else Refused) e p
+guard-covers : (a : Bool) (s : EdgeStep) (e : Edge) (p : Place) → StepCovers s e p → StepCovers (if a then s else Refused) e p
 guard-covers true s e p h = h
 guard-covers false s e p h = tt
 

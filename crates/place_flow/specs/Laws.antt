@@ -12,10 +12,10 @@ use Rattle.place_core.specs.declared.place.Place.{Place}
 use Rattle.tpl_paths.specs.Edges.{Edge}
 use Rattle.tpl_tree.specs.Forests.{ForestData}
 use Rattle.place_flow.specs.Transfer.{step_of}
-use Rattle.place_flow.specs.declared.step.Step.{Step}
-use Rattle.place_flow.specs.declared.step.Step.TheVariants.{Reaches, Enters, Refused}
+use Rattle.place_flow.specs.declared.step.EdgeStep.{EdgeStep}
+use Rattle.place_flow.specs.declared.step.EdgeStep.TheVariants.{Reaches, Enters, Refused}
 
-abbrev pub StepBelow : Step → Step → Type 0
+abbrev pub StepBelow : EdgeStep → EdgeStep → Type 0
 StepBelow s Refused = ⊤
 StepBelow (Reaches p) (Reaches q) = Below p q
 StepBelow (Reaches p) (Enters d q) = ⊥
@@ -28,7 +28,7 @@ StepBelow Refused (Enters d q) = ⊥
 abbrev pub StepKeepsOrder : Type 0
 StepKeepsOrder = (forest : ForestData) (t : ℕ) (e : Edge) (p q : Place) → IsValid p → IsValid q → Below p q → StepBelow (step_of forest t e p) (step_of forest t e q)
 
-abbrev pub IsValidStep : Step → Type 0
+abbrev pub IsValidStep : EdgeStep → Type 0
 IsValidStep (Reaches q) = IsValid q
 IsValidStep (Enters c q) = IsValid q
 IsValidStep Refused = ⊤
@@ -42,7 +42,7 @@ pub record IsStepOrigin (e : Edge) (p q : Place) (y x : Member) : Type 0 where
   pub bears : (s : LexState ValueState) → IsIn p s → Bears s x → Bears (edge_read html_language e s) y
   pub is_in : (s : LexState ValueState) → IsIn p s → IsIn q (edge_read html_language e s)
 
-abbrev pub StepCovers : Step → Edge → Place → Type 0
+abbrev pub StepCovers : EdgeStep → Edge → Place → Type 0
 StepCovers (Reaches q) e p = (y : Member) → Has q y → (x : Member) × IsStepOrigin e p q y x
 StepCovers (Enters c q) e p = q ≡ p
 StepCovers Refused e p = ⊤

@@ -18,6 +18,6 @@ pub use laws::{step_covers, step_keeps_order, step_keeps_valid};
 pub use point_state::{PointState, is_point_state_below, join_point_states};
 pub use points::{point_count, point_number};
 pub use predefined::Predefined;
-pub use step::Step;
+pub use step::EdgeStep;
 pub use transferring::{may_use, transfer};
 pub use uses::{EscaperUse, escaper_use};

@@ -15,7 +15,7 @@ ghost use Rattle.place_flow.specs.Transfer as spec;
 
 use crate::flows::Flows;
 use crate::points::edge_ends;
-use crate::step::Step;
+use crate::step::EdgeStep;
 use crate::{EscaperUse, Predefined, escaper_use};
 use html_step::{Escaper, after_hole, after_text, may_escape};
 use place_core::Place;
@@ -29,22 +29,22 @@ use tpl_tree::{Forest, NodeKind, Tree};
 /// - where the node before which the edge begins names a predefined escaper that may not stand there.
 ///
 /// Takes no memory, and for a text time in proportion to its length.
-pub fn transfer(flows: &Flows, template: u32, number: usize, place: Place) -> Step
+pub fn transfer(flows: &Flows, template: u32, number: usize, place: Place) -> EdgeStep
     ensures { (e : edges.Edge) → slice_get (edges_at flows.now template) number ≡ Some e
         → result ≡ step_of flows.now template e place }
 {
     let forest = flows.forest();
     if template as usize >= forest.count() {
-        return Step::Refused;
+        return EdgeStep::Refused;
     }
     match flows.edge(template, number) {
         Some(edge) => step(forest, forest.tree(template), edge, place),
-        None => Step::Refused,
+        None => EdgeStep::Refused,
     }
 }
 
 // Where an edge of a tree leads.
-fn step(forest: &Forest, tree: &Tree, edge: Edge, place: Place) -> Step
+fn step(forest: &Forest, tree: &Tree, edge: Edge, place: Place) -> EdgeStep
     ensures { (t : ℕ) (e : edges.Edge) → nodes_at forest.now t ≡ tree.now.nodes → edge_at e ≡ edge
         → IsNodeNumber tree.now.nodes e → result ≡ step_of forest.now t e place }
 {
@@ -52,7 +52,7 @@ fn step(forest: &Forest, tree: &Tree, edge: Edge, place: Place) -> Step
     if may_use(place, use_at(tree, from)) {
         edge_leads(forest, tree, edge, place)
     } else {
-        Step::Refused
+        EdgeStep::Refused
     }
 }
 
@@ -89,7 +89,7 @@ pub fn may_use(place: Place, used: EscaperUse) -> bool
 }
 
 // What an edge makes of a place.
-fn edge_leads(forest: &Forest, tree: &Tree, edge: Edge, place: Place) -> Step
+fn edge_leads(forest: &Forest, tree: &Tree, edge: Edge, place: Place) -> EdgeStep
     ensures { (e : edges.Edge) → edge_at e ≡ edge → IsNodeNumber tree.now.nodes e
         → result ≡ edge_step forest.now e place }
 {
@@ -97,52 +97,52 @@ fn edge_leads(forest: &Forest, tree: &Tree, edge: Edge, place: Place) -> Step
         Edge::Writes(node, _) => text_leads(tree, node, place),
         Edge::Fills(_, _) => hole_leads(place),
         Edge::Calls(node, _) => call_leads(forest, tree, node, place),
-        Edge::Picks(_, _, _) => Step::Reaches(place),
-        Edge::Passes(_, _) => Step::Reaches(place),
+        Edge::Picks(_, _, _) => EdgeStep::Reaches(place),
+        Edge::Passes(_, _) => EdgeStep::Reaches(place),
     }
 }
 
 // What a text makes of a place.
-fn text_leads(tree: &Tree, node: u32, place: Place) -> Step
+fn text_leads(tree: &Tree, node: u32, place: Place) -> EdgeStep
     ensures { (bytes : List ℕ) → head_kind (nodes_from tree.now.nodes node) ≡ Some (kind.Text bytes)
         → result ≡ reaches_or_refused (behind_text (steps.after_text bytes place)) }
 {
     if node >= tree.count() {
-        return Step::Refused;
+        return EdgeStep::Refused;
     }
     match tree.kind(node) {
         NodeKind::Text(text) => match after_text(place, text.as_str()) {
-            Ok(after) => Step::Reaches(after),
-            Err(_) => Step::Refused,
+            Ok(after) => EdgeStep::Reaches(after),
+            Err(_) => EdgeStep::Refused,
         },
-        _ => Step::Refused,
+        _ => EdgeStep::Refused,
     }
 }
 
 // What a hole makes of a place.
-fn hole_leads(place: Place) -> Step
+fn hole_leads(place: Place) -> EdgeStep
     ensures { result ≡ reaches_or_refused (behind_hole (holes.after_hole place)) }
 {
     match after_hole(place) {
-        Ok((after, _)) => Step::Reaches(after),
-        Err(_) => Step::Refused,
+        Ok((after, _)) => EdgeStep::Reaches(after),
+        Err(_) => EdgeStep::Refused,
     }
 }
 
 // What a call makes of a place.
-fn call_leads(forest: &Forest, tree: &Tree, node: u32, place: Place) -> Step
+fn call_leads(forest: &Forest, tree: &Tree, node: u32, place: Place) -> EdgeStep
     ensures { (name : List ℕ) (pipe : Option SpecPipe)
         → head_kind (nodes_from tree.now.nodes node) ≡ Some (kind.Template name pipe)
         → result ≡ enters_or_refused (number_named name forest.now) place }
 {
     if node >= tree.count() {
-        return Step::Refused;
+        return EdgeStep::Refused;
     }
     match tree.kind(node) {
         NodeKind::Template(name, _) => match forest.find(name.get().as_str()) {
-            Some(callee) => Step::Enters(callee, place),
-            None => Step::Refused,
+            Some(callee) => EdgeStep::Enters(callee, place),
+            None => EdgeStep::Refused,
         },
-        _ => Step::Refused,
+        _ => EdgeStep::Refused,
     }
 }

@@ -8,7 +8,7 @@ ghost use Rattle.tpl_paths.specs.Edges as spec;
 
 use place_chart::{Summaries, Summary, point_state_at, through_step};
 use place_core::Place;
-use place_flow::{Flows, PointState, Step, is_point_state_below, transfer};
+use place_flow::{EdgeStep, Flows, PointState, is_point_state_below, transfer};
 
 // Whether a template is entered in a place.
 fn is_entered(flows: &Flows, summaries: &Summaries, template: u32, entry: Place) -> bool
@@ -22,18 +22,18 @@ fn is_entered(flows: &Flows, summaries: &Summaries, template: u32, entry: Place)
 }
 
 // Whether a step enters what it calls.
-fn enters(flows: &Flows, summaries: &Summaries, step: Step) -> bool
+fn enters(flows: &Flows, summaries: &Summaries, step: EdgeStep) -> bool
     ensures { IsTrue result ↔ StepEnters flows.now (chart_of summaries.now) step }
 {
     match step {
-        Step::Reaches(_) => true,
-        Step::Enters(callee, place) => is_entered(flows, summaries, callee, place),
-        Step::Refused => true,
+        EdgeStep::Reaches(_) => true,
+        EdgeStep::Enters(callee, place) => is_entered(flows, summaries, callee, place),
+        EdgeStep::Refused => true,
     }
 }
 
 // Whether a step leads to what the end of its edge has.
-fn step_leads(flows: &Flows, summaries: &Summaries, step: Step, to: PointState) -> bool
+fn step_leads(flows: &Flows, summaries: &Summaries, step: EdgeStep, to: PointState) -> bool
     ensures enters { IsTrue result → StepEnters flows.now (chart_of summaries.now) step }
     ensures gives { IsTrue result → PointStateBelow (step_given (chart_of summaries.now) step) to }
 {

@@ -10,7 +10,7 @@ ghost use Rattle.tpl_paths.specs.Edges as spec;
 use page_io::Memory;
 use place_chart::{Summaries, Summary, empty_summary, point_state_at};
 use place_core::Place;
-use place_flow::{Flows, PointState, Step, transfer};
+use place_flow::{EdgeStep, Flows, PointState, transfer};
 use std::alloc::Global;
 
 // Takes the summary of a pair out of all; one with nothing at its points where there is none.
@@ -73,7 +73,7 @@ fn keep_call(
     match flows.ends(template, number) {
         Some((from, _)) => match point_state_at(summary, from) {
             PointState::At(place) => match transfer(flows, template, number, place) {
-                Step::Enters(callee, entry) => keep_pair(alloc, all, kept, callee, entry),
+                EdgeStep::Enters(callee, entry) => keep_pair(alloc, all, kept, callee, entry),
                 _ => Ok(()),
             },
             _ => Ok(()),

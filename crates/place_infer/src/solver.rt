@@ -9,7 +9,7 @@ use page_io::Memory;
 use place_chart::point_state_at;
 use place_core::TEXT;
 use place_derive::Derived;
-use place_flow::{Flows, PointState, Step, transfer};
+use place_flow::{EdgeStep, Flows, PointState, transfer};
 use std::alloc::Global;
 use tpl_paths::Point;
 
@@ -71,7 +71,11 @@ impl Solver {
         }
         match point_state_at(summary, task.point) {
             PointState::At(place) => match transfer(flows, summary.template, number, place) {
-                Step::Enters(callee, entry) => match self.derived.summaries.find(callee, entry) {
+                EdgeStep::Enters(callee, entry) => match self
+                    .derived
+                    .summaries
+                    .find(callee, entry)
+                {
                     Some(called) => self.queue.add_caller(called, task),
                     None => Ok(()),
                 },

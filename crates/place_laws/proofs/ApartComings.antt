@@ -25,8 +25,8 @@ use Rattle.place_flow.specs.Flows.{start_at}
 use Rattle.place_flow.specs.HtmlCovering.{behind_hole, behind_text, html_language}
 use Rattle.place_flow.specs.Laws.{IsStepOrigin, StepCovers}
 use Rattle.place_flow.specs.Transfer.{may_use, reaches_or_refused, step_of, use_at}
-use Rattle.place_flow.specs.declared.step.Step.{Step}
-use Rattle.place_flow.specs.declared.step.Step.TheVariants.{Reaches, Enters, Refused}
+use Rattle.place_flow.specs.declared.step.EdgeStep.{EdgeStep}
+use Rattle.place_flow.specs.declared.step.EdgeStep.TheVariants.{Reaches, Enters, Refused}
 use Rattle.place_derive.specs.Derivations.{AllGiven, ApartGiven, HasDerivationsApart, IsDerivedBy, IsDerivedEntry, IsDerivation, IsMadeDerivation}
 use Rattle.place_derive.specs.declared.derivation.Derivation.{Derivation}
 use Rattle.place_derive.specs.declared.derivation.DerivedFrom.{DerivedFrom}
@@ -200,7 +200,7 @@ module _ (forest : ForestData) (up : HasAscendingNames forest) where
 
       lands-in : (s : LexState ValueState) → IsIn p s → IsIn q (edge_read html_language edge s)
       lands-in s i =
-          let covers : (z : Member) → Has r z → (x : Member) × IsStepOrigin edge p r z x = subst (λ (st : Step). StepCovers st edge p) is (step-covers forest t edge p from.valid) in
+          let covers : (z : Member) → Has r z → (x : Member) × IsStepOrigin edge p r z x = subst (λ (st : EdgeStep). StepCovers st edge p) is (step-covers forest t edge p from.valid) in
           subst (λ (z : Place). IsIn z (edge_read html_language edge s)) derived ((covers member.Whole refl).1.is_in s i)
 
       within : (os : List Open) → along_edge forest (open_standing os name (from_of edge)) edge ≡ open_standing os name (to_of edge)
@@ -291,7 +291,7 @@ module _ (forest : ForestData) (up : HasAscendingNames forest) where
       enters-apart (inl d) = come-on forest name e (from_of edge) (to_of edge) p q (through-call d) (apart t name e (from_of edge) p at (from.apart (subst HasApart call.place d.before)))
       enters-apart (inr d) = two-come forest name e (from_of edge) (to_of edge) p p q d.one d.other (to-call d.one d.has) (to-call d.other d.also) (within-call d)
 
-    along-apart : (edge : Edge) (p q : Place) (step : Step) → Within edge (edges_in forest name) → AllGiven log t e (from_of edge) p → step_of forest t edge p ≡ step → IsDerivedBy log step q → HasApart q → ComesApart forest name e (to_of edge) q
+    along-apart : (edge : Edge) (p q : Place) (step : EdgeStep) → Within edge (edges_in forest name) → AllGiven log t e (from_of edge) p → step_of forest t edge p ≡ step → IsDerivedBy log step q → HasApart q → ComesApart forest name e (to_of edge) q
     along-apart edge p q (Reaches r) w from is gives h = reaches-apart edge p q r w from is gives.0 (edge-from forest t edge p r from.valid is (subst HasApart (sym gives.0) h))
     along-apart edge p q (Enters c r) w from is gives h =
         let call = is-call forest t edge p c r is in

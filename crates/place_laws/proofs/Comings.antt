@@ -19,8 +19,8 @@ use Rattle.place_flow.proofs.StepLaws.{step-covers}
 use Rattle.place_flow.specs.Flows.{start_at}
 use Rattle.place_flow.specs.Laws.{IsStepOrigin, StepCovers}
 use Rattle.place_flow.specs.Transfer.{step_of}
-use Rattle.place_flow.specs.declared.step.Step.{Step}
-use Rattle.place_flow.specs.declared.step.Step.TheVariants.{Reaches, Enters, Refused}
+use Rattle.place_flow.specs.declared.step.EdgeStep.{EdgeStep}
+use Rattle.place_flow.specs.declared.step.EdgeStep.TheVariants.{Reaches, Enters, Refused}
 use Rattle.place_derive.specs.Derivations.{AllGiven, HasDerivation, IsDerivedEntry, IsDerivedBy, IsDerivation, IsMadeDerivation}
 use Rattle.place_derive.specs.declared.derivation.DerivedFrom.{DerivedFrom}
 use Rattle.place_derive.specs.declared.derivation.DerivedFrom.TheVariants.{Root, Called, Along}
@@ -81,9 +81,9 @@ module _ (forest : ForestData) (up : HasAscendingNames forest) where
     number = numbered forest t name up at
 
     -- along an edge
-    pub along-comes : (edge : Edge) (p q : Place) (y : Member) (step : Step) → Within edge (edges_in forest name) → AllGiven log t e (from_of edge) p → step_of forest t edge p ≡ step → IsDerivedBy log step q → Has q y → Comes forest name e (to_of edge) q y
+    pub along-comes : (edge : Edge) (p q : Place) (y : Member) (step : EdgeStep) → Within edge (edges_in forest name) → AllGiven log t e (from_of edge) p → step_of forest t edge p ≡ step → IsDerivedBy log step q → Has q y → Comes forest name e (to_of edge) q y
     along-comes edge p q y (Reaches r) w from is gives h =
-        let covers : (z : Member) → Has r z → (x : Member) × IsStepOrigin edge p r z x = subst (λ (st : Step). StepCovers st edge p) is (step-covers forest t edge p from.valid) in
+        let covers : (z : Member) → Has r z → (x : Member) × IsStepOrigin edge p r z x = subst (λ (st : EdgeStep). StepCovers st edge p) is (step-covers forest t edge p from.valid) in
         let x = covers y (subst (λ (z : Place). Has z y) (sym gives.0) h) in
         let c = all t name e (from_of edge) p x.0 at (from.members x.0 x.1.has) in
         record {

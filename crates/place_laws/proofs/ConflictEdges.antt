@@ -9,8 +9,8 @@ use Rattle.tpl_paths.specs.Edges.{Edge, from_of, to_of}
 use Rattle.tpl_tree.specs.Forests.{ForestData, HasAscendingNames}
 use Rattle.place_flow.specs.Flows.{edges_at}
 use Rattle.place_flow.specs.Transfer.{step_of}
-use Rattle.place_flow.specs.declared.step.Step.{Step}
-use Rattle.place_flow.specs.declared.step.Step.TheVariants.{Reaches, Enters, Refused as refused_step}
+use Rattle.place_flow.specs.declared.step.EdgeStep.{EdgeStep}
+use Rattle.place_flow.specs.declared.step.EdgeStep.TheVariants.{Reaches, Enters, Refused as refused_step}
 use Rattle.place_derive.specs.Derivations.{AllGiven, IsDerivedBy, IsMadeDerivation}
 use Rattle.place_derive.specs.FirstConflicts.{IsClash, IsWhy}
 use Rattle.place_derive.specs.declared.derivation.Derivation.{Derivation}
@@ -22,7 +22,7 @@ use Rattle.place_flow.proofs.NamedParts.{edge_within, numbered}
 use Rattle.place_laws.proofs.RefusalEvidences.{own-has, refused-stands}
 use Rattle.place_laws.specs.Witness.{AreTemplates, MembersDoNotJoin, EveryConflictHasError, RefusalErr, path_state}
 
-derived-valid : (log : List Derivation) (step : Step) (derived : Place) → IsDerivedBy log step derived → IsValid derived
+derived-valid : (log : List Derivation) (step : EdgeStep) (derived : Place) → IsDerivedBy log step derived → IsValid derived
 derived-valid log (Reaches q) derived h = h.1
 derived-valid log (Enters c q) derived h = h.valid
 derived-valid log refused_step derived h = absurd h

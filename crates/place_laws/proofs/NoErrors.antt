@@ -19,8 +19,8 @@ use Rattle.place_core.specs.declared.step_err.StepErr.{StepErr}
 use Rattle.place_laws.proofs.TakenEdges.{is-on, taken-edge}
 use Rattle.place_laws.specs.Exactness.{ChartedSetsHaveNoError, stands_at, state_at}
 use Rattle.place_flow.specs.Transfer.{edge_step, reaches_or_refused, may_use, use_at}
-use Rattle.place_flow.specs.declared.step.Step.{Step}
-use Rattle.place_flow.specs.declared.step.Step.TheVariants.{Refused}
+use Rattle.place_flow.specs.declared.step.EdgeStep.{EdgeStep}
+use Rattle.place_flow.specs.declared.step.EdgeStep.TheVariants.{Refused}
 use Rattle.place_infer.specs.Inferring.{EndsInText, root_numbers}
 use Rattle.place_infer.proofs.JudgedCharts.{root-in}
 use Rattle.place_chart.specs.Exact.{places_of}
@@ -58,7 +58,7 @@ below-text (place.Script x) b = cc
 below-text (place.Style x) b = cc
 below-text (place.Block x) b = cc
 
-taken-parts : (b : Bool) (x : Step) → IsTaken (if b then x else Refused) → IsTaken x
+taken-parts : (b : Bool) (x : EdgeStep) → IsTaken (if b then x else Refused) → IsTaken x
 taken-parts true x h = h
 taken-parts false x h = absurd h
 

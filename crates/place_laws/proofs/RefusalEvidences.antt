@@ -28,8 +28,8 @@ use Rattle.tpl_paths.specs.Paths.{Open}
 use Rattle.tpl_tree.specs.Forests.{ForestData, HasAscendingNames, number_named}
 use Rattle.tpl_tree.specs.declared.pipe.Pipe.{Pipe}
 use Rattle.place_flow.specs.Transfer.{edge_step, enters_or_refused, reaches_or_refused, may_use, step_of, use_at}
-use Rattle.place_flow.specs.declared.step.Step.{Step}
-use Rattle.place_flow.specs.declared.step.Step.TheVariants.{Refused}
+use Rattle.place_flow.specs.declared.step.EdgeStep.{EdgeStep}
+use Rattle.place_flow.specs.declared.step.EdgeStep.TheVariants.{Refused}
 use Rattle.place_flow.proofs.ClearSteps.{one_place}
 use Rattle.place_flow.proofs.NamedParts.{numbered, same_use}
 use Rattle.place_flow.specs.Errors.{Misuses}
@@ -51,7 +51,7 @@ shows-use p uses.Misused v h = record { bears = member.Whole; there = refl; refu
 pub own-has : (p : Place) (s : LexState ValueState) (m : Member) → (i : IsIn p s) → Bears s m → Has i.own m
 own-has p s m i b = subst (λ (a : Place). Has a m) (one_place (placed s) b.own i.own b.stands i.stands) b.has
 
-refused-parts : (b : Bool) (x : Step) → (if b then x else Refused) ≡ Refused → (b ≡ false) ⊎ (x ≡ Refused)
+refused-parts : (b : Bool) (x : EdgeStep) → (if b then x else Refused) ≡ Refused → (b ≡ false) ⊎ (x ≡ Refused)
 refused-parts true x h = inr h
 refused-parts false x h = inl refl
 

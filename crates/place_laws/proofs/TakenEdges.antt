@@ -7,8 +7,8 @@ use Rattle.place_flow.specs.Transfer.{step_of}
 use Rattle.place_flow.specs.PointStates.{IsValidPointState, IsConflictFree, PointStateBelow}
 use Rattle.place_flow.specs.declared.point_state.PointState.{PointState}
 use Rattle.place_flow.specs.declared.point_state.PointState.TheVariants.{Unreached, At, Conflict}
-use Rattle.place_flow.specs.declared.step.Step.{Step}
-use Rattle.place_flow.specs.declared.step.Step.TheVariants.{Reaches, Enters, Refused}
+use Rattle.place_flow.specs.declared.step.EdgeStep.{EdgeStep}
+use Rattle.place_flow.specs.declared.step.EdgeStep.TheVariants.{Reaches, Enters, Refused}
 use Rattle.place_chart.proofs.NamedTemplates.{edges_at-named}
 use Rattle.place_chart.specs.Exact.{point_place, places_at}
 use Rattle.place_chart.proofs.FirstSummaries.{first_is, first_summary_is}
@@ -37,7 +37,7 @@ summary-entry summaries t p a k (Some summary) valid is at =
     subst IsValid f.entry v.entry
 
 -- what gives to a spot that is whole is not refused
-taken-to : (chart : ChartByNumber) (step : Step) (s : PointState) → IsConflictFree s → PointStateBelow (step_given chart step) s → IsTaken step
+taken-to : (chart : ChartByNumber) (step : EdgeStep) (s : PointState) → IsConflictFree s → PointStateBelow (step_given chart step) s → IsTaken step
 taken-to chart (Reaches q) s w b = tt
 taken-to chart (Enters c q) s w b = tt
 taken-to chart Refused Unreached w b = absurd b

@@ -1,9 +1,10 @@
 -- A text is refused at one of its bytes, or at its end.
 use Rattle.std.proofs.Common.{◌≡◌, ℕ, ◌+◌, ◌-◌, ◌≤◌, List, [], ◌∷◌, length, Option, Some, None, Result, Ok, Err, refl, sym, ap, ◌∙◌, subst, arith}
-use Rattle.html_scan.specs.Scans.{At, Scan, is_scan_between, scan_cut_error, scan_error, scan_lexeme_error, scan_next, scan_place}
+use Rattle.html_scan.specs.Scans.{At, Scan, scan_reference, scan_cut_error, scan_error, scan_lexeme_error, scan_next, scan_place}
 use Rattle.html_step.specs.Steps.{after_text, place_before, stepped, unless_broken_off, unless_refused, with_place_before}
 use Rattle.place_core.specs.page.Classes.{class_of}
-use Rattle.place_core.specs.place.Errors.{PathCause, PathRefusal, last_between}
+use Rattle.place_core.specs.place.Errors.{PathCause, PathRefusal}
+use Rattle.place_core.specs.place.LastPercent.{last_percent}
 use Rattle.place_core.specs.declared.code.Code.{Code}
 use Rattle.place_core.specs.declared.place.Place.{Place}
 use Rattle.place_core.specs.declared.step_err.StepErr.{StepErr}
@@ -31,11 +32,10 @@ broken-within k since (Some e) q x h =
 
 stepped-within : (k since : ℕ) (bytes : List ℕ) (f : Scan) (x : PathRefusal) → stepped k since bytes f ≡ Err x → x.at ≤ k + length bytes
 stepped-within k since [] f x h =
-    let last = last_between k since (is_scan_between f) in
-    unless-within k 0 (scan_cut_error f) (unless_broken_off k last (scan_lexeme_error f) (scan_place f)) x
-    (λ y e. broken-within k last (scan_lexeme_error f) (scan_place f) y e) h
+    unless-within k 0 (scan_cut_error f) (unless_broken_off k since (scan_lexeme_error f) (scan_place f)) x
+    (λ y e. broken-within k since (scan_lexeme_error f) (scan_place f) y e) h
 stepped-within k since (b ∷ bs) f x h =
-    let last = last_between k since (is_scan_between f) in
+    let last = last_percent k since (scan_reference f) (class_of b) b in
     let g = scan_next f (class_of b) b in
     unless-within k (length (b ∷ bs)) (scan_error f (class_of b) b) (stepped (k + 1) last bs g) x
     (λ y e. (let w = stepped-within (k + 1) last bs g y e in omega (arith, w))) h

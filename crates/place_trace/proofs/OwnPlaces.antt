@@ -16,7 +16,7 @@ use Rattle.html_step.specs.Steps.{after_text}
 use Rattle.tpl_paths.specs.Edges.{Edge, before, calls, fills, passes, picks, writes}
 use Rattle.tpl_tree.specs.Forests.{ForestData, number_named}
 use Rattle.place_flow.specs.Transfer.{enters_or_refused, reaches_or_refused, may_use, step_of, use_at}
-use Rattle.place_flow.specs.declared.step.Step.TheVariants.{Reaches, Refused}
+use Rattle.place_flow.specs.declared.step.EdgeStep.TheVariants.{Reaches, Refused}
 
 text-own : (may : Bool) (bytes : List ℕ) (p q : Place) (s : LexState ValueState) (o : Result Place (StepErr Place)) → placed s ≡ Some p → after_text bytes p ≡ o
     → (if may then reaches_or_refused (behind_text o) else Refused) ≡ Reaches q → placed (node bytes s) ≡ Some q

@@ -16,8 +16,8 @@ use Rattle.place_flow.proofs.StepLaws.{step-keeps-valid}
 use Rattle.place_flow.specs.Flows.{choice_of, edges_at, start_at}
 use Rattle.place_flow.specs.Laws.{IsValidStep}
 use Rattle.place_flow.specs.Transfer.{step_of}
-use Rattle.place_flow.specs.declared.step.Step.{Step}
-use Rattle.place_flow.specs.declared.step.Step.TheVariants.{Reaches, Enters}
+use Rattle.place_flow.specs.declared.step.EdgeStep.{EdgeStep}
+use Rattle.place_flow.specs.declared.step.EdgeStep.TheVariants.{Reaches, Enters}
 use Rattle.place_trace.proofs.OpenCalls.{opens-more}
 use Rattle.place_trace.proofs.OwnPlaces.{reaches-own}
 use Rattle.place_trace.proofs.Tellings.{edge-noted, told-append}
@@ -92,14 +92,14 @@ module _ (forest : ForestData) (w new : PathReplay) (is : IsPathReplay forest w)
     edge-move : (e : Edge) → slice_get (edges_at forest w.template) number ≡ Some e → w.point ≡ from_of e → IsMove forest here (along e)
     edge-move e at from = (edge_within forest w.template number is.name e ours at, from)
 
-    edge-clear : (e : Edge) (r : Step) → step_of forest w.template e w.place ≡ r → IsTaken r → IsClear forest here state (along e ∷ [])
+    edge-clear : (e : Edge) (r : EdgeStep) → step_of forest w.template e w.place ≡ r → IsTaken r → IsClear forest here state (along e ∷ [])
     edge-clear e r step taken = (
       step-clear forest w.template is.name e w.place state ours is.valid (record { own = w.place; stands = is.own; valid = is.valid; below = below_refl w.place })
           (subst IsTaken (sym step) taken),
       tt,
     )
 
-    edge-valid : (e : Edge) (r : Step) → step_of forest w.template e w.place ≡ r → IsValidStep r
+    edge-valid : (e : Edge) (r : EdgeStep) → step_of forest w.template e w.place ≡ r → IsValidStep r
     edge-valid e r step = subst IsValidStep step (step-keeps-valid forest w.template e w.place is.valid)
 
     pub arrived : (e : Edge) (to : Point) (q : Place) (choice : _) → slice_get (edges_at forest w.template) number ≡ Some e → w.point ≡ from_of e → to ≡ to_of e → choice ≡ choice_of e

@@ -4,7 +4,7 @@ use crate::origin::member_before;
 use page_io::Memory;
 use place_core::{Member, Place};
 use place_derive::{Derivation, DerivedFrom};
-use place_flow::{Flows, Step, transfer};
+use place_flow::{EdgeStep, Flows, transfer};
 use std::alloc::Global;
 use tpl_paths::Point;
 
@@ -127,7 +127,7 @@ impl BackTrace {
     fn back_into(&mut self, flows: &Flows, edge: u32, source: Place) -> Result<bool, Memory> {
         let at = self.at;
         match transfer(flows, at.template, edge as usize, source) {
-            Step::Enters(template, entry) => {
+            EdgeStep::Enters(template, entry) => {
                 self.calls.push(BackCall {
                     template: at.template,
                     entry: at.entry,

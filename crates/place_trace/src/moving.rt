@@ -11,7 +11,7 @@ use crate::points::node_of;
 use crate::replay::{PathReplay, ReplayedCall};
 use page_io::Memory;
 use place_core::Place;
-use place_flow::{Flows, Step, transfer};
+use place_flow::{EdgeStep, Flows, transfer};
 use tpl_paths::{Point, Way};
 
 // Notes what is chosen at a point of a template.
@@ -90,15 +90,15 @@ pub(crate) fn go_on(
         → WentBy flows.now replay.old replay.new e result }
 {
     match transfer(flows, replay.template, number, replay.place) {
-        Step::Reaches(place) => {
+        EdgeStep::Reaches(place) => {
             let choice = flows.choice(replay.template, number);
             arrive(replay, to, place, choice)?;
             Ok(true)
         }
-        Step::Enters(callee, place) => {
+        EdgeStep::Enters(callee, place) => {
             enter(replay, callee, flows.start(callee), to, place)?;
             Ok(true)
         }
-        Step::Refused => Ok(false),
+        EdgeStep::Refused => Ok(false),
     }
 }

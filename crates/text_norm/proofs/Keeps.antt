@@ -2,7 +2,8 @@
 use Rattle.std.proofs.Common.{◌≡◌, ℕ, ◌+◌, Bool, true, false, codes, List, [], ◌∷◌, ◌++◌, length, Option, Some, None, refl, sym, ap, ◌∙◌, subst}
 use Rattle.place_core.specs.page.Classes.{Class, GreaterThan, class_of}
 use Rattle.place_core.specs.page.Comments.{closes_comment, comment_ended, next_in_comment}
-use Rattle.place_core.specs.place.Errors.{PathCause, PathRefusal, at_hand, broken_off, byte_error, content_error, cut_error, ending_tag, first_byte_error, first_error, is_between, kind_error, language_error, last_between, lexeme_error, quotes_error, refusal_from, standing_at, states, tag_error}
+use Rattle.place_core.specs.place.Errors.{PathCause, PathRefusal, at_hand, broken_off, byte_error, content_error, cut_error, ending_tag, first_byte_error, first_error, kind_error, language_error, lexeme_error, quotes_error, refusal_from, standing_at, states, tag_error}
+use Rattle.place_core.specs.place.LastPercent.{last_percent, url_reference}
 use Rattle.place_core.specs.page.Events.{LexEvent, event_text_bytes}
 use Rattle.place_core.specs.page.Html.{ends_value, next, read_over, emits}
 use Rattle.place_core.specs.place.Membership.{IsIn}
@@ -147,12 +148,11 @@ whole k since (Some e) n = absurd (some _ n)
 pub keeps-from : (bytes : List ℕ) (k since : ℕ) (s : LexState ValueState) (t : List LexEvent) (d : Config ValueState) → refusal_from k since bytes s ≡ None → TextStands languages s t d
     → (let c = read_node languages bytes (config s t) in TextStands languages c.at c.emitted (page languages (written languages bytes s) d))
 keeps-from [] k since s t d n h =
-    let here = last_between k since (is_between s) in
-    let m = goes k (cut_error s) (broken_off k here (lexeme_error s)) n in
-    cut-follows s t d m.0 (whole k here (lexeme_error s) m.1) h
+    let m = goes k (cut_error s) (broken_off k since (lexeme_error s)) n in
+    cut-follows s t d m.0 (whole k since (lexeme_error s) m.1) h
 keeps-from (b ∷ bs) k since s t d n h =
     let z = next languages Template s (class_of b) b in
-    let later = last_between k since (is_between s) in
+    let later = last_percent k since (url_reference s) (class_of b) b in
     let m = goes k (byte_error s (class_of b) b) (refusal_from (k + 1) later bs z) n in
     let u = emits languages Template s (class_of b) b t in
     let o = out s (class_of b) b in

@@ -4,7 +4,7 @@ use Rattle.place_core.specs.page.Classes.{Class, White, ExclamationMark, Quotati
 use Rattle.place_core.specs.page.Comments.{Declaration, OpensComment, OpensDoctype, Undecided, OpensNothing, closes_comment, comment_ended, declared_by, next_in_comment, next_in_doctype}
 use Rattle.place_core.specs.page.Contents.{may_be_name_of, is_name_of, next_bang, next_end_name, next_in_content, next_less, next_loose}
 use Rattle.place_core.specs.page.Html.{after_tag, ends_value, next, next_after_name, next_after_value, next_before_name, next_before_value, next_declaration, next_end_tag_open, next_name, next_tag_name, next_tag_open, next_text, next_value}
-use Rattle.place_core.specs.place.Errors.{last_between}
+use Rattle.place_core.specs.place.LastPercent.{last_percent}
 use Rattle.place_core.specs.place.Places.{Below}
 use Rattle.place_core.specs.page.References.{Reference, Closed, Open, as_it_stands, begin_reference, next_reference, settled}
 use Rattle.place_core.specs.page.States.{CommentState, Started, StartedDash, Inside, Dash, DashDash, Bang, Broken, Template, LexState, Text, TagOpen, EndTagOpen, DeclarationOpen, InComment, BogusComment, InDoctype, TagName, WholeTagName, BeforeAttributeName, AttributeName, WholeAttributeName, AfterAttributeName, BeforeAttributeValue, AttributeValue, AfterAttributeValue, SelfClosingStartTag, Characters, Bytes, Pending, Nothing, PendingLess, LessAtCut, PendingName, PendingBang, PendingBangDash, InContent, Unread}
@@ -20,7 +20,7 @@ use Rattle.place_core.specs.declared.tag_of.TagOf.{TagOf}
 use Rattle.place_core.specs.declared.tag_of.TagOf.TheVariants as which
 use Rattle.place_core.specs.declared.value_place.ValuePlace.{ValuePlace}
 use Rattle.place_core.proofs.Semilattices.{none_some, one_value}
-use Rattle.html_scan.specs.Scans.{Scan, At, AfterLess, AfterLessSolidus, InDeclaration, InTagName, InAttributeName, InCommentEnd, InContentEnd, InUrl, BeforeType, InType, scan_error, scan_next, url_scan, is_scan_between}
+use Rattle.html_scan.specs.Scans.{Scan, At, AfterLess, AfterLessSolidus, InDeclaration, InTagName, InAttributeName, InCommentEnd, InContentEnd, InUrl, BeforeType, InType, scan_error, scan_next, url_scan, scan_reference}
 use Rattle.html_step.proofs.PlaceParts.{below-rcdata}
 use Rattle.html_step.proofs.ScanOrder.{ScanBelow, ScanValid, scan-grows}
 use Rattle.html_step.proofs.OnePath.{WhereScanned, content_scanned, scanned, url_scanned}
@@ -619,7 +619,7 @@ same-from : (bytes : List ℕ) (k since : ℕ) (s : LexState ValueState) (f : Sc
     → written languages bytes s ≡ written_from bytes f r
 same-from [] k since s f r q e o h = cuts-at s f r e o
 same-from (b ∷ bs) k since s f r q e o h =
-    let later = last_between k since (is_scan_between f) in
+    let later = last_percent k since (scan_reference f) (class_of b) b in
     let n = not-refused k (scan_error f (class_of b) b) (stepped (k + 1) later bs (scan_next f (class_of b) b)) q h in
     let w = writes-at s f b r e o in
     ap₂ (λ (x y : List ℕ). x ++ y) w.outs
@@ -628,7 +628,7 @@ same-from (b ∷ bs) k since s f r q e o h =
 above-from : (bytes : List ℕ) (k since : ℕ) (f g : Scan) (r : Reference) (q : Place) → ScanValid f → ScanBelow f g → stepped k since bytes g ≡ Ok q → written_from bytes f r ≡ written_from bytes g r
 above-from [] k since f g r q v h e = cut-same f g r h
 above-from (b ∷ bs) k since f g r q v h e =
-    let later = last_between k since (is_scan_between g) in
+    let later = last_percent k since (scan_reference g) (class_of b) b in
     let n = not-refused k (scan_error g (class_of b) b) (stepped (k + 1) later bs (scan_next g (class_of b) b)) q e in
     let m = scan-grows f g (class_of b) b v h n.0 in
     let w = scan-same f g (class_of b) b r h in

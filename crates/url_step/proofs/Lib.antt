@@ -1,8 +1,10 @@
 pub mod Covering
 pub mod Growth
 pub mod OnePath
+pub mod OneText
 pub mod Origins
 mod PartExamples
 pub mod Shown
+pub mod TextGrowth
 pub mod ValidParts
 pub mod WordLetters

@@ -1,3 +1,5 @@
 pub mod PartLaws
 pub mod PartOrigins
 pub mod PartSets
+pub mod PartTexts
+pub mod TextLaws

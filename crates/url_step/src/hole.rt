@@ -1,8 +1,8 @@
 ghost use Rattle.std.specs.Prelude.{◌≡◌, ◌≤◌};
-ghost use Rattle.url_step.specs.PartSets.{hole_answer, part_count};
+ghost use Rattle.url_step.specs.PartSets.{hole_answer, hole_with_chain, part_count};
 ghost use Rattle.url_step.specs.PartSets as spec;
 
-use place_core::{Code, Parts};
+use place_core::{Chain, Code, Parts, San};
 
 // One where it holds, and else none.
 fn one_if(holds: bool) -> u8
@@ -38,4 +38,44 @@ pub fn at_hole(parts: Parts) -> Result<Parts, Code>
         openhole: parts.start || (parts.opened.is_some() || parts.openhole),
         ..parts
     })
+}
+
+/// The parts behind a hole, and what is done to a value there; or why it is refused. Where the value is the first of the URL it may choose
+/// the scheme, of those that `url_filter` lets through; in the beginning it may end none; in the query it is one value.
+///
+/// - `AmbigContext`: paths are in several parts, so that no one chain fits all.
+/// - `BadHTML`: paths are behind a scheme that is code.
+pub fn after_hole(place: Parts) -> Result<(Parts, Chain), Code>
+    ensures { result ≡ hole_with_chain place (hole_answer place) }
+{
+    let after = at_hole(place)?;
+    Ok((after, chain_in(place)))
+}
+
+// The sanitizers in the one part of a URL.
+fn chain_in(parts: Parts) -> Chain
+    ensures { result ≡ spec.part_chain parts }
+{
+    if parts.start {
+        return Chain {
+            count: 2,
+            sans: [San::UrlFilter, San::UrlNorm, San::UrlNorm],
+        };
+    }
+    if parts.prequery {
+        return only(San::UrlNorm);
+    }
+    if parts.query {
+        return only(San::UrlQuery);
+    }
+    only(San::UrlOpen)
+}
+
+fn only(san: San) -> Chain
+    ensures { result ≡ spec.one_san san }
+{
+    Chain {
+        count: 1,
+        sans: [san; 3],
+    }
 }

@@ -2,6 +2,7 @@ ghost use Rattle.url_step.specs.PartLaws.{CoversParts, CoversUrls, IsExactOnOneP
 ghost use Rattle.url_step.specs.PartLaws.{PartsAgree, PartsGrow, PartsStayValid};
 ghost use Rattle.url_step.specs.PartOrigins.{ColonIsShown, HoleIsShown, PartsComeFrom};
 ghost use Rattle.url_step.specs.PartOrigins.{PartsComeFromHole};
+ghost use Rattle.url_step.specs.TextLaws.{IsExactOnOneText, TextsGrow};
 
 /// On the set of one path, what a byte of text and a hole make of it and what is refused is the path's own. A theorem; the call does
 /// nothing at run time.
@@ -57,4 +58,16 @@ pub fn covers_urls()
 /// A set that has a part comes to sets that have one, and no more of a word is spelled than it has. A theorem; the call does nothing at run time.
 pub fn parts_stay_valid()
     ensures { PartsStayValid }
+{}
+
+/// Where a set accepts the characters of a text, a set below it accepts them, and comes to one below. A theorem; the call does nothing
+/// at run time.
+pub fn texts_grow()
+    ensures { TextsGrow }
+{}
+
+/// On the set of one path, whose text begins in no percent triple, what characters come to is the path's own, and so is what is
+/// refused of them, where, and the part before it. A theorem; the call does nothing at run time.
+pub fn is_exact_on_one_text()
+    ensures { IsExactOnOneText }
 {}

@@ -1,15 +1,15 @@
 -- Where a text of a template is refused, and by which code: the conditions that stand on the places of paths, byte by byte, at the end of a
 -- node and at a hole. The checks of a byte have one order, whether one path stands at a place or several do.
-use Rattle.std.specs.Prelude.{◌≡◌, ℕ, zero, suc, ◌+◌, ◌-◌, ◌==◌, bytes_eq, encode_utf8, Bool, true, false, ◌&&◌, ◌||◌, List, [], ◌∷◌, length, Option, Some, None, is_some, if◌then◌else◌}
+use Rattle.std.specs.Prelude.{◌≡◌, ℕ, zero, suc, ◌+◌, ◌-◌, ◌==◌, bytes_eq, encode_utf8, Bool, true, false, ◌&&◌, ◌||◌, List, [], ◌∷◌, length, Option, Some, None, if◌then◌else◌}
 use Rattle.place_core.specs.page.Classes.{Class, White, ExclamationMark, QuotationMark, Apostrophe, HyphenMinus, Solidus, LessThan, EqualsSign, GreaterThan, GraveAccent, is_equals_sign, class_of}
 use Rattle.place_core.specs.page.Html.{next, ends_value}
 use Rattle.place_core.specs.page.Paths.{at_cut}
 use Rattle.place_core.specs.page.References.{Form, Named, Reference, Closed, Open, ReferenceStep, Grows, Closes, Breaks, turn, names, named_in, replacement, meaning, flushed, plain_bytes, settled, as_it_stands}
+use Rattle.place_core.specs.place.LastPercent.{last_percent, url_reference}
 use Rattle.place_core.specs.place.StatePlaces.{placed, value_spot, value_body, tag_spot, only_name, only_before, only_inside, only_after, quotes_at}
 use Rattle.place_core.specs.page.States.{Template, LexState, Text, TagOpen, EndTagOpen, DeclarationOpen, InComment, Broken, CommentState, BogusComment, InDoctype, TagName, WholeTagName, BeforeAttributeName, AttributeName, WholeAttributeName, AfterAttributeName, BeforeAttributeValue, AttributeValue, AfterAttributeValue, SelfClosingStartTag, Characters, Bytes, Pending, Nothing, PendingLess, LessAtCut, PendingName, PendingBang, PendingBangDash, InContent, Unread}
-use Rattle.place_core.specs.page.Tags.{Tag, is_second_type, Value, attribute_value_of, ValueOf, Deciding, ValueLanguage, with_bytes, Feeding, feeding, feed_bytes, refuses_cut_of, cut_value, tag_with_value, ValueState, OfKind, OfUrl, languages, tag_of_name, element_on}
+use Rattle.place_core.specs.page.Tags.{Tag, is_second_type, Value, attribute_value_of, ValueOf, Deciding, ValueLanguage, with_bytes, Feeding, feeding, feed_bytes, refuses_cut_of, cut_value, tag_with_value, ValueState, languages, tag_of_name, element_on}
 use Rattle.place_core.specs.page.Words.{kind_of}
-use Rattle.url_lexer.specs.Spots.{url_spot}
 use Rattle.place_core.specs.declared.bare.Bare.{Bare}
 use Rattle.place_core.specs.declared.body.Body.{Body}
 use Rattle.place_core.specs.declared.body.Body.TheVariants as body
@@ -292,20 +292,6 @@ abbrev pub lexeme_error : LexState ValueState → Option Code
 lexeme_error (AttributeValue q t v r) = refuses_cut_of languages (with_bytes languages v (as_it_stands r))
 lexeme_error s = None
 
--- Whether a path is between two lexemes of such a language: no reference is open, and no percent triple. Where it ends in one, the place that is shown
--- is the last one between two.
-abbrev pub is_closed_reference : Reference → Bool
-is_closed_reference Closed = true
-is_closed_reference (Open f bytes) = false
-
-abbrev pub is_between_in : ValueState → Reference → Bool
-is_between_in (OfKind k) r = true
-is_between_in (OfUrl u) r = is_closed_reference r && is_some (url_spot u)
-
-abbrev pub is_between : LexState ValueState → Bool
-is_between (AttributeValue q t (ValueOf v) r) = is_between_in v r
-is_between s = true
-
 -- Where a value of data may not stand: in a name, which it would go on with, and where it would decide how the page is read; in a URL behind a
 -- scheme that is code. Of paths that stand in several parts of a URL see `ClashesHole` of `PathPairs.antt`.
 abbrev pub url_hole_error : Bool → Option Code
@@ -341,21 +327,17 @@ abbrev pub standing_at : ℕ → Option PathCause → Option PathRefusal → Opt
 standing_at k None rest = rest
 standing_at k (Some e) rest = Some (record { code = e.code; at = k - e.back; shown = k - e.shown })
 
--- the last point between two lexemes, by the one before
-abbrev pub last_between : ℕ → ℕ → Bool → ℕ
-last_between k before true = k
-last_between k before false = before
-
+-- a lexeme that is refused at the end of a text, and where it begins
 abbrev pub broken_off : ℕ → ℕ → Option Code → Option PathRefusal
 broken_off k since None = None
 broken_off k since (Some e) = Some (record { code = e; at = k; shown = since })
 
--- of bytes that stand at `k` in their text, where `since` is the last point between two lexemes before
+-- of bytes that stand at `k` in their text, where `since` is the place of the last percent sign before
 abbrev pub refusal_from : ℕ → ℕ → List ℕ → LexState ValueState → Option PathRefusal
-refusal_from k since [] s = standing_at k (cut_error s) (broken_off k (last_between k since (is_between s)) (lexeme_error s))
+refusal_from k since [] s = standing_at k (cut_error s) (broken_off k since (lexeme_error s))
 refusal_from k since (b ∷ bs) s =
     standing_at k (byte_error s (class_of b) b)
-    (refusal_from (k + 1) (last_between k since (is_between s)) bs (next languages Template s (class_of b) b))
+    (refusal_from (k + 1) (last_percent k since (url_reference s) (class_of b) b) bs (next languages Template s (class_of b) b))
 
 abbrev pub path_refusal : List ℕ → LexState ValueState → Option PathRefusal
 path_refusal bytes s = refusal_from 0 0 bytes s

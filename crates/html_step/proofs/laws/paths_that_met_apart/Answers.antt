@@ -1,4 +1,3 @@
-use Rattle.html_step.proofs.KeptBeginnings.{is_url_value}
 use Rattle.html_step.proofs.MetApart.{met-apart}
 use Rattle.html_step.proofs.laws.paths_that_met_apart.Goals as goal
 

@@ -1,0 +1,243 @@
+"""Random sets of template files, and data of strangers for their pages: what `bench/hostile` tries.
+
+Texts stand where they are mostly accepted. Each kind of context has texts that lead from it to itself, so that controls and calls may be
+put around any of them.
+"""
+
+MARK = "q"  # begins each harmless text, and stands in no URL that a template writes
+
+# What texts of templates say, by the kind of context: each leads from a context of the kind to one of it, as does a hole. `open` is
+# behind a value at the beginning of a URL, and `note` is in a comment.
+WORDS = ["a b ", "x &amp; y", "R&", "&am", "&lt", "&#106;ava", "&#x", "1 < 2 > 1 ", "javascript", "vbscript:", " data", "%3",
+         "\u00e9\u2028", "\n"]
+TEXTS = {
+    "text": WORDS,
+    "plain": WORDS,
+    "note": WORDS,
+    "word": ["a", "b.c", "&#32;", "&quot;", "javascript:", "%4", "/x", "\u00e9", "R&"],
+    "open": ["a", "script", "java", "vbscript", "data", "-", "%41", "%c3%a9", "a&amp;b", "&", "\u00e9", "&#115;", "&Tab;", ".", "@h"],
+    "path": ["a/", "/b.html", "..", ":", "javascript:", "%2F", "%3a", "\u00e9", "&", "&amp;", "@", "&#47;", "data:", "java"],
+    "query": ["a", "b+c", "%26", "%3D", "/", ":", "javascript:", "&amp;c", "&", "&d", "\u00e9", "data", "&#61;"],
+}
+KINDS = ["text", "text", "plain", "plain", "note", "attributes", "open", "path", "query"]  # of templates that others call
+
+ELEMENTS = ["p", "a", "b", "td", "LI", "form", "object", "x-y", "svg", "img", "blockquote", "h1"]
+PLAIN_NAMES = ["title", "class", "alt", "Value", "data-x", "content", "type", "hidden", "aria-label"]
+URL_NAMES = ["href", "src", "action", "formaction", "cite", "poster", "data", "background", "manifest", "icon", "longdesc", "usemap",
+             "profile", "classid", "codebase", "archive"]
+MORE_URL_NAMES = ["HREF", "data-href", "xlink:href", "xmlns:x", "my-url", "imgsrc", "x-uri"]
+
+# Whole URLs without a hole, texts that lead past any scheme, and texts in which one may still end.
+WHOLE_URLS = ["javascript:f()", "data:,x", "/a?b&#61;c#d", "JaVa&#115;cript&colon;x", "feed:x", "java{{if $.t}}{{end}}script:x",
+              "http://h/%4", "#"]
+PAST_SCHEMES = ["/", "./", "//h.example/", "http://h.example/", "HTTPS:", "mailto:", "feed:", "tel:", "x/", "\u00e9:", "&#104;ttp&#58;//h/"]
+LETTERS = ["java", "javascript", "vbscript", "d", "data", "x", "&#106;ava", "jav&#9;a", "&Tab;java", "JaVa", "http", "h", "1", "-"]
+
+# What may be refused, by the kind of context. In a template `$` is what it is called with, and so always has all the keys.
+MAY_BE_REFUSED = {
+    "text": ['<p {{if $.t}}class="x{{end}}>', "<script>{{$.a}}</script>", '<p onclick="f({{$.a}})">', '<p style="x:{{$.a}}">', "<h{{$.n}}>",
+             "<!--{{$.a}}-->", '<a href="javascript:{{$.a}}">', '<a href="{{$.a}}:x">', "<a href=x{{$.a}}&#58;y>", '<a href="/%4{{$.a}}">',
+             '<a href="/a{{if $.t}}?{{end}}{{$.b}}">', '{{template "none" .}}', '<iframe srcdoc="{{$.a}}"></iframe>', "<b x={{$.a}}=1>",
+             "<p title={{if $.t}}{{$.a}}{{end}} class=x>", "<p {{$.a}}x=1>", "a <{{$.a}}", '<a href="java{{if $.t}}script{{end}}:{{$.a}}">',
+             '<a href="{{if $.t}}java{{else}}x{{end}}script:{{$.a}}">', "<p title={{html $.a}}>", '<script type="{{$.a}}">x</script>',
+             '<a href="da{{if $.t}}t{{end}}a:,{{$.a}}">', '<a href="{{range $.l}}{{.}}{{end}}">', "<!DOCTYPE {{$.a}}>", "</b {{$.a}}>"],
+    "plain": ["{{$.a | html | print}}", "<", "</", '"'],
+    "note": ["-", "--", "-->", "{{html $.a}}"],
+    "word": ["=", "`", "{{if $.t}} {{end}}"],
+    "attributes": ["hidden", "=", '"', "data-{{$.a}}=x ", "href {{if $.t}}=x{{end}} ", "{{$.a}}", 'srcset="{{$.a}}" '],
+    "open": [":", "&#58;", "&colon;", "%", "%4", "/", "{{if $.t}}?{{end}}", "&copy;"],
+    "path": ["%", "%4", "{{if $.t}}?{{end}}", "&copy;", "{{urlquery $.a}}"],
+    "query": ["%", "%4", "&copy;", "{{html $.a}}"],
+}
+
+
+class SetMaker:
+    """Makes one set of template files. Most of what it writes is accepted; each set has its own odds of what may be refused."""
+
+    def __init__(self, source):
+        self.source = source
+        self.odds = source.choice([0, 0, 0, 0.01, 0.05])
+        self.templates = []
+        self.current = -1  # the number of the template that is being written: it calls later ones, and others only with less data
+
+    def files(self):
+        """The contents of each file by its name."""
+        count = self.source.randint(1, 6)
+        pages = self.source.randint(1, min(count, 3))
+        names = [f"page{n}.html" if n < pages else f"_part{n}.html" for n in range(count)]
+        self.templates = [(name, "text") for name in names[pages:]]
+        self.templates += [(f"t{n}", self.source.choice(KINDS)) for n in range(self.source.randint(0, 3 * count))]
+        self.source.shuffle(self.templates)
+        parts = {name: [self.page()] if n < pages else [] for n, name in enumerate(names)}
+        for self.current, (name, kind) in enumerate(self.templates):
+            body = self.hole("open", True) * (kind == "open") + self.pieces(kind, 2, True)
+            where = name
+            if name not in parts:
+                is_block = kind == "text" and self.source.random() < 0.2  # which a page calls where it is
+                where = self.source.choice(names[:pages] if is_block else names)
+                body = f'{{{{block "{name}" .}}}}{body}{{{{end}}}}' if is_block else f'{{{{define "{name}"}}}}{body}{{{{end}}}}'
+            parts[where].insert(self.source.randint(0, len(parts[where])), body)
+        return {name: "".join(written) for name, written in parts.items()}
+
+    def page(self):
+        doctype = self.source.choice(["", "<!DOCTYPE html>", "{{if .t}}<!doctype html>\n{{end}}"])
+        return doctype + self.pieces("text", 3, True) + self.element(2, True)
+
+    def pieces(self, kind, depth, is_record):
+        return "".join(self.piece(kind, depth, is_record) for _ in range(self.source.randint(1, 4)))
+
+    def piece(self, kind, depth, is_record):
+        """Something that leads from any context of the kind to one of it; `is_record` says whether dot has keys."""
+        if self.source.random() < self.odds:
+            return self.source.choice(MAY_BE_REFUSED[kind])
+        choice = self.source.random()
+        if depth and choice < 0.2:
+            return self.control(kind, depth - 1, is_record)
+        if choice < 0.35:
+            return self.call(kind, is_record)
+        if kind == "attributes":
+            return self.attribute(depth, is_record)
+        if kind == "text" and depth and choice < 0.75:
+            return self.element(depth - 1, is_record)
+        return self.hole(kind, is_record) if choice < 0.85 else self.source.choice(TEXTS[kind])
+
+    def control(self, kind, depth, is_record):
+        top = "." if is_record else "$."
+        inside = lambda has_keys: self.pieces(kind, depth, has_keys)
+        otherwise = "{{else}}" + inside(is_record) if self.source.random() < 0.5 else ""
+        leave = self.source.choice(["", "", "{{if $.t}}{{break}}{{end}}", "{{if $.f}}{{break}}{{else}}{{continue}}{{end}}"])
+        return self.source.choice([
+            lambda: f"{{{{if {self.condition(top)}}}}}{inside(is_record)}{otherwise}{{{{end}}}}",
+            lambda: f"{{{{if {self.condition(top)}}}}}{inside(is_record)}{{{{else if {top}t}}}}{inside(is_record)}{otherwise}{{{{end}}}}",
+            lambda: f"{{{{with {top}{self.source.choice('abenv')}}}}}{inside(False)}{otherwise}{{{{end}}}}",
+            lambda: f"{{{{with {top}next}}}}{inside(True)}{otherwise}{{{{end}}}}",
+            lambda: f"{{{{range {top}l}}}}{inside(False)}{leave}{inside(False)}{otherwise}{{{{end}}}}",
+            lambda: f"{{{{range {top}m}}}}{inside(True)}{leave}{inside(True)}{otherwise}{{{{end}}}}",
+            lambda: f"{{{{$x := {top}a}}}}{{{{if {top}t}}}}{{{{$x = {top}b}}}}{{{{end}}}}{self.written('$x', kind)}",
+        ])()
+
+    def condition(self, top):
+        fields = [top + name for name in "abenztfuvlmd"] + [top + "next"]
+        one, other = self.source.sample(fields, 2)
+        return self.source.choice([one, one, f"not {one}", f"and {one} {other}", f"or {one} {other}", f"gt (len {top}l) 1"])
+
+    def call(self, kind, is_record):
+        """A call of a template of the kind, or a hole where there is none. One that may lead back here is given less data."""
+        fits = [n for n, (_, its) in enumerate(self.templates) if its == kind or its == "plain" and kind == "text"]
+        if not fits:
+            return self.piece(kind, 0, is_record) if kind == "attributes" else self.hole(kind, is_record)
+        number = self.source.choice(fits)
+        name = self.templates[number][0]
+        if number > self.current:
+            return f'{{{{template "{name}" {"." if is_record else "$"}}}}}'
+        return f'{{{{with {"." if is_record else "$."}next}}}}{{{{template "{name}" .}}}}{{{{end}}}}'
+
+    def hole(self, kind, is_record):
+        top = "." if is_record else "$."
+        if not is_record and self.source.random() < 0.5:
+            return self.written(".", kind)
+        field = top + self.source.choice("aaaabbbbccccenztfuvld")
+        text = top + self.source.choice("abc")
+        return self.written(self.source.choice([field] * 14 + [
+            f"print {field} {text}", f'print {text} ":"', f'printf "%s" {text}', f'printf "%v|%5d" {field} {top}n', f"len {text}",
+            f"index {top}l 0", f"print (index {top}l 0) {field}", f"slice {text} 0 1", f"len {top}l | print {text}", '"javascript:"',
+            f"or {field} {text}"]), kind)
+
+    def written(self, value, kind):
+        escaper = {"text": "html", "plain": "html", "query": "urlquery"}.get(kind)
+        named = f" | {escaper}" if escaper and self.source.random() < 0.05 else ""
+        return f"{{{{{value}{named}}}}}" + (" " if kind == "attributes" else "")
+
+    def element(self, depth, is_record):
+        plain = lambda kind="plain": self.pieces(kind, depth, is_record)
+        name = self.source.choice(ELEMENTS)
+        tag = f"<{name} {self.pieces('attributes', depth, is_record)}>"
+        return self.source.choice([
+            lambda: tag, lambda: f"{tag}{plain('text')}</{name}>", lambda: f"{tag}{plain()}</{name}>",
+            lambda: f"<{name} {self.attribute(depth, is_record)}/>", lambda: f"<p>{plain()}</p >",
+            lambda: f"<title>{plain()}</title>", lambda: f"<title><b>{plain()}</b></title>",
+            lambda: f"<textarea {self.attribute(depth, is_record)}>{plain()}</p></textarea>",
+            lambda: f"<!-- {plain('note')} -->", lambda: f'<script type="text/template"><p>{plain()}</p></script>',
+        ])()
+
+    def attribute(self, depth, is_record):
+        plain_name, url_name = self.source.choice(PLAIN_NAMES), self.source.choice(URL_NAMES * 2 + MORE_URL_NAMES)
+        quote = self.source.choice(['"', '"', "'", ""])
+        value = self.pieces("plain", depth, is_record) if quote else self.begun(depth, is_record)
+        url = lambda: f"{url_name}={quote}{self.url(quote, depth, is_record)}{quote} "
+        return self.source.choice([
+            url, url, url, url, lambda: f"{plain_name}={quote}{value}{quote} ", lambda: f"{plain_name} ",
+            lambda: self.hole("attributes", is_record), lambda: f"{self.hole('attributes', is_record)}={quote}{value}{quote} ",
+            lambda: "{{range $k, $w := $.d}}{{$k}}=" + f"{quote}{{{{$w}}}}{quote} {{{{end}}}}",
+        ])()
+
+    def begun(self, depth, is_record):
+        """A value without quotes, which begins in its first piece."""
+        return self.source.choice(["a", self.hole("word", is_record)]) + self.pieces("word", depth, is_record)
+
+    def url(self, quote, depth, is_record):
+        more = lambda kind: self.pieces(kind, depth, is_record)
+        one, other = self.source.choice(LETTERS), self.source.choice(LETTERS)
+        either = f"{{{{if $.{self.source.choice('tfn')}}}}}{one}{{{{else}}}}{other}{{{{end}}}}"
+        begun = self.source.choice(["", "", one, one + other, either, one + either, " " * bool(quote)]) + self.hole("open", is_record)
+        equals = "=" if quote else "&#61;"
+        query = f"?k{equals}{more('query')}" + (f"&amp;l{equals}{more('query')}" if self.source.random() < 0.4 else "")
+        past = self.source.choice(PAST_SCHEMES)
+        return self.source.choice([
+            lambda: self.source.choice(WHOLE_URLS), lambda: begun, lambda: begun, lambda: begun + more("open"),
+            lambda: f"{begun}{more('open')}/{more('path')}", lambda: begun + query, lambda: past + more("path"),
+            lambda: past + more("path") + query, lambda: past + query, lambda: query, lambda: "#" + more("query"),
+        ])()
+
+
+# Data of strangers: what acts on URLs, and what acts on everything else.
+HOSTILE_URLS = [
+    "javascript:alert(1)", " JaVaScRiPt:alert(1)", "java\tscript:alert(1)", "\x01javascript:x", "data:text/html,<script>", "vbscript:x",
+    ":x", "x:y", "script:x", "cript:alert(1)", "s", "http", "http:", "HTTPS://h/?a=1&b=2#c", "mailto:x", "//h/", "&#106;avascript:x", "/",
+    "?x", "#", "javascript&colon;x", "%3a", "%", "%4", "4", "41", "3ax", "a&b=c#d", "&", "=", "[", "//[", "\\", "\0javascript:x",
+]
+HOSTILE_TEXTS = [
+    '"><script>x</script>', "'><b>", "' onmouseover=x ", "\" onclick='x", "x onclick=x", "--><b>", "--!><b>", "-", ">", "<", "<!--", "<b",
+    "</title><script>", "</textarea><b>", "</script><b>", "/script ", "!--", "&lt;b&gt;", "amp;", "lt;", "#60;", ";", "`", "/>", "\0",
+    "a\0b", "\u2028", "\u00a0hidden", "\u0085x", "\x1cx=y", "\x0bx", "\x0c", "\r\n", " ", "\ufeffx", "\U0001f600", "\x1bx", "onclick",
+    "HREF", "style", "src", "srcdoc", "title", "ONLOAD", "{{.a}}", "ZgotmplZ", "<" * 3000, 'x"' * 3000,
+]
+
+
+class DataMaker:
+    """Makes data of one random shape. A shape is data whose texts, numbers and entries are still to be filled."""
+
+    TEXT, NUMBER, ENTRIES = object(), object(), object()
+
+    def __init__(self, source):
+        self.source = source
+        self.shape = self.record(source.randint(0, 2))
+
+    def record(self, depth):
+        some = [self.TEXT] * self.source.randint(1, 3)
+        mixed = [self.NUMBER, None, some]
+        any_value = self.source.choice([self.TEXT, self.NUMBER, self.ENTRIES, True, False, None, 0, "", [], some, mixed])
+        fixed = {"a": self.TEXT, "b": self.TEXT, "c": self.TEXT, "e": "", "n": self.NUMBER, "z": 0, "t": True, "f": False, "u": None}
+        records = [self.record(depth - 1) for _ in range(self.source.randint(1, 2))] if depth else []
+        return {**fixed, "v": any_value, "l": some, "m": records, "d": self.ENTRIES, "next": self.record(depth - 1) if depth else None}
+
+    def fill(self, shape, is_hostile):
+        if shape is self.TEXT:
+            return self.text(is_hostile)
+        if shape is self.NUMBER:
+            return self.source.choice([-1, -(2 ** 63), 2 ** 63 - 1, 41]) if is_hostile else self.source.randint(1, 9)
+        if shape is self.ENTRIES:
+            entries = {}
+            while len(entries) < 2:
+                entries[self.text(is_hostile)] = self.text(is_hostile)
+            return entries
+        if isinstance(shape, list):
+            return [self.fill(item, is_hostile) for item in shape]
+        if isinstance(shape, dict):
+            return {key: self.fill(item, is_hostile) for key, item in shape.items()}
+        return shape
+
+    def text(self, is_hostile):
+        if not is_hostile:
+            return MARK + "".join(self.source.choices("abcdefgh", k=self.source.randint(1, 6)))
+        return "".join(self.source.choices(self.source.choice([HOSTILE_URLS, HOSTILE_TEXTS]), k=self.source.choice([1, 1, 1, 2, 3])))
