@@ -1,14 +1,15 @@
 -- A set of parts below one of which all paths are in one part has that part.
-use Rattle.std.proofs.Common.{◌≡◌, ◌≤◌, ◌+◌, Bool, true, false, ◌||◌, Option, Some, None, is_some, nat_lt, if◌then◌else◌, refl, sym, ap, ◌∙◌, arith, ltb-false}
+use Rattle.std.proofs.Common.{◌≡◌, ◌≤◌, ◌+◌, Bool, true, false, ◌||◌, Option, Some, None, is_some, nat_lt, if◌then◌else◌, [], ◌∷◌, ◌++◌, refl, sym, ap, ◌∙◌, arith, ltb-false}
 use Rattle.place_core.specs.place.LanguagePlaces.{both_prefixes, some_part}
 use Rattle.place_core.specs.declared.chain.Chain.{Chain}
 use Rattle.place_core.specs.declared.parts.Parts.{Parts}
 use Rattle.place_core.specs.declared.prefix.Prefix.{Prefix}
 use Rattle.place_core.specs.declared.san.San.{San}
-use Rattle.html_step.specs.Holes.{all_of, both_of, url_chain}
+use Rattle.html_step.specs.Holes.{url_chain}
 use Rattle.place_core.specs.declared.san.San.TheVariants as san
 use Rattle.html_step.proofs.PlaceParts.{Under}
 use Rattle.html_step.proofs.OnePath.{some}
+use Rattle.url_step.specs.Chains.{chain_of}
 use Rattle.url_step.specs.PartSets.{PartsBelow, one_if, part_count, parts_hole_error}
 use Rattle.url_step.proofs.Growth.{hole-none}
 
@@ -64,8 +65,8 @@ same-parts s t v h e =
     }
 
 abbrev chain_by : Bool → Bool → Bool → San → Chain
-chain_by a p q last = if a then all_of san.UrlFilter san.UrlNorm last else (if p then both_of san.UrlNorm last
-    else (if q then both_of san.UrlQuery last else both_of san.UrlOpen last))
+chain_by a p q last = chain_of ((if a then san.UrlFilter ∷ san.UrlNorm ∷ [] else (if p then san.UrlNorm ∷ []
+    else (if q then san.UrlQuery ∷ [] else san.UrlOpen ∷ []))) ++ last ∷ [])
 
 chain-by : (a p q b r u : Bool) (last : San) → a ≡ b → p ≡ r → q ≡ u → chain_by a p q last ≡ chain_by b r u last
 chain-by a p q b r u last e f g = rw (e, f, g) refl

@@ -1,5 +1,5 @@
 -- A value of data at a place: what is done to it, and the place after it, or why none may stand there; and where a template may name an escaper.
-use Rattle.std.specs.Prelude.{Bool, true, false, not, is_none, ◌||◌, ◌&&◌, [], ◌∷◌, Some, Result, Ok, Err, if◌then◌else◌}
+use Rattle.std.specs.Prelude.{Bool, true, false, not, is_none, ◌||◌, ◌&&◌, [], ◌∷◌, ◌++◌, Some, Result, Ok, Err, if◌then◌else◌}
 use Rattle.place_core.specs.place.StatePlaces.{only_inside}
 use Rattle.place_core.specs.declared.body.Body.{Body}
 use Rattle.place_core.specs.declared.body.Body.TheVariants as body
@@ -19,22 +19,23 @@ use Rattle.place_core.specs.declared.san.San.TheVariants as san
 use Rattle.place_core.specs.declared.tag_place.TagPlace.{TagPlace}
 use Rattle.place_core.specs.declared.value_place.ValuePlace.{ValuePlace}
 use Rattle.html_scan.specs.Scans.{bare_begun}
-use Rattle.url_step.specs.PartSets.{hole_answer}
+use Rattle.url_step.specs.Chains.{chain_of}
+use Rattle.url_step.specs.PartSets.{hole_answer, part_sans}
 use Rattle.html_step.specs.declared.escaper.Escaper.{Escaper}
 use Rattle.html_step.specs.declared.escaper.Escaper.TheVariants as escaper
 
 abbrev pub Holed : Type 0
 Holed = Result (Place × Chain) Code
 
--- a chain of one sanitizer, of two, and of three; it has room for three, and what is past its count is not read
+-- a chain of one sanitizer, of two, and of three
 abbrev pub only : San → Chain
-only s = record { count = 1; sans = s ∷ s ∷ s ∷ [] }
+only s = chain_of (s ∷ [])
 
 abbrev pub both_of : San → San → Chain
-both_of s t = record { count = 2; sans = s ∷ t ∷ t ∷ [] }
+both_of s t = chain_of (s ∷ t ∷ [])
 
 abbrev pub all_of : San → San → San → Chain
-all_of s t u = record { count = 3; sans = s ∷ t ∷ u ∷ [] }
+all_of s t u = chain_of (s ∷ t ∷ u ∷ [])
 
 -- The name of an attribute, which is a plain one: where paths stand in a name, the value would go on with it.
 abbrev pub named_by_data : Bool → TagPlace → Holed
@@ -58,11 +59,9 @@ holed_quotes quotes.Dq = quotes.Dq
 holed_quotes quotes.Sq = quotes.Sq
 holed_quotes (quotes.Bare b) = bare_begun
 
--- Where all paths are in one part of the URL, those before it are that part's: data may choose the scheme only where the hole is the first of the
--- URL; in the beginning, also behind a hole, it may end none.
+-- Where all paths are in one part of the URL, the sanitizers of that part, and the last one.
 abbrev pub url_chain : Parts → San → Chain
-url_chain p last = if p.start then all_of san.UrlFilter san.UrlNorm last else (if p.prequery then both_of san.UrlNorm last
-    else (if p.query then both_of san.UrlQuery last else both_of san.UrlOpen last))
+url_chain p last = chain_of (part_sans p ++ last ∷ [])
 
 abbrev pub url_holed : ValuePlace → Parts → Result Parts Code → Holed
 url_holed v before (Ok after) =

@@ -1,3 +1,4 @@
+ghost use Rattle.js_step.specs.KeptWordLaws.{KeptWordsSuffice};
 ghost use Rattle.js_step.specs.ScriptScanLaws.{IsExactOnOneScript, ScriptsBeginAsOne};
 ghost use Rattle.js_step.specs.ScriptSetLaws.{EmptyTextsKeepScripts, ScriptSensesShare};
 ghost use Rattle.js_step.specs.ScriptSetLaws.{ScriptSensesUnite, ScriptTailsGrow};
@@ -42,4 +43,10 @@ pub fn script_senses_share()
 /// byte is among the senses of the place behind it. A theorem; the call does nothing at run time.
 pub fn script_senses_unite()
     ensures { ScriptSensesUnite }
+{}
+
+/// No answer depends on more of a word than the code keeps of it: what is refused at a byte and at the ends, the place, and what is kept behind
+/// a byte. A theorem; the call does nothing at run time.
+pub fn kept_words_suffice()
+    ensures { KeptWordsSuffice }
 {}

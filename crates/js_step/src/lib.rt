@@ -1,11 +1,37 @@
 // How the place of several paths in a script is moved: by a byte of text, by the end of a node, and by a hole.
 #![tactic(auto)]
 
+mod begin;
+mod cause;
+mod ends;
+mod escapes;
+mod feeding;
 mod hole;
 mod laws;
+mod literals;
+mod markup;
+mod places;
+mod point;
+mod refusals;
+mod scan;
+mod senses;
+mod steps;
+mod text;
+mod white;
+mod word;
 
+pub use begin::start;
+pub use cause::ScriptCause;
+pub use ends::{refused_at_cut, refused_at_end};
 pub use hole::at_hole;
 pub use laws::{
-    empty_texts_keep_scripts, is_exact_on_one_script, script_senses_share, script_senses_unite,
-    script_tails_grow, scripts_begin_as_one, scripts_stay_valid,
+    empty_texts_keep_scripts, is_exact_on_one_script, kept_words_suffice, script_senses_share,
+    script_senses_unite, script_tails_grow, scripts_begin_as_one, scripts_stay_valid,
 };
+pub use places::place;
+pub use refusals::refused;
+pub use scan::{
+    ScriptAt, ScriptEscape, ScriptHeld, ScriptLetters, ScriptLiterals, ScriptMarkup, ScriptScan,
+    ScriptTrail, ScriptUnfinished, ScriptWord,
+};
+pub use text::next;

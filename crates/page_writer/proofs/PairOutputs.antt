@@ -1,7 +1,7 @@
 -- What a writer gives is what the chart's pair gives, event by event.
-use Rattle.std.proofs.Common.{◌≡◌, ℕ, Bool, true, false, List, [], ◌∷◌, Option, Some, Ok, Err, refl, sym, ap, ◌∙◌, subst}
+use Rattle.std.proofs.Common.{◌≡◌, ℕ, Bool, true, false, List, [], ◌∷◌, ◌++◌, Option, Some, Ok, Err, refl, sym, ap, ◌∙◌, subst}
 use Rattle.std.specs.Prelude.{◌||◌, Result, if◌then◌else◌}
-use Rattle.html_step.specs.Holes.{after_hole, all_of, block_hole, both_of, Holed, last_of, named_by_data, plain_hole, url_holed, value_hole}
+use Rattle.html_step.specs.Holes.{after_hole, block_hole, Holed, last_of, named_by_data, plain_hole, url_holed, value_hole}
 use Rattle.page_datum.specs.Data.{Data}
 use Rattle.page_path.specs.ByChart.{ChartMay, PairMayEnter, MayHole, MayText, pair_pieces, text_pieces}
 use Rattle.page_path.specs.Pages.{bytes_in, hole_pieces, holed_pieces}
@@ -27,6 +27,7 @@ use Rattle.place_core.specs.declared.value_place.ValuePlace.{ValuePlace}
 use Rattle.place_infer.specs.ChartViews.{ArePairCalls, ChartData, called_by, holed_chain, pair_at}
 use Rattle.place_chart.specs.Exact.{places_of}
 use Rattle.text_norm.specs.Scanned.{written_at}
+use Rattle.url_step.specs.Chains.{chain_of}
 use Rattle.url_step.specs.PartSets.{hole_answer}
 use Rattle.tpl_events.specs.Events.{ExecEvent, enters, gives_hole, gives_text, leaves}
 use Rattle.tpl_paths.specs.Edges.{before, node_kind_at, start_in}
@@ -55,8 +56,8 @@ last_built quotes.Sq = tt
 last_built (quotes.Bare b) = tt
 
 url_built_by : (start prequery query : Bool) (last : San) → IsBuiltBehind last
-    → IsBuiltChain (if start then all_of san.UrlFilter san.UrlNorm last else (if prequery then both_of san.UrlNorm last
-    else (if query then both_of san.UrlQuery last else both_of san.UrlOpen last)))
+    → IsBuiltChain (chain_of ((if start then san.UrlFilter ∷ san.UrlNorm ∷ [] else (if prequery then san.UrlNorm ∷ []
+    else (if query then san.UrlQuery ∷ [] else san.UrlOpen ∷ []))) ++ last ∷ []))
 url_built_by true prequery query last b = (tt, (tt, (b, tt)))
 url_built_by false true query last b = (tt, (b, tt))
 url_built_by false false true last b = (tt, (b, tt))

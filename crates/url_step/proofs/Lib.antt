@@ -5,6 +5,8 @@ pub mod OneText
 pub mod Origins
 mod PartExamples
 pub mod Shown
+pub mod TextCovering
 pub mod TextGrowth
 pub mod ValidParts
+pub mod ValidTexts
 pub mod WordLetters

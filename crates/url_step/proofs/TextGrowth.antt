@@ -44,15 +44,15 @@ pub unless-none : (o r : Option Code) → unless_byte_refused o r ≡ None → (
 unless-none None r h = (refl, h)
 unless-none (Some e) r h = cc
 
-none-named : (o : Option UrlRefusal) → option_map refusal_code o ≡ None → o ≡ None
+pub none-named : (o : Option UrlRefusal) → option_map refusal_code o ≡ None → o ≡ None
 none-named None h = refl
 none-named (Some e) h = cc
 
-accepts : (o : Option Code) (at : ℕ) (s b : Parts) (r : UrlText) → unless_character_refused o at s r ≡ Ok (step.Inside b) → (o ≡ None) × (r ≡ Ok (step.Inside b))
+pub accepts : (o : Option Code) (at : ℕ) (s b : Parts) (r : UrlText) → unless_character_refused o at s r ≡ Ok (step.Inside b) → (o ≡ None) × (r ≡ Ok (step.Inside b))
 accepts None at s b r h = (refl, h)
 accepts (Some e) at s b r h = cc
 
-same-inside : (a b : Parts) (r : UrlText) → r ≡ Ok (step.Inside a) → r ≡ Ok (step.Inside b) → a ≡ b
+pub same-inside : (a b : Parts) (r : UrlText) → r ≡ Ok (step.Inside a) → r ≡ Ok (step.Inside b) → a ≡ b
 same-inside a b r h k = cc
 
 bytes-grow : (bs : List ℕ) (x y : TextPoint) → PointsBelow x y → bytes_error y.parts bs ≡ None

@@ -1,3 +1,4 @@
+pub mod Chains
 pub mod PartLaws
 pub mod PartOrigins
 pub mod PartSets

@@ -1,5 +1,5 @@
 -- The parts of a URL at which several paths of a template stand, as one set: what a byte of text and a hole make of the set, and what is refused.
-use Rattle.std.specs.Prelude.{◌≡◌, ◌+◌, ℕ, [], ◌∷◌, Bool, true, false, ◌||◌, not, nat_lt, Option, Some, None, option_map, is_some, Result, Ok, Err, if◌then◌else◌}
+use Rattle.std.specs.Prelude.{◌≡◌, ◌+◌, ℕ, List, [], ◌∷◌, Bool, true, false, ◌||◌, not, nat_lt, Option, Some, None, option_map, is_some, Result, Ok, Err, if◌then◌else◌}
 use Rattle.place_core.specs.page.Tags.{refusal_code}
 use Rattle.place_core.specs.place.LanguagePlaces.{both_parts, both_prefixes}
 use Rattle.place_core.specs.place.UrlParts.{parts_of, placed_prefix}
@@ -15,6 +15,7 @@ use Rattle.url_lexer.specs.Prefixes as spelling
 use Rattle.url_lexer.specs.Refusals.{UrlRefusal, AmbigContext, BadHTML}
 use Rattle.url_lexer.specs.declared.class.UrlClass.{UrlClass}
 use Rattle.url_lexer.specs.declared.class.UrlClass.TheVariants as class
+use Rattle.url_step.specs.Chains.{chain_of}
 
 -- a prefix of a place as the lexer has it
 abbrev pub spelled_prefix : Prefix → spelling.Prefix
@@ -146,13 +147,10 @@ hole_answer s = parts_or_refusal (parts_hole_error s) (parts_at_hole s)
 
 -- The sanitizers of a value, where all paths are in one part: data may choose the scheme only where the hole is the first of the URL; in the
 -- beginning, also behind a hole, it may end none.
-abbrev pub one_san : San → Chain
-one_san s = record { count = 1; sans = s ∷ s ∷ s ∷ [] }
-
-abbrev pub part_chain : Parts → Chain
-part_chain s = if s.start then record { count = 2; sans = san.UrlFilter ∷ san.UrlNorm ∷ san.UrlNorm ∷ [] } else (if s.prequery then one_san san.UrlNorm
-    else (if s.query then one_san san.UrlQuery else one_san san.UrlOpen))
+abbrev pub part_sans : Parts → List San
+part_sans s = if s.start then san.UrlFilter ∷ san.UrlNorm ∷ [] else (if s.prequery then san.UrlNorm ∷ []
+    else (if s.query then san.UrlQuery ∷ [] else san.UrlOpen ∷ []))
 
 abbrev pub hole_with_chain : Parts → Result Parts Code → Result (Parts × Chain) Code
-hole_with_chain before (Ok after) = Ok (after, part_chain before)
+hole_with_chain before (Ok after) = Ok (after, chain_of (part_sans before))
 hole_with_chain before (Err e) = Err e

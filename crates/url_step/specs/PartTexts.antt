@@ -46,12 +46,14 @@ bytes_error s (b ∷ bs) = unless_byte_refused (option_map refusal_code (parts_e
 abbrev pub scalar_of : ℕ → ℕ
 scalar_of n = if (nat_le 55296 n && nat_le n 57343) || nat_lt 1114111 n then 65533 else n
 
--- Where the characters end: in a node, which may not end in a percent triple, or with the value.
+-- where the text of a URL may stand: in a value, not in an element
 abbrev pub is_in_value : Mode → Bool
 is_in_value mode.Element = false
 is_in_value mode.Open = true
 is_in_value mode.Whole = true
 
+-- Where the characters end: with the node, which may not end in a percent triple, or with the value. `end` is the place one byte
+-- behind that of the last of them.
 abbrev pub partial_triple : ℕ → Parts → UrlText
 partial_triple end before = Err (record { code = code.PartialEscape; at = end; before = before })
 
@@ -64,7 +66,7 @@ abbrev pub text_end : Mode → ℕ → TextPoint → UrlText
 text_end mode.Whole end x = Ok (step.Inside x.parts)
 text_end m end x = node_end x.triple end x.parts
 
--- Behind a character that stands at a place, of one byte as each in which a percent triple may end; offsets have 32 bits.
+-- One byte behind the place of a character, whatever it is written with: of `&#52;` this is behind the `&`. Offsets have 32 bits.
 abbrev pub place_behind : ℕ → ℕ
 place_behind at = if nat_lt at 4294967295 then at + 1 else at
 
@@ -72,7 +74,7 @@ abbrev pub unless_character_refused : Option Code → ℕ → Parts → UrlText 
 unless_character_refused None at before r = r
 unless_character_refused (Some e) at before r = Err (record { code = e; at = at; before = before })
 
--- of characters, each with its place, where those before them end at a place
+-- of characters, each with its place, and the place one byte behind that of the last character before them
 abbrev pub characters_from : Mode → ℕ → List (ℕ × ℕ) → TextPoint → UrlText
 characters_from m end [] x = text_end m end x
 characters_from m end (c ∷ cs) x =

@@ -8,14 +8,19 @@ use crate::text_point::{OpenTriple, TextPoint};
 use place_core::{Chars, Code, Mode, Parts, Step, StepErr};
 use url_lexer::{UrlClass, url_class_of};
 
-/// The parts of a URL behind characters, from the parts before them; or why the characters are refused, at which place of a
-/// character, and the parts before it. Each character is read as the bytes of its UTF-8. (RFC 3986, section 3.) The causes:
+/// The parts of a URL behind characters, from the parts before them; or why the characters are refused, at which place, and the parts
+/// before what is refused. (RFC 3986, section 3.) Each character is read as the bytes of its UTF-8, and a number that is no character as
+/// U+FFFD. The characters begin in no percent triple. Places are as those of the characters: in bytes from the beginning of the node. The
+/// causes:
 ///
-/// - `AmbigContext`: a `:` behind a value of data in the beginning, or where paths have spelled different things there.
-/// - `PartialEscape`: in the mode `Open` the characters end in a percent triple; it stands behind the last of them, with the parts
-///   before the percent sign.
+/// - `AmbigContext`: a `:` behind a value of data in the beginning, or where paths have spelled different things there; it stands at
+///   the `:`.
+/// - `PartialEscape`: in the mode `Open` the characters end in a percent triple; it stands one byte behind the place of the last character, and
+///   the parts are those before the percent sign. In the mode `Whole` they may end in one.
 ///
-/// A URL is no content of an element: the mode is not `Element`. Takes no memory, and time in proportion to the number of the characters.
+/// A URL is no content of an element: the mode is not `Element`, and the answer is never `Step::Ends`. A reference by an unknown name, which
+/// `html_step` refuses in a URL, is for `Chars` a character like others, U+FFFD. Takes no memory, and time in proportion to the number of
+/// the characters.
 pub fn after_text<C: Chars>(
     place: Parts,
     chars: C,
@@ -118,7 +123,7 @@ fn ended(mode: Mode, end: u32, point: TextPoint) -> Result<Step<Parts>, StepErr<
     }
 }
 
-// The place behind a character of one byte that stands at a place.
+// One byte behind the place of a character.
 fn behind(at: u32) -> u32
     ensures { result ≡ spec.place_behind at }
 {

@@ -1,4 +1,5 @@
-ghost use Rattle.std.specs.Prelude.{◌≡◌, ◌≤◌};
+ghost use Rattle.std.specs.Prelude.{◌≡◌, ◌≤◌, ◌∷◌, []};
+ghost use Rattle.url_step.specs.Chains.{chain_of};
 ghost use Rattle.url_step.specs.PartSets.{hole_answer, hole_with_chain, part_count};
 ghost use Rattle.url_step.specs.PartSets as spec;
 
@@ -41,10 +42,11 @@ pub fn at_hole(parts: Parts) -> Result<Parts, Code>
 }
 
 /// The parts behind a hole, and what is done to a value there; or why it is refused. Where the value is the first of the URL it may choose
-/// the scheme, of those that `url_filter` lets through; in the beginning it may end none; in the query it is one value.
+/// the scheme, of those that `url_filter` lets through; in the beginning it may end none; in the query it is one value. The chain is that
+/// of the URL alone: HTML adds the sanitizer of the value's quotes. Takes no memory. The causes:
 ///
-/// - `AmbigContext`: paths are in several parts, so that no one chain fits all.
-/// - `BadHTML`: paths are behind a scheme that is code.
+/// - `AmbigContext`: paths are in several parts, also if some are behind a scheme that is code, so that no one chain fits all.
+/// - `BadHTML`: all paths are behind a scheme that is code.
 pub fn after_hole(place: Parts) -> Result<(Parts, Chain), Code>
     ensures { result ≡ hole_with_chain place (hole_answer place) }
 {
@@ -54,7 +56,7 @@ pub fn after_hole(place: Parts) -> Result<(Parts, Chain), Code>
 
 // The sanitizers in the one part of a URL.
 fn chain_in(parts: Parts) -> Chain
-    ensures { result ≡ spec.part_chain parts }
+    ensures { result ≡ chain_of (spec.part_sans parts) }
 {
     if parts.start {
         return Chain {
@@ -72,7 +74,7 @@ fn chain_in(parts: Parts) -> Chain
 }
 
 fn only(san: San) -> Chain
-    ensures { result ≡ spec.one_san san }
+    ensures { result ≡ chain_of (san ∷ []) }
 {
     Chain {
         count: 1,

@@ -2,7 +2,8 @@ ghost use Rattle.url_step.specs.PartLaws.{CoversParts, CoversUrls, IsExactOnOneP
 ghost use Rattle.url_step.specs.PartLaws.{PartsAgree, PartsGrow, PartsStayValid};
 ghost use Rattle.url_step.specs.PartOrigins.{ColonIsShown, HoleIsShown, PartsComeFrom};
 ghost use Rattle.url_step.specs.PartOrigins.{PartsComeFromHole};
-ghost use Rattle.url_step.specs.TextLaws.{IsExactOnOneText, TextsGrow};
+ghost use Rattle.url_step.specs.TextLaws.{IsExactOnOneText, TextsComeFrom, TextsCover};
+ghost use Rattle.url_step.specs.TextLaws.{TextsGrow, TextsStayValid};
 
 /// On the set of one path, what a byte of text and a hole make of it and what is refused is the path's own. A theorem; the call does
 /// nothing at run time.
@@ -70,4 +71,22 @@ pub fn texts_grow()
 /// refused of them, where, and the part before it. A theorem; the call does nothing at run time.
 pub fn is_exact_on_one_text()
     ensures { IsExactOnOneText }
+{}
+
+/// Where a set accepts the characters of a text, each path in it whose text begins in no percent triple is refused neither in them nor
+/// at their end, and its part behind them is in the set there. A theorem; the call does nothing at run time.
+pub fn texts_cover()
+    ensures { TextsCover }
+{}
+
+/// Each part behind the characters of a text that are accepted comes from a part before, on whatever path of the set is there. A
+/// theorem; the call does nothing at run time.
+pub fn texts_come_from()
+    ensures { TextsComeFrom }
+{}
+
+/// The characters of a text bring a valid set to valid ones, and the parts that are shown with a refusal are valid. A theorem; the
+/// call does nothing at run time.
+pub fn texts_stay_valid()
+    ensures { TextsStayValid }
 {}

@@ -13,7 +13,7 @@ pub use hole::{after_hole, at_hole};
 pub use laws::{
     colon_is_shown, covers_parts, covers_urls, hole_is_shown, is_exact_on_one_part,
     is_exact_on_one_text, parts_agree, parts_come_from, parts_come_from_hole, parts_grow,
-    parts_stay_valid, texts_grow,
+    parts_stay_valid, texts_come_from, texts_cover, texts_grow, texts_stay_valid,
 };
 pub use text::{next, refused};
 pub use text_point::{OpenTriple, TextPoint};
