@@ -3,7 +3,7 @@ use Rattle.std.proofs.Common.{◌≡◌, ℕ, true, false, codes, List, [], ◌�
 use Rattle.css_lexer.specs.Classes.{style_class}
 use Rattle.css_lexer.specs.Escapes.{NoEscape, HexDigits}
 use Rattle.css_lexer.specs.Events.{StyleEvent, RunByte, RunBlank, PunctuationByte, StringBegins, StringByte, StringEnds, StringBroken, UrlBegins, UrlQuoteBegins, InsideUrl, UrlQuoteEnds, UrlEnds, BadUrlBegins, BadUrlByte, BadUrlEnds}
-use Rattle.css_lexer.specs.PartSpots.{part_spot}
+use Rattle.css_lexer.specs.PartSpots.{may_begin_text, part_spot}
 use Rattle.css_lexer.specs.Paths.{has_mark, style_after_hole, style_behind}
 use Rattle.css_lexer.specs.Plain.{IsPlainInStyle}
 use Rattle.css_lexer.specs.Sanitizers.{css_string, css_value, style_failsafe, style_as_text}
@@ -334,6 +334,23 @@ quoted_part_spot = refl
 no_spot_in_a_triple : part_spot (page (codes "a:url(%")) ≡ None
 unfolding style_class url_class_of
 no_spot_in_a_triple = refl
+
+-- where a text may begin
+text_behind_a_word : may_begin_text (cut (codes "color")) ≡ true
+unfolding style_class url_class_of
+text_behind_a_word = refl
+
+text_behind_a_hole : may_begin_text (hole (codes "a:url( 'b")) ≡ true
+unfolding style_class url_class_of
+text_behind_a_hole = refl
+
+no_text_in_a_word : may_begin_text (page (codes "color")) ≡ false
+unfolding style_class url_class_of
+no_text_in_a_word = refl
+
+no_text_in_an_escape : may_begin_text (page (codes "a:url('\\4")) ≡ false
+unfolding style_class url_class_of
+no_text_in_an_escape = refl
 
 no_mark_in_a_comment : has_mark (cut (codes "a /* b")) ≡ false
 unfolding style_class url_class_of

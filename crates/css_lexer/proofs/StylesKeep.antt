@@ -1,5 +1,5 @@
 -- Styles have the laws of a language of values, over any URLs that have theirs.
-use Rattle.std.proofs.Common.{◌≡◌, inl, inr, ℕ, Bool, true, false, List, ◌∷◌, Option, Some, None, refl, sym, ap, subst}
+use Rattle.std.proofs.Common.{◌≡◌, inl, inr, ℕ, Bool, true, false, List, ◌∷◌, Some, None, refl, sym, ap, subst}
 use Rattle.css_lexer.specs.Alike.{AreAlikeOutside, the_same, hole_between, hole_less_than, hole_word, split_word, cut_solidus, cut_less_than, cut_star, StylesAlike, outside, in_url, unbegun, unbegun_ended}
 use Rattle.css_lexer.specs.Classes.{style_class}
 use Rattle.css_lexer.specs.Escapes.{StyleEscape, NoEscape, AfterBackslash, HexDigits, AfterReturn, is_taken_in_style}
@@ -7,8 +7,7 @@ use Rattle.css_lexer.specs.Events.{StyleEvent, UrlEnds, told_in_url}
 use Rattle.css_lexer.specs.Laws.{UrlReadingLaws, StyleLaws}
 use Rattle.css_lexer.specs.Paths.{out_after_cut, style_after_cut, out_settled, style_settled, style_emits_settled, out_has_mark, has_mark, out_after_hole, form_after_hole, style_after_hole, style_behind}
 use Rattle.css_lexer.specs.Plain.{InRun, LeadsPlainOutside, LeadsPlainForm, StyleLeadsPlain}
-use Rattle.css_lexer.specs.RefusalCodes.{StyleCutRefusal, first_refusal}
-use Rattle.css_lexer.specs.Refusals.{refuses_out, refuses_bare, refuses_fresh, refuses_quoted, refuses_ended, refuses_in_url, style_refuses_class, refuses_in_escape, style_refuses_cut}
+use Rattle.css_lexer.specs.Refusals.{refuses_out, refuses_bare, refuses_fresh, refuses_quoted, refuses_ended, refuses_in_url, style_refuses_class, refuses_in_escape, refuses_cut_out, refuses_cut_in_url, style_refuses_cut}
 use Rattle.css_lexer.specs.States.{Quote, DoubleQuote, SingleQuote, UrlWord, SpellsUrl, Outside, Between, AfterLessThan, Word, AfterSolidus, Comment, InString, BadUrl, BehindHole, SplitWord, SolidusAtCut, LessThanAtCut, StarAtCut, UrlForm, Fresh, Bare, Quoted, Ended, Style, Out, InUrl}
 use Rattle.css_lexer.specs.Steps.{next_between, next_style_word, next_solidus, next_style_comment, next_style_string, next_bare, next_fresh, next_quoted, next_ended, next_bad, next_split, next_out, next_in_url, style_next, emits_word, emits_split, emits_out, emits_bare, emits_fresh, emits_quoted, emits_ended, emits_in_url, style_emits_class, style_ends}
 use Rattle.css_lexer.specs.UrlReading.{UrlReading}
@@ -299,31 +298,54 @@ alike-ends l (InUrl f u) (Out r) t a = elim a [ ]
 alike-ends l (InUrl Bare u) (InUrl Fresh w) t (unbegun a) = ap (λ es. told_in_url es t) (l.ends u w a)
 alike-ends l (InUrl Ended u) (InUrl Fresh w) t (unbegun_ended a) = ap (λ es. told_in_url es t) (l.ends u w a)
 
--- the end of a node
-same-cut : (s : Outside) → AreAlikeOutside (out_after_cut s) s
-same-cut (Word w e) = split_word w e
-same-cut (AfterSolidus k) = cut_solidus k
-same-cut AfterLessThan = cut_less_than
-same-cut (Comment true) = cut_star true
-same-cut (Comment false) = the_same _
-same-cut s = the_same _
+-- the end of a node, where no escape is open
+word-cut : (w : UrlWord) (e : StyleEscape) → refuses_in_escape e ≡ None → AreAlikeOutside (SplitWord NoEscape) (Word w e)
+word-cut w NoEscape n = split_word w NoEscape
+word-cut w AfterBackslash n = absurd (some _ n)
+word-cut w (HexDigits k) n = absurd (some _ n)
+word-cut w AfterReturn n = absurd (some _ n)
 
-out-cut : (s r : Outside) → AreAlikeOutside s r → AreAlikeOutside (out_after_cut s) r
-out-cut s r (the_same z) = same-cut z
-out-cut s r (hole_between solidus less) = hole_between solidus less
-out-cut s r (hole_less_than solidus less) = hole_less_than solidus less
-out-cut s r (hole_word solidus less w) = hole_word solidus less w
-out-cut s r (split_word w e) = split_word w e
-out-cut s r (cut_solidus k) = cut_solidus k
-out-cut s r cut_less_than = cut_less_than
-out-cut s r (cut_star star) = cut_star star
+split-cut : (e : StyleEscape) → refuses_in_escape e ≡ None → AreAlikeOutside (SplitWord NoEscape) (SplitWord e)
+split-cut NoEscape n = the_same _
+split-cut AfterBackslash n = absurd (some _ n)
+split-cut (HexDigits k) n = absurd (some _ n)
+split-cut AfterReturn n = absurd (some _ n)
 
-second-none : (e o : Option StyleCutRefusal) → first_refusal e o ≡ None → o ≡ None
-second-none None o n = n
-second-none (Some r) o n = absurd (some _ n)
+string-cut : (q : Quote) (e : StyleEscape) → refuses_in_escape e ≡ None → AreAlikeOutside (InString q NoEscape) (InString q e)
+string-cut q NoEscape n = the_same _
+string-cut q AfterBackslash n = absurd (some _ n)
+string-cut q (HexDigits k) n = absurd (some _ n)
+string-cut q AfterReturn n = absurd (some _ n)
+
+same-cut : (s : Outside) → refuses_cut_out s ≡ None → AreAlikeOutside (out_after_cut s) s
+same-cut (Word w e) n = word-cut w e n
+same-cut (AfterSolidus k) n = cut_solidus k
+same-cut AfterLessThan n = cut_less_than
+same-cut (Comment true) n = cut_star true
+same-cut (Comment false) n = the_same _
+same-cut (InString q e) n = string-cut q e n
+same-cut (SplitWord e) n = split-cut e n
+same-cut s n = the_same _
+
+out-cut : (s r : Outside) → AreAlikeOutside s r → refuses_cut_out s ≡ None → AreAlikeOutside (out_after_cut s) r
+out-cut s r (the_same z) n = same-cut z n
+out-cut s r (hole_between solidus less) n = hole_between solidus less
+out-cut s r (hole_less_than solidus less) n = hole_less_than solidus less
+out-cut s r (hole_word solidus less w) n = hole_word solidus less w
+out-cut s r (split_word w e) n = word-cut w e n
+out-cut s r (cut_solidus k) n = cut_solidus k
+out-cut s r cut_less_than n = cut_less_than
+out-cut s r (cut_star star) n = cut_star star
+
+quoted-cut : {U E : Type 0} {x : UrlReading U E} → UrlReadingLaws U E x → (q : Quote) (e : StyleEscape) (u w : U) → x.AreAlike u w
+    → refuses_cut_in_url x (Quoted q e) u ≡ None → StylesAlike x (InUrl (Quoted q NoEscape) (x.after_cut u)) (InUrl (Quoted q e) w)
+quoted-cut l q NoEscape u w a n = in_url _ (l.after_cut u w a n)
+quoted-cut l q AfterBackslash u w a n = absurd (some _ n)
+quoted-cut l q (HexDigits k) u w a n = absurd (some _ n)
+quoted-cut l q AfterReturn u w a n = absurd (some _ n)
 
 alike-cut : {U E : Type 0} {x : UrlReading U E} → UrlReadingLaws U E x → (v w : Style U) → StylesAlike x v w → style_refuses_cut x v ≡ None → StylesAlike x (style_after_cut x v) w
-alike-cut l (Out s) (Out r) (outside a) n = outside (out-cut s r a)
+alike-cut l (Out s) (Out r) (outside a) n = outside (out-cut s r a n)
 alike-cut l (Out s) (InUrl g w) a n = elim a [ ]
 alike-cut l (InUrl Fresh u) (Out r) a n = elim a [ ]
 alike-cut l (InUrl Bare u) (Out r) a n = elim a [ ]
@@ -332,7 +354,7 @@ alike-cut l (InUrl Ended u) (Out r) a n = elim a [ ]
 alike-cut l (InUrl Fresh u) (InUrl g w) (in_url h a) n = in_url Fresh a
 alike-cut l (InUrl Ended u) (InUrl g w) (in_url h a) n = in_url Ended a
 alike-cut l (InUrl Bare u) (InUrl g w) (in_url h a) n = in_url Bare (l.after_cut u w a n)
-alike-cut l (InUrl (Quoted q e) u) (InUrl g w) (in_url h a) n = in_url _ (l.after_cut u w a (second-none (refuses_in_escape e) _ n))
+alike-cut l (InUrl (Quoted q e) u) (InUrl g w) (in_url h a) n = quoted-cut l q e u w a n
 alike-cut l (InUrl Bare u) (InUrl Fresh w) (unbegun a) n = unbegun (l.after_cut u w a n)
 alike-cut l (InUrl Ended u) (InUrl Fresh w) (unbegun_ended a) n = unbegun_ended a
 

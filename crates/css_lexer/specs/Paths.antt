@@ -1,23 +1,27 @@
 -- How a style goes on over the end of a node and over a hole: on a path of a template, which knows no value, and on a page, whose bytes a
 -- value has given.
 use Rattle.std.specs.Prelude.{◌∷◌, Bool, true, false, List}
+use Rattle.css_lexer.specs.Escapes.{NoEscape}
 use Rattle.css_lexer.specs.Events.{StyleEvent, RunByte}
-use Rattle.css_lexer.specs.States.{Outside, Between, AfterLessThan, Word, AfterSolidus, Comment, BehindHole, SplitWord, SolidusAtCut, LessThanAtCut, StarAtCut, UrlForm, Bare, Quoted, Style, Out, InUrl}
+use Rattle.css_lexer.specs.States.{Outside, Between, AfterLessThan, Word, AfterSolidus, Comment, InString, BehindHole, SplitWord, SolidusAtCut, LessThanAtCut, StarAtCut, UrlForm, Bare, Quoted, Style, Out, InUrl}
 use Rattle.css_lexer.specs.UrlReading.{UrlReading}
 
 -- The end of a node, on a path: what the next text may not go on with is remembered. A word goes on, but is not known to be `url` any
--- more. Before and behind the URL of a url token it is not the URL that is cut.
+-- more. Before and behind the URL of a url token it is not the URL that is cut. An escape that has begun is refused there, so that none is
+-- open behind the end.
 abbrev pub out_after_cut : Outside → Outside
-out_after_cut (Word w e) = SplitWord e
+out_after_cut (Word w e) = SplitWord NoEscape
 out_after_cut (AfterSolidus k) = SolidusAtCut k
 out_after_cut AfterLessThan = LessThanAtCut
 out_after_cut (Comment true) = StarAtCut
+out_after_cut (InString q e) = InString q NoEscape
+out_after_cut (SplitWord e) = SplitWord NoEscape
 out_after_cut s = s
 
 abbrev pub style_after_cut : {U E : Type 0} → UrlReading U E → Style U → Style U
 style_after_cut x (Out s) = Out (out_after_cut s)
 style_after_cut x (InUrl Bare u) = InUrl Bare (x.after_cut u)
-style_after_cut x (InUrl (Quoted q e) u) = InUrl (Quoted q e) (x.after_cut u)
+style_after_cut x (InUrl (Quoted q e) u) = InUrl (Quoted q NoEscape) (x.after_cut u)
 style_after_cut x (InUrl f u) = InUrl f u
 
 -- Before a hole a `/` that is not told yet is told, whatever the value begins with: no comment may begin with a value.

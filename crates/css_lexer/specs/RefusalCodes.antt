@@ -7,7 +7,7 @@ pub data RefusalCode : Type 0 where
   AmbigContext : RefusalCode
   -- a value may not stand there
   BadHTML : RefusalCode
-  -- a node ends inside an escape
+  -- a node ends inside an escape, or inside a percent triple of a URL
   PartialEscape : RefusalCode
   -- text would go on with what an action has split, or a node ends in what the next one may go on with
   SplitToken : RefusalCode

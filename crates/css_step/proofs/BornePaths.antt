@@ -18,9 +18,10 @@ use Rattle.url_lexer.specs.Triples.{Triple}
 use Rattle.url_step.specs.PartOrigins.{PartBears}
 use Rattle.url_step.specs.PartSets.{HasPart, spelled_prefix}
 use Rattle.css_step.specs.StyleOrigins.{scan_set_has, style_scan_has, StyleBears}
-use Rattle.css_step.specs.StyleScans.{StyleScan, ScanCode, ScanSplitEscape, ScanStarBefore, ScanBareUrl, ScanQuotedUrl, style_tails}
+use Rattle.css_step.specs.StyleScans.{StyleScan, ScanCode, ScanSplitEscape, ScanStarBefore, ScanBareUrl, ScanQuotedUrl}
 use Rattle.css_step.specs.StyleScanLaws.{IsStyleScan, scans_behind_hole, scans_split_word, scans_solidus_before, scans_less_than_before, scans_star_before, scans_bare, scans_quoted}
 use Rattle.css_step.specs.StyleSetLaws.{StyleScanBelow, below_itself, below_tails, below_bare, below_quoted, HasStyle}
+use Rattle.place_core.specs.place.StyleParts.{style_tails}
 use Rattle.css_step.proofs.StyleCases.{below-cases, PathScan, path-scan}
 use Rattle.css_step.proofs.StyleOrigins.{set-has, whole-has}
 

@@ -5,7 +5,7 @@ use Rattle.css_lexer.specs.Paths.{style_after_cut, style_after_hole}
 use Rattle.css_lexer.specs.RefusalCodes.{StyleCutRefusal, first_refusal}
 use Rattle.css_lexer.specs.Refusals.{refuses_split, refuses_behind_hole, refuses_string, refuses_asterisk, refuses_solidus, refuses_bare, refuses_fresh, refuses_quoted, refuses_ended, refuses_in_escape, style_refuses_hole}
 use Rattle.css_lexer.specs.Spots.{StyleSpot, CodeSpot, StringSpot, FreshSpot, UrlSpot, QuotedUrlSpot, EndedSpot, CommentSpot}
-use Rattle.css_lexer.specs.States.{Quote, DoubleQuote, SingleQuote, UrlWord, SpellsUrl, SpellsOther, Between, AfterLessThan, Word, AfterSolidus, Comment, InString, BadUrl, BehindHole, SplitWord, SolidusAtCut, LessThanAtCut, StarAtCut, Fresh, Bare, Quoted, Ended, Style, Out, InUrl}
+use Rattle.css_lexer.specs.States.{Quote, DoubleQuote, SingleQuote, UrlWord, SpellsUrl, SpellsOther, Comment, InString, SplitWord, Bare, Quoted, Style, Out, InUrl}
 use Rattle.css_lexer.specs.Steps.{first_letter, next_letter, next_between, next_style_word, next_solidus, next_style_comment, next_style_string, next_bare, next_fresh, next_quoted, next_ended, next_split}
 use Rattle.css_lexer.specs.Urls.{urls, url_refusal, url_cut_refusal}
 use Rattle.css_lexer.specs.declared.class.StyleClass.{StyleClass}
@@ -22,8 +22,11 @@ use Rattle.url_lexer.specs.States.{Url, url_start, feed_url}
 use Rattle.url_lexer.specs.Triples.{Triple, NoTriple, AfterPercent, AfterDigit, next_triple}
 use Rattle.url_step.specs.PartSets.{parts_next, parts_at_hole}
 use Rattle.url_step.proofs.OnePath.{one-next, one-error, one-hole-error, one-at-hole}
-use Rattle.css_step.specs.StyleScans.{StyleScan, ScanWord, ScanSplitEscape, ScanSolidus, ScanLessThan, ScanStarBefore, ScanString, ScanFresh, ScanEnded, style_between, ScanCode, ScanComment, ScanBareUrl, ScanQuotedUrl, style_tails, style_split_word, style_comment_start, style_scan_start, style_between_next, style_split_next, style_word_next, style_solidus_next, style_comment_next, style_string_next, style_bare_next, style_fresh_next, style_quoted_next, style_ended_next, style_tails_error, style_url_error, style_bare_error, style_fresh_error, style_quoted_error, style_string_place, style_quoted_place, style_at_hole, style_hole_error}
-use Rattle.css_step.specs.StyleScanLaws.{style_place, IsStyleScan, scans_between, scans_less_than, scans_word, scans_solidus, scans_comment, scans_string, scans_behind_hole, scans_split_word, scans_solidus_before, scans_less_than_before, scans_star_before, scans_fresh, scans_bare, scans_quoted, scans_ended, OneStyle, IsExactOnOneStyle}
+use Rattle.css_step.proofs.BetweenTexts.{between-texts}
+use Rattle.css_step.proofs.StyleScanned.{scanned, has-scan}
+use Rattle.css_step.specs.StyleScans.{StyleScan, ScanSplitEscape, ScanBareUrl, ScanQuotedUrl, style_split_word, style_comment_start, style_scan_start, style_between_next, style_split_next, style_word_next, style_solidus_next, style_comment_next, style_string_next, style_bare_next, style_fresh_next, style_quoted_next, style_ended_next, style_tails_error, style_url_error, style_bare_error, style_fresh_error, style_quoted_error, style_at_hole, style_hole_error}
+use Rattle.css_step.specs.StyleScanLaws.{IsStyleScan, scans_between, scans_less_than, scans_word, scans_solidus, scans_comment, scans_string, scans_behind_hole, scans_split_word, scans_solidus_before, scans_less_than_before, scans_star_before, scans_fresh, scans_bare, scans_quoted, scans_ended, OneStyle, IsExactOnOneStyle}
+use Rattle.place_core.specs.place.StyleParts.{style_place, style_quoted_place, style_string_place, style_tails}
 
 pub given : {A : Type 0} (a : A) → Some a ≡ None → ⊥
 given a e = cc
@@ -179,29 +182,13 @@ quoted-error false q u class.Newline b = refl
 quoted-error false q u c b = url-error u b
 
 -- the end of a node
-word-cut : (e : StyleEscape) → refuses_in_escape e ≡ None → IsStyleScan (Out (SplitWord e)) (ScanCode (style_tails true false false))
-word-cut NoEscape n = scans_split_word NoEscape
-word-cut AfterBackslash n = absurd (given _ n)
-word-cut (HexDigits k) n = absurd (given _ n)
-word-cut AfterReturn n = absurd (given _ n)
-
-string-cut : (q : Quote) (e : StyleEscape) → refuses_in_escape e ≡ None → IsStyleScan (Out (InString q e)) (style_scan_start (style_string_place q))
-string-cut DoubleQuote NoEscape n = scans_string DoubleQuote NoEscape
-string-cut SingleQuote NoEscape n = scans_string SingleQuote NoEscape
-string-cut q AfterBackslash n = absurd (given _ n)
-string-cut q (HexDigits k) n = absurd (given _ n)
-string-cut q AfterReturn n = absurd (given _ n)
+string-start : (q : Quote) → IsStyleScan (Out (InString q NoEscape)) (style_scan_start (style_string_place q))
+string-start DoubleQuote = scans_string DoubleQuote NoEscape
+string-start SingleQuote = scans_string SingleQuote NoEscape
 
 quoted-start : (q : Quote) (u : Url) → u.triple ≡ NoTriple → IsStyleScan (InUrl (Quoted q NoEscape) u) (style_scan_start (style_quoted_place q (parts_of u.part)))
 quoted-start DoubleQuote u n = subst (λ (z : Triple). IsStyleScan (InUrl (Quoted DoubleQuote NoEscape) u) (ScanQuotedUrl DoubleQuote NoEscape (parts_of u.part) z)) n (scans_quoted DoubleQuote NoEscape u)
 quoted-start SingleQuote u n = subst (λ (z : Triple). IsStyleScan (InUrl (Quoted SingleQuote NoEscape) u) (ScanQuotedUrl SingleQuote NoEscape (parts_of u.part) z)) n (scans_quoted SingleQuote NoEscape u)
-
-quoted-cut : (q : Quote) (e : StyleEscape) (u : Url) (o : Option StyleCutRefusal) → first_refusal (refuses_in_escape e) o ≡ None
-    → IsStyleScan (InUrl (Quoted q e) (url_after_cut u)) (style_scan_start (style_quoted_place q (parts_of u.part)))
-quoted-cut q NoEscape u o n = quoted-start q (url_after_cut u) refl
-quoted-cut q AfterBackslash u o n = absurd (given _ n)
-quoted-cut q (HexDigits k) u o n = absurd (given _ n)
-quoted-cut q AfterReturn u o n = absurd (given _ n)
 
 some-same : {A : Type 0} (x y : A) → Some x ≡ Some y → x ≡ y
 some-same x y e = cc
@@ -241,9 +228,15 @@ quoted-hole q AfterBackslash u o n = absurd (given _ n)
 quoted-hole q (HexDigits k) u o n = absurd (given _ n)
 quoted-hole q AfterReturn u o n = absurd (given _ n)
 
+string-start-hole : (q : Quote) → IsStyleScan (Out (InString q NoEscape)) (style_scan_start (style_at_hole (style_string_place q)))
+string-start-hole DoubleQuote = string-start DoubleQuote
+string-start-hole SingleQuote = string-start SingleQuote
+
 string-hole : (q : Quote) (e : StyleEscape) → refuses_in_escape e ≡ None → IsStyleScan (Out (InString q e)) (style_scan_start (style_at_hole (style_string_place q)))
-string-hole DoubleQuote e n = string-cut DoubleQuote e n
-string-hole SingleQuote e n = string-cut SingleQuote e n
+string-hole q NoEscape n = string-start-hole q
+string-hole q AfterBackslash n = absurd (given _ n)
+string-hole q (HexDigits k) n = absurd (given _ n)
+string-hole q AfterReturn n = absurd (given _ n)
 
 bare-hole-error : (u : Url) → style_hole_error (css.Url (parts_of u.part)) ≡ style_refuses_hole urls (InUrl Bare u)
 bare-hole-error u = ap url_refusal (one-hole-error u.part)
@@ -257,13 +250,13 @@ string-hole-error DoubleQuote = refl
 string-hole-error SingleQuote = refl
 
 -- a word from before the text, in an escape, and by its escape
-open-split : (e : StyleEscape) (x : StyleCutRefusal) → refuses_in_escape e ≡ Some x → OneStyle (Out (SplitWord e)) (ScanSplitEscape e)
-open-split e x r = record {
+open-split : (e : StyleEscape) → OneStyle (Out (SplitWord e)) (ScanSplitEscape e)
+open-split e = record {
   error = λ c b. refl;
   next = λ c b n. split e c b;
   cut_error = refl;
   place = λ p n. known-place (CodeSpot true false false) p n;
-  after_cut = λ n. absurd (given x (sym r ∙ n));
+  after_cut = λ n. scans_split_word NoEscape;
   hole_error = refl;
   after_hole = λ n m. scans_behind_hole false false;
 }
@@ -278,9 +271,9 @@ one-split NoEscape = record {
   hole_error = refl;
   after_hole = λ n m. scans_behind_hole false false;
 }
-one-split AfterBackslash = open-split AfterBackslash _ refl
-one-split (HexDigits k) = open-split (HexDigits k) _ refl
-one-split AfterReturn = open-split AfterReturn _ refl
+one-split AfterBackslash = open-split AfterBackslash
+one-split (HexDigits k) = open-split (HexDigits k)
+one-split AfterReturn = open-split AfterReturn
 
 -- a comment, behind a `*` and not
 comment-cut : (star : Bool) → IsStyleScan (style_after_cut urls (Out (Comment star))) (style_comment_start star)
@@ -315,7 +308,7 @@ one-style _ _ (scans_word w e) = record {
   next = λ c b n. word w e c b;
   cut_error = refl;
   place = λ p n. known-place (CodeSpot true false false) p n;
-  after_cut = λ n. word-cut e n;
+  after_cut = λ n. scans_split_word NoEscape;
   hole_error = refl;
   after_hole = λ n m. scans_behind_hole false false;
 }
@@ -342,7 +335,7 @@ one-style _ _ (scans_string q e) = record {
   next = λ c b n. string (is_taken_in_style e b) q e c b n;
   cut_error = refl;
   place = λ p n. known-place (StringSpot q) p n;
-  after_cut = λ n. string-cut q e n;
+  after_cut = λ n. string-start q;
   hole_error = string-hole-error q;
   after_hole = λ n m. string-hole q e n;
 }
@@ -406,7 +399,7 @@ one-style _ _ (scans_quoted q e u) = record {
   next = λ c b n. quoted (is_taken_in_style e b) q e u c b n;
   cut_error = refl;
   place = λ p n. quoted-place q u.triple u.part p n;
-  after_cut = λ n. quoted-cut q e u (url_cut_refusal (url_refuses_cut u)) n;
+  after_cut = λ n. quoted-start q (url_after_cut u) refl;
   hole_error = quoted-hole-error q e u;
   after_hole = λ n m. quoted-hole q e u (url_cut_refusal (url_refuses_cut u)) n;
 }
@@ -420,41 +413,15 @@ one-style _ _ (scans_ended u) = record {
   after_hole = λ n m. absurd (given _ m);
 }
 
--- the only scan state of a path; in a url that is none there is none
-abbrev scan-of : Style Url → StyleScan
-scan-of (Out (Between k)) = style_between
-scan-of (Out AfterLessThan) = ScanLessThan
-scan-of (Out (Word w e)) = ScanWord w e
-scan-of (Out (AfterSolidus k)) = ScanSolidus
-scan-of (Out (Comment star)) = ScanComment star
-scan-of (Out (InString q e)) = ScanString q e
-scan-of (Out BadUrl) = ScanEnded
-scan-of (Out (BehindHole solidus less)) = ScanCode (style_tails true solidus less)
-scan-of (Out (SplitWord e)) = style_split_word e
-scan-of (Out (SolidusAtCut k)) = ScanCode (style_tails false true false)
-scan-of (Out LessThanAtCut) = ScanCode (style_tails false false true)
-scan-of (Out StarAtCut) = ScanStarBefore
-scan-of (InUrl Fresh u) = ScanFresh
-scan-of (InUrl Bare u) = ScanBareUrl (parts_of u.part) u.triple
-scan-of (InUrl (Quoted q e) u) = ScanQuotedUrl q e (parts_of u.part) u.triple
-scan-of (InUrl Ended u) = ScanEnded
-
-only-scan : (v : Style Url) (n : StyleScan) → IsStyleScan v n → n ≡ scan-of v
-only-scan _ _ (scans_between k) = refl
-only-scan _ _ scans_less_than = refl
-only-scan _ _ (scans_word w e) = refl
-only-scan _ _ (scans_solidus k) = refl
-only-scan _ _ (scans_comment star) = refl
-only-scan _ _ (scans_string q e) = refl
-only-scan _ _ (scans_behind_hole s l) = refl
-only-scan _ _ (scans_split_word e) = refl
-only-scan _ _ (scans_solidus_before k) = refl
-only-scan _ _ scans_less_than_before = refl
-only-scan _ _ scans_star_before = refl
-only-scan _ _ scans_fresh = refl
-only-scan _ _ (scans_bare u) = refl
-only-scan _ _ (scans_quoted q e u) = refl
-only-scan _ _ (scans_ended u) = refl
+one-way : (v : Style Url) (n m : StyleScan) → IsStyleScan v n → IsStyleScan v m → n ≡ m
+one-way v n m i j = some-same n m (sym (scanned v n i) ∙ scanned v m j)
 
 pub exact-on-one-style : IsExactOnOneStyle
-exact-on-one-style = record { begins = scans_between false; goes_on = one-style; one_way = λ v n m i j. only-scan v n i ∙ sym (only-scan v m j) }
+exact-on-one-style = record {
+  begins = scans_between false;
+  goes_on = one-style;
+  one_way = one-way;
+  scanned = scanned;
+  has_scan = has-scan;
+  between_texts = between-texts;
+}

@@ -21,9 +21,10 @@ use Rattle.url_step.specs.PartOrigins.{PartBears, hole_on_one, hole_on_two}
 use Rattle.url_step.specs.PartSets.{parts_hole_error}
 use Rattle.url_step.proofs.Shown.{hole-shown}
 use Rattle.css_step.specs.StyleOrigins.{style_scan_has, StyleBears, ClashStyles, StyleHoleEvidence, style_hole_on_one, style_hole_on_two, StyleRefusalIsShown}
-use Rattle.css_step.specs.StyleScans.{StyleScan, ScanString, ScanBareUrl, ScanQuotedUrl, ScanEnded, style_scan_place, style_scan_cut_error, style_hole_error, style_string_place}
+use Rattle.css_step.specs.StyleScans.{StyleScan, ScanString, ScanBareUrl, ScanQuotedUrl, ScanEnded, style_scan_place, style_scan_cut_error, style_hole_error}
 use Rattle.css_step.specs.StyleSetLaws.{HasStyle}
 use Rattle.css_step.specs.StyleValidity.{style_part}
+use Rattle.place_core.specs.place.StyleParts.{style_string_place}
 use Rattle.css_step.proofs.OneStylePath.{one-style}
 use Rattle.css_step.proofs.ShownStyleUrls.{byte-shown, url-some}
 use Rattle.css_step.proofs.StyleCases.{below-cases, PathScan, path-scan}

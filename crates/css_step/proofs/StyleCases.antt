@@ -11,10 +11,11 @@ use Rattle.place_core.specs.place.UrlParts.{parts_of}
 use Rattle.url_lexer.specs.Parts.{UrlPart}
 use Rattle.url_lexer.specs.States.{Url}
 use Rattle.url_step.specs.PartSets.{PartsBelow}
-use Rattle.css_step.specs.StyleScans.{StyleScan, ScanCode, ScanWord, ScanSplitEscape, ScanComment, ScanStarBefore, ScanBareUrl, ScanQuotedUrl, style_tails, style_split_word}
+use Rattle.css_step.specs.StyleScans.{StyleScan, ScanCode, ScanWord, ScanSplitEscape, ScanComment, ScanStarBefore, ScanBareUrl, ScanQuotedUrl, style_split_word}
 use Rattle.css_step.specs.StyleScanLaws.{IsStyleScan, scans_between, scans_less_than, scans_word, scans_solidus, scans_comment, scans_string, scans_behind_hole, scans_split_word, scans_solidus_before, scans_less_than_before, scans_star_before, scans_fresh, scans_bare, scans_quoted, scans_ended}
 use Rattle.css_step.specs.StyleSetLaws.{StyleScanBelow, below_itself, below_tails, below_split_word, below_star, below_bare, below_quoted}
 use Rattle.css_step.specs.StyleValidity.{style_part}
+use Rattle.place_core.specs.place.StyleParts.{style_tails}
 
 -- To show something of all scans below one, show it of these.
 abbrev pub BelowCases : StyleScan → (StyleScan → Type 0) → Type 0

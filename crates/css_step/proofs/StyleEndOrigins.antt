@@ -19,9 +19,10 @@ use Rattle.url_step.specs.PartSets.{HasPart, parts_at_hole}
 use Rattle.url_step.proofs.OnePath.{one-at-hole}
 use Rattle.url_step.proofs.Origins.{either, parts-come-from-hole}
 use Rattle.css_step.specs.StyleOrigins.{style_scan_has, IsStyleOrigin, style_scan_after_cut, style_scan_after_hole}
-use Rattle.css_step.specs.StyleScans.{StyleScan, ScanCode, ScanSplitEscape, ScanStarBefore, ScanBareUrl, ScanQuotedUrl, style_tails, style_scan_place, style_scan_cut_error, style_hole_error}
+use Rattle.css_step.specs.StyleScans.{StyleScan, ScanCode, ScanSplitEscape, ScanStarBefore, ScanBareUrl, ScanQuotedUrl, style_scan_place, style_scan_cut_error, style_hole_error}
 use Rattle.css_step.specs.StyleScanLaws.{IsStyleScan, OneStyle}
 use Rattle.css_step.specs.StyleSetLaws.{StyleScanBelow, GrowsStyleScan}
+use Rattle.place_core.specs.place.StyleParts.{style_tails}
 use Rattle.css_step.proofs.OneStylePath.{given, one-style}
 use Rattle.css_step.proofs.StyleCases.{below-cases, PathScan}
 use Rattle.css_step.proofs.StyleGrowth.{styles-grow}

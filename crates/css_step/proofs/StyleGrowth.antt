@@ -17,12 +17,13 @@ use Rattle.place_core.specs.place.LanguagePlaces.{joined_css, both_css_tails, bo
 use Rattle.url_lexer.specs.Classes.{url_class_of}
 use Rattle.url_lexer.specs.Refusals.{UrlRefusal}
 use Rattle.url_lexer.specs.States.{Url}
-use Rattle.url_lexer.specs.Triples.{Triple, NoTriple, next_triple}
+use Rattle.url_lexer.specs.Triples.{Triple, NoTriple, AfterPercent, AfterDigit, next_triple}
 use Rattle.url_step.specs.PartSets.{PartsBelow, parts_next, parts_error, parts_hole_error}
 use Rattle.url_step.proofs.Growth.{parts-grow}
-use Rattle.css_step.specs.StyleScans.{StyleScan, ScanWord, ScanComment, ScanStarBefore, ScanQuotedUrl, style_tails, style_split_word, style_comment_start, style_scan_start, style_between_next, style_split_next, style_code_next, style_word_next, style_comment_next, style_bare_next, style_quoted_next, style_scan_next, style_tails_error, style_url_error, style_bare_error, style_quoted_error, style_scan_place, style_at_hole, style_hole_error}
+use Rattle.css_step.specs.StyleScans.{StyleScan, ScanCode, ScanWord, ScanSplitEscape, ScanSolidus, ScanLessThan, ScanComment, ScanStarBefore, ScanString, ScanFresh, ScanBareUrl, ScanQuotedUrl, ScanEnded, is_style_start, style_split_word, style_comment_start, style_scan_start, style_between_next, style_split_next, style_code_next, style_word_next, style_comment_next, style_bare_next, style_quoted_next, style_scan_next, style_tails_error, style_url_error, style_bare_error, style_quoted_error, style_scan_place, style_at_hole, style_hole_error}
 use Rattle.css_step.specs.StyleScanLaws.{IsStyleScan, OneStyle}
 use Rattle.css_step.specs.StyleSetLaws.{StyleBelow, StyleScanBelow, below_itself, below_tails, below_split_word, below_star, below_bare, below_quoted, GrowsStyleScan, GrowsStyle, StylesGrow, KeepsStyle, EmptyTextsKeepStyles, HasStyle, CoversStyles}
+use Rattle.place_core.specs.place.StyleParts.{style_quoted_place, style_string_place, style_tails}
 use Rattle.css_step.proofs.OneStylePath.{given, one-style}
 
 no : true ≡ false → ⊥
@@ -239,21 +240,64 @@ place-grows _ d h = absurd (given d (sym h))
 pub styles-grow : StylesGrow
 styles-grow = record { scans = scan-grows; places = place-grows }
 
--- a text of no bytes
+-- a text of no bytes, and the starts
 comment-kept : (star : Bool) → KeepsStyle (css.Comment star)
-comment-kept true = record { place = refl; cut_error = refl }
-comment-kept false = record { place = refl; cut_error = refl }
+comment-kept true = record { start = refl; place = refl; cut_error = refl }
+comment-kept false = record { start = refl; place = refl; cut_error = refl }
+
+style-kept : (c : Css) → KeepsStyle c
+style-kept (css.Code x) = record { start = refl; place = refl; cut_error = refl }
+style-kept css.Dq = record { start = refl; place = refl; cut_error = refl }
+style-kept css.Sq = record { start = refl; place = refl; cut_error = refl }
+style-kept css.UrlFresh = record { start = refl; place = refl; cut_error = refl }
+style-kept (css.Url s) = record { start = refl; place = refl; cut_error = refl }
+style-kept (css.UrlDq s) = record { start = refl; place = refl; cut_error = refl }
+style-kept (css.UrlSq s) = record { start = refl; place = refl; cut_error = refl }
+style-kept css.UrlEnd = record { start = refl; place = refl; cut_error = refl }
+style-kept (css.Comment star) = comment-kept star
+
+starts-comment : (star : Bool) → is_style_start (ScanComment star) ≡ true → style_comment_start star ≡ ScanComment star
+starts-comment false e = refl
+starts-comment true e = absurd (no (sym e))
+
+starts-string : (q : Quote) (e : StyleEscape) → is_style_start (ScanString q e) ≡ true → style_scan_start (style_string_place q) ≡ ScanString q e
+starts-string DoubleQuote NoEscape h = refl
+starts-string SingleQuote NoEscape h = refl
+starts-string q AfterBackslash h = absurd (no (sym h))
+starts-string q (HexDigits n) h = absurd (no (sym h))
+starts-string q AfterReturn h = absurd (no (sym h))
+
+starts-bare : (s : Parts) (t : Triple) → is_style_start (ScanBareUrl s t) ≡ true → ScanBareUrl s NoTriple ≡ ScanBareUrl s t
+starts-bare s NoTriple h = refl
+starts-bare s AfterPercent h = absurd (no (sym h))
+starts-bare s AfterDigit h = absurd (no (sym h))
+
+starts-quoted : (q : Quote) (e : StyleEscape) (s : Parts) (t : Triple) → is_style_start (ScanQuotedUrl q e s t) ≡ true
+    → style_scan_start (style_quoted_place q s) ≡ ScanQuotedUrl q e s t
+starts-quoted DoubleQuote NoEscape s NoTriple h = refl
+starts-quoted SingleQuote NoEscape s NoTriple h = refl
+starts-quoted q NoEscape s AfterPercent h = absurd (no (sym h))
+starts-quoted q NoEscape s AfterDigit h = absurd (no (sym h))
+starts-quoted q AfterBackslash s t h = absurd (no (sym h))
+starts-quoted q (HexDigits n) s t h = absurd (no (sym h))
+starts-quoted q AfterReturn s t h = absurd (no (sym h))
+
+style-starts : (n : StyleScan) → is_style_start n ≡ true → style_scan_start (style_scan_place n) ≡ n
+style-starts (ScanCode x) h = refl
+style-starts (ScanWord w e) h = absurd (no (sym h))
+style-starts (ScanSplitEscape e) h = absurd (no (sym h))
+style-starts ScanSolidus h = absurd (no (sym h))
+style-starts ScanLessThan h = absurd (no (sym h))
+style-starts (ScanComment star) h = starts-comment star h
+style-starts ScanStarBefore h = refl
+style-starts (ScanString q e) h = starts-string q e h
+style-starts ScanFresh h = refl
+style-starts (ScanBareUrl s t) h = starts-bare s t h
+style-starts (ScanQuotedUrl q e s t) h = starts-quoted q e s t h
+style-starts ScanEnded h = refl
 
 pub empty-texts-keep-styles : EmptyTextsKeepStyles
-empty-texts-keep-styles (css.Code x) = record { place = refl; cut_error = refl }
-empty-texts-keep-styles css.Dq = record { place = refl; cut_error = refl }
-empty-texts-keep-styles css.Sq = record { place = refl; cut_error = refl }
-empty-texts-keep-styles css.UrlFresh = record { place = refl; cut_error = refl }
-empty-texts-keep-styles (css.Url s) = record { place = refl; cut_error = refl }
-empty-texts-keep-styles (css.UrlDq s) = record { place = refl; cut_error = refl }
-empty-texts-keep-styles (css.UrlSq s) = record { place = refl; cut_error = refl }
-empty-texts-keep-styles css.UrlEnd = record { place = refl; cut_error = refl }
-empty-texts-keep-styles (css.Comment star) = comment-kept star
+empty-texts-keep-styles = record { places = style-kept; starts = style-starts }
 
 -- a path among those that are stepped
 has-at : (m n : StyleScan) (v : Style Url) → IsStyleScan v n → StyleScanBelow n m → HasStyle m v

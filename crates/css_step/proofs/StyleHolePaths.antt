@@ -15,9 +15,10 @@ use Rattle.url_step.proofs.Covering.{covers-parts}
 use Rattle.url_step.proofs.OnePath.{one-at-hole}
 use Rattle.url_step.proofs.Origins.{parts-come-from-hole}
 use Rattle.css_step.specs.StyleOrigins.{IsStyleUnder, StylePathOrigin, style_scan_after_hole, StylesComeFromHole}
-use Rattle.css_step.specs.StyleScans.{StyleScan, ScanCode, ScanBareUrl, ScanQuotedUrl, style_tails, style_scan_place, style_hole_error}
+use Rattle.css_step.specs.StyleScans.{StyleScan, ScanCode, ScanBareUrl, ScanQuotedUrl, style_scan_place, style_hole_error}
 use Rattle.css_step.specs.StyleScanLaws.{scans_between, scans_behind_hole, scans_solidus_before, scans_less_than_before}
 use Rattle.css_step.specs.StyleSetLaws.{StyleScanBelow, below_itself, below_tails, HasStyle}
+use Rattle.place_core.specs.place.StyleParts.{style_tails}
 use Rattle.css_step.proofs.BornePaths.{part-borne}
 use Rattle.css_step.proofs.StyleCases.{below-cases, PathScan, path-scan}
 use Rattle.css_step.proofs.StyleEndOrigins.{cut-members, hole-members}

@@ -10,9 +10,10 @@ use Rattle.place_core.specs.place.LanguagePlaces.{both_css_tails}
 use Rattle.place_core.specs.declared.member.Member.TheVariants as member
 use Rattle.url_lexer.specs.States.{Url}
 use Rattle.css_step.specs.StyleOrigins.{IsStyleUnder, StylePathOrigin, style_scan_has, style_scan_after_hole}
-use Rattle.css_step.specs.StyleScans.{StyleScan, ScanCode, ScanWord, ScanSplitEscape, style_tails, style_between, style_code_next, style_scan_start, style_scan_next, style_scan_error}
+use Rattle.css_step.specs.StyleScans.{StyleScan, ScanCode, ScanWord, ScanSplitEscape, style_between, style_code_next, style_scan_start, style_scan_next, style_scan_error}
 use Rattle.css_step.specs.StyleScanLaws.{scans_between, scans_behind_hole, scans_solidus_before, scans_split_word}
 use Rattle.css_step.specs.StyleSetLaws.{StyleScanBelow, below_itself, below_tails, HasStyle}
+use Rattle.place_core.specs.place.StyleParts.{style_tails}
 use Rattle.css_step.proofs.StyleCases.{below-cases, PathScan, path-scan}
 
 no : true ≡ false → ⊥

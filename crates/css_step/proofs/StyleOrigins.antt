@@ -9,9 +9,10 @@ use Rattle.place_core.specs.declared.member.Member.TheVariants as member
 use Rattle.place_core.specs.place.Places.{is_whole}
 use Rattle.url_lexer.specs.States.{Url}
 use Rattle.css_step.specs.StyleOrigins.{scan_set_has, style_scan_has, StyleBears, IsStyleOrigin}
-use Rattle.css_step.specs.StyleScans.{StyleScan, ScanCode, ScanSplitEscape, ScanStarBefore, style_tails, style_code_next, style_scan_next}
+use Rattle.css_step.specs.StyleScans.{StyleScan, ScanCode, ScanSplitEscape, ScanStarBefore, style_code_next, style_scan_next}
 use Rattle.css_step.specs.StyleScanLaws.{IsStyleScan}
 use Rattle.css_step.specs.StyleSetLaws.{StyleScanBelow, HasStyle}
+use Rattle.place_core.specs.place.StyleParts.{style_tails}
 use Rattle.css_step.proofs.OneStylePath.{exact-on-one-style}
 use Rattle.css_step.proofs.StyleCases.{below-cases, PathScan, path-scan}
 

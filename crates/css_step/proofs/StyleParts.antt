@@ -21,10 +21,11 @@ use Rattle.url_lexer.specs.declared.class.UrlClass.TheVariants as url_class
 use Rattle.url_step.specs.PartSets.{HasPart, parts_next, parts_error, parts_hole_error}
 use Rattle.url_step.proofs.Covering.{parts-agree}
 use Rattle.url_step.proofs.ValidParts.{parts-stay-valid}
-use Rattle.css_step.specs.StyleScans.{StyleScan, ScanCode, ScanWord, ScanSplitEscape, ScanSolidus, ScanLessThan, ScanComment, ScanStarBefore, ScanString, ScanFresh, ScanBareUrl, ScanQuotedUrl, ScanEnded, style_split_word, style_comment_start, style_scan_start, style_between_next, style_split_next, style_code_next, style_word_next, style_solidus_next, style_comment_next, style_string_next, style_bare_next, style_fresh_next, style_quoted_next, style_ended_next, style_scan_next, style_url_error, style_quoted_error, style_string_place, style_quoted_place, style_scan_place, style_at_hole, style_hole_error}
+use Rattle.css_step.specs.StyleScans.{StyleScan, ScanCode, ScanWord, ScanSplitEscape, ScanSolidus, ScanLessThan, ScanComment, ScanStarBefore, ScanString, ScanFresh, ScanBareUrl, ScanQuotedUrl, ScanEnded, style_split_word, style_comment_start, style_scan_start, style_between_next, style_split_next, style_code_next, style_word_next, style_solidus_next, style_comment_next, style_string_next, style_bare_next, style_fresh_next, style_quoted_next, style_ended_next, style_scan_next, style_url_error, style_quoted_error, style_scan_place, style_at_hole, style_hole_error}
 use Rattle.css_step.specs.StyleScanLaws.{IsStyleScan, scans_between, scans_less_than, scans_word, scans_solidus, scans_comment, scans_string, scans_behind_hole, scans_split_word, scans_solidus_before, scans_less_than_before, scans_star_before, scans_fresh, scans_bare, scans_quoted, scans_ended}
 use Rattle.css_step.specs.StyleSetLaws.{StyleScanBelow, below_itself, below_tails, below_split_word, below_star, below_bare, below_quoted}
 use Rattle.css_step.specs.StyleValidity.{StylesStayValid, style_part, AgreeStyles, StylesAgree}
+use Rattle.place_core.specs.place.StyleParts.{style_quoted_place, style_string_place}
 use Rattle.css_step.proofs.StyleGrowth.{url-none}
 
 abbrev AreScanParts : StyleScan → Type 0

@@ -11,9 +11,10 @@ use Rattle.url_lexer.specs.States.{Url}
 use Rattle.url_lexer.specs.Triples.{Triple, next_triple}
 use Rattle.url_step.specs.PartSets.{PartsBelow, HasPart, parts_next}
 use Rattle.css_step.specs.StyleOrigins.{IsStyleBehind, StylePathOrigin}
-use Rattle.css_step.specs.StyleScans.{StyleScan, ScanCode, ScanBareUrl, ScanQuotedUrl, ScanEnded, style_tails, style_between, style_code_next, style_bare_next, style_quoted_next, style_scan_next, style_scan_error, style_url_error, style_bare_error, style_quoted_error}
+use Rattle.css_step.specs.StyleScans.{StyleScan, ScanCode, ScanBareUrl, ScanQuotedUrl, ScanEnded, style_between, style_code_next, style_bare_next, style_quoted_next, style_scan_next, style_scan_error, style_url_error, style_bare_error, style_quoted_error}
 use Rattle.css_step.specs.StyleScanLaws.{scans_between, scans_behind_hole}
 use Rattle.css_step.specs.StyleSetLaws.{StyleScanBelow, below_tails, HasStyle}
+use Rattle.place_core.specs.place.StyleParts.{style_tails}
 use Rattle.css_step.proofs.OneStylePath.{given}
 use Rattle.css_step.proofs.StyleCases.{below-cases, PathScan, path-scan}
 use Rattle.css_step.proofs.StylePathOrigins.{PartOrigin, part-bare, part-quoted, fed-part}

@@ -9,8 +9,9 @@ use Rattle.place_core.specs.place.LanguagePlaces.{both_parts, joined_css}
 use Rattle.place_core.specs.place.UrlParts.{parts_of}
 use Rattle.url_lexer.specs.Classes.{url_class_of}
 use Rattle.url_lexer.specs.Parts.{UrlOpenhole, UrlPrequery, UrlQuery}
-use Rattle.css_step.specs.StyleScans.{StyleScan, ScanSplitEscape, style_tails, style_scan_start, style_scan_next, style_scan_error, style_scan_place, style_scan_cut_error, style_at_hole, style_hole_error}
+use Rattle.css_step.specs.StyleScans.{StyleScan, ScanSplitEscape, style_scan_start, style_scan_next, style_scan_error, style_scan_place, style_scan_cut_error, style_at_hole, style_hole_error}
 use Rattle.css_step.specs.StyleSetLaws.{StyleBelow}
+use Rattle.place_core.specs.place.StyleParts.{style_tails}
 
 -- where a text leads from a place; what its last byte, and its end, are refused for
 abbrev behind : StyleScan → List ℕ → StyleScan

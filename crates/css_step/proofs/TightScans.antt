@@ -10,8 +10,9 @@ use Rattle.place_core.specs.declared.css_tails.CssTails.{CssTails}
 use Rattle.place_core.specs.place.LanguagePlaces.{both_css_tails}
 use Rattle.url_lexer.specs.States.{Url}
 use Rattle.css_step.specs.StyleOrigins.{IsStyleBehind, behind_itself, behind_split_word}
-use Rattle.css_step.specs.StyleScans.{StyleScan, ScanCode, ScanWord, ScanSplitEscape, ScanSolidus, ScanLessThan, ScanComment, ScanStarBefore, ScanString, ScanFresh, ScanBareUrl, ScanQuotedUrl, ScanEnded, style_tails, style_between, style_split_word, style_between_next, style_split_next, style_code_next, style_word_next, style_solidus_next, style_comment_next, style_string_next, style_ended_next}
+use Rattle.css_step.specs.StyleScans.{StyleScan, ScanCode, ScanWord, ScanSplitEscape, ScanSolidus, ScanLessThan, ScanComment, ScanStarBefore, ScanString, ScanFresh, ScanBareUrl, ScanQuotedUrl, ScanEnded, style_between, style_split_word, style_between_next, style_split_next, style_code_next, style_word_next, style_solidus_next, style_comment_next, style_string_next, style_ended_next}
 use Rattle.css_step.specs.StyleSetLaws.{StyleScanBelow}
+use Rattle.place_core.specs.place.StyleParts.{style_tails}
 use Rattle.css_step.proofs.StyleCases.{BelowCases, below-cases, PathScan}
 
 no : true ≡ false → ⊥

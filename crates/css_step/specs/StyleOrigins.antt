@@ -23,10 +23,11 @@ use Rattle.url_lexer.specs.States.{Url}
 use Rattle.url_lexer.specs.Triples.{Triple}
 use Rattle.url_lexer.specs.TwoPaths.{refuses_hole_on_two}
 use Rattle.url_lexer.specs.declared.class.UrlClass.TheVariants as url_class
-use Rattle.css_step.specs.StyleScans.{StyleScan, ScanCode, ScanWord, ScanSplitEscape, ScanSolidus, ScanLessThan, ScanComment, ScanStarBefore, ScanString, ScanFresh, ScanBareUrl, ScanQuotedUrl, ScanEnded, style_tails, style_split_word, style_scan_start, style_scan_next, style_scan_error, style_scan_place, style_scan_cut_error, style_at_hole, style_hole_error}
+use Rattle.css_step.specs.StyleScans.{StyleScan, ScanCode, ScanWord, ScanSplitEscape, ScanSolidus, ScanLessThan, ScanComment, ScanStarBefore, ScanString, ScanFresh, ScanBareUrl, ScanQuotedUrl, ScanEnded, style_split_word, style_scan_start, style_scan_next, style_scan_error, style_scan_place, style_scan_cut_error, style_at_hole, style_hole_error}
 use Rattle.css_step.specs.StyleScanLaws.{IsStyleScan}
 use Rattle.css_step.specs.StyleSetLaws.{StyleScanBelow, HasStyle}
 use Rattle.css_step.specs.StyleValidity.{style_part}
+use Rattle.place_core.specs.place.StyleParts.{style_tails}
 
 -- The members of what a scan keeps as a set: a word, a `/`, a `<` and a `*` of a comment that some path has from before the text, and the parts of a
 -- URL. A word of this text, and the rest, is in no set: all paths share it.

@@ -1,7 +1,7 @@
 -- The scan states of the code, and its answers.
 use Rattle.std.specs.Prelude.{Option, Some, None, Result, Ok, Err}
 use Rattle.css_lexer.specs.Escapes.{StyleEscape, NoEscape, AfterBackslash, HexDigits, AfterReturn}
-use Rattle.css_lexer.specs.RefusalCodes.{RefusalCode, AmbigContext, BadHTML, PartialEscape, SplitToken, BadString, StyleCutRefusal}
+use Rattle.css_lexer.specs.RefusalCodes.{RefusalCode, StyleCutRefusal}
 use Rattle.css_lexer.specs.States.{Quote, DoubleQuote, SingleQuote, UrlWord, SpellsU, SpellsUr, SpellsUrl, SpellsOther}
 use Rattle.css_step.specs.StyleScans.{StyleScan, ScanCode, ScanWord, ScanSplitEscape, ScanSolidus, ScanLessThan, ScanComment, ScanStarBefore, ScanString, ScanFresh, ScanBareUrl, ScanQuotedUrl, ScanEnded, style_at_hole, style_hole_error}
 use Rattle.css_step.specs.declared.scan.StyleEscape.{StyleEscape as ReadEscape}
@@ -16,7 +16,7 @@ use Rattle.css_step.specs.declared.scan.StyleWord.{StyleWord}
 use Rattle.css_step.specs.declared.scan.StyleWord.TheVariants as word
 use Rattle.css_step.specs.declared.cut.StyleCut.{StyleCut}
 use Rattle.place_core.specs.declared.code.Code.{Code}
-use Rattle.place_core.specs.declared.code.Code.TheVariants as code
+use Rattle.place_core.specs.page.Tags.{style_code}
 use Rattle.place_core.specs.declared.css.Css.{Css}
 use Rattle.url_lexer.specs.Triples.{Triple, NoTriple, AfterPercent, AfterDigit}
 
@@ -54,14 +54,6 @@ style_scan_at scan.Fresh = ScanFresh
 style_scan_at (scan.BareUrl s t) = ScanBareUrl s (style_triple_at t)
 style_scan_at (scan.QuotedUrl q e s t) = ScanQuotedUrl (style_quote_at q) (style_escape_at e) s (style_triple_at t)
 style_scan_at scan.Ended = ScanEnded
-
--- by the codes of errors
-abbrev pub style_code : RefusalCode → Code
-style_code AmbigContext = code.AmbigContext
-style_code BadHTML = code.BadHTML
-style_code PartialEscape = code.PartialEscape
-style_code SplitToken = code.SplitToken
-style_code BadString = code.BadString
 
 -- the end of a node that is refused
 abbrev pub style_cut_at : StyleCutRefusal → StyleCut

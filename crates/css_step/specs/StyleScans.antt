@@ -15,6 +15,7 @@ use Rattle.place_core.specs.declared.css.Css.{Css}
 use Rattle.place_core.specs.declared.css.Css.TheVariants as css
 use Rattle.place_core.specs.declared.css_tails.CssTails.{CssTails}
 use Rattle.place_core.specs.declared.parts.Parts.{Parts}
+use Rattle.place_core.specs.place.StyleParts.{style_quoted_place, style_string_place, style_tails}
 use Rattle.place_core.specs.place.UrlParts.{parts_of}
 use Rattle.url_lexer.specs.Classes.{url_class_of}
 use Rattle.url_lexer.specs.Parts.{UrlStart}
@@ -45,9 +46,6 @@ pub data StyleScan : Type 0 where
   ScanBareUrl : Parts → Triple → StyleScan
   ScanQuotedUrl : Quote → StyleEscape → Parts → Triple → StyleScan
   ScanEnded : StyleScan
-
-abbrev pub style_tails : (word slash lt : Bool) → CssTails
-style_tails word slash lt = record { word = word; slash = slash; lt = lt }
 
 -- between tokens, with nothing before that the next byte may go on with
 abbrev pub style_between : StyleScan
@@ -221,14 +219,6 @@ style_scan_error (ScanQuotedUrl q e s t) c b = style_quoted_error (style_url_err
 style_scan_error ScanEnded c b = refuses_ended c
 
 -- The place where the node ends, if that is not refused.
-abbrev pub style_string_place : Quote → Css
-style_string_place DoubleQuote = css.Dq
-style_string_place SingleQuote = css.Sq
-
-abbrev pub style_quoted_place : Quote → Parts → Css
-style_quoted_place DoubleQuote s = css.UrlDq s
-style_quoted_place SingleQuote s = css.UrlSq s
-
 abbrev pub style_scan_place : StyleScan → Css
 style_scan_place (ScanCode x) = css.Code x
 style_scan_place (ScanWord w e) = css.Code (style_tails true false false)
@@ -242,6 +232,25 @@ style_scan_place ScanFresh = css.UrlFresh
 style_scan_place (ScanBareUrl s t) = css.Url s
 style_scan_place (ScanQuotedUrl q e s t) = style_quoted_place q s
 style_scan_place ScanEnded = css.UrlEnd
+
+-- Whether the scan state is a start: whether a text that begins at its place is stepped as from there. Of what is no start the place says less.
+abbrev pub is_style_start : StyleScan → Bool
+is_style_start (ScanCode x) = true
+is_style_start (ScanWord w e) = false
+is_style_start (ScanSplitEscape e) = false
+is_style_start ScanSolidus = false
+is_style_start ScanLessThan = false
+is_style_start (ScanComment true) = false
+is_style_start (ScanComment false) = true
+is_style_start ScanStarBefore = true
+is_style_start (ScanString q NoEscape) = true
+is_style_start (ScanString q e) = false
+is_style_start ScanFresh = true
+is_style_start (ScanBareUrl s NoTriple) = true
+is_style_start (ScanBareUrl s t) = false
+is_style_start (ScanQuotedUrl q NoEscape s NoTriple) = true
+is_style_start (ScanQuotedUrl q e s t) = false
+is_style_start ScanEnded = true
 
 -- The end of a node is refused in an escape and in a percent triple.
 abbrev pub style_scan_cut_error : StyleScan → Option StyleCutRefusal

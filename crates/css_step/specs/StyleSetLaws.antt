@@ -1,6 +1,6 @@
 -- What the step of the places of several paths in a style promises of each of them: that it is not refused where the place is not, and that it
 -- stays in it; and of a place below another one.
-use Rattle.std.specs.Prelude.{◌≡◌, ℕ, Some, None, false}
+use Rattle.std.specs.Prelude.{◌≡◌, ℕ, Some, None, true, false}
 use Rattle.css_lexer.specs.Escapes.{StyleEscape}
 use Rattle.css_lexer.specs.Paths.{style_after_cut, style_after_hole}
 use Rattle.css_lexer.specs.Refusals.{style_refuses_class, style_refuses_cut, style_refuses_hole}
@@ -15,7 +15,7 @@ use Rattle.place_core.specs.place.LanguagePlaces.{joined_css, both_css_tails}
 use Rattle.url_lexer.specs.States.{Url}
 use Rattle.url_lexer.specs.Triples.{Triple}
 use Rattle.url_step.specs.PartSets.{PartsBelow}
-use Rattle.css_step.specs.StyleScans.{StyleScan, ScanCode, ScanWord, ScanComment, ScanStarBefore, ScanBareUrl, ScanQuotedUrl, style_split_word, style_scan_start, style_scan_next, style_scan_error, style_scan_place, style_scan_cut_error, style_at_hole, style_hole_error}
+use Rattle.css_step.specs.StyleScans.{StyleScan, ScanCode, ScanWord, ScanComment, ScanStarBefore, ScanBareUrl, ScanQuotedUrl, style_split_word, style_scan_start, style_scan_next, style_scan_error, style_scan_place, is_style_start, style_scan_cut_error, style_at_hole, style_hole_error}
 use Rattle.css_step.specs.StyleScanLaws.{IsStyleScan}
 
 -- a place is below another one: joining them gives that one
@@ -49,13 +49,16 @@ pub record StylesGrow : Type 0 where
   pub scans : (n m : StyleScan) → StyleScanBelow n m → GrowsStyleScan n m
   pub places : (c d : Css) → StyleBelow c d → GrowsStyle c d
 
--- A text of no bytes keeps the place, and its end is not refused.
+-- A text of no bytes keeps the place, and its end is not refused; where it begins is a start.
 pub record KeepsStyle (c : Css) : Type 0 where
+  pub start : is_style_start (style_scan_start c) ≡ true
   pub place : style_scan_place (style_scan_start c) ≡ c
   pub cut_error : style_scan_cut_error (style_scan_start c) ≡ None
 
-abbrev pub EmptyTextsKeepStyles : Type 0
-EmptyTextsKeepStyles = (c : Css) → KeepsStyle c
+-- It does so at each place; and each start is where a text begins at its place.
+pub record EmptyTextsKeepStyles : Type 0 where
+  pub places : (c : Css) → KeepsStyle c
+  pub starts : (n : StyleScan) → is_style_start n ≡ true → style_scan_start (style_scan_place n) ≡ n
 
 -- A path is among those that are stepped: what it is alone is below.
 pub record HasStyle (m : StyleScan) (v : Style Url) : Type 0 where

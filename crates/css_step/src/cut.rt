@@ -4,9 +4,9 @@ ghost use Rattle.css_lexer.specs.Refusals.{refuses_in_escape};
 ghost use Rattle.css_lexer.specs.Urls.{url_cut_refusal};
 ghost use Rattle.css_step.specs.StyleScanViews.{style_cut_at, style_escape_at, style_quote_at};
 ghost use Rattle.css_step.specs.StyleScanViews.{style_scan_at, style_triple_at};
-ghost use Rattle.css_step.specs.StyleScans.{style_quoted_place};
-ghost use Rattle.css_step.specs.StyleScans.{style_scan_cut_error, style_scan_place};
-ghost use Rattle.css_step.specs.StyleScans.{style_scan_start, style_string_place};
+ghost use Rattle.css_step.specs.StyleScans.{is_style_start, style_scan_cut_error};
+ghost use Rattle.css_step.specs.StyleScans.{style_scan_place, style_scan_start};
+ghost use Rattle.place_core.specs.place.StyleParts.{style_quoted_place, style_string_place};
 ghost use Rattle.url_lexer.specs.Refusals.{refuses_cut_in};
 
 use crate::scan::{NO_TAILS, StyleEscape, StyleQuote, StyleScan, StyleTriple};
@@ -98,6 +98,30 @@ pub fn place(scan: StyleScan) -> Css
         StyleScan::BareUrl(parts, _) => Css::Url(parts),
         StyleScan::QuotedUrl(quote, _, parts, _) => quoted_place(quote, parts),
         StyleScan::Ended => Css::UrlEnd,
+    }
+}
+
+/// Whether a text that begins at the place of a scan state is stepped as from there; of another one the place says less.
+pub fn is_start(scan: StyleScan) -> bool
+    ensures { result ≡ is_style_start (style_scan_at scan) }
+{
+    match scan {
+        StyleScan::Code(_)
+        | StyleScan::Comment(false)
+        | StyleScan::StarBefore
+        | StyleScan::InString(_, StyleEscape::None)
+        | StyleScan::Fresh
+        | StyleScan::BareUrl(_, StyleTriple::None)
+        | StyleScan::QuotedUrl(_, StyleEscape::None, _, StyleTriple::None)
+        | StyleScan::Ended => true,
+        StyleScan::Word(_, _)
+        | StyleScan::SplitEscape(_)
+        | StyleScan::Solidus
+        | StyleScan::LessThan
+        | StyleScan::Comment(true)
+        | StyleScan::InString(_, _)
+        | StyleScan::BareUrl(_, _)
+        | StyleScan::QuotedUrl(_, _, _, _) => false,
     }
 }
 

@@ -5,8 +5,8 @@ ghost use Rattle.css_step.specs.StyleSetLaws.{CoversStyles, EmptyTextsKeepStyles
 ghost use Rattle.css_step.specs.StyleTexts.{StyleTextsComeFrom};
 ghost use Rattle.css_step.specs.StyleValidity.{StylesAgree, StylesStayValid};
 
-/// From the place of one path, what a byte of text, the end of a node and a hole make of it and what is refused is the path's own. A
-/// theorem; the call does nothing at run time.
+/// From the place of one path, what a byte of text, the end of a node and a hole make of it and what is refused is the path's own; and
+/// where a text may begin, one at its place begins in its scan state. A theorem; the call does nothing at run time.
 pub fn is_exact_on_one_style()
     ensures { IsExactOnOneStyle }
 {}
@@ -17,7 +17,8 @@ pub fn covers_styles()
     ensures { CoversStyles }
 {}
 
-/// A text of no bytes keeps the place, and its end is not refused. A theorem; the call does nothing at run time.
+/// A text of no bytes keeps the place, and its end is not refused; and where `is_start` is true, and nowhere else, a text begins with that
+/// scan state, at its place. A theorem; the call does nothing at run time.
 pub fn empty_texts_keep_styles()
     ensures { EmptyTextsKeepStyles }
 {}

@@ -8,7 +8,7 @@ mod refusals;
 mod scan;
 mod text;
 
-pub use cut::{StyleCut, place, refused_at_cut, start};
+pub use cut::{StyleCut, is_start, place, refused_at_cut, start};
 pub use hole::at_hole;
 pub use laws::{
     covers_styles, empty_texts_keep_styles, is_exact_on_one_style, style_refusal_is_shown,

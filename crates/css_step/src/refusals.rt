@@ -2,11 +2,12 @@ ghost use Rattle.std.specs.Prelude.{◌≡◌, option_map};
 ghost use Rattle.css_lexer.specs.Classes.{style_class};
 ghost use Rattle.css_lexer.specs.Refusals.{refuses_ended, refuses_solidus, refuses_split};
 ghost use Rattle.css_lexer.specs.Refusals.{refuses_string};
-ghost use Rattle.css_step.specs.StyleScanViews.{style_code, style_escape_at, style_quote_at};
+ghost use Rattle.css_step.specs.StyleScanViews.{style_escape_at, style_quote_at};
 ghost use Rattle.css_step.specs.StyleScanViews.{style_scan_at};
 ghost use Rattle.css_step.specs.StyleScans.{style_bare_error, style_fresh_error};
 ghost use Rattle.css_step.specs.StyleScans.{style_quoted_error, style_scan_error};
 ghost use Rattle.css_step.specs.StyleScans.{style_tails_error, style_url_error};
+ghost use Rattle.place_core.specs.page.Tags.{style_code};
 
 use crate::scan::{StyleEscape, StyleQuote, StyleScan, URL_START};
 use crate::text::is_taken;

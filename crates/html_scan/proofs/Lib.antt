@@ -1,5 +1,6 @@
 pub mod Lowered
 pub mod PendingNames
 pub mod Shortened
+pub mod StylesFed
 pub mod TypesRead
 pub mod UrlsFed

@@ -18,7 +18,7 @@ use Rattle.html_scan.specs.Scans.{parts_feeding, triple_behind, url_scan, with_p
 use Rattle.html_scan.specs.Slices.{pending}
 use Rattle.html_scan.proofs.PendingNames.{pending_grows}
 
-feed_more : {S : Type 0} (m : Feeding S) (s : S) (xs ys : List ℕ) → feed_bytes m s (xs ++ ys) ≡ feed_bytes m (feed_bytes m s xs) ys
+pub feed_more : {S : Type 0} (m : Feeding S) (s : S) (xs ys : List ℕ) → feed_bytes m s (xs ++ ys) ≡ feed_bytes m (feed_bytes m s xs) ys
 feed_more m s [] ys = refl
 feed_more m s (x ∷ xs) ys = feed_more m (m.feed s x) xs ys
 

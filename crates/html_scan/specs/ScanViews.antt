@@ -8,9 +8,11 @@ use Rattle.place_core.specs.place.Errors.{PathCause}
 use Rattle.place_core.specs.page.States.{CommentState, Started, StartedDash, Dash, DashDash, Bang, PendingLess, PendingName, PendingBang, PendingBangDash}
 use Rattle.place_core.specs.page.Tags.{Value, ValueState, Quoting, DoubleQuoted, SingleQuoted, Unquoted}
 use Rattle.place_core.specs.declared.element.Element.TheVariants as element
+use Rattle.place_core.specs.declared.place.Place.{Place}
 use Rattle.url_lexer.specs.Triples.{Triple, NoTriple, AfterPercent, AfterDigit}
-use Rattle.html_scan.specs.Scans.{Scan, At, AfterLess, AfterLessSolidus, InDeclaration, InTagName, InAttributeName, InCommentEnd, InContentEnd, InUrl, BeforeType, InType, type_begun, type_read}
+use Rattle.html_scan.specs.Scans.{Scan, At, AfterLess, AfterLessSolidus, InDeclaration, InTagName, InAttributeName, InCommentEnd, InContentEnd, InUrl, InStyle, BeforeType, InType, type_begun, type_read}
 use Rattle.html_scan.specs.Slices.{pending}
+use Rattle.css_step.specs.StyleScanViews.{style_scan_at}
 use Rattle.html_scan.specs.declared.declaration.Declaration.{Declaration as ReadDeclaration}
 use Rattle.html_scan.specs.declared.declaration.Declaration.TheVariants as declaration
 use Rattle.html_scan.specs.declared.cause.Cause.{Cause as ReadCause}
@@ -49,7 +51,7 @@ triple_at triple.None = NoTriple
 triple_at triple.AfterPercent = AfterPercent
 triple_at triple.AfterDigit = AfterDigit
 
--- A reference in a URL: its form; and its bytes, which stand behind its `&`, where that many bytes of the text have been read.
+-- A reference in a URL or a style: its form; and its bytes, which stand behind its `&`, where that many bytes of the text have been read.
 abbrev pub open_form_at : ReferenceForm → Form
 open_form_at form.Begun = Begun
 open_form_at form.Named = Named
@@ -82,6 +84,7 @@ scan_at text k (scan.InTagName ends from) = InTagName ends (str_to_ascii_lowerca
 scan_at text k (scan.InAttributeName t typed from) = InAttributeName t typed (str_to_ascii_lowercase (pending text from k))
 scan_at text k (scan.InCommentEnd s) = InCommentEnd (stage_at s)
 scan_at text k (scan.InUrl v t r) = InUrl v (triple_at t) (open_reference_at text k r)
+scan_at text k (scan.InStyle v s r) = InStyle v (style_scan_at s) (open_reference_at text k r)
 scan_at text k (scan.AfterContentLess e) = InContentEnd e PendingLess
 scan_at text k (scan.InContentName e from) = InContentEnd e (PendingName (pending text (from + 2) k))
 scan_at text k scan.AfterBlockBang = InContentEnd element.DataBlock PendingBang
@@ -103,12 +106,18 @@ pending_from (scan.InTagName ends from) = from
 pending_from (scan.InAttributeName t typed from) = from
 pending_from (scan.InCommentEnd s) = 0
 pending_from (scan.InUrl v t r) = reference_from r
+pending_from (scan.InStyle v s r) = reference_from r
 pending_from (scan.AfterContentLess e) = 1
 pending_from (scan.InContentName e from) = from + 2
 pending_from scan.AfterBlockBang = 2
 pending_from scan.AfterBlockBangDash = 3
 pending_from (scan.BeforeType t) = 0
 pending_from (scan.InType t q from) = from
+
+-- a place to which a byte leads by the quotes of a value, or where the value goes on with it
+abbrev pub unless_led : Option Place → (goes_on : Scan) → Scan
+unless_led None goes_on = goes_on
+unless_led (Some p) goes_on = At p
 
 abbrev pub declaration_at : ReadDeclaration → Declaration
 declaration_at declaration.Comment = OpensComment

@@ -1,22 +1,27 @@
 -- How a text is stepped, byte by byte, for all the paths that stand at a place together. Between lexemes they are at a place, which has sets; in
--- a lexeme they are all in the same one. What is left out of the states of the lexer is what no place depends on: references in text and in
+-- a lexeme they are all in the same one. In a lexeme or a reference of a URL or a style what is a set all the same is kept: the parts of a URL, and
+-- what paths of a style ended in before the text. What is left out of the states of the lexer is what no place depends on: references in text and in
 -- values that are text.
 use Rattle.std.specs.Prelude.{ℕ, Bool, true, false, ◌||◌, List, [], ◌∷◌, ◌++◌, length, Option, Some, None, option_map, if◌then◌else◌}
 use Rattle.std.specs.Char.{to_ascii_lowercase}
 use Rattle.place_core.specs.page.Classes.{Class, White, ExclamationMark, QuotationMark, Apostrophe, HyphenMinus, Solidus, LessThan, EqualsSign, GreaterThan, Letter, class_of, is_equals_sign}
 use Rattle.place_core.specs.page.Comments.{Declaration, OpensComment, OpensDoctype, Undecided, OpensNothing, declared_by, next_comment, closes_comment}
 use Rattle.place_core.specs.page.Contents.{may_be_name_of, is_name_of}
+use Rattle.css_lexer.specs.Classes.{style_class}
+use Rattle.css_step.specs.StyleScans.{StyleScan, style_scan_start, style_scan_next, style_scan_error, style_scan_place, style_scan_cut_error, is_style_start}
 use Rattle.place_core.specs.place.Errors.{PathCause, place_error, value_error, fed_error, language_error, first_byte_error, first_cause, at_hand, quotes_error, block_byte_error, block_cut_error, tag_name_error, attribute_name_error, unless_second}
 use Rattle.place_core.specs.page.Html.{ends_value}
 use Rattle.place_core.specs.page.References.{Form, Reference, Closed, Open, ReferenceStep, Breaks, turn, flushed, next_reference, undone_byte, settled, as_it_stands}
+use Rattle.place_core.specs.place.StyleParts.{style_tails}
 use Rattle.place_core.specs.place.StatePlaces.{only_name, only_before, only_inside, only_after, unbegun, body_at, quotes_at}
 use Rattle.place_core.specs.page.States.{CommentState, Started, Inside, Broken, Pending, PendingLess, PendingName, PendingBang, PendingBangDash}
-use Rattle.place_core.specs.page.Tags.{is_second_type, is_start, tag_of_name, element_on, Value, ValueState, languages, value_start, attribute_value_of, with_bytes, Feeding, feed_bytes, refusal_code, tag_with_value, Quoting, DoubleQuoted, SingleQuoted, Unquoted}
+use Rattle.place_core.specs.page.Tags.{is_second_type, is_start, tag_of_name, element_on, Value, ValueState, languages, value_start, attribute_value_of, with_bytes, Feeding, feed_bytes, refusal_code, style_code, tag_with_value, Quoting, DoubleQuoted, SingleQuoted, Unquoted}
 use Rattle.place_core.specs.page.Words.{kind_of}
 use Rattle.place_core.specs.declared.body.Body.{Body}
 use Rattle.place_core.specs.declared.body.Body.TheVariants as body
 use Rattle.place_core.specs.declared.code.Code.{Code}
 use Rattle.place_core.specs.declared.code.Code.TheVariants as code
+use Rattle.place_core.specs.declared.css.Css.TheVariants as css
 use Rattle.place_core.specs.declared.element.Element.{Element}
 use Rattle.place_core.specs.declared.element.Element.TheVariants as element
 use Rattle.place_core.specs.declared.kind.Kind.{Kind}
@@ -49,6 +54,9 @@ pub data Scan : Type 0 where
   InCommentEnd : CommentState → Scan
   -- in a value that is a URL, in a percent triple or a reference
   InUrl : ValuePlace → Triple → Reference → Scan
+  -- in a value that is a style, in a lexeme of it or a reference: its place, but for the body, which is that of an empty style, since the scan state of
+  -- the style has it; and the reference that is open
+  InStyle : ValuePlace → StyleScan → Reference → Scan
   -- in a title, a textarea or a data block, in what may be its end tag, or in the latter a `<!--`
   InContentEnd : Element → Pending → Scan
   -- before the value of the `type` of a script, of this tag; and in it, with what it is so far, and the reference that is open in it
@@ -134,8 +142,11 @@ tag_next t GreaterThan b = content_scan t.tag
 tag_next t EqualsSign b = value_scan t.tag t.typed t.kind
 tag_next t c b = InAttributeName t.tag t.typed (to_ascii_lowercase b ∷ [])
 
+abbrev pub value_between : ValuePlace → Quotes → ValuePlace
+value_between v q = record { tag = v.tag; typed = v.typed; quotes = q; body = v.body }
+
 abbrev pub with_quotes : ValuePlace → Quotes → Scan
-with_quotes v q = At (place.Value (record { tag = v.tag; typed = v.typed; quotes = q; body = v.body }))
+with_quotes v q = At (place.Value (value_between v q))
 
 abbrev pub bare_begun : Quotes
 bare_begun = quotes.Bare (record { uq = true; unbegun = false })
@@ -159,45 +170,85 @@ url_scan v t r = InUrl v t r
 abbrev pub with_parts : ValuePlace → Quotes → Parts → ValuePlace
 with_parts v q s = record { tag = v.tag; typed = v.typed; quotes = q; body = body.Url s }
 
+-- In a style, on all paths together: its own scan state.
+abbrev pub style_feeding : Feeding StyleScan
+style_feeding = record {
+  feed = λ s b. style_scan_next s (style_class b) b;
+  refuses = λ s b. option_map style_code (style_scan_error s (style_class b) b);
+  refuses_names = λ s. true;
+}
+
+abbrev pub empty_style_between : ValuePlace → Quotes → ValuePlace
+empty_style_between v q = record { tag = v.tag; typed = v.typed; quotes = q; body = body.Css (css.Code (style_tails false false false)) }
+
+abbrev pub with_body : ValuePlace → Body → Place
+with_body v x = place.Value (record { tag = v.tag; typed = v.typed; quotes = v.quotes; body = x })
+
+abbrev pub with_style : ValuePlace → StyleScan → Place
+with_style v s = with_body v (body.Css (style_scan_place s))
+
+-- at the place, where no reference is open, and a text that begins there is stepped as from here
+abbrev pub style_scan : ValuePlace → StyleScan → Reference → Scan
+style_scan v s Closed = if is_style_start s then At (with_style v s) else InStyle v s Closed
+style_scan v s r = InStyle v s r
+
+abbrev pub style_fed : ValuePlace → StyleScan → Reference → Class → ℕ → Scan
+style_fed v s r c b = style_scan v (feed_bytes style_feeding s (undone_byte true r c b)) (next_reference r c b)
+
 -- A value goes on, between these quotes, with the bytes that it is fed.
 abbrev pub value_fed : ValuePlace → Quotes → Body → Triple → Reference → Class → ℕ → Scan
 value_fed v q (body.Url s) t r c b =
     url_scan (with_parts v q (feed_bytes parts_feeding s (undone_byte true r c b))) (triple_behind t (undone_byte true r c b)) (next_reference r c b)
+value_fed v q (body.Css p) t r c b = style_fed (empty_style_between v q) (style_scan_start p) r c b
 value_fed v q x t r c b = with_quotes v q
 
 abbrev pub bare_white : ValuePlace → Bool → Scan
 bare_white v true = in_tag v.tag v.typed only_before None
 bare_white v false = with_quotes v unbegun
 
+-- Where a byte leads by the quotes; `goes_on` is where the value goes on with it, between these quotes.
+abbrev pub bare_leads : ValuePlace → Bool → Class → (goes_on : Scan) → Scan
+bare_leads v uq White goes_on = bare_white v uq
+bare_leads v uq QuotationMark goes_on = with_quotes v quotes.Dq
+bare_leads v uq Apostrophe goes_on = with_quotes v quotes.Sq
+bare_leads v uq GreaterThan goes_on = content_scan v.tag
+bare_leads v uq c goes_on = goes_on
+
+abbrev pub quotes_lead : ValuePlace → Quotes → Class → (goes_on : Quotes → Scan) → Scan
+quotes_lead v quotes.Dq QuotationMark goes_on = in_tag v.tag v.typed only_before None
+quotes_lead v quotes.Sq Apostrophe goes_on = in_tag v.tag v.typed only_before None
+quotes_lead v (quotes.Bare s) c goes_on = bare_leads v s.uq c (goes_on bare_begun)
+quotes_lead v q c goes_on = goes_on q
+
 abbrev pub bare_next : ValuePlace → Bool → Triple → Reference → Class → ℕ → Scan
-bare_next v uq t r White b = bare_white v uq
-bare_next v uq t r QuotationMark b = with_quotes v quotes.Dq
-bare_next v uq t r Apostrophe b = with_quotes v quotes.Sq
-bare_next v uq t r GreaterThan b = content_scan v.tag
-bare_next v uq t r c b = value_fed v bare_begun v.body t r c b
+bare_next v uq t r c b = bare_leads v uq c (value_fed v bare_begun v.body t r c b)
 
 abbrev pub quoted_next : ValuePlace → Quotes → Triple → Reference → Class → ℕ → Scan
-quoted_next v quotes.Dq t r QuotationMark b = in_tag v.tag v.typed only_before None
-quoted_next v quotes.Sq t r Apostrophe b = in_tag v.tag v.typed only_before None
-quoted_next v (quotes.Bare s) t r c b = bare_next v s.uq t r c b
-quoted_next v q t r c b = value_fed v q v.body t r c b
+quoted_next v q t r c b = quotes_lead v q c (λ p. value_fed v p v.body t r c b)
 
 abbrev pub value_next : ValuePlace → Triple → Reference → Class → ℕ → Scan
 value_next v t r c b = quoted_next v v.quotes t r c b
 
--- What is refused in a value: by its language, and then by its quotes.
-abbrev pub quoted_error : Quotes → Parts → Reference → Class → ℕ → Option PathCause
-quoted_error quotes.Dq s r c b = language_error parts_feeding (ends_value DoubleQuoted c) s r c b
-quoted_error quotes.Sq s r c b = language_error parts_feeding (ends_value SingleQuoted c) s r c b
-quoted_error (quotes.Bare x) s r c b =
-    if x.uq then language_error parts_feeding (ends_value Unquoted c) s r c b else first_byte_error parts_feeding s c b
+-- in a lexeme of a style, or a reference
+abbrev pub style_value_next : ValuePlace → StyleScan → Reference → Class → ℕ → Scan
+style_value_next v s r c b = quotes_lead v v.quotes c (λ p. style_fed (value_between v p) s r c b)
 
-abbrev pub parts_cause : Body → Quotes → Reference → Class → ℕ → Option PathCause
-parts_cause (body.Url s) q r c b = quoted_error q s r c b
-parts_cause x q r c b = None
+-- What is refused in a value: by its language, and then by its quotes.
+abbrev pub quoted_error : {S : Type 0} → Feeding S → Quotes → S → Reference → Class → ℕ → Option PathCause
+quoted_error m quotes.Dq s r c b = language_error m (ends_value DoubleQuoted c) s r c b
+quoted_error m quotes.Sq s r c b = language_error m (ends_value SingleQuoted c) s r c b
+quoted_error m (quotes.Bare x) s r c b = if x.uq then language_error m (ends_value Unquoted c) s r c b else first_byte_error m s c b
+
+abbrev pub body_cause : Body → Quotes → Reference → Class → ℕ → Option PathCause
+body_cause (body.Url s) q r c b = quoted_error parts_feeding q s r c b
+body_cause (body.Css p) q r c b = quoted_error style_feeding q (style_scan_start p) r c b
+body_cause x q r c b = None
 
 abbrev pub value_cause : ValuePlace → Reference → Class → ℕ → Option PathCause
-value_cause v r c b = first_cause (parts_cause v.body v.quotes r c b) (at_hand (value_error v c))
+value_cause v r c b = first_cause (body_cause v.body v.quotes r c b) (at_hand (value_error v c))
+
+abbrev pub style_cause : ValuePlace → StyleScan → Reference → Class → ℕ → Option PathCause
+style_cause v s r c b = first_cause (quoted_error style_feeding v.quotes s r c b) (at_hand (value_error v c))
 
 -- The value of a script's `type`: where it begins, and the tag after it, by what the value is. Behind it a `type` has been seen, but in an
 -- end tag, of which none is remembered.
@@ -302,6 +353,7 @@ scan_next (InAttributeName t typed name) c b = attribute_name_next c b t typed (
 scan_next (InCommentEnd s) c b = comment_next c s
 scan_next (InContentEnd e h) c b = content_end_next h c b e
 scan_next (InUrl v t r) c b = value_next v t r c b
+scan_next (InStyle v s r) c b = style_value_next v s r c b
 scan_next (BeforeType t) c b = before_type_next c b t
 scan_next (InType t q v r) c b = type_next (ends_value q c) c b t q v r
 
@@ -316,6 +368,7 @@ place_cause p c b = at_hand (place_error p c)
 abbrev pub scan_error : Scan → Class → ℕ → Option PathCause
 scan_error (At p) c b = place_cause p c b
 scan_error (InUrl v t r) c b = value_cause v r c b
+scan_error (InStyle v s r) c b = style_cause v s r c b
 scan_error (InTagName ends name) c b = at_hand (tag_name_error (tag_of_name ends name) c)
 scan_error (InAttributeName t typed name) c b = attribute_name_error t typed (kind_of (element_on t) name) (length name) c
 scan_error AfterLess c b = None
@@ -334,17 +387,15 @@ content_end_place e h = rest_place e
 abbrev pub whole_name_place : TagOf → Bool → Kind → Place
 whole_name_place t typed k = place.Tag (record { tag = t; typed = typed_with t typed k; spots = only_inside; kind = Some k })
 
--- A reference with which a text ends in a URL is text as it stands.
+-- A reference with which a text ends in a URL or a style is text as it stands.
 abbrev pub parts_with : Body → List ℕ → Body
 parts_with (body.Url s) bytes = body.Url (feed_bytes parts_feeding s bytes)
 parts_with x bytes = x
 
-abbrev pub with_body : ValuePlace → Body → Place
-with_body v x = place.Value (record { tag = v.tag; typed = v.typed; quotes = v.quotes; body = x })
-
 abbrev pub scan_place : Scan → Place
 scan_place (At p) = p
 scan_place (InUrl v t r) = with_body v (parts_with v.body (as_it_stands r))
+scan_place (InStyle v s r) = with_style v (feed_bytes style_feeding s (as_it_stands r))
 scan_place AfterLess = place.Text
 scan_place AfterLessSolidus = place.Text
 scan_place (InDeclaration pending) = place.Text
@@ -355,8 +406,8 @@ scan_place (InContentEnd e h) = content_end_place e h
 scan_place (BeforeType t) = place.Text
 scan_place (InType t q v r) = place.Text
 
--- The place that is shown there, before the bytes that are left: in the value of a script's `type` there is none. In a URL the reference that stands
--- before them is read with them: it is behind them where the next byte breaks it, and else it has not begun.
+-- The place that is shown there, before the bytes that are left: in the value of a script's `type` there is none. In a URL and a style the reference that
+-- stands before them is read with them: it is behind them where the next byte breaks it, and else it has not begun.
 abbrev pub parts_before : ReferenceStep → Body → Class → Form → List ℕ → Body
 parts_before Breaks x c f bytes = parts_with x (flushed true (is_equals_sign c) f bytes)
 parts_before step x c f bytes = x
@@ -365,8 +416,17 @@ abbrev pub url_before : ValuePlace → Reference → List ℕ → Place
 url_before v (Open f bytes) (b ∷ bs) = with_body v (parts_before (turn (class_of b) f) v.body (class_of b) f bytes)
 url_before v r bs = with_body v (parts_with v.body (as_it_stands r))
 
+abbrev pub style_before : ReferenceStep → StyleScan → Class → Form → List ℕ → StyleScan
+style_before Breaks s c f bytes = feed_bytes style_feeding s (flushed true (is_equals_sign c) f bytes)
+style_before step s c f bytes = s
+
+abbrev pub style_scan_before : StyleScan → Reference → List ℕ → StyleScan
+style_scan_before s (Open f bytes) (b ∷ bs) = style_before (turn (class_of b) f) s (class_of b) f bytes
+style_scan_before s r bs = feed_bytes style_feeding s (as_it_stands r)
+
 abbrev pub scan_shown : Scan → List ℕ → Option Place
 scan_shown (InUrl v t r) bs = Some (url_before v r bs)
+scan_shown (InStyle v s r) bs = Some (with_style v (style_scan_before s r bs))
 scan_shown (BeforeType t) bs = None
 scan_shown (InType t q v r) bs = None
 scan_shown f bs = Some (scan_place f)
@@ -375,15 +435,19 @@ abbrev pub content_cut_error : Element → Pending → Option PathCause
 content_cut_error element.DataBlock h = block_cut_error h
 content_cut_error e h = None
 
--- The bytes of a reference with which a text ends in a URL are refused each at its own place.
+-- The bytes of a reference with which a text ends in a URL or a style are refused each at its own place.
+abbrev pub written_error : {S : Type 0} → Feeding S → S → List ℕ → Option PathCause
+written_error m s bytes = fed_error m s bytes true (length bytes)
+
 abbrev pub open_cut_error : Body → List ℕ → Option PathCause
-open_cut_error (body.Url s) bytes = fed_error parts_feeding s bytes true (length bytes)
+open_cut_error (body.Url s) bytes = written_error parts_feeding s bytes
 open_cut_error x bytes = None
 
 abbrev pub scan_cut_error : Scan → Option PathCause
 scan_cut_error (InAttributeName t typed name) = unless_second (is_second_type typed (kind_of (element_on t) name)) (length name) None
 scan_cut_error (At p) = None
 scan_cut_error (InUrl v t r) = open_cut_error v.body (as_it_stands r)
+scan_cut_error (InStyle v s r) = written_error style_feeding s (as_it_stands r)
 scan_cut_error AfterLess = None
 scan_cut_error AfterLessSolidus = None
 scan_cut_error (InDeclaration pending) = None
@@ -393,7 +457,7 @@ scan_cut_error (InContentEnd e h) = content_cut_error e h
 scan_cut_error (BeforeType t) = at_hand (Some code.BadHTML)
 scan_cut_error (InType t q v r) = at_hand (Some code.BadHTML)
 
--- What is refused at the end of a text in a URL: a percent triple that has begun.
+-- What is refused at the end of a text as a lexeme that has begun: a percent triple of a URL; in a style also an escape.
 abbrev pub if_unfinished : Triple → Option Code
 if_unfinished NoTriple = None
 if_unfinished AfterPercent = Some code.PartialEscape
@@ -401,9 +465,11 @@ if_unfinished AfterDigit = Some code.PartialEscape
 
 abbrev pub scan_lexeme_error : Scan → Option Code
 scan_lexeme_error (InUrl v t r) = if_unfinished (triple_behind t (as_it_stands r))
+scan_lexeme_error (InStyle v s r) = option_map (λ e. style_code e.code) (style_scan_cut_error (feed_bytes style_feeding s (as_it_stands r)))
 scan_lexeme_error f = None
 
--- the reference that is open in a URL
+-- the reference that is open in a URL or a style
 abbrev pub scan_reference : Scan → Reference
 scan_reference (InUrl v t r) = r
+scan_reference (InStyle v s r) = r
 scan_reference f = Closed

@@ -1,8 +1,10 @@
 ghost use Rattle.std.specs.Prelude.{◌≡◌, ◌+◌, ◌≤◌, ℕ, List, true, drop, is_some, length};
 ghost use Rattle.place_core.specs.page.References as references;
+ghost use Rattle.css_step.specs.StyleScanViews.{style_scan_at};
 ghost use Rattle.html_scan.specs.ClassViews.{class_at};
 ghost use Rattle.html_scan.specs.ScanViews.{open_form_at, open_reference_at, reference_from, scan_at, pending_from};
-ghost use Rattle.html_scan.specs.Scans.{parts_before, parts_with, scan_place, scan_shown, with_body};
+ghost use Rattle.html_scan.specs.Scans.{parts_before, parts_with, scan_place, scan_shown};
+ghost use Rattle.html_scan.specs.Scans.{style_scan_before, with_body};
 ghost use Rattle.html_scan.specs.Scans as spec;
 
 use crate::class::{Class, class_of};
@@ -11,8 +13,10 @@ use crate::names::{kind_on, tag_named};
 use crate::references::{OpenReference, Outcome, ReferenceForm, is_equals, turn};
 use crate::scan::Scan;
 use crate::slices::pending;
+use crate::styles::{broken, style_at_cut, with_style};
 use crate::tags::{whole_attribute_name, whole_tag_name};
 use crate::urls::{broken_parts, parts_at_cut};
+use css_step::StyleScan;
 use place_core::{Body, Element, Place, ValuePlace};
 
 /// The place where a text ends.
@@ -37,6 +41,11 @@ pub fn end_place(text: &[u8], scan: Scan) -> Place
             reference,
             ..
         } => cut_place(text, place, reference),
+        Scan::InStyle {
+            place,
+            style,
+            reference,
+        } => with_style(place, style_at_cut(text, style, reference)),
         Scan::AfterContentLess(Element::DataBlock) => Place::Block(true),
         Scan::AfterContentLess(element) => rest_place(element),
         Scan::InContentName { element, .. } => rest_place(element),
@@ -81,6 +90,11 @@ pub fn shown_place(text: &[u8], index: usize, scan: Scan) -> Option<Place>
             reference,
             ..
         } => Some(url_before(text, index, place, reference)),
+        Scan::InStyle {
+            place,
+            style,
+            reference,
+        } => Some(with_style(place, style_before(text, index, style, reference))),
         _ => {
             let (read, _) = text.split_at(index);
             Some(end_place(read, scan))
@@ -133,6 +147,42 @@ fn broken_body(body: Body, equals: bool, form: ReferenceForm, read: &[u8]) -> Bo
     match body {
         Body::Url(parts) => Body::Url(broken_parts(parts, equals, form, read)),
         Body::Plain | Body::NoHole | Body::Js(_) | Body::Css(_) => body,
+    }
+}
+
+// In a style, before the bytes that are left: behind a reference that the next of them breaks, and else before it.
+fn style_before(
+    text: &[u8],
+    index: usize,
+    style: StyleScan,
+    reference: Option<OpenReference>,
+) -> StyleScan
+    requires inside { index ≤ length text.now }
+    requires pending { reference_from reference ≤ index }
+    ensures { style_scan_at result ≡ style_scan_before (style_scan_at style)
+        (open_reference_at text.now index reference) (drop index text.now) }
+{
+    let (read, left) = text.split_at(index);
+    match reference {
+        None => style,
+        Some(open) => match left.split_first() {
+            None => style_at_cut(read, style, reference),
+            Some((byte, _)) => {
+                let behind = pending(text, open.from + 1, index);
+                style_turned(style, open.form, behind, class_of(*byte))
+            }
+        },
+    }
+}
+
+fn style_turned(style: StyleScan, form: ReferenceForm, read: &[u8], class: Class) -> StyleScan
+    ensures { style_scan_at result ≡ spec.style_before
+        (references.turn (class_at class) (open_form_at form)) (style_scan_at style)
+        (class_at class) (open_form_at form) read.now }
+{
+    match turn(class, form) {
+        Outcome::Grows(_) | Outcome::Closes => style,
+        Outcome::Breaks => broken(style, is_equals(class), form, read),
     }
 }
 

@@ -1,13 +1,14 @@
 ghost use Rattle.std.specs.Prelude.{◌≡◌, ◌<◌, ◌≤◌, IfSome, get_or, length, if◌then◌else◌};
 ghost use Rattle.place_core.specs.declared.code.Code.TheVariants as code;
-ghost use Rattle.place_core.specs.place.Errors.{attribute_name_error, bare_error, block_byte_error, block_error, comment_error, content_error, equals_error, kind_error, quotes_error, tag_error, tag_name_error, unless_second};
+ghost use Rattle.place_core.specs.place.Errors.{attribute_name_error, bare_error, block_byte_error, block_error, comment_error, content_error, equals_error, kind_error, quotes_error, tag_error, tag_name_error, unless_second, value_error};
 ghost use Rattle.std.specs.Str.{str_to_ascii_lowercase as lower};
 ghost use Rattle.place_core.specs.page.Tags.{element_on, is_second_type};
 ghost use Rattle.place_core.specs.page.States.{PendingBangDash};
 ghost use Rattle.place_core.specs.page.Words.{kind_of};
+ghost use Rattle.css_step.specs.StyleScanViews.{style_scan_at};
 ghost use Rattle.html_scan.specs.ClassViews.{class_at};
 ghost use Rattle.html_scan.specs.ScanViews.{cause_at, open_reference_at, reference_from};
-ghost use Rattle.html_scan.specs.Scans.{place_cause, value_cause};
+ghost use Rattle.html_scan.specs.Scans.{place_cause, style_cause, value_cause};
 ghost use Rattle.place_core.specs.place.Errors as spec;
 ghost use Rattle.place_core.specs.page.Tags as tags;
 
@@ -15,7 +16,9 @@ use crate::cause::Cause;
 use crate::class::Class;
 use crate::names::{kind_on, tag_named};
 use crate::references::OpenReference;
+use crate::style_refusals::refused_in_style;
 use crate::url_refusals::refused_in_url;
+use css_step::StyleScan;
 use place_core::{Bare, Body, Code, Element, Kind, Place, Quotes, TagOf, TagPlace, ValuePlace};
 
 /// Why a byte is refused at a place.
@@ -157,7 +160,11 @@ fn in_value(
             Some(cause) => Some(cause),
             None => at_hand(in_quotes(place.tag, place.quotes, class)),
         },
-        Body::Js(_) | Body::Css(_) => at_hand(Some(Code::NotBuilt)),
+        Body::Css(css) => {
+            let style = css_step::start(css);
+            in_style(text, index, class, place, style, reference)
+        }
+        Body::Js(_) => at_hand(Some(Code::NotBuilt)),
     }
 }
 
@@ -176,6 +183,37 @@ pub fn in_lexeme(
     ensures bound { IfSome result (λ cause. (cause.back ≤ index) × (cause.shown ≤ index)) }
 {
     in_value(text, index, class, place, reference)
+}
+
+/// In a value that is a style.
+pub fn in_style(
+    text: &[u8],
+    index: usize,
+    class: Class,
+    place: ValuePlace,
+    style: StyleScan,
+    reference: Option<OpenReference>,
+) -> Option<Cause>
+    requires inside { index < length text.now }
+    requires pending { reference_from reference ≤ index }
+    ensures error { cause_at result ≡ style_cause place (style_scan_at style)
+        (open_reference_at text.now index reference) (class_at class) (get_or text.now index 0) }
+    ensures bound { IfSome result (λ cause. (cause.back ≤ index) × (cause.shown ≤ index)) }
+{
+    match refused_in_style(text, index, class, place.quotes, style, reference) {
+        Some(cause) => Some(cause),
+        None => at_hand(of_value(place, class)),
+    }
+}
+
+// In a value, but for what its language says of the bytes.
+fn of_value(place: ValuePlace, class: Class) -> Option<Code>
+    ensures { result ≡ value_error place (class_at class) }
+{
+    match place.body {
+        Body::Plain | Body::NoHole | Body::Url(_) => in_quotes(place.tag, place.quotes, class),
+        Body::Js(_) | Body::Css(_) => Some(Code::NotBuilt),
+    }
 }
 
 /// In a value, or before one, whatever its language.

@@ -10,14 +10,16 @@ mod contents;
 mod declaration;
 mod ends;
 mod errors;
+mod last_lexeme;
 mod names;
-mod percents;
 mod quoting;
 mod references;
 mod refusals;
 mod scan;
 mod slices;
 mod step;
+mod style_refusals;
+mod styles;
 mod tags;
 mod texts;
 mod triple;
@@ -30,7 +32,7 @@ pub use cause::Cause;
 pub use class::{Class, Letter, class_of};
 pub use comment_stage::CommentStage;
 pub use ends::{end_place, is_shown, shown_place};
-pub use percents::last_percent;
+pub use last_lexeme::last_lexeme_start;
 pub use quoting::Quoting;
 pub use references::{
     OpenReference, Outcome, ReferenceForm, broken_char, is_equals, meaning, turn,

@@ -8,13 +8,14 @@ ghost use Rattle.html_scan.specs.Scans.{scan_cut_error, scan_error, scan_lexeme_
 use crate::cause::Cause;
 use crate::class::Class;
 use crate::errors::{
-    after_block_bang_dash, at_hand, at_place, in_attribute_name, in_lexeme, in_quotes, in_tag_name,
-    name_ends,
+    after_block_bang_dash, at_hand, at_place, in_attribute_name, in_lexeme, in_quotes, in_style,
+    in_tag_name, name_ends,
 };
 use crate::names::kind_on;
 use crate::quoting::Quoting;
 use crate::scan::Scan;
 use crate::slices::pending;
+use crate::style_refusals::{of_open_in_style, of_unfinished_style};
 use crate::tags::UNBEGUN;
 use crate::types::type_tag;
 use crate::url_refusals::{of_open, of_unfinished};
@@ -43,6 +44,11 @@ pub fn at_byte(text: &[u8], index: usize, class: Class, scan: Scan) -> Option<Ca
             reference,
             ..
         } => in_lexeme(text, index, class, place, reference),
+        Scan::InStyle {
+            place,
+            style,
+            reference,
+        } => in_style(text, index, class, place, style, reference),
         Scan::AfterBlockBangDash => after_block_bang_dash(class),
         Scan::BeforeType(tag) => at_hand(in_quotes(tag, UNBEGUN, class)),
         Scan::InType {
@@ -76,6 +82,11 @@ pub fn at_end(text: &[u8], scan: Scan) -> Option<Cause>
             reference,
             ..
         } => of_open(text, place.body, reference),
+        Scan::InStyle {
+            style,
+            reference,
+            ..
+        } => of_open_in_style(text, style, reference),
         Scan::BeforeType(_) | Scan::InType { .. } => at_hand(Some(Code::BadHTML)),
         Scan::InContentName {
             element: Element::DataBlock,
@@ -87,7 +98,7 @@ pub fn at_end(text: &[u8], scan: Scan) -> Option<Cause>
     }
 }
 
-/// Why the end of a text is refused in a lexeme of a URL that has begun, and is shown where the scan was last between two.
+/// Why the end of a text is refused in a lexeme of a URL or a style that has begun.
 pub fn lexeme_at_end(text: &[u8], scan: Scan) -> Option<Code>
     requires pending { pending_from scan ≤ length text.now }
     ensures { result ≡ scan_lexeme_error (scan_at text.now (length text.now) scan) }
@@ -98,6 +109,11 @@ pub fn lexeme_at_end(text: &[u8], scan: Scan) -> Option<Code>
             reference,
             ..
         } => of_unfinished(text, triple, reference),
+        Scan::InStyle {
+            style,
+            reference,
+            ..
+        } => of_unfinished_style(text, style, reference),
         _ => None,
     }
 }

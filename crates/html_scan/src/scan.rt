@@ -2,6 +2,7 @@ use crate::comment_stage::CommentStage;
 use crate::quoting::Quoting;
 use crate::references::OpenReference;
 use crate::triple::Triple;
+use css_step::StyleScan;
 use place_core::{Element, Place, TagOf, ValuePlace};
 
 /// Where a text has been read to: a place, or within a lexeme. What has been read of a name, or of the value of a `type`, begins
@@ -35,6 +36,13 @@ pub enum Scan {
     InUrl {
         place: ValuePlace,
         triple: Triple,
+        reference: Option<OpenReference>,
+    },
+    /// In a value that is a style, in a lexeme of it or in a reference; elsewhere in it the text is at a place. `style` has the
+    /// body, so that `place` has that of an empty style.
+    InStyle {
+        place: ValuePlace,
+        style: StyleScan,
         reference: Option<OpenReference>,
     },
     /// In a title, a textarea or a data block, after `<`.

@@ -2,6 +2,7 @@ ghost use Rattle.std.specs.Prelude.{◌≡◌, ◌+◌, ◌<◌, ◌≤◌, get_
 ghost use Rattle.html_scan.specs.ClassViews.{class_at};
 ghost use Rattle.html_scan.specs.ScanViews.{scan_at, pending_from};
 ghost use Rattle.html_scan.specs.Scans.{scan_next, place_next};
+ghost use Rattle.html_scan.specs.declared.scan.Scan.TheVariants as scan;
 
 use crate::class::Class;
 use crate::comments::{in_comment, in_comment_end};
@@ -14,7 +15,7 @@ use crate::tags::{in_attribute_name, in_tag, in_tag_name};
 use crate::texts::{after_less, after_solidus, in_declaration, in_doctype, in_text};
 use crate::triple::Triple;
 use crate::types::{before_type, in_type};
-use crate::values::{in_lexeme, in_value};
+use crate::values::{in_lexeme, in_style, in_value};
 use place_core::{Element, Place};
 
 /// The scan state after the byte at a place of a text, whether it is refused or not.
@@ -30,10 +31,7 @@ pub fn next(text: &[u8], index: usize, class: Class, scan: Scan) -> Scan
         Scan::At(place) => after_place(text, index, class, place),
         Scan::AfterLess => after_less(class, index),
         Scan::AfterLessSolidus => after_solidus(class, index),
-        Scan::InDeclaration { from } => {
-            let opens = declared_by(pending(text, from, index + 1));
-            in_declaration(class, opens, from)
-        }
+        Scan::InDeclaration { from } => after_bang(text, index, class, from),
         Scan::InTagName { ends, from } => in_tag_name(
             class,
             ends,
@@ -49,12 +47,13 @@ pub fn next(text: &[u8], index: usize, class: Class, scan: Scan) -> Scan
             triple,
             reference,
         } => in_lexeme(text, index, class, place, triple, reference),
+        Scan::InStyle {
+            place,
+            style,
+            reference,
+        } => in_style(text, index, class, place, style, reference),
         Scan::AfterContentLess(element) => after_content_less(class, element, index),
-        Scan::InContentName { element, from } => {
-            let grows = may_be_name_of(element, pending(text, from + 2, index + 1));
-            let whole = is_name_of(element, pending(text, from + 2, index));
-            in_content_name(class, grows, whole, element, from)
-        }
+        Scan::InContentName { element, from } => after_letters(text, index, class, element, from),
         Scan::AfterBlockBang => after_block_bang(class),
         Scan::AfterBlockBangDash => in_content(class, Element::DataBlock),
         Scan::BeforeType(tag) => before_type(class, tag, index),
@@ -66,6 +65,33 @@ pub fn next(text: &[u8], index: usize, class: Class, scan: Scan) -> Scan
             from,
         ),
     }
+}
+
+#[inline(always)]
+fn after_bang(text: &[u8], index: usize, class: Class, from: usize) -> Scan
+    requires inside { index < length text.now }
+    requires pending { from ≤ index }
+    ensures scan { scan_at text.now (index + 1) result
+        ≡ scan_next (scan_at text.now index (scan.InDeclaration from)) (class_at class)
+        (get_or text.now index 0) }
+    ensures pending { pending_from result ≤ index + 1 }
+{
+    let opens = declared_by(pending(text, from, index + 1));
+    in_declaration(class, opens, from)
+}
+
+#[inline(always)]
+fn after_letters(text: &[u8], index: usize, class: Class, element: Element, from: usize) -> Scan
+    requires inside { index < length text.now }
+    requires pending { from + 2 ≤ index }
+    ensures scan { scan_at text.now (index + 1) result
+        ≡ scan_next (scan_at text.now index (scan.InContentName element from)) (class_at class)
+        (get_or text.now index 0) }
+    ensures pending { pending_from result ≤ index + 1 }
+{
+    let grows = may_be_name_of(element, pending(text, from + 2, index + 1));
+    let whole = is_name_of(element, pending(text, from + 2, index));
+    in_content_name(class, grows, whole, element, from)
 }
 
 #[inline(always)]

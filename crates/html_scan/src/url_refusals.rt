@@ -6,7 +6,7 @@ ghost use Rattle.place_core.specs.place.Errors.{fed_error, first_byte_error, flu
 ghost use Rattle.place_core.specs.declared.body.Body.TheVariants as body;
 ghost use Rattle.html_scan.specs.ClassViews.{class_at};
 ghost use Rattle.html_scan.specs.ScanViews.{cause_at, open_form_at, open_reference_at, reference_from, triple_at};
-ghost use Rattle.html_scan.specs.Scans.{if_unfinished, open_cut_error, parts_cause, parts_feeding, triple_behind};
+ghost use Rattle.html_scan.specs.Scans.{if_unfinished, open_cut_error, body_cause, parts_feeding, triple_behind};
 ghost use Rattle.place_core.specs.page.References as references;
 
 use crate::cause::Cause;
@@ -33,7 +33,7 @@ pub fn refused_in_url(
 ) -> Option<Cause>
     requires inside { index < length text.now }
     requires pending { reference_from reference ≤ index }
-    ensures error { cause_at result ≡ parts_cause (body.Url parts) quotes
+    ensures error { cause_at result ≡ body_cause (body.Url parts) quotes
         (open_reference_at text.now index reference) (class_at class) (get_or text.now index 0) }
     ensures bound { IfSome result (λ cause. (cause.back ≤ index) × (cause.shown ≤ index)) }
 {

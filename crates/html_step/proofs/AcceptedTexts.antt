@@ -4,11 +4,11 @@ use Rattle.place_core.specs.page.Classes.{Class, class_of}
 use Rattle.place_core.specs.page.References.{Reference, as_it_stands}
 use Rattle.place_core.specs.place.ApartPlaces.{ArePlacesApart, opened_apart, beginning_at, spell_apart}
 use Rattle.place_core.specs.place.Errors.{PathCause, PathRefusal, broken_off, cut_error, lexeme_error, path_refusal, place_before_bytes, standing_at}
-use Rattle.place_core.specs.place.LastPercent.{last_percent}
+use Rattle.place_core.specs.place.LastLexeme.{last_lexeme_start}
 use Rattle.place_core.specs.place.PathPairs.{ApartBefore, Clashes, ClashesApart, MeetsColon, byte_clash, is_in_beginning, state_before, unknown_beginning, unknown_part}
 use Rattle.place_core.specs.page.Html.{next}
 use Rattle.place_core.specs.page.States.{AttributeValue, Template, LexState}
-use Rattle.place_core.specs.page.Tags.{Deciding, OfKind, OfUrl, Quoting, Tag, ValueOf, ValueState, languages}
+use Rattle.place_core.specs.page.Tags.{Deciding, OfKind, OfUrl, OfStyle, Quoting, Tag, ValueOf, ValueState, languages}
 use Rattle.place_core.specs.place.StatePlaces.{quotes_at}
 use Rattle.place_core.specs.place.UrlParts.{parts_of, placed_prefix}
 use Rattle.place_core.specs.declared.code.Code.{Code}
@@ -86,6 +86,7 @@ end-meets (AttributeValue q t (ValueOf (OfUrl u)) r) g at e n m =
     end-url q t (record { part = unknown_part u.part; scheme = u.scheme; triple = u.triple; free = u.free }) r
     (record { code = code.AmbigContext; at = at; shown = m.shown }) plain refl m.refused
 end-meets (AttributeValue q t (ValueOf (OfKind k)) r) g at e n m = absurd (no m.begins)
+end-meets (AttributeValue q t (ValueOf (OfStyle s)) r) g at e n m = absurd (no m.begins)
 end-meets (AttributeValue q t (Deciding k before) r) g at e n m = absurd (no m.begins)
 end-meets _ g at e n m = absurd (no m.begins)
 
@@ -105,7 +106,7 @@ reads s g f b bs e v w a l o =
     let u = url-before s (b ∷ bs) o in
     let at = read-state s g (b ∷ bs) u e in
     let p = open-parts (state_before s (b ∷ bs)) (scan_read g (b ∷ bs)) o at in
-    let d = shown-read (scan_read g (b ∷ bs)) b bs (parts_of (UrlOpen p.0)) p.1 (not-broken g b bs) in
+    let d = shown-read (scan_read g (b ∷ bs)) b bs (parts_of (UrlOpen p.0)) p.1 (not-broken g b bs (parts_of (UrlOpen p.0)) p.1) in
     record {
       at = at;
       valid = read-valid g (b ∷ bs) v;
@@ -171,11 +172,11 @@ never-clashes (b ∷ bs) k since f q s t g h e (suc at) i j v w l m z p o c =
     let other = next languages Template t (class_of b) b in
     let i = (agrees-at s g b i).steps x.0 in
     let j = (agrees-at t h b j).steps y.0 in
-    let last = last_percent k since (scan_reference f) (class_of b) b in
-    let v = scan-valid g (class_of b) b v in
-    let w = scan-valid h (class_of b) b w in
+    let last = last_lexeme_start k since (scan_reference f) (class_of b) b in
+    let v = scan-valid g (class_of b) b v x.0 in
+    let w = scan-valid h (class_of b) b w y.0 in
     let p = scan-plain f b z n.0 p in
-    let z = scan-valid f (class_of b) b z in
+    let z = scan-valid f (class_of b) b z n.0 in
     ⊎_elim
     (λ d. never-apart bs (k + 1) last (scan_next f (class_of b) b) q after other (scan_next g (class_of b) b) (scan_next h (class_of b) b) e at i j v w x.1 y.1 z p n.1 d.0 d.1)
     (λ d. never-clashes bs (k + 1) last (scan_next f (class_of b) b) q after other (scan_next g (class_of b) b) (scan_next h (class_of b) b) e at i j v w x.1 y.1 z p n.1 d)

@@ -5,10 +5,10 @@ use Rattle.place_core.specs.page.Classes.{is_equals_sign, class_of}
 use Rattle.place_core.specs.page.Html.{next}
 use Rattle.place_core.specs.page.References.{Reference, Closed, Open, Form, ReferenceStep, Grows, Closes, Breaks, turn, flushed, plain_bytes, next_reference, as_it_stands, reference_turned, turn_bytes}
 use Rattle.place_core.specs.page.States.{Template, LexState, Text, TagOpen, EndTagOpen, DeclarationOpen, Started, StartedDash, Inside, Dash, DashDash, Bang, Broken, InComment, BogusComment, InDoctype, TagName, WholeTagName, BeforeAttributeName, AttributeName, WholeAttributeName, AfterAttributeName, BeforeAttributeValue, AttributeValue, AfterAttributeValue, SelfClosingStartTag, Characters, Bytes, Pending, Nothing, PendingLess, LessAtCut, PendingName, PendingBang, PendingBangDash, InContent, Unread}
-use Rattle.place_core.specs.page.Tags.{is_second_type, ValueOf, Deciding, ValueState, OfKind, OfUrl, languages, feed_bytes}
+use Rattle.place_core.specs.page.Tags.{is_second_type, ValueOf, Deciding, ValueState, OfKind, OfUrl, OfStyle, languages, feed_bytes}
 use Rattle.place_core.specs.place.ApartPlaces.{HasApart, opened_apart, beginning_at, beginning_in_body, side, spell_apart}
 use Rattle.place_core.specs.place.Errors.{is_written, node, place_before_bytes}
-use Rattle.place_core.specs.place.LastPercent.{last_percent}
+use Rattle.place_core.specs.place.LastLexeme.{last_lexeme_start}
 use Rattle.place_core.specs.place.LanguagePlaces.{both_prefixes}
 use Rattle.place_core.specs.place.Membership.{IsIn, Bears}
 use Rattle.place_core.specs.place.PathPairs.{ApartBefore, Keeps, PartWithin, state_before, is_in_beginning, is_in_reference}
@@ -32,7 +32,7 @@ use Rattle.place_core.specs.declared.quotes.Quotes.{Quotes}
 use Rattle.place_core.specs.declared.quotes.Quotes.TheVariants as quotes
 use Rattle.place_core.specs.declared.value_place.ValuePlace.{ValuePlace}
 use Rattle.place_core.proofs.Semilattices.{none_some, one_value}
-use Rattle.html_scan.specs.Scans.{Scan, At, InAttributeName, InUrl, InContentEnd, scan_reference, scan_error, scan_next, scan_place, parts_feeding, parts_with, with_body}
+use Rattle.html_scan.specs.Scans.{Scan, At, InAttributeName, InUrl, InStyle, InContentEnd, scan_reference, scan_error, scan_next, scan_place, parts_feeding, parts_with, with_body}
 use Rattle.html_step.specs.Origins.{body_parts, byte_origin, fed_in, scan_parts}
 use Rattle.html_step.specs.Steps.{after_text, stepped}
 use Rattle.html_step.proofs.ApartParts.{Arise, arise-in, inside-bytes, is_inside, mapped-some, of-differs, opens-apart, several-apart, waits, apart-inside}
@@ -141,6 +141,7 @@ url-path (AttributeValue q x (ValueOf (OfKind kind.Url)) r) t h = absurd (none_s
 url-path (AttributeValue q x (ValueOf (OfKind kind.Script)) r) t h = absurd (none_some t h)
 url-path (AttributeValue q x (ValueOf (OfKind kind.Style)) r) t h = absurd (none_some t h)
 url-path (AttributeValue q x (ValueOf (OfKind kind.ScriptType)) r) t h = absurd (none_some t h)
+url-path (AttributeValue q x (ValueOf (OfStyle s)) r) t h = absurd (none_some t h)
 url-path (AttributeValue q x (ValueOf (OfUrl u)) r) t h = record {
   part = u.part;
   is = one_value t (parts_of u.part) (sym h ∙ url-parts (url_value x (quotes_at q) (parts_of u.part)) u.triple r);
@@ -389,7 +390,7 @@ point-before s g f b bs a z t p form read v n h k inside i j e d l keep spelled 
     (subst (λ (y : Parts). is_inside y ≡ true) (ap (feed_bytes parts_feeding a) l ∙ fed-more fl (plain_bytes c b) a) inside)) in
     let path = path-parts u (scan_next g c b) later x.stand.at x.parts in
     let there = read-parts g b bs t j ∙ ap (λ (y : List ℕ). Some (feed_bytes parts_feeding t y)) (broken-bytes (scan_reference g) b form read own d) ∙ ap Some spelled in
-    point-of s g (b ∷ bs) p (url-of s value) i.at there (read-is g b bs form read own d)
+    point-of s g (b ∷ bs) p (url-of s value) i.at there (read-is g b bs form read t j own d)
     (keeps-fore b bs s
     (opened-begins (state_before s (b ∷ bs)) (parts_of (UrlOpen p))
     (path-parts (state_before s (b ∷ bs)) (scan_read g (b ∷ bs)) (parts_of (UrlOpen p)) (read-state s g (b ∷ bs) (url-of s value) i.at) there) refl)
@@ -561,7 +562,7 @@ by-apart false f b bs a z h e v w n k apart inside keep =
 -- by whether it was so before the byte
 apart-before : (o : Option Parts) (f : Scan) (b : ℕ) (bs : List ℕ) → scan_parts f ≡ o → ScanValid f → ScanPlain f
     → scan_error f (class_of b) b ≡ None → ScanApart (scan_next f (class_of b) b) → KeepsAll bs (scan_next f (class_of b) b) → ComesFrom (b ∷ bs) f
-apart-before None f b bs h v w n m keep = absurd (no (sym (scan-fresh f (class_of b) b h n).0 ∙ ap spells_apart m))
+apart-before None f b bs h v w n m keep = absurd (no (sym (scan-fresh f (class_of b) b v h n).0 ∙ ap spells_apart m))
 apart-before (Some a) f b bs h v w n m keep =
     let g = scan_next f (class_of b) b in
     let fed = feed_bytes parts_feeding a (scan_fed f (class_of b) b) in
@@ -590,6 +591,7 @@ end-apart (At p) w h = h
 end-apart (InUrl v t r) w h =
     let s = url-end v.body w.1 in
     parts-apart (InUrl v t r) s.0 s.1 (stood r s.0 (spells_apart s.0.opened) refl (end-parts v r s.0 s.1 h))
+end-apart (InStyle v s r) w h = absurd w
 end-apart (InContentEnd e x) w h = absurd (none_some prefix.Differs (sym (end-opened e x) ∙ h))
 end-apart _ w h = absurd (none_some prefix.Differs h)
 
@@ -631,8 +633,8 @@ comes-from (b ∷ bs) k since f q v w e a =
     let n = step-ok k since b bs f q e in
     let c = class_of b in
     let f2 = scan_next f c b in
-    let v2 = scan-valid f c b v in
-    elim (comes-from bs (k + 1) (last_percent k since (scan_reference f) (class_of b) b) f2 q v2 (scan-plain f b v n.0 w) n.1 a) [
+    let v2 = scan-valid f c b v n.0 in
+    elim (comes-from bs (k + 1) (last_lexeme_start k since (scan_reference f) (class_of b) b) f2 q v2 (scan-plain f b v n.0 w) n.1 a) [
       | inl m ↦ apart-before (scan_parts f) f b bs refl v w n.0 m.0 m.1
       | inr m ↦ (let x = from-byte f c b m.0 v n.0 m.2 in let z = from-byte f c b m.1 v n.0 m.3 in
           inr (

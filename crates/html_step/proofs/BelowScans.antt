@@ -10,11 +10,12 @@ use Rattle.place_core.specs.declared.tag_of.TagOf.{TagOf}
 use Rattle.place_core.specs.declared.tag_place.TagPlace.{TagPlace}
 use Rattle.place_core.specs.declared.value_place.ValuePlace.{ValuePlace}
 use Rattle.place_core.proofs.Semilattices.{none_some, one_value}
-use Rattle.html_scan.specs.Scans.{Scan, At, AfterLess, AfterLessSolidus, InDeclaration, InTagName, InAttributeName, InUrl, InCommentEnd, InContentEnd, BeforeType, InType}
+use Rattle.html_scan.specs.Scans.{Scan, At, AfterLess, AfterLessSolidus, InDeclaration, InTagName, InAttributeName, InUrl, InStyle, InCommentEnd, InContentEnd, BeforeType, InType}
 use Rattle.html_step.proofs.ScanOrder.{ScanBelow, ScanHas, comment-one}
 use Rattle.html_step.proofs.PlaceParts.{Under, TagBelow, ValueBelow, below-tag, below-value, below-rcdata}
 use Rattle.place_core.specs.page.References.{Reference}
 use Rattle.url_lexer.specs.Triples.{Triple}
+use Rattle.css_step.specs.StyleScans.{StyleScan}
 use Rattle.place_core.specs.page.Tags.{Quoting, Value, ValueState}
 
 pub whole-in : (f : Scan) (y : Member) → is_whole y ≡ true → ScanHas f y
@@ -29,6 +30,7 @@ whole-in (InCommentEnd s) y e = e
 whole-in (InContentEnd x h) y e = e
 whole-in (BeforeType t) y e = e
 whole-in (InType t q v r) y e = e
+whole-in (InStyle v s r) y e = e
 
 -- below a place are places
 pub below-at : (P : Scan → Type 0) (p : Place) → ((a : Place) → Below a p → P (At a)) → (g : Scan) → ScanBelow g (At p) → P g
@@ -43,6 +45,7 @@ below-at P p f (InCommentEnd s) h = cc
 below-at P p f (InContentEnd e x) h = cc
 below-at P p f (BeforeType u) h = cc
 below-at P p f (InType u q v r) h = cc
+below-at P p f (InStyle v s r) h = cc
 
 pub tag-place : (P : Scan → Type 0) (t : TagPlace) → ((u : TagPlace) → TagBelow u t → P (At (place.Tag u))) → (a : Place) → Below a (place.Tag t) → P (At a)
 tag-place P t f (place.Tag u) h = f u (below-tag u t h)
@@ -123,6 +126,7 @@ less-rigid (InCommentEnd s) h = h
 less-rigid (InContentEnd e x) h = h
 less-rigid (BeforeType u) h = h
 less-rigid (InType u q v r) h = h
+less-rigid (InStyle u k d) h = h
 
 pub solidus-rigid : IsRigid AfterLessSolidus
 solidus-rigid (At p) h = absurd h
@@ -136,6 +140,7 @@ solidus-rigid (InCommentEnd s) h = h
 solidus-rigid (InContentEnd e x) h = h
 solidus-rigid (BeforeType u) h = h
 solidus-rigid (InType u q v r) h = h
+solidus-rigid (InStyle u k d) h = h
 
 pub declaration-rigid : (l : List ℕ) → IsRigid (InDeclaration l)
 declaration-rigid l (At p) h = absurd h
@@ -149,6 +154,7 @@ declaration-rigid l (InCommentEnd s) h = h
 declaration-rigid l (InContentEnd e x) h = h
 declaration-rigid l (BeforeType u) h = h
 declaration-rigid l (InType u q v r) h = h
+declaration-rigid l (InStyle u k d) h = h
 
 pub tag-name-rigid : (z : Bool) (l : List ℕ) → IsRigid (InTagName z l)
 tag-name-rigid z l (At p) h = absurd h
@@ -162,6 +168,7 @@ tag-name-rigid z l (InCommentEnd s) h = h
 tag-name-rigid z l (InContentEnd e x) h = h
 tag-name-rigid z l (BeforeType u) h = h
 tag-name-rigid z l (InType u q v r) h = h
+tag-name-rigid z l (InStyle u k d) h = h
 
 pub comment-end-rigid : (z : CommentState) → IsRigid (InCommentEnd z)
 comment-end-rigid z (At p) h = absurd h
@@ -175,6 +182,7 @@ comment-end-rigid z (InCommentEnd s) h = h
 comment-end-rigid z (InContentEnd e x) h = h
 comment-end-rigid z (BeforeType u) h = h
 comment-end-rigid z (InType u q v r) h = h
+comment-end-rigid z (InStyle u k d) h = h
 
 pub content-end-rigid : (z : Element) (l : Pending) → IsRigid (InContentEnd z l)
 content-end-rigid z l (At p) h = absurd h
@@ -188,6 +196,7 @@ content-end-rigid z l (InCommentEnd s) h = h
 content-end-rigid z l (InContentEnd e x) h = h
 content-end-rigid z l (BeforeType u) h = h
 content-end-rigid z l (InType u q v r) h = h
+content-end-rigid z l (InStyle u k d) h = h
 
 pub before-type-rigid : (t : TagOf) → IsRigid (BeforeType t)
 before-type-rigid t (At p) h = absurd h
@@ -201,6 +210,7 @@ before-type-rigid t (InCommentEnd s) h = h
 before-type-rigid t (InContentEnd e x) h = h
 before-type-rigid t (BeforeType u) h = h
 before-type-rigid t (InType u q v r) h = h
+before-type-rigid t (InStyle u k d) h = h
 
 pub type-rigid : (t : TagOf) (o : Quoting) (w : Value ValueState) (c : Reference) → IsRigid (InType t o w c)
 type-rigid t o w c (At p) h = absurd h
@@ -214,6 +224,21 @@ type-rigid t o w c (InCommentEnd s) h = h
 type-rigid t o w c (InContentEnd e x) h = h
 type-rigid t o w c (BeforeType u) h = h
 type-rigid t o w c (InType u q v r) h = h
+type-rigid t o w c (InStyle u k d) h = h
+
+pub style-rigid : (v : ValuePlace) (s : StyleScan) (z : Reference) → IsRigid (InStyle v s z)
+style-rigid v s z (At p) h = absurd h
+style-rigid v s z (InAttributeName u x n) h = absurd h
+style-rigid v s z (InUrl u k d) h = absurd h
+style-rigid v s z AfterLess h = h
+style-rigid v s z AfterLessSolidus h = h
+style-rigid v s z (InDeclaration pending) h = h
+style-rigid v s z (InTagName ends name) h = h
+style-rigid v s z (InCommentEnd y) h = h
+style-rigid v s z (InContentEnd e x) h = h
+style-rigid v s z (BeforeType u) h = h
+style-rigid v s z (InType u q x r) h = h
+style-rigid v s z (InStyle u k d) h = h
 
 -- a data block
 pub block-one : (x y : Bool) → place.Block x ≡ place.Block y → x ≡ y
@@ -247,6 +272,7 @@ below-attribute P t y n f (InCommentEnd s) h = cc
 below-attribute P t y n f (InContentEnd e x) h = cc
 below-attribute P t y n f (BeforeType u) h = cc
 below-attribute P t y n f (InType u q v r) h = cc
+below-attribute P t y n f (InStyle u k d) h = cc
 
 -- a URL in a percent triple or a reference
 pub below-url : (P : Scan → Type 0) (v : ValuePlace) (t : Triple) (r : Reference) → ((u : ValuePlace) → ValueBelow u v → P (InUrl u t r)) → (g : Scan)
@@ -263,3 +289,4 @@ below-url P v t r f (InCommentEnd s) h = cc
 below-url P v t r f (InContentEnd e x) h = cc
 below-url P v t r f (BeforeType u) h = cc
 below-url P v t r f (InType u q x z) h = cc
+below-url P v t r f (InStyle u k d) h = cc

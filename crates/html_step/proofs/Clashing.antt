@@ -11,7 +11,7 @@ use Rattle.place_core.specs.place.Places.{Has, block_has, body_has, dash_has, is
 use Rattle.place_core.specs.place.StatePlaces.{only_after, only_before, only_inside, only_name, quotes_at, tag_spot, unbegun}
 use Rattle.place_core.specs.place.UrlParts.{parts_of}
 use Rattle.place_core.specs.page.States.{LexState, Text, TagOpen, EndTagOpen, DeclarationOpen, InComment, Inside, Broken, BogusComment, InDoctype, TagName, WholeTagName, BeforeAttributeName, AttributeName, WholeAttributeName, AfterAttributeName, BeforeAttributeValue, AttributeValue, AfterAttributeValue, SelfClosingStartTag, Characters, Bytes, Pending, Nothing, PendingLess, PendingName, PendingBang, PendingBangDash, InContent, Unread, LessAtCut}
-use Rattle.place_core.specs.page.Tags.{Value, ValueOf, Deciding, ValueState, OfKind, OfUrl, Quoting, DoubleQuoted, SingleQuoted, Unquoted, Tag, is_second_type}
+use Rattle.place_core.specs.page.Tags.{Value, ValueOf, Deciding, ValueState, OfKind, OfUrl, OfStyle, Quoting, DoubleQuoted, SingleQuoted, Unquoted, Tag, is_second_type}
 use Rattle.place_core.specs.declared.body.Body.{Body}
 use Rattle.place_core.specs.declared.body.Body.TheVariants as body
 use Rattle.place_core.specs.declared.code.Code.{Code}
@@ -32,7 +32,7 @@ use Rattle.place_core.specs.declared.tag_place.TagPlace.{TagPlace}
 use Rattle.place_core.specs.declared.value_place.ValuePlace.{ValuePlace}
 use Rattle.place_core.proofs.JoinMembers.{the_has_grows}
 use Rattle.place_core.proofs.Semilattices.{none_some}
-use Rattle.html_scan.specs.Scans.{Scan, At, AfterLess, AfterLessSolidus, InDeclaration, InTagName, InAttributeName, InUrl, InCommentEnd, InContentEnd, scan_error, url_scan, value_cause, parts_cause, BeforeType, InType}
+use Rattle.html_scan.specs.Scans.{Scan, At, AfterLess, AfterLessSolidus, InDeclaration, InTagName, InAttributeName, InUrl, InStyle, InCommentEnd, InContentEnd, scan_error, url_scan, value_cause, body_cause, BeforeType, InType}
 use Rattle.html_step.proofs.PlaceParts.{value-below}
 use Rattle.html_step.proofs.ScanOrder.{ScanBelow, ScanHas, first-none, if-none}
 use Rattle.html_step.proofs.UrlOrder.{first-caused}
@@ -192,6 +192,7 @@ before_has k m = quotes_have unbegun m || false
 abbrev value_has : Value ValueState → Quotes → Member → Bool
 value_has (ValueOf (OfKind k)) q m = quotes_have q m || false
 value_has (ValueOf (OfUrl u)) q m = quotes_have q m || parts_have (parts_of u.part) m
+value_has (ValueOf (OfStyle s)) q m = false
 value_has (Deciding k before) q m = false
 
 abbrev value-of : Tag → Quotes → Body → ValuePlace
@@ -209,6 +210,7 @@ value-in : (m : Member) → OfValue m → (q : Quoting) (t : Tag) (v : Value Val
 value-in m o q t (ValueOf (OfKind kind.Plain)) r = λ h. of-place m o (value-of t (quotes_at q) body.Plain) h
 value-in m o q t (ValueOf (OfKind kind.NoHole)) r = λ h. of-place m o (value-of t (quotes_at q) body.NoHole) h
 value-in m o q t (ValueOf (OfKind _)) r = tt
+value-in m o q t (ValueOf (OfStyle s)) r = tt
 value-in m o q t (ValueOf (OfUrl u)) r =
     λ h. of-place m o (url_value t (quotes_at q) (parts_of u.part)) (url-of (url_value t (quotes_at q) (parts_of u.part)) u.triple r m h)
 value-in m o q t (Deciding kind.ScriptType before) r =
@@ -234,8 +236,10 @@ unquoted-value : (q : Quoting) (t : Tag) (v : Value ValueState) (r : Reference) 
 unquoted-value Unquoted t (ValueOf v) r h = tt
 unquoted-value DoubleQuoted t (ValueOf (OfKind k)) r h = absurd (no h)
 unquoted-value DoubleQuoted t (ValueOf (OfUrl u)) r h = absurd (no h)
+unquoted-value DoubleQuoted t (ValueOf (OfStyle s)) r h = absurd (no h)
 unquoted-value SingleQuoted t (ValueOf (OfKind k)) r h = absurd (no h)
 unquoted-value SingleQuoted t (ValueOf (OfUrl u)) r h = absurd (no h)
+unquoted-value SingleQuoted t (ValueOf (OfStyle s)) r h = absurd (no h)
 unquoted-value q t (Deciding k before) r h = absurd (no h)
 
 pub is-unquoted : (s : LexState ValueState) (g : Scan) → scanned s ≡ Some g → ScanHas g member.UnquotedValue → IsUnquoted s
@@ -254,6 +258,7 @@ unbegun-value DoubleQuoted (ValueOf (OfKind k)) h = no h
 unbegun-value DoubleQuoted (ValueOf (OfUrl u)) h = no h
 unbegun-value SingleQuoted (ValueOf (OfKind k)) h = no h
 unbegun-value SingleQuoted (ValueOf (OfUrl u)) h = no h
+unbegun-value q (ValueOf (OfStyle s)) h = no h
 unbegun-value q (Deciding k before) h = no h
 
 pub is-unbegun : (s : LexState ValueState) (g : Scan) → scanned s ≡ Some g → ScanHas g member.UnbegunValue → IsUnbegun s
@@ -293,6 +298,7 @@ no-open (quotes.Bare b) = refl
 start-value : (q : Quoting) (t : Tag) (v : Value ValueState) (r : Reference) → value_has v (quotes_at q) member.PartStart ≡ true
     → StartsUrl (AttributeValue q t v r)
 start-value q t (ValueOf (OfKind k)) r h = absurd (neither (quotes_have (quotes_at q) member.PartStart) false (no-start (quotes_at q)) refl h)
+start-value q t (ValueOf (OfStyle s)) r h = absurd (no h)
 start-value q t (ValueOf (OfUrl u)) r h =
     start-part u.part (second-of (quotes_have (quotes_at q) member.PartStart) (parts_have (parts_of u.part) member.PartStart) (no-start (quotes_at q)) h)
 start-value q t (Deciding k before) r h = absurd (no h)
@@ -310,6 +316,7 @@ open-before _ h = no h
 open-value : (q : Quoting) (t : Tag) (v : Value ValueState) (r : Reference) → value_has v (quotes_at q) member.PartOpen ≡ true
     → is_in_beginning (AttributeValue q t v r) ≡ true
 open-value q t (ValueOf (OfKind k)) r h = absurd (neither (quotes_have (quotes_at q) member.PartOpen) false (no-open (quotes_at q)) refl h)
+open-value q t (ValueOf (OfStyle s)) r h = absurd (no h)
 open-value q t (ValueOf (OfUrl u)) r h =
     sym (open-part u.part) ∙ second-of (quotes_have (quotes_at q) member.PartOpen) (parts_have (parts_of u.part) member.PartOpen) (no-open (quotes_at q)) h
 open-value q t (Deciding k before) r h = absurd (no h)
@@ -325,6 +332,7 @@ unquoted-bears : (t : Tag) (v : ValueState) (r : Reference)
 unquoted-bears t (OfKind kind.Plain) r = refl
 unquoted-bears t (OfKind kind.NoHole) r = refl
 unquoted-bears t (OfKind _) r = tt
+unquoted-bears t (OfStyle s) r = tt
 unquoted-bears t (OfUrl u) r = of-url (url_value t (quotes_at Unquoted) (parts_of u.part)) u.triple r member.UnquotedValue refl
 
 has-unquoted-in : (s : LexState ValueState) → IsUnquoted s → WhereScanned (scanned s) (λ f. ScanHas f member.UnquotedValue)
@@ -410,6 +418,7 @@ at-grows a (InDeclaration x) m l h = absurd l
 at-grows a (InTagName x y) m l h = absurd l
 at-grows a (InAttributeName t x y) m l h = absurd l
 at-grows a (InUrl v t r) m l h = absurd l
+at-grows a (InStyle v s r) m l h = absurd l
 at-grows a (InCommentEnd x) m l h = absurd l
 at-grows a (InContentEnd x y) m l h = absurd l
 at-grows a (BeforeType t) m l h = absurd l
@@ -423,6 +432,7 @@ url-grows v t r AfterLessSolidus m l h = absurd l
 url-grows v t r (InDeclaration x) m l h = absurd l
 url-grows v t r (InTagName x y) m l h = absurd l
 url-grows v t r (InAttributeName u x y) m l h = absurd l
+url-grows v t r (InStyle w s z) m l h = absurd l
 url-grows v t r (InCommentEnd x) m l h = absurd l
 url-grows v t r (InContentEnd x y) m l h = absurd l
 url-grows v t r (BeforeType u) m l h = absurd l
@@ -461,7 +471,7 @@ unbegun-there _ q n h = or-false (quotes_have q member.UnbegunValue) h
 value-both : (v : ValuePlace) (r : Reference) (b : ℕ) → Has (place.Value v) member.UnquotedValue → Has (place.Value v) member.UnbegunValue
     → value_cause v r White b ≡ None → ⊥
 value-both v r b h k n =
-    let m = first-caused (parts_cause v.body v.quotes r White b) (at_hand (value_error v White)) n in
+    let m = first-caused (body_cause v.body v.quotes r White b) (at_hand (value_error v White)) n in
     let f = first-none (body_error v.body) (quotes_error v.tag v.quotes White) (none-at-hand (value_error v White) m.1) in
     bare-both v.tag v.quotes (unquoted-there v.body v.quotes f.0 (of-place member.UnquotedValue of-unquoted v h))
     (unbegun-there v.body v.quotes f.0 (of-place member.UnbegunValue of-unbegun v k)) f.1

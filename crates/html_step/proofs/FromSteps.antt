@@ -20,7 +20,7 @@ use Rattle.place_core.specs.declared.tag_of.TagOf.{TagOf}
 use Rattle.place_core.specs.declared.tag_place.TagPlace.{TagPlace}
 use Rattle.place_core.specs.declared.value_place.ValuePlace.{ValuePlace}
 use Rattle.place_core.proofs.Joins.{places_same}
-use Rattle.html_scan.specs.Scans.{Scan, At, AfterLess, AfterLessSolidus, InDeclaration, InTagName, InAttributeName, InUrl, InCommentEnd, InContentEnd, comment_next, comment_state, place_cause, scan_cut_error, scan_error, scan_next, scan_place, tag_next, value_scan, BeforeType, InType, content_next}
+use Rattle.html_scan.specs.Scans.{Scan, At, AfterLess, AfterLessSolidus, InDeclaration, InTagName, InAttributeName, InUrl, InStyle, InCommentEnd, InContentEnd, comment_next, comment_state, place_cause, scan_cut_error, scan_error, scan_next, scan_place, tag_next, value_scan, BeforeType, InType, content_next}
 use Rattle.html_step.specs.Origins.{byte_origin, end_origin, name_origin, tag_origin, typed_origin, value_origin, white_origin}
 use Rattle.html_step.proofs.BelowScans.{IsRigid, below-at, below-at-tag, below-at-value, below-attribute, below-url, comment-end-rigid, content-end-rigid, declaration-rigid, doctype-rigid, less-rigid, rcdata-rigid, solidus-rigid, tag-name-rigid, text-rigid, whole-in, before-type-rigid, type-rigid}
 use Rattle.html_step.proofs.FromValues.{ValueFrom, content-whole, end-from, no-less, value-from, value_has}
@@ -227,6 +227,7 @@ from-byte (InTagName end name) c b y v n h = from-rigid (InTagName end name) (ta
 from-byte (InAttributeName t typed name) c b y v n h = from-attribute t typed name c b y h
 from-byte (InUrl w t r) c b y v n h =
     from-url w t r c b y (value_origin w r c b y) (value-from w t r c b y (begun-valid w.quotes v.0) (begun-open r w.quotes v.0) n h)
+from-byte (InStyle w s r) c b y v n h = absurd v
 from-byte (InCommentEnd s) c b y v n h = from-rigid (InCommentEnd s) (comment-end-rigid s) c b y h
 from-byte (InContentEnd e x) c b y v n h = from-rigid (InContentEnd e x) (content-end-rigid e x) c b y h
 from-byte (BeforeType t) c b y v n h = from-rigid (BeforeType t) (before-type-rigid t) c b y h
@@ -270,4 +271,5 @@ from-end (InCommentEnd s) y v n h = end-rigid (InCommentEnd s) (comment-end-rigi
 from-end (InContentEnd e x) y v n h = end-rigid (InContentEnd e x) (content-end-rigid e x) y h
 from-end (BeforeType t) y v n h = end-rigid (BeforeType t) (before-type-rigid t) y h
 from-end (InUrl w t r) y v n h = end-url w t r y v.1 n h
+from-end (InStyle w s r) y v n h = absurd v
 from-end (InType t q w r) y v n h = end-rigid (InType t q w r) (type-rigid t q w r) y h

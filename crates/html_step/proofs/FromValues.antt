@@ -23,7 +23,7 @@ use Rattle.place_core.specs.declared.tag_of.TagOf.TheVariants as tag
 use Rattle.place_core.specs.declared.value_place.ValuePlace.{ValuePlace}
 use Rattle.place_core.proofs.Joins.{places_same}
 use Rattle.place_core.proofs.Semilattices.{none_some}
-use Rattle.html_scan.specs.Scans.{Scan, bare_begun, bare_next, bare_white, content_scan, in_tag, open_cut_error, parts_cause, parts_feeding, parts_with, quoted_error, quoted_next, triple_behind, url_scan, value_cause, value_fed, value_next, with_parts, with_quotes}
+use Rattle.html_scan.specs.Scans.{Scan, bare_begun, bare_next, bare_white, content_scan, in_tag, open_cut_error, body_cause, parts_feeding, parts_with, quoted_error, quoted_next, triple_behind, url_scan, value_cause, value_fed, value_next, with_parts, with_quotes}
 use Rattle.html_step.specs.Origins.{body_origin, fed_in, fed_origin, in_value_origin, value_origin}
 use Rattle.html_step.proofs.BelowScans.{whole-in}
 use Rattle.html_step.proofs.FromParts.{AreTaken, fed-from, fed-quoted, fed-taken, fed-typed, fed-whole, first-no-cause, language-taken, or-behind, or-either, or-first}
@@ -265,21 +265,27 @@ url-out w NoTriple (Open f l) y h = h
 url-out w AfterPercent r y h = h
 url-out w AfterDigit r y h = h
 
+-- neither value is one of a language that is not built
+abbrev AreBuilt : ValuePlace → ValuePlace → Type 0
+AreBuilt u v = (body_error u.body ≡ None) × (body_error v.body ≡ None)
+
 fed-in : (v : ValuePlace) (q : Quotes) (x : Body) (t : Triple) (r : Reference) (c : Class) (b : ℕ) (y : Member) → v.body ≡ x
-    → value_has v.typed q (parts_with x (undone_byte true r c b)) y ≡ true → ScanHas (value_fed v q x t r c b) y
-fed-in v q (body.Url s) t r c b y e h =
+    → body_error x ≡ None → value_has v.typed q (parts_with x (undone_byte true r c b)) y ≡ true → ScanHas (value_fed v q x t r c b) y
+fed-in v q (body.Url s) t r c b y e n h =
     url-in (with_parts v q (feed_bytes parts_feeding s (undone_byte true r c b))) (triple_behind t (undone_byte true r c b)) (next_reference r c b) y h
-fed-in v q _ t r c b y e h = subst (λ (z : Body). value_has v.typed q z y ≡ true) (sym e) h
+fed-in v q (body.Css p) t r c b y e n h = absurd (some _ n)
+fed-in v q _ t r c b y e n h = subst (λ (z : Body). value_has v.typed q z y ≡ true) (sym e) h
 
 fed-out : (v : ValuePlace) (q : Quotes) (x : Body) (t : Triple) (r : Reference) (c : Class) (b : ℕ) (y : Member) → v.body ≡ x
-    → ScanHas (value_fed v q x t r c b) y → value_has v.typed q (parts_with x (undone_byte true r c b)) y ≡ true
-fed-out v q (body.Url s) t r c b y e h =
+    → body_error x ≡ None → ScanHas (value_fed v q x t r c b) y → value_has v.typed q (parts_with x (undone_byte true r c b)) y ≡ true
+fed-out v q (body.Url s) t r c b y e n h =
     url-out (with_parts v q (feed_bytes parts_feeding s (undone_byte true r c b))) (triple_behind t (undone_byte true r c b)) (next_reference r c b) y h
-fed-out v q _ t r c b y e h = subst (λ (z : Body). value_has v.typed q z y ≡ true) e h
+fed-out v q (body.Css p) t r c b y e n h = absurd (some _ n)
+fed-out v q _ t r c b y e n h = subst (λ (z : Body). value_has v.typed q z y ≡ true) e h
 
-goes-fed : (u v : ValuePlace) (q : Quotes) (t : Triple) (r : Reference) (c : Class) (b : ℕ) → BodyTaken v.body (undone_byte true r c b)
+goes-fed : (u v : ValuePlace) (q : Quotes) (t : Triple) (r : Reference) (c : Class) (b : ℕ) → AreBuilt u v → BodyTaken v.body (undone_byte true r c b)
     → Alike u v (undone_byte true r c b) (value_fed u q u.body t r c b) (value_fed v q v.body t r c b)
-goes-fed u v q t r c b a = goes q a (λ y h. fed-in u q u.body t r c b y refl h) (λ y h. fed-out v q v.body t r c b y refl h)
+goes-fed u v q t r c b z a = goes q a (λ y h. fed-in u q u.body t r c b y refl z.0 h) (λ y h. fed-out v q v.body t r c b y refl z.1 h)
 
 goes-same : (u v : ValuePlace) (q : Quotes) → Alike u v [] (with_quotes u q) (with_quotes v q)
 goes-same u v q =
@@ -287,8 +293,8 @@ goes-same u v q =
     (λ y h. subst (λ (z : Body). value_has v.typed q z y ≡ true) (sym (nothing-fed v.body)) h)
 
 -- which bytes are not refused
-taken-by : (x : Body) (q : Quotes) (r : Reference) (c : Class) (b : ℕ) → parts_cause x q r c b ≡ None
-    → ((s : Parts) → quoted_error q s r c b ≡ None → AreTaken (undone_byte true r c b) s)
+taken-by : (x : Body) (q : Quotes) (r : Reference) (c : Class) (b : ℕ) → body_cause x q r c b ≡ None
+    → ((s : Parts) → quoted_error parts_feeding q s r c b ≡ None → AreTaken (undone_byte true r c b) s)
     → BodyTaken x (undone_byte true r c b)
 taken-by (body.Url s) q r c b n f = f s n
 taken-by _ q r c b n f = tt
@@ -312,33 +318,34 @@ white-alike u v false true e = absurd (no e)
 
 bare-alike : (u v : ValuePlace) (s p : Bare) (t : Triple) (r : Reference) (c : Class) (b : ℕ) → some_bare s ≡ true → BegunWhereOpen r (quotes.Bare p)
     → Under s.uq p.uq
-    → Under s.unbegun p.unbegun → parts_cause v.body (quotes.Bare p) r c b ≡ None → bare_error v.tag p c ≡ None
+    → Under s.unbegun p.unbegun → AreBuilt u v
+    → body_cause v.body (quotes.Bare p) r c b ≡ None → bare_error v.tag p c ≡ None
     → Alike u v (fed_in (quotes.Bare p) r c b) (bare_next u s.uq t r c b) (bare_next v p.uq t r c b)
-bare-alike u v s p t r White b h i j k m n =
+bare-alike u v s p t r White b h i j k z m n =
     white-alike u v s.uq p.uq (bare-white s.uq s.unbegun p.uq p.unbegun h j k (if-none (p.uq && p.unbegun) code.AmbigContext n)).0
-bare-alike u v s p t r QuotationMark b h i j k m n = goes-same u v quotes.Dq
-bare-alike u v s p t r Apostrophe b h i j k m n = goes-same u v quotes.Sq
-bare-alike u v s p t r GreaterThan b h i j k m n = ends refl refl
-bare-alike u v s p t r LessThan b h i j k m n = absurd (some _ n)
-bare-alike u v s p t r EqualsSign b h i j k m n = absurd (some _ n)
-bare-alike u v s p t r GraveAccent b h i j k m n = absurd (some _ n)
-bare-alike u v s p t r c b h i j k m n =
-    goes-fed u v bare_begun t r c b (taken-by v.body (quotes.Bare p) r c b m (λ a e. bare-taken p.uq r a c b (begun-as r p i) e))
+bare-alike u v s p t r QuotationMark b h i j k z m n = goes-same u v quotes.Dq
+bare-alike u v s p t r Apostrophe b h i j k z m n = goes-same u v quotes.Sq
+bare-alike u v s p t r GreaterThan b h i j k z m n = ends refl refl
+bare-alike u v s p t r LessThan b h i j k z m n = absurd (some _ n)
+bare-alike u v s p t r EqualsSign b h i j k z m n = absurd (some _ n)
+bare-alike u v s p t r GraveAccent b h i j k z m n = absurd (some _ n)
+bare-alike u v s p t r c b h i j k z m n =
+    goes-fed u v bare_begun t r c b z (taken-by v.body (quotes.Bare p) r c b m (λ a e. bare-taken p.uq r a c b (begun-as r p i) e))
 
 quotes-alike : (u v : ValuePlace) (q p : Quotes) (t : Triple) (r : Reference) (c : Class) (b : ℕ) → IsValidQuotes q → BegunWhereOpen r p
-    → joined_quotes q p ≡ Some p
-    → parts_cause v.body p r c b ≡ None → quotes_error v.tag p c ≡ None → Alike u v (fed_in p r c b) (quoted_next u q t r c b) (quoted_next v p t r c b)
-quotes-alike u v quotes.Dq quotes.Dq t r QuotationMark b h i j m n = tags refl refl
-quotes-alike u v quotes.Dq quotes.Dq t r c b h i j m n = goes-fed u v quotes.Dq t r c b (taken-by v.body quotes.Dq r c b m (λ a e. language-taken r a c b e))
-quotes-alike u v quotes.Sq quotes.Sq t r Apostrophe b h i j m n = tags refl refl
-quotes-alike u v quotes.Sq quotes.Sq t r c b h i j m n = goes-fed u v quotes.Sq t r c b (taken-by v.body quotes.Sq r c b m (λ a e. language-taken r a c b e))
-quotes-alike u v (quotes.Bare s) (quotes.Bare p) t r c b h i j m n = let d = bare-parts s p j in bare-alike u v s p t r c b h i d.0 d.1 m n
-quotes-alike u v quotes.Dq quotes.Sq t r c b h i j m n = absurd (none_some quotes.Sq j)
-quotes-alike u v quotes.Dq (quotes.Bare p) t r c b h i j m n = absurd (none_some (quotes.Bare p) j)
-quotes-alike u v quotes.Sq quotes.Dq t r c b h i j m n = absurd (none_some quotes.Dq j)
-quotes-alike u v quotes.Sq (quotes.Bare p) t r c b h i j m n = absurd (none_some (quotes.Bare p) j)
-quotes-alike u v (quotes.Bare s) quotes.Dq t r c b h i j m n = absurd (none_some quotes.Dq j)
-quotes-alike u v (quotes.Bare s) quotes.Sq t r c b h i j m n = absurd (none_some quotes.Sq j)
+    → joined_quotes q p ≡ Some p → AreBuilt u v
+    → body_cause v.body p r c b ≡ None → quotes_error v.tag p c ≡ None → Alike u v (fed_in p r c b) (quoted_next u q t r c b) (quoted_next v p t r c b)
+quotes-alike u v quotes.Dq quotes.Dq t r QuotationMark b h i j z m n = tags refl refl
+quotes-alike u v quotes.Dq quotes.Dq t r c b h i j z m n = goes-fed u v quotes.Dq t r c b z (taken-by v.body quotes.Dq r c b m (λ a e. language-taken r a c b e))
+quotes-alike u v quotes.Sq quotes.Sq t r Apostrophe b h i j z m n = tags refl refl
+quotes-alike u v quotes.Sq quotes.Sq t r c b h i j z m n = goes-fed u v quotes.Sq t r c b z (taken-by v.body quotes.Sq r c b m (λ a e. language-taken r a c b e))
+quotes-alike u v (quotes.Bare s) (quotes.Bare p) t r c b h i j z m n = let d = bare-parts s p j in bare-alike u v s p t r c b h i d.0 d.1 z m n
+quotes-alike u v quotes.Dq quotes.Sq t r c b h i j z m n = absurd (none_some quotes.Sq j)
+quotes-alike u v quotes.Dq (quotes.Bare p) t r c b h i j z m n = absurd (none_some (quotes.Bare p) j)
+quotes-alike u v quotes.Sq quotes.Dq t r c b h i j z m n = absurd (none_some quotes.Dq j)
+quotes-alike u v quotes.Sq (quotes.Bare p) t r c b h i j z m n = absurd (none_some (quotes.Bare p) j)
+quotes-alike u v (quotes.Bare s) quotes.Dq t r c b h i j z m n = absurd (none_some quotes.Dq j)
+quotes-alike u v (quotes.Bare s) quotes.Sq t r c b h i j z m n = absurd (none_some quotes.Sq j)
 
 -- a member after a byte of a value comes from this one before it
 pub record ValueFrom (v : ValuePlace) (t : Triple) (r : Reference) (c : Class) (b : ℕ) (y x : Member) : Type 0 where
@@ -349,14 +356,14 @@ pub value-from : (v : ValuePlace) (t : Triple) (r : Reference) (c : Class) (b : 
     → value_cause v r c b ≡ None
     → ScanHas (value_next v t r c b) y → ValueFrom v t r c b y (value_origin v r c b y)
 value-from v t r c b y w i n h =
-    let m = first-no-cause (parts_cause v.body v.quotes r c b) (at_hand (value_error v c)) n in
+    let m = first-no-cause (body_cause v.body v.quotes r c b) (at_hand (value_error v c)) n in
     let e = first-none (body_error v.body) (quotes_error v.tag v.quotes c) (none-at-hand (value_error v c) m.1) in
     let bytes = fed_in v.quotes r c b in
     let same = below-value v v (places_same (place.Value v)) in
     record {
-      there = alike-there v v bytes (value_next v t r c b) (value_next v t r c b) y (quotes-alike v v v.quotes v.quotes t r c b w i same.quotes m.0 e.1) e.0 h;
+      there = alike-there v v bytes (value_next v t r c b) (value_next v t r c b) y (quotes-alike v v v.quotes v.quotes t r c b w i same.quotes (e.0, e.0) m.0 e.1) e.0 h;
       leads = λ u z l o. alike-leads u v bytes (value_next u t r c b) (value_next v t r c b) y
-          (quotes-alike u v u.quotes v.quotes t r c b z i l.quotes m.0 e.1) e.0 l.body h o;
+          (quotes-alike u v u.quotes v.quotes t r c b z i l.quotes (body-accepts u.body v.body l.body e.0, e.0) m.0 e.1) e.0 l.body h o;
     }
 
 -- The end of a text in a URL.

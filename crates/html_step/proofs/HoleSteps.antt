@@ -6,7 +6,7 @@ use Rattle.place_core.specs.page.References.{Closed, Open}
 use Rattle.place_core.specs.place.StatePlaces.{placed, tag_spot, value_spot, quotes_at, only_inside, only_after}
 use Rattle.place_core.specs.place.UrlParts.{parts_of}
 use Rattle.place_core.specs.page.States.{LexState, Text, TagOpen, EndTagOpen, DeclarationOpen, InComment, Started, StartedDash, Inside, Dash, DashDash, Bang, Broken, BogusComment, InDoctype, TagName, WholeTagName, BeforeAttributeName, AttributeName, WholeAttributeName, AfterAttributeName, BeforeAttributeValue, AttributeValue, AfterAttributeValue, SelfClosingStartTag, Characters, Bytes, Nothing, PendingLess, PendingName, PendingBang, PendingBangDash, InContent, Unread, LessAtCut}
-use Rattle.place_core.specs.page.Tags.{Tag, ValueOf, Deciding, ValueState, OfKind, OfUrl, languages, Quoting, DoubleQuoted, SingleQuoted, Unquoted, is_second_type}
+use Rattle.place_core.specs.page.Tags.{Tag, ValueOf, Deciding, ValueState, OfKind, OfUrl, OfStyle, languages, Quoting, DoubleQuoted, SingleQuoted, Unquoted, is_second_type}
 use Rattle.place_core.specs.declared.body.Body.TheVariants as body
 use Rattle.place_core.specs.declared.element.Element.TheVariants as element
 use Rattle.place_core.specs.declared.kind.Kind.{Kind}
@@ -69,6 +69,7 @@ value-own q t (OfKind kind.Script) = tt
 value-own q t (OfKind kind.Style) = tt
 value-own q t (OfKind kind.ScriptType) = tt
 value-own q t (OfUrl u) = url-own u.triple u q t
+value-own q t (OfStyle s) = tt
 
 before-own : (t : Tag) (k : Kind) → WherePlaced (placed (BeforeAttributeValue t k)) (BeforeAttributeValue t k)
 before-own t kind.Plain = (refl, refl)

@@ -6,7 +6,7 @@ use Rattle.place_core.specs.page.Html.{next, next_value, next_after_value, next_
 use Rattle.place_core.specs.page.Paths.{at_cut}
 use Rattle.place_core.specs.page.References.{Reference, Closed, Open, Form, ReferenceStep, Grows, Closes, Breaks, turn, flushed, plain_bytes, undone_byte, next_reference, settled, as_it_stands}
 use Rattle.place_core.specs.page.States.{Template, LexState, Text, TagOpen, EndTagOpen, DeclarationOpen, Started, StartedDash, Inside, Dash, DashDash, Bang, Broken, InComment, BogusComment, InDoctype, TagName, WholeTagName, BeforeAttributeName, AttributeName, WholeAttributeName, AfterAttributeName, BeforeAttributeValue, AttributeValue, AfterAttributeValue, SelfClosingStartTag, Characters, Bytes, Nothing, PendingLess, LessAtCut, PendingName, PendingBang, PendingBangDash, InContent, Unread}
-use Rattle.place_core.specs.page.Tags.{Tag, is_second_type, Value, ValueOf, Deciding, ValueState, OfKind, OfUrl, languages, with_bytes, tag_with_value, cut_value, Quoting, DoubleQuoted, SingleQuoted, Unquoted}
+use Rattle.place_core.specs.page.Tags.{Tag, is_second_type, Value, ValueOf, Deciding, ValueState, OfKind, OfUrl, OfStyle, languages, with_bytes, tag_with_value, cut_value, feed_value, Quoting, DoubleQuoted, SingleQuoted, Unquoted}
 use Rattle.place_core.specs.place.ApartPlaces.{beginning_at, side}
 use Rattle.place_core.specs.place.Errors.{node, value_before}
 use Rattle.place_core.specs.place.Membership.{Bears}
@@ -164,6 +164,7 @@ placed-begins (AttributeValue q t (ValueOf (OfKind kind.Script)) Closed) h = abs
 placed-begins (AttributeValue q t (ValueOf (OfKind kind.Style)) Closed) h = absurd (no h)
 placed-begins (AttributeValue q t (ValueOf (OfKind kind.ScriptType)) Closed) h = absurd (no h)
 placed-begins (AttributeValue q t (ValueOf (OfUrl u)) Closed) h = url-begins t (quotes_at q) u.triple u.part h
+placed-begins (AttributeValue q t (ValueOf (OfStyle s)) Closed) h = absurd (no h)
 placed-begins (AttributeValue q t (Deciding k before) Closed) h = absurd (no h)
 placed-begins (AttributeValue q t v (Open f bytes)) h = absurd (no h)
 placed-begins (AfterAttributeValue t) h = absurd (no h)
@@ -209,6 +210,7 @@ is_url_value s = false
 pub begins-value : (s : LexState ValueState) → is_in_beginning s ≡ true → is_url_value s ≡ true
 begins-value (AttributeValue q t (ValueOf (OfUrl u)) r) h = refl
 begins-value (AttributeValue q t (ValueOf (OfKind k)) r) h = absurd (no h)
+begins-value (AttributeValue q t (ValueOf (OfStyle s)) r) h = absurd (no h)
 begins-value (AttributeValue q t (Deciding k before) r) h = absurd (no h)
 begins-value _ h = absurd (no h)
 
@@ -216,11 +218,13 @@ with-url-value : (bytes : List ℕ) (v : Value ValueState) → is_url (with_byte
 with-url-value [] v = refl
 with-url-value (b ∷ bs) (ValueOf (OfUrl u)) = with-url-value bs (ValueOf (OfUrl (feed_url u b)))
 with-url-value (b ∷ bs) (ValueOf (OfKind k)) = with-url-value bs (ValueOf (OfKind k))
+with-url-value (b ∷ bs) (ValueOf (OfStyle s)) = with-url-value bs (ValueOf (feed_value (OfStyle s) b))
 with-url-value (b ∷ bs) (Deciding k before) = with-url-value bs (Deciding k (before ++ b ∷ []))
 
 cut-url-value : (v : Value ValueState) → is_url (cut_value languages v) ≡ is_url v
 cut-url-value (ValueOf (OfUrl u)) = refl
 cut-url-value (ValueOf (OfKind k)) = refl
+cut-url-value (ValueOf (OfStyle s)) = refl
 cut-url-value (Deciding k before) = refl
 
 cut-value : (s : LexState ValueState) → is_in_beginning (at_cut languages s) ≡ true → is_url_value s ≡ true
@@ -389,6 +393,7 @@ next-unknown : (bs : List ℕ) (b : ℕ) (s : LexState ValueState) → is_in_beg
     × (is_in_beginning (next languages Template s (class_of b) b) ≡ true)
 next-unknown bs b (AttributeValue q t (ValueOf (OfUrl u)) r) h k = step-unknown (ends_value q (class_of b)) bs q t u r (class_of b) b h k
 next-unknown bs b (AttributeValue q t (ValueOf (OfKind x)) r) h k = absurd (no h)
+next-unknown bs b (AttributeValue q t (ValueOf (OfStyle x)) r) h k = absurd (no h)
 next-unknown bs b (AttributeValue q t (Deciding x before) r) h k = absurd (no h)
 next-unknown bs b _ h k = absurd (no h)
 
@@ -397,6 +402,7 @@ end-unknown (AttributeValue q t (ValueOf (OfUrl u)) r) h k =
     ap (λ (v : Value ValueState). AttributeValue q t (cut_value languages v) Closed) (fed-unknown (as_it_stands r) u h (cut-part q t u r k))
     ∙ sym (ap (λ (v : Value ValueState). unknown_beginning (AttributeValue q t (cut_value languages v) Closed)) (with-url u (as_it_stands r)))
 end-unknown (AttributeValue q t (ValueOf (OfKind x)) r) h k = absurd (no h)
+end-unknown (AttributeValue q t (ValueOf (OfStyle x)) r) h k = absurd (no h)
 end-unknown (AttributeValue q t (Deciding x before) r) h k = absurd (no h)
 end-unknown _ h k = absurd (no h)
 
@@ -440,6 +446,7 @@ before-begins (AttributeValue q t (ValueOf (OfUrl u)) (Open f bytes)) b bs h k =
     broken-begins (turn (class_of b) f) q t u f bytes (class_of b) b h
     (ap is_in_beginning (before-next (AttributeValue q t (ValueOf (OfUrl u)) (Open f bytes)) b bs) ∙ k)
 before-begins (AttributeValue q t (ValueOf (OfKind x)) r) b bs h k = absurd (no h)
+before-begins (AttributeValue q t (ValueOf (OfStyle x)) r) b bs h k = absurd (no h)
 before-begins (AttributeValue q t (Deciding x before) r) b bs h k = absurd (no h)
 before-begins _ b bs h k = absurd (no h)
 

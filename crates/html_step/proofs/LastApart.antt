@@ -5,10 +5,10 @@ use Rattle.place_core.specs.page.Classes.{class_of}
 use Rattle.place_core.specs.page.Html.{next}
 use Rattle.place_core.specs.page.References.{Reference, Closed, Open}
 use Rattle.place_core.specs.page.States.{Template, LexState, Text, TagOpen, EndTagOpen, DeclarationOpen, CommentState, Started, StartedDash, Inside, Dash, DashDash, Bang, Broken, InComment, BogusComment, InDoctype, TagName, WholeTagName, BeforeAttributeName, AttributeName, WholeAttributeName, AfterAttributeName, BeforeAttributeValue, AttributeValue, AfterAttributeValue, SelfClosingStartTag, Characters, Bytes, Pending, Nothing, PendingLess, PendingName, PendingBang, PendingBangDash, InContent, Unread, LessAtCut}
-use Rattle.place_core.specs.page.Tags.{Tag, ValueState, OfKind, OfUrl, Quoting, languages, ValueOf, Deciding, is_second_type}
+use Rattle.place_core.specs.page.Tags.{Tag, ValueState, OfKind, OfUrl, OfStyle, Quoting, languages, ValueOf, Deciding, is_second_type}
 use Rattle.place_core.specs.place.ApartPlaces.{ArePlacesApart, beginning_at, opened_apart}
 use Rattle.place_core.specs.place.Errors.{PathRefusal, place_before_bytes, shown_place, states}
-use Rattle.place_core.specs.place.LastPercent.{last_percent}
+use Rattle.place_core.specs.place.LastLexeme.{last_lexeme_start}
 use Rattle.place_core.specs.place.PathPairs.{ApartBefore, is_in_reference}
 use Rattle.place_core.specs.place.StatePlaces.{placed, quotes_at}
 use Rattle.place_core.specs.place.UrlParts.{parts_of}
@@ -111,6 +111,7 @@ begins (AttributeValue q t (ValueOf (OfKind kind.Plain)) r) =
 begins (AttributeValue q t (ValueOf (OfKind kind.NoHole)) r) =
     λ bs. none-within (is_in_reference (AttributeValue q t (ValueOf (OfKind kind.NoHole)) r) bs)
 begins (AttributeValue q t (ValueOf (OfKind k)) r) = tt
+begins (AttributeValue q t (ValueOf (OfStyle s)) r) = tt
 begins (AttributeValue q t (ValueOf (OfUrl u)) r) = url-begins q t (url_value t (quotes_at q) (parts_of u.part)) u.triple (OfUrl u) r
 begins (AttributeValue q t (Deciding kind.ScriptType before) r) =
     first-begins t.typed (AttributeValue q t (Deciding kind.ScriptType before) r) _
@@ -189,7 +190,7 @@ states-there zero bytes k since s f e r = e
 states-there (suc n) [] k since s f e r = e
 states-there (suc n) (b ∷ bs) k since s f e r =
     let g = scan_next f (class_of b) b in
-    let after = last_percent k since (scan_reference f) (class_of b) b in
+    let after = last_lexeme_start k since (scan_reference f) (class_of b) b in
     let l = not-late k n (scan_error f (class_of b) b) (stepped (k + 1) after bs g) r in
     states-there n bs (k + 1) after (next languages Template s (class_of b) b) g ((agrees-at s f b e).steps l.0)
     (later k n (stepped (k + 1) after bs g) l.1)

@@ -23,6 +23,7 @@ pub mod OnePath
 pub mod OneTexts
 pub mod OriginSteps
 pub mod OwnClash
+pub mod OwnScans
 pub mod PlaceParts
 pub mod ReadScans
 pub mod ReadStates

@@ -5,10 +5,10 @@ use Rattle.place_core.specs.page.Html.{next}
 use Rattle.place_core.specs.page.Paths.{at_cut}
 use Rattle.place_core.specs.page.References.{Closed, Open}
 use Rattle.place_core.specs.page.States.{Template, LexState, AttributeName, AttributeValue, Pending, PendingLess}
-use Rattle.place_core.specs.page.Tags.{Tag, ValueOf, Deciding, ValueState, OfKind, OfUrl, languages, Quoting}
+use Rattle.place_core.specs.page.Tags.{Tag, ValueOf, Deciding, ValueState, OfKind, OfUrl, OfStyle, languages, Quoting}
 use Rattle.place_core.specs.place.ApartPlaces.{HasApart, beginning_at}
 use Rattle.place_core.specs.place.Errors.{node, place_before_bytes}
-use Rattle.place_core.specs.place.LastPercent.{last_percent}
+use Rattle.place_core.specs.place.LastLexeme.{last_lexeme_start}
 use Rattle.place_core.specs.place.Membership.{IsIn}
 use Rattle.place_core.specs.place.PathPairs.{ApartBefore, Keeps, PartWithin, state_before, is_in_beginning, unknown_beginning, unknown_part}
 use Rattle.place_core.specs.place.Places.{Below, IsValid}
@@ -59,7 +59,7 @@ pub next-stand : (s : LexState ValueState) (g f : Scan) (b : ℕ) → scan_error
     → Stand (next languages Template s (class_of b) b) (scan_next g (class_of b) b) (scan_next f (class_of b) b)
 next-stand s g f b n h =
     let m = scan-grows g f (class_of b) b h.valid h.below n in
-    record { at = (agrees-at s g b h.at).steps m.0; valid = scan-valid g (class_of b) b h.valid; below = m.1 }
+    record { at = (agrees-at s g b h.at).steps m.0; valid = scan-valid g (class_of b) b h.valid m.0; below = m.1 }
 
 abbrev pub ScanApart : Scan → Type 0
 ScanApart f = HasApart (raw_place f)
@@ -104,6 +104,7 @@ unknown-placed : (s : LexState ValueState) (a : Place) → is_in_beginning s ≡
 unknown-placed (AttributeValue q t (ValueOf (OfUrl u)) Closed) a h e = raised-apart u.triple u.part t (quotes_at q) a h e
 unknown-placed (AttributeValue q t (ValueOf (OfUrl u)) (Open f bytes)) a h e = absurd (none_some a e)
 unknown-placed (AttributeValue q t (ValueOf (OfKind k)) r) a h e = absurd (no h)
+unknown-placed (AttributeValue q t (ValueOf (OfStyle s)) r) a h e = absurd (no h)
 unknown-placed (AttributeValue q t (Deciding k before) r) a h e = absurd (no h)
 unknown-placed _ a h e = absurd (no h)
 
@@ -163,12 +164,12 @@ within-apart (b ∷ bs) k since s r g h f q v i j a e =
     let u = next languages Template r (class_of b) b in
     let x = next-stand s g f b n.0 i in
     let y = next-stand r h f b n.0 j in
-    let after = last_percent k since (scan_reference f) (class_of b) b in
+    let after = last_lexeme_start k since (scan_reference f) (class_of b) b in
     elim a [
       | inl z ↦ point-within bs (k + 1) after t u (scan_next g (class_of b) b) (scan_next h (class_of b) b) (scan_next f (class_of b) b) q
-          (scan-valid f (class_of b) b v) x y z.0 z.1 z.2 n.1
+          (scan-valid f (class_of b) b v n.0) x y z.0 z.1 z.2 n.1
       | inr z ↦ within-apart bs (k + 1) after t u (scan_next g (class_of b) b) (scan_next h (class_of b) b) (scan_next f (class_of b) b) q
-          (scan-valid f (class_of b) b v) x y z n.1
+          (scan-valid f (class_of b) b v n.0) x y z n.1
     ]
 
 -- The path of which it is not known what it has spelled is one of the place's.
@@ -194,5 +195,6 @@ unknown-in a (AttributeValue q t (ValueOf (OfUrl u)) Closed) h e i =
     record { own = r.0; stands = r.1; valid = r.2; below = r.3 }
 unknown-in a (AttributeValue q t (ValueOf (OfUrl u)) (Open f bytes)) h e i = absurd (none_some i.own i.stands)
 unknown-in a (AttributeValue q t (ValueOf (OfKind k)) r) h e i = absurd (no h)
+unknown-in a (AttributeValue q t (ValueOf (OfStyle s)) r) h e i = absurd (no h)
 unknown-in a (AttributeValue q t (Deciding k before) r) h e i = absurd (no h)
 unknown-in a _ h e i = absurd (no h)

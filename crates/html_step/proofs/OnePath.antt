@@ -5,14 +5,14 @@ use Rattle.std.specs.Option.{option_map}
 use Rattle.place_core.specs.page.Classes.{Class, White, QuotationMark, Ampersand, Apostrophe, HyphenMinus, Solidus, LessThan, EqualsSign, GreaterThan, GraveAccent, Letter, ExclamationMark, class_of, is_equals_sign}
 use Rattle.place_core.specs.page.Comments.{OpensComment, OpensDoctype, Undecided, OpensNothing, Declaration, declared_by}
 use Rattle.place_core.specs.page.Contents.{may_be_name_of, is_name_of, next_loose, next_less, next_end_name, next_bang}
-use Rattle.place_core.specs.place.LastPercent.{url_reference}
+use Rattle.place_core.specs.place.LastLexeme.{language_reference}
 use Rattle.place_core.specs.place.Errors.{byte_error, cut_error, at_hand, unless_second, content_error, kind_error, tag_error, bare_error, quotes_error, attribute_name_error, PathCause, fed_error, turned_error, language_error, first_byte_error, is_written, first_cause, first_error, place_before_bytes, value_before, cause_back, flushed_error, name_error, is_unknown_name, lexeme_error}
 use Rattle.place_core.specs.page.Html.{next, after_tag, next_declaration, next_before_name, next_name, next_after_name, next_before_value, ends_value}
 use Rattle.place_core.specs.page.Paths.{at_cut}
 use Rattle.place_core.specs.page.References.{Reference, settled, undone_byte, as_it_stands, Closed, Open, Form, ReferenceStep, Grows, Closes, Breaks, turn, meaning, flushed, plain_bytes, next_reference}
 use Rattle.place_core.specs.place.StatePlaces.{tag_spot, body_at, only_name, only_before, only_inside, only_after, value_spot, value_body, quotes_at, unbegun, placed}
 use Rattle.place_core.specs.page.States.{Template, LexState, Text, TagOpen, EndTagOpen, DeclarationOpen, CommentState, Started, StartedDash, Inside, Dash, DashDash, Bang, Broken, InComment, BogusComment, InDoctype, TagName, WholeTagName, BeforeAttributeName, AttributeName, WholeAttributeName, AfterAttributeName, BeforeAttributeValue, AttributeValue, AfterAttributeValue, SelfClosingStartTag, Characters, Bytes, Pending, Nothing, PendingLess, PendingName, PendingBang, PendingBangDash, InContent, Unread, LessAtCut}
-use Rattle.place_core.specs.page.Tags.{Tag, Value, ValueOf, Deciding, ValueState, OfKind, OfUrl, languages, feed_value, feeding, feed_bytes, refusal_code, refuses_names_in, refuses_cut_of, attribute_value_of, tag_of_name, element_on, is_start, tag_by_type, with_bytes, tag_with_value, without_value, Quoting, DoubleQuoted, SingleQuoted, Unquoted, is_second_type, typed_by, cut_value}
+use Rattle.place_core.specs.page.Tags.{Tag, Value, ValueOf, Deciding, ValueState, OfKind, OfUrl, OfStyle, languages, feed_value, feeding, feed_bytes, refusal_code, refuses_names_in, refuses_cut_of, attribute_value_of, tag_of_name, element_on, is_start, tag_by_type, with_bytes, tag_with_value, without_value, Quoting, DoubleQuoted, SingleQuoted, Unquoted, is_second_type, typed_by, cut_value}
 use Rattle.place_core.specs.page.Words.{kind_of, is_script_type}
 use Rattle.place_core.specs.place.UrlParts.{parts_of}
 use Rattle.place_core.specs.declared.body.Body.{Body}
@@ -28,7 +28,7 @@ use Rattle.place_core.specs.declared.quotes.Quotes.{Quotes}
 use Rattle.place_core.specs.declared.tag_of.TagOf.{TagOf}
 use Rattle.place_core.specs.declared.tag_of.TagOf.TheVariants as tag
 use Rattle.place_core.specs.declared.value_place.ValuePlace.{ValuePlace}
-use Rattle.html_scan.specs.Scans.{Scan, At, AfterLess, AfterLessSolidus, InDeclaration, InTagName, InAttributeName, InContentEnd, comment_scan, content_scan, value_scan, declaration_next, content_next, pending_less_next, end_name_next, attribute_name_next, tag_next, typed_with, scan_next, scan_error, scan_place, scan_cut_error, BeforeType, InType, bang_next, before_type_next, ended_type, in_tag, scan_shown, type_tag, rest_place, parts_feeding, triple_behind, url_scan, value_fed, value_next, value_cause, parts_cause, quoted_error, with_quotes, open_cut_error, if_unfinished, parts_before, scan_lexeme_error, scan_reference}
+use Rattle.html_scan.specs.Scans.{Scan, At, AfterLess, AfterLessSolidus, InDeclaration, InTagName, InAttributeName, InContentEnd, comment_scan, content_scan, value_scan, declaration_next, content_next, pending_less_next, end_name_next, attribute_name_next, tag_next, typed_with, scan_next, scan_error, scan_place, scan_cut_error, BeforeType, InType, bang_next, before_type_next, ended_type, in_tag, scan_shown, type_tag, rest_place, parts_feeding, triple_behind, url_scan, value_fed, value_next, value_cause, body_cause, quoted_error, with_quotes, open_cut_error, if_unfinished, parts_before, scan_lexeme_error, scan_reference}
 use Rattle.url_lexer.specs.Classes.{url_class_of}
 use Rattle.url_lexer.specs.Parts.{UrlStart}
 use Rattle.url_lexer.specs.Refusals.{UrlCutRefusal, UrlRefusal, refuses_cut_in}
@@ -75,6 +75,7 @@ before_scanned t (Deciding k before) = None
 abbrev pub value_scanned : Quoting → Tag → Value ValueState → Reference → Option Scan
 value_scanned q t (ValueOf (OfKind k)) r = option_map At (value_spot t (quotes_at q) (value_body (ValueOf (OfKind k))))
 value_scanned q t (ValueOf (OfUrl u)) r = Some (url_scanned q t u r)
+value_scanned q t (ValueOf (OfStyle s)) r = None
 value_scanned q t (Deciding kind.ScriptType before) r = first_type t kind.ScriptType (InType t.tag q (Deciding kind.ScriptType before) r)
 value_scanned q t (Deciding k before) r = None
 
@@ -148,27 +149,31 @@ unless-first : (second : Bool) (len : ℕ) (o : Option Code) → unless_second s
 unless-first true len o h = absurd (some _ h)
 unless-first false len o h = refl
 
--- What refuses nothing: the language of a value that is no URL.
+-- What refuses nothing: the language of a value that is no URL and no style.
 abbrev pub IsNoUrl : Value ValueState → Type 0
 IsNoUrl (ValueOf (OfKind k)) = ⊤
 IsNoUrl (ValueOf (OfUrl u)) = ⊥
+IsNoUrl (ValueOf (OfStyle s)) = ⊥
 IsNoUrl (Deciding k before) = ⊤
 
 pub fed-none : (v : Value ValueState) (bs : List ℕ) (written : Bool) (n : ℕ) → IsNoUrl v → fed_error (feeding languages) v bs written n ≡ None
 fed-none v [] written n y = refl
 fed-none (ValueOf (OfKind k)) (b ∷ bs) written n y = fed-none (ValueOf (OfKind k)) bs written (if written then n - 1 else n) tt
 fed-none (ValueOf (OfUrl u)) (b ∷ bs) written n y = absurd y
+fed-none (ValueOf (OfStyle s)) (b ∷ bs) written n y = absurd y
 fed-none (Deciding k before) (b ∷ bs) written n y = fed-none (Deciding k (before ++ b ∷ [])) bs written (if written then n - 1 else n) tt
 
 stays-no-url : (v : Value ValueState) (bs : List ℕ) → IsNoUrl v → IsNoUrl (feed_bytes (feeding languages) v bs)
 stays-no-url v [] y = y
 stays-no-url (ValueOf (OfKind k)) (b ∷ bs) y = stays-no-url (ValueOf (OfKind k)) bs tt
 stays-no-url (ValueOf (OfUrl u)) (b ∷ bs) y = absurd y
+stays-no-url (ValueOf (OfStyle s)) (b ∷ bs) y = absurd y
 stays-no-url (Deciding k before) (b ∷ bs) y = stays-no-url (Deciding k (before ++ b ∷ [])) bs tt
 
 names-none : (v : Value ValueState) (x : Bool) (n : ℕ) → IsNoUrl v → name_error (refuses_names_in languages v && x) n ≡ None
 names-none (ValueOf (OfKind k)) x n y = refl
 names-none (ValueOf (OfUrl u)) x n y = absurd y
+names-none (ValueOf (OfStyle s)) x n y = absurd y
 names-none (Deciding k before) x n y = refl
 
 pub neither : (o p : Option PathCause) → o ≡ None → p ≡ None → first_cause o p ≡ None
@@ -516,7 +521,7 @@ last-none None p e = e
 last-none (Some x) p e = absurd (some _ e)
 
 quoted-at : (q : Quoting) (s : Parts) (r : Reference) (c : Class) (b : ℕ)
-    → quoted_error (quotes_at q) s r c b ≡ language_error parts_feeding (ends_value q c) s r c b
+    → quoted_error parts_feeding (quotes_at q) s r c b ≡ language_error parts_feeding (ends_value q c) s r c b
 quoted-at DoubleQuoted s r c b = refl
 quoted-at SingleQuoted s r c b = refl
 quoted-at Unquoted s r c b = refl
@@ -543,13 +548,13 @@ url-steps q t u r c b =
       errors = url-errors q t u r c b ∙ sym (url-scan-error v u.triple r c b);
       steps = λ n.
           url-next q t u r c b
-          (last-none (parts_cause v.body v.quotes r c b) (at_hand (quotes_error t.tag (quotes_at q) c)) (sym (url-scan-error v u.triple r c b) ∙ n))
+          (last-none (body_cause v.body v.quotes r c b) (at_hand (quotes_error t.tag (quotes_at q) c)) (sym (url-scan-error v u.triple r c b) ∙ n))
           ∙ ap Some (sym (url-scan-next v u.triple r c b));
     }
 
 begin-url-steps : (t : Tag) (c : Class) (b : ℕ) → Agrees (BeforeAttributeValue t kind.Url) (value-at t unbegun (body.Url (parts_of UrlStart))) c b
 begin-url-steps t c b =
-    let own = parts_cause (body.Url (parts_of UrlStart)) unbegun Closed c b in
+    let own = body_cause (body.Url (parts_of UrlStart)) unbegun Closed c b in
     record {
       errors = begin-url-errors t c b;
       steps = λ n. begin-url t c b (last-none own (at_hand (bare_error t.tag (record { uq = false; unbegun = true }) c)) n);
@@ -776,6 +781,7 @@ value-steps q t (ValueOf (OfKind kind.Script)) r c b i = tt
 value-steps q t (ValueOf (OfKind kind.Style)) r c b i = tt
 value-steps q t (ValueOf (OfKind kind.ScriptType)) r c b i = tt
 value-steps q t (ValueOf (OfUrl u)) r c b i = url-steps q t u r c b
+value-steps q t (ValueOf (OfStyle s)) r c b i = tt
 value-steps q t (Deciding kind.ScriptType before) r c b i = type-steps t.typed q t before r c b i refl
 value-steps q t (Deciding k before) r c b i = tt
 
@@ -805,7 +811,7 @@ agrees Unread c b i = tt
 pub record Ends (s : LexState ValueState) (f : Scan) : Type 0 where
   pub errors : cut_error s ≡ scan_cut_error f
   pub lexeme : lexeme_error s ≡ scan_lexeme_error f
-  pub reference : url_reference s ≡ scan_reference f
+  pub reference : language_reference s ≡ scan_reference f
   pub place : scan_cut_error f ≡ None → placed (at_cut languages s) ≡ Some (scan_place f)
   pub shown : (bs : List ℕ) → place_before_bytes s bs ≡ scan_shown f bs
 
@@ -1036,6 +1042,7 @@ ends-agree (AttributeValue q t (ValueOf (OfKind kind.Script)) r) = tt
 ends-agree (AttributeValue q t (ValueOf (OfKind kind.Style)) r) = tt
 ends-agree (AttributeValue q t (ValueOf (OfKind kind.ScriptType)) r) = tt
 ends-agree (AttributeValue q t (ValueOf (OfUrl u)) r) = url-ends q t u r
+ends-agree (AttributeValue q t (ValueOf (OfStyle s)) r) = tt
 ends-agree (AttributeValue q t (Deciding kind.ScriptType before) r) = type-ends t.typed q t before r
 ends-agree (AttributeValue q t (Deciding k before) r) = tt
 ends-agree (AfterAttributeValue t) = record { errors = refl; lexeme = refl; reference = refl; place = λ n. refl; shown = λ bs. refl }

@@ -4,13 +4,13 @@ use Rattle.std.specs.Prelude.{⊤, is_some, if◌then◌else◌}
 use Rattle.std.specs.Option.{option_map}
 use Rattle.place_core.specs.page.Classes.{class_of}
 use Rattle.place_core.specs.place.Errors.{PathCause, PathRefusal, PathRefuses, refusal_from, standing_at, node, or_place, place_before_bytes, shown_from, shown_place, broken_off, lexeme_error}
-use Rattle.place_core.specs.place.LastPercent.{last_percent, url_reference}
+use Rattle.place_core.specs.place.LastLexeme.{last_lexeme_start, language_reference}
 use Rattle.place_core.specs.page.Html.{next}
 use Rattle.place_core.specs.page.References.{Reference, Closed, Open}
 use Rattle.place_core.specs.place.UrlParts.{parts_of}
 use Rattle.place_core.specs.place.StatePlaces.{placed, quotes_at, value_spot}
 use Rattle.place_core.specs.page.States.{Template, LexState, Text, TagOpen, EndTagOpen, DeclarationOpen, Started, StartedDash, Inside, Dash, DashDash, Bang, Broken, InComment, BogusComment, InDoctype, TagName, WholeTagName, BeforeAttributeName, AttributeName, WholeAttributeName, AfterAttributeName, BeforeAttributeValue, AttributeValue, AfterAttributeValue, SelfClosingStartTag, Characters, Bytes, Nothing, PendingLess, PendingName, PendingBang, PendingBangDash, InContent, Unread, LessAtCut}
-use Rattle.place_core.specs.page.Tags.{Tag, ValueState, OfKind, OfUrl, Quoting, languages, ValueOf, Deciding, is_second_type}
+use Rattle.place_core.specs.page.Tags.{Tag, ValueState, OfKind, OfUrl, OfStyle, Quoting, languages, ValueOf, Deciding, is_second_type}
 use Rattle.place_core.specs.declared.body.Body.TheVariants as body
 use Rattle.place_core.specs.declared.code.Code.{Code}
 use Rattle.place_core.specs.declared.element.Element.TheVariants as element
@@ -70,6 +70,7 @@ at-place (BeforeAttributeValue t kind.Script) p e = absurd (none e)
 at-place (BeforeAttributeValue t kind.Style) p e = absurd (none e)
 at-place (AttributeValue q t (ValueOf (OfKind k)) Closed) p e = ap (option_map At) e
 at-place (AttributeValue q t (ValueOf (OfUrl u)) Closed) p e = url-place q t u.triple u.part p e
+at-place (AttributeValue q t (ValueOf (OfStyle s)) Closed) p e = absurd (none e)
 at-place (AttributeValue q t (Deciding k before) Closed) p e = absurd (none e)
 at-place (AttributeValue q t v (Open f bytes)) p e = absurd (none e)
 at-place (AfterAttributeValue t) p e = ap (option_map At) e
@@ -137,10 +138,10 @@ says [] k since s f e = end-says k since s f (ends-at s f e)
 says (b ∷ bs) k since s f e =
     let a = agrees-at s f b e in
     let t = next languages Template s (class_of b) b in
-    let after = last_percent k since (scan_reference f) (class_of b) b in
+    let after = last_lexeme_start k since (scan_reference f) (class_of b) b in
     byte-answer k since after b bs (scan_error f (class_of b) b) s (stepped (k + 1) after bs (scan_next f (class_of b) b))
-    (ap (λ (o : Option PathCause). standing_at k o (refusal_from (k + 1) (last_percent k since (url_reference s) (class_of b) b) bs t)) a.errors
-    ∙ ap (λ (x : Reference). standing_at k (scan_error f (class_of b) b) (refusal_from (k + 1) (last_percent k since x (class_of b) b) bs t)) (ends-at s f e).reference)
+    (ap (λ (o : Option PathCause). standing_at k o (refusal_from (k + 1) (last_lexeme_start k since (language_reference s) (class_of b) b) bs t)) a.errors
+    ∙ ap (λ (x : Reference). standing_at k (scan_error f (class_of b) b) (refusal_from (k + 1) (last_lexeme_start k since x (class_of b) b) bs t)) (ends-at s f e).reference)
     (λ n. says bs (k + 1) after t (scan_next f (class_of b) b) (a.steps n))
 
 -- the place that is shown before a byte, up to the one that is refused
@@ -176,7 +177,7 @@ shown-there (suc n) [] k since s f o e r = ap (λ (a : Option Place). or_place a
 shown-there (suc n) (b ∷ bs) k since s f o e r =
     let a = agrees-at s f b e in
     let g = scan_next f (class_of b) b in
-    let after = last_percent k since (scan_reference f) (class_of b) b in
+    let after = last_lexeme_start k since (scan_reference f) (class_of b) b in
     let l = not-late k n (scan_error f (class_of b) b) (stepped (k + 1) after bs g) r in
     shown-there n bs (k + 1) after (next languages Template s (class_of b) b) g (or_place (place_before_bytes s (b ∷ bs)) o) (a.steps l.0)
     (later k n (stepped (k + 1) after bs g) l.1)

@@ -9,11 +9,12 @@ use Rattle.place_core.specs.declared.body.Body.{Body}
 use Rattle.place_core.specs.declared.body.Body.TheVariants as body
 use Rattle.place_core.specs.declared.parts.Parts.{Parts}
 use Rattle.place_core.specs.declared.place.Place.{Place}
-use Rattle.place_core.specs.place.LastPercent.{last_percent}
+use Rattle.place_core.specs.place.LastLexeme.{last_lexeme_start}
 use Rattle.place_core.specs.declared.quotes.Quotes.{Quotes}
 use Rattle.place_core.specs.declared.quotes.Quotes.TheVariants as quotes
 use Rattle.place_core.specs.declared.value_place.ValuePlace.{ValuePlace}
-use Rattle.html_scan.specs.Scans.{Scan, InUrl, parts_cause, parts_feeding, parts_with, quoted_error, quoted_next, scan_error, scan_next, triple_behind, url_scan, value_cause, value_fed, with_parts, scan_reference}
+use Rattle.html_scan.specs.Scans.{Scan, InUrl, InStyle, body_cause, parts_feeding, parts_with, quoted_error, quoted_next, scan_error, scan_next, triple_behind, url_scan, value_cause, value_fed, with_parts, scan_reference}
+use Rattle.html_step.specs.Origins.{scan_parts}
 use Rattle.html_step.specs.Steps.{stepped}
 use Rattle.html_step.proofs.BelowScans.{below-url}
 use Rattle.html_step.proofs.OnePath.{none-at-hand, some, url-scan-error, url-scan-next, url-reference}
@@ -74,14 +75,14 @@ language-read false s f bytes c b k e n =
     ∙ ap (λ (o : Option PathCause). first_cause o (fed_error parts_feeding (Behind s f bytes c) (plain_bytes c b) false 0)) n)
 
 quoted-accepted : (q : Quotes) (s : Parts) (f : Form) (bytes : List ℕ) (c : Class) (b : ℕ) → HasBegun q → turn c f ≡ Breaks
-    → quoted_error q s (Open f bytes) c b ≡ None → Broken s f bytes c ≡ None
+    → quoted_error parts_feeding q s (Open f bytes) c b ≡ None → Broken s f bytes c ≡ None
 quoted-accepted quotes.Dq s f bytes c b g k n = broken-accepted (ends_value DoubleQuoted c) s f bytes c b k (ends-no-equals DoubleQuoted c) n
 quoted-accepted quotes.Sq s f bytes c b g k n = broken-accepted (ends_value SingleQuoted c) s f bytes c b k (ends-no-equals SingleQuoted c) n
 quoted-accepted (quotes.Bare x) s f bytes c b g k n =
     broken-accepted (ends_value Unquoted c) s f bytes c b k (ends-no-equals Unquoted c) (rw g.0 at n)
 
 pub quoted-read : (q : Quotes) (s : Parts) (f : Form) (bytes : List ℕ) (c : Class) (b : ℕ) → HasBegun q → turn c f ≡ Breaks → Broken s f bytes c ≡ None
-    → quoted_error q (Behind s f bytes c) Closed c b ≡ quoted_error q s (Open f bytes) c b
+    → quoted_error parts_feeding q (Behind s f bytes c) Closed c b ≡ quoted_error parts_feeding q s (Open f bytes) c b
 quoted-read quotes.Dq s f bytes c b g k n = language-read (ends_value DoubleQuoted c) s f bytes c b k (ends-no-equals DoubleQuoted c) n
 quoted-read quotes.Sq s f bytes c b g k n = language-read (ends_value SingleQuoted c) s f bytes c b k (ends-no-equals SingleQuoted c) n
 quoted-read (quotes.Bare x) s f bytes c b g k n = rw g.0 (language-read (ends_value Unquoted c) s f bytes c b k (ends-no-equals Unquoted c) n)
@@ -123,8 +124,8 @@ next-read v (quotes.Bare x) s t f bytes GreaterThan b g k e n = refl
 next-read v (quotes.Bare x) s t f bytes c b g k e n = body-read v v.body _ s t f bytes c b k e
 
 url-cause : (v : ValuePlace) (s : Parts) (r : Reference) (c : Class) (b : ℕ) → v.body ≡ body.Url s
-    → value_cause v r c b ≡ first_cause (quoted_error v.quotes s r c b) (at_hand (quotes_error v.tag v.quotes c))
-url-cause v s r c b e = ap (λ (x : Body). first_cause (parts_cause x v.quotes r c b) (at_hand (first_error (body_error x) (quotes_error v.tag v.quotes c)))) e
+    → value_cause v r c b ≡ first_cause (quoted_error parts_feeding v.quotes s r c b) (at_hand (quotes_error v.tag v.quotes c))
+url-cause v s r c b e = ap (λ (x : Body). first_cause (body_cause x v.quotes r c b) (at_hand (first_error (body_error x) (quotes_error v.tag v.quotes c)))) e
 
 cause-read : (v : ValuePlace) (s : Parts) (f : Form) (bytes : List ℕ) (c : Class) (b : ℕ) → v.body ≡ body.Url s → HasBegun v.quotes → turn c f ≡ Breaks
     → Broken s f bytes c ≡ None
@@ -152,7 +153,7 @@ read-on-by : (z : ReferenceStep) (v : ValuePlace) (s : Parts) (t : Triple) (f : 
     → HasBegun v.quotes → value_cause v (Open f bytes) c b ≡ None → ReadOn (InUrl v t (Open f bytes)) (read_turn z v t f bytes c) c b
 read-on-by Breaks v s t f bytes c b k e g n =
     let xs = flushed true (is_equals_sign c) f bytes in
-    let m = first-caused (quoted_error v.quotes s (Open f bytes) c b) (at_hand (quotes_error v.tag v.quotes c)) (sym (url-cause v s (Open f bytes) c b e) ∙ n) in
+    let m = first-caused (quoted_error parts_feeding v.quotes s (Open f bytes) c b) (at_hand (quotes_error v.tag v.quotes c)) (sym (url-cause v s (Open f bytes) c b e) ∙ n) in
     record {
       error = read-error-by Breaks v s t f bytes c b k e g (quoted-accepted v.quotes s f bytes c b g k m.0) ∙ n;
       next = url-scan-next (read_value v xs) (triple_behind t xs) Closed c b
@@ -173,8 +174,8 @@ read-ok b bs k since f q w e =
     let n = step-ok k since b bs f q e in
     let m = read-on f b bs w n.0 in
     let g = scan_read f (b ∷ bs) in
-    let last = last_percent k since (scan_reference f) (class_of b) b in
-    let over = last_percent k since (scan_reference g) (class_of b) b in
+    let last = last_lexeme_start k since (scan_reference f) (class_of b) b in
+    let over = last_lexeme_start k since (scan_reference g) (class_of b) b in
     refused-not k (scan_error g (class_of b) b) (stepped (k + 1) over bs (scan_next g (class_of b) b)) q m.error
     (ap (stepped (k + 1) over bs) m.next ∙ accepts-anywhere bs (k + 1) last (k + 1) over (scan_next f (class_of b) b) q n.1)
 
@@ -191,10 +192,12 @@ not-broken-by Breaks v t f bytes b k =
 not-broken-by (Grows g) v t f bytes b k = λ h. (let same : Grows g ≡ Breaks = sym k ∙ h in cc)
 not-broken-by Closes v t f bytes b k = λ h. (let same : Closes ≡ Breaks = sym k ∙ h in cc)
 
-pub not-broken : (f : Scan) (b : ℕ) (bs : List ℕ) → NotBroken (scan_reference (scan_read f (b ∷ bs))) b
-not-broken (InUrl v t (Open f bytes)) b bs = not-broken-by (turn (class_of b) f) v t f bytes b refl
-not-broken (InUrl v t Closed) b bs = tt
-not-broken f b bs = tt
+pub not-broken : (f : Scan) (b : ℕ) (bs : List ℕ) (s : Parts) → scan_parts (scan_read f (b ∷ bs)) ≡ Some s
+    → NotBroken (scan_reference (scan_read f (b ∷ bs))) b
+not-broken (InUrl v t (Open f bytes)) b bs s h = not-broken-by (turn (class_of b) f) v t f bytes b refl
+not-broken (InUrl v t Closed) b bs s h = tt
+not-broken (InStyle v x r) b bs s h = absurd (none_some s h)
+not-broken f b bs s h = tt
 
 -- it is valid, and keeps the order
 read-valid-by : (z : ReferenceStep) (v : ValuePlace) (t : Triple) (f : Form) (bytes : List ℕ) (c : Class) → HasBegun v.quotes → UrlWithin v.body
@@ -219,7 +222,7 @@ pub broken-of : (v : ValuePlace) (s : Parts) (f : Form) (bytes : List ℕ) (c : 
     → value_cause v (Open f bytes) c b ≡ None → Broken s f bytes c ≡ None
 broken-of v s f bytes c b e g k n =
     quoted-accepted v.quotes s f bytes c b g k
-    (first-caused (quoted_error v.quotes s (Open f bytes) c b) (at_hand (quotes_error v.tag v.quotes c)) (sym (url-cause v s (Open f bytes) c b e) ∙ n)).0
+    (first-caused (quoted_error parts_feeding v.quotes s (Open f bytes) c b) (at_hand (quotes_error v.tag v.quotes c)) (sym (url-cause v s (Open f bytes) c b e) ∙ n)).0
 
 pub takes : (f : Scan) (b : ℕ) → ScanValid f → scan_error f (class_of b) b ≡ None → Takes f b
 takes f b w n = record {
@@ -276,4 +279,5 @@ closed-below g f bs l h =
 pub read-below : (g f : Scan) (b : ℕ) (bs : List ℕ) → ScanValid f → Takes f b → ScanBelow g f → ScanBelow (scan_read g (b ∷ bs)) (scan_read f (b ∷ bs))
 read-below g (InUrl v t (Open f bytes)) b bs w a l = read-below-url v t f bytes bs b w a g l
 read-below g (InUrl v t Closed) b bs w a l = closed-below g (InUrl v t Closed) (b ∷ bs) l refl
+read-below g (InStyle v s r) b bs w a l = absurd w
 read-below g f b bs w a l = closed-below g f (b ∷ bs) l refl

@@ -4,7 +4,7 @@ use Rattle.std.proofs.Common.{◌≡◌, ℕ, true, false, not, List, [], ◌∷
 use Rattle.place_core.specs.page.Classes.{Class, class_of, is_equals_sign}
 use Rattle.place_core.specs.page.References.{Form, Reference, Closed, Open, ReferenceStep, Grows, Closes, Breaks, flushed, turn}
 use Rattle.place_core.specs.page.States.{LexState, AttributeValue}
-use Rattle.place_core.specs.page.Tags.{Deciding, OfKind, OfUrl, Tag, Value, ValueOf, ValueState, cut_value, languages, with_bytes, Quoting, DoubleQuoted, SingleQuoted, Unquoted}
+use Rattle.place_core.specs.page.Tags.{Deciding, OfKind, OfUrl, OfStyle, Tag, Value, ValueOf, ValueState, cut_value, languages, with_bytes, Quoting, DoubleQuoted, SingleQuoted, Unquoted}
 use Rattle.place_core.specs.place.ApartPlaces.{beginning_at, beginning_in_body}
 use Rattle.place_core.specs.place.Errors.{place_before_bytes, value_before}
 use Rattle.place_core.specs.place.PathPairs.{is_broken_by, is_in_beginning, is_in_reference, read_before, state_before, unknown_beginning, unknown_part}
@@ -49,6 +49,7 @@ pub data UrlState (s : LexState ValueState) : Type 0 where
 pub url-of : (s : LexState ValueState) → is_url_value s ≡ true → UrlState s
 url-of (AttributeValue q t (ValueOf (OfUrl u)) r) h = url_state q t u r refl
 url-of (AttributeValue q t (ValueOf (OfKind k)) r) h = absurd (no h)
+url-of (AttributeValue q t (ValueOf (OfStyle x)) r) h = absurd (no h)
 url-of (AttributeValue q t (Deciding k before) r) h = absurd (no h)
 url-of _ h = absurd (no h)
 
@@ -251,6 +252,7 @@ unknown (AttributeValue q t (ValueOf (OfUrl u)) r) g f p o e h a l =
     let same : url_scanned q t u r ≡ g = one_value (url_scanned q t u r) g e in
     unknown-url q t u r f p o h a (subst (λ (x : Scan). ScanBelow x f) (sym same) l)
 unknown (AttributeValue q t (ValueOf (OfKind k)) r) g f p o e h a l = absurd (no o)
+unknown (AttributeValue q t (ValueOf (OfStyle x)) r) g f p o e h a l = absurd (no o)
 unknown (AttributeValue q t (Deciding k before) r) g f p o e h a l = absurd (no o)
 unknown _ g f p o e h a l = absurd (no o)
 
@@ -269,5 +271,6 @@ open-parts (AttributeValue q t (ValueOf (OfUrl u)) r) g o e =
     let p = open-part u.part o in
     (p.0, ap scan_parts (sym same) ∙ url-parts (url_value t (quotes_at q) (parts_of u.part)) u.triple r ∙ ap (λ (x : UrlPart). Some (parts_of x)) p.1)
 open-parts (AttributeValue q t (ValueOf (OfKind k)) r) g o e = absurd (no o)
+open-parts (AttributeValue q t (ValueOf (OfStyle x)) r) g o e = absurd (no o)
 open-parts (AttributeValue q t (Deciding k before) r) g o e = absurd (no o)
 open-parts _ g o e = absurd (no o)

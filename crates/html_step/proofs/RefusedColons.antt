@@ -7,7 +7,7 @@ use Rattle.place_core.specs.page.States.{AttributeValue, BeforeAttributeValue, L
 use Rattle.place_core.specs.page.Tags.{OfUrl, ValueOf, ValueState, feed_bytes, languages}
 use Rattle.place_core.specs.place.ApartPlaces.{opened_apart, beginning_at, spell_apart}
 use Rattle.place_core.specs.place.Errors.{PathCause, PathRefusal, broken_off, byte_error, cut_error, lexeme_error, place_before_bytes, refusal_from, standing_at}
-use Rattle.place_core.specs.place.LastPercent.{last_percent, url_reference}
+use Rattle.place_core.specs.place.LastLexeme.{last_lexeme_start, language_reference}
 use Rattle.place_core.specs.place.PathPairs.{ApartBefore, Clashes, ClashesApart, MeetsColon, is_in_beginning, is_in_reference, state_before, unknown_beginning}
 use Rattle.place_core.specs.place.LanguagePlaces.{parts_have}
 use Rattle.place_core.specs.place.Places.{Has}
@@ -27,7 +27,7 @@ use Rattle.place_core.specs.declared.quotes.Quotes.{Quotes}
 use Rattle.place_core.specs.declared.quotes.Quotes.TheVariants as quotes
 use Rattle.place_core.specs.declared.value_place.ValuePlace.{ValuePlace}
 use Rattle.place_core.proofs.Semilattices.{none_some, one_value}
-use Rattle.html_scan.specs.Scans.{Scan, At, InUrl, scan_reference, parts_feeding, parts_with, scan_error, scan_next, triple_behind}
+use Rattle.html_scan.specs.Scans.{Scan, At, InUrl, InStyle, scan_reference, parts_feeding, parts_with, scan_error, scan_next, triple_behind}
 use Rattle.html_step.specs.Origins.{body_parts, fed_in, is_apart, scan_parts}
 use Rattle.html_step.specs.Steps.{stepped, unless_refused}
 use Rattle.html_step.proofs.ApartParts.{AriseIn, apart-inside, arise-in, bytes-stay, opens-apart, waits}
@@ -80,12 +80,12 @@ pub record ShownApart (k : ℕ) (bytes : List ℕ) (f : Scan) (r : PathRefusal) 
   pub refuses : (since : ℕ) (g : Scan) → ScanValid g → ScanBelow g f → is_apart (scan_parts g) ≡ true → stepped k since bytes g ≡ Err r
 
 -- a scan state of a URL comes from one, where paths have spelled different things in it
-pub before-apart : (f : Scan) (c : Class) (b : ℕ) (o : Option Parts) → scan_parts f ≡ o → scan_error f c b ≡ None
+pub before-apart : (f : Scan) (c : Class) (b : ℕ) (o : Option Parts) → ScanValid f → scan_parts f ≡ o → scan_error f c b ≡ None
     → is_apart (scan_parts (scan_next f c b)) ≡ true → (s : Parts) × (scan_parts f ≡ Some s)
-before-apart f c b (Some s) h n a = (s, h)
-before-apart f c b None h n a =
+before-apart f c b (Some s) v h n a = (s, h)
+before-apart f c b None v h n a =
     let d = apart-in (scan_parts (scan_next f c b)) a in
-    absurd (no (sym (scan-fresh f c b h n).0 ∙ ap spells_apart (raw-opened (scan_next f c b) d.parts d.is) ∙ d.apart))
+    absurd (no (sym (scan-fresh f c b v h n).0 ∙ ap spells_apart (raw-opened (scan_next f c b) d.parts d.is) ∙ d.apart))
 
 -- the path of which it is not known what it spells stays such a one
 next-apart : (g f : Scan) (c : Class) (b : ℕ) → ScanValid g → ScanValid f → scan_error f c b ≡ None → ScanBelow g f → ScanBelow (scan_next g c b) (scan_next f c b)
@@ -93,7 +93,7 @@ next-apart : (g f : Scan) (c : Class) (b : ℕ) → ScanValid g → ScanValid f 
 next-apart g f c b v w n l m a d =
     let x = apart-in (scan_parts g) a in
     let y = apart-in (scan_parts (scan_next f c b)) d in
-    let s = before-apart f c b (scan_parts f) refl n d in
+    let s = before-apart f c b (scan_parts f) w refl n d in
     let p = goes-parts f s.0 y.parts c b w s.1 y.is in
     let z = below-parts (scan_next g c b) (scan_next f c b) y.parts m y.is in
     let q = goes-parts g x.parts z.0 c b v x.is z.1 in
@@ -119,8 +119,8 @@ kept-apart k b bs f r w n d a =
       within = omega (arith, long, there);
       refuses = λ since g v l o.
           let m = scan-grows g f c b v l n in
-          refused-later k (scan_error g c b) (stepped (k + 1) (last_percent k since (scan_reference g) (class_of b) b) bs (scan_next g c b)) r m.0
-          (d.refuses (last_percent k since (scan_reference g) (class_of b) b) (scan_next g c b) (scan-valid g c b v) m.1 (next-apart g f c b v w n l m.1 o d.there));
+          refused-later k (scan_error g c b) (stepped (k + 1) (last_lexeme_start k since (scan_reference g) (class_of b) b) bs (scan_next g c b)) r m.0
+          (d.refuses (last_lexeme_start k since (scan_reference g) (class_of b) b) (scan_next g c b) (scan-valid g c b v m.0) m.1 (next-apart g f c b v w n l m.1 o d.there));
     }
 
 -- A refusal of bytes that stand at one place, where they stand at another.
@@ -155,8 +155,8 @@ refusal-shift [] k j i since other s r h a =
     (λ m. broken-shift k j i since other (lexeme_error s) r m a)
 refusal-shift (b ∷ bs) k j i since other s r h a =
     let after = next languages Template s (class_of b) b in
-    let last = last_percent (k + j) since (url_reference s) (class_of b) b in
-    let here = last_percent j other (url_reference s) (class_of b) b in
+    let last = last_lexeme_start (k + j) since (language_reference s) (class_of b) b in
+    let here = last_lexeme_start j other (language_reference s) (class_of b) b in
     standing-shift k j i (byte_error s (class_of b) b) (refusal_from (k + j + 1) last bs after) (refusal_from (j + 1) here bs after) r h a
     (λ m. refusal-shift bs k (j + 1) i last here after r
     (subst (λ (n : ℕ). refusal_from n last bs after ≡ Some r) (let e : k + j + 1 ≡ k + (j + 1) = omega arith in e) m) a)
@@ -347,13 +347,15 @@ turn-is Breaks v t f bytes c e = (let xs = flushed true (is_equals_sign c) f byt
 turn-is (Grows g) v t f bytes c e = cc
 turn-is Closes v t f bytes c e = cc
 
-pub read-is : (g : Scan) (b : ℕ) (bs : List ℕ) (f : Form) (bytes : List ℕ) → scan_reference g ≡ Open f bytes → turn (class_of b) f ≡ Breaks
+pub read-is : (g : Scan) (b : ℕ) (bs : List ℕ) (f : Form) (bytes : List ℕ) (s : Parts) → scan_parts g ≡ Some s
+    → scan_reference g ≡ Open f bytes → turn (class_of b) f ≡ Breaks
     → scan_reference (scan_read g (b ∷ bs)) ≡ Closed
-read-is (InUrl v t (Open x l)) b bs f bytes h k =
+read-is (InUrl v t (Open x l)) b bs f bytes s i h k =
     turn-is (turn (class_of b) x) v t x l (class_of b) (ap (turn (class_of b)) (one-form x f l bytes h) ∙ k)
-read-is (InUrl v t Closed) b bs f bytes h k = absurd (closed-open f bytes h)
-read-is (At p) b bs f bytes h k = absurd (closed-open f bytes h)
-read-is _ b bs f bytes h k = absurd (closed-open f bytes h)
+read-is (InUrl v t Closed) b bs f bytes s i h k = absurd (closed-open f bytes h)
+read-is (InStyle v x r) b bs f bytes s i h k = absurd (none_some s i)
+read-is (At p) b bs f bytes s i h k = absurd (closed-open f bytes h)
+read-is _ b bs f bytes s i h k = absurd (closed-open f bytes h)
 
 pub broken-bytes : (r : Reference) (b : ℕ) (f : Form) (bytes : List ℕ) → r ≡ Open f bytes → turn (class_of b) f ≡ Breaks
     → read_bytes r b ≡ flushed true (is_equals_sign (class_of b)) f bytes
@@ -366,7 +368,7 @@ unfolding point parted
 two-read k b bs f r x bytes s w i j plain e taken n d =
     let zs = flushed true (is_equals_sign (class_of b)) x bytes in
     let xs : read_bytes (scan_reference f) b ≡ zs = broken-bytes (scan_reference f) b x bytes j e in
-    let p = point-at k (b ∷ bs) (scan_read f (b ∷ bs)) r d (read-is f b bs x bytes j e) in
+    let p = point-at k (b ∷ bs) (scan_read f (b ∷ bs)) r d (read-is f b bs x bytes s i j e) in
     let z : spells_apart (feed_bytes parts_feeding s zs).opened ≡ true =
     sym (ap is_apart (read-parts f b bs s i ∙ ap (λ (y : List ℕ). Some (feed_bytes parts_feeding s y)) xs)) ∙ d.there in
     let a = arise-in zs s (flushed-character (is_equals_sign (class_of b)) x bytes plain) n z in
@@ -384,12 +386,12 @@ two-read k b bs f r x bytes s w i j plain e taken n d =
           let own = point v g (b ∷ bs) (scan_read f (b ∷ bs)) m.first (starts-in v g x bytes starts y.at hold) y.at
           (read-parts g b bs (parts_of UrlStart) (start-parts v g starts y.at)
           ∙ ap (λ (l : List ℕ). Some (feed_bytes parts_feeding (parts_of UrlStart) l)) (broken-bytes (scan_reference g) b x bytes hold e) ∙ ap Some m.begins)
-          (read-is g b bs x bytes hold e) y.valid (read-below g f b bs w taken y.below) in
+          (read-is g b bs x bytes (parts_of UrlStart) (start-parts v g starts y.at) hold e) y.valid (read-below g f b bs w taken y.below) in
           let held = below-reference h f u.below ∙ j in
           let other = point t h (b ∷ bs) (scan_read f (b ∷ bs)) m.other (url-of t (begins-value t opens)) u.at
           (read-parts h b bs (parts_of (UrlOpen q.0)) q.1
           ∙ ap (λ (l : List ℕ). Some (feed_bytes parts_feeding (parts_of (UrlOpen q.0)) l)) (broken-bytes (scan_reference h) b x bytes held e) ∙ ap Some m.goes)
-          (read-is h b bs x bytes held e) u.valid (read-below h f b bs w taken u.below) in
+          (read-is h b bs x bytes (parts_of (UrlOpen q.0)) q.1 held e) u.valid (read-below h f b bs w taken u.below) in
           inr (subst IsOpen (sym j) tt, apart-now (b ∷ bs) k p.0 (scan_read f (b ∷ bs)) r v t d p.1 own other m.apart);
     }
 
@@ -474,7 +476,7 @@ behind-point v g f b bs x p vg vf l e n held apart i j =
     let u = url-of (next languages Template v c b) (begins-value (next languages Template v c b)
     (is-open (next languages Template v c b) (scan_next g c b) at (parts-have (scan_next g c b) (parts_of (UrlOpen p)) member.PartOpen parts refl))) in (
       point (next languages Template v c b) (scan_next g c b) bs (scan_next f c b) p u at (ap scan_parts same ∙ parts) (ap scan_reference same ∙ closed)
-          (scan-valid g c b vg) (subst (λ (y : Scan). ScanBelow y (scan_next f c b)) (sym same) m.1),
+          (scan-valid g c b vg m.0) (subst (λ (y : Scan). ScanBelow y (scan_next f c b)) (sym same) m.1),
       refl,
     )
 
@@ -489,9 +491,9 @@ two-next k b bs f r s y w i n j notyet d =
     let zs = scan_fed over c b in
     let p = goes-parts over y x.parts c b (read-valid f (b ∷ bs) w) j (ap scan_parts ro.next ∙ x.is) in
     let came : spells_apart (feed_bytes parts_feeding y zs).opened ≡ true = sym (ap is_apart (sym (ap scan_parts ro.next) ∙ p)) ∙ d.there in
-    let a = arise-in zs y (scan-character over b (not-broken f b bs)) notyet came in
+    let a = arise-in zs y (scan-character over b (not-broken f b bs y j)) notyet came in
     let held : scan_reference (scan_next f c b) ≡ Closed =
-    ap scan_reference (sym ro.next) ∙ next-closed over y b (read-valid f (b ∷ bs) w) j (not-broken f b bs) (ap is_nothing a.is) in
+    ap scan_reference (sym ro.next) ∙ next-closed over y b (read-valid f (b ∷ bs) w) j (not-broken f b bs y j) (ap is_nothing a.is) in
     let at = point-at (k + 1) bs (scan_next f c b) r d held in
     let xs = read_bytes (scan_reference f) b in
     let fed : feed_bytes parts_feeding s xs ≡ y = one_value (feed_bytes parts_feeding s xs) y (sym (read-parts f b bs s i) ∙ j) in
@@ -568,6 +570,6 @@ two-cases k b bs f r s (Some y) true w plain i m n j a d =
 pub earlier-two : (k b : ℕ) (bs : List ℕ) (f : Scan) (r : PathRefusal) → ScanValid f → ScanPlain f → scan_error f (class_of b) b ≡ None
     → ShownApart (k + 1) bs (scan_next f (class_of b) b) r → is_apart (scan_parts f) ≡ false → ShownTwo k (b ∷ bs) f r member.PartStart member.PartOpen
 earlier-two k b bs f r w plain n d a =
-    let s = before-apart f (class_of b) b (scan_parts f) refl n d.there in
+    let s = before-apart f (class_of b) b (scan_parts f) w refl n d.there in
     two-cases k b bs f r s.0 (scan_parts (scan_read f (b ∷ bs))) (is_apart (scan_parts (scan_read f (b ∷ bs)))) w plain s.1
     (sym (ap is_apart s.1) ∙ a) n refl refl d

@@ -28,7 +28,7 @@ use Rattle.place_core.specs.declared.value_place.ValuePlace.{ValuePlace}
 use Rattle.place_core.proofs.JoinParts.{kinds_partial}
 use Rattle.place_core.proofs.Joins.{places_same}
 use Rattle.place_core.proofs.Semilattices.{none_some, one_value}
-use Rattle.html_scan.specs.Scans.{Scan, At, AfterLess, AfterLessSolidus, InDeclaration, InTagName, InAttributeName, InUrl, InCommentEnd, InContentEnd, after_white, bare_begun, attribute_name_next, bare_next, bare_white, comment_next, comment_state, content_scan, scan_next, scan_error, scan_place, scan_cut_error, scan_lexeme_error, in_tag, quoted_next, tag_next, typed_with, value_scan, with_quotes, BeforeType, InType, rest_place, content_next, parts_feeding, triple_behind, url_scan, with_parts, value_fed, value_next, quoted_error, parts_cause, value_cause, place_cause, parts_with, with_body, open_cut_error}
+use Rattle.html_scan.specs.Scans.{Scan, At, AfterLess, AfterLessSolidus, InDeclaration, InTagName, InAttributeName, InUrl, InStyle, InCommentEnd, InContentEnd, after_white, bare_begun, attribute_name_next, bare_next, bare_white, comment_next, comment_state, content_scan, scan_next, scan_error, scan_place, scan_cut_error, scan_lexeme_error, in_tag, quoted_next, tag_next, typed_with, value_scan, with_quotes, BeforeType, InType, rest_place, content_next, parts_feeding, triple_behind, url_scan, with_parts, value_fed, value_next, quoted_error, body_cause, value_cause, place_cause, parts_with, with_body, open_cut_error}
 use Rattle.html_step.proofs.OnePath.{none-at-hand, none-unless, some}
 use Rattle.html_step.proofs.PlaceParts.{Under, under-false, under-same, under-both, TagBelow, ValueBelow, below-tag, tag-below, below-value, value-below, below-rcdata, same-kinds}
 use Rattle.html_step.proofs.UrlOrder.{BegunIf, GoesBelow, bare-accepts, bare-goes, fed-grow, first-caused, language-accepts, language-goes}
@@ -43,7 +43,7 @@ use Rattle.url_lexer.specs.Triples.{Triple, NoTriple, AfterPercent, AfterDigit}
 use Rattle.url_step.specs.PartSets.{PartsBelow}
 
 -- Between lexemes by the order of places. In a name of an attribute it only matters whether a `type` may have been seen.
--- In a URL it is the order of values, in the same percent triple and the same reference.
+-- In a URL it is the order of values, in the same percent triple and the same reference. No text gets into a style, so there it does not matter.
 abbrev pub ScanBelow : Scan → Scan → Type 0
 ScanBelow (At a) (At b) = Below a b
 ScanBelow (At a) g = ⊥
@@ -51,6 +51,7 @@ ScanBelow (InAttributeName t x n) (InAttributeName u y m) = (t ≡ u) × Under x
 ScanBelow (InAttributeName t x n) g = ⊥
 ScanBelow (InUrl v t r) (InUrl w u z) = ValueBelow v w × (t ≡ u) × (r ≡ z)
 ScanBelow (InUrl v t r) g = ⊥
+ScanBelow (InStyle v s r) g = InStyle v s r ≡ g
 ScanBelow AfterLess g = AfterLess ≡ g
 ScanBelow AfterLessSolidus g = AfterLessSolidus ≡ g
 ScanBelow (InDeclaration pending) g = InDeclaration pending ≡ g
@@ -74,9 +75,11 @@ pub url-within : (b : Body) → UrlWithin b → (s : Parts) × (b ≡ body.Url s
 url-within (body.Url s) v = (s, refl)
 url-within _ v = absurd v
 
+-- No text gets into a style, of which the first byte is refused.
 abbrev pub ScanValid : Scan → Type 0
 ScanValid (At p) = IsValid p
 ScanValid (InUrl v t r) = HasBegun v.quotes × UrlWithin v.body
+ScanValid (InStyle v s r) = ⊥
 ScanValid (InContentEnd e h) = IsValid (rest_place e)
 ScanValid f = Unit {0}
 
@@ -90,6 +93,7 @@ pub scan-same : (f : Scan) → ScanBelow f f
 scan-same (At p) = places_same p
 scan-same (InAttributeName t x n) = (refl, under-same x, refl)
 scan-same (InUrl v t r) = (below-value v v (places_same (place.Value v)), refl, refl)
+scan-same (InStyle v s r) = refl
 scan-same AfterLess = refl
 scan-same AfterLessSolidus = refl
 scan-same (InDeclaration pending) = refl
@@ -201,6 +205,19 @@ body-accepts (body.Js j) c h n = absurd (none_some c h)
 body-accepts (body.Css j) c h n = absurd (none_some c h)
 body-accepts _ c h n = refl
 
+-- a value that is no style
+abbrev pub Unstyled : Body → Type 0
+Unstyled (body.Css c) = ⊥
+Unstyled b = Unit {0}
+
+pub built-unstyled : (b : Body) → body_error b ≡ None → Unstyled b
+built-unstyled (body.Css c) n = some _ n
+built-unstyled _ n = tt
+
+pub within-unstyled : (b : Body) → UrlWithin b → Unstyled b
+within-unstyled (body.Url s) w = tt
+within-unstyled _ w = absurd w
+
 pub one-url : (s t : Parts) → body.Url s ≡ body.Url t → s ≡ t
 one-url s t e = cc
 
@@ -248,20 +265,22 @@ abbrev pub FedBelow : Body → Body → List ℕ → Type 0
 FedBelow b c bytes = joined_bodies (parts_with b bytes) (parts_with c bytes) ≡ Some (parts_with c bytes)
 
 fed-next : (x y : ValuePlace) (q : Quotes) (b d : Body) (t : Triple) (r : Reference) (c : Class) (byte : ℕ) → ValueBelow x y → joined_quotes q q ≡ Some q
-    → joined_bodies b d ≡ Some d
+    → joined_bodies b d ≡ Some d → body_error d ≡ None
     → FedBelow b d (undone_byte true r c byte) → ScanBelow (value_fed x q b t r c byte) (value_fed y q d t r c byte)
-fed-next x y q (body.Url s) (body.Url u) t r c byte h e k f =
+fed-next x y q (body.Url s) (body.Url u) t r c byte h e k n f =
     let bytes = undone_byte true r c byte in
     url-below (with_parts x q (feed_bytes parts_feeding s bytes)) (with_parts y q (feed_bytes parts_feeding u bytes))
     (triple_behind t bytes) (next_reference r c byte)
     (record { tag = h.tag; typed = h.typed; quotes = e; body = f })
-fed-next x y q (body.Url s) d t r c byte h e k f = absurd (none_some d k)
-fed-next x y q b (body.Url u) t r c byte h e k f = absurd (none_some (body.Url u) k)
-fed-next x y q _ d t r c byte h e k f = value-goes x y q h e
+fed-next x y q (body.Url s) d t r c byte h e k n f = absurd (none_some d k)
+fed-next x y q b (body.Url u) t r c byte h e k n f = absurd (none_some (body.Url u) k)
+fed-next x y q b (body.Css p) t r c byte h e k n f = absurd (some _ n)
+fed-next x y q (body.Css p) d t r c byte h e k n f = absurd (none_some d k)
+fed-next x y q _ d t r c byte h e k n f = value-goes x y q h e
 
 -- what its language refuses, and where it leads
-fed-of : (q : Quotes) (r : Reference) (c : Class) (byte : ℕ) → ((s t : Parts) → PartsBelow s t → quoted_error q t r c byte ≡ None → GoesBelow s t r c byte)
-    → (b d : Body) → joined_bodies b d ≡ Some d → parts_cause d q r c byte ≡ None → FedBelow b d (undone_byte true r c byte)
+fed-of : (q : Quotes) (r : Reference) (c : Class) (byte : ℕ) → ((s t : Parts) → PartsBelow s t → quoted_error parts_feeding q t r c byte ≡ None → GoesBelow s t r c byte)
+    → (b d : Body) → joined_bodies b d ≡ Some d → body_cause d q r c byte ≡ None → FedBelow b d (undone_byte true r c byte)
 fed-of q r c byte f (body.Url s) (body.Url t) h n =
     ap (λ (z : Parts). Some (body.Url z)) (f s t (parts-below s t h) n)
 fed-of q r c byte f (body.Url s) d h n = absurd (none_some d h)
@@ -286,8 +305,8 @@ begun-valid quotes.Sq v = tt
 begun-valid (quotes.Bare s) v = ap (λ (x : Bool). x || s.unbegun) v.0
 
 pub quoted-accepts : (q p : Quotes) (r : Reference) (c : Class) (b : ℕ) (s t : Parts) → joined_quotes q p ≡ Some p → BegunWhereOpen r q → PartsBelow s t
-    → quoted_error p t r c b ≡ None
-    → quoted_error q s r c b ≡ None
+    → quoted_error parts_feeding p t r c b ≡ None
+    → quoted_error parts_feeding q s r c b ≡ None
 quoted-accepts quotes.Dq quotes.Dq r c b s t j v h n = language-accepts (ends_value DoubleQuoted c) r c b s t h n
 quoted-accepts quotes.Sq quotes.Sq r c b s t j v h n = language-accepts (ends_value SingleQuoted c) r c b s t h n
 quoted-accepts (quotes.Bare x) (quotes.Bare y) r c b s t j v h n = bare-accepts x.uq y.uq r c b s t (bare-parts x y j).0 (begun-if r x v) h n
@@ -299,56 +318,59 @@ quoted-accepts (quotes.Bare x) quotes.Dq r c b s t j v h n = absurd (none_some q
 quoted-accepts (quotes.Bare x) quotes.Sq r c b s t j v h n = absurd (none_some quotes.Sq j)
 
 pub cause-accepts : (b d : Body) (q p : Quotes) (r : Reference) (c : Class) (byte : ℕ) → joined_bodies b d ≡ Some d → joined_quotes q p ≡ Some p
-    → BegunWhereOpen r q
-    → parts_cause d p r c byte ≡ None → parts_cause b q r c byte ≡ None
-cause-accepts (body.Url s) (body.Url t) q p r c byte h j v n = quoted-accepts q p r c byte s t j v (parts-below s t h) n
-cause-accepts (body.Url s) d q p r c byte h j v n = absurd (none_some d h)
-cause-accepts b (body.Url t) q p r c byte h j v n = absurd (none_some (body.Url t) h)
-cause-accepts _ d q p r c byte h j v n = refl
+    → BegunWhereOpen r q → Unstyled d
+    → body_cause d p r c byte ≡ None → body_cause b q r c byte ≡ None
+cause-accepts (body.Url s) (body.Url t) q p r c byte h j v z n = quoted-accepts q p r c byte s t j v (parts-below s t h) n
+cause-accepts (body.Url s) d q p r c byte h j v z n = absurd (none_some d h)
+cause-accepts b (body.Url t) q p r c byte h j v z n = absurd (none_some (body.Url t) h)
+cause-accepts b (body.Css t) q p r c byte h j v z n = absurd z
+cause-accepts (body.Css s) d q p r c byte h j v z n = absurd (none_some d h)
+cause-accepts _ d q p r c byte h j v z n = refl
 
 -- a byte of a value, by its quotes
 bare-grows : (x y : ValuePlace) (s p : Bare) (t : Triple) (r : Reference) (c : Class) (b : ℕ) → some_bare s ≡ true → BegunWhereOpen r (quotes.Bare s)
     → ValueBelow x y
-    → Under s.uq p.uq → Under s.unbegun p.unbegun → parts_cause y.body (quotes.Bare p) r c b ≡ None → bare_error y.tag p c ≡ None
+    → Under s.uq p.uq → Under s.unbegun p.unbegun → body_cause y.body (quotes.Bare p) r c b ≡ None → body_error y.body ≡ None
+    → bare_error y.tag p c ≡ None
     → (bare_error x.tag s c ≡ None) × ScanBelow (bare_next x s.uq t r c b) (bare_next y p.uq t r c b)
-bare-grows x y s p t r White b v i h u w m n =
+bare-grows x y s p t r White b v i h u w m z n =
     let e = bare-white s.uq s.unbegun p.uq p.unbegun v u w (if-none (p.uq && p.unbegun) code.AmbigContext n) in
     (rw (e.0, e.1) n, rw e.0 (white-next x y p.uq h))
-bare-grows x y s p t r QuotationMark b v i h u w m n =
+bare-grows x y s p t r QuotationMark b v i h u w m z n =
     let e : p.uq ≡ false = if-none p.uq code.BadHTML n in
     let d : s.uq ≡ false = under-false s.uq (subst (Under s.uq) e u) in
     (rw d refl, value-goes x y quotes.Dq h refl)
-bare-grows x y s p t r Apostrophe b v i h u w m n =
+bare-grows x y s p t r Apostrophe b v i h u w m z n =
     let e : p.uq ≡ false = if-none p.uq code.BadHTML n in
     let d : s.uq ≡ false = under-false s.uq (subst (Under s.uq) e u) in
     (rw d refl, value-goes x y quotes.Sq h refl)
-bare-grows x y s p t r GreaterThan b v i h u w m n = (ap content_error h.tag ∙ n, ends-same x.tag y.tag h.tag)
-bare-grows x y s p t r LessThan b v i h u w m n = absurd (some _ n)
-bare-grows x y s p t r EqualsSign b v i h u w m n = absurd (some _ n)
-bare-grows x y s p t r GraveAccent b v i h u w m n = absurd (some _ n)
-bare-grows x y s p t r c b v i h u w m n = (
+bare-grows x y s p t r GreaterThan b v i h u w m z n = (ap content_error h.tag ∙ n, ends-same x.tag y.tag h.tag)
+bare-grows x y s p t r LessThan b v i h u w m z n = absurd (some _ n)
+bare-grows x y s p t r EqualsSign b v i h u w m z n = absurd (some _ n)
+bare-grows x y s p t r GraveAccent b v i h u w m z n = absurd (some _ n)
+bare-grows x y s p t r c b v i h u w m z n = (
   refl,
-  fed-next x y bare_begun x.body y.body t r c b h refl h.body
+  fed-next x y bare_begun x.body y.body t r c b h refl h.body z
       (fed-of (quotes.Bare p) r c b (λ a d k e. bare-goes s.uq p.uq r c b a d tt u (begun-if r s i) k e) x.body y.body h.body m),
 )
 
 quotes-grow : (x y : ValuePlace) (q p : Quotes) (t : Triple) (r : Reference) (c : Class) (b : ℕ) → IsValidQuotes q → BegunWhereOpen r q → ValueBelow x y
     → joined_quotes q p ≡ Some p
-    → parts_cause y.body p r c b ≡ None → quotes_error y.tag p c ≡ None
+    → body_cause y.body p r c b ≡ None → body_error y.body ≡ None → quotes_error y.tag p c ≡ None
     → (quotes_error x.tag q c ≡ None) × ScanBelow (quoted_next x q t r c b) (quoted_next y p t r c b)
-quotes-grow x y quotes.Dq quotes.Dq t r QuotationMark b v i h j m n = (refl, tag-after x y h)
-quotes-grow x y quotes.Dq quotes.Dq t r c b v i h j m n =
-    (refl, fed-next x y quotes.Dq x.body y.body t r c b h refl h.body (fed-of quotes.Dq r c b (λ a d k e. language-goes r c b a d k e) x.body y.body h.body m))
-quotes-grow x y quotes.Sq quotes.Sq t r Apostrophe b v i h j m n = (refl, tag-after x y h)
-quotes-grow x y quotes.Sq quotes.Sq t r c b v i h j m n =
-    (refl, fed-next x y quotes.Sq x.body y.body t r c b h refl h.body (fed-of quotes.Sq r c b (λ a d k e. language-goes r c b a d k e) x.body y.body h.body m))
-quotes-grow x y (quotes.Bare s) (quotes.Bare p) t r c b v i h j m n = let u = bare-parts s p j in bare-grows x y s p t r c b v i h u.0 u.1 m n
-quotes-grow x y quotes.Dq quotes.Sq t r c b v i h j m n = absurd (none_some quotes.Sq j)
-quotes-grow x y quotes.Dq (quotes.Bare p) t r c b v i h j m n = absurd (none_some (quotes.Bare p) j)
-quotes-grow x y quotes.Sq quotes.Dq t r c b v i h j m n = absurd (none_some quotes.Dq j)
-quotes-grow x y quotes.Sq (quotes.Bare p) t r c b v i h j m n = absurd (none_some (quotes.Bare p) j)
-quotes-grow x y (quotes.Bare s) quotes.Dq t r c b v i h j m n = absurd (none_some quotes.Dq j)
-quotes-grow x y (quotes.Bare s) quotes.Sq t r c b v i h j m n = absurd (none_some quotes.Sq j)
+quotes-grow x y quotes.Dq quotes.Dq t r QuotationMark b v i h j m z n = (refl, tag-after x y h)
+quotes-grow x y quotes.Dq quotes.Dq t r c b v i h j m z n =
+    (refl, fed-next x y quotes.Dq x.body y.body t r c b h refl h.body z (fed-of quotes.Dq r c b (λ a d k e. language-goes r c b a d k e) x.body y.body h.body m))
+quotes-grow x y quotes.Sq quotes.Sq t r Apostrophe b v i h j m z n = (refl, tag-after x y h)
+quotes-grow x y quotes.Sq quotes.Sq t r c b v i h j m z n =
+    (refl, fed-next x y quotes.Sq x.body y.body t r c b h refl h.body z (fed-of quotes.Sq r c b (λ a d k e. language-goes r c b a d k e) x.body y.body h.body m))
+quotes-grow x y (quotes.Bare s) (quotes.Bare p) t r c b v i h j m z n = let u = bare-parts s p j in bare-grows x y s p t r c b v i h u.0 u.1 m z n
+quotes-grow x y quotes.Dq quotes.Sq t r c b v i h j m z n = absurd (none_some quotes.Sq j)
+quotes-grow x y quotes.Dq (quotes.Bare p) t r c b v i h j m z n = absurd (none_some (quotes.Bare p) j)
+quotes-grow x y quotes.Sq quotes.Dq t r c b v i h j m z n = absurd (none_some quotes.Dq j)
+quotes-grow x y quotes.Sq (quotes.Bare p) t r c b v i h j m z n = absurd (none_some (quotes.Bare p) j)
+quotes-grow x y (quotes.Bare s) quotes.Dq t r c b v i h j m z n = absurd (none_some quotes.Dq j)
+quotes-grow x y (quotes.Bare s) quotes.Sq t r c b v i h j m z n = absurd (none_some quotes.Sq j)
 
 pub first-none : (o p : Option Code) → first_error o p ≡ None → (o ≡ None) × (p ≡ None)
 first-none None p n = (refl, n)
@@ -358,10 +380,10 @@ value-grows : (x y : ValuePlace) (t : Triple) (r : Reference) (c : Class) (b : �
     → value_cause y r c b ≡ None
     → (value_cause x r c b ≡ None) × ScanBelow (value_next x t r c b) (value_next y t r c b)
 value-grows x y t r c b v i h n =
-    let m = first-caused (parts_cause y.body y.quotes r c b) (at_hand (value_error y c)) n in
+    let m = first-caused (body_cause y.body y.quotes r c b) (at_hand (value_error y c)) n in
     let f = first-none (body_error y.body) (quotes_error y.tag y.quotes c) (none-at-hand (value_error y c) m.1) in
-    let g = quotes-grow x y x.quotes y.quotes t r c b v i h h.quotes m.0 f.1 in
-    let p = cause-accepts x.body y.body x.quotes y.quotes r c b h.body h.quotes i m.0 in
+    let g = quotes-grow x y x.quotes y.quotes t r c b v i h h.quotes m.0 f.0 f.1 in
+    let p = cause-accepts x.body y.body x.quotes y.quotes r c b h.body h.quotes i (built-unstyled y.body f.0) m.0 in
     let e : value_error x c ≡ None = ap (λ (o : Option Code). first_error o (quotes_error x.tag x.quotes c)) (body-accepts x.body y.body h.body f.0) ∙ g.0 in (
       ap (λ (o : Option PathCause). first_cause o (at_hand (value_error x c))) p ∙ ap at_hand e,
       g.1,
@@ -482,6 +504,7 @@ scan-grows (At x) (InCommentEnd s) c b v h n = absurd h
 scan-grows (At x) (InContentEnd e y) c b v h n = absurd h
 scan-grows (At x) (BeforeType t) c b v h n = absurd h
 scan-grows (At x) (InType t q w r) c b v h n = absurd h
+scan-grows (At x) (InStyle w s r) c b v h n = absurd h
 scan-grows (InAttributeName t x m) (InAttributeName u y l) c b v h n = attribute-grows t u x y m l c b h.0 h.1 h.2 n
 scan-grows (InAttributeName t x m) (At y) c b v h n = absurd h
 scan-grows (InAttributeName t x m) AfterLess c b v h n = absurd h
@@ -492,6 +515,7 @@ scan-grows (InAttributeName t x m) (InCommentEnd s) c b v h n = absurd h
 scan-grows (InAttributeName t x m) (InContentEnd e y) c b v h n = absurd h
 scan-grows (InAttributeName t x m) (BeforeType u) c b v h n = absurd h
 scan-grows (InAttributeName t x m) (InType u q w r) c b v h n = absurd h
+scan-grows (InAttributeName t x m) (InStyle w s r) c b v h n = absurd h
 scan-grows (At x) (InUrl y t r) c b v h n = absurd h
 scan-grows (InAttributeName t x m) (InUrl y u r) c b v h n = absurd h
 scan-grows (InUrl x t r) (InUrl y u z) c b v h n = url-grows x y t u r z c b v.0 h.0 h.1 h.2 n
@@ -505,6 +529,8 @@ scan-grows (InUrl x t r) (InCommentEnd s) c b v h n = absurd h
 scan-grows (InUrl x t r) (InContentEnd e y) c b v h n = absurd h
 scan-grows (InUrl x t r) (BeforeType u) c b v h n = absurd h
 scan-grows (InUrl x t r) (InType u q w z) c b v h n = absurd h
+scan-grows (InUrl x t r) (InStyle w s z) c b v h n = absurd h
+scan-grows (InStyle w s r) g c b v h n = absurd v
 scan-grows AfterLess g c b v h n = same-grows AfterLess g c b h n
 scan-grows AfterLessSolidus g c b v h n = same-grows AfterLessSolidus g c b h n
 scan-grows (InDeclaration pending) g c b v h n = same-grows (InDeclaration pending) g c b h n
@@ -567,6 +593,7 @@ end-grows (At x) (InCommentEnd s) h n m = absurd h
 end-grows (At x) (InContentEnd e y) h n m = absurd h
 end-grows (At x) (BeforeType w) h n m = absurd h
 end-grows (At x) (InType w q v k) h n m = absurd h
+end-grows (At x) (InStyle w s k) h n m = absurd h
 end-grows (InUrl x t r) (At y) h n m = absurd h
 end-grows (InUrl x t r) AfterLess h n m = absurd h
 end-grows (InUrl x t r) AfterLessSolidus h n m = absurd h
@@ -577,6 +604,7 @@ end-grows (InUrl x t r) (InCommentEnd s) h n m = absurd h
 end-grows (InUrl x t r) (InContentEnd e y) h n m = absurd h
 end-grows (InUrl x t r) (BeforeType w) h n m = absurd h
 end-grows (InUrl x t r) (InType w q v k) h n m = absurd h
+end-grows (InUrl x t r) (InStyle w s k) h n m = absurd h
 end-grows (InAttributeName t x o) (At y) h n m = absurd h
 end-grows (InAttributeName t x o) (InUrl y u z) h n m = absurd h
 end-grows (InAttributeName t x o) AfterLess h n m = absurd h
@@ -587,6 +615,8 @@ end-grows (InAttributeName t x o) (InCommentEnd s) h n m = absurd h
 end-grows (InAttributeName t x o) (InContentEnd e y) h n m = absurd h
 end-grows (InAttributeName t x o) (BeforeType w) h n m = absurd h
 end-grows (InAttributeName t x o) (InType w q v k) h n m = absurd h
+end-grows (InAttributeName t x o) (InStyle w s k) h n m = absurd h
+end-grows (InStyle v s r) g h n m = same-ends (InStyle v s r) g h n m
 end-grows AfterLess g h n m = same-ends AfterLess g h n m
 end-grows AfterLessSolidus g h n m = same-ends AfterLessSolidus g h n m
 end-grows (InDeclaration pending) g h n m = same-ends (InDeclaration pending) g h n m

@@ -11,6 +11,7 @@ use Rattle.place_core.specs.declared.body.Body.{Body}
 use Rattle.place_core.specs.declared.body.Body.TheVariants as body
 use Rattle.place_core.specs.declared.code.Code.{Code}
 use Rattle.place_core.specs.declared.code.Code.TheVariants as code
+use Rattle.place_core.specs.declared.css.Css.{Css}
 use Rattle.place_core.specs.declared.kind.Kind.{Kind}
 use Rattle.place_core.specs.declared.member.Member.{Member}
 use Rattle.place_core.specs.declared.member.Member.TheVariants as member
@@ -25,16 +26,17 @@ use Rattle.place_core.proofs.Joins.{places_same}
 use Rattle.place_core.specs.declared.tag_place.TagPlace.{TagPlace}
 use Rattle.place_core.specs.declared.value_place.ValuePlace.{ValuePlace}
 use Rattle.place_core.proofs.Semilattices.{none_some, one_value}
-use Rattle.html_scan.specs.Scans.{Scan, At, AfterLess, AfterLessSolidus, InDeclaration, InTagName, InAttributeName, InUrl, InCommentEnd, InContentEnd, open_cut_error, parts_cause, parts_feeding, place_cause, quoted_error, scan_cut_error, scan_error, scan_lexeme_error, value_cause, BeforeType, InType, parts_with, triple_behind, url_scan, scan_reference}
+use Rattle.html_scan.specs.Scans.{Scan, At, AfterLess, AfterLessSolidus, InDeclaration, InTagName, InAttributeName, InUrl, InStyle, InCommentEnd, InContentEnd, open_cut_error, body_cause, parts_feeding, place_cause, quoted_error, scan_cut_error, scan_error, scan_lexeme_error, value_cause, BeforeType, InType, parts_with, triple_behind, url_scan, scan_reference}
 use Rattle.html_step.specs.Laws.{EvidenceData, apart, one, two}
 use Rattle.html_step.specs.Origins.{bare_shows, body_parts, body_refusal_shows, byte_shows, colon_shows, end_shows, is_apart, name_origin, place_shows, quotes_show, scan_parts, tag_shows, url_or_quotes, url_shows, value_shows}
-use Rattle.html_step.proofs.BelowScans.{IsRigid, below-at, below-at-comment, below-at-tag, below-at-value, below-attribute, below-url, tag-name-rigid, whole-in, below-at-block, before-type-rigid, content-end-rigid, type-rigid}
+use Rattle.html_step.proofs.BelowScans.{IsRigid, below-at, below-at-comment, below-at-tag, below-at-value, below-attribute, below-url, tag-name-rigid, whole-in, below-at-block, before-type-rigid, content-end-rigid, type-rigid, style-rigid}
 use Rattle.html_step.proofs.ApartParts.{IsAmbiguous, apart-inside, bytes-stay, hole-before, hole-bytes, no-colon-fed, or-not}
 use Rattle.html_step.proofs.Characters.{ReferencePlain, stands-no-colon}
 use Rattle.html_step.proofs.FromParts.{or-behind, or-either, or-first}
 use Rattle.html_step.proofs.FromSteps.{no, or-false, untyped-rigid}
 use Rattle.html_step.proofs.FromValues.{in-body, out-part, value_has}
-use Rattle.html_step.proofs.ScanOrder.{HasBegun, BegunWhereOpen, ScanBelow, ScanHas, ScanValid, bare-parts, begun-open, begun-valid, cause-accepts, kind-of-some, parts-below, some-none}
+use Rattle.html_step.proofs.OwnScans.{IsOwn, own-unstyled}
+use Rattle.html_step.proofs.ScanOrder.{HasBegun, BegunWhereOpen, ScanBelow, ScanHas, ScanValid, Unstyled, bare-parts, begun-open, begun-valid, built-unstyled, cause-accepts, kind-of-some, parts-below, some-none, within-unstyled}
 use Rattle.html_step.proofs.ReadScans.{Behind, Broken, quoted-read, read_turn, read_value}
 use Rattle.html_step.proofs.UrlScans.{ScanPlain, reference_length}
 use Rattle.html_step.proofs.ShownUrls.{UrlShown, on_behind, on_each, on_first, quoted-shown, same-quoted}
@@ -50,7 +52,7 @@ pub data TwoShown (f : Scan) (c : Class) (b : ℕ) (e : PathCause) (x y : Member
       → e ≡ record { code = code.AmbigContext; back = 0; shown = 0 } → TwoShown f c b e x y
   by_colon : (v : ValuePlace) (t : Triple) (k : Form) (bytes : List ℕ) (s : Parts) → f ≡ InUrl v t (Open k bytes) → v.body ≡ body.Url s → turn c k ≡ Breaks
       → Broken s k bytes c ≡ None → spells_apart s.opened ≡ false → spells_apart (Behind s k bytes c).opened ≡ true
-      → (Behind s k bytes c).openhole ≡ false → quoted_error v.quotes s (Open k bytes) c b ≡ Some e
+      → (Behind s k bytes c).openhole ≡ false → quoted_error parts_feeding v.quotes s (Open k bytes) c b ≡ Some e
       → x ≡ member.PartStart → y ≡ member.PartOpen → e ≡ record { code = code.AmbigContext; back = 0; shown = 0 } → TwoShown f c b e x y
 
 -- That paths met apart shows it of each path of which it is not known what it spells.
@@ -60,8 +62,10 @@ pub record ApartShown (f : Scan) (c : Class) (b : ℕ) (e : PathCause) : Type 0 
   pub back : e.back ≤ reference_length (scan_reference f)
   pub refuses : (g : Scan) → ScanValid g → ScanBelow g f → is_apart (scan_parts g) ≡ true → scan_error g c b ≡ Some e
 
+-- One member shows it of each path that bears it, by the path's own scan state.
 abbrev pub ShownByte : Scan → Class → ℕ → PathCause → EvidenceData → Type 0
-ShownByte f c b e (one x) = ScanHas f x × ((g : Scan) → ScanValid g → ScanBelow g f → ScanHas g x → scan_error g c b ≡ Some e)
+ShownByte f c b e (one x) =
+    ScanHas f x × ((g : Scan) → ScanValid g → ScanBelow g f → ScanHas g x → IsOwn g → scan_error g c b ≡ Some e)
 ShownByte f c b e (two x y) = TwoShown f c b e x y
 ShownByte f c b e apart = ApartShown f c b e
 
@@ -69,14 +73,14 @@ one-cause : (x y : PathCause) → Some x ≡ Some y → x ≡ y
 one-cause x y e = one_value x y e
 
 evidence-rigid : (f : Scan) (c : Class) (b : ℕ) (e : PathCause) → IsRigid f → scan_error f c b ≡ Some e → ShownByte f c b e (one member.Whole)
-evidence-rigid f c b e r h = (whole-in f member.Whole refl, λ g v l o. ap (λ (x : Scan). scan_error x c b) (r g l) ∙ h)
+evidence-rigid f c b e r h = (whole-in f member.Whole refl, λ g v l o i. ap (λ (x : Scan). scan_error x c b) (r g l) ∙ h)
 
 -- in a tag
 evidence-tag : (t : TagPlace) (c : Class) (byte : ℕ) (e : PathCause) (x : Member) → ScanHas (At (place.Tag t)) x
     → ((u : TagPlace) → IsValidTag u → TagBelow u t → ScanHas (At (place.Tag u)) x → at_hand (tag_error u c) ≡ Some e)
     → ShownByte (At (place.Tag t)) c byte e (one x)
 evidence-tag t c byte e x h f =
-    (h, λ g v l o. below-at-tag (λ (g : Scan). ScanValid g → ScanHas g x → scan_error g c byte ≡ Some e) t (λ u l v o. f u v l o) g l v o)
+    (h, λ g v l o i. below-at-tag (λ (g : Scan). ScanValid g → ScanHas g x → scan_error g c byte ≡ Some e) t (λ u l v o. f u v l o) g l v o)
 
 evidence-equals : (t : TagPlace) (byte : ℕ) (e : PathCause) (n b : Bool) → IsValidTag t → t.spots.name ≡ n → t.spots.before ≡ b
     → at_hand (tag_error t EqualsSign) ≡ Some e
@@ -165,12 +169,13 @@ same-body-error (body.Js p) c h = absurd (none_some c h)
 same-body-error (body.Css p) c h = absurd (none_some c h)
 
 -- where a URL refuses nothing, what refuses stands in the quotes
-one-by : (v : ValuePlace) (r : Reference) (c : Class) (b : ℕ) (e : PathCause) (x : Member) → parts_cause v.body v.quotes r c b ≡ None → Has (place.Value v) x
+one-by : (v : ValuePlace) (r : Reference) (c : Class) (b : ℕ) (e : PathCause) (x : Member) → Unstyled v.body
+    → body_cause v.body v.quotes r c b ≡ None → Has (place.Value v) x
     → ((u : ValuePlace) → ValueBelow u v → Has (place.Value u) x → at_hand (value_error u c) ≡ Some e) → ValueOne v r c b e x
-one-by v r c b e x m h f = (
+one-by v r c b e x z m h f = (
   h,
   λ u w i l o. ap (λ (p : Option PathCause). first_cause p (at_hand (value_error u c)))
-      (cause-accepts u.body v.body u.quotes v.quotes r c b l.body l.quotes i m) ∙ f u l o,
+      (cause-accepts u.body v.body u.quotes v.quotes r c b l.body l.quotes i z m) ∙ f u l o,
 )
 
 -- in a value that is built a member of its quotes is one of them
@@ -194,12 +199,12 @@ same-if-built : (u : ValuePlace) (o : Option PathCause) (c : Class) → body_err
 same-if-built u o c n h = ap (λ (x : Option Code). at_hand (first_error x (quotes_error u.tag u.quotes c))) n ∙ h
 
 -- whatever stands there
-evidence-bare : (t : ValuePlace) (p : Bare) (r : Reference) (c : Class) (b : ℕ) (e : PathCause) → parts_cause t.body t.quotes r c b ≡ None
+evidence-bare : (t : ValuePlace) (p : Bare) (r : Reference) (c : Class) (b : ℕ) (e : PathCause) → body_cause t.body t.quotes r c b ≡ None
     → t.quotes ≡ quotes.Bare p
     → body_error t.body ≡ None → at_hand (bare_error t.tag p c) ≡ Some e → ((s : Bare) → bare_error t.tag s c ≡ bare_error t.tag p c)
     → ValueOne t r c b e member.Whole
 evidence-bare t p r c b e m q n h same =
-    one-by t r c b e member.Whole m refl
+    one-by t r c b e member.Whole (built-unstyled t.body n) m refl
     (λ u l o. same-if-built u (Some e) c (same-body-error u.body t.body l.body ∙ n)
     (ap (λ (x : TagOf). at_hand (quotes_error x u.quotes c)) l.tag
     ∙ bare-below (λ (z : Quotes). at_hand (quotes_error t.tag z c) ≡ Some e) p (λ s a d. ap at_hand (same s) ∙ h) u.quotes
@@ -209,12 +214,12 @@ or-end : (x y : Bool) → x ≡ true → (x || y) ≡ true
 or-end x y h = rw h refl
 
 -- a quotation mark where a value may have begun
-evidence-uq : (t : ValuePlace) (p : Bare) (r : Reference) (c : Class) (b : ℕ) (e : PathCause) → parts_cause t.body t.quotes r c b ≡ None
+evidence-uq : (t : ValuePlace) (p : Bare) (r : Reference) (c : Class) (b : ℕ) (e : PathCause) → body_cause t.body t.quotes r c b ≡ None
     → t.quotes ≡ quotes.Bare p
     → body_error t.body ≡ None → p.uq ≡ true → at_hand (bare_error t.tag p c) ≡ Some e
     → ((x : TagOf) (s : Bare) → bare_error x s c ≡ (if s.uq then Some code.BadHTML else None)) → ValueOne t r c b e member.UnquotedValue
 evidence-uq t p r c b e m q n uq h same =
-    one-by t r c b e member.UnquotedValue m
+    one-by t r c b e member.UnquotedValue (built-unstyled t.body n) m
     (or-end (quotes_have t.quotes member.UnquotedValue) (body_has t.body member.UnquotedValue)
     (ap (λ (z : Quotes). quotes_have z member.UnquotedValue) q ∙ uq))
     (λ u l o. let built : body_error u.body ≡ None = same-body-error u.body t.body l.body ∙ n in
@@ -238,7 +243,7 @@ both-true false y h = absurd (no h)
 
 evidence-bare-byte : (t : ValuePlace) (f : Scan) (p : Bare) (r : Reference) (c : Class) (b : ℕ) (e : PathCause)
     → ((y : Member) → Has (place.Value t) y → ScanHas f y)
-    → parts_cause t.body t.quotes r c b ≡ None → t.quotes ≡ quotes.Bare p → body_error t.body ≡ None → at_hand (bare_error t.tag p c) ≡ Some e
+    → body_cause t.body t.quotes r c b ≡ None → t.quotes ≡ quotes.Bare p → body_error t.body ≡ None → at_hand (bare_error t.tag p c) ≡ Some e
     → ValueShown t f r c b e (bare_shows c)
 evidence-bare-byte t f p r White b e into m q n h =
     let d = both-true p.uq p.unbegun (if-some (p.uq && p.unbegun) code.AmbigContext e h) in
@@ -260,7 +265,7 @@ evidence-bare-byte t f p r _ b e into m q n h = absurd (none_some e h)
 
 evidence-quoted : (t : ValuePlace) (f : Scan) (q : Quotes) (r : Reference) (c : Class) (b : ℕ) (e : PathCause)
     → ((y : Member) → Has (place.Value t) y → ScanHas f y)
-    → parts_cause t.body t.quotes r c b ≡ None → t.quotes ≡ q → body_error t.body ≡ None → at_hand (quotes_error t.tag q c) ≡ Some e
+    → body_cause t.body t.quotes r c b ≡ None → t.quotes ≡ q → body_error t.body ≡ None → at_hand (quotes_error t.tag q c) ≡ Some e
     → ValueShown t f r c b e (quotes_show None q c)
 evidence-quoted t f (quotes.Bare p) r c b e into m q n h = evidence-bare-byte t f p r c b e into m q n h
 evidence-quoted t f quotes.Dq r c b e into m q n h = absurd (none_some e h)
@@ -268,21 +273,22 @@ evidence-quoted t f quotes.Sq r c b e into m q n h = absurd (none_some e h)
 
 evidence-in-quotes : (t : ValuePlace) (f : Scan) (r : Reference) (c : Class) (b : ℕ) (e : PathCause) (o : Option Code)
     → ((y : Member) → Has (place.Value t) y → ScanHas f y)
-    → parts_cause t.body t.quotes r c b ≡ None → body_error t.body ≡ o → at_hand (value_error t c) ≡ Some e → ValueShown t f r c b e (quotes_show o t.quotes c)
-evidence-in-quotes t f r c b e None into m n h =
+    → Unstyled t.body → body_cause t.body t.quotes r c b ≡ None → body_error t.body ≡ o → at_hand (value_error t c) ≡ Some e
+    → ValueShown t f r c b e (quotes_show o t.quotes c)
+evidence-in-quotes t f r c b e None into z m n h =
     evidence-quoted t f t.quotes r c b e into m refl n (sym (same-if-built t (at_hand (quotes_error t.tag t.quotes c)) c n refl) ∙ h)
-evidence-in-quotes t f r c b e (Some x) into m n h =
-    one-by t r c b e member.Whole m refl
+evidence-in-quotes t f r c b e (Some x) into z m n h =
+    one-by t r c b e member.Whole z m refl
     (λ u l o. ap (λ (y : Option Code). at_hand (first_error y (quotes_error u.tag u.quotes c))) (same-body-error u.body t.body l.body ∙ n)
     ∙ sym (ap (λ (y : Option Code). at_hand (first_error y (quotes_error t.tag t.quotes c))) n) ∙ h)
 
 -- What a URL refuses: the same is refused of each value below, whose parts are refused so.
 url-cause : (u v : ValuePlace) (t : Parts) (r : Reference) (c : Class) (b : ℕ) (e : PathCause) → c ≡ class_of b → u.body ≡ body.Url t
     → BegunWhereOpen r u.quotes
-    → joined_quotes u.quotes v.quotes ≡ Some v.quotes → quoted_error v.quotes t r c b ≡ Some e
+    → joined_quotes u.quotes v.quotes ≡ Some v.quotes → quoted_error parts_feeding v.quotes t r c b ≡ Some e
     → value_cause u r c b ≡ Some e
 url-cause u v t r c b e k d i j h =
-    ap (λ (x : Body). first_cause (parts_cause x u.quotes r c b) (at_hand (value_error u c))) d
+    ap (λ (x : Body). first_cause (body_cause x u.quotes r c b) (at_hand (value_error u c))) d
     ∙ ap (λ (o : Option PathCause). first_cause o (at_hand (value_error u c))) (same-quoted u.quotes v.quotes r t c b k j i ∙ h)
 
 -- the parts of a value below a URL
@@ -292,7 +298,7 @@ parts-of-below b s h = absurd (none_some (body.Url s) h)
 
 -- a value below is refused where its parts are
 each-below : (P : Parts → Type 0) (v : ValuePlace) (s : Parts) (r : Reference) (c : Class) (b : ℕ) (e : PathCause) → c ≡ class_of b → v.body ≡ body.Url s
-    → ((t : Parts) → PartsBelow t s → P t → quoted_error v.quotes t r c b ≡ Some e)
+    → ((t : Parts) → PartsBelow t s → P t → quoted_error parts_feeding v.quotes t r c b ≡ Some e)
     → (u : ValuePlace) → BegunWhereOpen r u.quotes → ValueBelow u v → ((t : Parts) → u.body ≡ body.Url t → P t) → value_cause u r c b ≡ Some e
 each-below P v s r c b e k d refuses u a l f =
     let p = parts-of-below u.body s (subst (λ (z : Body). joined_bodies u.body z ≡ Some z) d l.body) in
@@ -308,7 +314,7 @@ hole-in s t u h o d =
 
 -- a `:` behind a hole
 one-hole : (v : ValuePlace) (s : Parts) (r : Reference) (c : Class) (b : ℕ) (e : PathCause) → c ≡ class_of b → v.body ≡ body.Url s → s.openhole ≡ true
-    → ((t : Parts) → PartsBelow t s → t.openhole ≡ true → quoted_error v.quotes t r c b ≡ Some e) → ValueOne v r c b e member.PartOpenhole
+    → ((t : Parts) → PartsBelow t s → t.openhole ≡ true → quoted_error parts_feeding v.quotes t r c b ≡ Some e) → ValueOne v r c b e member.PartOpenhole
 one-hole v s r c b e k d h refuses = (
   hole-there v s d h,
   λ u q a l o. each-below (λ (t : Parts). t.openhole ≡ true) v s r c b e k d refuses u a l (λ t m. hole-in s t u h o m),
@@ -333,7 +339,7 @@ behind-apart xs s t n i k =
 
 value-apart : (v : ValuePlace) (s : Parts) (r : Reference) (c : Class) (b : ℕ) (e : PathCause) → c ≡ class_of b → v.body ≡ body.Url s
     → spells_apart s.opened ≡ true → e.code ≡ code.AmbigContext → e.back ≤ reference_length r
-    → ((t : Parts) → PartsBelow t s → spells_apart t.opened ≡ true → quoted_error v.quotes t r c b ≡ Some e) → ValueApart v r c b e
+    → ((t : Parts) → PartsBelow t s → spells_apart t.opened ≡ true → quoted_error parts_feeding v.quotes t r c b ≡ Some e) → ValueApart v r c b e
 value-apart v s r c b e k d h i l refuses = record {
   there = ap (λ (z : Body). is_apart (body_parts z)) d ∙ h;
   code = i;
@@ -376,7 +382,7 @@ parts-same s = parts-below s s ((below-value (only-url s) (only-url s) (places_s
 
 colon-by : (v : ValuePlace) (f : Scan) (s : Parts) (r : Reference) (c : Class) (b : ℕ) (e : PathCause) (x y : Bool) → s.openhole ≡ x → spells_apart s.opened ≡ y
     → ((k : Form) (bytes : List ℕ) → r ≡ Open k bytes → (t : Triple) × (f ≡ InUrl v t (Open k bytes))) → c ≡ class_of b → v.body ≡ body.Url s
-    → UrlShown s r c e (λ t. quoted_error v.quotes t r c b)
+    → UrlShown s r c e (λ t. quoted_error parts_feeding v.quotes t r c b)
     → ValueShown v f r c b e (if code_is_html e.code then one member.Whole else
     (if x then one member.PartOpenhole else (if y then apart else two member.PartStart member.PartOpen)))
 colon-by v f s r c b e x y hx hy into k d (on_each i refuses) =
@@ -405,37 +411,38 @@ colon-by v f s r c b e false false hx hy into k d (on_behind w bytes j q i n the
     subst (λ (z : Bool). ValueShown v f r c b e (if z then one member.Whole else two member.PartStart member.PartOpen))
     (sym (ap (λ (z : PathCause). code_is_html z.code) i))
     (by_colon v at.0 w bytes s at.1 d q n hy m.0 m.1
-    (sym (ap (λ (z : Reference). quoted_error v.quotes s z c b) j) ∙ refuses s (parts-same s) there) refl refl i)
+    (sym (ap (λ (z : Reference). quoted_error parts_feeding v.quotes s z c b) j) ∙ refuses s (parts-same s) there) refl refl i)
 
 evidence-url : (v : ValuePlace) (f : Scan) (x : Body) (r : Reference) (c : Class) (b : ℕ) (e : PathCause)
     → ((k : Form) (bytes : List ℕ) → r ≡ Open k bytes → (t : Triple) × (f ≡ InUrl v t (Open k bytes)))
-    → c ≡ class_of b → BegunWhereOpen r v.quotes → ReferencePlain r → v.body ≡ x → parts_cause x v.quotes r c b ≡ Some e
+    → c ≡ class_of b → BegunWhereOpen r v.quotes → ReferencePlain r → Unstyled x → v.body ≡ x → body_cause x v.quotes r c b ≡ Some e
     → ValueShown v f r c b e (body_refusal_shows x e.code)
-evidence-url v f (body.Url s) r c b e into g a n d h =
+evidence-url v f (body.Url s) r c b e into g a n z d h =
     subst (ValueShown v f r c b e) (shows-code s e.code)
     (colon-by v f s r c b e s.openhole (spells_apart s.opened) refl refl into g d (quoted-shown v.quotes r s c b e a n h))
-evidence-url v f _ r c b e into g a n d h = absurd (none_some e h)
+evidence-url v f (body.Css s) r c b e into g a n z d h = absurd z
+evidence-url v f _ r c b e into g a n z d h = absurd (none_some e h)
 
 by-cause : (v : ValuePlace) (f : Scan) (r : Reference) (c : Class) (b : ℕ) (e : PathCause) (o : Option PathCause)
     → ((y : Member) → Has (place.Value v) y → ScanHas f y)
     → ((k : Form) (bytes : List ℕ) → r ≡ Open k bytes → (t : Triple) × (f ≡ InUrl v t (Open k bytes)))
-    → c ≡ class_of b → BegunWhereOpen r v.quotes → ReferencePlain r → parts_cause v.body v.quotes r c b ≡ o
+    → c ≡ class_of b → BegunWhereOpen r v.quotes → ReferencePlain r → Unstyled v.body → body_cause v.body v.quotes r c b ≡ o
     → first_cause o (at_hand (value_error v c)) ≡ Some e → ValueShown v f r c b e (url_or_quotes o v.body (quotes_show (body_error v.body) v.quotes c))
-by-cause v f r c b e None has into g a n m h = evidence-in-quotes v f r c b e (body_error v.body) has m refl h
-by-cause v f r c b e (Some x) has into g a n m h =
-    subst (λ (z : PathCause). ValueShown v f r c b e (body_refusal_shows v.body z.code)) (sym (one_value x e h)) (evidence-url v f v.body r c b e into g a n refl (m ∙ h))
+by-cause v f r c b e None has into g a n z m h = evidence-in-quotes v f r c b e (body_error v.body) has z m refl h
+by-cause v f r c b e (Some x) has into g a n z m h =
+    subst (λ (z : PathCause). ValueShown v f r c b e (body_refusal_shows v.body z.code)) (sym (one_value x e h)) (evidence-url v f v.body r c b e into g a n z refl (m ∙ h))
 
 evidence-value-byte : (v : ValuePlace) (f : Scan) (r : Reference) (c : Class) (b : ℕ) (e : PathCause) → ((y : Member) → Has (place.Value v) y → ScanHas f y)
     → ((k : Form) (bytes : List ℕ) → r ≡ Open k bytes → (t : Triple) × (f ≡ InUrl v t (Open k bytes)))
-    → c ≡ class_of b → BegunWhereOpen r v.quotes → ReferencePlain r → value_cause v r c b ≡ Some e
+    → c ≡ class_of b → BegunWhereOpen r v.quotes → ReferencePlain r → Unstyled v.body → value_cause v r c b ≡ Some e
     → ValueShown v f r c b e (value_shows v r c b)
-evidence-value-byte v f r c b e has into g a n h = by-cause v f r c b e (parts_cause v.body v.quotes r c b) has into g a n refl h
+evidence-value-byte v f r c b e has into g a n z h = by-cause v f r c b e (body_cause v.body v.quotes r c b) has into g a n z refl h
 
 -- at a place, and in a triple or a reference
 at-value : (v : ValuePlace) (c : Class) (b : ℕ) (e : PathCause) (y : EvidenceData) → ValueShown v (At (place.Value v)) Closed c b e y
     → ShownByte (At (place.Value v)) c b e y
 at-value v c b e (one x) h =
-    (h.0, λ g w l o. below-at-value (λ (g : Scan). ScanValid g → ScanHas g x → scan_error g c b ≡ Some e) v (λ u l w o. h.1 u w.0 tt l o) g l w o)
+    (h.0, λ g w l o i. below-at-value (λ (g : Scan). ScanValid g → ScanHas g x → scan_error g c b ≡ Some e) v (λ u l w o. h.1 u w.0 tt l o) g l w o)
 at-value v c b e (two x y) h = h
 at-value v c b e apart h = record {
   there = h.there;
@@ -449,7 +456,7 @@ in-url : (v : ValuePlace) (t : Triple) (r : Reference) (c : Class) (b : ℕ) (e 
     → ShownByte (InUrl v t r) c b e y
 in-url v t r c b e (one x) h = (
   h.0,
-  λ g w l o. below-url (λ (g : Scan). ScanValid g → ScanHas g x → scan_error g c b ≡ Some e) v t r
+  λ g w l o i. below-url (λ (g : Scan). ScanValid g → ScanHas g x → scan_error g c b ≡ Some e) v t r
       (λ u l w o. h.1 u (begun-valid u.quotes w.0) (begun-open r u.quotes w.0) l o) g l w o,
 )
 in-url v t r c b e (two x y) h = h
@@ -467,7 +474,7 @@ evidence-comment : (dash : Bool) (c : Class) (byte : ℕ) (e : PathCause) → at
     → ShownByte (At (place.Comment dash)) c byte e (one member.CommentDash)
 evidence-comment true c byte e h = (
   refl,
-  λ g v l o. below-at-comment (λ (g : Scan). ScanHas g member.CommentDash → scan_error g c byte ≡ Some e) true
+  λ g v l o i. below-at-comment (λ (g : Scan). ScanHas g member.CommentDash → scan_error g c byte ≡ Some e) true
       (λ x u o. subst (λ (z : Bool). at_hand (comment_error z c) ≡ Some e) (sym o) h) g l o,
 )
 evidence-comment false c byte e h = absurd (none_some e h)
@@ -477,7 +484,7 @@ evidence-block : (less : Bool) (c : Class) (byte : ℕ) (e : PathCause) → at_h
     → ShownByte (At (place.Block less)) c byte e (one member.BlockLt)
 evidence-block true c byte e h = (
   refl,
-  λ g v l o. below-at-block (λ (g : Scan). ScanHas g member.BlockLt → scan_error g c byte ≡ Some e) true
+  λ g v l o i. below-at-block (λ (g : Scan). ScanHas g member.BlockLt → scan_error g c byte ≡ Some e) true
       (λ x u o. subst (λ (z : Bool). at_hand (block_error z c) ≡ Some e) (sym o) h) g l o,
 )
 evidence-block false c byte e h = absurd (none_some e h)
@@ -493,7 +500,38 @@ style-error j c b _ h = absurd (none_some (place.Style j) h)
 
 evidence-unbuilt : (p : Place) (c : Class) (b : ℕ) (e : PathCause) → ((a : Place) → Below a p → place_cause a c b ≡ at_hand (Some code.NotBuilt))
     → at_hand (Some code.NotBuilt) ≡ Some e → ShownByte (At p) c b e (one member.Whole)
-evidence-unbuilt p c b e f h = (refl, λ g v l o. below-at (λ (g : Scan). scan_error g c b ≡ Some e) p (λ a l. f a l ∙ h) g l)
+evidence-unbuilt p c b e f h = (refl, λ g v l o i. below-at (λ (g : Scan). scan_error g c b ≡ Some e) p (λ a l. f a l ∙ h) g l)
+
+-- In a value. No path is in one that is a style, so that there one member of each shows it.
+styled-shows : (o : Option PathCause) (s : Css) (q : Quotes) (c : Class)
+    → url_or_quotes o (body.Css s) (quotes_show (body_error (body.Css s)) q c) ≡ one member.Whole
+styled-shows None s q c = refl
+styled-shows (Some e) s q c = refl
+
+styled-body : (b : Body) (s : Css) → joined_bodies b (body.Css s) ≡ Some (body.Css s) → Unstyled b → ⊥
+styled-body (body.Css c) s h z = z
+styled-body b s h z = none_some (body.Css s) h
+
+below-styled : (u v : ValuePlace) (s : Css) → ValueBelow u v → v.body ≡ body.Css s → Unstyled u.body → ⊥
+below-styled u v s l d z = styled-body u.body s (subst (λ (x : Body). joined_bodies u.body x ≡ Some x) d l.body) z
+
+evidence-styled : (v : ValuePlace) (c : Class) (b : ℕ) (e : PathCause) (s : Css) → v.body ≡ body.Css s
+    → ShownByte (At (place.Value v)) c b e (value_shows v Closed c b)
+evidence-styled v c b e s d =
+    subst (ShownByte (At (place.Value v)) c b e)
+    (sym (ap (λ (x : Body). url_or_quotes (body_cause x v.quotes Closed c b) x (quotes_show (body_error x) v.quotes c)) d
+    ∙ styled-shows (body_cause (body.Css s) v.quotes Closed c b) s v.quotes c)) (
+      refl,
+      λ g w l o i. below-at-value (λ (g : Scan). IsOwn g → scan_error g c b ≡ Some e) v
+          (λ u m j. absurd (below-styled u v s m d (own-unstyled u j))) g l i,
+    )
+
+evidence-value : (v : ValuePlace) (c : Class) (b : ℕ) (e : PathCause) (x : Body) → c ≡ class_of b → v.body ≡ x
+    → place_cause (place.Value v) c b ≡ Some e → ShownByte (At (place.Value v)) c b e (value_shows v Closed c b)
+evidence-value v c b e (body.Css s) k d h = evidence-styled v c b e s d
+evidence-value v c b e x k d h =
+    at-value v c b e (value_shows v Closed c b)
+    (evidence-value-byte v (At (place.Value v)) Closed c b e (λ y o. o) (λ z bytes h. not-open z bytes h) k tt tt (subst Unstyled (sym d) tt) h)
 
 evidence-place : (p : Place) (c : Class) (b : ℕ) (e : PathCause) → c ≡ class_of b → IsValid p → place_cause p c b ≡ Some e
     → ShownByte (At p) c b e (place_shows p c b)
@@ -502,8 +540,7 @@ evidence-place place.Doctype c b e k v h = absurd (none_some e h)
 evidence-place (place.Comment dash) c b e k v h = evidence-comment dash c b e h
 evidence-place (place.Rcdata x) c b e k v h = absurd (none_some e h)
 evidence-place (place.Tag t) c b e k v h = evidence-tag-byte t c b e v h
-evidence-place (place.Value x) c b e k v h =
-    at-value x c b e (value_shows x Closed c b) (evidence-value-byte x (At (place.Value x)) Closed c b e (λ y o. o) (λ z bytes h. not-open z bytes h) k tt tt h)
+evidence-place (place.Value x) c b e k v h = evidence-value x c b e x.body k refl h
 evidence-place (place.Script j) c b e k v h = evidence-unbuilt (place.Script j) c b e (script-error j c b) h
 evidence-place (place.Style j) c b e k v h = evidence-unbuilt (place.Style j) c b e (style-error j c b) h
 evidence-place (place.Block less) c b e k v h = evidence-block less c b e h
@@ -513,7 +550,7 @@ evidence-attribute : (t : TagOf) (typed : Bool) (name : List ℕ) (c : Class) (b
 evidence-attribute t false name c b e h = evidence-rigid (InAttributeName t false name) c b e (untyped-rigid t name) h
 evidence-attribute t true name c b e h = (
   refl,
-  λ g v l o. below-attribute (λ (g : Scan). ScanHas g member.Typed → scan_error g c b ≡ Some e) t true name
+  λ g v l o i. below-attribute (λ (g : Scan). ScanHas g member.Typed → scan_error g c b ≡ Some e) t true name
       (λ x u o. subst (λ (z : Bool). scan_error (InAttributeName t z name) c b ≡ Some e) (sym o) h) g l o,
 )
 
@@ -526,7 +563,9 @@ evidence-byte (InDeclaration pending) c b e k v n h = absurd (none_some e h)
 evidence-byte (InTagName end name) c b e k v n h = evidence-rigid (InTagName end name) c b e (tag-name-rigid end name) h
 evidence-byte (InAttributeName t typed name) c b e k v n h = evidence-attribute t typed name c b e h
 evidence-byte (InUrl w t r) c b e k v n h =
-    in-url w t r c b e (value_shows w r c b) (evidence-value-byte w (InUrl w t r) r c b e (λ y o. o) (λ z bytes i. (t, ap (InUrl w t) i)) k (begun-open r w.quotes v.0) n h)
+    in-url w t r c b e (value_shows w r c b)
+    (evidence-value-byte w (InUrl w t r) r c b e (λ y o. o) (λ z bytes i. (t, ap (InUrl w t) i)) k (begun-open r w.quotes v.0) n (within-unstyled w.body v.1) h)
+evidence-byte (InStyle w s r) c b e k v n h = absurd v
 evidence-byte (InCommentEnd s) c b e k v n h = absurd (none_some e h)
 evidence-byte (InContentEnd x y) c b e k v n h = evidence-rigid (InContentEnd x y) c b e (content-end-rigid x y) h
 evidence-byte (BeforeType t) c b e k v n h = evidence-rigid (BeforeType t) c b e (before-type-rigid t) h
@@ -534,7 +573,7 @@ evidence-byte (InType t q w r) c b e k v n h = evidence-rigid (InType t q w r) c
 
 -- a `:` behind a reference that it breaks, in which they come apart, where this has been read
 read-apart : (v : ValuePlace) (s : Parts) (c : Class) (b : ℕ) (e : PathCause) → c ≡ class_of b → v.body ≡ body.Url s → spells_apart s.opened ≡ true
-    → e.code ≡ code.AmbigContext → UrlShown s Closed c e (λ t. quoted_error v.quotes t Closed c b) → ValueApart v Closed c b e
+    → e.code ≡ code.AmbigContext → UrlShown s Closed c e (λ t. quoted_error parts_feeding v.quotes t Closed c b) → ValueApart v Closed c b e
 read-apart v s c b e k d h i (on_each j refuses) = absurd (other-code (sym j ∙ i))
 read-apart v s c b e k d h i (on_first back j l there refuses) =
     value-apart v s Closed c b e k d h i (subst (λ (z : ℕ). z ≤ 0) (sym (ap (λ (z : PathCause). z.back) j)) l)
@@ -548,7 +587,7 @@ url-apart v AfterDigit c b e h = in-url v AfterDigit Closed c b e apart h
 
 pub evidence-read : (v : ValuePlace) (t : Triple) (f : Form) (bytes : List ℕ) (s : Parts) (b : ℕ) (e : PathCause) → v.body ≡ body.Url s → HasBegun v.quotes
     → turn (class_of b) f ≡ Breaks → Broken s f bytes (class_of b) ≡ None → spells_apart (Behind s f bytes (class_of b)).opened ≡ true
-    → e.code ≡ code.AmbigContext → quoted_error v.quotes s (Open f bytes) (class_of b) b ≡ Some e
+    → e.code ≡ code.AmbigContext → quoted_error parts_feeding v.quotes s (Open f bytes) (class_of b) b ≡ Some e
     → ApartShown (read_turn Breaks v t f bytes (class_of b)) (class_of b) b e
 evidence-read v t f bytes s b e d g k n a i h =
     let c = class_of b in
@@ -592,6 +631,7 @@ evidence-cut (InTagName end name) e n h = absurd (none_some e h)
 evidence-cut (InCommentEnd s) e n h = absurd (none_some e h)
 evidence-cut (InContentEnd x y) e n h = cut-rigid (InContentEnd x y) e (content-end-rigid x y) h
 evidence-cut (BeforeType t) e n h = cut-rigid (BeforeType t) e (before-type-rigid t) h
+evidence-cut (InStyle w s r) e n h = cut-rigid (InStyle w s r) e (style-rigid w s r) h
 evidence-cut (InType t q w r) e n h = cut-rigid (InType t q w r) e (type-rigid t q w r) h
 
 -- and at the end a percent triple, on each path
@@ -599,18 +639,22 @@ pub record ShownLexeme (f : Scan) (e : Code) (x : Member) : Type 0 where
   pub there : ScanHas f x
   pub refuses : (g : Scan) → ScanBelow g f → ScanHas g x → (scan_cut_error g ≡ None) × (scan_lexeme_error g ≡ Some e)
 
-pub evidence-lexeme : (f : Scan) (e : Code) → ScanPlain f → scan_lexeme_error f ≡ Some e → ShownLexeme f e (end_shows f)
-evidence-lexeme (InUrl v t r) e n h = record {
+pub evidence-lexeme : (f : Scan) (e : Code) → ScanPlain f → scan_cut_error f ≡ None → scan_lexeme_error f ≡ Some e → ShownLexeme f e (end_shows f)
+evidence-lexeme (InUrl v t r) e n m h = record {
   there = refl;
   refuses = λ g l o. below-url (λ (g : Scan). (scan_cut_error g ≡ None) × (scan_lexeme_error g ≡ Some e)) v t r (λ u l. (cut-url u.body r n, h)) g l;
 }
-evidence-lexeme (InAttributeName t typed name) e n h = absurd (none_some e h)
-evidence-lexeme (At p) e n h = absurd (none_some e h)
-evidence-lexeme AfterLess e n h = absurd (none_some e h)
-evidence-lexeme AfterLessSolidus e n h = absurd (none_some e h)
-evidence-lexeme (InDeclaration pending) e n h = absurd (none_some e h)
-evidence-lexeme (InTagName end name) e n h = absurd (none_some e h)
-evidence-lexeme (InCommentEnd s) e n h = absurd (none_some e h)
-evidence-lexeme (InContentEnd x y) e n h = absurd (none_some e h)
-evidence-lexeme (BeforeType t) e n h = absurd (none_some e h)
-evidence-lexeme (InType t q w r) e n h = absurd (none_some e h)
+evidence-lexeme (InStyle v s r) e n m h = record {
+  there = refl;
+  refuses = λ g l o. let i = style-rigid v s r g l in (ap scan_cut_error i ∙ m, ap scan_lexeme_error i ∙ h);
+}
+evidence-lexeme (InAttributeName t typed name) e n m h = absurd (none_some e h)
+evidence-lexeme (At p) e n m h = absurd (none_some e h)
+evidence-lexeme AfterLess e n m h = absurd (none_some e h)
+evidence-lexeme AfterLessSolidus e n m h = absurd (none_some e h)
+evidence-lexeme (InDeclaration pending) e n m h = absurd (none_some e h)
+evidence-lexeme (InTagName end name) e n m h = absurd (none_some e h)
+evidence-lexeme (InCommentEnd s) e n m h = absurd (none_some e h)
+evidence-lexeme (InContentEnd x y) e n m h = absurd (none_some e h)
+evidence-lexeme (BeforeType t) e n m h = absurd (none_some e h)
+evidence-lexeme (InType t q w r) e n m h = absurd (none_some e h)

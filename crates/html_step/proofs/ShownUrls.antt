@@ -114,7 +114,7 @@ bare-shown false Closed s c b e i a h = first-shown c s b e h
 bare-shown false (Open f l) s c b e i a h = absurd (no i)
 
 pub quoted-shown : (q : Quotes) (r : Reference) (s : Parts) (c : Class) (b : ℕ) (e : PathCause) → BegunWhereOpen r q → ReferencePlain r
-    → quoted_error q s r c b ≡ Some e → UrlShown s r c e (λ t. quoted_error q t r c b)
+    → quoted_error parts_feeding q s r c b ≡ Some e → UrlShown s r c e (λ t. quoted_error parts_feeding q t r c b)
 quoted-shown quotes.Dq r s c b e i a h = quoting-shown DoubleQuoted c r s b e a h
 quoted-shown quotes.Sq r s c b e i a h = quoting-shown SingleQuoted c r s b e a h
 quoted-shown (quotes.Bare x) Closed s c b e i a h = bare-shown x.uq Closed s c b e tt a h
@@ -154,7 +154,7 @@ begun-bare Closed x v = tt
 begun-bare (Open f l) x v = v.0
 
 pub same-quoted : (p q : Quotes) (r : Reference) (t : Parts) (c : Class) (b : ℕ) → c ≡ class_of b → joined_quotes p q ≡ Some q → BegunWhereOpen r p
-    → quoted_error p t r c b ≡ quoted_error q t r c b
+    → quoted_error parts_feeding p t r c b ≡ quoted_error parts_feeding q t r c b
 same-quoted quotes.Dq quotes.Dq r t c b k j i = refl
 same-quoted quotes.Sq quotes.Sq r t c b k j i = refl
 same-quoted (quotes.Bare x) (quotes.Bare y) r t c b k j i = bare-same x.uq y.uq r t c b k (begun-bare r x i) (bare-parts x y j).0

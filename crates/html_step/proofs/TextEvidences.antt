@@ -2,7 +2,7 @@
 use Rattle.std.proofs.Common.{◌≡◌, ℕ, ◌+◌, ◌-◌, Bool, true, false, suc, List, [], ◌∷◌, Option, Some, None, Result, Ok, Err, refl, sym, ap, ◌∙◌, subst, arith, inl, inr, if◌then◌else◌}
 use Rattle.place_core.specs.page.Classes.{White, class_of}
 use Rattle.place_core.specs.place.Errors.{PathCause, PathRefusal, PathRefuses, byte_error}
-use Rattle.place_core.specs.place.LastPercent.{last_percent}
+use Rattle.place_core.specs.place.LastLexeme.{last_lexeme_start}
 use Rattle.place_core.specs.place.ApartPlaces.{HasApart, beginning_in_body, side}
 use Rattle.place_core.specs.place.PathPairs.{Clashes, ClashesApart, MeetsColon, byte_clash}
 use Rattle.place_core.specs.page.Html.{next}
@@ -39,12 +39,14 @@ use Rattle.html_step.proofs.FromTexts.{own-has}
 use Rattle.html_step.proofs.ScanOrder.{ScanBelow, ScanHas, ScanValid, scan-grows}
 use Rattle.html_step.proofs.OneTexts.{agrees-at, at-place, one-text}
 use Rattle.html_step.proofs.ReadScans.{Broken, Takes, read_turn, scan_read}
+use Rattle.html_step.proofs.OwnScans.{IsOwn}
 use Rattle.html_step.proofs.ShownSteps.{ApartShown, ShownByte, ShownCut, ShownLexeme, TwoShown, by_colon, by_white, evidence-byte, evidence-cut, evidence-lexeme, evidence-read}
 use Rattle.html_step.proofs.UrlScans.{ScanPlain, below-reference, scan-plain}
 use Rattle.html_step.proofs.ValidSteps.{scan-valid}
 
 abbrev pub ShownBytes : ℕ → ℕ → List ℕ → Scan → PathRefusal → EvidenceData → Type 0
-ShownBytes k since bytes f r (one x) = ScanHas f x × ((g : Scan) → ScanValid g → ScanBelow g f → ScanHas g x → stepped k since bytes g ≡ Err r)
+ShownBytes k since bytes f r (one x) =
+    ScanHas f x × ((g : Scan) → ScanValid g → ScanBelow g f → ScanHas g x → IsOwn g → stepped k since bytes g ≡ Err r)
 ShownBytes k since bytes f r (two x y) = ShownTwo k bytes f r x y
 ShownBytes k since bytes f r apart = ShownApart k bytes f r
 
@@ -113,7 +115,7 @@ apart-byte k b bs f r x is d =
       code = ap (λ (y : PathRefusal). y.code) is ∙ d.code;
       within = omega (arith, at, back);
       refuses = λ since g v l o.
-          ap (λ (y : Option PathCause). unless_refused k y (stepped (k + 1) (last_percent k since (scan_reference g) (class_of b) b) bs (scan_next g (class_of b) b)))
+          ap (λ (y : Option PathCause). unless_refused k y (stepped (k + 1) (last_lexeme_start k since (scan_reference g) (class_of b) b) bs (scan_next g (class_of b) b)))
           (d.refuses g v l o) ∙ ap Err (sym is);
     }
 
@@ -161,7 +163,7 @@ two-evidence k since b bs f r e x y v plain z i (by_colon w t form bytes s at d 
 
 -- what is left of a text behind a byte
 abbrev Rest : ℕ → ℕ → ℕ → List ℕ → Scan → Result Place PathRefusal
-Rest k since b bs f = stepped (k + 1) (last_percent k since (scan_reference f) (class_of b) b) bs (scan_next f (class_of b) b)
+Rest k since b bs f = stepped (k + 1) (last_lexeme_start k since (scan_reference f) (class_of b) b) bs (scan_next f (class_of b) b)
 
 byte-evidence : (k since b : ℕ) (bs : List ℕ) (f : Scan) (r : PathRefusal) (x : PathCause) (y : EvidenceData) → ScanValid f → ScanPlain f
     → scan_error f (class_of b) b ≡ Some x
@@ -169,8 +171,8 @@ byte-evidence : (k since b : ℕ) (bs : List ℕ) (f : Scan) (r : PathRefusal) (
     → ShownByte f (class_of b) b x y → ShownBytes k since (b ∷ bs) f r y
 byte-evidence k since b bs f r x (one m) v plain e h d = (
   d.0,
-  λ g v l o. hand-refused k (scan_error f (class_of b) b) (scan_error g (class_of b) b) (Rest k since b bs f) (Rest k since b bs g) x r e
-      (d.1 g v l o) h,
+  λ g v l o i. hand-refused k (scan_error f (class_of b) b) (scan_error g (class_of b) b) (Rest k since b bs f) (Rest k since b bs g) x r e
+      (d.1 g v l o i) h,
 )
 byte-evidence k since b bs f r x (two m n) v plain e h d =
     two-evidence k since b bs f r x m n v plain e (hand-is k (scan_error f (class_of b) b) (Rest k since b bs f) x r e h) d
@@ -185,7 +187,7 @@ cut-evidence : (k since : ℕ) (f : Scan) (r : PathRefusal) (x : PathCause) → 
     → ShownCut f x (end_shows f)
     → ShownBytes k since [] f r (one (end_shows f))
 cut-evidence k since f r x e h s =
-    (s.there, λ g v l o. hand-refused k (scan_cut_error f) (scan_cut_error g) (AtEnd k since f) (AtEnd k since g) x r e (s.refuses g l o) h)
+    (s.there, λ g v l o i. hand-refused k (scan_cut_error f) (scan_cut_error g) (AtEnd k since f) (AtEnd k since g) x r e (s.refuses g l o) h)
 
 broken-off : (k a : ℕ) (o p : Option Code) (x : Code) (q s : Place) (r : PathRefusal) → o ≡ Some x → p ≡ Some x
     → unless_broken_off k a o q ≡ Err r → unless_broken_off k a p s ≡ Err r
@@ -196,7 +198,7 @@ lexeme-evidence : (k since : ℕ) (f : Scan) (r : PathRefusal) (x : Code) → sc
     → ShownLexeme f x (end_shows f) → ShownBytes k since [] f r (one (end_shows f))
 lexeme-evidence k since f r x n e h s = (
   s.there,
-  λ g v l o. let m = s.refuses g l o in
+  λ g v l o i. let m = s.refuses g l o in
       refused-later k (scan_cut_error g) (AtEnd k since g) r m.0
       (broken-off k since (scan_lexeme_error f) (scan_lexeme_error g) x (scan_place f) (scan_place g) r e m.1 h),
 )
@@ -210,7 +212,7 @@ next-stands s g f b x n z from st =
       a.errors ∙ m.0,
       record {
         at = a.steps m.0;
-        valid = scan-valid g (class_of b) b st.valid;
+        valid = scan-valid g (class_of b) b st.valid m.0;
         below = m.1;
         has = from.leads g st.valid st.below st.has;
       },
@@ -228,15 +230,16 @@ apart-earlier k since b bs f r true v plain n d a = kept-apart k b bs f r v n d 
 apart-earlier k since b bs f r false v plain n d a = earlier-two k b bs f r v plain n d a
 
 earlier : (k since b : ℕ) (bs : List ℕ) (f : Scan) (r : PathRefusal) (z : EvidenceData) → ScanValid f → ScanPlain f → scan_error f (class_of b) b ≡ None
-    → ShownBytes (k + 1) (last_percent k since (scan_reference f) (class_of b) b) bs (scan_next f (class_of b) b) r z
+    → ShownBytes (k + 1) (last_lexeme_start k since (scan_reference f) (class_of b) b) bs (scan_next f (class_of b) b) r z
     → ShownBytes k since (b ∷ bs) f r (back_by f (class_of b) b z)
 earlier k since b bs f r (one x) v plain n d =
     (let o = from-byte f (class_of b) b x v n d.0 in (
       o.there,
-      λ g w l p. let m = scan-grows g f (class_of b) b w l n in
+      λ g w l p i. let m = scan-grows g f (class_of b) b w l n in
           refused-later k (scan_error g (class_of b) b) (Rest k since b bs g) r m.0
-          (ap (λ (y : Reference). stepped (k + 1) (last_percent k since y (class_of b) b) bs (scan_next g (class_of b) b)) (below-reference g f l)
-          ∙ d.1 (scan_next g (class_of b) b) (scan-valid g (class_of b) b w) m.1 (o.leads g w l p)),
+          (ap (λ (y : Reference). stepped (k + 1) (last_lexeme_start k since y (class_of b) b) bs (scan_next g (class_of b) b)) (below-reference g f l)
+          ∙ d.1 (scan_next g (class_of b) b) (scan-valid g (class_of b) b w m.0) m.1 (o.leads g w l p)
+          (next languages Template i.0 (class_of b) b, (agrees-at i.0 g b i.1).steps m.0)),
     ))
 earlier k since b bs f r (two x y) v plain n d =
     let o = from-byte f (class_of b) b x v n d.one in
@@ -259,7 +262,7 @@ earlier k since b bs f r apart v plain n d = apart-earlier k since b bs f r (is_
 lexeme-cases : (k since : ℕ) (f : Scan) (r : PathRefusal) (o : Option Code) → ScanPlain f → scan_cut_error f ≡ None → scan_lexeme_error f ≡ o
     → AtEnd k since f ≡ Err r
     → ShownBytes k since [] f r (one (end_shows f))
-lexeme-cases k since f r (Some x) n i e h = lexeme-evidence k since f r x i e h (evidence-lexeme f x n e)
+lexeme-cases k since f r (Some x) n i e h = lexeme-evidence k since f r x i e h (evidence-lexeme f x n i e)
 lexeme-cases k since f r None n i e h =
     absurd (err-ok (scan_place f) r (Ok (scan_place f)) refl
     (sym (ap (λ (y : Option Code). unless_broken_off k since y (scan_place f)) e) ∙ h))
@@ -272,7 +275,7 @@ end-cases k since f r None n e h = lexeme-cases k since f r (scan_lexeme_error f
 byte-cases : (k since b : ℕ) (bs : List ℕ) (f : Scan) (r : PathRefusal) (z : EvidenceData) (o : Option PathCause) → scan_error f (class_of b) b ≡ o
     → ScanValid f → ScanPlain f
     → stepped k since (b ∷ bs) f ≡ Err r
-    → (scan_error f (class_of b) b ≡ None → ShownBytes (k + 1) (last_percent k since (scan_reference f) (class_of b) b) bs (scan_next f (class_of b) b) r z)
+    → (scan_error f (class_of b) b ≡ None → ShownBytes (k + 1) (last_lexeme_start k since (scan_reference f) (class_of b) b) bs (scan_next f (class_of b) b) r z)
     → ShownBytes k since (b ∷ bs) f r (unless_shown o (byte_shows f (class_of b) b) (back_by f (class_of b) b z))
 byte-cases k since b bs f r z (Some x) e v n h more = byte-evidence k since b bs f r x (byte_shows f (class_of b) b) v n e h
     (evidence-byte f (class_of b) b x refl v n e)
@@ -283,7 +286,7 @@ evidence-bytes : (bytes : List ℕ) (k since : ℕ) (f : Scan) (r : PathRefusal)
 evidence-bytes [] k since f r v n h = end-cases k since f r (scan_cut_error f) n refl h
 evidence-bytes (b ∷ bs) k since f r v n h =
     byte-cases k since b bs f r (shows bs (scan_next f (class_of b) b)) (scan_error f (class_of b) b) refl v n h
-    (λ e. evidence-bytes bs (k + 1) (last_percent k since (scan_reference f) (class_of b) b) (scan_next f (class_of b) b) r (scan-valid f (class_of b) b v)
+    (λ e. evidence-bytes bs (k + 1) (last_lexeme_start k since (scan_reference f) (class_of b) b) (scan_next f (class_of b) b) r (scan-valid f (class_of b) b v e)
     (scan-plain f b v e n)
     (later-refused k (scan_error f (class_of b) b) (Rest k since b bs f) r e h))
 
@@ -341,7 +344,7 @@ from-place p bytes s t c i (inr d) = absurd d.0
 show : (bytes : List ℕ) (p : Place) (e : StepErr Place) (r : PathRefusal) (z : EvidenceData) → e.code ≡ r.code → e.at ≡ r.at
     → ShownBytes 0 0 bytes (At p) r z → IsEvidence bytes p e z
 show bytes p e r (one x) c a d =
-    (d.0, λ s i b. refuses-there bytes i.own s e.code e.at r i.stands (d.1 (At i.own) i.valid i.below (own-has p s x i b)) c a)
+    (d.0, λ s i b. refuses-there bytes i.own s e.code e.at r i.stands (d.1 (At i.own) i.valid i.below (own-has p s x i b) (s, at-place s i.own i.stands)) c a)
 show bytes p e r (two x y) c a d = (
   d.one,
   d.other,

@@ -5,7 +5,7 @@ use Rattle.place_core.specs.page.References.{Closed, Open}
 use Rattle.place_core.specs.place.StatePlaces.{content_spot, only_after, only_inside, placed, quotes_at, tag_spot, value_spot}
 use Rattle.place_core.specs.place.UrlParts.{parts_of}
 use Rattle.place_core.specs.page.States.{LexState, Text, TagOpen, EndTagOpen, DeclarationOpen, InComment, Started, StartedDash, Inside, Dash, DashDash, Bang, Broken, BogusComment, InDoctype, TagName, WholeTagName, BeforeAttributeName, AttributeName, WholeAttributeName, AfterAttributeName, BeforeAttributeValue, AttributeValue, AfterAttributeValue, SelfClosingStartTag, Content, Characters, Bytes, Pending, Nothing, PendingLess, PendingName, PendingBang, PendingBangDash, InContent, Unread, LessAtCut}
-use Rattle.place_core.specs.page.Tags.{Tag, is_second_type, ValueOf, Deciding, ValueState, OfKind, OfUrl, Quoting}
+use Rattle.place_core.specs.page.Tags.{Tag, is_second_type, ValueOf, Deciding, ValueState, OfKind, OfUrl, OfStyle, Quoting}
 use Rattle.place_core.specs.declared.body.Body.{Body}
 use Rattle.place_core.specs.declared.body.Body.TheVariants as body
 use Rattle.place_core.specs.declared.element.Element.{Element}
@@ -101,6 +101,7 @@ fits (AfterAttributeName t k) = spot-fits (is_second_type t.typed k) (place.Tag 
 fits (BeforeAttributeValue t k) = before-fits t k
 fits (AttributeValue q t (ValueOf (OfKind k)) Closed) = value-fits q t k
 fits (AttributeValue q t (ValueOf (OfUrl u)) Closed) = url-fits u.triple u.part q t
+fits (AttributeValue q t (ValueOf (OfStyle s)) Closed) = tt
 fits (AttributeValue q t (Deciding k before) Closed) = tt
 fits (AttributeValue q t v (Open f bytes)) = tt
 fits (AfterAttributeValue t) = tt

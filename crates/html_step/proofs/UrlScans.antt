@@ -24,7 +24,7 @@ use Rattle.place_core.specs.declared.tag_of.TagOf.TheVariants as tag
 use Rattle.place_core.specs.declared.tag_place.TagPlace.{TagPlace}
 use Rattle.place_core.specs.declared.value_place.ValuePlace.{ValuePlace}
 use Rattle.place_core.proofs.Semilattices.{none_some, one_value}
-use Rattle.html_scan.specs.Scans.{Scan, At, AfterLess, AfterLessSolidus, InDeclaration, InTagName, InAttributeName, InUrl, InCommentEnd, InContentEnd, BeforeType, InType, after_type, attribute_name_next, bare_white, before_type_next, comment_closed, comment_next, comment_scan, comment_state, content_end_next, content_next, content_scan, declaration_next, end_name_next, ended_type, parts_cause, parts_feeding, pending_less_next, quoted_next, rest_place, scan_error, scan_next, tag_name_next, tag_next, triple_behind, type_begun, type_next, type_tag, url_scan, value_cause, value_fed, value_next, value_scan, with_parts, with_quotes, scan_reference}
+use Rattle.html_scan.specs.Scans.{Scan, At, AfterLess, AfterLessSolidus, InDeclaration, InTagName, InAttributeName, InUrl, InStyle, InCommentEnd, InContentEnd, BeforeType, InType, after_type, attribute_name_next, bare_white, before_type_next, comment_closed, comment_next, comment_scan, comment_state, content_end_next, content_next, content_scan, declaration_next, end_name_next, ended_type, body_cause, parts_feeding, pending_less_next, quoted_next, rest_place, scan_error, scan_next, tag_name_next, tag_next, triple_behind, type_begun, type_next, type_tag, url_scan, value_cause, value_fed, value_next, value_scan, with_parts, with_quotes, scan_reference}
 use Rattle.html_step.proofs.OnePath.{none-at-hand, url-reference}
 use Rattle.html_step.specs.Origins.{body_parts, fed_in, scan_parts}
 use Rattle.html_step.proofs.Characters.{ReferencePlain, next-plain}
@@ -128,6 +128,7 @@ below-parts (InCommentEnd x) f s l h = absurd (none_some s (ap scan_parts l ∙ 
 below-parts (InContentEnd x y) f s l h = absurd (none_some s (ap scan_parts l ∙ h))
 below-parts (BeforeType x) f s l h = absurd (none_some s (ap scan_parts l ∙ h))
 below-parts (InType x y z w) f s l h = absurd (none_some s (ap scan_parts l ∙ h))
+below-parts (InStyle x y z) f s l h = absurd (none_some s (ap scan_parts l ∙ h))
 below-parts g _ s l h = absurd (none_some s h)
 
 bodies-above : (s : Parts) (b : Body) → joined_bodies (body.Url s) b ≡ Some b → (t : Parts) × (body_parts b ≡ Some t) × PartsBelow s t
@@ -149,10 +150,12 @@ above-parts _ f s l h = absurd (none_some s h)
 pub below-reference : (g f : Scan) → ScanBelow g f → scan_reference g ≡ scan_reference f
 below-reference (At x) (At y) l = refl
 below-reference (At x) (InUrl v y z) l = absurd l
+below-reference (At x) (InStyle v y z) l = absurd l
 below-reference (At x) _ l = refl
 below-reference (InUrl u t r) (InUrl v y z) l = l.2
 below-reference (InUrl u t r) _ l = absurd l
 below-reference (InAttributeName t x n) (InUrl v y z) l = absurd l
+below-reference (InAttributeName t x n) (InStyle v y z) l = absurd l
 below-reference (InAttributeName t x n) _ l = refl
 below-reference AfterLess f l = ap scan_reference l
 below-reference AfterLessSolidus f l = ap scan_reference l
@@ -162,6 +165,7 @@ below-reference (InCommentEnd x) f l = ap scan_reference l
 below-reference (InContentEnd x y) f l = ap scan_reference l
 below-reference (BeforeType x) f l = ap scan_reference l
 below-reference (InType x y z w) f l = ap scan_reference l
+below-reference (InStyle x y z) f l = ap scan_reference l
 
 -- the bytes that a scan state is fed are those that one below is fed
 quotes-fed : (p q : Quotes) (r : Reference) (c : Class) (b : ℕ) → joined_quotes p q ≡ Some q → fed_in p r c b ≡ fed_in q r c b
@@ -295,25 +299,26 @@ tag-fresh t EqualsSign b = equals-fresh t.tag t.typed t.kind
 tag-fresh t _ b = (refl, refl)
 
 fed-fresh : (v : ValuePlace) (q : Quotes) (x : Body) (t : Triple) (r : Reference) (c : Class) (b : ℕ) → IsFresh (At (place.Value v)) → body_parts x ≡ None
-    → IsFresh (value_fed v q x t r c b)
-fed-fresh v q (body.Url s) t r c b h k = absurd (none_some s (sym k))
-fed-fresh v q _ t r c b h k = h
+    → body_error x ≡ None → IsFresh (value_fed v q x t r c b)
+fed-fresh v q (body.Url s) t r c b h k n = absurd (none_some s (sym k))
+fed-fresh v q (body.Css p) t r c b h k n = absurd (none_some _ (sym n))
+fed-fresh v q _ t r c b h k n = h
 
 white-fresh : (v : ValuePlace) (uq : Bool) → IsFresh (At (place.Value v)) → IsFresh (bare_white v uq)
 white-fresh v true h = (refl, refl)
 white-fresh v false h = h
 
 quotes-fresh : (v : ValuePlace) (q : Quotes) (t : Triple) (r : Reference) (c : Class) (b : ℕ) → IsFresh (At (place.Value v)) → body_parts v.body ≡ None
-    → IsFresh (quoted_next v q t r c b)
-quotes-fresh v quotes.Dq t r QuotationMark b h k = (refl, refl)
-quotes-fresh v quotes.Dq t r c b h k = fed-fresh v quotes.Dq v.body t r c b h k
-quotes-fresh v quotes.Sq t r Apostrophe b h k = (refl, refl)
-quotes-fresh v quotes.Sq t r c b h k = fed-fresh v quotes.Sq v.body t r c b h k
-quotes-fresh v (quotes.Bare s) t r White b h k = white-fresh v s.uq h
-quotes-fresh v (quotes.Bare s) t r QuotationMark b h k = h
-quotes-fresh v (quotes.Bare s) t r Apostrophe b h k = h
-quotes-fresh v (quotes.Bare s) t r GreaterThan b h k = content-fresh v.tag
-quotes-fresh v (quotes.Bare s) t r c b h k = fed-fresh v _ v.body t r c b h k
+    → body_error v.body ≡ None → IsFresh (quoted_next v q t r c b)
+quotes-fresh v quotes.Dq t r QuotationMark b h k n = (refl, refl)
+quotes-fresh v quotes.Dq t r c b h k n = fed-fresh v quotes.Dq v.body t r c b h k n
+quotes-fresh v quotes.Sq t r Apostrophe b h k n = (refl, refl)
+quotes-fresh v quotes.Sq t r c b h k n = fed-fresh v quotes.Sq v.body t r c b h k n
+quotes-fresh v (quotes.Bare s) t r White b h k n = white-fresh v s.uq h
+quotes-fresh v (quotes.Bare s) t r QuotationMark b h k n = h
+quotes-fresh v (quotes.Bare s) t r Apostrophe b h k n = h
+quotes-fresh v (quotes.Bare s) t r GreaterThan b h k n = content-fresh v.tag
+quotes-fresh v (quotes.Bare s) t r c b h k n = fed-fresh v _ v.body t r c b h k n
 
 body-fresh : (b : Body) → body_parts b ≡ None → body_error b ≡ None → spells_apart (beginning_in_body b) ≡ false
 body-fresh (body.Url s) k n = absurd (none_some s (sym k))
@@ -323,9 +328,9 @@ body-fresh _ k n = refl
 value-fresh : (v : ValuePlace) (t : Triple) (r : Reference) (c : Class) (b : ℕ) → body_parts v.body ≡ None → value_cause v r c b ≡ None
     → IsFresh (quoted_next v v.quotes t r c b)
 value-fresh v t r c b k n =
-    let m = first-caused (parts_cause v.body v.quotes r c b) (at_hand (value_error v c)) n in
+    let m = first-caused (body_cause v.body v.quotes r c b) (at_hand (value_error v c)) n in
     let e = (first-none (body_error v.body) (quotes_error v.tag v.quotes c) (none-at-hand (value_error v c) m.1)).0 in
-    quotes-fresh v v.quotes t r c b (body-fresh v.body k e, refl) k
+    quotes-fresh v v.quotes t r c b (body-fresh v.body k e, refl) k e
 
 closed-fresh : (closed : Bool) → IsFresh (comment_closed closed)
 closed-fresh true = (refl, refl)
@@ -448,18 +453,19 @@ type-fresh : (ends : Bool) (c : Class) (b : ℕ) (t : TagOf) (q : Quoting) (v : 
 type-fresh true c b t q v r = after-type-fresh q c (type_tag t (ended_type v r))
 type-fresh false c b t q v r = (refl, refl)
 
-pub scan-fresh : (f : Scan) (c : Class) (b : ℕ) → scan_parts f ≡ None → scan_error f c b ≡ None → IsFresh (scan_next f c b)
-scan-fresh (At p) c b h n = place-next-fresh p c b h n
-scan-fresh AfterLess c b h n = less-fresh c b
-scan-fresh AfterLessSolidus c b h n = solidus-fresh c b
-scan-fresh (InDeclaration pending) c b h n = declaration-fresh (declared_by (pending ++ b ∷ [])) c b pending
-scan-fresh (InTagName ends name) c b h n = tag-name-fresh c b ends name
-scan-fresh (InAttributeName t typed name) c b h n = attribute-fresh c b t typed (kind_of (element_on t) name) name
-scan-fresh (InUrl v t r) c b h n = value-fresh v t r c b h n
-scan-fresh (InCommentEnd s) c b h n = comment-fresh s c
-scan-fresh (InContentEnd e x) c b h n = content-end-fresh x c b e
-scan-fresh (BeforeType t) c b h n = before-type-fresh c b t
-scan-fresh (InType t q v r) c b h n = type-fresh (ends_value q c) c b t q v r
+pub scan-fresh : (f : Scan) (c : Class) (b : ℕ) → ScanValid f → scan_parts f ≡ None → scan_error f c b ≡ None → IsFresh (scan_next f c b)
+scan-fresh (At p) c b v h n = place-next-fresh p c b h n
+scan-fresh AfterLess c b v h n = less-fresh c b
+scan-fresh AfterLessSolidus c b v h n = solidus-fresh c b
+scan-fresh (InDeclaration pending) c b v h n = declaration-fresh (declared_by (pending ++ b ∷ [])) c b pending
+scan-fresh (InTagName ends name) c b v h n = tag-name-fresh c b ends name
+scan-fresh (InAttributeName t typed name) c b v h n = attribute-fresh c b t typed (kind_of (element_on t) name) name
+scan-fresh (InUrl w t r) c b v h n = value-fresh w t r c b h n
+scan-fresh (InStyle w s r) c b v h n = absurd v
+scan-fresh (InCommentEnd s) c b v h n = comment-fresh s c
+scan-fresh (InContentEnd e x) c b v h n = content-end-fresh x c b e
+scan-fresh (BeforeType t) c b v h n = before-type-fresh c b t
+scan-fresh (InType t q w r) c b v h n = type-fresh (ends_value q c) c b t q w r
 
 -- No reference that is open has a `:` in it.
 abbrev pub ScanPlain : Scan → Type 0
@@ -471,7 +477,7 @@ plain-by g b r (inr h) n = subst ReferencePlain (sym h) (next-plain r b n)
 
 plain-cases : (f : Scan) (b : ℕ) (o : Option Parts) → scan_parts f ≡ o → ScanValid f → scan_error f (class_of b) b ≡ None → ScanPlain f
     → ScanPlain (scan_next f (class_of b) b)
-plain-cases f b None h v m n = subst ReferencePlain (sym (scan-fresh f (class_of b) b h m).1) tt
+plain-cases f b None h v m n = subst ReferencePlain (sym (scan-fresh f (class_of b) b v h m).1) tt
 plain-cases f b (Some s) h v m n = plain-by (scan_next f (class_of b) b) b (scan_reference f) (next-url f s (class_of b) b v h).reference n
 
 pub scan-plain : (f : Scan) (b : ℕ) → ScanValid f → scan_error f (class_of b) b ≡ None → ScanPlain f → ScanPlain (scan_next f (class_of b) b)

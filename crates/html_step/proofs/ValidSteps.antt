@@ -19,9 +19,11 @@ use Rattle.place_core.specs.declared.tag_of.TagOf.{TagOf}
 use Rattle.place_core.specs.declared.tag_of.TagOf.TheVariants as tag
 use Rattle.place_core.specs.declared.tag_place.TagPlace.{TagPlace}
 use Rattle.place_core.specs.declared.value_place.ValuePlace.{ValuePlace}
-use Rattle.html_scan.specs.Scans.{Scan, At, AfterLess, AfterLessSolidus, InDeclaration, InTagName, InAttributeName, InUrl, InCommentEnd, InContentEnd, attribute_name_next, bare_begun, bare_white, comment_closed, comment_scan, comment_next, comment_state, content_end_next, content_scan, content_next, declaration_next, end_name_next, scan_next, scan_place, quoted_next, tag_name_next, tag_next, value_scan, BeforeType, InType, rest_place, content_end_place, pending_less_next, before_type_next, after_type, type_next, type_begun, type_tag, ended_type, parts_feeding, parts_with, triple_behind, url_scan, value_fed, with_parts}
-use Rattle.html_step.proofs.ScanOrder.{HasBegun, ScanValid, UrlWithin, begun-valid}
-use Rattle.html_step.proofs.UrlOrder.{fed-valid}
+use Rattle.html_scan.specs.Scans.{Scan, At, AfterLess, AfterLessSolidus, InDeclaration, InTagName, InAttributeName, InUrl, InStyle, InCommentEnd, InContentEnd, attribute_name_next, bare_begun, bare_white, comment_closed, comment_scan, comment_next, comment_state, content_end_next, content_scan, content_next, declaration_next, end_name_next, scan_next, scan_place, quoted_next, tag_name_next, tag_next, value_scan, BeforeType, InType, rest_place, content_end_place, pending_less_next, before_type_next, after_type, type_next, type_begun, type_tag, ended_type, parts_feeding, parts_with, triple_behind, url_scan, value_fed, with_parts, body_cause, place_cause, scan_error, value_cause}
+use Rattle.html_step.proofs.OnePath.{none-at-hand, some}
+use Rattle.html_step.proofs.ScanOrder.{HasBegun, ScanValid, UrlWithin, begun-valid, first-none}
+use Rattle.html_step.proofs.UrlOrder.{fed-valid, first-caused}
+use Rattle.place_core.specs.place.Errors.{at_hand, body_error, quotes_error, value_error}
 use Rattle.place_core.specs.page.Html.{ends_value}
 use Rattle.place_core.specs.page.References.{Reference, Closed, Open, as_it_stands, next_reference, undone_byte}
 use Rattle.place_core.specs.declared.body.Body.{Body}
@@ -78,22 +80,31 @@ url-valid v AfterPercent r g w = (g, w)
 url-valid v AfterDigit r g w = (g, w)
 
 fed-value-valid : (v : ValuePlace) (q : Quotes) (x : Body) (t : Triple) (r : Reference) (c : Class) (b : ℕ) → HasBegun q → IsValidBody v.body → IsValidBody x
+    → body_error x ≡ None
     → ScanValid (value_fed v q x t r c b)
-fed-value-valid v q (body.Url s) t r c b g h k =
+fed-value-valid v q (body.Url s) t r c b g h k n =
     let bytes = undone_byte true r c b in
     url-valid (with_parts v q (feed_bytes parts_feeding s bytes)) (triple_behind t bytes) (next_reference r c b) g (fed-valid bytes s k)
-fed-value-valid v q _ t r c b g h k = (begun-valid q g, h)
+fed-value-valid v q (body.Css p) t r c b g h k n = absurd (some _ n)
+fed-value-valid v q _ t r c b g h k n = (begun-valid q g, h)
 
-quotes-valid : (v : ValuePlace) (q : Quotes) (t : Triple) (r : Reference) (c : Class) (b : ℕ) → IsValidBody v.body → ScanValid (quoted_next v q t r c b)
-quotes-valid v quotes.Dq t r QuotationMark b h = (refl, refl)
-quotes-valid v quotes.Dq t r c b h = fed-value-valid v quotes.Dq v.body t r c b tt h h
-quotes-valid v quotes.Sq t r Apostrophe b h = (refl, refl)
-quotes-valid v quotes.Sq t r c b h = fed-value-valid v quotes.Sq v.body t r c b tt h h
-quotes-valid v (quotes.Bare s) t r White b h = white-valid v s.uq h
-quotes-valid v (quotes.Bare s) t r QuotationMark b h = (tt, h)
-quotes-valid v (quotes.Bare s) t r Apostrophe b h = (tt, h)
-quotes-valid v (quotes.Bare s) t r GreaterThan b h = content-valid v.tag
-quotes-valid v (quotes.Bare s) t r c b h = fed-value-valid v bare_begun v.body t r c b (refl, refl) h h
+quotes-valid : (v : ValuePlace) (q : Quotes) (t : Triple) (r : Reference) (c : Class) (b : ℕ) → IsValidBody v.body → body_error v.body ≡ None
+    → ScanValid (quoted_next v q t r c b)
+quotes-valid v quotes.Dq t r QuotationMark b h n = (refl, refl)
+quotes-valid v quotes.Dq t r c b h n = fed-value-valid v quotes.Dq v.body t r c b tt h h n
+quotes-valid v quotes.Sq t r Apostrophe b h n = (refl, refl)
+quotes-valid v quotes.Sq t r c b h n = fed-value-valid v quotes.Sq v.body t r c b tt h h n
+quotes-valid v (quotes.Bare s) t r White b h n = white-valid v s.uq h
+quotes-valid v (quotes.Bare s) t r QuotationMark b h n = (tt, h)
+quotes-valid v (quotes.Bare s) t r Apostrophe b h n = (tt, h)
+quotes-valid v (quotes.Bare s) t r GreaterThan b h n = content-valid v.tag
+quotes-valid v (quotes.Bare s) t r c b h n = fed-value-valid v bare_begun v.body t r c b (refl, refl) h h n
+
+-- a language whose value is not refused at a byte is built
+value-built : (v : ValuePlace) (r : Reference) (c : Class) (b : ℕ) → value_cause v r c b ≡ None → body_error v.body ≡ None
+value-built v r c b n =
+    let m = first-caused (body_cause v.body v.quotes r c b) (at_hand (value_error v c)) n in
+    (first-none (body_error v.body) (quotes_error v.tag v.quotes c) (none-at-hand (value_error v c) m.1)).0
 
 closed-valid : (closed : Bool) → ScanValid (comment_closed closed)
 closed-valid true = tt
@@ -131,18 +142,18 @@ rcdata-rest element.Script v = v
 rcdata-rest element.Style v = v
 rcdata-rest element.Other v = v
 
-place-valid : (p : Place) (c : Class) (b : ℕ) → IsValid p → ScanValid (scan_next (At p) c b)
-place-valid place.Text LessThan b v = tt
-place-valid place.Text _ b v = tt
-place-valid place.Doctype GreaterThan b v = tt
-place-valid place.Doctype _ b v = tt
-place-valid (place.Comment dash) c b v = comment-valid (comment_state dash) c
-place-valid (place.Rcdata e) c b v = loose-valid c e (rcdata-rest e v)
-place-valid (place.Tag t) c b v = tag-valid t c b v
-place-valid (place.Value x) c b v = quotes-valid x x.quotes NoTriple Closed c b v.1
-place-valid (place.Script j) c b v = v
-place-valid (place.Style j) c b v = v
-place-valid (place.Block lt) c b v = loose-valid c element.DataBlock tt
+place-valid : (p : Place) (c : Class) (b : ℕ) → IsValid p → place_cause p c b ≡ None → ScanValid (scan_next (At p) c b)
+place-valid place.Text LessThan b v n = tt
+place-valid place.Text _ b v n = tt
+place-valid place.Doctype GreaterThan b v n = tt
+place-valid place.Doctype _ b v n = tt
+place-valid (place.Comment dash) c b v n = comment-valid (comment_state dash) c
+place-valid (place.Rcdata e) c b v n = loose-valid c e (rcdata-rest e v)
+place-valid (place.Tag t) c b v n = tag-valid t c b v
+place-valid (place.Value x) c b v n = quotes-valid x x.quotes NoTriple Closed c b v.1 (value-built x Closed c b n)
+place-valid (place.Script j) c b v n = v
+place-valid (place.Style j) c b v n = v
+place-valid (place.Block lt) c b v n = loose-valid c element.DataBlock tt
 
 declaration-valid : (d : Declaration) (c : Class) (b : ℕ) (pending : List ℕ) → ScanValid (declaration_next d c b pending)
 declaration-valid OpensComment c b pending = tt
@@ -206,21 +217,22 @@ type-valid : (ends : Bool) (t : TagOf) (q : Quoting) (w : Value ValueState) (r :
 type-valid true t q w r c b = after-type-valid q c (type_tag t (ended_type w r))
 type-valid false t q w r c b = tt
 
-pub scan-valid : (f : Scan) (c : Class) (b : ℕ) → ScanValid f → ScanValid (scan_next f c b)
-scan-valid (At p) c b v = place-valid p c b v
-scan-valid AfterLess Solidus b v = tt
-scan-valid AfterLess LessThan b v = tt
-scan-valid AfterLess _ b v = tt
-scan-valid AfterLessSolidus LessThan b v = tt
-scan-valid AfterLessSolidus _ b v = tt
-scan-valid (InDeclaration pending) c b v = declaration-valid (declared_by (pending ++ b ∷ [])) c b pending
-scan-valid (InUrl x t r) c b v = quotes-valid x x.quotes t r c b (within-valid x.body v.1)
-scan-valid (InTagName ends name) c b v = name-valid c b ends name
-scan-valid (InAttributeName t typed name) c b v = attribute-valid c b t typed (kind_of (element_on t) name) name
-scan-valid (InCommentEnd s) c b v = comment-valid s c
-scan-valid (InContentEnd e h) c b v = content-end-valid h c b e v
-scan-valid (BeforeType t) c b v = before-type-valid t c b
-scan-valid (InType t q w r) c b v = type-valid (ends_value q c) t q w r c b
+pub scan-valid : (f : Scan) (c : Class) (b : ℕ) → ScanValid f → scan_error f c b ≡ None → ScanValid (scan_next f c b)
+scan-valid (At p) c b v n = place-valid p c b v n
+scan-valid AfterLess Solidus b v n = tt
+scan-valid AfterLess LessThan b v n = tt
+scan-valid AfterLess _ b v n = tt
+scan-valid AfterLessSolidus LessThan b v n = tt
+scan-valid AfterLessSolidus _ b v n = tt
+scan-valid (InDeclaration pending) c b v n = declaration-valid (declared_by (pending ++ b ∷ [])) c b pending
+scan-valid (InUrl x t r) c b v n = quotes-valid x x.quotes t r c b (within-valid x.body v.1) (value-built x r c b n)
+scan-valid (InStyle x s r) c b v n = absurd v
+scan-valid (InTagName ends name) c b v n = name-valid c b ends name
+scan-valid (InAttributeName t typed name) c b v n = attribute-valid c b t typed (kind_of (element_on t) name) name
+scan-valid (InCommentEnd s) c b v n = comment-valid s c
+scan-valid (InContentEnd e h) c b v n = content-end-valid h c b e v
+scan-valid (BeforeType t) c b v n = before-type-valid t c b
+scan-valid (InType t q w r) c b v n = type-valid (ends_value q c) t q w r c b
 
 -- and so is the place at which a text ends
 content-end-place-valid : (e : Element) (h : Pending) → IsValid (rest_place e) → IsValid (content_end_place e h)
@@ -235,6 +247,7 @@ content-end-place-valid element.Other h v = v
 pub end-valid : (f : Scan) → ScanValid f → IsValid (scan_place f)
 end-valid (At p) v = v
 end-valid (InUrl x t r) v = (begun-valid x.quotes v.0, within-valid (parts_with x.body (as_it_stands r)) (with-within x.body (as_it_stands r) v.1))
+end-valid (InStyle x s r) v = absurd v
 end-valid AfterLess v = tt
 end-valid AfterLessSolidus v = tt
 end-valid (InDeclaration pending) v = tt

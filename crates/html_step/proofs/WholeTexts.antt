@@ -2,7 +2,7 @@
 use Rattle.std.proofs.Common.{◌≡◌, ℕ, ◌+◌, List, [], ◌∷◌, Option, Some, None, Result, Ok, Err, refl, sym, ap, ◌∙◌, subst}
 use Rattle.place_core.specs.page.Classes.{class_of}
 use Rattle.place_core.specs.place.Errors.{PathCause, PathRefusal}
-use Rattle.place_core.specs.place.LastPercent.{last_percent}
+use Rattle.place_core.specs.place.LastLexeme.{last_lexeme_start}
 use Rattle.place_core.specs.place.Places.{Below, IsValid}
 use Rattle.place_core.specs.declared.code.Code.{Code}
 use Rattle.place_core.specs.declared.place.Place.{Place}
@@ -52,9 +52,9 @@ steps-text bytes p q e = ap (with_place_before bytes p) e
 
 -- what an accepted text refuses nowhere: the byte at hand, or its end
 pub step-ok : (k since b : ℕ) (bs : List ℕ) (f : Scan) (q : Place) → stepped k since (b ∷ bs) f ≡ Ok q
-    → (scan_error f (class_of b) b ≡ None) × (stepped (k + 1) (last_percent k since (scan_reference f) (class_of b) b) bs (scan_next f (class_of b) b) ≡ Ok q)
+    → (scan_error f (class_of b) b ≡ None) × (stepped (k + 1) (last_lexeme_start k since (scan_reference f) (class_of b) b) bs (scan_next f (class_of b) b) ≡ Ok q)
 step-ok k since b bs f q e =
-    not-refused k (scan_error f (class_of b) b) (stepped (k + 1) (last_percent k since (scan_reference f) (class_of b) b) bs (scan_next f (class_of b) b)) q e
+    not-refused k (scan_error f (class_of b) b) (stepped (k + 1) (last_lexeme_start k since (scan_reference f) (class_of b) b) bs (scan_next f (class_of b) b)) q e
 
 pub record EndOk (f : Scan) (q : Place) : Type 0 where
   pub cut : scan_cut_error f ≡ None
@@ -75,9 +75,9 @@ accepts-anywhere [] k since j begun f q e =
     (ap (λ (o : Option Code). unless_broken_off j begun o (scan_place f)) n.lexeme ∙ ap Ok n.place)
 accepts-anywhere (b ∷ bs) k since j begun f q e =
     let n = step-ok k since b bs f q e in
-    let last = last_percent j begun (scan_reference f) (class_of b) b in
+    let last = last_lexeme_start j begun (scan_reference f) (class_of b) b in
     refused-not j (scan_error f (class_of b) b) (stepped (j + 1) last bs (scan_next f (class_of b) b)) q n.0
-    (accepts-anywhere bs (k + 1) (last_percent k since (scan_reference f) (class_of b) b) (j + 1) last (scan_next f (class_of b) b) q n.1)
+    (accepts-anywhere bs (k + 1) (last_lexeme_start k since (scan_reference f) (class_of b) b) (j + 1) last (scan_next f (class_of b) b) q n.1)
 
 -- the order, wherever the texts stand
 abbrev pub GrowsFrom : ℕ → ℕ → List ℕ → Scan → Place → Type 0
@@ -96,9 +96,9 @@ grows-from [] k since begun f g q v h e =
 grows-from (b ∷ bs) k since begun f g q v h e =
     let n = step-ok k begun b bs g q e in
     let m = scan-grows f g (class_of b) b v h n.0 in
-    let last = last_percent k since (scan_reference f) (class_of b) b in
-    let other = last_percent k begun (scan_reference g) (class_of b) b in
-    let r = grows-from bs (k + 1) last other (scan_next f (class_of b) b) (scan_next g (class_of b) b) q (scan-valid f (class_of b) b v) m.1 n.1 in
+    let last = last_lexeme_start k since (scan_reference f) (class_of b) b in
+    let other = last_lexeme_start k begun (scan_reference g) (class_of b) b in
+    let r = grows-from bs (k + 1) last other (scan_next f (class_of b) b) (scan_next g (class_of b) b) q (scan-valid f (class_of b) b v m.0) m.1 n.1 in
     (r.0, refused-not k (scan_error f (class_of b) b) (stepped (k + 1) last bs (scan_next f (class_of b) b)) r.0 m.0 r.1, r.2)
 
 pub grows-text : GrowsText
@@ -111,7 +111,7 @@ valid-from : (bytes : List ℕ) (k since : ℕ) (f : Scan) (q : Place) → ScanV
 valid-from [] k since f q v e = (let n = end-ok k since f q e in subst IsValid n.place (end-valid f v))
 valid-from (b ∷ bs) k since f q v e =
     let n = step-ok k since b bs f q e in
-    valid-from bs (k + 1) (last_percent k since (scan_reference f) (class_of b) b) (scan_next f (class_of b) b) q (scan-valid f (class_of b) b v) n.1
+    valid-from bs (k + 1) (last_lexeme_start k since (scan_reference f) (class_of b) b) (scan_next f (class_of b) b) q (scan-valid f (class_of b) b v n.0) n.1
 
 pub valid-text : ValidText
 valid-text bytes p q v e = valid-from bytes 0 0 (At p) q v (text-steps bytes p q e)

@@ -16,7 +16,7 @@ use Rattle.place_core.specs.declared.quotes.Quotes.{Quotes}
 use Rattle.place_core.specs.declared.quotes.Quotes.TheVariants as quotes
 use Rattle.place_core.specs.declared.spots.Spots.{Spots}
 use Rattle.place_core.specs.declared.value_place.ValuePlace.{ValuePlace}
-use Rattle.html_scan.specs.Scans.{Scan, At, InAttributeName, InUrl, parts_cause, scan_error, scan_next}
+use Rattle.html_scan.specs.Scans.{Scan, At, InAttributeName, InUrl, InStyle, body_cause, scan_error, scan_next}
 use Rattle.html_step.specs.Laws.{EvidenceData, one, two, apart}
 use Rattle.url_lexer.specs.Classes.{url_class_of}
 use Rattle.url_lexer.specs.declared.class.UrlClass.{UrlClass}
@@ -71,7 +71,8 @@ white_origin s member.BeforeSpot = if s.name then member.NameSpot else member.Be
 white_origin s member.AfterSpot = if s.inside then member.InsideSpot else member.AfterSpot
 white_origin s y = member.Whole
 
--- Elsewhere in a tag only that a `type` may have been seen stays as it is; all else holds of each path.
+-- Elsewhere in a tag only that a `type` may have been seen stays as it is; all else holds of each path. In a value that is a style the other members
+-- are not traced yet: no text is accepted there.
 abbrev pub typed_origin : Member → Member
 typed_origin member.Typed = member.Typed
 typed_origin y = member.Whole
@@ -112,6 +113,7 @@ abbrev pub behind_origin : Scan → Class → Member → Member
 behind_origin (At p) c y = place_origin p c y
 behind_origin (InAttributeName t typed name) c y = name_origin typed
 behind_origin (InUrl v t r) c y = in_value_origin y
+behind_origin (InStyle v s r) c y = typed_origin y
 behind_origin f c y = member.Whole
 
 abbrev pub place_fed_origin : Place → Class → ℕ → Member → Member
@@ -131,6 +133,7 @@ abbrev pub end_origin : Scan → Member → Member
 end_origin (At p) y = y
 end_origin (InAttributeName t typed name) y = name_origin typed
 end_origin (InUrl v t r) y = body_origin v.body (as_it_stands r) y
+end_origin (InStyle v s r) y = typed_origin y
 end_origin f y = member.Whole
 
 -- the one before a text
@@ -198,7 +201,7 @@ url_or_quotes (Some e) x later = body_refusal_shows x e.code
 url_or_quotes None x later = later
 
 abbrev pub value_shows : ValuePlace → Reference → Class → ℕ → EvidenceData
-value_shows v r c b = url_or_quotes (parts_cause v.body v.quotes r c b) v.body (quotes_show (body_error v.body) v.quotes c)
+value_shows v r c b = url_or_quotes (body_cause v.body v.quotes r c b) v.body (quotes_show (body_error v.body) v.quotes c)
 
 abbrev pub place_shows : Place → Class → ℕ → EvidenceData
 place_shows (place.Comment dash) c b = one member.CommentDash

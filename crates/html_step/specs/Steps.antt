@@ -2,7 +2,7 @@
 use Rattle.std.specs.Prelude.{ℕ, zero, suc, ◌+◌, ◌-◌, List, [], ◌∷◌, Option, Some, None, Result, Ok, Err}
 use Rattle.place_core.specs.page.Classes.{class_of}
 use Rattle.place_core.specs.place.Errors.{PathCause, PathRefusal, or_place}
-use Rattle.place_core.specs.place.LastPercent.{last_percent}
+use Rattle.place_core.specs.place.LastLexeme.{last_lexeme_start}
 use Rattle.place_core.specs.declared.code.Code.{Code}
 use Rattle.place_core.specs.declared.place.Place.{Place}
 use Rattle.place_core.specs.declared.step_err.StepErr.{StepErr}
@@ -22,12 +22,12 @@ abbrev pub unless_broken_off : ℕ → ℕ → Option Code → Place → Result 
 unless_broken_off k since None p = Ok p
 unless_broken_off k since (Some e) p = Err (record { code = e; at = k; shown = since })
 
--- of bytes that stand at `k` in their text, where `since` is the place of the last percent sign before
+-- of bytes that stand at `k` in their text, where `since` is the place of the last `%` or `\` before
 abbrev pub stepped : ℕ → ℕ → List ℕ → Scan → Result Place PathRefusal
 stepped k since [] f =
     unless_refused k (scan_cut_error f) (unless_broken_off k since (scan_lexeme_error f) (scan_place f))
 stepped k since (b ∷ bs) f =
-    unless_refused k (scan_error f (class_of b) b) (stepped (k + 1) (last_percent k since (scan_reference f) (class_of b) b) bs (scan_next f (class_of b) b))
+    unless_refused k (scan_error f (class_of b) b) (stepped (k + 1) (last_lexeme_start k since (scan_reference f) (class_of b) b) bs (scan_next f (class_of b) b))
 
 -- The place that is shown before a byte of a text: the last one that there is up to this byte.
 abbrev pub shown_scan : ℕ → List ℕ → Scan → Option Place → Option Place

@@ -100,6 +100,7 @@ impl Origins {
                 reference,
                 ..
             } => { behind_end(self, text, place.body, reference).of(member) }
+            Scan::InStyle { .. } => self.of(typed_origin(member)),
             _ => self.of(Member::Whole),
         }
     }
@@ -226,6 +227,7 @@ fn behind_origin(scan: Scan, class: Class, member: Member) -> Member
         Scan::At(place) => place_origin(place, class, member),
         Scan::InAttributeName { typed, .. } => name_origin(typed),
         Scan::InUrl { .. } => in_value_origin(member),
+        Scan::InStyle { .. } => typed_origin(member),
         _ => Member::Whole,
     }
 }

@@ -6,8 +6,8 @@ ghost use Rattle.html_step.specs.Steps as spec;
 
 use crate::refusal::Refusal;
 use html_scan::{
-    Cause, Scan, at_byte, at_end, class_of, end_place, is_shown, last_percent, lexeme_at_end, next,
-    shown_place,
+    Cause, Scan, at_byte, at_end, class_of, end_place, is_shown, last_lexeme_start, lexeme_at_end,
+    next, shown_place,
 };
 use place_core::{Place, StepErr};
 
@@ -25,7 +25,7 @@ use place_core::{Place, StepErr};
 ///   a URL a `:`, also as a reference, behind a value of data, or where paths have spelled different things.
 /// - `PartialEscape`: a text that ends in a percent triple of a URL.
 /// - `NotBuilt`: the `>` before the content of a script or a style; the `=` before a value that is a script or a style; and each
-///   byte at a place in one of these.
+///   byte at a place in one of these, but for a byte that the language of a style refuses in a value, by its code.
 ///
 /// Takes no memory, and time in proportion to the length of the text.
 pub fn after_text(place: Place, text: &str) -> Result<Place, StepErr<Place>>
@@ -91,7 +91,7 @@ fn stepped(text: &[u8], place: Place) -> Result<Place, Refusal>
     let mut since = 0;
     for index in 0..text.len() {
         let class = class_of(text[index]);
-        since = last_percent(text, index, since, class, scan);
+        since = last_lexeme_start(text, index, since, class, scan);
         match at_byte(text, index, class, scan) {
             Some(cause) => return Err(refused(cause, index)),
             None => scan = next(text, index, class, scan),

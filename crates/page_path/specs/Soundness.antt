@@ -11,7 +11,7 @@ use Rattle.place_core.specs.page.Plain.{IsPlain, settled_config}
 use Rattle.place_core.specs.page.References.{Closed, undone}
 use Rattle.place_core.specs.page.Shape.{PageReads, ShapePart, marked}
 use Rattle.place_core.specs.page.States.{AfterAttributeName, AfterAttributeValue, AttributeName, AttributeValue, BeforeAttributeName, BeforeAttributeValue, Bytes, Characters, Config, InContent, Nothing, Page, SelfClosingStartTag, LexState, Text, config}
-use Rattle.place_core.specs.page.Tags.{Deciding, OfKind, OfUrl, Quoting, Tag, Unquoted, Value, ValueOf, ValueState, languages, attribute_value_of, without_value}
+use Rattle.place_core.specs.page.Tags.{Deciding, OfKind, OfStyle, OfUrl, Quoting, Tag, Unquoted, Value, ValueOf, ValueState, languages, attribute_value_of, without_value}
 use Rattle.san_html.specs.ReadBack.{read_value, as_name, read_as_text}
 use Rattle.text_norm.specs.FilledReadings.{value_text}
 use Rattle.text_norm.specs.Fillings.{FillsPath, url_bytes}
@@ -52,11 +52,13 @@ pub record IsUrlBack (q : Quoting) (tag : Tag) (u : Url) (s : LexState ValueStat
   pub goes_on : read Page bytes (config s []) ≡ read_value q tag (ValueOf (OfUrl u)) (url_bytes q characters) []
   pub reads : ReadsBack u.part text characters
 
--- in a value of an attribute, by how it is read
+-- in a value of an attribute, by how it is read; in one that is a style no value may stand yet
 abbrev pub IsValueBack : Quoting → Tag → Value ValueState → LexState ValueState → List ℕ → List ℕ → Type 0
 IsValueBack q tag (ValueOf (OfKind k)) s text bytes =
     read Page bytes (config s []) ≡ read_value q tag (ValueOf (OfKind k)) (value_text q text) []
 IsValueBack q tag (ValueOf (OfUrl u)) s text bytes = IsUrlBack q tag u s text bytes
+IsValueBack q tag (ValueOf (OfStyle style)) s text bytes =
+    read Page bytes (config s []) ≡ read_value q tag (ValueOf (OfStyle style)) (value_text q text) []
 IsValueBack q tag (Deciding k before) s text bytes =
     read Page bytes (config s []) ≡ read_value q tag (Deciding k before) (value_text q text) []
 

@@ -9,6 +9,7 @@ pub mod Joins
 pub mod NotPlain
 pub mod PathExamples
 pub mod PlaceExamples
+pub mod StylePathExamples
 pub mod UrlPathExamples
 pub mod Readings
 pub mod Semilattices

@@ -5,7 +5,8 @@ pub mod JoinLaws
 pub mod Membership
 pub mod PathPairs
 pub mod LanguagePlaces
-pub mod LastPercent
+pub mod LastLexeme
 pub mod Places
 pub mod StatePlaces
+pub mod StyleParts
 pub mod UrlParts

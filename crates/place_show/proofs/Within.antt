@@ -4,7 +4,7 @@ use Rattle.html_scan.specs.Scans.{At, Scan, scan_reference, scan_cut_error, scan
 use Rattle.html_step.specs.Steps.{after_text, place_before, stepped, unless_broken_off, unless_refused, with_place_before}
 use Rattle.place_core.specs.page.Classes.{class_of}
 use Rattle.place_core.specs.place.Errors.{PathCause, PathRefusal}
-use Rattle.place_core.specs.place.LastPercent.{last_percent}
+use Rattle.place_core.specs.place.LastLexeme.{last_lexeme_start}
 use Rattle.place_core.specs.declared.code.Code.{Code}
 use Rattle.place_core.specs.declared.place.Place.{Place}
 use Rattle.place_core.specs.declared.step_err.StepErr.{StepErr}
@@ -35,7 +35,7 @@ stepped-within k since [] f x h =
     unless-within k 0 (scan_cut_error f) (unless_broken_off k since (scan_lexeme_error f) (scan_place f)) x
     (λ y e. broken-within k since (scan_lexeme_error f) (scan_place f) y e) h
 stepped-within k since (b ∷ bs) f x h =
-    let last = last_percent k since (scan_reference f) (class_of b) b in
+    let last = last_lexeme_start k since (scan_reference f) (class_of b) b in
     let g = scan_next f (class_of b) b in
     unless-within k (length (b ∷ bs)) (scan_error f (class_of b) b) (stepped (k + 1) last bs g) x
     (λ y e. (let w = stepped-within (k + 1) last bs g y e in omega (arith, w))) h

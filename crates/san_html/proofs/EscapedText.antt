@@ -11,7 +11,7 @@ use Rattle.place_core.specs.page.Html.{read}
 use Rattle.place_core.specs.page.Plain.{only_text, only_block, HasBytes, IsPlain, IsPlainInState}
 use Rattle.place_core.specs.page.References.{Closed, meaning, flushed, undone}
 use Rattle.place_core.specs.page.States.{Page, Text, Config, config}
-use Rattle.place_core.specs.page.Tags.{Tag, Value, ValueOf, Deciding, ValueState, OfKind, languages, with_byte, with_bytes, emitted_bytes, Quoting, DoubleQuoted, SingleQuoted, Unquoted}
+use Rattle.place_core.specs.page.Tags.{Tag, Value, ValueOf, Deciding, ValueState, OfKind, OfUrl, OfStyle, feed_value, languages, with_byte, with_bytes, emitted_bytes, Quoting, DoubleQuoted, SingleQuoted, Unquoted}
 use Rattle.place_core.specs.declared.element.Element.{Element}
 use Rattle.place_core.specs.declared.element.Element.TheVariants as element
 use Rattle.place_core.specs.declared.kind.Kind.{Kind}
@@ -79,16 +79,24 @@ pub same-kind : (k : Kind) (bs : List ℕ) → with_bytes languages (ValueOf (Of
 same-kind k [] = refl
 same-kind k (b ∷ bs) = same-kind k bs
 
--- bytes of any value are told as they are
-pub value-told : (bs : List ℕ) (v : Value ValueState) (t : List LexEvent) → emitted_bytes languages v bs t ≡ value_bytes bs t
-value-told [] v t = refl
-value-told (b ∷ bs) (ValueOf v) t = value-told bs (with_byte languages (ValueOf v) b) (ValueByte b ∷ t)
+-- Bytes of a value are told as they are. Of a style nothing is said: it tells what it reads, and not its bytes.
+abbrev pub AreTold : Value ValueState → List ℕ → List LexEvent → Type 0
+AreTold (ValueOf (OfStyle s)) bs t = Unit {0}
+AreTold v bs t = emitted_bytes languages v bs t ≡ value_bytes bs t
+
+pub value-told : (bs : List ℕ) (v : Value ValueState) (t : List LexEvent) → AreTold v bs t
+value-told bs (ValueOf (OfStyle s)) t = tt
+value-told [] (ValueOf (OfKind k)) t = refl
+value-told [] (ValueOf (OfUrl u)) t = refl
+value-told [] (Deciding k before) t = refl
+value-told (b ∷ bs) (ValueOf (OfKind k)) t = value-told bs (ValueOf (OfKind k)) (ValueByte b ∷ t)
+value-told (b ∷ bs) (ValueOf (OfUrl u)) t = value-told bs (ValueOf (feed_value (OfUrl u) b)) (ValueByte b ∷ t)
 value-told (b ∷ bs) (Deciding k before) t = value-told bs (with_byte languages (Deciding k before) b) (ValueByte b ∷ t)
 
 -- bytes that a value of kind Plain reads as a text are plain in it
-pub plain-in-kind : (q : Quoting) (tag : Tag) (text : List ℕ) (d : Config ValueState) → HasBytes q text → d ≡ read_value q tag (ValueOf (OfKind kind.Plain)) text []
-    → IsPlainInState (OfKind kind.Plain) q tag d
-plain-in-kind q tag text d some e = rw e (record {
+pub plain-in-kind : (q : Quoting) (tag : Tag) (text bytes : List ℕ) (d : Config ValueState) → HasBytes q text → d ≡ read_value q tag (ValueOf (OfKind kind.Plain)) text []
+    → IsPlainInState (OfKind kind.Plain) q tag bytes d
+plain-in-kind q tag text bytes d some e = rw e (record {
   value = text;
   after = OfKind kind.Plain;
   within = ap (in_value q tag) (same-kind kind.Plain text);
@@ -99,18 +107,18 @@ plain-in-kind q tag text d some e = rw e (record {
 
 -- bytes that tell nothing but a text are plain
 text-plain : (text bytes : List ℕ) (t : List LexEvent) → read Page bytes (config (Text Closed) []) ≡ config (Text Closed) (event_text_bytes text []) → IsPlain bytes (config (Text Closed) t)
-text-plain text bytes t e = (refl, rw e (refl, only-text text [] refl))
+text-plain text bytes t e = (λ n. refl, rw e (refl, only-text text [] refl))
 
 rcdata-plain : (x : Element) (text bytes : List ℕ) (t : List LexEvent) → read Page bytes (config (in_rcdata x) []) ≡ config (in_rcdata x) (event_text_bytes text []) → IsPlain bytes (config (in_rcdata x) t)
-rcdata-plain x text bytes t e = (refl, rw e (refl, only-text text [] refl))
+rcdata-plain x text bytes t e = (λ n. refl, rw e (refl, only-text text [] refl))
 
 block-plain : (text bytes : List ℕ) (t : List LexEvent) → read Page bytes (config in_block []) ≡ config in_block (block_bytes text []) → IsPlain bytes (config in_block t)
-block-plain text bytes t e = (refl, rw e (refl, only-block text [] refl))
+block-plain text bytes t e = (λ n. refl, rw e (refl, only-block text [] refl))
 
 quoted-plain : (q : Quoting) (tag : Tag) (text bytes : List ℕ) (t : List LexEvent) → reads_quoted q ≡ true → read Page bytes (config (in_value q tag (ValueOf (OfKind kind.Plain))) []) ≡ read_value q tag (ValueOf (OfKind kind.Plain)) text []
     → IsPlain bytes (config (in_value q tag (ValueOf (OfKind kind.Plain))) t)
-quoted-plain DoubleQuoted tag text bytes t q e = (refl, plain-in-kind DoubleQuoted tag text (read Page bytes (config (in_value DoubleQuoted tag (ValueOf (OfKind kind.Plain))) [])) tt e)
-quoted-plain SingleQuoted tag text bytes t q e = (refl, plain-in-kind SingleQuoted tag text (read Page bytes (config (in_value SingleQuoted tag (ValueOf (OfKind kind.Plain))) [])) tt e)
+quoted-plain DoubleQuoted tag text bytes t q e = (λ n. refl, plain-in-kind DoubleQuoted tag text bytes (read Page bytes (config (in_value DoubleQuoted tag (ValueOf (OfKind kind.Plain))) [])) tt e)
+quoted-plain SingleQuoted tag text bytes t q e = (λ n. refl, plain-in-kind SingleQuoted tag text bytes (read Page bytes (config (in_value SingleQuoted tag (ValueOf (OfKind kind.Plain))) [])) tt e)
 quoted-plain Unquoted tag text bytes t q e = cc
 
 -- in text the value counts for nothing

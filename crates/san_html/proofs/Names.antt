@@ -106,10 +106,10 @@ named : (tag : Tag) (bytes : List ℕ) (d : Config ValueState) → bytes ≢ [] 
 named tag bytes d n h s e = rw e (record { within = refl; emitted = refl; some = n; letters = h; harmless = s })
 
 plain : (s : LexState ValueState) (tag : Tag) (bytes : List ℕ) (t : List LexEvent) → BeginsName s tag → bytes ≢ [] → list_all is_ascii_alphanumeric bytes ≡ true → is_special bytes ≡ false → IsPlain bytes (config s t)
-plain (BeforeAttributeName before) tag bytes t i n h f = (refl, named before bytes _ n h f (whole (BeforeAttributeName before) before bytes [] refl n h))
-plain (AfterAttributeName before k) tag bytes t i n h f = (refl, named (without_value before k) bytes _ n h f (whole (AfterAttributeName before k) (without_value before k) bytes [] refl n h))
-plain (AfterAttributeValue before) tag bytes t i n h f = (refl, named before bytes _ n h f (whole (AfterAttributeValue before) before bytes [] refl n h))
-plain (SelfClosingStartTag before) tag bytes t i n h f = (refl, named before bytes _ n h f (whole (SelfClosingStartTag before) before bytes [] refl n h))
+plain (BeforeAttributeName before) tag bytes t i n h f = (λ m. refl, named before bytes _ n h f (whole (BeforeAttributeName before) before bytes [] refl n h))
+plain (AfterAttributeName before k) tag bytes t i n h f = (λ m. refl, named (without_value before k) bytes _ n h f (whole (AfterAttributeName before k) (without_value before k) bytes [] refl n h))
+plain (AfterAttributeValue before) tag bytes t i n h f = (λ m. refl, named before bytes _ n h f (whole (AfterAttributeValue before) before bytes [] refl n h))
+plain (SelfClosingStartTag before) tag bytes t i n h f = (λ m. refl, named before bytes _ n h f (whole (SelfClosingStartTag before) before bytes [] refl n h))
 plain _ tag bytes t i n h f = absurd i
 
 back-word : (text bytes : List ℕ) → bytes ≢ [] → list_all is_ascii_alphanumeric bytes ≡ true → is_special bytes ≡ false → str_to_ascii_lowercase bytes ≡ as_name text → IsBackInTag text bytes

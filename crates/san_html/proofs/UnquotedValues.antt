@@ -111,14 +111,14 @@ abbrev of_plain : Value ValueState
 of_plain = ValueOf (OfKind kind.Plain)
 
 unquoted-plain : (tag : Tag) (text bytes : List ℕ) → text ≢ [] → read Page bytes (config (in_value Unquoted tag of_plain) []) ≡ read_value Unquoted tag of_plain (read_as_text text) []
-    → IsPlainInState (OfKind kind.Plain) Unquoted tag (read Page bytes (config (in_value Unquoted tag of_plain) []))
-unquoted-plain tag text bytes n e = plain-in-kind Unquoted tag (read_as_text text) (read Page bytes (config (in_value Unquoted tag of_plain) [])) (text-some text n) e
+    → IsPlainInState (OfKind kind.Plain) Unquoted tag bytes (read Page bytes (config (in_value Unquoted tag of_plain) []))
+unquoted-plain tag text bytes n e = plain-in-kind Unquoted tag (read_as_text text) bytes (read Page bytes (config (in_value Unquoted tag of_plain) [])) (text-some text n) e
 
 back : (text bytes : List ℕ) → text ≢ [] → begins bytes ≡ true → ((tag : Tag) (v : Value ValueState) (t : List LexEvent) → read Page bytes (config (in_value Unquoted tag v) t) ≡ read_value Unquoted tag v (read_as_text text) t) → IsBackInUnquoted text bytes
 back text bytes n h reads = record {
-  plain = λ tag t. (refl, unquoted-plain tag text bytes n (reads tag of_plain []));
+  plain = λ tag t. (λ m. refl, unquoted-plain tag text bytes n (reads tag of_plain []));
   reads = λ tag v t. rw (unquoted-some text n) (reads tag v t);
-  plain_unbegun = λ tag t. (refl, (at-once bytes h, subst (IsPlainInState (OfKind kind.Plain) Unquoted tag) (sym (unbegun bytes tag kind.Plain [] h)) (unquoted-plain tag text bytes n (reads tag of_plain []))));
+  plain_unbegun = λ tag t. (λ m. refl, (at-once bytes h, subst (IsPlainInState (OfKind kind.Plain) Unquoted tag bytes) (sym (unbegun bytes tag kind.Plain [] h)) (unquoted-plain tag text bytes n (reads tag of_plain []))));
   reads_unbegun = λ tag k t. unbegun bytes tag k t h ∙ rw (unquoted-some text n) (reads tag (attribute_value_of languages k) t);
 }
 
@@ -133,9 +133,9 @@ back-some (c ∷ cs) n = back (encode_utf8_all (c ∷ cs)) (replaced_all attr_no
 back-failsafe : IsBackInUnquoted [] failsafe
 unfolding class_of
 back-failsafe = record {
-  plain = λ tag t. (refl, plain-in-kind Unquoted tag failsafe (read Page failsafe (config (in_value Unquoted tag of_plain) [])) (λ e. cc) refl);
+  plain = λ tag t. (λ m. refl, plain-in-kind Unquoted tag failsafe failsafe (read Page failsafe (config (in_value Unquoted tag of_plain) [])) (λ e. cc) refl);
   reads = λ tag v t. refl;
-  plain_unbegun = λ tag t. (refl, (refl, plain-in-kind Unquoted tag failsafe (read Page failsafe (config (BeforeAttributeValue tag kind.Plain) [])) (λ e. cc) refl));
+  plain_unbegun = λ tag t. (λ m. refl, (refl, plain-in-kind Unquoted tag failsafe failsafe (read Page failsafe (config (BeforeAttributeValue tag kind.Plain) [])) (λ e. cc) refl));
   reads_unbegun = λ tag k t. refl;
 }
 

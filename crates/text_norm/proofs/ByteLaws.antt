@@ -24,7 +24,9 @@ use Rattle.place_core.specs.declared.tag_of.TagOf.TheVariants as tag
 use Rattle.place_core.specs.declared.tag_place.TagPlace.{TagPlace}
 use Rattle.place_core.specs.declared.value_place.ValuePlace.{ValuePlace}
 use Rattle.std.proofs.Common.{Option, Some, None}
-use Rattle.html_scan.specs.Scans.{Scan, At, AfterLess, AfterLessSolidus, InDeclaration, InTagName, InAttributeName, InCommentEnd, InContentEnd, InUrl, BeforeType, InType, after_type, attribute_name_next, bare_begun, bare_next, before_type_next, bare_white, comment_closed, comment_scan, comment_next, comment_state, content_end_next, content_scan, content_next, declaration_next, doctype_next, end_name_next, ended_type, in_type, pending_less_next, bang_next, scan_next, quoted_next, tag_name_next, tag_next, text_scan, type_next, type_tag, value_scan, type_begun, parts_feeding, triple_behind, url_scan, value_fed, with_parts}
+use Rattle.std.specs.Prelude.{if◌then◌else◌}
+use Rattle.css_step.specs.StyleScans.{StyleScan, is_style_start, style_scan_start}
+use Rattle.html_scan.specs.Scans.{bare_leads, empty_style_between, quotes_lead, style_fed, style_feeding, style_scan, value_between, with_style, Scan, At, AfterLess, AfterLessSolidus, InDeclaration, InTagName, InAttributeName, InCommentEnd, InContentEnd, InUrl, InStyle, BeforeType, InType, after_type, attribute_name_next, bare_begun, bare_next, before_type_next, bare_white, comment_closed, comment_scan, comment_next, comment_state, content_end_next, content_scan, content_next, declaration_next, doctype_next, end_name_next, ended_type, in_type, pending_less_next, bang_next, scan_next, quoted_next, tag_name_next, tag_next, text_scan, type_next, type_tag, value_scan, type_begun, parts_feeding, triple_behind, url_scan, value_fed, with_parts}
 use Rattle.url_lexer.specs.Triples.{Triple, NoTriple, AfterPercent, AfterDigit}
 use Rattle.text_norm.specs.Scanned.{declaration_open, scan_open, scan_out}
 use Rattle.text_norm.specs.Kept.{bears, change_of, scan_kept, hides, less_kept, reference_kept, stays}
@@ -245,13 +247,22 @@ goes_on_url v NoTriple (Open f bytes) = record { less = refl; bears = refl; show
 goes_on_url v AfterPercent z = record { less = refl; bears = refl; shown = refl }
 goes_on_url v AfterDigit z = record { less = refl; bears = refl; shown = refl }
 
+goes_on_rest : (starts : Bool) (v : ValuePlace) (s : StyleScan) → GoesOn (if starts then At (with_style v s) else InStyle v s Closed)
+goes_on_rest true v s = record { less = refl; bears = refl; shown = refl }
+goes_on_rest false v s = record { less = refl; bears = refl; shown = refl }
+
+goes_on_style : (v : ValuePlace) (s : StyleScan) (z : Reference) → GoesOn (style_scan v s z)
+goes_on_style v s Closed = goes_on_rest (is_style_start s) v s
+goes_on_style v s (Open f bytes) = record { less = refl; bears = refl; shown = refl }
+
 goes_on_fed : (x : Body) (v : ValuePlace) (q : Quotes) (t : Triple) (z : Reference) (c : Class) (b : ℕ) → GoesOn (value_fed v q x t z c b)
 goes_on_fed (body.Url s) v q t z c b =
     goes_on_url (with_parts v q (feed_bytes parts_feeding s (undone_byte true z c b))) (triple_behind t (undone_byte true z c b)) (next_reference z c b)
 goes_on_fed body.Plain v q t z c b = record { less = refl; bears = refl; shown = refl }
 goes_on_fed body.NoHole v q t z c b = record { less = refl; bears = refl; shown = refl }
 goes_on_fed (body.Js j) v q t z c b = record { less = refl; bears = refl; shown = refl }
-goes_on_fed (body.Css j) v q t z c b = record { less = refl; bears = refl; shown = refl }
+goes_on_fed (body.Css p) v q t z c b =
+    goes_on_style (empty_style_between v q) (feed_bytes style_feeding (style_scan_start p) (undone_byte true z c b)) (next_reference z c b)
 
 goes_on : (f g : Scan) (r : Reference) (c : Class) (b : ℕ) → Spelled c b → ReadsValue f → GoesOn g → KeepsBytes f g r (next_reference r c b) c b (reference_out r c b)
 goes_on f g r c b p i o = with_references f g r c b p i.less o.less (λ h. absurd (yes (sym o.bears ∙ h))) o.shown i.shown (i.moves g) (i.kept c b r)
@@ -288,6 +299,39 @@ in_quotes : (f : Scan) → ReadsValue f → (q : Quotes) (c : Class) (b : ℕ) (
 in_quotes f i quotes.Dq c b v t z r p = in_double f i c b v t z r p
 in_quotes f i quotes.Sq c b v t z r p = in_single f i c b v t z r p
 in_quotes f i (quotes.Bare u) c b v t z r p = in_bare f i c b v u.uq t z r p
+
+-- In a style, in which the text has begun.
+style-fed : (v : ValuePlace) (s : StyleScan) (z : Reference) (c : Class) (b : ℕ) → GoesOn (style_fed v s z c b)
+style-fed v s z c b = goes_on_style v (feed_bytes style_feeding s (undone_byte true z c b)) (next_reference z c b)
+
+in_double_style : (f : Scan) → ReadsValue f → (c : Class) (b : ℕ) (v : ValuePlace) (g : Quotes → Scan) (r : Reference) → Spelled c b → GoesOn (g quotes.Dq)
+    → KeepsBytes f (quotes_lead v quotes.Dq c g) r (next_reference r c b) c b (reference_out r c b)
+in_double_style f i QuotationMark b v g r p o =
+    ends_it f _ r QuotationMark b p i (record { less = refl; shown = refl }) (ends_at_quotation r b)
+in_double_style f i c b v g r p o = goes_on f (g quotes.Dq) r c b p i o
+
+in_single_style : (f : Scan) → ReadsValue f → (c : Class) (b : ℕ) (v : ValuePlace) (g : Quotes → Scan) (r : Reference) → Spelled c b → GoesOn (g quotes.Sq)
+    → KeepsBytes f (quotes_lead v quotes.Sq c g) r (next_reference r c b) c b (reference_out r c b)
+in_single_style f i Apostrophe b v g r p o =
+    ends_it f _ r Apostrophe b p i (record { less = refl; shown = refl }) (ends_at_apostrophe r b)
+in_single_style f i c b v g r p o = goes_on f (g quotes.Sq) r c b p i o
+
+in_bare_style : (f : Scan) → ReadsValue f → (c : Class) (b : ℕ) (v : ValuePlace) (uq : Bool) (g : Scan) (r : Reference) → Spelled c b → GoesOn g
+    → KeepsBytes f (bare_leads v uq c g) r (next_reference r c b) c b (reference_out r c b)
+in_bare_style f i White b v uq g r p o = in_bare_white f i uq b v r p
+in_bare_style f i QuotationMark b v uq g r p o = goes_on f _ r QuotationMark b p i (record { less = refl; bears = refl; shown = refl })
+in_bare_style f i Apostrophe b v uq g r p o = goes_on f _ r Apostrophe b p i (record { less = refl; bears = refl; shown = refl })
+in_bare_style f i GreaterThan b v uq g r p o = ends_it f (content_scan v.tag) r GreaterThan b p i (loose-content v.tag) (ends_at_greater r b)
+in_bare_style f i c b v uq g r p o = goes_on f g r c b p i o
+
+in_style : (q : Quotes) (f : Scan) → ReadsValue f → (c : Class) (b : ℕ) (v : ValuePlace) (s : StyleScan) (z r : Reference) → Spelled c b
+    → KeepsBytes f (quotes_lead v q c (λ p. style_fed (value_between v p) s z c b)) r (next_reference r c b) c b (reference_out r c b)
+in_style quotes.Dq f i c b v s z r p = in_double_style f i c b v (λ p. style_fed (value_between v p) s z c b) r p (style-fed (value_between v quotes.Dq) s z c b)
+in_style quotes.Sq f i c b v s z r p = in_single_style f i c b v (λ p. style_fed (value_between v p) s z c b) r p (style-fed (value_between v quotes.Sq) s z c b)
+in_style (quotes.Bare u) f i c b v s z r p = in_bare_style f i c b v u.uq (style_fed (value_between v bare_begun) s z c b) r p (style-fed (value_between v bare_begun) s z c b)
+
+reads-style : (v : ValuePlace) (s : StyleScan) (z : Reference) → ReadsValue (InStyle v s z)
+reads-style v s z = record { less = refl; shown = refl; moves = λ g. refl; kept = λ c b r. refl }
 
 reads-place : (v : ValuePlace) → ReadsValue (At (place.Value v))
 reads-place v = record { less = refl; shown = refl; moves = λ g. refl; kept = λ c b r. refl }
@@ -863,5 +907,6 @@ law (InAttributeName t typed name) c b r i p closed = without_references (InAttr
 law (InCommentEnd s) c b r i p closed = leaves c s (InCommentEnd s) r b refl
 law (InContentEnd e h) c b r i p closed = at_end e h c b r i p closed
 law (InUrl v t z) c b r i p closed = in_quotes (InUrl v t z) (reads-url v t z) v.quotes c b v t z r p
+law (InStyle v s z) c b r i p closed = in_style v.quotes (InStyle v s z) (reads-style v s z) c b v s z r p
 law (BeforeType t) c b r i p closed = before_type c b t r p
 law (InType t q v z) c b r i p closed = within_type (ends_value q c) q c b t v z r refl p

@@ -7,7 +7,7 @@ use Rattle.place_core.specs.place.Places.{Below}
 use Rattle.place_core.specs.page.References.{Reference, Closed, Open}
 use Rattle.place_core.specs.place.StatePlaces.{block_place, comment_place, content_place, placed, quotes_at, unbegun, value_body, only_after, only_inside, tag_spot, value_spot, where_closed}
 use Rattle.place_core.specs.page.States.{LexState, Text, TagOpen, EndTagOpen, DeclarationOpen, CommentState, Inside, Broken, InComment, BogusComment, InDoctype, TagName, WholeTagName, BeforeAttributeName, AttributeName, WholeAttributeName, AfterAttributeName, BeforeAttributeValue, AttributeValue, AfterAttributeValue, SelfClosingStartTag, Characters, Bytes, Nothing, PendingLess, LessAtCut, PendingName, PendingBang, PendingBangDash, InContent, Unread, Config, config}
-use Rattle.place_core.specs.page.Tags.{Tag, is_second_type, ValueOf, Deciding, ValueState, OfKind, OfUrl, languages, attribute_value_of}
+use Rattle.place_core.specs.page.Tags.{Tag, is_second_type, ValueOf, Deciding, ValueState, OfKind, OfUrl, OfStyle, languages, attribute_value_of}
 use Rattle.place_core.specs.declared.body.Body.{Body}
 use Rattle.place_core.specs.declared.element.Element.{Element}
 use Rattle.place_core.specs.declared.element.Element.TheVariants as element
@@ -79,6 +79,7 @@ same-state (BeforeAttributeValue tag k) t d h l = l
 same-state (AttributeValue q tag (ValueOf (OfKind k)) Closed) t d h l = l.stands ∙ ap (λ (w : ValueState). config (AttributeValue q tag (ValueOf w) Closed) t) l.alike
 same-state (AttributeValue q tag (ValueOf (OfKind k)) (Open f b)) t d h l = absurd (no h)
 same-state (AttributeValue q tag (ValueOf (OfUrl u)) r) t d h l = absurd (no h)
+same-state (AttributeValue q tag (ValueOf (OfStyle s)) r) t d h l = absurd (no h)
 same-state (AttributeValue q tag (Deciding k before) Closed) t d h l = l
 same-state (AttributeValue q tag (Deciding k before) (Open f b)) t d h l = absurd (no h)
 same-state (AfterAttributeValue tag) t d h l = l

@@ -5,7 +5,7 @@ use Rattle.place_core.specs.page.References.{Reference, Closed, as_it_stands}
 use Rattle.place_core.specs.page.States.{PendingLess, LessAtCut, PendingName, PendingBang, PendingBangDash, Nothing}
 use Rattle.place_core.specs.declared.element.Element.TheVariants as element
 use Rattle.place_core.specs.declared.place.Place.TheVariants as place
-use Rattle.html_scan.specs.Scans.{Scan, At, AfterLess, AfterLessSolidus, InDeclaration, InTagName, InAttributeName, InCommentEnd, InContentEnd, InUrl, BeforeType, InType}
+use Rattle.html_scan.specs.Scans.{Scan, At, AfterLess, AfterLessSolidus, InDeclaration, InTagName, InAttributeName, InCommentEnd, InContentEnd, InUrl, InStyle, BeforeType, InType}
 use Rattle.text_norm.specs.Scanned.{scan_cut_out}
 use Rattle.text_norm.specs.Kept.{IsProgressKept, bears, ending_of, scan_of, hides, less_kept, reference_of}
 use Rattle.text_norm.specs.Written.{text_escaped}
@@ -59,6 +59,7 @@ end_law (InContentEnd e LessAtCut) r i h = absurd i
 end_law (InContentEnd e PendingBang) r i h = absurd i
 end_law (InContentEnd e PendingBangDash) r i h = absurd i
 end_law (InUrl v t z) r i h = record { out = refl; less = refl; shown = refl }
+end_law (InStyle v s z) r i h = record { out = refl; less = refl; shown = refl }
 end_law (BeforeType t) r i h = record { out = refl; less = refl; shown = refl }
 end_law (InType t q v z) r i h = record { out = refl; less = refl; shown = refl }
 

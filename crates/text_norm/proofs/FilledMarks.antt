@@ -1,8 +1,11 @@
 -- How a page's events, read as bytes alone, fill those of its reading with marks: an event, a mark, bytes of text, and a hole in each state.
 use Rattle.std.proofs.Common.{◌≡◌, ℕ, Bool, true, false, List, [], ◌∷◌, ◌++◌, None, if◌then◌else◌, refl, sym, ap, ◌∙◌, subst}
+use Rattle.css_lexer.specs.Events.{StyleEvent}
+use Rattle.css_lexer.specs.Steps.{style_emits, style_ends}
+use Rattle.css_lexer.specs.Urls.{urls}
 use Rattle.page_datum.specs.Data.{Data}
 use Rattle.page_datum.specs.Printed.{printed}
-use Rattle.place_core.specs.page.Events.{AttributeBegins, AttributeNameByte, BlockByte, LexEvent, Mark, TextByte, ValueByte, ValueScheme, attribute_name_bytes, block_bytes, event_text_bytes, value_bytes}
+use Rattle.place_core.specs.page.Events.{AttributeBegins, AttributeNameByte, BlockByte, InsideStyle, LexEvent, Mark, TextByte, ValueByte, ValueScheme, attribute_name_bytes, block_bytes, event_text_bytes, told_in_style, value_bytes}
 use Rattle.place_core.specs.page.Classes.{class_of}
 use Rattle.place_core.specs.page.Html.{emits, next, read, read_over}
 use Rattle.place_core.specs.place.Errors.{node, states}
@@ -13,7 +16,7 @@ use Rattle.place_core.specs.page.Shape.{marked, state_past_hole}
 use Rattle.place_core.specs.page.Plain.{settled_state}
 use Rattle.place_core.specs.page.States.{AttributeName, AttributeValue, BeforeAttributeValue, Config, LexState, Page, Template, Text, config}
 use Rattle.place_core.specs.page.References.{Closed}
-use Rattle.place_core.specs.page.Tags.{DoubleQuoted, Quoting, SingleQuoted, Tag, Unquoted, Value, ValueOf, ValueState, OfKind, OfUrl, emitted_bytes, ends_state, feed_value, languages, value_after_cut, value_start}
+use Rattle.place_core.specs.page.Tags.{DoubleQuoted, Quoting, SingleQuoted, Tag, Unquoted, Value, ValueOf, ValueState, OfKind, OfUrl, OfStyle, emits_state, emitted_bytes, ends_state, feed_value, languages, value_after_cut, value_start}
 use Rattle.place_core.specs.declared.element.Element.{Element}
 use Rattle.place_core.specs.declared.kind.Kind.{Kind}
 use Rattle.place_core.specs.declared.kind.Kind.TheVariants as kind
@@ -30,7 +33,7 @@ use Rattle.text_norm.specs.HoleLaws.{IsBackBy}
 use Rattle.text_norm.specs.Standing.{TextStands}
 use Rattle.url_lexer.specs.Alike.{UrlsAlike}
 use Rattle.url_lexer.specs.Classes.{url_class_of}
-use Rattle.url_lexer.specs.Events.{Free, Named, told_scheme, scheme_at_end}
+use Rattle.url_lexer.specs.Events.{Free, Named, UrlEvent, told_scheme, scheme_at_end}
 use Rattle.url_lexer.specs.Holes.{url_behind}
 use Rattle.url_lexer.specs.Parts.{UrlPart, UrlStart}
 use Rattle.url_lexer.specs.Plain.{ArePlainBytes}
@@ -41,7 +44,7 @@ use Rattle.url_lexer.specs.Triples.{NoTriple}
 use Rattle.url_lexer.proofs.Language.{language-laws}
 
 -- A URL in the reading with marks, and in that of bytes alone, where no hole is known: data moves the part, and no hole makes the scheme free. The scheme
--- is moved by all bytes in both.
+-- is moved by all bytes in both. A style is the same in both, since no value may stand in one.
 pub record SchemesSame (u w : Url) : Type 0 where
   pub scheme : w.scheme ≡ u.scheme
   pub bound : w.free ≡ false
@@ -49,7 +52,8 @@ pub record SchemesSame (u w : Url) : Type 0 where
 abbrev pub RawBeside : ValueState → ValueState → Type 0
 RawBeside (OfKind k) w = w ≡ OfKind k
 RawBeside (OfUrl u) (OfUrl w) = SchemesSame u w
-RawBeside (OfUrl u) (OfKind k) = ⊥
+RawBeside (OfUrl u) w = ⊥
+RawBeside (OfStyle s) w = w ≡ OfStyle s
 
 raw-starts : (k : Kind) → RawBeside (value_start k) (value_start k)
 raw-starts kind.Url = record { scheme = refl; bound = refl }
@@ -58,12 +62,14 @@ raw-starts _ = refl
 raw-feeds : (v w : ValueState) (b : ℕ) → RawBeside v w → RawBeside (feed_value v b) (feed_value w b)
 raw-feeds (OfKind k) w b a = ap (λ (z : ValueState). feed_value z b) a
 raw-feeds (OfUrl u) (OfUrl w) b a = record { scheme = ap (λ (s : UrlScheme). next_scheme s (url_class_of b) b) a.scheme; bound = a.bound }
-raw-feeds (OfUrl u) (OfKind k) b a = absurd a
+raw-feeds (OfUrl u) _ b a = absurd a
+raw-feeds (OfStyle s) w b a = ap (λ (z : ValueState). feed_value z b) a
 
 raw-cuts : (v w : ValueState) → RawBeside v w → RawBeside (value_after_cut v) (value_after_cut w)
 raw-cuts (OfKind k) w a = ap value_after_cut a
 raw-cuts (OfUrl u) (OfUrl w) a = record { scheme = a.scheme; bound = a.bound }
-raw-cuts (OfUrl u) (OfKind k) a = absurd a
+raw-cuts (OfUrl u) _ a = absurd a
+raw-cuts (OfStyle s) w a = ap value_after_cut a
 
 pub raw-fed : IsFedAlike ValueState languages RawBeside
 raw-fed = record { starts = raw-starts; feeds = raw-feeds; cuts = raw-cuts }
@@ -77,6 +83,12 @@ pub fills-keep : (vs : List Filling) (e : LexEvent) (t u : List LexEvent) → Is
 fills-keep vs Mark t u n f = absurd n
 fills-keep vs (ValueScheme s) t u n f = absurd n
 fills-keep vs e t u n f = (e, u, refl, refl, f)
+
+-- what a style tells, likewise
+fills-told : (vs : List Filling) (es : List (StyleEvent UrlEvent)) (t u : List LexEvent) → Fills t vs u
+    → Fills (told_in_style es t) vs (told_in_style es u)
+fills-told vs [] t u f = f
+fills-told vs (e ∷ es) t u f = fills-keep vs (InsideStyle e) (told_in_style es t) (told_in_style es u) tt (fills-told vs es t u f)
 
 -- a mark, and the run that fills it
 pub fills-mark : (v : Filling) (vs : List Filling) (run t u : List LexEvent) → HtmlFits v t run → Fills t vs u → Fills (Mark ∷ t) (v ∷ vs) (run ++ u)
@@ -107,10 +119,22 @@ raw-told u w a =
 raw-ends : (vs : List Filling) (v w : ValueState) (t u : List LexEvent) → RawBeside v w → Fills t vs u → Fills (ends_state v t) vs (ends_state w u)
 raw-ends vs (OfKind k) w t u a f = subst (λ (z : ValueState). Fills t vs (ends_state z u)) (sym a) f
 raw-ends vs (OfUrl z) (OfUrl w) t u a f = (_, u, refl, (told_scheme w.free w.scheme, refl, raw-told z w a), f)
-raw-ends vs (OfUrl z) (OfKind k) t u a f = absurd a
+raw-ends vs (OfUrl z) _ t u a f = absurd a
+raw-ends vs (OfStyle s) w t u a f =
+    subst (λ (z : ValueState). Fills (ends_state (OfStyle s) t) vs (ends_state z u)) (sym a) (fills-told vs (style_ends urls s []) t u f)
+
+-- a byte
+raw-byte : (vs : List Filling) (v w : ValueState) (b : ℕ) (t u : List LexEvent) → RawBeside v w → Fills t vs u
+    → Fills (emits_state v b t) vs (emits_state w b u)
+raw-byte vs (OfKind k) w b t u a f =
+    subst (λ (z : ValueState). Fills (ValueByte b ∷ t) vs (emits_state z b u)) (sym a) (fills-keep vs (ValueByte b) t u tt f)
+raw-byte vs (OfUrl z) (OfUrl w) b t u a f = fills-keep vs (ValueByte b) t u tt f
+raw-byte vs (OfUrl z) _ b t u a f = absurd a
+raw-byte vs (OfStyle s) w b t u a f =
+    subst (λ (z : ValueState). Fills (emits_state (OfStyle s) b t) vs (emits_state z b u)) (sym a) (fills-told vs (style_emits urls s b []) t u f)
 
 raw-emits : (vs : List Filling) → EmitsAlike ValueState languages RawBeside (λ t u. Fills t vs u)
-raw-emits vs = record { fed = raw-fed; emits = λ v w b t u a f. fills-keep vs (ValueByte b) t u tt f; ends = raw-ends vs }
+raw-emits vs = record { fed = raw-fed; emits = raw-byte vs; ends = raw-ends vs }
 
 -- Where the page's reading of bytes alone stands, beside its reading with marks.
 pub record StandsRaw (vs : List Filling) (m d : Config ValueState) : Type 0 where
@@ -300,6 +324,7 @@ url-led : (q : Quoting) (tag : Tag) (u w : Url) (z : ValueState) (text bytes : L
     → UrlsAlike u w → d.at ≡ in_value q tag (ValueOf z) → RawBeside (OfUrl w) z → Fills t vs d.emitted
     → StandsRaw (filling (UrlSite q u.part) text ∷ vs) (marked bytes (config (in_url q tag w) t)) (read Page bytes d)
 url-led q tag u w (OfKind k) text bytes h vs t d a e b f = absurd b
+url-led q tag u w (OfStyle s) text bytes h vs t d a e b f = absurd b
 url-led q tag u w (OfUrl y) text bytes h vs t d a e b f =
     let bs = url_bytes q h.characters in
     let run = value_bytes bs [] in
@@ -315,6 +340,7 @@ url-raw : (q : Quoting) (tag : Tag) (u : Url) (v : ValueState) (text bytes : Lis
     → languages.AreAlike (OfUrl u) v → m ≡ config (in_value q tag (ValueOf v)) t → StandsRaw vs m d
     → StandsRaw (filling (UrlSite q u.part) text ∷ vs) (marked bytes m) (read Page bytes d)
 url-raw q tag u (OfKind k) text bytes h vs t m d a e r = absurd a
+url-raw q tag u (OfStyle s) text bytes h vs t m d a e r = absurd a
 url-raw q tag u (OfUrl w) text bytes h vs t m d a e r =
     let p = subst (λ (z : Config ValueState). StandsRaw vs z d) e r in
     subst (λ (z : Config ValueState). StandsRaw (filling (UrlSite q u.part) text ∷ vs) (marked bytes z) (read Page bytes d)) (sym e)

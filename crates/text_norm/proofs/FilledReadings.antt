@@ -1,11 +1,15 @@
 -- A page fills its path with texts where it reads as the path with these texts does.
-use Rattle.std.proofs.Common.{◌≡◌, ◌≤◌, ◌+◌, ℕ, suc, Bool, List, [], ◌∷◌, ◌++◌, ◌⊎◌, inl, inr, length, arith, refl, sym, ap, ap₂, ◌∙◌, subst}
-use Rattle.place_core.specs.page.Events.{AttributeBegins, LexEvent, Mark, ValueScheme, attribute_name_bytes, event_text_bytes, value_bytes}
+use Rattle.std.proofs.Common.{◌≡◌, ◌≤◌, ◌+◌, ℕ, suc, Bool, true, false, List, [], ◌∷◌, ◌++◌, ◌⊎◌, inl, inr, length, arith, refl, sym, ap, ap₂, ◌∙◌, subst}
+use Rattle.css_lexer.specs.Events.{StyleEvent}
+use Rattle.css_lexer.specs.Paths.{style_emits_settled}
+use Rattle.css_lexer.specs.Steps.{style_emits, style_ends}
+use Rattle.css_lexer.specs.Urls.{urls}
+use Rattle.place_core.specs.page.Events.{AttributeBegins, LexEvent, Mark, ValueScheme, attribute_name_bytes, event_text_bytes, told_in_style, value_bytes}
 use Rattle.place_core.specs.page.Html.{read, start}
 use Rattle.place_core.specs.page.Paths.{Hole, Symbol, Written, at_hole, mark_in, read_node, read_path}
 use Rattle.place_core.specs.page.References.{Closed, Open, Reference}
 use Rattle.place_core.specs.page.States.{AfterAttributeName, AfterAttributeValue, AttributeValue, BeforeAttributeName, BeforeAttributeValue, Bytes, Characters, Config, Content, InContent, LexState, Nothing, Page, Pending, SelfClosingStartTag, Text, config}
-use Rattle.place_core.specs.page.Tags.{DoubleQuoted, Quoting, SingleQuoted, Tag, Deciding, Unquoted, Value, ValueOf, ValueState, OfKind, OfUrl, attribute_value_of, emitted_settled, ends_state, holed_value, languages, with_bytes}
+use Rattle.place_core.specs.page.Tags.{DoubleQuoted, Quoting, SingleQuoted, Tag, Deciding, Unquoted, Value, ValueOf, ValueState, OfKind, OfUrl, OfStyle, attribute_value_of, emits_state, emits_value_settled, emitted_hole, emitted_settled, ends_state, has_mark_in, holed_value, languages, mark_if, with_bytes}
 use Rattle.place_core.specs.place.Errors.{node}
 use Rattle.place_core.specs.declared.element.Element.{Element}
 use Rattle.place_core.specs.declared.kind.Kind.{Kind}
@@ -17,7 +21,7 @@ use Rattle.text_norm.proofs.FilledMarks.{RawBeside, fills-keep, fills-mark, name
 use Rattle.text_norm.proofs.StatesBeside.{StandBeside}
 use Rattle.text_norm.specs.FilledReadings.{FilledPathsAreReadings, HolesTake, IsSaidByText, IsSaidInValue, AreSaidByTexts, ReadingsAreFilledPaths, TakesContent, TakesHole, TakesValue, holes_filled, holes_in, read_filled}
 use Rattle.text_norm.specs.Fillings.{BlockSite, Filling, Fills, FitsAt, MarkSite, NameSite, QuotedSite, TextSite, UnquotedSite, UrlSite, filling, fillings_along, fillings_at}
-use Rattle.url_lexer.specs.Events.{Free, Named, NoScheme, ToldScheme, scheme_at_end, told_scheme}
+use Rattle.url_lexer.specs.Events.{Free, Named, NoScheme, ToldScheme, UrlEvent, scheme_at_end, told_scheme}
 use Rattle.url_lexer.specs.Schemes.{UrlScheme, SchemeAhead, SchemeSoFar, SchemeIs, SchemeAbsent, SchemeUnknown}
 
 -- Where a mark has one run, what the path emits and its fillings determine what the page emits.
@@ -90,27 +94,49 @@ sure-scheme (SchemeIs letters) t f = f
 sure-scheme SchemeAbsent t f = f
 sure-scheme SchemeUnknown t f = f
 
+sure-told : (es : List (StyleEvent UrlEvent)) (t : List LexEvent) → AreSure t → AreSure (told_in_style es t)
+sure-told [] t f = f
+sure-told (e ∷ es) t f = sure-told es t f
+
 sure-ends : (v w : ValueState) (t u : List LexEvent) → RawBeside v w → AreSure u → AreSure (ends_state w u)
 sure-ends (OfKind k) w t u a f = subst (λ (z : ValueState). AreSure (ends_state z u)) (sym a) f
 sure-ends (OfUrl z) (OfUrl w) t u a f = subst (λ (b : Bool). AreSure (ValueScheme (told_scheme b w.scheme) ∷ u)) (sym a.bound) (sure-scheme w.scheme u f)
-sure-ends (OfUrl z) (OfKind k) t u a f = absurd a
+sure-ends (OfUrl z) _ t u a f = absurd a
+sure-ends (OfStyle s) w t u a f = subst (λ (z : ValueState). AreSure (ends_state z u)) (sym a) (sure-told (style_ends urls s []) u f)
+
+sure-byte : (w : ValueState) (b : ℕ) (t : List LexEvent) → AreSure t → AreSure (emits_state w b t)
+sure-byte (OfKind k) b t f = f
+sure-byte (OfUrl u) b t f = f
+sure-byte (OfStyle s) b t f = sure-told (style_emits urls s b []) t f
 
 sure-emits : EmitsAlike ValueState languages RawBeside (λ t u. AreSure u)
-sure-emits = record { fed = raw-fed; emits = λ v w b t u a f. f; ends = sure-ends }
+sure-emits = record { fed = raw-fed; emits = λ v w b t u a f. sure-byte w b u f; ends = sure-ends }
 
 sure-node : (bytes : List ℕ) (c : Config ValueState) → IsSure c.at → AreSure c.emitted → AreSure (read_node languages bytes c).emitted
 sure-node bytes c a f = (node-alike (λ t u. AreSure u) keeps-sure ValueState languages RawBeside sure-emits bytes c c a f).1
 
+sure-pending : (v : ValueState) (t : List LexEvent) → AreSure t → AreSure (emits_value_settled v t)
+sure-pending (OfKind k) t f = f
+sure-pending (OfUrl u) t f = f
+sure-pending (OfStyle s) t f = sure-told (style_emits_settled s []) t f
+
 sure-settled : (v : Value ValueState) (t : List LexEvent) → AreSure t → AreSure (emitted_settled languages v t)
-sure-settled (ValueOf v) t f = f
+sure-settled (ValueOf v) t f = sure-pending v t f
 sure-settled (Deciding k before) t f = f
+
+sure-if : (has : Bool) (t : List LexEvent) → AreSure t → AreSure (mark_if has t)
+sure-if true t f = f
+sure-if false t f = f
+
+sure-value : (v : Value ValueState) (t : List LexEvent) → AreSure t → AreSure (emitted_hole languages v t)
+sure-value v t f = sure-if (has_mark_in languages v) (emitted_settled languages v t) (sure-settled v t f)
 
 sure-mark : (s : LexState ValueState) (t : List LexEvent) → AreSure t → AreSure (mark_in languages s t)
 sure-mark (Text r) t f = f
 sure-mark (BeforeAttributeName tag) t f = f
 sure-mark (AfterAttributeName tag k) t f = f
-sure-mark (BeforeAttributeValue tag k) t f = sure-settled (attribute_value_of languages k) t f
-sure-mark (AttributeValue q tag v r) t f = sure-settled v t f
+sure-mark (BeforeAttributeValue tag k) t f = sure-value (attribute_value_of languages k) t f
+sure-mark (AttributeValue q tag v r) t f = sure-value v t f
 sure-mark (AfterAttributeValue tag) t f = f
 sure-mark (SelfClosingStartTag tag) t f = f
 sure-mark (InContent e y h) t f = f
@@ -167,6 +193,7 @@ before-hole : (tag : Tag) (k : Kind) (text : List ℕ) (vs : List Filling) (t u 
     → Fills t vs u → IsFilledHole (BeforeAttributeValue tag k) text vs t u
 before-hole tag kind.ScriptType text vs t u h f = absurd h
 before-hole tag kind.Url text vs t u h f = absurd h
+before-hole tag kind.Style text vs t u h f = absurd h
 before-hole tag k text vs t u h f = record {
   at = in-kind Unquoted tag k (as_unquoted text);
   fills = by-run UnquotedSite text vs (value_bytes (as_unquoted text) []) t u _ refl
@@ -266,6 +293,7 @@ before-run : (k : Kind) (tag : Tag) (text : List ℕ) (vs : List Filling) → Ta
     → HaveOneRun vs → HaveOneRun (fillings_at (BeforeAttributeValue tag k) text vs)
 before-run kind.ScriptType tag text vs h o = absurd h
 before-run kind.Url tag text vs h o = absurd h
+before-run kind.Style tag text vs h o = absurd h
 before-run k tag text vs h o = (tt, o)
 
 content-run : (y : Content) (p : Pending) (e : Element) (text : List ℕ) (vs : List Filling) → TakesContent y p
@@ -308,14 +336,24 @@ keeps-marks : (n : ℕ) (e : LexEvent) (t u : List LexEvent) → IsOwn e → mar
 keeps-marks n Mark t u o f = absurd o
 keeps-marks n _ t u o f = f
 
+told-marks : (es : List (StyleEvent UrlEvent)) (t : List LexEvent) → marks (told_in_style es t) ≡ marks t
+told-marks [] t = refl
+told-marks (e ∷ es) t = told-marks es t
+
 same-marks : (v : ValueState) (t : List LexEvent) → marks (ends_state v t) ≡ marks t
 same-marks (OfKind k) t = refl
 same-marks (OfUrl u) t = refl
+same-marks (OfStyle s) t = told-marks (style_ends urls s []) t
+
+byte-marks : (v : ValueState) (b : ℕ) (t : List LexEvent) → marks (emits_state v b t) ≡ marks t
+byte-marks (OfKind k) b t = refl
+byte-marks (OfUrl u) b t = refl
+byte-marks (OfStyle s) b t = told-marks (style_emits urls s b []) t
 
 marks-emits : (n : ℕ) → EmitsAlike ValueState languages (λ v w. Unit {0}) (λ t u. marks t ≡ n)
 marks-emits n = record {
   fed = record { starts = λ k. tt; feeds = λ v w b a. tt; cuts = λ v w a. tt };
-  emits = λ v w b t u a f. f;
+  emits = λ v w b t u a f. byte-marks v b t ∙ f;
   ends = λ v w t u a f. same-marks v t ∙ f;
 }
 
@@ -351,6 +389,7 @@ attribute-count : (v : Value ValueState) (r : Reference) (q : Quoting) (tag : Ta
     (marks (mark_in languages (AttributeValue q tag v r) t) + length vs)
 attribute-count (ValueOf (OfKind k)) Closed q tag text vs t n = inl (tt, one-mark (marks t) (length vs))
 attribute-count (ValueOf (OfUrl u)) r q tag text vs t n = absurd n
+attribute-count (ValueOf (OfStyle s)) r q tag text vs t n = absurd n
 attribute-count (ValueOf (OfKind k)) (Open f h) q tag text vs t n = inr (no-filling (marks t) (length vs))
 attribute-count (Deciding k before) Closed q tag text vs t n = inr (no-filling (marks t) (length vs))
 attribute-count (Deciding k before) (Open f h) q tag text vs t n = inr (no-filling (marks t) (length vs))
@@ -360,6 +399,7 @@ before-count : (k : Kind) (tag : Tag) (text : List ℕ) (vs : List Filling) (t :
     (marks (mark_in languages (BeforeAttributeValue tag k) t) + length vs)
 before-count kind.ScriptType tag text vs t n = inr (no-filling (marks t) (length vs))
 before-count kind.Url tag text vs t n = absurd n
+before-count kind.Style tag text vs t n = absurd n
 before-count k tag text vs t n = inl (tt, one-mark (marks t) (length vs))
 
 hole-count : (s : LexState ValueState) (text : List ℕ) (vs : List Filling) (t : List LexEvent) → IsSaidByText s

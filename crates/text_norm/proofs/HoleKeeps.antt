@@ -13,7 +13,7 @@ use Rattle.place_core.specs.page.Shape.{HolePart, PageReads, state_past_hole, ma
 use Rattle.place_core.specs.place.StatePlaces.{only_after, only_inside, placed, quotes_at, tag_spot, value_spot}
 use Rattle.place_core.specs.place.UrlParts.{parts_of}
 use Rattle.place_core.specs.page.States.{Started, StartedDash, Inside, Dash, DashDash, Bang, Broken, Page, LexState, Text, TagOpen, EndTagOpen, DeclarationOpen, InComment, BogusComment, InDoctype, TagName, WholeTagName, BeforeAttributeName, AttributeName, WholeAttributeName, AfterAttributeName, BeforeAttributeValue, AttributeValue, AfterAttributeValue, SelfClosingStartTag, Characters, Bytes, Nothing, PendingLess, LessAtCut, PendingName, PendingBang, PendingBangDash, InContent, Unread, Config, config}
-use Rattle.place_core.specs.page.Tags.{Tag, ValueOf, Deciding, ValueState, OfKind, OfUrl, languages, is_second_type, Quoting, DoubleQuoted, SingleQuoted, Unquoted, element_on, without_value}
+use Rattle.place_core.specs.page.Tags.{Tag, ValueOf, Deciding, ValueState, OfKind, OfUrl, OfStyle, languages, emitted_hole, value_settled, is_second_type, Quoting, DoubleQuoted, SingleQuoted, Unquoted, element_on, without_value}
 use Rattle.place_core.specs.declared.body.Body.TheVariants as body
 use Rattle.place_core.specs.declared.chain.Chain.{Chain}
 use Rattle.place_core.specs.declared.element.Element.{Element}
@@ -120,8 +120,8 @@ value-leads : (q : Quoting) (tag : Tag) (v w : ValueState) (bytes : List ℕ) (t
     → (let s = in_value q tag (ValueOf v) in
     TextStands languages (at_hole languages s) (mark_in languages s t) (marked bytes (config (in_value q tag (ValueOf w)) t)))
 value-leads q tag v w bytes t a p =
-    subst (TextStands languages (at_hole languages (in_value q tag (ValueOf v))) (Mark ∷ t))
-    (sym (ap (behind (in_value q tag (ValueOf w)) (Mark ∷ t)) p.1.within))
+    subst (TextStands languages (at_hole languages (in_value q tag (ValueOf v))) (emitted_hole languages (ValueOf v) t))
+    (sym (ap (behind (in_value q tag (ValueOf (value_settled w))) (emitted_hole languages (ValueOf w) t)) p.1.within))
     (hole-alike languages-keep q tag v w p.1.after p.1.value t a p.1.leads)
 
 -- likewise where an unquoted value is to begin
@@ -194,12 +194,13 @@ url-keeps-there : (q : Quoting) (tag : Tag) (u : Url) (v : ValueState) (datum : 
     → refuses_hole_in u.part ≡ None → (k : IsBackBy (url_chain (parts_of u.part) (last_of (quotes_at q))) datum bytes) → languages.AreAlike (OfUrl u) v → d ≡ config (in_value q tag (ValueOf v)) t
     → Kept (url_chain (parts_of u.part) (last_of (quotes_at q))) (in_url q tag u) bytes t d
 url-keeps-there q tag u (OfKind k) datum bytes t d e n b a l = absurd a
+url-keeps-there q tag u (OfStyle s) datum bytes t d e n b a l = absurd a
 url-keeps-there q tag u (OfUrl w) datum bytes t d e n b a l =
     let x = url_chain (parts_of u.part) (last_of (quotes_at q)) in
     let s = in_url q tag u in
     let h = url-hole q u datum bytes e n b in
     let m = config (in_url q tag w) t in
-    let plain : IsPlain bytes m = (refl, url-plain q tag u w (printed datum) bytes h (read Page bytes (config (in_url q tag w) [])) a (h.reads tag w [])) in
+    let plain : IsPlain bytes m = (λ some. refl, url-plain q tag u w (printed datum) bytes h (read Page bytes (config (in_url q tag w) [])) a (h.reads tag w [])) in
     subst (Kept x s bytes t) (sym l)
     (kept-by (leaves_out x) s bytes t m (url-has-part u.part (last_of (quotes_at q))) plain (value-leads q tag (OfUrl u) (OfUrl w) bytes t a plain))
 
@@ -216,7 +217,7 @@ url_unbegun tag = BeforeAttributeValue tag kind.Url
 url-begun-plain : (tag : Tag) (datum : Data) (bytes : List ℕ) (t : List LexEvent) → IsBackBy (url_chain (parts_of UrlStart) san.AttrNospace) datum bytes → IsPlain bytes (config (url_unbegun tag) t)
 url-begun-plain tag datum bytes t k =
     let b = url-begun tag datum bytes k in
-    (refl, (b.at_once, url-plain Unquoted tag url_start url_start (printed datum) bytes b.hole (read Page bytes (config (url_unbegun tag) [])) language-laws.begins (b.reads_unbegun tag [])))
+    (λ some. refl, (b.at_once, url-plain Unquoted tag url_start url_start (printed datum) bytes b.hole (read Page bytes (config (url_unbegun tag) [])) language-laws.begins (b.reads_unbegun tag [])))
 
 url-begun-leads : (tag : Tag) (bytes : List ℕ) (t : List LexEvent) → IsPlain bytes (config (url_unbegun tag) t)
     → TextStands languages (at_hole languages (url_unbegun tag)) (mark_in languages (url_unbegun tag) t) (marked bytes (config (url_unbegun tag) t))
@@ -280,6 +281,7 @@ hole-keeps (AttributeValue q tag (ValueOf (OfKind kind.Script)) Closed) x datum 
 hole-keeps (AttributeValue q tag (ValueOf (OfKind kind.Style)) Closed) x datum bytes t d h k l = absurd h
 hole-keeps (AttributeValue q tag (ValueOf (OfKind kind.ScriptType)) Closed) x datum bytes t d h k l = absurd h
 hole-keeps (AttributeValue q tag (ValueOf (OfUrl u)) Closed) x datum bytes t d h k l = url-keeps q tag u x datum bytes t d (url-accepted u.triple u.part (quotes_at q) tag x h) k l
+hole-keeps (AttributeValue q tag (ValueOf (OfStyle s)) Closed) x datum bytes t d h k l = absurd h
 hole-keeps (AttributeValue q tag (Deciding j before) Closed) x datum bytes t d h k l = absurd h
 hole-keeps (AttributeValue q tag v (Open f b)) x datum bytes t d h k l = absurd h
 hole-keeps (InContent element.Title (Characters Closed) Nothing) x datum bytes t d h k l = content-keeps element.Title x datum bytes t d (its (place.Rcdata element.Title) x h) k l

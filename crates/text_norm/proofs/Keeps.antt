@@ -3,7 +3,7 @@ use Rattle.std.proofs.Common.{◌≡◌, ℕ, ◌+◌, Bool, true, false, codes,
 use Rattle.place_core.specs.page.Classes.{Class, GreaterThan, class_of}
 use Rattle.place_core.specs.page.Comments.{closes_comment, comment_ended, next_in_comment}
 use Rattle.place_core.specs.place.Errors.{PathCause, PathRefusal, at_hand, broken_off, byte_error, content_error, cut_error, ending_tag, first_byte_error, first_error, kind_error, language_error, lexeme_error, quotes_error, refusal_from, standing_at, states, tag_error}
-use Rattle.place_core.specs.place.LastPercent.{last_percent, url_reference}
+use Rattle.place_core.specs.place.LastLexeme.{last_lexeme_start, language_reference}
 use Rattle.place_core.specs.page.Events.{LexEvent, event_text_bytes}
 use Rattle.place_core.specs.page.Html.{ends_value, next, read_over, emits}
 use Rattle.place_core.specs.place.Membership.{IsIn}
@@ -152,7 +152,7 @@ keeps-from [] k since s t d n h =
     cut-follows s t d m.0 (whole k since (lexeme_error s) m.1) h
 keeps-from (b ∷ bs) k since s t d n h =
     let z = next languages Template s (class_of b) b in
-    let later = last_percent k since (url_reference s) (class_of b) b in
+    let later = last_lexeme_start k since (language_reference s) (class_of b) b in
     let m = goes k (byte_error s (class_of b) b) (refusal_from (k + 1) later bs z) n in
     let u = emits languages Template s (class_of b) b t in
     let o = out s (class_of b) b in

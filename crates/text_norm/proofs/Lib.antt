@@ -25,6 +25,7 @@ mod Slices
 mod Spelled
 mod StatesBeside
 mod Steps
+mod StyleValuesKeep
 pub mod TagsKeep
 pub mod TextKeeps
 pub mod ToyLanguage

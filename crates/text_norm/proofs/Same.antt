@@ -4,11 +4,11 @@ use Rattle.place_core.specs.page.Classes.{Class, White, ExclamationMark, Quotati
 use Rattle.place_core.specs.page.Comments.{Declaration, OpensComment, OpensDoctype, Undecided, OpensNothing, closes_comment, comment_ended, declared_by, next_in_comment, next_in_doctype}
 use Rattle.place_core.specs.page.Contents.{may_be_name_of, is_name_of, next_bang, next_end_name, next_in_content, next_less, next_loose}
 use Rattle.place_core.specs.page.Html.{after_tag, ends_value, next, next_after_name, next_after_value, next_before_name, next_before_value, next_declaration, next_end_tag_open, next_name, next_tag_name, next_tag_open, next_text, next_value}
-use Rattle.place_core.specs.place.LastPercent.{last_percent}
+use Rattle.place_core.specs.place.LastLexeme.{last_lexeme_start}
 use Rattle.place_core.specs.place.Places.{Below}
 use Rattle.place_core.specs.page.References.{Reference, Closed, Open, as_it_stands, begin_reference, next_reference, settled}
 use Rattle.place_core.specs.page.States.{CommentState, Started, StartedDash, Inside, Dash, DashDash, Bang, Broken, Template, LexState, Text, TagOpen, EndTagOpen, DeclarationOpen, InComment, BogusComment, InDoctype, TagName, WholeTagName, BeforeAttributeName, AttributeName, WholeAttributeName, AfterAttributeName, BeforeAttributeValue, AttributeValue, AfterAttributeValue, SelfClosingStartTag, Characters, Bytes, Pending, Nothing, PendingLess, LessAtCut, PendingName, PendingBang, PendingBangDash, InContent, Unread}
-use Rattle.place_core.specs.page.Tags.{Tag, ValueState, OfKind, OfUrl, languages, Quoting, DoubleQuoted, SingleQuoted, Unquoted, Value, ValueOf, Deciding, element_on, is_second_type, tag_of_name, with_bytes, tag_with_value, without_value}
+use Rattle.place_core.specs.page.Tags.{Tag, ValueState, OfKind, OfUrl, OfStyle, languages, Quoting, DoubleQuoted, SingleQuoted, Unquoted, Value, ValueOf, Deciding, element_on, is_second_type, tag_of_name, with_bytes, tag_with_value, without_value}
 use Rattle.place_core.specs.declared.element.Element.{Element}
 use Rattle.place_core.specs.declared.element.Element.TheVariants as element
 use Rattle.place_core.specs.page.Words.{kind_of}
@@ -20,7 +20,7 @@ use Rattle.place_core.specs.declared.tag_of.TagOf.{TagOf}
 use Rattle.place_core.specs.declared.tag_of.TagOf.TheVariants as which
 use Rattle.place_core.specs.declared.value_place.ValuePlace.{ValuePlace}
 use Rattle.place_core.proofs.Semilattices.{none_some, one_value}
-use Rattle.html_scan.specs.Scans.{Scan, At, AfterLess, AfterLessSolidus, InDeclaration, InTagName, InAttributeName, InCommentEnd, InContentEnd, InUrl, BeforeType, InType, scan_error, scan_next, url_scan, scan_reference}
+use Rattle.html_scan.specs.Scans.{Scan, At, AfterLess, AfterLessSolidus, InDeclaration, InTagName, InAttributeName, InCommentEnd, InContentEnd, InUrl, InStyle, BeforeType, InType, scan_error, scan_next, url_scan, scan_reference}
 use Rattle.html_step.proofs.PlaceParts.{below-rcdata}
 use Rattle.html_step.proofs.ScanOrder.{ScanBelow, ScanValid, scan-grows}
 use Rattle.html_step.proofs.OnePath.{WhereScanned, content_scanned, scanned, url_scanned}
@@ -71,6 +71,7 @@ scan-same (At a) (InDeclaration pending) c b r h = absurd h
 scan-same (At a) (InTagName ends name) c b r h = absurd h
 scan-same (At a) (InAttributeName t x n) c b r h = absurd h
 scan-same (At a) (InCommentEnd s) c b r h = absurd h
+scan-same (At a) (InStyle w y u) c b r h = absurd h
 scan-same (At a) (InContentEnd e k) c b r h = absurd h
 scan-same (At a) (InUrl v t z) c b r h = absurd h
 scan-same (At a) (BeforeType t) c b r h = absurd h
@@ -82,6 +83,7 @@ scan-same (InAttributeName t x n) AfterLessSolidus c b r h = absurd h
 scan-same (InAttributeName t x n) (InDeclaration pending) c b r h = absurd h
 scan-same (InAttributeName t x n) (InTagName ends name) c b r h = absurd h
 scan-same (InAttributeName t x n) (InCommentEnd s) c b r h = absurd h
+scan-same (InAttributeName t x n) (InStyle w y u) c b r h = absurd h
 scan-same (InAttributeName t x n) (InContentEnd e k) c b r h = absurd h
 scan-same (InAttributeName t x n) (InUrl v u z) c b r h = absurd h
 scan-same (InAttributeName t x n) (BeforeType u) c b r h = absurd h
@@ -94,9 +96,11 @@ scan-same (InUrl v t z) (InDeclaration pending) c b r h = absurd h
 scan-same (InUrl v t z) (InTagName ends name) c b r h = absurd h
 scan-same (InUrl v t z) (InAttributeName u x n) c b r h = absurd h
 scan-same (InUrl v t z) (InCommentEnd s) c b r h = absurd h
+scan-same (InUrl v t z) (InStyle w y u) c b r h = absurd h
 scan-same (InUrl v t z) (InContentEnd e k) c b r h = absurd h
 scan-same (InUrl v t z) (BeforeType u) c b r h = absurd h
 scan-same (InUrl v t z) (InType u q x y) c b r h = absurd h
+scan-same (InStyle v s z) g c b r h = rigid (InStyle v s z) g c b r h
 scan-same AfterLess g c b r h = rigid AfterLess g c b r h
 scan-same AfterLessSolidus g c b r h = rigid AfterLessSolidus g c b r h
 scan-same (InDeclaration pending) g c b r h = rigid (InDeclaration pending) g c b r h
@@ -114,6 +118,7 @@ cut-same (At a) (InDeclaration pending) r h = absurd h
 cut-same (At a) (InTagName ends name) r h = absurd h
 cut-same (At a) (InAttributeName t x n) r h = absurd h
 cut-same (At a) (InCommentEnd s) r h = absurd h
+cut-same (At a) (InStyle w y u) r h = absurd h
 cut-same (At a) (InContentEnd e k) r h = absurd h
 cut-same (At a) (InUrl v t z) r h = absurd h
 cut-same (At a) (BeforeType t) r h = absurd h
@@ -125,6 +130,7 @@ cut-same (InAttributeName t x n) AfterLessSolidus r h = absurd h
 cut-same (InAttributeName t x n) (InDeclaration pending) r h = absurd h
 cut-same (InAttributeName t x n) (InTagName ends name) r h = absurd h
 cut-same (InAttributeName t x n) (InCommentEnd s) r h = absurd h
+cut-same (InAttributeName t x n) (InStyle w y u) r h = absurd h
 cut-same (InAttributeName t x n) (InContentEnd e k) r h = absurd h
 cut-same (InAttributeName t x n) (InUrl v u z) r h = absurd h
 cut-same (InAttributeName t x n) (BeforeType u) r h = absurd h
@@ -137,9 +143,11 @@ cut-same (InUrl v t z) (InDeclaration pending) r h = absurd h
 cut-same (InUrl v t z) (InTagName ends name) r h = absurd h
 cut-same (InUrl v t z) (InAttributeName u x n) r h = absurd h
 cut-same (InUrl v t z) (InCommentEnd s) r h = absurd h
+cut-same (InUrl v t z) (InStyle w y u) r h = absurd h
 cut-same (InUrl v t z) (InContentEnd e k) r h = absurd h
 cut-same (InUrl v t z) (BeforeType u) r h = absurd h
 cut-same (InUrl v t z) (InType u q x y) r h = absurd h
+cut-same (InStyle v s w) g r h = ap (λ (z : Scan). scan_cut_out z r) h
 cut-same AfterLess g r h = ap (λ (z : Scan). scan_cut_out z r) h
 cut-same AfterLessSolidus g r h = ap (λ (z : Scan). scan_cut_out z r) h
 cut-same (InDeclaration pending) g r h = ap (λ (z : Scan). scan_cut_out z r) h
@@ -385,6 +393,7 @@ in-value-writes q tag (ValueOf (OfKind kind.Style)) a c b = tt
 in-value-writes q tag (ValueOf (OfKind kind.ScriptType)) a c b = tt
 in-value-writes q tag (ValueOf (OfUrl u)) a c b =
     λ r e. at-one (AttributeValue q tag (ValueOf (OfUrl u)) a) (url_scanned q tag u a) c b a r e (url-writes q tag (OfUrl u) a _ u.triple a c b)
+in-value-writes q tag (ValueOf (OfStyle s)) a c b = tt
 in-value-writes q tag (Deciding kind.ScriptType before) a c b =
     let s = AttributeValue q tag (Deciding kind.ScriptType before) a in
     let f = InType tag.tag q (Deciding kind.ScriptType before) a in
@@ -535,6 +544,7 @@ value-cuts q tag (ValueOf (OfKind kind.Script)) a = tt
 value-cuts q tag (ValueOf (OfKind kind.Style)) a = tt
 value-cuts q tag (ValueOf (OfKind kind.ScriptType)) a = tt
 value-cuts q tag (ValueOf (OfUrl u)) a = λ r e. by-one (url_scanned q tag u a) a r (text_escaped a) e (url-cuts _ u.triple a a)
+value-cuts q tag (ValueOf (OfStyle s)) a = tt
 value-cuts q tag (Deciding kind.ScriptType before) a =
     let s = AttributeValue q tag (Deciding kind.ScriptType before) a in
     where-first (is_second_type tag.typed kind.ScriptType) (InType tag.tag q (Deciding kind.ScriptType before) a) (CutFrom s) (λ r e. by-one (At place.Text) a r _ e refl)
@@ -619,7 +629,7 @@ same-from : (bytes : List ℕ) (k since : ℕ) (s : LexState ValueState) (f : Sc
     → written languages bytes s ≡ written_from bytes f r
 same-from [] k since s f r q e o h = cuts-at s f r e o
 same-from (b ∷ bs) k since s f r q e o h =
-    let later = last_percent k since (scan_reference f) (class_of b) b in
+    let later = last_lexeme_start k since (scan_reference f) (class_of b) b in
     let n = not-refused k (scan_error f (class_of b) b) (stepped (k + 1) later bs (scan_next f (class_of b) b)) q h in
     let w = writes-at s f b r e o in
     ap₂ (λ (x y : List ℕ). x ++ y) w.outs
@@ -628,12 +638,12 @@ same-from (b ∷ bs) k since s f r q e o h =
 above-from : (bytes : List ℕ) (k since : ℕ) (f g : Scan) (r : Reference) (q : Place) → ScanValid f → ScanBelow f g → stepped k since bytes g ≡ Ok q → written_from bytes f r ≡ written_from bytes g r
 above-from [] k since f g r q v h e = cut-same f g r h
 above-from (b ∷ bs) k since f g r q v h e =
-    let later = last_percent k since (scan_reference g) (class_of b) b in
+    let later = last_lexeme_start k since (scan_reference g) (class_of b) b in
     let n = not-refused k (scan_error g (class_of b) b) (stepped (k + 1) later bs (scan_next g (class_of b) b)) q e in
     let m = scan-grows f g (class_of b) b v h n.0 in
     let w = scan-same f g (class_of b) b r h in
     ap₂ (λ (x y : List ℕ). x ++ y) w.outs
-    (above-from bs (k + 1) later (scan_next f (class_of b) b) (scan_next g (class_of b) b) (scan_open f (class_of b) b r) q (scan-valid f (class_of b) b v) m.1 n.1
+    (above-from bs (k + 1) later (scan_next f (class_of b) b) (scan_next g (class_of b) b) (scan_open f (class_of b) b r) q (scan-valid f (class_of b) b v m.0) m.1 n.1
     ∙ ap (λ (z : Reference). written_from bs (scan_next g (class_of b) b) z) w.opens)
 
 pub written-on-paths : WrittenOnPaths

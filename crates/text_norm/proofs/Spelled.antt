@@ -68,6 +68,7 @@ is_read text k (scan.InTagName ends from) = refl
 is_read text k (scan.InAttributeName t typed from) = refl
 is_read text k (scan.InCommentEnd s) = refl
 is_read text k (scan.InUrl v t r) = refl
+is_read text k (scan.InStyle v s r) = refl
 is_read text k (scan.AfterContentLess element.DataBlock) = refl
 is_read text k (scan.AfterContentLess e) = refl
 is_read text k (scan.InContentName element.DataBlock from) = refl

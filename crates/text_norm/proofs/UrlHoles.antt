@@ -155,7 +155,7 @@ url-begun tag datum bytes k =
 
 -- In the page these bytes are plain.
 pub url-plain : (q : Quoting) (tag : Tag) (u w : Url) (text bytes : List ℕ) (h : IsUrlHole q u text bytes) (c : Config ValueState) → UrlsAlike u w
-    → c ≡ config (in_value q tag (ValueOf (OfUrl (feed_all w (url_bytes q h.characters))))) (value_bytes (url_bytes q h.characters) []) → IsPlainInState (OfUrl w) q tag c
+    → c ≡ config (in_value q tag (ValueOf (OfUrl (feed_all w (url_bytes q h.characters))))) (value_bytes (url_bytes q h.characters) []) → IsPlainInState (OfUrl w) q tag bytes c
 url-plain q tag u w text bytes h c a e = record {
   value = url_bytes q h.characters;
   after = OfUrl (feed_all w (url_bytes q h.characters));

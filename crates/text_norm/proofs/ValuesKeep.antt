@@ -5,11 +5,11 @@ use Rattle.std.specs.Prelude.{⊤}
 use Rattle.std.proofs.lemmas.List.{append-nil, append_assoc}
 use Rattle.place_core.specs.page.Classes.{Class, White, QuotationMark, Ampersand, Apostrophe, GreaterThan, class_of, is_equals_sign}
 use Rattle.place_core.specs.place.Errors.{PathCause, cause_back, content_error, ending_tag, fed_error, first_byte_error, first_cause, language_error, name_error, is_unknown_name, turned_error}
-use Rattle.place_core.specs.page.Events.{LexEvent, Mark, TagEnds}
+use Rattle.place_core.specs.page.Events.{LexEvent, TagEnds}
 use Rattle.place_core.specs.page.Html.{ends_value, next_after_value, next_before_value, next_value, emits_after_value, emits_before_value, emits_value}
 use Rattle.place_core.specs.page.References.{Form, Begun, Reference, Closed, Open, ReferenceStep, Grows, Closes, Breaks, flushed, meaning, next_reference, plain_bytes, settled, turn, turn_bytes, undone_byte, as_it_stands}
 use Rattle.place_core.specs.page.States.{AttributeValue, BeforeAttributeValue, Config, config}
-use Rattle.place_core.specs.page.Tags.{Tag, ValueLanguage, Value, ValueOf, Deciding, Quoting, DoubleQuoted, SingleQuoted, Unquoted, cut_value, emitted_bytes, emitted_end, emitted_settled, holed_value, attribute_value_of, value_behind, with_bytes, feeding, feed_bytes, refuses_cut_of, tag_with_value, without_value}
+use Rattle.place_core.specs.page.Tags.{Tag, ValueLanguage, Value, ValueOf, Deciding, Quoting, DoubleQuoted, SingleQuoted, Unquoted, cut_value, emitted_bytes, emitted_end, emitted_hole, holed_value, mark_if, attribute_value_of, value_behind, with_bytes, feeding, feed_bytes, refuses_cut_of, tag_with_value, without_value}
 use Rattle.place_core.specs.declared.code.Code.{Code}
 use Rattle.place_core.specs.declared.kind.Kind.{Kind}
 use Rattle.place_core.specs.declared.kind.Kind.TheVariants as kind
@@ -204,12 +204,12 @@ cut-alike {B} {x} l q tag v (Open f bytes) t d k n h =
 
 -- a hole in a value, and before one, whose bytes lead the page to `after`
 pub hole-alike : {B : Type 0} {x : ValueLanguage B} → ValueLanguageLaws B x → (q : Quoting) (tag : Tag) (v w after : B) (bytes : List ℕ) (t : List LexEvent) → x.AreAlike v w → x.LeadsPlain (x.settled w) bytes after
-    → StandsInValue x q tag (holed_value x (ValueOf v)) Closed (Mark ∷ emitted_settled x (ValueOf v) t)
-    (config (AttributeValue q tag (value_behind x (Some (ValueOf (x.settled w))) (ValueOf after)) Closed) (Mark ∷ emitted_settled x (ValueOf w) t))
+    → StandsInValue x q tag (holed_value x (ValueOf v)) Closed (emitted_hole x (ValueOf v) t)
+    (config (AttributeValue q tag (value_behind x (Some (ValueOf (x.settled w))) (ValueOf after)) Closed) (emitted_hole x (ValueOf w) t))
 hole-alike {B} {x} l q tag v w after bytes t a p = record {
   there = x.behind (x.settled w) after;
   alike = l.hole v w after bytes a p;
-  stands = ap (λ (z : List LexEvent). config (AttributeValue q tag (ValueOf (x.behind (x.settled w) after)) Closed) (Mark ∷ z)) (l.settles v w t a);
+  stands = ap (config (AttributeValue q tag (ValueOf (x.behind (x.settled w) after)) Closed)) (ap₂ mark_if (l.marks v w a) (l.settles v w t a));
 }
 
 -- Before a value: an unquoted one is read as from its beginning.

@@ -7,7 +7,7 @@ use Rattle.place_core.specs.page.Html.{read, start}
 use Rattle.place_core.specs.page.Paths.{Hole, Symbol, Written, at_hole, read_path}
 use Rattle.place_core.specs.page.References.{Closed, undone}
 use Rattle.place_core.specs.page.States.{AfterAttributeName, AfterAttributeValue, AttributeValue, BeforeAttributeName, BeforeAttributeValue, Bytes, Characters, InContent, LexState, Nothing, Page, SelfClosingStartTag, Text}
-use Rattle.place_core.specs.page.Tags.{Quoting, Deciding, Unquoted, Value, ValueOf, ValueState, OfKind, OfUrl, attribute_value_of, languages}
+use Rattle.place_core.specs.page.Tags.{Quoting, Deciding, Unquoted, Value, ValueOf, ValueState, OfKind, OfUrl, OfStyle, attribute_value_of, languages}
 use Rattle.place_core.specs.place.Errors.{node}
 use Rattle.san_html.specs.ReadBack.{as_name, as_unquoted, read_as_text}
 use Rattle.san_html.specs.Sanitizers.{failsafe}
@@ -98,8 +98,9 @@ abbrev pub Fills : List LexEvent → List Filling → List LexEvent → Type 0
 Fills path vs page = FillsBy HtmlFits HtmlAlike path vs page
 
 -- The fillings along a path, the last first, by the path's own states. A hole in a comment has no mark, and so no filling. A mark in the
--- type of a script, in a reference of a value, or in a title where something is pending has none either, since no value may stand there:
--- no page fills a path with such a mark. Nor does one with a mark in a URL behind a scheme that is code, since there no run fits.
+-- type of a script, in a reference of a value, or in a title where something is pending has none either, since no value may stand there, nor
+-- has one in a style, where none may stand yet: no page fills a path with such a mark. Nor does one with a mark in a URL behind a scheme that is code, since there no run
+-- fits.
 abbrev pub quoted_site : Quoting → MarkSite
 quoted_site Unquoted = UnquotedSite
 quoted_site q = QuotedSite
@@ -107,6 +108,7 @@ quoted_site q = QuotedSite
 abbrev pub value_fillings : Value ValueState → Quoting → List ℕ → List Filling → List Filling
 value_fillings (ValueOf (OfKind k)) q text vs = filling (quoted_site q) text ∷ vs
 value_fillings (ValueOf (OfUrl u)) q text vs = filling (UrlSite q u.part) text ∷ vs
+value_fillings (ValueOf (OfStyle s)) q text vs = vs
 value_fillings (Deciding k before) q text vs = vs
 
 abbrev pub fillings_at : LexState ValueState → List ℕ → List Filling → List Filling

@@ -8,7 +8,7 @@ use Rattle.place_core.specs.declared.element.Element.{Element}
 use Rattle.place_core.specs.declared.element.Element.TheVariants as element
 use Rattle.place_core.specs.declared.place.Place.{Place}
 use Rattle.place_core.specs.declared.place.Place.TheVariants as place
-use Rattle.html_scan.specs.Scans.{Scan, At, AfterLess, AfterLessSolidus, InDeclaration, InTagName, InAttributeName, InCommentEnd, InContentEnd, InUrl, BeforeType, InType, scan_next}
+use Rattle.html_scan.specs.Scans.{Scan, At, AfterLess, AfterLessSolidus, InDeclaration, InTagName, InAttributeName, InCommentEnd, InContentEnd, InUrl, InStyle, BeforeType, InType, scan_next}
 use Rattle.text_norm.specs.Written.{content_cut_out, content_out, declaration_out, text_escaped, less_out, loose_out, reference_out, solidus_out, text_out}
 
 -- the reference that is open after a byte
@@ -51,6 +51,7 @@ scan_open (InAttributeName t typed name) c b r = Closed
 scan_open (InCommentEnd s) c b r = Closed
 scan_open (InContentEnd e h) c b r = content_end_open e c
 scan_open (InUrl v t z) c b r = next_reference r c b
+scan_open (InStyle v s z) c b r = next_reference r c b
 scan_open (BeforeType t) c b r = next_reference r c b
 scan_open (InType t q v z) c b r = next_reference r c b
 
@@ -80,6 +81,7 @@ scan_out (InAttributeName t typed name) c b r = b ∷ []
 scan_out (InCommentEnd s) c b r = []
 scan_out (InContentEnd e h) c b r = content_end_out e h c b r
 scan_out (InUrl v t z) c b r = reference_out r c b
+scan_out (InStyle v s z) c b r = reference_out r c b
 scan_out (BeforeType t) c b r = reference_out r c b
 scan_out (InType t q v z) c b r = reference_out r c b
 
@@ -97,6 +99,7 @@ scan_cut_out (InAttributeName t typed name) r = []
 scan_cut_out (InCommentEnd s) r = []
 scan_cut_out (InContentEnd e h) r = content_end_cut_out e h r
 scan_cut_out (InUrl v t z) r = text_escaped r
+scan_cut_out (InStyle v s z) r = text_escaped r
 scan_cut_out (BeforeType t) r = text_escaped r
 scan_cut_out (InType t q v z) r = text_escaped r
 

@@ -11,8 +11,8 @@ use Rattle.place_core.specs.declared.kind.Kind.{Kind}
 --   Of a byte that is refused nothing is asked, since no page has it.
 -- - The end of the value tells the same (`ends`).
 -- - The end of a node that is not refused leads the path alone to another state, which is still alike to the page's (`after_cut`).
--- - A hole: what is pending back before it tells the same (`settles`). Bytes that are plain in the page lead it, from where it has told that, to a
---   state behind the hole to which the path's state after the hole is alike (`hole`).
+-- - A hole: what is pending back before it tells the same (`settles`), and it has a mark on both or on neither (`marks`). Bytes that are plain in the
+--   page lead it, from where it has told that, to a state behind the hole to which the path's state after the hole is alike (`hole`).
 pub record ValueLanguageLaws (B : Type 0) (x : ValueLanguage B) : Type 0 where
   pub begins : (k : Kind) → x.AreAlike (x.start k) (x.start k)
   pub emits : (v w : B) (b : ℕ) (t : List LexEvent) → x.AreAlike v w → x.refuses v b ≡ None → x.emits w b t ≡ x.emits v b t
@@ -20,5 +20,6 @@ pub record ValueLanguageLaws (B : Type 0) (x : ValueLanguage B) : Type 0 where
   pub ends : (v w : B) (t : List LexEvent) → x.AreAlike v w → x.ends w t ≡ x.ends v t
   pub after_cut : (v w : B) → x.AreAlike v w → x.refuses_cut v ≡ None → x.AreAlike (x.after_cut v) w
   pub settles : (v w : B) (t : List LexEvent) → x.AreAlike v w → x.emits_settled w t ≡ x.emits_settled v t
+  pub marks : (v w : B) → x.AreAlike v w → x.has_mark w ≡ x.has_mark v
   pub hole : (v w after : B) (bytes : List ℕ) → x.AreAlike v w → x.LeadsPlain (x.settled w) bytes after
       → x.AreAlike (x.after_hole v) (x.behind (x.settled w) after)

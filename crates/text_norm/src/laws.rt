@@ -52,8 +52,8 @@ pub fn emits_the_same()
     ensures { EmitsTheSame }
 {}
 
-/// Where a page's reading corresponds to a path that is in no URL, and nothing is pending, it is in the path's very state, and has emitted
-/// the same. So it is at the place text, where pages end. A theorem; the call does nothing at run time.
+/// Where a page's reading corresponds to a path that is in no URL and no style, and nothing is pending, it is in the path's very state, and
+/// has emitted the same. So it is at the place text, where pages end. A theorem; the call does nothing at run time.
 pub fn stands_where_nothing_is_pending()
     ensures { StandsWhereNothingIsPending }
 {}
@@ -72,7 +72,7 @@ pub fn pages_fill_paths()
 {}
 
 /// A page that fills its path with texts reads, as bytes alone, as the path does with these texts in its holes, where none of them is in a
-/// data block or a URL. A theorem; the call does nothing at run time.
+/// data block, a URL or a style. A theorem; the call does nothing at run time.
 pub fn filled_paths_are_readings()
     ensures { FilledPathsAreReadings }
 {}

@@ -1,8 +1,9 @@
 -- What the lexer of HTML tells as it reads, byte by byte.
-use Rattle.std.specs.Prelude.{ℕ, Bool, List, [], ◌∷◌}
+use Rattle.std.specs.Prelude.{ℕ, Bool, List, [], ◌∷◌, ◌++◌, map}
 use Rattle.std.specs.Char.{to_ascii_lowercase}
+use Rattle.css_lexer.specs.Events.{StyleEvent}
 use Rattle.place_core.specs.declared.kind.Kind.{Kind}
-use Rattle.url_lexer.specs.Events.{ToldScheme}
+use Rattle.url_lexer.specs.Events.{ToldScheme, UrlEvent}
 
 pub data LexEvent : Type 0 where
   -- a byte of a text, a title or a textarea, with references undone
@@ -23,6 +24,8 @@ pub data LexEvent : Type 0 where
   ValueByte : ℕ → LexEvent
   -- a value that is a URL ends, and this is its scheme
   ValueScheme : ToldScheme → LexEvent
+  -- what a style tells, in place of its bytes
+  InsideStyle : StyleEvent UrlEvent → LexEvent
   -- the tag ends, and closes itself or not
   TagEnds : Bool → LexEvent
   -- a comment begins; its bytes are not told. The texts of a template tell none, since no comment of theirs is written
@@ -47,6 +50,9 @@ block_bytes (b ∷ bs) t = block_bytes bs (BlockByte b ∷ t)
 abbrev pub value_bytes : List ℕ → List LexEvent → List LexEvent
 value_bytes [] t = t
 value_bytes (b ∷ bs) t = value_bytes bs (ValueByte b ∷ t)
+
+abbrev pub told_in_style : List (StyleEvent UrlEvent) → List LexEvent → List LexEvent
+told_in_style es t = map InsideStyle es ++ t
 
 abbrev pub attribute_name_bytes : List ℕ → List LexEvent → List LexEvent
 attribute_name_bytes [] t = t

@@ -6,7 +6,7 @@ use Rattle.place_core.specs.page.Events.{LexEvent, Mark, AttributeBegins, event_
 use Rattle.place_core.specs.page.Html.{read_over}
 use Rattle.place_core.specs.page.References.{Closed, settled, as_it_stands}
 use Rattle.place_core.specs.page.States.{Template, LexState, Text, TagOpen, EndTagOpen, DeclarationOpen, InComment, BogusComment, InDoctype, TagName, WholeTagName, BeforeAttributeName, AttributeName, WholeAttributeName, AfterAttributeName, BeforeAttributeValue, AttributeValue, AfterAttributeValue, SelfClosingStartTag, InContent, Unread, Config, config}
-use Rattle.place_core.specs.page.Tags.{ValueLanguage, tag_named, element_on, attribute_value_of, with_bytes, emitted_bytes, cut_value, holed_value, emitted_settled, without_value, Unquoted}
+use Rattle.place_core.specs.page.Tags.{ValueLanguage, tag_named, element_on, attribute_value_of, with_bytes, emitted_bytes, cut_value, holed_value, emitted_hole, without_value, Unquoted}
 use Rattle.place_core.specs.page.Words.{kind_of}
 use Rattle.place_core.specs.declared.kind.Kind.TheVariants as kind
 
@@ -105,8 +105,8 @@ mark_in x (BeforeAttributeName tag) t = Mark ∷ AttributeBegins ∷ t
 mark_in x (AttributeName tag name) t = t
 mark_in x (WholeAttributeName tag k) t = t
 mark_in x (AfterAttributeName tag k) t = Mark ∷ AttributeBegins ∷ t
-mark_in x (BeforeAttributeValue tag k) t = Mark ∷ emitted_settled x (attribute_value_of x k) t
-mark_in x (AttributeValue q tag v r) t = Mark ∷ emitted_settled x v t
+mark_in x (BeforeAttributeValue tag k) t = emitted_hole x (attribute_value_of x k) t
+mark_in x (AttributeValue q tag v r) t = emitted_hole x v t
 mark_in x (AfterAttributeValue tag) t = Mark ∷ AttributeBegins ∷ t
 mark_in x (SelfClosingStartTag tag) t = Mark ∷ AttributeBegins ∷ t
 mark_in x (InContent e y h) t = Mark ∷ t

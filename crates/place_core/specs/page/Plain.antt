@@ -7,10 +7,11 @@ use Rattle.place_core.specs.page.Events.{LexEvent, TextByte, BlockByte, Attribut
 use Rattle.place_core.specs.page.Html.{read}
 use Rattle.place_core.specs.page.References.{Reference, Closed}
 use Rattle.place_core.specs.page.States.{Page, LexState, Text, BeforeAttributeName, AfterAttributeName, AfterAttributeValue, SelfClosingStartTag, AttributeName, BeforeAttributeValue, AttributeValue, Content, Characters, Bytes, Pending, Nothing, InContent, Config, config}
-use Rattle.place_core.specs.page.Tags.{Tag, Value, ValueOf, Deciding, Quoting, Unquoted, attribute_value_of, without_value, ValueLanguage, settled_value, emitted_settled, languages, ValueState}
+use Rattle.place_core.specs.page.Tags.{Tag, Value, ValueOf, Deciding, Quoting, Unquoted, attribute_value_of, without_value, ValueLanguage, settled_value, emitted_settled, languages, ValueState, OfKind, OfUrl, OfStyle}
 use Rattle.place_core.specs.page.Words.{is_special}
 use Rattle.place_core.specs.declared.element.Element.{Element}
 use Rattle.place_core.specs.declared.kind.Kind.{Kind}
+use Rattle.place_core.specs.declared.kind.Kind.TheVariants as kind
 
 -- nothing was told but bytes of a text, or of a data block
 abbrev pub only_text : List LexEvent → Bool
@@ -37,19 +38,30 @@ abbrev pub HasBytes : Quoting → List ℕ → Type 0
 HasBytes Unquoted bytes = bytes ≢ []
 HasBytes q bytes = ⊤
 
+-- These bytes, with references undone, are the bytes `value`. A style does not tell each of its bytes: there it is what a value of kind Plain tells of
+-- the same bytes.
+abbrev pub in_plain_value : Quoting → Tag → LexState ValueState
+in_plain_value q tag = AttributeValue q tag (ValueOf (OfKind kind.Plain)) Closed
+
+abbrev pub AreRead : ValueState → Quoting → Tag → (bytes value : List ℕ) → Config ValueState → Type 0
+AreRead (OfKind k) q tag bytes value d = d.emitted ≡ value_bytes value []
+AreRead (OfUrl u) q tag bytes value d = d.emitted ≡ value_bytes value []
+AreRead (OfStyle s) q tag bytes value d =
+    read Page bytes (config (in_plain_value q tag) []) ≡ config (in_plain_value q tag) (value_bytes value [])
+
 -- The bytes lie in a value, which reads these bytes of them, with their references undone, and in its language they are plain.
-pub record IsPlainInState (v : ValueState) (q : Quoting) (tag : Tag) (d : Config ValueState) : Type 0 where
+pub record IsPlainInState (v : ValueState) (q : Quoting) (tag : Tag) (bytes : List ℕ) (d : Config ValueState) : Type 0 where
   pub value : List ℕ
   pub after : ValueState
   pub within : d.at ≡ AttributeValue q tag (ValueOf after) Closed
-  pub emitted : d.emitted ≡ value_bytes value []
+  pub emitted : AreRead v q tag bytes value d
   pub some : HasBytes q value
   pub leads : languages.LeadsPlain v value after
 
 -- in the value of an attribute; where it decides how an element is read, no bytes are plain
-abbrev pub IsPlainValue : Value ValueState → Quoting → Tag → Config ValueState → Type 0
-IsPlainValue (ValueOf v) q tag d = IsPlainInState v q tag d
-IsPlainValue (Deciding k before) q tag d = ⊥
+abbrev pub IsPlainValue : Value ValueState → Quoting → Tag → List ℕ → Config ValueState → Type 0
+IsPlainValue (ValueOf v) q tag bytes d = IsPlainInState v q tag bytes d
+IsPlainValue (Deciding k before) q tag bytes d = ⊥
 
 -- where an unquoted value is to begin: the value begins with the first byte
 abbrev pub begins_at_once : List ℕ → Bool
@@ -57,7 +69,7 @@ begins_at_once [] = false
 begins_at_once (b ∷ bs) = not (is_ascii_whitespace b)
 
 abbrev pub IsPlainBefore : Kind → Tag → List ℕ → Config ValueState → Type 0
-IsPlainBefore k tag bytes d = (begins_at_once bytes ≡ true) × IsPlainValue (attribute_value_of languages k) Unquoted tag d
+IsPlainBefore k tag bytes d = (begins_at_once bytes ≡ true) × IsPlainValue (attribute_value_of languages k) Unquoted tag bytes d
 
 -- inside a text, a value: no reference is open where the hole begins
 abbrev pub WhereClosed : Reference → Type 0 → Type 0
@@ -81,7 +93,7 @@ IsPlainFrom (AfterAttributeName tag k) bytes d = IsPlainName (without_value tag 
 IsPlainFrom (AfterAttributeValue tag) bytes d = IsPlainName tag bytes d
 IsPlainFrom (SelfClosingStartTag tag) bytes d = IsPlainName tag bytes d
 IsPlainFrom (BeforeAttributeValue tag k) bytes d = IsPlainBefore k tag bytes d
-IsPlainFrom (AttributeValue q tag v r) bytes d = WhereClosed r (IsPlainValue v q tag d)
+IsPlainFrom (AttributeValue q tag v r) bytes d = WhereClosed r (IsPlainValue v q tag bytes d)
 IsPlainFrom _ bytes d = ⊥
 
 -- Where a hole begins, what the language of a value still holds back is told first. The other states need no such telling: where they hold
@@ -97,8 +109,8 @@ emits_settled_state x s t = t
 abbrev pub settled_config : {B : Type 0} → ValueLanguage B → Config B → Config B
 settled_config x c = config (settled_state x c.at) (emits_settled_state x c.at c.emitted)
 
--- plain in its place, and no token of what stands before lies partly in it
+-- Plain in its place, and no token of what stands before lies partly in it. No bytes lie in none.
 abbrev pub IsPlain : List ℕ → Config ValueState → Type 0
 IsPlain bytes c =
-    (read Page bytes c ≡ read Page bytes (settled_config languages c))
+    (bytes ≢ [] → read Page bytes c ≡ read Page bytes (settled_config languages c))
     × IsPlainFrom (settled_state languages c.at) bytes (read Page bytes (config (settled_state languages c.at) []))

@@ -1,12 +1,21 @@
 -- What the lexer of HTML remembers of the tag that it reads, and of the value in it.
-use Rattle.std.specs.Prelude.{◌≡◌, ℕ, Bool, true, false, ◌||◌, bytes_eq, codes, List, [], ◌∷◌, ◌++◌, Option, Some, None, option_map, if◌then◌else◌}
+use Rattle.std.specs.Prelude.{◌≡◌, ℕ, Bool, true, false, ◌||◌, bytes_eq, codes, List, [], ◌∷◌, ◌++◌, Option, Some, None, option_map, if◌then◌else◌, IsTrue}
+use Rattle.css_lexer.specs.Alike.{StylesAlike}
+use Rattle.css_lexer.specs.Paths as styles
+use Rattle.css_lexer.specs.Paths.{style_after_cut, style_settled, style_emits_settled, style_after_hole, style_behind}
+use Rattle.css_lexer.specs.Plain.{StyleLeadsPlain, MayBePlain, tells_plain}
+use Rattle.css_lexer.specs.RefusalCodes as style
+use Rattle.css_lexer.specs.Refusals.{style_refuses, style_refuses_cut}
+use Rattle.css_lexer.specs.States.{Style, style_start}
+use Rattle.css_lexer.specs.Steps.{feed_style, style_emits, style_ends, read_style, style_reading}
+use Rattle.css_lexer.specs.Urls.{urls}
 use Rattle.url_lexer.specs.Alike.{UrlsAlike}
 use Rattle.url_lexer.specs.Events.{told_scheme}
 use Rattle.url_lexer.specs.Holes.{url_after_cut, url_after_hole, url_behind}
 use Rattle.url_lexer.specs.Plain.{UrlLeadsPlain, ArePlainBytes}
 use Rattle.url_lexer.specs.Refusals.{UrlRefusal, AmbigContext, BadHTML, PartialEscape, url_refuses, url_refuses_cut}
 use Rattle.url_lexer.specs.States.{Url, url_start, feed_url}
-use Rattle.place_core.specs.page.Events.{LexEvent, ValueByte, ValueScheme}
+use Rattle.place_core.specs.page.Events.{LexEvent, Mark, ValueByte, ValueScheme, told_in_style}
 use Rattle.place_core.specs.page.Words.{is_script_type}
 use Rattle.place_core.specs.declared.code.Code.{Code}
 use Rattle.place_core.specs.declared.code.Code.TheVariants as code
@@ -55,8 +64,8 @@ is_start (tag.Start e) = true
 -- - A byte leads to the state `feed` and tells `emits`; in the text of a template it may be refused (`refuses`). Where `refuses_names` says so,
 --   a reference by a name that stands for no character is refused there. The end of the value tells `ends`.
 -- - The end of a node leads a path to the state `after_cut`, where it is not refused (`refuses_cut`).
--- - A hole: what is pending back before it is told first (`emits_settled`), which leads to the state `settled`. It leads a path to the state
---   `after_hole`. It leads a page to the state `behind`, by the state before the bytes of the hole and the one after them. `LeadsPlain` says
+-- - A hole: what is pending back before it is told first (`emits_settled`), which leads to the state `settled`. It has a mark unless no part of a page
+--   stands for it (`has_mark`). It leads a path to the state `after_hole`. It leads a page to the state `behind`, by the state before the bytes of the hole and the one after them. `LeadsPlain` says
 --   that these bytes, of which the value has such, are plain, and lead from the one to the other.
 -- - A page that stands for a path is in a state that is alike (`AreAlike`): so it tells the same of the bytes that follow.
 pub record ValueLanguage (B : Type 0) : Type 1 where
@@ -70,85 +79,131 @@ pub record ValueLanguage (B : Type 0) : Type 1 where
   pub refuses_cut : B → Option Code
   pub settled : B → B
   pub emits_settled : B → List LexEvent → List LexEvent
+  pub has_mark : B → Bool
   pub after_hole : B → B
   pub behind : B → B → B
   pub LeadsPlain : B → List ℕ → B → Type 0
   pub AreAlike : B → B → Type 0
 
--- A value of which the bytes are told and nothing else is read, by its kind; and a URL.
+-- A value of which the bytes are told and nothing else is read, by its kind; a URL; and a style, with the URLs in it.
 pub data ValueState : Type 0 where
   OfKind : Kind → ValueState
   OfUrl : Url → ValueState
+  OfStyle : Style Url → ValueState
 
 abbrev pub value_start : Kind → ValueState
 value_start kind.Url = OfUrl url_start
+value_start kind.Style = OfStyle style_start
 value_start k = OfKind k
 
 abbrev pub feed_value : ValueState → ℕ → ValueState
 feed_value (OfKind k) b = OfKind k
 feed_value (OfUrl u) b = OfUrl (feed_url u b)
+feed_value (OfStyle s) b = OfStyle (feed_style urls s b)
 
--- the code of what is refused in a URL
+-- a style tells what it reads, and not its bytes
+abbrev pub emits_state : ValueState → ℕ → List LexEvent → List LexEvent
+emits_state (OfKind k) b t = ValueByte b ∷ t
+emits_state (OfUrl u) b t = ValueByte b ∷ t
+emits_state (OfStyle s) b t = told_in_style (style_emits urls s b []) t
+
+-- the code of what is refused in a URL, and in a style
 abbrev pub refusal_code : UrlRefusal → Code
 refusal_code AmbigContext = code.AmbigContext
 refusal_code BadHTML = code.BadHTML
 refusal_code PartialEscape = code.PartialEscape
 
+abbrev pub style_code : style.RefusalCode → Code
+style_code style.AmbigContext = code.AmbigContext
+style_code style.BadHTML = code.BadHTML
+style_code style.PartialEscape = code.PartialEscape
+style_code style.SplitToken = code.SplitToken
+style_code style.BadString = code.BadString
+
 abbrev pub refuses_in_value : ValueState → ℕ → Option Code
 refuses_in_value (OfKind k) b = None
 refuses_in_value (OfUrl u) b = option_map refusal_code (url_refuses u b)
+refuses_in_value (OfStyle s) b = option_map style_code (style_refuses urls s b)
 
 abbrev pub refuses_value_names : ValueState → Bool
 refuses_value_names (OfKind k) = false
 refuses_value_names (OfUrl u) = true
+refuses_value_names (OfStyle s) = true
 
--- the end of a URL tells its scheme
+-- the end of a URL tells its scheme, and that of a style what is pending
 abbrev pub ends_state : ValueState → List LexEvent → List LexEvent
 ends_state (OfKind k) t = t
 ends_state (OfUrl u) t = ValueScheme (told_scheme u.free u.scheme) ∷ t
+ends_state (OfStyle s) t = told_in_style (style_ends urls s []) t
 
 abbrev pub value_after_cut : ValueState → ValueState
 value_after_cut (OfKind k) = OfKind k
 value_after_cut (OfUrl u) = OfUrl (url_after_cut u)
+value_after_cut (OfStyle s) = OfStyle (style_after_cut urls s)
 
--- in a URL a percent triple that has begun
+-- in a URL a percent triple that has begun, and in a style an escape or such a triple of its URL
 abbrev pub refuses_value_cut : ValueState → Option Code
 refuses_value_cut (OfKind k) = None
 refuses_value_cut (OfUrl u) = option_map (λ e. refusal_code e.refusal) (url_refuses_cut u)
+refuses_value_cut (OfStyle s) = option_map (λ e. style_code e.code) (style_refuses_cut urls s)
+
+-- where a hole begins, a style tells a `/` that is pending; in a comment of a style a hole has no mark
+abbrev pub value_settled : ValueState → ValueState
+value_settled (OfStyle s) = OfStyle (style_settled s)
+value_settled v = v
+
+abbrev pub emits_value_settled : ValueState → List LexEvent → List LexEvent
+emits_value_settled (OfStyle s) t = told_in_style (style_emits_settled s []) t
+emits_value_settled v t = t
+
+abbrev pub value_has_mark : ValueState → Bool
+value_has_mark (OfStyle s) = styles.has_mark s
+value_has_mark v = true
 
 abbrev pub value_after_hole : ValueState → ValueState
 value_after_hole (OfKind k) = OfKind k
 value_after_hole (OfUrl u) = OfUrl (url_after_hole u)
+value_after_hole (OfStyle s) = OfStyle (style_after_hole urls s)
 
 abbrev pub value_state_behind : ValueState → ValueState → ValueState
 value_state_behind (OfUrl u) (OfUrl w) = OfUrl (url_behind u w)
+value_state_behind (OfStyle s) (OfStyle r) = OfStyle (style_behind urls s r)
 value_state_behind before after = after
 
--- Of a value that is text all bytes are plain, and of a URL those that `url_lexer` says. Of the other kinds none are, since no hole may stand there, or
--- they are not built yet.
+-- In a style bytes lead to a state behind which the path's is alike, are allowed there, and tell nothing but what is inside one token.
+pub record LeadsPlainInStyle (s : Style Url) (bytes : List ℕ) (r : Style Url) : Type 0 where
+  pub leads : StyleLeadsPlain urls s r
+  pub allowed : MayBePlain urls bytes s
+  pub tells : IsTrue (tells_plain s (read_style urls bytes (style_reading s [])).told)
+
+-- Of a value that is text all bytes are plain, and of a URL and a style those that `url_lexer` and `css_lexer` say. Of the other kinds none are, since
+-- no hole may stand there, or they are not built yet.
 abbrev pub LeadsPlainState : ValueState → List ℕ → ValueState → Type 0
 LeadsPlainState (OfKind kind.Plain) bytes after = after ≡ OfKind kind.Plain
 LeadsPlainState (OfUrl u) bytes (OfUrl w) = UrlLeadsPlain u w × ArePlainBytes u.part bytes
+LeadsPlainState (OfStyle s) bytes (OfStyle r) = LeadsPlainInStyle s bytes r
 LeadsPlainState before bytes after = ⊥
 
 abbrev pub StatesAlike : ValueState → ValueState → Type 0
 StatesAlike (OfKind k) after = after ≡ OfKind k
 StatesAlike (OfUrl u) (OfUrl w) = UrlsAlike u w
-StatesAlike (OfUrl u) (OfKind k) = ⊥
+StatesAlike (OfStyle s) (OfStyle r) = StylesAlike urls s r
+StatesAlike before after = ⊥
 
 -- the languages that are read so far
 abbrev pub languages : ValueLanguage ValueState
 languages = record {
   start = value_start;
   feed = feed_value;
-  emits = λ v b t. ValueByte b ∷ t;
+  emits = emits_state;
   refuses = refuses_in_value;
   refuses_names = refuses_value_names;
   ends = ends_state;
   after_cut = value_after_cut;
   refuses_cut = refuses_value_cut;
-  settled = λ v. v;
-  emits_settled = λ v t. t;
+  settled = value_settled;
+  emits_settled = emits_value_settled;
+  has_mark = value_has_mark;
   after_hole = value_after_hole;
   behind = value_state_behind;
   LeadsPlain = LeadsPlainState;
@@ -226,6 +281,18 @@ settled_value x (Deciding k before) = Deciding k before
 abbrev pub emitted_settled : {B : Type 0} → ValueLanguage B → Value B → List LexEvent → List LexEvent
 emitted_settled x (ValueOf v) t = x.emits_settled v t
 emitted_settled x (Deciding k before) t = t
+
+-- what a hole in a value tells: its mark, where it has one, after what is pending
+abbrev pub has_mark_in : {B : Type 0} → ValueLanguage B → Value B → Bool
+has_mark_in x (ValueOf v) = x.has_mark v
+has_mark_in x (Deciding k before) = true
+
+abbrev pub mark_if : Bool → List LexEvent → List LexEvent
+mark_if true t = Mark ∷ t
+mark_if false t = t
+
+abbrev pub emitted_hole : {B : Type 0} → ValueLanguage B → Value B → List LexEvent → List LexEvent
+emitted_hole x v t = mark_if (has_mark_in x v) (emitted_settled x v t)
 
 -- a value of a page after the bytes of a hole, by what it was before them and what they have made of it
 abbrev pub value_behind : {B : Type 0} → ValueLanguage B → Option (Value B) → Value B → Value B

@@ -5,7 +5,7 @@ use Rattle.place_core.specs.page.Classes.{Class, White, ExclamationMark, Quotati
 use Rattle.place_core.specs.page.Html.{next, ends_value}
 use Rattle.place_core.specs.page.Paths.{at_cut}
 use Rattle.place_core.specs.page.References.{Form, Named, Reference, Closed, Open, ReferenceStep, Grows, Closes, Breaks, turn, names, named_in, replacement, meaning, flushed, plain_bytes, settled, as_it_stands}
-use Rattle.place_core.specs.place.LastPercent.{last_percent, url_reference}
+use Rattle.place_core.specs.place.LastLexeme.{last_lexeme_start, language_reference}
 use Rattle.place_core.specs.place.StatePlaces.{placed, value_spot, value_body, tag_spot, only_name, only_before, only_inside, only_after, quotes_at}
 use Rattle.place_core.specs.page.States.{Template, LexState, Text, TagOpen, EndTagOpen, DeclarationOpen, InComment, Broken, CommentState, BogusComment, InDoctype, TagName, WholeTagName, BeforeAttributeName, AttributeName, WholeAttributeName, AfterAttributeName, BeforeAttributeValue, AttributeValue, AfterAttributeValue, SelfClosingStartTag, Characters, Bytes, Pending, Nothing, PendingLess, LessAtCut, PendingName, PendingBang, PendingBangDash, InContent, Unread}
 use Rattle.place_core.specs.page.Tags.{Tag, is_second_type, Value, attribute_value_of, ValueOf, Deciding, ValueLanguage, with_bytes, Feeding, feeding, feed_bytes, refuses_cut_of, cut_value, tag_with_value, ValueState, languages, tag_of_name, element_on}
@@ -332,12 +332,12 @@ abbrev pub broken_off : ℕ → ℕ → Option Code → Option PathRefusal
 broken_off k since None = None
 broken_off k since (Some e) = Some (record { code = e; at = k; shown = since })
 
--- of bytes that stand at `k` in their text, where `since` is the place of the last percent sign before
+-- of bytes that stand at `k` in their text, where `since` is the place of the last `%` or `\` before
 abbrev pub refusal_from : ℕ → ℕ → List ℕ → LexState ValueState → Option PathRefusal
 refusal_from k since [] s = standing_at k (cut_error s) (broken_off k since (lexeme_error s))
 refusal_from k since (b ∷ bs) s =
     standing_at k (byte_error s (class_of b) b)
-    (refusal_from (k + 1) (last_percent k since (url_reference s) (class_of b) b) bs (next languages Template s (class_of b) b))
+    (refusal_from (k + 1) (last_lexeme_start k since (language_reference s) (class_of b) b) bs (next languages Template s (class_of b) b))
 
 abbrev pub path_refusal : List ℕ → LexState ValueState → Option PathRefusal
 path_refusal bytes s = refusal_from 0 0 bytes s
