@@ -17,7 +17,8 @@ use place_core::Code;
 
 // In an escape.
 fn in_escape(trail: ScriptTrail) -> Option<ScriptCause>
-    ensures { result ≡ option_map script_cause_at (refusals.escape_refusal (script_trail_at trail)) }
+    ensures { result
+        ≡ option_map script_cause_at (refusals.escape_refusal (script_trail_at trail)) }
 {
     if trail.brace > 0 {
         return caused(Code::PartialEscape, 0, trail.brace);

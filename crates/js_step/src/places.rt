@@ -9,7 +9,8 @@ use place_core::{Js, JsTails, Senses};
 
 // What a text has ended in that the next one may go on with.
 fn tails_at(at: ScriptAt, markup: ScriptMarkup) -> JsTails
-    ensures { result ≡ script_tails (script_tail_at (script_lexeme_at at) (script_markup_at markup)) }
+    ensures { result
+        ≡ script_tails (script_tail_at (script_lexeme_at at) (script_markup_at markup)) }
 {
     match (at, markup) {
         (ScriptAt::Code(_), ScriptMarkup::Tag(false, ScriptLetters::None)) => {

@@ -44,7 +44,8 @@ fn is_number(class: ScriptClass) -> bool
 // Which lexeme a byte of code begins, where literals and braces stay as they are.
 fn begun(sense: Sense, class: ScriptClass, byte: u8) -> ScriptAt
     requires { NestsNothing class }
-    ensures { (fs : List ℕ) → point fs (script_lexeme_at result) ≡ steps.next_code sense class byte fs }
+    ensures { (fs : List ℕ) → point fs (script_lexeme_at result)
+        ≡ steps.next_code sense class byte fs }
 {
     match class {
         ScriptClass::Space | ScriptClass::LineEnd => ScriptAt::Code(sense),
@@ -232,7 +233,8 @@ fn in_line(sense: Sense, class: ScriptClass) -> ScriptAt
 
 // In a comment of any length.
 fn in_block(sense: Sense, star: bool, class: ScriptClass) -> ScriptAt
-    ensures { (fs : List ℕ) → point fs (script_lexeme_at result) ≡ steps.next_block sense star class fs }
+    ensures { (fs : List ℕ) → point fs (script_lexeme_at result)
+        ≡ steps.next_block sense star class fs }
 {
     match (star, class) {
         (true, ScriptClass::Solidus) => ScriptAt::Code(sense),
@@ -246,7 +248,8 @@ fn in_word(literals: ScriptLiterals, read: ScriptWord, class: ScriptClass, byte:
     requires { ScriptBracesFit most_bytes literals }
     ensures fits { (k : ℕ) → ScriptBracesFit k literals
         → ScriptBracesFit (k + braces_opened class) result.literals }
-    ensures point { script_point_at result ≡ kept_point (steps.next_script_word (steps.is_word class)
+    ensures point { script_point_at result
+        ≡ kept_point (steps.next_script_word (steps.is_word class)
         (script_word_at read) class byte (script_literals_at literals)) }
 {
     if is_word(class) {

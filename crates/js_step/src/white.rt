@@ -236,7 +236,8 @@ pub fn next_held(apart: bool, held: ScriptHeld, byte: u8) -> ScriptHeld
 // The class of the first byte that is released: of those that are held back, or of the one at hand.
 fn first_of(held: ScriptHeld, class: ScriptClass, byte: u8) -> ScriptClass
     ensures { Some result ≡ script_first_class
-        (spaces.classed_as ScriptClass.Letter (script_held_at held) ++ spaces.classed class byte ∷ []) }
+        (spaces.classed_as ScriptClass.Letter (script_held_at held)
+        ++ spaces.classed class byte ∷ []) }
 {
     match held {
         ScriptHeld::None => class,
