@@ -26,8 +26,8 @@ where_some (Some p) = with_part p
 abbrev pub part_spot : Style Url → Option (StyleSpot UrlPart)
 part_spot s = where_some (style_spot s)
 
--- Whether a path may stand in this state where a text begins: the end of a node or a hole may have led to it, so that no lexeme is open; of
--- a percent triple see `part_spot`. Before a URL nothing has been read of it.
+-- Whether a path may stand in this state where a text begins: the end of a node or a hole may have led to it, so that no lexeme is open.
+-- A percent triple may be open here: there the path has no place (`part_spot`). Before a URL nothing has been read of it.
 abbrev pub is_no_escape : StyleEscape → Bool
 is_no_escape NoEscape = true
 is_no_escape e = false

@@ -2,11 +2,11 @@
 -- one, a text begins there in the path's scan state.
 use Rattle.std.proofs.Common.{◌≡◌, ◌∙◌, Bool, true, false, Option, Some, None, option_map, if◌then◌else◌, refl, sym, ap, subst}
 use Rattle.css_lexer.specs.Escapes.{StyleEscape, NoEscape, AfterBackslash, HexDigits, AfterReturn}
-use Rattle.css_lexer.specs.PartSpots.{may_begin_text, part_spot}
+use Rattle.css_lexer.specs.PartSpots.{has_read_nothing, may_begin_text, part_spot}
 use Rattle.css_lexer.specs.Paths.{style_after_cut, style_after_hole}
 use Rattle.css_lexer.specs.Refusals.{style_refuses_cut, style_refuses_hole}
 use Rattle.css_lexer.specs.Spots.{StyleSpot}
-use Rattle.css_lexer.specs.States.{Quote, DoubleQuote, SingleQuote, Bare, Quoted, Style, Out, InString, SplitWord, InUrl}
+use Rattle.css_lexer.specs.States.{Quote, DoubleQuote, SingleQuote, Between, AfterLessThan, Word, AfterSolidus, Comment, InString, BadUrl, BehindHole, SplitWord, SolidusAtCut, LessThanAtCut, StarAtCut, Fresh, Bare, Quoted, Ended, Style, Out, InUrl}
 use Rattle.css_lexer.specs.Urls.{urls}
 use Rattle.place_core.specs.declared.body.Body.{Body}
 use Rattle.place_core.specs.declared.body.Body.TheVariants as body
@@ -20,8 +20,8 @@ use Rattle.url_lexer.specs.States.{Url, url_start}
 use Rattle.url_step.proofs.OnePath.{one-at-hole}
 use Rattle.css_step.proofs.BetweenTexts.{between-texts}
 use Rattle.css_step.proofs.OneStylePath.{given, one-style}
-use Rattle.css_step.specs.StyleScans.{StyleScan, style_split_word, style_scan_start, style_scan_place, style_at_hole}
-use Rattle.css_step.specs.StyleScanLaws.{IsStyleScan, scans_between, scans_less_than, scans_word, scans_solidus, scans_comment, scans_string, scans_behind_hole, scans_split_word, scans_solidus_before, scans_less_than_before, scans_star_before, scans_fresh, scans_bare, scans_quoted, scans_ended}
+use Rattle.css_step.specs.StyleScans.{StyleScan, ScanFresh, style_split_word, style_scan_start, style_scan_place, style_at_hole}
+use Rattle.css_step.specs.StyleScanLaws.{IsStyleScan, scans_between, scans_less_than, scans_word, scans_solidus, scans_comment, scans_string, scans_behind_hole, scans_split_word, scans_solidus_before, scans_less_than_before, scans_star_before, scans_fresh, scans_bare, scans_quoted, scans_ended, style_scanned}
 
 -- behind the end of a node
 split-cut : (e : StyleEscape) → style_body (style_after_cut urls (Out (SplitWord e))) ≡ Some (body.Css (style_scan_place (style_split_word e)))
@@ -121,3 +121,27 @@ body-of-scan v n c i e = by-place (place-of v c (may_begin_text v) (part_spot v)
     by-place (p, m, o, k) =
         let at : style_scan_place n ≡ c = sym ((one-style v n i).place p o) ∙ k in
         record { place = at; start = subst (λ (d : Css). style_scan_start d ≡ n) at ((between-texts v n i).start p m o) }
+
+-- Where there is a body, the path has a scan state.
+fresh-body : (u : Url) (b : Body) (read : Bool) → has_read_nothing u ≡ read
+    → (if read then Some (body.Css css.UrlFresh) else None) ≡ Some b → (n : StyleScan) × (if read then Some ScanFresh else None) ≡ Some n
+fresh-body u b true h e = (ScanFresh, refl)
+fresh-body u b false h e = absurd (no-body b e)
+
+pub scan-of-body : (v : Style Url) (b : Body) → style_body v ≡ Some b → (n : StyleScan) × (style_scanned v ≡ Some n)
+scan-of-body (Out (Between k)) b e = (_, refl)
+scan-of-body (Out AfterLessThan) b e = (_, refl)
+scan-of-body (Out (Word w z)) b e = (_, refl)
+scan-of-body (Out (AfterSolidus k)) b e = (_, refl)
+scan-of-body (Out (Comment star)) b e = (_, refl)
+scan-of-body (Out (InString q z)) b e = (_, refl)
+scan-of-body (Out BadUrl) b e = absurd (no-body b e)
+scan-of-body (Out (BehindHole s l)) b e = (_, refl)
+scan-of-body (Out (SplitWord z)) b e = (_, refl)
+scan-of-body (Out (SolidusAtCut k)) b e = (_, refl)
+scan-of-body (Out LessThanAtCut) b e = (_, refl)
+scan-of-body (Out StarAtCut) b e = (_, refl)
+scan-of-body (InUrl Fresh u) b e = fresh-body u b (has_read_nothing u) refl e
+scan-of-body (InUrl Bare u) b e = (_, refl)
+scan-of-body (InUrl (Quoted q z) u) b e = (_, refl)
+scan-of-body (InUrl Ended u) b e = (_, refl)

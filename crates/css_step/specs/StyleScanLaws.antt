@@ -72,8 +72,8 @@ pub record OneStyle (v : Style Url) (n : StyleScan) : Type 0 where
   pub after_hole : style_refuses_cut urls v ≡ None → style_refuses_hole urls v ≡ None
       → IsStyleScan (style_after_hole urls v) (style_scan_start (style_at_hole (style_scan_place n)))
 
--- Between two texts: one may begin behind the end of a node, and behind a hole that stands where a node may end. Where one may begin, the end of a
--- node is not refused and changes nothing, and a text at the path's place begins in the path's scan state.
+-- Between two texts: one may begin behind the end of a node, and behind a hole that stands where a node may end. Where one may begin and
+-- the path has a place, the end of a node is not refused and changes nothing, and a text at that place begins in the path's scan state.
 pub record OneStyleBetweenTexts (v : Style Url) (n : StyleScan) : Type 0 where
   pub after_cut : may_begin_text (style_after_cut urls v) ≡ true
   pub after_hole : style_refuses_cut urls v ≡ None → may_begin_text (style_after_hole urls v) ≡ true

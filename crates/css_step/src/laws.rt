@@ -6,7 +6,7 @@ ghost use Rattle.css_step.specs.StyleTexts.{StyleTextsComeFrom};
 ghost use Rattle.css_step.specs.StyleValidity.{StylesAgree, StylesStayValid};
 
 /// From the place of one path, what a byte of text, the end of a node and a hole make of it and what is refused is the path's own; and
-/// where a text may begin, one at its place begins in its scan state. A theorem; the call does nothing at run time.
+/// where a text may begin and the path has a place, one at that place begins in its scan state. A theorem; the call does nothing at run time.
 pub fn is_exact_on_one_style()
     ensures { IsExactOnOneStyle }
 {}

@@ -211,8 +211,10 @@ fn of_value(place: ValuePlace, class: Class) -> Option<Code>
     ensures { result ≡ value_error place (class_at class) }
 {
     match place.body {
-        Body::Plain | Body::NoHole | Body::Url(_) => in_quotes(place.tag, place.quotes, class),
-        Body::Js(_) | Body::Css(_) => Some(Code::NotBuilt),
+        Body::Plain | Body::NoHole | Body::Url(_) | Body::Css(_) => {
+            in_quotes(place.tag, place.quotes, class)
+        }
+        Body::Js(_) => Some(Code::NotBuilt),
     }
 }
 
@@ -291,8 +293,8 @@ fn of_kind(kind: Kind) -> Option<Code>
     ensures { result ≡ kind_error kind }
 {
     match kind {
-        Kind::Plain | Kind::NoHole | Kind::Url | Kind::ScriptType => None,
-        Kind::Script | Kind::Style => Some(Code::NotBuilt),
+        Kind::Plain | Kind::NoHole | Kind::Url | Kind::Style | Kind::ScriptType => None,
+        Kind::Script => Some(Code::NotBuilt),
     }
 }
 

@@ -41,6 +41,8 @@ pub use refusals::{at_byte, at_end, lexeme_at_end};
 pub use scan::Scan;
 pub use slices::pending;
 pub use step::next;
+pub use style_refusals::refused_in_style;
+pub use styles::{broken as broken_style, style_at_cut};
 pub use tags::INSIDE;
 pub use triple::Triple;
 pub use url_refusals::refused_in_url;

@@ -13,7 +13,8 @@ use crate::class::Class;
 use crate::names::{kind_on, tag_named};
 use crate::scan::Scan;
 use place_core::{
-    Bare, Body, Element, Kind, Parts, Place, Quotes, Spots, TagOf, TagPlace, ValuePlace,
+    Bare, Body, Css, CssTails, Element, Kind, Parts, Place, Quotes, Spots, TagOf, TagPlace,
+    ValuePlace,
 };
 
 // Where in a tag a path stands alone.
@@ -55,6 +56,13 @@ const URL_START: Parts = Parts {
     query: false,
     bad: false,
 };
+
+// Where the declarations of a style begin.
+const STYLE_START: Css = Css::Code(CssTails {
+    word: false,
+    slash: false,
+    lt: false,
+});
 
 /// Where a value has not begun.
 pub const UNBEGUN: Quotes = Quotes::Bare(Bare {
@@ -176,6 +184,7 @@ fn value_begins(tag: TagOf, typed: bool, kind: Option<Kind>) -> Scan
         Some(Kind::Plain) => Scan::At(body_begins(tag, typed, Body::Plain)),
         Some(Kind::NoHole) => Scan::At(body_begins(tag, typed, Body::NoHole)),
         Some(Kind::Url) => Scan::At(body_begins(tag, typed, Body::Url(URL_START))),
+        Some(Kind::Style) => Scan::At(body_begins(tag, typed, Body::Css(STYLE_START))),
         Some(Kind::ScriptType) => Scan::BeforeType(tag),
         _ => Scan::At(Place::Text),
     }

@@ -1,15 +1,18 @@
 -- Whole texts: what is accepted is refused on no path, and on no two.
-use Rattle.std.proofs.Common.{◌≡◌, ℕ, ◌+◌, zero, suc, false, true, List, [], ◌∷◌, length, Option, Some, None, Result, Ok, refl, sym, ap, ◌∙◌, subst, ⊎_elim}
+use Rattle.std.proofs.Common.{◌≡◌, ℕ, ◌+◌, zero, suc, false, true, List, [], ◌∷◌, length, Option, Some, None, Result, Ok, is_some, refl, sym, ap, ◌∙◌, subst, ⊎_elim}
 use Rattle.place_core.specs.page.Classes.{Class, class_of}
-use Rattle.place_core.specs.page.References.{Reference, as_it_stands}
-use Rattle.place_core.specs.place.ApartPlaces.{ArePlacesApart, opened_apart, beginning_at, spell_apart}
-use Rattle.place_core.specs.place.Errors.{PathCause, PathRefusal, broken_off, cut_error, lexeme_error, path_refusal, place_before_bytes, standing_at}
+use Rattle.place_core.specs.place.ApartPlaces.{ArePlacesApart, HasApart, opened_apart, beginning_at, spell_apart}
+use Rattle.place_core.specs.page.Paths.{at_cut}
+use Rattle.place_core.specs.page.References.{Closed, Open}
+use Rattle.place_core.specs.place.Places.{Below}
+use Rattle.place_core.proofs.ApartPlacesFacts.{apart-sides, has-side, two-below}
+use Rattle.place_core.specs.place.Errors.{node, PathRefusal, broken_off, cut_error, lexeme_error, path_refusal, place_before_bytes, standing_at}
 use Rattle.place_core.specs.place.LastLexeme.{last_lexeme_start}
 use Rattle.place_core.specs.place.PathPairs.{ApartBefore, Clashes, ClashesApart, MeetsColon, byte_clash, is_in_beginning, state_before, unknown_beginning, unknown_part}
 use Rattle.place_core.specs.page.Html.{next}
-use Rattle.place_core.specs.page.States.{AttributeValue, Template, LexState}
+use Rattle.place_core.specs.page.States.{AttributeName, AttributeValue, Template, LexState}
 use Rattle.place_core.specs.page.Tags.{Deciding, OfKind, OfUrl, OfStyle, Quoting, Tag, ValueOf, ValueState, languages}
-use Rattle.place_core.specs.place.StatePlaces.{quotes_at}
+use Rattle.place_core.specs.place.StatePlaces.{placed}
 use Rattle.place_core.specs.place.UrlParts.{parts_of, placed_prefix}
 use Rattle.place_core.specs.declared.code.Code.{Code}
 use Rattle.place_core.specs.declared.code.Code.TheVariants as code
@@ -21,17 +24,18 @@ use Rattle.html_scan.specs.Scans.{Scan, At, if_unfinished, scan_reference, scan_
 use Rattle.html_step.specs.Laws.{AcceptsText}
 use Rattle.html_step.specs.Origins.{is_apart, scan_parts}
 use Rattle.html_step.specs.Steps.{stepped}
-use Rattle.html_step.proofs.ApartParts.{both-apart, no-colon-fed}
-use Rattle.html_step.proofs.Characters.{ReferencePlain, stands-no-colon}
+use Rattle.html_step.proofs.ApartParts.{both-apart, of-differs}
+use Rattle.html_step.proofs.EndsApart.{end-apart}
+use Rattle.html_step.proofs.KeptBeginnings.{before-none, on_side}
 use Rattle.html_step.proofs.Clashing.{ClashIs, begun-grows, both-refuse, clash-is, has-unbegun, has-unquoted, unbegun-grows, white_first, white_second}
-use Rattle.html_step.proofs.OnePath.{scanned, url-scan-cut, url-scan-lexeme, url_scanned, url_value, url-reference}
+use Rattle.html_step.proofs.PathScans.{scanned}
 use Rattle.html_step.proofs.OneTexts.{Says, agrees-at, at-place, ends-at, one-text, says}
-use Rattle.html_step.proofs.ReadScans.{Takes, not-broken, read-below, read-end, read-ok, read-valid, scan_read, takes}
-use Rattle.html_step.proofs.ReadStates.{Unknown, open-parts, own-place, read-state, shown-read, unknown, url-before}
+use Rattle.html_step.proofs.ReadScans.{Takes, not-broken, read-below, read-end, read-ok, read-taken, read-valid, scan_read, takes}
+use Rattle.html_step.proofs.ReadStates.{Unknown, byte-shown, open-parts, own-place, read-state, shown-read, unknown, url-before}
 use Rattle.html_step.proofs.ScanOrder.{ScanBelow, ScanValid, scan-grows}
-use Rattle.html_step.proofs.UrlScans.{ScanPlain, above-parts, below-reference, scan-plain}
+use Rattle.html_step.proofs.UrlScans.{ScanPlain, above-parts, raw-opened, scan-plain}
 use Rattle.html_step.proofs.ValidSteps.{scan-valid}
-use Rattle.html_step.proofs.WholeTexts.{accepts-anywhere, grows-from, grows-text, step-ok, text-steps}
+use Rattle.html_step.proofs.WholeTexts.{accepts-anywhere, end-ok, grows-from, grows-text, step-ok, text-steps}
 use Rattle.url_lexer.specs.Parts.{UrlOpen}
 use Rattle.url_lexer.specs.Prefixes as spelling
 use Rattle.url_lexer.specs.States.{Url}
@@ -55,41 +59,6 @@ no-clash : (s t : LexState ValueState) (g h f : Scan) (c : Class) (b : ℕ) (e :
     → scan_error f c b ≡ None → byte_clash s t c ≡ Some e → ⊥
 no-clash s t g h f c b e i j l m n x = no-clash-by s t g h f c b i j l m n (clash-is s t c e x)
 
--- At the end of a text no `:` is refused: a reference that is open has none in it, and a percent triple is refused by another code.
-lexeme-code : (t : Triple) (x : PathRefusal) (k since : ℕ) → broken_off k since (if_unfinished t) ≡ Some x → x.code ≡ code.AmbigContext → ⊥
-lexeme-code NoTriple x k since h i = absurd (none_some x h)
-lexeme-code AfterPercent x k since h i =
-    (let same : code.PartialEscape ≡ code.AmbigContext = ap (λ (y : PathRefusal). y.code) (one_value (record { code = code.PartialEscape; at = k; shown = since }) x h) ∙ i in cc)
-lexeme-code AfterDigit x k since h i =
-    (let same : code.PartialEscape ≡ code.AmbigContext = ap (λ (y : PathRefusal). y.code) (one_value (record { code = code.PartialEscape; at = k; shown = since }) x h) ∙ i in cc)
-
-end-refused : (s : LexState ValueState) (t : Triple) (x : PathRefusal) → cut_error s ≡ None → lexeme_error s ≡ if_unfinished t → x.code ≡ code.AmbigContext
-    → path_refusal [] s ≡ Some x → ⊥
-end-refused s t x n l i h =
-    lexeme-code t x 0 0
-    (ap (broken_off 0 0) (sym l) ∙ sym (ap (λ (o : Option PathCause). standing_at 0 o (broken_off 0 0 (lexeme_error s))) n) ∙ h) i
-
-end-url : (q : Quoting) (t : Tag) (u : Url) (r : Reference) (x : PathRefusal) → ReferencePlain r → x.code ≡ code.AmbigContext
-    → path_refusal [] (AttributeValue q t (ValueOf (OfUrl u)) r) ≡ Some x → ⊥
-end-url q t u r x n i h =
-    let s = AttributeValue q t (ValueOf (OfUrl u)) r in
-    let v = url_value t (quotes_at q) (parts_of u.part) in
-    let d = ends-at s (url_scanned q t u r) refl in
-    let cut : cut_error s ≡ None = d.errors ∙ url-scan-cut t (quotes_at q) (parts_of u.part) u.triple r
-    ∙ no-colon-fed (as_it_stands r) (parts_of u.part) true (length (as_it_stands r)) (stands-no-colon r n) in
-    end-refused s (triple_behind u.triple (as_it_stands r)) x cut (d.lexeme ∙ url-scan-lexeme v u.triple r) i h
-
-end-meets : (s : LexState ValueState) (g : Scan) (at : ℕ) → scanned s ≡ Some g → ScanPlain g → MeetsColon [] s at → ⊥
-end-meets (AttributeValue q t (ValueOf (OfUrl u)) r) g at e n m =
-    let same : url_scanned q t u r ≡ g = one_value (url_scanned q t u r) g e in
-    let plain : ReferencePlain r = subst ReferencePlain (ap scan_reference (sym same) ∙ url-reference (url_value t (quotes_at q) (parts_of u.part)) u.triple r) n in
-    end-url q t (record { part = unknown_part u.part; scheme = u.scheme; triple = u.triple; free = u.free }) r
-    (record { code = code.AmbigContext; at = at; shown = m.shown }) plain refl m.refused
-end-meets (AttributeValue q t (ValueOf (OfKind k)) r) g at e n m = absurd (no m.begins)
-end-meets (AttributeValue q t (ValueOf (OfStyle s)) r) g at e n m = absurd (no m.begins)
-end-meets (AttributeValue q t (Deciding k before) r) g at e n m = absurd (no m.begins)
-end-meets _ g at e n m = absurd (no m.begins)
-
 -- Two paths that are apart before a byte: the scan state says so, where it is read, and so it stands for the path of which it is not known what it
 -- spells, which is accepted.
 pub record Reads (s : LexState ValueState) (g f : Scan) (b : ℕ) (bs : List ℕ) : Type 0 where
@@ -104,7 +73,8 @@ pub reads : (s : LexState ValueState) (g f : Scan) (b : ℕ) (bs : List ℕ) →
     → is_in_beginning (state_before s (b ∷ bs)) ≡ true → Reads s g f b bs
 reads s g f b bs e v w a l o =
     let u = url-before s (b ∷ bs) o in
-    let at = read-state s g (b ∷ bs) u e in
+    let k = read-taken g f b bs a l in
+    let at = read-state s g (b ∷ bs) u e k in
     let p = open-parts (state_before s (b ∷ bs)) (scan_read g (b ∷ bs)) o at in
     let d = shown-read (scan_read g (b ∷ bs)) b bs (parts_of (UrlOpen p.0)) p.1 (not-broken g b bs (parts_of (UrlOpen p.0)) p.1) in
     record {
@@ -113,7 +83,7 @@ reads s g f b bs e v w a l o =
       below = read-below g f b bs w a l;
       spelled = p.0;
       parts = p.1;
-      shown = λ own h. ap beginning_at (one_value own d.place (sym h ∙ own-place s g (b ∷ bs) u e ∙ d.is)) ∙ d.opened;
+      shown = λ own h. ap beginning_at (one_value own d.place (sym h ∙ own-place s g (b ∷ bs) u e k (byte-shown (scan_reference g) b bs) ∙ d.is)) ∙ d.opened;
     }
 
 pub differ-apart : (p q : Place) (x y : Prefix) → beginning_at p ≡ Some x → beginning_at q ≡ Some y → ArePlacesApart p q → spell_apart x y ≡ true
@@ -140,13 +110,43 @@ unknown-accepted bytes k since s f q u x o h =
     none-refused x (path_refusal bytes (unknown_beginning s))
     (subst (λ (r : Result Place PathRefusal). Says r 0 0 bytes (unknown_beginning s)) a.1 (says bytes 0 0 (unknown_beginning s) u.scan u.at)).0 h
 
+-- At the end of a text the place is above those of paths that are apart there.
+pub before-side : (s : LexState ValueState) (a : Place) → place_before_bytes s [] ≡ Some a → is_some (beginning_at a) ≡ true
+    → placed (at_cut languages s) ≡ Some a
+before-side (AttributeName t name) a e h = absurd (no (ap on_side e ∙ h))
+before-side (AttributeValue q t v Closed) a e h = e
+before-side (AttributeValue q t v (Open f bytes)) a e h = e
+before-side _ a e h = e
+
+-- the path's own place after the bytes, below the one of the text
+pub own-after : (bytes : List ℕ) (k since : ℕ) (s : LexState ValueState) (g f : Scan) (q : Place) → scanned s ≡ Some g → ScanValid g → ScanBelow g f
+    → stepped k since bytes f ≡ Ok q → (a : Place) × (placed (node bytes s) ≡ Some a) × Below a q
+own-after bytes k since s g f q i v l e =
+    let r = grows-from bytes k since since g f q v l e in
+    (r.0, (subst (λ o. Says o k since bytes s) r.1 (says bytes k since s g i)).1, r.2)
+
+pub ends-apart : (k since : ℕ) (f : Scan) (q : Place) (s t : LexState ValueState) (g h : Scan) → scanned s ≡ Some g → scanned t ≡ Some h
+    → ScanValid g → ScanValid h → ScanBelow g f → ScanBelow h f → stepped k since [] f ≡ Ok q → ApartBefore [] s t → HasApart q
+ends-apart k since f q s t g h i j v w l m e a =
+    let sides = apart-sides a.own a.other_own a.apart in
+    let x = own-after [] k since s g f q i v l e in
+    let y = own-after [] k since t h f q j w m e in
+    two-below a.own a.other_own q
+    (subst (λ (z : Place). Below z q) (one_value x.0 a.own (sym x.1 ∙ before-side s a.own a.stands (has-side a.own sides.0))) x.2)
+    (subst (λ (z : Place). Below z q) (one_value y.0 a.other_own (sym y.1 ∙ before-side t a.other_own a.other_stands (has-side a.other_own sides.1))) y.2)
+    a.apart
+
 never-apart : (bs : List ℕ) (k since : ℕ) (f : Scan) (q : Place) (s t : LexState ValueState) (g h : Scan) (e : Code) (at : ℕ) → scanned s ≡ Some g
     → scanned t ≡ Some h → ScanValid g → ScanValid h → ScanBelow g f → ScanBelow h f → ScanValid f → ScanPlain f
     → stepped k since bs f ≡ Ok q → ApartBefore bs s t → ClashesApart bs (state_before s bs) (state_before t bs) e at → ⊥
 never-apart [] k since f q s t g h e at i j v w l m z p o a c =
-    let u = url-before s [] c.one.begins in
-    end-meets (state_before s []) (scan_read g []) at (read-state s g [] u i)
-    (subst ReferencePlain (sym (ap scan_reference (read-end g) ∙ below-reference g f l)) p) c.one
+    let one : MeetsColon [] s at = subst (λ (x : LexState ValueState). MeetsColon [] x at) (before-none s) c.one in
+    let there = end-apart f z (subst HasApart (sym (end-ok k since f q o).place) (ends-apart k since f q s t g h i j v w l m o a)) in
+    let x = open-parts s g one.begins i in
+    let y = above-parts g f (parts_of (UrlOpen x.0)) l x.1 in
+    unknown-accepted [] k since s f q
+    (unknown s g f y.0 one.begins i y.1 (of-differs y.0.opened (sym (raw-opened f y.0 y.1) ∙ there)) l)
+    (record { code = code.AmbigContext; at = at; shown = one.shown }) o one.refused
 never-apart (b ∷ bs) k since f q s t g h e at i j v w l m z p o a c =
     let n = step-ok k since b bs f q o in
     let x = reads s g f b bs i v z (takes f b z n.0) l c.one.begins in
@@ -175,7 +175,7 @@ never-clashes (b ∷ bs) k since f q s t g h e (suc at) i j v w l m z p o c =
     let last = last_lexeme_start k since (scan_reference f) (class_of b) b in
     let v = scan-valid g (class_of b) b v x.0 in
     let w = scan-valid h (class_of b) b w y.0 in
-    let p = scan-plain f b z n.0 p in
+    let p = scan-plain f b p in
     let z = scan-valid f (class_of b) b z n.0 in
     ⊎_elim
     (λ d. never-apart bs (k + 1) last (scan_next f (class_of b) b) q after other (scan_next g (class_of b) b) (scan_next h (class_of b) b) e at i j v w x.1 y.1 z p n.1 d.0 d.1)

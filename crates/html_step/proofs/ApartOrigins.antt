@@ -5,14 +5,14 @@ use Rattle.place_core.specs.page.Classes.{is_equals_sign, class_of}
 use Rattle.place_core.specs.page.Html.{next}
 use Rattle.place_core.specs.page.References.{Reference, Closed, Open, Form, ReferenceStep, Grows, Closes, Breaks, turn, flushed, plain_bytes, next_reference, as_it_stands, reference_turned, turn_bytes}
 use Rattle.place_core.specs.page.States.{Template, LexState, Text, TagOpen, EndTagOpen, DeclarationOpen, Started, StartedDash, Inside, Dash, DashDash, Bang, Broken, InComment, BogusComment, InDoctype, TagName, WholeTagName, BeforeAttributeName, AttributeName, WholeAttributeName, AfterAttributeName, BeforeAttributeValue, AttributeValue, AfterAttributeValue, SelfClosingStartTag, Characters, Bytes, Pending, Nothing, PendingLess, LessAtCut, PendingName, PendingBang, PendingBangDash, InContent, Unread}
-use Rattle.place_core.specs.page.Tags.{is_second_type, ValueOf, Deciding, ValueState, OfKind, OfUrl, OfStyle, languages, feed_bytes}
-use Rattle.place_core.specs.place.ApartPlaces.{HasApart, opened_apart, beginning_at, beginning_in_body, side, spell_apart}
+use Rattle.place_core.specs.page.Tags.{Quoting, Tag, is_second_type, ValueOf, Deciding, ValueState, OfKind, OfUrl, OfStyle, languages, feed_bytes}
+use Rattle.place_core.specs.place.ApartPlaces.{HasApart, opened_apart, beginning_at, beginning_in_body, beginning_in_css, side, spell_apart}
 use Rattle.place_core.specs.place.Errors.{is_written, node, place_before_bytes}
 use Rattle.place_core.specs.place.LastLexeme.{last_lexeme_start}
 use Rattle.place_core.specs.place.LanguagePlaces.{both_prefixes}
 use Rattle.place_core.specs.place.Membership.{IsIn, Bears}
-use Rattle.place_core.specs.place.PathPairs.{ApartBefore, Keeps, PartWithin, state_before, is_in_beginning, is_in_reference}
-use Rattle.place_core.specs.place.Places.{Has, IsValid, body_has, quotes_have}
+use Rattle.place_core.specs.place.PathPairs.{ApartBefore, Keeps, PartWithin, state_before, is_in_beginning, is_in_reference, url_in_style}
+use Rattle.place_core.specs.place.Places.{Has, IsValid, body_has, joined_bodies, quotes_have}
 use Rattle.place_core.specs.place.StatePlaces.{quotes_at}
 use Rattle.place_core.specs.place.UrlParts.{parts_of, placed_prefix}
 use Rattle.place_core.specs.declared.body.Body.{Body}
@@ -32,29 +32,42 @@ use Rattle.place_core.specs.declared.quotes.Quotes.{Quotes}
 use Rattle.place_core.specs.declared.quotes.Quotes.TheVariants as quotes
 use Rattle.place_core.specs.declared.value_place.ValuePlace.{ValuePlace}
 use Rattle.place_core.proofs.Semilattices.{none_some, one_value}
-use Rattle.html_scan.specs.Scans.{Scan, At, InAttributeName, InUrl, InStyle, InContentEnd, scan_reference, scan_error, scan_next, scan_place, parts_feeding, parts_with, with_body}
+use Rattle.html_scan.specs.Scans.{Scan, At, InAttributeName, InUrl, InStyle, scan_reference, scan_error, scan_next, scan_place, parts_feeding, parts_with, style_feeding, with_body, with_style}
 use Rattle.html_step.specs.Origins.{body_parts, byte_origin, fed_in, scan_parts}
 use Rattle.html_step.specs.Steps.{after_text, stepped}
 use Rattle.html_step.proofs.ApartParts.{Arise, arise-in, inside-bytes, is_inside, mapped-some, of-differs, opens-apart, several-apart, waits, apart-inside}
-use Rattle.html_step.proofs.MetScans.{ScanApart, Stand, next-stand, end-opened, parts-apart, stand-in}
-use Rattle.html_step.proofs.ReadScans.{NotBroken, broken-of, read-closed, scan_read}
-use Rattle.html_step.proofs.ReadStates.{UrlState, own-place, read-between, read-state, shown-closed, url-of}
-use Rattle.html_step.proofs.RefusedColons.{broken-bytes, closed-open, fed-or, is_nothing, next-closed, parts_where, plain-closed, read-is, read-parts, reference_where, scan-character}
+use Rattle.html_step.proofs.EndsApart.{end-apart}
+use Rattle.html_step.proofs.MetScans.{ScanApart, ScanOpensNone, Stand, below-opens, next-stand, parts-apart, scan-opens, stand-in}
+use Rattle.html_step.proofs.ReadScans.{NotBroken, ReadTaken, Takes, broken-of, closed-taken, read-closed, read-taken, scan_read, takes}
+use Rattle.html_step.proofs.ReadStates.{UrlState, opens-of, own-place, read-between, read-shown, read-state, set-over, set-parts, shown-closed, url-of, with_set}
+use Rattle.html_step.proofs.RefusedColons.{ReadStays, broken-bytes, closed-open, fed-or, is_nothing, next-closed, next-stays, parts_where, plain-closed, read-is, read-parts, reference_where, scan-character, stays-below, turn_read}
 use Rattle.html_step.proofs.Characters.{NoColon, IsCharacter, ampersand-no-letter, flushed-character, plain-character}
 use Rattle.html_step.proofs.FromSteps.{from-byte}
 use Rattle.html_step.proofs.FromTexts.{own-has}
 use Rattle.html_step.proofs.KeptBeginnings.{before-begins, keeps-back, keeps-fore, before-none, begins-value, is_url_value, side-begins, sides-within, stays-there}
-use Rattle.html_step.proofs.OnePath.{block_scanned, content_scanned, scanned, url_value}
+use Rattle.html_step.proofs.PathScans.{block_scanned, content_scanned, scanned, style_value_scanned, url_value}
 use Rattle.html_step.proofs.OneTexts.{Says, says}
 use Rattle.html_step.proofs.PlaceParts.{ValueBelow}
-use Rattle.html_step.proofs.ScanOrder.{ScanBelow, ScanHas, ScanValid, UrlWithin}
+use Rattle.html_step.proofs.ScanOrder.{ScanBelow, ScanHas, ScanValid, StyleUnderBody, UrlWithin, parts-of-below, under-body, url-within}
+use Rattle.html_step.proofs.StyleOrder.{start-place, style-fed-grow}
+use Rattle.html_step.proofs.StylePaths.{style_value}
+use Rattle.html_step.proofs.StyleUrls.{KnownUrl, StaysInUrl, above-in-url, below-in-url, feeds, known-fed, known-unmet, known_none, scan-opened, split-none, stays-parts, stays-same, unmet-spells}
+use Rattle.html_step.proofs.StyleValues.{css-set}
+use Rattle.css_lexer.specs.States.{Fresh, Bare, Quoted, Ended, Style, Out}
+use Rattle.css_lexer.specs.States as style
+use Rattle.css_step.proofs.StyleScanned.{has-scan}
+use Rattle.css_step.specs.StyleOrigins.{scan_set_has, style_scan_parts}
+use Rattle.css_step.specs.StyleScanLaws.{IsStyleScan, scans_behind_hole, scans_between, scans_bare, scans_comment, scans_ended, scans_fresh, scans_less_than, scans_less_than_before, scans_quoted, scans_solidus, scans_solidus_before, scans_split_word, scans_star_before, scans_string, scans_word, style_scanned}
+use Rattle.css_step.specs.StyleScans.{StyleScan, ScanBareUrl, ScanQuotedUrl, style_scan_place, style_scan_start}
+use Rattle.css_step.specs.StyleSetLaws.{StyleScanBelow, below_itself}
 use Rattle.html_step.proofs.UrlOrder.{fed-grow, fed-more}
-use Rattle.html_step.proofs.UrlScans.{NextUrl, ScanPlain, below-parts, below-reference, fed-same, goes-parts, next-url, parts-body, raw-opened, scan-fresh, scan-plain, scan_fed, url-parts}
+use Rattle.html_step.proofs.UrlScans.{NextUrl, ScanPlain, below-goes, below-parts, below-reference, fed-same, has_met, next-url, raw-opened, scan-plain, scan-unmet, scan_fed, style-parts, url-parts, within-body}
 use Rattle.html_step.proofs.ValidSteps.{scan-valid}
 use Rattle.html_step.proofs.WholeTexts.{end-ok, grows-from, step-ok, text-steps}
 use Rattle.url_lexer.specs.Classes.{url_class_of}
 use Rattle.url_lexer.specs.Parts.{UrlPart, UrlStart, UrlOpen, UrlOpenhole, UrlPrequery, UrlQuery, UrlBad}
 use Rattle.url_lexer.specs.Prefixes as spelling
+use Rattle.url_lexer.specs.States.{Url}
 use Rattle.url_lexer.specs.Triples.{Triple, NoTriple}
 use Rattle.url_lexer.specs.TwoPaths.{is_open}
 use Rattle.url_lexer.specs.declared.class.UrlClass.{UrlClass}
@@ -109,6 +122,30 @@ block-none PendingBang _ = refl
 block-none PendingBangDash element.DataBlock = refl
 block-none PendingBangDash _ = refl
 
+-- a style that is in no URL
+no-url : (v : Style Url) (n : StyleScan) → IsStyleScan v n → url_in_style v ≡ None → style_scan_parts n ≡ None
+no-url _ _ (scans_between k) h = refl
+no-url _ _ scans_less_than h = refl
+no-url _ _ (scans_word w e) h = refl
+no-url _ _ (scans_solidus k) h = refl
+no-url _ _ (scans_comment star) h = refl
+no-url _ _ (scans_string q e) h = refl
+no-url _ _ (scans_behind_hole s l) h = refl
+no-url _ _ (scans_split_word e) h = split-none e
+no-url _ _ (scans_solidus_before k) h = refl
+no-url _ _ scans_less_than_before h = refl
+no-url _ _ scans_star_before h = refl
+no-url _ _ scans_fresh h = refl
+no-url _ _ (scans_bare u) h = absurd (none_some u (sym h))
+no-url _ _ (scans_quoted q e u) h = absurd (none_some u (sym h))
+no-url _ _ (scans_ended u) h = refl
+
+no-url-in : (q : Quoting) (x : Tag) (v : Style Url) (r : Reference) (t : Parts) (o : Option StyleScan) → style_scanned v ≡ o → url_in_style v ≡ None
+    → parts_where (style_value_scanned q x o r) ≡ Some t → ⊥
+no-url-in q x v r t (Some n) e i h =
+    none_some t (sym (style-parts (style_value x (quotes_at q)) n r ∙ no-url v n (has-scan v n e) i) ∙ h)
+no-url-in q x v r t None e i h = none_some t h
+
 url-path : (s : LexState ValueState) (t : Parts) → parts_where (scanned s) ≡ Some t → UrlPath s t
 url-path (Text r) t h = absurd (none_some t h)
 url-path (TagOpen r) t h = absurd (none_some t h)
@@ -141,7 +178,21 @@ url-path (AttributeValue q x (ValueOf (OfKind kind.Url)) r) t h = absurd (none_s
 url-path (AttributeValue q x (ValueOf (OfKind kind.Script)) r) t h = absurd (none_some t h)
 url-path (AttributeValue q x (ValueOf (OfKind kind.Style)) r) t h = absurd (none_some t h)
 url-path (AttributeValue q x (ValueOf (OfKind kind.ScriptType)) r) t h = absurd (none_some t h)
-url-path (AttributeValue q x (ValueOf (OfStyle s)) r) t h = absurd (none_some t h)
+url-path (AttributeValue q x (ValueOf (OfStyle (style.InUrl Bare u))) r) t h = record {
+  part = u.part;
+  is = one_value t (parts_of u.part) (sym h ∙ style-parts (style_value x (quotes_at q)) (ScanBareUrl (parts_of u.part) u.triple) r);
+  begins = λ e. e;
+  value = λ f bytes e. refl;
+}
+url-path (AttributeValue q x (ValueOf (OfStyle (style.InUrl (Quoted y z) u))) r) t h = record {
+  part = u.part;
+  is = one_value t (parts_of u.part) (sym h ∙ style-parts (style_value x (quotes_at q)) (ScanQuotedUrl y z (parts_of u.part) u.triple) r);
+  begins = λ e. e;
+  value = λ f bytes e. refl;
+}
+url-path (AttributeValue q x (ValueOf (OfStyle (style.InUrl Fresh u))) r) t h = absurd (no-url-in q x (style.InUrl Fresh u) r t (style_scanned (style.InUrl Fresh u)) refl refl h)
+url-path (AttributeValue q x (ValueOf (OfStyle (style.InUrl Ended u))) r) t h = absurd (no-url-in q x (style.InUrl Ended u) r t (style_scanned (style.InUrl Ended u)) refl refl h)
+url-path (AttributeValue q x (ValueOf (OfStyle (Out s))) r) t h = absurd (no-url-in q x (Out s) r t (style_scanned (Out s)) refl refl h)
 url-path (AttributeValue q x (ValueOf (OfUrl u)) r) t h = record {
   part = u.part;
   is = one_value t (parts_of u.part) (sym h ∙ url-parts (url_value x (quotes_at q) (parts_of u.part)) u.triple r);
@@ -192,17 +243,43 @@ opened-begins s t p h =
     p.begins ((let o = open-is p.part (ap (λ (x : Parts). is_some x.opened) (sym p.is) ∙ h) in ap is_open o.1))
 
 -- members
+set-start : (n : StyleScan) (t : Parts) → style_scan_parts n ≡ Some t → scan_set_has n member.PartStart ≡ t.start
+set-start (ScanBareUrl s x) t h = ap (λ (z : Parts). z.start) (one_value s t h)
+set-start (ScanQuotedUrl q e s x) t h = ap (λ (z : Parts). z.start) (one_value s t h)
+set-start _ t h = absurd (none_some t h)
+
+set-open : (n : StyleScan) (t : Parts) → style_scan_parts n ≡ Some t → scan_set_has n member.PartOpen ≡ is_some t.opened
+set-open (ScanBareUrl s x) t h = ap (λ (z : Parts). is_some z.opened) (one_value s t h)
+set-open (ScanQuotedUrl q e s x) t h = ap (λ (z : Parts). is_some z.opened) (one_value s t h)
+set-open _ t h = absurd (none_some t h)
+
 value-start : (q : Quotes) (b : Body) (t : Parts) → body_parts b ≡ Some t → (quotes_have q member.PartStart || body_has b member.PartStart) ≡ t.start
 value-start quotes.Dq (body.Url s) t h = ap (λ (x : Parts). x.start) (one_value s t h)
 value-start quotes.Sq (body.Url s) t h = ap (λ (x : Parts). x.start) (one_value s t h)
 value-start (quotes.Bare z) (body.Url s) t h = ap (λ (x : Parts). x.start) (one_value s t h)
+value-start quotes.Dq (body.Css c) t h = css-set c member.PartStart ∙ set-start (style_scan_start c) t h
+value-start quotes.Sq (body.Css c) t h = css-set c member.PartStart ∙ set-start (style_scan_start c) t h
+value-start (quotes.Bare z) (body.Css c) t h = css-set c member.PartStart ∙ set-start (style_scan_start c) t h
 value-start q _ t h = absurd (none_some t h)
 
 value-open : (q : Quotes) (b : Body) (t : Parts) → body_parts b ≡ Some t → (quotes_have q member.PartOpen || body_has b member.PartOpen) ≡ is_some t.opened
 value-open quotes.Dq (body.Url s) t h = ap (λ (x : Parts). is_some x.opened) (one_value s t h)
 value-open quotes.Sq (body.Url s) t h = ap (λ (x : Parts). is_some x.opened) (one_value s t h)
 value-open (quotes.Bare z) (body.Url s) t h = ap (λ (x : Parts). is_some x.opened) (one_value s t h)
+value-open quotes.Dq (body.Css c) t h = css-set c member.PartOpen ∙ set-open (style_scan_start c) t h
+value-open quotes.Sq (body.Css c) t h = css-set c member.PartOpen ∙ set-open (style_scan_start c) t h
+value-open (quotes.Bare z) (body.Css c) t h = css-set c member.PartOpen ∙ set-open (style_scan_start c) t h
 value-open q _ t h = absurd (none_some t h)
+
+style-start : (q : Quotes) (n : StyleScan) (t : Parts) → style_scan_parts n ≡ Some t → (quotes_have q member.PartStart || scan_set_has n member.PartStart) ≡ t.start
+style-start quotes.Dq n t h = set-start n t h
+style-start quotes.Sq n t h = set-start n t h
+style-start (quotes.Bare z) n t h = set-start n t h
+
+style-open : (q : Quotes) (n : StyleScan) (t : Parts) → style_scan_parts n ≡ Some t → (quotes_have q member.PartOpen || scan_set_has n member.PartOpen) ≡ is_some t.opened
+style-open quotes.Dq n t h = set-open n t h
+style-open quotes.Sq n t h = set-open n t h
+style-open (quotes.Bare z) n t h = set-open n t h
 
 record PartMembers (g : Scan) (t : Parts) : Type 0 where
   start : ScanHas g member.PartStart → t.start ≡ true
@@ -220,6 +297,10 @@ part-members : (g : Scan) (t : Parts) → scan_parts g ≡ Some t → PartMember
 part-members (At (place.Value v)) t h = value-members v t h
 part-members (InUrl v x r) t h =
     (let m = value-members v t h in record { start = m.start; starts = m.starts; open_in = m.open_in; opens = m.opens })
+part-members (InStyle v n r) t h =
+    let a = style-start v.quotes n t h in
+    let b = style-open v.quotes n t h in
+    record { start = λ k. sym a ∙ k; starts = λ k. a ∙ k; open_in = λ k. sym b ∙ k; opens = λ k. b ∙ k }
 part-members (At _) t h = absurd (none_some t h)
 part-members _ t h = absurd (none_some t h)
 
@@ -305,14 +386,14 @@ points-apart s r bs p q x y h = record {
 }
 
 point-of : (s : LexState ValueState) (g : Scan) (bs : List ℕ) (p : spelling.Prefix) → UrlState s → scanned s ≡ Some g
-    → scan_parts (scan_read g bs) ≡ Some (parts_of (UrlOpen p)) → scan_reference (scan_read g bs) ≡ Closed → Keeps bs (state_before s bs) → Point s bs p
-point-of s g bs p u e h k m =
+    → scan_parts (scan_read g bs) ≡ Some (parts_of (UrlOpen p)) → scan_reference (scan_read g bs) ≡ Closed → Keeps bs (state_before s bs) → ReadTaken g bs
+    → Point s bs p
+point-of s g bs p u e h k m n =
     let d = shown-closed (scan_read g bs) bs (parts_of (UrlOpen p)) h k in
-    record { own = d.place; between = read-between s g bs u e k; stands = own-place s g bs u e ∙ d.is; opened = d.opened; keeps = m }
+    record { own = d.place; between = read-between s g bs u e k; stands = own-place s g bs u e n (read-shown g bs k) ∙ d.is; opened = d.opened; keeps = m }
 
-body-opened : (b : Body) (t : Parts) (bytes : List ℕ) → body_parts b ≡ Some t → beginning_in_body (parts_with b bytes) ≡ (feed_bytes parts_feeding t bytes).opened
-body-opened (body.Url s) t bytes h = ap (λ (x : Parts). (feed_bytes parts_feeding x bytes).opened) (one_value s t h)
-body-opened _ t bytes h = absurd (none_some t h)
+body-opened : (b : Body) (t : Parts) (bytes : List ℕ) → b ≡ body.Url t → beginning_in_body (parts_with b bytes) ≡ (feed_bytes parts_feeding t bytes).opened
+body-opened b t bytes h = ap (λ (x : Body). beginning_in_body (parts_with x bytes)) h
 
 -- Where two paths come apart behind a byte.
 abbrev pub PartFrom : Reference → List ℕ → LexState ValueState → LexState ValueState → Type 0
@@ -340,14 +421,15 @@ record Behind (s : LexState ValueState) (g f : Scan) (b : ℕ) (t : Parts) (byte
   reference : scan_reference (scan_next g (class_of b) b) ≡ scan_reference (scan_next f (class_of b) b)
 
 behind : (s : LexState ValueState) (g f : Scan) (b : ℕ) (a z t : Parts) → scan_parts f ≡ Some a → scan_parts (scan_next f (class_of b) b) ≡ Some z
-    → scan_error f (class_of b) b ≡ None → Stand s g f → scan_parts g ≡ Some t → Behind s g f b t (scan_fed f (class_of b) b)
-behind s g f b a z t h k n i j =
+    → scan_error f (class_of b) b ≡ None → Stand s g f → scan_parts g ≡ Some t → ScanValid f
+    → has_met (scan_next f (class_of b) b) ≡ true → Behind s g f b t (scan_fed f (class_of b) b)
+behind s g f b a z t h k n i j v met =
     let m = next-stand s g f b n i in
     let c = class_of b in
     let on = below-parts (scan_next g c b) (scan_next f c b) z m.below k in
     record {
       stand = m;
-      parts = goes-parts g t on.0 c b i.valid j on.1 ∙ ap (λ (x : List ℕ). Some (feed_bytes parts_feeding t x)) (fed-same g f a c b i.below h);
+      parts = below-goes g f t on.0 c b i.valid v i.below j n met on.1 ∙ ap (λ (x : List ℕ). Some (feed_bytes parts_feeding t x)) (fed-same g f a c b i.below h);
       reference = below-reference (scan_next g c b) (scan_next f c b) m.below;
     }
 
@@ -364,7 +446,7 @@ point-after s g f b bs bytes t p x c keep e =
     let closed = x.reference ∙ c in
     let same = read-closed d bs closed in
     point-of u d bs p (url-of u value) x.stand.at (ap scan_parts same ∙ parts) (ap scan_reference same ∙ closed)
-    (keep u d x.stand ((part-members d (parts_of (UrlOpen p)) parts).opens refl))
+    (keep u d x.stand ((part-members d (parts_of (UrlOpen p)) parts).opens refl)) (closed-taken d bs closed)
 
 -- the point before it, where it breaks a reference that is open
 point-before : (s : LexState ValueState) (g f : Scan) (b : ℕ) (bs : List ℕ) (a z t : Parts) (p : spelling.Prefix) (form : Form) (read : List ℕ)
@@ -372,15 +454,15 @@ point-before : (s : LexState ValueState) (g f : Scan) (b : ℕ) (bs : List ℕ) 
     → is_inside (feed_bytes parts_feeding a (scan_fed f (class_of b) b)) ≡ true
     → Stand s g f → scan_parts g ≡ Some t → scan_reference f ≡ Open form read → turn (class_of b) form ≡ Breaks
     → scan_fed f (class_of b) b ≡ flushed true (is_equals_sign (class_of b)) form read ++ plain_bytes (class_of b) b
-    → KeepsAll bs (scan_next f (class_of b) b)
+    → KeepsAll bs (scan_next f (class_of b) b) → has_met (scan_next f (class_of b) b) ≡ true
     → feed_bytes parts_feeding t (flushed true (is_equals_sign (class_of b)) form read) ≡ parts_of (UrlOpen p) → Point s (b ∷ bs) p
-point-before s g f b bs a z t p form read v n h k inside i j e d l keep spelled =
+point-before s g f b bs a z t p form read v n h k inside i j e d l keep met spelled =
     let c = class_of b in
     let fl = flushed true (is_equals_sign c) form read in
     let own = below-reference g f i.below ∙ e in
     let value = (path-parts s g t i.at j).value form read (ap reference_where i.at ∙ own) in
     let u = next languages Template s c b in
-    let x = behind s g f b a z t h k n i j in
+    let x = behind s g f b a z t h k n i j v met in
     let later = feed_bytes parts_feeding t (scan_fed f c b) in
     let same : feed_bytes parts_feeding (feed_bytes parts_feeding t fl) (plain_bytes c b) ≡ later =
     sym (fed-more fl (plain_bytes c b) t) ∙ ap (feed_bytes parts_feeding t) (sym l) in
@@ -389,13 +471,14 @@ point-before s g f b bs a z t p form read v n h k inside i j e d l keep spelled 
     (open-bytes (plain_bytes c b) (feed_bytes parts_feeding a fl) (feed_bytes parts_feeding t fl) (ap (λ (y : Parts). is_some y.opened) spelled)
     (subst (λ (y : Parts). is_inside y ≡ true) (ap (feed_bytes parts_feeding a) l ∙ fed-more fl (plain_bytes c b) a) inside)) in
     let path = path-parts u (scan_next g c b) later x.stand.at x.parts in
-    let there = read-parts g b bs t j ∙ ap (λ (y : List ℕ). Some (feed_bytes parts_feeding t y)) (broken-bytes (scan_reference g) b form read own d) ∙ ap Some spelled in
+    let taken = read-taken g f b bs (takes f b v n) i.below in
+    let there = read-parts g b bs t i.valid j (stays-below g f b a i.below h (next-stays f b a v h met)) ∙ ap (λ (y : List ℕ). Some (feed_bytes parts_feeding t y)) (broken-bytes (scan_reference g) b form read own d) ∙ ap Some spelled in
     point-of s g (b ∷ bs) p (url-of s value) i.at there (read-is g b bs form read t j own d)
     (keeps-fore b bs s
     (opened-begins (state_before s (b ∷ bs)) (parts_of (UrlOpen p))
-    (path-parts (state_before s (b ∷ bs)) (scan_read g (b ∷ bs)) (parts_of (UrlOpen p)) (read-state s g (b ∷ bs) (url-of s value) i.at) there) refl)
+    (path-parts (state_before s (b ∷ bs)) (scan_read g (b ∷ bs)) (parts_of (UrlOpen p)) (read-state s g (b ∷ bs) (url-of s value) i.at taken) there) refl)
     (keeps-back bs u (opened-begins u later path some)
-    (keep u (scan_next g c b) x.stand ((part-members (scan_next g c b) later x.parts).opens some))))
+    (keep u (scan_next g c b) x.stand ((part-members (scan_next g c b) later x.parts).opens some)))) taken
 
 -- How a byte makes two paths come apart that were not: behind it, or before it.
 data Arises (f : Scan) (b : ℕ) (a : Parts) : Type 0 where
@@ -446,7 +529,7 @@ read-grows : (v : ValuePlace) (t : Triple) (form : Form) (read : List ℕ) (a : 
     (feed_bytes parts_feeding a (flushed true (is_equals_sign (class_of b)) form read))
 read-grows v t form read a b w h n k x l =
     (fed-grow (flushed true (is_equals_sign (class_of b)) form read) (is_written (is_equals_sign (class_of b)) form read) (length read + 1) x a l
-    (broken-of v a form read (class_of b) b (parts-body v.body a h) w.0 k n)).1
+    (broken-of v a form read (class_of b) b (within-body v.body a w.1 h) w.0 k n)).1
 
 turned-arises : (x : ReferenceStep) (v : ValuePlace) (t : Triple) (form : Form) (read : List ℕ) (b : ℕ) (a : Parts) → turn (class_of b) form ≡ x
     → ScanValid (InUrl v t (Open form read)) → NoColon read → scan_error (InUrl v t (Open form read)) (class_of b) b ≡ None → body_parts v.body ≡ Some a
@@ -466,12 +549,51 @@ turned-arises Breaks v t form read b a e w p n h y d =
           (i ∙ ap (λ (x : ReferenceStep). turn_bytes true x form read c b) e) y d refl
     ]
 
-arises : (f : Scan) (b : ℕ) (a : Parts) → ScanValid f → ScanPlain f → scan_error f (class_of b) b ≡ None → scan_parts f ≡ Some a
+-- likewise in a style that stays in the URL
+style-read-grows : (v : ValuePlace) (n : StyleScan) (form : Form) (read : List ℕ) (a : Parts) (b : ℕ) → Takes (InStyle v n (Open form read)) b
+    → style_scan_parts n ≡ Some a → turn (class_of b) form ≡ Breaks → StaysInUrl n (flushed true (is_equals_sign (class_of b)) form read)
+    → (x : Parts) → PartsBelow x a
+    → PartsBelow (feed_bytes parts_feeding x (flushed true (is_equals_sign (class_of b)) form read))
+    (feed_bytes parts_feeding a (flushed true (is_equals_sign (class_of b)) form read))
+style-read-grows v n form read a b t i k w x l =
+    let equals = is_equals_sign (class_of b) in
+    let fl = flushed true equals form read in
+    let m = with_set n x in
+    let own = above-in-url n n a (below_itself n) i in
+    let low = set-over n n x a own.2.same i l in
+    let e = below-in-url m n a low i in
+    let same : e.0 ≡ x = one_value e.0 x (sym e.1 ∙ set-parts n a x i) in
+    let fed = stays-parts fl m x (set-parts n a x i) (stays-same fl m n e.2.same w) in
+    let grown = (style-fed-grow fl (is_written equals form read) (length read + 1) m n low (t.styled v n form read refl k)).1 in
+    let y = below-in-url (feed_bytes style_feeding m fl) (feed_bytes style_feeding n fl) (feed_bytes parts_feeding a fl) grown (stays-parts fl n a i w) in
+    subst (λ (z : Parts). PartsBelow z (feed_bytes parts_feeding a fl)) (one_value y.0 (feed_bytes parts_feeding x fl) (sym y.1 ∙ fed)) y.2.parts
+
+style-arises : (x : ReferenceStep) (v : ValuePlace) (n : StyleScan) (form : Form) (read : List ℕ) (b : ℕ) (a : Parts) → turn (class_of b) form ≡ x
+    → ScanValid (InStyle v n (Open form read)) → NoColon read → scan_error (InStyle v n (Open form read)) (class_of b) b ≡ None → style_scan_parts n ≡ Some a
+    → spells_apart a.opened ≡ false → spells_apart (feed_bytes parts_feeding a (fed_in v.quotes (Open form read) (class_of b) b)).opened ≡ true
+    → StaysInUrl n (turn_read x form read (class_of b)) → Arises (InStyle v n (Open form read)) b a
+style-arises (Grows g) v n form read b a e w p o h y d s =
+    whole-arises (InStyle v n (Open form read)) b a w h (λ k. let same : Grows g ≡ Breaks = sym e ∙ k in cc) y d
+style-arises Closes v n form read b a e w p o h y d s =
+    whole-arises (InStyle v n (Open form read)) b a w h (λ k. let same : Closes ≡ Breaks = sym e ∙ k in cc) y d
+style-arises Breaks v n form read b a e w p o h y d s =
+    let f = InStyle v n (Open form read) in
+    let c = class_of b in
+    elim (fed-or v.quotes (Open form read) c b) [
+      | inl i ↦ absurd (no (sym (fed-some (fed_in v.quotes (Open form read) c b) a y d) ∙ ap is_nothing i))
+      | inr i ↦ broken-arises (spells_apart (feed_bytes parts_feeding a (flushed true (is_equals_sign c) form read)).opened) f b a form read
+          (next-url f a c b w h) refl e p (style-read-grows v n form read a b (takes f b w o) h e s)
+          (i ∙ ap (λ (x : ReferenceStep). turn_bytes true x form read c b) e) y d refl
+    ]
+
+arises : (f : Scan) (b : ℕ) (a : Parts) → ReadStays f b → ScanValid f → ScanPlain f → scan_error f (class_of b) b ≡ None → scan_parts f ≡ Some a
     → spells_apart a.opened ≡ false → spells_apart (feed_bytes parts_feeding a (scan_fed f (class_of b) b)).opened ≡ true → Arises f b a
-arises (At p) b a w v n h y d = whole-arises (At p) b a w h tt y d
-arises (InUrl v t Closed) b a w p n h y d = whole-arises (InUrl v t Closed) b a w h tt y d
-arises (InUrl v t (Open form read)) b a w p n h y d = turned-arises (turn (class_of b) form) v t form read b a refl w p n h y d
-arises _ b a w v n h y d = absurd (none_some a h)
+arises (At p) b a s w v n h y d = whole-arises (At p) b a w h tt y d
+arises (InUrl v t Closed) b a s w p n h y d = whole-arises (InUrl v t Closed) b a w h tt y d
+arises (InUrl v t (Open form read)) b a s w p n h y d = turned-arises (turn (class_of b) form) v t form read b a refl w p n h y d
+arises (InStyle v n Closed) b a s w p o h y d = whole-arises (InStyle v n Closed) b a w h tt y d
+arises (InStyle v n (Open form read)) b a s w p o h y d = style-arises (turn (class_of b) form) v n form read b a refl w p o h y d s
+arises _ b a s w v n h y d = absurd (none_some a h)
 
 arises-start : (f : Scan) (b : ℕ) (a : Parts) → Arises f b a → a.start ≡ true
 arises-start f b a (after c e) = c.start
@@ -507,109 +629,129 @@ in-beginning s g f a h i k =
 
 two-points : (f : Scan) (b : ℕ) (bs : List ℕ) (a z : Parts) → ScanValid f → scan_error f (class_of b) b ≡ None → scan_parts f ≡ Some a
     → scan_parts (scan_next f (class_of b) b) ≡ Some z → is_inside (feed_bytes parts_feeding a (scan_fed f (class_of b) b)) ≡ true
-    → KeepsAll bs (scan_next f (class_of b) b) → Arises f b a
+    → KeepsAll bs (scan_next f (class_of b) b) → has_met (scan_next f (class_of b) b) ≡ true → Arises f b a
     → (s r : LexState ValueState) (g h : Scan) → Stand s g f → ScanHas g member.PartStart → Stand r h f → ScanHas h member.PartOpen
     → PartFrom (scan_reference f) (b ∷ bs) s r
-two-points f b bs a z v n h k inside keep (after c e) s r g d i x j y =
+two-points f b bs a z v n h k inside keep met (after c e) s r g d i x j y =
     let t = before-url s g f a h i x in
     let w = in-beginning r d f a h j y in
     let goes = c.goes w.spelled w.below in
     let fed = scan_fed f (class_of b) b in
-    let one = point-after s g f b bs fed (parts_of UrlStart) c.first (behind s g f b a z (parts_of UrlStart) h k n i t) e keep c.begins in
-    let other = point-after r d f b bs fed (parts_of (UrlOpen w.spelled)) goes.0 (behind r d f b a z (parts_of (UrlOpen w.spelled)) h k n j w.parts) e keep goes.1 in
+    let one = point-after s g f b bs fed (parts_of UrlStart) c.first (behind s g f b a z (parts_of UrlStart) h k n i t v met) e keep c.begins in
+    let other = point-after r d f b bs fed (parts_of (UrlOpen w.spelled)) goes.0 (behind r d f b a z (parts_of (UrlOpen w.spelled)) h k n j w.parts v met) e keep goes.1 in
     part-from (scan_reference f) (b ∷ bs) s r
     (inl (
       points-apart (next languages Template s (class_of b) b) (next languages Template r (class_of b) b) bs c.first goes.0 one other goes.2,
       one.keeps,
       other.keeps,
     ))
-two-points f b bs a z v n h k inside keep (before form read e m l c) s r g d i x j y =
+two-points f b bs a z v n h k inside keep met (before form read e m l c) s r g d i x j y =
     let t = before-url s g f a h i x in
     let w = in-beginning r d f a h j y in
     let goes = c.goes w.spelled w.below in
-    let one = point-before s g f b bs a z (parts_of UrlStart) c.first form read v n h k inside i t e m l keep c.begins in
-    let other = point-before r d f b bs a z (parts_of (UrlOpen w.spelled)) goes.0 form read v n h k inside j w.parts e m l keep goes.1 in
+    let one = point-before s g f b bs a z (parts_of UrlStart) c.first form read v n h k inside i t e m l keep met c.begins in
+    let other = point-before r d f b bs a z (parts_of (UrlOpen w.spelled)) goes.0 form read v n h k inside j w.parts e m l keep met goes.1 in
     subst (λ (q : Reference). PartFrom q (b ∷ bs) s r) (sym e)
     (inl (points-apart s r (b ∷ bs) c.first goes.0 one other goes.2, one.keeps, other.keeps))
 
 -- a byte before which paths had met apart already
 kept-all : (f : Scan) (b : ℕ) (bs : List ℕ) (a z : Parts) → scan_error f (class_of b) b ≡ None → scan_parts f ≡ Some a
     → scan_parts (scan_next f (class_of b) b) ≡ Some z → is_inside (feed_bytes parts_feeding a (scan_fed f (class_of b) b)) ≡ true
-    → KeepsAll bs (scan_next f (class_of b) b) → KeepsAll (b ∷ bs) f
-kept-all f b bs a z n h k inside keep s g i x =
+    → KeepsAll bs (scan_next f (class_of b) b) → ScanValid f → has_met (scan_next f (class_of b) b) ≡ true → ScanOpensNone f → KeepsAll (b ∷ bs) f
+kept-all f b bs a z n h k inside keep v met o s g i x =
     let c = class_of b in
     let t = below-parts g f a i.below h in
     let some = (part-members g t.0 t.1).open_in x in
     let u = next languages Template s c b in
-    let m = behind s g f b a z t.0 h k n i t.1 in
+    let m = behind s g f b a z t.0 h k n i t.1 v met in
     let later = feed_bytes parts_feeding t.0 (scan_fed f c b) in
     let opened = open-bytes (scan_fed f c b) a t.0 some inside in
     let begins = opened-begins u later (path-parts u (scan_next g c b) later m.stand.at m.parts) opened in
-    keeps-fore b bs s (before-begins s b bs (opened-begins s t.0 (path-parts s g t.0 i.at t.1) some) begins)
+    keeps-fore b bs s
+    (before-begins s b bs (opens-of s g (url-of s (begins-value s (opened-begins s t.0 (path-parts s g t.0 i.at t.1) some))) i.at (below-opens g f i.below o))
+    (opened-begins s t.0 (path-parts s g t.0 i.at t.1) some) begins)
     (keeps-back bs u begins (keep u (scan_next g c b) m.stand ((part-members (scan_next g c b) later m.parts).opens opened)))
 
-by-apart : (y : Bool) (f : Scan) (b : ℕ) (bs : List ℕ) (a z : Parts) → scan_parts f ≡ Some a → spells_apart a.opened ≡ y → ScanValid f → ScanPlain f
+by-apart : (y : Bool) (f : Scan) (b : ℕ) (bs : List ℕ) (a z : Parts) → ScanOpensNone f → scan_parts f ≡ Some a → spells_apart a.opened ≡ y → ScanValid f → ScanPlain f
     → scan_error f (class_of b) b ≡ None → scan_parts (scan_next f (class_of b) b) ≡ Some z
     → spells_apart (feed_bytes parts_feeding a (scan_fed f (class_of b) b)).opened ≡ true
     → is_inside (feed_bytes parts_feeding a (scan_fed f (class_of b) b)) ≡ true
-    → KeepsAll bs (scan_next f (class_of b) b) → ComesFrom (b ∷ bs) f
-by-apart true f b bs a z h e v w n k apart inside keep = inl (parts-apart f a h e, kept-all f b bs a z n h k inside keep)
-by-apart false f b bs a z h e v w n k apart inside keep =
-    let r = arises f b a v w n h e apart in
+    → KeepsAll bs (scan_next f (class_of b) b) → has_met (scan_next f (class_of b) b) ≡ true → ComesFrom (b ∷ bs) f
+by-apart true f b bs a z o h e v w n k apart inside keep met = inl (parts-apart f a h e, kept-all f b bs a z n h k inside keep v met o)
+by-apart false f b bs a z o h e v w n k apart inside keep met =
+    let r = arises f b a (next-stays f b a v h met) v w n h e apart in
     let m = part-members f a h in
-    inr (member.PartStart, member.PartOpen, m.starts (arises-start f b a r), m.opens (arises-open f b a r), two-points f b bs a z v n h k inside keep r)
+    inr (member.PartStart, member.PartOpen, m.starts (arises-start f b a r), m.opens (arises-open f b a r), two-points f b bs a z v n h k inside keep met r)
 
 -- by whether it was so before the byte
-apart-before : (o : Option Parts) (f : Scan) (b : ℕ) (bs : List ℕ) → scan_parts f ≡ o → ScanValid f → ScanPlain f
+apart-before : (o : Option Parts) (f : Scan) (b : ℕ) (bs : List ℕ) → scan_parts f ≡ o → ScanOpensNone f → ScanValid f → ScanPlain f
     → scan_error f (class_of b) b ≡ None → ScanApart (scan_next f (class_of b) b) → KeepsAll bs (scan_next f (class_of b) b) → ComesFrom (b ∷ bs) f
-apart-before None f b bs h v w n m keep = absurd (no (sym (scan-fresh f (class_of b) b v h n).0 ∙ ap spells_apart m))
-apart-before (Some a) f b bs h v w n m keep =
+apart-before None f b bs h o v w n m keep = absurd (no (sym (scan-unmet f (class_of b) b v h n) ∙ ap spells_apart m))
+apart-before (Some a) f b bs h o v w n m keep =
     let g = scan_next f (class_of b) b in
     let fed = feed_bytes parts_feeding a (scan_fed f (class_of b) b) in
-    let on : scan_parts g ≡ Some fed = elim ((next-url f a (class_of b) b v h).parts) [ inl k ↦ absurd (no (sym k.1 ∙ ap spells_apart m)) | inr k ↦ k ] in
+    let on : scan_parts g ≡ Some fed = elim ((next-url f a (class_of b) b v h).parts) [ inl k ↦ absurd (no (sym k ∙ ap spells_apart m)) | inr k ↦ k ] in
     let apart = of-differs fed.opened (sym (raw-opened g fed on) ∙ m) in
-    by-apart (spells_apart a.opened) f b bs a fed h refl v w n on apart (apart-inside fed apart) keep
+    by-apart (spells_apart a.opened) f b bs a fed o h refl v w n on apart (apart-inside fed apart) keep (ap spells_apart m)
 
 -- at the end of the text
-end-parts : (v : ValuePlace) (r : Reference) (a : Parts) → body_parts v.body ≡ Some a
+end-parts : (v : ValuePlace) (r : Reference) (a : Parts) → v.body ≡ body.Url a
     → beginning_in_body (parts_with v.body (as_it_stands r)) ≡ Some prefix.Differs
     → spells_apart (feed_bytes parts_feeding a (as_it_stands r)).opened ≡ true
 end-parts v r a h e = of-differs _ (sym (body-opened v.body a (as_it_stands r) h) ∙ e)
 
-stood : (r : Reference) (a : Parts) (y : Bool) → spells_apart a.opened ≡ y → spells_apart (feed_bytes parts_feeding a (as_it_stands r)).opened ≡ true
-    → spells_apart a.opened ≡ true
-stood r a true e h = e
-stood Closed a false e h = h
-stood (Open f read) a false e h = absurd (no (sym (several-apart 38 read a (omega arith) ampersand-no-letter e) ∙ h))
-
-url-end : (b : Body) → UrlWithin b → (s : Parts) × (body_parts b ≡ Some s)
-url-end (body.Url s) w = (s, refl)
-url-end _ w = absurd w
-
-end-apart : (f : Scan) → ScanValid f → HasApart (scan_place f) → ScanApart f
-end-apart (At p) w h = h
-end-apart (InUrl v t r) w h =
-    let s = url-end v.body w.1 in
-    parts-apart (InUrl v t r) s.0 s.1 (stood r s.0 (spells_apart s.0.opened) refl (end-parts v r s.0 s.1 h))
-end-apart (InStyle v s r) w h = absurd w
-end-apart (InContentEnd e x) w h = absurd (none_some prefix.Differs (sym (end-opened e x) ∙ h))
-end-apart _ w h = absurd (none_some prefix.Differs h)
-
 below-has : (x v : ValuePlace) (r : Reference) → ValueBelow x v → UrlWithin v.body → HasApart (scan_place (InUrl v NoTriple r)) → Has (place.Value x) side
     → Has (with_body x (parts_with x.body (as_it_stands r))) side
 below-has x v r l w h k =
-    let s = url-end v.body w in
-    let t = below-parts (InUrl x NoTriple r) (InUrl v NoTriple r) s.0 (l, refl, refl) s.1 in
+    let s = url-within v.body w in
+    let t = parts-of-below x.body s.0 (subst (λ (z : Body). joined_bodies x.body z ≡ Some z) s.1 l.body) in
     let stands = as_it_stands r in
     let inside = apart-inside (feed_bytes parts_feeding s.0 stands) (end-parts v r s.0 s.1 h) in
-    let opened = open-bytes stands s.0 t.0 ((value-members x t.0 t.1).open_in k) inside in
+    let opened = open-bytes stands s.0 t.0 ((value-members x t.0 (ap body_parts t.1)).open_in k) inside in
     side-has (with_body x (parts_with x.body stands)) (ap is_some (body-opened x.body t.0 stands t.1) ∙ opened)
+
+-- in a style, which stays in the URL
+style-end-by : (x : ValuePlace) (k m : StyleScan) (s : Parts) (bytes : List ℕ) → StyleScanBelow k m → style_scan_parts m ≡ Some s
+    → beginning_in_css (style_scan_place (feed_bytes style_feeding m bytes)) ≡ Some prefix.Differs → ScanHas (InStyle x k Closed) side
+    → StaysInUrl m bytes ⊎ KnownUrl (feed_bytes style_feeding m bytes) → Has (with_style x (feed_bytes style_feeding k bytes)) side
+style-end-by x k m s bytes l i h y (inl w) =
+    let e = below-in-url k m s l i in
+    let fed = stays-parts bytes k e.0 e.1 (stays-same bytes k m e.2.same w) in
+    let above = stays-parts bytes m s i w in
+    let apart = of-differs (feed_bytes parts_feeding s bytes).opened (sym (scan-opened (feed_bytes style_feeding m bytes) (feed_bytes parts_feeding s bytes) above) ∙ h) in
+    let opened = open-bytes bytes s e.0 ((part-members (InStyle x k Closed) e.0 e.1).open_in y) (apart-inside (feed_bytes parts_feeding s bytes) apart) in
+    side-has (with_style x (feed_bytes style_feeding k bytes))
+    (ap is_some (scan-opened (feed_bytes style_feeding k bytes) (feed_bytes parts_feeding e.0 bytes) fed) ∙ opened)
+style-end-by x k m s bytes l i h y (inr n) =
+    absurd (no (sym (unmet-spells (feed_bytes style_feeding m bytes) (known-unmet (feed_bytes style_feeding m bytes) n)) ∙ ap spells_apart h))
+
+style-end-has : (x : ValuePlace) (k m : StyleScan) (o : Option Parts) (bytes : List ℕ) → StyleScanBelow k m → style_scan_parts m ≡ o
+    → beginning_in_css (style_scan_place (feed_bytes style_feeding m bytes)) ≡ Some prefix.Differs → ScanHas (InStyle x k Closed) side
+    → Has (with_style x (feed_bytes style_feeding k bytes)) side
+style-end-has x k m (Some s) bytes l i h y = style-end-by x k m s bytes l i h y (feeds bytes m s i)
+style-end-has x k m None bytes l i h y =
+    let n = feed_bytes style_feeding m bytes in
+    absurd (no (sym (unmet-spells n (known-unmet n (known-fed bytes m (known_none i)))) ∙ ap spells_apart h))
+
+under-has : (x : ValuePlace) (k : StyleScan) (w : ValuePlace) → StyleUnderBody x k w w.body → beginning_in_body w.body ≡ Some prefix.Differs
+    → ScanHas (InStyle x k Closed) side → Has (with_style x k) side
+under-has x k w l h y =
+    let d = under-body x k w w.body l in
+    style-end-has x k (style_scan_start d.0) (style_scan_parts (style_scan_start d.0)) [] d.2.scan refl
+    (ap beginning_in_css (start-place d.0) ∙ ap beginning_in_body (sym d.1) ∙ h) y
 
 end-has : (g f : Scan) → ScanValid f → ScanBelow g f → HasApart (scan_place f) → ScanHas g side → Has (scan_place g) side
 end-has (At p) f w l h k = k
 end-has (InUrl x t r) (InUrl v u z) w l h k =
     subst (λ (y : Reference). Has (with_body x (parts_with x.body (as_it_stands y))) side) (sym l.2) (below-has x v z l.0 w.1 h k)
 end-has (InUrl x t r) _ w l h k = absurd l
+end-has (InStyle x k r) (InStyle v m z) w l h y =
+    style-end-has x k m (style_scan_parts m) (as_it_stands r) l.0.scan refl
+    (ap (λ (a : Reference). beginning_in_css (style_scan_place (feed_bytes style_feeding m (as_it_stands a)))) l.1 ∙ h) y
+end-has (InStyle x k r) (At (place.Value v)) w l h y =
+    subst (λ (a : Reference). Has (with_style x (feed_bytes style_feeding k (as_it_stands a))) side) (sym l.1) (under-has x k v l.0 h y)
+end-has (InStyle x k r) (At _) w l h y = absurd l.0
+end-has (InStyle x k r) _ w l h y = absurd l
 end-has (InAttributeName t x n) f w l h k = absurd (no k)
 end-has _ f w l h k = absurd (no k)
 
@@ -625,17 +767,17 @@ end-keeps k since f q v e a s g i x =
       has = subst (λ (p : Place). Has p side) there (end-has g f v i.below (subst HasApart (sym (end-ok k since f q e).place) a) x);
     })
 
-comes-from : (bytes : List ℕ) (k since : ℕ) (f : Scan) (q : Place) → ScanValid f → ScanPlain f → stepped k since bytes f ≡ Ok q → HasApart q
+comes-from : (bytes : List ℕ) (k since : ℕ) (f : Scan) (q : Place) → ScanOpensNone f → ScanValid f → ScanPlain f → stepped k since bytes f ≡ Ok q → HasApart q
     → ComesFrom bytes f
-comes-from [] k since f q v w e a =
+comes-from [] k since f q o v w e a =
     inl (end-apart f v (subst HasApart (sym (end-ok k since f q e).place) a), end-keeps k since f q v e a)
-comes-from (b ∷ bs) k since f q v w e a =
+comes-from (b ∷ bs) k since f q o v w e a =
     let n = step-ok k since b bs f q e in
     let c = class_of b in
     let f2 = scan_next f c b in
     let v2 = scan-valid f c b v n.0 in
-    elim (comes-from bs (k + 1) (last_lexeme_start k since (scan_reference f) (class_of b) b) f2 q v2 (scan-plain f b v n.0 w) n.1 a) [
-      | inl m ↦ apart-before (scan_parts f) f b bs refl v w n.0 m.0 m.1
+    elim (comes-from bs (k + 1) (last_lexeme_start k since (scan_reference f) (class_of b) b) f2 q (scan-opens f b o) v2 (scan-plain f b w) n.1 a) [
+      | inl m ↦ apart-before (scan_parts f) f b bs refl o v w n.0 m.0 m.1
       | inr m ↦ (let x = from-byte f c b m.0 v n.0 m.2 in let z = from-byte f c b m.1 v n.0 m.3 in
           inr (
             byte_origin f c b m.0,
@@ -653,7 +795,7 @@ pub apart-from : (bytes : List ℕ) (p q : Place) → IsValid p → after_text b
     (HasApart p × ((s : LexState ValueState) → IsIn p s → Bears s side → Keeps bytes s × Bears (node bytes s) side))
     ⊎ ((x : Member) × (z : Member) × Has p x × Has p z × ((s r : LexState ValueState) → IsIn p s → Bears s x → IsIn p r → Bears r z
     → PartWithin bytes s r × Bears (node bytes s) side × Bears (node bytes r) side))
-apart-from bytes p q v e a = elim (comes-from bytes 0 0 (At p) q v tt (text-steps bytes p q e) a) [
+apart-from bytes p q v e a = elim (comes-from bytes 0 0 (At p) q tt v tt (text-steps bytes p q e) a) [
   | inl m ↦ inl (
     m.0,
     λ s i b. let k = keeps-back bytes s (side-begins s b) (m.1 s (At i.own) (stand-in p s i) (own-has p s side i b)) in

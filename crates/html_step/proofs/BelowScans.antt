@@ -11,11 +11,14 @@ use Rattle.place_core.specs.declared.tag_place.TagPlace.{TagPlace}
 use Rattle.place_core.specs.declared.value_place.ValuePlace.{ValuePlace}
 use Rattle.place_core.proofs.Semilattices.{none_some, one_value}
 use Rattle.html_scan.specs.Scans.{Scan, At, AfterLess, AfterLessSolidus, InDeclaration, InTagName, InAttributeName, InUrl, InStyle, InCommentEnd, InContentEnd, BeforeType, InType}
-use Rattle.html_step.proofs.ScanOrder.{ScanBelow, ScanHas, comment-one}
+use Rattle.html_step.proofs.ScanOrder.{ScanBelow, ScanHas, StyleUnderPlace, StyleValueBelow, Unstyled, comment-one, under-body}
 use Rattle.html_step.proofs.PlaceParts.{Under, TagBelow, ValueBelow, below-tag, below-value, below-rcdata}
-use Rattle.place_core.specs.page.References.{Reference}
+use Rattle.place_core.specs.page.References.{Reference, Closed}
 use Rattle.url_lexer.specs.Triples.{Triple}
-use Rattle.css_step.specs.StyleScans.{StyleScan}
+use Rattle.css_step.specs.StyleScans.{StyleScan, style_scan_start}
+use Rattle.place_core.specs.declared.body.Body.{Body}
+use Rattle.place_core.specs.declared.body.Body.TheVariants as body
+use Rattle.place_core.specs.declared.css.Css.{Css}
 use Rattle.place_core.specs.page.Tags.{Quoting, Value, ValueState}
 
 pub whole-in : (f : Scan) (y : Member) → is_whole y ≡ true → ScanHas f y
@@ -30,22 +33,23 @@ whole-in (InCommentEnd s) y e = e
 whole-in (InContentEnd x h) y e = e
 whole-in (BeforeType t) y e = e
 whole-in (InType t q v r) y e = e
-whole-in (InStyle v s r) y e = e
+whole-in (InStyle v s r) y e = rw e refl
 
--- below a place are places
-pub below-at : (P : Scan → Type 0) (p : Place) → ((a : Place) → Below a p → P (At a)) → (g : Scan) → ScanBelow g (At p) → P g
-below-at P p f (At a) h = f a h
-below-at P p f (InAttributeName t x n) h = absurd h
-below-at P p f (InUrl v t r) h = absurd h
-below-at P p f AfterLess h = cc
-below-at P p f AfterLessSolidus h = cc
-below-at P p f (InDeclaration pending) h = cc
-below-at P p f (InTagName ends name) h = cc
-below-at P p f (InCommentEnd s) h = cc
-below-at P p f (InContentEnd e x) h = cc
-below-at P p f (BeforeType u) h = cc
-below-at P p f (InType u q v r) h = cc
-below-at P p f (InStyle v s r) h = cc
+-- below a place are places, and below one of a style also lexemes of it
+pub below-at : (P : Scan → Type 0) (p : Place) → ((a : Place) → Below a p → P (At a)) → ((v : ValuePlace) (n : StyleScan) → StyleUnderPlace v n p → P (InStyle v n Closed))
+    → (g : Scan) → ScanBelow g (At p) → P g
+below-at P p f k (At a) h = f a h
+below-at P p f k (InStyle v n r) h = subst (λ (z : Reference). P (InStyle v n z)) (sym h.1) (k v n h.0)
+below-at P p f k (InAttributeName t x n) h = absurd h
+below-at P p f k (InUrl v t r) h = absurd h
+below-at P p f k AfterLess h = cc
+below-at P p f k AfterLessSolidus h = cc
+below-at P p f k (InDeclaration pending) h = cc
+below-at P p f k (InTagName ends name) h = cc
+below-at P p f k (InCommentEnd s) h = cc
+below-at P p f k (InContentEnd e x) h = cc
+below-at P p f k (BeforeType u) h = cc
+below-at P p f k (InType u q v r) h = cc
 
 pub tag-place : (P : Scan → Type 0) (t : TagPlace) → ((u : TagPlace) → TagBelow u t → P (At (place.Tag u))) → (a : Place) → Below a (place.Tag t) → P (At a)
 tag-place P t f (place.Tag u) h = f u (below-tag u t h)
@@ -59,7 +63,7 @@ tag-place P t f (place.Style x) h = absurd (none_some (place.Tag t) h)
 tag-place P t f (place.Block x) h = absurd (none_some (place.Tag t) h)
 
 pub below-at-tag : (P : Scan → Type 0) (t : TagPlace) → ((u : TagPlace) → TagBelow u t → P (At (place.Tag u))) → (g : Scan) → ScanBelow g (At (place.Tag t)) → P g
-below-at-tag P t f g h = below-at P (place.Tag t) (tag-place P t f) g h
+below-at-tag P t f g h = below-at P (place.Tag t) (tag-place P t f) (λ v n u. absurd u) g h
 
 pub value-place : (P : Scan → Type 0) (t : ValuePlace) → ((u : ValuePlace) → ValueBelow u t → P (At (place.Value u))) → (a : Place) → Below a (place.Value t) → P (At a)
 value-place P t f (place.Value u) h = f u (below-value u t h)
@@ -72,8 +76,34 @@ value-place P t f (place.Script x) h = absurd (none_some (place.Value t) h)
 value-place P t f (place.Style x) h = absurd (none_some (place.Value t) h)
 value-place P t f (place.Block x) h = absurd (none_some (place.Value t) h)
 
-pub below-at-value : (P : Scan → Type 0) (t : ValuePlace) → ((u : ValuePlace) → ValueBelow u t → P (At (place.Value u))) → (g : Scan) → ScanBelow g (At (place.Value t)) → P g
-below-at-value P t f g h = below-at P (place.Value t) (value-place P t f) g h
+pub below-at-value : (P : Scan → Type 0) (t : ValuePlace) → ((u : ValuePlace) → ValueBelow u t → P (At (place.Value u)))
+    → ((u : ValuePlace) (n : StyleScan) (d : Css) → t.body ≡ body.Css d → StyleValueBelow u t n (style_scan_start d) → P (InStyle u n Closed))
+    → (g : Scan) → ScanBelow g (At (place.Value t)) → P g
+below-at-value P t f k g h = below-at P (place.Value t) (value-place P t f) (λ v n u. let d = under-body v n t t.body u in k v n d.0 d.1 d.2) g h
+
+-- below one that is no style, places alone
+styled : (b : Body) (d : Css) → b ≡ body.Css d → Unstyled b → ⊥
+styled b d e u = subst Unstyled e u
+
+pub below-at-unstyled : (P : Scan → Type 0) (t : ValuePlace) → Unstyled t.body → ((u : ValuePlace) → ValueBelow u t → P (At (place.Value u))) → (g : Scan)
+    → ScanBelow g (At (place.Value t)) → P g
+below-at-unstyled P t x f g h = below-at-value P t f (λ u n d e l. absurd (styled t.body d e x)) g h
+
+-- below a lexeme of a style, or a reference in it
+pub below-style : (P : Scan → Type 0) (v : ValuePlace) (m : StyleScan) (r : Reference) → ((u : ValuePlace) (n : StyleScan) → StyleValueBelow u v n m → P (InStyle u n r))
+    → (g : Scan) → ScanBelow g (InStyle v m r) → P g
+below-style P v m r f (InStyle u n z) h = subst (λ (x : Reference). P (InStyle u n x)) (sym h.1) (f u n h.0)
+below-style P v m r f (At p) h = absurd h
+below-style P v m r f (InAttributeName t x n) h = absurd h
+below-style P v m r f (InUrl u t z) h = absurd h
+below-style P v m r f AfterLess h = cc
+below-style P v m r f AfterLessSolidus h = cc
+below-style P v m r f (InDeclaration pending) h = cc
+below-style P v m r f (InTagName ends name) h = cc
+below-style P v m r f (InCommentEnd s) h = cc
+below-style P v m r f (InContentEnd e x) h = cc
+below-style P v m r f (BeforeType u) h = cc
+below-style P v m r f (InType u q w z) h = cc
 
 comment-place : (P : Scan → Type 0) (y : Bool) → ((x : Bool) → Under x y → P (At (place.Comment x))) → (a : Place) → Below a (place.Comment y) → P (At a)
 comment-place P y f (place.Comment x) h = f x (comment-one (x || y) y (one_value (place.Comment (x || y)) (place.Comment y) h))
@@ -87,7 +117,7 @@ comment-place P y f (place.Style x) h = absurd (none_some (place.Comment y) h)
 comment-place P y f (place.Block x) h = absurd (none_some (place.Comment y) h)
 
 pub below-at-comment : (P : Scan → Type 0) (y : Bool) → ((x : Bool) → Under x y → P (At (place.Comment x))) → (g : Scan) → ScanBelow g (At (place.Comment y)) → P g
-below-at-comment P y f g h = below-at P (place.Comment y) (comment-place P y f) g h
+below-at-comment P y f g h = below-at P (place.Comment y) (comment-place P y f) (λ v n u. absurd u) g h
 
 -- Scan states below which there is nothing else.
 abbrev pub IsRigid : Scan → Type 0
@@ -106,13 +136,13 @@ rcdata-place e (place.Rcdata x) h = ap (λ (y : Element). At (place.Rcdata y)) (
 rcdata-place e _ h = absurd (none_some (place.Rcdata e) h)
 
 pub text-rigid : IsRigid (At place.Text)
-text-rigid g h = below-at (λ (x : Scan). x ≡ At place.Text) place.Text text-place g h
+text-rigid g h = below-at (λ (x : Scan). x ≡ At place.Text) place.Text text-place (λ v n u. absurd u) g h
 
 pub doctype-rigid : IsRigid (At place.Doctype)
-doctype-rigid g h = below-at (λ (x : Scan). x ≡ At place.Doctype) place.Doctype doctype-place g h
+doctype-rigid g h = below-at (λ (x : Scan). x ≡ At place.Doctype) place.Doctype doctype-place (λ v n u. absurd u) g h
 
 pub rcdata-rigid : (e : Element) → IsRigid (At (place.Rcdata e))
-rcdata-rigid e g h = below-at (λ (x : Scan). x ≡ At (place.Rcdata e)) (place.Rcdata e) (rcdata-place e) g h
+rcdata-rigid e g h = below-at (λ (x : Scan). x ≡ At (place.Rcdata e)) (place.Rcdata e) (rcdata-place e) (λ v n u. absurd u) g h
 
 pub less-rigid : IsRigid AfterLess
 less-rigid (At p) h = absurd h
@@ -126,7 +156,7 @@ less-rigid (InCommentEnd s) h = h
 less-rigid (InContentEnd e x) h = h
 less-rigid (BeforeType u) h = h
 less-rigid (InType u q v r) h = h
-less-rigid (InStyle u k d) h = h
+less-rigid (InStyle u k d) h = absurd h
 
 pub solidus-rigid : IsRigid AfterLessSolidus
 solidus-rigid (At p) h = absurd h
@@ -140,7 +170,7 @@ solidus-rigid (InCommentEnd s) h = h
 solidus-rigid (InContentEnd e x) h = h
 solidus-rigid (BeforeType u) h = h
 solidus-rigid (InType u q v r) h = h
-solidus-rigid (InStyle u k d) h = h
+solidus-rigid (InStyle u k d) h = absurd h
 
 pub declaration-rigid : (l : List ℕ) → IsRigid (InDeclaration l)
 declaration-rigid l (At p) h = absurd h
@@ -154,7 +184,7 @@ declaration-rigid l (InCommentEnd s) h = h
 declaration-rigid l (InContentEnd e x) h = h
 declaration-rigid l (BeforeType u) h = h
 declaration-rigid l (InType u q v r) h = h
-declaration-rigid l (InStyle u k d) h = h
+declaration-rigid l (InStyle u k d) h = absurd h
 
 pub tag-name-rigid : (z : Bool) (l : List ℕ) → IsRigid (InTagName z l)
 tag-name-rigid z l (At p) h = absurd h
@@ -168,7 +198,7 @@ tag-name-rigid z l (InCommentEnd s) h = h
 tag-name-rigid z l (InContentEnd e x) h = h
 tag-name-rigid z l (BeforeType u) h = h
 tag-name-rigid z l (InType u q v r) h = h
-tag-name-rigid z l (InStyle u k d) h = h
+tag-name-rigid z l (InStyle u k d) h = absurd h
 
 pub comment-end-rigid : (z : CommentState) → IsRigid (InCommentEnd z)
 comment-end-rigid z (At p) h = absurd h
@@ -182,7 +212,7 @@ comment-end-rigid z (InCommentEnd s) h = h
 comment-end-rigid z (InContentEnd e x) h = h
 comment-end-rigid z (BeforeType u) h = h
 comment-end-rigid z (InType u q v r) h = h
-comment-end-rigid z (InStyle u k d) h = h
+comment-end-rigid z (InStyle u k d) h = absurd h
 
 pub content-end-rigid : (z : Element) (l : Pending) → IsRigid (InContentEnd z l)
 content-end-rigid z l (At p) h = absurd h
@@ -196,7 +226,7 @@ content-end-rigid z l (InCommentEnd s) h = h
 content-end-rigid z l (InContentEnd e x) h = h
 content-end-rigid z l (BeforeType u) h = h
 content-end-rigid z l (InType u q v r) h = h
-content-end-rigid z l (InStyle u k d) h = h
+content-end-rigid z l (InStyle u k d) h = absurd h
 
 pub before-type-rigid : (t : TagOf) → IsRigid (BeforeType t)
 before-type-rigid t (At p) h = absurd h
@@ -210,7 +240,7 @@ before-type-rigid t (InCommentEnd s) h = h
 before-type-rigid t (InContentEnd e x) h = h
 before-type-rigid t (BeforeType u) h = h
 before-type-rigid t (InType u q v r) h = h
-before-type-rigid t (InStyle u k d) h = h
+before-type-rigid t (InStyle u k d) h = absurd h
 
 pub type-rigid : (t : TagOf) (o : Quoting) (w : Value ValueState) (c : Reference) → IsRigid (InType t o w c)
 type-rigid t o w c (At p) h = absurd h
@@ -224,21 +254,7 @@ type-rigid t o w c (InCommentEnd s) h = h
 type-rigid t o w c (InContentEnd e x) h = h
 type-rigid t o w c (BeforeType u) h = h
 type-rigid t o w c (InType u q v r) h = h
-type-rigid t o w c (InStyle u k d) h = h
-
-pub style-rigid : (v : ValuePlace) (s : StyleScan) (z : Reference) → IsRigid (InStyle v s z)
-style-rigid v s z (At p) h = absurd h
-style-rigid v s z (InAttributeName u x n) h = absurd h
-style-rigid v s z (InUrl u k d) h = absurd h
-style-rigid v s z AfterLess h = h
-style-rigid v s z AfterLessSolidus h = h
-style-rigid v s z (InDeclaration pending) h = h
-style-rigid v s z (InTagName ends name) h = h
-style-rigid v s z (InCommentEnd y) h = h
-style-rigid v s z (InContentEnd e x) h = h
-style-rigid v s z (BeforeType u) h = h
-style-rigid v s z (InType u q x r) h = h
-style-rigid v s z (InStyle u k d) h = h
+type-rigid t o w c (InStyle u k d) h = absurd h
 
 -- a data block
 pub block-one : (x y : Bool) → place.Block x ≡ place.Block y → x ≡ y
@@ -256,7 +272,7 @@ block-place P y f (place.Script x) h = absurd (none_some (place.Block y) h)
 block-place P y f (place.Style x) h = absurd (none_some (place.Block y) h)
 
 pub below-at-block : (P : Scan → Type 0) (y : Bool) → ((x : Bool) → Under x y → P (At (place.Block x))) → (g : Scan) → ScanBelow g (At (place.Block y)) → P g
-below-at-block P y f g h = below-at P (place.Block y) (block-place P y f) g h
+below-at-block P y f g h = below-at P (place.Block y) (block-place P y f) (λ v n u. absurd u) g h
 
 -- a name of an attribute
 pub below-attribute : (P : Scan → Type 0) (t : TagOf) (y : Bool) (n : List ℕ) → ((x : Bool) → Under x y → P (InAttributeName t x n)) → (g : Scan) → ScanBelow g (InAttributeName t y n) → P g
@@ -272,7 +288,7 @@ below-attribute P t y n f (InCommentEnd s) h = cc
 below-attribute P t y n f (InContentEnd e x) h = cc
 below-attribute P t y n f (BeforeType u) h = cc
 below-attribute P t y n f (InType u q v r) h = cc
-below-attribute P t y n f (InStyle u k d) h = cc
+below-attribute P t y n f (InStyle u k d) h = absurd h
 
 -- a URL in a percent triple or a reference
 pub below-url : (P : Scan → Type 0) (v : ValuePlace) (t : Triple) (r : Reference) → ((u : ValuePlace) → ValueBelow u v → P (InUrl u t r)) → (g : Scan)
@@ -289,4 +305,4 @@ below-url P v t r f (InCommentEnd s) h = cc
 below-url P v t r f (InContentEnd e x) h = cc
 below-url P v t r f (BeforeType u) h = cc
 below-url P v t r f (InType u q x z) h = cc
-below-url P v t r f (InStyle u k d) h = cc
+below-url P v t r f (InStyle u k d) h = absurd h

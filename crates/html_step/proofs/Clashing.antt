@@ -5,9 +5,9 @@ use Rattle.std.specs.Prelude.{⊤}
 use Rattle.place_core.specs.page.Classes.{Class, White}
 use Rattle.place_core.specs.page.References.{Reference, Closed, Open}
 use Rattle.place_core.specs.place.Errors.{body_error, at_hand, quotes_error, value_error}
-use Rattle.place_core.specs.place.PathPairs.{begun_clash, byte_clash, is_in_beginning}
-use Rattle.place_core.specs.place.LanguagePlaces.{parts_have}
-use Rattle.place_core.specs.place.Places.{Has, block_has, body_has, dash_has, is_whole, quotes_have, spots_have, typed_has}
+use Rattle.place_core.specs.place.PathPairs.{begun_clash, byte_clash, is_in_beginning, is_in_open, url_in_style}
+use Rattle.place_core.specs.place.LanguagePlaces.{css_has, parts_have}
+use Rattle.place_core.specs.place.Places.{Has, block_has, body_has, dash_has, is_whole, joined_quotes, quotes_have, spots_have, typed_has}
 use Rattle.place_core.specs.place.StatePlaces.{only_after, only_before, only_inside, only_name, quotes_at, tag_spot, unbegun}
 use Rattle.place_core.specs.place.UrlParts.{parts_of}
 use Rattle.place_core.specs.page.States.{LexState, Text, TagOpen, EndTagOpen, DeclarationOpen, InComment, Inside, Broken, BogusComment, InDoctype, TagName, WholeTagName, BeforeAttributeName, AttributeName, WholeAttributeName, AfterAttributeName, BeforeAttributeValue, AttributeValue, AfterAttributeValue, SelfClosingStartTag, Characters, Bytes, Pending, Nothing, PendingLess, PendingName, PendingBang, PendingBangDash, InContent, Unread, LessAtCut}
@@ -32,11 +32,25 @@ use Rattle.place_core.specs.declared.tag_place.TagPlace.{TagPlace}
 use Rattle.place_core.specs.declared.value_place.ValuePlace.{ValuePlace}
 use Rattle.place_core.proofs.JoinMembers.{the_has_grows}
 use Rattle.place_core.proofs.Semilattices.{none_some}
-use Rattle.html_scan.specs.Scans.{Scan, At, AfterLess, AfterLessSolidus, InDeclaration, InTagName, InAttributeName, InUrl, InStyle, InCommentEnd, InContentEnd, scan_error, url_scan, value_cause, body_cause, BeforeType, InType}
-use Rattle.html_step.proofs.PlaceParts.{value-below}
-use Rattle.html_step.proofs.ScanOrder.{ScanBelow, ScanHas, first-none, if-none}
-use Rattle.html_step.proofs.UrlOrder.{first-caused}
-use Rattle.html_step.proofs.OnePath.{WhereScanned, block_scanned, content_scanned, scanned, none-at-hand, some, url_value}
+use Rattle.html_scan.specs.Scans.{Scan, At, AfterLess, AfterLessSolidus, InDeclaration, InTagName, InAttributeName, InUrl, InStyle, InCommentEnd, InContentEnd, scan_error, url_scan, value_cause, body_cause, BeforeType, InType, quoted_error, style_cause, style_feeding}
+use Rattle.html_step.proofs.PlaceParts.{Under, value-below}
+use Rattle.html_step.proofs.ScanOrder.{ScanBelow, ScanHas, StyleUnderPlace, bare-parts, first-none, if-none, under-body}
+use Rattle.html_step.proofs.StylePaths.{empty_css, style_value}
+use Rattle.html_step.proofs.StyleValues.{style-in, style-out, style_has}
+use Rattle.html_step.proofs.StyleValues as styles
+use Rattle.html_step.proofs.FromValues.{in-quotes}
+use Rattle.css_lexer.specs.Escapes.{StyleEscape, NoEscape, AfterBackslash, HexDigits, AfterReturn}
+use Rattle.css_lexer.specs.PartSpots.{has_read_nothing}
+use Rattle.css_lexer.specs.States.{Outside, SplitWord, Fresh, Bare, Quoted, Ended, Style, Out}
+use Rattle.css_lexer.specs.States as style
+use Rattle.css_step.specs.StyleOrigins.{scan_set_has}
+use Rattle.css_step.specs.StyleScanLaws.{style_scanned, style_scanned_outside}
+use Rattle.css_step.specs.StyleScans.{StyleScan, ScanCode, ScanWord, ScanSplitEscape, ScanSolidus, ScanLessThan, ScanComment, ScanStarBefore, ScanString, ScanFresh, ScanBareUrl, ScanQuotedUrl, ScanEnded, style_split_word}
+use Rattle.place_core.specs.declared.css.Css.{Css}
+use Rattle.place_core.specs.declared.css.Css.TheVariants as css
+use Rattle.url_lexer.specs.States.{Url}
+use Rattle.html_step.proofs.FedAlike.{first-caused}
+use Rattle.html_step.proofs.PathScans.{WhereScanned, block_scanned, content_scanned, scanned, style_value_scanned, none-at-hand, some, url_value}
 use Rattle.html_step.proofs.FromSteps.{or-false}
 use Rattle.url_lexer.specs.Parts.{UrlPart, UrlStart, UrlOpen}
 use Rattle.url_lexer.specs.TwoPaths.{is_open}
@@ -186,13 +200,18 @@ of-url v AfterDigit r m h = h
 
 abbrev before_has : Kind → Member → Bool
 before_has kind.ScriptType m = false
+before_has kind.Style m = quotes_have unbegun m || css_has empty_css m
 before_has kind.Url m = quotes_have unbegun m || parts_have (parts_of UrlStart) m
 before_has k m = quotes_have unbegun m || false
+
+abbrev style_set_has : Option StyleScan → Member → Bool
+style_set_has (Some n) m = scan_set_has n m
+style_set_has None m = false
 
 abbrev value_has : Value ValueState → Quotes → Member → Bool
 value_has (ValueOf (OfKind k)) q m = quotes_have q m || false
 value_has (ValueOf (OfUrl u)) q m = quotes_have q m || parts_have (parts_of u.part) m
-value_has (ValueOf (OfStyle s)) q m = false
+value_has (ValueOf (OfStyle s)) q m = quotes_have q m || style_set_has (style_scanned s) m
 value_has (Deciding k before) q m = false
 
 abbrev value-of : Tag → Quotes → Body → ValuePlace
@@ -201,16 +220,27 @@ value-of t q b = record { tag = t.tag; typed = t.typed; quotes = q; body = b }
 before-in : (m : Member) → OfValue m → (t : Tag) (k : Kind) → WhereScanned (scanned (BeforeAttributeValue t k)) (λ f. ScanHas f m → before_has k m ≡ true)
 before-in m o t kind.Plain = λ h. of-place m o (value-of t unbegun body.Plain) h
 before-in m o t kind.NoHole = λ h. of-place m o (value-of t unbegun body.NoHole) h
+before-in m o t kind.Style = λ h. of-place m o (value-of t unbegun (body.Css empty_css)) h
 before-in m o t kind.Url = λ h. of-place m o (url_value t unbegun (parts_of UrlStart)) h
 before-in m o t kind.ScriptType = first-where t.typed (BeforeType t.tag) (λ f. ScanHas f m → before_has kind.ScriptType m ≡ true) (λ h. absurd (no-whole m o h))
 before-in m o t _ = tt
+
+of-style : (m : Member) → OfValue m → (v : ValuePlace) (n : StyleScan) → style_has v.typed v.quotes n m ≡ true → (quotes_have v.quotes m || scan_set_has n m) ≡ true
+of-style m o v n h =
+    let rest = quotes_have v.quotes m || scan_set_has n m in
+    second-of (typed_has v.typed m) rest (o.typed v.typed) (second-of (is_whole m) (typed_has v.typed m || rest) o.whole h)
+
+style-value-in : (m : Member) → OfValue m → (q : Quoting) (t : Tag) (x : Option StyleScan) (r : Reference)
+    → WhereScanned (style_value_scanned q t x r) (λ f. ScanHas f m → (quotes_have (quotes_at q) m || style_set_has x m) ≡ true)
+style-value-in m o q t (Some n) r = λ h. of-style m o (style_value t (quotes_at q)) n (style-out (style_value t (quotes_at q)) n r m h)
+style-value-in m o q t None r = tt
 
 value-in : (m : Member) → OfValue m → (q : Quoting) (t : Tag) (v : Value ValueState) (r : Reference)
     → WhereScanned (scanned (AttributeValue q t v r)) (λ f. ScanHas f m → value_has v (quotes_at q) m ≡ true)
 value-in m o q t (ValueOf (OfKind kind.Plain)) r = λ h. of-place m o (value-of t (quotes_at q) body.Plain) h
 value-in m o q t (ValueOf (OfKind kind.NoHole)) r = λ h. of-place m o (value-of t (quotes_at q) body.NoHole) h
 value-in m o q t (ValueOf (OfKind _)) r = tt
-value-in m o q t (ValueOf (OfStyle s)) r = tt
+value-in m o q t (ValueOf (OfStyle s)) r = style-value-in m o q t (style_scanned s) r
 value-in m o q t (ValueOf (OfUrl u)) r =
     λ h. of-place m o (url_value t (quotes_at q) (parts_of u.part)) (url-of (url_value t (quotes_at q) (parts_of u.part)) u.triple r m h)
 value-in m o q t (Deciding kind.ScriptType before) r =
@@ -225,6 +255,40 @@ value-bears : (m : Member) → OfValue m → (q : Quoting) (t : Tag) (v : Value 
     → value_has v (quotes_at q) m ≡ true
 value-bears m o q t v r g e h = subst (λ (x : Option Scan). WhereScanned x (λ f. ScanHas f m → value_has v (quotes_at q) m ≡ true)) e (value-in m o q t v r) h
 
+-- a style has no member of quotes
+set-lacks : (n : StyleScan) → (scan_set_has n member.UnquotedValue ≡ false) × (scan_set_has n member.UnbegunValue ≡ false)
+set-lacks (ScanCode x) = (refl, refl)
+set-lacks (ScanWord w e) = (refl, refl)
+set-lacks (ScanSplitEscape e) = (refl, refl)
+set-lacks ScanSolidus = (refl, refl)
+set-lacks ScanLessThan = (refl, refl)
+set-lacks (ScanComment star) = (refl, refl)
+set-lacks ScanStarBefore = (refl, refl)
+set-lacks (ScanString q e) = (refl, refl)
+set-lacks ScanFresh = (refl, refl)
+set-lacks (ScanBareUrl s t) = (refl, refl)
+set-lacks (ScanQuotedUrl q e s t) = (refl, refl)
+set-lacks ScanEnded = (refl, refl)
+
+no-set : (x : Option StyleScan) → (style_set_has x member.UnquotedValue ≡ false) × (style_set_has x member.UnbegunValue ≡ false)
+no-set (Some n) = set-lacks n
+no-set None = (refl, refl)
+
+css-lacks : (c : Css) → (css_has c member.UnquotedValue ≡ false) × (css_has c member.UnbegunValue ≡ false)
+css-lacks (css.Code x) = (refl, refl)
+css-lacks css.Dq = (refl, refl)
+css-lacks css.Sq = (refl, refl)
+css-lacks css.UrlFresh = (refl, refl)
+css-lacks (css.Url s) = (refl, refl)
+css-lacks (css.UrlDq s) = (refl, refl)
+css-lacks (css.UrlSq s) = (refl, refl)
+css-lacks css.UrlEnd = (refl, refl)
+css-lacks (css.Comment x) = (refl, refl)
+
+first-of : (x y : Bool) → y ≡ false → (x || y) ≡ true → x ≡ true
+first-of true y e h = refl
+first-of false y e h = absurd (no (sym e ∙ h))
+
 -- so which paths bear these members
 unquoted-before : (k : Kind) → before_has k member.UnquotedValue ≡ true → ⊥
 unquoted-before kind.ScriptType h = no h
@@ -236,10 +300,10 @@ unquoted-value : (q : Quoting) (t : Tag) (v : Value ValueState) (r : Reference) 
 unquoted-value Unquoted t (ValueOf v) r h = tt
 unquoted-value DoubleQuoted t (ValueOf (OfKind k)) r h = absurd (no h)
 unquoted-value DoubleQuoted t (ValueOf (OfUrl u)) r h = absurd (no h)
-unquoted-value DoubleQuoted t (ValueOf (OfStyle s)) r h = absurd (no h)
+unquoted-value DoubleQuoted t (ValueOf (OfStyle s)) r h = absurd (no (sym (no-set (style_scanned s)).0 ∙ h))
 unquoted-value SingleQuoted t (ValueOf (OfKind k)) r h = absurd (no h)
 unquoted-value SingleQuoted t (ValueOf (OfUrl u)) r h = absurd (no h)
-unquoted-value SingleQuoted t (ValueOf (OfStyle s)) r h = absurd (no h)
+unquoted-value SingleQuoted t (ValueOf (OfStyle s)) r h = absurd (no (sym (no-set (style_scanned s)).0 ∙ h))
 unquoted-value q t (Deciding k before) r h = absurd (no h)
 
 pub is-unquoted : (s : LexState ValueState) (g : Scan) → scanned s ≡ Some g → ScanHas g member.UnquotedValue → IsUnquoted s
@@ -258,7 +322,9 @@ unbegun-value DoubleQuoted (ValueOf (OfKind k)) h = no h
 unbegun-value DoubleQuoted (ValueOf (OfUrl u)) h = no h
 unbegun-value SingleQuoted (ValueOf (OfKind k)) h = no h
 unbegun-value SingleQuoted (ValueOf (OfUrl u)) h = no h
-unbegun-value q (ValueOf (OfStyle s)) h = no h
+unbegun-value Unquoted (ValueOf (OfStyle s)) h = no (sym (no-set (style_scanned s)).1 ∙ h)
+unbegun-value DoubleQuoted (ValueOf (OfStyle s)) h = no (sym (no-set (style_scanned s)).1 ∙ h)
+unbegun-value SingleQuoted (ValueOf (OfStyle s)) h = no (sym (no-set (style_scanned s)).1 ∙ h)
 unbegun-value q (Deciding k before) h = no h
 
 pub is-unbegun : (s : LexState ValueState) (g : Scan) → scanned s ≡ Some g → ScanHas g member.UnbegunValue → IsUnbegun s
@@ -266,10 +332,15 @@ is-unbegun (BeforeAttributeValue t k) g e h = unbegun-before t k (before-bears m
 is-unbegun (AttributeValue q t v r) g e h = absurd (unbegun-value q v (value-bears member.UnbegunValue of-unbegun q t v r g e h))
 is-unbegun s g e h = absurd (no-value member.UnbegunValue of-unbegun s g tt e h)
 
--- a path on which a URL begins
+-- a path on which a URL begins, which may be in a style
+abbrev pub IsStart : Option Url → Type 0
+IsStart (Some u) = u.part ≡ UrlStart
+IsStart None = ⊥
+
 abbrev pub StartsUrl : LexState ValueState → Type 0
 StartsUrl (BeforeAttributeValue t kind.Url) = ⊤
 StartsUrl (AttributeValue q t (ValueOf (OfUrl u)) r) = u.part ≡ UrlStart
+StartsUrl (AttributeValue q t (ValueOf (OfStyle s)) r) = IsStart (url_in_style s)
 StartsUrl s = ⊥
 
 start-part : (p : UrlPart) → parts_have (parts_of p) member.PartStart ≡ true → p ≡ UrlStart
@@ -279,6 +350,48 @@ start-part _ h = absurd (no h)
 open-part : (p : UrlPart) → parts_have (parts_of p) member.PartOpen ≡ is_open p
 open-part (UrlOpen x) = refl
 open-part _ = refl
+
+split-start : (e : StyleEscape) → scan_set_has (style_split_word e) member.PartStart ≡ false
+split-start NoEscape = refl
+split-start AfterBackslash = refl
+split-start (HexDigits n) = refl
+split-start AfterReturn = refl
+
+out-start : (o : Outside) → style_set_has (style_scanned_outside o) member.PartStart ≡ false
+out-start (SplitWord e) = split-start e
+out-start _ = refl
+
+split-open : (e : StyleEscape) → scan_set_has (style_split_word e) member.PartOpen ≡ false
+split-open NoEscape = refl
+split-open AfterBackslash = refl
+split-open (HexDigits n) = refl
+split-open AfterReturn = refl
+
+out-open : (o : Outside) → style_set_has (style_scanned_outside o) member.PartOpen ≡ false
+out-open (SplitWord e) = split-open e
+out-open _ = refl
+
+fresh-start : (x : Bool) → style_set_has (if x then Some ScanFresh else None) member.PartStart ≡ true → ⊥
+fresh-start true h = no h
+fresh-start false h = no h
+
+fresh-open : (x : Bool) → style_set_has (if x then Some ScanFresh else None) member.PartOpen ≡ true → ⊥
+fresh-open true h = no h
+fresh-open false h = no h
+
+style-start : (s : Style Url) → style_set_has (style_scanned s) member.PartStart ≡ true → IsStart (url_in_style s)
+style-start (Out o) h = no (sym (out-start o) ∙ h)
+style-start (style.InUrl Fresh u) h = fresh-start (has_read_nothing u) h
+style-start (style.InUrl Bare u) h = start-part u.part h
+style-start (style.InUrl (Quoted q e) u) h = start-part u.part h
+style-start (style.InUrl Ended u) h = no h
+
+style-open : (s : Style Url) → style_set_has (style_scanned s) member.PartOpen ≡ true → is_in_open (url_in_style s) ≡ true
+style-open (Out o) h = absurd (no (sym (out-open o) ∙ h))
+style-open (style.InUrl Fresh u) h = absurd (fresh-open (has_read_nothing u) h)
+style-open (style.InUrl Bare u) h = sym (open-part u.part) ∙ h
+style-open (style.InUrl (Quoted q e) u) h = sym (open-part u.part) ∙ h
+style-open (style.InUrl Ended u) h = absurd (no h)
 
 start-before : (t : Tag) (k : Kind) → before_has k member.PartStart ≡ true → StartsUrl (BeforeAttributeValue t k)
 start-before t kind.Url h = tt
@@ -298,7 +411,8 @@ no-open (quotes.Bare b) = refl
 start-value : (q : Quoting) (t : Tag) (v : Value ValueState) (r : Reference) → value_has v (quotes_at q) member.PartStart ≡ true
     → StartsUrl (AttributeValue q t v r)
 start-value q t (ValueOf (OfKind k)) r h = absurd (neither (quotes_have (quotes_at q) member.PartStart) false (no-start (quotes_at q)) refl h)
-start-value q t (ValueOf (OfStyle s)) r h = absurd (no h)
+start-value q t (ValueOf (OfStyle s)) r h =
+    style-start s (second-of (quotes_have (quotes_at q) member.PartStart) (style_set_has (style_scanned s) member.PartStart) (no-start (quotes_at q)) h)
 start-value q t (ValueOf (OfUrl u)) r h =
     start-part u.part (second-of (quotes_have (quotes_at q) member.PartStart) (parts_have (parts_of u.part) member.PartStart) (no-start (quotes_at q)) h)
 start-value q t (Deciding k before) r h = absurd (no h)
@@ -316,7 +430,8 @@ open-before _ h = no h
 open-value : (q : Quoting) (t : Tag) (v : Value ValueState) (r : Reference) → value_has v (quotes_at q) member.PartOpen ≡ true
     → is_in_beginning (AttributeValue q t v r) ≡ true
 open-value q t (ValueOf (OfKind k)) r h = absurd (neither (quotes_have (quotes_at q) member.PartOpen) false (no-open (quotes_at q)) refl h)
-open-value q t (ValueOf (OfStyle s)) r h = absurd (no h)
+open-value q t (ValueOf (OfStyle s)) r h =
+    style-open s (second-of (quotes_have (quotes_at q) member.PartOpen) (style_set_has (style_scanned s) member.PartOpen) (no-open (quotes_at q)) h)
 open-value q t (ValueOf (OfUrl u)) r h =
     sym (open-part u.part) ∙ second-of (quotes_have (quotes_at q) member.PartOpen) (parts_have (parts_of u.part) member.PartOpen) (no-open (quotes_at q)) h
 open-value q t (Deciding k before) r h = absurd (no h)
@@ -327,12 +442,16 @@ is-open (AttributeValue q t v r) g e h = open-value q t v r (value-bears member.
 is-open s g e h = absurd (no-value member.PartOpen of-open s g tt e h)
 
 -- what these paths bear
+style-unquoted : (t : Tag) (x : Option StyleScan) (r : Reference) → WhereScanned (style_value_scanned Unquoted t x r) (λ f. ScanHas f member.UnquotedValue)
+style-unquoted t (Some n) r = style-in (style_value t (quotes_at Unquoted)) n r member.UnquotedValue refl
+style-unquoted t None r = tt
+
 unquoted-bears : (t : Tag) (v : ValueState) (r : Reference)
     → WhereScanned (scanned (AttributeValue Unquoted t (ValueOf v) r)) (λ f. ScanHas f member.UnquotedValue)
 unquoted-bears t (OfKind kind.Plain) r = refl
 unquoted-bears t (OfKind kind.NoHole) r = refl
 unquoted-bears t (OfKind _) r = tt
-unquoted-bears t (OfStyle s) r = tt
+unquoted-bears t (OfStyle s) r = style-unquoted t (style_scanned s) r
 unquoted-bears t (OfUrl u) r = of-url (url_value t (quotes_at Unquoted) (parts_of u.part)) u.triple r member.UnquotedValue refl
 
 has-unquoted-in : (s : LexState ValueState) → IsUnquoted s → WhereScanned (scanned s) (λ f. ScanHas f member.UnquotedValue)
@@ -346,6 +465,7 @@ has-unbegun-in : (s : LexState ValueState) → IsUnbegun s → WhereScanned (sca
 has-unbegun-in (BeforeAttributeValue t kind.Plain) a = refl
 has-unbegun-in (BeforeAttributeValue t kind.NoHole) a = refl
 has-unbegun-in (BeforeAttributeValue t kind.Url) a = refl
+has-unbegun-in (BeforeAttributeValue t kind.Style) a = refl
 has-unbegun-in (BeforeAttributeValue t kind.ScriptType) a = absurd a
 has-unbegun-in (BeforeAttributeValue t _) a = tt
 has-unbegun-in _ a = absurd a
@@ -438,17 +558,40 @@ url-grows v t r (InContentEnd x y) m l h = absurd l
 url-grows v t r (BeforeType u) m l h = absurd l
 url-grows v t r (InType u q w z) m l h = absurd l
 
-has-grows : (m : Member) → OfValue m → (g f : Scan) → ScanBelow g f → ScanHas g m → ScanHas f m
-has-grows m o (At a) f l h = at-grows a f m l h
-has-grows m o (InUrl v t r) f l h = url-grows v t r f m l h
-has-grows m o (InAttributeName t typed name) f l h = absurd (no-value-has m o t typed name h)
-has-grows m o _ f l h = absurd (no-whole m o h)
+-- in a style by its quotes
+true-under : (x y : Bool) → Under x y → x ≡ true → y ≡ true
+true-under true y u h = sym u
+true-under false y u h = absurd (no h)
+
+quotes-grow : (p q : Quotes) (m : Member) → joined_quotes p q ≡ Some q → quotes_have p m ≡ true → quotes_have q m ≡ true
+quotes-grow (quotes.Bare x) (quotes.Bare y) member.UnquotedValue j h = true-under x.uq y.uq (bare-parts x y j).0 h
+quotes-grow (quotes.Bare x) (quotes.Bare y) member.UnbegunValue j h = true-under x.unbegun y.unbegun (bare-parts x y j).1 h
+quotes-grow (quotes.Bare x) (quotes.Bare y) _ j h = absurd (no h)
+quotes-grow (quotes.Bare x) q m j h = absurd (none_some q j)
+quotes-grow quotes.Dq q m j h = absurd (no h)
+quotes-grow quotes.Sq q m j h = absurd (no h)
+
+under-grows : (v : ValuePlace) (n : StyleScan) (p : Place) (m : Member) → StyleUnderPlace v n p → quotes_have v.quotes m ≡ true → Has p m
+under-grows v n (place.Value w) m l h = in-quotes w.typed w.quotes w.body m (quotes-grow v.quotes w.quotes m (under-body v n w w.body l).2.quotes h)
+under-grows v n _ m l h = absurd l
+
+style-grows : (v : ValuePlace) (n : StyleScan) (r : Reference) (f : Scan) (m : Member) → ScanBelow (InStyle v n r) f → quotes_have v.quotes m ≡ true → ScanHas f m
+style-grows v n r (At p) m l h = under-grows v n p m l.0 h
+style-grows v n r (InStyle w x z) m l h = styles.in-quotes w.typed w.quotes x m (quotes-grow v.quotes w.quotes m l.0.quotes h)
+style-grows v n r _ m l h = absurd l
+
+has-grows : (m : Member) → OfValue m → ((n : StyleScan) → scan_set_has n m ≡ false) → (g f : Scan) → ScanBelow g f → ScanHas g m → ScanHas f m
+has-grows m o k (At a) f l h = at-grows a f m l h
+has-grows m o k (InUrl v t r) f l h = url-grows v t r f m l h
+has-grows m o k (InStyle v n r) f l h = style-grows v n r f m l (first-of (quotes_have v.quotes m) (scan_set_has n m) (k n) (of-style m o v n h))
+has-grows m o k (InAttributeName t typed name) f l h = absurd (no-value-has m o t typed name h)
+has-grows m o k _ f l h = absurd (no-whole m o h)
 
 pub begun-grows : (g f : Scan) → ScanBelow g f → ScanHas g member.UnquotedValue → ScanHas f member.UnquotedValue
-begun-grows g f l h = has-grows member.UnquotedValue of-unquoted g f l h
+begun-grows g f l h = has-grows member.UnquotedValue of-unquoted (λ n. (set-lacks n).0) g f l h
 
 pub unbegun-grows : (g f : Scan) → ScanBelow g f → ScanHas g member.UnbegunValue → ScanHas f member.UnbegunValue
-unbegun-grows g f l h = has-grows member.UnbegunValue of-unbegun g f l h
+unbegun-grows g f l h = has-grows member.UnbegunValue of-unbegun (λ n. (set-lacks n).1) g f l h
 
 -- a place with both refuses white space
 bare-both : (t : TagOf) (q : Quotes) → quotes_have q member.UnquotedValue ≡ true → quotes_have q member.UnbegunValue ≡ true → quotes_error t q White ≡ None → ⊥
@@ -459,13 +602,13 @@ bare-both t quotes.Sq h k n = no h
 unquoted-there : (b : Body) (q : Quotes) → body_error b ≡ None → (quotes_have q member.UnquotedValue || body_has b member.UnquotedValue) ≡ true
     → quotes_have q member.UnquotedValue ≡ true
 unquoted-there (body.Js j) q n h = absurd (some _ n)
-unquoted-there (body.Css j) q n h = absurd (some _ n)
+unquoted-there (body.Css c) q n h = first-of (quotes_have q member.UnquotedValue) (css_has c member.UnquotedValue) (css-lacks c).0 h
 unquoted-there _ q n h = or-false (quotes_have q member.UnquotedValue) h
 
 unbegun-there : (b : Body) (q : Quotes) → body_error b ≡ None → (quotes_have q member.UnbegunValue || body_has b member.UnbegunValue) ≡ true
     → quotes_have q member.UnbegunValue ≡ true
 unbegun-there (body.Js j) q n h = absurd (some _ n)
-unbegun-there (body.Css j) q n h = absurd (some _ n)
+unbegun-there (body.Css c) q n h = first-of (quotes_have q member.UnbegunValue) (css_has c member.UnbegunValue) (css-lacks c).1 h
 unbegun-there _ q n h = or-false (quotes_have q member.UnbegunValue) h
 
 value-both : (v : ValuePlace) (r : Reference) (b : ℕ) → Has (place.Value v) member.UnquotedValue → Has (place.Value v) member.UnbegunValue
@@ -476,10 +619,20 @@ value-both v r b h k n =
     bare-both v.tag v.quotes (unquoted-there v.body v.quotes f.0 (of-place member.UnquotedValue of-unquoted v h))
     (unbegun-there v.body v.quotes f.0 (of-place member.UnbegunValue of-unbegun v k)) f.1
 
+style-both : (v : ValuePlace) (n : StyleScan) (r : Reference) (b : ℕ) → style_has v.typed v.quotes n member.UnquotedValue ≡ true
+    → style_has v.typed v.quotes n member.UnbegunValue ≡ true → style_cause v n r White b ≡ None → ⊥
+style-both v n r b h k o =
+    let m = first-caused (quoted_error style_feeding v.quotes n r White b) (at_hand (value_error v White)) o in
+    let f = first-none (body_error v.body) (quotes_error v.tag v.quotes White) (none-at-hand (value_error v White) m.1) in
+    bare-both v.tag v.quotes
+    (first-of (quotes_have v.quotes member.UnquotedValue) (scan_set_has n member.UnquotedValue) (set-lacks n).0 (of-style member.UnquotedValue of-unquoted v n h))
+    (first-of (quotes_have v.quotes member.UnbegunValue) (scan_set_has n member.UnbegunValue) (set-lacks n).1 (of-style member.UnbegunValue of-unbegun v n k)) f.1
+
 pub both-refuse : (f : Scan) (b : ℕ) → ScanHas f member.UnquotedValue → ScanHas f member.UnbegunValue → scan_error f White b ≡ None → ⊥
 both-refuse (At (place.Value v)) b h k n = value-both v Closed b h k n
 both-refuse (At (place.Script j)) b h k n = some _ n
 both-refuse (At (place.Style j)) b h k n = some _ n
 both-refuse (At _) b h k n = no h
 both-refuse (InUrl v t r) b h k n = value-both v r b h k n
+both-refuse (InStyle v s r) b h k n = style-both v s r b h k n
 both-refuse _ b h k n = no h

@@ -113,13 +113,13 @@ url-one p q e = cc
 css-body-one : (p q : Css) → body.Css p ≡ body.Css q → p ≡ q
 css-body-one p q e = cc
 
-css-url-one : (p q : Parts) → css.Url p ≡ css.Url q → p ≡ q
+pub css-url-one : (p q : Parts) → css.Url p ≡ css.Url q → p ≡ q
 css-url-one p q e = cc
 
-css-dq-one : (p q : Parts) → css.UrlDq p ≡ css.UrlDq q → p ≡ q
+pub css-dq-one : (p q : Parts) → css.UrlDq p ≡ css.UrlDq q → p ≡ q
 css-dq-one p q e = cc
 
-css-sq-one : (p q : Parts) → css.UrlSq p ≡ css.UrlSq q → p ≡ q
+pub css-sq-one : (p q : Parts) → css.UrlSq p ≡ css.UrlSq q → p ≡ q
 css-sq-one p q e = cc
 
 css-grows : (c d : Css) → IsValidCss c → joined_css c d ≡ Some d → css_query d ≡ true → css_query c ≡ true

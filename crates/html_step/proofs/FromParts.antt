@@ -276,7 +276,7 @@ pub first-no-cause : (o p : Option PathCause) → first_cause o p ≡ None → (
 first-no-cause None p h = (refl, h)
 first-no-cause (Some e) p h = absurd (none_some e (sym h))
 
-no-cause-back : (back : ℕ) (o : Option Code) → cause_back back o ≡ None → o ≡ None
+pub no-cause-back : (back : ℕ) (o : Option Code) → cause_back back o ≡ None → o ≡ None
 no-cause-back back None h = refl
 no-cause-back back (Some e) h = absurd (none_some _ (sym h))
 

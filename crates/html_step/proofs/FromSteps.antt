@@ -20,21 +20,18 @@ use Rattle.place_core.specs.declared.tag_of.TagOf.{TagOf}
 use Rattle.place_core.specs.declared.tag_place.TagPlace.{TagPlace}
 use Rattle.place_core.specs.declared.value_place.ValuePlace.{ValuePlace}
 use Rattle.place_core.proofs.Joins.{places_same}
-use Rattle.html_scan.specs.Scans.{Scan, At, AfterLess, AfterLessSolidus, InDeclaration, InTagName, InAttributeName, InUrl, InStyle, InCommentEnd, InContentEnd, comment_next, comment_state, place_cause, scan_cut_error, scan_error, scan_next, scan_place, tag_next, value_scan, BeforeType, InType, content_next}
+use Rattle.html_scan.specs.Scans.{Scan, At, AfterLess, AfterLessSolidus, InDeclaration, InTagName, InAttributeName, InUrl, InStyle, InCommentEnd, InContentEnd, comment_next, comment_state, place_cause, scan_cut_error, scan_error, scan_next, scan_place, tag_next, value_cause, value_next, value_scan, BeforeType, InType, content_next}
 use Rattle.html_step.specs.Origins.{byte_origin, end_origin, name_origin, tag_origin, typed_origin, value_origin, white_origin}
-use Rattle.html_step.proofs.BelowScans.{IsRigid, below-at, below-at-tag, below-at-value, below-attribute, below-url, comment-end-rigid, content-end-rigid, declaration-rigid, doctype-rigid, less-rigid, rcdata-rigid, solidus-rigid, tag-name-rigid, text-rigid, whole-in, before-type-rigid, type-rigid}
-use Rattle.html_step.proofs.FromValues.{ValueFrom, content-whole, end-from, no-less, value-from, value_has}
-use Rattle.html_step.proofs.ScanOrder.{ScanBelow, ScanHas, ScanValid, UrlWithin, begun-open, begun-valid, has-kind}
-use Rattle.html_step.proofs.OnePath.{none-at-hand, some}
+use Rattle.html_step.proofs.BelowScans.{IsRigid, below-at, below-at-tag, below-at-unstyled, below-attribute, below-url, comment-end-rigid, content-end-rigid, declaration-rigid, doctype-rigid, less-rigid, rcdata-rigid, solidus-rigid, tag-name-rigid, text-rigid, whole-in, before-type-rigid, type-rigid}
+use Rattle.html_step.proofs.FromValues.{From, FromEnd, ValueFrom, content-whole, end-from, no-less, value-from, value_has}
+use Rattle.html_step.proofs.ScanOrder.{ScanBelow, ScanHas, ScanValid, Unstyled, UrlWithin, begun-open, begun-valid, has-kind, within-unstyled}
+use Rattle.html_step.proofs.StylePaths.{empty_css}
+use Rattle.html_step.proofs.StyleValues.{end-style, from-in-style, from-style-place, style-placed}
+use Rattle.html_step.proofs.PathScans.{none-at-hand, some}
 use Rattle.html_step.proofs.PlaceParts.{TagBelow, below-tag, under-false}
 use Rattle.place_core.specs.page.References.{Reference, Closed}
 use Rattle.url_lexer.specs.Parts.{UrlStart}
 use Rattle.url_lexer.specs.Triples.{Triple, NoTriple}
-
--- a member after a byte comes from this one before it
-pub record From (f : Scan) (c : Class) (b : ℕ) (y x : Member) : Type 0 where
-  pub there : ScanHas f x
-  pub leads : (g : Scan) → ScanValid g → ScanBelow g f → ScanHas g x → ScanHas (scan_next g c b) y
 
 pub no : false ≡ true → ⊥
 no e = cc
@@ -100,7 +97,7 @@ begins-typed t x kind.Plain n h = h
 begins-typed t x kind.NoHole n h = h
 begins-typed t x kind.Url n h = h
 begins-typed t x kind.Script n h = absurd (some _ n)
-begins-typed t x kind.Style n h = absurd (some _ n)
+begins-typed t x kind.Style n h = h
 begins-typed t x kind.ScriptType n h = absurd (no h)
 
 -- whether a `type` may have been seen is a member of its own, the others do not depend on it
@@ -116,7 +113,7 @@ begins-alike t u x z kind.Plain y n h f = value-typed x z unbegun body.Plain y h
 begins-alike t u x z kind.NoHole y n h f = value-typed x z unbegun body.NoHole y h f
 begins-alike t u x z kind.Url y n h f = value-typed x z unbegun (body.Url (parts_of UrlStart)) y h f
 begins-alike t u x z kind.Script y n h f = absurd (some _ n)
-begins-alike t u x z kind.Style y n h f = absurd (some _ n)
+begins-alike t u x z kind.Style y n h f = value-typed x z unbegun (body.Css empty_css) y h f
 begins-alike t u x z kind.ScriptType y n h f = h
 
 begins-below : (t u : TagPlace) (b : ℕ) (y : Member) → IsValidTag u → TagBelow u t → tag_error t EqualsSign ≡ None → ScanHas (tag_next t EqualsSign b) y
@@ -157,10 +154,10 @@ from-tag-byte t LessThan b y v n h = absurd (some _ n)
 from-tag-byte t _ b y v n h = from-name t _ b y (λ u. refl) h
 
 -- From a value, at a place, and in a URL in a triple or a reference.
-from-value : (v : ValuePlace) (c : Class) (b : ℕ) (y x : Member) → ValueFrom v NoTriple Closed c b y x → From (At (place.Value v)) c b y x
-from-value v c b y x f = record {
+from-value : (v : ValuePlace) (c : Class) (b : ℕ) (y x : Member) → Unstyled v.body → ValueFrom v NoTriple Closed c b y x → From (At (place.Value v)) c b y x
+from-value v c b y x z f = record {
   there = f.there;
-  leads = λ g w l o. below-at-value (λ (g : Scan). ScanValid g → ScanHas g x → ScanHas (scan_next g c b) y) v (λ u l w o. f.leads u w.0 l o) g l w o;
+  leads = λ g w l o. below-at-unstyled (λ (g : Scan). ScanValid g → ScanHas g x → ScanHas (scan_next g c b) y) v z (λ u l w o. f.leads u w.0 l o) g l w o;
 }
 
 from-url : (v : ValuePlace) (t : Triple) (r : Reference) (c : Class) (b : ℕ) (y x : Member) → ValueFrom v t r c b y x → From (InUrl v t r) c b y x
@@ -204,6 +201,13 @@ block-whole : (c : Class) (y : Member) → ScanHas (content_next c element.DataB
 block-whole LessThan y h = h
 block-whole _ y h = no-less y h
 
+from-value-byte : (v : ValuePlace) (c : Class) (b : ℕ) (y : Member) (x : Body) → v.body ≡ x → IsValid (place.Value v) → value_cause v Closed c b ≡ None
+    → ScanHas (value_next v NoTriple Closed c b) y → From (At (place.Value v)) c b y (value_origin v Closed c b y)
+from-value-byte v c b y (body.Css p) d w n h = from-style-place v c b y p d w.0 n h
+from-value-byte v c b y x d w n h =
+    let z = subst Unstyled (sym d) tt in
+    from-value v c b y (value_origin v Closed c b y) z (value-from v NoTriple Closed c b y w.0 tt z n h)
+
 -- From any scan state.
 pub from-place : (p : Place) (c : Class) (b : ℕ) (y : Member) → IsValid p → place_cause p c b ≡ None → ScanHas (scan_next (At p) c b) y
     → From (At p) c b y (byte_origin (At p) c b y)
@@ -212,7 +216,7 @@ from-place place.Doctype c b y v n h = from-rigid (At place.Doctype) doctype-rig
 from-place (place.Comment dash) c b y v n h = from-whole (At (place.Comment dash)) c b y (comment-whole dash c y h)
 from-place (place.Rcdata e) c b y v n h = from-rigid (At (place.Rcdata e)) (rcdata-rigid e) c b y h
 from-place (place.Tag t) c b y v n h = from-tag-byte t c b y v (none-at-hand (tag_error t c) n) h
-from-place (place.Value x) c b y v n h = from-value x c b y (value_origin x Closed c b y) (value-from x NoTriple Closed c b y v.0 tt n h)
+from-place (place.Value x) c b y v n h = from-value-byte x c b y x.body refl v n h
 from-place (place.Script j) c b y v n h = absurd (some _ n)
 from-place (place.Style j) c b y v n h = absurd (some _ n)
 from-place (place.Block lt) c b y v n h = from-whole (At (place.Block lt)) c b y (block-whole c y h)
@@ -226,42 +230,38 @@ from-byte (InDeclaration pending) c b y v n h = from-rigid (InDeclaration pendin
 from-byte (InTagName end name) c b y v n h = from-rigid (InTagName end name) (tag-name-rigid end name) c b y h
 from-byte (InAttributeName t typed name) c b y v n h = from-attribute t typed name c b y h
 from-byte (InUrl w t r) c b y v n h =
-    from-url w t r c b y (value_origin w r c b y) (value-from w t r c b y (begun-valid w.quotes v.0) (begun-open r w.quotes v.0) n h)
-from-byte (InStyle w s r) c b y v n h = absurd v
+    from-url w t r c b y (value_origin w r c b y) (value-from w t r c b y (begun-valid w.quotes v.0) (begun-open r w.quotes v.0) (within-unstyled w.body v.1) n h)
+from-byte (InStyle w s r) c b y v n h = from-in-style w s r c b y v.0 n h
 from-byte (InCommentEnd s) c b y v n h = from-rigid (InCommentEnd s) (comment-end-rigid s) c b y h
 from-byte (InContentEnd e x) c b y v n h = from-rigid (InContentEnd e x) (content-end-rigid e x) c b y h
 from-byte (BeforeType t) c b y v n h = from-rigid (BeforeType t) (before-type-rigid t) c b y h
 from-byte (InType t q w r) c b y v n h = from-rigid (InType t q w r) (type-rigid t q w r) c b y h
 
 -- From the end of a text.
-pub record FromEnd (f : Scan) (y x : Member) : Type 0 where
-  pub there : ScanHas f x
-  pub leads : (g : Scan) → ScanBelow g f → ScanHas g x → Has (scan_place g) y
-
 end-url : (v : ValuePlace) (t : Triple) (r : Reference) (y : Member) → UrlWithin v.body → scan_cut_error (InUrl v t r) ≡ None → Has (scan_place (InUrl v t r)) y
     → FromEnd (InUrl v t r) y (end_origin (InUrl v t r) y)
 end-url v t r y w n h =
     let f = end-from v r y w n h in
     let x = end_origin (InUrl v t r) y in
-    record { there = f.there; leads = λ g l o. below-url (λ (g : Scan). ScanHas g x → Has (scan_place g) y) v t r (λ u l o. f.leads u l o) g l o }
+    record { there = f.there; leads = λ g z l o. below-url (λ (g : Scan). ScanHas g x → Has (scan_place g) y) v t r (λ u l o. f.leads u l o) g l o }
 
 end-rigid : (f : Scan) → IsRigid f → (y : Member) → Has (scan_place f) y → FromEnd f y member.Whole
-end-rigid f r y h = record { there = whole-in f member.Whole refl; leads = λ g l o. subst (λ (x : Scan). Has (scan_place x) y) (sym (r g l)) h }
+end-rigid f r y h = record { there = whole-in f member.Whole refl; leads = λ g z l o. subst (λ (x : Scan). Has (scan_place x) y) (sym (r g l)) h }
 
 end-at : (p : Place) (y : Member) (g : Scan) → ScanBelow g (At p) → ScanHas g y → Has (scan_place g) y
-end-at p y g l o = below-at (λ (g : Scan). ScanHas g y → Has (scan_place g) y) p (λ a l o. o) g l o
+end-at p y g l o = below-at (λ (g : Scan). ScanHas g y → Has (scan_place g) y) p (λ a l o. o) (λ v n u o. style-placed v n y o) g l o
 
 end-attribute : (t : TagOf) (typed : Bool) (name : List ℕ) (y : Member) → Has (scan_place (InAttributeName t typed name)) y
     → FromEnd (InAttributeName t typed name) y (name_origin typed)
 end-attribute t false name y h = end-rigid (InAttributeName t false name) (untyped-rigid t name) y h
 end-attribute t true name y h = record {
   there = refl;
-  leads = λ g l o. below-attribute (λ (g : Scan). ScanHas g member.Typed → Has (scan_place g) y) t true name
+  leads = λ g z l o. below-attribute (λ (g : Scan). ScanHas g member.Typed → Has (scan_place g) y) t true name
       (λ x u o. subst (λ (z : Bool). Has (scan_place (InAttributeName t z name)) y) (sym o) h) g l o;
 }
 
 pub from-end : (f : Scan) (y : Member) → ScanValid f → scan_cut_error f ≡ None → Has (scan_place f) y → FromEnd f y (end_origin f y)
-from-end (At p) y v n h = record { there = h; leads = λ g l o. end-at p y g l o }
+from-end (At p) y v n h = record { there = h; leads = λ g z l o. end-at p y g l o }
 from-end AfterLess y v n h = end-rigid AfterLess less-rigid y h
 from-end AfterLessSolidus y v n h = end-rigid AfterLessSolidus solidus-rigid y h
 from-end (InDeclaration pending) y v n h = end-rigid (InDeclaration pending) (declaration-rigid pending) y h
@@ -271,5 +271,5 @@ from-end (InCommentEnd s) y v n h = end-rigid (InCommentEnd s) (comment-end-rigi
 from-end (InContentEnd e x) y v n h = end-rigid (InContentEnd e x) (content-end-rigid e x) y h
 from-end (BeforeType t) y v n h = end-rigid (BeforeType t) (before-type-rigid t) y h
 from-end (InUrl w t r) y v n h = end-url w t r y v.1 n h
-from-end (InStyle w s r) y v n h = absurd v
+from-end (InStyle w s r) y v n h = end-style w s r y v.0 n h
 from-end (InType t q w r) y v n h = end-rigid (InType t q w r) (type-rigid t q w r) y h

@@ -31,7 +31,7 @@ from-bytes [] k since f q y v e h =
     let x = from-end f y v n.cut (subst (λ (p : Place). Has p y) (sym n.place) h) in
     record {
       there = x.there;
-      leads = λ k since g a w l o d. subst (λ (p : Place). Has p y) (end-ok k since g a d).place (x.leads g l o);
+      leads = λ k since g a w l o d. subst (λ (p : Place). Has p y) (end-ok k since g a d).place (x.leads g w l o);
     }
 from-bytes (b ∷ bs) k since f q y v e h =
     let n = step-ok k since b bs f q e in

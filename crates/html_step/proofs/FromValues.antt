@@ -23,18 +23,29 @@ use Rattle.place_core.specs.declared.tag_of.TagOf.TheVariants as tag
 use Rattle.place_core.specs.declared.value_place.ValuePlace.{ValuePlace}
 use Rattle.place_core.proofs.Joins.{places_same}
 use Rattle.place_core.proofs.Semilattices.{none_some}
-use Rattle.html_scan.specs.Scans.{Scan, bare_begun, bare_next, bare_white, content_scan, in_tag, open_cut_error, body_cause, parts_feeding, parts_with, quoted_error, quoted_next, triple_behind, url_scan, value_cause, value_fed, value_next, with_parts, with_quotes}
+use Rattle.html_scan.specs.Scans.{Scan, bare_begun, bare_next, bare_white, content_scan, in_tag, open_cut_error, body_cause, parts_feeding, parts_with, quoted_error, quoted_next, scan_next, scan_place, triple_behind, url_scan, value_cause, value_fed, value_next, with_parts, with_quotes}
 use Rattle.html_step.specs.Origins.{body_origin, fed_in, fed_origin, in_value_origin, value_origin}
 use Rattle.html_step.proofs.BelowScans.{whole-in}
 use Rattle.html_step.proofs.FromParts.{AreTaken, fed-from, fed-quoted, fed-taken, fed-typed, fed-whole, first-no-cause, language-taken, or-behind, or-either, or-first}
-use Rattle.html_step.proofs.OnePath.{none-at-hand, some}
+use Rattle.html_step.proofs.PathScans.{none-at-hand, some}
 use Rattle.html_step.proofs.PlaceParts.{Under, ValueBelow, below-value}
-use Rattle.html_step.proofs.ScanOrder.{BegunWhereOpen, ScanHas, UrlWithin, bare-parts, bare-white, body-accepts, first-none, if-none, parts-below, url-within}
-use Rattle.html_step.proofs.UrlOrder.{BegunIf}
+use Rattle.html_step.proofs.ScanOrder.{BegunWhereOpen, ScanBelow, ScanHas, ScanValid, Unstyled, UrlWithin, bare-parts, bare-white, body-accepts, first-none, if-none, parts-below, url-within, within-unstyled}
+use Rattle.html_step.proofs.StyleFrom.{style-fed-typed, style-fed-whole, typed-none}
+use Rattle.css_step.specs.StyleScans.{style_scan_start}
+use Rattle.html_step.proofs.FedAlike.{BegunIf}
 use Rattle.url_lexer.specs.Triples.{Triple, NoTriple, AfterPercent, AfterDigit}
 
 no : false ≡ true → ⊥
 no e = cc
+
+-- a member behind a byte comes from this one before it
+pub record From (f : Scan) (c : Class) (b : ℕ) (y x : Member) : Type 0 where
+  pub there : ScanHas f x
+  pub leads : (g : Scan) → ScanValid g → ScanBelow g f → ScanHas g x → ScanHas (scan_next g c b) y
+
+pub record FromEnd (f : Scan) (y x : Member) : Type 0 where
+  pub there : ScanHas f x
+  pub leads : (g : Scan) → ScanValid g → ScanBelow g f → ScanHas g x → Has (scan_place g) y
 
 -- What a value has: the whole, whether a `type` may have been seen, and the members of its quotes and of its body.
 abbrev pub value_has : Bool → Quotes → Body → Member → Bool
@@ -96,15 +107,19 @@ typed-only false quotes.Sq body.Plain n h = h
 typed-only false quotes.Sq body.NoHole n h = h
 typed-only false quotes.Sq (body.Url p) n h = h
 typed-only false q (body.Js p) n h = absurd (some _ n)
-typed-only false q (body.Css p) n h = absurd (some _ n)
+typed-only false (quotes.Bare s) (body.Css p) n h = absurd (typed-none p h)
+typed-only false quotes.Dq (body.Css p) n h = absurd (typed-none p h)
+typed-only false quotes.Sq (body.Css p) n h = absurd (typed-none p h)
 
 -- Where a member of the whole, of quotes and of parts comes from.
 body-whole : (b : Body) (bytes : List ℕ) → body_origin b bytes member.Whole ≡ member.Whole
 body-whole (body.Url s) bytes = fed-whole bytes s
+body-whole (body.Css c) bytes = style-fed-whole bytes (style_scan_start c)
 body-whole _ bytes = refl
 
 body-typed : (b : Body) (bytes : List ℕ) → body_origin b bytes member.Typed ≡ member.Typed
 body-typed (body.Url s) bytes = fed-typed bytes s
+body-typed (body.Css c) bytes = style-fed-typed bytes (style_scan_start c)
 body-typed _ bytes = refl
 
 whole-origin : (b : Body) (bytes : List ℕ) (y : Member) → is_whole y ≡ true → body_origin b bytes (in_value_origin y) ≡ member.Whole
@@ -140,6 +155,15 @@ part-kept s member.PartQuery h = refl
 part-kept s member.PartBad h = refl
 part-kept s _ h = absurd (no h)
 
+-- a value of a language that is built, and no style
+abbrev pub Built : Body → Type 0
+Built b = (body_error b ≡ None) × Unstyled b
+
+pub unstyled-below : (b d : Body) → joined_bodies b d ≡ Some d → Unstyled d → Unstyled b
+unstyled-below b (body.Css c) j z = absurd z
+unstyled-below (body.Css c) d j z = absurd (none_some d j)
+unstyled-below _ d j z = tt
+
 -- A body after bytes that it is fed.
 abbrev pub BodyTaken : Body → List ℕ → Type 0
 BodyTaken (body.Url s) bytes = AreTaken bytes s
@@ -153,15 +177,15 @@ pub nothing-fed : (b : Body) → parts_with b [] ≡ b
 nothing-fed (body.Url s) = refl
 nothing-fed _ = refl
 
-body-there : (x : Bool) (p : Quotes) (b : Body) (bytes : List ℕ) (y : Member) → body_error b ≡ None → BodyTaken b bytes → body_has (parts_with b bytes) y ≡ true
+body-there : (x : Bool) (p : Quotes) (b : Body) (bytes : List ℕ) (y : Member) → Built b → BodyTaken b bytes → body_has (parts_with b bytes) y ≡ true
     → value_has x p b (body_origin b bytes (in_value_origin y)) ≡ true
 body-there x p (body.Url s) bytes y n a h =
     subst (λ (m : Member). value_has x p (body.Url s) (fed_origin bytes s m) ≡ true) (sym (part-kept (feed_bytes parts_feeding s bytes) y h))
     (in-body x p (body.Url s) (fed_origin bytes s y) ((fed-from bytes s y a h).there))
 body-there x p body.Plain bytes y n a h = absurd (no h)
 body-there x p body.NoHole bytes y n a h = absurd (no h)
-body-there x p (body.Js j) bytes y n a h = absurd (some _ n)
-body-there x p (body.Css j) bytes y n a h = absurd (some _ n)
+body-there x p (body.Js j) bytes y n a h = absurd (some _ n.0)
+body-there x p (body.Css j) bytes y n a h = absurd n.1
 
 -- a body below goes on alike
 url-leads : (s : Parts) (d : Body) (z : Bool) (w : Quotes) (bytes : List ℕ) (y : Member) → AreTaken bytes s → joined_bodies d (body.Url s) ≡ Some (body.Url s)
@@ -170,15 +194,15 @@ url-leads s (body.Url t) z w bytes y a j h o =
     (let f = fed-from bytes s y a h in f.leads t (parts-below t s j) (out-part s t z w (fed_origin bytes s y) f.there o))
 url-leads s d z w bytes y a j h o = absurd (none_some (body.Url s) j)
 
-body-leads : (b d : Body) (z : Bool) (w : Quotes) (bytes : List ℕ) (y : Member) → body_error b ≡ None → BodyTaken b bytes → joined_bodies d b ≡ Some b
+body-leads : (b d : Body) (z : Bool) (w : Quotes) (bytes : List ℕ) (y : Member) → Built b → BodyTaken b bytes → joined_bodies d b ≡ Some b
     → body_has (parts_with b bytes) y ≡ true → value_has z w d (body_origin b bytes (in_value_origin y)) ≡ true → body_has (parts_with d bytes) y ≡ true
 body-leads (body.Url s) d z w bytes y n a j h o =
     url-leads s d z w bytes y a j h
     (subst (λ (m : Member). value_has z w d (fed_origin bytes s m) ≡ true) (part-kept (feed_bytes parts_feeding s bytes) y h) o)
 body-leads body.Plain d z w bytes y n a j h o = absurd (no h)
 body-leads body.NoHole d z w bytes y n a j h o = absurd (no h)
-body-leads (body.Js i) d z w bytes y n a j h o = absurd (some _ n)
-body-leads (body.Css i) d z w bytes y n a j h o = absurd (some _ n)
+body-leads (body.Js i) d z w bytes y n a j h o = absurd (some _ n.0)
+body-leads (body.Css i) d z w bytes y n a j h o = absurd n.1
 
 -- A value, and one below it, go on alike: the tag goes on behind both, or ends, or both go on with these quotes and the bytes that they are fed.
 data Alike (u v : ValuePlace) (bytes : List ℕ) (f g : Scan) : Type 0 where
@@ -212,7 +236,7 @@ there-whole v m e = subst (Has (place.Value v)) (sym e) refl
 there-typed : (v : ValuePlace) (m : Member) → (m ≡ member.Typed) × (v.typed ≡ true) → Has (place.Value v) m
 there-typed v m e = subst (Has (place.Value v)) (sym e.0) (in-typed v.typed v.quotes v.body member.Typed e.1)
 
-alike-there : (u v : ValuePlace) (bytes : List ℕ) (f g : Scan) (y : Member) → Alike u v bytes f g → body_error v.body ≡ None → ScanHas g y
+alike-there : (u v : ValuePlace) (bytes : List ℕ) (f g : Scan) (y : Member) → Alike u v bytes f g → Built v.body → ScanHas g y
     → Has (place.Value v) (BodyOrigin v bytes y)
 alike-there u v bytes f g y (tags e i) n h =
     let X = BodyOrigin v bytes y in
@@ -235,7 +259,7 @@ seen u v bytes y n j h o =
     let e = typed-origin v.body bytes v.typed y h in
     typed-more v.typed u.typed y h (typed-only u.typed u.quotes u.body (body-accepts u.body v.body j n) (subst (Has (place.Value u)) e.0 o))
 
-alike-leads : (u v : ValuePlace) (bytes : List ℕ) (f g : Scan) (y : Member) → Alike u v bytes f g → body_error v.body ≡ None
+alike-leads : (u v : ValuePlace) (bytes : List ℕ) (f g : Scan) (y : Member) → Alike u v bytes f g → Built v.body
     → joined_bodies u.body v.body ≡ Some v.body
     → ScanHas g y → Has (place.Value u) (BodyOrigin v bytes y) → ScanHas f y
 alike-leads u v bytes f g y (tags e i) n j h o =
@@ -244,12 +268,12 @@ alike-leads u v bytes f g y (tags e i) n j h o =
     (λ k. subst (λ (x : Scan). ScanHas x y) (sym e)
     (or-behind (is_whole y) (typed_has u.typed y || spots_have only_before y)
     (or-either ((typed_has u.typed y || spots_have only_before y) ≡ true) (typed_has v.typed y) (spots_have only_before y) k
-    (λ l. or-first (typed_has u.typed y) (spots_have only_before y) (seen u v bytes y n j l o))
+    (λ l. or-first (typed_has u.typed y) (spots_have only_before y) (seen u v bytes y n.0 j l o))
     (λ l. or-behind (typed_has u.typed y) (spots_have only_before y) l))))
 alike-leads u v bytes f g y (ends e i) n j h o = whole-in f y (content-whole v.tag y (subst (λ (x : Scan). ScanHas x y) i h))
 alike-leads u v bytes f g y (goes q a into out) n j h o =
     value-cases (ScanHas f y) v.typed q (parts_with v.body bytes) y (out y h) (λ k. whole-in f y k)
-    (λ k. into y (in-typed u.typed q (parts_with u.body bytes) y (seen u v bytes y n j k o))) (λ k. into y (in-quotes u.typed q (parts_with u.body bytes) y k))
+    (λ k. into y (in-typed u.typed q (parts_with u.body bytes) y (seen u v bytes y n.0 j k o))) (λ k. into y (in-quotes u.typed q (parts_with u.body bytes) y k))
     (λ k. into y (in-body u.typed q (parts_with u.body bytes) y (body-leads v.body u.body u.typed u.quotes bytes y n a j k o)))
 
 -- what a URL has as a place and in a triple or a reference
@@ -267,20 +291,20 @@ url-out w AfterDigit r y h = h
 
 -- neither value is one of a language that is not built
 abbrev AreBuilt : ValuePlace → ValuePlace → Type 0
-AreBuilt u v = (body_error u.body ≡ None) × (body_error v.body ≡ None)
+AreBuilt u v = Built u.body × Built v.body
 
 fed-in : (v : ValuePlace) (q : Quotes) (x : Body) (t : Triple) (r : Reference) (c : Class) (b : ℕ) (y : Member) → v.body ≡ x
-    → body_error x ≡ None → value_has v.typed q (parts_with x (undone_byte true r c b)) y ≡ true → ScanHas (value_fed v q x t r c b) y
+    → Built x → value_has v.typed q (parts_with x (undone_byte true r c b)) y ≡ true → ScanHas (value_fed v q x t r c b) y
 fed-in v q (body.Url s) t r c b y e n h =
     url-in (with_parts v q (feed_bytes parts_feeding s (undone_byte true r c b))) (triple_behind t (undone_byte true r c b)) (next_reference r c b) y h
-fed-in v q (body.Css p) t r c b y e n h = absurd (some _ n)
+fed-in v q (body.Css p) t r c b y e n h = absurd n.1
 fed-in v q _ t r c b y e n h = subst (λ (z : Body). value_has v.typed q z y ≡ true) (sym e) h
 
 fed-out : (v : ValuePlace) (q : Quotes) (x : Body) (t : Triple) (r : Reference) (c : Class) (b : ℕ) (y : Member) → v.body ≡ x
-    → body_error x ≡ None → ScanHas (value_fed v q x t r c b) y → value_has v.typed q (parts_with x (undone_byte true r c b)) y ≡ true
+    → Built x → ScanHas (value_fed v q x t r c b) y → value_has v.typed q (parts_with x (undone_byte true r c b)) y ≡ true
 fed-out v q (body.Url s) t r c b y e n h =
     url-out (with_parts v q (feed_bytes parts_feeding s (undone_byte true r c b))) (triple_behind t (undone_byte true r c b)) (next_reference r c b) y h
-fed-out v q (body.Css p) t r c b y e n h = absurd (some _ n)
+fed-out v q (body.Css p) t r c b y e n h = absurd n.1
 fed-out v q _ t r c b y e n h = subst (λ (z : Body). value_has v.typed q z y ≡ true) e h
 
 goes-fed : (u v : ValuePlace) (q : Quotes) (t : Triple) (r : Reference) (c : Class) (b : ℕ) → AreBuilt u v → BodyTaken v.body (undone_byte true r c b)
@@ -353,23 +377,25 @@ pub record ValueFrom (v : ValuePlace) (t : Triple) (r : Reference) (c : Class) (
   pub leads : (u : ValuePlace) → IsValidQuotes u.quotes → ValueBelow u v → Has (place.Value u) x → ScanHas (value_next u t r c b) y
 
 pub value-from : (v : ValuePlace) (t : Triple) (r : Reference) (c : Class) (b : ℕ) (y : Member) → IsValidQuotes v.quotes → BegunWhereOpen r v.quotes
-    → value_cause v r c b ≡ None
+    → Unstyled v.body → value_cause v r c b ≡ None
     → ScanHas (value_next v t r c b) y → ValueFrom v t r c b y (value_origin v r c b y)
-value-from v t r c b y w i n h =
+value-from v t r c b y w i z n h =
     let m = first-no-cause (body_cause v.body v.quotes r c b) (at_hand (value_error v c)) n in
     let e = first-none (body_error v.body) (quotes_error v.tag v.quotes c) (none-at-hand (value_error v c) m.1) in
     let bytes = fed_in v.quotes r c b in
     let same = below-value v v (places_same (place.Value v)) in
+    let built : Built v.body = (e.0, z) in
     record {
-      there = alike-there v v bytes (value_next v t r c b) (value_next v t r c b) y (quotes-alike v v v.quotes v.quotes t r c b w i same.quotes (e.0, e.0) m.0 e.1) e.0 h;
-      leads = λ u z l o. alike-leads u v bytes (value_next u t r c b) (value_next v t r c b) y
-          (quotes-alike u v u.quotes v.quotes t r c b z i l.quotes (body-accepts u.body v.body l.body e.0, e.0) m.0 e.1) e.0 l.body h o;
+      there = alike-there v v bytes (value_next v t r c b) (value_next v t r c b) y (quotes-alike v v v.quotes v.quotes t r c b w i same.quotes (built, built) m.0 e.1) built h;
+      leads = λ u x l o. alike-leads u v bytes (value_next u t r c b) (value_next v t r c b) y
+          (quotes-alike u v u.quotes v.quotes t r c b x i l.quotes ((body-accepts u.body v.body l.body e.0, unstyled-below u.body v.body l.body z), built) m.0 e.1) built l.body h o;
     }
 
 -- The end of a text in a URL.
-end-other : (b : Body) (bytes : List ℕ) (y : Member) → ((s : Parts) → fed_origin bytes s y ≡ y) → body_origin b bytes y ≡ y
-end-other (body.Url s) bytes y e = e s
-end-other _ bytes y e = refl
+end-other : (b : Body) (bytes : List ℕ) (y : Member) → Unstyled b → ((s : Parts) → fed_origin bytes s y ≡ y) → body_origin b bytes y ≡ y
+end-other (body.Url s) bytes y z e = e s
+end-other (body.Css c) bytes y z e = absurd z
+end-other _ bytes y z e = refl
 
 whole-stays : (b : Body) (bytes : List ℕ) (y : Member) → is_whole y ≡ true → body_origin b bytes y ≡ y
 whole-stays b bytes member.Whole h = body-whole b bytes
@@ -379,12 +405,12 @@ typed-stays : (b : Body) (bytes : List ℕ) (x : Bool) (y : Member) → typed_ha
 typed-stays b bytes x member.Typed h = body-typed b bytes
 typed-stays b bytes x _ h = absurd (no h)
 
-quotes-stay : (b : Body) (bytes : List ℕ) (q : Quotes) (y : Member) → quotes_have q y ≡ true → body_origin b bytes y ≡ y
-quotes-stay b bytes (quotes.Bare s) member.UnquotedValue h = end-other b bytes member.UnquotedValue (λ a. (fed-quoted bytes a).0)
-quotes-stay b bytes (quotes.Bare s) member.UnbegunValue h = end-other b bytes member.UnbegunValue (λ a. (fed-quoted bytes a).1)
-quotes-stay b bytes (quotes.Bare s) _ h = absurd (no h)
-quotes-stay b bytes quotes.Dq y h = absurd (no h)
-quotes-stay b bytes quotes.Sq y h = absurd (no h)
+quotes-stay : (b : Body) (bytes : List ℕ) (q : Quotes) (y : Member) → Unstyled b → quotes_have q y ≡ true → body_origin b bytes y ≡ y
+quotes-stay b bytes (quotes.Bare s) member.UnquotedValue z h = end-other b bytes member.UnquotedValue z (λ a. (fed-quoted bytes a).0)
+quotes-stay b bytes (quotes.Bare s) member.UnbegunValue z h = end-other b bytes member.UnbegunValue z (λ a. (fed-quoted bytes a).1)
+quotes-stay b bytes (quotes.Bare s) _ z h = absurd (no h)
+quotes-stay b bytes quotes.Dq y z h = absurd (no h)
+quotes-stay b bytes quotes.Sq y z h = absurd (no h)
 
 -- what is no part stays as it is
 stays : (s : Parts) (z : Bool) (w : Quotes) (d : Body) (bytes : List ℕ) (y : Member) → joined_bodies d (body.Url s) ≡ Some (body.Url s)
@@ -431,5 +457,5 @@ end-from v r y w n h =
     (λ k. end-itself v r s y p.1 (in-typed v.typed v.quotes v.body y k) (λ a m. typed-no-part a v.typed y k m)
     (typed-stays v.body (as_it_stands r) v.typed y k))
     (λ k. end-itself v r s y p.1 (in-quotes v.typed v.quotes v.body y k) (λ a m. quotes-no-part a v.quotes y k m)
-    (quotes-stay v.body (as_it_stands r) v.quotes y k))
+    (quotes-stay v.body (as_it_stands r) v.quotes y (within-unstyled v.body w) k))
     (λ k. end-part v r s y p.1 a (subst (λ (z : Body). body_has (parts_with z (as_it_stands r)) y ≡ true) p.1 k))

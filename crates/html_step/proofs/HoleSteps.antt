@@ -1,5 +1,5 @@
 -- Holes, place by place.
-use Rattle.std.proofs.Common.{◌≡◌, Option, Some, None, option_map, Ok, Err, refl, sym, ap, subst, Bool, true, false, if◌then◌else◌}
+use Rattle.std.proofs.Common.{◌≡◌, Option, Some, None, option_map, Ok, Err, refl, sym, ap, ◌∙◌, subst, Bool, true, false, if◌then◌else◌}
 use Rattle.place_core.specs.place.Errors.{hole_error}
 use Rattle.place_core.specs.page.Paths.{at_hole}
 use Rattle.place_core.specs.page.References.{Closed, Open}
@@ -7,7 +7,12 @@ use Rattle.place_core.specs.place.StatePlaces.{placed, tag_spot, value_spot, quo
 use Rattle.place_core.specs.place.UrlParts.{parts_of}
 use Rattle.place_core.specs.page.States.{LexState, Text, TagOpen, EndTagOpen, DeclarationOpen, InComment, Started, StartedDash, Inside, Dash, DashDash, Bang, Broken, BogusComment, InDoctype, TagName, WholeTagName, BeforeAttributeName, AttributeName, WholeAttributeName, AfterAttributeName, BeforeAttributeValue, AttributeValue, AfterAttributeValue, SelfClosingStartTag, Characters, Bytes, Nothing, PendingLess, PendingName, PendingBang, PendingBangDash, InContent, Unread, LessAtCut}
 use Rattle.place_core.specs.page.Tags.{Tag, ValueOf, Deciding, ValueState, OfKind, OfUrl, OfStyle, languages, Quoting, DoubleQuoted, SingleQuoted, Unquoted, is_second_type}
+use Rattle.css_lexer.specs.States.{Style}
+use Rattle.place_core.specs.place.StyleParts.{style_place}
+use Rattle.css_lexer.specs.PartSpots.{may_begin_text, part_spot}
+use Rattle.css_lexer.specs.Spots.{StyleSpot}
 use Rattle.place_core.specs.declared.body.Body.TheVariants as body
+use Rattle.place_core.specs.declared.css.Css.{Css}
 use Rattle.place_core.specs.declared.element.Element.TheVariants as element
 use Rattle.place_core.specs.declared.kind.Kind.{Kind}
 use Rattle.place_core.specs.declared.kind.Kind.TheVariants as kind
@@ -15,7 +20,7 @@ use Rattle.place_core.specs.declared.place.Place.{Place}
 use Rattle.place_core.specs.declared.place.Place.TheVariants as place
 use Rattle.place_core.specs.declared.quotes.Quotes.{Quotes}
 use Rattle.html_step.specs.Holes.{Holed, after_hole, holed_quotes}
-use Rattle.html_step.proofs.OnePath.{same-tag}
+use Rattle.html_step.proofs.PathScans.{same-tag}
 use Rattle.url_lexer.specs.Parts.{UrlPart, UrlStart, UrlOpen, UrlOpenhole, UrlPrequery, UrlQuery, UrlBad, part_at_hole}
 use Rattle.url_lexer.specs.Spots.{where_whole}
 use Rattle.url_lexer.specs.States.{Url}
@@ -59,6 +64,14 @@ url-own NoTriple u q t =
 url-own AfterPercent u q t = tt
 url-own AfterDigit u q t = tt
 
+-- in a style none may stand yet
+style-own : (begins : Bool) (o : Option (StyleSpot UrlPart)) (v : Style Url) (q : Quoting) (t : Tag)
+    → WherePlaced (value_spot t (quotes_at q) (if begins then option_map (λ p. body.Css (style_place p)) o else None))
+    (AttributeValue q t (ValueOf (OfStyle v)) Closed)
+style-own true (Some p) v q t = refl
+style-own true None v q t = tt
+style-own false o v q t = tt
+
 value-own : (q : Quoting) (t : Tag) (v : ValueState) → WherePlaced (placed (AttributeValue q t (ValueOf v) Closed)) (AttributeValue q t (ValueOf v) Closed)
 value-own DoubleQuoted t (OfKind kind.Plain) = (refl, refl)
 value-own SingleQuoted t (OfKind kind.Plain) = (refl, refl)
@@ -69,14 +82,14 @@ value-own q t (OfKind kind.Script) = tt
 value-own q t (OfKind kind.Style) = tt
 value-own q t (OfKind kind.ScriptType) = tt
 value-own q t (OfUrl u) = url-own u.triple u q t
-value-own q t (OfStyle s) = tt
+value-own q t (OfStyle s) = style-own (may_begin_text s) (part_spot s) s q t
 
 before-own : (t : Tag) (k : Kind) → WherePlaced (placed (BeforeAttributeValue t k)) (BeforeAttributeValue t k)
 before-own t kind.Plain = (refl, refl)
 before-own t kind.NoHole = refl
 before-own t kind.Url = (refl, refl)
 before-own t kind.Script = tt
-before-own t kind.Style = tt
+before-own t kind.Style = refl
 before-own t kind.ScriptType = tt
 
 after-own : (second : Bool) (t : Tag) (k : Kind) → WherePlaced (if second then None else Some (place.Tag (tag_spot t only_after (Some k)))) (AfterAttributeName t k)

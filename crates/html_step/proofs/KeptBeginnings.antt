@@ -7,35 +7,41 @@ use Rattle.place_core.specs.page.Paths.{at_cut}
 use Rattle.place_core.specs.page.References.{Reference, Closed, Open, Form, ReferenceStep, Grows, Closes, Breaks, turn, flushed, plain_bytes, undone_byte, next_reference, settled, as_it_stands}
 use Rattle.place_core.specs.page.States.{Template, LexState, Text, TagOpen, EndTagOpen, DeclarationOpen, Started, StartedDash, Inside, Dash, DashDash, Bang, Broken, InComment, BogusComment, InDoctype, TagName, WholeTagName, BeforeAttributeName, AttributeName, WholeAttributeName, AfterAttributeName, BeforeAttributeValue, AttributeValue, AfterAttributeValue, SelfClosingStartTag, Characters, Bytes, Nothing, PendingLess, LessAtCut, PendingName, PendingBang, PendingBangDash, InContent, Unread}
 use Rattle.place_core.specs.page.Tags.{Tag, is_second_type, Value, ValueOf, Deciding, ValueState, OfKind, OfUrl, OfStyle, languages, with_bytes, tag_with_value, cut_value, feed_value, Quoting, DoubleQuoted, SingleQuoted, Unquoted}
-use Rattle.place_core.specs.place.ApartPlaces.{beginning_at, side}
+use Rattle.place_core.specs.place.ApartPlaces.{beginning_at, beginning_in_body, beginning_in_css, side}
 use Rattle.place_core.specs.place.Errors.{node, value_before}
 use Rattle.place_core.specs.place.Membership.{Bears}
-use Rattle.place_core.specs.place.PathPairs.{ApartBefore, ClashesApart, Keeps, PartWithin, read_before, state_before, is_in_beginning, unknown_beginning, unknown_part}
+use Rattle.place_core.specs.place.PathPairs.{ApartBefore, ClashesApart, Keeps, PartWithin, is_in_open, read_before, state_before, is_in_beginning, unknown_beginning, url_in_style}
 use Rattle.place_core.specs.place.UrlParts.{parts_of}
+use Rattle.place_core.specs.place.StyleParts.{style_body}
 use Rattle.place_core.specs.place.StatePlaces.{placed, value_spot, quotes_at}
 use Rattle.place_core.specs.declared.code.Code.{Code}
+use Rattle.place_core.specs.declared.body.Body.{Body}
 use Rattle.place_core.specs.declared.body.Body.TheVariants as body
+use Rattle.place_core.specs.declared.css.Css.{Css}
+use Rattle.place_core.specs.declared.css.Css.TheVariants as css
 use Rattle.place_core.specs.declared.element.Element.{Element}
 use Rattle.place_core.specs.declared.element.Element.TheVariants as element
 use Rattle.place_core.specs.declared.kind.Kind.TheVariants as kind
+use Rattle.place_core.specs.declared.parts.Parts.{Parts}
 use Rattle.place_core.specs.declared.place.Place.{Place}
 use Rattle.place_core.specs.declared.place.Place.TheVariants as place
 use Rattle.place_core.specs.declared.quotes.Quotes.{Quotes}
 use Rattle.place_core.specs.declared.tag_of.TagOf.{TagOf}
 use Rattle.place_core.specs.declared.tag_of.TagOf.TheVariants as tag
 use Rattle.place_core.specs.declared.tag_place.TagPlace.{TagPlace}
+use Rattle.place_core.specs.declared.value_place.ValuePlace.{ValuePlace}
 use Rattle.place_core.proofs.ApartPlacesFacts.{has-side, turned-apart}
-use Rattle.html_step.proofs.OnePath.{with-url}
-use Rattle.html_step.proofs.ReadScans.{ends-no-equals}
-use Rattle.url_lexer.specs.Classes.{url_class_of}
-use Rattle.url_lexer.specs.Parts.{UrlPart, UrlStart, UrlOpen, UrlOpenhole, UrlPrequery, UrlQuery, UrlBad, next_part, part_behind_scheme}
-use Rattle.url_lexer.specs.Prefixes.{is_whole_word}
-use Rattle.url_lexer.specs.States.{Url, feed_url, feed_all}
+use Rattle.place_core.proofs.Semilattices.{none_some, one_value}
+use Rattle.css_lexer.specs.States.{Style}
+use Rattle.html_step.proofs.Parentheses.{NoOpening, OpensAtEnds, ReferenceOpensNone, ends-before, flushed-opens, next-opens, plain-last, stands-ends, step-ends}
+use Rattle.html_step.proofs.StylePaths.{ends-no-equals}
+use Rattle.html_step.proofs.UrlPlaces.{body_url, url-part}
+use Rattle.html_step.proofs.ValueBeginnings.{away-bytes, begins_in, begun-before, cut-begins, cut-unknown, fed_value, first-or, is_away, unknown-bytes, unknown_value, with-value}
+use Rattle.url_lexer.specs.Parts.{UrlPart, UrlStart, UrlOpen, UrlOpenhole, UrlPrequery, UrlQuery, UrlBad}
+use Rattle.url_lexer.specs.States.{Url, feed_url}
 use Rattle.url_lexer.specs.Spots.{where_whole}
 use Rattle.url_lexer.specs.Triples.{Triple, NoTriple, AfterPercent, AfterDigit}
 use Rattle.url_lexer.specs.TwoPaths.{is_open}
-use Rattle.url_lexer.specs.declared.class.UrlClass.{UrlClass}
-use Rattle.url_lexer.specs.declared.class.UrlClass.TheVariants as class
 
 no : false ≡ true → ⊥
 no e = cc
@@ -126,6 +132,51 @@ url-begins t q NoTriple UrlBad h = h
 url-begins t q AfterPercent p h = absurd (no h)
 url-begins t q AfterDigit p h = absurd (no h)
 
+-- in a style
+record BodyBegins (b : Body) : Type 0 where
+  parts : Parts
+  is : body_url b ≡ Some parts
+  opened : is_some parts.opened ≡ true
+
+css-begins : (c : Css) → is_some (beginning_in_css c) ≡ true → BodyBegins (body.Css c)
+css-begins (css.Url s) h = record { parts = s; is = refl; opened = h }
+css-begins (css.UrlDq s) h = record { parts = s; is = refl; opened = h }
+css-begins (css.UrlSq s) h = record { parts = s; is = refl; opened = h }
+css-begins (css.Code x) h = absurd (no h)
+css-begins css.Dq h = absurd (no h)
+css-begins css.Sq h = absurd (no h)
+css-begins css.UrlFresh h = absurd (no h)
+css-begins css.UrlEnd h = absurd (no h)
+css-begins (css.Comment star) h = absurd (no h)
+
+body-begins : (b : Body) → is_some (beginning_in_body b) ≡ true → BodyBegins b
+body-begins (body.Url s) h = record { parts = s; is = refl; opened = h }
+body-begins (body.Css c) h = css-begins c h
+body-begins (body.Js j) h = absurd (no h)
+body-begins body.Plain h = absurd (no h)
+body-begins body.NoHole h = absurd (no h)
+
+part-opened : (p : UrlPart) → is_some (parts_of p).opened ≡ true → is_open p ≡ true
+part-opened (UrlOpen p) h = refl
+part-opened UrlStart h = absurd (no h)
+part-opened UrlOpenhole h = absurd (no h)
+part-opened UrlPrequery h = absurd (no h)
+part-opened UrlQuery h = absurd (no h)
+part-opened UrlBad h = absurd (no h)
+
+open-by : (o : Option Url) (p : UrlPart) → option_map (λ (u : Url). u.part) o ≡ Some p → is_open p ≡ true → is_in_open o ≡ true
+open-by (Some u) p e h = ap is_open (one_value u.part p e) ∙ h
+open-by None p e h = absurd (none_some p e)
+
+style-begins : (q : Quoting) (t : Tag) (s : Style Url) (o : Option Body) → style_body s ≡ o → on_side (value_spot t (quotes_at q) o) ≡ true
+    → is_in_open (url_in_style s) ≡ true
+style-begins q t s None e h = absurd (no h)
+style-begins q t s (Some b) e h =
+    let d = body-begins b h in
+    let v : ValuePlace = record { tag = t.tag; typed = t.typed; quotes = quotes_at q; body = b } in
+    let a = url-part (AttributeValue q t (ValueOf (OfStyle s)) Closed) v d.parts (ap (value_spot t (quotes_at q)) e) d.is in
+    open-by (url_in_style s) a.part a.is (part-opened a.part (sym (ap (λ (r : Parts). is_some r.opened) a.parts) ∙ d.opened))
+
 second-not : (second : Bool) (t : TagPlace) → on_side (if second then None else Some (place.Tag t)) ≡ true → ⊥
 second-not true t h = no h
 second-not false t h = no h
@@ -164,7 +215,7 @@ placed-begins (AttributeValue q t (ValueOf (OfKind kind.Script)) Closed) h = abs
 placed-begins (AttributeValue q t (ValueOf (OfKind kind.Style)) Closed) h = absurd (no h)
 placed-begins (AttributeValue q t (ValueOf (OfKind kind.ScriptType)) Closed) h = absurd (no h)
 placed-begins (AttributeValue q t (ValueOf (OfUrl u)) Closed) h = url-begins t (quotes_at q) u.triple u.part h
-placed-begins (AttributeValue q t (ValueOf (OfStyle s)) Closed) h = absurd (no h)
+placed-begins (AttributeValue q t (ValueOf (OfStyle s)) Closed) h = style-begins q t s (style_body s) refl h
 placed-begins (AttributeValue q t (Deciding k before) Closed) h = absurd (no h)
 placed-begins (AttributeValue q t v (Open f bytes)) h = absurd (no h)
 placed-begins (AfterAttributeValue t) h = absurd (no h)
@@ -198,30 +249,31 @@ placed-begins Unread h = absurd (no h)
 pub side-begins : (s : LexState ValueState) → Bears s side → is_in_beginning s ≡ true
 side-begins s h = placed-begins s (ap on_side h.stands ∙ has-side h.own h.has)
 
--- So at the end of a node, and then its text ended in the value.
-abbrev pub is_url : Value ValueState → Bool
-is_url (ValueOf (OfUrl u)) = true
-is_url v = false
+-- So at the end of a node, and then its text ended in the value, which is a URL or a style.
+abbrev pub may_begin : Value ValueState → Bool
+may_begin (ValueOf (OfUrl u)) = true
+may_begin (ValueOf (OfStyle s)) = true
+may_begin v = false
 
 abbrev pub is_url_value : LexState ValueState → Bool
-is_url_value (AttributeValue q t v r) = is_url v
+is_url_value (AttributeValue q t v r) = may_begin v
 is_url_value s = false
 
 pub begins-value : (s : LexState ValueState) → is_in_beginning s ≡ true → is_url_value s ≡ true
 begins-value (AttributeValue q t (ValueOf (OfUrl u)) r) h = refl
+begins-value (AttributeValue q t (ValueOf (OfStyle s)) r) h = refl
 begins-value (AttributeValue q t (ValueOf (OfKind k)) r) h = absurd (no h)
-begins-value (AttributeValue q t (ValueOf (OfStyle s)) r) h = absurd (no h)
 begins-value (AttributeValue q t (Deciding k before) r) h = absurd (no h)
 begins-value _ h = absurd (no h)
 
-with-url-value : (bytes : List ℕ) (v : Value ValueState) → is_url (with_bytes languages v bytes) ≡ is_url v
+with-url-value : (bytes : List ℕ) (v : Value ValueState) → may_begin (with_bytes languages v bytes) ≡ may_begin v
 with-url-value [] v = refl
 with-url-value (b ∷ bs) (ValueOf (OfUrl u)) = with-url-value bs (ValueOf (OfUrl (feed_url u b)))
 with-url-value (b ∷ bs) (ValueOf (OfKind k)) = with-url-value bs (ValueOf (OfKind k))
 with-url-value (b ∷ bs) (ValueOf (OfStyle s)) = with-url-value bs (ValueOf (feed_value (OfStyle s) b))
 with-url-value (b ∷ bs) (Deciding k before) = with-url-value bs (Deciding k (before ++ b ∷ []))
 
-cut-url-value : (v : Value ValueState) → is_url (cut_value languages v) ≡ is_url v
+cut-url-value : (v : Value ValueState) → may_begin (cut_value languages v) ≡ may_begin v
 cut-url-value (ValueOf (OfUrl u)) = refl
 cut-url-value (ValueOf (OfKind k)) = refl
 cut-url-value (ValueOf (OfStyle s)) = refl
@@ -235,7 +287,7 @@ cut-value _ h = absurd (no h)
 
 -- where the reference before the bytes that are left is read, a path is in a URL if it is in one where the reference is open
 before-url : (x : ReferenceStep) (q : Quoting) (t : Tag) (v : Value ValueState) (f : Form) (bytes : List ℕ) (c : Class)
-    → is_url_value (read_before x (AttributeValue q t (value_before Breaks v c f bytes) Closed) (AttributeValue q t v (Open f bytes))) ≡ is_url v
+    → is_url_value (read_before x (AttributeValue q t (value_before Breaks v c f bytes) Closed) (AttributeValue q t v (Open f bytes))) ≡ may_begin v
 before-url (Grows g) q t v f bytes c = refl
 before-url Closes q t v f bytes c = refl
 before-url Breaks q t v f bytes c = with-url-value (flushed true (is_equals_sign c) f bytes) v
@@ -250,97 +302,42 @@ pub kept-value : (bytes : List ℕ) (s : LexState ValueState) → Keeps bytes s 
 kept-value [] s h = cut-value s (side-begins (node [] s) h)
 kept-value (b ∷ bs) s h = begins-value s h.0
 
--- What is no longer in the beginning does not come back to it.
-abbrev is_past : UrlPart → Bool
-is_past UrlStart = false
-is_past (UrlOpen p) = false
-is_past UrlOpenhole = true
-is_past UrlPrequery = true
-is_past UrlQuery = true
-is_past UrlBad = true
+-- A path in a value is in the beginning where its value is.
+begins-is : (q : Quoting) (t : Tag) (v : ValueState) (r : Reference) → is_in_beginning (AttributeValue q t (ValueOf v) r) ≡ begins_in v
+begins-is q t (OfKind k) r = refl
+begins-is q t (OfUrl u) r = refl
+begins-is q t (OfStyle s) r = refl
 
-past-next : (p : UrlPart) (c : UrlClass) (b : ℕ) → is_past p ≡ true → is_past (next_part p c b) ≡ true
-past-next UrlStart c b h = absurd (no h)
-past-next (UrlOpen p) c b h = absurd (no h)
-past-next UrlOpenhole class.Slash b h = refl
-past-next UrlOpenhole class.QueryMark b h = refl
-past-next UrlOpenhole _ b h = refl
-past-next UrlPrequery class.QueryMark b h = refl
-past-next UrlPrequery _ b h = refl
-past-next UrlQuery c b h = refl
-past-next UrlBad c b h = refl
+unknown-is : (q : Quoting) (t : Tag) (v : ValueState) (r : Reference)
+    → unknown_beginning (AttributeValue q t (ValueOf v) r) ≡ AttributeValue q t (ValueOf (unknown_value v)) r
+unknown-is q t (OfKind k) r = refl
+unknown-is q t (OfUrl u) r = refl
+unknown-is q t (OfStyle s) r = refl
 
-past-all : (bytes : List ℕ) (u : Url) → is_past u.part ≡ true → is_past (feed_all u bytes).part ≡ true
-past-all [] u h = h
-past-all (b ∷ bs) u h = past-all bs (feed_url u b) (past-next u.part (url_class_of b) b h)
+-- No `(` is in the reference that is open, with which a style could leave a URL and begin another one at one byte of a text.
+abbrev pub OpensNone : LexState ValueState → Type 0
+OpensNone (AttributeValue q t v r) = ReferenceOpensNone r
+OpensNone s = Unit {0}
 
-open-past : (p : UrlPart) → is_open p ≡ true → is_past p ≡ true → ⊥
-open-past UrlStart h k = no h
-open-past (UrlOpen p) h k = no k
-open-past UrlOpenhole h k = no h
-open-past UrlPrequery h k = no h
-open-past UrlQuery h k = no h
-open-past UrlBad h k = no h
+pub placed-opens : (s : LexState ValueState) (a : Place) → placed s ≡ Some a → OpensNone s
+placed-opens (AttributeValue q t v Closed) a h = tt
+placed-opens (AttributeValue q t v (Open f bytes)) a h = absurd (none_some a h)
+placed-opens _ a h = tt
 
-scheme-past : (code : Bool) → is_past (part_behind_scheme code) ≡ true
-scheme-past true = refl
-scheme-past false = refl
+-- what keeps is in the beginning behind the bytes that it is fed at the end of its text
+cut-part : (q : Quoting) (t : Tag) (v : ValueState) (r : Reference) → Bears (node [] (AttributeValue q t (ValueOf v) r)) side
+    → begins_in (fed_value v (as_it_stands r)) ≡ true
+cut-part q t v r h =
+    let end = fed_value v (as_it_stands r) in
+    sym (cut-begins end)
+    ∙ sym (begins-is q t (languages.after_cut end) Closed)
+    ∙ sym (ap (λ (z : Value ValueState). is_in_beginning (AttributeValue q t (cut_value languages z) Closed)) (with-value (as_it_stands r) v))
+    ∙ side-begins (node [] (AttributeValue q t (ValueOf v) r)) h
 
-open-next : (p : UrlPart) (c : UrlClass) (b : ℕ) → is_open p ≡ true → (is_open (next_part p c b) ≡ true) ⊎ (is_past (next_part p c b) ≡ true)
-open-next (UrlOpen p) class.Colon b h = inr (scheme-past (is_whole_word p))
-open-next (UrlOpen p) class.Slash b h = inr refl
-open-next (UrlOpen p) class.QueryMark b h = inr refl
-open-next (UrlOpen p) _ b h = inl refl
-open-next UrlStart c b h = absurd (no h)
-open-next UrlOpenhole c b h = absurd (no h)
-open-next UrlPrequery c b h = absurd (no h)
-open-next UrlQuery c b h = absurd (no h)
-open-next UrlBad c b h = absurd (no h)
-
-open-all : (bytes : List ℕ) (u : Url) → is_open u.part ≡ true → (is_open (feed_all u bytes).part ≡ true) ⊎ (is_past (feed_all u bytes).part ≡ true)
-open-all [] u h = inl h
-open-all (b ∷ bs) u h = elim (open-next u.part (url_class_of b) b h) [ inl e ↦ open-all bs (feed_url u b) e | inr e ↦ inr (past-all bs (feed_url u b) e) ]
-
--- what keeps is not past
-cut-part : (q : Quoting) (t : Tag) (u : Url) (r : Reference) → Bears (node [] (AttributeValue q t (ValueOf (OfUrl u)) r)) side
-    → is_open (feed_all u (as_it_stands r)).part ≡ true
-cut-part q t u r h =
-    sym (ap (λ (v : Value ValueState). is_in_beginning (AttributeValue q t (cut_value languages v) Closed)) (with-url u (as_it_stands r)))
-    ∙ side-begins (node [] (AttributeValue q t (ValueOf (OfUrl u)) r)) h
-
-kept-part : (bytes : List ℕ) (q : Quoting) (t : Tag) (u : Url) (r : Reference) → Keeps bytes (AttributeValue q t (ValueOf (OfUrl u)) r) → is_past u.part ≡ true → ⊥
-kept-part [] q t u r h p = open-past (feed_all u (as_it_stands r)).part (cut-part q t u r h) (past-all (as_it_stands r) u p)
-kept-part (b ∷ bs) q t u r h p = open-past u.part h.0 p
-
--- The path of which it is not known what it has spelled reads on as the path does.
-abbrev pub unknown_url : Url → Url
-unknown_url u = record { part = unknown_part u.part; scheme = u.scheme; triple = u.triple; free = u.free }
-
-unknown-next : (p : UrlPart) (c : UrlClass) (b : ℕ) → is_open p ≡ true → is_open (next_part p c b) ≡ true
-    → next_part (unknown_part p) c b ≡ unknown_part (next_part p c b)
-unknown-next (UrlOpen p) class.TabOrNewline b h k = refl
-unknown-next (UrlOpen p) class.ControlOrSpace b h k = refl
-unknown-next (UrlOpen p) class.Percent b h k = refl
-unknown-next (UrlOpen p) class.Hexadecimal b h k = refl
-unknown-next (UrlOpen p) class.Other b h k = refl
-unknown-next (UrlOpen p) class.Colon b h k = absurd (open-past (part_behind_scheme (is_whole_word p)) k (scheme-past (is_whole_word p)))
-unknown-next (UrlOpen p) class.Slash b h k = absurd (no k)
-unknown-next (UrlOpen p) class.QueryMark b h k = absurd (no k)
-unknown-next UrlStart c b h k = absurd (no h)
-unknown-next UrlOpenhole c b h k = absurd (no h)
-unknown-next UrlPrequery c b h k = absurd (no h)
-unknown-next UrlQuery c b h k = absurd (no h)
-unknown-next UrlBad c b h k = absurd (no h)
-
-unknown-all : (bytes : List ℕ) (u : Url) → is_open u.part ≡ true → is_open (feed_all u bytes).part ≡ true
-    → feed_all (unknown_url u) bytes ≡ unknown_url (feed_all u bytes)
-unknown-all [] u h k = refl
-unknown-all (b ∷ bs) u h k = elim (open-next u.part (url_class_of b) b h) [
-  | inl e ↦
-      ap (λ (p : UrlPart). feed_all (record { part = p; scheme = (feed_url u b).scheme; free = u.free; triple = (feed_url u b).triple }) bs)
-      (unknown-next u.part (url_class_of b) b h e) ∙ unknown-all bs (feed_url u b) e k
-  | inr e ↦ absurd (open-past (feed_all u (b ∷ bs)).part k (past-all bs (feed_url u b) e))
-]
+kept-part : (bs xs : List ℕ) (q : Quoting) (t : Tag) (v : ValueState) (r : Reference) → OpensAtEnds (xs ++ as_it_stands r) → begins_in v ≡ true
+    → Keeps bs (AttributeValue q t (ValueOf (fed_value v xs)) r) → begins_in (fed_value v xs) ≡ true
+kept-part [] xs q t v r o h k = begun-before xs (as_it_stands r) v o h (cut-part q t (fed_value v xs) r k)
+kept-part (b ∷ bs) xs q t v r o h k = sym (begins-is q t (fed_value v xs) r) ∙ k.0
 
 content-not : (e : Element) → is_url_value (after_tag (tag.Start e)) ≡ false
 content-not element.Title = refl
@@ -365,90 +362,135 @@ after-not Unquoted c b t = name-not c b t
 after-not DoubleQuoted c b t = refl
 after-not SingleQuoted c b t = refl
 
-fed-unknown : (bytes : List ℕ) (u : Url) → is_open u.part ≡ true → is_open (feed_all u bytes).part ≡ true
-    → with_bytes languages (ValueOf (OfUrl (unknown_url u))) bytes ≡ ValueOf (OfUrl (unknown_url (feed_all u bytes)))
-fed-unknown bytes u h k = with-url (unknown_url u) bytes ∙ ap (λ (w : Url). ValueOf (OfUrl w)) (unknown-all bytes u h k)
+-- The path of which it is not known what it has spelled reads on as the path does.
+record GoesUnknown (s r : LexState ValueState) : Type 0 where
+  goes : s ≡ unknown_beginning r
+  begins : is_in_beginning r ≡ true
 
--- behind a byte
-step-unknown : (e : Bool) (bs : List ℕ) (q : Quoting) (t : Tag) (u : Url) (r : Reference) (c : Class) (b : ℕ) → is_open u.part ≡ true
-    → Keeps bs (next_value languages e q c b t (ValueOf (OfUrl u)) r)
-    → (next_value languages e q c b t (ValueOf (OfUrl (unknown_url u))) r ≡ unknown_beginning (next_value languages e q c b t (ValueOf (OfUrl u)) r))
-    × (is_in_beginning (next_value languages e q c b t (ValueOf (OfUrl u)) r) ≡ true)
-step-unknown true bs q t u r c b h k =
-    absurd (no (sym (after-not q c b _) ∙ kept-value bs (next_after_value q c b (tag_with_value t (with_bytes languages (ValueOf (OfUrl u)) (settled true r)))) k))
-step-unknown false bs q t u r c b h k =
+step-unknown : (e : Bool) (bs : List ℕ) (q : Quoting) (t : Tag) (v : ValueState) (r : Reference) (c : Class) (b : ℕ) → ReferenceOpensNone r
+    → begins_in v ≡ true → Keeps bs (next_value languages e q c b t (ValueOf v) r)
+    → GoesUnknown (next_value languages e q c b t (ValueOf (unknown_value v)) r) (next_value languages e q c b t (ValueOf v) r)
+step-unknown true bs q t v r c b n h k =
+    absurd (no (sym (after-not q c b _) ∙ kept-value bs (next_after_value q c b (tag_with_value t (with_bytes languages (ValueOf v) (settled true r)))) k))
+step-unknown false bs q t v r c b n h k =
     let fed = undone_byte true r c b in
-    let e = with-url u fed in
-    let kept : Keeps bs (AttributeValue q t (ValueOf (OfUrl (feed_all u fed))) (next_reference r c b)) =
-    subst (λ (v : Value ValueState). Keeps bs (AttributeValue q t v (next_reference r c b))) e k in
-    let there : is_open (feed_all u fed).part ≡ true = elim (open-all fed u h)
-    [ inl x ↦ x | inr x ↦ absurd (kept-part bs q t (feed_all u fed) (next_reference r c b) kept x) ] in (
-      ap (λ (v : Value ValueState). AttributeValue q t v (next_reference r c b)) (fed-unknown fed u h there)
-          ∙ sym (ap (λ (v : Value ValueState). unknown_beginning (AttributeValue q t v (next_reference r c b))) e),
-      ap (λ (v : Value ValueState). is_in_beginning (AttributeValue q t v (next_reference r c b))) e ∙ there,
-    )
+    let last = next_reference r c b in
+    let e = with-value fed v in
+    let o = step-ends r c b n in
+    let kept : Keeps bs (AttributeValue q t (ValueOf (fed_value v fed)) last) = subst (λ (z : Value ValueState). Keeps bs (AttributeValue q t z last)) e k in
+    let there = kept-part bs fed q t v last o h kept in
+    let same = unknown-bytes fed v (ends-before fed (as_it_stands last) o) h there in
+    record {
+      goes = ap (λ (z : Value ValueState). AttributeValue q t z last) (with-value fed (unknown_value v))
+          ∙ ap (λ (w : ValueState). AttributeValue q t (ValueOf w) last) same
+          ∙ sym (unknown-is q t (fed_value v fed) last)
+          ∙ sym (ap (λ (z : Value ValueState). unknown_beginning (AttributeValue q t z last)) e);
+      begins = ap (λ (z : Value ValueState). is_in_beginning (AttributeValue q t z last)) e ∙ begins-is q t (fed_value v fed) last ∙ there;
+    }
 
-next-unknown : (bs : List ℕ) (b : ℕ) (s : LexState ValueState) → is_in_beginning s ≡ true → Keeps bs (next languages Template s (class_of b) b)
-    → (next languages Template (unknown_beginning s) (class_of b) b ≡ unknown_beginning (next languages Template s (class_of b) b))
-    × (is_in_beginning (next languages Template s (class_of b) b) ≡ true)
-next-unknown bs b (AttributeValue q t (ValueOf (OfUrl u)) r) h k = step-unknown (ends_value q (class_of b)) bs q t u r (class_of b) b h k
-next-unknown bs b (AttributeValue q t (ValueOf (OfKind x)) r) h k = absurd (no h)
-next-unknown bs b (AttributeValue q t (ValueOf (OfStyle x)) r) h k = absurd (no h)
-next-unknown bs b (AttributeValue q t (Deciding x before) r) h k = absurd (no h)
-next-unknown bs b _ h k = absurd (no h)
+next-value-unknown : (bs : List ℕ) (b : ℕ) (q : Quoting) (t : Tag) (v : ValueState) (r : Reference) → ReferenceOpensNone r
+    → is_in_beginning (AttributeValue q t (ValueOf v) r) ≡ true → Keeps bs (next languages Template (AttributeValue q t (ValueOf v) r) (class_of b) b)
+    → GoesUnknown (next languages Template (unknown_beginning (AttributeValue q t (ValueOf v) r)) (class_of b) b)
+    (next languages Template (AttributeValue q t (ValueOf v) r) (class_of b) b)
+next-value-unknown bs b q t v r n h k =
+    subst (λ (s : LexState ValueState). GoesUnknown (next languages Template s (class_of b) b) (next languages Template (AttributeValue q t (ValueOf v) r) (class_of b) b))
+    (sym (unknown-is q t v r))
+    (step-unknown (ends_value q (class_of b)) bs q t v r (class_of b) b n (sym (begins-is q t v r) ∙ h) k)
 
-end-unknown : (s : LexState ValueState) → is_in_beginning s ≡ true → Bears (node [] s) side → node [] (unknown_beginning s) ≡ unknown_beginning (node [] s)
-end-unknown (AttributeValue q t (ValueOf (OfUrl u)) r) h k =
-    ap (λ (v : Value ValueState). AttributeValue q t (cut_value languages v) Closed) (fed-unknown (as_it_stands r) u h (cut-part q t u r k))
-    ∙ sym (ap (λ (v : Value ValueState). unknown_beginning (AttributeValue q t (cut_value languages v) Closed)) (with-url u (as_it_stands r)))
-end-unknown (AttributeValue q t (ValueOf (OfKind x)) r) h k = absurd (no h)
-end-unknown (AttributeValue q t (ValueOf (OfStyle x)) r) h k = absurd (no h)
-end-unknown (AttributeValue q t (Deciding x before) r) h k = absurd (no h)
-end-unknown _ h k = absurd (no h)
+next-unknown : (bs : List ℕ) (b : ℕ) (s : LexState ValueState) → OpensNone s → is_in_beginning s ≡ true → Keeps bs (next languages Template s (class_of b) b)
+    → GoesUnknown (next languages Template (unknown_beginning s) (class_of b) b) (next languages Template s (class_of b) b)
+next-unknown bs b (AttributeValue q t (ValueOf v) r) n h k = next-value-unknown bs b q t v r n h k
+next-unknown bs b (AttributeValue q t (Deciding x before) r) n h k = absurd (no h)
+next-unknown bs b _ n h k = absurd (no h)
 
-pub node-unknown : (bytes : List ℕ) (s : LexState ValueState) → is_in_beginning s ≡ true → Keeps bytes s
+end-value-unknown : (q : Quoting) (t : Tag) (v : ValueState) (r : Reference) → ReferenceOpensNone r → begins_in v ≡ true
+    → Bears (node [] (AttributeValue q t (ValueOf v) r)) side
+    → node [] (AttributeValue q t (ValueOf (unknown_value v)) r) ≡ unknown_beginning (node [] (AttributeValue q t (ValueOf v) r))
+end-value-unknown q t v r n h k =
+    let bytes = as_it_stands r in
+    let cut = λ (z : Value ValueState). AttributeValue q t (cut_value languages z) Closed in
+    ap cut (with-value bytes (unknown_value v))
+    ∙ ap (λ (w : ValueState). cut (ValueOf w)) (unknown-bytes bytes v (stands-ends r n) h (cut-part q t v r k))
+    ∙ ap (λ (w : ValueState). AttributeValue q t (ValueOf w) Closed) (cut-unknown (fed_value v bytes))
+    ∙ sym (unknown-is q t (languages.after_cut (fed_value v bytes)) Closed)
+    ∙ sym (ap (λ (z : Value ValueState). unknown_beginning (cut z)) (with-value bytes v))
+
+end-unknown : (s : LexState ValueState) → OpensNone s → is_in_beginning s ≡ true → Bears (node [] s) side
+    → node [] (unknown_beginning s) ≡ unknown_beginning (node [] s)
+end-unknown (AttributeValue q t (ValueOf v) r) n h k =
+    ap (node []) (unknown-is q t v r) ∙ end-value-unknown q t v r n (sym (begins-is q t v r) ∙ h) k
+end-unknown (AttributeValue q t (Deciding x before) r) n h k = absurd (no h)
+end-unknown _ n h k = absurd (no h)
+
+-- what is opened by none stays so, where the path goes on in the value
+opens-next : (e : Bool) (q : Quoting) (t : Tag) (v : Value ValueState) (r : Reference) (b : ℕ) → ReferenceOpensNone r
+    → is_in_beginning (next_value languages e q (class_of b) b t v r) ≡ true → OpensNone (next_value languages e q (class_of b) b t v r)
+opens-next true q t v r b n h = absurd (no (sym (after-not q (class_of b) b _) ∙ begins-value _ h))
+opens-next false q t v r b n h = next-opens r b n
+
+pub next-opens-none : (s : LexState ValueState) (b : ℕ) → OpensNone s → is_in_beginning s ≡ true
+    → is_in_beginning (next languages Template s (class_of b) b) ≡ true → OpensNone (next languages Template s (class_of b) b)
+next-opens-none (AttributeValue q t v r) b n h k = opens-next (ends_value q (class_of b)) q t v r b n k
+next-opens-none _ b n h k = absurd (no h)
+
+pub node-unknown : (bytes : List ℕ) (s : LexState ValueState) → OpensNone s → is_in_beginning s ≡ true → Keeps bytes s
     → node bytes (unknown_beginning s) ≡ unknown_beginning (node bytes s)
-node-unknown [] s h k = end-unknown s h k
-node-unknown (b ∷ bs) s h k =
-    let n = next-unknown bs b s h k.1 in
-    ap (node bs) n.0 ∙ node-unknown bs (next languages Template s (class_of b) b) n.1 k.1
+node-unknown [] s o h k = end-unknown s o h k
+node-unknown (b ∷ bs) s o h k =
+    let n = next-unknown bs b s o h k.1 in
+    ap (node bs) n.goes ∙ node-unknown bs (next languages Template s (class_of b) b) (next-opens-none s b o h n.begins) n.begins k.1
 
 -- A path that stays in the beginning behind a byte was in it before the byte, where the reference that is open has been read.
-past-not : (e : Bool) (q : Quoting) (t : Tag) (u : Url) (r : Reference) (c : Class) (b : ℕ) → is_past u.part ≡ true
-    → is_in_beginning (next_value languages e q c b t (ValueOf (OfUrl u)) r) ≡ true → ⊥
-past-not true q t u r c b p h = no (sym (after-not q c b _) ∙ begins-value _ h)
-past-not false q t u r c b p h =
-    let fed = undone_byte true r c b in
-    open-past (feed_all u fed).part
-    (sym (ap (λ (v : Value ValueState). is_in_beginning (AttributeValue q t v (next_reference r c b))) (with-url u fed)) ∙ h) (past-all fed u p)
+away-not : (e : Bool) (q : Quoting) (t : Tag) (v : ValueState) (c : Class) (b : ℕ) → is_away v ≡ true
+    → is_in_beginning (next_value languages e q c b t (ValueOf v) Closed) ≡ true → ⊥
+away-not true q t v c b p h = no (sym (after-not q c b _) ∙ begins-value _ h)
+away-not false q t v c b p h =
+    let fed = undone_byte true Closed c b in
+    away-bytes fed v (plain-last c b) p
+    (sym (begins-is q t (fed_value v fed) (next_reference Closed c b))
+    ∙ sym (ap (λ (z : Value ValueState). is_in_beginning (AttributeValue q t z (next_reference Closed c b))) (with-value fed v)) ∙ h)
 
-broken-begins : (x : ReferenceStep) (q : Quoting) (t : Tag) (u : Url) (f : Form) (bytes : List ℕ) (c : Class) (b : ℕ) → is_open u.part ≡ true
-    → is_in_beginning (next languages Template (read_before x (AttributeValue q t (value_before Breaks (ValueOf (OfUrl u)) c f bytes) Closed)
-    (AttributeValue q t (ValueOf (OfUrl u)) (Open f bytes))) c b) ≡ true
-    → is_in_beginning (read_before x (AttributeValue q t (value_before Breaks (ValueOf (OfUrl u)) c f bytes) Closed) (AttributeValue q t (ValueOf (OfUrl u)) (Open f bytes)))
+broken-begins : (x : ReferenceStep) (q : Quoting) (t : Tag) (v : ValueState) (f : Form) (bytes : List ℕ) (c : Class) (b : ℕ) → NoOpening bytes
+    → begins_in v ≡ true
+    → is_in_beginning (next languages Template (read_before x (AttributeValue q t (value_before Breaks (ValueOf v) c f bytes) Closed)
+    (AttributeValue q t (ValueOf v) (Open f bytes))) c b) ≡ true
+    → is_in_beginning (read_before x (AttributeValue q t (value_before Breaks (ValueOf v) c f bytes) Closed) (AttributeValue q t (ValueOf v) (Open f bytes)))
     ≡ true
-broken-begins (Grows g) q t u f bytes c b h k = h
-broken-begins Closes q t u f bytes c b h k = h
-broken-begins Breaks q t u f bytes c b h k =
+broken-begins (Grows g) q t v f bytes c b n h k = begins-is q t v (Open f bytes) ∙ h
+broken-begins Closes q t v f bytes c b n h k = begins-is q t v (Open f bytes) ∙ h
+broken-begins Breaks q t v f bytes c b n h k =
     let fl = flushed true (is_equals_sign c) f bytes in
-    let e = with-url u fl in
-    ap (λ (v : Value ValueState). is_in_beginning (AttributeValue q t v Closed)) e
-    ∙ elim (open-all fl u h) [
+    let e = with-value fl v in
+    ap (λ (z : Value ValueState). is_in_beginning (AttributeValue q t z Closed)) e
+    ∙ begins-is q t (fed_value v fl) Closed
+    ∙ elim (first-or fl v (flushed-opens (is_equals_sign c) f bytes n) h) [
       | inl x ↦ x
-      | inr x ↦ absurd (past-not (ends_value q c) q t (feed_all u fl) Closed c b x
-          (subst (λ (v : Value ValueState). is_in_beginning (next_value languages (ends_value q c) q c b t v Closed) ≡ true) e k))
+      | inr x ↦ absurd (away-not (ends_value q c) q t (fed_value v fl) c b x
+          (subst (λ (z : Value ValueState). is_in_beginning (next_value languages (ends_value q c) q c b t z Closed) ≡ true) e k))
     ]
 
-pub before-begins : (s : LexState ValueState) (b : ℕ) (bs : List ℕ) → is_in_beginning s ≡ true
+pub before-begins : (s : LexState ValueState) (b : ℕ) (bs : List ℕ) → OpensNone s → is_in_beginning s ≡ true
     → is_in_beginning (next languages Template s (class_of b) b) ≡ true → is_in_beginning (state_before s (b ∷ bs)) ≡ true
-before-begins (AttributeValue q t (ValueOf (OfUrl u)) Closed) b bs h k = h
-before-begins (AttributeValue q t (ValueOf (OfUrl u)) (Open f bytes)) b bs h k =
-    broken-begins (turn (class_of b) f) q t u f bytes (class_of b) b h
-    (ap is_in_beginning (before-next (AttributeValue q t (ValueOf (OfUrl u)) (Open f bytes)) b bs) ∙ k)
-before-begins (AttributeValue q t (ValueOf (OfKind x)) r) b bs h k = absurd (no h)
-before-begins (AttributeValue q t (ValueOf (OfStyle x)) r) b bs h k = absurd (no h)
-before-begins (AttributeValue q t (Deciding x before) r) b bs h k = absurd (no h)
-before-begins _ b bs h k = absurd (no h)
+before-begins (AttributeValue q t (ValueOf v) Closed) b bs n h k = h
+before-begins (AttributeValue q t (ValueOf v) (Open f bytes)) b bs n h k =
+    broken-begins (turn (class_of b) f) q t v f bytes (class_of b) b n (sym (begins-is q t v (Open f bytes)) ∙ h)
+    (ap is_in_beginning (before-next (AttributeValue q t (ValueOf v) (Open f bytes)) b bs) ∙ k)
+before-begins (AttributeValue q t (Deciding x before) r) b bs n h k = absurd (no h)
+before-begins _ b bs n h k = absurd (no h)
+
+-- the state in which the reference is read opens none either
+read-opens : (x : ReferenceStep) (q : Quoting) (t : Tag) (v w : Value ValueState) (f : Form) (bytes : List ℕ) → NoOpening bytes
+    → OpensNone (read_before x (AttributeValue q t w Closed) (AttributeValue q t v (Open f bytes)))
+read-opens (Grows g) q t v w f bytes n = n
+read-opens Closes q t v w f bytes n = n
+read-opens Breaks q t v w f bytes n = tt
+
+pub before-opens : (s : LexState ValueState) (bs : List ℕ) → OpensNone s → OpensNone (state_before s bs)
+before-opens (AttributeValue q t v Closed) bs n = n
+before-opens (AttributeValue q t v (Open f bytes)) [] n = n
+before-opens (AttributeValue q t v (Open f bytes)) (b ∷ bs) n =
+    read-opens (turn (class_of b) f) q t v (value_before Breaks v (class_of b) f bytes) f bytes n
+before-opens _ bs n = tt
 
 pub keeps-back : (bs : List ℕ) (s : LexState ValueState) → is_in_beginning s ≡ true → Keeps bs (state_before s bs) → Keeps bs s
 keeps-back [] s h k = subst (Keeps []) (before-none s) k

@@ -1,5 +1,5 @@
 -- Two paths are apart in the beginning of a URL where their scan states say so, up to the byte at which the text is refused on one of them.
-use Rattle.std.proofs.Common.{◌≡◌, ◌<◌, ◌≤◌, ◌+◌, ℕ, zero, suc, inl, Bool, true, false, List, [], ◌∷◌, drop, take, Option, Some, None, Result, Ok, Err, refl, sym, ap, ◌∙◌, arith}
+use Rattle.std.proofs.Common.{◌≡◌, ◌<◌, ◌≤◌, ◌+◌, ℕ, zero, suc, inl, Bool, true, false, List, [], ◌∷◌, drop, take, Option, Some, None, Result, Ok, Err, refl, sym, ap, ◌∙◌, subst, arith}
 use Rattle.std.specs.Prelude.{IfSome, if◌then◌else◌}
 use Rattle.place_core.specs.page.Classes.{class_of}
 use Rattle.place_core.specs.page.Html.{next}
@@ -18,13 +18,19 @@ use Rattle.place_core.specs.declared.kind.Kind.TheVariants as kind
 use Rattle.place_core.specs.declared.place.Place.{Place}
 use Rattle.place_core.specs.declared.prefix.Prefix.{Prefix}
 use Rattle.place_core.specs.declared.value_place.ValuePlace.{ValuePlace}
+use Rattle.place_core.proofs.Semilattices.{one_value}
 use Rattle.url_lexer.specs.Triples.{Triple, NoTriple, AfterPercent, AfterDigit}
-use Rattle.html_scan.specs.Scans.{Scan, At, scan_error, scan_next, scan_shown, scan_reference, url_scan}
+use Rattle.html_scan.specs.Scans.{Scan, At, InStyle, scan_error, scan_next, scan_shown, scan_reference, style_scan, url_scan, with_style}
+use Rattle.css_step.specs.StyleScans.{StyleScan, is_style_start}
+use Rattle.css_step.specs.StyleScanLaws.{style_scanned}
 use Rattle.html_step.specs.ApartInText.{AreApartAfter, AreNotApart, IsLastIn, TakesByte}
 use Rattle.html_step.specs.ApartScans.{AreScansApart, IsLastApart, AnswersLast, beginning_after, scan_beginning, unless_in_reference}
 use Rattle.html_step.specs.Steps.{after_text, place_before, scan_after, stepped, with_place_before}
-use Rattle.html_step.proofs.OnePath.{Ends, WhereScanned, content_scanned, ends-agree, block_scanned, scanned, url_value}
-use Rattle.html_step.proofs.OneTexts.{Reaches, agrees-at, at-place, later, none, not-late, place-there}
+use Rattle.html_step.proofs.OnePath.{ends-agree}
+use Rattle.html_step.proofs.PathScans.{Ends, IsShown, WhereScanned, content_scanned, block_scanned, scanned, url_value}
+use Rattle.html_step.proofs.StyleSteps.{where-styled}
+use Rattle.html_step.proofs.StylePaths.{style_value}
+use Rattle.html_step.proofs.OneTexts.{Reaches, agrees-at, at-place, is-shown-after, later, none, not-late, place-there}
 
 -- what the beginning of a URL spells at a place that is shown, and on a path before the bytes that are left
 abbrev shown_beginning : Option Place → Option Prefix
@@ -68,6 +74,17 @@ url-begins q t v AfterDigit w Closed bs = refl
 url-begins q t v AfterDigit w (Open f bytes) [] = refl
 url-begins q t v AfterDigit w (Open f bytes) (b ∷ bs) = refl
 
+style-begins-by : (x : Bool) (q : Quoting) (t : Tag) (v : ValuePlace) (n : StyleScan) (w : ValueState)
+    → BeginsAs (AttributeValue q t (ValueOf w) Closed) (if x then At (with_style v n) else InStyle v n Closed)
+style-begins-by true q t v n w bs = refl
+style-begins-by false q t v n w bs = refl
+
+style-begins : (q : Quoting) (t : Tag) (v : ValuePlace) (n : StyleScan) (w : ValueState) (r : Reference)
+    → BeginsAs (AttributeValue q t (ValueOf w) r) (style_scan v n r)
+style-begins q t v n w Closed bs = style-begins-by (is_style_start n) q t v n w bs
+style-begins q t v n w (Open f bytes) [] = refl
+style-begins q t v n w (Open f bytes) (b ∷ bs) = refl
+
 content-begins : (h : Pending) (e : Element) (r : Reference) → WhereScanned (content_scanned h e) (BeginsAs (InContent e (Characters r) h))
 content-begins Nothing element.Title r = λ bs. refl
 content-begins Nothing element.Textarea r = λ bs. refl
@@ -104,14 +121,16 @@ begins (BeforeAttributeValue t kind.Plain) = λ bs. refl
 begins (BeforeAttributeValue t kind.NoHole) = λ bs. refl
 begins (BeforeAttributeValue t kind.Url) = λ bs. refl
 begins (BeforeAttributeValue t kind.Script) = tt
-begins (BeforeAttributeValue t kind.Style) = tt
+begins (BeforeAttributeValue t kind.Style) = λ bs. refl
 begins (BeforeAttributeValue t kind.ScriptType) = first-begins t.typed (BeforeAttributeValue t kind.ScriptType) _ (λ bs. refl)
 begins (AttributeValue q t (ValueOf (OfKind kind.Plain)) r) =
     λ bs. none-within (is_in_reference (AttributeValue q t (ValueOf (OfKind kind.Plain)) r) bs)
 begins (AttributeValue q t (ValueOf (OfKind kind.NoHole)) r) =
     λ bs. none-within (is_in_reference (AttributeValue q t (ValueOf (OfKind kind.NoHole)) r) bs)
 begins (AttributeValue q t (ValueOf (OfKind k)) r) = tt
-begins (AttributeValue q t (ValueOf (OfStyle s)) r) = tt
+begins (AttributeValue q t (ValueOf (OfStyle s)) r) =
+    where-styled q t s r (BeginsAs (AttributeValue q t (ValueOf (OfStyle s)) r)) (style_scanned s) refl
+    (λ n i. style-begins q t (style_value t (quotes_at q)) n (OfStyle s) r)
 begins (AttributeValue q t (ValueOf (OfUrl u)) r) = url-begins q t (url_value t (quotes_at q) (parts_of u.part)) u.triple (OfUrl u) r
 begins (AttributeValue q t (Deciding kind.ScriptType before) r) =
     first-begins t.typed (AttributeValue q t (Deciding kind.ScriptType before) r) _
@@ -128,14 +147,15 @@ scanned_beginning None bs = None
 scanned_beginning (Some f) bs = scan_beginning f bs
 
 begins-by : (s : LexState ValueState) (o : Option Scan) (f : Scan) → WhereScanned o (Ends s) → WhereScanned o (BeginsAs s)
-    → o ≡ Some f → (bs : List ℕ)
+    → o ≡ Some f → (bs : List ℕ) → IsShown f bs
     → path_beginning s bs ≡ scan_beginning f bs
-begins-by s None f a h e bs = cc
-begins-by s (Some g) f a h e bs =
-    ap (λ (o : Option Place). unless_in_reference (is_in_reference s bs) (shown_beginning o)) (a.shown bs) ∙ h bs
+begins-by s None f a h e bs i = cc
+begins-by s (Some g) f a h e bs i =
+    let shown : IsShown g bs = subst (λ (x : Scan). IsShown x bs) (sym (one_value g f e)) i in
+    ap (λ (o : Option Place). unless_in_reference (is_in_reference s bs) (shown_beginning o)) (a.shown bs shown) ∙ h bs
     ∙ ap (λ (o : Option Scan). scanned_beginning o bs) e
 
-begins-at : (s : LexState ValueState) (f : Scan) → scanned s ≡ Some f → (bs : List ℕ) → path_beginning s bs ≡ scan_beginning f bs
+begins-at : (s : LexState ValueState) (f : Scan) → scanned s ≡ Some f → (bs : List ℕ) → IsShown f bs → path_beginning s bs ≡ scan_beginning f bs
 begins-at s f e = begins-by s (scanned s) f (ends-agree s) (begins s) e
 
 -- two paths are apart where their beginnings are
@@ -214,6 +234,7 @@ begins-after : (upto n : ℕ) (bytes : List ℕ) (s : LexState ValueState) (p : 
 begins-after upto n bytes s p k l =
     begins-at (states (take n bytes) s) (scan_after (take n bytes) (At p))
     (states-there n bytes 0 0 s (At p) (at-place s p k.at) (reaches upto n bytes s p k l)) (drop n bytes)
+    (is-shown-after n bytes 0 0 (At p) (λ z. refl) (reaches upto n bytes s p k l))
 
 apart-after : (upto n : ℕ) (bytes : List ℕ) (s r : LexState ValueState) (p q : Place) → Taken upto bytes s p → Taken upto bytes r q
     → n ≤ upto

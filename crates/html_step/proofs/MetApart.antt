@@ -22,13 +22,14 @@ use Rattle.place_core.specs.declared.value_place.ValuePlace.{ValuePlace}
 use Rattle.place_core.proofs.ApartPlacesFacts.{above-apart, apart-has, apart-sides, are-apart, below-apart, joins-apart, met-here, path-sides, turned-apart, turned-paths}
 use Rattle.place_core.proofs.Semilattices.{none_some}
 use Rattle.html_scan.specs.Scans.{At}
+use Rattle.place_core.specs.declared.css.Css.{Css}
 use Rattle.html_step.specs.Apart.{ApartLaws}
 use Rattle.html_step.specs.Holes.{Holed, after_hole, block_hole, named_by_data, plain_hole, url_holed, value_hole}
 use Rattle.html_step.specs.Steps.{after_text}
 use Rattle.html_step.proofs.OneTexts.{one-text}
 use Rattle.html_step.proofs.ApartOrigins.{apart-from}
 use Rattle.html_step.proofs.MetScans.{kept-apart, stand-in, unknown-in, within-apart}
-use Rattle.html_step.proofs.KeptBeginnings.{side-begins, sides-within, stays-there, turned-clash, turned-within}
+use Rattle.html_step.proofs.KeptBeginnings.{placed-opens, side-begins, sides-within, stays-there, turned-clash, turned-within}
 use Rattle.html_step.proofs.WholeTexts.{grows-text, text-steps}
 use Rattle.url_step.specs.PartSets.{parts_at_hole, parts_hole_error, parts_or_refusal}
 use Rattle.url_lexer.specs.Refusals.{UrlRefusal}
@@ -95,12 +96,12 @@ met-apart = record {
   below = below-apart;
   turns_places = turned-apart;
   stays = λ bytes p q s a i b e m.
-      kept-apart bytes 0 0 s (At i.own) (At p) q (side-begins s b) a (stand-in p s i) m (text-steps bytes p q e);
+      kept-apart bytes 0 0 s (At i.own) (At p) q (placed-opens s i.own i.stands) (side-begins s b) a (stand-in p s i) m (text-steps bytes p q e);
   holed = not-holed;
   above = above-apart;
   met = met-here;
   parted = λ bytes p q s r v i j e a.
-      within-apart bytes 0 0 s r (At i.own) (At j.own) (At p) q v (stand-in p s i) (stand-in p r j) a (text-steps bytes p q e);
+      within-apart bytes 0 0 s r (At i.own) (At j.own) (At p) q v tt (stand-in p s i) (stand-in p r j) a (text-steps bytes p q e);
   sides = path-sides;
   sides_within = sides-within;
   keeps = λ bytes s b m. stays-there bytes s m;

@@ -1,42 +1,51 @@
 -- Paths of a place that has it of two of its paths that they met apart: within a text, scan state by scan state.
-use Rattle.std.proofs.Common.{◌≡◌, ℕ, ◌+◌, true, false, List, [], ◌∷◌, Some, None, Ok, is_some, option_map, refl, sym, ap, ◌∙◌, subst, inl, inr}
+use Rattle.std.proofs.Common.{◌≡◌, ℕ, ◌+◌, true, false, List, [], ◌∷◌, Some, None, Ok, option_map, refl, sym, ap, ◌∙◌, subst, inl, inr}
+use Rattle.css_lexer.specs.Escapes.{NoEscape, AfterBackslash, HexDigits, AfterReturn}
+use Rattle.css_lexer.specs.Spots.{UrlSpot, QuotedUrlSpot}
+use Rattle.css_lexer.specs.States.{Quote, DoubleQuote, SingleQuote, Fresh, Bare, Quoted, Ended, Out}
+use Rattle.css_lexer.specs.States as style
+use Rattle.css_step.specs.StyleOrigins.{style_scan_parts}
+use Rattle.css_step.specs.StyleScans.{StyleScan, ScanBareUrl, ScanQuotedUrl, is_style_start}
 use Rattle.place_core.specs.page.Classes.{class_of}
 use Rattle.place_core.specs.page.Html.{next}
-use Rattle.place_core.specs.page.Paths.{at_cut}
-use Rattle.place_core.specs.page.References.{Closed, Open}
-use Rattle.place_core.specs.page.States.{Template, LexState, AttributeName, AttributeValue, Pending, PendingLess}
+use Rattle.place_core.specs.page.References.{Reference, Closed, Open}
+use Rattle.place_core.specs.page.States.{Template, LexState, AttributeValue}
 use Rattle.place_core.specs.page.Tags.{Tag, ValueOf, Deciding, ValueState, OfKind, OfUrl, OfStyle, languages, Quoting}
 use Rattle.place_core.specs.place.ApartPlaces.{HasApart, beginning_at}
-use Rattle.place_core.specs.place.Errors.{node, place_before_bytes}
+use Rattle.place_core.specs.place.Errors.{node}
 use Rattle.place_core.specs.place.LastLexeme.{last_lexeme_start}
 use Rattle.place_core.specs.place.Membership.{IsIn}
 use Rattle.place_core.specs.place.PathPairs.{ApartBefore, Keeps, PartWithin, state_before, is_in_beginning, unknown_beginning, unknown_part}
 use Rattle.place_core.specs.place.Places.{Below, IsValid}
 use Rattle.place_core.specs.place.StatePlaces.{placed, quotes_at, value_spot}
+use Rattle.place_core.specs.place.StyleParts.{style_place}
 use Rattle.place_core.specs.place.UrlParts.{parts_of, placed_prefix}
 use Rattle.place_core.specs.declared.body.Body.TheVariants as body
-use Rattle.place_core.specs.declared.element.Element.{Element}
-use Rattle.place_core.specs.declared.element.Element.TheVariants as element
 use Rattle.place_core.specs.declared.parts.Parts.{Parts}
 use Rattle.place_core.specs.declared.place.Place.{Place}
 use Rattle.place_core.specs.declared.place.Place.TheVariants as place
+use Rattle.place_core.specs.declared.prefix.Prefix.TheVariants as prefix
 use Rattle.place_core.specs.declared.quotes.Quotes.{Quotes}
-use Rattle.place_core.proofs.ApartPlacesFacts.{above-apart, apart-sides, has-side, two-below}
+use Rattle.place_core.specs.declared.value_place.ValuePlace.{ValuePlace}
+use Rattle.place_core.proofs.ApartPlacesFacts.{above-apart}
 use Rattle.place_core.proofs.Semilattices.{none_some, one_value}
-use Rattle.html_scan.specs.Scans.{Scan, At, scan_reference, scan_error, scan_next, content_end_place}
+use Rattle.html_scan.specs.Scans.{Scan, At, scan_reference, scan_error, scan_next, with_style}
 use Rattle.html_step.specs.Origins.{scan_parts}
 use Rattle.html_step.specs.Steps.{stepped}
-use Rattle.html_step.proofs.AcceptedTexts.{differ-apart, read-apart, reads}
+use Rattle.html_step.proofs.AcceptedTexts.{differ-apart, ends-apart, own-after, read-apart, reads}
 use Rattle.html_step.proofs.ApartParts.{differs-of, of-differs, unknown-below}
-use Rattle.html_step.proofs.KeptBeginnings.{node-unknown, on_side, side-begins, stays-there}
-use Rattle.html_step.proofs.OnePath.{scanned, url_value}
-use Rattle.html_step.proofs.OneTexts.{Says, agrees-at, at-place, says}
-use Rattle.html_step.proofs.ScanOrder.{ScanBelow, ScanValid, begun-valid, scan-grows}
+use Rattle.html_step.proofs.KeptBeginnings.{OpensNone, before-opens, node-unknown, side-begins, stays-there}
+use Rattle.html_step.proofs.OneTexts.{agrees-at, at-place}
+use Rattle.html_step.proofs.Parentheses.{ReferenceOpensNone, next-opens}
+use Rattle.html_step.proofs.PathScans.{scanned, url_value}
+use Rattle.html_step.proofs.ScanOrder.{HasBegun, ScanBelow, ScanValid, begun-valid, scan-grows}
+use Rattle.html_step.proofs.StyleOrder.{scan-of-start}
+use Rattle.html_step.proofs.StylePaths.{style_value}
 use Rattle.html_step.proofs.ReadScans.{read-ok, scan_read, takes}
-use Rattle.html_step.proofs.ReadStates.{Unknown, at-as, begun-at, open-parts, unknown, unknown-valid}
-use Rattle.html_step.proofs.UrlScans.{above-parts, raw-opened, raw_place}
+use Rattle.html_step.proofs.ReadStates.{Unknown, at-as, at-style-as, begun-at, open-parts, opens-of, set-valid, unknown, unknown-valid, url-before, with_set}
+use Rattle.html_step.proofs.UrlScans.{Holds, above-parts, below-reference, next-holds, raw-opened, raw_place}
 use Rattle.html_step.proofs.ValidSteps.{scan-valid}
-use Rattle.html_step.proofs.WholeTexts.{grows-from, step-ok}
+use Rattle.html_step.proofs.WholeTexts.{step-ok}
 use Rattle.url_lexer.specs.Parts.{UrlPart, UrlStart, UrlOpen, UrlOpenhole, UrlPrequery, UrlQuery, UrlBad}
 use Rattle.url_lexer.specs.Spots.{where_whole}
 use Rattle.url_lexer.specs.Triples.{Triple, NoTriple, AfterPercent, AfterDigit}
@@ -72,14 +81,19 @@ url-apart : (g f : Scan) (t : Parts) → ScanBelow g f → scan_parts g ≡ Some
     → (s : Parts) × (scan_parts f ≡ Some s) × (spells_apart s.opened ≡ true)
 url-apart g f t l e h = (let s = above-parts g f t l e in (s.0, s.1, of-differs s.0.opened (sym (raw-opened f s.0 s.1) ∙ h)))
 
-pub end-opened : (e : Element) (h : Pending) → beginning_at (content_end_place e h) ≡ None
-end-opened element.DataBlock PendingLess = refl
-end-opened element.DataBlock _ = refl
-end-opened element.Title h = refl
-end-opened element.Textarea h = refl
-end-opened element.Style h = refl
-end-opened element.Script h = refl
-end-opened element.Other h = refl
+-- No reference that is open in it has a `(` in it.
+abbrev pub ScanOpensNone : Scan → Type 0
+ScanOpensNone f = ReferenceOpensNone (scan_reference f)
+
+pub below-opens : (g f : Scan) → ScanBelow g f → ScanOpensNone f → ScanOpensNone g
+below-opens g f l n = subst ReferenceOpensNone (sym (below-reference g f l)) n
+
+opens-by : (g : Scan) (b : ℕ) (r : Reference) → Holds g r (class_of b) b → ReferenceOpensNone r → ScanOpensNone g
+opens-by g b r (inl h) n = subst ReferenceOpensNone (sym h) tt
+opens-by g b r (inr h) n = subst ReferenceOpensNone (sym h) (next-opens r b n)
+
+pub scan-opens : (f : Scan) (b : ℕ) → ScanOpensNone f → ScanOpensNone (scan_next f (class_of b) b)
+scan-opens f b n = opens-by (scan_next f (class_of b) b) b (scan_reference f) (next-holds f (class_of b) b) n
 
 -- The path of which it is not known what it has spelled stands there too.
 met-unknown : (s : LexState ValueState) (g f : Scan) → is_in_beginning s ≡ true → ScanApart f → Stand s g f → Unknown s f
@@ -89,76 +103,82 @@ met-unknown s g f h a i =
     unknown s g f x.0 h i.at x.1 x.2 i.below
 
 -- its place has that two met apart
+unknown-opened : (p : UrlPart) → is_open p ≡ true → (parts_of (unknown_part p)).opened ≡ Some prefix.Differs
+unknown-opened (UrlOpen p) h = refl
+unknown-opened UrlStart h = absurd (no h)
+unknown-opened UrlOpenhole h = absurd (no h)
+unknown-opened UrlPrequery h = absurd (no h)
+unknown-opened UrlQuery h = absurd (no h)
+unknown-opened UrlBad h = absurd (no h)
+
 raised-apart : (x : Triple) (p : UrlPart) (t : Tag) (q : Quotes) (a : Place) → is_open p ≡ true
     → value_spot t q (option_map (λ (z : UrlPart). body.Url (parts_of z)) (where_whole x (unknown_part p))) ≡ Some a → HasApart a
-raised-apart NoTriple (UrlOpen p) t q a h e = ap beginning_at (one_value a _ (sym e))
-raised-apart NoTriple UrlStart t q a h e = absurd (no h)
-raised-apart NoTriple UrlOpenhole t q a h e = absurd (no h)
-raised-apart NoTriple UrlPrequery t q a h e = absurd (no h)
-raised-apart NoTriple UrlQuery t q a h e = absurd (no h)
-raised-apart NoTriple UrlBad t q a h e = absurd (no h)
+raised-apart NoTriple p t q a h e = ap beginning_at (one_value a _ (sym e)) ∙ unknown-opened p h
 raised-apart AfterPercent p t q a h e = absurd (none_some a e)
 raised-apart AfterDigit p t q a h e = absurd (none_some a e)
+
+bare-apart : (x : Triple) (p : UrlPart) (t : Tag) (q : Quotes) (a : Place) → is_open p ≡ true
+    → value_spot t q (option_map (λ z. body.Css (style_place z)) (option_map UrlSpot (where_whole x (unknown_part p)))) ≡ Some a → HasApart a
+bare-apart NoTriple p t q a h e = ap beginning_at (one_value a _ (sym e)) ∙ unknown-opened p h
+bare-apart AfterPercent p t q a h e = absurd (none_some a e)
+bare-apart AfterDigit p t q a h e = absurd (none_some a e)
+
+quoted-apart : (y : Quote) (x : Triple) (p : UrlPart) (t : Tag) (q : Quotes) (a : Place) → is_open p ≡ true
+    → value_spot t q (option_map (λ z. body.Css (style_place z)) (option_map (QuotedUrlSpot y) (where_whole x (unknown_part p)))) ≡ Some a
+    → HasApart a
+quoted-apart DoubleQuote NoTriple p t q a h e = ap beginning_at (one_value a _ (sym e)) ∙ unknown-opened p h
+quoted-apart SingleQuote NoTriple p t q a h e = ap beginning_at (one_value a _ (sym e)) ∙ unknown-opened p h
+quoted-apart y AfterPercent p t q a h e = absurd (none_some a e)
+quoted-apart y AfterDigit p t q a h e = absurd (none_some a e)
 
 unknown-placed : (s : LexState ValueState) (a : Place) → is_in_beginning s ≡ true → placed (unknown_beginning s) ≡ Some a → HasApart a
 unknown-placed (AttributeValue q t (ValueOf (OfUrl u)) Closed) a h e = raised-apart u.triple u.part t (quotes_at q) a h e
 unknown-placed (AttributeValue q t (ValueOf (OfUrl u)) (Open f bytes)) a h e = absurd (none_some a e)
 unknown-placed (AttributeValue q t (ValueOf (OfKind k)) r) a h e = absurd (no h)
-unknown-placed (AttributeValue q t (ValueOf (OfStyle s)) r) a h e = absurd (no h)
+unknown-placed (AttributeValue q t (ValueOf (OfStyle (style.InUrl Bare u))) Closed) a h e = bare-apart u.triple u.part t (quotes_at q) a h e
+unknown-placed (AttributeValue q t (ValueOf (OfStyle (style.InUrl (Quoted y NoEscape) u))) Closed) a h e =
+    quoted-apart y u.triple u.part t (quotes_at q) a h e
+unknown-placed (AttributeValue q t (ValueOf (OfStyle (style.InUrl (Quoted y AfterBackslash) u))) Closed) a h e = absurd (none_some a e)
+unknown-placed (AttributeValue q t (ValueOf (OfStyle (style.InUrl (Quoted y (HexDigits k)) u))) Closed) a h e = absurd (none_some a e)
+unknown-placed (AttributeValue q t (ValueOf (OfStyle (style.InUrl (Quoted y AfterReturn) u))) Closed) a h e = absurd (none_some a e)
+unknown-placed (AttributeValue q t (ValueOf (OfStyle (style.InUrl Fresh u))) Closed) a h e = absurd (no h)
+unknown-placed (AttributeValue q t (ValueOf (OfStyle (style.InUrl Ended u))) Closed) a h e = absurd (no h)
+unknown-placed (AttributeValue q t (ValueOf (OfStyle (Out s))) Closed) a h e = absurd (no h)
+unknown-placed (AttributeValue q t (ValueOf (OfStyle s)) (Open f bytes)) a h e = absurd (none_some a e)
 unknown-placed (AttributeValue q t (Deciding k before) r) a h e = absurd (no h)
 unknown-placed _ a h e = absurd (no h)
 
--- the path's own place after the bytes, below the one of the text
-pub own-after : (bytes : List ℕ) (k since : ℕ) (s : LexState ValueState) (g f : Scan) (q : Place) → Stand s g f → stepped k since bytes f ≡ Ok q
-    → (a : Place) × (placed (node bytes s) ≡ Some a) × Below a q
-own-after bytes k since s g f q i e =
-    let r = grows-from bytes k since since g f q i.valid i.below e in
-    (r.0, (subst (λ o. Says o k since bytes s) r.1 (says bytes k since s g i.at)).1, r.2)
-
 -- So a path that stays in the beginning keeps it.
-pub kept-apart : (bytes : List ℕ) (k since : ℕ) (s : LexState ValueState) (g f : Scan) (q : Place) → is_in_beginning s ≡ true → ScanApart f
-    → Stand s g f → Keeps bytes s → stepped k since bytes f ≡ Ok q → HasApart q
-kept-apart bytes k since s g f q h a i m e =
+pub kept-apart : (bytes : List ℕ) (k since : ℕ) (s : LexState ValueState) (g f : Scan) (q : Place) → OpensNone s → is_in_beginning s ≡ true
+    → ScanApart f → Stand s g f → Keeps bytes s → stepped k since bytes f ≡ Ok q → HasApart q
+kept-apart bytes k since s g f q o h a i m e =
     let u = met-unknown s g f h a i in
-    let r = own-after bytes k since (unknown_beginning s) u.scan f q (record { at = u.at; valid = u.valid; below = u.below }) e in
+    let r = own-after bytes k since (unknown_beginning s) u.scan f q u.at u.valid u.below e in
     above-apart r.0 q r.2
-    (unknown-placed (node bytes s) r.0 (side-begins (node bytes s) (stays-there bytes s m)) (sym (ap placed (node-unknown bytes s h m)) ∙ r.1))
+    (unknown-placed (node bytes s) r.0 (side-begins (node bytes s) (stays-there bytes s m)) (sym (ap placed (node-unknown bytes s o h m)) ∙ r.1))
 
 -- Two paths that come apart within the text.
-before-side : (s : LexState ValueState) (a : Place) → place_before_bytes s [] ≡ Some a → is_some (beginning_at a) ≡ true
-    → placed (at_cut languages s) ≡ Some a
-before-side (AttributeName t name) a e h = absurd (no (ap on_side e ∙ h))
-before-side (AttributeValue q t v Closed) a e h = e
-before-side (AttributeValue q t v (Open f bytes)) a e h = e
-before-side _ a e h = e
-
 end-apart : (k since : ℕ) (s r : LexState ValueState) (g h f : Scan) (q : Place) → Stand s g f → Stand r h f → ApartBefore [] s r
     → stepped k since [] f ≡ Ok q → HasApart q
-end-apart k since s r g h f q i j a e =
-    let sides = apart-sides a.own a.other_own a.apart in
-    let x = own-after [] k since s g f q i e in
-    let y = own-after [] k since r h f q j e in
-    two-below a.own a.other_own q
-    (subst (λ (z : Place). Below z q) (one_value x.0 a.own (sym x.1 ∙ before-side s a.own a.stands (has-side a.own sides.0))) x.2)
-    (subst (λ (z : Place). Below z q) (one_value y.0 a.other_own (sym y.1 ∙ before-side r a.other_own a.other_stands (has-side a.other_own sides.1))) y.2)
-    a.apart
+end-apart k since s r g h f q i j a e = ends-apart k since f q s r g h i.at j.at i.valid j.valid i.below j.below e a
 
-point-within : (bs : List ℕ) (k since : ℕ) (s r : LexState ValueState) (g h f : Scan) (q : Place) → ScanValid f → Stand s g f → Stand r h f
-    → ApartBefore bs s r → Keeps bs (state_before s bs) → Keeps bs (state_before r bs) → stepped k since bs f ≡ Ok q → HasApart q
-point-within [] k since s r g h f q v i j a m o e = end-apart k since s r g h f q i j a e
-point-within (b ∷ bs) k since s r g h f q v i j a m o e =
+point-within : (bs : List ℕ) (k since : ℕ) (s r : LexState ValueState) (g h f : Scan) (q : Place) → ScanValid f → ScanOpensNone f → Stand s g f
+    → Stand r h f → ApartBefore bs s r → Keeps bs (state_before s bs) → Keeps bs (state_before r bs) → stepped k since bs f ≡ Ok q → HasApart q
+point-within [] k since s r g h f q v n i j a m o e = end-apart k since s r g h f q i j a e
+point-within (b ∷ bs) k since s r g h f q v n i j a m o e =
     let t = takes f b v (step-ok k since b bs f q e).0 in
     let x = reads s g f b bs i.at i.valid v t i.below m.0 in
     let y = reads r h f b bs j.at j.valid v t j.below o.0 in
     let d = read-apart s r g h f b bs x y
     (differ-apart a.own a.other_own (placed_prefix x.spelled) (placed_prefix y.spelled) (x.shown a.own a.stands) (y.shown a.other_own a.other_stands) a.apart) in
-    kept-apart (b ∷ bs) k since (state_before s (b ∷ bs)) (scan_read g (b ∷ bs)) (scan_read f (b ∷ bs)) q m.0
+    let opens = before-opens s (b ∷ bs) (opens-of s g (url-before s (b ∷ bs) m.0) i.at (below-opens g f i.below n)) in
+    kept-apart (b ∷ bs) k since (state_before s (b ∷ bs)) (scan_read g (b ∷ bs)) (scan_read f (b ∷ bs)) q opens m.0
     (parts-apart (scan_read f (b ∷ bs)) d.0 d.1 d.2) (record { at = x.at; valid = x.valid; below = x.below }) m (read-ok b bs k since f q v e)
 
-pub within-apart : (bytes : List ℕ) (k since : ℕ) (s r : LexState ValueState) (g h f : Scan) (q : Place) → ScanValid f → Stand s g f → Stand r h f
-    → PartWithin bytes s r → stepped k since bytes f ≡ Ok q → HasApart q
-within-apart [] k since s r g h f q v i j a e = absurd a
-within-apart (b ∷ bs) k since s r g h f q v i j a e =
+pub within-apart : (bytes : List ℕ) (k since : ℕ) (s r : LexState ValueState) (g h f : Scan) (q : Place) → ScanValid f → ScanOpensNone f → Stand s g f
+    → Stand r h f → PartWithin bytes s r → stepped k since bytes f ≡ Ok q → HasApart q
+within-apart [] k since s r g h f q v w i j a e = absurd a
+within-apart (b ∷ bs) k since s r g h f q v w i j a e =
     let n = step-ok k since b bs f q e in
     let t = next languages Template s (class_of b) b in
     let u = next languages Template r (class_of b) b in
@@ -167,9 +187,9 @@ within-apart (b ∷ bs) k since s r g h f q v i j a e =
     let after = last_lexeme_start k since (scan_reference f) (class_of b) b in
     elim a [
       | inl z ↦ point-within bs (k + 1) after t u (scan_next g (class_of b) b) (scan_next h (class_of b) b) (scan_next f (class_of b) b) q
-          (scan-valid f (class_of b) b v n.0) x y z.0 z.1 z.2 n.1
+          (scan-valid f (class_of b) b v n.0) (scan-opens f b w) x y z.0 z.1 z.2 n.1
       | inr z ↦ within-apart bs (k + 1) after t u (scan_next g (class_of b) b) (scan_next h (class_of b) b) (scan_next f (class_of b) b) q
-          (scan-valid f (class_of b) b v n.0) x y z n.1
+          (scan-valid f (class_of b) b v n.0) (scan-opens f b w) x y z n.1
     ]
 
 -- The path of which it is not known what it has spelled is one of the place's.
@@ -189,12 +209,59 @@ raised-in NoTriple p t q own a h e i l =
 raised-in AfterPercent p t q own a h e i l = absurd (none_some own i)
 raised-in AfterDigit p t q own a h e i l = absurd (none_some own i)
 
+-- in a style
+style-raised : (v : ValuePlace) (n : StyleScan) (p : UrlPart) (own a : Place) → is_style_start n ≡ true → HasBegun v.quotes
+    → style_scan_parts n ≡ Some (parts_of p) → is_open p ≡ true → HasApart a → Some (with_style v n) ≡ Some own → Below own a
+    → IsValid (with_style v (with_set n (parts_of (unknown_part p)))) × Below (with_style v (with_set n (parts_of (unknown_part p)))) a
+style-raised v n p own a g b i h e k l =
+    let d = parts_of (unknown_part p) in
+    let low = subst (λ (z : Place). Below z a) (one_value own (with_style v n) (sym k)) l in
+    let x = url-apart (At (with_style v n)) (At a) (parts_of p) low (ap style_scan_parts (scan-of-start n g) ∙ i) e in (
+      (begun-valid v.quotes b, set-valid n (parts_of p) d i (unknown-valid p h)),
+      at-style-as v n (parts_of p) d x.0 (At a) g i x.1 (unknown-below p x.0 h x.2) low,
+    )
+
+abbrev BareAt : Triple → UrlPart → Tag → Quoting → Place → Type 0
+BareAt x p t q own = value_spot t (quotes_at q) (option_map (λ z. body.Css (style_place z)) (option_map UrlSpot (where_whole x p))) ≡ Some own
+
+bare-in : (x : Triple) (p : UrlPart) (t : Tag) (q : Quoting) (own a : Place) → is_open p ≡ true → HasApart a → BareAt x p t q own → Below own a
+    → (w : Place) × BareAt x (unknown_part p) t q w × IsValid w × Below w a
+bare-in NoTriple p t q own a h e i l =
+    let r = style-raised (style_value t (quotes_at q)) (ScanBareUrl (parts_of p) NoTriple) p own a refl (begun-at q) refl h e i l in
+    (with_style (style_value t (quotes_at q)) (ScanBareUrl (parts_of (unknown_part p)) NoTriple), refl, r.0, r.1)
+bare-in AfterPercent p t q own a h e i l = absurd (none_some own i)
+bare-in AfterDigit p t q own a h e i l = absurd (none_some own i)
+
+abbrev QuotedAt : Quote → Triple → UrlPart → Tag → Quoting → Place → Type 0
+QuotedAt y x p t q own =
+    value_spot t (quotes_at q) (option_map (λ z. body.Css (style_place z)) (option_map (QuotedUrlSpot y) (where_whole x p))) ≡ Some own
+
+quoted-in : (y : Quote) (x : Triple) (p : UrlPart) (t : Tag) (q : Quoting) (own a : Place) → is_open p ≡ true → HasApart a → QuotedAt y x p t q own
+    → Below own a → (w : Place) × QuotedAt y x (unknown_part p) t q w × IsValid w × Below w a
+quoted-in y NoTriple p t q own a h e i l =
+    let r = style-raised (style_value t (quotes_at q)) (ScanQuotedUrl y NoEscape (parts_of p) NoTriple) p own a refl (begun-at q) refl h e i l in
+    (with_style (style_value t (quotes_at q)) (ScanQuotedUrl y NoEscape (parts_of (unknown_part p)) NoTriple), refl, r.0, r.1)
+quoted-in y AfterPercent p t q own a h e i l = absurd (none_some own i)
+quoted-in y AfterDigit p t q own a h e i l = absurd (none_some own i)
+
 pub unknown-in : (a : Place) (s : LexState ValueState) → is_in_beginning s ≡ true → HasApart a → IsIn a s → IsIn a (unknown_beginning s)
 unknown-in a (AttributeValue q t (ValueOf (OfUrl u)) Closed) h e i =
     let r = raised-in u.triple u.part t q i.own a h e i.stands i.below in
     record { own = r.0; stands = r.1; valid = r.2; below = r.3 }
 unknown-in a (AttributeValue q t (ValueOf (OfUrl u)) (Open f bytes)) h e i = absurd (none_some i.own i.stands)
 unknown-in a (AttributeValue q t (ValueOf (OfKind k)) r) h e i = absurd (no h)
-unknown-in a (AttributeValue q t (ValueOf (OfStyle s)) r) h e i = absurd (no h)
+unknown-in a (AttributeValue q t (ValueOf (OfStyle (style.InUrl Bare u))) Closed) h e i =
+    let r = bare-in u.triple u.part t q i.own a h e i.stands i.below in
+    record { own = r.0; stands = r.1; valid = r.2; below = r.3 }
+unknown-in a (AttributeValue q t (ValueOf (OfStyle (style.InUrl (Quoted y NoEscape) u))) Closed) h e i =
+    let r = quoted-in y u.triple u.part t q i.own a h e i.stands i.below in
+    record { own = r.0; stands = r.1; valid = r.2; below = r.3 }
+unknown-in a (AttributeValue q t (ValueOf (OfStyle (style.InUrl (Quoted y AfterBackslash) u))) Closed) h e i = absurd (none_some i.own i.stands)
+unknown-in a (AttributeValue q t (ValueOf (OfStyle (style.InUrl (Quoted y (HexDigits k)) u))) Closed) h e i = absurd (none_some i.own i.stands)
+unknown-in a (AttributeValue q t (ValueOf (OfStyle (style.InUrl (Quoted y AfterReturn) u))) Closed) h e i = absurd (none_some i.own i.stands)
+unknown-in a (AttributeValue q t (ValueOf (OfStyle (style.InUrl Fresh u))) Closed) h e i = absurd (no h)
+unknown-in a (AttributeValue q t (ValueOf (OfStyle (style.InUrl Ended u))) Closed) h e i = absurd (no h)
+unknown-in a (AttributeValue q t (ValueOf (OfStyle (Out s))) Closed) h e i = absurd (no h)
+unknown-in a (AttributeValue q t (ValueOf (OfStyle s)) (Open f bytes)) h e i = absurd (none_some i.own i.stands)
 unknown-in a (AttributeValue q t (Deciding k before) r) h e i = absurd (no h)
 unknown-in a _ h e i = absurd (no h)

@@ -8,7 +8,7 @@ use Rattle.place_core.specs.declared.san.San.{San}
 use Rattle.html_step.specs.Holes.{url_chain}
 use Rattle.place_core.specs.declared.san.San.TheVariants as san
 use Rattle.html_step.proofs.PlaceParts.{Under}
-use Rattle.html_step.proofs.OnePath.{some}
+use Rattle.html_step.proofs.PathScans.{some}
 use Rattle.url_step.specs.Chains.{chain_of}
 use Rattle.url_step.specs.PartSets.{PartsBelow, one_if, part_count, parts_hole_error}
 use Rattle.url_step.proofs.Growth.{hole-none}

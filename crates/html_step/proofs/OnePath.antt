@@ -2,22 +2,21 @@
 use Rattle.std.proofs.Common.{◌≡◌, ℕ, Bool, true, false, List, [], ◌∷◌, ◌++◌, length, Option, Some, None, refl, sym, ap, ◌∙◌}
 use Rattle.std.specs.Prelude.{⊤, ◌||◌, ◌&&◌, ◌+◌, ◌-◌, encode_utf8, if◌then◌else◌}
 use Rattle.std.specs.Option.{option_map}
+use Rattle.css_step.specs.StyleScanLaws.{style_scanned}
 use Rattle.place_core.specs.page.Classes.{Class, White, QuotationMark, Ampersand, Apostrophe, HyphenMinus, Solidus, LessThan, EqualsSign, GreaterThan, GraveAccent, Letter, ExclamationMark, class_of, is_equals_sign}
 use Rattle.place_core.specs.page.Comments.{OpensComment, OpensDoctype, Undecided, OpensNothing, Declaration, declared_by}
 use Rattle.place_core.specs.page.Contents.{may_be_name_of, is_name_of, next_loose, next_less, next_end_name, next_bang}
-use Rattle.place_core.specs.place.LastLexeme.{language_reference}
-use Rattle.place_core.specs.place.Errors.{byte_error, cut_error, at_hand, unless_second, content_error, kind_error, tag_error, bare_error, quotes_error, attribute_name_error, PathCause, fed_error, turned_error, language_error, first_byte_error, is_written, first_cause, first_error, place_before_bytes, value_before, cause_back, flushed_error, name_error, is_unknown_name, lexeme_error}
+use Rattle.place_core.specs.place.Errors.{byte_error, at_hand, content_error, kind_error, tag_error, bare_error, quotes_error, attribute_name_error, PathCause, fed_error, turned_error, language_error, first_byte_error, is_written, first_cause, first_error, place_before_bytes, value_before, flushed_error, name_error, is_unknown_name}
 use Rattle.place_core.specs.page.Html.{next, after_tag, next_declaration, next_before_name, next_name, next_after_name, next_before_value, ends_value}
 use Rattle.place_core.specs.page.Paths.{at_cut}
 use Rattle.place_core.specs.page.References.{Reference, settled, undone_byte, as_it_stands, Closed, Open, Form, ReferenceStep, Grows, Closes, Breaks, turn, meaning, flushed, plain_bytes, next_reference}
 use Rattle.place_core.specs.place.StatePlaces.{tag_spot, body_at, only_name, only_before, only_inside, only_after, value_spot, value_body, quotes_at, unbegun, placed}
 use Rattle.place_core.specs.page.States.{Template, LexState, Text, TagOpen, EndTagOpen, DeclarationOpen, CommentState, Started, StartedDash, Inside, Dash, DashDash, Bang, Broken, InComment, BogusComment, InDoctype, TagName, WholeTagName, BeforeAttributeName, AttributeName, WholeAttributeName, AfterAttributeName, BeforeAttributeValue, AttributeValue, AfterAttributeValue, SelfClosingStartTag, Characters, Bytes, Pending, Nothing, PendingLess, PendingName, PendingBang, PendingBangDash, InContent, Unread, LessAtCut}
-use Rattle.place_core.specs.page.Tags.{Tag, Value, ValueOf, Deciding, ValueState, OfKind, OfUrl, OfStyle, languages, feed_value, feeding, feed_bytes, refusal_code, refuses_names_in, refuses_cut_of, attribute_value_of, tag_of_name, element_on, is_start, tag_by_type, with_bytes, tag_with_value, without_value, Quoting, DoubleQuoted, SingleQuoted, Unquoted, is_second_type, typed_by, cut_value}
+use Rattle.place_core.specs.page.Tags.{Tag, Value, ValueOf, Deciding, ValueState, OfKind, OfUrl, OfStyle, languages, feeding, feed_bytes, refusal_code, refuses_names_in, refuses_cut_of, attribute_value_of, tag_of_name, element_on, is_start, tag_by_type, with_bytes, tag_with_value, without_value, Quoting, DoubleQuoted, SingleQuoted, Unquoted, is_second_type, typed_by, cut_value}
 use Rattle.place_core.specs.page.Words.{kind_of, is_script_type}
 use Rattle.place_core.specs.place.UrlParts.{parts_of}
 use Rattle.place_core.specs.declared.body.Body.{Body}
 use Rattle.place_core.specs.declared.body.Body.TheVariants as body
-use Rattle.place_core.specs.declared.code.Code.{Code}
 use Rattle.place_core.specs.declared.element.Element.{Element}
 use Rattle.place_core.specs.declared.element.Element.TheVariants as element
 use Rattle.place_core.specs.declared.kind.Kind.{Kind}
@@ -28,126 +27,18 @@ use Rattle.place_core.specs.declared.quotes.Quotes.{Quotes}
 use Rattle.place_core.specs.declared.tag_of.TagOf.{TagOf}
 use Rattle.place_core.specs.declared.tag_of.TagOf.TheVariants as tag
 use Rattle.place_core.specs.declared.value_place.ValuePlace.{ValuePlace}
-use Rattle.html_scan.specs.Scans.{Scan, At, AfterLess, AfterLessSolidus, InDeclaration, InTagName, InAttributeName, InContentEnd, comment_scan, content_scan, value_scan, declaration_next, content_next, pending_less_next, end_name_next, attribute_name_next, tag_next, typed_with, scan_next, scan_error, scan_place, scan_cut_error, BeforeType, InType, bang_next, before_type_next, ended_type, in_tag, scan_shown, type_tag, rest_place, parts_feeding, triple_behind, url_scan, value_fed, value_next, value_cause, body_cause, quoted_error, with_quotes, open_cut_error, if_unfinished, parts_before, scan_lexeme_error, scan_reference}
+use Rattle.html_scan.specs.Scans.{Scan, At, AfterLess, AfterLessSolidus, InDeclaration, InTagName, InAttributeName, InContentEnd, comment_scan, content_scan, value_scan, declaration_next, content_next, pending_less_next, end_name_next, attribute_name_next, tag_next, scan_next, scan_error, scan_place, scan_cut_error, BeforeType, InType, bang_next, before_type_next, ended_type, in_tag, scan_shown, type_tag, rest_place, parts_feeding, triple_behind, url_scan, value_fed, value_next, value_cause, body_cause, with_quotes, open_cut_error, if_unfinished, parts_before, scan_lexeme_error, scan_reference}
+use Rattle.html_step.proofs.FedAlike.{fed-alike, first-byte-alike, first-caused, language-alike}
+use Rattle.html_step.proofs.StylePaths.{quoted-at, urls-alike}
 use Rattle.url_lexer.specs.Classes.{url_class_of}
 use Rattle.url_lexer.specs.Parts.{UrlStart}
-use Rattle.url_lexer.specs.Refusals.{UrlCutRefusal, UrlRefusal, refuses_cut_in}
-use Rattle.url_lexer.specs.States.{Url, url_start, feed_url, feed_all}
+use Rattle.url_lexer.specs.Refusals.{UrlCutRefusal, refuses_cut_in}
+use Rattle.url_lexer.specs.States.{Url, url_start, feed_url}
 use Rattle.url_lexer.specs.Triples.{Triple, NoTriple, AfterPercent, AfterDigit, next_triple}
-use Rattle.url_step.specs.PartSets.{parts_error}
-use Rattle.url_step.proofs.OnePath.{one-error, one-next}
-
--- the scan state of a path's state
-abbrev pub content_scanned : Pending → Element → Option Scan
-content_scanned Nothing element.Title = Some (At (place.Rcdata element.Title))
-content_scanned Nothing element.Textarea = Some (At (place.Rcdata element.Textarea))
-content_scanned PendingLess element.Title = Some (InContentEnd element.Title PendingLess)
-content_scanned PendingLess element.Textarea = Some (InContentEnd element.Textarea PendingLess)
-content_scanned (PendingName letters) element.Title = Some (InContentEnd element.Title (PendingName letters))
-content_scanned (PendingName letters) element.Textarea = Some (InContentEnd element.Textarea (PendingName letters))
-content_scanned h e = None
-
-abbrev pub block_scanned : Pending → Element → Option Scan
-block_scanned Nothing element.DataBlock = Some (At (place.Block false))
-block_scanned LessAtCut element.DataBlock = Some (At (place.Block true))
-block_scanned PendingLess element.DataBlock = Some (InContentEnd element.DataBlock PendingLess)
-block_scanned (PendingName letters) element.DataBlock = Some (InContentEnd element.DataBlock (PendingName letters))
-block_scanned PendingBang element.DataBlock = Some (InContentEnd element.DataBlock PendingBang)
-block_scanned PendingBangDash element.DataBlock = Some (InContentEnd element.DataBlock PendingBangDash)
-block_scanned h e = None
-
--- where a second `type` is not refused
-abbrev pub first_type : Tag → Kind → Scan → Option Scan
-first_type t k f = if is_second_type t.typed k then None else Some f
-
--- In a URL it has the percent triple and the reference; the parts are those of the path.
-abbrev pub url_value : Tag → Quotes → Parts → ValuePlace
-url_value t q s = record { tag = t.tag; typed = t.typed; quotes = q; body = body.Url s }
-
-abbrev pub url_scanned : Quoting → Tag → Url → Reference → Scan
-url_scanned q t u r = url_scan (url_value t (quotes_at q) (parts_of u.part)) u.triple r
-
-abbrev pub before_scanned : Tag → Value ValueState → Option Scan
-before_scanned t (ValueOf v) = option_map At (value_spot t unbegun (value_body (ValueOf v)))
-before_scanned t (Deciding kind.ScriptType before) = first_type t kind.ScriptType (BeforeType t.tag)
-before_scanned t (Deciding k before) = None
-
-abbrev pub value_scanned : Quoting → Tag → Value ValueState → Reference → Option Scan
-value_scanned q t (ValueOf (OfKind k)) r = option_map At (value_spot t (quotes_at q) (value_body (ValueOf (OfKind k))))
-value_scanned q t (ValueOf (OfUrl u)) r = Some (url_scanned q t u r)
-value_scanned q t (ValueOf (OfStyle s)) r = None
-value_scanned q t (Deciding kind.ScriptType before) r = first_type t kind.ScriptType (InType t.tag q (Deciding kind.ScriptType before) r)
-value_scanned q t (Deciding k before) r = None
-
-abbrev pub scanned : LexState ValueState → Option Scan
-scanned (Text r) = Some (At place.Text)
-scanned (TagOpen r) = Some AfterLess
-scanned (EndTagOpen r) = Some AfterLessSolidus
-scanned (DeclarationOpen r pending) = Some (InDeclaration pending)
-scanned (InComment s) = Some (comment_scan s)
-scanned BogusComment = None
-scanned InDoctype = Some (At place.Doctype)
-scanned (TagName ends name) = Some (InTagName ends name)
-scanned (WholeTagName t) = Some (At (place.Tag (tag_spot t only_name None)))
-scanned (BeforeAttributeName t) = Some (At (place.Tag (tag_spot t only_before None)))
-scanned (AttributeName t name) = Some (InAttributeName t.tag t.typed name)
-scanned (WholeAttributeName t k) = first_type t k (At (place.Tag (tag_spot t only_inside (Some k))))
-scanned (AfterAttributeName t k) = first_type t k (At (place.Tag (tag_spot t only_after (Some k))))
-scanned (BeforeAttributeValue t k) = before_scanned t (attribute_value_of languages k)
-scanned (AttributeValue q t v r) = value_scanned q t v r
-scanned (AfterAttributeValue t) = Some (At (place.Tag (tag_spot t only_before None)))
-scanned (SelfClosingStartTag t) = Some (At (place.Tag (tag_spot t only_before None)))
-scanned (InContent e (Characters r) h) = content_scanned h e
-scanned (InContent e Bytes h) = block_scanned h e
-scanned Unread = None
-
--- A state and its scan state refuse the same, and step alike where nothing is refused.
-pub record Agrees (s : LexState ValueState) (f : Scan) (c : Class) (b : ℕ) : Type 0 where
-  pub errors : byte_error s c b ≡ scan_error f c b
-  pub steps : scan_error f c b ≡ None → scanned (next languages Template s c b) ≡ Some (scan_next f c b)
-
-abbrev pub WhereScanned : Option Scan → (Scan → Type 0) → Type 0
-WhereScanned None P = ⊤
-WhereScanned (Some f) P = P f
-
-pub same-with : (t : Tag) (bs : List ℕ) (v : ValueState) → tag_with_value t (with_bytes languages (ValueOf v) bs) ≡ t
-same-with t [] v = refl
-same-with t (b ∷ bs) v = same-with t bs (feed_value v b)
-
--- what an attribute without a value does to its tag: an empty `type` is that of a script
-untyped-tag : (t : TagOf) (typed : Bool) → tag_by_type t (typed || true) ≡ t
-untyped-tag tag.End typed = refl
-untyped-tag (tag.Start element.Script) true = refl
-untyped-tag (tag.Start element.Script) false = refl
-untyped-tag (tag.Start _) typed = refl
-
-pub same-tag : (t : Tag) (k : Kind) → (without_value t k).tag ≡ t.tag
-same-tag t kind.ScriptType = untyped-tag t.tag t.typed
-same-tag t _ = refl
-
-pub same-typed : (t : Tag) (k : Kind) → (without_value t k).typed ≡ typed_with t.tag t.typed k
-same-typed t kind.ScriptType = refl
-same-typed t _ = refl
-
--- what is refused is no step
-pub some : {A : Type 0} (x : A) → Some x ≡ None → ⊥
-some x e = cc
-
-pub none-at-hand : (o : Option Code) → at_hand o ≡ None → o ≡ None
-none-at-hand None e = refl
-none-at-hand (Some e) h = absurd (some _ h)
-
-pub none-unless : (second : Bool) (len : ℕ) (o : Option Code) → unless_second second len o ≡ None → o ≡ None
-none-unless true len o h = absurd (some _ h)
-none-unless false len o h = none-at-hand o h
-
--- what is not refused is no second type
-not-second : (t : Tag) (k : Kind) (f : Scan) → is_second_type t.typed k ≡ false → first_type t k f ≡ Some f
-not-second t k f e = rw e refl
-
-unless-first : (second : Bool) (len : ℕ) (o : Option Code) → unless_second second len o ≡ None → second ≡ false
-unless-first true len o h = absurd (some _ h)
-unless-first false len o h = refl
+use Rattle.url_step.proofs.OnePath.{one-next}
+pub use Rattle.html_step.proofs.PathScans.{WhereScanned, content_scanned, none-at-hand, none-unless, same-tag, scanned, some, url_scanned}
+use Rattle.html_step.proofs.PathScans.{Agrees, Ends, block_scanned, not-second, same-typed, same-with, tag-ends, unless-first, url_value, value_scanned}
+use Rattle.html_step.proofs.StyleSteps.{begin-style-steps, style-ends, style-steps, where-styled}
 
 -- What refuses nothing: the language of a value that is no URL and no style.
 abbrev pub IsNoUrl : Value ValueState → Type 0
@@ -206,65 +97,6 @@ first-byte-none v Apostrophe b y = refl
 first-byte-none v GreaterThan b y = refl
 first-byte-none v c b y = fed-none v (plain_bytes c b) false 0 y
 
--- A URL is fed byte by byte as the set of its part is.
-pub with-url : (u : Url) (bs : List ℕ) → with_bytes languages (ValueOf (OfUrl u)) bs ≡ ValueOf (OfUrl (feed_all u bs))
-with-url u [] = refl
-with-url u (b ∷ bs) = with-url (feed_url u b) bs
-
-feed-with-url : (u : Url) (bs : List ℕ) → feed_bytes (feeding languages) (ValueOf (OfUrl u)) bs ≡ ValueOf (OfUrl (feed_all u bs))
-feed-with-url u [] = refl
-feed-with-url u (b ∷ bs) = feed-with-url (feed_url u b) bs
-
-pub parts-all : (u : Url) (bs : List ℕ) → feed_bytes parts_feeding (parts_of u.part) bs ≡ parts_of (feed_all u bs).part
-parts-all u [] = refl
-parts-all u (b ∷ bs) = ap (λ (s : Parts). feed_bytes parts_feeding s bs) (one-next u.part (url_class_of b) b) ∙ parts-all (feed_url u b) bs
-
-pub fed-one : (u : Url) (bs : List ℕ) (written : Bool) (n : ℕ)
-    → fed_error (feeding languages) (ValueOf (OfUrl u)) bs written n ≡ fed_error parts_feeding (parts_of u.part) bs written n
-fed-one u [] written n = refl
-fed-one u (b ∷ bs) written n =
-    let m = if written then n - 1 else n in
-    let rest = fed_error (feeding languages) (ValueOf (OfUrl (feed_url u b))) bs written m in
-    ap (λ (e : Option UrlRefusal). first_cause (cause_back n (option_map refusal_code e)) rest)
-    (sym (one-error u.part (url_class_of b)))
-    ∙ ap (first_cause (cause_back n (option_map refusal_code (parts_error (parts_of u.part) (url_class_of b)))))
-    (fed-one (feed_url u b) bs written m ∙ ap (λ (s : Parts). fed_error parts_feeding s bs written m) (sym (one-next u.part (url_class_of b) b)))
-
--- bytes behind other ones
-fed-behind : (u : Url) (bs cs : List ℕ) (written : Bool) (n : ℕ)
-    → fed_error (feeding languages) (feed_bytes (feeding languages) (ValueOf (OfUrl u)) bs) cs written n
-    ≡ fed_error parts_feeding (feed_bytes parts_feeding (parts_of u.part) bs) cs written n
-fed-behind u bs cs written n =
-    ap (λ (v : Value ValueState). fed_error (feeding languages) v cs written n) (feed-with-url u bs) ∙ fed-one (feed_all u bs) cs written n
-    ∙ ap (λ (s : Parts). fed_error parts_feeding s cs written n) (sym (parts-all u bs))
-
-turned-one : (u : Url) (step : ReferenceStep) (f : Form) (bytes : List ℕ) (c : Class) (b : ℕ)
-    → turned_error (feeding languages) (ValueOf (OfUrl u)) step f bytes c b ≡ turned_error parts_feeding (parts_of u.part) step f bytes c b
-turned-one u (Grows g) f bytes c b = refl
-turned-one u Closes f bytes c b =
-    ap (first_cause (name_error (is_unknown_name f bytes) (length bytes + 1))) (fed-one u (encode_utf8 (meaning f bytes)) false (length bytes + 1))
-turned-one u Breaks f bytes c b =
-    let fl = flushed true (is_equals_sign c) f bytes in
-    let rest = fed_error (feeding languages) (feed_bytes (feeding languages) (ValueOf (OfUrl u)) fl) (plain_bytes c b) false 0 in
-    ap (λ (o : Option PathCause). first_cause o rest)
-    (fed-one u fl (is_written (is_equals_sign c) f bytes) (length bytes + 1))
-    ∙ ap (first_cause (flushed_error parts_feeding (parts_of u.part) (is_equals_sign c) f bytes)) (fed-behind u fl (plain_bytes c b) false 0)
-
-pub language-one : (ends : Bool) (u : Url) (r : Reference) (c : Class) (b : ℕ)
-    → language_error (feeding languages) ends (ValueOf (OfUrl u)) r c b ≡ language_error parts_feeding ends (parts_of u.part) r c b
-language-one true u Closed c b = refl
-language-one true u (Open f bytes) c b = fed-one u (flushed true false f bytes) (is_written false f bytes) (length bytes + 1)
-language-one false u Closed c b = fed-one u (plain_bytes c b) false 0
-language-one false u (Open f bytes) c b = turned-one u (turn c f) f bytes c b
-
-pub first-byte-one : (u : Url) (c : Class) (b : ℕ)
-    → first_byte_error (feeding languages) (ValueOf (OfUrl u)) c b ≡ first_byte_error parts_feeding (parts_of u.part) c b
-first-byte-one u White b = refl
-first-byte-one u QuotationMark b = refl
-first-byte-one u Apostrophe b = refl
-first-byte-one u GreaterThan b = refl
-first-byte-one u c b = fed-one u (plain_bytes c b) false 0
-
 -- the scan state of a URL steps as its value does, whichever form it has
 pub url-scan-next : (v : ValuePlace) (t : Triple) (r : Reference) (c : Class) (b : ℕ) → scan_next (url_scan v t r) c b ≡ value_next v t r c b
 url-scan-next v NoTriple Closed c b = refl
@@ -281,16 +113,6 @@ url-scan-error v AfterDigit r c b = refl
 pub only-hand : (o p : Option PathCause) → o ≡ None → first_cause o p ≡ p
 only-hand o p e = rw e refl
 
--- the end of a tag
-tag-ends : (t : TagOf) → content_error t ≡ None → scanned (after_tag t) ≡ Some (content_scan t)
-tag-ends tag.End n = refl
-tag-ends (tag.Start element.Other) n = refl
-tag-ends (tag.Start element.Title) n = refl
-tag-ends (tag.Start element.Textarea) n = refl
-tag-ends (tag.Start element.Style) n = absurd (some _ n)
-tag-ends (tag.Start element.Script) n = absurd (some _ n)
-tag-ends (tag.Start element.DataBlock) n = refl
-
 tag-ends-with : (t : Tag) (k : Kind) → content_error t.tag ≡ None → scanned (after_tag (without_value t k).tag) ≡ Some (content_scan t.tag)
 tag-ends-with t k n = rw (same-tag t k) (tag-ends t.tag n)
 
@@ -300,7 +122,7 @@ value-begins t typed kind.Plain n f e = rw e refl
 value-begins t typed kind.NoHole n f e = rw e refl
 value-begins t typed kind.Url n f e = rw e refl
 value-begins t typed kind.Script n f e = absurd (some _ n)
-value-begins t typed kind.Style n f e = absurd (some _ n)
+value-begins t typed kind.Style n f e = rw e refl
 value-begins t typed kind.ScriptType n f e = not-second t kind.ScriptType (BeforeType t.tag) f
 
 value-begins-here : (t : Tag) (k : Kind) → kind_error k ≡ None → is_second_type t.typed k ≡ false → scanned (BeforeAttributeValue t k) ≡ Some (value_scan t.tag t.typed (Some k))
@@ -308,7 +130,7 @@ value-begins-here t kind.Plain n f = refl
 value-begins-here t kind.NoHole n f = refl
 value-begins-here t kind.Url n f = refl
 value-begins-here t kind.Script n f = absurd (some _ n)
-value-begins-here t kind.Style n f = absurd (some _ n)
+value-begins-here t kind.Style n f = refl
 value-begins-here t kind.ScriptType n f = not-second t kind.ScriptType (BeforeType t.tag) f
 
 -- state by state
@@ -516,16 +338,6 @@ begin-url t GraveAccent b n = absurd (some _ n)
 begin-url t c b n = url-fed Unquoted t url_start (undone_byte true Closed c b) (next_reference Closed c b)
 
 -- what is refused of them
-last-none : (o p : Option PathCause) → first_cause o p ≡ None → p ≡ None
-last-none None p e = e
-last-none (Some x) p e = absurd (some _ e)
-
-quoted-at : (q : Quoting) (s : Parts) (r : Reference) (c : Class) (b : ℕ)
-    → quoted_error parts_feeding (quotes_at q) s r c b ≡ language_error parts_feeding (ends_value q c) s r c b
-quoted-at DoubleQuoted s r c b = refl
-quoted-at SingleQuoted s r c b = refl
-quoted-at Unquoted s r c b = refl
-
 url-errors : (q : Quoting) (t : Tag) (u : Url) (r : Reference) (c : Class) (b : ℕ)
     → byte_error (AttributeValue q t (ValueOf (OfUrl u)) r) c b ≡ value_cause (url_value t (quotes_at q) (parts_of u.part)) r c b
 url-errors q t u r c b =
@@ -533,13 +345,13 @@ url-errors q t u r c b =
     let own = language_error (feeding languages) (ends_value q c) (ValueOf (OfUrl u)) r c b in
     ap (λ (x : Tag). first_cause own (at_hand (quotes_error x.tag (quotes_at q) c))) (same-with t (settled true r) (OfUrl u))
     ∙ ap (λ (o : Option PathCause). first_cause o (at_hand (quotes_error t.tag (quotes_at q) c)))
-    (language-one (ends_value q c) u r c b ∙ sym (quoted-at q s r c b))
+    (language-alike urls-alike (ends_value q c) r c b (ValueOf (OfUrl u)) s refl ∙ sym (quoted-at parts_feeding q s r c b))
 
 begin-url-errors : (t : Tag) (c : Class) (b : ℕ)
     → byte_error (BeforeAttributeValue t kind.Url) c b ≡ value_cause (url_value t unbegun (parts_of UrlStart)) Closed c b
 begin-url-errors t c b =
     ap (λ (o : Option PathCause). first_cause o (at_hand (bare_error t.tag (record { uq = false; unbegun = true }) c)))
-    (first-byte-one url_start c b)
+    (first-byte-alike urls-alike c b (ValueOf (OfUrl url_start)) (parts_of UrlStart) refl)
 
 url-steps : (q : Quoting) (t : Tag) (u : Url) (r : Reference) (c : Class) (b : ℕ) → Agrees (AttributeValue q t (ValueOf (OfUrl u)) r) (url_scanned q t u r) c b
 url-steps q t u r c b =
@@ -548,7 +360,7 @@ url-steps q t u r c b =
       errors = url-errors q t u r c b ∙ sym (url-scan-error v u.triple r c b);
       steps = λ n.
           url-next q t u r c b
-          (last-none (body_cause v.body v.quotes r c b) (at_hand (quotes_error t.tag (quotes_at q) c)) (sym (url-scan-error v u.triple r c b) ∙ n))
+          (first-caused (body_cause v.body v.quotes r c b) (at_hand (quotes_error t.tag (quotes_at q) c)) (sym (url-scan-error v u.triple r c b) ∙ n)).1
           ∙ ap Some (sym (url-scan-next v u.triple r c b));
     }
 
@@ -557,7 +369,7 @@ begin-url-steps t c b =
     let own = body_cause (body.Url (parts_of UrlStart)) unbegun Closed c b in
     record {
       errors = begin-url-errors t c b;
-      steps = λ n. begin-url t c b (last-none own (at_hand (bare_error t.tag (record { uq = false; unbegun = true }) c)) n);
+      steps = λ n. begin-url t c b (first-caused own (at_hand (bare_error t.tag (record { uq = false; unbegun = true }) c)) n).1;
     }
 
 -- the value of a type
@@ -758,7 +570,7 @@ unbegun-steps t kind.NoHole c b i = record {
 }
 unbegun-steps t kind.Url c b i = begin-url-steps t c b
 unbegun-steps t kind.Script c b i = tt
-unbegun-steps t kind.Style c b i = tt
+unbegun-steps t kind.Style c b i = begin-style-steps t c b
 unbegun-steps t kind.ScriptType c b i = before-type-steps t.typed t c b i refl
 
 value-errors : (q : Quoting) (t : Tag) (k : Kind) (r : Reference) (c : Class) (b : ℕ)
@@ -781,7 +593,8 @@ value-steps q t (ValueOf (OfKind kind.Script)) r c b i = tt
 value-steps q t (ValueOf (OfKind kind.Style)) r c b i = tt
 value-steps q t (ValueOf (OfKind kind.ScriptType)) r c b i = tt
 value-steps q t (ValueOf (OfUrl u)) r c b i = url-steps q t u r c b
-value-steps q t (ValueOf (OfStyle s)) r c b i = tt
+value-steps q t (ValueOf (OfStyle s)) r c b i =
+    where-styled q t s r (λ f. Agrees (AttributeValue q t (ValueOf (OfStyle s)) r) f c b) (style_scanned s) refl (λ n h. style-steps q t s n r c b h)
 value-steps q t (Deciding kind.ScriptType before) r c b i = type-steps t.typed q t before r c b i refl
 value-steps q t (Deciding k before) r c b i = tt
 
@@ -807,21 +620,13 @@ agrees (InContent e (Characters r) h) c b i = content-steps h e r c b
 agrees (InContent e Bytes h) c b i = block-steps h e c b
 agrees Unread c b i = tt
 
--- the end of a text, the reference that is open there, and the place that is shown before the bytes that are left
-pub record Ends (s : LexState ValueState) (f : Scan) : Type 0 where
-  pub errors : cut_error s ≡ scan_cut_error f
-  pub lexeme : lexeme_error s ≡ scan_lexeme_error f
-  pub reference : language_reference s ≡ scan_reference f
-  pub place : scan_cut_error f ≡ None → placed (at_cut languages s) ≡ Some (scan_place f)
-  pub shown : (bs : List ℕ) → place_before_bytes s bs ≡ scan_shown f bs
-
 content-ends : (h : Pending) (e : Element) (r : Reference) → WhereScanned (content_scanned h e) (Ends (InContent e (Characters r) h))
-content-ends Nothing element.Title r = record { errors = refl; lexeme = refl; reference = refl; place = λ n. refl; shown = λ bs. refl }
-content-ends Nothing element.Textarea r = record { errors = refl; lexeme = refl; reference = refl; place = λ n. refl; shown = λ bs. refl }
-content-ends PendingLess element.Title r = record { errors = refl; lexeme = refl; reference = refl; place = λ n. refl; shown = λ bs. refl }
-content-ends PendingLess element.Textarea r = record { errors = refl; lexeme = refl; reference = refl; place = λ n. refl; shown = λ bs. refl }
-content-ends (PendingName letters) element.Title r = record { errors = refl; lexeme = refl; reference = refl; place = λ n. refl; shown = λ bs. refl }
-content-ends (PendingName letters) element.Textarea r = record { errors = refl; lexeme = refl; reference = refl; place = λ n. refl; shown = λ bs. refl }
+content-ends Nothing element.Title r = record { errors = refl; lexeme = λ n. refl; reference = refl; place = λ n. refl; shown = λ bs h. refl }
+content-ends Nothing element.Textarea r = record { errors = refl; lexeme = λ n. refl; reference = refl; place = λ n. refl; shown = λ bs h. refl }
+content-ends PendingLess element.Title r = record { errors = refl; lexeme = λ n. refl; reference = refl; place = λ n. refl; shown = λ bs h. refl }
+content-ends PendingLess element.Textarea r = record { errors = refl; lexeme = λ n. refl; reference = refl; place = λ n. refl; shown = λ bs h. refl }
+content-ends (PendingName letters) element.Title r = record { errors = refl; lexeme = λ n. refl; reference = refl; place = λ n. refl; shown = λ bs h. refl }
+content-ends (PendingName letters) element.Textarea r = record { errors = refl; lexeme = λ n. refl; reference = refl; place = λ n. refl; shown = λ bs h. refl }
 content-ends LessAtCut element.Title r = tt
 content-ends LessAtCut element.Textarea r = tt
 content-ends PendingBang element.Title r = tt
@@ -836,12 +641,12 @@ content-ends PendingBang _ r = tt
 content-ends PendingBangDash _ r = tt
 
 block-ends : (h : Pending) (e : Element) → WhereScanned (block_scanned h e) (Ends (InContent e Bytes h))
-block-ends Nothing element.DataBlock = record { errors = refl; lexeme = refl; reference = refl; place = λ n. refl; shown = λ bs. refl }
-block-ends LessAtCut element.DataBlock = record { errors = refl; lexeme = refl; reference = refl; place = λ n. refl; shown = λ bs. refl }
-block-ends PendingLess element.DataBlock = record { errors = refl; lexeme = refl; reference = refl; place = λ n. refl; shown = λ bs. refl }
-block-ends (PendingName letters) element.DataBlock = record { errors = refl; lexeme = refl; reference = refl; place = λ n. refl; shown = λ bs. refl }
-block-ends PendingBang element.DataBlock = record { errors = refl; lexeme = refl; reference = refl; place = λ n. refl; shown = λ bs. refl }
-block-ends PendingBangDash element.DataBlock = record { errors = refl; lexeme = refl; reference = refl; place = λ n. refl; shown = λ bs. refl }
+block-ends Nothing element.DataBlock = record { errors = refl; lexeme = λ n. refl; reference = refl; place = λ n. refl; shown = λ bs h. refl }
+block-ends LessAtCut element.DataBlock = record { errors = refl; lexeme = λ n. refl; reference = refl; place = λ n. refl; shown = λ bs h. refl }
+block-ends PendingLess element.DataBlock = record { errors = refl; lexeme = λ n. refl; reference = refl; place = λ n. refl; shown = λ bs h. refl }
+block-ends (PendingName letters) element.DataBlock = record { errors = refl; lexeme = λ n. refl; reference = refl; place = λ n. refl; shown = λ bs h. refl }
+block-ends PendingBang element.DataBlock = record { errors = refl; lexeme = λ n. refl; reference = refl; place = λ n. refl; shown = λ bs h. refl }
+block-ends PendingBangDash element.DataBlock = record { errors = refl; lexeme = λ n. refl; reference = refl; place = λ n. refl; shown = λ bs h. refl }
 block-ends Nothing _ = tt
 block-ends LessAtCut _ = tt
 block-ends PendingLess _ = tt
@@ -850,30 +655,30 @@ block-ends PendingBang _ = tt
 block-ends PendingBangDash _ = tt
 
 comment-ends : (s : CommentState) → Ends (InComment s) (comment_scan s)
-comment-ends Inside = record { errors = refl; lexeme = refl; reference = refl; place = λ n. refl; shown = λ bs. refl }
-comment-ends Broken = record { errors = refl; lexeme = refl; reference = refl; place = λ n. refl; shown = λ bs. refl }
-comment-ends _ = record { errors = refl; lexeme = refl; reference = refl; place = λ n. refl; shown = λ bs. refl }
+comment-ends Inside = record { errors = refl; lexeme = λ n. refl; reference = refl; place = λ n. refl; shown = λ bs h. refl }
+comment-ends Broken = record { errors = refl; lexeme = λ n. refl; reference = refl; place = λ n. refl; shown = λ bs h. refl }
+comment-ends _ = record { errors = refl; lexeme = λ n. refl; reference = refl; place = λ n. refl; shown = λ bs h. refl }
 
 attribute-ends : (t : Tag) (name : List ℕ) → Ends (AttributeName t name) (InAttributeName t.tag t.typed name)
 attribute-ends t name =
     let k = kind_of (element_on t.tag) name in
     record {
       errors = refl;
-      lexeme = refl;
+      lexeme = λ n. refl;
       reference = refl;
       place = λ n. rw (unless-first (is_second_type t.typed k) (length name) None n, same-typed t k) refl;
-      shown = λ bs. rw (same-typed t k) refl;
+      shown = λ bs h. rw (same-typed t k) refl;
     }
 
 whole-name-ends : (second : Bool) (t : Tag) (k : Kind) → is_second_type t.typed k ≡ second
     → WhereScanned (if second then None else Some (At (place.Tag (tag_spot t only_inside (Some k))))) (Ends (WholeAttributeName t k))
 whole-name-ends true t k e = tt
-whole-name-ends false t k e = record { errors = refl; lexeme = refl; reference = refl; place = λ n. rw e refl; shown = λ bs. rw e refl }
+whole-name-ends false t k e = record { errors = refl; lexeme = λ n. refl; reference = refl; place = λ n. rw e refl; shown = λ bs h. rw e refl }
 
 after-name-ends : (second : Bool) (t : Tag) (k : Kind) → is_second_type t.typed k ≡ second
     → WhereScanned (if second then None else Some (At (place.Tag (tag_spot t only_after (Some k))))) (Ends (AfterAttributeName t k))
 after-name-ends true t k e = tt
-after-name-ends false t k e = record { errors = refl; lexeme = refl; reference = refl; place = λ n. rw e refl; shown = λ bs. rw e refl }
+after-name-ends false t k e = record { errors = refl; lexeme = λ n. refl; reference = refl; place = λ n. rw e refl; shown = λ bs h. rw e refl }
 
 -- the body of a value of a kind does not change, and its language refuses nothing
 cut-body : (bs : List ℕ) (k : Kind) → value_body (cut_value languages (with_bytes languages (ValueOf (OfKind k)) bs)) ≡ value_body (ValueOf (OfKind k))
@@ -904,10 +709,10 @@ value-ends : (q : Quoting) (t : Tag) (k : Kind) (x : Body) (r : Reference) → b
     → Ends (AttributeValue q t (ValueOf (OfKind k)) r) (value-at t (quotes_at q) x)
 value-ends q t k x r e = record {
   errors = fed-none (ValueOf (OfKind k)) (as_it_stands r) true (length (as_it_stands r)) tt;
-  lexeme = kind-whole (as_it_stands r) k;
+  lexeme = λ n. kind-whole (as_it_stands r) k;
   reference = refl;
   place = λ n. value-place q t k x r e;
-  shown = λ bs. value-shown q t k x r bs e;
+  shown = λ bs h. value-shown q t k x r bs e;
 }
 
 -- the end of a text in a URL
@@ -959,7 +764,7 @@ url-reference v NoTriple (Open f bytes) = refl
 url-reference v AfterPercent r = refl
 url-reference v AfterDigit r = refl
 
-url-shown : (q : Quoting) (t : Tag) (u : Url) (x : Triple) (r : Reference) (bs : List ℕ)
+pub url-shown : (q : Quoting) (t : Tag) (u : Url) (x : Triple) (r : Reference) (bs : List ℕ)
     → place_before_bytes (AttributeValue q t (ValueOf (OfUrl u)) r) bs ≡ scan_shown (url_scan (url_value t (quotes_at q) (parts_of u.part)) x r) bs
 url-shown q t u NoTriple Closed bs = refl
 url-shown q t u AfterPercent Closed bs = refl
@@ -975,11 +780,11 @@ url-ends : (q : Quoting) (t : Tag) (u : Url) (r : Reference) → Ends (Attribute
 url-ends q t u r =
     let v = url_value t (quotes_at q) (parts_of u.part) in
     record {
-      errors = fed-one u (as_it_stands r) true (length (as_it_stands r)) ∙ sym (url-scan-cut t (quotes_at q) (parts_of u.part) u.triple r);
-      lexeme = url-lexeme u (as_it_stands r) ∙ sym (url-scan-lexeme v u.triple r);
+      errors = fed-alike urls-alike (as_it_stands r) true (length (as_it_stands r)) (ValueOf (OfUrl u)) (parts_of u.part) refl ∙ sym (url-scan-cut t (quotes_at q) (parts_of u.part) u.triple r);
+      lexeme = λ n. url-lexeme u (as_it_stands r) ∙ sym (url-scan-lexeme v u.triple r);
       reference = sym (url-reference v u.triple r);
       place = λ n. ap (value_spot t (quotes_at q)) (url-body u (as_it_stands r)) ∙ ap Some (sym (url-scan-place t (quotes_at q) (parts_of u.part) u.triple r));
-      shown = url-shown q t u u.triple r;
+      shown = λ bs h. url-shown q t u u.triple r bs;
     }
 
 -- in the value of a type there is no place
@@ -1005,35 +810,35 @@ type-ends : (typed : Bool) (q : Quoting) (t : Tag) (before : List ℕ) (r : Refe
 type-ends true q t before r = tt
 type-ends false q t before r = record {
   errors = refl;
-  lexeme = type-whole (as_it_stands r) before;
+  lexeme = λ n. type-whole (as_it_stands r) before;
   reference = refl;
   place = λ n. absurd (some _ n);
-  shown = type-shown q t before r;
+  shown = λ bs h. type-shown q t before r bs;
 }
 
 begin-type-ends : (typed : Bool) (t : Tag) → WhereScanned (if typed then None else Some (BeforeType t.tag)) (Ends (BeforeAttributeValue t kind.ScriptType))
 begin-type-ends true t = tt
-begin-type-ends false t = record { errors = refl; lexeme = refl; reference = refl; place = λ n. absurd (some _ n); shown = λ bs. refl }
+begin-type-ends false t = record { errors = refl; lexeme = λ n. refl; reference = refl; place = λ n. absurd (some _ n); shown = λ bs h. refl }
 
 pub ends-agree : (s : LexState ValueState) → WhereScanned (scanned s) (Ends s)
-ends-agree (Text r) = record { errors = refl; lexeme = refl; reference = refl; place = λ n. refl; shown = λ bs. refl }
-ends-agree (TagOpen r) = record { errors = refl; lexeme = refl; reference = refl; place = λ n. refl; shown = λ bs. refl }
-ends-agree (EndTagOpen r) = record { errors = refl; lexeme = refl; reference = refl; place = λ n. refl; shown = λ bs. refl }
-ends-agree (DeclarationOpen r pending) = record { errors = refl; lexeme = refl; reference = refl; place = λ n. refl; shown = λ bs. refl }
+ends-agree (Text r) = record { errors = refl; lexeme = λ n. refl; reference = refl; place = λ n. refl; shown = λ bs h. refl }
+ends-agree (TagOpen r) = record { errors = refl; lexeme = λ n. refl; reference = refl; place = λ n. refl; shown = λ bs h. refl }
+ends-agree (EndTagOpen r) = record { errors = refl; lexeme = λ n. refl; reference = refl; place = λ n. refl; shown = λ bs h. refl }
+ends-agree (DeclarationOpen r pending) = record { errors = refl; lexeme = λ n. refl; reference = refl; place = λ n. refl; shown = λ bs h. refl }
 ends-agree (InComment s) = comment-ends s
 ends-agree BogusComment = tt
-ends-agree InDoctype = record { errors = refl; lexeme = refl; reference = refl; place = λ n. refl; shown = λ bs. refl }
-ends-agree (TagName ends name) = record { errors = refl; lexeme = refl; reference = refl; place = λ n. refl; shown = λ bs. refl }
-ends-agree (WholeTagName t) = record { errors = refl; lexeme = refl; reference = refl; place = λ n. refl; shown = λ bs. refl }
-ends-agree (BeforeAttributeName t) = record { errors = refl; lexeme = refl; reference = refl; place = λ n. refl; shown = λ bs. refl }
+ends-agree InDoctype = record { errors = refl; lexeme = λ n. refl; reference = refl; place = λ n. refl; shown = λ bs h. refl }
+ends-agree (TagName ends name) = record { errors = refl; lexeme = λ n. refl; reference = refl; place = λ n. refl; shown = λ bs h. refl }
+ends-agree (WholeTagName t) = record { errors = refl; lexeme = λ n. refl; reference = refl; place = λ n. refl; shown = λ bs h. refl }
+ends-agree (BeforeAttributeName t) = record { errors = refl; lexeme = λ n. refl; reference = refl; place = λ n. refl; shown = λ bs h. refl }
 ends-agree (AttributeName t name) = attribute-ends t name
 ends-agree (WholeAttributeName t k) = whole-name-ends (is_second_type t.typed k) t k refl
 ends-agree (AfterAttributeName t k) = after-name-ends (is_second_type t.typed k) t k refl
-ends-agree (BeforeAttributeValue t kind.Plain) = record { errors = refl; lexeme = refl; reference = refl; place = λ n. refl; shown = λ bs. refl }
-ends-agree (BeforeAttributeValue t kind.NoHole) = record { errors = refl; lexeme = refl; reference = refl; place = λ n. refl; shown = λ bs. refl }
-ends-agree (BeforeAttributeValue t kind.Url) = record { errors = refl; lexeme = refl; reference = refl; place = λ n. refl; shown = λ bs. refl }
+ends-agree (BeforeAttributeValue t kind.Plain) = record { errors = refl; lexeme = λ n. refl; reference = refl; place = λ n. refl; shown = λ bs h. refl }
+ends-agree (BeforeAttributeValue t kind.NoHole) = record { errors = refl; lexeme = λ n. refl; reference = refl; place = λ n. refl; shown = λ bs h. refl }
+ends-agree (BeforeAttributeValue t kind.Url) = record { errors = refl; lexeme = λ n. refl; reference = refl; place = λ n. refl; shown = λ bs h. refl }
 ends-agree (BeforeAttributeValue t kind.Script) = tt
-ends-agree (BeforeAttributeValue t kind.Style) = tt
+ends-agree (BeforeAttributeValue t kind.Style) = record { errors = refl; lexeme = λ n. refl; reference = refl; place = λ n. refl; shown = λ bs h. refl }
 ends-agree (BeforeAttributeValue t kind.ScriptType) = begin-type-ends t.typed t
 ends-agree (AttributeValue q t (ValueOf (OfKind kind.Plain)) r) = value-ends q t kind.Plain body.Plain r refl
 ends-agree (AttributeValue q t (ValueOf (OfKind kind.NoHole)) r) = value-ends q t kind.NoHole body.NoHole r refl
@@ -1042,11 +847,12 @@ ends-agree (AttributeValue q t (ValueOf (OfKind kind.Script)) r) = tt
 ends-agree (AttributeValue q t (ValueOf (OfKind kind.Style)) r) = tt
 ends-agree (AttributeValue q t (ValueOf (OfKind kind.ScriptType)) r) = tt
 ends-agree (AttributeValue q t (ValueOf (OfUrl u)) r) = url-ends q t u r
-ends-agree (AttributeValue q t (ValueOf (OfStyle s)) r) = tt
+ends-agree (AttributeValue q t (ValueOf (OfStyle s)) r) =
+    where-styled q t s r (Ends (AttributeValue q t (ValueOf (OfStyle s)) r)) (style_scanned s) refl (λ n h. style-ends q t s n r h)
 ends-agree (AttributeValue q t (Deciding kind.ScriptType before) r) = type-ends t.typed q t before r
 ends-agree (AttributeValue q t (Deciding k before) r) = tt
-ends-agree (AfterAttributeValue t) = record { errors = refl; lexeme = refl; reference = refl; place = λ n. refl; shown = λ bs. refl }
-ends-agree (SelfClosingStartTag t) = record { errors = refl; lexeme = refl; reference = refl; place = λ n. refl; shown = λ bs. refl }
+ends-agree (AfterAttributeValue t) = record { errors = refl; lexeme = λ n. refl; reference = refl; place = λ n. refl; shown = λ bs h. refl }
+ends-agree (SelfClosingStartTag t) = record { errors = refl; lexeme = λ n. refl; reference = refl; place = λ n. refl; shown = λ bs h. refl }
 ends-agree (InContent e (Characters r) h) = content-ends h e r
 ends-agree (InContent e Bytes h) = block-ends h e
 ends-agree Unread = tt

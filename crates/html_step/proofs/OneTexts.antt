@@ -1,5 +1,5 @@
 -- A whole text, from the place of one path.
-use Rattle.std.proofs.Common.{◌≡◌, ◌≤◌, ℕ, ◌+◌, ◌-◌, zero, suc, List, [], ◌∷◌, Option, Some, None, Result, Ok, Err, refl, sym, ap, ◌∙◌, subst, arith, Bool, true, false, ◌⊎◌, inl, inr}
+use Rattle.std.proofs.Common.{◌≡◌, ◌≤◌, ℕ, ◌+◌, ◌-◌, zero, suc, List, [], ◌∷◌, take, drop, Option, Some, None, Result, Ok, Err, refl, sym, ap, ◌∙◌, subst, arith, Bool, true, false, ◌⊎◌, inl, inr}
 use Rattle.std.specs.Prelude.{⊤, is_some, if◌then◌else◌}
 use Rattle.std.specs.Option.{option_map}
 use Rattle.place_core.specs.page.Classes.{class_of}
@@ -8,21 +8,28 @@ use Rattle.place_core.specs.place.LastLexeme.{last_lexeme_start, language_refere
 use Rattle.place_core.specs.page.Html.{next}
 use Rattle.place_core.specs.page.References.{Reference, Closed, Open}
 use Rattle.place_core.specs.place.UrlParts.{parts_of}
+use Rattle.place_core.specs.place.StyleParts.{style_body}
 use Rattle.place_core.specs.place.StatePlaces.{placed, quotes_at, value_spot}
 use Rattle.place_core.specs.page.States.{Template, LexState, Text, TagOpen, EndTagOpen, DeclarationOpen, Started, StartedDash, Inside, Dash, DashDash, Bang, Broken, InComment, BogusComment, InDoctype, TagName, WholeTagName, BeforeAttributeName, AttributeName, WholeAttributeName, AfterAttributeName, BeforeAttributeValue, AttributeValue, AfterAttributeValue, SelfClosingStartTag, Characters, Bytes, Nothing, PendingLess, PendingName, PendingBang, PendingBangDash, InContent, Unread, LessAtCut}
 use Rattle.place_core.specs.page.Tags.{Tag, ValueState, OfKind, OfUrl, OfStyle, Quoting, languages, ValueOf, Deciding, is_second_type}
+use Rattle.css_lexer.specs.States.{Style}
+use Rattle.css_step.specs.StyleScans.{StyleScan}
+use Rattle.place_core.specs.declared.body.Body.{Body}
 use Rattle.place_core.specs.declared.body.Body.TheVariants as body
 use Rattle.place_core.specs.declared.code.Code.{Code}
 use Rattle.place_core.specs.declared.element.Element.TheVariants as element
 use Rattle.place_core.specs.declared.place.Place.{Place}
 use Rattle.place_core.specs.declared.step_err.StepErr.{StepErr}
-use Rattle.html_scan.specs.Scans.{Scan, At, scan_next, scan_error, scan_place, scan_cut_error, scan_lexeme_error, scan_shown, scan_reference, url_scan}
+use Rattle.html_scan.specs.Scans.{Scan, At, InStyle, scan_next, scan_error, scan_place, scan_cut_error, scan_lexeme_error, scan_shown, scan_reference, url_scan, with_body, with_style}
 use Rattle.html_step.specs.Laws.{OneBefore, OneText}
-use Rattle.html_step.specs.Steps.{after_text, stepped, unless_refused, unless_broken_off, place_before, with_place_before, or_shown, shown_scan}
-use Rattle.html_step.proofs.OnePath.{scanned, url_value, Agrees, Ends, WhereScanned, agrees, ends-agree}
+use Rattle.html_step.specs.Steps.{after_text, scan_after, stepped, unless_refused, unless_broken_off, place_before, with_place_before, or_shown, shown_scan}
+use Rattle.html_step.proofs.OnePath.{agrees, ends-agree}
+use Rattle.html_step.proofs.PathScans.{scanned, style_value_scanned, url_value, Agrees, Ends, IsShown, WhereScanned}
+use Rattle.html_step.proofs.StylePaths.{StandsHere, style-at-place, style_value}
 use Rattle.place_core.specs.declared.kind.Kind.TheVariants as kind
 use Rattle.url_lexer.specs.Parts.{UrlPart}
 use Rattle.url_lexer.specs.Spots.{where_whole}
+use Rattle.url_lexer.specs.States.{Url}
 use Rattle.url_lexer.specs.Triples.{Triple, NoTriple, AfterPercent, AfterDigit}
 
 pub none : {A : Type 0} {x : A} → None ≡ Some x → ⊥
@@ -39,6 +46,17 @@ url-place : (q : Quoting) (t : Tag) (x : Triple) (u : UrlPart) (p : Place)
 url-place q t NoTriple u p e = ap (option_map At) e
 url-place q t AfterPercent u p e = absurd (none e)
 url-place q t AfterDigit u p e = absurd (none e)
+
+-- in a style, outside of lexemes
+style-at : (q : Quoting) (t : Tag) (s : Style Url) (p : Place) (o : Option Body) → style_body s ≡ o → value_spot t (quotes_at q) o ≡ Some p
+    → scanned (AttributeValue q t (ValueOf (OfStyle s)) Closed) ≡ Some (At p)
+style-at q t s p None h e = absurd (none e)
+style-at q t s p (Some x) h e =
+    let a = style-at-place s x h in
+    let v = style_value t (quotes_at q) in
+    ap (λ (o : Option StyleScan). style_value_scanned q t o Closed) a.is
+    ∙ ap (λ (y : Bool). Some (if y then At (with_style v a.scan) else InStyle v a.scan Closed)) a.starts
+    ∙ ap (λ (y : Body). Some (At (with_body v y))) (sym a.place) ∙ ap (option_map At) e
 
 -- a state that has a place is at it
 pub at-place : (s : LexState ValueState) (p : Place) → placed s ≡ Some p → scanned s ≡ Some (At p)
@@ -67,10 +85,10 @@ at-place (BeforeAttributeValue t kind.Plain) p e = ap (option_map At) e
 at-place (BeforeAttributeValue t kind.NoHole) p e = ap (option_map At) e
 at-place (BeforeAttributeValue t kind.Url) p e = ap (option_map At) e
 at-place (BeforeAttributeValue t kind.Script) p e = absurd (none e)
-at-place (BeforeAttributeValue t kind.Style) p e = absurd (none e)
+at-place (BeforeAttributeValue t kind.Style) p e = ap (option_map At) e
 at-place (AttributeValue q t (ValueOf (OfKind k)) Closed) p e = ap (option_map At) e
 at-place (AttributeValue q t (ValueOf (OfUrl u)) Closed) p e = url-place q t u.triple u.part p e
-at-place (AttributeValue q t (ValueOf (OfStyle s)) Closed) p e = absurd (none e)
+at-place (AttributeValue q t (ValueOf (OfStyle s)) Closed) p e = style-at q t s p (style_body s) refl e
 at-place (AttributeValue q t (Deciding k before) Closed) p e = absurd (none e)
 at-place (AttributeValue q t v (Open f bytes)) p e = absurd (none e)
 at-place (AfterAttributeValue t) p e = ap (option_map At) e
@@ -119,11 +137,15 @@ end-answer k since after None None s q e p = (e, p refl)
 end-answer k since after None (Some x) s q e p = e
 end-answer k since after (Some x) l s q e p = e
 
+stand-alike : (k : ℕ) (o : Option PathCause) (a b : Option PathRefusal) → (o ≡ None → a ≡ b) → standing_at k o a ≡ standing_at k o b
+stand-alike k None a b h = h refl
+stand-alike k (Some x) a b h = refl
+
 end-says : (k since : ℕ) (s : LexState ValueState) (f : Scan) → Ends s f → Says (stepped k since [] f) k since [] s
 end-says k since s f a =
     end-answer k since since (scan_cut_error f) (scan_lexeme_error f) s (scan_place f)
     (ap (λ (o : Option PathCause). standing_at k o (broken_off k since (lexeme_error s))) a.errors
-    ∙ ap (λ (l : Option Code). standing_at k (scan_cut_error f) (broken_off k since l)) a.lexeme)
+    ∙ stand-alike k (scan_cut_error f) (broken_off k since (lexeme_error s)) (broken_off k since (scan_lexeme_error f)) (λ n. ap (broken_off k since) (a.lexeme n)))
     a.place
 
 byte-answer : (k since after b : ℕ) (bs : List ℕ) (o : Option PathCause) (s : LexState ValueState) (r : Result Place PathRefusal)
@@ -168,20 +190,53 @@ pub later : (k n : ℕ) (r : Result Place PathRefusal) → Reaches (k + suc n) r
 later k n (Ok q) h = tt
 later k n (Err r) h = sooner k n r.at r.shown h
 
+-- Up to the byte that is refused what is before the bytes that are left is shown. No reference is open where the text begins.
+not-before : (j n back : ℕ) → suc j + n ≤ suc j - back → back ≡ 0
+not-before j n back h = omega (arith, h)
+
+stands-here : (j n : ℕ) (o : Option PathCause) (r : Result Place PathRefusal) → Reaches (suc j + n) (unless_refused (suc j) o r) → StandsHere o
+stands-here j n None r h = tt
+stands-here j n (Some x) r (inl h) = inl (not-before j n x.back h)
+stands-here j n (Some x) r (inr h) = inr (not-before j n x.shown h)
+
+abbrev pub BeginsClosed : ℕ → Scan → Type 0
+BeginsClosed k f = k ≡ 0 → scan_reference f ≡ Closed
+
+goes-closed : (k : ℕ) (f : Scan) → BeginsClosed (k + 1) f
+goes-closed k f e = absurd (let more : k + 1 ≡ 0 = e in omega (arith, more))
+
+is-shown : (k n since : ℕ) (bytes : List ℕ) (f : Scan) → BeginsClosed k f → Reaches (k + n) (stepped k since bytes f) → IsShown f bytes
+is-shown zero n since bytes f c r = inl (c refl)
+is-shown (suc j) n since [] f c r = inr (stands-here j n (scan_cut_error f) (unless_broken_off (suc j) since (scan_lexeme_error f) (scan_place f)) r)
+is-shown (suc j) n since (b ∷ bs) f c r =
+    inr (stands-here j n (scan_error f (class_of b) b)
+    (stepped (suc j + 1) (last_lexeme_start (suc j) since (scan_reference f) (class_of b) b) bs (scan_next f (class_of b) b)) r)
+
+-- likewise behind some bytes
+pub is-shown-after : (n : ℕ) (bytes : List ℕ) (k since : ℕ) (f : Scan) → BeginsClosed k f → Reaches (k + n) (stepped k since bytes f)
+    → IsShown (scan_after (take n bytes) f) (drop n bytes)
+is-shown-after zero bytes k since f c r = is-shown k zero since bytes f c r
+is-shown-after (suc n) [] k since f c r = is-shown k (suc n) since [] f c r
+is-shown-after (suc n) (b ∷ bs) k since f c r =
+    let g = scan_next f (class_of b) b in
+    let after = last_lexeme_start k since (scan_reference f) (class_of b) b in
+    is-shown-after n bs (k + 1) after g (goes-closed k g)
+    (later k n (stepped (k + 1) after bs g) (not-late k n (scan_error f (class_of b) b) (stepped (k + 1) after bs g) r).1)
+
 -- the last place of a path, and the last one of its scan states
 pub shown-there : (n : ℕ) (bytes : List ℕ) (k since : ℕ) (s : LexState ValueState) (f : Scan) (o : Option Place) → scanned s ≡ Some f
-    → Reaches (k + n) (stepped k since bytes f)
+    → BeginsClosed k f → Reaches (k + n) (stepped k since bytes f)
     → shown_from n bytes s o ≡ shown_scan n bytes f o
-shown-there zero bytes k since s f o e r = ap (λ (a : Option Place). or_place a o) ((ends-at s f e).shown bytes)
-shown-there (suc n) [] k since s f o e r = ap (λ (a : Option Place). or_place a o) ((ends-at s f e).shown [])
-shown-there (suc n) (b ∷ bs) k since s f o e r =
+shown-there zero bytes k since s f o e c r = ap (λ (a : Option Place). or_place a o) ((ends-at s f e).shown bytes (is-shown k zero since bytes f c r))
+shown-there (suc n) [] k since s f o e c r = ap (λ (a : Option Place). or_place a o) ((ends-at s f e).shown [] (is-shown k (suc n) since [] f c r))
+shown-there (suc n) (b ∷ bs) k since s f o e c r =
     let a = agrees-at s f b e in
     let g = scan_next f (class_of b) b in
     let after = last_lexeme_start k since (scan_reference f) (class_of b) b in
     let l = not-late k n (scan_error f (class_of b) b) (stepped (k + 1) after bs g) r in
     shown-there n bs (k + 1) after (next languages Template s (class_of b) b) g (or_place (place_before_bytes s (b ∷ bs)) o) (a.steps l.0)
-    (later k n (stepped (k + 1) after bs g) l.1)
-    ∙ ap (λ (a : Option Place). shown_scan n bs g (or_place a o)) ((ends-at s f e).shown (b ∷ bs))
+    (goes-closed k g) (later k n (stepped (k + 1) after bs g) l.1)
+    ∙ ap (λ (a : Option Place). shown_scan n bs g (or_place a o)) ((ends-at s f e).shown (b ∷ bs) (is-shown k (suc n) since (b ∷ bs) f c r))
 
 -- from a place there is always one
 or-some : (a o : Option Place) → is_some o ≡ true → is_some (or_place a o) ≡ true
@@ -206,7 +261,7 @@ pub place-there : (n : ℕ) (bytes : List ℕ) (k since : ℕ) (s : LexState Val
     → Reaches (k + n) (stepped k since bytes (At p))
     → shown_place n bytes s ≡ Some (place_before bytes n p)
 place-there n bytes k since s p e r =
-    shown-there n bytes k since s (At p) None (at-place s p e) r ∙ some-shown (shown_scan n bytes (At p) None) p (place-shown n bytes p)
+    shown-there n bytes k since s (At p) None (at-place s p e) (λ z. refl) r ∙ some-shown (shown_scan n bytes (At p) None) p (place-shown n bytes p)
 
 -- the whole answer
 abbrev pub Whole : Result Place (StepErr Place) → List ℕ → LexState ValueState → Type 0

@@ -10,6 +10,7 @@ use Rattle.place_core.specs.place.Errors.{PathCause}
 use Rattle.place_core.specs.declared.member.Member.{Member}
 use Rattle.place_core.specs.declared.member.Member.TheVariants as member
 use Rattle.html_scan.specs.ScanViews.{cause_at}
+use Rattle.html_scan.specs.declared.cause.Cause.{Cause as ReadCause}
 use Rattle.place_core.specs.declared.parts.Parts.{Parts}
 use Rattle.html_scan.specs.Scans.{Scan, parts_feeding, scan_error, scan_next}
 use Rattle.html_step.specs.Laws.{EvidenceData, apart, one, two}

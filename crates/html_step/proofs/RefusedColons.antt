@@ -1,16 +1,19 @@
 -- Scan states in which paths have spelled different things: what they refuse at a `:` behind some bytes, and how two paths come apart before it.
 use Rattle.std.proofs.Common.{◌≡◌, ◌≤◌, ℕ, ◌+◌, ◌-◌, suc, Bool, true, false, ◌⊎◌, inl, inr, List, [], ◌∷◌, Option, Some, None, Result, Err, is_some, refl, sym, ap, ◌∙◌, subst, arith, ⊎_elim}
+use Rattle.css_lexer.specs.States.{Fresh, Bare, Quoted, Ended, Out}
+use Rattle.css_lexer.specs.States as style
+use Rattle.css_step.specs.StyleOrigins.{style_scan_parts}
+use Rattle.css_step.specs.StyleScans.{StyleScan, ScanBareUrl, ScanQuotedUrl}
 use Rattle.place_core.specs.page.Classes.{Class, White, Ampersand, QuotationMark, Apostrophe, class_of, is_equals_sign}
 use Rattle.place_core.specs.page.Html.{next}
-use Rattle.place_core.specs.page.References.{Form, Reference, Closed, Open, ReferenceStep, Grows, Closes, Breaks, begin_reference, flushed, meaning, next_reference, reference_turned, turn, turn_bytes, undone_byte}
+use Rattle.place_core.specs.page.References.{Form, Reference, Closed, Open, ReferenceStep, Grows, Closes, Breaks, begin_reference, flushed, meaning, next_reference, plain_bytes, reference_turned, turn, turn_bytes, undone_byte}
 use Rattle.place_core.specs.page.States.{AttributeValue, BeforeAttributeValue, LexState, Template}
-use Rattle.place_core.specs.page.Tags.{OfUrl, ValueOf, ValueState, feed_bytes, languages}
-use Rattle.place_core.specs.place.ApartPlaces.{opened_apart, beginning_at, spell_apart}
+use Rattle.place_core.specs.page.Tags.{OfStyle, OfUrl, ValueOf, ValueState, feed_bytes, languages}
+use Rattle.place_core.specs.place.ApartPlaces.{opened_apart, beginning_at, beginning_in_body, spell_apart}
 use Rattle.place_core.specs.place.Errors.{PathCause, PathRefusal, broken_off, byte_error, cut_error, lexeme_error, place_before_bytes, refusal_from, standing_at}
 use Rattle.place_core.specs.place.LastLexeme.{last_lexeme_start, language_reference}
 use Rattle.place_core.specs.place.PathPairs.{ApartBefore, Clashes, ClashesApart, MeetsColon, is_in_beginning, is_in_reference, state_before, unknown_beginning}
 use Rattle.place_core.specs.place.LanguagePlaces.{parts_have}
-use Rattle.place_core.specs.place.Places.{Has}
 use Rattle.place_core.specs.place.StatePlaces.{quotes_at}
 use Rattle.place_core.specs.place.UrlParts.{parts_of, placed_prefix}
 use Rattle.place_core.specs.declared.body.Body.{Body}
@@ -27,20 +30,24 @@ use Rattle.place_core.specs.declared.quotes.Quotes.{Quotes}
 use Rattle.place_core.specs.declared.quotes.Quotes.TheVariants as quotes
 use Rattle.place_core.specs.declared.value_place.ValuePlace.{ValuePlace}
 use Rattle.place_core.proofs.Semilattices.{none_some, one_value}
-use Rattle.html_scan.specs.Scans.{Scan, At, InUrl, InStyle, scan_reference, parts_feeding, parts_with, scan_error, scan_next, triple_behind}
+use Rattle.html_scan.specs.Scans.{Scan, At, InUrl, InStyle, scan_reference, parts_feeding, parts_with, scan_error, scan_next, style_fed, style_feeding, style_scan, style_value_next, triple_behind, value_between}
 use Rattle.html_step.specs.Origins.{body_parts, fed_in, is_apart, scan_parts}
 use Rattle.html_step.specs.Steps.{stepped, unless_refused}
 use Rattle.html_step.proofs.ApartParts.{AriseIn, apart-inside, arise-in, bytes-stay, opens-apart, waits}
 use Rattle.html_step.proofs.Characters.{IsCharacter, NoColon, ReferencePlain, flushed-character, nothing, utf8-character, plain-character}
 use Rattle.html_step.proofs.Clashing.{StartsUrl, is-open, is-start}
 use Rattle.html_step.proofs.FromValues.{in-body}
-use Rattle.html_step.proofs.OnePath.{scanned, url_scanned, url_value, url-reference}
+use Rattle.html_step.proofs.OnePath.{url-reference}
 use Rattle.html_step.proofs.OneTexts.{Says, agrees-at, says}
+use Rattle.html_step.proofs.PathScans.{scanned, url_scanned, url_value}
 use Rattle.html_step.proofs.KeptBeginnings.{begins-value}
-use Rattle.html_step.proofs.ReadScans.{NotBroken, Takes, not-broken, read-below, read-closed, read-on, read-valid, read_turn, read_value, scan_read, takes}
-use Rattle.html_step.proofs.ReadStates.{UrlState, open-parts, own-place, read-between, read-state, shown-closed, unknown, url-of, url_state}
-use Rattle.html_step.proofs.ScanOrder.{ScanBelow, ScanHas, ScanValid, scan-grows}
-use Rattle.html_step.proofs.UrlScans.{ScanPlain, above-parts, below-parts, below-reference, fed-same, goes, goes-parts, parts-body, raw-opened, reference_length, scan-fresh, scan-length, scan_fed, url-at, url-parts}
+use Rattle.html_step.proofs.ReadScans.{NotBroken, ReadTaken, Takes, closed-taken, not-broken, read-below, read-closed, read-on, read-taken, read-valid, read_style, read_turn, read_value, scan_read, style-fed-read, takes}
+use Rattle.html_step.proofs.ReadStates.{UrlState, open-parts, own-place, read-between, read-shown, read-state, shown-closed, style_state, unknown, url-of, url_state}
+use Rattle.html_step.proofs.ScanOrder.{ScanBelow, ScanHas, ScanValid, StyleUnder, scan-grows}
+use Rattle.html_step.proofs.StylePaths.{empty_css, style-scan-reference, style_value}
+use Rattle.html_step.proofs.StyleValues.{in-set}
+use Rattle.html_step.proofs.StyleUrls.{KnownUrl, StaysInUrl, below-in-url, feeds, known-fed, known-unmet, stays-parts, stays-same}
+use Rattle.html_step.proofs.UrlScans.{ScanPlain, above-parts, below-goes, below-parts, below-reference, body-has-part, fed-same, goes-parts, has_met, lead-unmet, next-holds, raw-opened, reference_length, scan-length, scan-unmet, scan_fed, set-has-part, style-met, style-parts, url-parts, within-body}
 use Rattle.html_step.proofs.ValidSteps.{scan-valid}
 use Rattle.url_lexer.specs.Classes.{url_class_of}
 use Rattle.url_lexer.specs.Parts.{UrlPart, UrlStart, UrlOpen}
@@ -63,14 +70,15 @@ apart-in (Some s) h = record { parts = s; is = refl; apart = h }
 apart-in None h = absurd (no h)
 
 pub parts-have : (g : Scan) (s : Parts) (y : Member) → scan_parts g ≡ Some s → parts_have s y ≡ true → ScanHas g y
-parts-have (At (place.Value v)) s y h k =
-    subst (λ (b : Body). Has (place.Value (record { tag = v.tag; typed = v.typed; quotes = v.quotes; body = b })) y) (sym (parts-body v.body s h))
-    (in-body v.typed v.quotes (body.Url s) y k)
-parts-have (InUrl v t r) s y h k =
-    subst (λ (b : Body). Has (place.Value (record { tag = v.tag; typed = v.typed; quotes = v.quotes; body = b })) y) (sym (parts-body v.body s h))
-    (in-body v.typed v.quotes (body.Url s) y k)
+parts-have (At (place.Value v)) s y h k = in-body v.typed v.quotes v.body y (body-has-part v.body s y h k)
+parts-have (InUrl v t r) s y h k = in-body v.typed v.quotes v.body y (body-has-part v.body s y h k)
+parts-have (InStyle v n r) s y h k = in-set v.typed v.quotes n y (set-has-part n s y h k)
 parts-have (At _) s y h k = absurd (none_some s h)
 parts-have _ s y h k = absurd (none_some s h)
+
+-- so what it spells, as it stands
+met-there : (f : Scan) → is_apart (scan_parts f) ≡ true → has_met f ≡ true
+met-there f a = (let x = apart-in (scan_parts f) a in ap spells_apart (raw-opened f x.parts x.is) ∙ x.apart)
 
 -- Bytes that stand at `k` are refused of each path of which it is not known what it spells, by this.
 pub record ShownApart (k : ℕ) (bytes : List ℕ) (f : Scan) (r : PathRefusal) : Type 0 where
@@ -85,7 +93,7 @@ pub before-apart : (f : Scan) (c : Class) (b : ℕ) (o : Option Parts) → ScanV
 before-apart f c b (Some s) v h n a = (s, h)
 before-apart f c b None v h n a =
     let d = apart-in (scan_parts (scan_next f c b)) a in
-    absurd (no (sym (scan-fresh f c b v h n).0 ∙ ap spells_apart (raw-opened (scan_next f c b) d.parts d.is) ∙ d.apart))
+    absurd (no (sym (scan-unmet f c b v h n) ∙ ap spells_apart (raw-opened (scan_next f c b) d.parts d.is) ∙ d.apart))
 
 -- the path of which it is not known what it spells stays such a one
 next-apart : (g f : Scan) (c : Class) (b : ℕ) → ScanValid g → ScanValid f → scan_error f c b ≡ None → ScanBelow g f → ScanBelow (scan_next g c b) (scan_next f c b)
@@ -94,9 +102,9 @@ next-apart g f c b v w n l m a d =
     let x = apart-in (scan_parts g) a in
     let y = apart-in (scan_parts (scan_next f c b)) d in
     let s = before-apart f c b (scan_parts f) w refl n d in
-    let p = goes-parts f s.0 y.parts c b w s.1 y.is in
+    let p = goes-parts f s.0 y.parts c b w s.1 y.is y.apart in
     let z = below-parts (scan_next g c b) (scan_next f c b) y.parts m y.is in
-    let q = goes-parts g x.parts z.0 c b v x.is z.1 in
+    let q = below-goes g f x.parts z.0 c b v w l x.is n (met-there (scan_next f c b) d) z.1 in
     let inside = apart-inside (feed_bytes parts_feeding s.0 (scan_fed f c b)) (ap is_apart (sym p) ∙ d) in
     ap is_apart q
     ∙ ap (λ (bytes : List ℕ). is_apart (Some (feed_bytes parts_feeding x.parts bytes))) (fed-same g f s.0 c b l s.1)
@@ -110,8 +118,7 @@ pub kept-apart : (k b : ℕ) (bs : List ℕ) (f : Scan) (r : PathRefusal) → Sc
     → ShownApart (k + 1) bs (scan_next f (class_of b) b) r → is_apart (scan_parts f) ≡ true → ShownApart k (b ∷ bs) f r
 kept-apart k b bs f r w n d a =
     let c = class_of b in
-    let x = apart-in (scan_parts f) a in
-    let long = scan-length f x.parts c b w x.is in
+    let long = scan-length f c b in
     let there = d.within in
     record {
       there = a;
@@ -174,11 +181,11 @@ pub record Point (s : LexState ValueState) (bs : List ℕ) (f : Scan) : Type 0 w
   pub between : is_in_reference s bs ≡ false
   pub opened : beginning_at place ≡ Some (placed_prefix spelled)
 
-point : (s : LexState ValueState) (g : Scan) (bs : List ℕ) (f : Scan) (p : spelling.Prefix) → UrlState s → scanned s ≡ Some g
+point : (s : LexState ValueState) (g : Scan) (bs : List ℕ) (f : Scan) (p : spelling.Prefix) → UrlState s → scanned s ≡ Some g → ReadTaken g bs
     → scan_parts (scan_read g bs) ≡ Some (parts_of (UrlOpen p)) → scan_reference (scan_read g bs) ≡ Closed → ScanValid g → ScanBelow (scan_read g bs) f
     → Point s bs f
-point s g bs f p u e h k v l =
-    let at = read-state s g bs u e in
+point s g bs f p u e n h k v l =
+    let at = read-state s g bs u e n in
     let d = shown-closed (scan_read g bs) bs (parts_of (UrlOpen p)) h k in
     record {
       read = scan_read g bs;
@@ -188,7 +195,7 @@ point s g bs f p u e h k v l =
       begins = is-open (state_before s bs) (scan_read g bs) at (parts-have (scan_read g bs) (parts_of (UrlOpen p)) member.PartOpen h refl);
       spelled = p;
       place = d.place;
-      own = own-place s g bs u e ∙ d.is;
+      own = own-place s g bs u e n (read-shown g bs k) ∙ d.is;
       between = read-between s g bs u e k;
       opened = d.opened;
     }
@@ -256,15 +263,28 @@ reference_where None = Closed
 pub closed-open : (f : Form) (bytes : List ℕ) → Closed ≡ Open f bytes → ⊥
 closed-open f bytes h = cc
 
+start-style : (v : ValuePlace) (n : StyleScan) (p : UrlPart) (r : Reference) (g : Scan) → style_scan_parts n ≡ Some (parts_of p) → p ≡ UrlStart
+    → Some (style_scan v n r) ≡ Some g → scan_parts g ≡ Some (parts_of UrlStart)
+start-style v n p r g i a e =
+    ap scan_parts (sym (one_value (style_scan v n r) g e)) ∙ style-parts v n r ∙ i ∙ ap (λ (x : UrlPart). Some (parts_of x)) a
+
 pub start-parts : (s : LexState ValueState) (g : Scan) → StartsUrl s → scanned s ≡ Some g → scan_parts g ≡ Some (parts_of UrlStart)
 start-parts (BeforeAttributeValue t kind.Url) g a e = sym (ap parts_where e)
 start-parts (AttributeValue q t (ValueOf (OfUrl u)) r) g a e =
     ap scan_parts (sym (one_value (url_scanned q t u r) g e)) ∙ url-parts (url_value t (quotes_at q) (parts_of u.part)) u.triple r
     ∙ ap (λ (x : UrlPart). Some (parts_of x)) a
+start-parts (AttributeValue q t (ValueOf (OfStyle (style.InUrl Bare u))) r) g a e =
+    start-style (style_value t (quotes_at q)) (ScanBareUrl (parts_of u.part) u.triple) u.part r g refl a e
+start-parts (AttributeValue q t (ValueOf (OfStyle (style.InUrl (Quoted y z) u))) r) g a e =
+    start-style (style_value t (quotes_at q)) (ScanQuotedUrl y z (parts_of u.part) u.triple) u.part r g refl a e
+start-parts (AttributeValue q t (ValueOf (OfStyle (style.InUrl Fresh u))) r) g a e = absurd a
+start-parts (AttributeValue q t (ValueOf (OfStyle (style.InUrl Ended u))) r) g a e = absurd a
+start-parts (AttributeValue q t (ValueOf (OfStyle (Out v))) r) g a e = absurd a
 start-parts _ g a e = absurd a
 
 starts-in : (s : LexState ValueState) (g : Scan) (f : Form) (bytes : List ℕ) → StartsUrl s → scanned s ≡ Some g → scan_reference g ≡ Open f bytes → UrlState s
 starts-in (AttributeValue q t (ValueOf (OfUrl u)) r) g f bytes a e h = url_state q t u r refl
+starts-in (AttributeValue q t (ValueOf (OfStyle v)) r) g f bytes a e h = style_state q t v r refl
 starts-in (BeforeAttributeValue t kind.Url) g f bytes a e h = absurd (closed-open f bytes (ap reference_where e ∙ h))
 starts-in _ g f bytes a e h = absurd a
 
@@ -277,24 +297,90 @@ abbrev pub read_bytes : Reference → ℕ → List ℕ
 read_bytes Closed b = []
 read_bytes (Open f bytes) b = turn_read (turn (class_of b) f) f bytes (class_of b)
 
-with-parts : (b : Body) (bytes : List ℕ) (s : Parts) → body_parts b ≡ Some s → body_parts (parts_with b bytes) ≡ Some (feed_bytes parts_feeding s bytes)
-with-parts (body.Url t) bytes s h = ap (λ (z : Parts). Some (feed_bytes parts_feeding z bytes)) (one_value t s h)
-with-parts _ bytes s h = absurd (none_some s h)
+with-parts : (b : Body) (bytes : List ℕ) (s : Parts) → b ≡ body.Url s → body_parts (parts_with b bytes) ≡ Some (feed_bytes parts_feeding s bytes)
+with-parts b bytes s h = ap (λ (x : Body). body_parts (parts_with x bytes)) h
 
-turn-parts : (z : ReferenceStep) (v : ValuePlace) (t : Triple) (f : Form) (bytes : List ℕ) (c : Class) (s : Parts) → body_parts v.body ≡ Some s
+turn-parts : (z : ReferenceStep) (v : ValuePlace) (t : Triple) (f : Form) (bytes : List ℕ) (c : Class) (s : Parts) → v.body ≡ body.Url s
     → scan_parts (read_turn z v t f bytes c) ≡ Some (feed_bytes parts_feeding s (turn_read z f bytes c))
 turn-parts Breaks v t f bytes c s h =
     let xs = flushed true (is_equals_sign c) f bytes in
     url-parts (read_value v xs) (triple_behind t xs) Closed ∙ with-parts v.body xs s h
-turn-parts (Grows g) v t f bytes c s h = h
-turn-parts Closes v t f bytes c s h = h
+turn-parts (Grows g) v t f bytes c s h = ap body_parts h
+turn-parts Closes v t f bytes c s h = ap body_parts h
 
-pub read-parts : (g : Scan) (b : ℕ) (bs : List ℕ) (s : Parts) → scan_parts g ≡ Some s
+turn-style-parts : (z : ReferenceStep) (v : ValuePlace) (n : StyleScan) (f : Form) (bytes : List ℕ) (c : Class) (s : Parts)
+    → style_scan_parts n ≡ Some s → StaysInUrl n (turn_read z f bytes c) → scan_parts (read_style z v n f bytes c) ≡ Some (feed_bytes parts_feeding s (turn_read z f bytes c))
+turn-style-parts Breaks v n f bytes c s h w =
+    let xs = flushed true (is_equals_sign c) f bytes in style-parts v (feed_bytes style_feeding n xs) Closed ∙ stays-parts xs n s h w
+turn-style-parts (Grows g) v n f bytes c s h w = h
+turn-style-parts Closes v n f bytes c s h w = h
+
+-- A style stays in the URL at these bytes.
+abbrev pub ReadStays : Scan → ℕ → Type 0
+ReadStays (InStyle v n r) b = StaysInUrl n (read_bytes r b)
+ReadStays f b = Unit {0}
+
+pub read-parts : (g : Scan) (b : ℕ) (bs : List ℕ) (s : Parts) → ScanValid g → scan_parts g ≡ Some s → ReadStays g b
     → scan_parts (scan_read g (b ∷ bs)) ≡ Some (feed_bytes parts_feeding s (read_bytes (scan_reference g) b))
-read-parts (InUrl v t (Open f bytes)) b bs s h = turn-parts (turn (class_of b) f) v t f bytes (class_of b) s h
-read-parts (InUrl v t Closed) b bs s h = h
-read-parts (At p) b bs s h = h
-read-parts _ b bs s h = absurd (none_some s h)
+read-parts (InUrl v t (Open f bytes)) b bs s w h k = turn-parts (turn (class_of b) f) v t f bytes (class_of b) s (within-body v.body s w.1 h)
+read-parts (InUrl v t Closed) b bs s w h k = h
+read-parts (InStyle v n (Open f bytes)) b bs s w h k = turn-style-parts (turn (class_of b) f) v n f bytes (class_of b) s h k
+read-parts (InStyle v n Closed) b bs s w h k = h
+read-parts (At p) b bs s w h k = h
+read-parts _ b bs s w h k = absurd (none_some s h)
+
+-- It does so below one that does, and where paths are apart when it is read.
+style-stays-below : (v : ValuePlace) (n : StyleScan) (r : Reference) (f : Scan) (b : ℕ) (a : Parts) → StyleUnder v n r f
+    → scan_parts f ≡ Some a → ReadStays f b → StaysInUrl n (read_bytes r b)
+style-stays-below v n r (InStyle w m z) b a l h k =
+    subst (λ (x : Reference). StaysInUrl n (read_bytes x b)) (sym l.1) (stays-same (read_bytes z b) n m (below-in-url n m a l.0.scan h).2.same k)
+style-stays-below v n r (At p) b a l h k = subst (λ (x : Reference). StaysInUrl n (read_bytes x b)) (sym l.1) tt
+style-stays-below v n r _ b a l h k = absurd l
+
+pub stays-below : (g f : Scan) (b : ℕ) (a : Parts) → ScanBelow g f → scan_parts f ≡ Some a → ReadStays f b → ReadStays g b
+stays-below (InStyle v n r) f b a l h k = style-stays-below v n r f b a l h k
+stays-below g f b a l h k = tt
+
+stays-or : (n : StyleScan) (bytes : List ℕ) → StaysInUrl n bytes ⊎ KnownUrl (feed_bytes style_feeding n bytes)
+    → (KnownUrl (feed_bytes style_feeding n bytes) → ⊥) → StaysInUrl n bytes
+stays-or n bytes (inl w) k = w
+stays-or n bytes (inr w) k = absurd (k w)
+
+turn-stays : (z : ReferenceStep) (v : ValuePlace) (n : StyleScan) (f : Form) (bytes : List ℕ) (c : Class) (s : Parts) → style_scan_parts n ≡ Some s
+    → is_apart (scan_parts (read_style z v n f bytes c)) ≡ true → StaysInUrl n (turn_read z f bytes c)
+turn-stays Breaks v n f bytes c s h a =
+    let xs = flushed true (is_equals_sign c) f bytes in
+    let behind = feed_bytes style_feeding n xs in
+    stays-or n xs (feeds xs n s h) (λ w. no (sym (known-unmet behind w) ∙ (sym (ap is_apart (style-parts v behind Closed)) ∙ a)))
+turn-stays (Grows g) v n f bytes c s h a = tt
+turn-stays Closes v n f bytes c s h a = tt
+
+read-stays : (f : Scan) (b : ℕ) (bs : List ℕ) (s : Parts) → scan_parts f ≡ Some s → is_apart (scan_parts (scan_read f (b ∷ bs))) ≡ true
+    → ReadStays f b
+read-stays (InStyle v n (Open x bytes)) b bs s h a = turn-stays (turn (class_of b) x) v n x bytes (class_of b) s h a
+read-stays (InStyle v n Closed) b bs s h a = tt
+read-stays f b bs s h a = tt
+
+-- and where they are behind the byte
+turn-next-stays : (z : ReferenceStep) (v : ValuePlace) (n : StyleScan) (f : Form) (bytes : List ℕ) (c : Class) (b : ℕ) (s : Parts) → turn c f ≡ z
+    → v.body ≡ body.Css empty_css → style_scan_parts n ≡ Some s → has_met (style_value_next v n (Open f bytes) c b) ≡ true
+    → StaysInUrl n (turn_read z f bytes c)
+turn-next-stays Breaks v n f bytes c b s k e h m =
+    let xs = flushed true (is_equals_sign c) f bytes in
+    let behind = feed_bytes style_feeding n xs in
+    let later = feed_bytes style_feeding behind (plain_bytes c b) in
+    stays-or n xs (feeds xs n s h)
+    (λ w. no (sym (lead-unmet v v.quotes c (λ p. style_fed (value_between v p) n (Open f bytes) c b)
+    (ap (λ (x : Body). spells_apart (beginning_in_body x)) e)
+    (λ p. sym (ap (λ (g : Scan). has_met g) (style-fed-read (value_between v p) n f bytes c b k))
+    ∙ style-met (value_between v p) later (begin_reference c) (known-unmet later (known-fed (plain_bytes c b) behind w)))) ∙ m))
+turn-next-stays (Grows g) v n f bytes c b s k e h m = tt
+turn-next-stays Closes v n f bytes c b s k e h m = tt
+
+pub next-stays : (f : Scan) (b : ℕ) (s : Parts) → ScanValid f → scan_parts f ≡ Some s → has_met (scan_next f (class_of b) b) ≡ true → ReadStays f b
+next-stays (InStyle v n (Open x bytes)) b s w h m = turn-next-stays (turn (class_of b) x) v n x bytes (class_of b) b s refl w.1 h m
+next-stays (InStyle v n Closed) b s w h m = tt
+next-stays f b s w h m = tt
 
 -- so also of two paths below a scan state, of which a URL begins on the one
 opens-below : (h f : Scan) (s : Parts) (q : spelling.Prefix) → ScanBelow h f → scan_parts h ≡ Some (parts_of (UrlOpen q)) → scan_parts f ≡ Some s
@@ -347,13 +433,21 @@ turn-is Breaks v t f bytes c e = (let xs = flushed true (is_equals_sign c) f byt
 turn-is (Grows g) v t f bytes c e = cc
 turn-is Closes v t f bytes c e = cc
 
+turn-style-is : (z : ReferenceStep) (v : ValuePlace) (n : StyleScan) (f : Form) (bytes : List ℕ) (c : Class) → z ≡ Breaks
+    → scan_reference (read_style z v n f bytes c) ≡ Closed
+turn-style-is Breaks v n f bytes c e = style-scan-reference v (feed_bytes style_feeding n (flushed true (is_equals_sign c) f bytes)) Closed
+turn-style-is (Grows g) v n f bytes c e = cc
+turn-style-is Closes v n f bytes c e = cc
+
 pub read-is : (g : Scan) (b : ℕ) (bs : List ℕ) (f : Form) (bytes : List ℕ) (s : Parts) → scan_parts g ≡ Some s
     → scan_reference g ≡ Open f bytes → turn (class_of b) f ≡ Breaks
     → scan_reference (scan_read g (b ∷ bs)) ≡ Closed
 read-is (InUrl v t (Open x l)) b bs f bytes s i h k =
     turn-is (turn (class_of b) x) v t x l (class_of b) (ap (turn (class_of b)) (one-form x f l bytes h) ∙ k)
 read-is (InUrl v t Closed) b bs f bytes s i h k = absurd (closed-open f bytes h)
-read-is (InStyle v x r) b bs f bytes s i h k = absurd (none_some s i)
+read-is (InStyle v n (Open x l)) b bs f bytes s i h k =
+    turn-style-is (turn (class_of b) x) v n x l (class_of b) (ap (turn (class_of b)) (one-form x f l bytes h) ∙ k)
+read-is (InStyle v n Closed) b bs f bytes s i h k = absurd (closed-open f bytes h)
 read-is (At p) b bs f bytes s i h k = absurd (closed-open f bytes h)
 read-is _ b bs f bytes s i h k = absurd (closed-open f bytes h)
 
@@ -369,8 +463,9 @@ two-read k b bs f r x bytes s w i j plain e taken n d =
     let zs = flushed true (is_equals_sign (class_of b)) x bytes in
     let xs : read_bytes (scan_reference f) b ≡ zs = broken-bytes (scan_reference f) b x bytes j e in
     let p = point-at k (b ∷ bs) (scan_read f (b ∷ bs)) r d (read-is f b bs x bytes s i j e) in
+    let stays = read-stays f b bs s i d.there in
     let z : spells_apart (feed_bytes parts_feeding s zs).opened ≡ true =
-    sym (ap is_apart (read-parts f b bs s i ∙ ap (λ (y : List ℕ). Some (feed_bytes parts_feeding s y)) xs)) ∙ d.there in
+    sym (ap is_apart (read-parts f b bs s w i stays ∙ ap (λ (y : List ℕ). Some (feed_bytes parts_feeding s y)) xs)) ∙ d.there in
     let a = arise-in zs s (flushed-character (is_equals_sign (class_of b)) x bytes plain) n z in
     record {
       behind = p.0;
@@ -384,12 +479,13 @@ two-read k b bs f r x bytes s w i j plain e taken n d =
           let q = open-parts t h opens u.at in
           let m = parted zs s q.0 a n (opens-below h f s q.0 u.below q.1 i) in
           let own = point v g (b ∷ bs) (scan_read f (b ∷ bs)) m.first (starts-in v g x bytes starts y.at hold) y.at
-          (read-parts g b bs (parts_of UrlStart) (start-parts v g starts y.at)
+          (read-taken g f b bs taken y.below)
+          (read-parts g b bs (parts_of UrlStart) y.valid (start-parts v g starts y.at) (stays-below g f b s y.below i stays)
           ∙ ap (λ (l : List ℕ). Some (feed_bytes parts_feeding (parts_of UrlStart) l)) (broken-bytes (scan_reference g) b x bytes hold e) ∙ ap Some m.begins)
           (read-is g b bs x bytes (parts_of UrlStart) (start-parts v g starts y.at) hold e) y.valid (read-below g f b bs w taken y.below) in
           let held = below-reference h f u.below ∙ j in
-          let other = point t h (b ∷ bs) (scan_read f (b ∷ bs)) m.other (url-of t (begins-value t opens)) u.at
-          (read-parts h b bs (parts_of (UrlOpen q.0)) q.1
+          let other = point t h (b ∷ bs) (scan_read f (b ∷ bs)) m.other (url-of t (begins-value t opens)) u.at (read-taken h f b bs taken u.below)
+          (read-parts h b bs (parts_of (UrlOpen q.0)) u.valid q.1 (stays-below h f b s u.below i stays)
           ∙ ap (λ (l : List ℕ). Some (feed_bytes parts_feeding (parts_of (UrlOpen q.0)) l)) (broken-bytes (scan_reference h) b x bytes held e) ∙ ap Some m.goes)
           (read-is h b bs x bytes (parts_of (UrlOpen q.0)) q.1 held e) u.valid (read-below h f b bs w taken u.below) in
           inr (subst IsOpen (sym j) tt, apart-now (b ∷ bs) k p.0 (scan_read f (b ∷ bs)) r v t d p.1 own other m.apart);
@@ -423,6 +519,7 @@ fed-character q r b n = ⊎_elim (λ e. nothing e) (λ e. subst IsCharacter (sym
 pub scan-character : (f : Scan) (b : ℕ) → NotBroken (scan_reference f) b → IsCharacter (scan_fed f (class_of b) b)
 scan-character (At (place.Value v)) b n = fed-character v.quotes Closed b n
 scan-character (InUrl v t r) b n = fed-character v.quotes r b n
+scan-character (InStyle v x r) b n = fed-character v.quotes r b n
 scan-character (At _) b n = nothing refl
 scan-character _ b n = nothing refl
 
@@ -444,15 +541,18 @@ undone-closed (Open f bytes) b n h = turned-closed (turn (class_of b) f) f bytes
 fed-undone : (q : Quotes) (r : Reference) (c : Class) (b : ℕ) → is_nothing (fed_in q r c b) ≡ false → is_nothing (undone_byte true r c b) ≡ false
 fed-undone q r c b h = ⊎_elim (λ e. absurd (no (sym h ∙ ap is_nothing e))) (λ e. sym (ap is_nothing e) ∙ h) (fed-or q r c b)
 
+scan-undone : (f : Scan) (c : Class) (b : ℕ) → is_nothing (scan_fed f c b) ≡ false → is_nothing (undone_byte true (scan_reference f) c b) ≡ false
+scan-undone (At (place.Value v)) c b h = fed-undone v.quotes Closed c b h
+scan-undone (InUrl v t r) c b h = fed-undone v.quotes r c b h
+scan-undone (InStyle v n r) c b h = fed-undone v.quotes r c b h
+scan-undone (At _) c b h = absurd (no (sym h))
+scan-undone _ c b h = absurd (no (sym h))
+
 pub next-closed : (f : Scan) (s : Parts) (b : ℕ) → ScanValid f → scan_parts f ≡ Some s → NotBroken (scan_reference f) b
     → is_nothing (scan_fed f (class_of b) b) ≡ false
     → scan_reference (scan_next f (class_of b) b) ≡ Closed
 next-closed f s b w i n h =
-    let u = url-at f s w i in
-    ⊎_elim (λ e. e)
-    (λ e. e ∙ undone-closed u.reference b (subst (λ (x : Reference). NotBroken x b) u.holds n)
-    (fed-undone u.value.quotes u.reference (class_of b) b (ap is_nothing (u.fed (class_of b) b) ∙ h)))
-    (goes f s u (class_of b) b).reference
+    ⊎_elim (λ e. e) (λ e. e ∙ undone-closed (scan_reference f) b n (scan-undone f (class_of b) b h)) (next-holds f (class_of b) b)
 
 -- a path behind the byte
 behind-point : (v : LexState ValueState) (g f : Scan) (b : ℕ) (bs : List ℕ) (x : Parts) (p : spelling.Prefix) → ScanValid g → ScanValid f → ScanBelow g f
@@ -469,16 +569,27 @@ behind-point v g f b bs x p vg vf l e n held apart i j =
     let ro = read-on g b bs vg m.0 in
     let d = apart-in (scan_parts (scan_next f c b)) apart in
     let z = below-parts (scan_next g c b) (scan_next f c b) d.parts m.1 d.is in
-    let y = goes-parts (scan_read g (b ∷ bs)) x z.0 c b (read-valid g (b ∷ bs) vg) i (ap scan_parts ro.next ∙ z.1) in
+    let rf = read-on f b bs vf n in
+    let met = ap (λ (k : Scan). has_met k) rf.next ∙ met-there (scan_next f c b) apart in
+    let y = below-goes (scan_read g (b ∷ bs)) (scan_read f (b ∷ bs)) x z.0 c b (read-valid g (b ∷ bs) vg) (read-valid f (b ∷ bs) vf)
+    (read-below g f b bs vf (takes f b vf n) l) i rf.error met (ap scan_parts ro.next ∙ z.1) in
     let parts : scan_parts (scan_next g c b) ≡ Some (parts_of (UrlOpen p)) = ap scan_parts (sym ro.next) ∙ y ∙ ap Some j in
     let closed = below-reference (scan_next g c b) (scan_next f c b) m.1 ∙ held in
     let same = read-closed (scan_next g c b) bs closed in
     let u = url-of (next languages Template v c b) (begins-value (next languages Template v c b)
     (is-open (next languages Template v c b) (scan_next g c b) at (parts-have (scan_next g c b) (parts_of (UrlOpen p)) member.PartOpen parts refl))) in (
-      point (next languages Template v c b) (scan_next g c b) bs (scan_next f c b) p u at (ap scan_parts same ∙ parts) (ap scan_reference same ∙ closed)
+      point (next languages Template v c b) (scan_next g c b) bs (scan_next f c b) p u at (closed-taken (scan_next g c b) bs closed)
+          (ap scan_parts same ∙ parts) (ap scan_reference same ∙ closed)
           (scan-valid g c b vg m.0) (subst (λ (y : Scan). ScanBelow y (scan_next f c b)) (sym same) m.1),
-      refl,
+      refl {a = p},
     )
+
+fed-as : (s : Parts) (xs ys : List ℕ) (t : Parts) → xs ≡ ys → feed_bytes parts_feeding s ys ≡ t → feed_bytes parts_feeding s xs ≡ t
+fed-as s xs ys t e h = ap (feed_bytes parts_feeding s) e ∙ h
+
+spelled-apart : (p q a d : spelling.Prefix) → p ≡ a → q ≡ d → spell_apart (placed_prefix a) (placed_prefix d) ≡ true
+    → spell_apart (placed_prefix p) (placed_prefix q) ≡ true
+spelled-apart p q a d e i h = rw (e, i) h
 
 pub two-next : (k b : ℕ) (bs : List ℕ) (f : Scan) (r : PathRefusal) (s y : Parts) → ScanValid f → scan_parts f ≡ Some s → scan_error f (class_of b) b ≡ None
     → scan_parts (scan_read f (b ∷ bs)) ≡ Some y → spells_apart y.opened ≡ false
@@ -489,14 +600,15 @@ two-next k b bs f r s y w i n j notyet d =
     let ro = read-on f b bs w n in
     let x = apart-in (scan_parts (scan_next f c b)) d.there in
     let zs = scan_fed over c b in
-    let p = goes-parts over y x.parts c b (read-valid f (b ∷ bs) w) j (ap scan_parts ro.next ∙ x.is) in
+    let p = goes-parts over y x.parts c b (read-valid f (b ∷ bs) w) j (ap scan_parts ro.next ∙ x.is) x.apart in
     let came : spells_apart (feed_bytes parts_feeding y zs).opened ≡ true = sym (ap is_apart (sym (ap scan_parts ro.next) ∙ p)) ∙ d.there in
     let a = arise-in zs y (scan-character over b (not-broken f b bs y j)) notyet came in
     let held : scan_reference (scan_next f c b) ≡ Closed =
     ap scan_reference (sym ro.next) ∙ next-closed over y b (read-valid f (b ∷ bs) w) j (not-broken f b bs y j) (ap is_nothing a.is) in
     let at = point-at (k + 1) bs (scan_next f c b) r d held in
     let xs = read_bytes (scan_reference f) b in
-    let fed : feed_bytes parts_feeding s xs ≡ y = one_value (feed_bytes parts_feeding s xs) y (sym (read-parts f b bs s i) ∙ j) in
+    let stays = next-stays f b s w i (met-there (scan_next f c b) d.there) in
+    let fed : feed_bytes parts_feeding s xs ≡ y = one_value (feed_bytes parts_feeding s xs) y (sym (read-parts f b bs s w i stays) ∙ j) in
     let wait = waits xs s (ap (λ (o : Parts). o.start) fed ∙ a.arise.start) in
     let place = at.1 in
     record {
@@ -511,22 +623,22 @@ two-next k b bs f r s y w i n j notyet d =
           let same = below-reference g f m.below in
           let held-by = below-reference h f u.below in
           let own : scan_parts (scan_read g (b ∷ bs)) ≡ Some (parts_of UrlStart) =
-          read-parts g b bs (parts_of UrlStart) (start-parts v g starts m.at)
+          read-parts g b bs (parts_of UrlStart) m.valid (start-parts v g starts m.at) (stays-below g f b s m.below i stays)
           ∙ ap (λ (l : Reference). Some (feed_bytes parts_feeding (parts_of UrlStart) (read_bytes l b))) same ∙ ap Some wait.first in
           let other : scan_parts (scan_read h (b ∷ bs)) ≡ Some (parts_of (UrlOpen wend.0)) =
-          read-parts h b bs (parts_of (UrlOpen q.0)) q.1
+          read-parts h b bs (parts_of (UrlOpen q.0)) u.valid q.1 (stays-below h f b s u.below i stays)
           ∙ ap (λ (l : Reference). Some (feed_bytes parts_feeding (parts_of (UrlOpen q.0)) (read_bytes l b))) held-by ∙ ap Some wend.1 in
           let taken = takes f b w n in
           let lower = read-below g f b bs w taken m.below in
           let lower-by = read-below h f b bs w taken u.below in
           let z = parted zs y wend.0 a notyet (opens-below (scan_read h (b ∷ bs)) over y wend.0 lower-by other j) in
           let one = behind-point v g f b bs (parts_of UrlStart) z.first m.valid w m.below m.at n held d.there own
-          (ap (feed_bytes parts_feeding (parts_of UrlStart)) (fed-same (scan_read g (b ∷ bs)) over y c b lower j) ∙ z.begins) in
+          (fed-as (parts_of UrlStart) (scan_fed (scan_read g (b ∷ bs)) c b) zs (parts_of (UrlOpen z.first))
+          (fed-same (scan_read g (b ∷ bs)) over y c b lower j) z.begins) in
           let two = behind-point t h f b bs (parts_of (UrlOpen wend.0)) z.other u.valid w u.below u.at n held d.there other
-          (ap (feed_bytes parts_feeding (parts_of (UrlOpen wend.0))) (fed-same (scan_read h (b ∷ bs)) over y c b lower-by j) ∙ z.goes) in
-          let differ : spell_apart (placed_prefix one.0.spelled) (placed_prefix two.0.spelled) ≡ true =
-          ap (λ (e : spelling.Prefix). spell_apart (placed_prefix e) (placed_prefix two.0.spelled)) one.1
-          ∙ ap (λ (e : spelling.Prefix). spell_apart (placed_prefix z.first) (placed_prefix e)) two.1 ∙ z.apart in
+          (fed-as (parts_of (UrlOpen wend.0)) (scan_fed (scan_read h (b ∷ bs)) c b) zs (parts_of (UrlOpen z.other))
+          (fed-same (scan_read h (b ∷ bs)) over y c b lower-by j) z.goes) in
+          let differ = spelled-apart one.0.spelled two.0.spelled z.first z.other one.1 two.1 z.apart in
           let ag = agrees-at v g b m.at in
           let ah = agrees-at t h b u.at in
           inl (
@@ -542,24 +654,26 @@ turn-cases Breaks f bytes c = inr refl
 turn-cases (Grows g) f bytes c = inl refl
 turn-cases Closes f bytes c = inl refl
 
-not-here : (b : ℕ) (bs : List ℕ) (f : Scan) (s : Parts) → scan_parts f ≡ Some s → spells_apart s.opened ≡ false → read_bytes (scan_reference f) b ≡ []
-    → is_apart (scan_parts (scan_read f (b ∷ bs))) ≡ true → ⊥
-not-here b bs f s i m e a =
-    no (sym (ap is_apart (read-parts f b bs s i ∙ ap (λ (l : List ℕ). Some (feed_bytes parts_feeding s l)) e) ∙ m) ∙ a)
+not-here : (b : ℕ) (bs : List ℕ) (f : Scan) (s : Parts) → ScanValid f → scan_parts f ≡ Some s → spells_apart s.opened ≡ false
+    → read_bytes (scan_reference f) b ≡ [] → is_apart (scan_parts (scan_read f (b ∷ bs))) ≡ true → ⊥
+not-here b bs f s w i m e a =
+    no (sym (ap is_apart (read-parts f b bs s w i (read-stays f b bs s i a) ∙ ap (λ (l : List ℕ). Some (feed_bytes parts_feeding s l)) e) ∙ m) ∙ a)
 
 two-broken : (k b : ℕ) (bs : List ℕ) (f : Scan) (r : PathRefusal) (s : Parts) (x : Reference) → ScanValid f → ScanPlain f → scan_parts f ≡ Some s
     → spells_apart s.opened ≡ false → scan_error f (class_of b) b ≡ None → scan_reference f ≡ x
     → ShownApart k (b ∷ bs) (scan_read f (b ∷ bs)) r → ShownTwo k (b ∷ bs) f r member.PartStart member.PartOpen
-two-broken k b bs f r s Closed w plain i m n h d = absurd (not-here b bs f s i m (ap (λ (x : Reference). read_bytes x b) h) d.there)
+two-broken k b bs f r s Closed w plain i m n h d = absurd (not-here b bs f s w i m (ap (λ (x : Reference). read_bytes x b) h) d.there)
 two-broken k b bs f r s (Open x bytes) w plain i m n h d =
-    ⊎_elim (λ e. absurd (not-here b bs f s i m (ap (λ (y : Reference). read_bytes y b) h ∙ e) d.there))
+    ⊎_elim (λ e. absurd (not-here b bs f s w i m (ap (λ (y : Reference). read_bytes y b) h ∙ e) d.there))
     (λ e. two-read k b bs f r x bytes s w i h (subst ReferencePlain h plain) e (takes f b w n) m d)
     (turn-cases (turn (class_of b) x) x bytes (class_of b))
 
 two-cases : (k b : ℕ) (bs : List ℕ) (f : Scan) (r : PathRefusal) (s : Parts) (o : Option Parts) (x : Bool) → ScanValid f → ScanPlain f → scan_parts f ≡ Some s
     → spells_apart s.opened ≡ false → scan_error f (class_of b) b ≡ None → scan_parts (scan_read f (b ∷ bs)) ≡ o → is_apart o ≡ x
     → ShownApart (k + 1) bs (scan_next f (class_of b) b) r → ShownTwo k (b ∷ bs) f r member.PartStart member.PartOpen
-two-cases k b bs f r s None x w plain i m n j a d = absurd (none_some (feed_bytes parts_feeding s (read_bytes (scan_reference f) b)) (sym j ∙ read-parts f b bs s i))
+two-cases k b bs f r s None x w plain i m n j a d =
+    let stays = next-stays f b s w i (met-there (scan_next f (class_of b) b) d.there) in
+    absurd (none_some (feed_bytes parts_feeding s (read_bytes (scan_reference f) b)) (sym j ∙ read-parts f b bs s w i stays))
 two-cases k b bs f r s (Some y) false w plain i m n j a d = two-next k b bs f r s y w i n j a d
 two-cases k b bs f r s (Some y) true w plain i m n j a d =
     let ro = read-on f b bs w n in

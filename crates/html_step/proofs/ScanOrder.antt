@@ -1,9 +1,9 @@
 -- Scan states that are below one another, their validity and their members; a step keeps the order.
-use Rattle.std.proofs.Common.{◌≡◌, ℕ, Bool, true, false, ◌||◌, ◌&&◌, List, length, Option, Some, None, if◌then◌else◌, refl, sym, ap, ◌∙◌, subst}
+use Rattle.std.proofs.Common.{◌≡◌, ℕ, Bool, true, false, ◌||◌, ◌&&◌, List, length, Option, Some, None, option_map, if◌then◌else◌, refl, sym, ap, ◌∙◌, subst}
 use Rattle.std.specs.Option.{is_some}
 use Rattle.place_core.specs.page.Classes.{Class, White, ExclamationMark, QuotationMark, Apostrophe, HyphenMinus, Solidus, LessThan, EqualsSign, GreaterThan, GraveAccent}
-use Rattle.place_core.specs.place.Errors.{PathCause, at_hand, attribute_name_error, bare_error, body_error, comment_error, content_error, equals_error, first_cause, first_error, kind_error, quotes_error, tag_error, unless_second, value_error, block_error}
-use Rattle.place_core.specs.place.Places.{Below, Has, IsValid, IsValidQuotes, IsValidTag, both_bare, is_whole, joined_kinds, joined_quotes, joined_bodies, some_bare, typed_has}
+use Rattle.place_core.specs.place.Errors.{PathCause, at_hand, attribute_name_error, bare_error, body_error, comment_error, content_error, equals_error, first_cause, first_error, kind_error, quotes_error, language_error, tag_error, unless_second, value_error, block_error}
+use Rattle.place_core.specs.place.Places.{Below, Has, IsValid, IsValidQuotes, IsValidTag, both_bare, is_whole, joined_kinds, joined_quotes, joined_bodies, quotes_have, some_bare, typed_has}
 use Rattle.place_core.specs.place.StatePlaces.{only_after, only_before, only_inside, unbegun}
 use Rattle.place_core.specs.page.Words.{kind_of}
 use Rattle.place_core.specs.declared.bare.Bare.{Bare}
@@ -11,6 +11,7 @@ use Rattle.place_core.specs.declared.body.Body.{Body}
 use Rattle.place_core.specs.declared.body.Body.TheVariants as body
 use Rattle.place_core.specs.declared.code.Code.{Code}
 use Rattle.place_core.specs.declared.code.Code.TheVariants as code
+use Rattle.place_core.specs.declared.css.Css.{Css}
 use Rattle.place_core.specs.declared.element.Element.{Element}
 use Rattle.place_core.specs.declared.element.Element.TheVariants as element
 use Rattle.place_core.specs.declared.kind.Kind.{Kind}
@@ -27,23 +28,52 @@ use Rattle.place_core.specs.declared.tag_place.TagPlace.{TagPlace}
 use Rattle.place_core.specs.declared.value_place.ValuePlace.{ValuePlace}
 use Rattle.place_core.proofs.JoinParts.{kinds_partial}
 use Rattle.place_core.proofs.Joins.{places_same}
-use Rattle.place_core.proofs.Semilattices.{none_some, one_value}
-use Rattle.html_scan.specs.Scans.{Scan, At, AfterLess, AfterLessSolidus, InDeclaration, InTagName, InAttributeName, InUrl, InStyle, InCommentEnd, InContentEnd, after_white, bare_begun, attribute_name_next, bare_next, bare_white, comment_next, comment_state, content_scan, scan_next, scan_error, scan_place, scan_cut_error, scan_lexeme_error, in_tag, quoted_next, tag_next, typed_with, value_scan, with_quotes, BeforeType, InType, rest_place, content_next, parts_feeding, triple_behind, url_scan, with_parts, value_fed, value_next, quoted_error, body_cause, value_cause, place_cause, parts_with, with_body, open_cut_error}
-use Rattle.html_step.proofs.OnePath.{none-at-hand, none-unless, some}
+use Rattle.place_core.proofs.Semilattices.{no_map, none_some, one_value}
+use Rattle.html_scan.specs.Scans.{Scan, At, AfterLess, AfterLessSolidus, InDeclaration, InTagName, InAttributeName, InUrl, InStyle, InCommentEnd, InContentEnd, after_white, bare_begun, attribute_name_next, bare_white, comment_next, comment_state, content_scan, scan_next, scan_error, scan_place, scan_cut_error, scan_lexeme_error, in_tag, tag_next, typed_with, value_scan, with_quotes, BeforeType, InType, rest_place, content_next, parts_feeding, triple_behind, url_scan, with_parts, value_fed, value_next, quoted_error, body_cause, value_cause, place_cause, parts_with, with_body, open_cut_error, bare_leads, empty_style_between, quotes_lead, style_cause, style_fed, style_feeding, style_scan, style_value_next, value_between, with_style}
+use Rattle.html_step.proofs.PathScans.{none-at-hand, none-unless, some}
 use Rattle.html_step.proofs.PlaceParts.{Under, under-false, under-same, under-both, TagBelow, ValueBelow, below-tag, tag-below, below-value, value-below, below-rcdata, same-kinds}
-use Rattle.html_step.proofs.UrlOrder.{BegunIf, GoesBelow, bare-accepts, bare-goes, fed-grow, first-caused, language-accepts, language-goes}
+use Rattle.html_step.proofs.FedAlike.{BegunIf, FedBeside, GoesOn, bare-beside, bare-undone, fed-beside, first-caused, language-beside, undone-beside}
+use Rattle.html_step.proofs.StyleOrder.{below-css, css-below, scan-below-start, scan-of-start, starts-below, styles-beside}
+use Rattle.html_step.proofs.StylePaths.{empty_css, style_unfinished}
+use Rattle.css_lexer.specs.RefusalCodes.{StyleCutRefusal}
+use Rattle.css_step.specs.StyleOrigins.{scan_set_has}
+use Rattle.css_step.specs.StyleScans.{StyleScan, is_style_start, style_scan_cut_error, style_scan_place, style_scan_start}
+use Rattle.css_step.specs.StyleSetLaws.{StyleScanBelow, below_itself}
+use Rattle.css_step.proofs.StyleGrowth.{styles-grow}
+use Rattle.html_step.proofs.UrlOrder.{fed-grow, parts-beside}
 use Rattle.place_core.specs.page.Html.{ends_value}
 use Rattle.place_core.specs.page.References.{Reference, Closed, Open, as_it_stands, next_reference, undone_byte}
-use Rattle.place_core.specs.page.Tags.{is_second_type, element_on, feed_bytes, DoubleQuoted, SingleQuoted}
-use Rattle.place_core.specs.place.LanguagePlaces.{both_parts, IsValidParts}
+use Rattle.place_core.specs.page.Tags.{is_second_type, element_on, feed_bytes, style_code, DoubleQuoted, SingleQuoted, Feeding}
+use Rattle.place_core.specs.place.LanguagePlaces.{both_parts, IsValidCss, IsValidParts}
 use Rattle.place_core.specs.place.UrlParts.{parts_of}
 use Rattle.place_core.specs.declared.parts.Parts.{Parts}
 use Rattle.url_lexer.specs.Parts.{UrlStart}
 use Rattle.url_lexer.specs.Triples.{Triple, NoTriple, AfterPercent, AfterDigit}
 use Rattle.url_step.specs.PartSets.{PartsBelow}
 
+-- Two values that are styles, in lexemes of them: but for their bodies by the order of values, and by that of the scan states of the styles.
+pub record StyleValueBelow (v w : ValuePlace) (n m : StyleScan) : Type 0 where
+  pub tag : v.tag ≡ w.tag
+  pub typed : Under v.typed w.typed
+  pub quotes : joined_quotes v.quotes w.quotes ≡ Some w.quotes
+  pub scan : StyleScanBelow n m
+
+-- A lexeme of a style may be below a place: a word of this text, where some path has one from before it. The other way a place is below none.
+abbrev pub StyleUnderBody : ValuePlace → StyleScan → ValuePlace → Body → Type 0
+StyleUnderBody v n w (body.Css c) = StyleValueBelow v w n (style_scan_start c)
+StyleUnderBody v n w b = ⊥
+
+abbrev pub StyleUnderPlace : ValuePlace → StyleScan → Place → Type 0
+StyleUnderPlace v n (place.Value w) = StyleUnderBody v n w w.body
+StyleUnderPlace v n p = ⊥
+
+abbrev pub StyleUnder : ValuePlace → StyleScan → Reference → Scan → Type 0
+StyleUnder v n r (At p) = StyleUnderPlace v n p × (r ≡ Closed)
+StyleUnder v n r (InStyle w m z) = StyleValueBelow v w n m × (r ≡ z)
+StyleUnder v n r f = ⊥
+
 -- Between lexemes by the order of places. In a name of an attribute it only matters whether a `type` may have been seen.
--- In a URL it is the order of values, in the same percent triple and the same reference. No text gets into a style, so there it does not matter.
+-- In a URL it is the order of values, in the same percent triple and the same reference.
 abbrev pub ScanBelow : Scan → Scan → Type 0
 ScanBelow (At a) (At b) = Below a b
 ScanBelow (At a) g = ⊥
@@ -51,7 +81,7 @@ ScanBelow (InAttributeName t x n) (InAttributeName u y m) = (t ≡ u) × Under x
 ScanBelow (InAttributeName t x n) g = ⊥
 ScanBelow (InUrl v t r) (InUrl w u z) = ValueBelow v w × (t ≡ u) × (r ≡ z)
 ScanBelow (InUrl v t r) g = ⊥
-ScanBelow (InStyle v s r) g = InStyle v s r ≡ g
+ScanBelow (InStyle v s r) g = StyleUnder v s r g
 ScanBelow AfterLess g = AfterLess ≡ g
 ScanBelow AfterLessSolidus g = AfterLessSolidus ≡ g
 ScanBelow (InDeclaration pending) g = InDeclaration pending ≡ g
@@ -75,25 +105,29 @@ pub url-within : (b : Body) → UrlWithin b → (s : Parts) × (b ≡ body.Url s
 url-within (body.Url s) v = (s, refl)
 url-within _ v = absurd v
 
--- No text gets into a style, of which the first byte is refused.
+-- In a style the scan state has what the body of a place has.
 abbrev pub ScanValid : Scan → Type 0
 ScanValid (At p) = IsValid p
 ScanValid (InUrl v t r) = HasBegun v.quotes × UrlWithin v.body
-ScanValid (InStyle v s r) = ⊥
+ScanValid (InStyle v s r) = HasBegun v.quotes × (v.body ≡ body.Css empty_css) × IsValidCss (style_scan_place s)
 ScanValid (InContentEnd e h) = IsValid (rest_place e)
 ScanValid f = Unit {0}
 
 abbrev pub ScanHas : Scan → Member → Type 0
 ScanHas (At p) m = Has p m
 ScanHas (InUrl v t r) m = Has (place.Value v) m
+ScanHas (InStyle v s r) m = (is_whole m || (typed_has v.typed m || (quotes_have v.quotes m || scan_set_has s m))) ≡ true
 ScanHas (InAttributeName t typed name) m = (is_whole m || typed_has typed m) ≡ true
 ScanHas f m = is_whole m ≡ true
+
+style-value-same : (v : ValuePlace) (n : StyleScan) → StyleValueBelow v v n n
+style-value-same v n = (let h = below-value v v (places_same (place.Value v)) in record { tag = h.tag; typed = h.typed; quotes = h.quotes; scan = below_itself n })
 
 pub scan-same : (f : Scan) → ScanBelow f f
 scan-same (At p) = places_same p
 scan-same (InAttributeName t x n) = (refl, under-same x, refl)
 scan-same (InUrl v t r) = (below-value v v (places_same (place.Value v)), refl, refl)
-scan-same (InStyle v s r) = refl
+scan-same (InStyle v s r) = (style-value-same v s, refl)
 scan-same AfterLess = refl
 scan-same AfterLessSolidus = refl
 scan-same (InDeclaration pending) = refl
@@ -127,7 +161,7 @@ begins-same t u x y kind.Plain n e f = value-from t u x y unbegun unbegun body.P
 begins-same t u x y kind.NoHole n e f = value-from t u x y unbegun unbegun body.NoHole body.NoHole e f refl refl
 begins-same t u x y kind.Url n e f = value-from t u x y unbegun unbegun (body.Url (parts_of UrlStart)) (body.Url (parts_of UrlStart)) e f refl refl
 begins-same t u x y kind.Script n e f = absurd (some _ n)
-begins-same t u x y kind.Style n e f = absurd (some _ n)
+begins-same t u x y kind.Style n e f = value-from t u x y unbegun unbegun (body.Css empty_css) (body.Css empty_css) e f refl refl
 begins-same t u x y kind.ScriptType n e f = ap BeforeType e
 
 begins-with : (t u : TagOf) (x y : Bool) (o p : Option Kind) (k : Kind) → o ≡ Some k → p ≡ Some k → kind_error k ≡ None → t ≡ u → Under x y → ScanBelow (value_scan t x o) (value_scan u y p)
@@ -200,19 +234,13 @@ plain-same _ h = absurd (none_some body.Plain h)
 
 pub body-accepts : (b c : Body) → joined_bodies b c ≡ Some c → body_error c ≡ None → body_error b ≡ None
 body-accepts b (body.Js j) h n = absurd (some _ n)
-body-accepts b (body.Css j) h n = absurd (some _ n)
 body-accepts (body.Js j) c h n = absurd (none_some c h)
-body-accepts (body.Css j) c h n = absurd (none_some c h)
 body-accepts _ c h n = refl
 
 -- a value that is no style
 abbrev pub Unstyled : Body → Type 0
 Unstyled (body.Css c) = ⊥
 Unstyled b = Unit {0}
-
-pub built-unstyled : (b : Body) → body_error b ≡ None → Unstyled b
-built-unstyled (body.Css c) n = some _ n
-built-unstyled _ n = tt
 
 pub within-unstyled : (b : Body) → UrlWithin b → Unstyled b
 within-unstyled (body.Url s) w = tt
@@ -223,6 +251,11 @@ one-url s t e = cc
 
 pub parts-below : (s t : Parts) → joined_bodies (body.Url s) (body.Url t) ≡ Some (body.Url t) → PartsBelow s t
 parts-below s t h = one-url (both_parts s t) t (one_value (body.Url (both_parts s t)) (body.Url t) h)
+
+-- below a URL is one
+pub parts-of-below : (b : Body) (s : Parts) → joined_bodies b (body.Url s) ≡ Some (body.Url s) → (t : Parts) × (b ≡ body.Url t) × PartsBelow t s
+parts-of-below (body.Url t) s h = (t, refl, parts-below t s h)
+parts-of-below b s h = absurd (none_some (body.Url s) h)
 
 pub bare-white : (su sb ru rb : Bool) → (su || sb) ≡ true → Under su ru → Under sb rb → (ru && rb) ≡ false → (su ≡ ru) × (sb ≡ rb)
 bare-white true true true true s u b n = (refl, refl)
@@ -244,15 +277,8 @@ bare-parts s r h =
     let e = bare-one (both_bare s r) r (one_value (quotes.Bare (both_bare s r)) (quotes.Bare r) h) in
     (ap (λ (x : Bare). x.uq) e, ap (λ (x : Bare). x.unbegun) e)
 
-tag-after : (x y : ValuePlace) → ValueBelow x y → ScanBelow (in_tag x.tag x.typed only_before None) (in_tag y.tag y.typed only_before None)
-tag-after x y h = one-spot x.tag y.tag x.typed y.typed only_before None h.tag h.typed
-
 value-goes : (x y : ValuePlace) (q : Quotes) → ValueBelow x y → joined_quotes q q ≡ Some q → ScanBelow (with_quotes x q) (with_quotes y q)
 value-goes x y q h e = value-from x.tag y.tag x.typed y.typed q q x.body y.body h.tag h.typed e h.body
-
-white-next : (x y : ValuePlace) (uq : Bool) → ValueBelow x y → ScanBelow (bare_white x uq) (bare_white y uq)
-white-next x y true h = tag-after x y h
-white-next x y false h = value-goes x y unbegun h refl
 
 -- A URL goes on: in a percent triple or a reference, or at a place.
 pub url-below : (v w : ValuePlace) (t : Triple) (r : Reference) → ValueBelow v w → ScanBelow (url_scan v t r) (url_scan w t r)
@@ -264,28 +290,46 @@ url-below v w AfterDigit r h = (h, refl, refl)
 abbrev pub FedBelow : Body → Body → List ℕ → Type 0
 FedBelow b c bytes = joined_bodies (parts_with b bytes) (parts_with c bytes) ≡ Some (parts_with c bytes)
 
+-- A style goes on: in a lexeme or a reference, or at a place.
+style-places : (v w : ValuePlace) (n m : StyleScan) → StyleValueBelow v w n m → Below (with_style v n) (with_style w m)
+style-places v w n m h =
+    value-from v.tag w.tag v.typed w.typed v.quotes w.quotes (body.Css (style_scan_place n)) (body.Css (style_scan_place m)) h.tag h.typed h.quotes
+    (below-css (style_scan_place n) (style_scan_place m) (styles-grow.scans n m h.scan).place)
+
+style-below-by : (v w : ValuePlace) (n m : StyleScan) (x y : Bool) → is_style_start n ≡ x → is_style_start m ≡ y → StyleValueBelow v w n m
+    → ScanBelow (if x then At (with_style v n) else InStyle v n Closed) (if y then At (with_style w m) else InStyle w m Closed)
+style-below-by v w n m true true e f h = style-places v w n m h
+style-below-by v w n m true false e f h = absurd (no (sym f ∙ starts-below n m h.scan e))
+style-below-by v w n m false true e f h =
+    (record { tag = h.tag; typed = h.typed; quotes = h.quotes; scan = subst (StyleScanBelow n) (sym (scan-of-start m f)) h.scan }, refl)
+style-below-by v w n m false false e f h = (h, refl)
+
+pub style-below : (v w : ValuePlace) (n m : StyleScan) (r : Reference) → StyleValueBelow v w n m → ScanBelow (style_scan v n r) (style_scan w m r)
+style-below v w n m Closed h = style-below-by v w n m (is_style_start n) (is_style_start m) refl refl h
+style-below v w n m (Open f bytes) h = (h, refl)
+
+-- The two bodies of values behind the bytes that they are fed.
+abbrev FedGoes : Body → Body → List ℕ → Type 0
+FedGoes (body.Css c) (body.Css d) bytes = StyleScanBelow (feed_bytes style_feeding (style_scan_start c) bytes) (feed_bytes style_feeding (style_scan_start d) bytes)
+FedGoes b c bytes = FedBelow b c bytes
+
 fed-next : (x y : ValuePlace) (q : Quotes) (b d : Body) (t : Triple) (r : Reference) (c : Class) (byte : ℕ) → ValueBelow x y → joined_quotes q q ≡ Some q
-    → joined_bodies b d ≡ Some d → body_error d ≡ None
-    → FedBelow b d (undone_byte true r c byte) → ScanBelow (value_fed x q b t r c byte) (value_fed y q d t r c byte)
-fed-next x y q (body.Url s) (body.Url u) t r c byte h e k n f =
+    → joined_bodies b d ≡ Some d → FedGoes b d (undone_byte true r c byte) → ScanBelow (value_fed x q b t r c byte) (value_fed y q d t r c byte)
+fed-next x y q (body.Url s) (body.Url u) t r c byte h e k f =
     let bytes = undone_byte true r c byte in
     url-below (with_parts x q (feed_bytes parts_feeding s bytes)) (with_parts y q (feed_bytes parts_feeding u bytes))
     (triple_behind t bytes) (next_reference r c byte)
     (record { tag = h.tag; typed = h.typed; quotes = e; body = f })
-fed-next x y q (body.Url s) d t r c byte h e k n f = absurd (none_some d k)
-fed-next x y q b (body.Url u) t r c byte h e k n f = absurd (none_some (body.Url u) k)
-fed-next x y q b (body.Css p) t r c byte h e k n f = absurd (some _ n)
-fed-next x y q (body.Css p) d t r c byte h e k n f = absurd (none_some d k)
-fed-next x y q _ d t r c byte h e k n f = value-goes x y q h e
-
--- what its language refuses, and where it leads
-fed-of : (q : Quotes) (r : Reference) (c : Class) (byte : ℕ) → ((s t : Parts) → PartsBelow s t → quoted_error parts_feeding q t r c byte ≡ None → GoesBelow s t r c byte)
-    → (b d : Body) → joined_bodies b d ≡ Some d → body_cause d q r c byte ≡ None → FedBelow b d (undone_byte true r c byte)
-fed-of q r c byte f (body.Url s) (body.Url t) h n =
-    ap (λ (z : Parts). Some (body.Url z)) (f s t (parts-below s t h) n)
-fed-of q r c byte f (body.Url s) d h n = absurd (none_some d h)
-fed-of q r c byte f b (body.Url t) h n = absurd (none_some (body.Url t) h)
-fed-of q r c byte f _ d h n = h
+fed-next x y q (body.Url s) d t r c byte h e k f = absurd (none_some d k)
+fed-next x y q b (body.Url u) t r c byte h e k f = absurd (none_some (body.Url u) k)
+fed-next x y q (body.Css p) (body.Css d) t r c byte h e k f =
+    let bytes = undone_byte true r c byte in
+    style-below (empty_style_between x q) (empty_style_between y q) (feed_bytes style_feeding (style_scan_start p) bytes)
+    (feed_bytes style_feeding (style_scan_start d) bytes) (next_reference r c byte)
+    (record { tag = h.tag; typed = h.typed; quotes = e; scan = f })
+fed-next x y q (body.Css p) d t r c byte h e k f = absurd (none_some d k)
+fed-next x y q b (body.Css p) t r c byte h e k f = absurd (none_some (body.Css p) k)
+fed-next x y q _ d t r c byte h e k f = value-goes x y q h e
 
 abbrev pub BegunWhereOpen : Reference → Quotes → Type 0
 BegunWhereOpen Closed q = Unit {0}
@@ -304,89 +348,174 @@ begun-valid quotes.Dq v = tt
 begun-valid quotes.Sq v = tt
 begun-valid (quotes.Bare s) v = ap (λ (x : Bool). x || s.unbegun) v.0
 
-pub quoted-accepts : (q p : Quotes) (r : Reference) (c : Class) (b : ℕ) (s t : Parts) → joined_quotes q p ≡ Some p → BegunWhereOpen r q → PartsBelow s t
-    → quoted_error parts_feeding p t r c b ≡ None
-    → quoted_error parts_feeding q s r c b ≡ None
-quoted-accepts quotes.Dq quotes.Dq r c b s t j v h n = language-accepts (ends_value DoubleQuoted c) r c b s t h n
-quoted-accepts quotes.Sq quotes.Sq r c b s t j v h n = language-accepts (ends_value SingleQuoted c) r c b s t h n
-quoted-accepts (quotes.Bare x) (quotes.Bare y) r c b s t j v h n = bare-accepts x.uq y.uq r c b s t (bare-parts x y j).0 (begun-if r x v) h n
-quoted-accepts quotes.Dq quotes.Sq r c b s t j v h n = absurd (none_some quotes.Sq j)
-quoted-accepts quotes.Dq (quotes.Bare y) r c b s t j v h n = absurd (none_some (quotes.Bare y) j)
-quoted-accepts quotes.Sq quotes.Dq r c b s t j v h n = absurd (none_some quotes.Dq j)
-quoted-accepts quotes.Sq (quotes.Bare y) r c b s t j v h n = absurd (none_some (quotes.Bare y) j)
-quoted-accepts (quotes.Bare x) quotes.Dq r c b s t j v h n = absurd (none_some quotes.Dq j)
-quoted-accepts (quotes.Bare x) quotes.Sq r c b s t j v h n = absurd (none_some quotes.Sq j)
+-- a byte with which a value goes on, between these quotes
+abbrev pub GoesIn : Quotes → Class → Type 0
+GoesIn quotes.Dq c = ends_value DoubleQuoted c ≡ false
+GoesIn quotes.Sq c = ends_value SingleQuoted c ≡ false
+GoesIn (quotes.Bare s) c = GoesOn c
+
+-- what its language refuses, and where it leads
+pub quoted-takes : {S : Type 0} {m : Feeding S} {R : S → S → Type 0} → FedBeside m m R → (q p : Quotes) (r : Reference) (c : Class) (b : ℕ) (s t : S)
+    → joined_quotes q p ≡ Some p → BegunWhereOpen r q → R s t → quoted_error m p t r c b ≡ None → quoted_error m q s r c b ≡ None
+quoted-takes f quotes.Dq quotes.Dq r c b s t j v h n = language-beside f (ends_value DoubleQuoted c) r c b s t h n
+quoted-takes f quotes.Sq quotes.Sq r c b s t j v h n = language-beside f (ends_value SingleQuoted c) r c b s t h n
+quoted-takes f (quotes.Bare x) (quotes.Bare y) r c b s t j v h n = bare-beside f x.uq y.uq r c b s t (bare-parts x y j).0 (begun-if r x v) h n
+quoted-takes f quotes.Dq quotes.Sq r c b s t j v h n = absurd (none_some quotes.Sq j)
+quoted-takes f quotes.Dq (quotes.Bare y) r c b s t j v h n = absurd (none_some (quotes.Bare y) j)
+quoted-takes f quotes.Sq quotes.Dq r c b s t j v h n = absurd (none_some quotes.Dq j)
+quoted-takes f quotes.Sq (quotes.Bare y) r c b s t j v h n = absurd (none_some (quotes.Bare y) j)
+quoted-takes f (quotes.Bare x) quotes.Dq r c b s t j v h n = absurd (none_some quotes.Dq j)
+quoted-takes f (quotes.Bare x) quotes.Sq r c b s t j v h n = absurd (none_some quotes.Sq j)
+
+pub quoted-goes : {S : Type 0} {m : Feeding S} {R : S → S → Type 0} → FedBeside m m R → (q p : Quotes) (r : Reference) (c : Class) (b : ℕ) (s t : S)
+    → joined_quotes q p ≡ Some p → BegunWhereOpen r q → R s t → GoesIn p c → quoted_error m p t r c b ≡ None
+    → R (feed_bytes m s (undone_byte true r c b)) (feed_bytes m t (undone_byte true r c b))
+quoted-goes {m = m} f quotes.Dq quotes.Dq r c b s t j v h g n = undone-beside f r c b s t h (subst (λ (x : Bool). language_error m x t r c b ≡ None) g n)
+quoted-goes {m = m} f quotes.Sq quotes.Sq r c b s t j v h g n = undone-beside f r c b s t h (subst (λ (x : Bool). language_error m x t r c b ≡ None) g n)
+quoted-goes f (quotes.Bare x) (quotes.Bare y) r c b s t j v h g n = bare-undone f x.uq y.uq r c b s t g (bare-parts x y j).0 (begun-if r x v) h n
+quoted-goes f quotes.Dq quotes.Sq r c b s t j v h g n = absurd (none_some quotes.Sq j)
+quoted-goes f quotes.Dq (quotes.Bare y) r c b s t j v h g n = absurd (none_some (quotes.Bare y) j)
+quoted-goes f quotes.Sq quotes.Dq r c b s t j v h g n = absurd (none_some quotes.Dq j)
+quoted-goes f quotes.Sq (quotes.Bare y) r c b s t j v h g n = absurd (none_some (quotes.Bare y) j)
+quoted-goes f (quotes.Bare x) quotes.Dq r c b s t j v h g n = absurd (none_some quotes.Dq j)
+quoted-goes f (quotes.Bare x) quotes.Sq r c b s t j v h g n = absurd (none_some quotes.Sq j)
+
+-- where a text begins at two places of styles
+pub starts-in-order : (c d : Css) → joined_bodies (body.Css c) (body.Css d) ≡ Some (body.Css d) → StyleScanBelow (style_scan_start c) (style_scan_start d)
+starts-in-order c d h = (styles-grow.places c d (css-below c d h)).start
 
 pub cause-accepts : (b d : Body) (q p : Quotes) (r : Reference) (c : Class) (byte : ℕ) → joined_bodies b d ≡ Some d → joined_quotes q p ≡ Some p
-    → BegunWhereOpen r q → Unstyled d
-    → body_cause d p r c byte ≡ None → body_cause b q r c byte ≡ None
-cause-accepts (body.Url s) (body.Url t) q p r c byte h j v z n = quoted-accepts q p r c byte s t j v (parts-below s t h) n
-cause-accepts (body.Url s) d q p r c byte h j v z n = absurd (none_some d h)
-cause-accepts b (body.Url t) q p r c byte h j v z n = absurd (none_some (body.Url t) h)
-cause-accepts b (body.Css t) q p r c byte h j v z n = absurd z
-cause-accepts (body.Css s) d q p r c byte h j v z n = absurd (none_some d h)
-cause-accepts _ d q p r c byte h j v z n = refl
+    → BegunWhereOpen r q → body_cause d p r c byte ≡ None → body_cause b q r c byte ≡ None
+cause-accepts (body.Url s) (body.Url t) q p r c byte h j v n = quoted-takes parts-beside q p r c byte s t j v (parts-below s t h) n
+cause-accepts (body.Url s) d q p r c byte h j v n = absurd (none_some d h)
+cause-accepts b (body.Url t) q p r c byte h j v n = absurd (none_some (body.Url t) h)
+cause-accepts (body.Css s) (body.Css t) q p r c byte h j v n =
+    quoted-takes styles-beside q p r c byte (style_scan_start s) (style_scan_start t) j v (starts-in-order s t h) n
+cause-accepts (body.Css s) d q p r c byte h j v n = absurd (none_some d h)
+cause-accepts b (body.Css t) q p r c byte h j v n = absurd (none_some (body.Css t) h)
+cause-accepts _ d q p r c byte h j v n = refl
 
--- a byte of a value, by its quotes
-bare-grows : (x y : ValuePlace) (s p : Bare) (t : Triple) (r : Reference) (c : Class) (b : ℕ) → some_bare s ≡ true → BegunWhereOpen r (quotes.Bare s)
-    → ValueBelow x y
-    → Under s.uq p.uq → Under s.unbegun p.unbegun → body_cause y.body (quotes.Bare p) r c b ≡ None → body_error y.body ≡ None
-    → bare_error y.tag p c ≡ None
-    → (bare_error x.tag s c ≡ None) × ScanBelow (bare_next x s.uq t r c b) (bare_next y p.uq t r c b)
-bare-grows x y s p t r White b v i h u w m z n =
+fed-goes : (b d : Body) (q p : Quotes) (r : Reference) (c : Class) (byte : ℕ) → joined_bodies b d ≡ Some d → joined_quotes q p ≡ Some p
+    → BegunWhereOpen r q → GoesIn p c → body_cause d p r c byte ≡ None → FedGoes b d (undone_byte true r c byte)
+fed-goes (body.Url s) (body.Url t) q p r c byte h j v g n =
+    ap (λ (z : Parts). Some (body.Url z)) (quoted-goes parts-beside q p r c byte s t j v (parts-below s t h) g n)
+fed-goes (body.Url s) d q p r c byte h j v g n = absurd (none_some d h)
+fed-goes b (body.Url t) q p r c byte h j v g n = absurd (none_some (body.Url t) h)
+fed-goes (body.Css s) (body.Css t) q p r c byte h j v g n =
+    quoted-goes styles-beside q p r c byte (style_scan_start s) (style_scan_start t) j v (starts-in-order s t h) g n
+fed-goes (body.Css s) d q p r c byte h j v g n = absurd (none_some d h)
+fed-goes b (body.Css t) q p r c byte h j v g n = absurd (none_some (body.Css t) h)
+fed-goes _ d q p r c byte h j v g n = h
+
+-- A byte of a value, by its quotes: where it goes on, and, before it begins, where it still does.
+abbrev pub NotBegun : Quotes → Type 0
+NotBegun (quotes.Bare s) = s.uq ≡ false
+NotBegun q = ⊥
+
+record Leads (x y : ValuePlace) (q p : Quotes) (c : Class) (f g : Quotes → Scan) : Type 0 where
+  tag : x.tag ≡ y.tag
+  typed : Under x.typed y.typed
+  kept : (z : Quotes) → joined_quotes z z ≡ Some z → NotBegun q → ScanBelow (with_quotes x z) (with_quotes y z)
+  goes : (z : Quotes) → joined_quotes z z ≡ Some z → GoesIn p c → ScanBelow (f z) (g z)
+
+tag-after : (x y : ValuePlace) → x.tag ≡ y.tag → Under x.typed y.typed
+    → ScanBelow (in_tag x.tag x.typed only_before None) (in_tag y.tag y.typed only_before None)
+tag-after x y e h = one-spot x.tag y.tag x.typed y.typed only_before None e h
+
+white-next : (x y : ValuePlace) (uq : Bool) (p : Quotes) (c : Class) (f g : Quotes → Scan) (s : Bare) → s.uq ≡ uq → Leads x y (quotes.Bare s) p c f g
+    → ScanBelow (bare_white x uq) (bare_white y uq)
+white-next x y true p c f g s e h = tag-after x y h.tag h.typed
+white-next x y false p c f g s e h = h.kept unbegun refl e
+
+bare-grows : (x y : ValuePlace) (s p : Bare) (c : Class) (f g : Quotes → Scan) → some_bare s ≡ true → Leads x y (quotes.Bare s) (quotes.Bare p) c f g
+    → Under s.uq p.uq → Under s.unbegun p.unbegun → bare_error y.tag p c ≡ None
+    → (bare_error x.tag s c ≡ None) × ScanBelow (bare_leads x s.uq c (f bare_begun)) (bare_leads y p.uq c (g bare_begun))
+bare-grows x y s p White f g v h u w n =
     let e = bare-white s.uq s.unbegun p.uq p.unbegun v u w (if-none (p.uq && p.unbegun) code.AmbigContext n) in
-    (rw (e.0, e.1) n, rw e.0 (white-next x y p.uq h))
-bare-grows x y s p t r QuotationMark b v i h u w m z n =
+    (rw (e.0, e.1) n, rw e.0 (white-next x y p.uq (quotes.Bare p) White f g s e.0 h))
+bare-grows x y s p QuotationMark f g v h u w n =
     let e : p.uq ≡ false = if-none p.uq code.BadHTML n in
     let d : s.uq ≡ false = under-false s.uq (subst (Under s.uq) e u) in
-    (rw d refl, value-goes x y quotes.Dq h refl)
-bare-grows x y s p t r Apostrophe b v i h u w m z n =
+    (rw d refl, h.kept quotes.Dq refl d)
+bare-grows x y s p Apostrophe f g v h u w n =
     let e : p.uq ≡ false = if-none p.uq code.BadHTML n in
     let d : s.uq ≡ false = under-false s.uq (subst (Under s.uq) e u) in
-    (rw d refl, value-goes x y quotes.Sq h refl)
-bare-grows x y s p t r GreaterThan b v i h u w m z n = (ap content_error h.tag ∙ n, ends-same x.tag y.tag h.tag)
-bare-grows x y s p t r LessThan b v i h u w m z n = absurd (some _ n)
-bare-grows x y s p t r EqualsSign b v i h u w m z n = absurd (some _ n)
-bare-grows x y s p t r GraveAccent b v i h u w m z n = absurd (some _ n)
-bare-grows x y s p t r c b v i h u w m z n = (
-  refl,
-  fed-next x y bare_begun x.body y.body t r c b h refl h.body z
-      (fed-of (quotes.Bare p) r c b (λ a d k e. bare-goes s.uq p.uq r c b a d tt u (begun-if r s i) k e) x.body y.body h.body m),
-)
+    (rw d refl, h.kept quotes.Sq refl d)
+bare-grows x y s p GreaterThan f g v h u w n = (ap content_error h.tag ∙ n, ends-same x.tag y.tag h.tag)
+bare-grows x y s p LessThan f g v h u w n = absurd (some _ n)
+bare-grows x y s p EqualsSign f g v h u w n = absurd (some _ n)
+bare-grows x y s p GraveAccent f g v h u w n = absurd (some _ n)
+bare-grows x y s p c f g v h u w n = (refl, h.goes bare_begun refl tt)
 
-quotes-grow : (x y : ValuePlace) (q p : Quotes) (t : Triple) (r : Reference) (c : Class) (b : ℕ) → IsValidQuotes q → BegunWhereOpen r q → ValueBelow x y
-    → joined_quotes q p ≡ Some p
-    → body_cause y.body p r c b ≡ None → body_error y.body ≡ None → quotes_error y.tag p c ≡ None
-    → (quotes_error x.tag q c ≡ None) × ScanBelow (quoted_next x q t r c b) (quoted_next y p t r c b)
-quotes-grow x y quotes.Dq quotes.Dq t r QuotationMark b v i h j m z n = (refl, tag-after x y h)
-quotes-grow x y quotes.Dq quotes.Dq t r c b v i h j m z n =
-    (refl, fed-next x y quotes.Dq x.body y.body t r c b h refl h.body z (fed-of quotes.Dq r c b (λ a d k e. language-goes r c b a d k e) x.body y.body h.body m))
-quotes-grow x y quotes.Sq quotes.Sq t r Apostrophe b v i h j m z n = (refl, tag-after x y h)
-quotes-grow x y quotes.Sq quotes.Sq t r c b v i h j m z n =
-    (refl, fed-next x y quotes.Sq x.body y.body t r c b h refl h.body z (fed-of quotes.Sq r c b (λ a d k e. language-goes r c b a d k e) x.body y.body h.body m))
-quotes-grow x y (quotes.Bare s) (quotes.Bare p) t r c b v i h j m z n = let u = bare-parts s p j in bare-grows x y s p t r c b v i h u.0 u.1 m z n
-quotes-grow x y quotes.Dq quotes.Sq t r c b v i h j m z n = absurd (none_some quotes.Sq j)
-quotes-grow x y quotes.Dq (quotes.Bare p) t r c b v i h j m z n = absurd (none_some (quotes.Bare p) j)
-quotes-grow x y quotes.Sq quotes.Dq t r c b v i h j m z n = absurd (none_some quotes.Dq j)
-quotes-grow x y quotes.Sq (quotes.Bare p) t r c b v i h j m z n = absurd (none_some (quotes.Bare p) j)
-quotes-grow x y (quotes.Bare s) quotes.Dq t r c b v i h j m z n = absurd (none_some quotes.Dq j)
-quotes-grow x y (quotes.Bare s) quotes.Sq t r c b v i h j m z n = absurd (none_some quotes.Sq j)
+quotes-grow : (x y : ValuePlace) (q p : Quotes) (c : Class) (f g : Quotes → Scan) → IsValidQuotes q → Leads x y q p c f g → joined_quotes q p ≡ Some p
+    → quotes_error y.tag p c ≡ None → (quotes_error x.tag q c ≡ None) × ScanBelow (quotes_lead x q c f) (quotes_lead y p c g)
+quotes-grow x y quotes.Dq quotes.Dq QuotationMark f g v h j n = (refl, tag-after x y h.tag h.typed)
+quotes-grow x y quotes.Dq quotes.Dq c f g v h j n = (refl, h.goes quotes.Dq refl refl)
+quotes-grow x y quotes.Sq quotes.Sq Apostrophe f g v h j n = (refl, tag-after x y h.tag h.typed)
+quotes-grow x y quotes.Sq quotes.Sq c f g v h j n = (refl, h.goes quotes.Sq refl refl)
+quotes-grow x y (quotes.Bare s) (quotes.Bare p) c f g v h j n = (let u = bare-parts s p j in bare-grows x y s p c f g v h u.0 u.1 n)
+quotes-grow x y quotes.Dq quotes.Sq c f g v h j n = absurd (none_some quotes.Sq j)
+quotes-grow x y quotes.Dq (quotes.Bare p) c f g v h j n = absurd (none_some (quotes.Bare p) j)
+quotes-grow x y quotes.Sq quotes.Dq c f g v h j n = absurd (none_some quotes.Dq j)
+quotes-grow x y quotes.Sq (quotes.Bare p) c f g v h j n = absurd (none_some (quotes.Bare p) j)
+quotes-grow x y (quotes.Bare s) quotes.Dq c f g v h j n = absurd (none_some quotes.Dq j)
+quotes-grow x y (quotes.Bare s) quotes.Sq c f g v h j n = absurd (none_some quotes.Sq j)
 
 pub first-none : (o p : Option Code) → first_error o p ≡ None → (o ≡ None) × (p ≡ None)
 first-none None p n = (refl, n)
 first-none (Some e) p n = absurd (some _ n)
+
+-- what is refused in a value, by its language and by its quotes
+both-none : (o p : Option Code) → o ≡ None → p ≡ None → first_error o p ≡ None
+both-none o p e f = ap (λ (z : Option Code). first_error z p) e ∙ f
+
+causes-none : (o : Option PathCause) (p : Option Code) → o ≡ None → p ≡ None → first_cause o (at_hand p) ≡ None
+causes-none o p e f = ap (λ (z : Option PathCause). first_cause z (at_hand p)) e ∙ ap at_hand f
 
 value-grows : (x y : ValuePlace) (t : Triple) (r : Reference) (c : Class) (b : ℕ) → IsValidQuotes x.quotes → BegunWhereOpen r x.quotes → ValueBelow x y
     → value_cause y r c b ≡ None
     → (value_cause x r c b ≡ None) × ScanBelow (value_next x t r c b) (value_next y t r c b)
 value-grows x y t r c b v i h n =
     let m = first-caused (body_cause y.body y.quotes r c b) (at_hand (value_error y c)) n in
-    let f = first-none (body_error y.body) (quotes_error y.tag y.quotes c) (none-at-hand (value_error y c) m.1) in
-    let g = quotes-grow x y x.quotes y.quotes t r c b v i h h.quotes m.0 f.0 f.1 in
-    let p = cause-accepts x.body y.body x.quotes y.quotes r c b h.body h.quotes i (built-unstyled y.body f.0) m.0 in
-    let e : value_error x c ≡ None = ap (λ (o : Option Code). first_error o (quotes_error x.tag x.quotes c)) (body-accepts x.body y.body h.body f.0) ∙ g.0 in (
-      ap (λ (o : Option PathCause). first_cause o (at_hand (value_error x c))) p ∙ ap at_hand e,
+    let e = first-none (body_error y.body) (quotes_error y.tag y.quotes c) (none-at-hand (value_error y c) m.1) in
+    let leads : Leads x y x.quotes y.quotes c (λ z. value_fed x z x.body t r c b) (λ z. value_fed y z y.body t r c b) = record {
+      tag = h.tag;
+      typed = h.typed;
+      kept = λ z k a. value-goes x y z h k;
+      goes = λ z k a. fed-next x y z x.body y.body t r c b h k h.body (fed-goes x.body y.body x.quotes y.quotes r c b h.body h.quotes i a m.0);
+    } in
+    let g = quotes-grow x y x.quotes y.quotes c (λ z. value_fed x z x.body t r c b) (λ z. value_fed y z y.body t r c b) v leads h.quotes e.1 in (
+      causes-none (body_cause x.body x.quotes r c b) (value_error x c) (cause-accepts x.body y.body x.quotes y.quotes r c b h.body h.quotes i m.0)
+          (both-none (body_error x.body) (quotes_error x.tag x.quotes c) (body-accepts x.body y.body h.body e.0) g.0),
       g.1,
+    )
+
+-- In a lexeme of a style, or a reference: a byte of the value below, where the one above goes on as `g` says.
+begun-not : (q : Quotes) → HasBegun q → NotBegun q → ⊥
+begun-not quotes.Dq v u = u
+begun-not quotes.Sq v u = u
+begun-not (quotes.Bare s) v u = no (sym u ∙ v.0)
+
+style-byte : (x y : ValuePlace) (n m : StyleScan) (r : Reference) (c : Class) (b : ℕ) (g : Quotes → Scan) → HasBegun x.quotes → body_error x.body ≡ None
+    → StyleValueBelow x y n m → ((z : Quotes) (k : StyleScan) → joined_quotes z z ≡ Some z → StyleScanBelow k (feed_bytes style_feeding m (undone_byte true r c b))
+    → ScanBelow (style_scan (value_between x z) k (next_reference r c b)) (g z))
+    → style_cause y m r c b ≡ None
+    → (style_cause x n r c b ≡ None) × ScanBelow (style_value_next x n r c b) (quotes_lead y y.quotes c g)
+style-byte x y n m r c b g v w h goes e =
+    let d = first-caused (quoted_error style_feeding y.quotes m r c b) (at_hand (value_error y c)) e in
+    let k = first-none (body_error y.body) (quotes_error y.tag y.quotes c) (none-at-hand (value_error y c) d.1) in
+    let i = begun-open r x.quotes v in
+    let leads : Leads x y x.quotes y.quotes c (λ z. style_fed (value_between x z) n r c b) g = record {
+      tag = h.tag;
+      typed = h.typed;
+      kept = λ z l a. absurd (begun-not x.quotes v a);
+      goes = λ z l a. goes z (feed_bytes style_feeding n (undone_byte true r c b)) l
+          (quoted-goes styles-beside x.quotes y.quotes r c b n m h.quotes i h.scan a d.0);
+    } in
+    let l = quotes-grow x y x.quotes y.quotes c (λ z. style_fed (value_between x z) n r c b) g (begun-valid x.quotes v) leads h.quotes k.1 in (
+      causes-none (quoted_error style_feeding x.quotes n r c b) (value_error x c) (quoted-takes styles-beside x.quotes y.quotes r c b n m h.quotes i h.scan d.0)
+          (both-none (body_error x.body) (quotes_error x.tag x.quotes c) w l.0),
+      l.1,
     )
 
 -- Comments.
@@ -493,6 +622,63 @@ url-grows x y t u r z c b v h e f n =
     (subst (λ (k : Reference). scan_error (InUrl y u k) c b ≡ None → Grows (InUrl x t r) (InUrl y t k) c b) f
     (λ n. value-grows x y t r c b (begun-valid x.quotes v) (begun-open r x.quotes v) h n) n)
 
+-- in a style
+abbrev pub HasCss : Body → Css → Type 0
+HasCss b c = b ≡ body.Css c
+
+pub under-body : (v : ValuePlace) (n : StyleScan) (w : ValuePlace) (b : Body) → StyleUnderBody v n w b
+    → (c : Css) × HasCss b c × StyleValueBelow v w n (style_scan_start c)
+under-body v n w (body.Css c) h = (c, refl, h)
+under-body v n w (body.Url s) h = absurd h
+under-body v n w (body.Js j) h = absurd h
+under-body v n w body.Plain h = absurd h
+under-body v n w body.NoHole h = absurd h
+
+within-css : (x : ValuePlace) → x.body ≡ body.Css empty_css → body_error x.body ≡ None
+within-css x e = ap body_error e
+
+-- below a lexeme or a reference of a style
+style-grows : (x y : ValuePlace) (n m : StyleScan) (r : Reference) (c : Class) (b : ℕ) → HasBegun x.quotes → x.body ≡ body.Css empty_css
+    → StyleValueBelow x y n m → style_cause y m r c b ≡ None → Grows (InStyle x n r) (InStyle y m r) c b
+style-grows x y n m r c b v w h e =
+    style-byte x y n m r c b (λ z. style_fed (value_between y z) m r c b) v (within-css x w) h
+    (λ z k l a. style-below (value_between x z) (value_between y z) k (feed_bytes style_feeding m (undone_byte true r c b)) (next_reference r c b)
+    (record { tag = h.tag; typed = h.typed; quotes = l; scan = a }))
+    e
+
+-- below a place of a style
+style-at-grows : (x y : ValuePlace) (n : StyleScan) (d : Css) (c : Class) (b : ℕ) → HasBegun x.quotes → x.body ≡ body.Css empty_css → HasCss y.body d
+    → StyleValueBelow x y n (style_scan_start d) → value_cause y Closed c b ≡ None → Grows (InStyle x n Closed) (At (place.Value y)) c b
+style-at-grows x y n d c b v w i h e =
+    style-byte x y n (style_scan_start d) Closed c b (λ z. value_fed y z y.body NoTriple Closed c b) v (within-css x w) h
+    (λ z k l a. subst (λ (o : Body). ScanBelow (style_scan (value_between x z) k (next_reference Closed c b)) (value_fed y z o NoTriple Closed c b)) (sym i)
+    (style-below (value_between x z) (empty_style_between y z) k (feed_bytes style_feeding (style_scan_start d) (undone_byte true Closed c b)) (next_reference Closed c b)
+    (record { tag = h.tag; typed = h.typed; quotes = l; scan = a })))
+    (sym (ap (λ (o : Body). first_cause (body_cause o y.quotes Closed c b) (at_hand (value_error y c))) i) ∙ e)
+
+style-by : (x y : ValuePlace) (n m : StyleScan) (r z : Reference) (c : Class) (b : ℕ) → HasBegun x.quotes → x.body ≡ body.Css empty_css
+    → StyleValueBelow x y n m → r ≡ z → scan_error (InStyle y m z) c b ≡ None → Grows (InStyle x n r) (InStyle y m z) c b
+style-by x y n m r z c b v w h e k =
+    subst (λ (o : Reference). scan_error (InStyle y m o) c b ≡ None → Grows (InStyle x n r) (InStyle y m o) c b) e (λ k. style-grows x y n m r c b v w h k) k
+
+style-at-by : (x y : ValuePlace) (n : StyleScan) (r : Reference) (c : Class) (b : ℕ) → HasBegun x.quotes → x.body ≡ body.Css empty_css
+    → StyleUnderBody x n y y.body → r ≡ Closed → scan_error (At (place.Value y)) c b ≡ None → Grows (InStyle x n r) (At (place.Value y)) c b
+style-at-by x y n r c b v w h e k =
+    let d = under-body x n y y.body h in
+    subst (λ (o : Reference). Grows (InStyle x n o) (At (place.Value y)) c b) (sym e) (style-at-grows x y n d.0 c b v w d.1 d.2 k)
+
+under-place-grows : (x : ValuePlace) (n : StyleScan) (r : Reference) (p : Place) (c : Class) (b : ℕ) → HasBegun x.quotes → x.body ≡ body.Css empty_css
+    → StyleUnderPlace x n p → r ≡ Closed → scan_error (At p) c b ≡ None → Grows (InStyle x n r) (At p) c b
+under-place-grows x n r (place.Value y) c b v w h e k = style-at-by x y n r c b v w h e k
+under-place-grows x n r place.Text c b v w h e k = absurd h
+under-place-grows x n r place.Doctype c b v w h e k = absurd h
+under-place-grows x n r (place.Comment d) c b v w h e k = absurd h
+under-place-grows x n r (place.Rcdata d) c b v w h e k = absurd h
+under-place-grows x n r (place.Tag d) c b v w h e k = absurd h
+under-place-grows x n r (place.Script d) c b v w h e k = absurd h
+under-place-grows x n r (place.Style d) c b v w h e k = absurd h
+under-place-grows x n r (place.Block d) c b v w h e k = absurd h
+
 pub scan-grows : (f g : Scan) (c : Class) (b : ℕ) → ScanValid f → ScanBelow f g → scan_error g c b ≡ None → Grows f g c b
 scan-grows (At x) (At y) c b v h n = place-grows x y c b v h n
 scan-grows (At x) AfterLess c b v h n = absurd h
@@ -530,7 +716,18 @@ scan-grows (InUrl x t r) (InContentEnd e y) c b v h n = absurd h
 scan-grows (InUrl x t r) (BeforeType u) c b v h n = absurd h
 scan-grows (InUrl x t r) (InType u q w z) c b v h n = absurd h
 scan-grows (InUrl x t r) (InStyle w s z) c b v h n = absurd h
-scan-grows (InStyle w s r) g c b v h n = absurd v
+scan-grows (InStyle x s r) (InStyle y m z) c b v h n = style-by x y s m r z c b v.0 v.1 h.0 h.1 n
+scan-grows (InStyle x s r) (At p) c b v h n = under-place-grows x s r p c b v.0 v.1 h.0 h.1 n
+scan-grows (InStyle x s r) AfterLess c b v h n = absurd h
+scan-grows (InStyle x s r) AfterLessSolidus c b v h n = absurd h
+scan-grows (InStyle x s r) (InDeclaration d) c b v h n = absurd h
+scan-grows (InStyle x s r) (InTagName d e) c b v h n = absurd h
+scan-grows (InStyle x s r) (InAttributeName d e k) c b v h n = absurd h
+scan-grows (InStyle x s r) (InCommentEnd d) c b v h n = absurd h
+scan-grows (InStyle x s r) (InContentEnd d e) c b v h n = absurd h
+scan-grows (InStyle x s r) (BeforeType d) c b v h n = absurd h
+scan-grows (InStyle x s r) (InType d e k l) c b v h n = absurd h
+scan-grows (InStyle x s r) (InUrl d e k) c b v h n = absurd h
 scan-grows AfterLess g c b v h n = same-grows AfterLess g c b h n
 scan-grows AfterLessSolidus g c b v h n = same-grows AfterLessSolidus g c b h n
 scan-grows (InDeclaration pending) g c b v h n = same-grows (InDeclaration pending) g c b h n
@@ -579,6 +776,52 @@ url-ends x y t u r z h e f n m =
     (subst (λ (k : Reference). scan_cut_error (InUrl y u k) ≡ None → scan_lexeme_error (InUrl y t k) ≡ None → Ends (InUrl x t r) (InUrl y t k)) f
     (λ n m. let d = body-ends x.body y.body (as_it_stands r) h.body n in (d.0, m, url-place x y (as_it_stands r) h d.1)) n) m
 
+-- a style in which a text ends
+style-place : (x y : ValuePlace) (n : StyleScan) (d : Css) → HasCss y.body d → StyleValueBelow x y n (style_scan_start d) → Below (with_style x n) (place.Value y)
+style-place x y n d i h =
+    value-from x.tag y.tag x.typed y.typed x.quotes y.quotes (body.Css (style_scan_place n)) y.body h.tag h.typed h.quotes
+    (subst (λ (o : Body). joined_bodies (body.Css (style_scan_place n)) o ≡ Some o) (sym i)
+    (below-css (style_scan_place n) d (scan-below-start n d h.scan).1))
+
+unfinished-none : (n : StyleScan) → style_scan_cut_error n ≡ None → style_unfinished n ≡ None
+unfinished-none n e = ap (option_map (λ (o : StyleCutRefusal). style_code o.code)) e
+
+style-at-ends : (x y : ValuePlace) (n : StyleScan) (r : Reference) → StyleUnderBody x n y y.body → r ≡ Closed → Ends (InStyle x n r) (At (place.Value y))
+style-at-ends x y n r h e =
+    let d = under-body x n y y.body h in
+    subst (λ (o : Reference). Ends (InStyle x n o) (At (place.Value y))) (sym e)
+    (refl, unfinished-none n (scan-below-start n d.0 d.2.scan).0, style-place x y n d.0 d.1 d.2)
+
+under-place-ends : (x : ValuePlace) (n : StyleScan) (r : Reference) (p : Place) → StyleUnderPlace x n p → r ≡ Closed → Ends (InStyle x n r) (At p)
+under-place-ends x n r (place.Value y) h e = style-at-ends x y n r h e
+under-place-ends x n r place.Text h e = absurd h
+under-place-ends x n r place.Doctype h e = absurd h
+under-place-ends x n r (place.Comment d) h e = absurd h
+under-place-ends x n r (place.Rcdata d) h e = absurd h
+under-place-ends x n r (place.Tag d) h e = absurd h
+under-place-ends x n r (place.Script d) h e = absurd h
+under-place-ends x n r (place.Style d) h e = absurd h
+under-place-ends x n r (place.Block d) h e = absurd h
+
+style-ends : (x y : ValuePlace) (n m : StyleScan) (r : Reference) → StyleValueBelow x y n m → scan_cut_error (InStyle y m r) ≡ None
+    → scan_lexeme_error (InStyle y m r) ≡ None → Ends (InStyle x n r) (InStyle y m r)
+style-ends x y n m r h e f =
+    let bytes = as_it_stands r in
+    let a = feed_bytes style_feeding n bytes in
+    let d = feed_bytes style_feeding m bytes in
+    let g = fed-beside styles-beside bytes true (length bytes) n m h.scan e in
+    let k : style_scan_cut_error d ≡ None = no_map (λ (o : StyleCutRefusal). style_code o.code) (style_scan_cut_error d) f in (
+      g.0,
+      unfinished-none a ((styles-grow.scans a d g.1).cut_error ∙ k),
+      style-places x y a d (record { tag = h.tag; typed = h.typed; quotes = h.quotes; scan = g.1 }),
+    )
+
+style-ends-by : (x y : ValuePlace) (n m : StyleScan) (r z : Reference) → StyleValueBelow x y n m → r ≡ z → scan_cut_error (InStyle y m z) ≡ None
+    → scan_lexeme_error (InStyle y m z) ≡ None → Ends (InStyle x n r) (InStyle y m z)
+style-ends-by x y n m r z h e f g =
+    subst (λ (o : Reference). scan_cut_error (InStyle y m o) ≡ None → scan_lexeme_error (InStyle y m o) ≡ None → Ends (InStyle x n r) (InStyle y m o)) e
+    (λ f g. style-ends x y n m r h f g) f g
+
 pub end-grows : (f g : Scan) → ScanBelow f g → scan_cut_error g ≡ None → scan_lexeme_error g ≡ None → Ends f g
 end-grows (At x) (At y) h n m = (refl, refl, h)
 end-grows (InUrl x t r) (InUrl y u z) h n m = url-ends x y t u r z h.0 h.1 h.2 n m
@@ -616,7 +859,18 @@ end-grows (InAttributeName t x o) (InContentEnd e y) h n m = absurd h
 end-grows (InAttributeName t x o) (BeforeType w) h n m = absurd h
 end-grows (InAttributeName t x o) (InType w q v k) h n m = absurd h
 end-grows (InAttributeName t x o) (InStyle w s k) h n m = absurd h
-end-grows (InStyle v s r) g h n m = same-ends (InStyle v s r) g h n m
+end-grows (InStyle x s r) (InStyle y m z) h n o = style-ends-by x y s m r z h.0 h.1 n o
+end-grows (InStyle x s r) (At p) h n o = under-place-ends x s r p h.0 h.1
+end-grows (InStyle x s r) AfterLess h n o = absurd h
+end-grows (InStyle x s r) AfterLessSolidus h n o = absurd h
+end-grows (InStyle x s r) (InDeclaration d) h n o = absurd h
+end-grows (InStyle x s r) (InTagName d e) h n o = absurd h
+end-grows (InStyle x s r) (InAttributeName d e k) h n o = absurd h
+end-grows (InStyle x s r) (InCommentEnd d) h n o = absurd h
+end-grows (InStyle x s r) (InContentEnd d e) h n o = absurd h
+end-grows (InStyle x s r) (BeforeType d) h n o = absurd h
+end-grows (InStyle x s r) (InType d e k l) h n o = absurd h
+end-grows (InStyle x s r) (InUrl d e k) h n o = absurd h
 end-grows AfterLess g h n m = same-ends AfterLess g h n m
 end-grows AfterLessSolidus g h n m = same-ends AfterLessSolidus g h n m
 end-grows (InDeclaration pending) g h n m = same-ends (InDeclaration pending) g h n m

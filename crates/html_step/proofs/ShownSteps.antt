@@ -1,10 +1,10 @@
 -- What refuses a byte: one member, on whatever path bears it, or two.
 use Rattle.std.proofs.Common.{◌≡◌, ◌≤◌, ℕ, Bool, true, false, ◌||◌, ◌&&◌, List, length, Option, Some, None, if◌then◌else◌, refl, sym, ap, ◌∙◌, subst, arith}
 use Rattle.place_core.specs.page.Classes.{Class, White, QuotationMark, Apostrophe, Solidus, LessThan, EqualsSign, GreaterThan, GraveAccent, class_of, is_equals_sign}
-use Rattle.place_core.specs.page.References.{Form, Reference, Closed, Open, Breaks, as_it_stands, flushed, turn}
+use Rattle.place_core.specs.page.References.{Form, Reference, Closed, Open, Breaks, as_it_stands, flushed, turn, undone_byte}
 use Rattle.place_core.specs.page.Tags.{feed_bytes}
 use Rattle.place_core.specs.place.Errors.{PathCause, at_hand, bare_error, body_error, comment_error, content_error, equals_error, first_cause, first_error, quotes_error, tag_error, value_error, block_error}
-use Rattle.place_core.specs.place.LanguagePlaces.{parts_have}
+use Rattle.place_core.specs.place.LanguagePlaces.{css_has, parts_have}
 use Rattle.place_core.specs.place.Places.{Below, Has, IsValid, IsValidQuotes, IsValidTag, body_has, joined_bodies, joined_kinds, joined_quotes, quotes_have}
 use Rattle.place_core.specs.declared.bare.Bare.{Bare}
 use Rattle.place_core.specs.declared.body.Body.{Body}
@@ -12,6 +12,7 @@ use Rattle.place_core.specs.declared.body.Body.TheVariants as body
 use Rattle.place_core.specs.declared.code.Code.{Code}
 use Rattle.place_core.specs.declared.code.Code.TheVariants as code
 use Rattle.place_core.specs.declared.css.Css.{Css}
+use Rattle.place_core.specs.declared.css.Css.TheVariants as css
 use Rattle.place_core.specs.declared.kind.Kind.{Kind}
 use Rattle.place_core.specs.declared.member.Member.{Member}
 use Rattle.place_core.specs.declared.member.Member.TheVariants as member
@@ -28,46 +29,24 @@ use Rattle.place_core.specs.declared.value_place.ValuePlace.{ValuePlace}
 use Rattle.place_core.proofs.Semilattices.{none_some, one_value}
 use Rattle.html_scan.specs.Scans.{Scan, At, AfterLess, AfterLessSolidus, InDeclaration, InTagName, InAttributeName, InUrl, InStyle, InCommentEnd, InContentEnd, open_cut_error, body_cause, parts_feeding, place_cause, quoted_error, scan_cut_error, scan_error, scan_lexeme_error, value_cause, BeforeType, InType, parts_with, triple_behind, url_scan, scan_reference}
 use Rattle.html_step.specs.Laws.{EvidenceData, apart, one, two}
-use Rattle.html_step.specs.Origins.{bare_shows, body_parts, body_refusal_shows, byte_shows, colon_shows, end_shows, is_apart, name_origin, place_shows, quotes_show, scan_parts, tag_shows, url_or_quotes, url_shows, value_shows}
-use Rattle.html_step.proofs.BelowScans.{IsRigid, below-at, below-at-comment, below-at-tag, below-at-value, below-attribute, below-url, tag-name-rigid, whole-in, below-at-block, before-type-rigid, content-end-rigid, type-rigid, style-rigid}
+use Rattle.html_step.specs.Origins.{bare_shows, body_or_quotes, body_parts, body_refusal_shows, byte_shows, colon_shows, end_shows, is_apart, name_origin, place_shows, quotes_show, scan_parts, tag_shows, url_shows, value_shows}
+use Rattle.html_step.proofs.BelowScans.{IsRigid, below-at, below-at-comment, below-at-tag, below-at-unstyled, below-attribute, below-url, tag-name-rigid, whole-in, below-at-block, before-type-rigid, content-end-rigid, type-rigid}
 use Rattle.html_step.proofs.ApartParts.{IsAmbiguous, apart-inside, bytes-stay, hole-before, hole-bytes, no-colon-fed, or-not}
 use Rattle.html_step.proofs.Characters.{ReferencePlain, stands-no-colon}
 use Rattle.html_step.proofs.FromParts.{or-behind, or-either, or-first}
 use Rattle.html_step.proofs.FromSteps.{no, or-false, untyped-rigid}
 use Rattle.html_step.proofs.FromValues.{in-body, out-part, value_has}
-use Rattle.html_step.proofs.OwnScans.{IsOwn, own-unstyled}
-use Rattle.html_step.proofs.ScanOrder.{HasBegun, BegunWhereOpen, ScanBelow, ScanHas, ScanValid, Unstyled, bare-parts, begun-open, begun-valid, built-unstyled, cause-accepts, kind-of-some, parts-below, some-none, within-unstyled}
+use Rattle.html_step.proofs.ScanOrder.{HasBegun, BegunWhereOpen, ScanBelow, ScanHas, ScanValid, StyleUnderPlace, Unstyled, bare-parts, begun-open, begun-valid, cause-accepts, kind-of-some, parts-below, parts-of-below, some-none, within-unstyled}
+use Rattle.html_step.proofs.ShownBytes.{ApartShown, ShownByte, ShownCut, ShownLexeme, TwoShown, by_colon, by_white}
+use Rattle.html_step.proofs.StyleShownSteps.{cut-style, lexeme-shown, lexeme-style, place-shown}
+use Rattle.css_step.specs.StyleScans.{StyleScan}
 use Rattle.html_step.proofs.ReadScans.{Behind, Broken, quoted-read, read_turn, read_value}
 use Rattle.html_step.proofs.UrlScans.{ScanPlain, reference_length}
 use Rattle.html_step.proofs.ShownUrls.{UrlShown, on_behind, on_each, on_first, quoted-shown, same-quoted}
-use Rattle.html_step.proofs.OnePath.{some}
+use Rattle.html_step.proofs.PathScans.{some}
 use Rattle.html_step.proofs.PlaceParts.{Under, TagBelow, ValueBelow, same-kinds, below-value, under-none}
 use Rattle.url_lexer.specs.Triples.{Triple, NoTriple, AfterPercent, AfterDigit}
 use Rattle.url_step.specs.PartSets.{PartsBelow, spells_apart}
-
--- Two members that show together that a byte is refused: white space, where a value without quotes has begun on some paths; a `:` that breaks a
--- reference in which a URL begins on some paths and has begun on others, so that they come apart in it.
-pub data TwoShown (f : Scan) (c : Class) (b : ℕ) (e : PathCause) (x y : Member) : Type 0 where
-  by_white : c ≡ White → x ≡ member.UnquotedValue → y ≡ member.UnbegunValue → ScanHas f member.UnquotedValue → ScanHas f member.UnbegunValue
-      → e ≡ record { code = code.AmbigContext; back = 0; shown = 0 } → TwoShown f c b e x y
-  by_colon : (v : ValuePlace) (t : Triple) (k : Form) (bytes : List ℕ) (s : Parts) → f ≡ InUrl v t (Open k bytes) → v.body ≡ body.Url s → turn c k ≡ Breaks
-      → Broken s k bytes c ≡ None → spells_apart s.opened ≡ false → spells_apart (Behind s k bytes c).opened ≡ true
-      → (Behind s k bytes c).openhole ≡ false → quoted_error parts_feeding v.quotes s (Open k bytes) c b ≡ Some e
-      → x ≡ member.PartStart → y ≡ member.PartOpen → e ≡ record { code = code.AmbigContext; back = 0; shown = 0 } → TwoShown f c b e x y
-
--- That paths met apart shows it of each path of which it is not known what it spells.
-pub record ApartShown (f : Scan) (c : Class) (b : ℕ) (e : PathCause) : Type 0 where
-  pub there : is_apart (scan_parts f) ≡ true
-  pub code : e.code ≡ code.AmbigContext
-  pub back : e.back ≤ reference_length (scan_reference f)
-  pub refuses : (g : Scan) → ScanValid g → ScanBelow g f → is_apart (scan_parts g) ≡ true → scan_error g c b ≡ Some e
-
--- One member shows it of each path that bears it, by the path's own scan state.
-abbrev pub ShownByte : Scan → Class → ℕ → PathCause → EvidenceData → Type 0
-ShownByte f c b e (one x) =
-    ScanHas f x × ((g : Scan) → ScanValid g → ScanBelow g f → ScanHas g x → IsOwn g → scan_error g c b ≡ Some e)
-ShownByte f c b e (two x y) = TwoShown f c b e x y
-ShownByte f c b e apart = ApartShown f c b e
 
 one-cause : (x y : PathCause) → Some x ≡ Some y → x ≡ y
 one-cause x y e = one_value x y e
@@ -169,23 +148,31 @@ same-body-error (body.Js p) c h = absurd (none_some c h)
 same-body-error (body.Css p) c h = absurd (none_some c h)
 
 -- where a URL refuses nothing, what refuses stands in the quotes
-one-by : (v : ValuePlace) (r : Reference) (c : Class) (b : ℕ) (e : PathCause) (x : Member) → Unstyled v.body
+one-by : (v : ValuePlace) (r : Reference) (c : Class) (b : ℕ) (e : PathCause) (x : Member)
     → body_cause v.body v.quotes r c b ≡ None → Has (place.Value v) x
     → ((u : ValuePlace) → ValueBelow u v → Has (place.Value u) x → at_hand (value_error u c) ≡ Some e) → ValueOne v r c b e x
-one-by v r c b e x z m h f = (
+one-by v r c b e x m h f = (
   h,
   λ u w i l o. ap (λ (p : Option PathCause). first_cause p (at_hand (value_error u c)))
-      (cause-accepts u.body v.body u.quotes v.quotes r c b l.body l.quotes i z m) ∙ f u l o,
+      (cause-accepts u.body v.body u.quotes v.quotes r c b l.body l.quotes i m) ∙ f u l o,
 )
 
 -- in a value that is built a member of its quotes is one of them
-pub quotes-only : (b : Body) (q : Quotes) (m : Member) → body_error b ≡ None → ((s : Parts) → parts_have s m ≡ true → ⊥)
+pub quotes-only : (b : Body) (q : Quotes) (m : Member) → body_error b ≡ None → ((s : Parts) → parts_have s m ≡ true → ⊥) → ((p : Css) → css_has p m ≡ true → ⊥)
     → (quotes_have q m || body_has b m) ≡ true → quotes_have q m ≡ true
-quotes-only body.Plain q m n f h = or-false (quotes_have q m) h
-quotes-only body.NoHole q m n f h = or-false (quotes_have q m) h
-quotes-only (body.Url p) q m n f h = or-either (quotes_have q m ≡ true) (quotes_have q m) (parts_have p m) h (λ k. k) (λ k. absurd (f p k))
-quotes-only (body.Js p) q m n f h = absurd (some _ n)
-quotes-only (body.Css p) q m n f h = absurd (some _ n)
+quotes-only body.Plain q m n f g h = or-false (quotes_have q m) h
+quotes-only body.NoHole q m n f g h = or-false (quotes_have q m) h
+quotes-only (body.Url p) q m n f g h = or-either (quotes_have q m ≡ true) (quotes_have q m) (parts_have p m) h (λ k. k) (λ k. absurd (f p k))
+quotes-only (body.Js p) q m n f g h = absurd (some _ n)
+quotes-only (body.Css p) q m n f g h = or-either (quotes_have q m ≡ true) (quotes_have q m) (css_has p m) h (λ k. k) (λ k. absurd (g p k))
+
+css-unquoted : (p : Css) → css_has p member.UnquotedValue ≡ true → ⊥
+css-unquoted (css.Code x) h = no h
+css-unquoted (css.Url s) h = no h
+css-unquoted (css.UrlDq s) h = no h
+css-unquoted (css.UrlSq s) h = no h
+css-unquoted (css.Comment x) h = no h
+css-unquoted _ h = no h
 
 -- a value without quotes: what is below it has none
 bare-below : (P : Quotes → Type 0) (r : Bare) → ((s : Bare) → Under s.uq r.uq → Under s.unbegun r.unbegun → P (quotes.Bare s)) → (q : Quotes)
@@ -204,7 +191,7 @@ evidence-bare : (t : ValuePlace) (p : Bare) (r : Reference) (c : Class) (b : ℕ
     → body_error t.body ≡ None → at_hand (bare_error t.tag p c) ≡ Some e → ((s : Bare) → bare_error t.tag s c ≡ bare_error t.tag p c)
     → ValueOne t r c b e member.Whole
 evidence-bare t p r c b e m q n h same =
-    one-by t r c b e member.Whole (built-unstyled t.body n) m refl
+    one-by t r c b e member.Whole m refl
     (λ u l o. same-if-built u (Some e) c (same-body-error u.body t.body l.body ∙ n)
     (ap (λ (x : TagOf). at_hand (quotes_error x u.quotes c)) l.tag
     ∙ bare-below (λ (z : Quotes). at_hand (quotes_error t.tag z c) ≡ Some e) p (λ s a d. ap at_hand (same s) ∙ h) u.quotes
@@ -219,14 +206,14 @@ evidence-uq : (t : ValuePlace) (p : Bare) (r : Reference) (c : Class) (b : ℕ) 
     → body_error t.body ≡ None → p.uq ≡ true → at_hand (bare_error t.tag p c) ≡ Some e
     → ((x : TagOf) (s : Bare) → bare_error x s c ≡ (if s.uq then Some code.BadHTML else None)) → ValueOne t r c b e member.UnquotedValue
 evidence-uq t p r c b e m q n uq h same =
-    one-by t r c b e member.UnquotedValue (built-unstyled t.body n) m
+    one-by t r c b e member.UnquotedValue m
     (or-end (quotes_have t.quotes member.UnquotedValue) (body_has t.body member.UnquotedValue)
     (ap (λ (z : Quotes). quotes_have z member.UnquotedValue) q ∙ uq))
     (λ u l o. let built : body_error u.body ≡ None = same-body-error u.body t.body l.body ∙ n in
     same-if-built u (Some e) c built
     (bare-below (λ (z : Quotes). quotes_have z member.UnquotedValue ≡ true → at_hand (quotes_error u.tag z c) ≡ Some e) p
     (λ s a d there. ap at_hand (same u.tag s ∙ ap (λ (x : Bool). if x then Some code.BadHTML else None) (there ∙ sym uq) ∙ sym (same t.tag p)) ∙ h)
-    u.quotes (subst (λ (z : Quotes). joined_quotes u.quotes z ≡ Some z) q l.quotes) (quotes-only u.body u.quotes member.UnquotedValue built (λ a k. no k) o)))
+    u.quotes (subst (λ (z : Quotes). joined_quotes u.quotes z ≡ Some z) q l.quotes) (quotes-only u.body u.quotes member.UnquotedValue built (λ a k. no k) css-unquoted o)))
 
 if-some : (b : Bool) (e : Code) (x : PathCause) → at_hand (if b then Some e else None) ≡ Some x → b ≡ true
 if-some true e x h = refl
@@ -273,12 +260,12 @@ evidence-quoted t f quotes.Sq r c b e into m q n h = absurd (none_some e h)
 
 evidence-in-quotes : (t : ValuePlace) (f : Scan) (r : Reference) (c : Class) (b : ℕ) (e : PathCause) (o : Option Code)
     → ((y : Member) → Has (place.Value t) y → ScanHas f y)
-    → Unstyled t.body → body_cause t.body t.quotes r c b ≡ None → body_error t.body ≡ o → at_hand (value_error t c) ≡ Some e
+    → body_cause t.body t.quotes r c b ≡ None → body_error t.body ≡ o → at_hand (value_error t c) ≡ Some e
     → ValueShown t f r c b e (quotes_show o t.quotes c)
-evidence-in-quotes t f r c b e None into z m n h =
+evidence-in-quotes t f r c b e None into m n h =
     evidence-quoted t f t.quotes r c b e into m refl n (sym (same-if-built t (at_hand (quotes_error t.tag t.quotes c)) c n refl) ∙ h)
-evidence-in-quotes t f r c b e (Some x) into z m n h =
-    one-by t r c b e member.Whole z m refl
+evidence-in-quotes t f r c b e (Some x) into m n h =
+    one-by t r c b e member.Whole m refl
     (λ u l o. ap (λ (y : Option Code). at_hand (first_error y (quotes_error u.tag u.quotes c))) (same-body-error u.body t.body l.body ∙ n)
     ∙ sym (ap (λ (y : Option Code). at_hand (first_error y (quotes_error t.tag t.quotes c))) n) ∙ h)
 
@@ -290,11 +277,6 @@ url-cause : (u v : ValuePlace) (t : Parts) (r : Reference) (c : Class) (b : ℕ)
 url-cause u v t r c b e k d i j h =
     ap (λ (x : Body). first_cause (body_cause x u.quotes r c b) (at_hand (value_error u c))) d
     ∙ ap (λ (o : Option PathCause). first_cause o (at_hand (value_error u c))) (same-quoted u.quotes v.quotes r t c b k j i ∙ h)
-
--- the parts of a value below a URL
-pub parts-of-below : (b : Body) (s : Parts) → joined_bodies b (body.Url s) ≡ Some (body.Url s) → (t : Parts) × (b ≡ body.Url t) × PartsBelow t s
-parts-of-below (body.Url t) s h = (t, refl, parts-below t s h)
-parts-of-below b s h = absurd (none_some (body.Url s) h)
 
 -- a value below is refused where its parts are
 each-below : (P : Parts → Type 0) (v : ValuePlace) (s : Parts) (r : Reference) (c : Class) (b : ℕ) (e : PathCause) → c ≡ class_of b → v.body ≡ body.Url s
@@ -416,7 +398,7 @@ colon-by v f s r c b e false false hx hy into k d (on_behind w bytes j q i n the
 evidence-url : (v : ValuePlace) (f : Scan) (x : Body) (r : Reference) (c : Class) (b : ℕ) (e : PathCause)
     → ((k : Form) (bytes : List ℕ) → r ≡ Open k bytes → (t : Triple) × (f ≡ InUrl v t (Open k bytes)))
     → c ≡ class_of b → BegunWhereOpen r v.quotes → ReferencePlain r → Unstyled x → v.body ≡ x → body_cause x v.quotes r c b ≡ Some e
-    → ValueShown v f r c b e (body_refusal_shows x e.code)
+    → ValueShown v f r c b e (body_refusal_shows x (undone_byte true r c b) e.code)
 evidence-url v f (body.Url s) r c b e into g a n z d h =
     subst (ValueShown v f r c b e) (shows-code s e.code)
     (colon-by v f s r c b e s.openhole (spells_apart s.opened) refl refl into g d (quoted-shown v.quotes r s c b e a n h))
@@ -427,10 +409,10 @@ by-cause : (v : ValuePlace) (f : Scan) (r : Reference) (c : Class) (b : ℕ) (e 
     → ((y : Member) → Has (place.Value v) y → ScanHas f y)
     → ((k : Form) (bytes : List ℕ) → r ≡ Open k bytes → (t : Triple) × (f ≡ InUrl v t (Open k bytes)))
     → c ≡ class_of b → BegunWhereOpen r v.quotes → ReferencePlain r → Unstyled v.body → body_cause v.body v.quotes r c b ≡ o
-    → first_cause o (at_hand (value_error v c)) ≡ Some e → ValueShown v f r c b e (url_or_quotes o v.body (quotes_show (body_error v.body) v.quotes c))
-by-cause v f r c b e None has into g a n z m h = evidence-in-quotes v f r c b e (body_error v.body) has z m refl h
+    → first_cause o (at_hand (value_error v c)) ≡ Some e → ValueShown v f r c b e (body_or_quotes o v.body (undone_byte true r c b) (quotes_show (body_error v.body) v.quotes c))
+by-cause v f r c b e None has into g a n z m h = evidence-in-quotes v f r c b e (body_error v.body) has m refl h
 by-cause v f r c b e (Some x) has into g a n z m h =
-    subst (λ (z : PathCause). ValueShown v f r c b e (body_refusal_shows v.body z.code)) (sym (one_value x e h)) (evidence-url v f v.body r c b e into g a n z refl (m ∙ h))
+    subst (λ (z : PathCause). ValueShown v f r c b e (body_refusal_shows v.body (undone_byte true r c b) z.code)) (sym (one_value x e h)) (evidence-url v f v.body r c b e into g a n z refl (m ∙ h))
 
 evidence-value-byte : (v : ValuePlace) (f : Scan) (r : Reference) (c : Class) (b : ℕ) (e : PathCause) → ((y : Member) → Has (place.Value v) y → ScanHas f y)
     → ((k : Form) (bytes : List ℕ) → r ≡ Open k bytes → (t : Triple) × (f ≡ InUrl v t (Open k bytes)))
@@ -439,17 +421,17 @@ evidence-value-byte : (v : ValuePlace) (f : Scan) (r : Reference) (c : Class) (b
 evidence-value-byte v f r c b e has into g a n z h = by-cause v f r c b e (body_cause v.body v.quotes r c b) has into g a n z refl h
 
 -- at a place, and in a triple or a reference
-at-value : (v : ValuePlace) (c : Class) (b : ℕ) (e : PathCause) (y : EvidenceData) → ValueShown v (At (place.Value v)) Closed c b e y
+at-value : (v : ValuePlace) (c : Class) (b : ℕ) (e : PathCause) (y : EvidenceData) → Unstyled v.body → ValueShown v (At (place.Value v)) Closed c b e y
     → ShownByte (At (place.Value v)) c b e y
-at-value v c b e (one x) h =
-    (h.0, λ g w l o i. below-at-value (λ (g : Scan). ScanValid g → ScanHas g x → scan_error g c b ≡ Some e) v (λ u l w o. h.1 u w.0 tt l o) g l w o)
-at-value v c b e (two x y) h = h
-at-value v c b e apart h = record {
+at-value v c b e (one x) z h =
+    (h.0, λ g w l o i. below-at-unstyled (λ (g : Scan). ScanValid g → ScanHas g x → scan_error g c b ≡ Some e) v z (λ u l w o. h.1 u w.0 tt l o) g l w o)
+at-value v c b e (two x y) z h = h
+at-value v c b e apart z h = record {
   there = h.there;
   code = h.code;
   back = h.back;
   refuses = λ g w l o.
-      below-at-value (λ (g : Scan). ScanValid g → is_apart (scan_parts g) ≡ true → scan_error g c b ≡ Some e) v (λ u l w o. h.refuses u w.0 tt l o) g l w o;
+      below-at-unstyled (λ (g : Scan). ScanValid g → is_apart (scan_parts g) ≡ true → scan_error g c b ≡ Some e) v z (λ u l w o. h.refuses u w.0 tt l o) g l w o;
 }
 
 in-url : (v : ValuePlace) (t : Triple) (r : Reference) (c : Class) (b : ℕ) (e : PathCause) (y : EvidenceData) → ValueShown v (InUrl v t r) r c b e y
@@ -499,38 +481,15 @@ style-error j c b (place.Style i) h = refl
 style-error j c b _ h = absurd (none_some (place.Style j) h)
 
 evidence-unbuilt : (p : Place) (c : Class) (b : ℕ) (e : PathCause) → ((a : Place) → Below a p → place_cause a c b ≡ at_hand (Some code.NotBuilt))
-    → at_hand (Some code.NotBuilt) ≡ Some e → ShownByte (At p) c b e (one member.Whole)
-evidence-unbuilt p c b e f h = (refl, λ g v l o i. below-at (λ (g : Scan). scan_error g c b ≡ Some e) p (λ a l. f a l ∙ h) g l)
+    → ((u : ValuePlace) (n : StyleScan) → StyleUnderPlace u n p → ⊥) → at_hand (Some code.NotBuilt) ≡ Some e → ShownByte (At p) c b e (one member.Whole)
+evidence-unbuilt p c b e f k h = (refl, λ g v l o i. below-at (λ (g : Scan). scan_error g c b ≡ Some e) p (λ a l. f a l ∙ h) (λ u n z. absurd (k u n z)) g l)
 
--- In a value. No path is in one that is a style, so that there one member of each shows it.
-styled-shows : (o : Option PathCause) (s : Css) (q : Quotes) (c : Class)
-    → url_or_quotes o (body.Css s) (quotes_show (body_error (body.Css s)) q c) ≡ one member.Whole
-styled-shows None s q c = refl
-styled-shows (Some e) s q c = refl
-
-styled-body : (b : Body) (s : Css) → joined_bodies b (body.Css s) ≡ Some (body.Css s) → Unstyled b → ⊥
-styled-body (body.Css c) s h z = z
-styled-body b s h z = none_some (body.Css s) h
-
-below-styled : (u v : ValuePlace) (s : Css) → ValueBelow u v → v.body ≡ body.Css s → Unstyled u.body → ⊥
-below-styled u v s l d z = styled-body u.body s (subst (λ (x : Body). joined_bodies u.body x ≡ Some x) d l.body) z
-
-evidence-styled : (v : ValuePlace) (c : Class) (b : ℕ) (e : PathCause) (s : Css) → v.body ≡ body.Css s
-    → ShownByte (At (place.Value v)) c b e (value_shows v Closed c b)
-evidence-styled v c b e s d =
-    subst (ShownByte (At (place.Value v)) c b e)
-    (sym (ap (λ (x : Body). url_or_quotes (body_cause x v.quotes Closed c b) x (quotes_show (body_error x) v.quotes c)) d
-    ∙ styled-shows (body_cause (body.Css s) v.quotes Closed c b) s v.quotes c)) (
-      refl,
-      λ g w l o i. below-at-value (λ (g : Scan). IsOwn g → scan_error g c b ≡ Some e) v
-          (λ u m j. absurd (below-styled u v s m d (own-unstyled u j))) g l i,
-    )
-
+-- In a value.
 evidence-value : (v : ValuePlace) (c : Class) (b : ℕ) (e : PathCause) (x : Body) → c ≡ class_of b → v.body ≡ x
     → place_cause (place.Value v) c b ≡ Some e → ShownByte (At (place.Value v)) c b e (value_shows v Closed c b)
-evidence-value v c b e (body.Css s) k d h = evidence-styled v c b e s d
+evidence-value v c b e (body.Css s) k d h = place-shown v c b e s k d h
 evidence-value v c b e x k d h =
-    at-value v c b e (value_shows v Closed c b)
+    at-value v c b e (value_shows v Closed c b) (subst Unstyled (sym d) tt)
     (evidence-value-byte v (At (place.Value v)) Closed c b e (λ y o. o) (λ z bytes h. not-open z bytes h) k tt tt (subst Unstyled (sym d) tt) h)
 
 evidence-place : (p : Place) (c : Class) (b : ℕ) (e : PathCause) → c ≡ class_of b → IsValid p → place_cause p c b ≡ Some e
@@ -541,8 +500,8 @@ evidence-place (place.Comment dash) c b e k v h = evidence-comment dash c b e h
 evidence-place (place.Rcdata x) c b e k v h = absurd (none_some e h)
 evidence-place (place.Tag t) c b e k v h = evidence-tag-byte t c b e v h
 evidence-place (place.Value x) c b e k v h = evidence-value x c b e x.body k refl h
-evidence-place (place.Script j) c b e k v h = evidence-unbuilt (place.Script j) c b e (script-error j c b) h
-evidence-place (place.Style j) c b e k v h = evidence-unbuilt (place.Style j) c b e (style-error j c b) h
+evidence-place (place.Script j) c b e k v h = evidence-unbuilt (place.Script j) c b e (script-error j c b) (λ u n z. z) h
+evidence-place (place.Style j) c b e k v h = evidence-unbuilt (place.Style j) c b e (style-error j c b) (λ u n z. z) h
 evidence-place (place.Block less) c b e k v h = evidence-block less c b e h
 
 evidence-attribute : (t : TagOf) (typed : Bool) (name : List ℕ) (c : Class) (b : ℕ) (e : PathCause)
@@ -565,7 +524,7 @@ evidence-byte (InAttributeName t typed name) c b e k v n h = evidence-attribute 
 evidence-byte (InUrl w t r) c b e k v n h =
     in-url w t r c b e (value_shows w r c b)
     (evidence-value-byte w (InUrl w t r) r c b e (λ y o. o) (λ z bytes i. (t, ap (InUrl w t) i)) k (begun-open r w.quotes v.0) n (within-unstyled w.body v.1) h)
-evidence-byte (InStyle w s r) c b e k v n h = absurd v
+evidence-byte (InStyle w s r) c b e k v n h = lexeme-shown w s r c b e k v.0 v.1 n h
 evidence-byte (InCommentEnd s) c b e k v n h = absurd (none_some e h)
 evidence-byte (InContentEnd x y) c b e k v n h = evidence-rigid (InContentEnd x y) c b e (content-end-rigid x y) h
 evidence-byte (BeforeType t) c b e k v n h = evidence-rigid (BeforeType t) c b e (before-type-rigid t) h
@@ -580,10 +539,10 @@ read-apart v s c b e k d h i (on_first back j l there refuses) =
     (λ t m n. refuses t (or-behind t.openhole (spells_apart t.opened) n))
 read-apart v s c b e k d h i (on_behind w bytes j q n m there refuses) = not-open w bytes j
 
-url-apart : (v : ValuePlace) (t : Triple) (c : Class) (b : ℕ) (e : PathCause) → ValueApart v Closed c b e → ApartShown (url_scan v t Closed) c b e
-url-apart v NoTriple c b e h = at-value v c b e apart h
-url-apart v AfterPercent c b e h = in-url v AfterPercent Closed c b e apart h
-url-apart v AfterDigit c b e h = in-url v AfterDigit Closed c b e apart h
+url-apart : (v : ValuePlace) (t : Triple) (c : Class) (b : ℕ) (e : PathCause) → Unstyled v.body → ValueApart v Closed c b e → ApartShown (url_scan v t Closed) c b e
+url-apart v NoTriple c b e z h = at-value v c b e apart z h
+url-apart v AfterPercent c b e z h = in-url v AfterPercent Closed c b e apart h
+url-apart v AfterDigit c b e z h = in-url v AfterDigit Closed c b e apart h
 
 pub evidence-read : (v : ValuePlace) (t : Triple) (f : Form) (bytes : List ℕ) (s : Parts) (b : ℕ) (e : PathCause) → v.body ≡ body.Url s → HasBegun v.quotes
     → turn (class_of b) f ≡ Breaks → Broken s f bytes (class_of b) ≡ None → spells_apart (Behind s f bytes (class_of b)).opened ≡ true
@@ -593,14 +552,11 @@ evidence-read v t f bytes s b e d g k n a i h =
     let c = class_of b in
     let xs = flushed true (is_equals_sign c) f bytes in
     let w = read_value v xs in
-    url-apart w (triple_behind t xs) c b e
+    url-apart w (triple_behind t xs) c b e (subst (λ (x : Body). Unstyled (parts_with x xs)) (sym d) tt)
     (read-apart w (Behind s f bytes c) c b e refl (ap (λ (x : Body). parts_with x xs) d) a i
     (quoted-shown v.quotes Closed (Behind s f bytes c) c b e tt tt (quoted-read v.quotes s f bytes c b g k n ∙ h)))
 
--- The end of a text: what is refused before it, or there.
-pub record ShownCut (f : Scan) (e : PathCause) (x : Member) : Type 0 where
-  pub there : ScanHas f x
-  pub refuses : (g : Scan) → ScanBelow g f → ScanHas g x → scan_cut_error g ≡ Some e
+-- The end of a text.
 
 cut-attribute : (t : TagOf) (typed : Bool) (name : List ℕ) (e : PathCause) → scan_cut_error (InAttributeName t typed name) ≡ Some e
     → ShownCut (InAttributeName t typed name) e (name_origin typed)
@@ -631,23 +587,15 @@ evidence-cut (InTagName end name) e n h = absurd (none_some e h)
 evidence-cut (InCommentEnd s) e n h = absurd (none_some e h)
 evidence-cut (InContentEnd x y) e n h = cut-rigid (InContentEnd x y) e (content-end-rigid x y) h
 evidence-cut (BeforeType t) e n h = cut-rigid (BeforeType t) e (before-type-rigid t) h
-evidence-cut (InStyle w s r) e n h = cut-rigid (InStyle w s r) e (style-rigid w s r) h
+evidence-cut (InStyle w s r) e n h = cut-style w s r e n h
 evidence-cut (InType t q w r) e n h = cut-rigid (InType t q w r) e (type-rigid t q w r) h
-
--- and at the end a percent triple, on each path
-pub record ShownLexeme (f : Scan) (e : Code) (x : Member) : Type 0 where
-  pub there : ScanHas f x
-  pub refuses : (g : Scan) → ScanBelow g f → ScanHas g x → (scan_cut_error g ≡ None) × (scan_lexeme_error g ≡ Some e)
 
 pub evidence-lexeme : (f : Scan) (e : Code) → ScanPlain f → scan_cut_error f ≡ None → scan_lexeme_error f ≡ Some e → ShownLexeme f e (end_shows f)
 evidence-lexeme (InUrl v t r) e n m h = record {
   there = refl;
   refuses = λ g l o. below-url (λ (g : Scan). (scan_cut_error g ≡ None) × (scan_lexeme_error g ≡ Some e)) v t r (λ u l. (cut-url u.body r n, h)) g l;
 }
-evidence-lexeme (InStyle v s r) e n m h = record {
-  there = refl;
-  refuses = λ g l o. let i = style-rigid v s r g l in (ap scan_cut_error i ∙ m, ap scan_lexeme_error i ∙ h);
-}
+evidence-lexeme (InStyle v s r) e n m h = lexeme-style v s r e m h
 evidence-lexeme (InAttributeName t typed name) e n m h = absurd (none_some e h)
 evidence-lexeme (At p) e n m h = absurd (none_some e h)
 evidence-lexeme AfterLess e n m h = absurd (none_some e h)

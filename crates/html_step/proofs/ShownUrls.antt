@@ -20,10 +20,12 @@ use Rattle.html_step.proofs.Characters.{IsCharacter, NoColon, ReferencePlain, co
 use Rattle.html_step.proofs.PlaceParts.{Under}
 use Rattle.html_step.proofs.ScanOrder.{BegunWhereOpen, bare-parts}
 use Rattle.html_step.proofs.ReadScans.{Behind, Broken}
-use Rattle.html_step.proofs.UrlOrder.{BegunIf, fed-grow}
+use Rattle.html_step.proofs.FedAlike.{BegunIf}
+use Rattle.html_step.proofs.UrlOrder.{fed-grow}
 use Rattle.html_step.proofs.UrlScans.{reference_length}
 use Rattle.url_lexer.specs.Classes.{url_class_of}
 use Rattle.url_lexer.specs.Refusals.{UrlRefusal}
+use Rattle.url_lexer.specs.declared.class.UrlClass.TheVariants as url_class
 use Rattle.url_step.specs.PartSets.{PartsBelow}
 
 no : false ≡ true → ⊥
@@ -121,7 +123,7 @@ quoted-shown (quotes.Bare x) Closed s c b e i a h = bare-shown x.uq Closed s c b
 quoted-shown (quotes.Bare x) (Open f l) s c b e i a h = bare-shown x.uq (Open f l) s c b e i.0 a h
 
 -- A quotation mark and an apostrophe are no `:`.
-abbrev is_quote : Class → Bool
+abbrev pub is_quote : Class → Bool
 is_quote QuotationMark = true
 is_quote Apostrophe = true
 is_quote _ = false
@@ -129,6 +131,9 @@ is_quote _ = false
 colon-class : is_quote (class_of 58) ≡ false
 unfolding class_of
 colon-class = refl
+
+pub quote-no-colon : (b : ℕ) → is_quote (class_of b) ≡ true → url_class_of b ≡ url_class.Colon → ⊥
+quote-no-colon b q e = no (sym (ap (λ (x : ℕ). is_quote (class_of x)) (colon-byte b e) ∙ colon-class) ∙ q)
 
 quote-taken : (t : Parts) (b : ℕ) → is_quote (class_of b) ≡ true → fed_error parts_feeding t (b ∷ []) false 0 ≡ None
 quote-taken t b q =

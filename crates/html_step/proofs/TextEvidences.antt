@@ -1,9 +1,9 @@
 -- Whole texts: what is refused is shown by one path or by two.
 use Rattle.std.proofs.Common.{◌≡◌, ℕ, ◌+◌, ◌-◌, Bool, true, false, suc, List, [], ◌∷◌, Option, Some, None, Result, Ok, Err, refl, sym, ap, ◌∙◌, subst, arith, inl, inr, if◌then◌else◌}
-use Rattle.place_core.specs.page.Classes.{White, class_of}
-use Rattle.place_core.specs.place.Errors.{PathCause, PathRefusal, PathRefuses, byte_error}
+use Rattle.place_core.specs.page.Classes.{White, class_of, is_equals_sign}
+use Rattle.place_core.specs.place.Errors.{PathCause, flushed_error, PathRefusal, PathRefuses, byte_error}
 use Rattle.place_core.specs.place.LastLexeme.{last_lexeme_start}
-use Rattle.place_core.specs.place.ApartPlaces.{HasApart, beginning_in_body, side}
+use Rattle.place_core.specs.place.ApartPlaces.{HasApart, beginning_in_body, beginning_in_css, side}
 use Rattle.place_core.specs.place.PathPairs.{Clashes, ClashesApart, MeetsColon, byte_clash}
 use Rattle.place_core.specs.page.Html.{next}
 use Rattle.place_core.specs.place.Membership.{IsIn, Bears}
@@ -14,6 +14,10 @@ use Rattle.place_core.specs.page.References.{Form, Reference, Open, ReferenceSte
 use Rattle.place_core.specs.page.Tags.{ValueState, languages}
 use Rattle.place_core.specs.declared.body.Body.{Body}
 use Rattle.place_core.specs.declared.body.Body.TheVariants as body
+use Rattle.place_core.specs.declared.css.Css.{Css}
+use Rattle.place_core.specs.declared.css.Css.TheVariants as css
+use Rattle.css_step.specs.StyleOrigins.{style_scan_parts}
+use Rattle.css_step.specs.StyleScans.{StyleScan, style_scan_start}
 use Rattle.place_core.specs.declared.parts.Parts.{Parts}
 use Rattle.place_core.specs.declared.place.Place.TheVariants as place
 use Rattle.place_core.specs.declared.prefix.Prefix.TheVariants as prefix
@@ -26,7 +30,7 @@ use Rattle.place_core.specs.declared.member.Member.{Member}
 use Rattle.place_core.specs.declared.member.Member.TheVariants as member
 use Rattle.place_core.specs.declared.place.Place.{Place}
 use Rattle.place_core.specs.declared.step_err.StepErr.{StepErr}
-use Rattle.html_scan.specs.Scans.{Scan, At, InUrl, scan_reference, scan_cut_error, scan_error, scan_lexeme_error, scan_next, scan_place}
+use Rattle.html_scan.specs.Scans.{Scan, At, InStyle, InUrl, style_feeding, scan_reference, scan_cut_error, scan_error, scan_lexeme_error, scan_next, scan_place}
 use Rattle.html_step.specs.Laws.{IsEvidence, EvidenceData, TextEvidence, apart, one, two}
 use Rattle.html_step.specs.Origins.{back_by, body_parts, byte_origin, byte_shows, end_shows, is_apart, scan_parts, shows, unless_shown}
 use Rattle.html_step.specs.Steps.{after_text, place_before, stepped, unless_broken_off, unless_refused, with_place_before}
@@ -34,13 +38,16 @@ use Rattle.html_step.proofs.ApartParts.{differs-of}
 use Rattle.html_step.proofs.RefusedColons.{ClashesFrom, ShownApart, ShownTwo, Stands, earlier-two, kept-apart, meets, two-read, refused-later}
 use Rattle.html_step.proofs.Characters.{ReferencePlain}
 use Rattle.html_step.proofs.Clashing.{clash, is-open, is-unbegun, is-unquoted}
-use Rattle.html_step.proofs.FromSteps.{From, from-byte}
+use Rattle.html_step.proofs.FromSteps.{from-byte}
+use Rattle.html_step.proofs.FromValues.{From}
 use Rattle.html_step.proofs.FromTexts.{own-has}
 use Rattle.html_step.proofs.ScanOrder.{ScanBelow, ScanHas, ScanValid, scan-grows}
 use Rattle.html_step.proofs.OneTexts.{agrees-at, at-place, one-text}
-use Rattle.html_step.proofs.ReadScans.{Broken, Takes, read_turn, scan_read}
+use Rattle.html_step.proofs.ReadScans.{Broken, Takes, read_style, read_turn, scan_read}
+use Rattle.html_step.proofs.StyleShownSteps.{style-read-apart}
 use Rattle.html_step.proofs.OwnScans.{IsOwn}
-use Rattle.html_step.proofs.ShownSteps.{ApartShown, ShownByte, ShownCut, ShownLexeme, TwoShown, by_colon, by_white, evidence-byte, evidence-cut, evidence-lexeme, evidence-read}
+use Rattle.html_step.proofs.ShownBytes.{ApartShown, ShownByte, ShownCut, ShownLexeme, TwoShown, by_colon, by_style, by_white}
+use Rattle.html_step.proofs.ShownSteps.{evidence-byte, evidence-cut, evidence-lexeme, evidence-read}
 use Rattle.html_step.proofs.UrlScans.{ScanPlain, below-reference, scan-plain}
 use Rattle.html_step.proofs.ValidSteps.{scan-valid}
 
@@ -137,6 +144,20 @@ taken-by f b v t x bytes s at d n = record {
       let form = one-reference x z bytes l (one-open v u t k (Open x bytes) (Open z l) same) in
       let parts : s ≡ a = one_value s a (ap body_parts (sym d ∙ ap (λ (w : ValuePlace). w.body) value ∙ i)) in
       rw (sym parts, sym form.0, sym form.1) n;
+  styled = λ u m z l e k. absurd (let same : InUrl v t (Open x bytes) ≡ InStyle u m (Open z l) = sym at ∙ e in cc);
+}
+
+one-style : (v u : ValuePlace) (n m : StyleScan) (x z : Form) (a l : List ℕ) → InStyle v n (Open x a) ≡ InStyle u m (Open z l) → (n ≡ m) × (x ≡ z) × (a ≡ l)
+one-style v u n m x z a l e = (cc, cc, cc)
+
+style-not-url : {A : Type 0} (v u : ValuePlace) (n : StyleScan) (t : Triple) (r z : Reference) → InStyle v n r ≡ InUrl u t z → A
+style-not-url v u n t r z e = cc
+
+style-taken-by : (f : Scan) (b : ℕ) (v : ValuePlace) (n : StyleScan) (x : Form) (bytes : List ℕ) → f ≡ InStyle v n (Open x bytes)
+    → flushed_error style_feeding n (is_equals_sign (class_of b)) x bytes ≡ None → Takes f b
+style-taken-by f b v n x bytes at k = record {
+  taken = λ u a t z l e i m. style-not-url v u n t (Open x bytes) (Open z l) (sym at ∙ e);
+  styled = λ u m z l e t. let same = one-style v u n m x z bytes l (sym at ∙ e) in rw (sym same.0, sym same.1, sym same.2) k;
 }
 
 two-evidence : (k since b : ℕ) (bs : List ℕ) (f : Scan) (r : PathRefusal) (e : PathCause) (x y : Member) → ScanValid f → ScanPlain f
@@ -160,6 +181,19 @@ two-evidence k since b bs f r e x y v plain z i (by_colon w t form bytes s at d 
     (subst (λ (z : Member). ShownBytes k since (b ∷ bs) f r (two member.PartStart z)) (sym n)
     (two-read k b bs f r form bytes s v (ap scan_parts at ∙ ap body_parts d) held (subst ReferencePlain held plain) turns
     (taken-by f b w t form bytes s at d taken) not-yet (apart-byte k b bs over r e i shown)))
+two-evidence k since b bs f r e x y v plain z i (by_style w o form bytes s at d turns taken not-yet shown came is refused m n h j) =
+    let c = class_of b in
+    let over = scan_read f (b ∷ bs) in
+    let valid : ScanValid (InStyle w o (Open form bytes)) = subst ScanValid at v in
+    let held : scan_reference f ≡ Open form bytes = ap scan_reference at in
+    let read : over ≡ read_style Breaks w o form bytes c =
+    ap (λ (g : Scan). scan_read g (b ∷ bs)) at ∙ ap (λ (q : ReferenceStep). read_style q w o form bytes c) turns in
+    let met : ApartShown over c b e =
+    subst (λ (g : Scan). ApartShown g c b e) (sym read) (style-read-apart w o form bytes b e valid.0 turns taken shown came is refused) in
+    subst (λ (z : Member). ShownBytes k since (b ∷ bs) f r (two z y)) (sym m)
+    (subst (λ (z : Member). ShownBytes k since (b ∷ bs) f r (two member.PartStart z)) (sym n)
+    (two-read k b bs f r form bytes s v (ap scan_parts at ∙ d) held (subst ReferencePlain held plain) turns
+    (style-taken-by f b w o form bytes at taken) not-yet (apart-byte k b bs over r e i met)))
 
 -- what is left of a text behind a byte
 abbrev Rest : ℕ → ℕ → ℕ → List ℕ → Scan → Result Place PathRefusal
@@ -287,7 +321,7 @@ evidence-bytes [] k since f r v n h = end-cases k since f r (scan_cut_error f) n
 evidence-bytes (b ∷ bs) k since f r v n h =
     byte-cases k since b bs f r (shows bs (scan_next f (class_of b) b)) (scan_error f (class_of b) b) refl v n h
     (λ e. evidence-bytes bs (k + 1) (last_lexeme_start k since (scan_reference f) (class_of b) b) (scan_next f (class_of b) b) r (scan-valid f (class_of b) b v e)
-    (scan-plain f b v e n)
+    (scan-plain f b n)
     (later-refused k (scan_error f (class_of b) b) (Rest k since b bs f) r e h))
 
 -- the whole answer
@@ -315,8 +349,20 @@ plus-none : (i : ℕ) → 0 + i ≡ i
 plus-none i = omega arith
 
 -- the place where they met apart
+comment-apart : (star : Bool) → is_apart (style_scan_parts (style_scan_start (css.Comment star))) ≡ true → ⊥
+comment-apart true h = no h
+comment-apart false h = no h
+
+css-apart : (c : Css) → is_apart (style_scan_parts (style_scan_start c)) ≡ true → beginning_in_css c ≡ Some prefix.Differs
+css-apart (css.Url s) h = differs-of s.opened h
+css-apart (css.UrlDq s) h = differs-of s.opened h
+css-apart (css.UrlSq s) h = differs-of s.opened h
+css-apart (css.Comment star) h = absurd (comment-apart star h)
+css-apart _ h = absurd (no h)
+
 body-apart : (b : Body) → is_apart (body_parts b) ≡ true → beginning_in_body b ≡ Some prefix.Differs
 body-apart (body.Url s) h = differs-of s.opened h
+body-apart (body.Css c) h = css-apart c h
 body-apart _ h = absurd (no h)
 
 has-apart : (p : Place) → is_apart (scan_parts (At p)) ≡ true → HasApart p

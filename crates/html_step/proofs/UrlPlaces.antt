@@ -1,6 +1,13 @@
 -- The place of a path in a URL has the part of the path alone.
 use Rattle.std.proofs.Common.{◌≡◌, Bool, true, false, Option, Some, None, option_map, if◌then◌else◌, refl, sym, ◌∙◌, subst}
-use Rattle.place_core.specs.place.PathPairs.{url_part_at}
+use Rattle.css_lexer.specs.Escapes.{StyleEscape, NoEscape, AfterBackslash, HexDigits, AfterReturn}
+use Rattle.css_lexer.specs.PartSpots.{has_read_nothing}
+use Rattle.css_lexer.specs.Spots.{UrlSpot, QuotedUrlSpot}
+use Rattle.css_lexer.specs.States.{Quote, DoubleQuote, SingleQuote, Outside, Between, AfterLessThan, Word, AfterSolidus, InString, BadUrl, BehindHole, SplitWord, SolidusAtCut, LessThanAtCut, StarAtCut, UrlForm, Fresh, Bare, Quoted, Ended, Style, Out}
+use Rattle.css_lexer.specs.States as style
+use Rattle.place_core.proofs.Semilattices.{none_some, one_value}
+use Rattle.place_core.specs.place.PathPairs.{url_in_style, url_part_at}
+use Rattle.place_core.specs.place.StyleParts.{style_body, style_place}
 use Rattle.place_core.specs.page.References.{Closed, Open}
 use Rattle.place_core.specs.place.StatePlaces.{content_spot, only_after, only_inside, placed, quotes_at, tag_spot, value_spot}
 use Rattle.place_core.specs.place.UrlParts.{parts_of}
@@ -8,6 +15,8 @@ use Rattle.place_core.specs.page.States.{LexState, Text, TagOpen, EndTagOpen, De
 use Rattle.place_core.specs.page.Tags.{Tag, is_second_type, ValueOf, Deciding, ValueState, OfKind, OfUrl, OfStyle, Quoting}
 use Rattle.place_core.specs.declared.body.Body.{Body}
 use Rattle.place_core.specs.declared.body.Body.TheVariants as body
+use Rattle.place_core.specs.declared.css.Css.{Css}
+use Rattle.place_core.specs.declared.css.Css.TheVariants as css
 use Rattle.place_core.specs.declared.element.Element.{Element}
 use Rattle.place_core.specs.declared.element.Element.TheVariants as element
 use Rattle.place_core.specs.declared.kind.Kind.{Kind}
@@ -17,18 +26,33 @@ use Rattle.place_core.specs.declared.place.Place.{Place}
 use Rattle.place_core.specs.declared.place.Place.TheVariants as place
 use Rattle.place_core.specs.declared.value_place.ValuePlace.{ValuePlace}
 use Rattle.url_lexer.specs.Parts.{UrlPart}
+use Rattle.url_lexer.specs.States.{Url}
 use Rattle.url_lexer.specs.Triples.{Triple, NoTriple, AfterPercent, AfterDigit}
 use Rattle.url_lexer.specs.Spots.{where_whole}
-use Rattle.html_step.proofs.ScanOrder.{one-url}
 
-abbrev NoUrl : Body → Type 0
-NoUrl (body.Url p) = ⊥
-NoUrl b = Unit {0}
+-- The parts of the URL in which a value is, which may be one in a style.
+abbrev pub css_url : Css → Option Parts
+css_url (css.Url s) = Some s
+css_url (css.UrlDq s) = Some s
+css_url (css.UrlSq s) = Some s
+css_url (css.Code x) = None
+css_url css.Dq = None
+css_url css.Sq = None
+css_url css.UrlFresh = None
+css_url css.UrlEnd = None
+css_url (css.Comment star) = None
+
+abbrev pub body_url : Body → Option Parts
+body_url (body.Url s) = Some s
+body_url (body.Css c) = css_url c
+body_url (body.Js j) = None
+body_url body.Plain = None
+body_url body.NoHole = None
 
 abbrev Fits : Option UrlPart → Place → Type 0
-Fits (Some p) (place.Value v) = v.body ≡ body.Url (parts_of p)
+Fits (Some p) (place.Value v) = body_url v.body ≡ Some (parts_of p)
 Fits (Some p) a = ⊥
-Fits None (place.Value v) = NoUrl v.body
+Fits None (place.Value v) = body_url v.body ≡ None
 Fits None a = Unit {0}
 
 abbrev WhereFits : Option UrlPart → Option Place → Type 0
@@ -61,21 +85,83 @@ url-fits AfterPercent p q t = tt
 url-fits AfterDigit p q t = tt
 
 before-fits : (t : Tag) (k : Kind) → WhereFits (url_part_at (BeforeAttributeValue t k)) (placed (BeforeAttributeValue t k))
-before-fits t kind.Plain = tt
-before-fits t kind.NoHole = tt
+before-fits t kind.Plain = refl
+before-fits t kind.NoHole = refl
 before-fits t kind.Url = refl
 before-fits t kind.Script = tt
-before-fits t kind.Style = tt
+before-fits t kind.Style = refl
 before-fits t kind.ScriptType = tt
 
 value-fits : (q : Quoting) (t : Tag) (k : Kind)
     → WhereFits None (placed (AttributeValue q t (ValueOf (OfKind k)) Closed))
-value-fits q t kind.Plain = tt
-value-fits q t kind.NoHole = tt
+value-fits q t kind.Plain = refl
+value-fits q t kind.NoHole = refl
 value-fits q t kind.Url = tt
 value-fits q t kind.Script = tt
 value-fits q t kind.Style = tt
 value-fits q t kind.ScriptType = tt
+
+-- in a style
+abbrev StyleFits : Quoting → Tag → Style Url → Type 0
+StyleFits q t s = WhereFits (option_map (λ u. u.part) (url_in_style s)) (value_spot t (quotes_at q) (style_body s))
+
+string-fits : (x : Quote) (e : StyleEscape) (q : Quoting) (t : Tag) → StyleFits q t (Out (InString x e))
+string-fits DoubleQuote NoEscape q t = refl
+string-fits SingleQuote NoEscape q t = refl
+string-fits x AfterBackslash q t = tt
+string-fits x (HexDigits k) q t = tt
+string-fits x AfterReturn q t = tt
+
+split-fits : (e : StyleEscape) (q : Quoting) (t : Tag) → StyleFits q t (Out (SplitWord e))
+split-fits NoEscape q t = refl
+split-fits AfterBackslash q t = tt
+split-fits (HexDigits k) q t = tt
+split-fits AfterReturn q t = tt
+
+outside-fits : (s : Outside) (q : Quoting) (t : Tag) → StyleFits q t (Out s)
+outside-fits (Between k) q t = refl
+outside-fits AfterLessThan q t = tt
+outside-fits (Word w e) q t = tt
+outside-fits (AfterSolidus k) q t = tt
+outside-fits (style.Comment true) q t = tt
+outside-fits (style.Comment false) q t = refl
+outside-fits (InString x e) q t = string-fits x e q t
+outside-fits BadUrl q t = tt
+outside-fits (BehindHole solidus less) q t = refl
+outside-fits (SplitWord e) q t = split-fits e q t
+outside-fits (SolidusAtCut k) q t = refl
+outside-fits LessThanAtCut q t = refl
+outside-fits StarAtCut q t = refl
+
+fresh-fits : (read : Bool) (q : Quoting) (t : Tag) → WhereFits None (value_spot t (quotes_at q) (if read then Some (body.Css css.UrlFresh) else None))
+fresh-fits true q t = refl
+fresh-fits false q t = tt
+
+bare-fits : (x : Triple) (p : UrlPart) (q : Quoting) (t : Tag)
+    → WhereFits (Some p) (value_spot t (quotes_at q) (option_map (λ z. body.Css (style_place z)) (option_map UrlSpot (where_whole x p))))
+bare-fits NoTriple p q t = refl
+bare-fits AfterPercent p q t = tt
+bare-fits AfterDigit p q t = tt
+
+quoted-fits : (y : Quote) (x : Triple) (p : UrlPart) (q : Quoting) (t : Tag)
+    → WhereFits (Some p) (value_spot t (quotes_at q) (option_map (λ z. body.Css (style_place z)) (option_map (QuotedUrlSpot y) (where_whole x p))))
+quoted-fits DoubleQuote NoTriple p q t = refl
+quoted-fits SingleQuote NoTriple p q t = refl
+quoted-fits y AfterPercent p q t = tt
+quoted-fits y AfterDigit p q t = tt
+
+in-url-fits : (f : UrlForm) (u : Url) (q : Quoting) (t : Tag) → StyleFits q t (style.InUrl f u)
+in-url-fits Fresh u q t = fresh-fits (has_read_nothing u) q t
+in-url-fits Bare u q t = bare-fits u.triple u.part q t
+in-url-fits (Quoted y NoEscape) u q t = quoted-fits y u.triple u.part q t
+in-url-fits (Quoted y AfterBackslash) u q t = tt
+in-url-fits (Quoted y (HexDigits k)) u q t = tt
+in-url-fits (Quoted y AfterReturn) u q t = tt
+in-url-fits Ended u q t = refl
+
+style-fits : (s : Style Url) (q : Quoting) (t : Tag) → StyleFits q t s
+style-fits (Out s) q t = outside-fits s q t
+style-fits (style.InUrl f u) q t = in-url-fits f u q t
 
 fits : (s : LexState ValueState) → WhereFits (url_part_at s) (placed s)
 fits (Text Closed) = tt
@@ -101,7 +187,7 @@ fits (AfterAttributeName t k) = spot-fits (is_second_type t.typed k) (place.Tag 
 fits (BeforeAttributeValue t k) = before-fits t k
 fits (AttributeValue q t (ValueOf (OfKind k)) Closed) = value-fits q t k
 fits (AttributeValue q t (ValueOf (OfUrl u)) Closed) = url-fits u.triple u.part q t
-fits (AttributeValue q t (ValueOf (OfStyle s)) Closed) = tt
+fits (AttributeValue q t (ValueOf (OfStyle s)) Closed) = style-fits s q t
 fits (AttributeValue q t (Deciding k before) Closed) = tt
 fits (AttributeValue q t v (Open f bytes)) = tt
 fits (AfterAttributeValue t) = tt
@@ -116,11 +202,11 @@ fits-at s a e = subst (WhereFits (url_part_at s)) e (fits s)
 pub record InUrl (a : Place) (p : UrlPart) : Type 0 where
   pub value : ValuePlace
   pub is : a ≡ place.Value value
-  pub body : value.body ≡ body.Url (parts_of p)
+  pub parts : body_url value.body ≡ Some (parts_of p)
 
 in-url-by : (o : Option UrlPart) (p : UrlPart) (a : Place) → Fits o a → o ≡ Some p → InUrl a p
-in-url-by (Some r) p (place.Value v) h e = record { value = v; is = refl; body = subst (λ (z : Option UrlPart). Fits z (place.Value v)) e h }
-in-url-by None p a h e = absurd (let none : None ≡ Some p = e in cc)
+in-url-by (Some r) p (place.Value v) h e = record { value = v; is = refl; parts = subst (λ (z : Option UrlPart). Fits z (place.Value v)) e h }
+in-url-by None p a h e = absurd (none_some p e)
 in-url-by (Some r) p _ h e = absurd h
 
 pub url-place : (s : LexState ValueState) (p : UrlPart) (a : Place) → url_part_at s ≡ Some p → placed s ≡ Some a → InUrl a p
@@ -132,9 +218,9 @@ pub record AtPart (s : LexState ValueState) (r : Parts) : Type 0 where
   pub is : url_part_at s ≡ Some part
   pub parts : r ≡ parts_of part
 
-at-part-by : (s : LexState ValueState) (o : Option UrlPart) (v : ValuePlace) (r : Parts) → url_part_at s ≡ o → Fits o (place.Value v) → v.body ≡ body.Url r → AtPart s r
-at-part-by s (Some p) v r e h b = record { part = p; is = e; parts = one-url r (parts_of p) (sym b ∙ h) }
-at-part-by s None v r e h b = absurd (subst NoUrl b h)
+at-part-by : (s : LexState ValueState) (o : Option UrlPart) (v : ValuePlace) (r : Parts) → url_part_at s ≡ o → Fits o (place.Value v) → body_url v.body ≡ Some r → AtPart s r
+at-part-by s (Some p) v r e h b = record { part = p; is = e; parts = one_value r (parts_of p) (sym b ∙ h) }
+at-part-by s None v r e h b = absurd (none_some r (sym h ∙ b))
 
-pub url-part : (s : LexState ValueState) (v : ValuePlace) (r : Parts) → placed s ≡ Some (place.Value v) → v.body ≡ body.Url r → AtPart s r
+pub url-part : (s : LexState ValueState) (v : ValuePlace) (r : Parts) → placed s ≡ Some (place.Value v) → body_url v.body ≡ Some r → AtPart s r
 url-part s v r h b = at-part-by s (url_part_at s) v r refl (fits-at s (place.Value v) h) b

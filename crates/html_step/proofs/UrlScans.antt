@@ -1,5 +1,5 @@
--- Scan states of URLs: their parts, and the reference that is open in them, where a byte leads.
-use Rattle.std.proofs.Common.{◌≡◌, ◌≤◌, ℕ, ◌+◌, Bool, true, false, ◌⊎◌, inl, inr, List, [], ◌∷◌, ◌++◌, length, Option, Some, None, refl, sym, ap, ◌∙◌, subst, arith, length-append, ⊎_elim}
+-- Scan states of URLs, which may be in a style: their parts, and the reference that is open in them, where a byte leads.
+use Rattle.std.proofs.Common.{◌≡◌, ◌≤◌, ℕ, ◌+◌, Bool, true, false, ◌⊎◌, inl, inr, List, [], ◌∷◌, ◌++◌, length, Option, Some, None, if◌then◌else◌, refl, sym, ap, ◌∙◌, subst, arith, length-append, ⊎_elim}
 use Rattle.place_core.specs.page.Classes.{Class, White, Ampersand, ExclamationMark, QuotationMark, Apostrophe, HyphenMinus, Solidus, LessThan, EqualsSign, GreaterThan, Letter, class_of}
 use Rattle.place_core.specs.page.Comments.{Declaration, OpensComment, OpensDoctype, Undecided, OpensNothing, closes_comment, declared_by, next_comment}
 use Rattle.place_core.specs.page.Contents.{is_name_of, may_be_name_of}
@@ -10,6 +10,10 @@ use Rattle.place_core.specs.page.Tags.{element_on, feed_bytes, tag_of_name, Quot
 use Rattle.place_core.specs.page.Words.{kind_of}
 use Rattle.place_core.specs.declared.body.Body.{Body}
 use Rattle.place_core.specs.declared.body.Body.TheVariants as body
+use Rattle.place_core.specs.declared.css.Css.{Css}
+use Rattle.place_core.specs.declared.css.Css.TheVariants as css
+use Rattle.place_core.specs.declared.member.Member.{Member}
+use Rattle.place_core.specs.place.LanguagePlaces.{css_has, parts_have}
 use Rattle.place_core.specs.declared.element.Element.{Element}
 use Rattle.place_core.specs.declared.element.Element.TheVariants as element
 use Rattle.place_core.specs.declared.kind.Kind.{Kind}
@@ -24,16 +28,26 @@ use Rattle.place_core.specs.declared.tag_of.TagOf.TheVariants as tag
 use Rattle.place_core.specs.declared.tag_place.TagPlace.{TagPlace}
 use Rattle.place_core.specs.declared.value_place.ValuePlace.{ValuePlace}
 use Rattle.place_core.proofs.Semilattices.{none_some, one_value}
-use Rattle.html_scan.specs.Scans.{Scan, At, AfterLess, AfterLessSolidus, InDeclaration, InTagName, InAttributeName, InUrl, InStyle, InCommentEnd, InContentEnd, BeforeType, InType, after_type, attribute_name_next, bare_white, before_type_next, comment_closed, comment_next, comment_scan, comment_state, content_end_next, content_next, content_scan, declaration_next, end_name_next, ended_type, body_cause, parts_feeding, pending_less_next, quoted_next, rest_place, scan_error, scan_next, tag_name_next, tag_next, triple_behind, type_begun, type_next, type_tag, url_scan, value_cause, value_fed, value_next, value_scan, with_parts, with_quotes, scan_reference}
-use Rattle.html_step.proofs.OnePath.{none-at-hand, url-reference}
-use Rattle.html_step.specs.Origins.{body_parts, fed_in, scan_parts}
+use Rattle.html_scan.specs.Scans.{Scan, At, AfterLess, AfterLessSolidus, InDeclaration, InTagName, InAttributeName, InUrl, InStyle, InCommentEnd, InContentEnd, BeforeType, InType, after_type, attribute_name_next, bare_white, before_type_next, comment_closed, comment_next, comment_scan, comment_state, content_end_next, content_next, content_scan, declaration_next, end_name_next, ended_type, parts_feeding, pending_less_next, quoted_next, rest_place, scan_error, scan_next, tag_name_next, tag_next, triple_behind, type_begun, type_next, type_tag, url_scan, value_cause, value_fed, value_next, value_scan, with_parts, with_quotes, scan_reference, body_cause, quoted_error, style_cause, bare_begun, empty_style_between, quotes_lead, style_fed, style_feeding, style_scan, style_value_next, value_between, with_style}
+use Rattle.html_step.proofs.OnePath.{url-reference}
+use Rattle.html_step.specs.Origins.{body_parts, fed_in, is_apart, scan_parts}
 use Rattle.html_step.proofs.Characters.{ReferencePlain, next-plain}
-use Rattle.html_step.proofs.ScanOrder.{BegunWhereOpen, ScanBelow, ScanValid, begun-open, first-none, parts-below}
-use Rattle.html_step.proofs.UrlOrder.{first-caused}
-use Rattle.place_core.specs.place.ApartPlaces.{beginning_at, beginning_in_body}
+use Rattle.html_step.proofs.ScanOrder.{BegunWhereOpen, HasBegun, ScanBelow, ScanValid, StyleUnder, StyleUnderPlace, UrlWithin, bare-parts, begun-open, first-none, if-none, parts-below, starts-in-order, under-body}
+use Rattle.html_step.proofs.StyleOrder.{scan-of-start, start-place}
+use Rattle.html_step.proofs.StylePaths.{empty_css, style-scan-reference}
+use Rattle.html_step.proofs.StyleUrls.{KnownUrl, SameUrl, StaysInUrl, above-in-url, below-in-url, feeds, known-fed, known-unmet, known_none, scan-opened, stays-parts, stays-same, unmet-spells}
+use Rattle.css_step.specs.StyleOrigins.{scan_set_has, style_scan_parts}
+use Rattle.css_step.specs.StyleScans.{StyleScan, ScanBareUrl, ScanQuotedUrl, is_style_start, style_scan_start}
+use Rattle.place_core.specs.place.ApartPlaces.{beginning_at, beginning_in_body, beginning_in_css}
+use Rattle.place_core.specs.place.StatePlaces.{unbegun}
+use Rattle.html_step.proofs.PlaceParts.{Under, ValueBelow, below-value, under-false}
+use Rattle.html_step.proofs.FedAlike.{first-caused}
 use Rattle.place_core.specs.place.Errors.{at_hand, body_error, quotes_error, value_error}
-use Rattle.html_step.proofs.PlaceParts.{below-value}
-use Rattle.place_core.specs.place.Places.{joined_bodies, joined_quotes}
+use Rattle.place_core.specs.declared.bare.Bare.{Bare}
+use Rattle.place_core.specs.declared.code.Code.TheVariants as code
+use Rattle.css_step.specs.StyleSetLaws.{StyleScanBelow}
+use Rattle.html_step.proofs.PathScans.{none-at-hand}
+use Rattle.place_core.specs.place.Places.{body_has, joined_bodies, joined_quotes}
 use Rattle.url_lexer.specs.Triples.{Triple, NoTriple, AfterPercent, AfterDigit}
 use Rattle.url_step.specs.PartSets.{PartsBelow, spells_apart}
 
@@ -41,23 +55,43 @@ use Rattle.url_step.specs.PartSets.{PartsBelow, spells_apart}
 abbrev pub scan_fed : Scan → Class → ℕ → List ℕ
 scan_fed (At (place.Value v)) c b = fed_in v.quotes Closed c b
 scan_fed (InUrl v t r) c b = fed_in v.quotes r c b
+scan_fed (InStyle v n r) c b = fed_in v.quotes r c b
 scan_fed f c b = []
 
-pub parts-body : (b : Body) (s : Parts) → body_parts b ≡ Some s → b ≡ body.Url s
-parts-body (body.Url t) s h = ap body.Url (one_value t s h)
+-- a value with parts of a URL is one, or a style in one
+pub data InBody (b : Body) (s : Parts) : Type 0 where
+  in_url : b ≡ body.Url s → InBody b s
+  in_style : (c : Css) → b ≡ body.Css c → style_scan_parts (style_scan_start c) ≡ Some s → InBody b s
+
+pub parts-body : (b : Body) (s : Parts) → body_parts b ≡ Some s → InBody b s
+parts-body (body.Url t) s h = in_url (ap body.Url (one_value t s h))
+parts-body (body.Css c) s h = in_style c refl h
 parts-body _ s h = absurd (none_some s h)
 
 -- what a scan state has of the beginning, as it stands
 abbrev pub raw_place : Scan → Place
 raw_place (At p) = p
 raw_place (InUrl v t r) = place.Value v
+raw_place (InStyle v n r) = with_style v n
 raw_place f = place.Text
 
+pub css-opened : (c : Css) (s : Parts) → style_scan_parts (style_scan_start c) ≡ Some s → beginning_in_css c ≡ s.opened
+css-opened c s h = ap beginning_in_css (sym (start-place c)) ∙ scan-opened (style_scan_start c) s h
+
+pub body-opened : (b : Body) (s : Parts) → body_parts b ≡ Some s → beginning_in_body b ≡ s.opened
+body-opened (body.Url t) s h = ap (λ (z : Parts). z.opened) (one_value t s h)
+body-opened (body.Css c) s h = css-opened c s h
+body-opened _ s h = absurd (none_some s h)
+
 pub raw-opened : (f : Scan) (s : Parts) → scan_parts f ≡ Some s → beginning_at (raw_place f) ≡ s.opened
-raw-opened (At (place.Value v)) s h = ap beginning_in_body (parts-body v.body s h)
-raw-opened (InUrl v t r) s h = ap beginning_in_body (parts-body v.body s h)
+raw-opened (At (place.Value v)) s h = body-opened v.body s h
+raw-opened (InUrl v t r) s h = body-opened v.body s h
+raw-opened (InStyle v n r) s h = scan-opened n s h
 raw-opened (At _) s h = absurd (none_some s h)
 raw-opened _ s h = absurd (none_some s h)
+
+no : false ≡ true → ⊥
+no e = cc
 
 abbrev pub has_met : Scan → Bool
 has_met f = spells_apart (beginning_at (raw_place f))
@@ -74,29 +108,96 @@ pub record UrlAt (f : Scan) (s : Parts) : Type 0 where
   pub begun : BegunWhereOpen reference value.quotes
   pub fed : (c : Class) (b : ℕ) → fed_in value.quotes reference c b ≡ scan_fed f c b
 
-pub url-at : (f : Scan) (s : Parts) → ScanValid f → scan_parts f ≡ Some s → UrlAt f s
-url-at (At (place.Value v)) s w h = record {
+-- Likewise of a style. Where a value without quotes has not begun, its body stays as it is.
+abbrev pub KeptBody : ValuePlace → StyleScan → Type 0
+KeptBody v n = (body_parts v.body ≡ style_scan_parts n) ⊎ ((v.body ≡ body.Css empty_css) × HasBegun v.quotes)
+
+pub record StyleAt (f : Scan) (n : StyleScan) : Type 0 where
+  pub value : ValuePlace
+  pub over : Quotes → ValuePlace
+  pub reference : Reference
+  pub next : (c : Class) (b : ℕ) → scan_next f c b ≡ quotes_lead value value.quotes c (λ p. style_fed (over p) n reference c b)
+  pub kept : KeptBody value n
+  pub taken : (c : Class) (b : ℕ) → scan_error f c b ≡ None → quotes_error value.tag value.quotes c ≡ None
+  pub holds : scan_reference f ≡ reference
+  pub fed : (c : Class) (b : ℕ) → fed_in value.quotes reference c b ≡ scan_fed f c b
+
+pub data UrlOrStyle (f : Scan) (s : Parts) : Type 0 where
+  by_url : UrlAt f s → UrlOrStyle f s
+  by_style : (n : StyleScan) → StyleAt f n → style_scan_parts n ≡ Some s → UrlOrStyle f s
+
+place-url : (v : ValuePlace) (s : Parts) → v.body ≡ body.Url s → UrlAt (At (place.Value v)) s
+place-url v s e = record {
   value = v;
   triple = NoTriple;
   reference = Closed;
-  body = parts-body v.body s h;
+  body = e;
   next = λ c b. refl;
   error = λ c b. refl;
   holds = refl;
   begun = tt;
   fed = λ c b. refl;
 }
-url-at (InUrl v t r) s w h = record {
+
+lexeme-url : (v : ValuePlace) (t : Triple) (r : Reference) (s : Parts) → HasBegun v.quotes → v.body ≡ body.Url s → UrlAt (InUrl v t r) s
+lexeme-url v t r s w e = record {
   value = v;
   triple = t;
   reference = r;
-  body = parts-body v.body s h;
+  body = e;
   next = λ c b. refl;
   error = λ c b. refl;
   holds = refl;
-  begun = begun-open r v.quotes w.0;
+  begun = begun-open r v.quotes w;
   fed = λ c b. refl;
 }
+
+value-taken : (v : ValuePlace) (r : Reference) (c : Class) (b : ℕ) → value_cause v r c b ≡ None → quotes_error v.tag v.quotes c ≡ None
+value-taken v r c b n =
+    let m = first-caused (body_cause v.body v.quotes r c b) (at_hand (value_error v c)) n in
+    (first-none (body_error v.body) (quotes_error v.tag v.quotes c) (none-at-hand (value_error v c) m.1)).1
+
+style-taken : (v : ValuePlace) (n : StyleScan) (r : Reference) (c : Class) (b : ℕ) → style_cause v n r c b ≡ None → quotes_error v.tag v.quotes c ≡ None
+style-taken v n r c b o =
+    let m = first-caused (quoted_error style_feeding v.quotes n r c b) (at_hand (value_error v c)) o in
+    (first-none (body_error v.body) (quotes_error v.tag v.quotes c) (none-at-hand (value_error v c) m.1)).1
+
+pub place-style : (v : ValuePlace) (c : Css) → v.body ≡ body.Css c → StyleAt (At (place.Value v)) (style_scan_start c)
+place-style v d e = record {
+  value = v;
+  over = empty_style_between v;
+  reference = Closed;
+  next = λ c b. ap (λ (x : Body). quotes_lead v v.quotes c (λ p. value_fed v p x NoTriple Closed c b)) e;
+  kept = inl (ap body_parts e);
+  taken = λ c b n. value-taken v Closed c b n;
+  holds = refl;
+  fed = λ c b. refl;
+}
+
+pub lexeme-style : (v : ValuePlace) (n : StyleScan) (r : Reference) → HasBegun v.quotes → v.body ≡ body.Css empty_css → StyleAt (InStyle v n r) n
+lexeme-style v n r w e = record {
+  value = v;
+  over = value_between v;
+  reference = r;
+  next = λ c b. refl;
+  kept = inr (e, w);
+  taken = λ c b o. style-taken v n r c b o;
+  holds = refl;
+  fed = λ c b. refl;
+}
+
+value-at : (v : ValuePlace) (s : Parts) → InBody v.body s → UrlOrStyle (At (place.Value v)) s
+value-at v s (in_url e) = by_url (place-url v s e)
+value-at v s (in_style c e h) = by_style (style_scan_start c) (place-style v c e) h
+
+pub within-body : (b : Body) (s : Parts) → UrlWithin b → body_parts b ≡ Some s → b ≡ body.Url s
+within-body (body.Url t) s w h = ap body.Url (one_value t s h)
+within-body _ s w h = absurd w
+
+pub url-at : (f : Scan) (s : Parts) → ScanValid f → scan_parts f ≡ Some s → UrlOrStyle f s
+url-at (At (place.Value v)) s w h = value-at v s (parts-body v.body s h)
+url-at (InUrl v t r) s w h = by_url (lexeme-url v t r s w.0 (within-body v.body s w.1 h))
+url-at (InStyle v n r) s w h = by_style n (lexeme-style v n r w.0 w.1) h
 url-at (At _) s w h = absurd (none_some s h)
 url-at _ s w h = absurd (none_some s h)
 
@@ -106,20 +207,60 @@ url-parts v NoTriple (Open f bytes) = refl
 url-parts v AfterPercent r = refl
 url-parts v AfterDigit r = refl
 
--- a scan state below one of a URL is one
-bodies-below : (b : Body) (s : Parts) → joined_bodies b (body.Url s) ≡ Some (body.Url s) → (t : Parts) × (body_parts b ≡ Some t) × PartsBelow t s
-bodies-below (body.Url t) s h = (t, refl, parts-below t s h)
-bodies-below b s h = absurd (none_some (body.Url s) h)
+style-parts-by : (v : ValuePlace) (n : StyleScan) (x : Bool) → is_style_start n ≡ x
+    → scan_parts (if x then At (with_style v n) else InStyle v n Closed) ≡ style_scan_parts n
+style-parts-by v n true h = ap style_scan_parts (scan-of-start n h)
+style-parts-by v n false h = refl
 
-pub below-parts : (g f : Scan) (s : Parts) → ScanBelow g f → scan_parts f ≡ Some s → (t : Parts) × (scan_parts g ≡ Some t) × PartsBelow t s
-below-parts (At (place.Value u)) (At (place.Value v)) s l h = bodies-below u.body s (subst (λ (b : Body). joined_bodies u.body b ≡ Some b) (parts-body v.body s h) (below-value u v l).body)
+pub style-parts : (v : ValuePlace) (n : StyleScan) (r : Reference) → scan_parts (style_scan v n r) ≡ style_scan_parts n
+style-parts v n Closed = style-parts-by v n (is_style_start n) refl
+style-parts v n (Open f bytes) = refl
+
+style-met-by : (v : ValuePlace) (n : StyleScan) (x : Bool) → is_apart (style_scan_parts n) ≡ false
+    → has_met (if x then At (with_style v n) else InStyle v n Closed) ≡ false
+style-met-by v n true h = unmet-spells n h
+style-met-by v n false h = unmet-spells n h
+
+pub style-met : (v : ValuePlace) (n : StyleScan) (r : Reference) → is_apart (style_scan_parts n) ≡ false → has_met (style_scan v n r) ≡ false
+style-met v n Closed h = style-met-by v n (is_style_start n) h
+style-met v n (Open f bytes) h = unmet-spells n h
+
+-- a scan state below one of a URL is one
+abbrev PartsUnder : Option Parts → Parts → Type 0
+PartsUnder o s = (t : Parts) × (o ≡ Some t) × PartsBelow t s
+
+bodies-below : (b d : Body) (s : Parts) → joined_bodies b d ≡ Some d → body_parts d ≡ Some s → PartsUnder (body_parts b) s
+bodies-below (body.Url t) (body.Url r) s h k = (t, refl, subst (PartsBelow t) (one_value r s k) (parts-below t r h))
+bodies-below (body.Css c) (body.Css d) s h k =
+    (let x = below-in-url (style_scan_start c) (style_scan_start d) s (starts-in-order c d h) k in (x.0, x.1, x.2.parts))
+bodies-below (body.Url t) d s h k = absurd (none_some d h)
+bodies-below (body.Css c) d s h k = absurd (none_some d h)
+bodies-below b (body.Url r) s h k = absurd (none_some (body.Url r) h)
+bodies-below b (body.Css d) s h k = absurd (none_some (body.Css d) h)
+bodies-below b _ s h k = absurd (none_some s k)
+
+under-parts : (v : ValuePlace) (n : StyleScan) (p : Place) (s : Parts) → StyleUnderPlace v n p → scan_parts (At p) ≡ Some s → PartsUnder (style_scan_parts n) s
+under-parts v n (place.Value w) s l h =
+    let d = under-body v n w w.body l in
+    let x = below-in-url n (style_scan_start d.0) s d.2.scan (sym (ap body_parts d.1) ∙ h) in
+    (x.0, x.1, x.2.parts)
+under-parts v n _ s l h = absurd (none_some s h)
+
+pub below-parts : (g f : Scan) (s : Parts) → ScanBelow g f → scan_parts f ≡ Some s → PartsUnder (scan_parts g) s
+below-parts (At (place.Value u)) (At (place.Value v)) s l h = bodies-below u.body v.body s (below-value u v l).body h
 below-parts (At x) (At (place.Value v)) s l h = absurd (none_some (place.Value v) l)
 below-parts (At x) (At _) s l h = absurd (none_some s h)
-below-parts (InUrl u t r) (InUrl v y z) s l h = bodies-below u.body s (subst (λ (b : Body). joined_bodies u.body b ≡ Some b) (parts-body v.body s h) l.0.body)
+below-parts (InUrl u t r) (InUrl v y z) s l h = bodies-below u.body v.body s l.0.body h
+below-parts (InStyle u n r) (InStyle v m z) s l h = (let x = below-in-url n m s l.0.scan h in (x.0, x.1, x.2.parts))
+below-parts (InStyle u n r) (At p) s l h = under-parts u n p s l.0 h
+below-parts (InStyle u n r) _ s l h = absurd l
 below-parts (At x) (InUrl v t r) s l h = absurd l
+below-parts (At x) (InStyle v m r) s l h = absurd l
 below-parts (InUrl u t r) (At x) s l h = absurd l
+below-parts (InUrl u t r) (InStyle v m z) s l h = absurd l
 below-parts (InAttributeName t x n) (At y) s l h = absurd l
 below-parts (InAttributeName t x n) (InUrl v y r) s l h = absurd l
+below-parts (InAttributeName t x n) (InStyle v m r) s l h = absurd l
 below-parts AfterLess f s l h = absurd (none_some s (ap scan_parts l ∙ h))
 below-parts AfterLessSolidus f s l h = absurd (none_some s (ap scan_parts l ∙ h))
 below-parts (InDeclaration x) f s l h = absurd (none_some s (ap scan_parts l ∙ h))
@@ -128,24 +269,43 @@ below-parts (InCommentEnd x) f s l h = absurd (none_some s (ap scan_parts l ∙ 
 below-parts (InContentEnd x y) f s l h = absurd (none_some s (ap scan_parts l ∙ h))
 below-parts (BeforeType x) f s l h = absurd (none_some s (ap scan_parts l ∙ h))
 below-parts (InType x y z w) f s l h = absurd (none_some s (ap scan_parts l ∙ h))
-below-parts (InStyle x y z) f s l h = absurd (none_some s (ap scan_parts l ∙ h))
 below-parts g _ s l h = absurd (none_some s h)
 
-bodies-above : (s : Parts) (b : Body) → joined_bodies (body.Url s) b ≡ Some b → (t : Parts) × (body_parts b ≡ Some t) × PartsBelow s t
-bodies-above s (body.Url t) h = (t, refl, parts-below s t h)
-bodies-above s b h = absurd (none_some b h)
-
 -- and a larger one
-pub above-parts : (g f : Scan) (s : Parts) → ScanBelow g f → scan_parts g ≡ Some s → (t : Parts) × (scan_parts f ≡ Some t) × PartsBelow s t
-above-parts (At (place.Value u)) (At (place.Value v)) s l h =
-    bodies-above s v.body (subst (λ (b : Body). joined_bodies b v.body ≡ Some v.body) (parts-body u.body s h) (below-value u v l).body)
-above-parts (InUrl u t r) (InUrl v y z) s l h =
-    bodies-above s v.body (subst (λ (b : Body). joined_bodies b v.body ≡ Some v.body) (parts-body u.body s h) l.0.body)
+abbrev PartsOver : Parts → Option Parts → Type 0
+PartsOver s o = (t : Parts) × (o ≡ Some t) × PartsBelow s t
+
+bodies-above : (b d : Body) (s : Parts) → joined_bodies b d ≡ Some d → body_parts b ≡ Some s → PartsOver s (body_parts d)
+bodies-above (body.Url r) (body.Url t) s h k = (t, refl, subst (λ (z : Parts). PartsBelow z t) (one_value r s k) (parts-below r t h))
+bodies-above (body.Css c) (body.Css d) s h k =
+    (let x = above-in-url (style_scan_start c) (style_scan_start d) s (starts-in-order c d h) k in (x.0, x.1, x.2.parts))
+bodies-above (body.Url r) d s h k = absurd (none_some d h)
+bodies-above (body.Css c) d s h k = absurd (none_some d h)
+bodies-above b d s h k = absurd (none_some s k)
+
+over-parts : (v : ValuePlace) (n : StyleScan) (p : Place) (s : Parts) → StyleUnderPlace v n p → style_scan_parts n ≡ Some s → PartsOver s (scan_parts (At p))
+over-parts v n (place.Value w) s l h =
+    let d = under-body v n w w.body l in
+    let x = above-in-url n (style_scan_start d.0) s d.2.scan h in
+    (x.0, ap body_parts d.1 ∙ x.1, x.2.parts)
+over-parts v n _ s l h = absurd l
+
+pub above-parts : (g f : Scan) (s : Parts) → ScanBelow g f → scan_parts g ≡ Some s → PartsOver s (scan_parts f)
+above-parts (At (place.Value u)) (At (place.Value v)) s l h = bodies-above u.body v.body s (below-value u v l).body h
+above-parts (InUrl u t r) (InUrl v y z) s l h = bodies-above u.body v.body s l.0.body h
+above-parts (InStyle u n r) (InStyle v m z) s l h = (let x = above-in-url n m s l.0.scan h in (x.0, x.1, x.2.parts))
+above-parts (InStyle u n r) (At p) s l h = over-parts u n p s l.0 h
+above-parts (InStyle u n r) _ s l h = absurd l
 above-parts (At (place.Value u)) (At x) s l h = absurd (none_some x l)
 above-parts (At (place.Value u)) _ s l h = absurd l
 above-parts (At _) f s l h = absurd (none_some s h)
 above-parts (InUrl u t r) _ s l h = absurd l
 above-parts _ f s l h = absurd (none_some s h)
+
+under-closed : (v : ValuePlace) (n : StyleScan) (r : Reference) (f : Scan) → StyleUnder v n r f → r ≡ scan_reference f
+under-closed v n r (At p) l = l.1
+under-closed v n r (InStyle w m z) l = l.1
+under-closed v n r _ l = absurd l
 
 pub below-reference : (g f : Scan) → ScanBelow g f → scan_reference g ≡ scan_reference f
 below-reference (At x) (At y) l = refl
@@ -165,7 +325,7 @@ below-reference (InCommentEnd x) f l = ap scan_reference l
 below-reference (InContentEnd x y) f l = ap scan_reference l
 below-reference (BeforeType x) f l = ap scan_reference l
 below-reference (InType x y z w) f l = ap scan_reference l
-below-reference (InStyle x y z) f l = ap scan_reference l
+below-reference (InStyle x y z) f l = under-closed x y z f l
 
 -- the bytes that a scan state is fed are those that one below is fed
 quotes-fed : (p q : Quotes) (r : Reference) (c : Class) (b : ℕ) → joined_quotes p q ≡ Some q → fed_in p r c b ≡ fed_in q r c b
@@ -182,15 +342,46 @@ quotes-fed quotes.Sq (quotes.Bare y) r c b h = absurd (none_some (quotes.Bare y)
 quotes-fed (quotes.Bare x) quotes.Dq r c b h = absurd (none_some quotes.Dq h)
 quotes-fed (quotes.Bare x) quotes.Sq r c b h = absurd (none_some quotes.Sq h)
 
+under-fed : (u : ValuePlace) (n : StyleScan) (r : Reference) (p : Place) (s : Parts) (c : Class) (b : ℕ) → StyleUnderPlace u n p → r ≡ Closed
+    → scan_parts (At p) ≡ Some s → scan_fed (InStyle u n r) c b ≡ scan_fed (At p) c b
+under-fed u n r (place.Value v) s c b l e h =
+    ap (λ (x : Reference). fed_in u.quotes x c b) e ∙ quotes-fed u.quotes v.quotes Closed c b (under-body u n v v.body l).2.quotes
+under-fed u n r _ s c b l e h = absurd (none_some s h)
+
 pub fed-same : (g f : Scan) (s : Parts) (c : Class) (b : ℕ) → ScanBelow g f → scan_parts f ≡ Some s → scan_fed g c b ≡ scan_fed f c b
 fed-same (At (place.Value u)) (At (place.Value v)) s c b l h = quotes-fed u.quotes v.quotes Closed c b (below-value u v l).quotes
 fed-same (InUrl u t r) (InUrl v y z) s c b l h = ap (λ (x : Reference). fed_in u.quotes x c b) l.2 ∙ quotes-fed u.quotes v.quotes z c b l.0.quotes
+fed-same (InStyle u n r) (InStyle v m z) s c b l h = ap (λ (x : Reference). fed_in u.quotes x c b) l.1 ∙ quotes-fed u.quotes v.quotes z c b l.0.quotes
+fed-same (InStyle u n r) (At p) s c b l h = under-fed u n r p s c b l.0 l.1 h
+fed-same (InStyle u n r) _ s c b l h = absurd l
 fed-same (At x) (At (place.Value v)) s c b l h = absurd (none_some (place.Value v) l)
 fed-same (At x) (InUrl v y z) s c b l h = absurd l
+fed-same (At x) (InStyle v m z) s c b l h = absurd l
 fed-same (InUrl u t r) (At x) s c b l h = absurd l
+fed-same (InUrl u t r) (InStyle v m z) s c b l h = absurd l
 fed-same g (At (place.Value v)) s c b l h = (let p = below-parts g (At (place.Value v)) s l h in absurd (none_some p.0 p.1))
 fed-same g (InUrl v y z) s c b l h = (let p = below-parts g (InUrl v y z) s l h in absurd (none_some p.0 p.1))
+fed-same g (InStyle v m z) s c b l h = (let p = below-parts g (InStyle v m z) s l h in absurd (none_some p.0 p.1))
 fed-same g f s c b l h = absurd (none_some s h)
+
+-- a part of the URL is a member of the value, and of the scan state
+css-has-part : (c : Css) (s : Parts) (y : Member) → style_scan_parts (style_scan_start c) ≡ Some s → parts_have s y ≡ true → css_has c y ≡ true
+css-has-part (css.Url t) s y h k = subst (λ (z : Parts). parts_have z y ≡ true) (sym (one_value t s h)) k
+css-has-part (css.UrlDq t) s y h k = subst (λ (z : Parts). parts_have z y ≡ true) (sym (one_value t s h)) k
+css-has-part (css.UrlSq t) s y h k = subst (λ (z : Parts). parts_have z y ≡ true) (sym (one_value t s h)) k
+css-has-part (css.Comment true) s y h k = absurd (none_some s h)
+css-has-part (css.Comment false) s y h k = absurd (none_some s h)
+css-has-part _ s y h k = absurd (none_some s h)
+
+pub body-has-part : (b : Body) (s : Parts) (y : Member) → body_parts b ≡ Some s → parts_have s y ≡ true → body_has b y ≡ true
+body-has-part (body.Url t) s y h k = subst (λ (z : Parts). parts_have z y ≡ true) (sym (one_value t s h)) k
+body-has-part (body.Css c) s y h k = css-has-part c s y h k
+body-has-part _ s y h k = absurd (none_some s h)
+
+pub set-has-part : (n : StyleScan) (s : Parts) (y : Member) → style_scan_parts n ≡ Some s → parts_have s y ≡ true → scan_set_has n y ≡ true
+set-has-part (ScanBareUrl t x) s y h k = subst (λ (z : Parts). parts_have z y ≡ true) (sym (one_value t s h)) k
+set-has-part (ScanQuotedUrl q e t x) s y h k = subst (λ (z : Parts). parts_have z y ≡ true) (sym (one_value t s h)) k
+set-has-part n s y h k = absurd (none_some s h)
 
 -- Where a byte leads in a URL: out of it, or on, behind the bytes that it is fed.
 pub record Goes (v : ValuePlace) (r : Reference) (c : Class) (b : ℕ) (s : Parts) (f : Scan) : Type 0 where
@@ -258,23 +449,250 @@ pub goes : (f : Scan) (s : Parts) (u : UrlAt f s) (c : Class) (b : ℕ) → Goes
 goes f s u c b =
     subst (Goes u.value u.reference c b s) (sym (u.next c b)) (goes-quoted u.value u.value.quotes u.triple u.reference c b s u.body refl)
 
+-- In a style: on, behind the bytes that it is fed; else out of the URL, or into another one.
+abbrev GoesOrOut : ValuePlace → Reference → Class → ℕ → Parts → Scan → Type 0
+GoesOrOut v r c b s f = (has_met f ≡ false) ⊎ (scan_parts f ≡ Some (feed_bytes parts_feeding s (fed_in v.quotes r c b)))
+
+fed-by : (w : ValuePlace) (n : StyleScan) (r : Reference) (s : Parts) (bytes : List ℕ) → style_scan_parts n ≡ Some s
+    → StaysInUrl n bytes ⊎ KnownUrl (feed_bytes style_feeding n bytes)
+    → (has_met (style_scan w (feed_bytes style_feeding n bytes) r) ≡ false)
+    ⊎ (scan_parts (style_scan w (feed_bytes style_feeding n bytes) r) ≡ Some (feed_bytes parts_feeding s bytes))
+fed-by w n r s bytes h (inl k) = inr (style-parts w (feed_bytes style_feeding n bytes) r ∙ stays-parts bytes n s h k)
+fed-by w n r s bytes h (inr k) = inl (style-met w (feed_bytes style_feeding n bytes) r (known-unmet (feed_bytes style_feeding n bytes) k))
+
+style-on : (v w : ValuePlace) (q : Quotes) (n : StyleScan) (r : Reference) (c : Class) (b : ℕ) (s : Parts) → style_scan_parts n ≡ Some s → v.quotes ≡ q
+    → fed_in q r c b ≡ undone_byte true r c b → GoesOrOut v r c b s (style_fed w n r c b)
+style-on v w q n r c b s h d i =
+    let bytes = undone_byte true r c b in
+    subst (λ (x : List ℕ). (has_met (style_fed w n r c b) ≡ false) ⊎ (scan_parts (style_fed w n r c b) ≡ Some (feed_bytes parts_feeding s x)))
+    (sym (ap (λ (z : Quotes). fed_in z r c b) d ∙ i)) (fed-by w n (next_reference r c b) s bytes h (feeds bytes n s h))
+
+style-kept : (v : ValuePlace) (q z : Quotes) (n : StyleScan) (r : Reference) (c : Class) (b : ℕ) (s : Parts) → style_scan_parts n ≡ Some s → v.quotes ≡ q
+    → fed_in q r c b ≡ [] → KeptBody v n → GoesOrOut v r c b s (with_quotes v z)
+style-kept v q z n r c b s h d i (inl k) =
+    inr (k ∙ h ∙ ap (λ (bytes : List ℕ). Some (feed_bytes parts_feeding s bytes)) (sym (ap (λ (x : Quotes). fed_in x r c b) d ∙ i)))
+style-kept v q z n r c b s h d i (inr k) = inl (ap (λ (x : Body). spells_apart (beginning_in_body x)) k.0)
+
+style-white : (v : ValuePlace) (uq : Bool) (q : Quotes) (n : StyleScan) (r : Reference) (b : ℕ) (s : Parts) → style_scan_parts n ≡ Some s → v.quotes ≡ q
+    → fed_in q r White b ≡ [] → KeptBody v n → GoesOrOut v r White b s (bare_white v uq)
+style-white v true q n r b s h d i k = inl refl
+style-white v false q n r b s h d i k = style-kept v q unbegun n r White b s h d i k
+
+style-lead : (v : ValuePlace) (q : Quotes) (o : Quotes → ValuePlace) (n : StyleScan) (r : Reference) (c : Class) (b : ℕ) (s : Parts)
+    → style_scan_parts n ≡ Some s → v.quotes ≡ q → KeptBody v n
+    → GoesOrOut v r c b s (quotes_lead v q c (λ p. style_fed (o p) n r c b))
+style-lead v quotes.Dq o n r QuotationMark b s h d k = inl refl
+style-lead v quotes.Dq o n r c b s h d k = style-on v (o quotes.Dq) quotes.Dq n r c b s h d refl
+style-lead v quotes.Sq o n r Apostrophe b s h d k = inl refl
+style-lead v quotes.Sq o n r c b s h d k = style-on v (o quotes.Sq) quotes.Sq n r c b s h d refl
+style-lead v (quotes.Bare x) o n r White b s h d k = style-white v x.uq (quotes.Bare x) n r b s h d refl k
+style-lead v (quotes.Bare x) o n r QuotationMark b s h d k = style-kept v (quotes.Bare x) quotes.Dq n r QuotationMark b s h d refl k
+style-lead v (quotes.Bare x) o n r Apostrophe b s h d k = style-kept v (quotes.Bare x) quotes.Sq n r Apostrophe b s h d refl k
+style-lead v (quotes.Bare x) o n r GreaterThan b s h d k = inl (content-out v.tag).1.0
+style-lead v (quotes.Bare x) o n r c b s h d k = style-on v (o bare_begun) (quotes.Bare x) n r c b s h d refl
+
+-- the reference that is open behind a byte
+abbrev pub Holds : Scan → Reference → Class → ℕ → Type 0
+Holds g r c b = (scan_reference g ≡ Closed) ⊎ (scan_reference g ≡ next_reference r c b)
+
+white-holds : (v : ValuePlace) (uq : Bool) (r : Reference) (b : ℕ) → Holds (bare_white v uq) r White b
+white-holds v true r b = inl refl
+white-holds v false r b = inl refl
+
+lead-holds : (v : ValuePlace) (q : Quotes) (r : Reference) (c : Class) (b : ℕ) (g : Quotes → Scan) → ((p : Quotes) → Holds (g p) r c b)
+    → Holds (quotes_lead v q c g) r c b
+lead-holds v quotes.Dq r QuotationMark b g k = inl refl
+lead-holds v quotes.Dq r c b g k = k quotes.Dq
+lead-holds v quotes.Sq r Apostrophe b g k = inl refl
+lead-holds v quotes.Sq r c b g k = k quotes.Sq
+lead-holds v (quotes.Bare x) r White b g k = white-holds v x.uq r b
+lead-holds v (quotes.Bare x) r QuotationMark b g k = inl refl
+lead-holds v (quotes.Bare x) r Apostrophe b g k = inl refl
+lead-holds v (quotes.Bare x) r GreaterThan b g k = inl (content-out v.tag).1.1
+lead-holds v (quotes.Bare x) r c b g k = k bare_begun
+
+fed-holds : (v : ValuePlace) (q : Quotes) (x : Body) (t : Triple) (r : Reference) (c : Class) (b : ℕ) → Holds (value_fed v q x t r c b) r c b
+fed-holds v q (body.Url s) t r c b =
+    let bytes = undone_byte true r c b in
+    inr (url-reference (with_parts v q (feed_bytes parts_feeding s bytes)) (triple_behind t bytes) (next_reference r c b))
+fed-holds v q (body.Css p) t r c b =
+    inr (style-scan-reference (empty_style_between v q) (feed_bytes style_feeding (style_scan_start p) (undone_byte true r c b)) (next_reference r c b))
+fed-holds v q _ t r c b = inl refl
+
+value-holds : (v : ValuePlace) (t : Triple) (r : Reference) (c : Class) (b : ℕ) → Holds (value_next v t r c b) r c b
+value-holds v t r c b = lead-holds v v.quotes r c b (λ p. value_fed v p v.body t r c b) (λ p. fed-holds v p v.body t r c b)
+
+style-holds : (v : ValuePlace) (n : StyleScan) (r : Reference) (c : Class) (b : ℕ) → Holds (style_value_next v n r c b) r c b
+style-holds v n r c b =
+    lead-holds v v.quotes r c b (λ p. style_fed (value_between v p) n r c b)
+    (λ p. inr (style-scan-reference (value_between v p) (feed_bytes style_feeding n (undone_byte true r c b)) (next_reference r c b)))
+
 pub record NextUrl (f : Scan) (s : Parts) (c : Class) (b : ℕ) : Type 0 where
-  pub parts : ((scan_parts (scan_next f c b) ≡ None) × (has_met (scan_next f c b) ≡ false)) ⊎ (scan_parts (scan_next f c b) ≡ Some (feed_bytes parts_feeding s (scan_fed f c b)))
+  pub parts : (has_met (scan_next f c b) ≡ false) ⊎ (scan_parts (scan_next f c b) ≡ Some (feed_bytes parts_feeding s (scan_fed f c b)))
   pub reference : (scan_reference (scan_next f c b) ≡ Closed) ⊎ (scan_reference (scan_next f c b) ≡ next_reference (scan_reference f) c b)
+
+abbrev PartsOrOut : Scan → Parts → List ℕ → Type 0
+PartsOrOut g s bytes = (has_met g ≡ false) ⊎ (scan_parts g ≡ Some (feed_bytes parts_feeding s bytes))
+
+out-of : (g : Scan) (s : Parts) (bytes : List ℕ) → ((scan_parts g ≡ None) × (has_met g ≡ false)) ⊎ (scan_parts g ≡ Some (feed_bytes parts_feeding s bytes))
+    → PartsOrOut g s bytes
+out-of g s bytes (inl k) = inl k.1
+out-of g s bytes (inr k) = inr k
+
+next-parts : (f : Scan) (s : Parts) (c : Class) (b : ℕ) → UrlOrStyle f s → PartsOrOut (scan_next f c b) s (scan_fed f c b)
+next-parts f s c b (by_url u) =
+    subst (PartsOrOut (scan_next f c b) s) (u.fed c b) (out-of (scan_next f c b) s (fed_in u.value.quotes u.reference c b) (goes f s u c b).parts)
+next-parts f s c b (by_style n u h) =
+    subst (PartsOrOut (scan_next f c b) s) (u.fed c b)
+    (subst (λ (g : Scan). PartsOrOut g s (fed_in u.value.quotes u.reference c b)) (sym (u.next c b))
+    (style-lead u.value u.value.quotes u.over n u.reference c b s h refl u.kept))
+
+value-next-holds : (f : Scan) (s : Parts) (c : Class) (b : ℕ) → UrlOrStyle f s → Holds (scan_next f c b) (scan_reference f) c b
+value-next-holds f s c b (by_url u) =
+    subst (λ (r : Reference). Holds (scan_next f c b) r c b) (sym u.holds)
+    (subst (λ (g : Scan). Holds g u.reference c b) (sym (u.next c b)) (value-holds u.value u.triple u.reference c b))
+value-next-holds f s c b (by_style n u h) =
+    subst (λ (r : Reference). Holds (scan_next f c b) r c b) (sym u.holds)
+    (subst (λ (g : Scan). Holds g u.reference c b) (sym (u.next c b))
+    (lead-holds u.value u.value.quotes u.reference c b (λ p. style_fed (u.over p) n u.reference c b)
+    (λ p. inr (style-scan-reference (u.over p) (feed_bytes style_feeding n (undone_byte true u.reference c b)) (next_reference u.reference c b)))))
 
 pub next-url : (f : Scan) (s : Parts) (c : Class) (b : ℕ) → ScanValid f → scan_parts f ≡ Some s → NextUrl f s c b
 next-url f s c b w h =
     let u = url-at f s w h in
-    let n = goes f s u c b in
-    let g = scan_next f c b in
-    record {
-      parts = subst (λ (x : List ℕ). ((scan_parts g ≡ None) × (has_met g ≡ false)) ⊎ (scan_parts g ≡ Some (feed_bytes parts_feeding s x))) (u.fed c b) n.parts;
-      reference = subst (λ (r : Reference). (scan_reference g ≡ Closed) ⊎ (scan_reference g ≡ next_reference r c b)) (sym u.holds) n.reference;
-    }
+    record { parts = next-parts f s c b u; reference = value-next-holds f s c b u }
 
+-- where paths have met in the beginning behind the byte
 pub goes-parts : (f : Scan) (s y : Parts) (c : Class) (b : ℕ) → ScanValid f → scan_parts f ≡ Some s → scan_parts (scan_next f c b) ≡ Some y
-    → scan_parts (scan_next f c b) ≡ Some (feed_bytes parts_feeding s (scan_fed f c b))
-goes-parts f s y c b w h k = ⊎_elim (λ n. absurd (none_some y (sym n.0 ∙ k))) (λ e. e) (next-url f s c b w h).parts
+    → spells_apart y.opened ≡ true → scan_parts (scan_next f c b) ≡ Some (feed_bytes parts_feeding s (scan_fed f c b))
+goes-parts f s y c b w h k a =
+    ⊎_elim (λ n. absurd (no (sym n ∙ (ap spells_apart (raw-opened (scan_next f c b) y k) ∙ a)))) (λ e. e) (next-url f s c b w h).parts
+
+-- Below one of which paths have met in the beginning behind the byte, a scan state goes on too.
+on-below : (w x : ValuePlace) (n m : StyleScan) (r : Reference) (bytes : List ℕ) (t s : Parts) → style_scan_parts n ≡ Some t → SameUrl n m
+    → has_met (style_scan x (feed_bytes style_feeding m bytes) r) ≡ true → StaysInUrl m bytes ⊎ KnownUrl (feed_bytes style_feeding m bytes)
+    → scan_parts (style_scan w (feed_bytes style_feeding n bytes) r) ≡ Some (feed_bytes parts_feeding t bytes)
+on-below w x n m r bytes t s h e met (inl k) = style-parts w (feed_bytes style_feeding n bytes) r ∙ stays-parts bytes n t h (stays-same bytes n m e k)
+on-below w x n m r bytes t s h e met (inr k) =
+    absurd (no (sym (style-met x (feed_bytes style_feeding m bytes) r (known-unmet (feed_bytes style_feeding m bytes) k)) ∙ met))
+
+record StylesBeside (u v : ValuePlace) (n m : StyleScan) (t s : Parts) : Type 0 where
+  quotes : joined_quotes u.quotes v.quotes ≡ Some v.quotes
+  kept : KeptBody u n
+  there : style_scan_parts n ≡ Some t
+  above : style_scan_parts m ≡ Some s
+  same : SameUrl n m
+
+beside-on : (u v w x : ValuePlace) (p : Quotes) (n m : StyleScan) (r : Reference) (c : Class) (b : ℕ) (t s : Parts) → StylesBeside u v n m t s → u.quotes ≡ p
+    → fed_in p r c b ≡ undone_byte true r c b → has_met (style_fed x m r c b) ≡ true
+    → scan_parts (style_fed w n r c b) ≡ Some (feed_bytes parts_feeding t (fed_in u.quotes r c b))
+beside-on u v w x p n m r c b t s h d i met =
+    let bytes = undone_byte true r c b in
+    on-below w x n m (next_reference r c b) bytes t s h.there h.same met (feeds bytes m s h.above)
+    ∙ ap (λ (z : List ℕ). Some (feed_bytes parts_feeding t z)) (sym (ap (λ (z : Quotes). fed_in z r c b) d ∙ i))
+
+bare-unused : (u : ValuePlace) (x y : Bare) → u.quotes ≡ quotes.Bare x → HasBegun u.quotes → Under x.uq y.uq → y.uq ≡ false → ⊥
+bare-unused u x y d w l e = no (sym (under-false x.uq (subst (Under x.uq) e l)) ∙ (subst HasBegun d w).0)
+
+beside-kept : (u v : ValuePlace) (x y : Bare) (z : Quotes) (n m : StyleScan) (r : Reference) (c : Class) (b : ℕ) (t s : Parts) → StylesBeside u v n m t s
+    → u.quotes ≡ quotes.Bare x → fed_in (quotes.Bare x) r c b ≡ [] → Under x.uq y.uq → y.uq ≡ false → KeptBody u n
+    → scan_parts (with_quotes u z) ≡ Some (feed_bytes parts_feeding t (fed_in u.quotes r c b))
+beside-kept u v x y z n m r c b t s h d i l e (inl k) =
+    k ∙ h.there ∙ ap (λ (bytes : List ℕ). Some (feed_bytes parts_feeding t bytes)) (sym (ap (λ (q : Quotes). fed_in q r c b) d ∙ i))
+beside-kept u v x y z n m r c b t s h d i l e (inr k) = absurd (bare-unused u x y d k.1 l e)
+
+beside-white : (u v : ValuePlace) (x y : Bare) (f g : Bool) (n m : StyleScan) (r : Reference) (b : ℕ) (t s : Parts) → StylesBeside u v n m t s
+    → u.quotes ≡ quotes.Bare x → x.uq ≡ f → y.uq ≡ g → Under x.uq y.uq → has_met (bare_white v g) ≡ true
+    → scan_parts (bare_white u f) ≡ Some (feed_bytes parts_feeding t (fed_in u.quotes r White b))
+beside-white u v x y f true n m r b t s h d i j l met = absurd (no met)
+beside-white u v x y true false n m r b t s h d i j l met = absurd (no (sym (under-false x.uq (subst (Under x.uq) j l)) ∙ i))
+beside-white u v x y false false n m r b t s h d i j l met = beside-kept u v x y unbegun n m r White b t s h d refl l j h.kept
+
+beside-lead : (u v : ValuePlace) (p q : Quotes) (o a : Quotes → ValuePlace) (n m : StyleScan) (r : Reference) (c : Class) (b : ℕ) (t s : Parts)
+    → StylesBeside u v n m t s → u.quotes ≡ p → v.quotes ≡ q → joined_quotes p q ≡ Some q → quotes_error v.tag q c ≡ None
+    → has_met (quotes_lead v q c (λ z. style_fed (a z) m r c b)) ≡ true
+    → scan_parts (quotes_lead u p c (λ z. style_fed (o z) n r c b)) ≡ Some (feed_bytes parts_feeding t (fed_in u.quotes r c b))
+beside-lead u v quotes.Dq quotes.Dq o a n m r QuotationMark b t s h d e j w met = absurd (no met)
+beside-lead u v quotes.Dq quotes.Dq o a n m r c b t s h d e j w met = beside-on u v (o quotes.Dq) (a quotes.Dq) quotes.Dq n m r c b t s h d refl met
+beside-lead u v quotes.Sq quotes.Sq o a n m r Apostrophe b t s h d e j w met = absurd (no met)
+beside-lead u v quotes.Sq quotes.Sq o a n m r c b t s h d e j w met = beside-on u v (o quotes.Sq) (a quotes.Sq) quotes.Sq n m r c b t s h d refl met
+beside-lead u v (quotes.Bare x) (quotes.Bare y) o a n m r White b t s h d e j w met =
+    beside-white u v x y x.uq y.uq n m r b t s h d refl refl (bare-parts x y j).0 met
+beside-lead u v (quotes.Bare x) (quotes.Bare y) o a n m r QuotationMark b t s h d e j w met =
+    beside-kept u v x y quotes.Dq n m r QuotationMark b t s h d refl (bare-parts x y j).0 (if-none y.uq code.BadHTML w) h.kept
+beside-lead u v (quotes.Bare x) (quotes.Bare y) o a n m r Apostrophe b t s h d e j w met =
+    beside-kept u v x y quotes.Sq n m r Apostrophe b t s h d refl (bare-parts x y j).0 (if-none y.uq code.BadHTML w) h.kept
+beside-lead u v (quotes.Bare x) (quotes.Bare y) o a n m r GreaterThan b t s h d e j w met = absurd (no (sym (content-out v.tag).1.0 ∙ met))
+beside-lead u v (quotes.Bare x) (quotes.Bare y) o a n m r c b t s h d e j w met = beside-on u v (o bare_begun) (a bare_begun) (quotes.Bare x) n m r c b t s h d refl met
+beside-lead u v quotes.Dq quotes.Sq o a n m r c b t s h d e j w met = absurd (none_some quotes.Sq j)
+beside-lead u v quotes.Dq (quotes.Bare y) o a n m r c b t s h d e j w met = absurd (none_some (quotes.Bare y) j)
+beside-lead u v quotes.Sq quotes.Dq o a n m r c b t s h d e j w met = absurd (none_some quotes.Dq j)
+beside-lead u v quotes.Sq (quotes.Bare y) o a n m r c b t s h d e j w met = absurd (none_some (quotes.Bare y) j)
+beside-lead u v (quotes.Bare x) quotes.Dq o a n m r c b t s h d e j w met = absurd (none_some quotes.Dq j)
+beside-lead u v (quotes.Bare x) quotes.Sq o a n m r c b t s h d e j w met = absurd (none_some quotes.Sq j)
+
+styles-go : (g f : Scan) (n m : StyleScan) (x : StyleAt g n) (y : StyleAt f m) (t : Parts) (c : Class) (b : ℕ)
+    → joined_quotes x.value.quotes y.value.quotes ≡ Some y.value.quotes → x.reference ≡ y.reference → StyleScanBelow n m → style_scan_parts n ≡ Some t
+    → scan_error f c b ≡ None → has_met (scan_next f c b) ≡ true → scan_parts (scan_next g c b) ≡ Some (feed_bytes parts_feeding t (scan_fed g c b))
+styles-go g f n m x y t c b j r l h e met =
+    let k = above-in-url n m t l h in
+    let u : StylesBeside x.value y.value n m t k.0 = record { quotes = j; kept = x.kept; there = h; above = k.1; same = k.2.same } in
+    let above : has_met (quotes_lead y.value y.value.quotes c (λ z. style_fed (y.over z) m x.reference c b)) ≡ true =
+    subst (λ (z : Reference). has_met (quotes_lead y.value y.value.quotes c (λ p. style_fed (y.over p) m z c b)) ≡ true) (sym r)
+    (subst (λ (z : Scan). has_met z ≡ true) (y.next c b) met) in
+    ap scan_parts (x.next c b)
+    ∙ (beside-lead x.value y.value x.value.quotes y.value.quotes x.over y.over n m x.reference c b t k.0 u refl refl j (y.taken c b e) above
+    ∙ ap (λ (z : List ℕ). Some (feed_bytes parts_feeding t z)) (x.fed c b))
+
+-- in a URL that is no style
+url-goes : (g : Scan) (t z : Parts) (c : Class) (b : ℕ) (u : UrlAt g t) → scan_parts (scan_next g c b) ≡ Some z
+    → scan_parts (scan_next g c b) ≡ Some (feed_bytes parts_feeding t (scan_fed g c b))
+url-goes g t z c b u k =
+    ⊎_elim (λ n. absurd (none_some z (sym n.0 ∙ k)))
+    (λ e. e ∙ ap (λ (bytes : List ℕ). Some (feed_bytes parts_feeding t bytes)) (u.fed c b)) (goes g t u c b).parts
+
+css-above : (c : Css) (b : Body) → joined_bodies (body.Css c) b ≡ Some b → (d : Css) × (b ≡ body.Css d)
+css-above c (body.Css d) h = (d, refl)
+css-above c body.Plain h = absurd (none_some body.Plain h)
+css-above c body.NoHole h = absurd (none_some body.NoHole h)
+css-above c (body.Js j) h = absurd (none_some (body.Js j) h)
+css-above c (body.Url s) h = absurd (none_some (body.Url s) h)
+
+places-go : (u v : ValuePlace) (t z : Parts) (c : Class) (b : ℕ) → ValueBelow u v → InBody u.body t → scan_error (At (place.Value v)) c b ≡ None
+    → has_met (scan_next (At (place.Value v)) c b) ≡ true → scan_parts (scan_next (At (place.Value u)) c b) ≡ Some z
+    → scan_parts (scan_next (At (place.Value u)) c b) ≡ Some (feed_bytes parts_feeding t (scan_fed (At (place.Value u)) c b))
+unfolding place-style
+places-go u v t z c b l (in_url e) n met k = url-goes (At (place.Value u)) t z c b (place-url u t e) k
+places-go u v t z c b l (in_style a e h) n met k =
+    let above = subst (λ (x : Body). joined_bodies x v.body ≡ Some v.body) e l.body in
+    let d = css-above a v.body above in
+    styles-go (At (place.Value u)) (At (place.Value v)) (style_scan_start a) (style_scan_start d.0) (place-style u a e) (place-style v d.0 d.1) t c b l.quotes refl
+    (starts-in-order a d.0 (subst (λ (x : Body). joined_bodies (body.Css a) x ≡ Some x) d.1 above)) h n met
+
+under-go : (u : ValuePlace) (n : StyleScan) (r : Reference) (p : Place) (t : Parts) (c : Class) (b : ℕ) → HasBegun u.quotes → u.body ≡ body.Css empty_css
+    → StyleUnderPlace u n p → r ≡ Closed → style_scan_parts n ≡ Some t → scan_error (At p) c b ≡ None → has_met (scan_next (At p) c b) ≡ true
+    → scan_parts (scan_next (InStyle u n r) c b) ≡ Some (feed_bytes parts_feeding t (scan_fed (InStyle u n r) c b))
+unfolding lexeme-style place-style
+under-go u n r (place.Value v) t c b w i l e h o met =
+    let d = under-body u n v v.body l in
+    styles-go (InStyle u n r) (At (place.Value v)) n (style_scan_start d.0) (lexeme-style u n r w i) (place-style v d.0 d.1) t c b d.2.quotes e d.2.scan h o met
+under-go u n r _ t c b w i l e h o met = absurd l
+
+pub below-goes : (g f : Scan) (t z : Parts) (c : Class) (b : ℕ) → ScanValid g → ScanValid f → ScanBelow g f → scan_parts g ≡ Some t → scan_error f c b ≡ None
+    → has_met (scan_next f c b) ≡ true → scan_parts (scan_next g c b) ≡ Some z
+    → scan_parts (scan_next g c b) ≡ Some (feed_bytes parts_feeding t (scan_fed g c b))
+unfolding lexeme-style
+below-goes (At (place.Value u)) (At (place.Value v)) t z c b w i l h n met k =
+    places-go u v t z c b (below-value u v l) (parts-body u.body t h) n met k
+below-goes (InUrl u x r) f t z c b w i l h n met k = url-goes (InUrl u x r) t z c b (lexeme-url u x r t w.0 (within-body u.body t w.1 h)) k
+below-goes (InStyle u p r) (InStyle v m x) t z c b w i l h n met k =
+    styles-go (InStyle u p r) (InStyle v m x) p m (lexeme-style u p r w.0 w.1) (lexeme-style v m x i.0 i.1) t c b l.0.quotes l.1 l.0.scan h n met
+below-goes (InStyle u p r) (At x) t z c b w i l h n met k = under-go u p r x t c b w.0 w.1 l.0 l.1 h n met
+below-goes (InStyle u p r) _ t z c b w i l h n met k = absurd l
+below-goes (At (place.Value u)) (At x) t z c b w i l h n met k = absurd (none_some x l)
+below-goes (At (place.Value u)) _ t z c b w i l h n met k = absurd l
+below-goes (At _) f t z c b w i l h n met k = absurd (none_some t h)
+below-goes _ f t z c b w i l h n met k = absurd (none_some t h)
 
 -- Elsewhere no byte that is accepted leads to where paths have spelled different things, nor into a reference.
 content-fresh : (t : TagOf) → IsFresh (content_scan t)
@@ -284,6 +702,7 @@ begins-fresh : (t : TagOf) (typed : Bool) (k : Kind) → IsFresh (value_scan t t
 begins-fresh t typed kind.Plain = (refl, refl)
 begins-fresh t typed kind.NoHole = (refl, refl)
 begins-fresh t typed kind.Url = (refl, refl)
+begins-fresh t typed kind.Style = (refl, refl)
 begins-fresh t typed kind.ScriptType = (refl, refl)
 begins-fresh t typed _ = (refl, refl)
 
@@ -298,39 +717,49 @@ tag-fresh t GreaterThan b = content-fresh t.tag
 tag-fresh t EqualsSign b = equals-fresh t.tag t.typed t.kind
 tag-fresh t _ b = (refl, refl)
 
-fed-fresh : (v : ValuePlace) (q : Quotes) (x : Body) (t : Triple) (r : Reference) (c : Class) (b : ℕ) → IsFresh (At (place.Value v)) → body_parts x ≡ None
-    → body_error x ≡ None → IsFresh (value_fed v q x t r c b)
-fed-fresh v q (body.Url s) t r c b h k n = absurd (none_some s (sym k))
-fed-fresh v q (body.Css p) t r c b h k n = absurd (none_some _ (sym n))
-fed-fresh v q _ t r c b h k n = h
+fed-unmet : (v : ValuePlace) (q : Quotes) (x : Body) (t : Triple) (r : Reference) (c : Class) (b : ℕ) → has_met (At (place.Value v)) ≡ false
+    → body_parts x ≡ None → has_met (value_fed v q x t r c b) ≡ false
+fed-unmet v q (body.Url s) t r c b h k = absurd (none_some s (sym k))
+fed-unmet v q (body.Css p) t r c b h k =
+    let bytes = undone_byte true r c b in
+    let m = feed_bytes style_feeding (style_scan_start p) bytes in
+    style-met (empty_style_between v q) m (next_reference r c b) (known-unmet m (known-fed bytes (style_scan_start p) (known_none k)))
+fed-unmet v q _ t r c b h k = h
 
-white-fresh : (v : ValuePlace) (uq : Bool) → IsFresh (At (place.Value v)) → IsFresh (bare_white v uq)
-white-fresh v true h = (refl, refl)
-white-fresh v false h = h
+white-unmet : (v : ValuePlace) (uq : Bool) → has_met (At (place.Value v)) ≡ false → has_met (bare_white v uq) ≡ false
+white-unmet v true h = refl
+white-unmet v false h = h
 
-quotes-fresh : (v : ValuePlace) (q : Quotes) (t : Triple) (r : Reference) (c : Class) (b : ℕ) → IsFresh (At (place.Value v)) → body_parts v.body ≡ None
-    → body_error v.body ≡ None → IsFresh (quoted_next v q t r c b)
-quotes-fresh v quotes.Dq t r QuotationMark b h k n = (refl, refl)
-quotes-fresh v quotes.Dq t r c b h k n = fed-fresh v quotes.Dq v.body t r c b h k n
-quotes-fresh v quotes.Sq t r Apostrophe b h k n = (refl, refl)
-quotes-fresh v quotes.Sq t r c b h k n = fed-fresh v quotes.Sq v.body t r c b h k n
-quotes-fresh v (quotes.Bare s) t r White b h k n = white-fresh v s.uq h
-quotes-fresh v (quotes.Bare s) t r QuotationMark b h k n = h
-quotes-fresh v (quotes.Bare s) t r Apostrophe b h k n = h
-quotes-fresh v (quotes.Bare s) t r GreaterThan b h k n = content-fresh v.tag
-quotes-fresh v (quotes.Bare s) t r c b h k n = fed-fresh v _ v.body t r c b h k n
+pub lead-unmet : (v : ValuePlace) (q : Quotes) (c : Class) (g : Quotes → Scan) → has_met (At (place.Value v)) ≡ false → ((p : Quotes) → has_met (g p) ≡ false)
+    → has_met (quotes_lead v q c g) ≡ false
+lead-unmet v quotes.Dq QuotationMark g h k = refl
+lead-unmet v quotes.Dq c g h k = k quotes.Dq
+lead-unmet v quotes.Sq Apostrophe g h k = refl
+lead-unmet v quotes.Sq c g h k = k quotes.Sq
+lead-unmet v (quotes.Bare s) White g h k = white-unmet v s.uq h
+lead-unmet v (quotes.Bare s) QuotationMark g h k = h
+lead-unmet v (quotes.Bare s) Apostrophe g h k = h
+lead-unmet v (quotes.Bare s) GreaterThan g h k = (content-fresh v.tag).0
+lead-unmet v (quotes.Bare s) c g h k = k bare_begun
 
-body-fresh : (b : Body) → body_parts b ≡ None → body_error b ≡ None → spells_apart (beginning_in_body b) ≡ false
-body-fresh (body.Url s) k n = absurd (none_some s (sym k))
-body-fresh (body.Css c) k n = absurd (none_some _ (sym n))
-body-fresh _ k n = refl
+body-unmet : (b : Body) → body_parts b ≡ None → spells_apart (beginning_in_body b) ≡ false
+body-unmet (body.Url s) k = absurd (none_some s (sym k))
+body-unmet (body.Css c) k =
+    subst (λ (z : Css). spells_apart (beginning_in_css z) ≡ false) (start-place c) (unmet-spells (style_scan_start c) (ap is_apart k))
+body-unmet _ k = refl
 
-value-fresh : (v : ValuePlace) (t : Triple) (r : Reference) (c : Class) (b : ℕ) → body_parts v.body ≡ None → value_cause v r c b ≡ None
-    → IsFresh (quoted_next v v.quotes t r c b)
-value-fresh v t r c b k n =
-    let m = first-caused (body_cause v.body v.quotes r c b) (at_hand (value_error v c)) n in
-    let e = (first-none (body_error v.body) (quotes_error v.tag v.quotes c) (none-at-hand (value_error v c) m.1)).0 in
-    quotes-fresh v v.quotes t r c b (body-fresh v.body k e, refl) k e
+value-unmet : (v : ValuePlace) (t : Triple) (r : Reference) (c : Class) (b : ℕ) → body_parts v.body ≡ None → has_met (value_next v t r c b) ≡ false
+value-unmet v t r c b k =
+    let h = body-unmet v.body k in
+    lead-unmet v v.quotes c (λ p. value_fed v p v.body t r c b) h (λ p. fed-unmet v p v.body t r c b h k)
+
+style-unmet : (v : ValuePlace) (n : StyleScan) (r : Reference) (c : Class) (b : ℕ) → v.body ≡ body.Css empty_css → style_scan_parts n ≡ None
+    → has_met (style_value_next v n r c b) ≡ false
+style-unmet v n r c b e k =
+    let bytes = undone_byte true r c b in
+    let m = feed_bytes style_feeding n bytes in
+    lead-unmet v v.quotes c (λ p. style_fed (value_between v p) n r c b) (ap (λ (x : Body). spells_apart (beginning_in_body x)) e)
+    (λ p. style-met (value_between v p) m (next_reference r c b) (known-unmet m (known-fed bytes n (known_none k))))
 
 closed-fresh : (closed : Bool) → IsFresh (comment_closed closed)
 closed-fresh true = (refl, refl)
@@ -364,17 +793,29 @@ text-fresh : (c : Class) (b : ℕ) → IsFresh (scan_next (At place.Text) c b)
 text-fresh LessThan b = (refl, refl)
 text-fresh _ b = (refl, refl)
 
-place-next-fresh : (p : Place) (c : Class) (b : ℕ) → scan_parts (At p) ≡ None → scan_error (At p) c b ≡ None → IsFresh (scan_next (At p) c b)
-place-next-fresh place.Text c b h n = text-fresh c b
-place-next-fresh place.Doctype GreaterThan b h n = (refl, refl)
-place-next-fresh place.Doctype _ b h n = (refl, refl)
-place-next-fresh (place.Comment dash) c b h n = comment-fresh (comment_state dash) c
-place-next-fresh (place.Rcdata e) c b h n = loose-fresh c e
-place-next-fresh (place.Tag t) c b h n = tag-fresh t c b
-place-next-fresh (place.Value x) c b h n = value-fresh x NoTriple Closed c b h n
-place-next-fresh (place.Script j) c b h n = (refl, refl)
-place-next-fresh (place.Style j) c b h n = absurd (none_some _ (sym n))
-place-next-fresh (place.Block lt) c b h n = loose-fresh c element.DataBlock
+place-unmet : (p : Place) (c : Class) (b : ℕ) → scan_parts (At p) ≡ None → scan_error (At p) c b ≡ None → has_met (scan_next (At p) c b) ≡ false
+place-unmet place.Text c b h n = (text-fresh c b).0
+place-unmet place.Doctype GreaterThan b h n = refl
+place-unmet place.Doctype _ b h n = refl
+place-unmet (place.Comment dash) c b h n = (comment-fresh (comment_state dash) c).0
+place-unmet (place.Rcdata e) c b h n = (loose-fresh c e).0
+place-unmet (place.Tag t) c b h n = (tag-fresh t c b).0
+place-unmet (place.Value x) c b h n = value-unmet x NoTriple Closed c b h
+place-unmet (place.Script j) c b h n = refl
+place-unmet (place.Style j) c b h n = absurd (none_some _ (sym n))
+place-unmet (place.Block lt) c b h n = (loose-fresh c element.DataBlock).0
+
+place-holds : (p : Place) (c : Class) (b : ℕ) → Holds (scan_next (At p) c b) Closed c b
+place-holds place.Text c b = inl (text-fresh c b).1
+place-holds place.Doctype GreaterThan b = inl refl
+place-holds place.Doctype _ b = inl refl
+place-holds (place.Comment dash) c b = inl (comment-fresh (comment_state dash) c).1
+place-holds (place.Rcdata e) c b = inl (loose-fresh c e).1
+place-holds (place.Tag t) c b = inl (tag-fresh t c b).1
+place-holds (place.Value x) c b = value-holds x NoTriple Closed c b
+place-holds (place.Script j) c b = inl refl
+place-holds (place.Style j) c b = inl refl
+place-holds (place.Block lt) c b = inl (loose-fresh c element.DataBlock).1
 
 less-fresh : (c : Class) (b : ℕ) → IsFresh (scan_next AfterLess c b)
 less-fresh (Letter l) b = (refl, refl)
@@ -453,35 +894,45 @@ type-fresh : (ends : Bool) (c : Class) (b : ℕ) (t : TagOf) (q : Quoting) (v : 
 type-fresh true c b t q v r = after-type-fresh q c (type_tag t (ended_type v r))
 type-fresh false c b t q v r = (refl, refl)
 
-pub scan-fresh : (f : Scan) (c : Class) (b : ℕ) → ScanValid f → scan_parts f ≡ None → scan_error f c b ≡ None → IsFresh (scan_next f c b)
-scan-fresh (At p) c b v h n = place-next-fresh p c b h n
-scan-fresh AfterLess c b v h n = less-fresh c b
-scan-fresh AfterLessSolidus c b v h n = solidus-fresh c b
-scan-fresh (InDeclaration pending) c b v h n = declaration-fresh (declared_by (pending ++ b ∷ [])) c b pending
-scan-fresh (InTagName ends name) c b v h n = tag-name-fresh c b ends name
-scan-fresh (InAttributeName t typed name) c b v h n = attribute-fresh c b t typed (kind_of (element_on t) name) name
-scan-fresh (InUrl w t r) c b v h n = value-fresh w t r c b h n
-scan-fresh (InStyle w s r) c b v h n = absurd v
-scan-fresh (InCommentEnd s) c b v h n = comment-fresh s c
-scan-fresh (InContentEnd e x) c b v h n = content-end-fresh x c b e
-scan-fresh (BeforeType t) c b v h n = before-type-fresh c b t
-scan-fresh (InType t q w r) c b v h n = type-fresh (ends_value q c) c b t q w r
+pub scan-unmet : (f : Scan) (c : Class) (b : ℕ) → ScanValid f → scan_parts f ≡ None → scan_error f c b ≡ None → has_met (scan_next f c b) ≡ false
+scan-unmet (At p) c b v h n = place-unmet p c b h n
+scan-unmet (InUrl w t r) c b v h n = value-unmet w t r c b h
+scan-unmet (InStyle w s r) c b v h n = style-unmet w s r c b v.1 h
+scan-unmet AfterLess c b v h n = (less-fresh c b).0
+scan-unmet AfterLessSolidus c b v h n = (solidus-fresh c b).0
+scan-unmet (InDeclaration pending) c b v h n = (declaration-fresh (declared_by (pending ++ b ∷ [])) c b pending).0
+scan-unmet (InTagName ends name) c b v h n = (tag-name-fresh c b ends name).0
+scan-unmet (InAttributeName t typed name) c b v h n = (attribute-fresh c b t typed (kind_of (element_on t) name) name).0
+scan-unmet (InCommentEnd s) c b v h n = (comment-fresh s c).0
+scan-unmet (InContentEnd e x) c b v h n = (content-end-fresh x c b e).0
+scan-unmet (BeforeType t) c b v h n = (before-type-fresh c b t).0
+scan-unmet (InType t q w r) c b v h n = (type-fresh (ends_value q c) c b t q w r).0
+
+-- A reference that is open behind a byte is the one that was, behind it.
+pub next-holds : (f : Scan) (c : Class) (b : ℕ) → Holds (scan_next f c b) (scan_reference f) c b
+next-holds (At p) c b = place-holds p c b
+next-holds (InUrl w t r) c b = value-holds w t r c b
+next-holds (InStyle w s r) c b = style-holds w s r c b
+next-holds AfterLess c b = inl (less-fresh c b).1
+next-holds AfterLessSolidus c b = inl (solidus-fresh c b).1
+next-holds (InDeclaration pending) c b = inl (declaration-fresh (declared_by (pending ++ b ∷ [])) c b pending).1
+next-holds (InTagName ends name) c b = inl (tag-name-fresh c b ends name).1
+next-holds (InAttributeName t typed name) c b = inl (attribute-fresh c b t typed (kind_of (element_on t) name) name).1
+next-holds (InCommentEnd s) c b = inl (comment-fresh s c).1
+next-holds (InContentEnd e x) c b = inl (content-end-fresh x c b e).1
+next-holds (BeforeType t) c b = inl (before-type-fresh c b t).1
+next-holds (InType t q w r) c b = inl (type-fresh (ends_value q c) c b t q w r).1
 
 -- No reference that is open has a `:` in it.
 abbrev pub ScanPlain : Scan → Type 0
 ScanPlain f = ReferencePlain (scan_reference f)
 
-plain-by : (g : Scan) (b : ℕ) (r : Reference) → (scan_reference g ≡ Closed) ⊎ (scan_reference g ≡ next_reference r (class_of b) b) → ReferencePlain r → ScanPlain g
+plain-by : (g : Scan) (b : ℕ) (r : Reference) → Holds g r (class_of b) b → ReferencePlain r → ScanPlain g
 plain-by g b r (inl h) n = subst ReferencePlain (sym h) tt
 plain-by g b r (inr h) n = subst ReferencePlain (sym h) (next-plain r b n)
 
-plain-cases : (f : Scan) (b : ℕ) (o : Option Parts) → scan_parts f ≡ o → ScanValid f → scan_error f (class_of b) b ≡ None → ScanPlain f
-    → ScanPlain (scan_next f (class_of b) b)
-plain-cases f b None h v m n = subst ReferencePlain (sym (scan-fresh f (class_of b) b v h m).1) tt
-plain-cases f b (Some s) h v m n = plain-by (scan_next f (class_of b) b) b (scan_reference f) (next-url f s (class_of b) b v h).reference n
-
-pub scan-plain : (f : Scan) (b : ℕ) → ScanValid f → scan_error f (class_of b) b ≡ None → ScanPlain f → ScanPlain (scan_next f (class_of b) b)
-scan-plain f b v m n = plain-cases f b (scan_parts f) refl v m n
+pub scan-plain : (f : Scan) (b : ℕ) → ScanPlain f → ScanPlain (scan_next f (class_of b) b)
+scan-plain f b n = plain-by (scan_next f (class_of b) b) b (scan_reference f) (next-holds f (class_of b) b) n
 
 -- How many bytes back the reference that is open begins.
 abbrev pub reference_length : Reference → ℕ
@@ -502,11 +953,9 @@ pub next-length : (r : Reference) (c : Class) (b : ℕ) → reference_length (ne
 next-length Closed c b = begun-length c
 next-length (Open f bytes) c b = turned-length (turn c f) f bytes c b
 
-length-by : (g : Scan) (c : Class) (b : ℕ) (r : Reference) → (scan_reference g ≡ Closed) ⊎ (scan_reference g ≡ next_reference r c b)
-    → reference_length (scan_reference g) ≤ reference_length r + 1
+length-by : (g : Scan) (c : Class) (b : ℕ) (r : Reference) → Holds g r c b → reference_length (scan_reference g) ≤ reference_length r + 1
 length-by g c b r (inl h) = let e = ap reference_length h in omega (arith, e)
 length-by g c b r (inr h) = let e = ap reference_length h in let l = next-length r c b in omega (arith, e, l)
 
-pub scan-length : (f : Scan) (s : Parts) (c : Class) (b : ℕ) → ScanValid f → scan_parts f ≡ Some s
-    → reference_length (scan_reference (scan_next f c b)) ≤ reference_length (scan_reference f) + 1
-scan-length f s c b w h = length-by (scan_next f c b) c b (scan_reference f) (next-url f s c b w h).reference
+pub scan-length : (f : Scan) (c : Class) (b : ℕ) → reference_length (scan_reference (scan_next f c b)) ≤ reference_length (scan_reference f) + 1
+scan-length f c b = length-by (scan_next f c b) c b (scan_reference f) (next-holds f c b)

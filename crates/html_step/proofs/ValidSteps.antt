@@ -1,5 +1,5 @@
 -- A step leads from what is valid to what is valid.
-use Rattle.std.proofs.Common.{◌≡◌, ℕ, Bool, true, false, ◌||◌, List, [], ◌∷◌, ◌++◌, Option, Some, None, refl}
+use Rattle.std.proofs.Common.{◌≡◌, ℕ, Bool, true, false, ◌||◌, List, [], ◌∷◌, ◌++◌, Option, Some, None, if◌then◌else◌, refl, sym, subst}
 use Rattle.place_core.specs.page.Classes.{Class, White, QuotationMark, Apostrophe, Solidus, LessThan, EqualsSign, GreaterThan, Letter, ExclamationMark, HyphenMinus}
 use Rattle.place_core.specs.page.Comments.{Declaration, OpensComment, OpensDoctype, Undecided, OpensNothing, closes_comment, declared_by, next_comment}
 use Rattle.place_core.specs.page.Contents.{is_name_of, may_be_name_of}
@@ -19,11 +19,13 @@ use Rattle.place_core.specs.declared.tag_of.TagOf.{TagOf}
 use Rattle.place_core.specs.declared.tag_of.TagOf.TheVariants as tag
 use Rattle.place_core.specs.declared.tag_place.TagPlace.{TagPlace}
 use Rattle.place_core.specs.declared.value_place.ValuePlace.{ValuePlace}
-use Rattle.html_scan.specs.Scans.{Scan, At, AfterLess, AfterLessSolidus, InDeclaration, InTagName, InAttributeName, InUrl, InStyle, InCommentEnd, InContentEnd, attribute_name_next, bare_begun, bare_white, comment_closed, comment_scan, comment_next, comment_state, content_end_next, content_scan, content_next, declaration_next, end_name_next, scan_next, scan_place, quoted_next, tag_name_next, tag_next, value_scan, BeforeType, InType, rest_place, content_end_place, pending_less_next, before_type_next, after_type, type_next, type_begun, type_tag, ended_type, parts_feeding, parts_with, triple_behind, url_scan, value_fed, with_parts, body_cause, place_cause, scan_error, value_cause}
-use Rattle.html_step.proofs.OnePath.{none-at-hand, some}
-use Rattle.html_step.proofs.ScanOrder.{HasBegun, ScanValid, UrlWithin, begun-valid, first-none}
-use Rattle.html_step.proofs.UrlOrder.{fed-valid, first-caused}
-use Rattle.place_core.specs.place.Errors.{at_hand, body_error, quotes_error, value_error}
+use Rattle.html_scan.specs.Scans.{Scan, At, AfterLess, AfterLessSolidus, InDeclaration, InTagName, InAttributeName, InUrl, InStyle, InCommentEnd, InContentEnd, attribute_name_next, bare_begun, bare_white, comment_closed, comment_scan, comment_next, comment_state, content_end_next, content_scan, content_next, declaration_next, end_name_next, scan_next, scan_place, tag_name_next, tag_next, value_scan, BeforeType, InType, rest_place, content_end_place, pending_less_next, before_type_next, after_type, type_next, type_begun, type_tag, ended_type, parts_feeding, parts_with, triple_behind, url_scan, value_fed, with_parts, place_cause, scan_error, value_next, empty_style_between, quotes_lead, style_fed, style_feeding, style_scan, style_value_next, value_between, with_style}
+use Rattle.html_step.proofs.ScanOrder.{HasBegun, ScanValid, UrlWithin, begun-valid}
+use Rattle.html_step.proofs.StyleOrder.{start-valid, style-fed-valid}
+use Rattle.html_step.proofs.StylePaths.{empty_css}
+use Rattle.html_step.proofs.UrlOrder.{fed-valid}
+use Rattle.css_step.specs.StyleScans.{StyleScan, is_style_start, style_scan_place, style_scan_start}
+use Rattle.place_core.specs.place.LanguagePlaces.{IsValidCss}
 use Rattle.place_core.specs.page.Html.{ends_value}
 use Rattle.place_core.specs.page.References.{Reference, Closed, Open, as_it_stands, next_reference, undone_byte}
 use Rattle.place_core.specs.declared.body.Body.{Body}
@@ -46,6 +48,7 @@ begins-valid : (t : TagOf) (typed : Bool) (k : Kind) → ScanValid (value_scan t
 begins-valid t typed kind.Plain = (refl, tt)
 begins-valid t typed kind.NoHole = (refl, tt)
 begins-valid t typed kind.Url = (refl, (refl, tt))
+begins-valid t typed kind.Style = (refl, tt)
 begins-valid t typed kind.ScriptType = tt
 begins-valid t typed _ = tt
 
@@ -79,32 +82,49 @@ url-valid v NoTriple (Open f bytes) g w = (g, w)
 url-valid v AfterPercent r g w = (g, w)
 url-valid v AfterDigit r g w = (g, w)
 
+style-valid-by : (v : ValuePlace) (n : StyleScan) (x : Bool) → HasBegun v.quotes → v.body ≡ body.Css empty_css → IsValidCss (style_scan_place n)
+    → ScanValid (if x then At (with_style v n) else InStyle v n Closed)
+style-valid-by v n true g e w = (begun-valid v.quotes g, w)
+style-valid-by v n false g e w = (g, e, w)
+
+pub style-valid : (v : ValuePlace) (n : StyleScan) (r : Reference) → HasBegun v.quotes → v.body ≡ body.Css empty_css → IsValidCss (style_scan_place n)
+    → ScanValid (style_scan v n r)
+style-valid v n Closed g e w = style-valid-by v n (is_style_start n) g e w
+style-valid v n (Open f bytes) g e w = (g, e, w)
+
 fed-value-valid : (v : ValuePlace) (q : Quotes) (x : Body) (t : Triple) (r : Reference) (c : Class) (b : ℕ) → HasBegun q → IsValidBody v.body → IsValidBody x
-    → body_error x ≡ None
     → ScanValid (value_fed v q x t r c b)
-fed-value-valid v q (body.Url s) t r c b g h k n =
+fed-value-valid v q (body.Url s) t r c b g h k =
     let bytes = undone_byte true r c b in
     url-valid (with_parts v q (feed_bytes parts_feeding s bytes)) (triple_behind t bytes) (next_reference r c b) g (fed-valid bytes s k)
-fed-value-valid v q (body.Css p) t r c b g h k n = absurd (some _ n)
-fed-value-valid v q _ t r c b g h k n = (begun-valid q g, h)
+fed-value-valid v q (body.Css p) t r c b g h k =
+    let bytes = undone_byte true r c b in
+    style-valid (empty_style_between v q) (feed_bytes style_feeding (style_scan_start p) bytes) (next_reference r c b) g refl
+    (style-fed-valid bytes (style_scan_start p) (start-valid p k))
+fed-value-valid v q _ t r c b g h k = (begun-valid q g, h)
 
-quotes-valid : (v : ValuePlace) (q : Quotes) (t : Triple) (r : Reference) (c : Class) (b : ℕ) → IsValidBody v.body → body_error v.body ≡ None
-    → ScanValid (quoted_next v q t r c b)
-quotes-valid v quotes.Dq t r QuotationMark b h n = (refl, refl)
-quotes-valid v quotes.Dq t r c b h n = fed-value-valid v quotes.Dq v.body t r c b tt h h n
-quotes-valid v quotes.Sq t r Apostrophe b h n = (refl, refl)
-quotes-valid v quotes.Sq t r c b h n = fed-value-valid v quotes.Sq v.body t r c b tt h h n
-quotes-valid v (quotes.Bare s) t r White b h n = white-valid v s.uq h
-quotes-valid v (quotes.Bare s) t r QuotationMark b h n = (tt, h)
-quotes-valid v (quotes.Bare s) t r Apostrophe b h n = (tt, h)
-quotes-valid v (quotes.Bare s) t r GreaterThan b h n = content-valid v.tag
-quotes-valid v (quotes.Bare s) t r c b h n = fed-value-valid v bare_begun v.body t r c b (refl, refl) h h n
+-- a byte of a value, by its quotes
+lead-valid : (v : ValuePlace) (q : Quotes) (c : Class) (f : Quotes → Scan) → IsValidBody v.body → ((p : Quotes) → HasBegun p → ScanValid (f p))
+    → ScanValid (quotes_lead v q c f)
+lead-valid v quotes.Dq QuotationMark f h g = (refl, refl)
+lead-valid v quotes.Dq c f h g = g quotes.Dq tt
+lead-valid v quotes.Sq Apostrophe f h g = (refl, refl)
+lead-valid v quotes.Sq c f h g = g quotes.Sq tt
+lead-valid v (quotes.Bare s) White f h g = white-valid v s.uq h
+lead-valid v (quotes.Bare s) QuotationMark f h g = (tt, h)
+lead-valid v (quotes.Bare s) Apostrophe f h g = (tt, h)
+lead-valid v (quotes.Bare s) GreaterThan f h g = content-valid v.tag
+lead-valid v (quotes.Bare s) c f h g = g bare_begun (refl, refl)
 
--- a language whose value is not refused at a byte is built
-value-built : (v : ValuePlace) (r : Reference) (c : Class) (b : ℕ) → value_cause v r c b ≡ None → body_error v.body ≡ None
-value-built v r c b n =
-    let m = first-caused (body_cause v.body v.quotes r c b) (at_hand (value_error v c)) n in
-    (first-none (body_error v.body) (quotes_error v.tag v.quotes c) (none-at-hand (value_error v c) m.1)).0
+value-valid : (v : ValuePlace) (t : Triple) (r : Reference) (c : Class) (b : ℕ) → IsValidBody v.body → ScanValid (value_next v t r c b)
+value-valid v t r c b h = lead-valid v v.quotes c (λ p. value_fed v p v.body t r c b) h (λ p g. fed-value-valid v p v.body t r c b g h h)
+
+style-next-valid : (v : ValuePlace) (n : StyleScan) (r : Reference) (c : Class) (b : ℕ) → v.body ≡ body.Css empty_css → IsValidCss (style_scan_place n)
+    → ScanValid (style_value_next v n r c b)
+style-next-valid v n r c b e w =
+    lead-valid v v.quotes c (λ p. style_fed (value_between v p) n r c b) (subst IsValidBody (sym e) tt)
+    (λ p g. let bytes = undone_byte true r c b in
+    style-valid (value_between v p) (feed_bytes style_feeding n bytes) (next_reference r c b) g e (style-fed-valid bytes n w))
 
 closed-valid : (closed : Bool) → ScanValid (comment_closed closed)
 closed-valid true = tt
@@ -150,7 +170,7 @@ place-valid place.Doctype _ b v n = tt
 place-valid (place.Comment dash) c b v n = comment-valid (comment_state dash) c
 place-valid (place.Rcdata e) c b v n = loose-valid c e (rcdata-rest e v)
 place-valid (place.Tag t) c b v n = tag-valid t c b v
-place-valid (place.Value x) c b v n = quotes-valid x x.quotes NoTriple Closed c b v.1 (value-built x Closed c b n)
+place-valid (place.Value x) c b v n = value-valid x NoTriple Closed c b v.1
 place-valid (place.Script j) c b v n = v
 place-valid (place.Style j) c b v n = v
 place-valid (place.Block lt) c b v n = loose-valid c element.DataBlock tt
@@ -225,8 +245,8 @@ scan-valid AfterLess _ b v n = tt
 scan-valid AfterLessSolidus LessThan b v n = tt
 scan-valid AfterLessSolidus _ b v n = tt
 scan-valid (InDeclaration pending) c b v n = declaration-valid (declared_by (pending ++ b ∷ [])) c b pending
-scan-valid (InUrl x t r) c b v n = quotes-valid x x.quotes t r c b (within-valid x.body v.1) (value-built x r c b n)
-scan-valid (InStyle x s r) c b v n = absurd v
+scan-valid (InUrl x t r) c b v n = value-valid x t r c b (within-valid x.body v.1)
+scan-valid (InStyle x s r) c b v n = style-next-valid x s r c b v.1 v.2
 scan-valid (InTagName ends name) c b v n = name-valid c b ends name
 scan-valid (InAttributeName t typed name) c b v n = attribute-valid c b t typed (kind_of (element_on t) name) name
 scan-valid (InCommentEnd s) c b v n = comment-valid s c
@@ -247,7 +267,7 @@ content-end-place-valid element.Other h v = v
 pub end-valid : (f : Scan) → ScanValid f → IsValid (scan_place f)
 end-valid (At p) v = v
 end-valid (InUrl x t r) v = (begun-valid x.quotes v.0, within-valid (parts_with x.body (as_it_stands r)) (with-within x.body (as_it_stands r) v.1))
-end-valid (InStyle x s r) v = absurd v
+end-valid (InStyle x s r) v = (begun-valid x.quotes v.0, style-fed-valid (as_it_stands r) s v.2)
 end-valid AfterLess v = tt
 end-valid AfterLessSolidus v = tt
 end-valid (InDeclaration pending) v = tt

@@ -1,7 +1,13 @@
 -- Which member of a place a member after a text comes from, and which one shows that a text is refused.
-use Rattle.std.specs.Prelude.{ℕ, Bool, true, false, List, [], ◌∷◌, Option, Some, None, is_some, if◌then◌else◌}
+use Rattle.std.specs.Prelude.{ℕ, Bool, true, false, List, [], ◌∷◌, Option, Some, None, option_map, is_some, if◌then◌else◌}
+use Rattle.css_lexer.specs.Classes.{style_class}
+use Rattle.css_lexer.specs.declared.class.StyleClass.{StyleClass}
+use Rattle.css_lexer.specs.declared.class.StyleClass.TheVariants as style
+use Rattle.css_step.specs.StyleOrigins.{scan_set_has, style_scan_parts}
+use Rattle.css_step.specs.StyleScans.{StyleScan, ScanCode, ScanSplitEscape, ScanStarBefore, ScanBareUrl, ScanQuotedUrl, style_scan_next, style_scan_start}
 use Rattle.place_core.specs.page.Classes.{Class, White, QuotationMark, Apostrophe, Solidus, LessThan, EqualsSign, GreaterThan, class_of}
 use Rattle.place_core.specs.page.References.{Reference, Closed, undone_byte, as_it_stands}
+use Rattle.place_core.specs.page.Tags.{feed_bytes}
 use Rattle.place_core.specs.place.Errors.{PathCause, body_error}
 use Rattle.place_core.specs.declared.body.Body.{Body}
 use Rattle.place_core.specs.declared.body.Body.TheVariants as body
@@ -16,7 +22,7 @@ use Rattle.place_core.specs.declared.quotes.Quotes.{Quotes}
 use Rattle.place_core.specs.declared.quotes.Quotes.TheVariants as quotes
 use Rattle.place_core.specs.declared.spots.Spots.{Spots}
 use Rattle.place_core.specs.declared.value_place.ValuePlace.{ValuePlace}
-use Rattle.html_scan.specs.Scans.{Scan, At, InAttributeName, InUrl, InStyle, body_cause, scan_error, scan_next}
+use Rattle.html_scan.specs.Scans.{Scan, At, InAttributeName, InUrl, InStyle, body_cause, quoted_error, scan_error, scan_next, style_feeding}
 use Rattle.html_step.specs.Laws.{EvidenceData, one, two, apart}
 use Rattle.url_lexer.specs.Classes.{url_class_of}
 use Rattle.url_lexer.specs.declared.class.UrlClass.{UrlClass}
@@ -60,8 +66,31 @@ abbrev pub fed_origin : List ℕ → Parts → Member → Member
 fed_origin [] s y = y
 fed_origin (b ∷ bs) s y = part_origin s (url_class_of b) (fed_origin bs (parts_next s (url_class_of b) b) y)
 
+-- In a style, the member before a byte that one behind it comes from: a part of a URL from a part, where the URL has begun; and that a word may be one
+-- from before the text, from itself. All else that is behind the byte is so on all paths.
+abbrev pub style_part_origin : Option Parts → ℕ → Member → Member
+style_part_origin (Some s) b y = part_origin s (url_class_of b) y
+style_part_origin None b y = member.Whole
+
+abbrev pub style_byte_origin : StyleScan → ℕ → Member → Member
+style_byte_origin n b member.Typed = member.Typed
+style_byte_origin n b member.CssWord = member.CssWord
+style_byte_origin n b member.PartStart = style_part_origin (style_scan_parts n) b member.PartStart
+style_byte_origin n b member.PartOpen = style_part_origin (style_scan_parts n) b member.PartOpen
+style_byte_origin n b member.PartOpenhole = style_part_origin (style_scan_parts n) b member.PartOpenhole
+style_byte_origin n b member.PartPrequery = style_part_origin (style_scan_parts n) b member.PartPrequery
+style_byte_origin n b member.PartQuery = style_part_origin (style_scan_parts n) b member.PartQuery
+style_byte_origin n b member.PartBad = style_part_origin (style_scan_parts n) b member.PartBad
+style_byte_origin n b y = member.Whole
+
+-- likewise before several bytes that a style is fed
+abbrev pub style_fed_origin : List ℕ → StyleScan → Member → Member
+style_fed_origin [] n y = y
+style_fed_origin (b ∷ bs) n y = style_byte_origin n b (style_fed_origin bs (style_scan_next n (style_class b) b) y)
+
 abbrev pub body_origin : Body → List ℕ → Member → Member
 body_origin (body.Url s) bytes y = fed_origin bytes s y
+body_origin (body.Css c) bytes y = style_fed_origin bytes (style_scan_start c) y
 body_origin x bytes y = y
 
 -- White space in a tag leads from a name to before one, and from in a name to after one.
@@ -71,8 +100,7 @@ white_origin s member.BeforeSpot = if s.name then member.NameSpot else member.Be
 white_origin s member.AfterSpot = if s.inside then member.InsideSpot else member.AfterSpot
 white_origin s y = member.Whole
 
--- Elsewhere in a tag only that a `type` may have been seen stays as it is; all else holds of each path. In a value that is a style the other members
--- are not traced yet: no text is accepted there.
+-- Elsewhere in a tag only that a `type` may have been seen stays as it is; all else holds of each path.
 abbrev pub typed_origin : Member → Member
 typed_origin member.Typed = member.Typed
 typed_origin y = member.Whole
@@ -84,7 +112,8 @@ tag_origin c s y = typed_origin y
 abbrev pub name_origin : Bool → Member
 name_origin typed = if typed then member.Typed else member.Whole
 
--- In a value so do the parts of a URL, which come from those before the bytes that it is fed. White space and quotes before a value are not fed.
+-- In a value so do the parts of a URL, and what the paths of a style ended in, which come from those before the bytes that it is fed. White space and
+-- quotes before a value are not fed.
 abbrev pub in_value_origin : Member → Member
 in_value_origin member.PartStart = member.PartStart
 in_value_origin member.PartOpen = member.PartOpen
@@ -92,6 +121,10 @@ in_value_origin member.PartOpenhole = member.PartOpenhole
 in_value_origin member.PartPrequery = member.PartPrequery
 in_value_origin member.PartQuery = member.PartQuery
 in_value_origin member.PartBad = member.PartBad
+in_value_origin member.CssWord = member.CssWord
+in_value_origin member.CssSlash = member.CssSlash
+in_value_origin member.CssLt = member.CssLt
+in_value_origin member.CssStar = member.CssStar
 in_value_origin y = typed_origin y
 
 abbrev pub fed_in : Quotes → Reference → Class → ℕ → List ℕ
@@ -103,7 +136,10 @@ fed_in q r c b = undone_byte true r c b
 abbrev pub value_origin : ValuePlace → Reference → Class → ℕ → Member → Member
 value_origin v r c b y = body_origin v.body (fed_in v.quotes r c b) (in_value_origin y)
 
--- The member that a member after a byte comes from: behind the bytes that a URL is fed, and before them.
+abbrev pub style_value_origin : ValuePlace → StyleScan → Reference → Class → ℕ → Member → Member
+style_value_origin v s r c b y = style_fed_origin (fed_in v.quotes r c b) s (in_value_origin y)
+
+-- The member that a member after a byte comes from: behind the bytes that a value is fed, and before them.
 abbrev pub place_origin : Place → Class → Member → Member
 place_origin (place.Tag t) c y = tag_origin c t.spots y
 place_origin (place.Value v) c y = in_value_origin y
@@ -113,7 +149,7 @@ abbrev pub behind_origin : Scan → Class → Member → Member
 behind_origin (At p) c y = place_origin p c y
 behind_origin (InAttributeName t typed name) c y = name_origin typed
 behind_origin (InUrl v t r) c y = in_value_origin y
-behind_origin (InStyle v s r) c y = typed_origin y
+behind_origin (InStyle v s r) c y = in_value_origin y
 behind_origin f c y = member.Whole
 
 abbrev pub place_fed_origin : Place → Class → ℕ → Member → Member
@@ -123,17 +159,21 @@ place_fed_origin p c b y = y
 abbrev pub scan_fed_origin : Scan → Class → ℕ → Member → Member
 scan_fed_origin (At p) c b y = place_fed_origin p c b y
 scan_fed_origin (InUrl v t r) c b y = body_origin v.body (fed_in v.quotes r c b) y
+scan_fed_origin (InStyle v s r) c b y = style_fed_origin (fed_in v.quotes r c b) s y
 scan_fed_origin f c b y = y
 
 abbrev pub byte_origin : Scan → Class → ℕ → Member → Member
 byte_origin f c b y = scan_fed_origin f c b (behind_origin f c y)
 
--- the one before the end of a text
+-- The one before the end of a text. In a style what the scan state has as a set stays as it is, and what the place there has else is so on all paths.
+abbrev pub style_end_origin : StyleScan → Member → Member
+style_end_origin n y = if scan_set_has n y then y else typed_origin y
+
 abbrev pub end_origin : Scan → Member → Member
 end_origin (At p) y = y
 end_origin (InAttributeName t typed name) y = name_origin typed
 end_origin (InUrl v t r) y = body_origin v.body (as_it_stands r) y
-end_origin (InStyle v s r) y = typed_origin y
+end_origin (InStyle v s r) y = style_fed_origin (as_it_stands r) s (style_end_origin (feed_bytes style_feeding s (as_it_stands r)) y)
 end_origin f y = member.Whole
 
 -- the one before a text
@@ -167,6 +207,7 @@ quotes_show None q c = one member.Whole
 -- The parts of a URL at which a scan state stands; and whether paths in its beginning have spelled different things.
 abbrev pub body_parts : Body → Option Parts
 body_parts (body.Url s) = Some s
+body_parts (body.Css c) = style_scan_parts (style_scan_start c)
 body_parts x = None
 
 abbrev pub place_parts : Place → Option Parts
@@ -176,6 +217,7 @@ place_parts p = None
 abbrev pub scan_parts : Scan → Option Parts
 scan_parts (At p) = place_parts p
 scan_parts (InUrl v t r) = body_parts v.body
+scan_parts (InStyle v s r) = style_scan_parts s
 scan_parts f = None
 
 abbrev pub is_apart : Option Parts → Bool
@@ -192,16 +234,66 @@ abbrev pub url_shows : Parts → Code → EvidenceData
 url_shows s code.BadHTML = one member.Whole
 url_shows s e = colon_shows s
 
-abbrev pub body_refusal_shows : Body → Code → EvidenceData
-body_refusal_shows (body.Url s) e = url_shows s e
-body_refusal_shows x e = one member.Whole
+-- What a style refuses of a byte: what would go on with what some path ended in, or what its URL refuses; else each path is refused.
+abbrev pub style_tails_show : StyleClass → Member
+style_tails_show style.Asterisk = member.CssSlash
+style_tails_show style.Solidus = member.CssLt
+style_tails_show c = member.CssWord
 
-abbrev pub url_or_quotes : Option PathCause → Body → EvidenceData → EvidenceData
-url_or_quotes (Some e) x later = body_refusal_shows x e.code
-url_or_quotes None x later = later
+abbrev pub style_url_shows : Parts → Code → EvidenceData
+style_url_shows s code.AmbigContext = colon_shows s
+style_url_shows s e = one member.Whole
+
+abbrev pub style_byte_shows : StyleScan → StyleClass → Code → EvidenceData
+style_byte_shows (ScanCode x) c e = one (style_tails_show c)
+style_byte_shows (ScanSplitEscape k) c e = one member.CssWord
+style_byte_shows ScanStarBefore c e = one member.CssStar
+style_byte_shows (ScanBareUrl s t) c e = style_url_shows s e
+style_byte_shows (ScanQuotedUrl q k s t) c e = style_url_shows s e
+style_byte_shows n c e = one member.Whole
+
+-- Of several bytes that it is fed, the first one that is refused. The members that show it are so before all of them; that paths met apart they show
+-- where it was so before them, and else two members do, as in a URL.
+abbrev pub first_shown : Option EvidenceData → Option EvidenceData → Option EvidenceData
+first_shown (Some x) o = Some x
+first_shown None o = o
+
+abbrev pub style_byte_shown : StyleScan → ℕ → Option EvidenceData
+style_byte_shown n b = option_map (style_byte_shows n (style_class b)) (style_feeding.refuses n b)
+
+abbrev pub style_fed_shown : List ℕ → StyleScan → Option EvidenceData
+style_fed_shown [] n = None
+style_fed_shown (b ∷ bs) n = first_shown (style_byte_shown n b) (style_fed_shown bs (style_scan_next n (style_class b) b))
+
+abbrev pub met_before : Option Parts → Option EvidenceData → EvidenceData
+met_before o None = one member.Whole
+met_before o (Some apart) = if is_apart o then apart else two member.PartStart member.PartOpen
+met_before o (Some x) = x
+
+-- these bytes, or before them a reference by a name that stands for no character
+abbrev pub style_shows : StyleScan → List ℕ → Code → EvidenceData
+style_shows n bytes code.BadHTML = one member.Whole
+style_shows n bytes e = met_before (style_scan_parts n) (style_fed_shown bytes n)
+
+-- What the language of a value refuses of the bytes that it is fed.
+abbrev pub body_refusal_shows : Body → List ℕ → Code → EvidenceData
+body_refusal_shows (body.Url s) bytes e = url_shows s e
+body_refusal_shows (body.Css c) bytes e = style_shows (style_scan_start c) bytes e
+body_refusal_shows x bytes e = one member.Whole
+
+abbrev pub body_or_quotes : Option PathCause → Body → List ℕ → EvidenceData → EvidenceData
+body_or_quotes (Some e) x bytes later = body_refusal_shows x bytes e.code
+body_or_quotes None x bytes later = later
 
 abbrev pub value_shows : ValuePlace → Reference → Class → ℕ → EvidenceData
-value_shows v r c b = url_or_quotes (body_cause v.body v.quotes r c b) v.body (quotes_show (body_error v.body) v.quotes c)
+value_shows v r c b = body_or_quotes (body_cause v.body v.quotes r c b) v.body (undone_byte true r c b) (quotes_show (body_error v.body) v.quotes c)
+
+abbrev pub style_or_quotes : Option PathCause → StyleScan → List ℕ → EvidenceData → EvidenceData
+style_or_quotes (Some e) n bytes later = style_shows n bytes e.code
+style_or_quotes None n bytes later = later
+
+abbrev pub style_value_shows : ValuePlace → StyleScan → Reference → Class → ℕ → EvidenceData
+style_value_shows v n r c b = style_or_quotes (quoted_error style_feeding v.quotes n r c b) n (undone_byte true r c b) (quotes_show None v.quotes c)
 
 abbrev pub place_shows : Place → Class → ℕ → EvidenceData
 place_shows (place.Comment dash) c b = one member.CommentDash
@@ -214,11 +306,17 @@ abbrev pub byte_shows : Scan → Class → ℕ → EvidenceData
 byte_shows (At p) c b = place_shows p c b
 byte_shows (InAttributeName t typed name) c b = one (name_origin typed)
 byte_shows (InUrl v t r) c b = value_shows v r c b
+byte_shows (InStyle v s r) c b = style_value_shows v s r c b
 byte_shows f c b = one member.Whole
 
--- The end of a text is refused in a name, and elsewhere on each path.
+-- The end of a text is refused in a name, and elsewhere on each path; in a style a reference with which it ends is read as text.
+abbrev pub shown_member : Option EvidenceData → Member
+shown_member (Some (one x)) = x
+shown_member o = member.Whole
+
 abbrev pub end_shows : Scan → Member
 end_shows (InAttributeName t typed name) = name_origin typed
+end_shows (InStyle v s r) = shown_member (style_fed_shown (as_it_stands r) s)
 end_shows f = member.Whole
 
 -- What shows the refusal of a text, by members before it. That two paths met apart they show where it was so before, and else two members do, on

@@ -7,6 +7,7 @@ ghost use Rattle.html_step.specs.OriginViews.{origin_at};
 ghost use Rattle.html_step.specs.Origins.{body_origin, fed_in, fed_origin, place_fed_origin, scan_fed_origin};
 
 use crate::origins::Origins;
+use crate::style_fed_origins::{at_style_end, in_style};
 use html_scan::{
     Class, OpenReference, Outcome, ReferenceForm, Scan, broken_char, broken_parts, is_equals,
     meaning, pending, turn,
@@ -27,6 +28,11 @@ pub fn behind_byte(origins: Origins, text: &[u8], index: usize, class: Class, sc
             reference,
             ..
         } => { in_value(origins, text, index, class, place, reference) }
+        Scan::InStyle {
+            place,
+            style,
+            reference,
+        } => { in_style(origins, text, index, class, place.quotes, style, reference) }
         _ => origins,
     }
 }
@@ -60,7 +66,11 @@ fn in_value(
         Body::Url(parts) => {
             in_quotes(origins, text, index, class, place.quotes, parts, reference)
         }
-        Body::Plain | Body::NoHole | Body::Js(_) | Body::Css(_) => origins,
+        Body::Css(css) => {
+            let style = css_step::start(css);
+            in_style(origins, text, index, class, place.quotes, style, reference)
+        }
+        Body::Plain | Body::NoHole | Body::Js(_) => origins,
     }
 }
 
@@ -179,7 +189,8 @@ pub fn behind_end(
             None => origins,
             Some(open) => behind_written(origins, parts, pending(text, open.from + 1, text.len())),
         },
-        Body::Plain | Body::NoHole | Body::Js(_) | Body::Css(_) => origins,
+        Body::Css(css) => at_style_end(origins, text, css_step::start(css), reference),
+        Body::Plain | Body::NoHole | Body::Js(_) => origins,
     }
 }
 

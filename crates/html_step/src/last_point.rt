@@ -77,7 +77,7 @@ fn url_place(text: &[u8], index: usize, scan: Scan) -> Option<Place>
 {
     match scan {
         Scan::At(place) => Some(place),
-        Scan::InUrl { reference, .. } => {
+        Scan::InUrl { reference, .. } | Scan::InStyle { reference, .. } => {
             if reads_on(text, index, reference) {
                 return None;
             }

@@ -18,6 +18,9 @@ mod refusal;
 mod sets;
 mod showing;
 mod steps;
+mod style_fed_origins;
+mod style_origins;
+mod style_showing;
 
 pub use escape_evidences::escape_evidence;
 pub use escaper::Escaper;

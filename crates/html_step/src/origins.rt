@@ -1,4 +1,5 @@
 ghost use Rattle.std.specs.Prelude.{◌≡◌, ◌<◌, ◌≤◌, ℕ, List, Some, get_or, length};
+ghost use Rattle.css_step.specs.StyleScanViews.{style_scan_at};
 ghost use Rattle.html_scan.specs.ClassViews.{class_at};
 ghost use Rattle.html_scan.specs.ScanViews.{pending_from, scan_at};
 ghost use Rattle.html_step.specs.Origins.{byte_origin};
@@ -8,7 +9,10 @@ ghost use Rattle.url_lexer.specs.Classes as urls;
 
 use crate::evidence::Evidence;
 use crate::fed_origins::{behind_byte, behind_end};
-use html_scan::{Class, Scan};
+use crate::style_fed_origins::at_style_end;
+use crate::style_origins::{style_end_origin, style_is_apart, style_origin};
+use css_step::StyleScan;
+use html_scan::{Class, Scan, style_at_cut};
 use place_core::{Body, Member, Parts, Place, Prefix, Spots};
 use url_lexer::{UrlClass, url_class_of};
 
@@ -86,6 +90,19 @@ impl Origins {
         Origins { before }
     }
 
+    /// The same with one byte more that a style is fed.
+    pub fn then_style(self, style: StyleScan, byte: u8) -> Origins
+        ensures { (y : Member) → origin_at result y
+            ≡ origin_at self (spec.style_byte_origin (style_scan_at style) byte y) }
+    {
+        let members = members();
+        let mut before = members;
+        for number in 0..32 {
+            before[number] = self.of(style_origin(style, byte, members[number]));
+        }
+        Origins { before }
+    }
+
     /// The member before some bytes and the end of the text that a member after it comes from.
     pub fn of_end(self, text: &[u8], scan: Scan, member: Member) -> Member
         requires pending { pending_from scan ≤ length text.now }
@@ -100,7 +117,14 @@ impl Origins {
                 reference,
                 ..
             } => { behind_end(self, text, place.body, reference).of(member) }
-            Scan::InStyle { .. } => self.of(typed_origin(member)),
+            Scan::InStyle {
+                style,
+                reference,
+                ..
+            } => {
+                let end = style_end_origin(style_at_cut(text, style, reference), member);
+                at_style_end(self, text, style, reference).of(end)
+            }
             _ => self.of(Member::Whole),
         }
     }
@@ -114,6 +138,7 @@ fn scan_is_apart(scan: Scan) -> bool
     match scan {
         Scan::At(Place::Value(value)) => is_apart(value.body),
         Scan::InUrl { place, .. } => is_apart(place.body),
+        Scan::InStyle { style, .. } => style_is_apart(style),
         _ => false,
     }
 }
@@ -123,7 +148,8 @@ fn is_apart(body: Body) -> bool
 {
     match body {
         Body::Url(parts) => spells_apart(parts),
-        Body::Plain | Body::NoHole | Body::Js(_) | Body::Css(_) => false,
+        Body::Css(css) => style_is_apart(css_step::start(css)),
+        Body::Plain | Body::NoHole | Body::Js(_) => false,
     }
 }
 
@@ -226,8 +252,7 @@ fn behind_origin(scan: Scan, class: Class, member: Member) -> Member
     match scan {
         Scan::At(place) => place_origin(place, class, member),
         Scan::InAttributeName { typed, .. } => name_origin(typed),
-        Scan::InUrl { .. } => in_value_origin(member),
-        Scan::InStyle { .. } => typed_origin(member),
+        Scan::InUrl { .. } | Scan::InStyle { .. } => in_value_origin(member),
         _ => Member::Whole,
     }
 }
@@ -242,7 +267,7 @@ fn place_origin(place: Place, class: Class, member: Member) -> Member
     }
 }
 
-/// In a value: the member before a byte, or a hole, from which one behind the bytes that its URL is fed comes.
+/// In a value: the member before a byte, or a hole, from which one behind the bytes that it is fed comes.
 pub fn in_value_origin(member: Member) -> Member
     ensures { result ≡ spec.in_value_origin member }
 {
@@ -252,13 +277,17 @@ pub fn in_value_origin(member: Member) -> Member
         | Member::PartOpenhole
         | Member::PartPrequery
         | Member::PartQuery
-        | Member::PartBad => member,
+        | Member::PartBad
+        | Member::CssWord
+        | Member::CssSlash
+        | Member::CssLt
+        | Member::CssStar => member,
         _ => typed_origin(member),
     }
 }
 
-// In a URL, the part before a byte that a part behind it comes from.
-fn part_origin(parts: Parts, byte: u8, member: Member) -> Member
+/// In a URL, the part before a byte that a part behind it comes from.
+pub fn part_origin(parts: Parts, byte: u8, member: Member) -> Member
     ensures { result ≡ spec.part_origin parts (urls.url_class_of byte) member }
 {
     match url_class_of(byte) {

@@ -1,18 +1,23 @@
 ghost use Rattle.std.specs.Prelude.{◌≡◌, ◌<◌, ◌≤◌, ◌^◌, ℕ, List, None, Ok, Err, get_or, length};
 ghost use Rattle.place_core.specs.place.Places.{Has, IsValid};
 ghost use Rattle.place_core.specs.declared.step_err.StepErr.{StepErr};
+ghost use Rattle.css_step.specs.StyleScanViews.{style_scan_at};
 ghost use Rattle.html_scan.specs.ClassViews.{class_at};
 ghost use Rattle.html_scan.specs.ScanViews.{open_reference_at, pending_from, reference_from, scan_at};
 ghost use Rattle.html_scan.specs.Scans.{At};
 ghost use Rattle.html_step.specs.Laws.{IsOrigin, IsEvidence};
 ghost use Rattle.html_step.specs.OriginViews.{evidence_at};
-ghost use Rattle.html_step.specs.Origins.{quotes_show, shows, url_shows, value_shows};
+ghost use Rattle.html_step.specs.Origins.{quotes_show, shows, style_value_shows, url_shows, value_shows};
 ghost use Rattle.html_step.specs.Origins as spec;
 ghost use Rattle.html_step.specs.Steps as steps;
 
 use crate::evidence::Evidence;
 use crate::origins::{Origins, name_origin, spells_apart};
-use html_scan::{Class, OpenReference, Scan, at_byte, class_of, next, refused_in_url};
+use crate::style_showing::{shown_at_end, shown_in_style};
+use css_step::StyleScan;
+use html_scan::{
+    Class, OpenReference, Scan, at_byte, class_of, next, refused_in_style, refused_in_url,
+};
 use place_core::{Body, Code, Member, Parts, Place, Quotes, Spots, ValuePlace};
 
 /// A member of a place that a member of the place after a text comes from: every path that bears the one comes to bear the other.
@@ -65,7 +70,7 @@ fn evidence(text: &[u8], place: Place) -> Evidence
         origins = origins.then(text, index, class, scan);
         scan = next(text, index, class, scan);
     }
-    Evidence::One(origins.of(end_shows(scan)))
+    Evidence::One(origins.of(end_shows(text, scan)))
 }
 
 // What shows that a byte is refused.
@@ -83,6 +88,11 @@ fn byte_shows(text: &[u8], index: usize, class: Class, scan: Scan) -> Evidence
             reference,
             ..
         } => in_value(text, index, class, place, reference),
+        Scan::InStyle {
+            place,
+            style,
+            reference,
+        } => in_style(text, index, class, place.quotes, style, reference),
         _ => Evidence::One(Member::Whole),
     }
 }
@@ -122,7 +132,32 @@ fn in_value(
                 None => in_quotes(place.quotes, class),
             }
         }
-        Body::Js(_) | Body::Css(_) => Evidence::One(Member::Whole),
+        Body::Css(css) => {
+            let style = css_step::start(css);
+            in_style(text, index, class, place.quotes, style, reference)
+        }
+        Body::Js(_) => Evidence::One(Member::Whole),
+    }
+}
+
+// In a style, which has been scanned so.
+fn in_style(
+    text: &[u8],
+    index: usize,
+    class: Class,
+    quotes: Quotes,
+    style: StyleScan,
+    reference: Option<OpenReference>,
+) -> Evidence
+    requires inside { index < length text.now }
+    requires pending { reference_from reference ≤ index }
+    ensures { (v : ValuePlace) → v.quotes ≡ quotes → evidence_at result ≡ style_value_shows v
+        (style_scan_at style) (open_reference_at text.now index reference) (class_at class)
+        (get_or text.now index 0) }
+{
+    match refused_in_style(text, index, class, quotes, style, reference) {
+        Some(cause) => shown_in_style(text, index, class, style, reference, cause.code),
+        None => in_quotes(quotes, class),
     }
 }
 
@@ -131,10 +166,21 @@ fn in_url(parts: Parts, code: Code) -> Evidence
 {
     match code {
         Code::BadHTML => Evidence::One(Member::Whole),
-        _ if parts.openhole => Evidence::One(Member::PartOpenhole),
-        _ if spells_apart(parts) => Evidence::Apart,
-        _ => Evidence::Two(Member::PartStart, Member::PartOpen),
+        _ => colon_shows(parts),
     }
+}
+
+/// What shows that a URL refuses a `:`.
+pub fn colon_shows(parts: Parts) -> Evidence
+    ensures { evidence_at result ≡ spec.colon_shows parts }
+{
+    if parts.openhole {
+        return Evidence::One(Member::PartOpenhole);
+    }
+    if spells_apart(parts) {
+        return Evidence::Apart;
+    }
+    Evidence::Two(Member::PartStart, Member::PartOpen)
 }
 
 fn in_quotes(quotes: Quotes, class: Class) -> Evidence
@@ -172,11 +218,17 @@ fn tag_shows(class: Class, spots: Spots) -> Member
 }
 
 // What shows that the end of a text is refused.
-fn end_shows(scan: Scan) -> Member
-    ensures { (text : List ℕ) (k : ℕ) → result ≡ spec.end_shows (scan_at text k scan) }
+fn end_shows(text: &[u8], scan: Scan) -> Member
+    requires pending { pending_from scan ≤ length text.now }
+    ensures { result ≡ spec.end_shows (scan_at text.now (length text.now) scan) }
 {
     match scan {
         Scan::InAttributeName { typed, .. } => name_origin(typed),
+        Scan::InStyle {
+            style,
+            reference,
+            ..
+        } => shown_at_end(text, style, reference),
         _ => Member::Whole,
     }
 }

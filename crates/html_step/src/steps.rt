@@ -25,7 +25,7 @@ use place_core::{Place, StepErr};
 ///   a URL a `:`, also as a reference, behind a value of data, or where paths have spelled different things.
 /// - `PartialEscape`: a text that ends in a percent triple of a URL.
 /// - `NotBuilt`: the `>` before the content of a script or a style; the `=` before a value that is a script or a style; and each
-///   byte at a place in one of these, but for a byte that the language of a style refuses in a value, by its code.
+///   byte at a place in one of these.
 ///
 /// Takes no memory, and time in proportion to the length of the text.
 pub fn after_text(place: Place, text: &str) -> Result<Place, StepErr<Place>>

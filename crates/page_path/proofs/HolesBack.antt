@@ -14,9 +14,13 @@ use Rattle.place_core.specs.page.Plain.{settled_state}
 use Rattle.place_core.specs.place.Places.{IsValid}
 use Rattle.place_core.specs.page.References.{Closed, Reference}
 use Rattle.place_core.specs.place.StatePlaces.{content_spot, only_after, only_inside, placed, tag_spot, quotes_at, value_body, value_spot, where_closed}
+use Rattle.place_core.specs.place.StyleParts.{style_place}
 use Rattle.place_core.specs.place.UrlParts.{parts_of}
+use Rattle.css_lexer.specs.PartSpots.{may_begin_text, part_spot}
+use Rattle.css_lexer.specs.Spots.{StyleSpot}
+use Rattle.css_lexer.specs.States.{Style}
 use Rattle.place_core.specs.page.States.{AfterAttributeName, AfterAttributeValue, AttributeValue, BeforeAttributeName, BeforeAttributeValue, Broken, Bytes, Characters, CommentState, Config, Content, Pending, InComment, InContent, Inside, LessAtCut, Nothing, SelfClosingStartTag, LexState, Text, WholeAttributeName}
-use Rattle.place_core.specs.page.Tags.{DoubleQuoted, Quoting, SingleQuoted, Tag, Unquoted, Value, ValueOf, ValueState, OfKind, OfUrl, is_second_type, languages, without_value}
+use Rattle.place_core.specs.page.Tags.{DoubleQuoted, Quoting, SingleQuoted, Tag, Unquoted, Value, ValueOf, ValueState, OfKind, OfStyle, OfUrl, is_second_type, languages, without_value}
 use Rattle.place_core.specs.declared.body.Body.TheVariants as body
 use Rattle.place_core.specs.declared.chain.Chain.{Chain}
 use Rattle.place_core.specs.declared.element.Element.{Element}
@@ -209,12 +213,21 @@ url-safe NoTriple UrlBad q tag u is = tt
 url-safe AfterPercent p q tag u is = tt
 url-safe AfterDigit p q tag u is = tt
 
+-- in a style no hole is accepted yet
+style-safe : (begins : Bool) (o : Option (StyleSpot UrlPart)) (v : Style Url) (q : Quoting) (tag : Tag)
+    → SafeAt (AttributeValue q tag (ValueOf (OfStyle v)) Closed)
+    (value_spot tag (quotes_at q) (if begins then option_map (λ p. body.Css (style_place p)) o else None))
+style-safe true (Some p) v q tag = tt
+style-safe true None v q tag = tt
+style-safe false o v q tag = tt
+
 value-safe : (r : Reference) (v : Value ValueState) (q : Quoting) (tag : Tag)
     → SafeAt (AttributeValue q tag v r) (where_closed r (value_spot tag (quotes_at q) (value_body v)))
 value-safe Closed (ValueOf (OfKind kind.Plain)) DoubleQuoted tag = in-double tag
 value-safe Closed (ValueOf (OfKind kind.Plain)) SingleQuoted tag = in-single tag
 value-safe Closed (ValueOf (OfKind kind.Plain)) Unquoted tag = in-unquoted tag
 value-safe Closed (ValueOf (OfUrl u)) q tag = url-safe u.triple u.part q tag u refl
+value-safe Closed (ValueOf (OfStyle s)) q tag = style-safe (may_begin_text s) (part_spot s) s q tag
 value-safe _ _ _ tag = tt
 
 -- after a name, unless it is a second `type`, where a path is at no place

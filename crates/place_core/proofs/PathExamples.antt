@@ -93,9 +93,9 @@ second_type_cut : path_refusal (codes "<script type Type") (Text Closed) ≡ Som
 unfolding class_of meaning flushed lib.Utf8.encode
 second_type_cut = refl
 
-style_not_built : path_refusal (codes "<a style =") (Text Closed) ≡ Some (record { code = code.NotBuilt; at = 9; shown = 9 })
+handler_not_built : path_refusal (codes "<a onclick =") (Text Closed) ≡ Some (record { code = code.NotBuilt; at = 11; shown = 11 })
 unfolding class_of meaning flushed lib.Utf8.encode
-style_not_built = refl
+handler_not_built = refl
 
 script_not_built : path_refusal (codes "<script/>") (Text Closed) ≡ Some (record { code = code.NotBuilt; at = 8; shown = 8 })
 unfolding class_of meaning flushed lib.Utf8.encode

@@ -13,11 +13,22 @@ use Rattle.place_core.specs.page.Plain.{IsPlain}
 use Rattle.place_core.specs.page.References.{Closed, meaning, flushed}
 use Rattle.place_core.specs.page.States.{Page, LexState, AttributeValue, Config, config}
 use Rattle.place_core.specs.page.Tags.{DoubleQuoted, Unquoted, ValueOf, ValueState, OfStyle, LeadsPlainInStyle, languages, tag_named}
-use Rattle.place_core.specs.place.Errors.{is_unknown_name, is_written, path_refusal}
+use Rattle.place_core.specs.place.Errors.{RefusesHole, is_unknown_name, is_written, node, path_refusal}
+use Rattle.place_core.specs.place.StatePlaces.{placed, quotes_at}
+use Rattle.place_core.specs.place.StyleParts.{style_tails}
+use Rattle.place_core.specs.place.UrlParts.{parts_of}
+use Rattle.place_core.specs.declared.body.Body.TheVariants as body
 use Rattle.place_core.specs.declared.code.Code.TheVariants as code
+use Rattle.place_core.specs.declared.css.Css.{Css}
+use Rattle.place_core.specs.declared.css.Css.TheVariants as css
+use Rattle.place_core.specs.declared.element.Element.TheVariants as element
+use Rattle.place_core.specs.declared.place.Place.{Place}
+use Rattle.place_core.specs.declared.place.Place.TheVariants as place
+use Rattle.place_core.specs.declared.tag_of.TagOf.TheVariants as tag
 use Rattle.url_lexer.specs.Classes.{url_class_of}
 use Rattle.url_lexer.specs.Events.{UrlEvent, UrlByte}
 use Rattle.url_lexer.specs.Events as url
+use Rattle.url_lexer.specs.Parts.{UrlQuery}
 use Rattle.url_lexer.specs.States.{Url}
 
 -- in `<p style="`, in this state of the style
@@ -53,6 +64,27 @@ no_mark_in_comment = refl
 mark_in_url : (read_path languages (Written (codes "url(/") ∷ Hole ∷ Written (codes ")") ∷ []) at_start).emitted ≡ InsideStyle UrlEnds ∷ InsideStyle (InsideUrl (url.UrlEnds url.NoScheme)) ∷ Mark ∷ InsideStyle (InsideUrl (UrlByte 47)) ∷ InsideStyle UrlBegins ∷ run (codes "url") []
 unfolding in_style at_start run style_class url_class_of class_of meaning flushed lib.Utf8.encode
 mark_in_url = refl
+
+-- where a node ends in a style, and what its place is; no hole is accepted there yet
+placed_in_style : Css → Option Place
+placed_in_style c = Some (place.Value (record { tag = tag.Start element.Other; typed = false; quotes = quotes_at DoubleQuoted; body = body.Css c }))
+
+behind_word : placed (node (codes "a:b") (in_style style.style_start)) ≡ placed_in_style (css.Code (style_tails true false false))
+unfolding in_style placed_in_style style_class url_class_of class_of meaning flushed lib.Utf8.encode
+behind_word = refl
+
+-- before that end, within the word, there is none
+within_word : placed (in_style (Out (Word SpellsOther NoEscape))) ≡ None
+unfolding in_style
+within_word = refl
+
+in_url : placed (node (codes "a:url( '/b?") (in_style style.style_start)) ≡ placed_in_style (css.UrlSq (parts_of UrlQuery))
+unfolding in_style placed_in_style style_class url_class_of class_of meaning flushed lib.Utf8.encode
+in_url = refl
+
+hole_not_built : RefusesHole (node (codes "url(a ") (in_style style.style_start)) code.NotBuilt
+unfolding in_style style_class url_class_of class_of meaning flushed lib.Utf8.encode
+hole_not_built = record { own = _; stands = refl; refused = refl }
 
 -- what the language of styles refuses of a text
 behind_hole : path_refusal (codes "(") (in_style (Out (BehindHole false false))) ≡ Some (record { code = code.SplitToken; at = 0; shown = 0 })

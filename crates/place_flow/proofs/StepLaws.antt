@@ -9,7 +9,8 @@ use Rattle.html_step.specs.Steps.{after_text}
 use Rattle.html_step.specs.declared.escaper.Escaper.TheVariants as escaper
 use Rattle.html_step.proofs.EscapeOrder.{grows-escape}
 use Rattle.html_step.proofs.FromTexts.{from-text}
-use Rattle.html_step.proofs.HoleOrder.{covers-hole, from-hole, grows-hole, valid-hole}
+use Rattle.html_step.proofs.HoleOrder.{covers-hole, grows-hole, valid-hole}
+use Rattle.html_step.proofs.HoleShows.{from-hole}
 use Rattle.html_step.proofs.WholeTexts.{covers-text, grows-text, valid-text}
 use Rattle.place_flow.specs.declared.predefined.Predefined.TheVariants as predefined
 use Rattle.place_flow.specs.declared.uses.EscaperUse.{EscaperUse}

@@ -13,7 +13,7 @@ use Rattle.place_core.specs.declared.member.Member.TheVariants as member
 use Rattle.place_core.specs.declared.place.Place.{Place}
 use Rattle.place_core.specs.declared.step_err.StepErr.{StepErr}
 use Rattle.html_step.proofs.EscapeOrder.{evidence-escape}
-use Rattle.html_step.proofs.HoleOrder.{evidence-hole}
+use Rattle.html_step.proofs.HoleShows.{evidence-hole}
 use Rattle.html_step.proofs.TextEvidences.{evidence-text}
 use Rattle.html_step.specs.HoleLaws.{IsHoleEvidence}
 use Rattle.html_step.specs.Holes.{Holed, after_hole}

@@ -1,6 +1,7 @@
 -- A hole that the join of the places of two paths refuses, and each of them takes, is refused on the two together, and that is shown.
 use Rattle.std.proofs.Common.{◌≡◌, ℕ, Some, Result, Ok, Err, refl, sym, ap, ◌∙◌, subst, ◌⊎◌, inl, inr}
-use Rattle.html_step.proofs.HoleOrder.{accepts-hole, evidence-hole}
+use Rattle.html_step.proofs.HoleOrder.{accepts-hole}
+use Rattle.html_step.proofs.HoleShows.{evidence-hole}
 use Rattle.html_step.specs.HoleLaws.{IsHoleEvidence}
 use Rattle.html_step.specs.Holes.{Holed, after_hole}
 use Rattle.html_step.specs.Laws.{EvidenceData, apart, one, two}

@@ -1,12 +1,15 @@
 -- A place of which it is not known what the beginning spells is above the place.
-use Rattle.std.proofs.Common.{◌≡◌, Bool, true, ◌||◌, Option, Some, None, IfSome, refl, ap, subst}
+use Rattle.std.proofs.Common.{◌≡◌, Bool, true, ◌||◌, Option, Some, None, IfSome, refl, sym, ap, ◌∙◌, subst}
 use Rattle.html_step.proofs.PlaceParts.{under-same, value-below}
 use Rattle.place_core.proofs.Semilattices.{of_some, or_same}
-use Rattle.place_core.specs.place.LanguagePlaces.{both_parts, both_prefixes, parts_have}
-use Rattle.place_core.specs.place.Places.{both_bare, is_whole, joined_quotes, quotes_have, typed_has}
+use Rattle.place_core.specs.place.ApartPlaces.{beginning_in_body}
+use Rattle.place_core.specs.place.LanguagePlaces.{IsValidParts, both_parts, both_prefixes, parts_have}
+use Rattle.place_core.specs.place.Places.{IsValidBody, body_has, both_bare, is_whole, joined_bodies, joined_quotes, quotes_have, typed_has}
 use Rattle.place_core.specs.declared.bare.Bare.{Bare}
 use Rattle.place_core.specs.declared.body.Body.{Body}
 use Rattle.place_core.specs.declared.body.Body.TheVariants as body
+use Rattle.place_core.specs.declared.css.Css.{Css}
+use Rattle.place_core.specs.declared.css.Css.TheVariants as css
 use Rattle.place_core.specs.declared.member.Member.{Member}
 use Rattle.place_core.specs.declared.member.Member.TheVariants as member
 use Rattle.place_core.specs.declared.parts.Parts.{Parts}
@@ -84,27 +87,76 @@ same-parts a x y h p q b member.CssStar = refl
 abbrev HasIn : TagOf → Bool → Quotes → Member → Bool → Type 0
 HasIn t typed q m x = (is_whole m || (typed_has typed m || (quotes_have q m || x))) ≡ true
 
+-- a body that is a URL, or a style in one, has what the parts have
+record HasParts (F : Parts → Body) : Type 0 where
+  joins : (s r : Parts) → joined_bodies (F s) (F r) ≡ Some (F (both_parts s r))
+  has : (s : Parts) (m : Member) → body_has (F s) m ≡ parts_have s m
+  spells : (s : Parts) → beginning_in_body (F s) ≡ s.opened
+  valid : (s : Parts) → IsValidBody (F s) → IsValidParts s
+  made : (s : Parts) → IsValidParts s → IsValidBody (F s)
+
+unknown-in : (F : Parts → Body) → HasParts F → (t : TagOf) (typed : Bool) (q : Quotes) (a : Bool) (x : Prefix) (h p u b : Bool)
+    → IsUnknown (place.Value (value t typed q (F (parts a (Some x) h p u b)))) (place.Value (value t typed q (F (parts a (Some prefix.Differs) h p u b))))
+unknown-in F f t typed q a x h p u b =
+    let s = parts a (Some x) h p u b in
+    let r = parts a (Some prefix.Differs) h p u b in
+    record {
+      below = value-below (value t typed q (F s)) (value t typed q (F r)) (record {
+        tag = refl;
+        typed = under-same typed;
+        quotes = same-quotes q;
+        body = f.joins s r ∙ ap (λ (z : Parts). Some (F z)) (joined-parts a x h p u b);
+      });
+      apart = f.spells r;
+      has = λ m. subst (HasIn t typed q m) (f.has r m ∙ same-parts a prefix.Differs x h p u b m ∙ sym (f.has s m));
+      valid = λ v. (v.0, f.made r ((f.valid s v.1).0, tt));
+    }
+
+in-url : HasParts body.Url
+in-url = record { joins = λ s r. refl; has = λ s m. refl; spells = λ s. refl; valid = λ s v. v; made = λ s v. v }
+
+in-bare : HasParts (λ s. body.Css (css.Url s))
+in-bare = record { joins = λ s r. refl; has = λ s m. refl; spells = λ s. refl; valid = λ s v. v; made = λ s v. v }
+
+in-double : HasParts (λ s. body.Css (css.UrlDq s))
+in-double = record { joins = λ s r. refl; has = λ s m. refl; spells = λ s. refl; valid = λ s v. v; made = λ s v. v }
+
+in-single : HasParts (λ s. body.Css (css.UrlSq s))
+in-single = record { joins = λ s r. refl; has = λ s m. refl; spells = λ s. refl; valid = λ s v. v; made = λ s v. v }
+
 url-unknown : (t : TagOf) (typed : Bool) (q : Quotes) (a : Bool) (o : Option Prefix) (h p u b : Bool)
     → IfSome (unknown_place (place.Value (value t typed q (body.Url (parts a o h p u b))))) (IsUnknown (place.Value (value t typed q (body.Url (parts a o h p u b)))))
 url-unknown t typed q a None h p u b = tt
-url-unknown t typed q a (Some x) h p u b = record {
-  below = value-below (value t typed q (body.Url (parts a (Some x) h p u b))) (value t typed q (body.Url (parts a (Some prefix.Differs) h p u b))) (record {
-    tag = refl;
-    typed = under-same typed;
-    quotes = same-quotes q;
-    body = ap (λ (s : Parts). Some (body.Url s)) (joined-parts a x h p u b);
-  });
-  apart = refl;
-  has = λ m. subst (HasIn t typed q m) (same-parts a prefix.Differs x h p u b m);
-  valid = λ v. (v.0, (v.1.0, tt));
-}
+url-unknown t typed q a (Some x) h p u b = unknown-in body.Url in-url t typed q a x h p u b
+
+-- the same in each of the forms of a url token
+abbrev IfUnknown : TagOf → Bool → Quotes → Css → Type 0
+IfUnknown t typed q c = IfSome (unknown_place (place.Value (value t typed q (body.Css c)))) (IsUnknown (place.Value (value t typed q (body.Css c))))
+
+bare-unknown : (t : TagOf) (typed : Bool) (q : Quotes) (a : Bool) (o : Option Prefix) (h p u b : Bool) → IfUnknown t typed q (css.Url (parts a o h p u b))
+bare-unknown t typed q a None h p u b = tt
+bare-unknown t typed q a (Some x) h p u b = unknown-in (λ s. body.Css (css.Url s)) in-bare t typed q a x h p u b
+
+double-unknown : (t : TagOf) (typed : Bool) (q : Quotes) (a : Bool) (o : Option Prefix) (h p u b : Bool) → IfUnknown t typed q (css.UrlDq (parts a o h p u b))
+double-unknown t typed q a None h p u b = tt
+double-unknown t typed q a (Some x) h p u b = unknown-in (λ s. body.Css (css.UrlDq s)) in-double t typed q a x h p u b
+
+single-unknown : (t : TagOf) (typed : Bool) (q : Quotes) (a : Bool) (o : Option Prefix) (h p u b : Bool) → IfUnknown t typed q (css.UrlSq (parts a o h p u b))
+single-unknown t typed q a None h p u b = tt
+single-unknown t typed q a (Some x) h p u b = unknown-in (λ s. body.Css (css.UrlSq s)) in-single t typed q a x h p u b
+
+css-unknown : (t : TagOf) (typed : Bool) (q : Quotes) (c : Css) → IfUnknown t typed q c
+css-unknown t typed q (css.Url s) = bare-unknown t typed q s.start s.opened s.openhole s.prequery s.query s.bad
+css-unknown t typed q (css.UrlDq s) = double-unknown t typed q s.start s.opened s.openhole s.prequery s.query s.bad
+css-unknown t typed q (css.UrlSq s) = single-unknown t typed q s.start s.opened s.openhole s.prequery s.query s.bad
+css-unknown t typed q _ = tt
 
 value-unknown : (t : TagOf) (typed : Bool) (q : Quotes) (b : Body) → IfSome (unknown_place (place.Value (value t typed q b))) (IsUnknown (place.Value (value t typed q b)))
 value-unknown t typed q (body.Url s) = url-unknown t typed q s.start s.opened s.openhole s.prequery s.query s.bad
 value-unknown t typed q body.Plain = tt
 value-unknown t typed q body.NoHole = tt
 value-unknown t typed q (body.Js j) = tt
-value-unknown t typed q (body.Css c) = tt
+value-unknown t typed q (body.Css c) = css-unknown t typed q c
 
 place-unknown : (p : Place) → IfSome (unknown_place p) (IsUnknown p)
 place-unknown (place.Value v) = value-unknown v.tag v.typed v.quotes v.body

@@ -9,6 +9,8 @@ use Rattle.place_core.specs.place.Places.{Below, Has, IsValid}
 use Rattle.place_core.specs.place.StatePlaces.{placed}
 use Rattle.place_core.specs.declared.body.Body.{Body}
 use Rattle.place_core.specs.declared.body.Body.TheVariants as body
+use Rattle.place_core.specs.declared.css.Css.{Css}
+use Rattle.place_core.specs.declared.css.Css.TheVariants as css
 use Rattle.place_core.specs.declared.member.Member.{Member}
 use Rattle.place_core.specs.declared.parts.Parts.{Parts}
 use Rattle.place_core.specs.declared.place.Place.{Place}
@@ -30,12 +32,19 @@ unknown_parts s (Some p) = Some (record {
   bad = s.bad;
 })
 
+-- in a style, of the URL of a url token
+abbrev pub unknown_css : Css → Option Css
+unknown_css (css.Url s) = option_map css.Url (unknown_parts s s.opened)
+unknown_css (css.UrlDq s) = option_map css.UrlDq (unknown_parts s s.opened)
+unknown_css (css.UrlSq s) = option_map css.UrlSq (unknown_parts s s.opened)
+unknown_css c = None
+
 abbrev pub unknown_body : Body → Option Body
 unknown_body (body.Url s) = option_map body.Url (unknown_parts s s.opened)
 unknown_body body.Plain = None
 unknown_body body.NoHole = None
 unknown_body (body.Js j) = None
-unknown_body (body.Css c) = None
+unknown_body (body.Css c) = option_map body.Css (unknown_css c)
 
 abbrev pub unknown_place : Place → Option Place
 unknown_place (place.Value v) = option_map (with_body v) (unknown_body v.body)

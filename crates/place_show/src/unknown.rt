@@ -1,7 +1,7 @@
 ghost use Rattle.std.specs.Prelude.{◌≡◌};
 ghost use Rattle.place_show.specs.Unknown as spec;
 
-use place_core::{Body, Parts, Place, Prefix, ValuePlace};
+use place_core::{Body, Css, Parts, Place, Prefix, ValuePlace};
 
 /// A place in the beginning of a URL, as if two of its paths had met apart, so that it is not known what the beginning spells. None where
 /// no path is in the beginning. Does not allocate.
@@ -25,7 +25,32 @@ fn in_body(body: Body) -> Option<Body>
             Some(parts) => Some(Body::Url(parts)),
             None => None,
         },
-        Body::Plain | Body::NoHole | Body::Js(_) | Body::Css(_) => None,
+        Body::Css(css) => match in_style(css) {
+            Some(css) => Some(Body::Css(css)),
+            None => None,
+        },
+        Body::Plain | Body::NoHole | Body::Js(_) => None,
+    }
+}
+
+// In a style, of the URL of a url token.
+fn in_style(css: Css) -> Option<Css>
+    ensures { result ≡ spec.unknown_css css }
+{
+    match css {
+        Css::Url(parts) => match in_parts(parts) {
+            Some(parts) => Some(Css::Url(parts)),
+            None => None,
+        },
+        Css::UrlDq(parts) => match in_parts(parts) {
+            Some(parts) => Some(Css::UrlDq(parts)),
+            None => None,
+        },
+        Css::UrlSq(parts) => match in_parts(parts) {
+            Some(parts) => Some(Css::UrlSq(parts)),
+            None => None,
+        },
+        _ => None,
     }
 }
 

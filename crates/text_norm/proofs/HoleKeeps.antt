@@ -11,7 +11,10 @@ use Rattle.html_scan.proofs.Lowered.{kind_lowered}
 use Rattle.place_core.specs.page.References.{Closed, Open}
 use Rattle.place_core.specs.page.Shape.{HolePart, PageReads, state_past_hole, marked}
 use Rattle.place_core.specs.place.StatePlaces.{only_after, only_inside, placed, quotes_at, tag_spot, value_spot}
+use Rattle.place_core.specs.place.StyleParts.{style_place}
 use Rattle.place_core.specs.place.UrlParts.{parts_of}
+use Rattle.css_lexer.specs.PartSpots.{may_begin_text, part_spot}
+use Rattle.css_lexer.specs.Spots.{StyleSpot}
 use Rattle.place_core.specs.page.States.{Started, StartedDash, Inside, Dash, DashDash, Bang, Broken, Page, LexState, Text, TagOpen, EndTagOpen, DeclarationOpen, InComment, BogusComment, InDoctype, TagName, WholeTagName, BeforeAttributeName, AttributeName, WholeAttributeName, AfterAttributeName, BeforeAttributeValue, AttributeValue, AfterAttributeValue, SelfClosingStartTag, Characters, Bytes, Nothing, PendingLess, LessAtCut, PendingName, PendingBang, PendingBangDash, InContent, Unread, Config, config}
 use Rattle.place_core.specs.page.Tags.{Tag, ValueOf, Deciding, ValueState, OfKind, OfUrl, OfStyle, languages, emitted_hole, value_settled, is_second_type, Quoting, DoubleQuoted, SingleQuoted, Unquoted, element_on, without_value}
 use Rattle.place_core.specs.declared.body.Body.TheVariants as body
@@ -180,6 +183,13 @@ url-accepted NoTriple UrlBad q tag x h = absurd (refused _ _ h.1)
 url-accepted AfterPercent p q tag x h = absurd h
 url-accepted AfterDigit p q tag x h = absurd h
 
+-- in a style none may stand yet
+style-refuses : (begins : Bool) (o : Option (StyleSpot UrlPart)) (q : Quotes) (tag : Tag) (x : Chain)
+    → HoleOf (value_spot tag q (if begins then option_map (λ p. body.Css (style_place p)) o else None)) x → ⊥
+style-refuses true (Some p) q tag x h = refused _ _ h.1
+style-refuses true None q tag x h = h
+style-refuses false o q tag x h = h
+
 -- a chain that does not leave the value out
 kept-by : (left_out : Bool) (s : LexState ValueState) (bytes : List ℕ) (t : List LexEvent) (d : Config ValueState) → left_out ≡ false → IsPlain bytes d
     → TextStands languages (at_hole languages s) (mark_in languages s t) (marked bytes d)
@@ -267,7 +277,7 @@ hole-keeps (BeforeAttributeValue tag kind.Plain) x datum bytes t d h k l = unbeg
 hole-keeps (BeforeAttributeValue tag kind.NoHole) x datum bytes t d h k l = absurd (refused _ _ h.1)
 hole-keeps (BeforeAttributeValue tag kind.Url) x datum bytes t d h k l = url-begun-keeps tag x datum bytes t d (its-of (placed (url_unbegun tag)) x h) k l
 hole-keeps (BeforeAttributeValue tag kind.Script) x datum bytes t d h k l = absurd h
-hole-keeps (BeforeAttributeValue tag kind.Style) x datum bytes t d h k l = absurd h
+hole-keeps (BeforeAttributeValue tag kind.Style) x datum bytes t d h k l = absurd (refused _ _ h.1)
 hole-keeps (BeforeAttributeValue tag kind.ScriptType) x datum bytes t d h k l = absurd h
 hole-keeps (AttributeValue DoubleQuoted tag (ValueOf (OfKind kind.Plain)) Closed) x datum bytes t d h k l =
     quoted-keeps DoubleQuoted tag x datum bytes t d refl (its-of (placed (in_plain DoubleQuoted tag)) x h) k (same-state (in_plain DoubleQuoted tag) t d refl l)
@@ -281,7 +291,8 @@ hole-keeps (AttributeValue q tag (ValueOf (OfKind kind.Script)) Closed) x datum 
 hole-keeps (AttributeValue q tag (ValueOf (OfKind kind.Style)) Closed) x datum bytes t d h k l = absurd h
 hole-keeps (AttributeValue q tag (ValueOf (OfKind kind.ScriptType)) Closed) x datum bytes t d h k l = absurd h
 hole-keeps (AttributeValue q tag (ValueOf (OfUrl u)) Closed) x datum bytes t d h k l = url-keeps q tag u x datum bytes t d (url-accepted u.triple u.part (quotes_at q) tag x h) k l
-hole-keeps (AttributeValue q tag (ValueOf (OfStyle s)) Closed) x datum bytes t d h k l = absurd h
+hole-keeps (AttributeValue q tag (ValueOf (OfStyle s)) Closed) x datum bytes t d h k l =
+    absurd (style-refuses (may_begin_text s) (part_spot s) (quotes_at q) tag x h)
 hole-keeps (AttributeValue q tag (Deciding j before) Closed) x datum bytes t d h k l = absurd h
 hole-keeps (AttributeValue q tag v (Open f b)) x datum bytes t d h k l = absurd h
 hole-keeps (InContent element.Title (Characters Closed) Nothing) x datum bytes t d h k l = content-keeps element.Title x datum bytes t d (its (place.Rcdata element.Title) x h) k l

@@ -10,8 +10,12 @@ use Rattle.place_core.specs.place.Places.{IsValid}
 use Rattle.place_core.specs.page.References.{Closed, Reference}
 use Rattle.place_core.specs.place.StatePlaces.{content_spot, only_after, only_inside, placed, tag_spot, quotes_at, value_body, value_spot, where_closed}
 use Rattle.place_core.specs.page.States.{AfterAttributeName, AfterAttributeValue, AttributeName, AttributeValue, BeforeAttributeName, BeforeAttributeValue, Broken, Bytes, Characters, Config, Content, Pending, InComment, InContent, Inside, LessAtCut, Nothing, SelfClosingStartTag, LexState, Text, WholeAttributeName}
-use Rattle.place_core.specs.page.Tags.{DoubleQuoted, Quoting, SingleQuoted, Tag, Unquoted, Value, ValueOf, ValueState, OfKind, OfUrl, is_second_type, languages, without_value}
+use Rattle.place_core.specs.page.Tags.{DoubleQuoted, Quoting, SingleQuoted, Tag, Unquoted, Value, ValueOf, ValueState, OfKind, OfStyle, OfUrl, is_second_type, languages, without_value}
+use Rattle.place_core.specs.place.StyleParts.{style_place}
 use Rattle.place_core.specs.place.UrlParts.{parts_of}
+use Rattle.css_lexer.specs.PartSpots.{may_begin_text, part_spot}
+use Rattle.css_lexer.specs.Spots.{StyleSpot}
+use Rattle.css_lexer.specs.States.{Style}
 use Rattle.place_core.specs.declared.body.Body.TheVariants as body
 use Rattle.place_core.specs.declared.chain.Chain.{Chain}
 use Rattle.place_core.specs.declared.element.Element.{Element}
@@ -24,7 +28,7 @@ use Rattle.san_html.specs.ReadBack.{as_name}
 use Rattle.url_lexer.specs.Parts.{UrlPart, UrlStart, UrlOpen, UrlOpenhole, UrlPrequery, UrlQuery, UrlBad}
 use Rattle.url_lexer.specs.Schemes.{UrlScheme}
 use Rattle.url_lexer.specs.Spots.{where_whole}
-use Rattle.url_lexer.specs.States.{url_at}
+use Rattle.url_lexer.specs.States.{Url, url_at}
 use Rattle.url_lexer.specs.Triples.{Triple, NoTriple, AfterPercent, AfterDigit}
 use Rattle.text_norm.proofs.FilledMarks.{Leads, StandsRaw, block-leads, content-leads, double-leads, in_url, marked-is, name-leads, single-leads, text-leads, unbegun-leads, unquoted-leads, url-begun-leads, url-leads}
 use Rattle.text_norm.specs.Fillings.{Filling, fillings_at}
@@ -68,12 +72,21 @@ url-safe q tag UrlBad s free NoTriple = tt
 url-safe q tag p s free AfterPercent = tt
 url-safe q tag p s free AfterDigit = tt
 
+-- in a style no hole is accepted yet
+style-safe : (begins : Bool) (o : Option (StyleSpot UrlPart)) (v : Style Url) (q : Quoting) (tag : Tag)
+    → SafeAt (AttributeValue q tag (ValueOf (OfStyle v)) Closed)
+    (value_spot tag (quotes_at q) (if begins then option_map (λ p. body.Css (style_place p)) o else None))
+style-safe true (Some p) v q tag = tt
+style-safe true None v q tag = tt
+style-safe false o v q tag = tt
+
 value-safe : (r : Reference) (v : Value ValueState) (q : Quoting) (tag : Tag)
     → SafeAt (AttributeValue q tag v r) (where_closed r (value_spot tag (quotes_at q) (value_body v)))
 value-safe Closed (ValueOf (OfKind kind.Plain)) DoubleQuoted tag = λ datum. double-leads tag (printed datum)
 value-safe Closed (ValueOf (OfKind kind.Plain)) SingleQuoted tag = λ datum. single-leads tag (printed datum)
 value-safe Closed (ValueOf (OfKind kind.Plain)) Unquoted tag = λ datum. unquoted-leads tag (printed datum)
 value-safe Closed (ValueOf (OfUrl u)) q tag = url-safe q tag u.part u.scheme u.free u.triple
+value-safe Closed (ValueOf (OfStyle s)) q tag = style-safe (may_begin_text s) (part_spot s) s q tag
 value-safe _ _ _ tag = tt
 
 -- after a name, unless it is a second `type`, where a path is at no place

@@ -20,17 +20,22 @@ use Rattle.place_core.specs.declared.tag_of.TagOf.{TagOf}
 use Rattle.place_core.specs.declared.tag_of.TagOf.TheVariants as which
 use Rattle.place_core.specs.declared.value_place.ValuePlace.{ValuePlace}
 use Rattle.place_core.proofs.Semilattices.{none_some, one_value}
-use Rattle.html_scan.specs.Scans.{Scan, At, AfterLess, AfterLessSolidus, InDeclaration, InTagName, InAttributeName, InCommentEnd, InContentEnd, InUrl, InStyle, BeforeType, InType, scan_error, scan_next, url_scan, scan_reference}
+use Rattle.html_scan.specs.Scans.{Scan, At, AfterLess, AfterLessSolidus, InDeclaration, InTagName, InAttributeName, InCommentEnd, InContentEnd, InUrl, InStyle, BeforeType, InType, scan_error, scan_next, style_scan, url_scan, scan_reference, with_style}
+use Rattle.css_lexer.specs.States.{Style}
+use Rattle.css_step.specs.StyleScanLaws.{style_scanned}
+use Rattle.css_step.specs.StyleScans.{StyleScan, is_style_start}
+use Rattle.url_lexer.specs.States.{Url}
 use Rattle.html_step.proofs.PlaceParts.{below-rcdata}
-use Rattle.html_step.proofs.ScanOrder.{ScanBelow, ScanValid, scan-grows}
-use Rattle.html_step.proofs.OnePath.{WhereScanned, content_scanned, scanned, url_scanned}
+use Rattle.html_step.proofs.ScanOrder.{ScanBelow, ScanValid, StyleUnder, scan-grows}
+use Rattle.html_step.proofs.StylePaths.{style_value}
+use Rattle.html_step.proofs.PathScans.{WhereScanned, content_scanned, scanned, style_value_scanned, url_scanned}
 use Rattle.html_step.proofs.OneTexts.{agrees-at, at-place}
 use Rattle.html_step.proofs.ValidSteps.{scan-valid}
 use Rattle.html_step.proofs.WholeTexts.{grows-text, not-refused, text-steps}
 use Rattle.html_step.specs.Steps.{stepped}
 use Rattle.url_lexer.specs.Triples.{Triple, NoTriple, AfterPercent, AfterDigit}
 use Rattle.text_norm.specs.Laws.{WrittenOnPaths}
-use Rattle.place_core.specs.place.StatePlaces.{only_after, only_inside, placed, tag_spot}
+use Rattle.place_core.specs.place.StatePlaces.{only_after, only_inside, placed, quotes_at, tag_spot}
 use Rattle.text_norm.specs.Scanned.{declaration_open, less_open, scan_cut_out, scan_open, scan_out, written_from}
 use Rattle.text_norm.specs.Written.{cut_out, out, reference_out, text_escaped, value_out, written}
 
@@ -62,6 +67,14 @@ place-same (place.Block x) p c b r h = absurd (none_some p h)
 
 rigid : (f g : Scan) (c : Class) (b : ℕ) (r : Reference) → f ≡ g → Same f g c b r
 rigid f g c b r e = record { outs = ap (λ (z : Scan). scan_out z c b r) e; opens = ap (λ (z : Scan). scan_open z c b r) e }
+
+-- a style in a lexeme is below a place or another lexeme
+style-same : (v : ValuePlace) (n : StyleScan) (z : Reference) (g : Scan) (c : Class) (b : ℕ) (r : Reference) → StyleUnder v n z g
+    → Same (InStyle v n z) g c b r
+style-same v n z (At (place.Value w)) c b r h = record { outs = refl; opens = refl }
+style-same v n z (At p) c b r h = absurd h.0
+style-same v n z (InStyle w m y) c b r h = record { outs = refl; opens = refl }
+style-same v n z g c b r h = absurd h
 
 scan-same : (f g : Scan) (c : Class) (b : ℕ) (r : Reference) → ScanBelow f g → Same f g c b r
 scan-same (At a) (At p) c b r h = place-same a p c b r h
@@ -100,7 +113,7 @@ scan-same (InUrl v t z) (InStyle w y u) c b r h = absurd h
 scan-same (InUrl v t z) (InContentEnd e k) c b r h = absurd h
 scan-same (InUrl v t z) (BeforeType u) c b r h = absurd h
 scan-same (InUrl v t z) (InType u q x y) c b r h = absurd h
-scan-same (InStyle v s z) g c b r h = rigid (InStyle v s z) g c b r h
+scan-same (InStyle v s z) g c b r h = style-same v s z g c b r h
 scan-same AfterLess g c b r h = rigid AfterLess g c b r h
 scan-same AfterLessSolidus g c b r h = rigid AfterLessSolidus g c b r h
 scan-same (InDeclaration pending) g c b r h = rigid (InDeclaration pending) g c b r h
@@ -109,6 +122,13 @@ scan-same (InCommentEnd s) g c b r h = rigid (InCommentEnd s) g c b r h
 scan-same (InContentEnd e k) g c b r h = rigid (InContentEnd e k) g c b r h
 scan-same (BeforeType t) g c b r h = rigid (BeforeType t) g c b r h
 scan-same (InType t q v z) g c b r h = rigid (InType t q v z) g c b r h
+
+style-cut-same : (v : ValuePlace) (n : StyleScan) (z : Reference) (g : Scan) (r : Reference) → StyleUnder v n z g
+    → scan_cut_out (InStyle v n z) r ≡ scan_cut_out g r
+style-cut-same v n z (At (place.Value w)) r h = refl
+style-cut-same v n z (At p) r h = absurd h.0
+style-cut-same v n z (InStyle w m y) r h = refl
+style-cut-same v n z g r h = absurd h
 
 cut-same : (f g : Scan) (r : Reference) → ScanBelow f g → scan_cut_out f r ≡ scan_cut_out g r
 cut-same (At a) (At p) r h = refl
@@ -147,7 +167,7 @@ cut-same (InUrl v t z) (InStyle w y u) r h = absurd h
 cut-same (InUrl v t z) (InContentEnd e k) r h = absurd h
 cut-same (InUrl v t z) (BeforeType u) r h = absurd h
 cut-same (InUrl v t z) (InType u q x y) r h = absurd h
-cut-same (InStyle v s w) g r h = ap (λ (z : Scan). scan_cut_out z r) h
+cut-same (InStyle v s w) g r h = style-cut-same v s w g r h
 cut-same AfterLess g r h = ap (λ (z : Scan). scan_cut_out z r) h
 cut-same AfterLessSolidus g r h = ap (λ (z : Scan). scan_cut_out z r) h
 cut-same (InDeclaration pending) g r h = ap (λ (z : Scan). scan_cut_out z r) h
@@ -361,7 +381,8 @@ before-value-writes tag kind.NoHole c b = λ r e. at-one (BeforeAttributeValue t
 before-value-writes tag kind.Url c b =
     λ r e. at-one (BeforeAttributeValue tag kind.Url) _ c b Closed r e (record { outs = refl; opens = before-value-opens c b tag kind.Url })
 before-value-writes tag kind.Script c b = tt
-before-value-writes tag kind.Style c b = tt
+before-value-writes tag kind.Style c b =
+    λ r e. at-one (BeforeAttributeValue tag kind.Style) _ c b Closed r e (record { outs = refl; opens = before-value-opens c b tag kind.Style })
 before-value-writes tag kind.ScriptType c b =
     where-first (is_second_type tag.typed kind.ScriptType) (BeforeType tag.tag) (WritesFrom (BeforeAttributeValue tag kind.ScriptType) c b)
     (λ r e. at-one (BeforeAttributeValue tag kind.ScriptType) (BeforeType tag.tag) c b Closed r e (record { outs = refl; opens = before-value-opens c b tag kind.ScriptType }))
@@ -382,6 +403,27 @@ url-writes q tag k a v NoTriple (Open f h) c b = url-writes-at q tag k a v NoTri
 url-writes q tag k a v AfterPercent z c b = url-writes-at q tag k a v AfterPercent z c b
 url-writes q tag k a v AfterDigit z c b = url-writes-at q tag k a v AfterDigit z c b
 
+-- a style, in a lexeme or a reference, or at a place
+style-writes-at : (q : Quoting) (tag : Tag) (k : ValueState) (a : Reference) (v : ValuePlace) (n : StyleScan) (z : Reference) (c : Class) (b : ℕ)
+    → Writes (AttributeValue q tag (ValueOf k) a) (InStyle v n z) c b a
+style-writes-at q tag k a v n z c b = (let w = value-writes (ends_value q c) q tag (ValueOf k) a c b refl in record { outs = w.0; opens = w.1 })
+
+style-writes-if : (starts : Bool) (q : Quoting) (tag : Tag) (k : ValueState) (a : Reference) (v : ValuePlace) (n : StyleScan) (c : Class) (b : ℕ)
+    → Writes (AttributeValue q tag (ValueOf k) a) (if starts then At (with_style v n) else InStyle v n Closed) c b a
+style-writes-if true q tag k a v n c b = value-writes-at q tag k a _ c b
+style-writes-if false q tag k a v n c b = style-writes-at q tag k a v n Closed c b
+
+style-writes : (q : Quoting) (tag : Tag) (k : ValueState) (a : Reference) (v : ValuePlace) (n : StyleScan) (z : Reference) (c : Class) (b : ℕ)
+    → Writes (AttributeValue q tag (ValueOf k) a) (style_scan v n z) c b a
+style-writes q tag k a v n Closed c b = style-writes-if (is_style_start n) q tag k a v n c b
+style-writes q tag k a v n (Open f h) c b = style-writes-at q tag k a v n (Open f h) c b
+
+style-scan-writes : (q : Quoting) (tag : Tag) (s : Style Url) (o : Option StyleScan) (a : Reference) (c : Class) (b : ℕ)
+    → WhereScanned (style_value_scanned q tag o a) (WritesFrom (AttributeValue q tag (ValueOf (OfStyle s)) a) c b)
+style-scan-writes q tag s None a c b = tt
+style-scan-writes q tag s (Some n) a c b =
+    λ r e. at-one (AttributeValue q tag (ValueOf (OfStyle s)) a) _ c b a r e (style-writes q tag (OfStyle s) a _ n a c b)
+
 in-value-writes : (q : Quoting) (tag : Tag) (v : Value ValueState) (a : Reference) (c : Class) (b : ℕ) → WritesAt (AttributeValue q tag v a) c b
 in-value-writes q tag (ValueOf (OfKind kind.Plain)) a c b =
     λ r e. at-one (AttributeValue q tag (ValueOf (OfKind kind.Plain)) a) _ c b a r e (value-writes-at q tag (OfKind kind.Plain) a _ c b)
@@ -393,7 +435,7 @@ in-value-writes q tag (ValueOf (OfKind kind.Style)) a c b = tt
 in-value-writes q tag (ValueOf (OfKind kind.ScriptType)) a c b = tt
 in-value-writes q tag (ValueOf (OfUrl u)) a c b =
     λ r e. at-one (AttributeValue q tag (ValueOf (OfUrl u)) a) (url_scanned q tag u a) c b a r e (url-writes q tag (OfUrl u) a _ u.triple a c b)
-in-value-writes q tag (ValueOf (OfStyle s)) a c b = tt
+in-value-writes q tag (ValueOf (OfStyle s)) a c b = style-scan-writes q tag s (style_scanned s) a c b
 in-value-writes q tag (Deciding kind.ScriptType before) a c b =
     let s = AttributeValue q tag (Deciding kind.ScriptType before) a in
     let f = InType tag.tag q (Deciding kind.ScriptType before) a in
@@ -536,6 +578,20 @@ url-cuts v NoTriple (Open f h) r = refl
 url-cuts v AfterPercent z r = refl
 url-cuts v AfterDigit z r = refl
 
+style-cuts-if : (starts : Bool) (v : ValuePlace) (n : StyleScan) (r : Reference)
+    → text_escaped r ≡ scan_cut_out (if starts then At (with_style v n) else InStyle v n Closed) r
+style-cuts-if true v n r = refl
+style-cuts-if false v n r = refl
+
+style-cuts : (v : ValuePlace) (n : StyleScan) (z r : Reference) → text_escaped r ≡ scan_cut_out (style_scan v n z) r
+style-cuts v n Closed r = style-cuts-if (is_style_start n) v n r
+style-cuts v n (Open f h) r = refl
+
+style-scan-cuts : (q : Quoting) (tag : Tag) (s : Style Url) (o : Option StyleScan) (a : Reference)
+    → WhereScanned (style_value_scanned q tag o a) (CutFrom (AttributeValue q tag (ValueOf (OfStyle s)) a))
+style-scan-cuts q tag s None a = tt
+style-scan-cuts q tag s (Some n) a = λ r e. by-one (style_scan (style_value tag (quotes_at q)) n a) a r (text_escaped a) e (style-cuts _ n a a)
+
 value-cuts : (q : Quoting) (tag : Tag) (v : Value ValueState) (a : Reference) → CutAt (AttributeValue q tag v a)
 value-cuts q tag (ValueOf (OfKind kind.Plain)) a = λ r e. by-one (At place.Text) a r _ e refl
 value-cuts q tag (ValueOf (OfKind kind.NoHole)) a = λ r e. by-one (At place.Text) a r _ e refl
@@ -544,7 +600,7 @@ value-cuts q tag (ValueOf (OfKind kind.Script)) a = tt
 value-cuts q tag (ValueOf (OfKind kind.Style)) a = tt
 value-cuts q tag (ValueOf (OfKind kind.ScriptType)) a = tt
 value-cuts q tag (ValueOf (OfUrl u)) a = λ r e. by-one (url_scanned q tag u a) a r (text_escaped a) e (url-cuts _ u.triple a a)
-value-cuts q tag (ValueOf (OfStyle s)) a = tt
+value-cuts q tag (ValueOf (OfStyle s)) a = style-scan-cuts q tag s (style_scanned s) a
 value-cuts q tag (Deciding kind.ScriptType before) a =
     let s = AttributeValue q tag (Deciding kind.ScriptType before) a in
     where-first (is_second_type tag.typed kind.ScriptType) (InType tag.tag q (Deciding kind.ScriptType before) a) (CutFrom s) (λ r e. by-one (At place.Text) a r _ e refl)
@@ -555,7 +611,7 @@ before-cuts tag kind.Plain = λ r e. by-one (At place.Text) Closed r _ e refl
 before-cuts tag kind.NoHole = λ r e. by-one (At place.Text) Closed r _ e refl
 before-cuts tag kind.Url = λ r e. by-one (At place.Text) Closed r _ e refl
 before-cuts tag kind.Script = tt
-before-cuts tag kind.Style = tt
+before-cuts tag kind.Style = λ r e. by-one (At place.Text) Closed r _ e refl
 before-cuts tag kind.ScriptType =
     where-first (is_second_type tag.typed kind.ScriptType) (BeforeType tag.tag) (CutFrom (BeforeAttributeValue tag kind.ScriptType)) (λ r e. by-one (At place.Text) Closed r _ e refl)
 

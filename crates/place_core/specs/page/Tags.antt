@@ -65,8 +65,8 @@ is_start (tag.Start e) = true
 --   a reference by a name that stands for no character is refused there. The end of the value tells `ends`.
 -- - The end of a node leads a path to the state `after_cut`, where it is not refused (`refuses_cut`).
 -- - A hole: what is pending back before it is told first (`emits_settled`), which leads to the state `settled`. It has a mark unless no part of a page
---   stands for it (`has_mark`). It leads a path to the state `after_hole`. It leads a page to the state `behind`, by the state before the bytes of the hole and the one after them. `LeadsPlain` says
---   that these bytes, of which the value has such, are plain, and lead from the one to the other.
+--   stands for it (`has_mark`). It leads a path to the state `after_hole`, and a page to the state `behind`, by the state before the bytes of the
+--   hole and the one after them. `LeadsPlain` says that these bytes, of which the value has such, are plain, and lead from the one to the other.
 -- - A page that stands for a path is in a state that is alike (`AreAlike`): so it tells the same of the bytes that follow.
 pub record ValueLanguage (B : Type 0) : Type 1 where
   pub start : Kind → B

@@ -28,7 +28,8 @@ use Rattle.place_core.specs.declared.tag_of.TagOf.TheVariants as tag
 use Rattle.place_core.specs.declared.tag_place.TagPlace.{TagPlace}
 use Rattle.place_core.specs.declared.value_place.ValuePlace.{ValuePlace}
 
--- What is not built yet: a tag that ends and enters the content of a script or a style, and values of these kinds.
+-- What is not built yet: a tag that ends and enters the content of a script or a style, values that are scripts, and a value of data in one that is a
+-- style.
 abbrev pub content_error : TagOf → Option Code
 content_error tag.End = None
 content_error (tag.Start element.Title) = None
@@ -43,7 +44,7 @@ kind_error kind.Plain = None
 kind_error kind.NoHole = None
 kind_error kind.Url = None
 kind_error kind.Script = Some code.NotBuilt
-kind_error kind.Style = Some code.NotBuilt
+kind_error kind.Style = None
 kind_error kind.ScriptType = None
 
 abbrev pub body_error : Body → Option Code
@@ -51,7 +52,7 @@ body_error body.Plain = None
 body_error body.NoHole = None
 body_error (body.Url parts) = None
 body_error (body.Js js) = Some code.NotBuilt
-body_error (body.Css css) = Some code.NotBuilt
+body_error (body.Css c) = None
 
 -- A byte in a tag, by the spots at which paths stand. An equals sign begins a value after a name alone. A quotation mark, an apostrophe or a `<`
 -- is part of no name. A byte that begins a name goes on with none that has ended.
@@ -118,7 +119,7 @@ place_error (place.Rcdata e) c = None
 place_error (place.Tag t) c = tag_error t c
 place_error (place.Value v) c = value_error v c
 place_error (place.Script js) c = Some code.NotBuilt
-place_error (place.Style css) c = Some code.NotBuilt
+place_error (place.Style s) c = Some code.NotBuilt
 place_error (place.Block lt) c = block_error lt c
 
 -- A cause stands at the byte at hand, or that many bytes of the text before it (`back`). The place that is shown for it is the one before the
@@ -303,7 +304,7 @@ body_hole_error body.Plain = None
 body_hole_error body.NoHole = Some code.BadHTML
 body_hole_error (body.Url parts) = url_hole_error parts.bad
 body_hole_error (body.Js js) = Some code.NotBuilt
-body_hole_error (body.Css css) = Some code.NotBuilt
+body_hole_error (body.Css c) = Some code.NotBuilt
 
 abbrev pub hole_error : Place → Option Code
 hole_error place.Text = None
@@ -313,7 +314,7 @@ hole_error (place.Rcdata e) = None
 hole_error (place.Tag t) = if t.spots.name || t.spots.inside then Some code.SplitToken else None
 hole_error (place.Value v) = body_hole_error v.body
 hole_error (place.Script js) = Some code.NotBuilt
-hole_error (place.Style css) = Some code.NotBuilt
+hole_error (place.Style s) = Some code.NotBuilt
 hole_error (place.Block lt) = if lt then Some code.SplitToken else None
 
 -- What is refused of a text, and at which of its bytes; an error of the node's end stands at its length, or before that. And the byte before which

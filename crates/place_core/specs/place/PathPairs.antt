@@ -1,17 +1,19 @@
 -- What is refused on two paths together that meet before a text or a hole, none of which is refused alone; and paths that are apart in the
 -- beginning of a URL.
 use Rattle.std.specs.Prelude.{◌≡◌, ℕ, zero, suc, Bool, true, false, not, List, [], ◌∷◌, Option, Some, None, option_map, ◌⊎◌}
+use Rattle.css_lexer.specs.States.{Bare, Quoted, Style, InUrl}
 use Rattle.place_core.specs.page.Classes.{Class, White, class_of}
 use Rattle.place_core.specs.page.Html.{next}
 use Rattle.place_core.specs.page.References.{Closed, Open, ReferenceStep, Breaks, turn}
 use Rattle.place_core.specs.page.States.{Template, LexState, BeforeAttributeValue, AttributeValue}
-use Rattle.place_core.specs.page.Tags.{ValueOf, ValueState, OfUrl, Unquoted, languages, refusal_code}
+use Rattle.place_core.specs.page.Tags.{ValueOf, ValueState, OfUrl, OfStyle, Unquoted, languages, refusal_code}
 use Rattle.place_core.specs.place.ApartPlaces.{ArePlacesApart, side}
 use Rattle.place_core.specs.place.Errors.{byte_error, node, path_refusal, place_before_bytes, value_before}
 use Rattle.place_core.specs.place.Membership.{Bears}
 use Rattle.place_core.specs.place.StatePlaces.{placed}
 use Rattle.url_lexer.specs.Parts.{UrlPart, UrlStart, UrlOpen}
 use Rattle.url_lexer.specs.Prefixes.{Differs}
+use Rattle.url_lexer.specs.States.{Url}
 use Rattle.url_lexer.specs.TwoPaths.{is_open, refuses_hole_on_two}
 use Rattle.place_core.specs.declared.code.Code.{Code}
 use Rattle.place_core.specs.declared.code.Code.TheVariants as code
@@ -67,9 +69,20 @@ state_before (AttributeValue q t v (Open f bytes)) (b ∷ bs) =
     read_before (turn (class_of b) f) (AttributeValue q t (value_before Breaks v (class_of b) f bytes) Closed) (AttributeValue q t v (Open f bytes))
 state_before s bs = s
 
+-- the URL of a style in which a path is
+abbrev pub url_in_style : Style Url → Option Url
+url_in_style (InUrl Bare u) = Some u
+url_in_style (InUrl (Quoted q e) u) = Some u
+url_in_style s = None
+
 -- A path that is in the beginning of a URL stays in it, at each byte of a text and at its end.
+abbrev pub is_in_open : Option Url → Bool
+is_in_open (Some u) = is_open u.part
+is_in_open None = false
+
 abbrev pub is_in_beginning : LexState ValueState → Bool
 is_in_beginning (AttributeValue q t (ValueOf (OfUrl u)) r) = is_open u.part
+is_in_beginning (AttributeValue q t (ValueOf (OfStyle s)) r) = is_in_open (url_in_style s)
 is_in_beginning s = false
 
 abbrev pub Keeps : List ℕ → LexState ValueState → Type 0
@@ -90,9 +103,16 @@ abbrev pub unknown_part : UrlPart → UrlPart
 unknown_part (UrlOpen p) = UrlOpen Differs
 unknown_part p = p
 
+abbrev pub unknown_url : Url → Url
+unknown_url u = record { part = unknown_part u.part; scheme = u.scheme; triple = u.triple; free = u.free }
+
+abbrev pub unknown_style : Style Url → Style Url
+unknown_style (InUrl f u) = InUrl f (unknown_url u)
+unknown_style s = s
+
 abbrev pub unknown_beginning : LexState ValueState → LexState ValueState
-unknown_beginning (AttributeValue q t (ValueOf (OfUrl u)) r) =
-    AttributeValue q t (ValueOf (OfUrl (record { part = unknown_part u.part; scheme = u.scheme; triple = u.triple; free = u.free }))) r
+unknown_beginning (AttributeValue q t (ValueOf (OfUrl u)) r) = AttributeValue q t (ValueOf (OfUrl (unknown_url u))) r
+unknown_beginning (AttributeValue q t (ValueOf (OfStyle s)) r) = AttributeValue q t (ValueOf (OfStyle (unknown_style s))) r
 unknown_beginning s = s
 
 pub record MeetsColon (bytes : List ℕ) (s : LexState ValueState) (at : ℕ) : Type 0 where
@@ -121,6 +141,7 @@ Clashes (b ∷ bs) s r e (suc at) =
 abbrev pub url_part_at : LexState ValueState → Option UrlPart
 url_part_at (BeforeAttributeValue t kind.Url) = Some UrlStart
 url_part_at (AttributeValue q t (ValueOf (OfUrl u)) r) = Some u.part
+url_part_at (AttributeValue q t (ValueOf (OfStyle s)) r) = option_map (λ u. u.part) (url_in_style s)
 url_part_at s = None
 
 abbrev pub parts_clash : Option UrlPart → Option UrlPart → Option Code

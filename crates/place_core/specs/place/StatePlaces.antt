@@ -3,6 +3,7 @@ use Rattle.std.specs.Prelude.{Bool, true, false, Option, Some, None, option_map,
 use Rattle.place_core.specs.page.References.{Reference, Closed, Open}
 use Rattle.place_core.specs.page.States.{LexState, Text, TagOpen, EndTagOpen, DeclarationOpen, CommentState, Started, StartedDash, Inside, Dash, DashDash, Bang, Broken, InComment, BogusComment, InDoctype, TagName, WholeTagName, BeforeAttributeName, AttributeName, WholeAttributeName, AfterAttributeName, BeforeAttributeValue, AttributeValue, AfterAttributeValue, SelfClosingStartTag, Content, Characters, Bytes, Pending, Nothing, LessAtCut, InContent, Unread}
 use Rattle.place_core.specs.page.Tags.{Tag, is_second_type, Value, ValueOf, Deciding, ValueState, OfKind, OfUrl, OfStyle, languages, attribute_value_of, without_value, Quoting, DoubleQuoted, SingleQuoted, Unquoted}
+use Rattle.place_core.specs.place.StyleParts.{style_body}
 use Rattle.place_core.specs.place.UrlParts.{parts_of}
 use Rattle.url_lexer.specs.Spots.{url_spot}
 use Rattle.place_core.specs.declared.body.Body.{Body}
@@ -43,8 +44,8 @@ tag_spot t spots k = record { tag = t.tag; typed = is_typed_after t k; spots = s
 abbrev pub unless_second_type : Tag → Kind → Place → Option Place
 unless_second_type t k p = if is_second_type t.typed k then None else Some p
 
--- The body of a value, by the state of its language. In a URL it is the part; inside a percent triple there is
--- none, nor is there one in a style yet.
+-- The body of a value, by the state of its language. In a URL it is the part, and in a style what is kept where a
+-- node ends; inside a percent triple, and inside a lexeme of a style, there is none.
 abbrev pub body_at : ValueState → Option Body
 body_at (OfKind kind.Plain) = Some body.Plain
 body_at (OfKind kind.NoHole) = Some body.NoHole
@@ -53,7 +54,7 @@ body_at (OfKind kind.Script) = None
 body_at (OfKind kind.Style) = None
 body_at (OfKind kind.ScriptType) = None
 body_at (OfUrl u) = option_map (λ p. body.Url (parts_of p)) (url_spot u)
-body_at (OfStyle s) = None
+body_at (OfStyle s) = style_body s
 
 abbrev pub value_body : Value ValueState → Option Body
 value_body (ValueOf v) = body_at v

@@ -1,6 +1,6 @@
 use Rattle.std.proofs.Common.{sym, subst}
 use Rattle.html_step.specs.HoleLaws.{IsHoleEvidence}
-use Rattle.html_step.proofs.HoleOrder.{evidence-hole-at}
+use Rattle.html_step.proofs.HoleShows.{evidence-hole-at}
 use Rattle.html_step.proofs.hole_evidences.hole_evidence.Goals as goal
 
 pub returns : goal.returns

@@ -1,6 +1,6 @@
 use Rattle.std.proofs.Common.{sym, subst}
 use Rattle.html_step.specs.HoleLaws.{IsHoleOrigin}
-use Rattle.html_step.proofs.HoleOrder.{from-hole-at}
+use Rattle.html_step.proofs.HoleShows.{from-hole-at}
 use Rattle.html_step.proofs.hole_evidences.hole_from.Goals as goal
 
 pub returns : goal.returns

@@ -1,4 +1,4 @@
-use Rattle.html_step.proofs.HoleOrder.{evidence-hole}
+use Rattle.html_step.proofs.HoleShows.{evidence-hole}
 use Rattle.html_step.proofs.hole_laws.refused_hole_has_evidence.Goals as goal
 
 pub returns : goal.returns

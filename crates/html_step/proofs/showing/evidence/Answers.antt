@@ -1,10 +1,10 @@
-use Rattle.std.proofs.Common.{◌≡◌, ap, arith, get_or, drop, length, sym, ◌∙◌, ◌+◌}
+use Rattle.std.proofs.Common.{◌≡◌, ℕ, ap, arith, get_or, drop, length, sym, ◌∙◌, ◌+◌}
 use Rattle.std.proofs.lemmas.List.{drop_more}
 use Rattle.html_scan.specs.ClassViews.{class_at}
 use Rattle.html_scan.specs.ScanViews.{scan_at}
 use Rattle.html_scan.specs.Scans.{At}
 use Rattle.html_step.specs.OriginViews.{evidence_at, origin_at}
-use Rattle.html_step.specs.Origins.{shows}
+use Rattle.html_step.specs.Origins.{end_shows, shows}
 use Rattle.html_step.proofs.OriginSteps.{evidence-ends, evidence-then, through-same}
 use Rattle.html_step.proofs.showing.evidence.Goals as goal
 
@@ -28,4 +28,4 @@ returns c =
     let scan = c.loop-index.scan in
     let same : i ≡ length text = omega (arith, c.loop-index.auto.index-end, c.loop-index-test.false) in
     evidence-ends (origin_at c.loop-index.origins) (evidence_at c.loop-index.apart) text (scan_at text i scan) i c.of.result (shows text (At c.args.place)) (omega (arith, same))
-    (c.of.ensures ∙ ap (origin_at c.loop-index.origins) (c.end_shows.ensures text i)) c.loop-index.invariant.0
+    (c.of.ensures ∙ ap (origin_at c.loop-index.origins) (c.end_shows.ensures ∙ ap (λ (k : ℕ). end_shows (scan_at text k scan)) (sym same))) c.loop-index.invariant.0

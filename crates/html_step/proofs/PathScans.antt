@@ -1,0 +1,182 @@
+-- The scan state of a path, and what it is for a byte and the end of a text to be the same from it as on the path.
+use Rattle.std.proofs.Common.{◌≡◌, ℕ, Bool, true, false, List, [], ◌∷◌, Option, Some, None, ◌⊎◌, refl}
+use Rattle.std.specs.Prelude.{⊤, ◌||◌, if◌then◌else◌}
+use Rattle.std.specs.Option.{option_map}
+use Rattle.css_step.specs.StyleScans.{StyleScan}
+use Rattle.css_step.specs.StyleScanLaws.{style_scanned}
+use Rattle.place_core.specs.page.Classes.{Class, class_of}
+use Rattle.place_core.specs.place.LastLexeme.{language_reference}
+use Rattle.place_core.specs.place.Errors.{byte_error, cut_error, at_hand, unless_second, content_error, PathCause, place_before_bytes, lexeme_error}
+use Rattle.place_core.specs.page.Html.{next, after_tag}
+use Rattle.place_core.specs.page.Paths.{at_cut}
+use Rattle.place_core.specs.page.References.{Reference, Closed}
+use Rattle.place_core.specs.place.StatePlaces.{tag_spot, only_name, only_before, only_inside, only_after, value_spot, value_body, quotes_at, unbegun, placed}
+use Rattle.place_core.specs.page.States.{Template, LexState, Text, TagOpen, EndTagOpen, DeclarationOpen, InComment, BogusComment, InDoctype, TagName, WholeTagName, BeforeAttributeName, AttributeName, WholeAttributeName, AfterAttributeName, BeforeAttributeValue, AttributeValue, AfterAttributeValue, SelfClosingStartTag, Characters, Bytes, Pending, Nothing, PendingLess, PendingName, PendingBang, PendingBangDash, InContent, Unread, LessAtCut}
+use Rattle.place_core.specs.page.Tags.{Tag, Value, ValueOf, Deciding, ValueState, OfKind, OfUrl, OfStyle, languages, feed_value, feeding, feed_bytes, attribute_value_of, tag_by_type, with_bytes, tag_with_value, without_value, Quoting, is_second_type}
+use Rattle.place_core.specs.place.UrlParts.{parts_of}
+use Rattle.place_core.specs.declared.body.Body.TheVariants as body
+use Rattle.place_core.specs.declared.code.Code.{Code}
+use Rattle.place_core.specs.declared.element.Element.{Element}
+use Rattle.place_core.specs.declared.element.Element.TheVariants as element
+use Rattle.place_core.specs.declared.kind.Kind.{Kind}
+use Rattle.place_core.specs.declared.kind.Kind.TheVariants as kind
+use Rattle.place_core.specs.declared.parts.Parts.{Parts}
+use Rattle.place_core.specs.declared.place.Place.TheVariants as place
+use Rattle.place_core.specs.declared.quotes.Quotes.{Quotes}
+use Rattle.place_core.specs.declared.tag_of.TagOf.{TagOf}
+use Rattle.place_core.specs.declared.tag_of.TagOf.TheVariants as tag
+use Rattle.place_core.specs.declared.value_place.ValuePlace.{ValuePlace}
+use Rattle.html_scan.specs.Scans.{Scan, At, AfterLess, AfterLessSolidus, InDeclaration, InTagName, InAttributeName, InContentEnd, comment_scan, content_scan, typed_with, scan_next, scan_error, scan_place, scan_cut_error, BeforeType, InType, scan_shown, url_scan, scan_lexeme_error, scan_reference, style_scan}
+use Rattle.html_step.proofs.StylePaths.{StandsHere, style_value}
+use Rattle.url_lexer.specs.States.{Url, feed_url, feed_all}
+
+-- the scan state of a path's state
+abbrev pub content_scanned : Pending → Element → Option Scan
+content_scanned Nothing element.Title = Some (At (place.Rcdata element.Title))
+content_scanned Nothing element.Textarea = Some (At (place.Rcdata element.Textarea))
+content_scanned PendingLess element.Title = Some (InContentEnd element.Title PendingLess)
+content_scanned PendingLess element.Textarea = Some (InContentEnd element.Textarea PendingLess)
+content_scanned (PendingName letters) element.Title = Some (InContentEnd element.Title (PendingName letters))
+content_scanned (PendingName letters) element.Textarea = Some (InContentEnd element.Textarea (PendingName letters))
+content_scanned h e = None
+
+abbrev pub block_scanned : Pending → Element → Option Scan
+block_scanned Nothing element.DataBlock = Some (At (place.Block false))
+block_scanned LessAtCut element.DataBlock = Some (At (place.Block true))
+block_scanned PendingLess element.DataBlock = Some (InContentEnd element.DataBlock PendingLess)
+block_scanned (PendingName letters) element.DataBlock = Some (InContentEnd element.DataBlock (PendingName letters))
+block_scanned PendingBang element.DataBlock = Some (InContentEnd element.DataBlock PendingBang)
+block_scanned PendingBangDash element.DataBlock = Some (InContentEnd element.DataBlock PendingBangDash)
+block_scanned h e = None
+
+-- where a second `type` is not refused
+abbrev pub first_type : Tag → Kind → Scan → Option Scan
+first_type t k f = if is_second_type t.typed k then None else Some f
+
+-- In a URL it has the percent triple and the reference; the parts are those of the path.
+abbrev pub url_value : Tag → Quotes → Parts → ValuePlace
+url_value t q s = record { tag = t.tag; typed = t.typed; quotes = q; body = body.Url s }
+
+abbrev pub url_scanned : Quoting → Tag → Url → Reference → Scan
+url_scanned q t u r = url_scan (url_value t (quotes_at q) (parts_of u.part)) u.triple r
+
+-- In a style it has the scan state of the style and the reference.
+abbrev pub style_value_scanned : Quoting → Tag → Option StyleScan → Reference → Option Scan
+style_value_scanned q t o r = option_map (λ n. style_scan (style_value t (quotes_at q)) n r) o
+
+abbrev pub before_scanned : Tag → Value ValueState → Option Scan
+before_scanned t (ValueOf v) = option_map At (value_spot t unbegun (value_body (ValueOf v)))
+before_scanned t (Deciding kind.ScriptType before) = first_type t kind.ScriptType (BeforeType t.tag)
+before_scanned t (Deciding k before) = None
+
+abbrev pub value_scanned : Quoting → Tag → Value ValueState → Reference → Option Scan
+value_scanned q t (ValueOf (OfKind k)) r = option_map At (value_spot t (quotes_at q) (value_body (ValueOf (OfKind k))))
+value_scanned q t (ValueOf (OfUrl u)) r = Some (url_scanned q t u r)
+value_scanned q t (ValueOf (OfStyle s)) r = style_value_scanned q t (style_scanned s) r
+value_scanned q t (Deciding kind.ScriptType before) r = first_type t kind.ScriptType (InType t.tag q (Deciding kind.ScriptType before) r)
+value_scanned q t (Deciding k before) r = None
+
+abbrev pub scanned : LexState ValueState → Option Scan
+scanned (Text r) = Some (At place.Text)
+scanned (TagOpen r) = Some AfterLess
+scanned (EndTagOpen r) = Some AfterLessSolidus
+scanned (DeclarationOpen r pending) = Some (InDeclaration pending)
+scanned (InComment s) = Some (comment_scan s)
+scanned BogusComment = None
+scanned InDoctype = Some (At place.Doctype)
+scanned (TagName ends name) = Some (InTagName ends name)
+scanned (WholeTagName t) = Some (At (place.Tag (tag_spot t only_name None)))
+scanned (BeforeAttributeName t) = Some (At (place.Tag (tag_spot t only_before None)))
+scanned (AttributeName t name) = Some (InAttributeName t.tag t.typed name)
+scanned (WholeAttributeName t k) = first_type t k (At (place.Tag (tag_spot t only_inside (Some k))))
+scanned (AfterAttributeName t k) = first_type t k (At (place.Tag (tag_spot t only_after (Some k))))
+scanned (BeforeAttributeValue t k) = before_scanned t (attribute_value_of languages k)
+scanned (AttributeValue q t v r) = value_scanned q t v r
+scanned (AfterAttributeValue t) = Some (At (place.Tag (tag_spot t only_before None)))
+scanned (SelfClosingStartTag t) = Some (At (place.Tag (tag_spot t only_before None)))
+scanned (InContent e (Characters r) h) = content_scanned h e
+scanned (InContent e Bytes h) = block_scanned h e
+scanned Unread = None
+
+-- A state and its scan state refuse the same, and step alike where nothing is refused.
+pub record Agrees (s : LexState ValueState) (f : Scan) (c : Class) (b : ℕ) : Type 0 where
+  pub errors : byte_error s c b ≡ scan_error f c b
+  pub steps : scan_error f c b ≡ None → scanned (next languages Template s c b) ≡ Some (scan_next f c b)
+
+abbrev pub WhereScanned : Option Scan → (Scan → Type 0) → Type 0
+WhereScanned None P = ⊤
+WhereScanned (Some f) P = P f
+
+pub same-with : (t : Tag) (bs : List ℕ) (v : ValueState) → tag_with_value t (with_bytes languages (ValueOf v) bs) ≡ t
+same-with t [] v = refl
+same-with t (b ∷ bs) v = same-with t bs (feed_value v b)
+
+-- what an attribute without a value does to its tag: an empty `type` is that of a script
+untyped-tag : (t : TagOf) (typed : Bool) → tag_by_type t (typed || true) ≡ t
+untyped-tag tag.End typed = refl
+untyped-tag (tag.Start element.Script) true = refl
+untyped-tag (tag.Start element.Script) false = refl
+untyped-tag (tag.Start _) typed = refl
+
+pub same-tag : (t : Tag) (k : Kind) → (without_value t k).tag ≡ t.tag
+same-tag t kind.ScriptType = untyped-tag t.tag t.typed
+same-tag t _ = refl
+
+pub same-typed : (t : Tag) (k : Kind) → (without_value t k).typed ≡ typed_with t.tag t.typed k
+same-typed t kind.ScriptType = refl
+same-typed t _ = refl
+
+-- what is refused is no step
+pub some : {A : Type 0} (x : A) → Some x ≡ None → ⊥
+some x e = cc
+
+pub none-at-hand : (o : Option Code) → at_hand o ≡ None → o ≡ None
+none-at-hand None e = refl
+none-at-hand (Some e) h = absurd (some _ h)
+
+pub none-unless : (second : Bool) (len : ℕ) (o : Option Code) → unless_second second len o ≡ None → o ≡ None
+none-unless true len o h = absurd (some _ h)
+none-unless false len o h = none-at-hand o h
+
+-- what is not refused is no second type
+pub not-second : (t : Tag) (k : Kind) (f : Scan) → is_second_type t.typed k ≡ false → first_type t k f ≡ Some f
+not-second t k f e = rw e refl
+
+pub unless-first : (second : Bool) (len : ℕ) (o : Option Code) → unless_second second len o ≡ None → second ≡ false
+unless-first true len o h = absurd (some _ h)
+unless-first false len o h = refl
+
+-- A URL is fed byte by byte as the set of its part is.
+pub with-url : (u : Url) (bs : List ℕ) → with_bytes languages (ValueOf (OfUrl u)) bs ≡ ValueOf (OfUrl (feed_all u bs))
+with-url u [] = refl
+with-url u (b ∷ bs) = with-url (feed_url u b) bs
+
+pub with-fed : (z : Value ValueState) (bs : List ℕ) → with_bytes languages z bs ≡ feed_bytes (feeding languages) z bs
+with-fed z [] = refl
+with-fed z (b ∷ bs) = with-fed ((feeding languages).feed z b) bs
+
+-- Whether the place before the bytes that are left of a text is shown: no reference is open there, or nothing is refused of it.
+abbrev pub refused_next : Scan → List ℕ → Option PathCause
+refused_next f [] = scan_cut_error f
+refused_next f (b ∷ bs) = scan_error f (class_of b) b
+
+abbrev pub IsShown : Scan → List ℕ → Type 0
+IsShown f bs = (scan_reference f ≡ Closed) ⊎ StandsHere (refused_next f bs)
+
+-- the end of a text, the reference that is open there, and the place that is shown before the bytes that are left
+pub record Ends (s : LexState ValueState) (f : Scan) : Type 0 where
+  pub errors : cut_error s ≡ scan_cut_error f
+  pub lexeme : scan_cut_error f ≡ None → lexeme_error s ≡ scan_lexeme_error f
+  pub reference : language_reference s ≡ scan_reference f
+  pub place : scan_cut_error f ≡ None → placed (at_cut languages s) ≡ Some (scan_place f)
+  pub shown : (bs : List ℕ) → IsShown f bs → place_before_bytes s bs ≡ scan_shown f bs
+
+-- the end of a tag
+pub tag-ends : (t : TagOf) → content_error t ≡ None → scanned (after_tag t) ≡ Some (content_scan t)
+tag-ends tag.End n = refl
+tag-ends (tag.Start element.Other) n = refl
+tag-ends (tag.Start element.Title) n = refl
+tag-ends (tag.Start element.Textarea) n = refl
+tag-ends (tag.Start element.Style) n = absurd (some _ n)
+tag-ends (tag.Start element.Script) n = absurd (some _ n)
+tag-ends (tag.Start element.DataBlock) n = refl
