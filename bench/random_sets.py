@@ -18,8 +18,12 @@ TEXTS = {
     "open": ["a", "script", "java", "vbscript", "data", "-", "%41", "%c3%a9", "a&amp;b", "&", "\u00e9", "&#115;", "&Tab;", ".", "@h"],
     "path": ["a/", "/b.html", "..", ":", "javascript:", "%2F", "%3a", "\u00e9", "&", "&amp;", "@", "&#47;", "data:", "java"],
     "query": ["a", "b+c", "%26", "%3D", "/", ":", "javascript:", "&amp;c", "&", "&d", "\u00e9", "data", "&#61;"],
+    "style": ["a", " red ", "1.5em", "color:", ";", ", ", "-", " #f0f ", "50% ", " !x", "&#34;x&#34; ", "/* c */ ", " {", "} ", " (", ")", " b(",
+              " @media ", " url(/a.png) ", "\u00e9", " \\41 ", "+", "/ ", "&lt; ", " calc(1px + "],
+    "string": ["a ", "b\\41 ", "\\;", "&lt;", ";", "(", "/*", "url(", "\u00e9", "x:y", "}"],
+    "remark": ["a", " ", ";", "&#39;", "url(", "* ", "(", "\u00e9"],
 }
-KINDS = ["text", "text", "plain", "plain", "note", "attributes", "open", "path", "query"]  # of templates that others call
+KINDS = ["text", "text", "plain", "plain", "note", "attributes", "open", "path", "query", "style", "string"]  # of templates that others call
 
 ELEMENTS = ["p", "a", "b", "td", "LI", "form", "object", "x-y", "svg", "img", "blockquote", "h1"]
 PLAIN_NAMES = ["title", "class", "alt", "Value", "data-x", "content", "type", "hidden", "aria-label"]
@@ -35,7 +39,7 @@ LETTERS = ["java", "javascript", "vbscript", "d", "data", "x", "&#106;ava", "jav
 
 # What may be refused, by the kind of context. In a template `$` is what it is called with, and so always has all the keys.
 MAY_BE_REFUSED = {
-    "text": ['<p {{if $.t}}class="x{{end}}>', "<script>{{$.a}}</script>", '<p onclick="f({{$.a}})">', '<p style="x:{{$.a}}">', "<h{{$.n}}>",
+    "text": ['<p {{if $.t}}class="x{{end}}>', "<script>{{$.a}}</script>", '<p onclick="f({{$.a}})">', '<p style="x:{{$.a}}(">', "<h{{$.n}}>",
              "<!--{{$.a}}-->", '<a href="javascript:{{$.a}}">', '<a href="{{$.a}}:x">', "<a href=x{{$.a}}&#58;y>", '<a href="/%4{{$.a}}">',
              '<a href="/a{{if $.t}}?{{end}}{{$.b}}">', '{{template "none" .}}', '<iframe srcdoc="{{$.a}}"></iframe>', "<b x={{$.a}}=1>",
              "<p title={{if $.t}}{{$.a}}{{end}} class=x>", "<p {{$.a}}x=1>", "a <{{$.a}}", '<a href="java{{if $.t}}script{{end}}:{{$.a}}">',
@@ -48,7 +52,14 @@ MAY_BE_REFUSED = {
     "open": [":", "&#58;", "&colon;", "%", "%4", "/", "{{if $.t}}?{{end}}", "&copy;"],
     "path": ["%", "%4", "{{if $.t}}?{{end}}", "&copy;", "{{urlquery $.a}}"],
     "query": ["%", "%4", "&copy;", "{{html $.a}}"],
+    "style": ["(", "*", "/", "<", "\\", "\\4", "&#39;", "{{html $.a}}", "&copy;", "rl(", "{{if $.t}}&#39;{{end}}", " url({{$.a}} {{$.b}})",
+              " url({{$.a}}:x)", " url({{if $.t}}/{{end}}{{$.a}})"],
+    "string": ["&#10;", "\\", "\\26", "&#34;", "&copy;", "{{html $.a}}"],
+    "remark": ["*", "/", "*/", "{{html $.a}}"],
 }
+
+# Texts of styles in which CSS reads otherwise than the program, as `docs/STYLES.md` says.
+STYLE_LIMITS = [" #url(", " @url(", " \\url(", " u\\rl(", " \\75 rl(", " ur\\6c (", " <!--url("]
 
 
 class SetMaker:
@@ -167,9 +178,26 @@ class SetMaker:
         url = lambda: f"{url_name}={quote}{self.url(quote, depth, is_record)}{quote} "
         return self.source.choice([
             url, url, url, url, lambda: f"{plain_name}={quote}{value}{quote} ", lambda: f"{plain_name} ",
+            lambda: f"style={quote}{self.style(quote, depth, is_record)}{quote} ", lambda: f'style="{self.style(1, depth, is_record)}" ',
             lambda: self.hole("attributes", is_record), lambda: f"{self.hole('attributes', is_record)}={quote}{value}{quote} ",
             lambda: "{{range $k, $w := $.d}}{{$k}}=" + f"{quote}{{{{$w}}}}{quote} {{{{end}}}}",
         ])()
+
+    def style(self, quote, depth, is_record):
+        more = lambda kind: self.pieces(kind, depth, is_record)
+        if not quote:
+            url, note = f"url({self.hole('open', is_record)})", "/*" + self.hole("remark", is_record)
+            return "a:" + self.source.choice([self.hole("style", is_record), url, note, self.hole("style", is_record) + ";" + url])
+        mark = self.source.choice(["&#39;", "&#34;", "&quot;"])
+        parts = [
+            lambda: more("style") + " ", lambda: f"{self.source.choice(['color', 'a-b', '--x'])}:{more('style')};",
+            lambda: f" a:{mark}{more('string')}{mark};", lambda: f" /* {more('remark')} */",
+            lambda: f" url({mark}{self.hole('open', is_record)}{more('open')}{mark})",
+            lambda: f" url(/{more('path')})", lambda: f" url( {mark}/a?b={more('query')}{mark} )", lambda: f" url({self.hole('open', is_record)})",
+            lambda: self.hole("style", is_record) + self.hole("style", is_record) + "px ",
+        ]
+        limit = [lambda: self.source.choice(STYLE_LIMITS) + self.hole("style", is_record) + ") "] * (self.source.random() < 0.05)
+        return "".join(self.source.choice(parts + limit)() for _ in range(self.source.randint(1, 3)))
 
     def begun(self, depth, is_record):
         """A value without quotes, which begins in its first piece."""
@@ -201,6 +229,13 @@ HOSTILE_TEXTS = [
     "</title><script>", "</textarea><b>", "</script><b>", "/script ", "!--", "&lt;b&gt;", "amp;", "lt;", "#60;", ";", "`", "/>", "\0",
     "a\0b", "\u2028", "\u00a0hidden", "\u0085x", "\x1cx=y", "\x0bx", "\x0c", "\r\n", " ", "\ufeffx", "\U0001f600", "\x1bx", "onclick",
     "HREF", "style", "src", "srcdoc", "title", "ONLOAD", "{{.a}}", "ZgotmplZ", "<" * 3000, 'x"' * 3000,
+]
+
+
+HOSTILE_STYLES = [
+    "red;x:y", "}", "{", "*/", "/*", "\\", "\\22 ", "\\3b", "\\41 b", "expression(1)", "expres", "sion", "url(javascript:x)", "--", "-", "(", ")",
+    "';x", '";x', "@import", "\n", " ", "1", "e3", "#", "!important", "<!--", "-->", "rl(", "u", "url", "\\75", "[", "/", "*", "<", "\0",
+    "\u00e9", ":", ",", "%", "a ", " b",
 ]
 
 
@@ -240,4 +275,4 @@ class DataMaker:
     def text(self, is_hostile):
         if not is_hostile:
             return MARK + "".join(self.source.choices("abcdefgh", k=self.source.randint(1, 6)))
-        return "".join(self.source.choices(self.source.choice([HOSTILE_URLS, HOSTILE_TEXTS]), k=self.source.choice([1, 1, 1, 2, 3])))
+        return "".join(self.source.choices(self.source.choice([HOSTILE_URLS, HOSTILE_TEXTS, HOSTILE_STYLES]), k=self.source.choice([1, 1, 1, 2, 3])))

@@ -13,11 +13,13 @@ mod read_url;
 mod showings;
 mod splitter;
 mod steps;
+mod style_parts;
 mod url_parts;
 mod written;
 
 pub use charts::put_charts;
 pub use explanations::put_explained;
 pub use steps::put_places;
+pub use style_parts::put_style_parts;
 pub use url_parts::put_url_parts;
 pub use written::put_written;

@@ -3,7 +3,9 @@ use case_data::{
     put_in_url, put_replaced, put_sanitized, put_system, put_text, put_values, put_words,
 };
 use case_pages::{put_commands, put_pages};
-use case_places::{put_charts, put_explained, put_places, put_url_parts, put_written};
+use case_places::{
+    put_charts, put_explained, put_places, put_style_parts, put_url_parts, put_written,
+};
 use case_table::{CaseOutput, CaseRow, CaseStop, Subject};
 use case_templates::{put_executions, put_files, put_printed, put_symbols, put_tokens, put_trees};
 
@@ -86,6 +88,7 @@ fn put_of_html(
         "html_words" => put_words(out, call, row),
         "html_step" => put_places(out, call, row),
         "url_step" => put_url_parts(out, call, row),
+        "css_step" => put_style_parts(out, call, row),
         "place_infer" => put_charts(out, call, row),
         "place_explain" => put_explained(out, call, row),
         "text_norm" => put_written(out, call, row),

@@ -1,6 +1,7 @@
 mod CodeIsBack
 mod Examples
 mod NotExamples
+pub mod RawReading
 mod StringsAreBack
 pub mod StylesKeep
 pub mod StylesOfUrls

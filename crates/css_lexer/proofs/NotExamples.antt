@@ -306,7 +306,7 @@ blank_before_url p = let h : true ≡ false = p.allowed.0 in cc
 
 -- not alike: a page that is in another word, in a comment that may end, or that has told a blank
 is_comment_star : (s r : style.Outside) → AreAlikeOutside s r → s ≡ Comment false → r ≡ Comment false
-is_comment_star s r (the_same z) e = e
+is_comment_star s r (the_same z o) e = e
 is_comment_star s r (hole_between solidus less) e = cc
 is_comment_star s r (hole_less_than solidus less) e = cc
 is_comment_star s r (hole_word solidus less w) e = cc

@@ -1,6 +1,6 @@
 -- Styles have the laws of a language of values, over any URLs that have theirs.
 use Rattle.std.proofs.Common.{◌≡◌, inl, inr, ℕ, Bool, true, false, List, ◌∷◌, Some, None, refl, sym, ap, subst}
-use Rattle.css_lexer.specs.Alike.{AreAlikeOutside, the_same, hole_between, hole_less_than, hole_word, split_word, cut_solidus, cut_less_than, cut_star, StylesAlike, outside, in_url, unbegun, unbegun_ended}
+use Rattle.css_lexer.specs.Alike.{IsOfPage, AreAlikeOutside, the_same, hole_between, hole_less_than, hole_word, split_word, cut_solidus, cut_less_than, cut_star, StylesAlike, outside, in_url, unbegun, unbegun_ended}
 use Rattle.css_lexer.specs.Classes.{style_class}
 use Rattle.css_lexer.specs.Escapes.{StyleEscape, NoEscape, AfterBackslash, HexDigits, AfterReturn, is_taken_in_style}
 use Rattle.css_lexer.specs.Events.{StyleEvent, UrlEnds, told_in_url}
@@ -34,7 +34,7 @@ split-tells w (HexDigits k) c b t n = refl
 split-tells w AfterReturn c b t n = refl
 
 out-tells : {E : Type 0} (s r : Outside) (c : StyleClass) (b : ℕ) (t : List (StyleEvent E)) → AreAlikeOutside s r → refuses_out s c b ≡ None → emits_out r c b t ≡ emits_out s c b t
-out-tells s r c b t (the_same z) n = refl
+out-tells s r c b t (the_same z o) n = refl
 out-tells s r c b t (hole_between solidus less) n = refl
 out-tells s r c b t (hole_less_than solidus less) n = refl
 out-tells s r c b t (hole_word solidus less w) n = word-tells w c b t solidus less n
@@ -107,78 +107,69 @@ class-tells l (InUrl Ended u) (InUrl Fresh w) c b t (unbegun_ended a) n = unbegu
 
 -- where a byte leads, outside url tokens: from one state both come to one
 between-goes : {U E : Type 0} (x : UrlReading U E) (k : Bool) (c : StyleClass) (b : ℕ) → StylesAlike x (next_between k c b) (next_between k c b)
-between-goes x k class.Blank b = outside (the_same _)
-between-goes x k c b = outside (the_same _)
+between-goes x k class.Blank b = outside (the_same _ tt)
+between-goes x k c b = outside (the_same _ tt)
 
 word-goes : {U E : Type 0} {x : UrlReading U E} → UrlReadingLaws U E x → (w : UrlWord) (e : StyleEscape) (c : StyleClass) (b : ℕ) → StylesAlike x (next_style_word x w e c b) (next_style_word x w e c b)
-word-goes l w AfterBackslash c b = outside (the_same _)
+word-goes l w AfterBackslash c b = outside (the_same _ tt)
 word-goes l SpellsUrl NoEscape class.LeftParenthesis b = in_url Fresh l.begins
 word-goes l SpellsUrl (HexDigits k) class.LeftParenthesis b = in_url Fresh l.begins
 word-goes l SpellsUrl AfterReturn class.LeftParenthesis b = in_url Fresh l.begins
-word-goes l w NoEscape class.Blank b = outside (the_same _)
-word-goes l w NoEscape c b = outside (the_same _)
-word-goes l w (HexDigits k) class.Blank b = outside (the_same _)
-word-goes l w (HexDigits k) c b = outside (the_same _)
-word-goes l w AfterReturn class.Blank b = outside (the_same _)
-word-goes l w AfterReturn c b = outside (the_same _)
+word-goes l w NoEscape class.Blank b = outside (the_same _ tt)
+word-goes l w NoEscape c b = outside (the_same _ tt)
+word-goes l w (HexDigits k) class.Blank b = outside (the_same _ tt)
+word-goes l w (HexDigits k) c b = outside (the_same _ tt)
+word-goes l w AfterReturn class.Blank b = outside (the_same _ tt)
+word-goes l w AfterReturn c b = outside (the_same _ tt)
 
 solidus-goes : {U E : Type 0} (x : UrlReading U E) (c : StyleClass) (b : ℕ) → StylesAlike x (next_solidus c b) (next_solidus c b)
-solidus-goes x class.Asterisk b = outside (the_same _)
-solidus-goes x c b = outside (the_same _)
+solidus-goes x class.Asterisk b = outside (the_same _ tt)
+solidus-goes x c b = outside (the_same _ tt)
 
 comment-goes : {U E : Type 0} (x : UrlReading U E) (star : Bool) (c : StyleClass) → StylesAlike x (next_style_comment star c) (next_style_comment star c)
-comment-goes x true class.Solidus = outside (the_same _)
-comment-goes x true c = outside (the_same _)
-comment-goes x false class.Solidus = outside (the_same _)
-comment-goes x false c = outside (the_same _)
+comment-goes x true class.Solidus = outside (the_same _ tt)
+comment-goes x true c = outside (the_same _ tt)
+comment-goes x false class.Solidus = outside (the_same _ tt)
+comment-goes x false c = outside (the_same _ tt)
 
 string-goes : {U E : Type 0} (x : UrlReading U E) (taken : Bool) (q : Quote) (e : StyleEscape) (c : StyleClass) (b : ℕ) → StylesAlike x (next_style_string taken q e c b) (next_style_string taken q e c b)
-string-goes x true q e c b = outside (the_same _)
-string-goes x false DoubleQuote e class.Blank b = outside (the_same _)
-string-goes x false DoubleQuote e c b = outside (the_same _)
-string-goes x false SingleQuote e class.Blank b = outside (the_same _)
-string-goes x false SingleQuote e c b = outside (the_same _)
+string-goes x true q e c b = outside (the_same _ tt)
+string-goes x false DoubleQuote e class.Blank b = outside (the_same _ tt)
+string-goes x false DoubleQuote e c b = outside (the_same _ tt)
+string-goes x false SingleQuote e class.Blank b = outside (the_same _ tt)
+string-goes x false SingleQuote e c b = outside (the_same _ tt)
 
 bad-goes : {U E : Type 0} (x : UrlReading U E) (c : StyleClass) → StylesAlike x (next_bad c) (next_bad c)
-bad-goes x class.Blank = outside (the_same _)
-bad-goes x c = outside (the_same _)
+bad-goes x class.Blank = outside (the_same _ tt)
+bad-goes x c = outside (the_same _ tt)
 
-split-goes : {U E : Type 0} (x : UrlReading U E) (e : StyleEscape) (c : StyleClass) (b : ℕ) → StylesAlike x (next_split e c b) (next_split e c b)
-split-goes x AfterBackslash c b = outside (the_same _)
-split-goes x NoEscape class.Blank b = outside (the_same _)
-split-goes x NoEscape c b = outside (the_same _)
-split-goes x (HexDigits k) class.Blank b = outside (the_same _)
-split-goes x (HexDigits k) c b = outside (the_same _)
-split-goes x AfterReturn class.Blank b = outside (the_same _)
-split-goes x AfterReturn c b = outside (the_same _)
-
-same-goes : {U E : Type 0} {x : UrlReading U E} → UrlReadingLaws U E x → (s : Outside) (c : StyleClass) (b : ℕ) → StylesAlike x (next_out x s c b) (next_out x s c b)
-same-goes {U} {E} {x} l (Between k) c b = between-goes x k c b
-same-goes {U} {E} {x} l AfterLessThan c b = between-goes x false c b
-same-goes l (Word w e) c b = word-goes l w e c b
-same-goes {U} {E} {x} l (AfterSolidus k) c b = solidus-goes x c b
-same-goes {U} {E} {x} l (Comment star) c b = comment-goes x star c
-same-goes {U} {E} {x} l (InString q e) c b = string-goes x (is_taken_in_style e b) q e c b
-same-goes {U} {E} {x} l BadUrl c b = bad-goes x c
-same-goes {U} {E} {x} l (BehindHole solidus less) c b = split-goes x NoEscape c b
-same-goes {U} {E} {x} l (SplitWord e) c b = split-goes x e c b
-same-goes {U} {E} {x} l (SolidusAtCut k) c b = solidus-goes x c b
-same-goes {U} {E} {x} l LessThanAtCut c b = between-goes x false c b
-same-goes {U} {E} {x} l StarAtCut c b = comment-goes x true c
+same-goes : {U E : Type 0} {x : UrlReading U E} → UrlReadingLaws U E x → (s : Outside) (c : StyleClass) (b : ℕ) → IsOfPage s → StylesAlike x (next_out x s c b) (next_out x s c b)
+same-goes {U} {E} {x} l (Between k) c b o = between-goes x k c b
+same-goes {U} {E} {x} l AfterLessThan c b o = between-goes x false c b
+same-goes l (Word w e) c b o = word-goes l w e c b
+same-goes {U} {E} {x} l (AfterSolidus k) c b o = solidus-goes x c b
+same-goes {U} {E} {x} l (Comment star) c b o = comment-goes x star c
+same-goes {U} {E} {x} l (InString q e) c b o = string-goes x (is_taken_in_style e b) q e c b
+same-goes {U} {E} {x} l BadUrl c b o = bad-goes x c
+same-goes l (BehindHole solidus less) c b o = absurd o
+same-goes l (SplitWord e) c b o = absurd o
+same-goes l (SolidusAtCut k) c b o = absurd o
+same-goes l LessThanAtCut c b o = absurd o
+same-goes l StarAtCut c b o = absurd o
 
 -- behind a hole, and in a word that has been split
 hole-goes : {U E : Type 0} (x : UrlReading U E) (c : StyleClass) (b : ℕ) (solidus less : Bool) → refuses_out (BehindHole solidus less) c b ≡ None
     → StylesAlike x (next_split NoEscape c b) (next_between false c b)
 hole-goes x class.WordByte b solidus less n = outside (split_word _ _)
 hole-goes x class.ReverseSolidus b solidus less n = outside (split_word _ _)
-hole-goes x c b solidus less n = outside (the_same _)
+hole-goes x c b solidus less n = outside (the_same _ tt)
 
 hole-word-goes : {U E : Type 0} (x : UrlReading U E) (w : UrlWord) (c : StyleClass) (b : ℕ) (solidus less : Bool) → refuses_out (BehindHole solidus less) c b ≡ None
     → StylesAlike x (next_split NoEscape c b) (next_style_word x w NoEscape c b)
 hole-word-goes x w class.WordByte b solidus less n = outside (split_word _ _)
 hole-word-goes x w class.ReverseSolidus b solidus less n = outside (split_word _ _)
 hole-word-goes x SpellsUrl class.LeftParenthesis b solidus less n = absurd (some _ n)
-hole-word-goes x w c b solidus less n = outside (the_same _)
+hole-word-goes x w c b solidus less n = outside (the_same _ tt)
 
 split-word-goes : {U E : Type 0} (x : UrlReading U E) (w : UrlWord) (e : StyleEscape) (c : StyleClass) (b : ℕ) → refuses_out (SplitWord e) c b ≡ None
     → StylesAlike x (next_split e c b) (next_style_word x w e c b)
@@ -191,21 +182,21 @@ split-word-goes x w NoEscape c b n = hole-word-goes x w c b false false (unsplit
 split-word-goes x w (HexDigits k) class.WordByte b n = outside (split_word _ _)
 split-word-goes x w (HexDigits k) class.ReverseSolidus b n = outside (split_word _ _)
 split-word-goes x SpellsUrl (HexDigits k) class.LeftParenthesis b n = absurd (some _ n)
-split-word-goes x w (HexDigits k) c b n = outside (the_same _)
+split-word-goes x w (HexDigits k) c b n = outside (the_same _ tt)
 split-word-goes x w AfterReturn class.WordByte b n = outside (split_word _ _)
 split-word-goes x w AfterReturn class.ReverseSolidus b n = outside (split_word _ _)
 split-word-goes x SpellsUrl AfterReturn class.LeftParenthesis b n = absurd (some _ n)
-split-word-goes x w AfterReturn c b n = outside (the_same _)
+split-word-goes x w AfterReturn c b n = outside (the_same _ tt)
 
 star-goes : {U E : Type 0} (x : UrlReading U E) (star : Bool) (c : StyleClass) (b : ℕ) → refuses_out StarAtCut c b ≡ None → StylesAlike x (next_style_comment true c) (next_style_comment star c)
-star-goes x true class.Solidus b n = outside (the_same _)
-star-goes x true c b n = outside (the_same _)
+star-goes x true class.Solidus b n = outside (the_same _ tt)
+star-goes x true c b n = outside (the_same _ tt)
 star-goes x false class.Solidus b n = absurd (some _ n)
-star-goes x false c b n = outside (the_same _)
+star-goes x false c b n = outside (the_same _ tt)
 
 out-goes : {U E : Type 0} {x : UrlReading U E} → UrlReadingLaws U E x → (s r : Outside) (c : StyleClass) (b : ℕ) → AreAlikeOutside s r → refuses_out s c b ≡ None
     → StylesAlike x (next_out x s c b) (next_out x r c b)
-out-goes l s r c b (the_same z) n = same-goes l z c b
+out-goes l s r c b (the_same z o) n = same-goes l z c b o
 out-goes {U} {E} {x} l s r c b (hole_between solidus less) n = hole-goes x c b solidus less n
 out-goes {U} {E} {x} l s r c b (hole_less_than solidus less) n = hole-goes x c b solidus less n
 out-goes {U} {E} {x} l s r c b (hole_word solidus less w) n = hole-word-goes x w c b solidus less n
@@ -219,10 +210,10 @@ bare-goes : {U E : Type 0} {x : UrlReading U E} → UrlReadingLaws U E x → (u 
     → StylesAlike x (next_bare x u c b) (next_bare x w c b)
 bare-goes l u w class.Blank b a n = in_url Ended a
 bare-goes l u w class.Newline b a n = in_url Ended a
-bare-goes l u w class.RightParenthesis b a n = outside (the_same _)
-bare-goes l u w class.QuotationMark b a n = outside (the_same _)
-bare-goes l u w class.Apostrophe b a n = outside (the_same _)
-bare-goes l u w class.LeftParenthesis b a n = outside (the_same _)
+bare-goes l u w class.RightParenthesis b a n = outside (the_same _ tt)
+bare-goes l u w class.QuotationMark b a n = outside (the_same _ tt)
+bare-goes l u w class.Apostrophe b a n = outside (the_same _ tt)
+bare-goes l u w class.LeftParenthesis b a n = outside (the_same _ tt)
 bare-goes l u w class.ReverseSolidus b a n = absurd (some _ n)
 bare-goes l u w c b a n = in_url Bare (l.feeds u w b a n)
 
@@ -239,15 +230,15 @@ quoted-goes : {U E : Type 0} {x : UrlReading U E} → UrlReadingLaws U E x → (
 quoted-goes l true q e u w c b a n = in_url _ (l.feeds u w b a n)
 quoted-goes l false DoubleQuote e u w class.QuotationMark b a n = in_url Ended a
 quoted-goes l false SingleQuote e u w class.Apostrophe b a n = in_url Ended a
-quoted-goes l false DoubleQuote e u w class.Newline b a n = outside (the_same _)
-quoted-goes l false SingleQuote e u w class.Newline b a n = outside (the_same _)
+quoted-goes l false DoubleQuote e u w class.Newline b a n = outside (the_same _ tt)
+quoted-goes l false SingleQuote e u w class.Newline b a n = outside (the_same _ tt)
 quoted-goes l false DoubleQuote e u w c b a n = in_url _ (l.feeds u w b a n)
 quoted-goes l false SingleQuote e u w c b a n = in_url _ (l.feeds u w b a n)
 
 ended-goes : {U E : Type 0} {x : UrlReading U E} (u w : U) (c : StyleClass) → x.AreAlike u w → StylesAlike x (next_ended u c) (next_ended w c)
 ended-goes u w class.Blank a = in_url Ended a
 ended-goes u w class.Newline a = in_url Ended a
-ended-goes u w c a = outside (the_same _)
+ended-goes u w c a = outside (the_same _ tt)
 
 url-goes : {U E : Type 0} {x : UrlReading U E} → UrlReadingLaws U E x → (f : UrlForm) (u w : U) (c : StyleClass) (b : ℕ) → x.AreAlike u w → refuses_in_url x f u c b ≡ None
     → StylesAlike x (next_in_url x f u c b) (next_in_url x f w c b)
@@ -267,7 +258,7 @@ unbegun-goes l u w c b a n = bare-goes l u w c b a n
 unbegun-ended-goes : {U E : Type 0} {x : UrlReading U E} (u w : U) (c : StyleClass) (b : ℕ) → x.AreAlike u w → refuses_ended c ≡ None → StylesAlike x (next_ended u c) (next_fresh x w c b)
 unbegun-ended-goes u w class.Blank b a n = unbegun_ended a
 unbegun-ended-goes u w class.Newline b a n = unbegun_ended a
-unbegun-ended-goes u w class.RightParenthesis b a n = outside (the_same _)
+unbegun-ended-goes u w class.RightParenthesis b a n = outside (the_same _ tt)
 unbegun-ended-goes u w c b a n = absurd (some _ n)
 
 class-goes : {U E : Type 0} {x : UrlReading U E} → UrlReadingLaws U E x → (v w : Style U) (c : StyleClass) (b : ℕ) → StylesAlike x v w → style_refuses_class x v c b ≡ None
@@ -281,7 +272,7 @@ class-goes l (InUrl Ended u) (InUrl Fresh w) c b (unbegun_ended a) n = unbegun-e
 
 -- the end of the value
 out-ends : {U E : Type 0} (x : UrlReading U E) (s r : Outside) (t : List (StyleEvent E)) → AreAlikeOutside s r → style_ends x (Out r) t ≡ style_ends x (Out s) t
-out-ends x s r t (the_same z) = refl
+out-ends x s r t (the_same z o) = refl
 out-ends x s r t (hole_between solidus less) = refl
 out-ends x s r t (hole_less_than solidus less) = refl
 out-ends x s r t (hole_word solidus less w) = refl
@@ -305,30 +296,25 @@ word-cut w AfterBackslash n = absurd (some _ n)
 word-cut w (HexDigits k) n = absurd (some _ n)
 word-cut w AfterReturn n = absurd (some _ n)
 
-split-cut : (e : StyleEscape) → refuses_in_escape e ≡ None → AreAlikeOutside (SplitWord NoEscape) (SplitWord e)
-split-cut NoEscape n = the_same _
-split-cut AfterBackslash n = absurd (some _ n)
-split-cut (HexDigits k) n = absurd (some _ n)
-split-cut AfterReturn n = absurd (some _ n)
-
 string-cut : (q : Quote) (e : StyleEscape) → refuses_in_escape e ≡ None → AreAlikeOutside (InString q NoEscape) (InString q e)
-string-cut q NoEscape n = the_same _
+string-cut q NoEscape n = the_same _ tt
 string-cut q AfterBackslash n = absurd (some _ n)
 string-cut q (HexDigits k) n = absurd (some _ n)
 string-cut q AfterReturn n = absurd (some _ n)
 
-same-cut : (s : Outside) → refuses_cut_out s ≡ None → AreAlikeOutside (out_after_cut s) s
-same-cut (Word w e) n = word-cut w e n
-same-cut (AfterSolidus k) n = cut_solidus k
-same-cut AfterLessThan n = cut_less_than
-same-cut (Comment true) n = cut_star true
-same-cut (Comment false) n = the_same _
-same-cut (InString q e) n = string-cut q e n
-same-cut (SplitWord e) n = split-cut e n
-same-cut s n = the_same _
+same-cut : (s : Outside) → IsOfPage s → refuses_cut_out s ≡ None → AreAlikeOutside (out_after_cut s) s
+same-cut (Word w e) o n = word-cut w e n
+same-cut (AfterSolidus k) o n = cut_solidus k
+same-cut AfterLessThan o n = cut_less_than
+same-cut (Comment true) o n = cut_star true
+same-cut (Comment false) o n = the_same _ tt
+same-cut (InString q e) o n = string-cut q e n
+same-cut (Between k) o n = the_same _ tt
+same-cut BadUrl o n = the_same _ tt
+same-cut s o n = absurd o
 
 out-cut : (s r : Outside) → AreAlikeOutside s r → refuses_cut_out s ≡ None → AreAlikeOutside (out_after_cut s) r
-out-cut s r (the_same z) n = same-cut z n
+out-cut s r (the_same z o) n = same-cut z o n
 out-cut s r (hole_between solidus less) n = hole_between solidus less
 out-cut s r (hole_less_than solidus less) n = hole_less_than solidus less
 out-cut s r (hole_word solidus less w) n = hole_word solidus less w
@@ -360,7 +346,7 @@ alike-cut l (InUrl Ended u) (InUrl Fresh w) (unbegun_ended a) n = unbegun_ended 
 
 -- what is pending before a hole
 alike-settles : {U E : Type 0} {x : UrlReading U E} (v w : Style U) (t : List (StyleEvent E)) → StylesAlike x v w → style_emits_settled w t ≡ style_emits_settled v t
-alike-settles (Out s) (Out r) t (outside (the_same z)) = refl
+alike-settles (Out s) (Out r) t (outside (the_same z o)) = refl
 alike-settles (Out s) (Out r) t (outside (hole_between solidus less)) = refl
 alike-settles (Out s) (Out r) t (outside (hole_less_than solidus less)) = refl
 alike-settles (Out s) (Out r) t (outside (hole_word solidus less w)) = refl
@@ -376,7 +362,7 @@ alike-settles (InUrl Ended u) (InUrl Fresh w) t (unbegun_ended a) = refl
 
 -- the mark of a hole
 out-marks : (s r : Outside) → AreAlikeOutside s r → out_has_mark r ≡ out_has_mark s
-out-marks s r (the_same z) = refl
+out-marks s r (the_same z o) = refl
 out-marks s r (hole_between solidus less) = refl
 out-marks s r (hole_less_than solidus less) = refl
 out-marks s r (hole_word solidus less w) = refl
@@ -411,13 +397,13 @@ run-behind x before StarAtCut solidus less h = absurd h
 
 string-behind : {U E : Type 0} (x : UrlReading U E) (q : Quote) (z : Outside) → z ≡ InString q NoEscape
     → StylesAlike x (Out (InString q NoEscape)) (style_behind x (Out (InString q NoEscape)) (Out z))
-string-behind x q z e = subst (λ (y : Outside). StylesAlike x (Out (InString q NoEscape)) (style_behind x (Out (InString q NoEscape)) (Out y))) (sym e) (outside (the_same _))
+string-behind x q z e = subst (λ (y : Outside). StylesAlike x (Out (InString q NoEscape)) (style_behind x (Out (InString q NoEscape)) (Out y))) (sym e) (outside (the_same _ tt))
 
 star-behind : {U E : Type 0} (x : UrlReading U E) (star to : Bool) (z : Outside) → z ≡ Comment to → StylesAlike x (Out StarAtCut) (style_behind x (Out (Comment star)) (Out z))
 star-behind x star to z e = subst (λ (y : Outside). StylesAlike x (Out StarAtCut) (style_behind x (Out (Comment star)) (Out y))) (sym e) (outside (cut_star to))
 
 comment-behind : {U E : Type 0} (x : UrlReading U E) (z : Outside) → z ≡ Comment false → StylesAlike x (Out (Comment false)) (style_behind x (Out (Comment false)) (Out z))
-comment-behind x z e = subst (λ (y : Outside). StylesAlike x (Out (Comment false)) (style_behind x (Out (Comment false)) (Out y))) (sym e) (outside (the_same _))
+comment-behind x z e = subst (λ (y : Outside). StylesAlike x (Out (Comment false)) (style_behind x (Out (Comment false)) (Out y))) (sym e) (outside (the_same _ tt))
 
 same-behind : {U E : Type 0} (x : UrlReading U E) (s z : Outside) → LeadsPlainOutside (out_settled s) z → StylesAlike x (Out (out_after_hole s)) (style_behind x (Out (out_settled s)) (Out z))
 same-behind x (Between k) z p = run-behind x (Between k) z false false p.1
@@ -452,7 +438,7 @@ split-behind x w e z p = run-behind x (Word w e) z false false p.1
 
 out-behind : {U E : Type 0} (x : UrlReading U E) (s r z : Outside) → AreAlikeOutside s r → LeadsPlainOutside (out_settled r) z
     → StylesAlike x (Out (out_after_hole s)) (style_behind x (Out (out_settled r)) (Out z))
-out-behind x s r z (the_same y) p = same-behind x y z p
+out-behind x s r z (the_same y o) p = same-behind x y z p
 out-behind x s r z (hole_between solidus less) p = run-behind x (Between false) z solidus less p.1
 out-behind x s r z (hole_less_than solidus less) p = run-behind x AfterLessThan z solidus less p.1
 out-behind x s r z (hole_word solidus less w) p = run-behind x (Word w NoEscape) z solidus less p.1
@@ -494,7 +480,7 @@ alike-hole l (InUrl Ended u) (InUrl Fresh w) (Out z) (unbegun_ended a) p = absur
 
 pub styles-keep : {U E : Type 0} {x : UrlReading U E} → UrlReadingLaws U E x → StyleLaws U E x
 styles-keep {U} {E} {x} l = record {
-  begins = outside (the_same _);
+  begins = outside (the_same _ tt);
   emits = λ v w b t a n. class-tells l v w (style_class b) b t a n;
   feeds = λ v w b a n. class-goes l v w (style_class b) b a n;
   ends = λ v w t a. alike-ends l v w t a;

@@ -179,7 +179,7 @@ bad-keeps x c b t d h = h
 -- in a comment
 from-space : {U E : Type 0} (x : UrlReading U E) (t : List (StyleEvent E)) (d : StyleReading U E) → d ≡ style_reading (Out (Between true)) t → StandsAt x (Out (Between true)) t d
 from-space {U} {E} x t d e = record {
-  alike = subst (λ (y : StyleReading U E). StylesAlike x (Out (Between true)) y.at) (sym e) (outside (the_same _));
+  alike = subst (λ (y : StyleReading U E). StylesAlike x (Out (Between true)) y.at) (sym e) (outside (the_same _ tt));
   told = ap (λ (y : StyleReading U E). y.told) e;
 }
 
@@ -207,7 +207,7 @@ is_behind_solidus (Out (AfterSolidus k)) = true
 is_behind_solidus s = false
 
 solidus-same : (k : Bool) (r : Outside) → AreAlikeOutside (AfterSolidus k) r → r ≡ AfterSolidus k
-solidus-same k r (the_same z) = refl
+solidus-same k r (the_same z o) = refl
 
 alike-solidus : {U E : Type 0} (x : UrlReading U E) (k : Bool) (w : Style U) → StylesAlike x (Out (AfterSolidus k)) w → w ≡ Out (AfterSolidus k)
 alike-solidus x k (Out r) (outside a) = ap Out (solidus-same k r a)
@@ -347,7 +347,7 @@ ends-keep l (InUrl f u) t d h = ends-at l (InUrl f u) t d h
 
 pub written-keeps : {U E : Type 0} {x : UrlReading U E} → UrlReadingLaws U E x → StyleWrittenLaws U E x
 written-keeps {U} {E} {x} l = record {
-  begins = record { alike = outside (the_same _); told = refl };
+  begins = record { alike = outside (the_same _ tt); told = refl };
   byte = λ v b t d h n. byte-keeps l v b t d h n;
   cut = λ v t d h n. cut-keeps l v t d h n;
   ends = λ v t d h. ends-keep l v t d h;

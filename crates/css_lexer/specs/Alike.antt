@@ -1,13 +1,22 @@
 -- When a page reads the texts of a path as the path does, though its state is another one: behind a node's end, which the page does not
 -- see, and behind a hole, whose value the path does not see.
-use Rattle.std.specs.Prelude.{Bool, false}
+use Rattle.std.specs.Prelude.{Bool, false, ⊤}
 use Rattle.css_lexer.specs.Escapes.{StyleEscape, NoEscape}
 use Rattle.css_lexer.specs.States.{UrlWord, Outside, Between, AfterLessThan, Word, AfterSolidus, Comment, BehindHole, SplitWord, SolidusAtCut, LessThanAtCut, StarAtCut, UrlForm, Fresh, Bare, Ended, Style, Out, InUrl}
 use Rattle.css_lexer.specs.UrlReading.{UrlReading}
 
+-- a state in which a page may be: the others are of paths alone
+abbrev pub IsOfPage : Outside → Type 0
+IsOfPage (BehindHole solidus less) = ⊥
+IsOfPage (SplitWord e) = ⊥
+IsOfPage (SolidusAtCut k) = ⊥
+IsOfPage LessThanAtCut = ⊥
+IsOfPage StarAtCut = ⊥
+IsOfPage s = ⊤
+
 -- the state of the path, and that of the page
 pub data AreAlikeOutside : Outside → Outside → Type 0 where
-  the_same : (s : Outside) → AreAlikeOutside s s
+  the_same : (s : Outside) → IsOfPage s → AreAlikeOutside s s
   -- behind a hole: in whatever word the page is, or in none
   hole_between : (solidus less : Bool) → AreAlikeOutside (BehindHole solidus less) (Between false)
   hole_less_than : (solidus less : Bool) → AreAlikeOutside (BehindHole solidus less) AfterLessThan

@@ -1,6 +1,7 @@
 pub mod BetweenTexts
 pub mod BornePaths
 pub mod OneStylePath
+pub mod OneStyleText
 pub mod PathSteps
 pub mod ShownStyleHoles
 pub mod ShownStyles
@@ -12,6 +13,7 @@ pub mod StyleEndOrigins
 pub mod StyleEndPaths
 pub mod StyleGrowth
 pub mod StyleHolePaths
+pub mod StyleLexemes
 mod StyleOriginExamples
 pub mod StyleOrigins
 pub mod StyleParts
@@ -19,7 +21,10 @@ pub mod StylePathOrigins
 pub mod StylePaths
 mod StyleScanExamples
 pub mod StyleScanned
+pub mod StyleTextCovering
+pub mod StyleTextGrowth
 pub mod StyleTexts
+pub mod StyleTextValidity
 pub mod StyleUrlOrigins
 pub mod TightScans
 pub mod TightUrls

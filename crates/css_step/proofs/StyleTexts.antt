@@ -19,7 +19,7 @@ use Rattle.css_step.proofs.StyleGrowth.{covers-styles}
 use Rattle.css_step.proofs.StyleHolePaths.{styles-come-from-hole}
 
 -- a path stays among those that are stepped
-stays : (bytes : List ℕ) (n : StyleScan) (v : Style Url) → TakesStyle bytes n → HasStyle n v → HasStyle (style_scan_text bytes n) (style_text bytes v)
+pub stays : (bytes : List ℕ) (n : StyleScan) (v : Style Url) → TakesStyle bytes n → HasStyle n v → HasStyle (style_scan_text bytes n) (style_text bytes v)
 stays [] n v t h = h
 stays (b ∷ bytes) n v t h = stays bytes (style_scan_next n (style_class b) b) (style_next urls v (style_class b) b) t.1 ((covers-styles n v h).next (style_class b) b t.0)
 

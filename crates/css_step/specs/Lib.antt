@@ -1,3 +1,6 @@
+pub mod StyleChains
+pub mod StyleCharacterLaws
+pub mod StyleCharacters
 pub mod StyleOrigins
 pub mod StyleScanLaws
 pub mod StyleScans

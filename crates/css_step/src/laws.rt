@@ -1,3 +1,6 @@
+ghost use Rattle.css_step.specs.StyleCharacterLaws.{IsExactOnOneStyleText};
+ghost use Rattle.css_step.specs.StyleCharacterLaws.{StyleCharactersComeFrom, StyleTextsCover};
+ghost use Rattle.css_step.specs.StyleCharacterLaws.{StyleTextsGrow, StyleTextsStayValid};
 ghost use Rattle.css_step.specs.StyleOrigins.{StyleRefusalIsShown, StylesComeFrom};
 ghost use Rattle.css_step.specs.StyleOrigins.{StylesComeFromHole};
 ghost use Rattle.css_step.specs.StyleScanLaws.{IsExactOnOneStyle};
@@ -61,4 +64,34 @@ pub fn style_refusal_is_shown()
 /// on paths at that place. A theorem; the call does nothing at run time.
 pub fn style_texts_come_from()
     ensures { StyleTextsComeFrom }
+{}
+
+/// From the place of one path, where a text begins as on the path, what characters come to is the path's own place, and so is what is
+/// refused of them, where, and the place before it. A theorem; the call does nothing at run time.
+pub fn is_exact_on_one_style_text()
+    ensures { IsExactOnOneStyleText }
+{}
+
+/// Where a place accepts the characters of a text, a place below it accepts them, and comes to one below. A theorem; the call does
+/// nothing at run time.
+pub fn style_texts_grow()
+    ensures { StyleTextsGrow }
+{}
+
+/// Where a place accepts the characters of a text, no path at it is refused in them or at their end, and each comes to a place below the
+/// one behind them. A theorem; the call does nothing at run time.
+pub fn style_texts_cover()
+    ensures { StyleTextsCover }
+{}
+
+/// The characters of a text bring a valid place to valid ones, and the place that is shown with a refusal is valid. A theorem; the call
+/// does nothing at run time.
+pub fn style_texts_stay_valid()
+    ensures { StyleTextsStayValid }
+{}
+
+/// Each member of the place behind characters that end with the node comes from a member before, on whatever path at the place bears
+/// it. A theorem; the call does nothing at run time.
+pub fn style_characters_come_from()
+    ensures { StyleCharactersComeFrom }
 {}

@@ -5,7 +5,7 @@ use Rattle.place_core.specs.page.Tags.{ValueState, refusal_code}
 use Rattle.place_core.specs.place.Errors.{hole_error}
 use Rattle.place_core.specs.place.PathPairs.{parts_clash, url_part_at}
 use Rattle.place_core.specs.place.Membership.{IsIn}
-use Rattle.place_core.specs.place.LanguagePlaces.{IsValidParts}
+use Rattle.place_core.specs.place.LanguagePlaces.{IsValidCss, IsValidParts, both_parts}
 use Rattle.place_core.specs.place.Places.{Below, IsValid, IsValidBody, IsValidQuotes, joined_bodies, joined_quotes}
 use Rattle.place_core.specs.place.StatePlaces.{only_inside}
 use Rattle.place_core.specs.place.UrlParts.{parts_of}
@@ -14,24 +14,36 @@ use Rattle.place_core.specs.declared.body.Body.TheVariants as body
 use Rattle.place_core.specs.declared.chain.Chain.{Chain}
 use Rattle.place_core.specs.declared.code.Code.{Code}
 use Rattle.place_core.specs.declared.css.Css.{Css}
+use Rattle.place_core.specs.declared.css.Css.TheVariants as css
 use Rattle.place_core.specs.declared.kind.Kind.TheVariants as kind
 use Rattle.place_core.specs.declared.parts.Parts.{Parts}
 use Rattle.place_core.specs.declared.place.Place.{Place}
 use Rattle.place_core.specs.declared.place.Place.TheVariants as place
 use Rattle.place_core.specs.declared.quotes.Quotes.{Quotes}
 use Rattle.place_core.specs.declared.quotes.Quotes.TheVariants as quotes
+use Rattle.place_core.specs.declared.san.San.{San}
+use Rattle.place_core.specs.declared.san.San.TheVariants as san
 use Rattle.place_core.specs.declared.tag_place.TagPlace.{TagPlace}
 use Rattle.place_core.specs.declared.value_place.ValuePlace.{ValuePlace}
 use Rattle.place_core.proofs.Semilattices.{none_some, one_value}
 use Rattle.html_scan.specs.Scans.{bare_begun}
 use Rattle.html_step.specs.HoleLaws.{AcceptsHole, CoversHole, GrowsHole, OneHole, ValidHole}
-use Rattle.html_step.specs.Holes.{Holed, after_hole, holed_quotes, last_of, named_by_data, plain_hole, url_holed, value_hole, block_hole}
+use Rattle.html_step.specs.Holes.{Holed, after_hole, both_of, css_chain, css_holed, holed_quotes, last_of, named_by_data, only, plain_hole, url_chain, url_holed, value_hole, block_hole}
+use Rattle.css_lexer.specs.RefusalCodes.{RefusalCode}
+use Rattle.css_step.specs.StyleScans.{style_at_hole, style_hole_error}
+use Rattle.css_step.specs.StyleScanViews.{style_or_refusal}
+use Rattle.css_step.specs.StyleSetLaws.{StyleBelow}
+use Rattle.css_step.proofs.StyleGrowth.{styles-grow, url-none}
+use Rattle.css_step.proofs.StyleParts.{styles-stay-valid}
+use Rattle.html_step.proofs.EscapeOrder.{css-dq-one, css-sq-one, css-url-one}
+use Rattle.html_step.proofs.StyleOrder.{below-css, css-below}
+use Rattle.url_lexer.specs.Parts.{UrlStart}
 use Rattle.html_step.proofs.ScanOrder.{one-spot, parts-below, value-from, block-below, plain-same}
 use Rattle.html_step.proofs.HoleSteps.{OwnHole, own-at}
 use Rattle.html_step.proofs.OnePart.{same-chain}
 use Rattle.html_step.proofs.PlaceParts.{TagBelow, Under, ValueBelow, below-tag, below-value, value-below, under-both, under-none}
 use Rattle.html_step.proofs.ScanOrder.{parts-of-below}
-use Rattle.html_step.proofs.UrlPlaces.{InUrl, body_url, url-place}
+use Rattle.html_step.proofs.UrlPlaces.{InUrl, body_url, css_url, url-place}
 use Rattle.url_lexer.specs.Parts.{UrlPart}
 use Rattle.url_lexer.specs.Refusals.{UrlRefusal}
 use Rattle.url_lexer.specs.TwoPaths.{refuses_hole_on_two}
@@ -99,6 +111,60 @@ url-grows x y s p None h v b l n =
           h.tag h.typed (holed-below x.quotes y.quotes h.quotes) (ap (λ (z : Parts). Some (body.Url z)) g.at_hole),
     )
 
+-- in a style
+pub url-parts : (s r : Parts) → StyleBelow (css.Url s) (css.Url r) → PartsBelow s r
+url-parts s r h = css-url-one (both_parts s r) r (one_value (css.Url (both_parts s r)) (css.Url r) h)
+
+pub dq-parts : (s r : Parts) → StyleBelow (css.UrlDq s) (css.UrlDq r) → PartsBelow s r
+dq-parts s r h = css-dq-one (both_parts s r) r (one_value (css.UrlDq (both_parts s r)) (css.UrlDq r) h)
+
+pub sq-parts : (s r : Parts) → StyleBelow (css.UrlSq s) (css.UrlSq r) → PartsBelow s r
+sq-parts s r h = css-sq-one (both_parts s r) r (one_value (css.UrlSq (both_parts s r)) (css.UrlSq r) h)
+
+same-css-chain : (c d : Css) (x y : San) → x ≡ y → IsValidCss c → StyleBelow c d → style_hole_error d ≡ None → css_chain c x ≡ css_chain d y
+same-css-chain (css.Code s) (css.Code r) x y e v h n = ap (both_of san.CssValue) e
+same-css-chain css.Dq css.Dq x y e v h n = ap (both_of san.CssString) e
+same-css-chain css.Sq css.Sq x y e v h n = ap (both_of san.CssString) e
+same-css-chain css.UrlFresh css.UrlFresh x y e v h n = ap (url_chain (parts_of UrlStart)) e
+same-css-chain (css.Url s) (css.Url r) x y e v h n = same-chain s r x y e v.0 (url-parts s r h) (url-none (parts_hole_error r) n)
+same-css-chain (css.UrlDq s) (css.UrlDq r) x y e v h n = same-chain s r x y e v.0 (dq-parts s r h) (url-none (parts_hole_error r) n)
+same-css-chain (css.UrlSq s) (css.UrlSq r) x y e v h n = same-chain s r x y e v.0 (sq-parts s r h) (url-none (parts_hole_error r) n)
+same-css-chain css.UrlEnd css.UrlEnd x y e v h n = ap only e
+same-css-chain (css.Comment s) (css.Comment r) x y e v h n = ap (both_of san.Drop) e
+same-css-chain (css.Code s) d x y e v h n = absurd (none_some d h)
+same-css-chain css.Dq d x y e v h n = absurd (none_some d h)
+same-css-chain css.Sq d x y e v h n = absurd (none_some d h)
+same-css-chain css.UrlFresh d x y e v h n = absurd (none_some d h)
+same-css-chain (css.Url s) d x y e v h n = absurd (none_some d h)
+same-css-chain (css.UrlDq s) d x y e v h n = absurd (none_some d h)
+same-css-chain (css.UrlSq s) d x y e v h n = absurd (none_some d h)
+same-css-chain css.UrlEnd d x y e v h n = absurd (none_some d h)
+same-css-chain (css.Comment s) d x y e v h n = absurd (none_some d h)
+
+style-after : ValuePlace → Css → Place
+style-after x c = place.Value (record { tag = x.tag; typed = x.typed; quotes = holed_quotes x.quotes; body = body.Css (style_at_hole c) })
+
+css-grows : (x y : ValuePlace) (c d : Css) (o : Option RefusalCode) → ValueBelow x y → IsValidCss c → x.body ≡ body.Css c → StyleBelow c d
+    → style_hole_error d ≡ o → GrowsTo (css_holed y d (style_or_refusal o (style_at_hole d))) (place.Value x)
+unfolding style-after
+css-grows x y c d (Some e) h v b l n = tt
+css-grows x y c d None h v b l n =
+    let g = styles-grow.places c d l in (
+      style-after x c,
+      ap (λ (z : Body). value_hole z x) b ∙ ap (λ (z : Option RefusalCode). css_holed x c (style_or_refusal z (style_at_hole c))) (g.hole_error n)
+          ∙ ap (λ (z : Chain). Ok (style-after x c, z)) (same-css-chain c d (last_of x.quotes) (last_of y.quotes) (same-last x.quotes y.quotes h.quotes) v l n),
+      value-from x.tag y.tag x.typed y.typed (holed_quotes x.quotes) (holed_quotes y.quotes) (body.Css (style_at_hole c)) (body.Css (style_at_hole d))
+          h.tag h.typed (holed-below x.quotes y.quotes h.quotes) (below-css (style_at_hole c) (style_at_hole d) g.at_hole),
+    )
+
+-- below a style is one
+pub css-of-below : (b : Body) (d : Css) → joined_bodies b (body.Css d) ≡ Some (body.Css d) → (c : Css) × (b ≡ body.Css c) × StyleBelow c d
+css-of-below (body.Css c) d h = (c, refl, css-below c d h)
+css-of-below body.Plain d h = absurd (none_some (body.Css d) h)
+css-of-below body.NoHole d h = absurd (none_some (body.Css d) h)
+css-of-below (body.Js j) d h = absurd (none_some (body.Css d) h)
+css-of-below (body.Url s) d h = absurd (none_some (body.Css d) h)
+
 value-grows : (x y : ValuePlace) (b : Body) → ValueBelow x y → IsValid (place.Value x) → y.body ≡ b → GrowsTo (value_hole b y) (place.Value x)
 value-grows x y body.Plain h v e =
     let same : x.body ≡ body.Plain = plain-same x.body (subst (λ (z : Body). joined_bodies x.body z ≡ Some z) e h.body) in
@@ -108,7 +174,9 @@ value-grows x y (body.Url p) h v e =
     let w = parts-of-below x.body p (subst (λ (z : Body). joined_bodies x.body z ≡ Some z) e h.body) in
     url-grows x y w.0 p (parts_hole_error p) h (subst IsValidBody w.1 v.1) w.1 w.2 refl
 value-grows x y (body.Js p) h v e = tt
-value-grows x y (body.Css d) h v e = tt
+value-grows x y (body.Css d) h v e =
+    let w = css-of-below x.body d (subst (λ (z : Body). joined_bodies x.body z ≡ Some z) e h.body) in
+    css-grows x y w.0 d (style_hole_error d) h (subst IsValidBody w.1 v.1) w.1 w.2 refl
 
 block-grows : (x y : Bool) → Under x y → GrowsTo (block_hole y) (place.Block x)
 block-grows x true u = tt
@@ -161,12 +229,16 @@ url-valid : (x : ValuePlace) (s : Parts) (o : Option UrlRefusal) → IsValidBody
 url-valid x s (Some e) v = tt
 url-valid x s None v = (holed-valid x.quotes, (parts-stay-valid s v).at_hole)
 
+css-valid : (x : ValuePlace) (c : Css) (o : Option RefusalCode) → IsValidCss c → ValidTo (css_holed x c (style_or_refusal o (style_at_hole c)))
+css-valid x c (Some e) v = tt
+css-valid x c None v = (holed-valid x.quotes, styles-stay-valid.at_hole c v)
+
 value-valid : (x : ValuePlace) (b : Body) → IsValid (place.Value x) → x.body ≡ b → ValidTo (value_hole b x)
 value-valid x body.Plain v e = plain-valid x x.quotes v
 value-valid x body.NoHole v e = tt
 value-valid x (body.Url s) v e = url-valid x s (parts_hole_error s) (subst IsValidBody e v.1)
 value-valid x (body.Js j) v e = tt
-value-valid x (body.Css c) v e = tt
+value-valid x (body.Css c) v e = css-valid x c (style_hole_error c) (subst IsValidBody e v.1)
 
 valid-to : (p : Place) → IsValid p → ValidTo (after_hole p)
 valid-to place.Text v = tt
@@ -226,6 +298,56 @@ record PartBelow (x : UrlPart) (b : Body) : Type 0 where
   below : joined_bodies own b ≡ Some b
   parts : body_url own ≡ Some (parts_of x)
 
+-- in a URL of a style
+css-not-url : (c d : Css) (p : Parts) → StyleBelow c d → css_url c ≡ Some p → css_url d ≡ None → ⊥
+css-not-url (css.Url s) (css.Url r) p h e n = none_some r (sym n)
+css-not-url (css.UrlDq s) (css.UrlDq r) p h e n = none_some r (sym n)
+css-not-url (css.UrlSq s) (css.UrlSq r) p h e n = none_some r (sym n)
+css-not-url (css.Url s) d p h e n = none_some d h
+css-not-url (css.UrlDq s) d p h e n = none_some d h
+css-not-url (css.UrlSq s) d p h e n = none_some d h
+css-not-url c d p h e n = none_some p e
+
+body-not-url : (b : Body) (d : Css) (p : Parts) → joined_bodies b (body.Css d) ≡ Some (body.Css d) → body_url b ≡ Some p → css_url d ≡ None → ⊥
+body-not-url b d p h e n = (let c = css-of-below b d h in css-not-url c.0 d p c.2 (sym (ap body_url c.1) ∙ e) n)
+
+-- the parts below those of a URL in a style
+css-parts-below : (c d : Css) (s p : Parts) → StyleBelow c d → css_url d ≡ Some s → css_url c ≡ Some p → PartsBelow p s
+css-parts-below (css.Url q) (css.Url r) s p h e n =
+    subst (λ (z : Parts). PartsBelow z s) (one_value q p n) (subst (PartsBelow q) (one_value r s e) (url-parts q r h))
+css-parts-below (css.UrlDq q) (css.UrlDq r) s p h e n =
+    subst (λ (z : Parts). PartsBelow z s) (one_value q p n) (subst (PartsBelow q) (one_value r s e) (dq-parts q r h))
+css-parts-below (css.UrlSq q) (css.UrlSq r) s p h e n =
+    subst (λ (z : Parts). PartsBelow z s) (one_value q p n) (subst (PartsBelow q) (one_value r s e) (sq-parts q r h))
+css-parts-below (css.Url q) d s p h e n = absurd (none_some d h)
+css-parts-below (css.UrlDq q) d s p h e n = absurd (none_some d h)
+css-parts-below (css.UrlSq q) d s p h e n = absurd (none_some d h)
+css-parts-below c d s p h e n = absurd (none_some p n)
+
+body-parts-below : (b : Body) (d : Css) (s p : Parts) → joined_bodies b (body.Css d) ≡ Some (body.Css d) → css_url d ≡ Some s → body_url b ≡ Some p → PartsBelow p s
+body-parts-below b d s p h e n = (let c = css-of-below b d h in css-parts-below c.0 d s p c.2 e (sym (ap body_url c.1) ∙ n))
+
+taken-style : (t : ValuePlace) (c : Css) (o : Option RefusalCode) (h : Place × Chain) → style_hole_error c ≡ o
+    → css_holed t c (style_or_refusal o (style_at_hole c)) ≡ Ok h → style_hole_error c ≡ None
+taken-style t c None h n e = n
+taken-style t c (Some x) h n e = cc
+
+two-in-url : (d : Css) (s : Parts) (x y : UrlPart) → css_url d ≡ Some s → parts_hole_error s ≡ None → PartBelow x (body.Css d) → PartBelow y (body.Css d)
+    → refuses_hole_on_two x y ≡ None
+two-in-url d s x y e n i j =
+    (parts-agree s x y (body-parts-below i.own d s (parts_of x) i.below e i.parts) (body-parts-below j.own d s (parts_of y) j.below e j.parts)).hole n
+
+two-in-css : (d : Css) (x y : UrlPart) → style_hole_error d ≡ None → PartBelow x (body.Css d) → PartBelow y (body.Css d) → refuses_hole_on_two x y ≡ None
+two-in-css (css.Url s) x y n i j = two-in-url (css.Url s) s x y refl (url-none (parts_hole_error s) n) i j
+two-in-css (css.UrlDq s) x y n i j = two-in-url (css.UrlDq s) s x y refl (url-none (parts_hole_error s) n) i j
+two-in-css (css.UrlSq s) x y n i j = two-in-url (css.UrlSq s) s x y refl (url-none (parts_hole_error s) n) i j
+two-in-css (css.Code r) x y n i j = absurd (body-not-url i.own (css.Code r) (parts_of x) i.below i.parts refl)
+two-in-css css.Dq x y n i j = absurd (body-not-url i.own css.Dq (parts_of x) i.below i.parts refl)
+two-in-css css.Sq x y n i j = absurd (body-not-url i.own css.Sq (parts_of x) i.below i.parts refl)
+two-in-css css.UrlFresh x y n i j = absurd (body-not-url i.own css.UrlFresh (parts_of x) i.below i.parts refl)
+two-in-css css.UrlEnd x y n i j = absurd (body-not-url i.own css.UrlEnd (parts_of x) i.below i.parts refl)
+two-in-css (css.Comment r) x y n i j = absurd (body-not-url i.own (css.Comment r) (parts_of x) i.below i.parts refl)
+
 two-in-body : (t : ValuePlace) (b : Body) (h : Place × Chain) (x y : UrlPart) → value_hole b t ≡ Ok h → PartBelow x b → PartBelow y b → refuses_hole_on_two x y ≡ None
 two-in-body t (body.Url s) h x y e i j =
     (parts-agree s x y (below-parts i.own s (parts_of x) i.below i.parts) (below-parts j.own s (parts_of y) j.below j.parts)).hole
@@ -233,7 +355,7 @@ two-in-body t (body.Url s) h x y e i j =
 two-in-body t body.Plain h x y e i j = absurd (not-plain i.own (parts_of x) i.below i.parts)
 two-in-body t body.NoHole h x y e i j = absurd (no-hole _ h e)
 two-in-body t (body.Js s) h x y e i j = absurd (no-hole _ h e)
-two-in-body t (body.Css d) h x y e i j = absurd (no-hole _ h e)
+two-in-body t (body.Css d) h x y e i j = two-in-css d x y (taken-style t d (style_hole_error d) h refl e) i j
 
 url-below : (t : ValuePlace) (a : Place) (x : UrlPart) → InUrl a x → Below a (place.Value t) → PartBelow x t.body
 url-below t a x i l = record {

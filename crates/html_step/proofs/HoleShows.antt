@@ -1,11 +1,11 @@
 -- Members behind a hole, and what shows that one is refused.
 use Rattle.std.proofs.Common.{◌≡◌, Bool, true, false, ◌||◌, Option, Some, None, option_map, Ok, Err, if◌then◌else◌, refl, sym, ap, ◌∙◌, subst, ◌⊎◌, inl, inr}
 use Rattle.place_core.specs.page.States.{LexState}
-use Rattle.place_core.specs.page.Tags.{ValueState, refusal_code}
-use Rattle.place_core.specs.place.Errors.{body_error, body_hole_error, hole_error, url_hole_error}
+use Rattle.place_core.specs.page.Tags.{ValueState, refusal_code, style_code}
+use Rattle.place_core.specs.place.Errors.{body_error, body_hole_error, css_hole_error, hole_error, url_hole_error}
 use Rattle.place_core.specs.place.PathPairs.{ClashesHole, parts_clash, url_part_at}
 use Rattle.place_core.specs.place.Membership.{IsIn, Bears}
-use Rattle.place_core.specs.place.LanguagePlaces.{parts_have}
+use Rattle.place_core.specs.place.LanguagePlaces.{css_has, css_star_has, css_tails_have, parts_have}
 use Rattle.place_core.specs.place.Places.{Below, Has, IsValid, body_has, is_whole, joined_bodies, joined_quotes, quotes_have, typed_has}
 use Rattle.place_core.specs.place.StatePlaces.{only_inside, placed}
 use Rattle.place_core.specs.declared.body.Body.{Body}
@@ -26,24 +26,31 @@ use Rattle.place_core.specs.declared.value_place.ValuePlace.{ValuePlace}
 use Rattle.place_core.proofs.Semilattices.{none_some}
 use Rattle.html_scan.specs.Scans.{Scan, bare_begun, scan_place, At}
 use Rattle.html_step.specs.Laws.{EvidenceData, apart, one, two}
-use Rattle.html_step.specs.HoleOrigins.{body_hole_origin, hole_origin, hole_shows, part_hole_origin, quotes_origin, url_hole_shows, value_hole_shows}
+use Rattle.html_step.specs.HoleOrigins.{body_hole_origin, css_hole_origin, css_hole_shows, fresh_hole_origin, hole_origin, hole_shows, part_hole_origin, quotes_origin, url_hole_shows, value_hole_shows, word_hole_origin}
 use Rattle.html_step.specs.Origins.{in_value_origin, typed_origin}
 use Rattle.html_step.specs.HoleLaws.{IsHoleOrigin, IsHoleEvidence, FromHole, HoleEvidence}
-use Rattle.html_step.specs.Holes.{Holed, after_hole, holed_quotes, named_by_data, plain_hole, url_holed, value_hole, block_hole}
+use Rattle.html_step.specs.Holes.{Holed, after_hole, css_holed, holed_quotes, named_by_data, plain_hole, url_holed, value_hole, block_hole}
 use Rattle.html_step.proofs.BelowScans.{tag-place, value-place, below-at-block}
 use Rattle.html_step.proofs.FromSteps.{false-or, no, or-false, or-last}
 use Rattle.html_step.proofs.FromValues.{in-body, in-quotes, in-typed, in-whole, out-part, part-kept, typed-more, typed-only, value-cases, value_has}
 use Rattle.html_step.proofs.FromTexts.{own-has}
 use Rattle.html_step.proofs.ScanOrder.{block-below, plain-same}
-use Rattle.html_step.proofs.HoleOrder.{grows-hole, one-hole}
+use Rattle.html_step.proofs.HoleOrder.{css-of-below, grows-hole, one-hole}
 use Rattle.html_step.proofs.HoleMembers.{part-behind}
 use Rattle.html_step.proofs.HolesShown.{HoleShown, ShownWhere, hole-where, on_bad, on_two}
 use Rattle.html_step.proofs.PlaceParts.{TagBelow, Under, ValueBelow}
 use Rattle.html_step.proofs.ScanOrder.{parts-of-below}
-use Rattle.html_step.proofs.UrlPlaces.{body_url, url-part}
+use Rattle.html_step.proofs.UrlPlaces.{body_url, css_url, url-part}
 use Rattle.url_lexer.specs.Parts.{UrlPart}
-use Rattle.url_lexer.specs.Refusals.{UrlRefusal, BadHTML}
+use Rattle.url_lexer.specs.Refusals.{UrlRefusal, AmbigContext, BadHTML, PartialEscape}
+use Rattle.css_lexer.specs.RefusalCodes.{RefusalCode}
+use Rattle.css_lexer.specs.Urls.{url_code, url_refusal}
+use Rattle.css_step.specs.StyleScans.{style_at_hole, style_hole_error}
+use Rattle.css_step.specs.StyleScanViews.{style_hole_answer, style_or_refusal}
+use Rattle.css_step.specs.StyleSetLaws.{StyleBelow}
 use Rattle.place_core.specs.declared.css.Css.{Css}
+use Rattle.place_core.specs.declared.css.Css.TheVariants as css
+use Rattle.place_core.specs.declared.css_tails.CssTails.{CssTails}
 use Rattle.url_lexer.specs.TwoPaths.{refuses_hole_on_two}
 use Rattle.url_step.specs.PartOrigins.{PartBears}
 use Rattle.url_step.specs.PartSets.{parts_at_hole, parts_hole_error, parts_or_refusal}
@@ -220,12 +227,222 @@ url-from t p None y b =
     (from-url-by t p y x b (subst (λ (z : Body). value_has t.typed t.quotes z x ≡ true) (sym b) (in-body t.typed t.quotes (body.Url p) x m.there))
     (λ u s l o. in-body u.typed (holed_quotes u.quotes) (body.Url (parts_at_hole s)) y (m.leads s (out-part p s u.typed u.quotes x m.there o)))))
 
+-- in a style
+record CssBehind (p : Css) (y x : Member) : Type 0 where
+  there : (x ≡ member.Whole) ⊎ (css_has p x ≡ true)
+  leads : (c : Css) → StyleBelow c p → (css_has p x ≡ true → css_has c x ≡ true) → css_has (style_at_hole c) y ≡ true
+
+whole-behind : (p : Css) (y : Member) → ((c : Css) → StyleBelow c p → css_has (style_at_hole c) y ≡ true) → CssBehind p y member.Whole
+whole-behind p y f = record { there = inl refl; leads = λ c l k. f c l }
+
+code-word : (s : CssTails) (c : Css) → StyleBelow c (css.Code s) → css_has (style_at_hole c) member.CssWord ≡ true
+code-word s (css.Code r) l = refl
+code-word s c l = absurd (none_some (css.Code s) l)
+
+code-slash : (s : CssTails) (c : Css) → StyleBelow c (css.Code s) → css_has c member.CssSlash ≡ true → css_has (style_at_hole c) member.CssSlash ≡ true
+code-slash s (css.Code r) l k = k
+code-slash s c l k = absurd (none_some (css.Code s) l)
+
+code-less : (s : CssTails) (c : Css) → StyleBelow c (css.Code s) → css_has c member.CssLt ≡ true → css_has (style_at_hole c) member.CssLt ≡ true
+code-less s (css.Code r) l k = k
+code-less s c l k = absurd (none_some (css.Code s) l)
+
+code-behind : (s : CssTails) (y : Member) → css_has (style_at_hole (css.Code s)) y ≡ true → CssBehind (css.Code s) y (word_hole_origin y)
+code-behind s member.CssWord h = whole-behind (css.Code s) member.CssWord (code-word s)
+code-behind s member.CssSlash h = record { there = inr h; leads = λ c l k. code-slash s c l (k h) }
+code-behind s member.CssLt h = record { there = inr h; leads = λ c l k. code-less s c l (k h) }
+code-behind s _ h = absurd (no h)
+
+fresh-open : (c : Css) → StyleBelow c css.UrlFresh → css_has (style_at_hole c) member.PartOpenhole ≡ true
+fresh-open css.UrlFresh l = refl
+fresh-open c l = absurd (none_some css.UrlFresh l)
+
+fresh-behind : (y : Member) → css_has (style_at_hole css.UrlFresh) y ≡ true → CssBehind css.UrlFresh y (fresh_hole_origin y)
+fresh-behind member.PartOpenhole h = whole-behind css.UrlFresh member.PartOpenhole fresh-open
+fresh-behind _ h = absurd (no h)
+
+star-stays : (x : Bool) (y : Member) (c : Css) → StyleBelow c (css.Comment x) → css_has c y ≡ true → css_has (style_at_hole c) y ≡ true
+star-stays x y (css.Comment z) l k = k
+star-stays x y c l k = absurd (none_some (css.Comment x) l)
+
+bare-leads : (s : Parts) (y x : Member) → ((t : Parts) → parts_have t x ≡ true → parts_have (parts_at_hole t) y ≡ true) → (c : Css) → StyleBelow c (css.Url s)
+    → css_has c x ≡ true → css_has (style_at_hole c) y ≡ true
+bare-leads s y x f (css.Url t) l k = f t k
+bare-leads s y x f c l k = absurd (none_some (css.Url s) l)
+
+dq-leads : (s : Parts) (y x : Member) → ((t : Parts) → parts_have t x ≡ true → parts_have (parts_at_hole t) y ≡ true) → (c : Css) → StyleBelow c (css.UrlDq s)
+    → css_has c x ≡ true → css_has (style_at_hole c) y ≡ true
+dq-leads s y x f (css.UrlDq t) l k = f t k
+dq-leads s y x f c l k = absurd (none_some (css.UrlDq s) l)
+
+sq-leads : (s : Parts) (y x : Member) → ((t : Parts) → parts_have t x ≡ true → parts_have (parts_at_hole t) y ≡ true) → (c : Css) → StyleBelow c (css.UrlSq s)
+    → css_has c x ≡ true → css_has (style_at_hole c) y ≡ true
+sq-leads s y x f (css.UrlSq t) l k = f t k
+sq-leads s y x f c l k = absurd (none_some (css.UrlSq s) l)
+
+css-behind : (p : Css) (y : Member) → css_has (style_at_hole p) y ≡ true → CssBehind p y (css_hole_origin p y)
+css-behind (css.Code s) y h = code-behind s y h
+css-behind css.UrlFresh y h = fresh-behind y h
+css-behind (css.Url s) y h =
+    (let m = part-behind s y h in record { there = inr m.there; leads = λ c l k. bare-leads s y (part_hole_origin s y) m.leads c l (k m.there) })
+css-behind (css.UrlDq s) y h =
+    (let m = part-behind s y h in record { there = inr m.there; leads = λ c l k. dq-leads s y (part_hole_origin s y) m.leads c l (k m.there) })
+css-behind (css.UrlSq s) y h =
+    (let m = part-behind s y h in record { there = inr m.there; leads = λ c l k. sq-leads s y (part_hole_origin s y) m.leads c l (k m.there) })
+css-behind (css.Comment x) y h = record { there = inr h; leads = λ c l k. star-stays x y c l (k h) }
+css-behind css.Dq y h = absurd (no h)
+css-behind css.Sq y h = absurd (no h)
+css-behind css.UrlEnd y h = absurd (no h)
+
+-- a member of a style is none of the others
+css-lacks : (p : Css) → (css_has p member.Whole ≡ false) × (css_has p member.Typed ≡ false) × (css_has p member.UnquotedValue ≡ false) × (css_has p member.UnbegunValue ≡ false)
+css-lacks (css.Code s) = (refl, refl, refl, refl)
+css-lacks css.Dq = (refl, refl, refl, refl)
+css-lacks css.Sq = (refl, refl, refl, refl)
+css-lacks css.UrlFresh = (refl, refl, refl, refl)
+css-lacks (css.Url s) = (refl, refl, refl, refl)
+css-lacks (css.UrlDq s) = (refl, refl, refl, refl)
+css-lacks (css.UrlSq s) = (refl, refl, refl, refl)
+css-lacks css.UrlEnd = (refl, refl, refl, refl)
+css-lacks (css.Comment x) = (refl, refl, refl, refl)
+
+whole-no-css : (p : Css) (y : Member) → is_whole y ≡ true → css_has p y ≡ true → ⊥
+whole-no-css p member.Whole h k = no (sym (css-lacks p).0 ∙ k)
+whole-no-css p _ h k = no h
+
+typed-no-css : (p : Css) (x : Bool) (y : Member) → typed_has x y ≡ true → css_has p y ≡ true → ⊥
+typed-no-css p x member.Typed h k = no (sym (css-lacks p).1 ∙ k)
+typed-no-css p x _ h k = no h
+
+quotes-no-css : (p : Css) (q : Quotes) (y : Member) → quotes_have q y ≡ true → css_has p y ≡ true → ⊥
+quotes-no-css p (quotes.Bare b) member.UnquotedValue h k = no (sym (css-lacks p).2 ∙ k)
+quotes-no-css p (quotes.Bare b) member.UnbegunValue h k = no (sym (css-lacks p).3 ∙ k)
+quotes-no-css p (quotes.Bare b) _ h k = no h
+quotes-no-css p quotes.Dq y h k = no h
+quotes-no-css p quotes.Sq y h k = no h
+
+css-out : (p c : Css) (z : Bool) (w : Quotes) (y : Member) → css_has p y ≡ true → value_has z w (body.Css c) y ≡ true → css_has c y ≡ true
+css-out p c z w y h k =
+    value-cases (css_has c y ≡ true) z w (body.Css c) y k (λ e. absurd (whole-no-css p y e h)) (λ e. absurd (typed-no-css p z y e h))
+    (λ e. absurd (quotes-no-css p w y e h)) (λ e. e)
+
+quotes-typed : (q : Quotes) → quotes_have q member.Typed ≡ true → ⊥
+quotes-typed (quotes.Bare b) h = no h
+quotes-typed quotes.Dq h = no h
+quotes-typed quotes.Sq h = no h
+
+css-typed : (x : Bool) (q : Quotes) (c : Css) → value_has x q (body.Css c) member.Typed ≡ true → x ≡ true
+css-typed x q c h =
+    value-cases (x ≡ true) x q (body.Css c) member.Typed h (λ e. absurd (no e)) (λ e. e) (λ e. absurd (quotes-typed q e))
+    (λ e. absurd (no (sym (css-lacks c).1 ∙ e)))
+
+-- where the others come from
+css-whole-origin : (p : Css) → css_hole_origin p member.Whole ≡ member.Whole
+css-whole-origin (css.Code s) = refl
+css-whole-origin css.UrlFresh = refl
+css-whole-origin (css.Url s) = refl
+css-whole-origin (css.UrlDq s) = refl
+css-whole-origin (css.UrlSq s) = refl
+css-whole-origin _ = refl
+
+css-typed-origin : (p : Css) → css_hole_origin p member.Typed ≡ member.Typed
+css-typed-origin (css.Code s) = refl
+css-typed-origin css.UrlFresh = refl
+css-typed-origin (css.Url s) = refl
+css-typed-origin (css.UrlDq s) = refl
+css-typed-origin (css.UrlSq s) = refl
+css-typed-origin _ = refl
+
+whole-by-quotes : (q : Quotes) (y : Member) → is_whole y ≡ true → quotes_origin q y ≡ member.Whole
+whole-by-quotes quotes.Dq member.Whole h = refl
+whole-by-quotes quotes.Sq member.Whole h = refl
+whole-by-quotes (quotes.Bare b) member.Whole h = refl
+whole-by-quotes q _ h = absurd (no h)
+
+typed-by-quotes : (q : Quotes) (x : Bool) (y : Member) → typed_has x y ≡ true → (quotes_origin q y ≡ member.Typed) × (x ≡ true)
+typed-by-quotes quotes.Dq x member.Typed h = (refl, h)
+typed-by-quotes quotes.Sq x member.Typed h = (refl, h)
+typed-by-quotes (quotes.Bare b) x member.Typed h = (refl, h)
+typed-by-quotes q x _ h = absurd (no h)
+
+begun-by-quotes : (q : Quotes) (y : Member) → quotes_have (holed_quotes q) y ≡ true → quotes_origin q y ≡ member.Whole
+begun-by-quotes (quotes.Bare b) member.UnquotedValue h = refl
+begun-by-quotes (quotes.Bare b) _ h = absurd (no h)
+begun-by-quotes quotes.Dq y h = absurd (no h)
+begun-by-quotes quotes.Sq y h = absurd (no h)
+
+tails-kept : (s : CssTails) (y : Member) → css_tails_have s y ≡ true → in_value_origin y ≡ y
+tails-kept s member.CssWord h = refl
+tails-kept s member.CssSlash h = refl
+tails-kept s member.CssLt h = refl
+tails-kept s _ h = absurd (no h)
+
+star-kept : (x : Bool) (y : Member) → css_star_has x y ≡ true → in_value_origin y ≡ y
+star-kept x member.CssStar h = refl
+star-kept x _ h = absurd (no h)
+
+css-kept : (c : Css) (y : Member) → css_has c y ≡ true → in_value_origin y ≡ y
+css-kept (css.Code s) y h = tails-kept s y h
+css-kept (css.Url s) y h = part-kept s y h
+css-kept (css.UrlDq s) y h = part-kept s y h
+css-kept (css.UrlSq s) y h = part-kept s y h
+css-kept (css.Comment x) y h = star-kept x y h
+css-kept css.Dq y h = absurd (no h)
+css-kept css.Sq y h = absurd (no h)
+css-kept css.UrlFresh y h = absurd (no h)
+css-kept css.UrlEnd y h = absurd (no h)
+
+kept-by-quotes : (c : Css) (q : Quotes) (y : Member) → css_has c y ≡ true → quotes_origin q y ≡ y
+kept-by-quotes c quotes.Dq y h = refl
+kept-by-quotes c quotes.Sq y h = refl
+kept-by-quotes c (quotes.Bare b) y h = css-kept c y h
+
+after-css : (u : ValuePlace) (c : Css) (y : Member) (o : Option RefusalCode) → value_has u.typed (holed_quotes u.quotes) (body.Css (style_at_hole c)) y ≡ true
+    → HasAfter (css_holed u c (style_or_refusal o (style_at_hole c))) y
+after-css u c y None h = h
+after-css u c y (Some e) h = tt
+
+from-css-by : (t : ValuePlace) (p : Css) (y x : Member) → t.body ≡ body.Css p → Has (place.Value t) x
+    → ((u : ValuePlace) (c : Css) → ValueBelow u t → StyleBelow c p → value_has u.typed u.quotes (body.Css c) x ≡ true
+    → value_has u.typed (holed_quotes u.quotes) (body.Css (style_at_hole c)) y ≡ true)
+    → FromPlace (place.Value t) y x
+from-css-by t p y x b h f =
+    from-value t y x h
+    (λ u l o. let w = css-of-below u.body p (subst (λ (z : Body). joined_bodies u.body z ≡ Some z) b l.body) in
+    subst (λ (z : Body). HasAfter (value_hole z u) y) (sym w.1)
+    (after-css u w.0 y (style_hole_error w.0) (f u w.0 l w.2 (subst (λ (z : Body). value_has u.typed u.quotes z x ≡ true) w.1 o))))
+
+css-there : (t : ValuePlace) (p : Css) (x : Member) → t.body ≡ body.Css p → (x ≡ member.Whole) ⊎ (css_has p x ≡ true) → Has (place.Value t) x
+css-there t p x b (inl e) = subst (Has (place.Value t)) (sym e) refl
+css-there t p x b (inr h) = subst (λ (z : Body). value_has t.typed t.quotes z x ≡ true) (sym b) (in-body t.typed t.quotes (body.Css p) x h)
+
+css-from : (t : ValuePlace) (p : Css) (o : Option RefusalCode) (y : Member) → t.body ≡ body.Css p
+    → FromTo (css_holed t p (style_or_refusal o (style_at_hole p))) (place.Value t) y (css_hole_origin p (quotes_origin t.quotes y))
+css-from t p (Some e) y b = tt
+css-from t p None y b =
+    let From : Member → Type 0 = FromPlace (place.Value t) y in
+    λ h. value-cases (From (css_hole_origin p (quotes_origin t.quotes y))) t.typed (holed_quotes t.quotes) (body.Css (style_at_hole p)) y h
+    (λ k. subst From (sym (ap (css_hole_origin p) (whole-by-quotes t.quotes y k) ∙ css-whole-origin p))
+    (from-css-by t p y member.Whole b refl (λ u c l m o. in-whole u.typed (holed_quotes u.quotes) (body.Css (style_at_hole c)) y k)))
+    (λ k. let e = typed-by-quotes t.quotes t.typed y k in
+    subst From (sym (ap (css_hole_origin p) e.0 ∙ css-typed-origin p))
+    (from-css-by t p y member.Typed b (in-typed t.typed t.quotes t.body member.Typed e.1)
+    (λ u c l m o. in-typed u.typed (holed_quotes u.quotes) (body.Css (style_at_hole c)) y (typed-more t.typed u.typed y k (css-typed u.typed u.quotes c o)))))
+    (λ k. subst From (sym (ap (css_hole_origin p) (begun-by-quotes t.quotes y k) ∙ css-whole-origin p))
+    (from-css-by t p y member.Whole b refl
+    (λ u c l m o. in-quotes u.typed (holed_quotes u.quotes) (body.Css (style_at_hole c)) y (holed-has u.quotes t.quotes y l.quotes k))))
+    (λ k. let n = css-behind p y k in
+    let x = css_hole_origin p y in
+    subst (λ (z : Member). From (css_hole_origin p z)) (sym (kept-by-quotes (style_at_hole p) t.quotes y k))
+    (from-css-by t p y x b (css-there t p x b n.there)
+    (λ u c l m o. in-body u.typed (holed_quotes u.quotes) (body.Css (style_at_hole c)) y (n.leads c m (λ i. css-out p c u.typed u.quotes x i o)))))
+
 value-from-to : (t : ValuePlace) (b : Body) (y : Member) → t.body ≡ b → FromTo (value_hole b t) (place.Value t) y (body_hole_origin b (quotes_origin t.quotes y))
 value-from-to t body.Plain y e = plain-from t t.quotes y refl e
 value-from-to t body.NoHole y e = tt
 value-from-to t (body.Url p) y e = url-from t p (parts_hole_error p) y e
 value-from-to t (body.Js p) y e = tt
-value-from-to t (body.Css p) y e = tt
+value-from-to t (body.Css p) y e = css-from t p (style_hole_error p) y e
 
 from-to : (p : Place) (y : Member) → FromTo (after_hole p) p y (hole_origin p y)
 from-to place.Text y = λ h. record { there = h; leads = λ a l o. text-stays a y l o }
@@ -280,9 +497,10 @@ tag-evidence t true i n j = evidence-tag t member.NameSpot n (λ u b o. ap (λ (
 tag-evidence t false true n j = evidence-tag t member.InsideSpot j (λ u b o. or-last u.spots.name u.spots.inside o)
 tag-evidence t false false n j = tt
 
--- in a value that is no URL
+-- in a value that is no URL and no style
 abbrev IsNoUrl : Body → Type 0
 IsNoUrl (body.Url p) = ⊥
+IsNoUrl (body.Css c) = ⊥
 IsNoUrl b = Unit {0}
 
 same-hole-error : (b c : Body) → IsNoUrl c → joined_bodies b c ≡ Some c → body_hole_error b ≡ body_hole_error c
@@ -290,7 +508,7 @@ same-hole-error body.Plain body.Plain n h = refl
 same-hole-error body.NoHole body.NoHole n h = refl
 same-hole-error (body.Url p) (body.Url q) n h = absurd n
 same-hole-error (body.Js p) (body.Js q) n h = refl
-same-hole-error (body.Css p) (body.Css q) n h = refl
+same-hole-error (body.Css p) (body.Css q) n h = absurd n
 same-hole-error body.Plain c n h = absurd (none_some c h)
 same-hole-error body.NoHole c n h = absurd (none_some c h)
 same-hole-error (body.Url p) c n h = absurd (none_some c h)
@@ -362,12 +580,114 @@ url-evidence : (t : ValuePlace) (p : Parts) (o : Option UrlRefusal) → t.body �
 url-evidence t p None d h = tt
 url-evidence t p (Some e) d h = url-shown t p (refusal_code e) (url_hole_shows (parts_or_refusal (Some e) (parts_at_hole p)) p) d h
 
+-- in a style
+css-place : (P : ValuePlace → Css → Type 0) (t : ValuePlace) (p : Css) → t.body ≡ body.Css p
+    → ((u : ValuePlace) (c : Css) → ValueBelow u t → u.body ≡ body.Css c → StyleBelow c p → P u c)
+    → (Q : Place → Type 0) → ((u : ValuePlace) (c : Css) → P u c → Q (place.Value u)) → (a : Place) → Below a (place.Value t) → Q a
+css-place P t p b f Q g a l =
+    value-place (λ (z : Scan). Q (scan_place z)) t
+    (λ u m. let w = css-of-below u.body p (subst (λ (z : Body). joined_bodies u.body z ≡ Some z) b m.body) in g u w.0 (f u w.0 m w.1 w.2)) a l
+
+end-hole-error : (c : Css) → StyleBelow c css.UrlEnd → css_hole_error c ≡ Some code.BadString
+end-hole-error css.UrlEnd l = refl
+end-hole-error c l = absurd (none_some css.UrlEnd l)
+
+end-refuses : (t : ValuePlace) → t.body ≡ body.Css css.UrlEnd → ShownPlace (place.Value t) code.BadString member.Whole
+end-refuses t b = record {
+  there = refl;
+  refuses = λ a l o. css-place (λ u c. body_hole_error u.body ≡ Some code.BadString) t css.UrlEnd b
+      (λ u c m e k. ap body_hole_error e ∙ end-hole-error c k)
+      (λ (z : Place). hole_error z ≡ Some code.BadString) (λ u c h. h) a l;
+}
+
+css-bears-part : (t : ValuePlace) (p : Css) (s : LexState ValueState) (x : Member) → t.body ≡ body.Css p → css_has p x ≡ true
+    → ((c : Css) → StyleBelow c p → (r : Parts) × (css_url c ≡ Some r) × (css_has c x ≡ true → parts_have r x ≡ true)) → IsIn (place.Value t) s
+    → Bears s x → BearsPart s x
+css-bears-part t p s x d h f i o =
+    value-place (λ (g : Scan). placed s ≡ Some (scan_place g) → Has (scan_place g) x → BearsPart s x) t
+    (λ u l e k. let w = css-of-below u.body p (subst (λ (z : Body). joined_bodies u.body z ≡ Some z) d l.body) in
+    let r = f w.0 w.2 in
+    let m = url-part s u r.0 e (ap body_url w.1 ∙ r.1) in
+    record {
+      part = m.part;
+      is = m.is;
+      bears = subst (λ (z : Parts). parts_have z x ≡ true) m.parts
+          (r.2 (css-out p w.0 u.typed u.quotes x h (subst (λ (z : Body). value_has u.typed u.quotes z x ≡ true) w.1 k)));
+    })
+    i.own i.below i.stands (own-has (place.Value t) s x i o)
+
+has-css : (t : ValuePlace) (p : Css) (x : Member) → t.body ≡ body.Css p → css_has p x ≡ true → Has (place.Value t) x
+has-css t p x d h = css-there t p x d (inr h)
+
+abbrev PartsIn : Css → Css → Type 0
+PartsIn p c = (r : Parts) × (css_url c ≡ Some r) × ((x : Member) → css_has c x ≡ true → parts_have r x ≡ true) × (css_hole_error c ≡ url_hole_error r.bad)
+
+css-bad-refuses : (t : ValuePlace) (p : Css) → t.body ≡ body.Css p → ((c : Css) → StyleBelow c p → PartsIn p c) → css_has p member.PartBad ≡ true
+    → ShownPlace (place.Value t) code.BadHTML member.PartBad
+css-bad-refuses t p d f h = record {
+  there = has-css t p member.PartBad d h;
+  refuses = λ a l o. css-place (λ u c. Has (place.Value u) member.PartBad → body_hole_error u.body ≡ Some code.BadHTML) t p d
+      (λ u c m e k. let r = f c k in
+      λ i. ap body_hole_error e ∙ (r.3
+      ∙ ap url_hole_error (r.2 member.PartBad (css-out p c u.typed u.quotes member.PartBad h (subst (λ (z : Body). value_has u.typed u.quotes z member.PartBad ≡ true) e i)))))
+      (λ (z : Place). Has z member.PartBad → hole_error z ≡ Some code.BadHTML) (λ u c h. h) a l o;
+}
+
+css-url-shown : (t : ValuePlace) (p : Css) (s : Parts) (e : Code) (z : EvidenceData) → t.body ≡ body.Css p → ((x : Member) → parts_have s x ≡ true → css_has p x ≡ true)
+    → ((c : Css) → StyleBelow c p → PartsIn p c) → HoleShown s e z → ShownAt (place.Value t) e z
+css-url-shown t p s e _ d g f (on_bad h i) =
+    subst (λ (c : Code). ShownPlace (place.Value t) c member.PartBad) (sym i) (css-bad-refuses t p d f (g member.PartBad h))
+css-url-shown t p s e _ d g f (on_two x y h k m) = (
+  has-css t p x d (g x h),
+  has-css t p y d (g y k),
+  λ v r i b j o. two-clash v r e x y
+      (css-bears-part t p v x d (g x h) (λ c l. let n = f c l in (n.0, n.1, n.2 x)) i b)
+      (css-bears-part t p r y d (g y k) (λ c l. let n = f c l in (n.0, n.1, n.2 y)) j o)
+      m,
+)
+
+same-code : (e : UrlRefusal) → style_code (url_code e) ≡ refusal_code e
+same-code AmbigContext = refl
+same-code BadHTML = refl
+same-code PartialEscape = refl
+
+css-url-evidence : (t : ValuePlace) (p : Css) (s : Parts) (o : Option UrlRefusal) → t.body ≡ body.Css p
+    → ((x : Member) → parts_have s x ≡ true → css_has p x ≡ true) → ((c : Css) → StyleBelow c p → PartsIn p c) → ShownWhere s o
+    → ShownTo (css_holed t p (style_or_refusal (url_refusal o) (style_at_hole p))) (place.Value t) (url_hole_shows (parts_or_refusal o (parts_at_hole s)) s)
+css-url-evidence t p s None d g f h = tt
+css-url-evidence t p s (Some e) d g f h =
+    subst (λ (c : Code). ShownAt (place.Value t) c (url_hole_shows (parts_or_refusal (Some e) (parts_at_hole s)) s)) (sym (same-code e))
+    (css-url-shown t p s (refusal_code e) (url_hole_shows (parts_or_refusal (Some e) (parts_at_hole s)) s) d g f h)
+
+url-in : (s : Parts) (c : Css) → StyleBelow c (css.Url s) → PartsIn (css.Url s) c
+url-in s (css.Url r) l = (r, refl, λ x h. h, refl)
+url-in s c l = absurd (none_some (css.Url s) l)
+
+dq-in : (s : Parts) (c : Css) → StyleBelow c (css.UrlDq s) → PartsIn (css.UrlDq s) c
+dq-in s (css.UrlDq r) l = (r, refl, λ x h. h, refl)
+dq-in s c l = absurd (none_some (css.UrlDq s) l)
+
+sq-in : (s : Parts) (c : Css) → StyleBelow c (css.UrlSq s) → PartsIn (css.UrlSq s) c
+sq-in s (css.UrlSq r) l = (r, refl, λ x h. h, refl)
+sq-in s c l = absurd (none_some (css.UrlSq s) l)
+
+css-evidence : (t : ValuePlace) (p : Css) → t.body ≡ body.Css p → ShownTo (css_holed t p (style_hole_answer p)) (place.Value t) (css_hole_shows p)
+css-evidence t (css.Url s) e = css-url-evidence t (css.Url s) s (parts_hole_error s) e (λ x h. h) (url-in s) (hole-where s)
+css-evidence t (css.UrlDq s) e = css-url-evidence t (css.UrlDq s) s (parts_hole_error s) e (λ x h. h) (dq-in s) (hole-where s)
+css-evidence t (css.UrlSq s) e = css-url-evidence t (css.UrlSq s) s (parts_hole_error s) e (λ x h. h) (sq-in s) (hole-where s)
+css-evidence t css.UrlEnd e = end-refuses t e
+css-evidence t (css.Code x) e = tt
+css-evidence t css.Dq e = tt
+css-evidence t css.Sq e = tt
+css-evidence t css.UrlFresh e = tt
+css-evidence t (css.Comment x) e = tt
+
 value-evidence : (t : ValuePlace) (b : Body) → t.body ≡ b → ShownTo (value_hole b t) (place.Value t) (value_hole_shows b)
 value-evidence t body.Plain e = plain-evidence t t.quotes (one member.Whole)
 value-evidence t body.NoHole e = evidence-body t body.NoHole code.BadHTML e tt refl
 value-evidence t (body.Url p) e = url-evidence t p (parts_hole_error p) e (hole-where p)
 value-evidence t (body.Js p) e = evidence-body t (body.Js p) code.NotBuilt e tt refl
-value-evidence t (body.Css p) e = evidence-body t (body.Css p) code.NotBuilt e tt refl
+value-evidence t (body.Css p) e = css-evidence t p e
 
 doctype-refuses : (a : Place) → Below a place.Doctype → hole_error a ≡ Some code.BadHTML
 doctype-refuses place.Doctype h = refl

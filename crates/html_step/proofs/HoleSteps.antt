@@ -6,20 +6,24 @@ use Rattle.place_core.specs.page.References.{Closed, Open}
 use Rattle.place_core.specs.place.StatePlaces.{placed, tag_spot, value_spot, quotes_at, only_inside, only_after}
 use Rattle.place_core.specs.place.UrlParts.{parts_of}
 use Rattle.place_core.specs.page.States.{LexState, Text, TagOpen, EndTagOpen, DeclarationOpen, InComment, Started, StartedDash, Inside, Dash, DashDash, Bang, Broken, BogusComment, InDoctype, TagName, WholeTagName, BeforeAttributeName, AttributeName, WholeAttributeName, AfterAttributeName, BeforeAttributeValue, AttributeValue, AfterAttributeValue, SelfClosingStartTag, Characters, Bytes, Nothing, PendingLess, PendingName, PendingBang, PendingBangDash, InContent, Unread, LessAtCut}
-use Rattle.place_core.specs.page.Tags.{Tag, ValueOf, Deciding, ValueState, OfKind, OfUrl, OfStyle, languages, Quoting, DoubleQuoted, SingleQuoted, Unquoted, is_second_type}
+use Rattle.place_core.specs.page.Tags.{Tag, ValueOf, Deciding, ValueState, OfKind, OfUrl, OfStyle, languages, style_code, Quoting, DoubleQuoted, SingleQuoted, Unquoted, is_second_type}
+use Rattle.css_lexer.specs.RefusalCodes.{RefusalCode}
 use Rattle.css_lexer.specs.States.{Style}
-use Rattle.place_core.specs.place.StyleParts.{style_place}
-use Rattle.css_lexer.specs.PartSpots.{may_begin_text, part_spot}
-use Rattle.css_lexer.specs.Spots.{StyleSpot}
+use Rattle.css_step.specs.StyleScans.{style_at_hole, style_hole_error, style_scan_place}
+use Rattle.css_step.specs.StyleScanViews.{style_or_refusal}
+use Rattle.html_step.proofs.StylePaths.{StyleHole, style-at-place, style-hole}
+use Rattle.place_core.specs.place.StyleParts.{style_body}
+use Rattle.place_core.specs.declared.body.Body.{Body}
 use Rattle.place_core.specs.declared.body.Body.TheVariants as body
 use Rattle.place_core.specs.declared.css.Css.{Css}
+use Rattle.place_core.specs.declared.value_place.ValuePlace.{ValuePlace}
 use Rattle.place_core.specs.declared.element.Element.TheVariants as element
 use Rattle.place_core.specs.declared.kind.Kind.{Kind}
 use Rattle.place_core.specs.declared.kind.Kind.TheVariants as kind
 use Rattle.place_core.specs.declared.place.Place.{Place}
 use Rattle.place_core.specs.declared.place.Place.TheVariants as place
 use Rattle.place_core.specs.declared.quotes.Quotes.{Quotes}
-use Rattle.html_step.specs.Holes.{Holed, after_hole, holed_quotes}
+use Rattle.html_step.specs.Holes.{Holed, after_hole, css_holed, holed_quotes}
 use Rattle.html_step.proofs.PathScans.{same-tag}
 use Rattle.url_lexer.specs.Parts.{UrlPart, UrlStart, UrlOpen, UrlOpenhole, UrlPrequery, UrlQuery, UrlBad, part_at_hole}
 use Rattle.url_lexer.specs.Spots.{where_whole}
@@ -64,13 +68,29 @@ url-own NoTriple u q t =
 url-own AfterPercent u q t = tt
 url-own AfterDigit u q t = tt
 
--- in a style none may stand yet
-style-own : (begins : Bool) (o : Option (StyleSpot UrlPart)) (v : Style Url) (q : Quoting) (t : Tag)
-    → WherePlaced (value_spot t (quotes_at q) (if begins then option_map (λ p. body.Css (style_place p)) o else None))
+-- in a style
+in-style : Tag → Quotes → Css → ValuePlace
+in-style t q c = record { tag = t.tag; typed = t.typed; quotes = q; body = body.Css c }
+
+css-own : (o : Option RefusalCode) (v : Style Url) (c : Css) (q : Quoting) (t : Tag) → style_hole_error c ≡ o → StyleHole v c
+    → OwnHole (css_holed (in-style t (quotes_at q) c) c (style_or_refusal o (style_at_hole c))) (place.Value (in-style t (quotes_at q) c))
     (AttributeValue q t (ValueOf (OfStyle v)) Closed)
-style-own true (Some p) v q t = refl
-style-own true None v q t = tt
-style-own false o v q t = tt
+unfolding in-style
+css-own None v c q t e h = (
+  h.error ∙ ap (option_map style_code) e,
+  ap (value_spot t (quotes_at q)) (h.after e) ∙ ap (λ (z : Quotes). Some (place.Value (in-style t z (style_at_hole c)))) (sym (holed-same q)),
+)
+css-own (Some x) v c q t e h = h.error ∙ ap (option_map style_code) e
+
+style-own : (o : Option Body) (v : Style Url) (q : Quoting) (t : Tag) → style_body v ≡ o
+    → WherePlaced (value_spot t (quotes_at q) o) (AttributeValue q t (ValueOf (OfStyle v)) Closed)
+unfolding in-style
+style-own None v q t e = tt
+style-own (Some b) v q t e =
+    let a = style-at-place v b e in
+    let c = style_scan_place a.scan in
+    subst (λ (z : Body). WherePlaced (value_spot t (quotes_at q) (Some z)) (AttributeValue q t (ValueOf (OfStyle v)) Closed)) (sym a.place)
+    (css-own (style_hole_error c) v c q t refl (style-hole v c (e ∙ ap Some a.place)))
 
 value-own : (q : Quoting) (t : Tag) (v : ValueState) → WherePlaced (placed (AttributeValue q t (ValueOf v) Closed)) (AttributeValue q t (ValueOf v) Closed)
 value-own DoubleQuoted t (OfKind kind.Plain) = (refl, refl)
@@ -82,14 +102,14 @@ value-own q t (OfKind kind.Script) = tt
 value-own q t (OfKind kind.Style) = tt
 value-own q t (OfKind kind.ScriptType) = tt
 value-own q t (OfUrl u) = url-own u.triple u q t
-value-own q t (OfStyle s) = style-own (may_begin_text s) (part_spot s) s q t
+value-own q t (OfStyle s) = style-own (style_body s) s q t refl
 
 before-own : (t : Tag) (k : Kind) → WherePlaced (placed (BeforeAttributeValue t k)) (BeforeAttributeValue t k)
 before-own t kind.Plain = (refl, refl)
 before-own t kind.NoHole = refl
 before-own t kind.Url = (refl, refl)
 before-own t kind.Script = tt
-before-own t kind.Style = refl
+before-own t kind.Style = (refl, refl)
 before-own t kind.ScriptType = tt
 
 after-own : (second : Bool) (t : Tag) (k : Kind) → WherePlaced (if second then None else Some (place.Tag (tag_spot t only_after (Some k)))) (AfterAttributeName t k)

@@ -22,9 +22,13 @@ use Rattle.place_core.specs.declared.value_place.ValuePlace.{ValuePlace}
 use Rattle.place_core.proofs.ApartPlacesFacts.{above-apart, apart-has, apart-sides, are-apart, below-apart, joins-apart, met-here, path-sides, turned-apart, turned-paths}
 use Rattle.place_core.proofs.Semilattices.{none_some}
 use Rattle.html_scan.specs.Scans.{At}
+use Rattle.css_lexer.specs.RefusalCodes.{RefusalCode}
+use Rattle.css_step.specs.StyleScans.{style_at_hole, style_hole_error}
+use Rattle.css_step.specs.StyleScanViews.{style_or_refusal}
 use Rattle.place_core.specs.declared.css.Css.{Css}
+use Rattle.place_core.specs.declared.css.Css.TheVariants as css
 use Rattle.html_step.specs.Apart.{ApartLaws}
-use Rattle.html_step.specs.Holes.{Holed, after_hole, block_hole, named_by_data, plain_hole, url_holed, value_hole}
+use Rattle.html_step.specs.Holes.{Holed, after_hole, block_hole, css_holed, named_by_data, plain_hole, url_holed, value_hole}
 use Rattle.html_step.specs.Steps.{after_text}
 use Rattle.html_step.proofs.OneTexts.{one-text}
 use Rattle.html_step.proofs.ApartOrigins.{apart-from}
@@ -48,12 +52,24 @@ url-clear : (t : ValuePlace) (s : Parts) (o : Option UrlRefusal) → IsClear (ur
 url-clear t s None = refl
 url-clear t s (Some e) = tt
 
+css-clear : (t : ValuePlace) (c : Css) (o : Option RefusalCode) → IsClear (css_holed t c (style_or_refusal o (style_at_hole c)))
+css-clear t (css.Code x) None = refl
+css-clear t css.Dq None = refl
+css-clear t css.Sq None = refl
+css-clear t css.UrlFresh None = refl
+css-clear t (css.Url s) None = refl
+css-clear t (css.UrlDq s) None = refl
+css-clear t (css.UrlSq s) None = refl
+css-clear t css.UrlEnd None = refl
+css-clear t (css.Comment x) None = refl
+css-clear t c (Some e) = tt
+
 value-clear : (b : Body) (t : ValuePlace) → t.body ≡ b → IsClear (value_hole b t)
 value-clear body.Plain t e = plain-clear t.quotes t e
 value-clear body.NoHole t e = tt
 value-clear (body.Url s) t e = url-clear t s (parts_hole_error s)
 value-clear (body.Js j) t e = tt
-value-clear (body.Css c) t e = tt
+value-clear (body.Css c) t e = css-clear t c (style_hole_error c)
 
 tag-clear : (x : Bool) (t : TagPlace) → IsClear (named_by_data x t)
 tag-clear true t = tt

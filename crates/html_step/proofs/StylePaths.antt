@@ -3,13 +3,16 @@ use Rattle.std.proofs.Common.{◌≡◌, ◌≤◌, ℕ, ◌+◌, ◌-◌, Bool,
 use Rattle.std.proofs.lemmas.Slice.Eq.{bytes_eq-Decides}
 use Rattle.css_lexer.specs.Classes.{style_class}
 use Rattle.css_lexer.specs.RefusalCodes.{StyleCutRefusal}
+use Rattle.css_lexer.specs.Escapes.{StyleEscape, NoEscape, AfterBackslash, HexDigits, AfterReturn}
 use Rattle.css_lexer.specs.PartSpots.{may_begin_text, part_spot}
+use Rattle.css_lexer.specs.Paths.{style_after_hole}
 use Rattle.css_lexer.specs.Spots.{StyleSpot}
-use Rattle.css_lexer.specs.States.{Style}
-use Rattle.css_step.specs.StyleScans.{StyleScan, style_scan_start, style_scan_place, style_scan_error, style_scan_cut_error, is_style_start}
-use Rattle.css_step.specs.StyleScanLaws.{IsStyleScan, style_scanned}
+use Rattle.css_lexer.specs.States.{Quote, DoubleQuote, SingleQuote, Style}
+use Rattle.css_lexer.specs.Urls.{urls, url_refusal}
+use Rattle.css_step.specs.StyleScans.{StyleScan, style_scan_start, style_scan_place, style_scan_error, style_scan_cut_error, is_style_start, style_split_word, style_at_hole, style_hole_error}
+use Rattle.css_step.specs.StyleScanLaws.{IsStyleScan, scans_between, scans_less_than, scans_word, scans_solidus, scans_comment, scans_string, scans_behind_hole, scans_split_word, scans_solidus_before, scans_less_than_before, scans_star_before, scans_fresh, scans_bare, scans_quoted, scans_ended, style_scanned}
 use Rattle.css_step.proofs.OneStylePath.{one-style}
-use Rattle.css_step.proofs.StyleBodies.{body-of-scan, scan-of-body}
+use Rattle.css_step.proofs.StyleBodies.{body-after-hole, body-of-scan, scan-of-body}
 use Rattle.css_step.proofs.StyleGrowth.{empty-texts-keep-styles}
 use Rattle.css_step.proofs.StyleScanned.{has-scan}
 use Rattle.place_core.proofs.Semilattices.{no_map, one_value}
@@ -17,9 +20,9 @@ use Rattle.place_core.specs.page.Classes.{Class, White, QuotationMark, Apostroph
 use Rattle.place_core.specs.page.Html.{ends_value}
 use Rattle.place_core.specs.page.References.{Form, Reference, Closed, Open, ReferenceStep, Breaks, turn, flushed, plain_bytes, as_it_stands}
 use Rattle.place_core.specs.page.Tags.{Tag, Value, ValueOf, Deciding, ValueState, OfKind, OfUrl, OfStyle, Feeding, feeding, feed_bytes, languages, refusal_code, style_code, Quoting, DoubleQuoted, SingleQuoted, Unquoted}
-use Rattle.place_core.specs.place.Errors.{PathCause, at_hand, cause_back, fed_error, first_cause, flushed_error, is_written, language_error, quotes_error, turned_error}
+use Rattle.place_core.specs.place.Errors.{PathCause, at_hand, cause_back, css_hole_error, fed_error, first_cause, flushed_error, is_written, language_error, quotes_error, turned_error, url_hole_error}
 use Rattle.place_core.specs.place.StatePlaces.{quotes_at}
-use Rattle.place_core.specs.place.StyleParts.{style_body, style_place, style_tails}
+use Rattle.place_core.specs.place.StyleParts.{style_body, style_place, style_quoted_place, style_string_place, style_tails}
 use Rattle.place_core.specs.place.UrlParts.{parts_of}
 use Rattle.place_core.specs.declared.body.Body.{Body}
 use Rattle.place_core.specs.declared.body.Body.TheVariants as body
@@ -33,10 +36,10 @@ use Rattle.place_core.specs.declared.value_place.ValuePlace.{ValuePlace}
 use Rattle.html_scan.specs.Scans.{Scan, At, bare_begun, InStyle, parts_feeding, scan_cut_error, scan_error, scan_lexeme_error, scan_next, scan_place, scan_reference, scan_shown, style_cause, style_fed, style_feeding, style_scan, style_scan_before, style_value_next, quoted_error, with_style, written_error}
 use Rattle.html_step.proofs.FedAlike.{FedAlike}
 use Rattle.url_lexer.specs.Classes.{url_class_of}
-use Rattle.url_lexer.specs.Parts.{UrlPart}
+use Rattle.url_lexer.specs.Parts.{UrlPart, UrlStart, UrlOpen, UrlOpenhole, UrlPrequery, UrlQuery, UrlBad}
 use Rattle.url_lexer.specs.States.{Url}
 use Rattle.url_step.proofs.OnePath.{one-error, one-next}
-use Rattle.url_step.specs.PartSets.{parts_error, parts_next}
+use Rattle.url_step.specs.PartSets.{parts_error, parts_hole_error, parts_next}
 
 given : {A : Type 0} (a : A) → Some a ≡ None → ⊥
 given a e = cc
@@ -252,6 +255,66 @@ style-at-place v b e =
       starts = subst (λ (m : StyleScan). is_style_start m ≡ true) own.start (empty-texts-keep-styles.places c.0).start;
       place = c.1 ∙ ap body.Css (sym own.place);
     }
+
+-- A hole in a style: what is refused of one path, and the place behind it.
+part-hole : (p : UrlPart) → url_hole_error (parts_of p).bad ≡ option_map style_code (url_refusal (parts_hole_error (parts_of p)))
+part-hole UrlStart = refl
+part-hole (UrlOpen x) = refl
+part-hole UrlOpenhole = refl
+part-hole UrlPrequery = refl
+part-hole UrlQuery = refl
+part-hole UrlBad = refl
+
+quoted-hole : (q : Quote) (p : UrlPart)
+    → css_hole_error (style_quoted_place q (parts_of p)) ≡ option_map style_code (style_hole_error (style_quoted_place q (parts_of p)))
+quoted-hole DoubleQuote p = part-hole p
+quoted-hole SingleQuote p = part-hole p
+
+string-hole : (q : Quote) → css_hole_error (style_string_place q) ≡ option_map style_code (style_hole_error (style_string_place q))
+string-hole DoubleQuote = refl
+string-hole SingleQuote = refl
+
+split-hole : (e : StyleEscape)
+    → css_hole_error (style_scan_place (style_split_word e)) ≡ option_map style_code (style_hole_error (style_scan_place (style_split_word e)))
+split-hole NoEscape = refl
+split-hole AfterBackslash = refl
+split-hole (HexDigits k) = refl
+split-hole AfterReturn = refl
+
+hole-error : (v : Style Url) (n : StyleScan) → IsStyleScan v n → css_hole_error (style_scan_place n) ≡ option_map style_code (style_hole_error (style_scan_place n))
+hole-error _ _ (scans_between k) = refl
+hole-error _ _ scans_less_than = refl
+hole-error _ _ (scans_word w e) = refl
+hole-error _ _ (scans_solidus k) = refl
+hole-error _ _ (scans_comment star) = refl
+hole-error _ _ (scans_string q e) = string-hole q
+hole-error _ _ (scans_behind_hole s l) = refl
+hole-error _ _ (scans_split_word e) = split-hole e
+hole-error _ _ (scans_solidus_before k) = refl
+hole-error _ _ scans_less_than_before = refl
+hole-error _ _ scans_star_before = refl
+hole-error _ _ scans_fresh = refl
+hole-error _ _ (scans_bare u) = part-hole u.part
+hole-error _ _ (scans_quoted q e u) = quoted-hole q u.part
+hole-error _ _ (scans_ended u) = refl
+
+pub record StyleHole (v : Style Url) (c : Css) : Type 0 where
+  pub error : css_hole_error c ≡ option_map style_code (style_hole_error c)
+  pub after : style_hole_error c ≡ None → style_body (style_after_hole urls v) ≡ Some (body.Css (style_at_hole c))
+
+hole-by : (v : Style Url) (n : StyleScan) → IsStyleScan v n → is_style_start n ≡ true → StyleHole v (style_scan_place n)
+hole-by v n i h = record {
+  error = hole-error v n i;
+  after = λ e. body-after-hole v n i (sym (one-style v n i).cut_error ∙ start-whole n h) (sym (one-style v n i).hole_error ∙ e);
+}
+
+one-css : (c d : Css) → body.Css c ≡ body.Css d → c ≡ d
+one-css c d e = cc
+
+pub style-hole : (v : Style Url) (c : Css) → style_body v ≡ Some (body.Css c) → StyleHole v c
+style-hole v c e =
+    let a = style-at-place v (body.Css c) e in
+    subst (StyleHole v) (sym (one-css c (style_scan_place a.scan) a.place)) (hole-by v a.scan (has-scan v a.scan a.is) a.starts)
 
 -- What is refused of a reference stands before the byte that breaks it, and before the end of the text.
 abbrev pub StandsHere : Option PathCause → Type 0

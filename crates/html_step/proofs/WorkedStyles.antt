@@ -1,11 +1,12 @@
--- Small texts in values that are styles, stepped and printed.
+-- Small texts in values that are styles, stepped and printed; and holes behind them.
 use Rattle.std.proofs.Common.{◌≡◌, codes, refl, Bool, true, false, Result, Ok, Err, List, Option, Some, None, ℕ}
 use Rattle.css_lexer.specs.Classes.{style_class}
 use Rattle.place_core.specs.page.Classes.{class_of}
 use Rattle.place_core.specs.page.References.{flushed, meaning}
-use Rattle.place_core.specs.place.Errors.{hole_error, is_unknown_name, is_written}
+use Rattle.place_core.specs.place.Errors.{is_unknown_name, is_written}
 use Rattle.place_core.specs.place.StyleParts.{style_tails}
 use Rattle.place_core.specs.declared.body.Body.TheVariants as body
+use Rattle.place_core.specs.declared.chain.Chain.{Chain}
 use Rattle.place_core.specs.declared.code.Code.{Code}
 use Rattle.place_core.specs.declared.code.Code.TheVariants as code
 use Rattle.place_core.specs.declared.css.Css.{Css}
@@ -14,8 +15,10 @@ use Rattle.place_core.specs.declared.element.Element.TheVariants as element
 use Rattle.place_core.specs.declared.place.Place.{Place}
 use Rattle.place_core.specs.declared.place.Place.TheVariants as place
 use Rattle.place_core.specs.declared.quotes.Quotes.TheVariants as quotes
+use Rattle.place_core.specs.declared.san.San.TheVariants as san
 use Rattle.place_core.specs.declared.step_err.StepErr.{StepErr}
 use Rattle.place_core.specs.declared.tag_of.TagOf.TheVariants as tag
+use Rattle.html_step.specs.Holes.{Holed, after_hole, all_of, both_of}
 use Rattle.html_step.specs.PlaceText.{place_text}
 use Rattle.html_step.specs.Steps.{after_text}
 use Rattle.url_lexer.specs.Classes.{url_class_of}
@@ -87,11 +90,27 @@ escape_broken_off : step (codes "<b style=\"a\\4") ≡ refused code.PartialEscap
 unfolding class_of style_class
 escape_broken_off = refl
 
--- no hole is accepted yet
-hole_behind : Result Place (StepErr Place) → Option Code
-hole_behind (Ok p) = hole_error p
-hole_behind (Err e) = None
+-- Holes: what is done to the value, and the place after it
+abbrev filled : Holed → Result (List ℕ × Chain) Code
+filled (Ok h) = Ok (place_text h.0, h.1)
+filled (Err e) = Err e
 
-hole_in_a_style : hole_behind (after_text (codes "<b style=\"color:") place.Text) ≡ Some code.NotBuilt
-unfolding hole_behind class_of style_class
+abbrev filled_behind : Result Place (StepErr Place) → Option (Result (List ℕ × Chain) Code)
+filled_behind (Ok p) = Some (filled (after_hole p))
+filled_behind (Err e) = None
+
+abbrev hole_behind : List ℕ → Option (Result (List ℕ × Chain) Code)
+hole_behind bytes = filled_behind (after_text bytes place.Text)
+
+hole_in_a_style : hole_behind (codes "<b style=\"color:") ≡ Some (Ok (codes "value other dq css code word", both_of san.CssValue san.Attr))
+unfolding class_of style_class
 hole_in_a_style = refl
+
+hole_in_a_url : hole_behind (codes "<b style=\"a:url(")
+    ≡ Some (Ok (codes "value other dq css url openhole", all_of san.UrlFilter san.UrlNorm san.Attr))
+unfolding class_of style_class url_class_of
+hole_in_a_url = refl
+
+hole_behind_a_url : hole_behind (codes "<b style=\"a:url(/b ") ≡ Some (Err code.BadString)
+unfolding class_of style_class url_class_of
+hole_behind_a_url = refl

@@ -25,8 +25,26 @@ part_hole_origin s member.PartOpenhole =
     if s.start then member.PartStart else (if is_some s.opened then member.PartOpen else member.PartOpenhole)
 part_hole_origin s y = y
 
+-- In a style all paths are in a word behind a hole, and a URL that has not begun begins with it; the rest stays as it is.
+abbrev pub word_hole_origin : Member → Member
+word_hole_origin member.CssWord = member.Whole
+word_hole_origin y = y
+
+abbrev pub fresh_hole_origin : Member → Member
+fresh_hole_origin member.PartOpenhole = member.Whole
+fresh_hole_origin y = y
+
+abbrev pub css_hole_origin : Css → Member → Member
+css_hole_origin (css.Code x) y = word_hole_origin y
+css_hole_origin css.UrlFresh y = fresh_hole_origin y
+css_hole_origin (css.Url s) y = part_hole_origin s y
+css_hole_origin (css.UrlDq s) y = part_hole_origin s y
+css_hole_origin (css.UrlSq s) y = part_hole_origin s y
+css_hole_origin c y = y
+
 abbrev pub body_hole_origin : Body → Member → Member
 body_hole_origin (body.Url s) y = part_hole_origin s y
+body_hole_origin (body.Css c) y = css_hole_origin c y
 body_hole_origin b y = y
 
 -- a value without quotes has begun after the hole, and else the place stays as it is
@@ -65,8 +83,16 @@ abbrev pub url_hole_shows : Result Parts Code → Parts → EvidenceData
 url_hole_shows (Err code.AmbigContext) p = first_two p
 url_hole_shows o p = one member.PartBad
 
+-- likewise in a URL of a style; behind one each path is refused
+abbrev pub css_hole_shows : Css → EvidenceData
+css_hole_shows (css.Url p) = url_hole_shows (hole_answer p) p
+css_hole_shows (css.UrlDq p) = url_hole_shows (hole_answer p) p
+css_hole_shows (css.UrlSq p) = url_hole_shows (hole_answer p) p
+css_hole_shows c = one member.Whole
+
 abbrev pub value_hole_shows : Body → EvidenceData
 value_hole_shows (body.Url p) = url_hole_shows (hole_answer p) p
+value_hole_shows (body.Css c) = css_hole_shows c
 value_hole_shows b = one member.Whole
 
 -- in a name the hole would go on with it, and in a data block with a `<`; elsewhere each path is refused

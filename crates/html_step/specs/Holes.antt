@@ -19,6 +19,9 @@ use Rattle.place_core.specs.declared.san.San.TheVariants as san
 use Rattle.place_core.specs.declared.tag_place.TagPlace.{TagPlace}
 use Rattle.place_core.specs.declared.value_place.ValuePlace.{ValuePlace}
 use Rattle.html_scan.specs.Scans.{bare_begun}
+use Rattle.css_step.specs.StyleScanViews.{style_hole_answer}
+use Rattle.place_core.specs.place.UrlParts.{parts_of}
+use Rattle.url_lexer.specs.Parts.{UrlStart}
 use Rattle.url_step.specs.Chains.{chain_of}
 use Rattle.url_step.specs.PartSets.{hole_answer, part_sans}
 use Rattle.html_step.specs.declared.escaper.Escaper.{Escaper}
@@ -68,12 +71,30 @@ url_holed v before (Ok after) =
     Ok (place.Value (record { tag = v.tag; typed = v.typed; quotes = holed_quotes v.quotes; body = body.Url after }), url_chain before (last_of v.quotes))
 url_holed v before (Err e) = Err e
 
+-- In a style the last sanitizer is that of the value's quotes too. Before it stands the one of the place in the style, or those of the part of its
+-- URL; a value in a comment is left out. Behind a URL none may stand.
+abbrev pub css_chain : Css → San → Chain
+css_chain (css.Code tails) last = both_of san.CssValue last
+css_chain css.Dq last = both_of san.CssString last
+css_chain css.Sq last = both_of san.CssString last
+css_chain css.UrlFresh last = url_chain (parts_of UrlStart) last
+css_chain (css.Url parts) last = url_chain parts last
+css_chain (css.UrlDq parts) last = url_chain parts last
+css_chain (css.UrlSq parts) last = url_chain parts last
+css_chain css.UrlEnd last = only last
+css_chain (css.Comment star) last = both_of san.Drop last
+
+abbrev pub css_holed : ValuePlace → Css → Result Css Code → Holed
+css_holed v before (Ok after) =
+    Ok (place.Value (record { tag = v.tag; typed = v.typed; quotes = holed_quotes v.quotes; body = body.Css after }), css_chain before (last_of v.quotes))
+css_holed v before (Err e) = Err e
+
 abbrev pub value_hole : Body → ValuePlace → Holed
 value_hole body.Plain v = plain_hole v.quotes v
 value_hole body.NoHole v = Err code.BadHTML
 value_hole (body.Url parts) v = url_holed v parts (hole_answer parts)
 value_hole (body.Js js) v = Err code.NotBuilt
-value_hole (body.Css css) v = Err code.NotBuilt
+value_hole (body.Css css) v = css_holed v css (style_hole_answer css)
 
 -- in a data block, where no node has ended in `<`
 abbrev pub block_hole : Bool → Holed

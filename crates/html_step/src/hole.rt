@@ -1,9 +1,10 @@
 ghost use Rattle.std.specs.Prelude.{◌≡◌, ◌||◌};
+ghost use Rattle.css_step.specs.StyleScanViews.{style_hole_answer};
 ghost use Rattle.url_step.specs.PartSets.{hole_answer};
 ghost use Rattle.html_step.specs.Holes as spec;
 
 use html_scan::{BEGUN, INSIDE};
-use place_core::{Body, Chain, Code, Kind, Parts, Place, Quotes, San, TagPlace, ValuePlace};
+use place_core::{Body, Chain, Code, Css, Kind, Parts, Place, Quotes, San, TagPlace, ValuePlace};
 use url_step::at_hole;
 
 /// What is done to a value of data at a place, and the place after it; or why no value may stand there. (HTML Standard, section
@@ -15,7 +16,8 @@ use url_step::at_hole;
 ///   ends in `<`.
 /// - `AmbigContext`: in a URL where some paths are in one part of it and some in another, as before a `?` and behind one: no one
 ///   chain of sanitizers fits all.
-/// - `NotBuilt`: in a script, a style, and a value that is a script or a style.
+/// - `BadString`: in a style, behind the URL of a `url(`.
+/// - `NotBuilt`: in a script, a style, and a value that is a script.
 ///
 /// Does not allocate.
 pub fn after_hole(place: Place) -> Result<(Place, Chain), Code>
@@ -65,7 +67,8 @@ fn in_value(place: ValuePlace) -> Result<(Place, Chain), Code>
         Body::Plain => in_plain_value(place),
         Body::NoHole => Err(Code::BadHTML),
         Body::Url(parts) => in_url(place, parts),
-        Body::Js(_) | Body::Css(_) => Err(Code::NotBuilt),
+        Body::Css(css) => in_style(place, css),
+        Body::Js(_) => Err(Code::NotBuilt),
     }
 }
 
@@ -80,6 +83,34 @@ fn in_url(place: ValuePlace, parts: Parts) -> Result<(Place, Chain), Code>
         ..place
     });
     Ok((holed, url_chain(parts, last_of(place.quotes))))
+}
+
+// In a style; without quotes, the value has begun.
+fn in_style(place: ValuePlace, css: Css) -> Result<(Place, Chain), Code>
+    ensures { result ≡ spec.css_holed place css (style_hole_answer css) }
+{
+    let after = css_step::at_hole(css)?;
+    let holed = Place::Value(ValuePlace {
+        quotes: holed_quotes(place.quotes),
+        body: Body::Css(after),
+        ..place
+    });
+    Ok((holed, css_chain(css, last_of(place.quotes))))
+}
+
+fn css_chain(css: Css, last: San) -> Chain
+    ensures { result ≡ spec.css_chain css last }
+{
+    match css {
+        Css::Code(_) => both_of(San::CssValue, last),
+        Css::Dq | Css::Sq => both_of(San::CssString, last),
+        Css::UrlFresh => all_of(San::UrlFilter, San::UrlNorm, last),
+        Css::Url(parts) => url_chain(parts, last),
+        Css::UrlDq(parts) => url_chain(parts, last),
+        Css::UrlSq(parts) => url_chain(parts, last),
+        Css::UrlEnd => only(last),
+        Css::Comment(_) => both_of(San::Drop, last),
+    }
 }
 
 fn holed_quotes(quotes: Quotes) -> Quotes

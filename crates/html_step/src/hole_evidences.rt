@@ -2,14 +2,14 @@ ghost use Rattle.std.specs.Prelude.{◌≡◌, Ok, Err};
 ghost use Rattle.place_core.specs.place.Places.{Has, IsValid};
 ghost use Rattle.html_step.specs.HoleLaws.{IsHoleOrigin, IsHoleEvidence};
 ghost use Rattle.url_step.specs.PartSets.{hole_answer};
-ghost use Rattle.html_step.specs.HoleOrigins.{body_hole_origin, hole_origin, hole_shows, part_hole_origin, url_hole_shows, value_hole_shows};
+ghost use Rattle.html_step.specs.HoleOrigins.{body_hole_origin, css_hole_origin, css_hole_shows, hole_origin, hole_shows, part_hole_origin, url_hole_shows, value_hole_shows};
 ghost use Rattle.html_step.specs.OriginViews.{evidence_at};
 ghost use Rattle.html_step.specs.HoleOrigins as spec;
 ghost use Rattle.html_step.specs.Holes as holes;
 
 use crate::evidence::Evidence;
 use crate::origins::{in_value_origin, typed_origin};
-use place_core::{Body, Chain, Code, Member, Parts, Place, Quotes};
+use place_core::{Body, Chain, Code, Css, Member, Parts, Place, Quotes};
 use url_step::at_hole;
 
 /// A member of a place that a member of the place after a hole comes from: every path that bears the one comes to bear the other.
@@ -57,6 +57,18 @@ fn body_origin(body: Body, member: Member) -> Member
 {
     match body {
         Body::Url(parts) => part_origin(parts, member),
+        Body::Css(css) => in_style_origin(css, member),
+        _ => member,
+    }
+}
+
+// In a style all paths are in a word behind a hole, and a URL that has not begun begins with it.
+fn in_style_origin(css: Css, member: Member) -> Member
+    ensures { result ≡ css_hole_origin css member }
+{
+    match (css, member) {
+        (Css::Code(_), Member::CssWord) | (Css::UrlFresh, Member::PartOpenhole) => Member::Whole,
+        (Css::Url(parts) | Css::UrlDq(parts) | Css::UrlSq(parts), _) => part_origin(parts, member),
         _ => member,
     }
 }
@@ -89,6 +101,17 @@ fn in_value(body: Body) -> Evidence
 {
     match body {
         Body::Url(parts) => in_url(parts),
+        Body::Css(css) => in_style(css),
+        _ => Evidence::One(Member::Whole),
+    }
+}
+
+// Behind a URL of a style each path is refused.
+fn in_style(css: Css) -> Evidence
+    ensures { evidence_at result ≡ css_hole_shows css }
+{
+    match css {
+        Css::Url(parts) | Css::UrlDq(parts) | Css::UrlSq(parts) => in_url(parts),
         _ => Evidence::One(Member::Whole),
     }
 }

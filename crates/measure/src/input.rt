@@ -29,6 +29,7 @@ pub fn input_of(alloc: Global, input: Input, size: usize) -> Result<String, Allo
         Input::PageSections => page_sections(alloc, size),
         Input::Urls => repeated(alloc, "", URL, "", size),
         Input::Links => repeated(alloc, "", LINK, "", size),
+        Input::Styles => repeated(alloc, "", STYLE, "", size),
         Input::Chain => chain(alloc, size),
         Input::Pairs => pairs(alloc, size),
         Input::Nests => nests(alloc, TAGS, size),
@@ -45,6 +46,9 @@ const URL: &str = "<a href=\"/list/a%20b?c=d&amp;e=&#102;\">";
 
 // A link with two values in its URL.
 const LINK: &str = "<a href=\"/list/{{.v}}?q={{.w}}\">{{.v}}</a>\n";
+
+// A tag with two values in its style.
+const STYLE: &str = "<p style=\"color: {{.v}}; width: {{.w}}px\">{{.v}}</p>\n";
 
 // A section of a page with a hole.
 const PAGE_HOLE: &str = "<p>{{.v}}</p>\n";

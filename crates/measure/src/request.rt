@@ -86,6 +86,8 @@ pub enum Input {
     Urls,
     /// Links, each with a value as its path and one in its query, again and again.
     Links,
+    /// Tags with declarations of CSS, of which two properties have a value of data, again and again.
+    Styles,
     /// Variables; after each one the one with half its number is used.
     Variables,
     /// Templates, each of which calls the next one in eight places.
@@ -154,6 +156,7 @@ pub fn words_named(word: &str) -> Option<(Measured, Input)> {
         "execute-keys" => Some((Measured::Keys, Input::Objects)),
         "page-sections" => Some((Measured::Page, Input::PageSections)),
         "page-links" => Some((Measured::Page, Input::Links)),
+        "page-styles" => Some((Measured::Page, Input::Styles)),
         "page-text" => Some((Measured::Page, Input::Text)),
         "page-variables" => Some((Measured::Page, Input::Variables)),
         "page-dropped" => Some((Measured::Dropped, Input::Numbers)),
@@ -161,6 +164,7 @@ pub fn words_named(word: &str) -> Option<(Measured, Input)> {
         "page-slices" => Some((Measured::Slices, Input::Numbers)),
         "pages-sections" => Some((Measured::Pages, Input::PageSections)),
         "pages-links" => Some((Measured::Pages, Input::Links)),
+        "pages-styles" => Some((Measured::Pages, Input::Styles)),
         "pages-text" => Some((Measured::Pages, Input::Text)),
         "looks-1" => Some((Measured::Looks, Input::One)),
         "looks-4" => Some((Measured::Looks, Input::Four)),

@@ -2,6 +2,7 @@
 use Rattle.std.proofs.Common.{ℕ, List, [], ◌∷◌, ◌++◌, Option, ap, ◌∙◌}
 use Rattle.html_step.specs.Steps.{after_text}
 use Rattle.page_path.proofs.Finding.{AllFind, Finds, event_symbols, symbols_from}
+use Rattle.page_path.proofs.StyleBack.{WrittenInStyles}
 use Rattle.page_path.proofs.OwnPieces.{text-at-place}
 use Rattle.page_path.proofs.PiecesFilled.{IsFilled, hole-filled, text-filled}
 use Rattle.page_path.specs.Pages.{bytes_in, event_pieces, kind_in, open_behind, page_bytes, pieces_from, state_behind}
@@ -23,7 +24,7 @@ use Rattle.page_path.specs.Taken.{move_sign}
 use Rattle.tpl_tree.specs.Forests.{ForestData}
 use Rattle.tpl_tree.specs.declared.node_kind.NodeKind.{NodeKind}
 
-module _ (forest : ForestData) (chart : ChartByName Place) where
+module _ (laws : WrittenInStyles) (forest : ForestData) (chart : ChartByName Place) where
   -- the bytes of events, and the symbols and the texts of their path
   abbrev FilledFrom : List Emission → List (List ℕ) → LexState ValueState → List Filling → List LexEvent → Config ValueState → Type 0
   FilledFrom gs ts s vs t d = IsFilled (symbols_from forest gs ts) (texts_of gs) (page_bytes (pieces_from forest gs ts s)) s vs t d
@@ -36,9 +37,9 @@ module _ (forest : ForestData) (chart : ChartByName Place) where
 
   event-filled : (e : ExecEvent) (gs : List Emission) (ps : List (Pair Place)) (ts : List (List ℕ)) (s : LexState ValueState)
       (vs : List Filling) (t : List LexEvent) (m d : Config ValueState) → Finds forest chart e ps ts s → IsTextual forest chart e ps
-      → TextStands languages s t m → StandsRaw vs m d
+      → TextStands languages s t m → StandsRaw s vs m d
       → (let r = state_behind forest e ts s in
-      (vs : List Filling) (t : List LexEvent) (m d : Config ValueState) → TextStands languages r t m → StandsRaw vs m d
+      (vs : List Filling) (t : List LexEvent) (m d : Config ValueState) → TextStands languages r t m → StandsRaw r vs m d
       → FilledFrom gs (open_behind forest e ts) r vs t d)
       → FilledAt e gs ts s vs t d
   event-filled e gs [] ts s vs t m d f is_text l k rest = absurd f
@@ -51,14 +52,14 @@ module _ (forest : ForestData) (chart : ChartByName Place) where
   event-filled (gives_hole n datum) gs (p ∷ ps) ts s vs t m d f is_text l k rest =
       let h = f.here in
       let text = text-at-place (chart p.template p.entry (before n)) h.place f.next f.chain datum h.there f.accepted is_text in
-      hole-filled h.place f.next f.chain datum s vs t m d (symbols_from forest gs ts) (texts_of gs)
+      hole-filled laws h.place f.next f.chain datum s vs t m d (symbols_from forest gs ts) (texts_of gs)
       (pieces_from forest gs ts (at_hole languages s)) h.valid h.is_in f.accepted text l k rest
   event-filled (enters n) gs (p ∷ ps) ts s vs t m d f is_text l k rest = rest vs t m d l k
   event-filled leaves gs (p ∷ ps) ts s vs t m d f is_text l k rest = rest vs t m d l k
 
   pub events-filled : (gs : List Emission) (ps : List (Pair Place)) (ts : List (List ℕ)) (s : LexState ValueState) (vs : List Filling)
       (t : List LexEvent) (m d : Config ValueState) → AllFind forest chart gs ps ts s → AreTextual forest chart gs ps
-      → TextStands languages s t m → StandsRaw vs m d → FilledFrom gs ts s vs t d
+      → TextStands languages s t m → StandsRaw s vs m d → FilledFrom gs ts s vs t d
   events-filled [] ps ts s vs t m d f are_texts l k = record { end = m; stands = l; beside = k }
   events-filled (g ∷ gs) ps ts s vs t m d f are_texts l k =
       let e = g.event in

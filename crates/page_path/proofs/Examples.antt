@@ -3,6 +3,7 @@ use Rattle.std.proofs.Common.{◌≡◌, ℕ, false, true, codes, List, [], ◌�
 use Rattle.std.proofs.lemmas.Bool.{false≢true}
 use Rattle.std.proofs.lemmas.Str.{is_utf8-from_IsUtf8}
 use Rattle.std.specs.Str.{chars, is_utf8}
+use Rattle.css_lexer.specs.Classes.{style_class}
 use Rattle.esc_table.proofs.Runs.{replaced-encodes}
 use Rattle.html_step.specs.Holes.{only}
 use Rattle.page_datum.specs.Data.{dict, entry, no_entries, null, text}
@@ -77,6 +78,27 @@ in_a_query = ap (λ (bytes : List ℕ). codes "<a href='?a=" ++ bytes ++ codes "
 in_an_empty_url : page_bytes (pieces (codes "<a href=/") [] (codes ">")) ≡ codes "<a href=/ZgotmplZ>"
 unfolding class_of url_class_of
 in_an_empty_url = refl
+
+-- in a style: a text that may not stand there, a quotation mark in a string, and in a comment none of the value
+safe_in_quotes : html (codes "ZgotmplZ") ≡ codes "ZgotmplZ"
+unfolding lib.Utf8.encode
+safe_in_quotes = replaced-encodes html_rows (codes "ZgotmplZ") refl
+
+escape_in_quotes : html (codes "\\22 ") ≡ codes "\\22 "
+unfolding lib.Utf8.encode
+escape_in_quotes = replaced-encodes html_rows (codes "\\22 ") refl
+
+in_a_style : page_bytes (pieces (codes "<b style='color:") (codes "url(a)") (codes "'>")) ≡ codes "<b style='color:ZgotmplZ'>"
+unfolding class_of style_class
+in_a_style = ap (λ (bytes : List ℕ). codes "<b style='color:" ++ bytes ++ codes "'>") safe_in_quotes
+
+in_a_string : page_bytes (pieces (codes "<b style='content:\"") (codes "\"") (codes "\"'>")) ≡ codes "<b style='content:\"\\22 \"'>"
+unfolding class_of style_class
+in_a_string = ap (λ (bytes : List ℕ). codes "<b style='content:\"" ++ bytes ++ codes "\"'>") escape_in_quotes
+
+in_a_comment_of_a_style : page_bytes (pieces (codes "<b style=a/*") (codes "red") (codes "*/>")) ≡ codes "<b style=a/*ZgotmplZ*/>"
+unfolding class_of style_class
+in_a_comment_of_a_style = refl
 
 -- with another sanitizer after Drop the value is not left out
 dropped_first : value_pieces (record { count = 2; sans = san.Drop ∷ san.AttrNospace ∷ san.AttrNospace ∷ [] }) (text (codes "a"))

@@ -1,12 +1,15 @@
 -- Wherever a hole may stand on a path, its sanitizer keeps what it promises there, and what it writes reads back.
 use Rattle.std.proofs.Common.{◌≡◌, ℕ, List, [], Bool, true, false, Option, Some, None, option_map, if◌then◌else◌, Ok, Err, refl, sym, ap, subst, IsUtf8}
+use Rattle.std.proofs.lemmas.Bool.{and_parts}
 use Rattle.html_step.proofs.HoleOrder.{covers-hole}
 use Rattle.html_step.specs.Holes.{Holed, after_hole, all_of, both_of, last_of, only}
 use Rattle.page_datum.specs.Data.{Data}
 use Rattle.page_datum.specs.Printed.{printed}
 use Rattle.page_path.specs.Pages.{chain_bytes}
-use Rattle.page_path.specs.Soundness.{IsBack, IsNameBack}
+use Rattle.page_path.specs.Soundness.{IsBack, IsNameBack, ReadsBackOutside}
 use Rattle.page_path.specs.Textual.{IsTextBy}
+use Rattle.page_path.proofs.StyleBack.{WrittenInStyles, code-back, comment-back, dropped-back, in_style, string-back, style-url-back, unbegun-style-back}
+use Rattle.page_path.proofs.StyleBack as styles
 use Rattle.page_path.proofs.UrlBack.{in-url, part-back, quoted-back, unbegun-back, url-back}
 use Rattle.place_core.specs.page.Events.{LexEvent}
 use Rattle.place_core.specs.place.Membership.{IsIn}
@@ -14,15 +17,19 @@ use Rattle.place_core.specs.page.Plain.{settled_state}
 use Rattle.place_core.specs.place.Places.{IsValid}
 use Rattle.place_core.specs.page.References.{Closed, Reference}
 use Rattle.place_core.specs.place.StatePlaces.{content_spot, only_after, only_inside, placed, tag_spot, quotes_at, value_body, value_spot, where_closed}
-use Rattle.place_core.specs.place.StyleParts.{style_place}
+use Rattle.place_core.specs.place.StyleParts.{style_body, style_place}
 use Rattle.place_core.specs.place.UrlParts.{parts_of}
-use Rattle.css_lexer.specs.PartSpots.{may_begin_text, part_spot}
-use Rattle.css_lexer.specs.Spots.{StyleSpot}
-use Rattle.css_lexer.specs.States.{Style}
+use Rattle.css_lexer.specs.Escapes.{AfterBackslash, AfterReturn, HexDigits, NoEscape}
+use Rattle.css_lexer.specs.PartSpots.{has_read_nothing, is_at_start}
+use Rattle.css_lexer.specs.Sanitizers.{css_value}
+use Rattle.css_lexer.specs.Spots.{QuotedUrlSpot, UrlSpot}
+use Rattle.css_lexer.specs.States.{Quote, DoubleQuote, SingleQuote, Outside, Between, AfterLessThan, Word, AfterSolidus, Comment, InString, BadUrl, BehindHole, SplitWord, SolidusAtCut, LessThanAtCut, StarAtCut, UrlForm, Fresh, Bare, Quoted, Ended, Style, Out, InUrl}
 use Rattle.place_core.specs.page.States.{AfterAttributeName, AfterAttributeValue, AttributeValue, BeforeAttributeName, BeforeAttributeValue, Broken, Bytes, Characters, CommentState, Config, Content, Pending, InComment, InContent, Inside, LessAtCut, Nothing, SelfClosingStartTag, LexState, Text, WholeAttributeName}
 use Rattle.place_core.specs.page.Tags.{DoubleQuoted, Quoting, SingleQuoted, Tag, Unquoted, Value, ValueOf, ValueState, OfKind, OfStyle, OfUrl, is_second_type, languages, without_value}
+use Rattle.place_core.specs.declared.body.Body.{Body}
 use Rattle.place_core.specs.declared.body.Body.TheVariants as body
 use Rattle.place_core.specs.declared.chain.Chain.{Chain}
+use Rattle.place_core.specs.declared.css.Css.TheVariants as css
 use Rattle.place_core.specs.declared.element.Element.{Element}
 use Rattle.place_core.specs.declared.element.Element.TheVariants as element
 use Rattle.place_core.specs.declared.kind.Kind.{Kind}
@@ -64,10 +71,10 @@ same-back s datum bytes free back t d l =
 abbrev pub BackIn : Chain → LexState ValueState → Data → List ℕ → Type 0
 BackIn c s datum bytes = BackUnless (leaves_out c) s datum bytes
 
--- a chain keeps what it promises, and what it writes reads back
+-- a chain keeps what it promises, and what it writes reads back, by the laws of styles
 pub record IsSafe (c : Chain) (s : LexState ValueState) : Type 0 where
-  pub promised : (datum : Data) → IsTextBy c datum → IsBackBy c datum (chain_bytes c datum)
-  pub back : (datum : Data) → IsTextBy c datum → BackIn c s datum (chain_bytes c datum)
+  pub promised : WrittenInStyles → (datum : Data) → IsTextBy c datum → IsBackBy c datum (chain_bytes c datum)
+  pub back : WrittenInStyles → (datum : Data) → IsTextBy c datum → BackIn c s datum (chain_bytes c datum)
 
 abbrev SafeBy : LexState ValueState → Holed → Type 0
 SafeBy s (Ok h) = IsSafe h.1 s
@@ -92,58 +99,58 @@ html-back text u = (text-back text u, rcdata-back text u, block-back text u)
 
 in-text : IsSafe (only san.Html) (Text Closed)
 in-text = record {
-  promised = λ datum u. html-back (printed datum) u;
-  back = λ datum u. same-back (Text Closed) datum _ refl ((text-back (printed datum) u).reads []);
+  promised = λ laws datum u. html-back (printed datum) u;
+  back = λ laws datum u. same-back (Text Closed) datum _ refl ((text-back (printed datum) u).reads []);
 }
 
 in-content : (e : Element) → IsSafe (only san.Html) (in_rcdata e)
 in-content e = record {
-  promised = λ datum u. html-back (printed datum) u;
-  back = λ datum u. same-back (in_rcdata e) datum _ refl ((rcdata-back (printed datum) u).reads e []);
+  promised = λ laws datum u. html-back (printed datum) u;
+  back = λ laws datum u. same-back (in_rcdata e) datum _ refl ((rcdata-back (printed datum) u).reads e []);
 }
 
 in-block : IsSafe (only san.Html) in_block
 in-block = record {
-  promised = λ datum u. html-back (printed datum) u;
-  back = λ datum u. same-back in_block datum _ refl (block-back (printed datum) u).undoes;
+  promised = λ laws datum u. html-back (printed datum) u;
+  back = λ laws datum u. same-back in_block datum _ refl (block-back (printed datum) u).undoes;
 }
 
 in-comment : (s : CommentState) → IsSafe (only san.Drop) (InComment s)
-in-comment s = record { promised = λ datum u. refl; back = λ datum u. tt }
+in-comment s = record { promised = λ laws datum u. refl; back = λ laws datum u. tt }
 
 abbrev of_plain : Value ValueState
 of_plain = ValueOf (OfKind kind.Plain)
 
 in-double : (tag : Tag) → IsSafe (only san.Attr) (in_value DoubleQuoted tag of_plain)
 in-double tag = record {
-  promised = λ datum u. quoted-back (printed datum) u;
-  back = λ datum u. same-back (in_value DoubleQuoted tag of_plain) datum _ refl ((quoted-back (printed datum) u).reads DoubleQuoted tag of_plain [] refl);
+  promised = λ laws datum u. quoted-back (printed datum) u;
+  back = λ laws datum u. same-back (in_value DoubleQuoted tag of_plain) datum _ refl ((quoted-back (printed datum) u).reads DoubleQuoted tag of_plain [] refl);
 }
 
 in-single : (tag : Tag) → IsSafe (only san.Attr) (in_value SingleQuoted tag of_plain)
 in-single tag = record {
-  promised = λ datum u. quoted-back (printed datum) u;
-  back = λ datum u. same-back (in_value SingleQuoted tag of_plain) datum _ refl ((quoted-back (printed datum) u).reads SingleQuoted tag of_plain [] refl);
+  promised = λ laws datum u. quoted-back (printed datum) u;
+  back = λ laws datum u. same-back (in_value SingleQuoted tag of_plain) datum _ refl ((quoted-back (printed datum) u).reads SingleQuoted tag of_plain [] refl);
 }
 
 in-unquoted : (tag : Tag) → IsSafe (only san.AttrNospace) (in_value Unquoted tag of_plain)
 in-unquoted tag = record {
-  promised = λ datum u. unquoted-back (printed datum) u;
-  back = λ datum u. same-back (in_value Unquoted tag of_plain) datum _ refl ((unquoted-back (printed datum) u).reads tag of_plain []);
+  promised = λ laws datum u. unquoted-back (printed datum) u;
+  back = λ laws datum u. same-back (in_value Unquoted tag of_plain) datum _ refl ((unquoted-back (printed datum) u).reads tag of_plain []);
 }
 
 before-value : (tag : Tag) → IsSafe (only san.AttrNospace) (BeforeAttributeValue tag kind.Plain)
 before-value tag = record {
-  promised = λ datum u. unquoted-back (printed datum) u;
-  back = λ datum u. same-back (BeforeAttributeValue tag kind.Plain) datum _ refl ((unquoted-back (printed datum) u).reads_unbegun tag kind.Plain []);
+  promised = λ laws datum u. unquoted-back (printed datum) u;
+  back = λ laws datum u. same-back (BeforeAttributeValue tag kind.Plain) datum _ refl ((unquoted-back (printed datum) u).reads_unbegun tag kind.Plain []);
 }
 
 before-name : (s : LexState ValueState) (tag : Tag) → BeginsName s tag → holds_nothing s ≡ true
     → ((datum : Data) (bytes : List ℕ) → IsNameBack tag s (printed datum) bytes → IsBack (settled_state languages s) datum bytes)
     → IsSafe (only san.AttrName) s
 before-name s tag begins free same = record {
-  promised = λ datum u. tag-back (printed datum);
-  back = λ datum u. same-back s datum _ free (same datum (attr_name (printed datum)) ((tag-back (printed datum)).reads s tag [] begins));
+  promised = λ laws datum u. tag-back (printed datum);
+  back = λ laws datum u. same-back s datum _ free (same datum (attr_name (printed datum)) ((tag-back (printed datum)).reads s tag [] begins));
 }
 
 -- likewise, and so wherever a hole is accepted
@@ -158,8 +165,9 @@ content-safe _ _ _ = tt
 in-url-start : (q : Quoting) (tag : Tag) (u : Url) → u.part ≡ UrlStart
     → IsSafe (all_of san.UrlFilter san.UrlNorm (last_of (quotes_at q))) (in_value q tag (ValueOf (OfUrl u)))
 in-url-start q tag u is = record {
-  promised = λ datum utf8. in-url UrlStart (IsBackInPart UrlStart (printed datum)) q (printed datum) utf8 (part-back UrlStart (printed datum) utf8 refl);
-  back = λ datum utf8 t d l. url-back UrlStart q tag u datum is utf8 refl t d l;
+  promised = λ laws datum utf8. in-url laws.stay UrlStart (IsBackInPart UrlStart (printed datum)) q (printed datum) utf8
+      (part-back UrlStart (printed datum) utf8 refl);
+  back = λ laws datum utf8 t d l. url-back UrlStart q tag u datum is utf8 refl t d l;
 }
 
 in-beginning : (text : List ℕ) → IsUtf8 text → IsBackInBeginning text (url_open text)
@@ -171,35 +179,40 @@ in-beginning text utf8 = record {
 in-url-open : (spelled : Prefix) (q : Quoting) (tag : Tag) (u : Url) → u.part ≡ UrlOpen spelled
     → IsSafe (both_of san.UrlOpen (last_of (quotes_at q))) (in_value q tag (ValueOf (OfUrl u)))
 in-url-open spelled q tag u is = record {
-  promised = λ datum utf8. in-url UrlOpenhole (IsBackInBeginning (printed datum)) q (printed datum) utf8 (in-beginning (printed datum) utf8);
-  back = λ datum utf8 t d l. url-back (UrlOpen spelled) q tag u datum is utf8 refl t d l;
+  promised = λ laws datum utf8. in-url laws.stay UrlOpenhole (IsBackInBeginning (printed datum)) q (printed datum) utf8
+      (in-beginning (printed datum) utf8);
+  back = λ laws datum utf8 t d l. url-back (UrlOpen spelled) q tag u datum is utf8 refl t d l;
 }
 
 in-url-openhole : (q : Quoting) (tag : Tag) (u : Url) → u.part ≡ UrlOpenhole
     → IsSafe (both_of san.UrlOpen (last_of (quotes_at q))) (in_value q tag (ValueOf (OfUrl u)))
 in-url-openhole q tag u is = record {
-  promised = λ datum utf8. in-url UrlOpenhole (IsBackInBeginning (printed datum)) q (printed datum) utf8 (in-beginning (printed datum) utf8);
-  back = λ datum utf8 t d l. url-back UrlOpenhole q tag u datum is utf8 refl t d l;
+  promised = λ laws datum utf8. in-url laws.stay UrlOpenhole (IsBackInBeginning (printed datum)) q (printed datum) utf8
+      (in-beginning (printed datum) utf8);
+  back = λ laws datum utf8 t d l. url-back UrlOpenhole q tag u datum is utf8 refl t d l;
 }
 
 in-url-prequery : (q : Quoting) (tag : Tag) (u : Url) → u.part ≡ UrlPrequery
     → IsSafe (both_of san.UrlNorm (last_of (quotes_at q))) (in_value q tag (ValueOf (OfUrl u)))
 in-url-prequery q tag u is = record {
-  promised = λ datum utf8. in-url UrlPrequery (IsBackInPart UrlPrequery (printed datum)) q (printed datum) utf8 (part-back UrlPrequery (printed datum) utf8 refl);
-  back = λ datum utf8 t d l. url-back UrlPrequery q tag u datum is utf8 refl t d l;
+  promised = λ laws datum utf8. in-url laws.stay UrlPrequery (IsBackInPart UrlPrequery (printed datum)) q (printed datum) utf8
+      (part-back UrlPrequery (printed datum) utf8 refl);
+  back = λ laws datum utf8 t d l. url-back UrlPrequery q tag u datum is utf8 refl t d l;
 }
 
 in-url-query : (q : Quoting) (tag : Tag) (u : Url) → u.part ≡ UrlQuery
     → IsSafe (both_of san.UrlQuery (last_of (quotes_at q))) (in_value q tag (ValueOf (OfUrl u)))
 in-url-query q tag u is = record {
-  promised = λ datum utf8. in-url UrlQuery (IsBackInPart UrlQuery (printed datum)) q (printed datum) utf8 (part-back UrlQuery (printed datum) utf8 refl);
-  back = λ datum utf8 t d l. url-back UrlQuery q tag u datum is utf8 refl t d l;
+  promised = λ laws datum utf8. in-url laws.stay UrlQuery (IsBackInPart UrlQuery (printed datum)) q (printed datum) utf8
+      (part-back UrlQuery (printed datum) utf8 refl);
+  back = λ laws datum utf8 t d l. url-back UrlQuery q tag u datum is utf8 refl t d l;
 }
 
 before-url : (tag : Tag) → IsSafe (all_of san.UrlFilter san.UrlNorm san.AttrNospace) (BeforeAttributeValue tag kind.Url)
 before-url tag = record {
-  promised = λ datum utf8. in-url UrlStart (IsBackInPart UrlStart (printed datum)) Unquoted (printed datum) utf8 (part-back UrlStart (printed datum) utf8 refl);
-  back = λ datum utf8. same-back (BeforeAttributeValue tag kind.Url) datum _ refl (unbegun-back tag (printed datum) utf8);
+  promised = λ laws datum utf8. in-url laws.stay UrlStart (IsBackInPart UrlStart (printed datum)) Unquoted (printed datum) utf8
+      (part-back UrlStart (printed datum) utf8 refl);
+  back = λ laws datum utf8. same-back (BeforeAttributeValue tag kind.Url) datum _ refl (unbegun-back tag (printed datum) utf8);
 }
 
 url-safe : (r : Triple) (p : UrlPart) (q : Quoting) (tag : Tag) (u : Url) → u.part ≡ p
@@ -213,13 +226,146 @@ url-safe NoTriple UrlBad q tag u is = tt
 url-safe AfterPercent p q tag u is = tt
 url-safe AfterDigit p q tag u is = tt
 
--- in a style no hole is accepted yet
-style-safe : (begins : Bool) (o : Option (StyleSpot UrlPart)) (v : Style Url) (q : Quoting) (tag : Tag)
-    → SafeAt (AttributeValue q tag (ValueOf (OfStyle v)) Closed)
-    (value_spot tag (quotes_at q) (if begins then option_map (λ p. body.Css (style_place p)) o else None))
-style-safe true (Some p) v q tag = tt
-style-safe true None v q tag = tt
-style-safe false o v q tag = tt
+-- In a style: in code, in a string, and in a comment, where the value is dropped and the last sanitizer writes for none.
+in-code : (q : Quoting) (tag : Tag) (s : Outside)
+    → ((text : List ℕ) → ReadsBackOutside s text (css_value text)) → IsSafe (both_of san.CssValue (last_of (quotes_at q))) (in_style q tag (Out s))
+in-code q tag s reads = record {
+  promised = λ laws datum utf8. styles.in-code laws q (printed datum) utf8;
+  back = λ laws datum utf8 t d l. code-back q tag s datum utf8 (reads (printed datum)) t d l;
+}
+
+in-string : (q : Quoting) (tag : Tag) (quote : Quote)
+    → IsSafe (both_of san.CssString (last_of (quotes_at q))) (in_style q tag (Out (InString quote NoEscape)))
+in-string q tag quote = record {
+  promised = λ laws datum utf8. styles.in-string laws q (printed datum) utf8;
+  back = λ laws datum utf8 t d l. string-back q tag (InString quote NoEscape) datum utf8 (laws.strings (printed datum)).reads t d l;
+}
+
+in-style-comment : (q : Quoting) (tag : Tag) (s : Outside) → ((text : List ℕ) → ReadsBackOutside s text [])
+    → IsSafe (both_of san.Drop (last_of (quotes_at q))) (in_style q tag (Out s))
+in-style-comment q tag s reads = record {
+  promised = λ laws datum u. dropped-back q;
+  back = λ laws datum u t d l. comment-back q tag s datum (reads (printed datum)) t d l;
+}
+
+outside-safe : (s : Outside) (q : Quoting) (tag : Tag)
+    → SafeAt (in_style q tag (Out s)) (value_spot tag (quotes_at q) (style_body (Out s)))
+outside-safe (Between k) q tag = in-code q tag (Between k) (λ text. refl)
+outside-safe AfterLessThan q tag = tt
+outside-safe (Word w e) q tag = tt
+outside-safe (AfterSolidus k) q tag = tt
+outside-safe (Comment true) q tag = tt
+outside-safe (Comment false) q tag = in-style-comment q tag (Comment false) (λ text. refl)
+outside-safe (InString DoubleQuote NoEscape) q tag = in-string q tag DoubleQuote
+outside-safe (InString SingleQuote NoEscape) q tag = in-string q tag SingleQuote
+outside-safe (InString quote AfterBackslash) q tag = tt
+outside-safe (InString quote (HexDigits n)) q tag = tt
+outside-safe (InString quote AfterReturn) q tag = tt
+outside-safe BadUrl q tag = tt
+outside-safe (BehindHole solidus less) q tag = in-code q tag (BehindHole solidus less) (λ text. refl)
+outside-safe (SplitWord NoEscape) q tag = in-code q tag (SplitWord NoEscape) (λ text. refl)
+outside-safe (SplitWord AfterBackslash) q tag = tt
+outside-safe (SplitWord (HexDigits n)) q tag = tt
+outside-safe (SplitWord AfterReturn) q tag = tt
+outside-safe (SolidusAtCut k) q tag = in-code q tag (SolidusAtCut k) (λ text. refl)
+outside-safe LessThanAtCut q tag = in-code q tag LessThanAtCut (λ text. refl)
+outside-safe StarAtCut q tag = in-style-comment q tag StarAtCut (λ text. refl)
+
+-- in a URL of it, by the part: the chain of that part keeps the same promise as in any URL
+in-style-start : (q : Quoting) (tag : Tag) (f : UrlForm) (u : Url) → u.part ≡ UrlStart
+    → IsSafe (all_of san.UrlFilter san.UrlNorm (last_of (quotes_at q))) (in_style q tag (InUrl f u))
+in-style-start q tag f u is = record {
+  promised = (in-url-start q tag u is).promised;
+  back = λ laws datum utf8 t d l. style-url-back UrlStart q tag f u datum is utf8 refl t d l;
+}
+
+in-style-open : (spelled : Prefix) (q : Quoting) (tag : Tag) (f : UrlForm) (u : Url) → u.part ≡ UrlOpen spelled
+    → IsSafe (both_of san.UrlOpen (last_of (quotes_at q))) (in_style q tag (InUrl f u))
+in-style-open spelled q tag f u is = record {
+  promised = (in-url-open spelled q tag u is).promised;
+  back = λ laws datum utf8 t d l. style-url-back (UrlOpen spelled) q tag f u datum is utf8 refl t d l;
+}
+
+in-style-openhole : (q : Quoting) (tag : Tag) (f : UrlForm) (u : Url) → u.part ≡ UrlOpenhole
+    → IsSafe (both_of san.UrlOpen (last_of (quotes_at q))) (in_style q tag (InUrl f u))
+in-style-openhole q tag f u is = record {
+  promised = (in-url-openhole q tag u is).promised;
+  back = λ laws datum utf8 t d l. style-url-back UrlOpenhole q tag f u datum is utf8 refl t d l;
+}
+
+in-style-prequery : (q : Quoting) (tag : Tag) (f : UrlForm) (u : Url) → u.part ≡ UrlPrequery
+    → IsSafe (both_of san.UrlNorm (last_of (quotes_at q))) (in_style q tag (InUrl f u))
+in-style-prequery q tag f u is = record {
+  promised = (in-url-prequery q tag u is).promised;
+  back = λ laws datum utf8 t d l. style-url-back UrlPrequery q tag f u datum is utf8 refl t d l;
+}
+
+in-style-query : (q : Quoting) (tag : Tag) (f : UrlForm) (u : Url) → u.part ≡ UrlQuery
+    → IsSafe (both_of san.UrlQuery (last_of (quotes_at q))) (in_style q tag (InUrl f u))
+in-style-query q tag f u is = record {
+  promised = (in-url-query q tag u is).promised;
+  back = λ laws datum utf8 t d l. style-url-back UrlQuery q tag f u datum is utf8 refl t d l;
+}
+
+-- behind `url(` nothing of the URL has been read
+abbrev fresh_spot : Bool → Option Body
+fresh_spot begins = if begins then Some (body.Css css.UrlFresh) else None
+
+at-start : (p : UrlPart) → is_at_start p ≡ true → p ≡ UrlStart
+at-start UrlStart e = refl
+at-start p e = cc
+
+fresh-safe : (begins : Bool) (q : Quoting) (tag : Tag) (u : Url) → has_read_nothing u ≡ begins
+    → SafeAt (in_style q tag (InUrl Fresh u)) (value_spot tag (quotes_at q) (fresh_spot begins))
+fresh-safe true q tag u e = in-style-start q tag Fresh u (at-start u.part (and_parts (is_at_start u.part) _ e).0)
+fresh-safe false q tag u e = tt
+
+-- in a URL without quotes, and in quotes, where no escape is open
+bare-safe : (r : Triple) (p : UrlPart) (q : Quoting) (tag : Tag) (u : Url) → u.part ≡ p
+    → SafeAt (in_style q tag (InUrl Bare u))
+    (value_spot tag (quotes_at q) (option_map (λ s. body.Css (style_place s)) (option_map UrlSpot (where_whole r p))))
+bare-safe NoTriple UrlStart q tag u is = in-style-start q tag Bare u is
+bare-safe NoTriple (UrlOpen spelled) q tag u is = in-style-open spelled q tag Bare u is
+bare-safe NoTriple UrlOpenhole q tag u is = in-style-openhole q tag Bare u is
+bare-safe NoTriple UrlPrequery q tag u is = in-style-prequery q tag Bare u is
+bare-safe NoTriple UrlQuery q tag u is = in-style-query q tag Bare u is
+bare-safe NoTriple UrlBad q tag u is = tt
+bare-safe AfterPercent p q tag u is = tt
+bare-safe AfterDigit p q tag u is = tt
+
+quoted-safe : (quote : Quote) (r : Triple) (p : UrlPart) (q : Quoting) (tag : Tag) (u : Url) → u.part ≡ p
+    → SafeAt (in_style q tag (InUrl (Quoted quote NoEscape) u))
+    (value_spot tag (quotes_at q) (option_map (λ s. body.Css (style_place s)) (option_map (QuotedUrlSpot quote) (where_whole r p))))
+quoted-safe DoubleQuote NoTriple UrlStart q tag u is = in-style-start q tag (Quoted DoubleQuote NoEscape) u is
+quoted-safe DoubleQuote NoTriple (UrlOpen spelled) q tag u is = in-style-open spelled q tag (Quoted DoubleQuote NoEscape) u is
+quoted-safe DoubleQuote NoTriple UrlOpenhole q tag u is = in-style-openhole q tag (Quoted DoubleQuote NoEscape) u is
+quoted-safe DoubleQuote NoTriple UrlPrequery q tag u is = in-style-prequery q tag (Quoted DoubleQuote NoEscape) u is
+quoted-safe DoubleQuote NoTriple UrlQuery q tag u is = in-style-query q tag (Quoted DoubleQuote NoEscape) u is
+quoted-safe DoubleQuote NoTriple UrlBad q tag u is = tt
+quoted-safe SingleQuote NoTriple UrlStart q tag u is = in-style-start q tag (Quoted SingleQuote NoEscape) u is
+quoted-safe SingleQuote NoTriple (UrlOpen spelled) q tag u is = in-style-open spelled q tag (Quoted SingleQuote NoEscape) u is
+quoted-safe SingleQuote NoTriple UrlOpenhole q tag u is = in-style-openhole q tag (Quoted SingleQuote NoEscape) u is
+quoted-safe SingleQuote NoTriple UrlPrequery q tag u is = in-style-prequery q tag (Quoted SingleQuote NoEscape) u is
+quoted-safe SingleQuote NoTriple UrlQuery q tag u is = in-style-query q tag (Quoted SingleQuote NoEscape) u is
+quoted-safe SingleQuote NoTriple UrlBad q tag u is = tt
+quoted-safe quote AfterPercent p q tag u is = tt
+quoted-safe quote AfterDigit p q tag u is = tt
+
+style-safe : (v : Style Url) (q : Quoting) (tag : Tag) → SafeAt (in_style q tag v) (value_spot tag (quotes_at q) (style_body v))
+style-safe (Out s) q tag = outside-safe s q tag
+style-safe (InUrl Fresh u) q tag = fresh-safe (has_read_nothing u) q tag u refl
+style-safe (InUrl Bare u) q tag = bare-safe u.triple u.part q tag u refl
+style-safe (InUrl (Quoted quote NoEscape) u) q tag = quoted-safe quote u.triple u.part q tag u refl
+style-safe (InUrl (Quoted quote AfterBackslash) u) q tag = tt
+style-safe (InUrl (Quoted quote (HexDigits n)) u) q tag = tt
+style-safe (InUrl (Quoted quote AfterReturn) u) q tag = tt
+style-safe (InUrl Ended u) q tag = tt
+
+before-style : (tag : Tag) → IsSafe (both_of san.CssValue san.AttrNospace) (BeforeAttributeValue tag kind.Style)
+before-style tag = record {
+  promised = λ laws datum utf8. styles.in-code laws Unquoted (printed datum) utf8;
+  back = λ laws datum utf8. same-back (BeforeAttributeValue tag kind.Style) datum _ refl (unbegun-style-back tag (printed datum) utf8);
+}
 
 value-safe : (r : Reference) (v : Value ValueState) (q : Quoting) (tag : Tag)
     → SafeAt (AttributeValue q tag v r) (where_closed r (value_spot tag (quotes_at q) (value_body v)))
@@ -227,7 +373,7 @@ value-safe Closed (ValueOf (OfKind kind.Plain)) DoubleQuoted tag = in-double tag
 value-safe Closed (ValueOf (OfKind kind.Plain)) SingleQuoted tag = in-single tag
 value-safe Closed (ValueOf (OfKind kind.Plain)) Unquoted tag = in-unquoted tag
 value-safe Closed (ValueOf (OfUrl u)) q tag = url-safe u.triple u.part q tag u refl
-value-safe Closed (ValueOf (OfStyle s)) q tag = style-safe (may_begin_text s) (part_spot s) s q tag
+value-safe Closed (ValueOf (OfStyle v)) q tag = style-safe v q tag
 value-safe _ _ _ tag = tt
 
 -- after a name, unless it is a second `type`, where a path is at no place
@@ -252,6 +398,7 @@ safe-at (AfterAttributeValue tag) = before-name (AfterAttributeValue tag) tag re
 safe-at (SelfClosingStartTag tag) = before-name (SelfClosingStartTag tag) tag refl refl (λ datum bytes h. h)
 safe-at (BeforeAttributeValue tag kind.Plain) = before-value tag
 safe-at (BeforeAttributeValue tag kind.Url) = before-url tag
+safe-at (BeforeAttributeValue tag kind.Style) = before-style tag
 safe-at (AttributeValue q tag v r) = value-safe r v q tag
 safe-at (InContent e x h) = content-safe h x e
 safe-at _ = tt

@@ -10,6 +10,7 @@ pub mod PiecesRead
 pub mod Runs
 pub mod Signs
 pub mod Sound
+pub mod StyleBack
 pub mod TextsRead
 pub mod Together
 pub mod UrlBack

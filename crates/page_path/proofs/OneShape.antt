@@ -1,7 +1,7 @@
 -- Executions of a root that come to its end by the same choices take one path, so their pages have one shape.
 use Rattle.std.proofs.Common.{◌≡◌, ℕ, List, [], ◌∷◌, ◌++◌, ◌⊎◌, inl, inr, refl, sym, ap, ◌∙◌, subst, append-nil}
-use Rattle.page_path.proofs.Sound.{pages-are-sound, shape-of-path}
-use Rattle.page_path.specs.Laws.{PagesOfOnePathHaveOneShape}
+use Rattle.page_path.proofs.Sound.{shape-of-path}
+use Rattle.page_path.specs.Laws.{PagesAreSound, PagesOfOnePathHaveOneShape}
 use Rattle.page_path.specs.Soundness.{path_read}
 use Rattle.place_core.specs.page.Shape.{shape_of}
 use Rattle.tpl_paths.proofs.Appends.{prefix-is-path}
@@ -35,10 +35,10 @@ module _ (forest : ForestData) (root : List ℕ) where
   whole-paths ms ns v w l k (inl f) = front-is-whole ms ns w l f
   whole-paths ms ns v w l k (inr f) = sym (front-is-whole ns ms v k f)
 
-pub pages-of-one-path-have-one-shape : PagesOfOnePathHaveOneShape
-pages-of-one-path-have-one-shape forest names chart root a b r done textual also_done also_textual same c d reads also_reads =
-    let s = pages-are-sound forest names chart root a r done textual in
-    let z = pages-are-sound forest names chart root b r also_done also_textual in
+pub pages-of-one-path-have-one-shape : PagesAreSound → PagesOfOnePathHaveOneShape
+pages-of-one-path-have-one-shape sound forest names chart root a b r done textual also_done also_textual same c d reads also_reads =
+    let s = sound forest names chart root a r done textual in
+    let z = sound forest names chart root b r also_done also_textual in
     let alike = one_walk forest (at_root forest root) s.takes.path z.takes.path s.takes.walk z.takes.walk
     (s.takes.taken ∙ same ∙ sym z.takes.taken) in
     let path = whole-paths forest root s.takes.path z.takes.path s.takes.walk z.takes.walk s.takes.whole z.takes.whole alike in

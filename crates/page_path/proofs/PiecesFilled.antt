@@ -5,6 +5,7 @@ use Rattle.std.specs.Prelude.{if◌then◌else◌}
 use Rattle.html_step.specs.Holes.{after_hole}
 use Rattle.html_step.specs.Steps.{after_text}
 use Rattle.page_path.proofs.HolesBack.{is-safe}
+use Rattle.page_path.proofs.StyleBack.{WrittenInStyles}
 use Rattle.page_path.proofs.OwnPieces.{on-path}
 use Rattle.page_path.proofs.PiecesRead.{StandsFor, node-state}
 use Rattle.page_datum.specs.Data.{Data}
@@ -23,12 +24,13 @@ use Rattle.place_core.specs.page.States.{Config, Page, LexState, config}
 use Rattle.place_core.specs.page.Tags.{ValueState, languages}
 use Rattle.place_core.specs.declared.chain.Chain.{Chain}
 use Rattle.place_core.specs.declared.place.Place.{Place}
-use Rattle.text_norm.proofs.FilledMarks.{StandsRaw, raw-text}
+use Rattle.text_norm.proofs.FilledMarks.{StandsRaw}
 use Rattle.text_norm.proofs.HoleKeeps.{keeps-hole}
 use Rattle.text_norm.proofs.HolesLead.{hole-leads}
 use Rattle.text_norm.proofs.Keeps.{keeps-shape}
 use Rattle.text_norm.proofs.PagesFill.{over-hole}
 use Rattle.text_norm.proofs.Same.{written-on-paths}
+use Rattle.text_norm.proofs.SlashReads.{raw-node}
 use Rattle.text_norm.specs.Fillings.{Filling, fillings_along, fillings_at}
 use Rattle.text_norm.specs.HoleLaws.{ArePlainUnless, leaves_out}
 use Rattle.text_norm.specs.Standing.{TextStands, page}
@@ -40,13 +42,13 @@ pub record IsFilled (symbols : List Symbol) (texts : List (List ℕ)) (bytes : L
     (t : List LexEvent) (d : Config ValueState) : Type 0 where
   pub end : Config ValueState
   pub stands : StandsFor (read_path languages symbols (config s t)) end
-  pub beside : StandsRaw (fillings_along symbols texts s vs) end (read Page bytes d)
+  pub beside : StandsRaw (read_path languages symbols (config s t)).at (fillings_along symbols texts s vs) end (read Page bytes d)
 
 -- a text
 pub text-filled : (bytes : List ℕ) (p q : Place) (s : LexState ValueState) (vs : List Filling) (t : List LexEvent) (m d : Config ValueState)
     (symbols : List Symbol) (texts : List (List ℕ)) (more : List ℕ) → IsValid p → IsIn p s → after_text bytes p ≡ Ok q
-    → TextStands languages s t m → StandsRaw vs m d
-    → ((t : List LexEvent) (m d : Config ValueState) → TextStands languages (node bytes s) t m → StandsRaw vs m d
+    → TextStands languages s t m → StandsRaw s vs m d
+    → ((t : List LexEvent) (m d : Config ValueState) → TextStands languages (node bytes s) t m → StandsRaw (node bytes s) vs m d
     → IsFilled symbols texts more (node bytes s) vs t d)
     → IsFilled (Written bytes ∷ symbols) texts (written languages bytes s ++ more) s vs t d
 text-filled bytes p q s vs t m d symbols texts more v i accepted l f rest =
@@ -56,11 +58,15 @@ text-filled bytes p q s vs t m d symbols texts more v i accepted l f rest =
     let here = subst (λ (w : List ℕ). StandsFor c (page languages w m)) own (keeps-shape bytes p q s t m v i accepted l).1 in
     let same = node-state bytes s t in
     let r = rest c.emitted (read Page out m) (read Page out d)
-    (subst (λ (a : LexState ValueState). TextStands languages a c.emitted (read Page out m)) same here) (raw-text vs out m d f) in
+    (subst (λ (a : LexState ValueState). TextStands languages a c.emitted (read Page out m)) same here)
+    (raw-node bytes p q s vs m d v i accepted f) in
     record {
       end = r.end;
       stands = subst (λ (a : LexState ValueState). StandsFor (read_path languages symbols (config a c.emitted)) r.end) (sym same) r.stands;
-      beside = subst (StandsRaw (fillings_along symbols texts (node bytes s) vs) r.end) (sym (read-append Page out more d)) r.beside;
+      beside = subst (λ (a : LexState ValueState). StandsRaw (read_path languages symbols (config a c.emitted)).at
+          (fillings_along symbols texts (node bytes s) vs) r.end (read Page (out ++ more) d)) (sym same)
+          (subst (StandsRaw (read_path languages symbols (config (node bytes s) c.emitted)).at
+          (fillings_along symbols texts (node bytes s) vs) r.end) (sym (read-append Page out more d)) r.beside);
     }
 
 -- the bytes of a hole before more pieces
@@ -70,15 +76,16 @@ hole-bytes true datum bytes d more p = ap (λ (z : List ℕ). z ++ page_bytes mo
 hole-bytes false datum bytes d more p = refl
 
 -- a hole
-pub hole-filled : (p q : Place) (c : Chain) (datum : Data) (s : LexState ValueState) (vs : List Filling) (t : List LexEvent)
+pub hole-filled : WrittenInStyles → (p q : Place) (c : Chain) (datum : Data) (s : LexState ValueState) (vs : List Filling) (t : List LexEvent)
     (m d : Config ValueState) (symbols : List Symbol) (texts : List (List ℕ)) (more : List PagePiece)
-    → IsValid p → IsIn p s → after_hole p ≡ Ok (q, c) → IsTextBy c datum → TextStands languages s t m → StandsRaw vs m d
-    → ((vs : List Filling) (t : List LexEvent) (m d : Config ValueState) → TextStands languages (at_hole languages s) t m → StandsRaw vs m d
+    → IsValid p → IsIn p s → after_hole p ≡ Ok (q, c) → IsTextBy c datum → TextStands languages s t m → StandsRaw s vs m d
+    → ((vs : List Filling) (t : List LexEvent) (m d : Config ValueState) → TextStands languages (at_hole languages s) t m
+    → StandsRaw (at_hole languages s) vs m d
     → IsFilled symbols texts (page_bytes more) (at_hole languages s) vs t d)
     → IsFilled (Hole ∷ symbols) (printed datum ∷ texts) (page_bytes (hole_pieces (placed s) datum ++ more)) s vs t d
-hole-filled p q c datum s vs t m d symbols texts more v i accepted is_text l f rest =
+hole-filled laws p q c datum s vs t m d symbols texts more v i accepted is_text l f rest =
     let own = chain_bytes c datum in
-    let back = (is-safe p q c s v i accepted).promised datum is_text in
+    let back = (is-safe p q c s v i accepted).promised laws datum is_text in
     let leads = hole-leads p q c s datum own v i accepted back in
     let kept = keeps-hole p q c datum own s t m v i accepted back l in
     let e = kept.2.0 in
@@ -90,5 +97,6 @@ hole-filled p q c datum s vs t m d symbols texts more v i accepted is_text l f r
     record {
       end = r.end;
       stands = r.stands;
-      beside = subst (StandsRaw (fillings_along symbols texts (at_hole languages s) (fillings_at s (printed datum) vs)) r.end) (sym same) r.beside;
+      beside = subst (StandsRaw (read_path languages symbols (config (at_hole languages s) (mark_in languages s t))).at
+          (fillings_along symbols texts (at_hole languages s) (fillings_at s (printed datum) vs)) r.end) (sym same) r.beside;
     }

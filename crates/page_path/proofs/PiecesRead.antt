@@ -4,6 +4,7 @@ use Rattle.std.specs.Prelude.{if◌then◌else◌}
 use Rattle.html_step.specs.Holes.{after_hole}
 use Rattle.html_step.specs.Steps.{after_text}
 use Rattle.page_path.proofs.HolesBack.{BackUnless, is-safe}
+use Rattle.page_path.proofs.StyleBack.{WrittenInStyles}
 use Rattle.page_path.proofs.OwnPieces.{on-path}
 use Rattle.page_datum.specs.Data.{Data}
 use Rattle.page_path.specs.Pages.{PagePiece, chain_bytes, hole_pieces, page_parts, value, words}
@@ -84,19 +85,19 @@ plain-read false datum bytes s t d e end pieces p (inl r) b l h =
 plain-read false datum bytes s t d e end pieces p (inr r) b l h = absurd (r.0 p)
 
 -- a hole
-pub hole-read : (p q : Place) (c : Chain) (datum : Data) (s : LexState ValueState) (t : List LexEvent) (d : Config ValueState)
+pub hole-read : WrittenInStyles → (p q : Place) (c : Chain) (datum : Data) (s : LexState ValueState) (t : List LexEvent) (d : Config ValueState)
     (pieces : List PagePiece) (symbols : List Symbol)
     → IsValid p → IsIn p s → after_hole p ≡ Ok (q, c) → IsTextBy c datum → TextStands languages s t d
     → ((u : List LexEvent)
     (e : Config ValueState) → TextStands languages (at_hole languages s) u e → IsReadTo pieces symbols (at_hole languages s) u e)
     → IsReadTo (hole_pieces (placed s) datum ++ pieces) (Hole ∷ symbols) s t d
-hole-read p q c datum s t d pieces symbols v i accepted u l rest =
+hole-read laws p q c datum s t d pieces symbols v i accepted u l rest =
     let safe = is-safe p q c s v i accepted in
     let bytes = chain_bytes c datum in
-    let kept = keeps-hole p q c datum bytes s t d v i accepted (safe.promised datum u) l in
+    let kept = keeps-hole p q c datum bytes s t d v i accepted (safe.promised laws datum u) l in
     let e = kept.2.0 in
     let r = rest (mark_in languages s t) e kept.2.2 in
-    let whole = plain-read (leaves_out c) datum bytes s t d e r.end pieces kept.1 kept.2.1 (safe.back datum u) l r.are in
+    let whole = plain-read (leaves_out c) datum bytes s t d e r.end pieces kept.1 kept.2.1 (safe.back laws datum u) l r.are in
     record {
       end = r.end;
       are = subst (λ (z : List PagePiece). AreRead (z ++ pieces) d r.end) (sym (on-path p q c s datum v i accepted)) whole;

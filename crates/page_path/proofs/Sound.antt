@@ -4,6 +4,7 @@ use Rattle.std.proofs.lemmas.List.Elements.{All-contains}
 use Rattle.html_step.specs.Steps.{after_text}
 use Rattle.page_path.proofs.EventsFilled.{events-filled}
 use Rattle.page_path.proofs.Finding.{AllFind, Finds, event_symbols, symbols_from}
+use Rattle.page_path.proofs.StyleBack.{WrittenInStyles}
 use Rattle.page_path.proofs.OwnPieces.{text-at-place}
 use Rattle.page_path.proofs.PiecesFilled.{IsFilled}
 use Rattle.page_path.proofs.PiecesRead.{IsReadTo, StandsFor, hole-read, node-state, one-end, text-read}
@@ -31,6 +32,7 @@ use Rattle.place_infer.specs.ChartViews.{ChartData}
 use Rattle.place_infer.specs.Inferring.{EndsInText, root_numbers}
 use Rattle.place_chart.specs.Exact.{point_place, places_at, places_of}
 use Rattle.place_chart.specs.Summaries.{chart_of}
+use Rattle.text_norm.proofs.FilledMarks.{beside-raw}
 use Rattle.text_norm.proofs.PagesFill.{in-text-filled}
 use Rattle.text_norm.proofs.PiecesKeep.{stands-at-start}
 use Rattle.text_norm.proofs.Emits.{in-text, same-state}
@@ -47,7 +49,7 @@ use Rattle.page_path.specs.Textual.{AreTextual, IsTextual}
 use Rattle.tpl_tree.specs.Forests.{ForestData}
 use Rattle.tpl_tree.specs.declared.node_kind.NodeKind.{NodeKind}
 
-module _ (forest : ForestData) (chart : ChartByName Place) where
+module _ (laws : WrittenInStyles) (forest : ForestData) (chart : ChartByName Place) where
   -- the pieces of events, and the symbols of their path
   abbrev ReadFrom : List Emission → List (List ℕ) → LexState ValueState → List LexEvent → Config ValueState → Type 0
   ReadFrom gs ts s t d = IsReadTo (pieces_from forest gs ts s) (symbols_from forest gs ts) s t d
@@ -74,7 +76,7 @@ module _ (forest : ForestData) (chart : ChartByName Place) where
       let h = f.here in
       let more = pieces_from forest gs ts (at_hole languages s) in
       let text = text-at-place (chart p.template p.entry (before n)) h.place f.next f.chain datum h.there f.accepted u in
-      hole-read h.place f.next f.chain datum s t d more (symbols_from forest gs ts) h.valid h.is_in f.accepted text l rest
+      hole-read laws h.place f.next f.chain datum s t d more (symbols_from forest gs ts) h.valid h.is_in f.accepted text l rest
   event-read (enters n) gs (p ∷ ps) ts s t d f u l rest = rest t d l
   event-read leaves gs (p ∷ ps) ts s t d f u l rest = rest t d l
 
@@ -154,8 +156,8 @@ raw-read symbols texts bytes own f =
     let there = in-text-filled c f.end (read Page bytes start) (fillings_along symbols texts start.at []) is_in f.stands f.beside in
     record { ends = there.0; events = there.1 }
 
-pub pages-are-sound : PagesAreSound
-pages-are-sound forest names chart root datum r done textual =
+pub pages-are-sound : WrittenInStyles → PagesAreSound
+pages-are-sound laws forest names chart root datum r done textual =
     let run = meaning forest root datum in
     let v = along-root forest names chart root datum r in
     let moves = v.taken.moves in
@@ -163,10 +165,10 @@ pages-are-sound forest names chart root datum r done textual =
     let parts = page_parts (pieces_of forest root datum) in
     let whole = landed root run.end (reached forest (at_root forest root) moves) done v.taken.lands in
     let own = root-read forest names chart root moves r v.taken.walk whole in
-    let page = events-read forest (places_of forest chart.summaries) run.events (pair root place.Text ∷ []) (root ∷ []) start.at start.emitted start
+    let page = events-read laws forest (places_of forest chart.summaries) run.events (pair root place.Text ∷ []) (root ∷ []) start.at start.emitted start
     v.found.find textual stands-at-start.1 in
-    let filled = events-filled forest (places_of forest chart.summaries) run.events (pair root place.Text ∷ []) (root ∷ []) start.at []
-    start.emitted start start v.found.find textual stands-at-start.1 (record { at = refl; fills = (refl, refl) }) in
+    let filled = events-filled laws forest (places_of forest chart.summaries) run.events (pair root place.Text ∷ []) (root ∷ []) start.at []
+    start.emitted start start v.found.find textual stands-at-start.1 (beside-raw start.at [] start start (refl, (refl, refl))) in
     let bytes = page_bytes (pieces_of forest root datum) in
     let same = sym v.found.same in
     let stands = subst (λ (z : List Symbol). StandsFor (read_path languages z start) page.end) same page.stands in

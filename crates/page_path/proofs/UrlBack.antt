@@ -1,6 +1,9 @@
 -- What a chain writes for a value in a URL keeps what it promises, and reads back in every part where a hole has that chain.
-use Rattle.std.proofs.Common.{◌≡◌, ℕ, ◌==◌, not, nat_lt, List, [], ◌∷◌, IsUtf8, None, refl, sym, ap, ◌∙◌, subst}
-use Rattle.std.proofs.lemmas.Bool.{and_parts, not-true}
+use Rattle.std.proofs.Common.{◌≡◌, ℕ, ◌==◌, not, nat_lt, true, List, [], ◌∷◌, IsUtf8, None, refl, sym, ap, ◌∙◌, subst}
+use Rattle.std.proofs.lemmas.Bool.{and_from, and_parts, not-true}
+use Rattle.std.specs.List.{list_all}
+use Rattle.css_lexer.specs.StaysInUrl.{ValuesStayInUrls, is_byte}
+use Rattle.css_lexer.specs.Urls.{urls}
 use Rattle.html_step.specs.Holes.{last_of}
 use Rattle.page_datum.specs.Data.{Data}
 use Rattle.page_datum.specs.Printed.{printed}
@@ -32,6 +35,7 @@ use Rattle.url_lexer.specs.Parts.{UrlPart, UrlStart}
 use Rattle.url_lexer.specs.Refusals.{refuses_hole_in}
 use Rattle.url_lexer.specs.Sanitizers.{written_in}
 use Rattle.url_lexer.specs.States.{Url, url_start}
+use Rattle.url_lexer.specs.Written.{AreBytes}
 
 pub quoted-back : (text : List ℕ) → IsUtf8 text → IsBackInQuoted text (html text)
 quoted-back text u = for-text IsBackInQuoted html_rows back-in-quoted text u
@@ -43,33 +47,38 @@ part-back p text u h = back-in-part written-plain written-back p text (written_i
 abbrev pub last_bytes : Quoting → List ℕ → List ℕ
 last_bytes q characters = san_bytes (last_of (quotes_at q)) characters
 
-by-last : (q : Quoting) (characters : List ℕ) → IsUtf8 characters → IsBackByLast (last_of (quotes_at q)) characters (last_bytes q characters)
+pub by-last : (q : Quoting) (characters : List ℕ) → IsUtf8 characters → IsBackByLast (last_of (quotes_at q)) characters (last_bytes q characters)
 by-last DoubleQuoted characters u = quoted-back characters u
 by-last SingleQuoted characters u = quoted-back characters u
 by-last Unquoted characters u = unquoted-back characters u
 
-own-text : (bs : List ℕ) → AreOwn bs → read_as_text bs ≡ bs
+pub own-text : (bs : List ℕ) → AreOwn bs → read_as_text bs ≡ bs
 own-text [] h = refl
 own-text (b ∷ bs) h = rw (not-true (b == 0) (and_parts (nat_lt b 128) (not (b == 0)) h.0).1, own-text bs h.1) refl
 
--- what is promised
-pub in-url : (p : UrlPart) (Back : List ℕ → Type 0) (q : Quoting) (text : List ℕ) → IsUtf8 text → Back (written_in p text)
+all-bytes : (bs : List ℕ) → AreBytes bs → list_all is_byte bs ≡ true
+all-bytes [] a = refl
+all-bytes (b ∷ bs) a = and_from (is_byte b) (list_all is_byte bs) a.0 (all-bytes bs a.1)
+
+-- what is promised, by the law that these characters stay in the URLs of styles
+pub in-url : ValuesStayInUrls urls → (p : UrlPart) (Back : List ℕ → Type 0) (q : Quoting) (text : List ℕ) → IsUtf8 text → Back (written_in p text)
     → IsBackInUrl Back (last_of (quotes_at q)) (last_bytes q (written_in p text))
-in-url p Back q text u back = record {
+in-url stay p Back q text u back = record {
   characters = written_in p text;
   there = back;
+  stays = stay p text (all-bytes text (utf8-bytes text u));
   as_they_are = own-text (written_in p text) (written-own p text (utf8-bytes text u));
   written = by-last q (written_in p text) (written-utf8 p text (utf8-bytes text u));
 }
 
 -- what such bytes read as, in a value that has begun
-url-text : (q : Quoting) (characters : List ℕ) → read_as_text characters ≡ characters → value_text q characters ≡ url_bytes q characters
+pub url-text : (q : Quoting) (characters : List ℕ) → read_as_text characters ≡ characters → value_text q characters ≡ url_bytes q characters
 url-text DoubleQuoted characters e = e
 url-text SingleQuoted characters e = e
 url-text Unquoted [] e = refl
 url-text Unquoted (b ∷ bs) e = e
 
-last-reads : (q : Quoting) (tag : Tag) (v : Value ValueState) (characters bytes : List ℕ) → IsBackByLast (last_of (quotes_at q)) characters bytes
+pub last-reads : (q : Quoting) (tag : Tag) (v : Value ValueState) (characters bytes : List ℕ) → IsBackByLast (last_of (quotes_at q)) characters bytes
     → read Page bytes (config (in_value q tag v) []) ≡ read_value q tag v (value_text q characters) []
 last-reads DoubleQuoted tag v characters bytes w = w.reads DoubleQuoted tag v [] refl
 last-reads SingleQuoted tag v characters bytes w = w.reads SingleQuoted tag v [] refl

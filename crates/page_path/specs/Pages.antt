@@ -15,6 +15,7 @@ use Rattle.place_core.specs.declared.chain.Chain.{Chain}
 use Rattle.place_core.specs.declared.place.Place.{Place}
 use Rattle.place_core.specs.declared.san.San.{San}
 use Rattle.place_core.specs.declared.san.San.TheVariants as san
+use Rattle.css_lexer.specs.Sanitizers.{css_string, css_value}
 use Rattle.html_step.specs.Holes.{Holed, after_hole}
 use Rattle.san_html.specs.Sanitizers.{html, attr_nospace, attr_name}
 use Rattle.text_norm.specs.HoleLaws.{leaves_out, sanitizers}
@@ -28,8 +29,8 @@ use Rattle.tpl_tree.specs.declared.node_kind.NodeKind.{NodeKind}
 use Rattle.tpl_tree.specs.declared.node_kind.NodeKind.TheVariants as kind
 use Rattle.url_lexer.specs.Sanitizers.{url_filter, url_norm, url_open, url_query}
 
--- What a sanitizer gives for the bytes of the one before it. Those of scripts and styles are not built: a place where they would stand is
--- refused, so none of them is reached.
+-- What a sanitizer gives for the bytes of the one before it. Those of scripts are not built: a place where they would stand is refused, so none
+-- of them is reached.
 abbrev pub san_bytes : San → List ℕ → List ℕ
 san_bytes san.Html bytes = html bytes
 san_bytes san.Attr bytes = html bytes
@@ -40,12 +41,12 @@ san_bytes san.UrlFilter bytes = url_filter bytes
 san_bytes san.UrlOpen bytes = url_open bytes
 san_bytes san.UrlNorm bytes = url_norm bytes
 san_bytes san.UrlQuery bytes = url_query bytes
--- those of scripts and styles, which no context has yet
+san_bytes san.CssValue bytes = css_value bytes
+san_bytes san.CssString bytes = css_string bytes
+-- those of scripts, which no context has yet
 san_bytes san.JsValue bytes = []
 san_bytes san.JsString bytes = []
 san_bytes san.JsRegexp bytes = []
-san_bytes san.CssValue bytes = []
-san_bytes san.CssString bytes = []
 
 -- What a sanitizer gives for a datum, where it is the first of its chain: what it gives for the datum's printed text. That of a script's
 -- values reads the datum itself, whose text does not tell a number from a text of digits.
@@ -59,12 +60,12 @@ datum_bytes san.UrlFilter datum = san_bytes san.UrlFilter (printed datum)
 datum_bytes san.UrlOpen datum = san_bytes san.UrlOpen (printed datum)
 datum_bytes san.UrlNorm datum = san_bytes san.UrlNorm (printed datum)
 datum_bytes san.UrlQuery datum = san_bytes san.UrlQuery (printed datum)
+datum_bytes san.CssValue datum = san_bytes san.CssValue (printed datum)
+datum_bytes san.CssString datum = san_bytes san.CssString (printed datum)
 -- likewise, not built
 datum_bytes san.JsValue datum = []
 datum_bytes san.JsString datum = san_bytes san.JsString (printed datum)
 datum_bytes san.JsRegexp datum = san_bytes san.JsRegexp (printed datum)
-datum_bytes san.CssValue datum = san_bytes san.CssValue (printed datum)
-datum_bytes san.CssString datum = san_bytes san.CssString (printed datum)
 
 -- what a chain gives for a datum: each sanitizer behind the first reads the bytes of the one before it
 abbrev pub bytes_behind : List San → List ℕ → List ℕ

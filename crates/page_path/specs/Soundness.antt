@@ -1,6 +1,9 @@
 -- What is promised of a page: it has the shape of the path of its templates, whatever the data; each value is plain in its place, and
 -- reads back there; and the page as bytes alone reads as that path with its marks filled by the values.
 use Rattle.std.specs.Prelude.{◌≡◌, ℕ, false, List, [], ◌∷◌, ⊤}
+use Rattle.css_lexer.specs.Sanitizers.{style_as_text, unless_unsafe}
+use Rattle.css_lexer.specs.States.{Comment, InString, InUrl, Out, Outside, StarAtCut, Style}
+use Rattle.css_lexer.specs.Unescaping.{style_escapes_undone}
 use Rattle.page_datum.specs.Data.{Data}
 use Rattle.page_datum.specs.Printed.{printed}
 use Rattle.page_path.specs.Pages.{PagePiece, page_bytes, page_parts, pieces_of, value, words}
@@ -41,8 +44,11 @@ path_symbols (back ∷ ms) = path_symbols ms
 -- A value reads back in its place. In text, title and textarea its bytes, with references undone, are the text of the value, with NUL as
 -- U+FFFD. In a data block the same, where they are undone by themselves. In a value of an attribute they go on with that text, and where
 -- the value has no quotes and the text is empty, with the failsafe `ZgotmplZ`. In a URL they go on with bytes that are the text with percent triples
--- undone, as its part says, and without quotes, where there are none, with `ZgotmplZ`. In a tag they are the name of an attribute: the text in
--- lower case, or `ZgotmplZ`, where data may not make that name.
+-- undone, as its part says, and without quotes, where there are none, with `ZgotmplZ`. In a style they read as such bytes do: in a string of it
+-- as bytes that are the text, with NUL as U+FFFD, where their escapes are undone; in a URL of it as in any URL; in a comment of it as none, of which
+-- a style tells nothing; and elsewhere as the text, of which the escapes are undone, or as `ZgotmplZ`, where that may not stand there: but how long
+-- white space is, a style does not tell. In a tag they are the name of an attribute: the text in lower case, or `ZgotmplZ`, where data may not
+-- make that name.
 abbrev pub IsNameBack : Tag → LexState ValueState → List ℕ → List ℕ → Type 0
 IsNameBack tag s text bytes =
     read Page bytes (config s []) ≡ config (AttributeName tag (as_name text)) (attribute_name_bytes (as_name text) (AttributeBegins ∷ []))
@@ -52,13 +58,28 @@ pub record IsUrlBack (q : Quoting) (tag : Tag) (u : Url) (s : LexState ValueStat
   pub goes_on : read Page bytes (config s []) ≡ read_value q tag (ValueOf (OfUrl u)) (url_bytes q characters) []
   pub reads : ReadsBack u.part text characters
 
--- in a value of an attribute, by how it is read; in one that is a style no value may stand yet
+-- in a style, by where the page is in it when nothing is pending
+abbrev pub ReadsBackOutside : Outside → List ℕ → List ℕ → Type 0
+ReadsBackOutside (InString q e) text characters = style_escapes_undone characters ≡ style_as_text text
+ReadsBackOutside (Comment star) text characters = characters ≡ []
+ReadsBackOutside StarAtCut text characters = characters ≡ []
+ReadsBackOutside s text characters = characters ≡ unless_unsafe (style_escapes_undone text)
+
+abbrev pub ReadsBackInStyle : Style Url → List ℕ → List ℕ → Type 0
+ReadsBackInStyle (Out s) text characters = ReadsBackOutside s text characters
+ReadsBackInStyle (InUrl f u) text characters = ReadsBack u.part text characters
+
+pub record IsStyleBack (q : Quoting) (tag : Tag) (style : Style Url) (s : LexState ValueState) (text bytes : List ℕ) : Type 0 where
+  pub characters : List ℕ
+  pub goes_on : read Page bytes (config s []) ≡ read_value q tag (ValueOf (OfStyle style)) (url_bytes q characters) []
+  pub reads : ReadsBackInStyle style text characters
+
+-- in a value of an attribute, by how it is read
 abbrev pub IsValueBack : Quoting → Tag → Value ValueState → LexState ValueState → List ℕ → List ℕ → Type 0
 IsValueBack q tag (ValueOf (OfKind k)) s text bytes =
     read Page bytes (config s []) ≡ read_value q tag (ValueOf (OfKind k)) (value_text q text) []
 IsValueBack q tag (ValueOf (OfUrl u)) s text bytes = IsUrlBack q tag u s text bytes
-IsValueBack q tag (ValueOf (OfStyle style)) s text bytes =
-    read Page bytes (config s []) ≡ read_value q tag (ValueOf (OfStyle style)) (value_text q text) []
+IsValueBack q tag (ValueOf (OfStyle style)) s text bytes = IsStyleBack q tag style s text bytes
 IsValueBack q tag (Deciding k before) s text bytes =
     read Page bytes (config s []) ≡ read_value q tag (Deciding k before) (value_text q text) []
 
@@ -130,8 +151,9 @@ pub record ReadsAs (parts : List ShapePart) (path : List Move) : Type 0 where
 -- 5. Each value is plain in its place, and reads back there.
 -- 6. The whole page, read as bytes alone, without knowing where values begin and end, comes to where the path comes, and emits what the path
 --    emits, but in the place of each mark the events of that value alone. And where a hole is the first of a URL, the URL's end tells a scheme that
---    is none, `http`, `https` or `mailto`. That no percent triple lies over an edge of a value, and that only the first value of a URL ends its
---    scheme, the fifth says.
+--    is none, `http`, `https` or `mailto`. And in a style the page tells one blank for white space and comments that stand side by side, where the
+--    path and a value, or two values, have them there. That no percent triple and no escape of a style lies over an edge of a value, and that only
+--    the first value of a URL ends its scheme, the fifth says.
 pub record IsSound (forest : ForestData) (root : List ℕ) (datum : Data) (page : List ℕ) : Type 0 where
   pub finished : IsDone (meaning forest root datum).end
   pub bytes : page ≡ page_bytes (pieces_of forest root datum)

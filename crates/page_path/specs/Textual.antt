@@ -1,5 +1,5 @@
--- Which texts of data have to be UTF-8: those that are written. In a comment nothing is written of a value, and as the name of an attribute
--- only letters and digits of ASCII are, so there nothing is asked of its text.
+-- Which texts of data have to be UTF-8: those that are written. In a comment, of the page or of a style, nothing is written of a value, and as
+-- the name of an attribute only letters and digits of ASCII are, so there nothing is asked of its text.
 use Rattle.std.specs.Prelude.{List, [], ◌∷◌, Option, Some, None, Ok, Err, ⊤}
 use Rattle.std.specs.Str.{IsUtf8}
 use Rattle.html_step.specs.Holes.{Holed, after_hole}
@@ -46,12 +46,12 @@ IsTextFor san.UrlFilter datum = IsUtf8 (printed datum)
 IsTextFor san.UrlOpen datum = IsUtf8 (printed datum)
 IsTextFor san.UrlNorm datum = IsUtf8 (printed datum)
 IsTextFor san.UrlQuery datum = IsUtf8 (printed datum)
--- those of scripts and styles, which no context has yet
+IsTextFor san.CssValue datum = IsUtf8 (printed datum)
+IsTextFor san.CssString datum = IsUtf8 (printed datum)
+-- those of scripts, which no context has yet
 IsTextFor san.JsValue datum = AreTexts datum
 IsTextFor san.JsString datum = IsUtf8 (printed datum)
 IsTextFor san.JsRegexp datum = IsUtf8 (printed datum)
-IsTextFor san.CssValue datum = IsUtf8 (printed datum)
-IsTextFor san.CssString datum = IsUtf8 (printed datum)
 
 -- the same of a chain: only its first sanitizer reads the datum
 abbrev pub IsTextByList : List San → Data → Type 0

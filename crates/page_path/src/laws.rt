@@ -1,12 +1,18 @@
 ghost use Rattle.page_path.specs.Laws.{PagesAreSound, PagesGoByTheChart, PagesOfOnePathHaveOneShape};
 ghost use Rattle.page_path.specs.Laws.{SoundPagesHaveTheShapeOfTheirPath, SoundPagesReadWithTheirTexts};
 
+use css_lexer::{strings_read_back, values_read_back_in_code, values_stay_in_urls};
+
 /// The page of a root of a set that has a chart is sound, whatever the datum, whose written texts are UTF-8, where the execution comes to
 /// its end: it has the shape of the path whose choices the execution took, each value is plain in its place and reads back there, and the
 /// page as bytes alone reads as that path, with each mark filled by its value. A theorem; the call does nothing at run time.
 pub fn pages_are_sound()
     ensures { PagesAreSound }
-{}
+{
+    values_read_back_in_code();
+    strings_read_back();
+    values_stay_in_urls();
+}
 
 /// A sound page has the shape of the path that its execution takes, however it is read with a mark in the place of each value. A theorem;
 /// the call does nothing at run time.
@@ -30,4 +36,6 @@ pub fn pages_go_by_the_chart()
 /// shape: no value of theirs changes it. A theorem; the call does nothing at run time.
 pub fn pages_of_one_path_have_one_shape()
     ensures { PagesOfOnePathHaveOneShape }
-{}
+{
+    pages_are_sound();
+}

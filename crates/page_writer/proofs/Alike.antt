@@ -24,6 +24,8 @@ printed-alike san.UrlFilter datum b = record { same = refl; textual = λ u. u }
 printed-alike san.UrlOpen datum b = record { same = refl; textual = λ u. u }
 printed-alike san.UrlNorm datum b = record { same = refl; textual = λ u. u }
 printed-alike san.UrlQuery datum b = record { same = refl; textual = λ u. u }
+printed-alike san.CssValue datum b = record { same = refl; textual = λ u. u }
+printed-alike san.CssString datum b = record { same = refl; textual = λ u. u }
 printed-alike _ datum b = absurd b
 
 -- what is printed of a text is the text

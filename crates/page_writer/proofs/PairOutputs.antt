@@ -1,7 +1,8 @@
 -- What a writer gives is what the chart's pair gives, event by event.
 use Rattle.std.proofs.Common.{◌≡◌, ℕ, Bool, true, false, List, [], ◌∷◌, ◌++◌, Option, Some, Ok, Err, refl, sym, ap, ◌∙◌, subst}
 use Rattle.std.specs.Prelude.{◌||◌, Result, if◌then◌else◌}
-use Rattle.html_step.specs.Holes.{after_hole, block_hole, Holed, last_of, named_by_data, plain_hole, url_holed, value_hole}
+use Rattle.css_step.specs.StyleScanViews.{style_hole_answer}
+use Rattle.html_step.specs.Holes.{after_hole, block_hole, css_chain, css_holed, Holed, last_of, named_by_data, plain_hole, url_chain, url_holed, value_hole}
 use Rattle.page_datum.specs.Data.{Data}
 use Rattle.page_path.specs.ByChart.{ChartMay, PairMayEnter, MayHole, MayText, pair_pieces, text_pieces}
 use Rattle.page_path.specs.Pages.{bytes_in, hole_pieces, holed_pieces}
@@ -15,6 +16,8 @@ use Rattle.place_flow.specs.Covering.{Pair, sign_pairs}
 use Rattle.place_core.specs.declared.body.Body.{Body}
 use Rattle.place_core.specs.declared.body.Body.TheVariants as body
 use Rattle.place_core.specs.declared.code.Code.{Code}
+use Rattle.place_core.specs.declared.css.Css.{Css}
+use Rattle.place_core.specs.declared.css.Css.TheVariants as css
 use Rattle.place_core.specs.declared.parts.Parts.{Parts}
 use Rattle.place_core.specs.declared.place.Place.{Place}
 use Rattle.place_core.specs.declared.place.Place.TheVariants as place
@@ -67,12 +70,30 @@ url_built : (v : ValuePlace) (parts : Parts) (o : Result Parts Code) → HasBuil
 url_built v parts (Ok after) = url_built_by parts.start parts.prequery parts.query (last_of v.quotes) (last_built v.quotes)
 url_built v parts (Err e) = tt
 
+-- in a style, by its place; in a URL of it by the part; behind a URL no hole is accepted
+style_url_built : (v : ValuePlace) (c : Css) (parts : Parts) (o : Result Css Code)
+    → css_chain c (last_of v.quotes) ≡ url_chain parts (last_of v.quotes) → HasBuiltChain (css_holed v c o)
+style_url_built v c parts (Ok after) same =
+    subst IsBuiltChain (sym same) (url_built_by parts.start parts.prequery parts.query (last_of v.quotes) (last_built v.quotes))
+style_url_built v c parts (Err e) same = tt
+
+style_built : (c : Css) (v : ValuePlace) → HasBuiltChain (css_holed v c (style_hole_answer c))
+style_built (css.Code tails) v = (tt, (last_built v.quotes, tt))
+style_built css.Dq v = (tt, (last_built v.quotes, tt))
+style_built css.Sq v = (tt, (last_built v.quotes, tt))
+style_built css.UrlFresh v = (tt, (tt, (last_built v.quotes, tt)))
+style_built (css.Url parts) v = style_url_built v (css.Url parts) parts (style_hole_answer (css.Url parts)) refl
+style_built (css.UrlDq parts) v = style_url_built v (css.UrlDq parts) parts (style_hole_answer (css.UrlDq parts)) refl
+style_built (css.UrlSq parts) v = style_url_built v (css.UrlSq parts) parts (style_hole_answer (css.UrlSq parts)) refl
+style_built css.UrlEnd v = tt
+style_built (css.Comment star) v = (tt, (last_built v.quotes, tt))
+
 value_built : (b : Body) (v : ValuePlace) → HasBuiltChain (value_hole b v)
 value_built body.Plain v = plain_built v.quotes v
 value_built body.NoHole v = tt
 value_built (body.Url parts) v = url_built v parts (hole_answer parts)
 value_built (body.Js js) v = tt
-value_built (body.Css css) v = tt
+value_built (body.Css c) v = style_built c v
 
 block_built : (lt : Bool) → HasBuiltChain (block_hole lt)
 block_built true = tt

@@ -3,9 +3,8 @@ use Rattle.std.proofs.Common.{◌≡◌, ◌++◌, ◌∷◌, ℕ, ◌≤◌, Li
 use Rattle.std.proofs.Common.{ap, ◌∙◌, subst, arith}
 use Rattle.page_datum.specs.Data.{Data}
 use Rattle.page_datum.specs.Execution.{Execution, faulted}
-use Rattle.page_path.proofs.Sound.{pages-are-sound}
 use Rattle.page_path.proofs.Together.{pages-go-by-the-chart}
-use Rattle.page_path.specs.Laws.{IsRootOf}
+use Rattle.page_path.specs.Laws.{IsRootOf, PagesAreSound}
 use Rattle.page_path.specs.Pages.{page_ended, execution, max_page, page_bytes, pieces_of}
 use Rattle.page_path.specs.Soundness.{IsFinished, IsSound}
 use Rattle.page_writer.proofs.WrittenPages.{Goes, IsAt, IsWritten, Stand, allowed, over, refused, size, written}
@@ -74,9 +73,9 @@ module _ (forest : ForestData) (chart : ChartData) (root : List ℕ) (outputs : 
       ap (λ (x : Option Emission). page_ended (page_bytes (pieces_of forest root datum)) x (finish_of run.end)) from_none
       ∙ ap (page_ended (page_bytes (pieces_of forest root datum)) o) e
 
-  pub composed : (v : PageWriter) (made : Composed) → made.page ≡ v.page → RunAnswers Takes WriterDeclines run w v (Ok made.steps)
+  pub composed : PagesAreSound → (v : PageWriter) (made : Composed) → made.page ≡ v.page → RunAnswers Takes WriterDeclines run w v (Ok made.steps)
       → IsComposed forest root datum made
-  composed v made same r =
+  composed are_sound v made same r =
       let bytes = page_bytes (pieces_of forest root datum) in
       let all = taken v r.0 in
       let whole = ends None (finished made.steps) all.under r.1 in
@@ -87,7 +86,7 @@ module _ (forest : ForestData) (chart : ChartData) (root : List ℕ) (outputs : 
         page = page ∙ sym (ap (λ (x : Execution). x.bytes) whole);
         steps = sym (ap (λ (x : Execution). x.steps) whole);
         sound = subst (λ (p : List ℕ). IsSound forest root datum p) (sym page)
-            (pages-are-sound forest b.names chart root datum b.is (subst IsFinished (sym r.1) tt) all.textual);
+            (are_sound forest b.names chart root datum b.is (subst IsFinished (sym r.1) tt) all.textual);
       }
 
   pub broken_off : (v : PageWriter) (e : ExecStop) → RunAnswers Takes WriterDeclines run w v (Err e) → ComposeAnswers forest root datum (Err e)

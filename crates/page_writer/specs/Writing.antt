@@ -26,7 +26,7 @@ abbrev pub IsTextNode : Output → Type 0
 IsTextNode (output.Text bytes) = ⊤
 IsTextNode _ = ⊥
 
--- a sanitizer that is built and may be the first of its chain. Those of scripts and styles are not built.
+-- a sanitizer that is built and may be the first of its chain. Those of scripts are not built.
 abbrev pub IsBuilt : San → Type 0
 IsBuilt san.Html = ⊤
 IsBuilt san.Attr = ⊤
@@ -37,11 +37,11 @@ IsBuilt san.UrlFilter = ⊤
 IsBuilt san.UrlOpen = ⊤
 IsBuilt san.UrlNorm = ⊤
 IsBuilt san.UrlQuery = ⊤
+IsBuilt san.CssValue = ⊤
+IsBuilt san.CssString = ⊤
 IsBuilt san.JsValue = ⊥
 IsBuilt san.JsString = ⊥
 IsBuilt san.JsRegexp = ⊥
-IsBuilt san.CssValue = ⊥
-IsBuilt san.CssString = ⊥
 
 -- A sanitizer that is built and may be behind another one, as those of values are, and in a URL that which keeps what may stand there. It writes
 -- at least as many bytes as it reads, so what is kept between two sanitizers is never more than what the page gets.

@@ -7,6 +7,7 @@ ghost use Rattle.tpl_tree.specs.Forests.{tree_name_at};
 use crate::output::Output;
 use crate::writer::PageWriter;
 use page_datum::Datum;
+use page_path::pages_are_sound;
 use place_infer::Chart;
 use std::alloc::Global;
 use tpl_exec::{ExecStop, execute};
@@ -37,6 +38,7 @@ pub fn compose(
     ensures { ComposeAnswers forest.now (unwrap_or (tree_name_at forest.now root) [])
         (view datum.now) result }
 {
+    pages_are_sound();
     let pair = match chart.start(root) {
         Some(pair) => pair,
         None => unreachable!(),

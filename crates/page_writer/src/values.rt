@@ -7,6 +7,7 @@ ghost use Rattle.page_writer.specs.Writing.{IsBuilt, IsBuiltChain, IsWrittenAlik
 use page_datum::{DatumRef, print_datum};
 use page_io::Memory;
 use place_core::{Chain, San};
+use san_css::{push_css_string, push_css_value};
 use san_html::{push_attr_name, push_attr_nospace, push_html};
 use san_url::{push_url_norm, push_url_open, push_url_query, url_filter};
 use std::alloc::Global;
@@ -73,7 +74,7 @@ fn push_first(out: &mut String, san: San, datum: DatumRef<'_>) -> Result<(), Mem
 }
 
 // The text to sanitize in place of a printed value, where the value need not be printed: a text itself; of a list or a dictionary nothing
-// in a comment, and `[` as a name, since neither that nor what is printed of them is a name.
+// where it is dropped, and `[` as a name, since neither that nor what is printed of them is a name.
 fn unprinted<'d>(san: San, datum: DatumRef<'d>) -> Option<&'d str>
     requires { IsBuilt san }
     ensures { IfSome result (λ text. IsWrittenAlike san text.now (ref_view datum.entry)) }
@@ -89,8 +90,8 @@ fn unprinted<'d>(san: San, datum: DatumRef<'d>) -> Option<&'d str>
     }
 }
 
-// Appends what a sanitizer gives for a text; only of a name a copy is made. Fails only if allocation fails, and then a part of it may be
-// there.
+// Appends what a sanitizer gives for a text; a copy is made only of a name, and of a text with a backslash in a style. Fails only if
+// allocation fails, and then a part of it may be there.
 fn push_sanitized(out: &mut String, san: San, text: &str) -> Result<(), Memory>
     requires { IsBuilt san }
     ensures { OnOk result (string_bytes out.new
@@ -105,7 +106,8 @@ fn push_sanitized(out: &mut String, san: San, text: &str) -> Result<(), Memory>
         San::UrlOpen => push_url_open(out, text),
         San::UrlNorm => push_url_norm(out, text),
         San::UrlQuery => push_url_query(out, text),
-        San::JsValue | San::JsString | San::JsRegexp | San::CssValue | San::CssString =>
-            unreachable!(),
+        San::CssValue => push_css_value(out, text),
+        San::CssString => push_css_string(out, text),
+        San::JsValue | San::JsString | San::JsRegexp => unreachable!(),
     }
 }

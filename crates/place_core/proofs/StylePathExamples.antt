@@ -65,7 +65,7 @@ mark_in_url : (read_path languages (Written (codes "url(/") ∷ Hole ∷ Written
 unfolding in_style at_start run style_class url_class_of class_of meaning flushed lib.Utf8.encode
 mark_in_url = refl
 
--- where a node ends in a style, and what its place is; no hole is accepted there yet
+-- where a node ends in a style, and what its place is; a hole behind the URL of a url token is refused
 placed_in_style : Css → Option Place
 placed_in_style c = Some (place.Value (record { tag = tag.Start element.Other; typed = false; quotes = quotes_at DoubleQuoted; body = body.Css c }))
 
@@ -82,9 +82,9 @@ in_url : placed (node (codes "a:url( '/b?") (in_style style.style_start)) ≡ pl
 unfolding in_style placed_in_style style_class url_class_of class_of meaning flushed lib.Utf8.encode
 in_url = refl
 
-hole_not_built : RefusesHole (node (codes "url(a ") (in_style style.style_start)) code.NotBuilt
+behind_url : RefusesHole (node (codes "url(a ") (in_style style.style_start)) code.BadString
 unfolding in_style style_class url_class_of class_of meaning flushed lib.Utf8.encode
-hole_not_built = record { own = _; stands = refl; refused = refl }
+behind_url = record { own = _; stands = refl; refused = refl }
 
 -- what the language of styles refuses of a text
 behind_hole : path_refusal (codes "(") (in_style (Out (BehindHole false false))) ≡ Some (record { code = code.SplitToken; at = 0; shown = 0 })

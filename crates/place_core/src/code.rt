@@ -29,6 +29,6 @@ pub enum Code {
     BadString,
     /// A script has `<!--`, `-->` or the like, which browsers read as HTML.
     HtmlInScript,
-    /// This part of pages is not read yet.
+    /// This program cannot read this part of a page yet, or cannot write a value of data in it.
     NotBuilt,
 }

@@ -2,3 +2,4 @@ mod Ascii
 mod Runs
 mod Undoes
 mod Words
+pub mod WrittenText

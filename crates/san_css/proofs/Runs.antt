@@ -23,7 +23,7 @@ stays-by b bs [] e k = rw e refl
 stays-by b bs (d ∷ ds) e k = absurd (suc≢zero (length ds) (eqb-true (suc (length ds)) 0 k))
 
 -- a byte that is kept is written as it is
-stays : (b : ℕ) (bs : List ℕ) → is_string_kept b ≡ true → string_byte (string_digits b) b bs ≡ b ∷ []
+pub stays : (b : ℕ) (bs : List ℕ) → is_string_kept b ≡ true → string_byte (string_digits b) b bs ≡ b ∷ []
 stays b bs e = stays-by b bs (string_digits b) (not-92 b e) (and_parts (not (b == 92)) (length (string_digits b) == 0) e).1
 
 one_more : (n : ℕ) → 1 + n ≡ suc n
@@ -38,7 +38,7 @@ run-then (b ∷ bs) = elim (cases_Bool (is_string_kept b)) [
 ]
 
 -- what is not kept is ASCII
-kept-high : (b : ℕ) → 128 ≤ b → is_string_kept b ≡ true
+pub kept-high : (b : ℕ) → 128 ≤ b → is_string_kept b ≡ true
 kept-high b h =
     let other : (n : ℕ) → n < 128 → (b == n) ≡ false = λ n low. ne_eqb b n (λ e. omega (arith, h, e, low)) in
     rw (other 92 (omega arith), other 0 (omega arith), other 9 (omega arith), other 10 (omega arith), other 12 (omega arith), other 13 (omega arith), other 34 (omega arith), other 38 (omega arith), other 39 (omega arith), other 40 (omega arith), other 41 (omega arith), other 43 (omega arith), other 47 (omega arith), other 58 (omega arith), other 59 (omega arith), other 60 (omega arith), other 62 (omega arith), other 123 (omega arith), other 125 (omega arith)) refl

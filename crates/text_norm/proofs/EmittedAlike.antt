@@ -5,7 +5,8 @@ use Rattle.std.specs.Char.{to_ascii_lowercase}
 use Rattle.place_core.specs.page.Classes.{Class, White, ExclamationMark, QuotationMark, Apostrophe, HyphenMinus, Solidus, LessThan, EqualsSign, GreaterThan, QuestionMark, Letter, class_of}
 use Rattle.place_core.specs.page.Comments.{Declaration, OpensComment, OpensDoctype, Undecided, OpensNothing, declared_by, emits_doctype}
 use Rattle.place_core.specs.page.Contents.{content_bytes, pending_bytes, emits_content_cut, is_name_of, may_be_name_of, emits_bang, emits_bang_dash, emits_closed, emits_content, emits_end_name, emits_in_content, emits_less, emits_loose}
-use Rattle.place_core.specs.page.Events.{LexEvent, AttributeBegins, AttributeNameByte, AttributeNameEnds, BlockByte, Comment, DoctypeBegins, DoctypeByte, DoctypeEnds, EndTagBegins, Escape, Mark, StartTagBegins, TagEnds, TagNameByte, TextByte, UnreadByte, ValueByte, ValueScheme, block_bytes, doctype_bytes, tag_name_bytes, event_text_bytes}
+use Rattle.css_lexer.specs.Events.{InsideUrl}
+use Rattle.place_core.specs.page.Events.{LexEvent, InsideStyle, AttributeBegins, AttributeNameByte, AttributeNameEnds, BlockByte, Comment, DoctypeBegins, DoctypeByte, DoctypeEnds, EndTagBegins, Escape, Mark, StartTagBegins, TagEnds, TagNameByte, TextByte, UnreadByte, ValueByte, ValueScheme, block_bytes, doctype_bytes, tag_name_bytes, event_text_bytes}
 use Rattle.place_core.specs.page.Html.{byte_over, ends_value, read_over, emits, emits_after_name, emits_after_value, emits_before_name, emits_before_value, emits_bogus, emits_comment, emits_declaration, emits_end_tag_open, emits_name, emits_self_closing, emits_tag_name, emits_tag_open, emits_text, emits_value, emits_whole_name}
 use Rattle.place_core.specs.page.Paths.{read_node, emits_cut}
 use Rattle.place_core.specs.page.References.{Reference, Closed, as_it_stands, settled, undone_byte}
@@ -15,12 +16,14 @@ use Rattle.place_core.specs.page.Words.{kind_of}
 use Rattle.place_core.specs.declared.element.Element.{Element}
 use Rattle.place_core.specs.declared.kind.Kind.{Kind}
 use Rattle.place_core.specs.declared.kind.Kind.TheVariants as kind
+use Rattle.url_lexer.specs.Events.{UrlEnds}
 use Rattle.text_norm.proofs.StatesBeside.{IsFedAlike, IsOutside, StandBeside, cut-beside, next-beside}
 
--- an event that HTML emits by itself: neither a mark nor what the end of a value tells
+-- an event that HTML emits by itself: neither a mark nor what the end of a URL tells
 abbrev pub IsOwn : LexEvent → Type 0
 IsOwn Mark = ⊥
 IsOwn (ValueScheme s) = ⊥
+IsOwn (InsideStyle (InsideUrl (UrlEnds s))) = ⊥
 IsOwn _ = Unit {0}
 
 -- what a language brings: what it emits of a byte, and at a value's end, keeps the relation
@@ -48,11 +51,12 @@ module _ (F : List LexEvent → List LexEvent → Type 0) (keep : (e : LexEvent)
       let e = TagNameByte (to_ascii_lowercase b) in
       tag_names bs (e ∷ t) (e ∷ u) (keep e t u tt f)
 
-  in-text : (c : Class) (b : ℕ) (r : Reference) (t u : List LexEvent) → F t u → F (emits_text c b r t) (emits_text c b r u)
+  pub in-text : (c : Class) (b : ℕ) (r : Reference) (t u : List LexEvent) → F t u → F (emits_text c b r t) (emits_text c b r u)
   in-text LessThan b r t u f = f
   in-text c b r t u f = texts (undone_byte false r c b) t u f
 
-  in-bogus : (m : LexMode) (pending : List ℕ) (c : Class) (b : ℕ) (t u : List LexEvent) → F t u → F (emits_bogus m pending c b t) (emits_bogus m pending c b u)
+  pub in-bogus : (m : LexMode) (pending : List ℕ) (c : Class) (b : ℕ) (t u : List LexEvent) → F t u
+      → F (emits_bogus m pending c b t) (emits_bogus m pending c b u)
   in-bogus Page pending c b t u f = keep Comment t u tt f
   in-bogus Template pending c b t u f = in-text c b Closed (event_text_bytes pending t) (event_text_bytes pending u) (texts pending t u f)
 
@@ -60,14 +64,16 @@ module _ (F : List LexEvent → List LexEvent → Type 0) (keep : (e : LexEvent)
   named : (e g : LexEvent) (t u : List LexEvent) → IsOwn e → IsOwn g → F t u → F (e ∷ g ∷ t) (e ∷ g ∷ u)
   named e g t u p q f = keep e (g ∷ t) (g ∷ u) p (keep g t u q f)
 
-  in-tag-open : (m : LexMode) (c : Class) (b : ℕ) (r : Reference) (t u : List LexEvent) → F t u → F (emits_tag_open m c b r t) (emits_tag_open m c b r u)
+  pub in-tag-open : (m : LexMode) (c : Class) (b : ℕ) (r : Reference) (t u : List LexEvent) → F t u
+      → F (emits_tag_open m c b r t) (emits_tag_open m c b r u)
   in-tag-open m (Letter l) b r t u f = named (TagNameByte (to_ascii_lowercase b)) StartTagBegins _ _ tt tt (texts (settled false r) t u f)
   in-tag-open m Solidus b r t u f = f
   in-tag-open m ExclamationMark b r t u f = f
   in-tag-open m QuestionMark b r t u f = in-bogus m (codes "<") QuestionMark b _ _ (texts (settled false r) t u f)
   in-tag-open m c b r t u f = in-text c b Closed _ _ (texts (codes "<") _ _ (texts (settled false r) t u f))
 
-  in-end-tag-open : (m : LexMode) (c : Class) (b : ℕ) (r : Reference) (t u : List LexEvent) → F t u → F (emits_end_tag_open m c b r t) (emits_end_tag_open m c b r u)
+  pub in-end-tag-open : (m : LexMode) (c : Class) (b : ℕ) (r : Reference) (t u : List LexEvent) → F t u
+      → F (emits_end_tag_open m c b r t) (emits_end_tag_open m c b r u)
   in-end-tag-open m (Letter l) b r t u f = named (TagNameByte (to_ascii_lowercase b)) EndTagBegins _ _ tt tt (texts (settled false r) t u f)
   in-end-tag-open m c b r t u f = in-bogus m (codes "</") c b _ _ (texts (settled false r) t u f)
 
@@ -75,7 +81,7 @@ module _ (F : List LexEvent → List LexEvent → Type 0) (keep : (e : LexEvent)
   in-comment Page r t u f = keep Comment _ _ tt (texts (settled false r) t u f)
   in-comment Template r t u f = texts (as_it_stands r) t u f
 
-  in-declaration : (o : Declaration) (m : LexMode) (c : Class) (b : ℕ) (r : Reference) (pending : List ℕ) (t u : List LexEvent) → F t u
+  pub in-declaration : (o : Declaration) (m : LexMode) (c : Class) (b : ℕ) (r : Reference) (pending : List ℕ) (t u : List LexEvent) → F t u
       → F (emits_declaration o m c b r pending t) (emits_declaration o m c b r pending u)
   in-declaration OpensComment m c b r pending t u f = in-comment m r t u f
   in-declaration OpensDoctype m c b r pending t u f =
@@ -83,38 +89,38 @@ module _ (F : List LexEvent → List LexEvent → Type 0) (keep : (e : LexEvent)
   in-declaration Undecided m c b r pending t u f = f
   in-declaration OpensNothing m c b r pending t u f = in-bogus m (codes "<!" ++ pending) c b _ _ (texts (settled false r) t u f)
 
-  in-doctype : (c : Class) (b : ℕ) (t u : List LexEvent) → F t u → F (emits_doctype c b t) (emits_doctype c b u)
+  pub in-doctype : (c : Class) (b : ℕ) (t u : List LexEvent) → F t u → F (emits_doctype c b t) (emits_doctype c b u)
   in-doctype GreaterThan b t u f = keep DoctypeEnds t u tt f
   in-doctype c b t u f = keep (DoctypeByte b) t u tt f
 
-  in-tag-name : (c : Class) (b : ℕ) (t u : List LexEvent) → F t u → F (emits_tag_name c b t) (emits_tag_name c b u)
+  pub in-tag-name : (c : Class) (b : ℕ) (t u : List LexEvent) → F t u → F (emits_tag_name c b t) (emits_tag_name c b u)
   in-tag-name White b t u f = f
   in-tag-name Solidus b t u f = f
   in-tag-name GreaterThan b t u f = keep (TagEnds false) t u tt f
   in-tag-name c b t u f = keep (TagNameByte (to_ascii_lowercase b)) t u tt f
 
-  before-name : (c : Class) (b : ℕ) (t u : List LexEvent) → F t u → F (emits_before_name c b t) (emits_before_name c b u)
+  pub before-name : (c : Class) (b : ℕ) (t u : List LexEvent) → F t u → F (emits_before_name c b t) (emits_before_name c b u)
   before-name White b t u f = f
   before-name Solidus b t u f = f
   before-name GreaterThan b t u f = keep (TagEnds false) t u tt f
   before-name c b t u f = named (AttributeNameByte (to_ascii_lowercase b)) AttributeBegins t u tt tt f
 
-  in-name : (c : Class) (b : ℕ) (k : Kind) (t u : List LexEvent) → F t u → F (emits_name c b k t) (emits_name c b k u)
+  pub in-name : (c : Class) (b : ℕ) (k : Kind) (t u : List LexEvent) → F t u → F (emits_name c b k t) (emits_name c b k u)
   in-name White b k t u f = keep (AttributeNameEnds k) t u tt f
   in-name Solidus b k t u f = keep (AttributeNameEnds k) t u tt f
   in-name GreaterThan b k t u f = named (TagEnds false) (AttributeNameEnds k) t u tt tt f
   in-name EqualsSign b k t u f = keep (AttributeNameEnds k) t u tt f
   in-name c b k t u f = keep (AttributeNameByte (to_ascii_lowercase b)) t u tt f
 
-  after-name : (c : Class) (b : ℕ) (t u : List LexEvent) → F t u → F (emits_after_name c b t) (emits_after_name c b u)
+  pub after-name : (c : Class) (b : ℕ) (t u : List LexEvent) → F t u → F (emits_after_name c b t) (emits_after_name c b u)
   after-name EqualsSign b t u f = f
   after-name c b t u f = before-name c b t u f
 
-  self-closing : (c : Class) (b : ℕ) (t u : List LexEvent) → F t u → F (emits_self_closing c b t) (emits_self_closing c b u)
+  pub self-closing : (c : Class) (b : ℕ) (t u : List LexEvent) → F t u → F (emits_self_closing c b t) (emits_self_closing c b u)
   self-closing GreaterThan b t u f = keep (TagEnds true) t u tt f
   self-closing c b t u f = before-name c b t u f
 
-  whole-name : (c : Class) (b : ℕ) (k : Kind) (t u : List LexEvent) → F t u → F (emits_whole_name c b k t) (emits_whole_name c b k u)
+  pub whole-name : (c : Class) (b : ℕ) (k : Kind) (t u : List LexEvent) → F t u → F (emits_whole_name c b k t) (emits_whole_name c b k u)
   whole-name EqualsSign b k t u f = keep (AttributeNameEnds k) t u tt f
   whole-name c b k t u f = before-name c b _ _ (keep (AttributeNameEnds k) t u tt f)
 
@@ -159,7 +165,7 @@ module _ (F : List LexEvent → List LexEvent → Type 0) (keep : (e : LexEvent)
   bang-dash HyphenMinus b x t u f = keep Escape _ _ tt (in-contents x (codes "<!--") t u f)
   bang-dash c b x t u f = loose c b x _ _ (in-contents x (codes "<!-") t u f)
 
-  in-content : (h : Pending) (c : Class) (b : ℕ) (e : Element) (x : Content) (t u : List LexEvent) → F t u
+  pub in-content : (h : Pending) (c : Class) (b : ℕ) (e : Element) (x : Content) (t u : List LexEvent) → F t u
       → F (emits_in_content h c b e x t) (emits_in_content h c b e x u)
   in-content Nothing c b e x t u f = loose c b x t u f
   in-content PendingLess c b e x t u f = less c b x t u f
@@ -175,6 +181,24 @@ module _ (F : List LexEvent → List LexEvent → Type 0) (keep : (e : LexEvent)
   cut-content Bytes LessAtCut t u f = f
   cut-content Bytes h t u f = blocks (pending_bytes h) t u f
 
+  -- the type of a script
+  module _ (B : Type 0) (x : ValueLanguage B) where
+    type-bytes : (bs : List ℕ) (k : Kind) (before : List ℕ) (t u : List LexEvent) → F t u → F (emitted_bytes x (Deciding k before) bs t) (emitted_bytes x (Deciding k before) bs u)
+    type-bytes [] k before t u f = f
+    type-bytes (b ∷ bs) k before t u f = type-bytes bs k (before ++ b ∷ []) (ValueByte b ∷ t) (ValueByte b ∷ u) (keep (ValueByte b) t u tt f)
+
+    type-end : (bs : List ℕ) (k : Kind) (before : List ℕ) (t u : List LexEvent) → F t u
+        → F (emitted_end x (with_bytes x (Deciding k before) bs) t) (emitted_end x (with_bytes x (Deciding k before) bs) u)
+    type-end [] k before t u f = f
+    type-end (b ∷ bs) k before t u f = type-end bs k (before ++ b ∷ []) t u f
+
+    pub in-type : (ends : Bool) (q : Quoting) (c : Class) (b : ℕ) (k : Kind) (before : List ℕ) (r : Reference) (t u : List LexEvent) → F t u
+        → F (emits_value x ends q c b (Deciding k before) r t) (emits_value x ends q c b (Deciding k before) r u)
+    in-type true q c b k before r t u f =
+        let bs = settled true r in
+        after-value q c b _ _ (type-end bs k before _ _ (type-bytes bs k before t u f))
+    in-type false q c b k before r t u f = type-bytes (undone_byte true r c b) k before t u f
+
   module _ (B : Type 0) (x : ValueLanguage B) (Related : B → B → Type 0) (own : EmitsAlike B x Related F) where
     -- the bytes of a value, and its end
     pub emitted-bytes : (bs : List ℕ) (v w : B) (t u : List LexEvent) → Related v w → F t u → F (emitted_bytes x (ValueOf v) bs t) (emitted_bytes x (ValueOf w) bs u)
@@ -186,28 +210,12 @@ module _ (F : List LexEvent → List LexEvent → Type 0) (keep : (e : LexEvent)
     emitted-end [] v w t u a f = own.ends v w t u a f
     emitted-end (b ∷ bs) v w t u a f = emitted-end bs (x.feed v b) (x.feed w b) t u (own.fed.feeds v w b a) f
 
-    type-bytes : (bs : List ℕ) (k : Kind) (before : List ℕ) (t u : List LexEvent) → F t u → F (emitted_bytes x (Deciding k before) bs t) (emitted_bytes x (Deciding k before) bs u)
-    type-bytes [] k before t u f = f
-    type-bytes (b ∷ bs) k before t u f = type-bytes bs k (before ++ b ∷ []) (ValueByte b ∷ t) (ValueByte b ∷ u) (keep (ValueByte b) t u tt f)
-
-    type-end : (bs : List ℕ) (k : Kind) (before : List ℕ) (t u : List LexEvent) → F t u
-        → F (emitted_end x (with_bytes x (Deciding k before) bs) t) (emitted_end x (with_bytes x (Deciding k before) bs) u)
-    type-end [] k before t u f = f
-    type-end (b ∷ bs) k before t u f = type-end bs k (before ++ b ∷ []) t u f
-
     in-value : (ends : Bool) (q : Quoting) (c : Class) (b : ℕ) (v w : B) (r : Reference) (t u : List LexEvent) → Related v w → F t u
         → F (emits_value x ends q c b (ValueOf v) r t) (emits_value x ends q c b (ValueOf w) r u)
     in-value true q c b v w r t u a f =
         let bs = settled true r in
         after-value q c b _ _ (emitted-end bs v w _ _ a (emitted-bytes bs v w t u a f))
     in-value false q c b v w r t u a f = emitted-bytes (undone_byte true r c b) v w t u a f
-
-    in-type : (ends : Bool) (q : Quoting) (c : Class) (b : ℕ) (k : Kind) (before : List ℕ) (r : Reference) (t u : List LexEvent) → F t u
-        → F (emits_value x ends q c b (Deciding k before) r t) (emits_value x ends q c b (Deciding k before) r u)
-    in-type true q c b k before r t u f =
-        let bs = settled true r in
-        after-value q c b _ _ (type-end bs k before _ _ (type-bytes bs k before t u f))
-    in-type false q c b k before r t u f = type-bytes (undone_byte true r c b) k before t u f
 
     -- a value that begins
     begun-end : (k : Kind) (t u : List LexEvent) → F t u → F (emitted_end x (attribute_value_of x k) t) (emitted_end x (attribute_value_of x k) u)
@@ -220,7 +228,7 @@ module _ (F : List LexEvent → List LexEvent → Type 0) (keep : (e : LexEvent)
 
     first-byte : (c : Class) (b : ℕ) (k : Kind) (t u : List LexEvent) → F t u
         → F (emits_value x false Unquoted c b (attribute_value_of x k) Closed t) (emits_value x false Unquoted c b (attribute_value_of x k) Closed u)
-    first-byte c b kind.ScriptType t u f = in-type false Unquoted c b kind.ScriptType [] Closed t u f
+    first-byte c b kind.ScriptType t u f = in-type B x false Unquoted c b kind.ScriptType [] Closed t u f
     first-byte c b kind.Plain t u f = in-value false Unquoted c b _ _ Closed t u (own.fed.starts kind.Plain) f
     first-byte c b kind.NoHole t u f = in-value false Unquoted c b _ _ Closed t u (own.fed.starts kind.NoHole) f
     first-byte c b kind.Url t u f = in-value false Unquoted c b _ _ Closed t u (own.fed.starts kind.Url) f
@@ -251,7 +259,7 @@ module _ (F : List LexEvent → List LexEvent → Type 0) (keep : (e : LexEvent)
     self-emits m (AfterAttributeName tag k) c b t u o f = after-name c b t u f
     self-emits m (BeforeAttributeValue tag k) c b t u o f = before-value c b k t u f
     self-emits m (AttributeValue q tag (ValueOf v) r) c b t u o f = absurd o
-    self-emits m (AttributeValue q tag (Deciding k before) r) c b t u o f = in-type (ends_value q c) q c b k before r t u f
+    self-emits m (AttributeValue q tag (Deciding k before) r) c b t u o f = in-type B x (ends_value q c) q c b k before r t u f
     self-emits m (AfterAttributeValue tag) c b t u o f = before-name c b t u f
     self-emits m (SelfClosingStartTag tag) c b t u o f = self-closing c b t u f
     self-emits m (InContent e y h) c b t u o f = in-content h c b e y t u f
@@ -272,7 +280,7 @@ module _ (F : List LexEvent → List LexEvent → Type 0) (keep : (e : LexEvent)
     self-cut (EndTagOpen r) t u o f = texts (codes "</") _ _ (texts (settled false r) t u f)
     self-cut (DeclarationOpen r pending) t u o f = texts (codes "<!" ++ pending) _ _ (texts (settled false r) t u f)
     self-cut (AttributeValue q tag (ValueOf v) r) t u o f = absurd o
-    self-cut (AttributeValue q tag (Deciding k before) r) t u o f = type-bytes (as_it_stands r) k before t u f
+    self-cut (AttributeValue q tag (Deciding k before) r) t u o f = type-bytes B x (as_it_stands r) k before t u f
     self-cut (InContent e y h) t u o f = cut-content y h t u f
     self-cut _ t u o f = f
 

@@ -1,10 +1,10 @@
 -- A page fills its path with texts where it reads as the path with these texts does.
 use Rattle.std.proofs.Common.{◌≡◌, ◌≤◌, ◌+◌, ℕ, suc, Bool, true, false, List, [], ◌∷◌, ◌++◌, ◌⊎◌, inl, inr, length, arith, refl, sym, ap, ap₂, ◌∙◌, subst}
-use Rattle.css_lexer.specs.Events.{StyleEvent}
-use Rattle.css_lexer.specs.Paths.{style_emits_settled}
+use Rattle.css_lexer.specs.Classes.{style_class}
+use Rattle.css_lexer.specs.Events.{StyleEvent, RunBlank, InsideUrl}
 use Rattle.css_lexer.specs.Steps.{style_emits, style_ends}
 use Rattle.css_lexer.specs.Urls.{urls}
-use Rattle.place_core.specs.page.Events.{AttributeBegins, LexEvent, Mark, ValueScheme, attribute_name_bytes, event_text_bytes, told_in_style, value_bytes}
+use Rattle.place_core.specs.page.Events.{AttributeBegins, InsideStyle, LexEvent, Mark, ValueScheme, attribute_name_bytes, event_text_bytes, told_in_style, value_bytes}
 use Rattle.place_core.specs.page.Html.{read, start}
 use Rattle.place_core.specs.page.Paths.{Hole, Symbol, Written, at_hole, mark_in, read_node, read_path}
 use Rattle.place_core.specs.page.References.{Closed, Open, Reference}
@@ -17,17 +17,24 @@ use Rattle.place_core.specs.declared.kind.Kind.TheVariants as kind
 use Rattle.san_html.proofs.EscapedText.{same-kind, value-told}
 use Rattle.san_html.specs.ReadBack.{as_name, as_unquoted, in_value, read_as_text}
 use Rattle.text_norm.proofs.EmittedAlike.{EmitsAlike, IsOwn, node-alike}
-use Rattle.text_norm.proofs.FilledMarks.{RawBeside, fills-keep, fills-mark, name-run, text-run, value-run, node-state, raw-fed, raw-node}
+use Rattle.text_norm.proofs.FilledEvents.{SchemesSame, fills-keep, fills-mark, scheme_in_style}
+use Rattle.text_norm.proofs.FilledMarks.{name-run, text-run, value-run, node-state}
 use Rattle.text_norm.proofs.StatesBeside.{StandBeside}
+use Rattle.text_norm.proofs.StyleTells.{settled-tells}
+use Rattle.text_norm.proofs.SureStates.{SureBeside, nodes-fill, style-byte, style-end, sure-fed}
 use Rattle.text_norm.specs.FilledReadings.{FilledPathsAreReadings, HolesTake, IsSaidByText, IsSaidInValue, AreSaidByTexts, ReadingsAreFilledPaths, TakesContent, TakesHole, TakesValue, holes_filled, holes_in, read_filled}
-use Rattle.text_norm.specs.Fillings.{BlockSite, Filling, Fills, FitsAt, MarkSite, NameSite, QuotedSite, TextSite, UnquotedSite, UrlSite, filling, fillings_along, fillings_at}
-use Rattle.url_lexer.specs.Events.{Free, Named, NoScheme, ToldScheme, UrlEvent, scheme_at_end, told_scheme}
+use Rattle.text_norm.specs.Fillings.{BlankIsTold, BlockSite, CodeSite, Filling, Fills, FitsAt, IsCodeSite, MarkSite, NameSite, QuotedSite, StringSite, StyleUrlSite, TextSite, UnquotedSite, UrlSite, filling, fillings_along, fillings_at}
+use Rattle.url_lexer.specs.Events.{Free, Named, NoScheme, ToldScheme, UrlEnds, UrlEvent, scheme_at_end, told_scheme}
 use Rattle.url_lexer.specs.Schemes.{UrlScheme, SchemeAhead, SchemeSoFar, SchemeIs, SchemeAbsent, SchemeUnknown}
+use Rattle.url_lexer.specs.States.{Url}
 
 -- Where a mark has one run, what the path emits and its fillings determine what the page emits.
 abbrev pub IsOneRun : MarkSite → Type 0
 IsOneRun BlockSite = ⊥
 IsOneRun (UrlSite q part) = ⊥
+IsOneRun (CodeSite q) = ⊥
+IsOneRun (StringSite q quote) = ⊥
+IsOneRun (StyleUrlSite q part) = ⊥
 IsOneRun _ = Unit {0}
 
 abbrev pub HaveOneRun : List Filling → Type 0
@@ -42,22 +49,53 @@ abbrev rest_of : List Filling → List Filling
 rest_of [] = []
 rest_of (w ∷ ws) = ws
 
-one-run : (site : MarkSite) (text : List ℕ) (r q : List LexEvent) → IsOneRun site → FitsAt site text r → FitsAt site text q → r ≡ q
-one-run BlockSite text r q n f g = absurd n
-one-run (UrlSite s part) text r q n f g = absurd n
-one-run TextSite text r q n f g = f ∙ sym g
-one-run QuotedSite text r q n f g = f ∙ sym g
-one-run UnquotedSite text r q n f g = f ∙ sym g
-one-run NameSite text r q n f g = f ∙ sym g
+one-run : (site : MarkSite) (text : List ℕ) (t u r q : List LexEvent) → IsOneRun site → FitsAt site text t r → FitsAt site text u q → r ≡ q
+one-run BlockSite text t u r q n f g = absurd n
+one-run (UrlSite s part) text t u r q n f g = absurd n
+one-run (CodeSite s) text t u r q n f g = absurd n
+one-run (StringSite s quote) text t u r q n f g = absurd n
+one-run (StyleUrlSite s part) text t u r q n f g = absurd n
+one-run TextSite text t u r q n f g = f ∙ sym g
+one-run QuotedSite text t u r q n f g = f ∙ sym g
+one-run UnquotedSite text t u r q n f g = f ∙ sym g
+one-run NameSite text t u r q n f g = f ∙ sym g
 
 -- no scheme is one that data chooses
 abbrev pub AreSure : List LexEvent → Type 0
 AreSure [] = Unit {0}
 AreSure (ValueScheme Free ∷ t) = ⊥
+AreSure (InsideStyle (InsideUrl (UrlEnds Free)) ∷ t) = ⊥
 AreSure (e ∷ t) = AreSure t
 
-scheme-one : (s r q : ToldScheme) (a b : LexEvent) → r ≡ s → q ≡ s → a ≡ ValueScheme r → b ≡ ValueScheme q → a ≡ b
-scheme-one s r q a b e h k l = k ∙ ap ValueScheme (e ∙ sym h) ∙ sym l
+scheme-one : (event : ToldScheme → LexEvent) (s r q : ToldScheme) (a b : LexEvent) → r ≡ s → q ≡ s → a ≡ event r → b ≡ event q → a ≡ b
+scheme-one event s r q a b e h k l = k ∙ ap event (e ∙ sym h) ∙ sym l
+
+abbrev in_style_scheme : ToldScheme → LexEvent
+in_style_scheme s = InsideStyle (InsideUrl (UrlEnds s))
+
+-- no value is in code, so that a blank is told by itself
+no-code : {A : Type 0} (site : MarkSite) → IsOneRun site → IsCodeSite site → A
+no-code (CodeSite q) n c = absurd n
+no-code TextSite n c = absurd c
+no-code BlockSite n c = absurd c
+no-code QuotedSite n c = absurd c
+no-code UnquotedSite n c = absurd c
+no-code NameSite n c = absurd c
+no-code (UrlSite q part) n c = absurd c
+no-code (StringSite q quote) n c = absurd c
+no-code (StyleUrlSite q part) n c = absurd c
+
+none-told : {A : Type 0} (vs : List Filling) (u : List LexEvent) → HaveOneRun vs → BlankIsTold vs u → A
+none-told [] u h b = absurd b
+none-told (v ∷ vs) u h b = no-code v.site h.0 b.0
+
+blank-one : (t : List LexEvent) (vs : List Filling) (u w : List LexEvent) → HaveOneRun vs
+    → ((u w : List LexEvent) → Fills t vs u → Fills t vs w → u ≡ w)
+    → Fills (InsideStyle RunBlank ∷ t) vs u → Fills (InsideStyle RunBlank ∷ t) vs w → u ≡ w
+blank-one t vs u w h same (inl f) (inl g) =
+    f.2 ∙ ap₂ (λ (a : LexEvent) (b : List LexEvent). a ∷ b) (f.3 ∙ sym g.3) (same f.1 g.1 f.4 g.4) ∙ sym g.2
+blank-one t vs u w h same (inr f) g = none-told vs u h f.0
+blank-one t vs u w h same (inl f) (inr g) = none-told vs w h g.0
 
 pub fills-one : (t : List LexEvent) (vs : List Filling) (u w : List LexEvent) → HaveOneRun vs → AreSure t → Fills t vs u → Fills t vs w → u ≡ w
 fills-one [] vs u w h n f g = f.1 ∙ sym g.1
@@ -66,25 +104,36 @@ fills-one (Mark ∷ t) vs u w h n f g =
     let value : f.0 ≡ g.0 = ap (head_or f.0) same in
     let values : f.1 ≡ g.1 = ap rest_of same in
     let own : HaveOneRun (f.0 ∷ f.1) = subst HaveOneRun f.4 h in
-    let also : FitsAt f.0.site f.0.text g.2 = subst (λ (v : Filling). FitsAt v.site v.text g.2) (sym value) g.6 in
-    let run : f.2 ≡ g.2 = one-run f.0.site f.0.text f.2 g.2 own.0 f.6 also in
+    let also : FitsAt f.0.site f.0.text g.3 g.2 = subst (λ (v : Filling). FitsAt v.site v.text g.3 g.2) (sym value) g.6 in
+    let run : f.2 ≡ g.2 = one-run f.0.site f.0.text f.3 g.3 f.2 g.2 own.0 f.6 also in
     let rest : f.3 ≡ g.3 = fills-one t f.1 f.3 g.3 own.1 n f.7 (subst (λ (z : List Filling). Fills t z g.3) (sym values) g.7) in
     f.5 ∙ ap₂ (λ (a b : List LexEvent). a ++ b) run rest ∙ sym g.5
 fills-one (ValueScheme Free ∷ t) vs u w h n f g = absurd n
 fills-one (ValueScheme (Named letters) ∷ t) vs u w h n f g =
-    f.2 ∙ ap₂ (λ (a : LexEvent) (b : List LexEvent). a ∷ b) (scheme-one (Named letters) f.3.0 g.3.0 f.0 g.0 f.3.2 g.3.2 f.3.1 g.3.1) (fills-one t vs f.1 g.1 h n f.4 g.4) ∙ sym g.2
+    f.2 ∙ ap₂ (λ (a : LexEvent) (b : List LexEvent). a ∷ b) (scheme-one ValueScheme (Named letters) f.3.0 g.3.0 f.0 g.0 f.3.2 g.3.2 f.3.1 g.3.1)
+    (fills-one t vs f.1 g.1 h n f.4 g.4) ∙ sym g.2
 fills-one (ValueScheme NoScheme ∷ t) vs u w h n f g =
-    f.2 ∙ ap₂ (λ (a : LexEvent) (b : List LexEvent). a ∷ b) (scheme-one NoScheme f.3.0 g.3.0 f.0 g.0 f.3.2 g.3.2 f.3.1 g.3.1) (fills-one t vs f.1 g.1 h n f.4 g.4) ∙ sym g.2
+    f.2 ∙ ap₂ (λ (a : LexEvent) (b : List LexEvent). a ∷ b) (scheme-one ValueScheme NoScheme f.3.0 g.3.0 f.0 g.0 f.3.2 g.3.2 f.3.1 g.3.1)
+    (fills-one t vs f.1 g.1 h n f.4 g.4) ∙ sym g.2
+fills-one (InsideStyle RunBlank ∷ t) vs u w h n f g = blank-one t vs u w h (λ a b k l. fills-one t vs a b h n k l) f g
+fills-one (InsideStyle (InsideUrl (UrlEnds Free)) ∷ t) vs u w h n f g = absurd n
+fills-one (InsideStyle (InsideUrl (UrlEnds (Named letters))) ∷ t) vs u w h n f g =
+    f.2 ∙ ap₂ (λ (a : LexEvent) (b : List LexEvent). a ∷ b) (scheme-one in_style_scheme (Named letters) f.3.0 g.3.0 f.0 g.0 f.3.2 g.3.2 f.3.1 g.3.1)
+    (fills-one t vs f.1 g.1 h n f.4 g.4) ∙ sym g.2
+fills-one (InsideStyle (InsideUrl (UrlEnds NoScheme)) ∷ t) vs u w h n f g =
+    f.2 ∙ ap₂ (λ (a : LexEvent) (b : List LexEvent). a ∷ b) (scheme-one in_style_scheme NoScheme f.3.0 g.3.0 f.0 g.0 f.3.2 g.3.2 f.3.1 g.3.1)
+    (fills-one t vs f.1 g.1 h n f.4 g.4) ∙ sym g.2
 fills-one (e ∷ t) vs u w h n f g =
     f.2 ∙ ap₂ (λ (a : LexEvent) (b : List LexEvent). a ∷ b) (f.3 ∙ sym g.3) (fills-one t vs f.1 g.1 h n f.4 g.4) ∙ sym g.2
 
 -- A path without holes in URLs is sure of each scheme: in its values no hole has made one free.
 abbrev pub IsSure : LexState ValueState → Type 0
-IsSure s = StandBeside RawBeside s s
+IsSure s = StandBeside SureBeside s s
 
 keeps-sure : (e : LexEvent) (t u : List LexEvent) → IsOwn e → AreSure u → AreSure (e ∷ u)
 keeps-sure (ValueScheme s) t u o f = absurd o
 keeps-sure Mark t u o f = absurd o
+keeps-sure (InsideStyle (InsideUrl (UrlEnds s))) t u o f = absurd o
 keeps-sure _ t u o f = f
 
 sure-scheme : (s : UrlScheme) (t : List LexEvent) → AreSure t → AreSure (ValueScheme (scheme_at_end s) ∷ t)
@@ -94,31 +143,44 @@ sure-scheme (SchemeIs letters) t f = f
 sure-scheme SchemeAbsent t f = f
 sure-scheme SchemeUnknown t f = f
 
-sure-told : (es : List (StyleEvent UrlEvent)) (t : List LexEvent) → AreSure t → AreSure (told_in_style es t)
-sure-told [] t f = f
-sure-told (e ∷ es) t f = sure-told es t f
+sure-style-scheme : (s : UrlScheme) (t : List LexEvent) → AreSure t → AreSure (in_style_scheme (scheme_at_end s) ∷ t)
+sure-style-scheme SchemeAhead t f = f
+sure-style-scheme (SchemeSoFar letters) t f = f
+sure-style-scheme (SchemeIs letters) t f = f
+sure-style-scheme SchemeAbsent t f = f
+sure-style-scheme SchemeUnknown t f = f
 
-sure-ends : (v w : ValueState) (t u : List LexEvent) → RawBeside v w → AreSure u → AreSure (ends_state w u)
+abbrev Sure : List LexEvent → List LexEvent → Type 0
+Sure t u = AreSure u
+
+sure-in-style : (z y : Url) (t u : List LexEvent) → SchemesSame z y → AreSure u → AreSure (scheme_in_style y ∷ u)
+sure-in-style z y t u a f = subst (λ (b : Bool). AreSure (in_style_scheme (told_scheme b y.scheme) ∷ u)) (sym a.bound)
+    (sure-style-scheme y.scheme u f)
+
+sure-ends : (v w : ValueState) (t u : List LexEvent) → SureBeside v w → AreSure u → AreSure (ends_state w u)
 sure-ends (OfKind k) w t u a f = subst (λ (z : ValueState). AreSure (ends_state z u)) (sym a) f
 sure-ends (OfUrl z) (OfUrl w) t u a f = subst (λ (b : Bool). AreSure (ValueScheme (told_scheme b w.scheme) ∷ u)) (sym a.bound) (sure-scheme w.scheme u f)
 sure-ends (OfUrl z) _ t u a f = absurd a
-sure-ends (OfStyle s) w t u a f = subst (λ (z : ValueState). AreSure (ends_state z u)) (sym a) (sure-told (style_ends urls s []) u f)
+sure-ends (OfStyle s) w t u a f =
+    subst (λ (z : ValueState). AreSure (ends_state z u)) (sym a.0) (style-end Sure keeps-sure sure-in-style s t u a.1 f)
 
-sure-byte : (w : ValueState) (b : ℕ) (t : List LexEvent) → AreSure t → AreSure (emits_state w b t)
-sure-byte (OfKind k) b t f = f
-sure-byte (OfUrl u) b t f = f
-sure-byte (OfStyle s) b t f = sure-told (style_emits urls s b []) t f
+sure-byte : (v w : ValueState) (b : ℕ) (t u : List LexEvent) → SureBeside v w → AreSure u → AreSure (emits_state w b u)
+sure-byte (OfKind k) w b t u a f = subst (λ (z : ValueState). AreSure (emits_state z b u)) (sym a) f
+sure-byte (OfUrl z) (OfUrl w) b t u a f = f
+sure-byte (OfUrl z) _ b t u a f = absurd a
+sure-byte (OfStyle s) w b t u a f =
+    subst (λ (z : ValueState). AreSure (emits_state z b u)) (sym a.0) (style-byte Sure keeps-sure sure-in-style s (style_class b) b t u a.1 f)
 
-sure-emits : EmitsAlike ValueState languages RawBeside (λ t u. AreSure u)
-sure-emits = record { fed = raw-fed; emits = λ v w b t u a f. sure-byte w b u f; ends = sure-ends }
+sure-emits : EmitsAlike ValueState languages SureBeside Sure
+sure-emits = record { fed = sure-fed; emits = sure-byte; ends = sure-ends }
 
 sure-node : (bytes : List ℕ) (c : Config ValueState) → IsSure c.at → AreSure c.emitted → AreSure (read_node languages bytes c).emitted
-sure-node bytes c a f = (node-alike (λ t u. AreSure u) keeps-sure ValueState languages RawBeside sure-emits bytes c c a f).1
+sure-node bytes c a f = (node-alike Sure keeps-sure ValueState languages SureBeside sure-emits bytes c c a f).1
 
 sure-pending : (v : ValueState) (t : List LexEvent) → AreSure t → AreSure (emits_value_settled v t)
 sure-pending (OfKind k) t f = f
 sure-pending (OfUrl u) t f = f
-sure-pending (OfStyle s) t f = sure-told (style_emits_settled s []) t f
+sure-pending (OfStyle s) t f = settled-tells Sure keeps-sure sure-in-style s t t f
 
 sure-settled : (v : Value ValueState) (t : List LexEvent) → AreSure t → AreSure (emitted_settled languages v t)
 sure-settled (ValueOf v) t f = sure-pending v t f
@@ -156,7 +218,7 @@ record IsFilledHole (s : LexState ValueState) (text : List ℕ) (vs : List Filli
   at : (holes_filled s text u).at ≡ at_hole languages s
   fills : Fills (mark_in languages s t) (fillings_at s text vs) (holes_filled s text u).emitted
 
-by-run : (site : MarkSite) (text : List ℕ) (vs : List Filling) (run t u emitted : List LexEvent) → FitsAt site text run → emitted ≡ run ++ u
+by-run : (site : MarkSite) (text : List ℕ) (vs : List Filling) (run t u emitted : List LexEvent) → FitsAt site text u run → emitted ≡ run ++ u
     → Fills t vs u → Fills (Mark ∷ t) (filling site text ∷ vs) emitted
 by-run site text vs run t u emitted fits e f =
     subst (Fills (Mark ∷ t) (filling site text ∷ vs)) (sym e) (fills-mark (filling site text) vs run t u fits f)
@@ -244,9 +306,9 @@ reading-fills (Written bytes ∷ symbols) texts s vs t u h a n f =
     let d = read_node languages bytes (config s u) in
     let p = sym (node-state bytes s t) in
     let q = sym (node-state bytes s u) in
-    let k = raw-node vs bytes (config s t) (config s u) (record { at = a; fills = f }) in
-    let there = subst (λ (z : LexState ValueState). StandBeside RawBeside z (node bytes s)) (node-state bytes s t)
-    (subst (StandBeside RawBeside c.at) (node-state bytes s u) k.at) in
+    let k = nodes-fill vs bytes (config s t) (config s u) (record { at = a; fills = f }) in
+    let there = subst (λ (z : LexState ValueState). StandBeside SureBeside z (node bytes s)) (node-state bytes s t)
+    (subst (StandBeside SureBeside c.at) (node-state bytes s u) k.at) in
     let r = reading-fills symbols texts (node bytes s) vs c.emitted d.emitted h there (sure-node bytes (config s t) a n) k.fills in
     record {
       at = subst (λ (z : LexState ValueState). (read_filled symbols texts (config z d.emitted)).at ≡ (read_path languages symbols c).at) q
@@ -330,6 +392,8 @@ marks (e ∷ t) = marks t
 fills-count : (t : List LexEvent) (vs : List Filling) (u : List LexEvent) → Fills t vs u → length vs ≡ marks t
 fills-count [] vs u f = ap length f.0
 fills-count (Mark ∷ t) vs u f = ap length f.4 ∙ ap suc (fills-count t f.1 f.3 f.7)
+fills-count (InsideStyle RunBlank ∷ t) vs u (inl f) = fills-count t vs f.1 f.4
+fills-count (InsideStyle RunBlank ∷ t) vs u (inr f) = fills-count t vs u f.1
 fills-count (e ∷ t) vs u f = fills-count t vs f.1 f.4
 
 keeps-marks : (n : ℕ) (e : LexEvent) (t u : List LexEvent) → IsOwn e → marks t ≡ n → marks (e ∷ t) ≡ n

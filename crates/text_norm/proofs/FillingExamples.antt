@@ -8,8 +8,9 @@ use Rattle.place_core.specs.page.References.{Closed, meaning}
 use Rattle.place_core.specs.page.States.{Page, Text}
 use Rattle.place_core.specs.page.Tags.{DoubleQuoted, OfKind, Unquoted, languages}
 use Rattle.place_core.specs.declared.kind.Kind.TheVariants as kind
-use Rattle.text_norm.proofs.FilledMarks.{fills-keep, fills-mark, fills-node}
+use Rattle.text_norm.proofs.FilledEvents.{fills-keep, fills-mark}
 use Rattle.text_norm.proofs.FilledReadings.{fills-one}
+use Rattle.text_norm.proofs.SureStates.{fills-node}
 use Rattle.text_norm.specs.Fillings.{BlockSite, Fills, FillsPath, IsChosen, NameSite, TextSite, UnquotedSite, UrlSite, filling}
 use Rattle.url_lexer.specs.Classes.{url_class_of}
 use Rattle.url_lexer.specs.Events.{Named, NoScheme, ToldScheme}

@@ -11,20 +11,27 @@ use Rattle.html_scan.proofs.Lowered.{kind_lowered}
 use Rattle.place_core.specs.page.References.{Closed, Open}
 use Rattle.place_core.specs.page.Shape.{HolePart, PageReads, state_past_hole, marked}
 use Rattle.place_core.specs.place.StatePlaces.{only_after, only_inside, placed, quotes_at, tag_spot, value_spot}
-use Rattle.place_core.specs.place.StyleParts.{style_place}
+use Rattle.place_core.specs.place.StyleParts.{style_place, style_tails}
 use Rattle.place_core.specs.place.UrlParts.{parts_of}
 use Rattle.css_lexer.specs.PartSpots.{may_begin_text, part_spot}
+use Rattle.css_lexer.specs.RefusalCodes.{RefusalCode}
 use Rattle.css_lexer.specs.Spots.{StyleSpot}
+use Rattle.css_lexer.specs.States.{Style, style_start}
+use Rattle.css_step.specs.StyleScans.{style_at_hole, style_hole_error}
+use Rattle.css_step.specs.StyleScanViews.{style_or_refusal}
 use Rattle.place_core.specs.page.States.{Started, StartedDash, Inside, Dash, DashDash, Bang, Broken, Page, LexState, Text, TagOpen, EndTagOpen, DeclarationOpen, InComment, BogusComment, InDoctype, TagName, WholeTagName, BeforeAttributeName, AttributeName, WholeAttributeName, AfterAttributeName, BeforeAttributeValue, AttributeValue, AfterAttributeValue, SelfClosingStartTag, Characters, Bytes, Nothing, PendingLess, LessAtCut, PendingName, PendingBang, PendingBangDash, InContent, Unread, Config, config}
 use Rattle.place_core.specs.page.Tags.{Tag, ValueOf, Deciding, ValueState, OfKind, OfUrl, OfStyle, languages, emitted_hole, value_settled, is_second_type, Quoting, DoubleQuoted, SingleQuoted, Unquoted, element_on, without_value}
 use Rattle.place_core.specs.declared.body.Body.TheVariants as body
 use Rattle.place_core.specs.declared.chain.Chain.{Chain}
+use Rattle.place_core.specs.declared.css.Css.{Css}
+use Rattle.place_core.specs.declared.css.Css.TheVariants as css
 use Rattle.place_core.specs.declared.element.Element.{Element}
 use Rattle.place_core.specs.declared.element.Element.TheVariants as element
 use Rattle.place_core.specs.declared.kind.Kind.TheVariants as kind
 use Rattle.place_core.specs.declared.place.Place.{Place}
 use Rattle.place_core.specs.declared.place.Place.TheVariants as place
 use Rattle.place_core.specs.declared.quotes.Quotes.{Quotes}
+use Rattle.place_core.specs.declared.value_place.ValuePlace.{ValuePlace}
 use Rattle.place_core.specs.declared.san.San.TheVariants as san
 use Rattle.url_lexer.specs.Parts.{UrlPart, UrlStart, UrlOpen, UrlOpenhole, UrlPrequery, UrlQuery, UrlBad}
 use Rattle.url_lexer.specs.Refusals.{refuses_hole_in}
@@ -33,13 +40,15 @@ use Rattle.url_lexer.specs.States.{Url, url_start}
 use Rattle.url_lexer.specs.Triples.{Triple, NoTriple, AfterPercent, AfterDigit}
 use Rattle.url_lexer.proofs.Language.{language-laws}
 use Rattle.san_html.specs.ReadBack.{IsBackInQuoted, IsBackInUnquoted, IsBackInTag, BeginsName, in_block, in_value, reads_quoted}
-use Rattle.html_step.specs.Holes.{Holed, after_hole, last_of, only, url_chain}
+use Rattle.html_step.specs.Holes.{Holed, after_hole, css_chain, css_holed, last_of, only, url_chain}
 use Rattle.html_step.proofs.HoleOrder.{covers-hole}
 use Rattle.text_norm.specs.HoleLaws.{ArePlain, ArePlainUnless, IsBackBy, KeepsHole, hole_parts, leaves_out, parts_unless}
 use Rattle.text_norm.specs.Standing.{TextStands, WholeAttribute}
 use Rattle.text_norm.proofs.Emits.{same-state}
 use Rattle.text_norm.proofs.HarmlessNames.{harmless-kind}
 use Rattle.text_norm.proofs.LanguagesKeep.{languages-keep}
+use Rattle.text_norm.proofs.StyleHoles.{HolesAt, IsStyleHole, are-pages, css_of, style-begun-plain, style-holes, style-plain}
+use Rattle.text_norm.proofs.StyleValuesKeep.{style-laws}
 use Rattle.text_norm.proofs.UrlHoles.{url-begun, url-has-part, url-hole, url-plain}
 use Rattle.text_norm.proofs.ValuesKeep.{hole-alike}
 
@@ -183,13 +192,6 @@ url-accepted NoTriple UrlBad q tag x h = absurd (refused _ _ h.1)
 url-accepted AfterPercent p q tag x h = absurd h
 url-accepted AfterDigit p q tag x h = absurd h
 
--- in a style none may stand yet
-style-refuses : (begins : Bool) (o : Option (StyleSpot UrlPart)) (q : Quotes) (tag : Tag) (x : Chain)
-    → HoleOf (value_spot tag q (if begins then option_map (λ p. body.Css (style_place p)) o else None)) x → ⊥
-style-refuses true (Some p) q tag x h = refused _ _ h.1
-style-refuses true None q tag x h = h
-style-refuses false o q tag x h = h
-
 -- a chain that does not leave the value out
 kept-by : (left_out : Bool) (s : LexState ValueState) (bytes : List ℕ) (t : List LexEvent) (d : Config ValueState) → left_out ≡ false → IsPlain bytes d
     → TextStands languages (at_hole languages s) (mark_in languages s t) (marked bytes d)
@@ -242,7 +244,76 @@ url-begun-keeps tag x datum bytes t d e k l =
     (λ b. subst (Kept (url_chain (parts_of UrlStart) san.AttrNospace) (url_unbegun tag) bytes t) (sym l)
     (kept (url_unbegun tag) bytes t (config (url_unbegun tag) t) (url-begun-plain tag datum bytes t b) (url-begun-leads tag bytes t (url-begun-plain tag datum bytes t b)))) k
 
-hole-keeps : (s : LexState ValueState) (x : Chain) (datum : Data) (bytes : List ℕ) (t : List LexEvent) (d : Config ValueState) → HoleOf (placed s) x → IsBackBy x datum bytes → TextStands languages s t d → Kept x s bytes t d
+-- In a style: what its place accepts, and the chain of that place.
+abbrev IsStyleAccepted : Option Css → Quotes → Chain → Type 0
+IsStyleAccepted None q x = ⊥
+IsStyleAccepted (Some c) q x = (style_hole_error c ≡ None) × (css_chain c (last_of q) ≡ x)
+
+css-accepted : (o : Option RefusalCode) (c : Css) (v : ValuePlace) (b : Place) (x : Chain) → style_hole_error c ≡ o
+    → css_holed v c (style_or_refusal o (style_at_hole c)) ≡ Ok (b, x) → IsStyleAccepted (Some c) v.quotes x
+css-accepted None c v b x e h = (e, ap chain_in h)
+css-accepted (Some r) c v b x e h = absurd (refused _ _ h)
+
+in_style_place : Tag → Quotes → Css → ValuePlace
+in_style_place tag q c = record { tag = tag.tag; typed = tag.typed; quotes = q; body = body.Css c }
+
+style-accepted : (begins : Bool) (o : Option (StyleSpot UrlPart)) (q : Quotes) (tag : Tag) (x : Chain)
+    → HoleOf (value_spot tag q (if begins then option_map (λ p. body.Css (style_place p)) o else None)) x
+    → IsStyleAccepted (if begins then option_map style_place o else None) q x
+unfolding in_style_place
+style-accepted true (Some p) q tag x h =
+    let c = style_place p in
+    css-accepted (style_hole_error c) c (in_style_place tag q c) h.0 x refl h.1
+style-accepted true None q tag x h = h
+style-accepted false o q tag x h = h
+
+abbrev in_style : Quoting → Tag → Style Url → LexState ValueState
+in_style q tag s = in_value q tag (ValueOf (OfStyle s))
+
+style-keeps-there : (q : Quoting) (tag : Tag) (s : Style Url) (v : ValueState) (x : Chain) (bytes : List ℕ) (t : List LexEvent) (d : Config ValueState)
+    → leaves_out x ≡ false
+    → IsStyleHole q s bytes → languages.AreAlike (OfStyle s) v → d ≡ config (in_value q tag (ValueOf v)) t → Kept x (in_style q tag s) bytes t d
+style-keeps-there q tag s (OfKind k) x bytes t d e h a l = absurd a
+style-keeps-there q tag s (OfUrl u) x bytes t d e h a l = absurd a
+style-keeps-there q tag s (OfStyle w) x bytes t d e h a l =
+    let z = in_style q tag s in
+    let m = config (in_style q tag w) t in
+    let plain : IsPlain bytes m = style-plain q tag s w bytes t h a (are-pages s w a) in
+    subst (Kept x z bytes t) (sym l) (kept-by (leaves_out x) z bytes t m e plain (value-leads q tag (OfStyle s) (OfStyle w) bytes t a plain))
+
+style-keeps : (o : Option Css) (q : Quoting) (tag : Tag) (s : Style Url) (x : Chain) (datum : Data) (bytes : List ℕ)
+    (t : List LexEvent) (d : Config ValueState)
+    → IsStyleAccepted o (quotes_at q) x → HolesAt s q o datum bytes → IsBackBy x datum bytes → TextStands languages (in_style q tag s) t d
+    → Kept x (in_style q tag s) bytes t d
+style-keeps None q tag s x datum bytes t d h f k l = absurd h
+style-keeps (Some c) q tag s x datum bytes t d h f k l =
+    let own = f h.0 (subst (λ (z : Chain). IsBackBy z datum bytes) (sym h.1) k) in
+    style-keeps-there q tag s l.there x bytes t d (subst (λ (z : Chain). leaves_out z ≡ false) h.1 own.0) own.1 l.alike l.stands
+
+-- likewise where one without quotes is to begin
+abbrev style_unbegun : Tag → LexState ValueState
+style_unbegun tag = BeforeAttributeValue tag kind.Style
+
+abbrev style_begun_chain : Chain
+style_begun_chain = css_chain (css.Code (style_tails false false false)) san.AttrNospace
+
+style-begun-leads : (tag : Tag) (bytes : List ℕ) (t : List LexEvent) → IsPlain bytes (config (style_unbegun tag) t)
+    → TextStands languages (at_hole languages (style_unbegun tag)) (mark_in languages (style_unbegun tag) t) (marked bytes (config (style_unbegun tag) t))
+style-begun-leads tag bytes t p =
+    subst (TextStands languages (at_hole languages (style_unbegun tag)) (Mark ∷ t)) (sym (ap (behind (style_unbegun tag) (Mark ∷ t)) p.1.1.within))
+    (hole-alike languages-keep Unquoted tag (OfStyle style_start) (OfStyle style_start) p.1.1.after p.1.1.value t style-laws.begins p.1.1.leads)
+
+style-begun-keeps : (tag : Tag) (x : Chain) (datum : Data) (bytes : List ℕ) (t : List LexEvent) (d : Config ValueState) → style_begun_chain ≡ x
+    → IsBackBy x datum bytes → d ≡ config (style_unbegun tag) t → Kept x (style_unbegun tag) bytes t d
+style-begun-keeps tag x datum bytes t d e k l =
+    subst (λ (z : Chain). IsBackBy z datum bytes → Kept z (style_unbegun tag) bytes t d) e
+    (λ b.
+    let plain = style-begun-plain tag datum bytes t b style-laws.begins in
+    subst (Kept style_begun_chain (style_unbegun tag) bytes t) (sym l)
+    (kept (style_unbegun tag) bytes t (config (style_unbegun tag) t) plain (style-begun-leads tag bytes t plain))) k
+
+hole-keeps : (s : LexState ValueState) (x : Chain) (datum : Data) (bytes : List ℕ) (t : List LexEvent) (d : Config ValueState)
+    → HoleOf (placed s) x → IsBackBy x datum bytes → TextStands languages s t d → Kept x s bytes t d
 hole-keeps (Text Closed) x datum bytes t d h k l =
     subst (λ (z : Chain). IsBackBy z datum bytes → Kept z (Text Closed) bytes t d) (its place.Text x h)
     (λ k. subst (λ (z : Config ValueState). Kept (only san.Html) (Text Closed) bytes t z) (sym l)
@@ -277,7 +348,7 @@ hole-keeps (BeforeAttributeValue tag kind.Plain) x datum bytes t d h k l = unbeg
 hole-keeps (BeforeAttributeValue tag kind.NoHole) x datum bytes t d h k l = absurd (refused _ _ h.1)
 hole-keeps (BeforeAttributeValue tag kind.Url) x datum bytes t d h k l = url-begun-keeps tag x datum bytes t d (its-of (placed (url_unbegun tag)) x h) k l
 hole-keeps (BeforeAttributeValue tag kind.Script) x datum bytes t d h k l = absurd h
-hole-keeps (BeforeAttributeValue tag kind.Style) x datum bytes t d h k l = absurd (refused _ _ h.1)
+hole-keeps (BeforeAttributeValue tag kind.Style) x datum bytes t d h k l = style-begun-keeps tag x datum bytes t d (its-of (placed (style_unbegun tag)) x h) k l
 hole-keeps (BeforeAttributeValue tag kind.ScriptType) x datum bytes t d h k l = absurd h
 hole-keeps (AttributeValue DoubleQuoted tag (ValueOf (OfKind kind.Plain)) Closed) x datum bytes t d h k l =
     quoted-keeps DoubleQuoted tag x datum bytes t d refl (its-of (placed (in_plain DoubleQuoted tag)) x h) k (same-state (in_plain DoubleQuoted tag) t d refl l)
@@ -292,7 +363,7 @@ hole-keeps (AttributeValue q tag (ValueOf (OfKind kind.Style)) Closed) x datum b
 hole-keeps (AttributeValue q tag (ValueOf (OfKind kind.ScriptType)) Closed) x datum bytes t d h k l = absurd h
 hole-keeps (AttributeValue q tag (ValueOf (OfUrl u)) Closed) x datum bytes t d h k l = url-keeps q tag u x datum bytes t d (url-accepted u.triple u.part (quotes_at q) tag x h) k l
 hole-keeps (AttributeValue q tag (ValueOf (OfStyle s)) Closed) x datum bytes t d h k l =
-    absurd (style-refuses (may_begin_text s) (part_spot s) (quotes_at q) tag x h)
+    style-keeps (css_of s) q tag s x datum bytes t d (style-accepted (may_begin_text s) (part_spot s) (quotes_at q) tag x h) (style-holes s q datum bytes) k l
 hole-keeps (AttributeValue q tag (Deciding j before) Closed) x datum bytes t d h k l = absurd h
 hole-keeps (AttributeValue q tag v (Open f b)) x datum bytes t d h k l = absurd h
 hole-keeps (InContent element.Title (Characters Closed) Nothing) x datum bytes t d h k l = content-keeps element.Title x datum bytes t d (its (place.Rcdata element.Title) x h) k l

@@ -1,45 +1,54 @@
 -- Wherever a hole may stand on a path, what its sanitizer promises leads the page on.
-use Rattle.std.proofs.Common.{◌≡◌, ℕ, Bool, true, false, List, [], Option, Some, None, option_map, if◌then◌else◌, Ok, Err, refl, subst}
+use Rattle.std.proofs.Common.{◌≡◌, ℕ, Bool, true, false, List, [], Option, Some, None, option_map, if◌then◌else◌, Ok, Err, refl, sym, subst, true≢false}
+use Rattle.std.proofs.lemmas.Bool.{and_parts}
 use Rattle.html_step.proofs.HoleOrder.{covers-hole}
-use Rattle.html_step.specs.Holes.{Holed, after_hole}
+use Rattle.html_step.specs.Holes.{Holed, after_hole, last_of, url_chain}
 use Rattle.page_datum.specs.Data.{Data}
 use Rattle.page_datum.specs.Printed.{printed}
 use Rattle.place_core.specs.page.Events.{LexEvent}
 use Rattle.place_core.specs.place.Membership.{IsIn}
+use Rattle.place_core.specs.page.Paths.{at_hole}
 use Rattle.place_core.specs.place.Places.{IsValid}
 use Rattle.place_core.specs.page.References.{Closed, Reference}
 use Rattle.place_core.specs.place.StatePlaces.{content_spot, only_after, only_inside, placed, tag_spot, quotes_at, value_body, value_spot, where_closed}
 use Rattle.place_core.specs.page.States.{AfterAttributeName, AfterAttributeValue, AttributeName, AttributeValue, BeforeAttributeName, BeforeAttributeValue, Broken, Bytes, Characters, Config, Content, Pending, InComment, InContent, Inside, LessAtCut, Nothing, SelfClosingStartTag, LexState, Text, WholeAttributeName}
 use Rattle.place_core.specs.page.Tags.{DoubleQuoted, Quoting, SingleQuoted, Tag, Unquoted, Value, ValueOf, ValueState, OfKind, OfStyle, OfUrl, is_second_type, languages, without_value}
-use Rattle.place_core.specs.place.StyleParts.{style_place}
+use Rattle.place_core.specs.place.StyleParts.{style_body}
 use Rattle.place_core.specs.place.UrlParts.{parts_of}
-use Rattle.css_lexer.specs.PartSpots.{may_begin_text, part_spot}
-use Rattle.css_lexer.specs.Spots.{StyleSpot}
-use Rattle.css_lexer.specs.States.{Style}
+use Rattle.css_lexer.specs.Escapes.{NoEscape, AfterBackslash, HexDigits, AfterReturn}
+use Rattle.css_lexer.specs.PartSpots.{has_read_nothing, is_at_start, is_no_triple, is_scheme_ahead}
+use Rattle.css_lexer.specs.Paths.{has_mark}
+use Rattle.css_lexer.specs.ReadBack.{IsBackInCode}
+use Rattle.css_lexer.specs.States.{Quote, DoubleQuote, SingleQuote, Outside, Between, AfterLessThan, Word, AfterSolidus, Comment, InString, BadUrl, BehindHole, SplitWord, SolidusAtCut, LessThanAtCut, StarAtCut, Fresh, Bare, Quoted, Ended, Style, Out, InUrl}
+use Rattle.css_lexer.specs.Urls.{urls}
 use Rattle.place_core.specs.declared.body.Body.TheVariants as body
 use Rattle.place_core.specs.declared.chain.Chain.{Chain}
+use Rattle.place_core.specs.declared.css.Css.TheVariants as css
 use Rattle.place_core.specs.declared.element.Element.{Element}
 use Rattle.place_core.specs.declared.element.Element.TheVariants as element
 use Rattle.place_core.specs.declared.kind.Kind.{Kind}
 use Rattle.place_core.specs.declared.kind.Kind.TheVariants as kind
 use Rattle.place_core.specs.declared.place.Place.{Place}
 use Rattle.place_core.specs.declared.place.Place.TheVariants as place
-use Rattle.san_html.specs.ReadBack.{as_name}
+use Rattle.san_html.specs.ReadBack.{as_name, in_block, in_rcdata}
 use Rattle.url_lexer.specs.Parts.{UrlPart, UrlStart, UrlOpen, UrlOpenhole, UrlPrequery, UrlQuery, UrlBad}
+use Rattle.url_lexer.specs.Refusals.{refuses_hole_in}
 use Rattle.url_lexer.specs.Schemes.{UrlScheme}
 use Rattle.url_lexer.specs.Spots.{where_whole}
 use Rattle.url_lexer.specs.States.{Url, url_at}
 use Rattle.url_lexer.specs.Triples.{Triple, NoTriple, AfterPercent, AfterDigit}
-use Rattle.text_norm.proofs.FilledMarks.{Leads, StandsRaw, block-leads, content-leads, double-leads, in_url, marked-is, name-leads, single-leads, text-leads, unbegun-leads, unquoted-leads, url-begun-leads, url-leads}
+use Rattle.text_norm.proofs.FilledMarks.{Leads, StandsRaw, block-leads, content-leads, double-leads, in_plain, in_style, in_url, leads-on, marked-is, name-leads, single-leads, text-leads, unbegun-leads, unquoted-leads, url-begun-leads, url-leads}
+use Rattle.text_norm.proofs.StyleLeads.{CodeFills, IsCodeState, code-leads, comment-leads, string-leads, style-begun-leads, url-style-leads}
 use Rattle.text_norm.specs.Fillings.{Filling, fillings_at}
-use Rattle.text_norm.specs.HoleLaws.{IsBackBy, leaves_out}
+use Rattle.text_norm.specs.HoleLaws.{IsBackBy, IsBackInStyle, leaves_out}
 use Rattle.text_norm.specs.Standing.{TextStands}
 
 -- What the chain promises leads the page on. A value that is left out has no part: the reading with marks stays where it is, and so does that of
 -- bytes alone.
 abbrev pub LeadsUnless : Bool → LexState ValueState → List ℕ → List ℕ → Type 0
 LeadsUnless true s text bytes =
-    (vs : List Filling) (t : List LexEvent) (m d : Config ValueState) → TextStands languages s t m → StandsRaw vs m d → StandsRaw (fillings_at s text vs) m d
+    (vs : List Filling) (t : List LexEvent) (m d : Config ValueState) → TextStands languages s t m → StandsRaw s vs m d
+    → StandsRaw (at_hole languages s) (fillings_at s text vs) m d
 LeadsUnless false s text bytes = Leads s text bytes
 
 abbrev LeadsBy : Chain → LexState ValueState → Type 0
@@ -54,39 +63,149 @@ SafeAt s (Some p) = SafeBy s (after_hole p)
 SafeAt s None = Unit {0}
 
 content-safe : (h : Pending) (x : Content) (e : Element) → SafeAt (InContent e x h) (content_spot h x e)
-content-safe Nothing (Characters Closed) element.Title = λ datum bytes k. content-leads element.Title (printed datum) bytes k.1
-content-safe Nothing (Characters Closed) element.Textarea = λ datum bytes k. content-leads element.Textarea (printed datum) bytes k.1
-content-safe Nothing Bytes element.DataBlock = λ datum bytes k. block-leads (printed datum) bytes k.2
+content-safe Nothing (Characters Closed) element.Title = λ datum bytes k. leads-on (in_rcdata element.Title) (printed datum) bytes tt
+    (content-leads element.Title (printed datum) bytes k.1)
+content-safe Nothing (Characters Closed) element.Textarea = λ datum bytes k. leads-on (in_rcdata element.Textarea) (printed datum) bytes tt
+    (content-leads element.Textarea (printed datum) bytes k.1)
+content-safe Nothing Bytes element.DataBlock = λ datum bytes k. leads-on in_block (printed datum) bytes tt (block-leads (printed datum) bytes k.2)
 content-safe LessAtCut Bytes element.DataBlock = tt
 content-safe _ _ _ = tt
 
 -- in a URL, by its part
+url-led-on : (q : Quoting) (tag : Tag) (u : Url) (datum : Data) (bytes : List ℕ) → u.triple ≡ NoTriple → refuses_hole_in u.part ≡ None
+    → IsBackBy (url_chain (parts_of u.part) (last_of (quotes_at q))) datum bytes → Leads (in_url q tag u) (printed datum) bytes
+url-led-on q tag u datum bytes e n k = leads-on (in_url q tag u) (printed datum) bytes tt (url-leads q tag u datum bytes e n k)
+
 url-safe : (q : Quoting) (tag : Tag) (p : UrlPart) (s : UrlScheme) (free : Bool) (t : Triple)
     → SafeAt (in_url q tag (url_at p s free t)) (value_spot tag (quotes_at q) (option_map (λ p. body.Url (parts_of p)) (where_whole t p)))
-url-safe q tag UrlStart s free NoTriple = λ datum bytes k. url-leads q tag (url_at UrlStart s free NoTriple) datum bytes refl refl k
-url-safe q tag (UrlOpen p) s free NoTriple = λ datum bytes k. url-leads q tag (url_at (UrlOpen p) s free NoTriple) datum bytes refl refl k
-url-safe q tag UrlOpenhole s free NoTriple = λ datum bytes k. url-leads q tag (url_at UrlOpenhole s free NoTriple) datum bytes refl refl k
-url-safe q tag UrlPrequery s free NoTriple = λ datum bytes k. url-leads q tag (url_at UrlPrequery s free NoTriple) datum bytes refl refl k
-url-safe q tag UrlQuery s free NoTriple = λ datum bytes k. url-leads q tag (url_at UrlQuery s free NoTriple) datum bytes refl refl k
+url-safe q tag UrlStart s free NoTriple = λ datum bytes k. url-led-on q tag (url_at UrlStart s free NoTriple) datum bytes refl refl k
+url-safe q tag (UrlOpen p) s free NoTriple = λ datum bytes k. url-led-on q tag (url_at (UrlOpen p) s free NoTriple) datum bytes refl refl k
+url-safe q tag UrlOpenhole s free NoTriple = λ datum bytes k. url-led-on q tag (url_at UrlOpenhole s free NoTriple) datum bytes refl refl k
+url-safe q tag UrlPrequery s free NoTriple = λ datum bytes k. url-led-on q tag (url_at UrlPrequery s free NoTriple) datum bytes refl refl k
+url-safe q tag UrlQuery s free NoTriple = λ datum bytes k. url-led-on q tag (url_at UrlQuery s free NoTriple) datum bytes refl refl k
 url-safe q tag UrlBad s free NoTriple = tt
 url-safe q tag p s free AfterPercent = tt
 url-safe q tag p s free AfterDigit = tt
 
--- in a style no hole is accepted yet
-style-safe : (begins : Bool) (o : Option (StyleSpot UrlPart)) (v : Style Url) (q : Quoting) (tag : Tag)
-    → SafeAt (AttributeValue q tag (ValueOf (OfStyle v)) Closed)
-    (value_spot tag (quotes_at q) (if begins then option_map (λ p. body.Css (style_place p)) o else None))
-style-safe true (Some p) v q tag = tt
-style-safe true None v q tag = tt
-style-safe false o v q tag = tt
+-- In a style, by the state of the path: none may stand within a lexeme, and behind a URL.
+abbrev SafeInStyle : Quoting → Tag → Style Url → Type 0
+SafeInStyle q tag v = SafeAt (in_style q tag v) (value_spot tag (quotes_at q) (style_body v))
+
+code-safe : (v : Outside) → IsCodeState v → CodeFills v → has_mark {U = Url} (Out v) ≡ true
+    → (q : Quoting) (tag : Tag) (datum : Data) (bytes : List ℕ)
+    → IsBackInStyle (IsBackInCode urls (printed datum)) (last_of (quotes_at q)) bytes → Leads (in_style q tag (Out v)) (printed datum) bytes
+code-safe v c own m q tag datum bytes k = code-leads v c own m q tag (printed datum) bytes k
+
+at-start : (p : UrlPart) → is_at_start p ≡ true → p ≡ UrlStart
+at-start UrlStart e = refl
+at-start (UrlOpen x) e = absurd (true≢false (sym e))
+at-start UrlOpenhole e = absurd (true≢false (sym e))
+at-start UrlPrequery e = absurd (true≢false (sym e))
+at-start UrlQuery e = absurd (true≢false (sym e))
+at-start UrlBad e = absurd (true≢false (sym e))
+
+no-triple : (t : Triple) → is_no_triple t ≡ true → t ≡ NoTriple
+no-triple NoTriple e = refl
+no-triple AfterPercent e = absurd (true≢false (sym e))
+no-triple AfterDigit e = absurd (true≢false (sym e))
+
+-- before a URL, of which nothing has been read
+fresh-leads : (q : Quoting) (tag : Tag) (u : Url) (datum : Data) (bytes : List ℕ) → has_read_nothing u ≡ true
+    → IsBackBy (url_chain (parts_of UrlStart) (last_of (quotes_at q))) datum bytes → Leads (in_style q tag (InUrl Fresh u)) (printed datum) bytes
+fresh-leads q tag u datum bytes e k =
+    let first = and_parts (is_at_start u.part) _ e in
+    let second = and_parts (is_scheme_ahead u.scheme) _ first.1 in
+    let third = and_parts _ (is_no_triple u.triple) second.1 in
+    let part = at-start u.part first.0 in
+    url-style-leads Fresh u tt q tag datum bytes (no-triple u.triple third.1) (subst (λ (p : UrlPart). refuses_hole_in p ≡ None) (sym part) refl)
+    (subst (λ (p : UrlPart). IsBackBy (url_chain (parts_of p) (last_of (quotes_at q))) datum bytes) (sym part) k)
+
+fresh-safe : (b : Bool) (u : Url) (q : Quoting) (tag : Tag) → has_read_nothing u ≡ b
+    → SafeAt (in_style q tag (InUrl Fresh u)) (value_spot tag (quotes_at q) (if b then Some (body.Css css.UrlFresh) else None))
+fresh-safe false u q tag e = tt
+fresh-safe true u q tag e = λ datum bytes k. fresh-leads q tag u datum bytes e k
+
+-- in one, by its part, without quotes and with them
+bare-safe : (q : Quoting) (tag : Tag) (p : UrlPart) (s : UrlScheme) (free : Bool) (t : Triple) → SafeInStyle q tag (InUrl Bare (url_at p s free t))
+bare-safe q tag UrlStart s free NoTriple = λ datum bytes k. url-style-leads Bare (url_at UrlStart s free NoTriple) tt q tag datum bytes refl refl k
+bare-safe q tag (UrlOpen p) s free NoTriple = λ datum bytes k. url-style-leads Bare
+    (url_at (UrlOpen p) s free NoTriple) tt q tag datum bytes refl refl k
+bare-safe q tag UrlOpenhole s free NoTriple = λ datum bytes k. url-style-leads Bare
+    (url_at UrlOpenhole s free NoTriple) tt q tag datum bytes refl refl k
+bare-safe q tag UrlPrequery s free NoTriple = λ datum bytes k. url-style-leads Bare
+    (url_at UrlPrequery s free NoTriple) tt q tag datum bytes refl refl k
+bare-safe q tag UrlQuery s free NoTriple = λ datum bytes k. url-style-leads Bare (url_at UrlQuery s free NoTriple) tt q tag datum bytes refl refl k
+bare-safe q tag UrlBad s free NoTriple = tt
+bare-safe q tag p s free AfterPercent = tt
+bare-safe q tag p s free AfterDigit = tt
+
+quoted-safe : (j : Quote) (q : Quoting) (tag : Tag) (p : UrlPart) (s : UrlScheme) (free : Bool) (t : Triple)
+    → SafeInStyle q tag (InUrl (Quoted j NoEscape) (url_at p s free t))
+quoted-safe DoubleQuote q tag UrlStart s free NoTriple = λ datum bytes k. url-style-leads (Quoted DoubleQuote NoEscape)
+    (url_at UrlStart s free NoTriple) tt q tag datum bytes refl refl k
+quoted-safe DoubleQuote q tag (UrlOpen p) s free NoTriple = λ datum bytes k. url-style-leads (Quoted DoubleQuote NoEscape)
+    (url_at (UrlOpen p) s free NoTriple) tt q tag datum bytes refl refl k
+quoted-safe DoubleQuote q tag UrlOpenhole s free NoTriple = λ datum bytes k. url-style-leads (Quoted DoubleQuote NoEscape)
+    (url_at UrlOpenhole s free NoTriple) tt q tag datum bytes refl refl k
+quoted-safe DoubleQuote q tag UrlPrequery s free NoTriple = λ datum bytes k. url-style-leads (Quoted DoubleQuote NoEscape)
+    (url_at UrlPrequery s free NoTriple) tt q tag datum bytes refl refl k
+quoted-safe DoubleQuote q tag UrlQuery s free NoTriple = λ datum bytes k. url-style-leads (Quoted DoubleQuote NoEscape)
+    (url_at UrlQuery s free NoTriple) tt q tag datum bytes refl refl k
+quoted-safe DoubleQuote q tag UrlBad s free NoTriple = tt
+quoted-safe SingleQuote q tag UrlStart s free NoTriple = λ datum bytes k. url-style-leads (Quoted SingleQuote NoEscape)
+    (url_at UrlStart s free NoTriple) tt q tag datum bytes refl refl k
+quoted-safe SingleQuote q tag (UrlOpen p) s free NoTriple = λ datum bytes k. url-style-leads (Quoted SingleQuote NoEscape)
+    (url_at (UrlOpen p) s free NoTriple) tt q tag datum bytes refl refl k
+quoted-safe SingleQuote q tag UrlOpenhole s free NoTriple = λ datum bytes k. url-style-leads (Quoted SingleQuote NoEscape)
+    (url_at UrlOpenhole s free NoTriple) tt q tag datum bytes refl refl k
+quoted-safe SingleQuote q tag UrlPrequery s free NoTriple = λ datum bytes k. url-style-leads (Quoted SingleQuote NoEscape)
+    (url_at UrlPrequery s free NoTriple) tt q tag datum bytes refl refl k
+quoted-safe SingleQuote q tag UrlQuery s free NoTriple = λ datum bytes k. url-style-leads (Quoted SingleQuote NoEscape)
+    (url_at UrlQuery s free NoTriple) tt q tag datum bytes refl refl k
+quoted-safe SingleQuote q tag UrlBad s free NoTriple = tt
+quoted-safe j q tag p s free AfterPercent = tt
+quoted-safe j q tag p s free AfterDigit = tt
+
+style-safe : (v : Style Url) (q : Quoting) (tag : Tag) → SafeInStyle q tag v
+style-safe (Out (Between k)) q tag = λ datum bytes b. code-safe (Between k) tt (λ q text vs. refl) refl q tag datum bytes b
+style-safe (Out AfterLessThan) q tag = tt
+style-safe (Out (Word w e)) q tag = tt
+style-safe (Out (AfterSolidus k)) q tag = tt
+style-safe (Out (Comment true)) q tag = tt
+style-safe (Out (Comment false)) q tag = λ datum bytes b. comment-leads (Comment false) tt (λ q text vs. refl) q tag (printed datum) bytes b
+style-safe (Out (InString DoubleQuote NoEscape)) q tag = λ datum bytes b. string-leads DoubleQuote q tag (printed datum) bytes b
+style-safe (Out (InString SingleQuote NoEscape)) q tag = λ datum bytes b. string-leads SingleQuote q tag (printed datum) bytes b
+style-safe (Out (InString j AfterBackslash)) q tag = tt
+style-safe (Out (InString j (HexDigits n))) q tag = tt
+style-safe (Out (InString j AfterReturn)) q tag = tt
+style-safe (Out BadUrl) q tag = tt
+style-safe (Out (BehindHole solidus less)) q tag = λ datum bytes b. code-safe (BehindHole solidus less) tt
+    (λ q text vs. refl) refl q tag datum bytes b
+style-safe (Out (SplitWord NoEscape)) q tag = λ datum bytes b. code-safe (SplitWord NoEscape) tt (λ q text vs. refl) refl q tag datum bytes b
+style-safe (Out (SplitWord AfterBackslash)) q tag = tt
+style-safe (Out (SplitWord (HexDigits n))) q tag = tt
+style-safe (Out (SplitWord AfterReturn)) q tag = tt
+style-safe (Out (SolidusAtCut k)) q tag = λ datum bytes b. code-safe (SolidusAtCut k) tt (λ q text vs. refl) refl q tag datum bytes b
+style-safe (Out LessThanAtCut) q tag = λ datum bytes b. code-safe LessThanAtCut tt (λ q text vs. refl) refl q tag datum bytes b
+style-safe (Out StarAtCut) q tag = λ datum bytes b. comment-leads StarAtCut tt (λ q text vs. refl) q tag (printed datum) bytes b
+style-safe (InUrl Fresh u) q tag = fresh-safe (has_read_nothing u) u q tag refl
+style-safe (InUrl Bare u) q tag = bare-safe q tag u.part u.scheme u.free u.triple
+style-safe (InUrl (Quoted j NoEscape) u) q tag = quoted-safe j q tag u.part u.scheme u.free u.triple
+style-safe (InUrl (Quoted j AfterBackslash) u) q tag = tt
+style-safe (InUrl (Quoted j (HexDigits n)) u) q tag = tt
+style-safe (InUrl (Quoted j AfterReturn) u) q tag = tt
+style-safe (InUrl Ended u) q tag = tt
 
 value-safe : (r : Reference) (v : Value ValueState) (q : Quoting) (tag : Tag)
     → SafeAt (AttributeValue q tag v r) (where_closed r (value_spot tag (quotes_at q) (value_body v)))
-value-safe Closed (ValueOf (OfKind kind.Plain)) DoubleQuoted tag = λ datum. double-leads tag (printed datum)
-value-safe Closed (ValueOf (OfKind kind.Plain)) SingleQuoted tag = λ datum. single-leads tag (printed datum)
-value-safe Closed (ValueOf (OfKind kind.Plain)) Unquoted tag = λ datum. unquoted-leads tag (printed datum)
+value-safe Closed (ValueOf (OfKind kind.Plain)) DoubleQuoted tag = λ datum bytes k. leads-on (in_plain DoubleQuoted tag) (printed datum) bytes tt
+    (double-leads tag (printed datum) bytes k)
+value-safe Closed (ValueOf (OfKind kind.Plain)) SingleQuoted tag = λ datum bytes k. leads-on (in_plain SingleQuoted tag) (printed datum) bytes tt
+    (single-leads tag (printed datum) bytes k)
+value-safe Closed (ValueOf (OfKind kind.Plain)) Unquoted tag = λ datum bytes k. leads-on (in_plain Unquoted tag) (printed datum) bytes tt
+    (unquoted-leads tag (printed datum) bytes k)
 value-safe Closed (ValueOf (OfUrl u)) q tag = url-safe q tag u.part u.scheme u.free u.triple
-value-safe Closed (ValueOf (OfStyle s)) q tag = style-safe (may_begin_text s) (part_spot s) s q tag
+value-safe Closed (ValueOf (OfStyle s)) q tag = style-safe s q tag
 value-safe _ _ _ tag = tt
 
 -- after a name, unless it is a second `type`, where a path is at no place
@@ -94,8 +213,10 @@ after-name-safe : (o : Bool) (tag : Tag) (k : Kind)
     → SafeAt (AfterAttributeName tag k) (if o then None else Some (place.Tag (tag_spot tag only_after (Some k))))
 after-name-safe true tag k = tt
 after-name-safe false tag k = λ datum bytes p.
-    name-leads (AfterAttributeName tag k) (without_value tag k) (printed datum) bytes p refl tt (λ u d l. l)
-    (λ t. marked-is (AfterAttributeName tag k) (AttributeName (without_value tag k) (as_name (printed datum))) bytes t _ (p.reads (AfterAttributeName tag k) (without_value tag k) [] refl)) (λ vs. refl)
+    leads-on (AfterAttributeName tag k) (printed datum) bytes tt
+    (name-leads (AfterAttributeName tag k) (without_value tag k) (printed datum) bytes p refl tt (λ u d l. l)
+    (λ t. marked-is (AfterAttributeName tag k) (AttributeName (without_value tag k) (as_name (printed datum))) bytes t _
+    (p.reads (AfterAttributeName tag k) (without_value tag k) [] refl)) (λ vs. refl))
 
 whole-name-safe : (o : Bool) (tag : Tag) (k : Kind)
     → SafeAt (WholeAttributeName tag k) (if o then None else Some (place.Tag (tag_spot tag only_inside (Some k))))
@@ -103,22 +224,32 @@ whole-name-safe true tag k = tt
 whole-name-safe false tag k = tt
 
 safe-at : (s : LexState ValueState) → SafeAt s (placed s)
-safe-at (Text Closed) = λ datum bytes k. text-leads (printed datum) bytes k.0
+safe-at (Text Closed) = λ datum bytes k. leads-on (Text Closed) (printed datum) bytes tt (text-leads (printed datum) bytes k.0)
 safe-at (InComment Inside) = λ datum bytes k vs t m d l r. r
 safe-at (InComment Broken) = λ datum bytes k vs t m d l r. r
 safe-at (BeforeAttributeName tag) = λ datum bytes k.
-    name-leads (BeforeAttributeName tag) tag (printed datum) bytes k refl tt (λ u d l. l)
-    (λ t. marked-is (BeforeAttributeName tag) (AttributeName tag (as_name (printed datum))) bytes t _ (k.reads (BeforeAttributeName tag) tag [] refl)) (λ vs. refl)
+    leads-on (BeforeAttributeName tag) (printed datum) bytes tt
+    (name-leads (BeforeAttributeName tag) tag (printed datum) bytes k refl tt (λ u d l. l)
+    (λ t. marked-is (BeforeAttributeName tag) (AttributeName tag (as_name (printed datum))) bytes t _
+    (k.reads (BeforeAttributeName tag) tag [] refl)) (λ vs. refl))
 safe-at (AfterAttributeName tag j) = after-name-safe (is_second_type tag.typed j) tag j
 safe-at (AfterAttributeValue tag) = λ datum bytes k.
-    name-leads (AfterAttributeValue tag) tag (printed datum) bytes k refl tt (λ u d l. l)
-    (λ t. marked-is (AfterAttributeValue tag) (AttributeName tag (as_name (printed datum))) bytes t _ (k.reads (AfterAttributeValue tag) tag [] refl)) (λ vs. refl)
+    leads-on (AfterAttributeValue tag) (printed datum) bytes tt
+    (name-leads (AfterAttributeValue tag) tag (printed datum) bytes k refl tt (λ u d l. l)
+    (λ t. marked-is (AfterAttributeValue tag) (AttributeName tag (as_name (printed datum))) bytes t _
+    (k.reads (AfterAttributeValue tag) tag [] refl)) (λ vs. refl))
 safe-at (SelfClosingStartTag tag) = λ datum bytes k.
-    name-leads (SelfClosingStartTag tag) tag (printed datum) bytes k refl tt (λ u d l. l)
-    (λ t. marked-is (SelfClosingStartTag tag) (AttributeName tag (as_name (printed datum))) bytes t _ (k.reads (SelfClosingStartTag tag) tag [] refl)) (λ vs. refl)
+    leads-on (SelfClosingStartTag tag) (printed datum) bytes tt
+    (name-leads (SelfClosingStartTag tag) tag (printed datum) bytes k refl tt (λ u d l. l)
+    (λ t. marked-is (SelfClosingStartTag tag) (AttributeName tag (as_name (printed datum))) bytes t _
+    (k.reads (SelfClosingStartTag tag) tag [] refl)) (λ vs. refl))
 safe-at (WholeAttributeName tag k) = whole-name-safe (is_second_type tag.typed k) tag k
-safe-at (BeforeAttributeValue tag kind.Plain) = λ datum. unbegun-leads tag (printed datum)
-safe-at (BeforeAttributeValue tag kind.Url) = λ datum bytes k. url-begun-leads tag datum bytes k
+safe-at (BeforeAttributeValue tag kind.Plain) = λ datum bytes k. leads-on (BeforeAttributeValue tag kind.Plain) (printed datum) bytes tt
+    (unbegun-leads tag (printed datum) bytes k)
+safe-at (BeforeAttributeValue tag kind.Url) = λ datum bytes k. leads-on (BeforeAttributeValue tag kind.Url) (printed datum) bytes tt
+    (url-begun-leads tag datum bytes k)
+safe-at (BeforeAttributeValue tag kind.Style) = λ datum bytes k. leads-on (BeforeAttributeValue tag kind.Style) (printed datum) bytes tt
+    (style-begun-leads tag (printed datum) bytes k)
 safe-at (AttributeValue q tag v r) = value-safe r v q tag
 safe-at (InContent e x h) = content-safe h x e
 safe-at _ = tt

@@ -136,7 +136,7 @@ cut-follows (InContent e Bytes PendingBangDash) t d n m h = absurd (some _ n)
 cut-follows Unread t d n m h = h
 
 -- what is refused at no byte
-goes : (k : ℕ) (o : Option PathCause) (rest : Option PathRefusal) → standing_at k o rest ≡ None → (o ≡ None) × (rest ≡ None)
+pub goes : (k : ℕ) (o : Option PathCause) (rest : Option PathRefusal) → standing_at k o rest ≡ None → (o ≡ None) × (rest ≡ None)
 goes k None rest n = (refl, n)
 goes k (Some e) rest n = absurd (some _ n)
 

@@ -5,6 +5,7 @@ pub mod Declared
 pub mod Emits
 pub mod EmittedAlike
 mod EndLaws
+mod FilledEvents
 pub mod FilledMarks
 pub mod FilledReadings
 mod FillingExamples
@@ -12,20 +13,28 @@ mod HarmlessNames
 pub mod HoleKeeps
 pub mod HolesLead
 pub mod Keeps
-pub mod LanguagesKeep
 mod Kept
+pub mod LanguagesKeep
 mod Loops
 pub mod PagesFill
 pub mod PiecesKeep
 pub mod Places
+mod ReadBeside
 mod Rests
 pub mod Runs
 pub mod Same
+pub mod SlashReads
 mod Slices
 mod Spelled
 mod StatesBeside
 mod Steps
+mod StyleFillingExamples
+pub mod StyleHoles
+mod StyleLeads
+mod StyleRaw
+mod StyleTells
 mod StyleValuesKeep
+mod SureStates
 pub mod TagsKeep
 pub mod TextKeeps
 pub mod ToyLanguage

@@ -40,34 +40,35 @@ module _ (B : Type 0) where
   content-outside element.Style = tt
   content-outside element.Other = tt
 
-  tag-outside : (t : TagOf) → IsOutside {B = B} (after_tag t)
+  pub tag-outside : (t : TagOf) → IsOutside {B = B} (after_tag t)
   tag-outside tag.End = tt
   tag-outside (tag.Start e) = content-outside e
 
-  text-outside : (c : Class) (b : ℕ) (r : Reference) → IsOutside {B = B} (next_text c b r)
+  pub text-outside : (c : Class) (b : ℕ) (r : Reference) → IsOutside {B = B} (next_text c b r)
   text-outside LessThan b r = tt
   text-outside _ b r = tt
 
-  in-bogus-outside : (c : Class) → IsOutside {B = B} (next_in_bogus c)
+  pub in-bogus-outside : (c : Class) → IsOutside {B = B} (next_in_bogus c)
   in-bogus-outside GreaterThan = tt
   in-bogus-outside _ = tt
 
-  bogus-outside : (m : LexMode) (c : Class) (b : ℕ) → IsOutside {B = B} (next_bogus m c b)
+  pub bogus-outside : (m : LexMode) (c : Class) (b : ℕ) → IsOutside {B = B} (next_bogus m c b)
   bogus-outside Page c b = in-bogus-outside c
   bogus-outside Template c b = text-outside c b Closed
 
-  tag-open-outside : (m : LexMode) (c : Class) (b : ℕ) (r : Reference) → IsOutside {B = B} (next_tag_open m c b r)
+  pub tag-open-outside : (m : LexMode) (c : Class) (b : ℕ) (r : Reference) → IsOutside {B = B} (next_tag_open m c b r)
   tag-open-outside m (Letter l) b r = tt
   tag-open-outside m Solidus b r = tt
   tag-open-outside m ExclamationMark b r = tt
   tag-open-outside m QuestionMark b r = bogus-outside m QuestionMark b
   tag-open-outside m c b r = text-outside c b Closed
 
-  end-tag-open-outside : (m : LexMode) (c : Class) (b : ℕ) → IsOutside {B = B} (next_end_tag_open m c b)
+  pub end-tag-open-outside : (m : LexMode) (c : Class) (b : ℕ) → IsOutside {B = B} (next_end_tag_open m c b)
   end-tag-open-outside m (Letter l) b = tt
   end-tag-open-outside m c b = bogus-outside m c b
 
-  declaration-outside : (o : Declaration) (m : LexMode) (c : Class) (b : ℕ) (r : Reference) (pending : List ℕ) → IsOutside {B = B} (next_declaration o m c b r pending)
+  pub declaration-outside : (o : Declaration) (m : LexMode) (c : Class) (b : ℕ) (r : Reference) (pending : List ℕ)
+      → IsOutside {B = B} (next_declaration o m c b r pending)
   declaration-outside OpensComment m c b r pending = tt
   declaration-outside OpensDoctype m c b r pending = tt
   declaration-outside Undecided m c b r pending = tt
@@ -77,34 +78,34 @@ module _ (B : Type 0) where
   ended-outside true = tt
   ended-outside false = tt
 
-  comment-outside : (c : Class) (s : CommentState) → IsOutside {B = B} (next_in_comment c s)
+  pub comment-outside : (c : Class) (s : CommentState) → IsOutside {B = B} (next_in_comment c s)
   comment-outside GreaterThan s = ended-outside (closes_comment s)
   comment-outside _ s = tt
 
-  doctype-outside : (c : Class) → IsOutside {B = B} (next_in_doctype c)
+  pub doctype-outside : (c : Class) → IsOutside {B = B} (next_in_doctype c)
   doctype-outside GreaterThan = tt
   doctype-outside _ = tt
 
-  tag-name-outside : (c : Class) (b : ℕ) (ends : Bool) (name : List ℕ) → IsOutside {B = B} (next_tag_name c b ends name)
+  pub tag-name-outside : (c : Class) (b : ℕ) (ends : Bool) (name : List ℕ) → IsOutside {B = B} (next_tag_name c b ends name)
   tag-name-outside White b ends name = tt
   tag-name-outside Solidus b ends name = tt
   tag-name-outside GreaterThan b ends name = tag-outside (tag_of_name ends name)
   tag-name-outside _ b ends name = tt
 
-  before-name-outside : (c : Class) (b : ℕ) (t : Tag) → IsOutside {B = B} (next_before_name c b t)
+  pub before-name-outside : (c : Class) (b : ℕ) (t : Tag) → IsOutside {B = B} (next_before_name c b t)
   before-name-outside White b t = tt
   before-name-outside Solidus b t = tt
   before-name-outside GreaterThan b t = tag-outside t.tag
   before-name-outside _ b t = tt
 
-  name-outside : (c : Class) (b : ℕ) (t : Tag) (k : Kind) (name : List ℕ) → IsOutside {B = B} (next_name c b t k name)
+  pub name-outside : (c : Class) (b : ℕ) (t : Tag) (k : Kind) (name : List ℕ) → IsOutside {B = B} (next_name c b t k name)
   name-outside White b t k name = tt
   name-outside Solidus b t k name = tt
   name-outside GreaterThan b t k name = tag-outside (without_value t k).tag
   name-outside EqualsSign b t k name = tt
   name-outside _ b t k name = tt
 
-  after-name-outside : (c : Class) (b : ℕ) (t : Tag) (k : Kind) → IsOutside {B = B} (next_after_name c b t k)
+  pub after-name-outside : (c : Class) (b : ℕ) (t : Tag) (k : Kind) → IsOutside {B = B} (next_after_name c b t k)
   after-name-outside White b t k = tt
   after-name-outside EqualsSign b t k = tt
   after-name-outside c b t k = before-name-outside c b (without_value t k)
@@ -133,7 +134,7 @@ module _ (B : Type 0) where
   bang-outside HyphenMinus b e y = tt
   bang-outside c b e y = loose-outside c b e y
 
-  in-content-outside : (h : Pending) (c : Class) (b : ℕ) (e : Element) (y : Content) → IsOutside {B = B} (next_in_content h c b e y)
+  pub in-content-outside : (h : Pending) (c : Class) (b : ℕ) (e : Element) (y : Content) → IsOutside {B = B} (next_in_content h c b e y)
   in-content-outside Nothing c b e y = loose-outside c b e y
   in-content-outside PendingLess c b e y = less-outside c b e y
   in-content-outside LessAtCut c b e y = loose-outside c b e y

@@ -35,11 +35,11 @@ refused : (e : UrlRefusal) → Some e ≡ None → ⊥
 refused e n = cc
 
 -- the promise, by the part in which the path is
-url-promise : (p : UrlPart) (last : San) (datum : Data) (bytes : List ℕ) → refuses_hole_in p ≡ None → IsBackBy (url_chain (parts_of p) last) datum bytes
+pub url-promise : (p : UrlPart) (last : San) (datum : Data) (bytes : List ℕ) → refuses_hole_in p ≡ None → IsBackBy (url_chain (parts_of p) last) datum bytes
     → IsBackInUrl (IsBackInPart p (printed datum)) last bytes
 url-promise UrlStart last datum bytes n k = k
-url-promise (UrlOpen p) last datum bytes n k = record { characters = k.characters; there = k.there.in_open p; as_they_are = k.as_they_are; written = k.written }
-url-promise UrlOpenhole last datum bytes n k = record { characters = k.characters; there = k.there.in_openhole; as_they_are = k.as_they_are; written = k.written }
+url-promise (UrlOpen p) last datum bytes n k = record { characters = k.characters; there = k.there.in_open p; stays = k.stays; as_they_are = k.as_they_are; written = k.written }
+url-promise UrlOpenhole last datum bytes n k = record { characters = k.characters; there = k.there.in_openhole; stays = k.stays; as_they_are = k.as_they_are; written = k.written }
 url-promise UrlPrequery last datum bytes n k = k
 url-promise UrlQuery last datum bytes n k = k
 url-promise UrlBad last datum bytes n k = absurd (refused _ n)
@@ -65,11 +65,11 @@ failsafe-written UrlBad n = absurd (refused _ n)
 failsafe-bytes : AreBytes failsafe
 failsafe-bytes = (refl, (refl, (refl, (refl, (refl, (refl, (refl, (refl, tt))))))))
 
-failsafe-plain : (v w : Url) → UrlsAlike v w → v.triple ≡ NoTriple → refuses_hole_in v.part ≡ None → IsPlainInUrl failsafe w
+pub failsafe-plain : (v w : Url) → UrlsAlike v w → v.triple ≡ NoTriple → refuses_hole_in v.part ≡ None → IsPlainInUrl failsafe w
 failsafe-plain v w a t n = subst (λ (bs : List ℕ). IsPlainInUrl bs w) (failsafe-written v.part n) (written-plain v w failsafe failsafe-bytes a t n)
 
 -- the bytes of the value: those of the sanitizers, or the failsafe
-url-value : (chars : List ℕ) → read_as_text chars ≡ chars → as_unquoted chars ≡ url_bytes Unquoted chars
+pub url-value : (chars : List ℕ) → read_as_text chars ≡ chars → as_unquoted chars ≡ url_bytes Unquoted chars
 url-value [] e = refl
 url-value (b ∷ bs) e = e
 
@@ -82,7 +82,7 @@ value-plain Unquoted (b ∷ bs) w p f = p
 not-empty : (b : ℕ) (bs : List ℕ) → b ∷ bs ≢ []
 not-empty b bs e = cc
 
-value-some : (q : Quoting) (chars : List ℕ) → HasBytes q (url_bytes q chars)
+pub value-some : (q : Quoting) (chars : List ℕ) → HasBytes q (url_bytes q chars)
 value-some DoubleQuoted chars = tt
 value-some SingleQuoted chars = tt
 value-some Unquoted [] = not-empty _ _
@@ -99,14 +99,15 @@ url-read q tag w bs t =
     ap (λ (z : Value ValueState). config (in_value q tag z) (emitted_bytes languages (ValueOf (OfUrl w)) bs t)) (url-fed bs w)
     ∙ ap (config (in_value q tag (ValueOf (OfUrl (feed_all w bs))))) (value-told bs (ValueOf (OfUrl w)) t)
 
-last-read : (q : Quoting) (chars bytes : List ℕ) → read_as_text chars ≡ chars → IsBackByLast (last_of (quotes_at q)) chars bytes → (tag : Tag) (w : Url) (t : List LexEvent)
-    → read Page bytes (config (in_value q tag (ValueOf (OfUrl w))) t) ≡ read_value q tag (ValueOf (OfUrl w)) (url_bytes q chars) t
-last-read DoubleQuoted chars bytes e k tag w t =
-    k.reads DoubleQuoted tag (ValueOf (OfUrl w)) t refl ∙ ap (λ (z : List ℕ). read_value DoubleQuoted tag (ValueOf (OfUrl w)) z t) e
-last-read SingleQuoted chars bytes e k tag w t =
-    k.reads SingleQuoted tag (ValueOf (OfUrl w)) t refl ∙ ap (λ (z : List ℕ). read_value SingleQuoted tag (ValueOf (OfUrl w)) z t) e
-last-read Unquoted chars bytes e k tag w t =
-    k.reads tag (ValueOf (OfUrl w)) t ∙ ap (λ (z : List ℕ). read_value Unquoted tag (ValueOf (OfUrl w)) z t) (url-value chars e)
+-- what the last sanitizer's bytes are read as, in any value
+pub last-read : (q : Quoting) (chars bytes : List ℕ) → read_as_text chars ≡ chars → IsBackByLast (last_of (quotes_at q)) chars bytes → (tag : Tag) (v : Value ValueState) (t : List LexEvent)
+    → read Page bytes (config (in_value q tag v) t) ≡ read_value q tag v (url_bytes q chars) t
+last-read DoubleQuoted chars bytes e k tag v t =
+    k.reads DoubleQuoted tag v t refl ∙ ap (λ (z : List ℕ). read_value DoubleQuoted tag v z t) e
+last-read SingleQuoted chars bytes e k tag v t =
+    k.reads SingleQuoted tag v t refl ∙ ap (λ (z : List ℕ). read_value SingleQuoted tag v z t) e
+last-read Unquoted chars bytes e k tag v t =
+    k.reads tag v t ∙ ap (λ (z : List ℕ). read_value Unquoted tag v z t) (url-value chars e)
 
 -- A hole in a URL at the state of a path: what its bytes are read as in each state of a page that is alike.
 pub record IsUrlHole (q : Quoting) (u : Url) (text bytes : List ℕ) : Type 0 where
@@ -126,7 +127,7 @@ url-hole q u datum bytes e n k =
       back = p.there.reads;
       plain = λ w a. value-plain q p.characters w (p.there.plain u w refl a e) (failsafe-plain u w a e n);
       some = value-some q p.characters;
-      reads = λ tag w t. last-read q p.characters bytes p.as_they_are p.written tag w t ∙ url-read q tag w (url_bytes q p.characters) t;
+      reads = λ tag w t. last-read q p.characters bytes p.as_they_are p.written tag (ValueOf (OfUrl w)) t ∙ url-read q tag w (url_bytes q p.characters) t;
     }
 
 -- the same where an unquoted value is to begin

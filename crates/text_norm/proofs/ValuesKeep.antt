@@ -76,11 +76,13 @@ turned-taken {B} x v Breaks f bytes c b n =
     taken-append x v name (plain_bytes c b) (fed-taken x v name _ _ m.0)
     (fed-taken x (fed x v name) (plain_bytes c b) false 0 (subst (λ (z : Value B). fed_error (feeding x) z (plain_bytes c b) false 0 ≡ None) (own-feeding x v name) m.1))
 
-taken-on : {B : Type 0} (x : ValueLanguage B) (v : B) (r : Reference) (c : Class) (b : ℕ) → language_error (feeding x) false (ValueOf v) r c b ≡ None → AreTaken x v (undone_byte true r c b)
+pub taken-on : {B : Type 0} (x : ValueLanguage B) (v : B) (r : Reference) (c : Class) (b : ℕ)
+    → language_error (feeding x) false (ValueOf v) r c b ≡ None → AreTaken x v (undone_byte true r c b)
 taken-on x v Closed c b n = fed-taken x v (plain_bytes c b) false 0 n
 taken-on x v (Open f bytes) c b n = turned-taken x v (turn c f) f bytes c b n
 
-taken-end : {B : Type 0} (x : ValueLanguage B) (v : B) (r : Reference) (c : Class) (b : ℕ) → language_error (feeding x) true (ValueOf v) r c b ≡ None → AreTaken x v (settled true r)
+pub taken-end : {B : Type 0} (x : ValueLanguage B) (v : B) (r : Reference) (c : Class) (b : ℕ)
+    → language_error (feeding x) true (ValueOf v) r c b ≡ None → AreTaken x v (settled true r)
 taken-end x v Closed c b n = tt
 taken-end x v (Open f bytes) c b n = fed-taken x v (flushed true false f bytes) _ _ n
 
@@ -137,7 +139,8 @@ goes-on {B} {x} l q tag (Deciding k before) r c b t d e s n h =
     (subst (λ (z : Value B). StandsIn x (standing_value x q tag z told) (next_reference r c b) far) (own-type x k before u) own)
 
 -- a byte that ends it: the state and what is told
-at-end : {B : Type 0} (x : ValueLanguage B) (q : Quoting) (tag : Tag) (v : Value B) (r : Reference) (c : Class) (b : ℕ) (t : List LexEvent) (d : Config B) → class_of b ≡ c → ends_value q c ≡ true
+pub at-end : {B : Type 0} (x : ValueLanguage B) (q : Quoting) (tag : Tag) (v : Value B) (r : Reference) (c : Class) (b : ℕ) (t : List LexEvent)
+    (d : Config B) → class_of b ≡ c → ends_value q c ≡ true
     → StandsIn x (standing_value x q tag v t) r d
     → page x (as_it_stands r ++ b ∷ []) d ≡ config (next_value x true q c b tag v r) (emits_value x true q c b v r t)
 at-end x q tag v Closed c b t d e s h = ap (page x (b ∷ [])) h ∙ rw (e, s) refl

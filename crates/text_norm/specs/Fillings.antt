@@ -1,24 +1,35 @@
 -- The page read as bytes alone, beside its path read with a mark for each value. The page emits what the path emits, but in the place of
 -- each mark it emits a run of events that fits the mark. Which runs fit depends on where the mark stands, and each language of values says
--- it. And where a hole is the first of a URL, the page tells at the URL's end which scheme data has chosen.
-use Rattle.std.specs.Prelude.{⊤, ◌≡◌, ℕ, true, false, List, [], ◌∷◌, ◌++◌}
-use Rattle.place_core.specs.page.Events.{LexEvent, Mark, ValueScheme, attribute_name_bytes, block_bytes, event_text_bytes, value_bytes}
+-- it. And where a hole is the first of a URL, the page tells at the URL's end which scheme data has chosen; and in a style a blank of the
+-- path may be the one in which the value before it ended.
+use Rattle.std.specs.Prelude.{⊤, ◌≡◌, ◌⊎◌, ℕ, Bool, true, false, List, [], ◌∷◌, ◌++◌, if◌then◌else◌}
+use Rattle.css_lexer.specs.Escapes.{NoEscape}
+use Rattle.css_lexer.specs.Events.{RunBlank, InsideUrl}
+use Rattle.css_lexer.specs.Paths as styles
+use Rattle.css_lexer.specs.Plain.{IsPlainInStyle}
+use Rattle.css_lexer.specs.Sanitizers.{style_as_text, unless_unsafe}
+use Rattle.css_lexer.specs.States.{Quote, Between, InString, Style, Out, InUrl}
+use Rattle.css_lexer.specs.Unescaping.{style_escapes_undone}
+use Rattle.css_lexer.specs.Urls.{urls}
+use Rattle.place_core.specs.page.Events.{LexEvent, InsideStyle, Mark, ValueScheme, attribute_name_bytes, block_bytes, event_text_bytes, value_bytes}
 use Rattle.place_core.specs.page.Html.{read, start}
 use Rattle.place_core.specs.page.Paths.{Hole, Symbol, Written, at_hole, read_path}
 use Rattle.place_core.specs.page.References.{Closed, undone}
 use Rattle.place_core.specs.page.States.{AfterAttributeName, AfterAttributeValue, AttributeValue, BeforeAttributeName, BeforeAttributeValue, Bytes, Characters, InContent, LexState, Nothing, Page, SelfClosingStartTag, Text}
-use Rattle.place_core.specs.page.Tags.{Quoting, Deciding, Unquoted, Value, ValueOf, ValueState, OfKind, OfUrl, OfStyle, attribute_value_of, languages}
+use Rattle.place_core.specs.page.Tags.{Quoting, Deciding, Unquoted, Value, ValueOf, ValueState, OfKind, OfUrl, OfStyle, attribute_value_of, emitted_bytes, languages}
 use Rattle.place_core.specs.place.Errors.{node}
 use Rattle.san_html.specs.ReadBack.{as_name, as_unquoted, read_as_text}
 use Rattle.san_html.specs.Sanitizers.{failsafe}
 use Rattle.url_lexer.specs.Back.{ReadsBack}
-use Rattle.url_lexer.specs.Events.{ToldScheme, Named, NoScheme, Free}
+use Rattle.url_lexer.specs.Events.{ToldScheme, Named, NoScheme, Free, UrlByte, UrlEnds}
 use Rattle.url_lexer.specs.Parts.{UrlPart}
 use Rattle.url_lexer.specs.Plain.{ArePlainBytes}
 use Rattle.url_lexer.specs.Schemes.{is_safe_scheme}
+use Rattle.url_lexer.specs.States.{Url}
 
 -- where a mark stands: in text, a title or a textarea; in a data block; in a value between quotes, or without them; as the name of an
--- attribute; or in a value that is a URL, by how it is written and the part of the URL
+-- attribute; in a value that is a URL, by how it is written and the part of the URL; or in a value that is a style: in words and plain text, in
+-- a string of it, by its quotes, or in a URL of it
 pub data MarkSite : Type 0 where
   TextSite : MarkSite
   BlockSite : MarkSite
@@ -26,6 +37,9 @@ pub data MarkSite : Type 0 where
   UnquotedSite : MarkSite
   NameSite : MarkSite
   UrlSite : Quoting → UrlPart → MarkSite
+  CodeSite : Quoting → MarkSite
+  StringSite : Quoting → Quote → MarkSite
+  StyleUrlSite : Quoting → UrlPart → MarkSite
 
 -- what fills a mark: the text of a value, and where the mark stands
 pub record Filling : Type 0 where
@@ -35,15 +49,32 @@ pub record Filling : Type 0 where
 abbrev pub filling : MarkSite → List ℕ → Filling
 filling site text = record { site = site; text = text }
 
+-- In a style, white space and comments that stand side by side are told as one blank. So behind a value in code a blank of the path may be the one
+-- that the page has told last: the value has ended in it, or has no bytes and stands behind it.
+abbrev pub IsCodeSite : MarkSite → Type 0
+IsCodeSite (CodeSite q) = ⊤
+IsCodeSite site = ⊥
+
+abbrev pub LastIsBlank : List LexEvent → Type 0
+LastIsBlank (InsideStyle RunBlank ∷ page) = ⊤
+LastIsBlank page = ⊥
+
+abbrev pub BlankIsTold : List Filling → List LexEvent → Type 0
+BlankIsTold [] page = ⊥
+BlankIsTold (v ∷ vs) page = IsCodeSite v.site × LastIsBlank page
+
 -- The page's events, beside the path's. Lists of events have the last event first, and so have the fillings; the relation goes along the
--- path's list, from its last event back. `Fits v before run` says that a mark before which the path has emitted `before` may be filled by
+-- path's list, from its last event back. `Fits v before run` says that a mark before which the page has emitted `before` may be filled by
 -- `v` with the events `run`. `Alike e f` says that for the path's event `e` the page may have `f`.
 abbrev pub FillsBy : (Filling → List LexEvent → List LexEvent → Type 0) → (LexEvent → LexEvent → Type 0)
     → List LexEvent → List Filling → List LexEvent → Type 0
 FillsBy Fits Alike [] vs page = (vs ≡ []) × (page ≡ [])
 FillsBy Fits Alike (Mark ∷ path) vs page =
     (v : Filling) × (ws : List Filling) × (run : List LexEvent) × (rest : List LexEvent)
-    × (vs ≡ v ∷ ws) × (page ≡ run ++ rest) × Fits v path run × FillsBy Fits Alike path ws rest
+    × (vs ≡ v ∷ ws) × (page ≡ run ++ rest) × Fits v rest run × FillsBy Fits Alike path ws rest
+FillsBy Fits Alike (InsideStyle RunBlank ∷ path) vs page =
+    ((f : LexEvent) × (rest : List LexEvent) × (page ≡ f ∷ rest) × Alike (InsideStyle RunBlank) f × FillsBy Fits Alike path vs rest)
+    ⊎ (BlankIsTold vs page × FillsBy Fits Alike path vs page)
 FillsBy Fits Alike (e ∷ path) vs page =
     (f : LexEvent) × (rest : List LexEvent) × (page ≡ f ∷ rest) × Alike e f × FillsBy Fits Alike path vs rest
 
@@ -54,7 +85,7 @@ pub record IsBlockRun (text : List ℕ) (run : List LexEvent) : Type 0 where
   pub undoes : undone false Closed bytes ≡ read_as_text text
 
 -- In a URL it is bytes of the value that may stand in that part, and are the text with percent triples undone. Where there are none, a value without
--- quotes has the failsafe.
+-- quotes has the failsafe; so it is in a style.
 abbrev pub url_bytes : Quoting → List ℕ → List ℕ
 url_bytes Unquoted [] = failsafe
 url_bytes q bytes = bytes
@@ -65,15 +96,47 @@ pub record IsUrlRun (q : Quoting) (part : UrlPart) (text : List ℕ) (run : List
   pub allowed : ArePlainBytes part (url_bytes q bytes)
   pub reads : ReadsBack part text bytes
 
+-- In a style: what it tells of bytes, from this state.
+abbrev pub style_run : Style Url → List ℕ → List LexEvent
+style_run s bytes = emitted_bytes languages (ValueOf (OfStyle s)) bytes []
+
+-- In code it tells the text with its escapes undone, or the failsafe, as words and plain text. A blank with which that begins may be the one that
+-- the page has told last.
+pub record IsCodeRun (q : Quoting) (text : List ℕ) (before run : List LexEvent) : Type 0 where
+  pub behind_blank : Bool
+  pub told : behind_blank ≡ true → LastIsBlank before
+  pub emitted : run ≡ style_run (Out (Between behind_blank)) (url_bytes q (unless_unsafe (style_escapes_undone text)))
+
+-- in a string, bytes that are plain there, and are the text with escapes undone
+pub record IsStringRun (q : Quoting) (quote : Quote) (text : List ℕ) (run : List LexEvent) : Type 0 where
+  pub bytes : List ℕ
+  pub emitted : run ≡ style_run (Out (InString quote NoEscape)) (url_bytes q bytes)
+  pub plain : IsPlainInStyle urls (url_bytes q bytes) (Out (InString quote NoEscape))
+  pub reads : style_escapes_undone bytes ≡ style_as_text text
+
+-- in a URL of it, bytes of that URL, as in any other
+abbrev pub style_url_bytes : List ℕ → List LexEvent → List LexEvent
+style_url_bytes [] t = t
+style_url_bytes (b ∷ bs) t = style_url_bytes bs (InsideStyle (InsideUrl (UrlByte b)) ∷ t)
+
+pub record IsStyleUrlRun (q : Quoting) (part : UrlPart) (text : List ℕ) (run : List LexEvent) : Type 0 where
+  pub bytes : List ℕ
+  pub emitted : run ≡ style_url_bytes (url_bytes q bytes) []
+  pub allowed : ArePlainBytes part (url_bytes q bytes)
+  pub reads : ReadsBack part text bytes
+
 -- Elsewhere the run is the text of the value, as bytes of the very token in which the mark stands: of a value without quotes the failsafe,
--- where the text is empty; of a name the whole name.
-abbrev pub FitsAt : MarkSite → List ℕ → List LexEvent → Type 0
-FitsAt TextSite text run = run ≡ event_text_bytes (read_as_text text) []
-FitsAt BlockSite text run = IsBlockRun text run
-FitsAt QuotedSite text run = run ≡ value_bytes (read_as_text text) []
-FitsAt UnquotedSite text run = run ≡ value_bytes (as_unquoted text) []
-FitsAt NameSite text run = run ≡ attribute_name_bytes (as_name text) []
-FitsAt (UrlSite q part) text run = IsUrlRun q part text run
+-- where the text is empty; of a name the whole name. Only in code does it matter what the page has told before it.
+abbrev pub FitsAt : MarkSite → List ℕ → (before run : List LexEvent) → Type 0
+FitsAt TextSite text before run = run ≡ event_text_bytes (read_as_text text) []
+FitsAt BlockSite text before run = IsBlockRun text run
+FitsAt QuotedSite text before run = run ≡ value_bytes (read_as_text text) []
+FitsAt UnquotedSite text before run = run ≡ value_bytes (as_unquoted text) []
+FitsAt NameSite text before run = run ≡ attribute_name_bytes (as_name text) []
+FitsAt (UrlSite q part) text before run = IsUrlRun q part text run
+FitsAt (CodeSite q) text before run = IsCodeRun q text before run
+FitsAt (StringSite q quote) text before run = IsStringRun q quote text run
+FitsAt (StyleUrlSite q part) text before run = IsStyleUrlRun q part text run
 
 -- The scheme that a URL tells at its end. One that data chooses on the path is none on the page, or one that data may choose.
 abbrev pub IsChosen : ToldScheme → Type 0
@@ -86,29 +149,35 @@ ToldAlike (Named letters) s = s ≡ Named letters
 ToldAlike NoScheme s = s ≡ NoScheme
 ToldAlike Free s = IsChosen s
 
--- HTML: what fits a mark depends on its site alone, and every other event but a scheme is the path's own.
+-- HTML: what fits a mark depends on its site, and every other event but a scheme is the path's own.
 abbrev pub HtmlFits : Filling → List LexEvent → List LexEvent → Type 0
-HtmlFits v before run = FitsAt v.site v.text run
+HtmlFits v before run = FitsAt v.site v.text before run
 
 abbrev pub HtmlAlike : LexEvent → LexEvent → Type 0
 HtmlAlike (ValueScheme s) f = (r : ToldScheme) × (f ≡ ValueScheme r) × ToldAlike s r
+HtmlAlike (InsideStyle (InsideUrl (UrlEnds s))) f = (r : ToldScheme) × (f ≡ InsideStyle (InsideUrl (UrlEnds r))) × ToldAlike s r
 HtmlAlike e f = f ≡ e
 
 abbrev pub Fills : List LexEvent → List Filling → List LexEvent → Type 0
 Fills path vs page = FillsBy HtmlFits HtmlAlike path vs page
 
--- The fillings along a path, the last first, by the path's own states. A hole in a comment has no mark, and so no filling. A mark in the
--- type of a script, in a reference of a value, or in a title where something is pending has none either, since no value may stand there, nor
--- has one in a style, where none may stand yet: no page fills a path with such a mark. Nor does one with a mark in a URL behind a scheme that is code, since there no run
+-- The fillings along a path, the last first, by the path's own states. A hole in a comment has no mark, and so no filling, of a style too.
+-- A mark in the type of a script, in a reference of a value, or in a title where something is pending has none either, since no value may
+-- stand there: no page fills a path with such a mark. Nor does one with a mark in a URL behind a scheme that is code, since there no run
 -- fits.
 abbrev pub quoted_site : Quoting → MarkSite
 quoted_site Unquoted = UnquotedSite
 quoted_site q = QuotedSite
 
+abbrev pub style_site : Quoting → Style Url → MarkSite
+style_site q (Out (InString quote e)) = StringSite q quote
+style_site q (Out s) = CodeSite q
+style_site q (InUrl f u) = StyleUrlSite q u.part
+
 abbrev pub value_fillings : Value ValueState → Quoting → List ℕ → List Filling → List Filling
 value_fillings (ValueOf (OfKind k)) q text vs = filling (quoted_site q) text ∷ vs
 value_fillings (ValueOf (OfUrl u)) q text vs = filling (UrlSite q u.part) text ∷ vs
-value_fillings (ValueOf (OfStyle s)) q text vs = vs
+value_fillings (ValueOf (OfStyle s)) q text vs = if styles.has_mark s then filling (style_site q s) text ∷ vs else vs
 value_fillings (Deciding k before) q text vs = vs
 
 abbrev pub fillings_at : LexState ValueState → List ℕ → List Filling → List Filling

@@ -10,6 +10,9 @@ use Rattle.place_core.specs.page.Plain.{IsPlain}
 use Rattle.place_core.specs.page.Shape.{ShapePart, HolePart, PageReads}
 use Rattle.place_core.specs.page.States.{LexState, Config}
 use Rattle.place_core.specs.page.Tags.{ValueState, languages}
+use Rattle.css_lexer.specs.ReadBack.{IsBackInCode, IsBackInString}
+use Rattle.css_lexer.specs.StaysInUrl.{StaysInUrl}
+use Rattle.css_lexer.specs.Urls.{urls}
 use Rattle.place_core.specs.declared.chain.Chain.{Chain}
 use Rattle.place_core.specs.declared.place.Place.{Place}
 use Rattle.place_core.specs.declared.san.San.{San}
@@ -50,13 +53,26 @@ IsBackByLast san.Attr characters bytes = IsBackInQuoted characters bytes
 IsBackByLast san.AttrNospace characters bytes = IsBackInUnquoted characters bytes
 IsBackByLast last characters bytes = ⊥
 
--- In a URL: the characters that the sanitizers of its part give are plain in each part where a hole has these sanitizers, and read back there. The
--- last sanitizer reads them as they are, since none is NUL.
+-- In a URL: the characters that the sanitizers of its part give are plain in each part where a hole has these sanitizers, and read back there; in a
+-- style they stay in its url token. The last sanitizer reads them as they are, since none is NUL.
 pub record IsBackInUrl (IsBackThere : List ℕ → Type 0) (last : San) (bytes : List ℕ) : Type 0 where
+  pub characters : List ℕ
+  pub there : IsBackThere characters
+  pub stays : StaysInUrl urls characters
+  pub as_they_are : read_as_text characters ≡ characters
+  pub written : IsBackByLast last characters bytes
+
+-- In a style outside its URLs: the characters that its sanitizer gives are plain wherever a hole has it, and read back there.
+pub record IsBackInStyle (IsBackThere : List ℕ → Type 0) (last : San) (bytes : List ℕ) : Type 0 where
   pub characters : List ℕ
   pub there : IsBackThere characters
   pub as_they_are : read_as_text characters ≡ characters
   pub written : IsBackByLast last characters bytes
+
+-- A value that is dropped has no characters; the last sanitizer, if there is one, gives what it gives for none.
+abbrev pub IsDropped : List San → List ℕ → Type 0
+IsDropped [] bytes = bytes ≡ []
+IsDropped (x ∷ behind) bytes = BeforeLast (x ∷ behind) (λ last. IsBackByLast last [] bytes)
 
 -- in the beginning, whatever it spells, and behind a hole in it
 pub record IsBackInBeginning (text characters : List ℕ) : Type 0 where
@@ -69,17 +85,17 @@ IsBackByFirst san.Html behind datum bytes = Alone behind (IsBackInText (printed 
 IsBackByFirst san.Attr behind datum bytes = Alone behind (IsBackInQuoted (printed datum) bytes)
 IsBackByFirst san.AttrNospace behind datum bytes = Alone behind (IsBackInUnquoted (printed datum) bytes)
 IsBackByFirst san.AttrName behind datum bytes = Alone behind (IsBackInTag (printed datum) bytes)
-IsBackByFirst san.Drop behind datum bytes = Alone behind (bytes ≡ [])
+IsBackByFirst san.Drop behind datum bytes = IsDropped behind bytes
 IsBackByFirst san.UrlFilter behind datum bytes = BeforeNorm behind (λ last. IsBackInUrl (IsBackInPart UrlStart (printed datum)) last bytes)
 IsBackByFirst san.UrlOpen behind datum bytes = BeforeLast behind (λ last. IsBackInUrl (IsBackInBeginning (printed datum)) last bytes)
 IsBackByFirst san.UrlNorm behind datum bytes = BeforeLast behind (λ last. IsBackInUrl (IsBackInPart UrlPrequery (printed datum)) last bytes)
 IsBackByFirst san.UrlQuery behind datum bytes = BeforeLast behind (λ last. IsBackInUrl (IsBackInPart UrlQuery (printed datum)) last bytes)
--- those of scripts and styles, whatever is behind them, which no context has yet
+IsBackByFirst san.CssValue behind datum bytes = BeforeLast behind (λ last. IsBackInStyle (IsBackInCode urls (printed datum)) last bytes)
+IsBackByFirst san.CssString behind datum bytes = BeforeLast behind (λ last. IsBackInStyle (IsBackInString urls (printed datum)) last bytes)
+-- those of scripts, whatever is behind them, which no context has yet
 IsBackByFirst san.JsValue behind datum bytes = ⊥
 IsBackByFirst san.JsString behind datum bytes = ⊥
 IsBackByFirst san.JsRegexp behind datum bytes = ⊥
-IsBackByFirst san.CssValue behind datum bytes = ⊥
-IsBackByFirst san.CssString behind datum bytes = ⊥
 
 abbrev pub IsBackByList : List San → Data → List ℕ → Type 0
 IsBackByList [] datum bytes = ⊥

@@ -15,6 +15,8 @@ use Rattle.place_core.specs.declared.body.Body.{Body}
 use Rattle.place_core.specs.declared.body.Body.TheVariants as body
 use Rattle.place_core.specs.declared.code.Code.{Code}
 use Rattle.place_core.specs.declared.code.Code.TheVariants as code
+use Rattle.place_core.specs.declared.css.Css.{Css}
+use Rattle.place_core.specs.declared.css.Css.TheVariants as css
 use Rattle.place_core.specs.declared.element.Element.TheVariants as element
 use Rattle.place_core.specs.declared.kind.Kind.{Kind}
 use Rattle.place_core.specs.declared.kind.Kind.TheVariants as kind
@@ -28,8 +30,7 @@ use Rattle.place_core.specs.declared.tag_of.TagOf.TheVariants as tag
 use Rattle.place_core.specs.declared.tag_place.TagPlace.{TagPlace}
 use Rattle.place_core.specs.declared.value_place.ValuePlace.{ValuePlace}
 
--- What is not built yet: a tag that ends and enters the content of a script or a style, values that are scripts, and a value of data in one that is a
--- style.
+-- What is not built yet: a tag that ends and enters the content of a script or a style, and values that are scripts.
 abbrev pub content_error : TagOf → Option Code
 content_error tag.End = None
 content_error (tag.Start element.Title) = None
@@ -299,12 +300,24 @@ abbrev pub url_hole_error : Bool → Option Code
 url_hole_error true = Some code.BadHTML
 url_hole_error false = None
 
+-- in a style none behind the URL of a url token
+abbrev pub css_hole_error : Css → Option Code
+css_hole_error (css.Code x) = None
+css_hole_error css.Dq = None
+css_hole_error css.Sq = None
+css_hole_error css.UrlFresh = None
+css_hole_error (css.Url parts) = url_hole_error parts.bad
+css_hole_error (css.UrlDq parts) = url_hole_error parts.bad
+css_hole_error (css.UrlSq parts) = url_hole_error parts.bad
+css_hole_error css.UrlEnd = Some code.BadString
+css_hole_error (css.Comment star) = None
+
 abbrev pub body_hole_error : Body → Option Code
 body_hole_error body.Plain = None
 body_hole_error body.NoHole = Some code.BadHTML
 body_hole_error (body.Url parts) = url_hole_error parts.bad
 body_hole_error (body.Js js) = Some code.NotBuilt
-body_hole_error (body.Css c) = Some code.NotBuilt
+body_hole_error (body.Css c) = css_hole_error c
 
 abbrev pub hole_error : Place → Option Code
 hole_error place.Text = None

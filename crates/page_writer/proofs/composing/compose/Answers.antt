@@ -20,7 +20,7 @@ returns-in-Ok c =
     composed forest chart _ _ c.in_ok-writer.writer
     (begins forest chart c.args.root c.requires.root c.requires.set c.args.outputs.now c.start.result c.in-Some.pair c.in_ok-writer.writer
     c.requires.outputs c.start.ensures c.in-Some.is c.in_ok-writer.ensures) (view c.args.datum.now)
-    c.execute.new.sink (record { page = c.into_page.result; steps = c.in-Ok.steps }) c.into_page.ensures c.in-Ok.ensures
+    c.pages_are_sound.ensures c.execute.new.sink (record { page = c.into_page.result; steps = c.in-Ok.steps }) c.into_page.ensures c.in-Ok.ensures
 
 pub returns-in-Err : goal.returns-in-Err
 returns-in-Err c =
