@@ -37,6 +37,7 @@ class Tokenizer:
             if self.text.startswith("/*", self.at):
                 end = self.text.find("*/", self.at + 2)
                 self.at = len(self.text) if end < 0 else end + 2
+                found.append(("comment", ""))  # no token of CSS, but part of the structure
             else:
                 found.append(self.token())
         return found
