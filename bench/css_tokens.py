@@ -3,8 +3,8 @@
 
     bench/css_tokens.py < PAGE
 
-Prints the tokens of each attribute `style` of a page, a style per line. `bench/hostile` compares the structure of styles by it: the
-tokens that are no words, numbers, signs and white space.
+Prints the tokens of each attribute `style` and of each element `style` of a page, a style per line. `bench/hostile` compares the
+structure of styles by it: the tokens that are no words, numbers, signs and white space.
 """
 import html.parser
 import re
@@ -167,12 +167,24 @@ def structure(style):
 
 
 class StyleReader(html.parser.HTMLParser):
-    """Prints the tokens of each attribute `style`."""
+    """Prints the tokens of each attribute `style` and of each element."""
+
+    content = None  # of the element `style` that is open, whose content `html.parser` gives as it stands
 
     def handle_starttag(self, tag, attrs):
         for name, value in attrs:
             if name == "style":
                 print(tag, Tokenizer(value or "").tokens())
+        self.content = "" if tag == "style" else None
+
+    def handle_data(self, data):
+        if self.content is not None:
+            self.content += data
+
+    def handle_endtag(self, tag):
+        if self.content is not None:
+            print("style", Tokenizer(self.content).tokens())
+        self.content = None
 
 
 if __name__ == "__main__":

@@ -3,6 +3,7 @@
 Texts stand where they are mostly accepted. Each kind of context has texts that lead from it to itself, so that controls and calls may be
 put around any of them.
 """
+import html
 
 MARK = "q"  # begins each harmless text, and stands in no URL that a template writes
 
@@ -18,12 +19,14 @@ TEXTS = {
     "open": ["a", "script", "java", "vbscript", "data", "-", "%41", "%c3%a9", "a&amp;b", "&", "\u00e9", "&#115;", "&Tab;", ".", "@h"],
     "path": ["a/", "/b.html", "..", ":", "javascript:", "%2F", "%3a", "\u00e9", "&", "&amp;", "@", "&#47;", "data:", "java"],
     "query": ["a", "b+c", "%26", "%3D", "/", ":", "javascript:", "&amp;c", "&", "&d", "\u00e9", "data", "&#61;"],
-    "style": ["a", " red ", "1.5em", "color:", ";", ", ", "-", " #f0f ", "50% ", " !x", "&#34;x&#34; ", "/* c */ ", " { ", "} ", " (", ")", " b(",
+    "style": ["a", " red ", "1.5em", "color:", ";", ", ", "-", " #f0f ", "50% ", " !x", "&#34;x&#34; ", "/* c */ ", " { ", "} ", " (",
+              ")", " b(",
               " @media ", " url(/a.png) ", "\u00e9", " \\41 ", "+", "/ ", "&lt; ", " calc(1px + "],
     "string": ["a ", "b\\41 ", "\\;", "&lt;", ";", "(", "/*", "url(", "\u00e9", "x:y", "}"],
     "remark": ["a", " ", ";", "&#39;", "url(", "* ", "(", "\u00e9"],
 }
-KINDS = ["text", "text", "plain", "plain", "note", "attributes", "open", "path", "query", "style", "string"]  # of templates that others call
+# Kinds of templates that others call.
+KINDS = ["text", "text", "plain", "plain", "note", "attributes", "open", "path", "query", "style", "string"]
 
 ELEMENTS = ["p", "a", "b", "td", "LI", "form", "object", "x-y", "svg", "img", "blockquote", "h1"]
 PLAIN_NAMES = ["title", "class", "alt", "Value", "data-x", "content", "type", "hidden", "aria-label"]
@@ -39,12 +42,16 @@ LETTERS = ["java", "javascript", "vbscript", "d", "data", "x", "&#106;ava", "jav
 
 # What may be refused, by the kind of context. In a template `$` is what it is called with, and so always has all the keys.
 MAY_BE_REFUSED = {
-    "text": ['<p {{if $.t}}class="x{{end}}>', "<script>{{$.a}}</script>", '<p onclick="f({{$.a}})">', '<p style="x:{{$.a}}(">', "<h{{$.n}}>",
+    "text": ['<p {{if $.t}}class="x{{end}}>', "<script>{{$.a}}</script>", '<p onclick="f({{$.a}})">', '<p style="x:{{$.a}}(">',
+             "<h{{$.n}}>",
              "<!--{{$.a}}-->", '<a href="javascript:{{$.a}}">', '<a href="{{$.a}}:x">', "<a href=x{{$.a}}&#58;y>", '<a href="/%4{{$.a}}">',
              '<a href="/a{{if $.t}}?{{end}}{{$.b}}">', '{{template "none" .}}', '<iframe srcdoc="{{$.a}}"></iframe>', "<b x={{$.a}}=1>",
              "<p title={{if $.t}}{{$.a}}{{end}} class=x>", "<p {{$.a}}x=1>", "a <{{$.a}}", '<a href="java{{if $.t}}script{{end}}:{{$.a}}">',
              '<a href="{{if $.t}}java{{else}}x{{end}}script:{{$.a}}">', "<p title={{html $.a}}>", '<script type="{{$.a}}">x</script>',
-             '<a href="da{{if $.t}}t{{end}}a:,{{$.a}}">', '<a href="{{range $.l}}{{.}}{{end}}">', "<!DOCTYPE {{$.a}}>", "</b {{$.a}}>"],
+             '<a href="da{{if $.t}}t{{end}}a:,{{$.a}}">', '<a href="{{range $.l}}{{.}}{{end}}">', "<!DOCTYPE {{$.a}}>", "</b {{$.a}}>",
+             "<style>p{a:{{$.a}}(b)}</style>", "<style>p{a:b}</{{$.a}}>", "<style>p{a:'<{{$.a}}'}</style>",
+             "<style>p{a:b}</sty{{if $.t}}{{end}}le>",
+             "<style>p{a:b}{{if $.t}}</style>{{end}}", "<style>p{a:b\\{{$.a}}}</style>", "<style>/* *{{$.a}}/</style>"],
     "plain": ["{{$.a | html | print}}", "<", "</", '"'],
     "note": ["-", "--", "-->", "{{html $.a}}"],
     "word": ["=", "`", "{{if $.t}} {{end}}"],
@@ -57,6 +64,11 @@ MAY_BE_REFUSED = {
     "string": ["&#10;", "\\", "\\26", "&#34;", "&copy;", "{{html $.a}}"],
     "remark": ["*", "/", "*/", "{{html $.a}}"],
 }
+
+# Texts of the element `style` that are nearly its end tag, a comment of HTML, or a reference.
+ELEMENT_STYLES = [" </b> ", " '</styl' ", ' "</stylex>" ', " <!-- a --> ", " /* </styl> */ ", " a < b ", " /* < */ ", " url('</sty') ",
+                  " &#34; ",
+                  " .a > b { ", "} ", " /* a */.b ", "</styl e>", " '&lt;/style>' ", " \\</styl ", " a/* * */b"]
 
 # Texts of styles in which CSS reads otherwise than the program, as `docs/STYLES.md` says.
 STYLE_LIMITS = [" #url(", " @url(", " \\url(", " u\\rl(", " \\75 rl(", " ur\\6c (", " <!--url("]
@@ -169,6 +181,9 @@ class SetMaker:
             lambda: f"<title>{plain()}</title>", lambda: f"<title><b>{plain()}</b></title>",
             lambda: f"<textarea {self.attribute(depth, is_record)}>{plain()}</p></textarea>",
             lambda: f"<!-- {plain('note')} -->", lambda: f'<script type="text/template"><p>{plain()}</p></script>',
+            lambda: f"<style>{self.style_content(depth, is_record)}</style>",
+            lambda: f"<style>{self.style_content(depth, is_record)}</STYLE >",
+            lambda: f"<STYLE {self.attribute(depth, is_record)}>{self.style_content(depth, is_record)}</style\n>",
         ])()
 
     def attribute(self, depth, is_record):
@@ -193,11 +208,20 @@ class SetMaker:
             lambda: more("style") + " ", lambda: f"{self.source.choice(['color', 'a-b', '--x'])}:{more('style')};",
             lambda: f" a:{mark}{more('string')}{mark};", lambda: f" /* {more('remark')} */",
             lambda: f" url({mark}{self.hole('open', is_record)}{more('open')}{mark})",
-            lambda: f" url(/{more('path')})", lambda: f" url( {mark}/a?b={more('query')}{mark} )", lambda: f" url({self.hole('open', is_record)})",
+            lambda: f" url(/{more('path')})", lambda: f" url( {mark}/a?b={more('query')}{mark} )",
+            lambda: f" url({self.hole('open', is_record)})",
             lambda: self.hole("style", is_record) + self.hole("style", is_record) + "px ",
         ]
         limit = [lambda: self.source.choice(STYLE_LIMITS) + self.hole("style", is_record) + ") "] * (self.source.random() < 0.05)
         return "".join(self.source.choice(parts + limit)() for _ in range(self.source.randint(1, 3)))
+
+    def style_content(self, depth, is_record):
+        """The content of an element `style`: styles as in an attribute, without their references, and texts of its own between them."""
+        parts = []
+        for _ in range(self.source.randint(1, 3)):
+            parts.append(html.unescape(self.style('"', depth, is_record).replace("&lt;", "&lt; ")))
+            parts.append(self.source.choice(ELEMENT_STYLES + [" "] * 8))
+        return "".join(parts)
 
     def begun(self, depth, is_record):
         """A value without quotes, which begins in its first piece."""
@@ -233,9 +257,11 @@ HOSTILE_TEXTS = [
 
 
 HOSTILE_STYLES = [
-    "red;x:y", "}", "{", "*/", "/*", "\\", "\\22 ", "\\3b", "\\41 b", "expression(1)", "expres", "sion", "url(javascript:x)", "--", "-", "(", ")",
+    "red;x:y", "}", "{", "*/", "/*", "\\", "\\22 ", "\\3b", "\\41 b", "expression(1)", "expres", "sion", "url(javascript:x)", "--", "-",
+    "(", ")",
     "';x", '";x', "@import", "\n", " ", "1", "e3", "#", "!important", "<!--", "-->", "rl(", "u", "url", "\\75", "[", "/", "*", "<", "\0",
-    "\u00e9", ":", ",", "%", "a ", " b",
+    "\u00e9", ":", ",", "%", "a ", " b", "</style>", "</style><script>x</script>", "/style>", "</sty", "le>", "}b{", "&#125", "&lt",
+    "*/</style>",
 ]
 
 
@@ -275,4 +301,5 @@ class DataMaker:
     def text(self, is_hostile):
         if not is_hostile:
             return MARK + "".join(self.source.choices("abcdefgh", k=self.source.randint(1, 6)))
-        return "".join(self.source.choices(self.source.choice([HOSTILE_URLS, HOSTILE_TEXTS, HOSTILE_STYLES]), k=self.source.choice([1, 1, 1, 2, 3])))
+        lists = [HOSTILE_URLS, HOSTILE_TEXTS, HOSTILE_STYLES]
+        return "".join(self.source.choices(self.source.choice(lists), k=self.source.choice([1, 1, 1, 2, 3])))

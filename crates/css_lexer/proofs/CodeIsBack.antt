@@ -1,5 +1,5 @@
 -- What is written of a value in code is plain there, whatever the text, and whatever URLs there are.
-use Rattle.std.proofs.Common.{◌≡◌, ℕ, ◌==◌, ◌||◌, cond, Bool, true, false, List, [], ◌∷◌, refl, sym, ap, true≢false}
+use Rattle.std.proofs.Common.{◌≡◌, ℕ, ◌==◌, ◌||◌, cond, Bool, true, false, List, [], ◌∷◌, ◌++◌, refl, sym, ap, true≢false}
 use Rattle.std.specs.List.{list_any}
 use Rattle.css_lexer.specs.Classes.{style_class}
 use Rattle.css_lexer.specs.Escapes.{NoEscape, AfterBackslash, HexDigits, AfterReturn}
@@ -35,6 +35,10 @@ right false q e = e
 pub both : (p q : Bool) → p ≡ false → q ≡ false → p || q ≡ false
 both true q e f = e
 both false q e f = f
+
+pub none-in : (p : ℕ → Bool) (bs cs : List ℕ) → list_any p bs ≡ false → list_any p cs ≡ false → list_any p (bs ++ cs) ≡ false
+none-in p [] cs e f = f
+none-in p (b ∷ bs) cs e f = both (p b) _ (left (p b) _ e) (none-in p bs cs (right (p b) _ e) f)
 
 harmless-class : (blank newline word backslash quote apostrophe opening closing solidus asterisk less punctuation : Bool)
     → backslash ≡ false → quote ≡ false → apostrophe ≡ false → opening ≡ false → closing ≡ false → solidus ≡ false → asterisk ≡ false → less ≡ false → punctuation ≡ false
@@ -165,7 +169,7 @@ written-safe : (q : Bool) (text : List ℕ) → is_unsafe text ≡ q → list_an
 written-safe true text e = refl
 written-safe false text e = left (list_any is_forbidden text) _ e
 
-value-safe : (text : List ℕ) → list_any is_forbidden (css_value text) ≡ false
+pub value-safe : (text : List ℕ) → list_any is_forbidden (css_value text) ≡ false
 value-safe text = written-safe (is_unsafe (style_escapes_undone text)) (style_escapes_undone text) refl
 
 -- behind a `/` a byte that is no `*` is read as it is where the `/` has been told

@@ -272,7 +272,7 @@ solidus_in_value_is_plain = record { apart = refl; leads = (tt, tt); allowed = r
 -- what is written in a string stays in it
 string_is_plain : IsPlainInStyle urls (codes "a\\22 b") (page (codes "a:\""))
 unfolding style_class url_class_of
-string_is_plain = record { apart = refl; leads = refl; allowed = tt; tells = refl }
+string_is_plain = record { apart = refl; leads = refl; allowed = refl; tells = refl }
 
 -- an empty value behind a `/`
 empty_behind_solidus : IsPlainInStyle urls [] (page (codes "a/"))

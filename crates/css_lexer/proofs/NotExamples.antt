@@ -261,10 +261,19 @@ open_escape_in_string : IsPlainInStyle urls (codes "\\") (page (codes "\"a")) �
 unfolding style_class url_class_of
 open_escape_in_string p = let h = p.leads in cc
 
--- the end of a comment
+-- a backslash and a line end, for which CSS reads nothing
+line_end_in_string : IsPlainInStyle urls (codes "a\\\nb") (page (codes "\"a")) → ⊥
+unfolding style_class url_class_of
+line_end_in_string p = let h : true ≡ false = p.allowed in cc
+
+-- the end of a comment; and any text in one
 end_of_comment : IsPlainInStyle urls (codes "*/") (page (codes "/* ")) → ⊥
 unfolding style_class url_class_of
 end_of_comment p = elim p.leads [ inl e ↦ cc | inr e ↦ cc ]
+
+text_in_comment : IsPlainInStyle urls (codes "a") (page (codes "/* ")) → ⊥
+unfolding style_class url_class_of
+text_in_comment p = elim p.allowed [ inl e ↦ cc | inr e ↦ cc ]
 
 -- the end of a url; a scheme that is code
 end_of_url : IsPlainInStyle urls (codes ")") (page (codes "url(a")) → ⊥
@@ -279,7 +288,12 @@ behind_the_url : IsPlainInStyle urls (codes "a") (page (codes "url(a ")) → ⊥
 unfolding style_class url_class_of
 behind_the_url p = p.leads
 
--- what may not stand in a URL without quotes: an escape, a control byte; and white space before it
+-- what may not stand in a URL: in quotes an escape, as of a scheme that is code,
+escape_in_quoted_url : IsPlainInStyle urls (codes "\\6a avascript\\3a a") (page (codes "url('")) → ⊥
+unfolding style_class url_class_of
+escape_in_quoted_url p = let h : true ≡ false = p.allowed.0 in cc
+
+-- and without quotes an escape, a control byte; and white space before it
 backslash_in_url_bytes : IsPlainInStyle urls (codes "\\") (page (codes "url(a")) → ⊥
 unfolding style_class url_class_of
 backslash_in_url_bytes p = let h : true ≡ false = p.allowed.0 in cc

@@ -6,7 +6,7 @@ use Rattle.std.proofs.lemmas.List.{append_assoc}
 use Rattle.css_lexer.specs.Classes.{style_class}
 use Rattle.css_lexer.specs.Escapes.{StyleEscape, NoEscape, AfterBackslash, HexDigits, AfterReturn, is_taken_in_style}
 use Rattle.css_lexer.specs.Events.{StyleEvent, RunByte, RunBlank, PunctuationByte, UrlBegins, InsideUrl, UrlEnds, told_in_url}
-use Rattle.css_lexer.specs.Plain.{is_not_bare, only_run, only_url}
+use Rattle.css_lexer.specs.Plain.{is_excluded_from_url, only_run, only_url}
 use Rattle.css_lexer.specs.Sanitizers.{style_failsafe}
 use Rattle.css_lexer.specs.StaysInUrl.{StaysInUrl, UrlTakesHole, begun}
 use Rattle.css_lexer.specs.States.{Quote, DoubleQuote, SingleQuote, UrlWord, SpellsU, SpellsUr, SpellsUrl, SpellsOther, Outside, Between, AfterLessThan, Word, AfterSolidus, Comment, InString, BadUrl, BehindHole, SplitWord, SolidusAtCut, LessThanAtCut, StarAtCut, UrlForm, Fresh, Bare, Quoted, Ended, Style, Out, InUrl}
@@ -286,16 +286,16 @@ bare-classes false false false false false false false false false false true p 
 bare-classes false false false false false false false false false false false true e f g = refl
 bare-classes false false false false false false false false false false false false e f g = refl
 
-no-blank : (b : ℕ) → is_not_bare b ≡ false → (b == 9 || b == 32) ≡ false
+no-blank : (b : ℕ) → is_excluded_from_url b ≡ false → (b == 9 || b == 32) ≡ false
 no-blank b e = grind (arith, nat_tests)
 
-no-line : (b : ℕ) → is_not_bare b ≡ false → (b == 10 || (b == 12 || b == 13)) ≡ false
+no-line : (b : ℕ) → is_excluded_from_url b ≡ false → (b == 10 || (b == 12 || b == 13)) ≡ false
 no-line b e = grind (arith, nat_tests)
 
-no-backslash : (b : ℕ) → is_not_bare b ≡ false → (b == 92) ≡ false
+no-backslash : (b : ℕ) → is_excluded_from_url b ≡ false → (b == 92) ≡ false
 no-backslash b e = grind (arith, nat_tests)
 
-bare-class : (b : ℕ) → is_not_bare b ≡ false → is_bare_class (style_class b) ≡ true
+bare-class : (b : ℕ) → is_excluded_from_url b ≡ false → is_bare_class (style_class b) ≡ true
 unfolding style_class
 bare-class b e = bare-classes (b == 9 || b == 32) (b == 10 || (b == 12 || b == 13)) _ (b == 92) (b == 34) (b == 39) (b == 40) (b == 41) (b == 47)
     (b == 42) (b == 60) _
@@ -375,16 +375,16 @@ url-step x bs f u b t (inr n) ih h = absurd (true≢false
     (sym (url-told-first x bs (feed_style x (InUrl f u) b) (style_emits x (InUrl f u) b t) h) ∙ n))
 
 url-read : {U E : Type 0} (x : UrlReading U E) (bs : List ℕ) (f : UrlForm) (u : U) (t : List (StyleEvent E)) → UrlTakesHole f
-    → list_any is_not_bare bs ≡ false
+    → list_any is_excluded_from_url bs ≡ false
     → only_url (read_style x bs (style_reading (InUrl f u) t)).told ≡ true → (read_style x bs (style_reading (InUrl f u) t)).told ≡ url_told x u bs t
 url-read x [] f u t o n h = refl
 url-read x (b ∷ bs) f u t o n h =
-    url-step x bs f u b t (goes-on-or x f u (style_class b) b t o (bare-class b (left (is_not_bare b) _ n)))
-    (url-read x bs (begun f) (x.feed u b) (told_in_url (x.emits u b) t) (still f o) (right (is_not_bare b) _ n)) h
+    url-step x bs f u b t (goes-on-or x f u (style_class b) b t o (bare-class b (left (is_excluded_from_url b) _ n)))
+    (url-read x bs (begun f) (x.feed u b) (told_in_url (x.emits u b) t) (still f o) (right (is_excluded_from_url b) _ n)) h
 
 pub stays-told : {U E : Type 0} (x : UrlReading U E) (bs : List ℕ) (f : UrlForm) (u : U) → UrlTakesHole f → StaysInUrl x bs
     → (read_style x bs (style_reading {U = U} {E = E} (InUrl f u) [])).told ≡ url_told x u bs []
-stays-told x bs f u o s = url-read x bs f u [] o (s.allowed Bare) (s.tells f u o)
+stays-told x bs f u o s = url-read x bs f u [] o s.allowed (s.tells f u o)
 
 -- so it is with the failsafe
 pub failsafe-stays : {U E : Type 0} (x : UrlReading U E) → StaysInUrl x style_failsafe

@@ -1,13 +1,15 @@
 -- What is written of a value in a string is plain there, whatever the text, and whatever URLs there are; and it reads back as the text.
-use Rattle.std.proofs.Common.{◌≡◌, ℕ, suc, ◌+◌, ◌*◌, ◌==◌, cond, Bool, true, false, codes, List, [], ◌∷◌, ◌++◌, encode_utf8, refl, sym, ap, ◌∙◌, subst, true≢false}
+use Rattle.std.proofs.Common.{◌≡◌, ℕ, suc, ◌+◌, ◌*◌, ◌==◌, cond, Bool, true, false, codes, List, [], ◌∷◌, ◌++◌, encode_utf8, refl, sym, ap, ◌∙◌, subst, arith, true≢false}
 use Rattle.std.proofs.lemmas.Bool.{eqb-true}
+use Rattle.std.proofs.lemmas.Bool.Decides.{nat_tests}
 use Rattle.std.specs.Bool.{⊤}
 use Rattle.std.specs.Char.{is_ascii_hexdigit, is_ascii_whitespace}
-use Rattle.css_lexer.proofs.CodeIsBack.{left, right, both}
+use Rattle.std.specs.List.{list_any}
+use Rattle.css_lexer.proofs.CodeIsBack.{left, right, both, none-in}
 use Rattle.css_lexer.specs.Classes.{style_class}
 use Rattle.css_lexer.specs.Escapes.{StyleEscape, NoEscape, AfterBackslash, HexDigits, AfterReturn, behind_byte, behind_taken_in_string}
 use Rattle.css_lexer.specs.Events.{StyleEvent, StringByte}
-use Rattle.css_lexer.specs.Plain.{IsPlainInStyle, BeginsApart, StyleLeadsPlain, only_string}
+use Rattle.css_lexer.specs.Plain.{IsPlainInStyle, BeginsApart, StyleLeadsPlain, is_line_end, only_string}
 use Rattle.css_lexer.specs.ReadBack.{IsBackInString}
 use Rattle.css_lexer.specs.Sanitizers.{string_digits, string_byte, goes_on_with, css_string, style_as_text, as_text_byte}
 use Rattle.css_lexer.specs.States.{Quote, DoubleQuote, SingleQuote, Style, Out, InString}
@@ -44,7 +46,7 @@ ordinary-class false false false false false false false false false false false
 
 -- How a byte is written: as it is; a backslash, twice; as an escape of one digit, and of two. An escape stands for the byte.
 data Kind (b : ℕ) : Type 0 where
-  itself : string_digits b ≡ [] → (b == 92) ≡ false → is_ordinary (style_class b) ≡ true → as_text_byte b ≡ b ∷ [] → Kind b
+  itself : string_digits b ≡ [] → (b == 92) ≡ false → is_line_end b ≡ false → is_ordinary (style_class b) ≡ true → as_text_byte b ≡ b ∷ [] → Kind b
   twice : b ≡ 92 → Kind b
   one : (d : ℕ) → string_digits b ≡ d ∷ [] → behind_taken_in_string AfterBackslash d ≡ HexDigits 1 → is_ascii_hexdigit d ≡ true
       → encode_utf8 (character_of (hexadecimal_value d)) ≡ as_text_byte b → Kind b
@@ -81,6 +83,7 @@ kind b =
     test b 125 (two 55 100 refl refl refl refl refl refl) (λ n125.
     test b 92 (twice refl) (λ n92.
     itself (rw (n0, n9, n10, n12, n13, n34, n38, n39, n40, n41, n43, n47, n58, n59, n60, n62, n123, n125) refl) n92
+    (both (b == 10) _ n10 (both (b == 12) (b == 13) n12 n13))
     (ordinary-class _ _ _ (b == 92) (b == 34) (b == 39) _ _ _ _ _ _ (both (b == 10) _ n10 (both (b == 12) (b == 13) n12 n13)) n92 n34 n39)
     (rw n0 refl))))))))))))))))))))
 
@@ -200,7 +203,7 @@ two-read {U} {E} x q d d2 bs e t f g o i h ih = behind-backslash x q e t (d ∷ 
 
 byte-read : {U E : Type 0} (x : UrlReading U E) (q : Quote) (b : ℕ) (bs : List ℕ) (e : StyleEscape) (t : List (StyleEvent E)) → Kind b → Ready e (b ∷ bs)
     → only_string t ≡ true → Goes x q bs → IsString q (read_style x (css_string (b ∷ bs)) (style_reading (Out (InString q e)) t))
-byte-read {U} {E} x q b bs e t (itself s n o w) r h ih =
+byte-read {U} {E} x q b bs e t (itself s n l o w) r h ih =
     subst (λ (ds : List ℕ). IsString q (read_style x (string_byte ds b bs ++ css_string bs) (style_reading {U = U} {E = E} (Out (InString q e)) t))) (sym s)
     (subst (λ (p : Bool). IsString q (read_style x (cond p (codes "\\\\") (b ∷ []) ++ css_string bs) (style_reading {U = U} {E = E} (Out (InString q e)) t))) (sym n)
     (itself-read x q b bs e t o r h ih))
@@ -227,7 +230,7 @@ begins-undone m n c rest h w = rw (h, w) (either (c == 92) (λ t. rw t refl) (λ
 
 head-undone : (m n b : ℕ) (bs : List ℕ) → Kind b → is_ascii_hexdigit b ≡ false → is_ascii_whitespace b ≡ false
     → style_undone (Digits (suc m) n) (css_string (b ∷ bs)) ≡ encode_utf8 (character_of n) ++ style_undone AsItIs (css_string (b ∷ bs))
-head-undone m n b bs (itself s p o i) h w =
+head-undone m n b bs (itself s p l o i) h w =
     subst (λ (ds : List ℕ). style_undone (Digits (suc m) n) (string_byte ds b bs ++ css_string bs) ≡ encode_utf8 (character_of n) ++ style_undone AsItIs (string_byte ds b bs ++ css_string bs)) (sym s)
     (subst (λ (y : Bool). style_undone (Digits (suc m) n) (cond y (codes "\\\\") (b ∷ []) ++ css_string bs) ≡ encode_utf8 (character_of n) ++ style_undone AsItIs (cond y (codes "\\\\") (b ∷ []) ++ css_string bs)) (sym p)
     (begins-undone m n b (css_string bs) h w))
@@ -258,7 +261,7 @@ two-back : (d e : ℕ) (rest : List ℕ) → is_ascii_hexdigit d ≡ true → is
 two-back d e rest g h = rw (g, h) refl
 
 byte-back : (b : ℕ) (bs : List ℕ) → Kind b → style_undone AsItIs (css_string bs) ≡ style_as_text bs → style_undone AsItIs (css_string (b ∷ bs)) ≡ as_text_byte b ++ style_as_text bs
-byte-back b bs (itself s p o i) ih =
+byte-back b bs (itself s p l o i) ih =
     subst (λ (ds : List ℕ). style_undone AsItIs (string_byte ds b bs ++ css_string bs) ≡ as_text_byte b ++ style_as_text bs) (sym s)
     (subst (λ (y : Bool). style_undone AsItIs (cond y (codes "\\\\") (b ∷ []) ++ css_string bs) ≡ as_text_byte b ++ style_as_text bs) (sym p)
     (itself-back b bs p ∙ join (sym i) ih))
@@ -281,10 +284,34 @@ string-apart x q (b ∷ bs) = refl
 string-leads : {U E : Type 0} (x : UrlReading U E) (q : Quote) (v : Style U) → v ≡ Out (InString q NoEscape) → StyleLeadsPlain x (Out (InString q NoEscape)) v
 string-leads {U} {E} x q v e = subst (λ (y : Style U). StyleLeadsPlain x (Out (InString q NoEscape)) y) (sym e) refl
 
+-- what is written has no line end
+digit-ends-none : (d : ℕ) → is_ascii_hexdigit d ≡ true → is_line_end d ≡ false
+digit-ends-none d h = grind (arith, nat_tests)
+
+space-ends-none : (p : Bool) → list_any is_line_end (space_if p) ≡ false
+space-ends-none true = refl
+space-ends-none false = refl
+
+byte-ends-none : (b : ℕ) (bs : List ℕ) → Kind b → list_any is_line_end (string_byte (string_digits b) b bs) ≡ false
+byte-ends-none b bs (itself s n l o w) =
+    subst (λ (ds : List ℕ). list_any is_line_end (string_byte ds b bs) ≡ false) (sym s)
+    (subst (λ (p : Bool). list_any is_line_end (cond p (codes "\\\\") (b ∷ [])) ≡ false) (sym n) (both (is_line_end b) false l refl))
+byte-ends-none b bs (twice m) = subst (λ (z : ℕ). list_any is_line_end (string_byte (string_digits z) z bs) ≡ false) (sym m) refl
+byte-ends-none b bs (one d s f g w) =
+    subst (λ (ds : List ℕ). list_any is_line_end (string_byte ds b bs) ≡ false) (sym s)
+    (both (is_line_end d) _ (digit-ends-none d g) (space-ends-none (goes_on_with bs)))
+byte-ends-none b bs (two d e s f g g2 o w) =
+    subst (λ (ds : List ℕ). list_any is_line_end (string_byte ds b bs) ≡ false) (sym s)
+    (both (is_line_end d) _ (digit-ends-none d g) (both (is_line_end e) _ (digit-ends-none e g2) (space-ends-none (goes_on_with bs))))
+
+string-ends-none : (bs : List ℕ) → list_any is_line_end (css_string bs) ≡ false
+string-ends-none [] = refl
+string-ends-none (b ∷ bs) = none-in is_line_end (string_byte (string_digits b) b bs) (css_string bs) (byte-ends-none b bs (kind b)) (string-ends-none bs)
+
 string-plain : {U E : Type 0} (x : UrlReading U E) (q : Quote) (text : List ℕ) → IsPlainInStyle x (css_string text) (Out (InString q NoEscape))
 string-plain x q text =
     let h = string-read x q text NoEscape [] tt refl in
-    record { apart = string-apart x q (css_string text); leads = string-leads x q _ h.0; allowed = tt; tells = h.1 }
+    record { apart = string-apart x q (css_string text); leads = string-leads x q _ h.0; allowed = string-ends-none text; tells = h.1 }
 
 pub string-is-back : {U E : Type 0} (x : UrlReading U E) (text : List ℕ) → IsBackInString x text (css_string text)
 string-is-back x text = record { plain = λ q. string-plain x q text; reads = string-back text }

@@ -1,13 +1,13 @@
 -- What is written of a value in a URL stays in its url token, with quotes and without, whatever URLs there are.
-use Rattle.std.proofs.Common.{◌≡◌, ℕ, ◌/◌, ◌%◌, ◌<◌, ◌==◌, ◌||◌, ◌&&◌, nat_lt, cond, Bool, true, false, codes, List, [], ◌∷◌, ◌++◌, refl, sym, subst, arith, true≢false}
+use Rattle.std.proofs.Common.{◌≡◌, ℕ, ◌/◌, ◌%◌, ◌<◌, ◌==◌, ◌||◌, ◌&&◌, nat_lt, cond, Bool, true, false, codes, List, [], ◌∷◌, refl, sym, subst, arith, true≢false}
 use Rattle.std.proofs.lemmas.Bool.Decides.{nat_tests}
 use Rattle.std.specs.List.{list_any, list_all}
-use Rattle.css_lexer.proofs.CodeIsBack.{left, right, both}
+use Rattle.css_lexer.proofs.CodeIsBack.{left, right, both, none-in}
 use Rattle.css_lexer.proofs.StringsAreBack.{same-reading}
 use Rattle.css_lexer.specs.Classes.{style_class}
 use Rattle.css_lexer.specs.Escapes.{NoEscape, AfterBackslash, HexDigits, AfterReturn}
 use Rattle.css_lexer.specs.Events.{StyleEvent, told_in_url}
-use Rattle.css_lexer.specs.Plain.{is_not_bare, MayBePlainForm, only_url}
+use Rattle.css_lexer.specs.Plain.{is_excluded_from_url, MayStandInUrl, only_url}
 use Rattle.css_lexer.specs.StaysInUrl.{is_byte, UrlTakesHole, begun, form_behind, fed, StaysInUrl}
 use Rattle.css_lexer.specs.States.{DoubleQuote, SingleQuote, UrlForm, Fresh, Bare, Quoted, Ended, InUrl}
 use Rattle.css_lexer.specs.Steps.{style_next, style_emits_class, StyleReading, style_reading, read_style}
@@ -23,7 +23,7 @@ use Rattle.url_lexer.specs.declared.class.UrlClass.TheVariants as url
 
 -- bytes that end a URL, or may not stand in one
 abbrev is_misplaced : ℕ → Bool
-is_misplaced b = is_not_bare b || (b == 34 || (b == 39 || (b == 40 || b == 41)))
+is_misplaced b = is_excluded_from_url b || (b == 34 || (b == 39 || (b == 40 || b == 41)))
 
 kept-stays : (b : ℕ) → is_kept_in_url b ≡ true → is_misplaced b ≡ false
 kept-stays b k = grind (arith, nat_tests)
@@ -189,10 +189,6 @@ stays-read {U} {E} x (b ∷ bs) f u t o n h =
     (stays-read x bs (begun f) (x.feed u b) (told_in_url (x.emits u b) t) (still f o) (right (is_misplaced b) _ n) (inside-url (x.emits u b) t h)))
 
 -- what is written has no such byte
-none-in : (bs cs : List ℕ) → list_any is_misplaced bs ≡ false → list_any is_misplaced cs ≡ false → list_any is_misplaced (bs ++ cs) ≡ false
-none-in [] cs e f = f
-none-in (b ∷ bs) cs e f = both (is_misplaced b) _ (left (is_misplaced b) _ e) (none-in bs cs (right (is_misplaced b) _ e) f)
-
 one-of : (p q : Bool) (A : Type 0) → p || q ≡ true → (p ≡ true → A) → (q ≡ true → A) → A
 one-of true q A e f g = f refl
 one-of false q A e f g = g e
@@ -223,7 +219,7 @@ kept-or-triple b bs false k e = triple-stays b e
 
 norm-stays : (bs : List ℕ) → list_all is_byte bs ≡ true → list_any is_misplaced (url_norm bs) ≡ false
 norm-stays [] e = refl
-norm-stays (b ∷ bs) e = none-in (cond (is_kept_in_url b || begins_triple b bs) (b ∷ []) (triple b)) (url_norm bs) (kept-or-triple b bs (is_kept_in_url b || begins_triple b bs) refl (first-of (is_byte b) _ e)) (norm-stays bs (second-of (is_byte b) _ e))
+norm-stays (b ∷ bs) e = none-in is_misplaced (cond (is_kept_in_url b || begins_triple b bs) (b ∷ []) (triple b)) (url_norm bs) (kept-or-triple b bs (is_kept_in_url b || begins_triple b bs) refl (first-of (is_byte b) _ e)) (norm-stays bs (second-of (is_byte b) _ e))
 
 unreserved-or-triple : (b : ℕ) (p : Bool) → is_unreserved b ≡ p → is_byte b ≡ true → list_any is_misplaced (cond p (b ∷ []) (triple b)) ≡ false
 unreserved-or-triple b true k e = alone b (unreserved-stays b k)
@@ -231,7 +227,7 @@ unreserved-or-triple b false k e = triple-stays b e
 
 query-stays : (bs : List ℕ) → list_all is_byte bs ≡ true → list_any is_misplaced (url_query bs) ≡ false
 query-stays [] e = refl
-query-stays (b ∷ bs) e = none-in (cond (is_unreserved b) (b ∷ []) (triple b)) (url_query bs) (unreserved-or-triple b (is_unreserved b) refl (first-of (is_byte b) _ e)) (query-stays bs (second-of (is_byte b) _ e))
+query-stays (b ∷ bs) e = none-in is_misplaced (cond (is_unreserved b) (b ∷ []) (triple b)) (url_query bs) (unreserved-or-triple b (is_unreserved b) refl (first-of (is_byte b) _ e)) (query-stays bs (second-of (is_byte b) _ e))
 
 filter-bytes : (p : Bool) (bs : List ℕ) → list_all is_byte bs ≡ true → list_all is_byte (cond p (codes "#ZgotmplZ") bs) ≡ true
 filter-bytes true bs e = refl
@@ -259,21 +255,16 @@ written-stays UrlPrequery text e = norm-stays text e
 written-stays UrlQuery text e = query-stays text e
 written-stays UrlBad text e = refl
 
-all-bare : (bs : List ℕ) → list_any is_misplaced bs ≡ false → list_any is_not_bare bs ≡ false
-all-bare [] e = refl
-all-bare (b ∷ bs) e = both (is_not_bare b) _ (left (is_not_bare b) _ (left (is_misplaced b) _ e)) (all-bare bs (right (is_misplaced b) _ e))
-
-may-stand : (bs : List ℕ) (f : UrlForm) → list_any is_misplaced bs ≡ false → MayBePlainForm bs f
-may-stand bs Fresh e = all-bare bs e
-may-stand bs Bare e = all-bare bs e
-may-stand bs (Quoted q i) e = tt
-may-stand bs Ended e = tt
+may-stand : (bs : List ℕ) → list_any is_misplaced bs ≡ false → MayStandInUrl bs
+may-stand [] e = refl
+may-stand (b ∷ bs) e =
+    both (is_excluded_from_url b) _ (left (is_excluded_from_url b) _ (left (is_misplaced b) _ e)) (may-stand bs (right (is_misplaced b) _ e))
 
 pub url-stays : {U E : Type 0} (x : UrlReading U E) (p : UrlPart) (text : List ℕ) → list_all is_byte text ≡ true → StaysInUrl x (written_in p text)
 url-stays x p text e =
     let n = written-stays p text e in
     record {
-      allowed = λ f. may-stand (written_in p text) f n;
+      allowed = may-stand (written_in p text) n;
       leads = λ f u o. (stays-read x (written_in p text) f u [] o n refl).0;
       tells = λ f u o. (stays-read x (written_in p text) f u [] o n refl).1;
     }

@@ -36,7 +36,7 @@ other-later false true r = refl
 other-later false false true = refl
 other-later false false false = refl
 
-solidus-byte : (b : ℕ) → style_class b ≡ class.Solidus → b ≡ 47
+pub solidus-byte : (b : ℕ) → style_class b ≡ class.Solidus → b ≡ 47
 unfolding style_class
 solidus-byte b e =
     let e1 = past _ class.Blank _ refl e in

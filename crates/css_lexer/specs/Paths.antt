@@ -61,7 +61,7 @@ abbrev pub style_after_hole : {U E : Type 0} → UrlReading U E → Style U → 
 style_after_hole x (Out s) = Out (out_after_hole s)
 style_after_hole x (InUrl f u) = InUrl (form_after_hole f) (x.after_hole u)
 
--- Whether a hole there has a mark: in a comment it has none, since no part of a page stands for it.
+-- Whether a hole there has a mark: in a comment it has none, since nothing of a comment is told.
 abbrev pub out_has_mark : Outside → Bool
 out_has_mark (Comment star) = false
 out_has_mark StarAtCut = false

@@ -1,10 +1,11 @@
--- When the bytes of a value are plain in a style: they lie in one string, one URL, one comment, or in words and plain text; and no
--- escape, no url token and no comment lies partly in them.
+-- When the bytes of a value are plain in a style: they lie in one string, in one URL, or in words and plain text, and none is one that may
+-- not stand there; in a comment there are none, or those of the failsafe; and no escape, no url token and no comment lies partly in them.
 use Rattle.std.specs.Prelude.{◌≡◌, ◌⊎◌, ℕ, ◌==◌, ◌||◌, nat_le, Bool, true, false, IsTrue, List, [], ◌∷◌, ⊤}
 use Rattle.std.specs.List.{list_any}
 use Rattle.css_lexer.specs.Escapes.{NoEscape}
 use Rattle.css_lexer.specs.Events.{StyleEvent, RunByte, RunBlank, StringByte, InsideUrl}
 use Rattle.css_lexer.specs.Paths.{style_settled, style_emits_settled}
+use Rattle.css_lexer.specs.Sanitizers.{style_failsafe}
 use Rattle.css_lexer.specs.States.{Outside, Between, AfterLessThan, Word, Comment, InString, UrlForm, Fresh, Bare, Quoted, Style, Out, InUrl}
 use Rattle.css_lexer.specs.Steps.{style_reading, read_style}
 use Rattle.css_lexer.specs.UrlReading.{UrlReading}
@@ -18,7 +19,7 @@ InRun AfterLessThan = ⊤
 InRun (Word w NoEscape) = ⊤
 InRun s = ⊥
 
--- The states of a page between which plain bytes may lead. In a comment a value may not end in a `*`, if the comment did not before it.
+-- The states of a page between which plain bytes may lead. A comment is behind a `*` only where it was before, and there are no bytes.
 abbrev pub LeadsPlainOutside : Outside → Outside → Type 0
 LeadsPlainOutside (InString q NoEscape) s = s ≡ InString q NoEscape
 LeadsPlainOutside (Comment star) s = (s ≡ Comment false) ⊎ (s ≡ Comment star)
@@ -64,30 +65,34 @@ tells_plain (Out (Comment star)) t = only_nothing t
 tells_plain (Out s) t = only_run t
 tells_plain (InUrl f u) t = only_url t
 
+-- In a string no byte is a line end: behind a backslash it stands for nothing, and so does the backslash (4.3.5).
+abbrev pub is_line_end : ℕ → Bool
+is_line_end b = b == 10 || (b == 12 || b == 13)
+
 -- In code no byte is a `*`: a comment tells a blank, as white space does, and after a hole without bytes the page does not know any more
 -- whether a `/` stands before it.
 abbrev pub is_asterisk : ℕ → Bool
 is_asterisk b = b == 42
 
+-- A comment tells nothing, so that its bytes are named: a value there is dropped, and in an attribute without quotes it is the failsafe.
 abbrev pub MayBePlainOutside : List ℕ → Outside → Type 0
-MayBePlainOutside bytes (InString q e) = ⊤
-MayBePlainOutside bytes (Comment star) = ⊤
+MayBePlainOutside bytes (InString q e) = list_any is_line_end bytes ≡ false
+MayBePlainOutside bytes (Comment star) = (bytes ≡ []) ⊎ (bytes ≡ style_failsafe)
 MayBePlainOutside bytes s = list_any is_asterisk bytes ≡ false
 
--- In a URL without quotes none is what may not stand in one: white space, which ends it or stands before it, a control byte, which makes it
--- a bad url, or a backslash, which begins an escape (4.3.6). So a URL has begun behind any bytes.
-abbrev pub is_not_bare : ℕ → Bool
-is_not_bare b = nat_le b 32 || (b == 92 || b == 127)
+-- In a URL no byte is white space, a control byte or a backslash, whether or not it has quotes. Without quotes white space ends it or stands
+-- before it, and a control byte makes it a bad url (4.3.6), so that a URL has begun behind any bytes. In quotes a line end does so. In both
+-- a backslash begins an escape, and CSS reads another URL than its language does: `javascript:` in `\6a avascript\3a`.
+abbrev pub is_excluded_from_url : ℕ → Bool
+is_excluded_from_url b = nat_le b 32 || (b == 92 || b == 127)
 
-abbrev pub MayBePlainForm : List ℕ → UrlForm → Type 0
-MayBePlainForm bytes Fresh = list_any is_not_bare bytes ≡ false
-MayBePlainForm bytes Bare = list_any is_not_bare bytes ≡ false
-MayBePlainForm bytes f = ⊤
+abbrev pub MayStandInUrl : List ℕ → Type 0
+MayStandInUrl bytes = list_any is_excluded_from_url bytes ≡ false
 
 -- In a URL its language may ask more of the bytes.
 abbrev pub MayBePlain : {U E : Type 0} → UrlReading U E → List ℕ → Style U → Type 0
 MayBePlain x bytes (Out s) = MayBePlainOutside bytes s
-MayBePlain x bytes (InUrl f u) = MayBePlainForm bytes f × x.MayBePlain u bytes
+MayBePlain x bytes (InUrl f u) = MayStandInUrl bytes × x.MayBePlain u bytes
 
 -- No token of what stands before lies partly in the bytes: they are read alike before and after a `/` is told. No bytes are read alike
 -- anyway: the `/` stays one, since no bytes of another hole begin with a `*` (`MayBePlain`), and text that does is refused.

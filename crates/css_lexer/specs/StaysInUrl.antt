@@ -2,7 +2,7 @@
 use Rattle.std.specs.Prelude.{◌≡◌, ℕ, nat_lt, Bool, true, IsTrue, List, [], ◌∷◌, ⊤}
 use Rattle.std.specs.List.{list_all}
 use Rattle.css_lexer.specs.Escapes.{NoEscape}
-use Rattle.css_lexer.specs.Plain.{MayBePlainForm, only_url}
+use Rattle.css_lexer.specs.Plain.{MayStandInUrl, only_url}
 use Rattle.css_lexer.specs.States.{UrlForm, Fresh, Bare, Quoted, InUrl}
 use Rattle.css_lexer.specs.Steps.{style_reading, read_style}
 use Rattle.css_lexer.specs.UrlReading.{UrlReading}
@@ -32,7 +32,7 @@ fed x u (b ∷ bs) = fed x (x.feed u b) bs
 
 -- These bytes stay in the URL and are all read by its language, with quotes and without: what is plain for that is plain in the style.
 pub record StaysInUrl {U E : Type 0} (x : UrlReading U E) (bytes : List ℕ) : Type 0 where
-  pub allowed : (f : UrlForm) → MayBePlainForm bytes f
+  pub allowed : MayStandInUrl bytes
   pub leads : (f : UrlForm) (u : U) → UrlTakesHole f → (read_style x bytes (style_reading (InUrl f u) [])).at ≡ InUrl (form_behind f bytes) (fed x u bytes)
   pub tells : (f : UrlForm) (u : U) → UrlTakesHole f → IsTrue (only_url (read_style x bytes (style_reading (InUrl f u) [])).told)
 

@@ -1,7 +1,7 @@
 -- What escapes stand for in a value of data (CSS Syntax Level 3, section 4.3.7): a backslash and one to six hexadecimal
 -- digits, with one white space behind them if there is one, is a character; a backslash and any other byte is that byte. Texts are bytes of
 -- UTF-8, so the other bytes of a character follow by themselves. So a value is undone before it is written in code. A string of CSS is not
--- always read so: in it a backslash and a line end stand for nothing (4.3.5). What `css_string` writes has no line end.
+-- always read so: in it a backslash and a line end stand for nothing (4.3.5). What is plain in a string has no line end.
 use Rattle.std.specs.Prelude.{ℕ, zero, suc, ◌+◌, ◌-◌, ◌*◌, ◌==◌, ◌&&◌, ◌||◌, nat_lt, nat_le, Bool, false, List, [], ◌∷◌, ◌++◌, encode_utf8, if◌then◌else◌}
 use Rattle.std.specs.Char.{is_ascii_hexdigit, is_ascii_whitespace}
 use Rattle.url_lexer.specs.Back.{hexadecimal_value}

@@ -5,13 +5,15 @@ use Rattle.place_core.specs.page.Classes.{class_of}
 use Rattle.place_core.specs.page.References.{Form, Begun, Named, Hashed, Decimal, HexMark, Hexadecimal, Reference, Closed, Open, ReferenceStep, Grows, Closes, Breaks, next_reference}
 use Rattle.place_core.specs.page.Comments.{Declaration, OpensComment, OpensDoctype, Undecided, OpensNothing}
 use Rattle.place_core.specs.place.Errors.{PathCause}
-use Rattle.place_core.specs.page.States.{CommentState, Started, StartedDash, Dash, DashDash, Bang, PendingLess, PendingName, PendingBang, PendingBangDash}
+use Rattle.place_core.specs.page.States.{CommentState, Started, StartedDash, Dash, DashDash, Bang, Nothing, PendingLess, PendingName, PendingBang, PendingBangDash}
 use Rattle.place_core.specs.page.Tags.{Value, ValueState, Quoting, DoubleQuoted, SingleQuoted, Unquoted}
 use Rattle.place_core.specs.declared.element.Element.TheVariants as element
 use Rattle.place_core.specs.declared.place.Place.{Place}
 use Rattle.url_lexer.specs.Triples.{Triple, NoTriple, AfterPercent, AfterDigit}
-use Rattle.html_scan.specs.Scans.{Scan, At, AfterLess, AfterLessSolidus, InDeclaration, InTagName, InAttributeName, InCommentEnd, InContentEnd, InUrl, InStyle, BeforeType, InType, type_begun, type_read}
+use Rattle.html_scan.specs.Scans.{Scan, At, AfterLess, AfterLessSolidus, InDeclaration, InTagName, InAttributeName, InCommentEnd, InContentEnd, InStyleElement, InUrl, InStyle, BeforeType, InType, type_begun, type_read}
 use Rattle.html_scan.specs.Slices.{pending}
+use Rattle.css_lexer.specs.Escapes.{StyleEscape, AfterBackslash}
+use Rattle.css_step.specs.StyleScans.{StyleScan, ScanWord, ScanSplitEscape, ScanString, ScanQuotedUrl}
 use Rattle.css_step.specs.StyleScanViews.{style_scan_at}
 use Rattle.html_scan.specs.declared.declaration.Declaration.{Declaration as ReadDeclaration}
 use Rattle.html_scan.specs.declared.declaration.Declaration.TheVariants as declaration
@@ -87,6 +89,9 @@ scan_at text k (scan.InUrl v t r) = InUrl v (triple_at t) (open_reference_at tex
 scan_at text k (scan.InStyle v s r) = InStyle v (style_scan_at s) (open_reference_at text k r)
 scan_at text k (scan.AfterContentLess e) = InContentEnd e PendingLess
 scan_at text k (scan.InContentName e from) = InContentEnd e (PendingName (pending text (from + 2) k))
+scan_at text k (scan.InStyleElement s) = InStyleElement (style_scan_at s) Nothing
+scan_at text k (scan.AfterStyleLess s) = InStyleElement (style_scan_at s) PendingLess
+scan_at text k (scan.InStyleName s from) = InStyleElement (style_scan_at s) (PendingName (pending text (from + 2) k))
 scan_at text k scan.AfterBlockBang = InContentEnd element.DataBlock PendingBang
 scan_at text k scan.AfterBlockBangDash = InContentEnd element.DataBlock PendingBangDash
 scan_at text k (scan.BeforeType t) = BeforeType t
@@ -96,6 +101,18 @@ scan_at text k (scan.InType t q from) = (let read = read_type type_begun Closed 
 abbrev pub reference_from : Option OpenReference → ℕ
 reference_from None = 0
 reference_from (Some r) = r.from + 1
+
+-- in a style, an escape whose backslash is the last byte
+abbrev pub begun_escape : StyleEscape → ℕ
+begun_escape AfterBackslash = 1
+begun_escape e = 0
+
+abbrev pub begun_lexeme : StyleScan → ℕ
+begun_lexeme (ScanWord w e) = begun_escape e
+begun_lexeme (ScanSplitEscape e) = begun_escape e
+begun_lexeme (ScanString q e) = begun_escape e
+begun_lexeme (ScanQuotedUrl q e s t) = begun_escape e
+begun_lexeme s = 0
 
 abbrev pub pending_from : ReadScan → ℕ
 pending_from (scan.At p) = 0
@@ -109,6 +126,9 @@ pending_from (scan.InUrl v t r) = reference_from r
 pending_from (scan.InStyle v s r) = reference_from r
 pending_from (scan.AfterContentLess e) = 1
 pending_from (scan.InContentName e from) = from + 2
+pending_from (scan.InStyleElement s) = begun_lexeme (style_scan_at s)
+pending_from (scan.AfterStyleLess s) = begun_lexeme (style_scan_at s) + 1
+pending_from (scan.InStyleName s from) = from + 2
 pending_from scan.AfterBlockBang = 2
 pending_from scan.AfterBlockBangDash = 3
 pending_from (scan.BeforeType t) = 0

@@ -1,21 +1,23 @@
 -- How a text is stepped, byte by byte, for all the paths that stand at a place together. Between lexemes they are at a place, which has sets; in
--- a lexeme they are all in the same one. In a lexeme or a reference of a URL or a style what is a set all the same is kept: the parts of a URL, and
--- what paths of a style ended in before the text. What is left out of the states of the lexer is what no place depends on: references in text and in
--- values that are text.
-use Rattle.std.specs.Prelude.{ℕ, Bool, true, false, ◌||◌, List, [], ◌∷◌, ◌++◌, length, Option, Some, None, option_map, if◌then◌else◌}
+-- a lexeme they are all in the same one. In a lexeme or a reference of a URL or a style, and in what may be the end tag of the element `style`, what is
+-- a set all the same is kept: the parts of a URL, and what paths of a style ended in before the text. What is left out of the states of the lexer is
+-- what no place depends on: references in text and in values that are text.
+use Rattle.std.specs.Prelude.{ℕ, Bool, true, false, ◌||◌, codes, List, [], ◌∷◌, ◌++◌, length, Option, Some, None, option_map, if◌then◌else◌}
 use Rattle.std.specs.Char.{to_ascii_lowercase}
 use Rattle.place_core.specs.page.Classes.{Class, White, ExclamationMark, QuotationMark, Apostrophe, HyphenMinus, Solidus, LessThan, EqualsSign, GreaterThan, Letter, class_of, is_equals_sign}
 use Rattle.place_core.specs.page.Comments.{Declaration, OpensComment, OpensDoctype, Undecided, OpensNothing, declared_by, next_comment, closes_comment}
-use Rattle.place_core.specs.page.Contents.{may_be_name_of, is_name_of}
+use Rattle.place_core.specs.page.Contents.{may_be_name_of, is_name_of, pending_bytes}
 use Rattle.css_lexer.specs.Classes.{style_class}
-use Rattle.css_step.specs.StyleScans.{StyleScan, style_scan_start, style_scan_next, style_scan_error, style_scan_place, style_scan_cut_error, is_style_start}
-use Rattle.place_core.specs.place.Errors.{PathCause, place_error, value_error, fed_error, language_error, first_byte_error, first_cause, at_hand, quotes_error, block_byte_error, block_cut_error, tag_name_error, attribute_name_error, unless_second}
+use Rattle.css_lexer.specs.Elements.{less_than_cut_escape, less_than_cut_string}
+use Rattle.css_lexer.specs.RefusalCodes.{SplitToken, StyleCutRefusal, at_end}
+use Rattle.css_step.specs.StyleScans.{StyleScan, ScanCode, ScanWord, ScanSplitEscape, ScanSolidus, ScanLessThan, ScanComment, ScanStarBefore, ScanString, ScanFresh, ScanBareUrl, ScanQuotedUrl, ScanEnded, style_scan_start, style_scan_next, style_scan_error, style_scan_place, style_scan_cut_error, is_style_start}
+use Rattle.place_core.specs.place.Errors.{PathCause, place_error, value_error, fed_error, language_error, first_byte_error, first_cause, at_hand, quotes_error, block_byte_error, block_cut_error, content_byte_error, content_end_cut_error, cut_cause, pending_before, tag_name_error, attribute_name_error, unless_second}
 use Rattle.place_core.specs.page.Html.{ends_value}
 use Rattle.place_core.specs.page.References.{Form, Reference, Closed, Open, ReferenceStep, Breaks, turn, flushed, next_reference, undone_byte, settled, as_it_stands}
 use Rattle.place_core.specs.place.StyleParts.{style_tails}
 use Rattle.place_core.specs.place.StatePlaces.{only_name, only_before, only_inside, only_after, unbegun, body_at, quotes_at}
-use Rattle.place_core.specs.page.States.{CommentState, Started, Inside, Broken, Pending, PendingLess, PendingName, PendingBang, PendingBangDash}
-use Rattle.place_core.specs.page.Tags.{is_second_type, is_start, tag_of_name, element_on, Value, ValueState, languages, value_start, attribute_value_of, with_bytes, Feeding, feed_bytes, refusal_code, style_code, tag_with_value, Quoting, DoubleQuoted, SingleQuoted, Unquoted}
+use Rattle.place_core.specs.page.States.{CommentState, Started, Inside, Broken, Pending, Nothing, PendingLess, LessAtCut, PendingName, PendingBang, PendingBangDash}
+use Rattle.place_core.specs.page.Tags.{is_second_type, is_start, tag_of_name, element_on, Value, ValueState, languages, value_start, attribute_value_of, with_bytes, Feeding, feed_bytes, refusal_code, style_code, style_cut, tag_with_value, Quoting, DoubleQuoted, SingleQuoted, Unquoted}
 use Rattle.place_core.specs.page.Words.{kind_of}
 use Rattle.place_core.specs.declared.body.Body.{Body}
 use Rattle.place_core.specs.declared.body.Body.TheVariants as body
@@ -59,6 +61,8 @@ pub data Scan : Type 0 where
   InStyle : ValuePlace → StyleScan → Reference → Scan
   -- in a title, a textarea or a data block, in what may be its end tag, or in the latter a `<!--`
   InContentEnd : Element → Pending → Scan
+  -- in the element `style`, in a lexeme of the style or in what may be its end tag: the scan state of the style before that
+  InStyleElement : StyleScan → Pending → Scan
   -- before the value of the `type` of a script, of this tag; and in it, with what it is so far, and the reference that is open in it
   BeforeType : TagOf → Scan
   InType : TagOf → Quoting → Value ValueState → Reference → Scan
@@ -70,12 +74,12 @@ typed_with t typed k = typed
 abbrev pub in_tag : TagOf → Bool → Spots → Option Kind → Scan
 in_tag t typed spots k = At (place.Tag (record { tag = t; typed = typed; spots = spots; kind = k }))
 
--- after the end of a tag; behind that of a script or a style, which is refused, nothing is scanned
+-- after the end of a tag; behind that of a script, which is refused, nothing is scanned
 abbrev pub content_scan : TagOf → Scan
 content_scan tag.End = At place.Text
 content_scan (tag.Start element.Title) = At (place.Rcdata element.Title)
 content_scan (tag.Start element.Textarea) = At (place.Rcdata element.Textarea)
-content_scan (tag.Start element.Style) = At place.Text
+content_scan (tag.Start element.Style) = At (place.Style (css.Code (style_tails false false false)))
 content_scan (tag.Start element.Script) = At place.Text
 content_scan (tag.Start element.DataBlock) = At (place.Block false)
 content_scan (tag.Start element.Other) = At place.Text
@@ -284,6 +288,38 @@ abbrev pub type_next : Bool → Class → ℕ → TagOf → Quoting → Value Va
 type_next true c b t q v r = after_type q c (type_tag t (ended_type v r))
 type_next false c b t q v r = in_type t q v r b
 
+-- In the element `style`, where nothing is pending back: at the place, where a text that begins there is stepped as from here; and a byte.
+abbrev pub element_scan : StyleScan → Scan
+element_scan s = if is_style_start s then At (place.Style (style_scan_place s)) else InStyleElement s Nothing
+
+abbrev pub element_next : StyleScan → Class → ℕ → Scan
+element_next s LessThan b = InStyleElement s PendingLess
+element_next s c b = element_scan (style_scan_next s (style_class b) b)
+
+-- after `<`, and after `</` and letters: bytes that come to nothing are fed to the style first
+abbrev pub released_next : StyleScan → List ℕ → Class → ℕ → Scan
+released_next s bytes c b = element_next (feed_bytes style_feeding s bytes) c b
+
+abbrev pub element_less_next : StyleScan → Class → ℕ → Scan
+element_less_next s Solidus b = InStyleElement s (PendingName [])
+element_less_next s c b = released_next s (codes "<") c b
+
+abbrev pub element_name_next : StyleScan → (grows whole : Bool) → Class → ℕ → List ℕ → Scan
+element_name_next s true whole (Letter l) b letters = InStyleElement s (PendingName (letters ++ b ∷ []))
+element_name_next s grows true White b letters = in_tag tag.End false only_before None
+element_name_next s grows true Solidus b letters = in_tag tag.End false only_before None
+element_name_next s grows true GreaterThan b letters = At place.Text
+element_name_next s grows whole c b letters = released_next s (codes "</" ++ letters) c b
+
+abbrev pub element_pending_next : StyleScan → Pending → Class → ℕ → Scan
+element_pending_next s Nothing c b = element_next s c b
+element_pending_next s PendingLess c b = element_less_next s c b
+element_pending_next s LessAtCut c b = released_next s (codes "<") c b
+element_pending_next s (PendingName letters) c b =
+    element_name_next s (may_be_name_of element.Style (letters ++ b ∷ [])) (is_name_of element.Style letters) c b letters
+element_pending_next s PendingBang c b = released_next s (codes "<!") c b
+element_pending_next s PendingBangDash c b = released_next s (codes "<!-") c b
+
 abbrev pub place_next : Place → Class → ℕ → Scan
 place_next place.Text c b = text_scan c
 place_next place.Doctype c b = doctype_next c
@@ -292,6 +328,7 @@ place_next (place.Rcdata e) c b = content_next c e
 place_next (place.Tag t) c b = tag_next t c b
 place_next (place.Value v) c b = value_next v NoTriple Closed c b
 place_next (place.Block lt) c b = content_next c element.DataBlock
+place_next (place.Style p) c b = element_next (style_scan_start p) c b
 place_next p c b = At p
 
 -- in a lexeme
@@ -352,6 +389,7 @@ scan_next (InTagName ends name) c b = tag_name_next c b ends name
 scan_next (InAttributeName t typed name) c b = attribute_name_next c b t typed (kind_of (element_on t) name) name
 scan_next (InCommentEnd s) c b = comment_next c s
 scan_next (InContentEnd e h) c b = content_end_next h c b e
+scan_next (InStyleElement s h) c b = element_pending_next s h c b
 scan_next (InUrl v t r) c b = value_next v t r c b
 scan_next (InStyle v s r) c b = style_value_next v s r c b
 scan_next (BeforeType t) c b = before_type_next c b t
@@ -361,8 +399,12 @@ abbrev pub content_end_error : Element → Pending → Class → Option PathCaus
 content_end_error element.DataBlock h c = block_byte_error h c
 content_end_error e h c = None
 
+abbrev pub element_cause : StyleScan → Pending → Class → ℕ → Option PathCause
+element_cause s h c b = content_byte_error style_feeding element.Style s h c b
+
 abbrev pub place_cause : Place → Class → ℕ → Option PathCause
 place_cause (place.Value v) c b = value_cause v Closed c b
+place_cause (place.Style p) c b = element_cause (style_scan_start p) Nothing c b
 place_cause p c b = at_hand (place_error p c)
 
 abbrev pub scan_error : Scan → Class → ℕ → Option PathCause
@@ -376,6 +418,7 @@ scan_error AfterLessSolidus c b = None
 scan_error (InDeclaration pending) c b = None
 scan_error (InCommentEnd s) c b = None
 scan_error (InContentEnd e h) c b = content_end_error e h c
+scan_error (InStyleElement s h) c b = element_cause s h c b
 scan_error (BeforeType t) c b = at_hand (quotes_error t unbegun c)
 scan_error (InType t q v r) c b = at_hand (quotes_error (type_tag t (ended_type v r)) (quotes_at q) c)
 
@@ -403,6 +446,7 @@ scan_place (InTagName ends name) = place.Tag (record { tag = tag_of_name ends na
 scan_place (InAttributeName t typed name) = whole_name_place t typed (kind_of (element_on t) name)
 scan_place (InCommentEnd s) = place.Comment true
 scan_place (InContentEnd e h) = content_end_place e h
+scan_place (InStyleElement s h) = place.Style (style_scan_place (feed_bytes style_feeding s (pending_bytes h)))
 scan_place (BeforeType t) = place.Text
 scan_place (InType t q v r) = place.Text
 
@@ -424,9 +468,15 @@ abbrev pub style_scan_before : StyleScan → Reference → List ℕ → StyleSca
 style_scan_before s (Open f bytes) (b ∷ bs) = style_before (turn (class_of b) f) s (class_of b) f bytes
 style_scan_before s r bs = feed_bytes style_feeding s (as_it_stands r)
 
+-- what is pending back in the element `style`, before the bytes that are left
+abbrev pub pending_left : Pending → List ℕ → Pending
+pending_left h [] = h
+pending_left h (b ∷ bs) = pending_before element.Style h (class_of b) b
+
 abbrev pub scan_shown : Scan → List ℕ → Option Place
 scan_shown (InUrl v t r) bs = Some (url_before v r bs)
 scan_shown (InStyle v s r) bs = Some (with_style v (style_scan_before s r bs))
+scan_shown (InStyleElement s h) bs = Some (scan_place (InStyleElement s (pending_left h bs)))
 scan_shown (BeforeType t) bs = None
 scan_shown (InType t q v r) bs = None
 scan_shown f bs = Some (scan_place f)
@@ -443,6 +493,25 @@ abbrev pub open_cut_error : Body → List ℕ → Option PathCause
 open_cut_error (body.Url s) bytes = written_error parts_feeding s bytes
 open_cut_error x bytes = None
 
+-- Where the element's text ends in a `<`: in a string, a URL and behind a backslash it may not be cut from what follows. The scan state is the one
+-- before the `<`.
+abbrev pub style_less_cut : StyleScan → Option StyleCutRefusal
+style_less_cut (ScanCode x) = None
+style_less_cut (ScanWord w e) = less_than_cut_escape e
+style_less_cut (ScanSplitEscape e) = less_than_cut_escape e
+style_less_cut ScanSolidus = None
+style_less_cut ScanLessThan = None
+style_less_cut (ScanComment star) = None
+style_less_cut ScanStarBefore = None
+style_less_cut (ScanString q e) = less_than_cut_string e
+style_less_cut ScanFresh = at_end SplitToken 1
+style_less_cut (ScanBareUrl s t) = at_end SplitToken 1
+style_less_cut (ScanQuotedUrl q e s t) = less_than_cut_string e
+style_less_cut ScanEnded = None
+
+abbrev pub style_less_cause : StyleScan → Option PathCause
+style_less_cause s = option_map cut_cause (option_map style_cut (style_less_cut s))
+
 abbrev pub scan_cut_error : Scan → Option PathCause
 scan_cut_error (InAttributeName t typed name) = unless_second (is_second_type typed (kind_of (element_on t) name)) (length name) None
 scan_cut_error (At p) = None
@@ -454,6 +523,7 @@ scan_cut_error (InDeclaration pending) = None
 scan_cut_error (InTagName ends name) = None
 scan_cut_error (InCommentEnd s) = None
 scan_cut_error (InContentEnd e h) = content_cut_error e h
+scan_cut_error (InStyleElement s h) = content_end_cut_error style_feeding style_less_cause s h
 scan_cut_error (BeforeType t) = at_hand (Some code.BadHTML)
 scan_cut_error (InType t q v r) = at_hand (Some code.BadHTML)
 
@@ -466,6 +536,7 @@ if_unfinished AfterDigit = Some code.PartialEscape
 abbrev pub scan_lexeme_error : Scan → Option Code
 scan_lexeme_error (InUrl v t r) = if_unfinished (triple_behind t (as_it_stands r))
 scan_lexeme_error (InStyle v s r) = option_map (λ e. style_code e.code) (style_scan_cut_error (feed_bytes style_feeding s (as_it_stands r)))
+scan_lexeme_error (InStyleElement s h) = option_map (λ e. style_code e.code) (style_scan_cut_error (feed_bytes style_feeding s (pending_bytes h)))
 scan_lexeme_error f = None
 
 -- the reference that is open in a URL or a style

@@ -1,18 +1,23 @@
 ghost use Rattle.std.specs.Prelude.{◌≡◌, ◌+◌, ◌≤◌, ℕ, List, true, drop, is_some, length};
 ghost use Rattle.place_core.specs.page.References as references;
+ghost use Rattle.place_core.specs.page.States.{PendingLess, PendingName};
+ghost use Rattle.place_core.specs.place.Errors.{pending_before};
+ghost use Rattle.place_core.specs.declared.element.Element.TheVariants as element;
 ghost use Rattle.css_step.specs.StyleScanViews.{style_scan_at};
 ghost use Rattle.html_scan.specs.ClassViews.{class_at};
 ghost use Rattle.html_scan.specs.ScanViews.{open_form_at, open_reference_at, reference_from, scan_at, pending_from};
-ghost use Rattle.html_scan.specs.Scans.{parts_before, parts_with, scan_place, scan_shown};
+ghost use Rattle.html_scan.specs.Scans.{InStyleElement, parts_before, parts_with, pending_left, scan_place, scan_shown};
 ghost use Rattle.html_scan.specs.Scans.{style_scan_before, with_body};
 ghost use Rattle.html_scan.specs.Scans as spec;
+ghost use Rattle.html_scan.specs.Slices as slices;
 
 use crate::class::{Class, class_of};
 use crate::contents::rest_place;
-use crate::names::{kind_on, tag_named};
+use crate::names::{is_name_of, kind_on, may_be_name_of, tag_named};
 use crate::references::{OpenReference, Outcome, ReferenceForm, is_equals, turn};
 use crate::scan::Scan;
 use crate::slices::pending;
+use crate::style_elements::{behind_less, behind_name, end_tag_goes_on, style_place};
 use crate::styles::{broken, style_at_cut, with_style};
 use crate::tags::{whole_attribute_name, whole_tag_name};
 use crate::urls::{broken_parts, parts_at_cut};
@@ -50,6 +55,11 @@ pub fn end_place(text: &[u8], scan: Scan) -> Place
         Scan::AfterContentLess(element) => rest_place(element),
         Scan::InContentName { element, .. } => rest_place(element),
         Scan::AfterBlockBang | Scan::AfterBlockBangDash => Place::Block(false),
+        Scan::InStyleElement(style) => style_place(style),
+        Scan::AfterStyleLess(style) => style_place(behind_less(style)),
+        Scan::InStyleName { style, from } => {
+            style_place(behind_name(style, pending(text, from + 2, text.len())))
+        }
         Scan::BeforeType(_) | Scan::InType { .. } => Place::Text,
     }
 }
@@ -95,11 +105,56 @@ pub fn shown_place(text: &[u8], index: usize, scan: Scan) -> Option<Place>
             style,
             reference,
         } => Some(with_style(place, style_before(text, index, style, reference))),
+        Scan::AfterStyleLess(style) => Some(less_before(text, index, style)),
+        Scan::InStyleName { style, from } => Some(name_before(text, index, style, from)),
         _ => {
             let (read, _) = text.split_at(index);
             Some(end_place(read, scan))
         }
     }
+}
+
+// In the element `style` behind a `<`, before the bytes that are left: behind it where they do not go on with an end tag, and else
+// before it.
+fn less_before(text: &[u8], index: usize, style: StyleScan) -> Place
+    requires inside { index ≤ length text.now }
+    ensures { result ≡ scan_place (InStyleElement (style_scan_at style)
+        (pending_left PendingLess (drop index text.now))) }
+{
+    let (_, left) = text.split_at(index);
+    match left.split_first() {
+        None => style_place(behind_less(style)),
+        Some((byte, _)) => before_byte(style, class_of(*byte)),
+    }
+}
+
+fn before_byte(style: StyleScan, class: Class) -> Place
+    ensures { (b : ℕ) → result ≡ scan_place (InStyleElement (style_scan_at style)
+        (pending_before element.Style PendingLess (class_at class) b)) }
+{
+    match class {
+        Class::Solidus => style_place(style),
+        _ => style_place(behind_less(style)),
+    }
+}
+
+// The same behind `</` and letters.
+fn name_before(text: &[u8], index: usize, style: StyleScan, from: usize) -> Place
+    requires inside { index ≤ length text.now }
+    requires pending { from + 2 ≤ index }
+    ensures { result ≡ scan_place (InStyleElement (style_scan_at style)
+        (pending_left (PendingName (slices.pending text.now (from + 2) index))
+        (drop index text.now))) }
+{
+    let letters = pending(text, from + 2, index);
+    if index < text.len() {
+        let grows = may_be_name_of(Element::Style, pending(text, from + 2, index + 1));
+        let whole = is_name_of(Element::Style, letters);
+        if end_tag_goes_on(class_of(text[index]), grows, whole) {
+            return style_place(style);
+        }
+    }
+    style_place(behind_name(style, letters))
 }
 
 // In a URL, before the bytes that are left: behind a reference that the next of them breaks, and else before it.

@@ -16,6 +16,7 @@ use crate::cause::Cause;
 use crate::class::Class;
 use crate::names::{kind_on, tag_named};
 use crate::references::OpenReference;
+use crate::style_elements;
 use crate::style_refusals::refused_in_style;
 use crate::url_refusals::refused_in_url;
 use css_step::StyleScan;
@@ -35,7 +36,12 @@ pub fn at_place(text: &[u8], index: usize, class: Class, place: Place) -> Option
         Place::Tag(tag) => at_hand(in_tag(tag, class)),
         Place::Value(value) => in_value(text, index, class, value, None),
         Place::Block(less) => at_hand(in_block(less, class)),
-        Place::Script(_) | Place::Style(_) => at_hand(Some(Code::NotBuilt)),
+        Place::Style(css) => at_hand(style_elements::refused(
+            css_step::start(css),
+            class,
+            text[index],
+        )),
+        Place::Script(_) => at_hand(Some(Code::NotBuilt)),
     }
 }
 
@@ -278,12 +284,12 @@ pub fn after_block_bang_dash(class: Class) -> Option<Cause>
     }
 }
 
-// The content after a tag, of which a script's and a style's are not read yet.
+// The content after a tag, of which a script's is not read yet.
 fn entering(tag: TagOf) -> Option<Code>
     ensures { result ≡ content_error tag }
 {
     match tag {
-        TagOf::Start(Element::Script | Element::Style) => Some(Code::NotBuilt),
+        TagOf::Start(Element::Script) => Some(Code::NotBuilt),
         _ => None,
     }
 }

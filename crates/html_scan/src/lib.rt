@@ -18,6 +18,7 @@ mod refusals;
 mod scan;
 mod slices;
 mod step;
+mod style_elements;
 mod style_refusals;
 mod styles;
 mod tags;
@@ -33,6 +34,7 @@ pub use class::{Class, Letter, class_of};
 pub use comment_stage::CommentStage;
 pub use ends::{end_place, is_shown, shown_place};
 pub use last_lexeme::last_lexeme_start;
+pub use names::{is_name_of, may_be_name_of};
 pub use quoting::Quoting;
 pub use references::{
     OpenReference, Outcome, ReferenceForm, broken_char, is_equals, meaning, turn,
@@ -41,6 +43,7 @@ pub use refusals::{at_byte, at_end, lexeme_at_end};
 pub use scan::Scan;
 pub use slices::pending;
 pub use step::next;
+pub use style_elements::{behind_less, behind_name, end_tag_goes_on};
 pub use style_refusals::refused_in_style;
 pub use styles::{broken as broken_style, style_at_cut};
 pub use tags::INSIDE;

@@ -1,9 +1,10 @@
-ghost use Rattle.std.specs.Prelude.{◌≡◌, ◌<◌, ◌≤◌, IfSome, Some, get_or, length};
+ghost use Rattle.std.specs.Prelude.{◌≡◌, ◌+◌, ◌<◌, ◌≤◌, IfSome, Some, get_or, length};
 ghost use Rattle.html_scan.specs.ClassViews.{class_at};
 ghost use Rattle.html_scan.specs.ScanViews.{cause_at, quoting_at, scan_at, pending_from};
 ghost use Rattle.place_core.specs.declared.code.Code.TheVariants as code;
 ghost use Rattle.place_core.specs.place.StatePlaces.{quotes_at};
 ghost use Rattle.html_scan.specs.Scans.{scan_cut_error, scan_error, scan_lexeme_error};
+ghost use Rattle.html_scan.specs.declared.scan.Scan.TheVariants as scan;
 
 use crate::cause::Cause;
 use crate::class::Class;
@@ -11,15 +12,17 @@ use crate::errors::{
     after_block_bang_dash, at_hand, at_place, in_attribute_name, in_lexeme, in_quotes, in_style,
     in_tag_name, name_ends,
 };
-use crate::names::kind_on;
+use crate::names::{is_name_of, kind_on, may_be_name_of};
 use crate::quoting::Quoting;
 use crate::scan::Scan;
 use crate::slices::pending;
+use crate::style_elements;
 use crate::style_refusals::{of_open_in_style, of_unfinished_style};
 use crate::tags::UNBEGUN;
 use crate::types::type_tag;
 use crate::url_refusals::{of_open, of_unfinished};
 use crate::values::BEGUN;
+use css_step::StyleScan;
 use place_core::{Code, Element, Quotes};
 
 /// Why a byte is refused after that many bytes of a text.
@@ -49,6 +52,11 @@ pub fn at_byte(text: &[u8], index: usize, class: Class, scan: Scan) -> Option<Ca
             style,
             reference,
         } => in_style(text, index, class, place, style, reference),
+        Scan::InStyleElement(style) => at_hand(style_elements::refused(style, class, text[index])),
+        Scan::AfterStyleLess(style) => {
+            style_elements::refused_after_less(style, class, text[index])
+        }
+        Scan::InStyleName { style, from } => in_style_name(text, index, class, style, from),
         Scan::AfterBlockBangDash => after_block_bang_dash(class),
         Scan::BeforeType(tag) => at_hand(in_quotes(tag, UNBEGUN, class)),
         Scan::InType {
@@ -88,6 +96,10 @@ pub fn at_end(text: &[u8], scan: Scan) -> Option<Cause>
             ..
         } => of_open_in_style(text, style, reference),
         Scan::BeforeType(_) | Scan::InType { .. } => at_hand(Some(Code::BadHTML)),
+        Scan::AfterStyleLess(style) => style_elements::refused_at_less(style),
+        Scan::InStyleName { style, from } => {
+            style_elements::refused_at_name(style, pending(text, from + 2, text.len()))
+        }
         Scan::InContentName {
             element: Element::DataBlock,
             from,
@@ -114,8 +126,37 @@ pub fn lexeme_at_end(text: &[u8], scan: Scan) -> Option<Code>
             reference,
             ..
         } => of_unfinished_style(text, style, reference),
+        Scan::InStyleElement(style) => style_elements::refused_lexeme(style),
+        Scan::AfterStyleLess(style) => {
+            style_elements::refused_lexeme(style_elements::behind_less(style))
+        }
+        Scan::InStyleName { style, from } => {
+            let letters = pending(text, from + 2, text.len());
+            style_elements::refused_lexeme(style_elements::behind_name(style, letters))
+        }
         _ => None,
     }
+}
+
+// In the element `style`, after `</` and letters.
+fn in_style_name(
+    text: &[u8],
+    index: usize,
+    class: Class,
+    style: StyleScan,
+    from: usize,
+) -> Option<Cause>
+    requires inside { index < length text.now }
+    requires pending { from + 2 ≤ index }
+    ensures error { cause_at result
+        ≡ scan_error (scan_at text.now index (scan.InStyleName style from)) (class_at class)
+        (get_or text.now index 0) }
+    ensures bound { IfSome result (λ cause. (cause.back ≤ index) × (cause.shown ≤ index)) }
+{
+    let letters = pending(text, from + 2, index);
+    let grows = may_be_name_of(Element::Style, pending(text, from + 2, index + 1));
+    let whole = is_name_of(Element::Style, letters);
+    style_elements::refused_in_name(style, class, text[index], grows, whole, letters)
 }
 
 // A text that ends in a data block in what its end tag, or a `<!--`, begins with: this many bytes.

@@ -52,6 +52,15 @@ pub enum Scan {
         element: Element,
         from: usize,
     },
+    /// In the element `style`, in a lexeme of the style; elsewhere in it the text is at a place.
+    InStyleElement(StyleScan),
+    /// In the element `style`, after `<`; the scan state of the style is the one before it.
+    AfterStyleLess(StyleScan),
+    /// In the element `style`, after `</` and letters; `from` is where the `<` stands, and the scan state is the one before it.
+    InStyleName {
+        style: StyleScan,
+        from: usize,
+    },
     /// In a data block, after `<!`.
     AfterBlockBang,
     /// In a data block, after `<!-`.

@@ -11,11 +11,13 @@ use crate::declaration::declared_by;
 use crate::names::{is_name_of, may_be_name_of};
 use crate::scan::Scan;
 use crate::slices::pending;
+use crate::style_elements;
 use crate::tags::{in_attribute_name, in_tag, in_tag_name};
 use crate::texts::{after_less, after_solidus, in_declaration, in_doctype, in_text};
 use crate::triple::Triple;
 use crate::types::{before_type, in_type};
 use crate::values::{in_lexeme, in_style, in_value};
+use css_step::StyleScan;
 use place_core::{Element, Place};
 
 /// The scan state after the byte at a place of a text, whether it is refused or not.
@@ -54,6 +56,11 @@ pub fn next(text: &[u8], index: usize, class: Class, scan: Scan) -> Scan
         } => in_style(text, index, class, place, style, reference),
         Scan::AfterContentLess(element) => after_content_less(class, element, index),
         Scan::InContentName { element, from } => after_letters(text, index, class, element, from),
+        Scan::InStyleElement(style) => style_elements::in_element(class, text[index], style),
+        Scan::AfterStyleLess(style) => {
+            style_elements::after_less(class, text[index], style, index)
+        }
+        Scan::InStyleName { style, from } => after_style_letters(text, index, class, style, from),
         Scan::AfterBlockBang => after_block_bang(class),
         Scan::AfterBlockBangDash => in_content(class, Element::DataBlock),
         Scan::BeforeType(tag) => before_type(class, tag, index),
@@ -94,6 +101,26 @@ fn after_letters(text: &[u8], index: usize, class: Class, element: Element, from
     in_content_name(class, grows, whole, element, from)
 }
 
+fn after_style_letters(
+    text: &[u8],
+    index: usize,
+    class: Class,
+    style: StyleScan,
+    from: usize,
+) -> Scan
+    requires inside { index < length text.now }
+    requires pending { from + 2 ≤ index }
+    ensures scan { scan_at text.now (index + 1) result
+        ≡ scan_next (scan_at text.now index (scan.InStyleName style from)) (class_at class)
+        (get_or text.now index 0) }
+    ensures pending { pending_from result ≤ index + 1 }
+{
+    let letters = pending(text, from + 2, index);
+    let grows = may_be_name_of(Element::Style, pending(text, from + 2, index + 1));
+    let whole = is_name_of(Element::Style, letters);
+    style_elements::in_name(class, text[index], grows, whole, style, from, letters)
+}
+
 #[inline(always)]
 fn after_place(text: &[u8], index: usize, class: Class, place: Place) -> Scan
     requires inside { index < length text.now }
@@ -109,6 +136,7 @@ fn after_place(text: &[u8], index: usize, class: Class, place: Place) -> Scan
         Place::Tag(tag) => in_tag(tag, class, index),
         Place::Value(value) => in_value(text, index, class, value, Triple::None, None),
         Place::Block(_) => in_content(class, Element::DataBlock),
-        Place::Script(_) | Place::Style(_) => Scan::At(place),
+        Place::Style(css) => style_elements::at_place(class, text[index], css),
+        Place::Script(_) => Scan::At(place),
     }
 }

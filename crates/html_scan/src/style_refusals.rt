@@ -181,8 +181,8 @@ fn of_written(style: StyleScan, read: &[u8]) -> Option<Cause>
     }
 }
 
-// Bytes, the first of which stands so far back: each at its own place, or all where the first one stands.
-fn of_bytes(style: StyleScan, bytes: &[u8], written: bool, back: usize) -> Option<Cause>
+/// Bytes, the first of which stands so far back: each at its own place, or all where the first one stands.
+pub fn of_bytes(style: StyleScan, bytes: &[u8], written: bool, back: usize) -> Option<Cause>
     ensures error { cause_at result
         ≡ fed_error style_feeding (style_scan_at style) bytes.now written back }
     ensures bound { IfSome result (λ cause. (cause.back ≤ back) × (cause.shown ≤ back)) }

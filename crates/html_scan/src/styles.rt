@@ -155,7 +155,8 @@ fn after_char(style: StyleScan, found: char) -> StyleScan
     after_bytes(style, found.encode_utf8(&mut buffer).as_bytes())
 }
 
-fn after_bytes(style: StyleScan, bytes: &[u8]) -> StyleScan
+/// Behind these bytes.
+pub fn after_bytes(style: StyleScan, bytes: &[u8]) -> StyleScan
     ensures { style_scan_at result
         ≡ feed_bytes style_feeding (style_scan_at style) bytes.now }
 {

@@ -90,7 +90,8 @@ pub fn content(tag: TagOf) -> Place
         TagOf::Start(Element::Title) => Place::Rcdata(Element::Title),
         TagOf::Start(Element::Textarea) => Place::Rcdata(Element::Textarea),
         TagOf::Start(Element::DataBlock) => Place::Block(false),
-        TagOf::Start(Element::Style | Element::Script | Element::Other) | TagOf::End => Place::Text,
+        TagOf::Start(Element::Style) => Place::Style(STYLE_START),
+        TagOf::Start(Element::Script | Element::Other) | TagOf::End => Place::Text,
     }
 }
 

@@ -1,38 +1,51 @@
 -- Whole texts: what is accepted is refused on no path, and on no two.
-use Rattle.std.proofs.Common.{◌≡◌, ℕ, ◌+◌, zero, suc, false, true, List, [], ◌∷◌, length, Option, Some, None, Result, Ok, is_some, refl, sym, ap, ◌∙◌, subst, ⊎_elim}
-use Rattle.place_core.specs.page.Classes.{Class, class_of}
+use Rattle.std.proofs.Common.{◌≡◌, ℕ, ◌+◌, zero, suc, Bool, false, true, if◌then◌else◌, List, [], ◌∷◌, length, Option, Some, None, Result, Ok, is_some, refl, sym, ap, ◌∙◌, subst, ⊎_elim}
+use Rattle.place_core.specs.page.Classes.{Class, class_of, is_equals_sign}
+use Rattle.place_core.specs.page.Contents.{pending_bytes}
+use Rattle.css_step.specs.StyleOrigins.{style_scan_parts}
+use Rattle.css_step.specs.StyleScans.{StyleScan, is_style_start, style_scan_place}
+use Rattle.css_step.specs.StyleSetLaws.{StyleScanBelow}
+use Rattle.css_step.proofs.StyleGrowth.{styles-grow}
 use Rattle.place_core.specs.place.ApartPlaces.{ArePlacesApart, HasApart, opened_apart, beginning_at, spell_apart}
 use Rattle.place_core.specs.page.Paths.{at_cut}
-use Rattle.place_core.specs.page.References.{Closed, Open}
+use Rattle.place_core.specs.page.References.{Form, Reference, Closed, Open, ReferenceStep, Grows, Closes, Breaks, flushed, turn}
 use Rattle.place_core.specs.place.Places.{Below}
 use Rattle.place_core.proofs.ApartPlacesFacts.{apart-sides, has-side, two-below}
 use Rattle.place_core.specs.place.Errors.{node, PathRefusal, broken_off, cut_error, lexeme_error, path_refusal, place_before_bytes, standing_at}
 use Rattle.place_core.specs.place.LastLexeme.{last_lexeme_start}
 use Rattle.place_core.specs.place.PathPairs.{ApartBefore, Clashes, ClashesApart, MeetsColon, byte_clash, is_in_beginning, state_before, unknown_beginning, unknown_part}
 use Rattle.place_core.specs.page.Html.{next}
-use Rattle.place_core.specs.page.States.{AttributeName, AttributeValue, Template, LexState}
-use Rattle.place_core.specs.page.Tags.{Deciding, OfKind, OfUrl, OfStyle, Quoting, Tag, ValueOf, ValueState, languages}
+use Rattle.place_core.specs.page.States.{AttributeName, AttributeValue, InContent, Characters, Bytes, InLanguage, Pending, Template, LexState}
+use Rattle.place_core.specs.page.Tags.{Deciding, OfKind, OfUrl, OfStyle, Quoting, Tag, ValueOf, ValueState, feed_bytes, languages}
 use Rattle.place_core.specs.place.StatePlaces.{placed}
 use Rattle.place_core.specs.place.UrlParts.{parts_of, placed_prefix}
 use Rattle.place_core.specs.declared.code.Code.{Code}
 use Rattle.place_core.specs.declared.code.Code.TheVariants as code
 use Rattle.place_core.specs.declared.parts.Parts.{Parts}
 use Rattle.place_core.specs.declared.place.Place.{Place}
+use Rattle.place_core.specs.declared.place.Place.TheVariants as place
+use Rattle.place_core.specs.declared.value_place.ValuePlace.{ValuePlace}
 use Rattle.place_core.specs.declared.prefix.Prefix.{Prefix}
 use Rattle.place_core.proofs.Semilattices.{none_some, one_value}
-use Rattle.html_scan.specs.Scans.{Scan, At, if_unfinished, scan_reference, scan_error, scan_next, triple_behind}
+use Rattle.html_scan.specs.Scans.{Scan, At, AfterLess, AfterLessSolidus, InDeclaration, InTagName, InAttributeName, InUrl, InStyle, InStyleElement, InCommentEnd, InContentEnd, BeforeType, InType, if_unfinished, pending_left, scan_place, scan_reference, scan_error, scan_next, style_feeding, style_scan, triple_behind, url_scan, with_style}
 use Rattle.html_step.specs.Laws.{AcceptsText}
 use Rattle.html_step.specs.Origins.{is_apart, scan_parts}
 use Rattle.html_step.specs.Steps.{stepped}
 use Rattle.html_step.proofs.ApartParts.{both-apart, of-differs}
-use Rattle.html_step.proofs.EndsApart.{end-apart}
+use Rattle.html_step.proofs.BelowScans.{below-element}
+use Rattle.html_step.proofs.ElementsBelow.{under-element}
+use Rattle.html_step.proofs.EndsApart.{element-apart, end-apart}
+use Rattle.html_step.proofs.FedAlike.{fed-beside}
 use Rattle.html_step.proofs.KeptBeginnings.{before-none, on_side}
 use Rattle.html_step.proofs.Clashing.{ClashIs, begun-grows, both-refuse, clash-is, has-unbegun, has-unquoted, unbegun-grows, white_first, white_second}
 use Rattle.html_step.proofs.PathScans.{scanned}
-use Rattle.html_step.proofs.OneTexts.{Says, agrees-at, at-place, ends-at, one-text, says}
-use Rattle.html_step.proofs.ReadScans.{Takes, not-broken, read-below, read-end, read-ok, read-taken, read-valid, scan_read, takes}
-use Rattle.html_step.proofs.ReadStates.{Unknown, byte-shown, open-parts, own-place, read-state, shown-read, unknown, url-before}
-use Rattle.html_step.proofs.ScanOrder.{ScanBelow, ScanValid, scan-grows}
+use Rattle.html_step.proofs.OneTexts.{Says, agrees-at, at-place, ends-at, one-text, says, stands-shown}
+use Rattle.html_step.proofs.ReadScans.{Takes, not-broken, read_style, read_turn, read_value, read-below, read-end, read-ok, read-taken, read-valid, scan_read, takes}
+use Rattle.html_step.proofs.ReadStates.{NonePending, Unknown, byte-shown, open-parts, own-place, read-state, shown-read, unknown, url-before}
+use Rattle.html_step.proofs.ScanOrder.{ScanBelow, ScanValid, scan-grows, style-place-below}
+use Rattle.html_step.proofs.StyleOrder.{styles-beside}
+use Rattle.html_step.proofs.StylePaths.{StandsHere}
+use Rattle.html_step.proofs.StyleUrls.{scan-opened}
 use Rattle.html_step.proofs.UrlScans.{ScanPlain, above-parts, raw-opened, scan-plain}
 use Rattle.html_step.proofs.ValidSteps.{scan-valid}
 use Rattle.html_step.proofs.WholeTexts.{accepts-anywhere, end-ok, grows-from, grows-text, step-ok, text-steps}
@@ -67,7 +80,45 @@ pub record Reads (s : LexState ValueState) (g f : Scan) (b : ℕ) (bs : List ℕ
   pub below : ScanBelow (scan_read g (b ∷ bs)) (scan_read f (b ∷ bs))
   pub spelled : spelling.Prefix
   pub parts : scan_parts (scan_read g (b ∷ bs)) ≡ Some (parts_of (UrlOpen spelled))
-  pub shown : (own : Place) → place_before_bytes s (b ∷ bs) ≡ Some own → beginning_at own ≡ Some (placed_prefix spelled)
+  pub shown : NonePending f (b ∷ bs) → (own : Place) → place_before_bytes s (b ∷ bs) ≡ Some own → beginning_at own ≡ Some (placed_prefix spelled)
+
+-- where nothing is pending that comes to nothing at the byte
+url-none : (v : ValuePlace) (t : Triple) (r : Reference) (bs : List ℕ) → NonePending (url_scan v t r) bs
+url-none v NoTriple Closed bs = tt
+url-none v NoTriple (Open f bytes) bs = tt
+url-none v AfterPercent r bs = tt
+url-none v AfterDigit r bs = tt
+
+turn-none : (z : ReferenceStep) (v : ValuePlace) (t : Triple) (f : Form) (bytes : List ℕ) (c : Class) (bs : List ℕ) → NonePending (read_turn z v t f bytes c) bs
+turn-none Breaks v t f bytes c bs =
+    (let xs = flushed true (is_equals_sign c) f bytes in url-none (read_value v xs) (triple_behind t xs) Closed bs)
+turn-none (Grows g) v t f bytes c bs = tt
+turn-none Closes v t f bytes c bs = tt
+
+style-none-by : (v : ValuePlace) (n : StyleScan) (x : Bool) (bs : List ℕ) → NonePending (if x then At (with_style v n) else InStyle v n Closed) bs
+style-none-by v n true bs = tt
+style-none-by v n false bs = tt
+
+style-turn-none : (z : ReferenceStep) (v : ValuePlace) (n : StyleScan) (f : Form) (bytes : List ℕ) (c : Class) (bs : List ℕ)
+    → NonePending (read_style z v n f bytes c) bs
+style-turn-none Breaks v n f bytes c bs =
+    (let m = feed_bytes style_feeding n (flushed true (is_equals_sign c) f bytes) in style-none-by v m (is_style_start m) bs)
+style-turn-none (Grows g) v n f bytes c bs = tt
+style-turn-none Closes v n f bytes c bs = tt
+
+read-none : (g : Scan) (b : ℕ) (bs : List ℕ) → NonePending g (b ∷ bs) → NonePending (scan_read g (b ∷ bs)) (b ∷ bs)
+read-none (InStyleElement n x) b bs p = p
+read-none (InUrl v t (Open f bytes)) b bs p = turn-none (turn (class_of b) f) v t f bytes (class_of b) (b ∷ bs)
+read-none (InUrl v t Closed) b bs p = tt
+read-none (InStyle v n (Open f bytes)) b bs p = style-turn-none (turn (class_of b) f) v n f bytes (class_of b) (b ∷ bs)
+read-none (InStyle v n Closed) b bs p = tt
+read-none _ b bs p = tt
+
+below-none : (g f : Scan) (b : ℕ) (bs : List ℕ) → ScanBelow g f → NonePending f (b ∷ bs) → NonePending g (b ∷ bs)
+below-none (InStyleElement n x) f b bs l p =
+    under-element (λ y. NonePending y (b ∷ bs) → NonePending (InStyleElement n x) (b ∷ bs)) n x f l (λ m i e. e)
+    (λ d j i e. ap (λ (y : Pending). pending_left y (b ∷ bs)) j) p
+below-none _ f b bs l p = tt
 
 pub reads : (s : LexState ValueState) (g f : Scan) (b : ℕ) (bs : List ℕ) → scanned s ≡ Some g → ScanValid g → ScanValid f → Takes f b → ScanBelow g f
     → is_in_beginning (state_before s (b ∷ bs)) ≡ true → Reads s g f b bs
@@ -76,21 +127,23 @@ reads s g f b bs e v w a l o =
     let k = read-taken g f b bs a l in
     let at = read-state s g (b ∷ bs) u e k in
     let p = open-parts (state_before s (b ∷ bs)) (scan_read g (b ∷ bs)) o at in
-    let d = shown-read (scan_read g (b ∷ bs)) b bs (parts_of (UrlOpen p.0)) p.1 (not-broken g b bs (parts_of (UrlOpen p.0)) p.1) in
     record {
       at = at;
       valid = read-valid g (b ∷ bs) v;
       below = read-below g f b bs w a l;
       spelled = p.0;
       parts = p.1;
-      shown = λ own h. ap beginning_at (one_value own d.place (sym h ∙ own-place s g (b ∷ bs) u e k (byte-shown (scan_reference g) b bs) ∙ d.is)) ∙ d.opened;
+      shown = λ n own h.
+          let none = below-none g f b bs l n in
+          let d = shown-read (scan_read g (b ∷ bs)) b bs (parts_of (UrlOpen p.0)) p.1 (not-broken g b bs (parts_of (UrlOpen p.0)) p.1) (read-none g b bs none) in
+          ap beginning_at (one_value own d.place (sym h ∙ own-place s g (b ∷ bs) u e k (byte-shown (scan_reference g) b bs) none ∙ d.is)) ∙ d.opened;
     }
 
-pub differ-apart : (p q : Place) (x y : Prefix) → beginning_at p ≡ Some x → beginning_at q ≡ Some y → ArePlacesApart p q → spell_apart x y ≡ true
+differ-apart : (p q : Place) (x y : Prefix) → beginning_at p ≡ Some x → beginning_at q ≡ Some y → ArePlacesApart p q → spell_apart x y ≡ true
 differ-apart p q x y e i h = sym (ap (λ (o : Option Prefix). opened_apart o (beginning_at q)) e ∙ ap (opened_apart (Some x)) i) ∙ h
 
 -- the parts of the scan state that is read
-pub read-apart : (s t : LexState ValueState) (g h f : Scan) (b : ℕ) (bs : List ℕ) (x : Reads s g f b bs) (y : Reads t h f b bs)
+read-apart : (s t : LexState ValueState) (g h f : Scan) (b : ℕ) (bs : List ℕ) (x : Reads s g f b bs) (y : Reads t h f b bs)
     → spell_apart (placed_prefix x.spelled) (placed_prefix y.spelled) ≡ true
     → (p : Parts) × (scan_parts (scan_read f (b ∷ bs)) ≡ Some p) × (is_apart (Some p) ≡ true)
 read-apart s t g h f b bs x y a =
@@ -102,6 +155,63 @@ read-apart s t g h f b bs x y a =
       both-apart (placed_prefix x.spelled) (placed_prefix y.spelled) p.0.opened a (ap (λ (z : Parts). z.opened) p.2)
           (ap (λ (z : Parts). z.opened) (subst (λ (z : Parts). PartsBelow (parts_of (UrlOpen y.spelled)) z) same q.2)),
     )
+
+apart-at : (s t : LexState ValueState) (g h f : Scan) (b : ℕ) (bs : List ℕ) (x : Reads s g f b bs) (y : Reads t h f b bs) → NonePending f (b ∷ bs)
+    → ApartBefore (b ∷ bs) s t → (p : Parts) × (scan_parts (scan_read f (b ∷ bs)) ≡ Some p) × (is_apart (Some p) ≡ true)
+apart-at s t g h f b bs x y n a =
+    read-apart s t g h f b bs x y
+    (differ-apart a.own a.other_own (placed_prefix x.spelled) (placed_prefix y.spelled) (x.shown n a.own a.stands) (y.shown n a.other_own a.other_stands) a.apart)
+
+-- In the element, where bytes are pending, the two places are below one, and with these bytes no paths come apart.
+own-shown : (s : LexState ValueState) (n m : StyleScan) (k : Pending) (b : ℕ) (bs : List ℕ) (own : Place) → scanned s ≡ Some (InStyleElement n k)
+    → StyleScanBelow n m → scan_error (InStyleElement m k) (class_of b) b ≡ None → place_before_bytes s (b ∷ bs) ≡ Some own
+    → Below own (scan_place (InStyleElement m (pending_left k (b ∷ bs))))
+own-shown s n m k b bs own i l e h =
+    let left = pending_bytes (pending_left k (b ∷ bs)) in
+    let taken = stands-shown (InStyleElement m k) (b ∷ bs) (subst StandsHere (sym e) tt) in
+    let fed = fed-beside styles-beside left true (length left) n m l taken in
+    let low = feed_bytes style_feeding n left in
+    let high = feed_bytes style_feeding m left in
+    let is : place.Style (style_scan_place low) ≡ own = one_value (place.Style (style_scan_place low)) own
+    (sym ((ends-at s (InStyleElement n k) i).shown (b ∷ bs) fed.0) ∙ h) in
+    subst (λ (p : Place). Below p (place.Style (style_scan_place high))) is
+    (style-place-below (style_scan_place low) (style_scan_place high) (styles-grow.scans low high fed.1).place)
+
+own-under : (s : LexState ValueState) (g : Scan) (m : StyleScan) (k : Pending) (b : ℕ) (bs : List ℕ) (own : Place) → scanned s ≡ Some g
+    → ScanBelow g (InStyleElement m k) → scan_error (InStyleElement m k) (class_of b) b ≡ None → place_before_bytes s (b ∷ bs) ≡ Some own
+    → Below own (scan_place (InStyleElement m (pending_left k (b ∷ bs))))
+own-under s g m k b bs own i l e h =
+    below-element (λ x. scanned s ≡ Some x → Below own (scan_place (InStyleElement m (pending_left k (b ∷ bs))))) m k
+    (λ n j u. own-shown s n m k b bs own u j e h) g l i
+
+element-met : (s t : LexState ValueState) (g h : Scan) (m : StyleScan) (k : Pending) (b : ℕ) (bs : List ℕ) (p : Parts) → scanned s ≡ Some g → scanned t ≡ Some h
+    → ScanBelow g (InStyleElement m k) → ScanBelow h (InStyleElement m k) → scan_error (InStyleElement m k) (class_of b) b ≡ None
+    → style_scan_parts m ≡ Some p → ApartBefore (b ∷ bs) s t → is_apart (Some p) ≡ true
+element-met s t g h m k b bs p i j l n e u a =
+    let left = pending_left k (b ∷ bs) in
+    let there = two-below a.own a.other_own (scan_place (InStyleElement m left)) (own-under s g m k b bs a.own i l e a.stands)
+    (own-under t h m k b bs a.other_own j n e a.other_stands) a.apart in
+    of-differs p.opened (sym (scan-opened m p u) ∙ element-apart left m there)
+
+-- So the parts of the scan state that is read are those of paths that met apart.
+pub met-at : (s t : LexState ValueState) (g h f : Scan) (b : ℕ) (bs : List ℕ) (x : Reads s g f b bs) (y : Reads t h f b bs) → scanned s ≡ Some g
+    → scanned t ≡ Some h → ScanBelow g f → ScanBelow h f → scan_error f (class_of b) b ≡ None → ApartBefore (b ∷ bs) s t
+    → (p : Parts) × (scan_parts (scan_read f (b ∷ bs)) ≡ Some p) × (is_apart (Some p) ≡ true)
+met-at s t g h (InStyleElement m k) b bs x y i j l n e a =
+    let p = above-parts (scan_read g (b ∷ bs)) (InStyleElement m k) (parts_of (UrlOpen x.spelled)) x.below x.parts in
+    (p.0, p.1, element-met s t g h m k b bs p.0 i j l n e p.1 a)
+met-at s t g h (At z) b bs x y i j l n e a = apart-at s t g h (At z) b bs x y tt a
+met-at s t g h (InUrl v z r) b bs x y i j l n e a = apart-at s t g h (InUrl v z r) b bs x y tt a
+met-at s t g h (InStyle v z r) b bs x y i j l n e a = apart-at s t g h (InStyle v z r) b bs x y tt a
+met-at s t g h AfterLess b bs x y i j l n e a = apart-at s t g h AfterLess b bs x y tt a
+met-at s t g h AfterLessSolidus b bs x y i j l n e a = apart-at s t g h AfterLessSolidus b bs x y tt a
+met-at s t g h (InDeclaration z) b bs x y i j l n e a = apart-at s t g h (InDeclaration z) b bs x y tt a
+met-at s t g h (InTagName z w) b bs x y i j l n e a = apart-at s t g h (InTagName z w) b bs x y tt a
+met-at s t g h (InAttributeName z w v) b bs x y i j l n e a = apart-at s t g h (InAttributeName z w v) b bs x y tt a
+met-at s t g h (InCommentEnd z) b bs x y i j l n e a = apart-at s t g h (InCommentEnd z) b bs x y tt a
+met-at s t g h (InContentEnd z w) b bs x y i j l n e a = apart-at s t g h (InContentEnd z w) b bs x y tt a
+met-at s t g h (BeforeType z) b bs x y i j l n e a = apart-at s t g h (BeforeType z) b bs x y tt a
+met-at s t g h (InType z w v u) b bs x y i j l n e a = apart-at s t g h (InType z w v u) b bs x y tt a
 
 unknown-accepted : (bytes : List ℕ) (k since : ℕ) (s : LexState ValueState) (f : Scan) (q : Place) (u : Unknown s f) (x : PathRefusal) → stepped k since bytes f ≡ Ok q
     → path_refusal bytes (unknown_beginning s) ≡ Some x → ⊥
@@ -116,6 +226,9 @@ pub before-side : (s : LexState ValueState) (a : Place) → place_before_bytes s
 before-side (AttributeName t name) a e h = absurd (no (ap on_side e ∙ h))
 before-side (AttributeValue q t v Closed) a e h = e
 before-side (AttributeValue q t v (Open f bytes)) a e h = e
+before-side (InContent x (InLanguage v) y) a e h = e
+before-side (InContent x (Characters r) y) a e h = e
+before-side (InContent x Bytes y) a e h = e
 before-side _ a e h = e
 
 -- the path's own place after the bytes, below the one of the text
@@ -145,16 +258,15 @@ never-apart [] k since f q s t g h e at i j v w l m z p o a c =
     let x = open-parts s g one.begins i in
     let y = above-parts g f (parts_of (UrlOpen x.0)) l x.1 in
     unknown-accepted [] k since s f q
-    (unknown s g f y.0 one.begins i y.1 (of-differs y.0.opened (sym (raw-opened f y.0 y.1) ∙ there)) l)
+    (unknown s g f y.0 one.begins i v y.1 (of-differs y.0.opened (sym (raw-opened f y.0 y.1) ∙ there)) l)
     (record { code = code.AmbigContext; at = at; shown = one.shown }) o one.refused
 never-apart (b ∷ bs) k since f q s t g h e at i j v w l m z p o a c =
     let n = step-ok k since b bs f q o in
     let x = reads s g f b bs i v z (takes f b z n.0) l c.one.begins in
     let y = reads t h f b bs j w z (takes f b z n.0) m c.other.begins in
-    let d = read-apart s t g h f b bs x y
-    (differ-apart a.own a.other_own (placed_prefix x.spelled) (placed_prefix y.spelled) (x.shown a.own a.stands) (y.shown a.other_own a.other_stands) a.apart) in
+    let d = met-at s t g h f b bs x y i j l m n.0 a in
     unknown-accepted (b ∷ bs) k since (state_before s (b ∷ bs)) (scan_read f (b ∷ bs)) q
-    (unknown (state_before s (b ∷ bs)) (scan_read g (b ∷ bs)) (scan_read f (b ∷ bs)) d.0 c.one.begins x.at d.1 d.2 x.below)
+    (unknown (state_before s (b ∷ bs)) (scan_read g (b ∷ bs)) (scan_read f (b ∷ bs)) d.0 c.one.begins x.at x.valid d.1 d.2 x.below)
     (record { code = code.AmbigContext; at = at; shown = c.one.shown })
     (read-ok b bs k since f q z o)
     c.one.refused

@@ -2,9 +2,10 @@
 -- it, where one begins the URL with a byte and the other goes on with it.
 use Rattle.std.proofs.Common.{◌≡◌, ℕ, ◌+◌, Bool, true, false, ◌||◌, List, [], ◌∷◌, ◌++◌, length, arith, Option, Some, None, Ok, is_some, option_map, if◌then◌else◌, refl, sym, ap, ap₂, ◌∙◌, subst, ◌⊎◌, inl, inr}
 use Rattle.place_core.specs.page.Classes.{is_equals_sign, class_of}
+use Rattle.place_core.specs.page.Contents.{pending_bytes}
 use Rattle.place_core.specs.page.Html.{next}
 use Rattle.place_core.specs.page.References.{Reference, Closed, Open, Form, ReferenceStep, Grows, Closes, Breaks, turn, flushed, plain_bytes, next_reference, as_it_stands, reference_turned, turn_bytes}
-use Rattle.place_core.specs.page.States.{Template, LexState, Text, TagOpen, EndTagOpen, DeclarationOpen, Started, StartedDash, Inside, Dash, DashDash, Bang, Broken, InComment, BogusComment, InDoctype, TagName, WholeTagName, BeforeAttributeName, AttributeName, WholeAttributeName, AfterAttributeName, BeforeAttributeValue, AttributeValue, AfterAttributeValue, SelfClosingStartTag, Characters, Bytes, Pending, Nothing, PendingLess, LessAtCut, PendingName, PendingBang, PendingBangDash, InContent, Unread}
+use Rattle.place_core.specs.page.States.{Template, LexState, Text, TagOpen, EndTagOpen, DeclarationOpen, Started, StartedDash, Inside, Dash, DashDash, Bang, Broken, InComment, BogusComment, InDoctype, TagName, WholeTagName, BeforeAttributeName, AttributeName, WholeAttributeName, AfterAttributeName, BeforeAttributeValue, AttributeValue, AfterAttributeValue, SelfClosingStartTag, Characters, Bytes, InLanguage, Pending, Nothing, PendingLess, LessAtCut, PendingName, PendingBang, PendingBangDash, InContent, Unread}
 use Rattle.place_core.specs.page.Tags.{Quoting, Tag, is_second_type, ValueOf, Deciding, ValueState, OfKind, OfUrl, OfStyle, languages, feed_bytes}
 use Rattle.place_core.specs.place.ApartPlaces.{HasApart, opened_apart, beginning_at, beginning_in_body, beginning_in_css, side, spell_apart}
 use Rattle.place_core.specs.place.Errors.{is_written, node, place_before_bytes}
@@ -32,7 +33,7 @@ use Rattle.place_core.specs.declared.quotes.Quotes.{Quotes}
 use Rattle.place_core.specs.declared.quotes.Quotes.TheVariants as quotes
 use Rattle.place_core.specs.declared.value_place.ValuePlace.{ValuePlace}
 use Rattle.place_core.proofs.Semilattices.{none_some, one_value}
-use Rattle.html_scan.specs.Scans.{Scan, At, InAttributeName, InUrl, InStyle, scan_reference, scan_error, scan_next, scan_place, parts_feeding, parts_with, style_feeding, with_body, with_style}
+use Rattle.html_scan.specs.Scans.{Scan, At, InAttributeName, InUrl, InStyle, InStyleElement, scan_reference, scan_error, scan_next, scan_place, parts_feeding, parts_with, style_feeding, with_body, with_style}
 use Rattle.html_step.specs.Origins.{body_parts, byte_origin, fed_in, scan_parts}
 use Rattle.html_step.specs.Steps.{after_text, stepped}
 use Rattle.html_step.proofs.ApartParts.{Arise, arise-in, inside-bytes, is_inside, mapped-some, of-differs, opens-apart, several-apart, waits, apart-inside}
@@ -40,12 +41,15 @@ use Rattle.html_step.proofs.EndsApart.{end-apart}
 use Rattle.html_step.proofs.MetScans.{ScanApart, ScanOpensNone, Stand, below-opens, next-stand, parts-apart, scan-opens, stand-in}
 use Rattle.html_step.proofs.ReadScans.{NotBroken, ReadTaken, Takes, broken-of, closed-taken, read-closed, read-taken, scan_read, takes}
 use Rattle.html_step.proofs.ReadStates.{UrlState, opens-of, own-place, read-between, read-shown, read-state, set-over, set-parts, shown-closed, url-of, with_set}
-use Rattle.html_step.proofs.RefusedColons.{ReadStays, broken-bytes, closed-open, fed-or, is_nothing, next-closed, next-stays, parts_where, plain-closed, read-is, read-parts, reference_where, scan-character, stays-below, turn_read}
+use Rattle.html_step.proofs.RefusedColons.{ReadStays, broken-bytes, closed-open, fed-or, is_nothing, next-stays, none-pending, parts_where, plain-closed, read-is, read-parts, reference_where, scan-arises, stays-below, turn_read}
 use Rattle.html_step.proofs.Characters.{NoColon, IsCharacter, ampersand-no-letter, flushed-character, plain-character}
+use Rattle.html_step.proofs.ElementFrom.{has-place, place-has}
+use Rattle.html_step.proofs.ElementsBelow.{under-element}
+use Rattle.html_step.proofs.PendingScans.{below-pending, open-settled, read-settled, scan_pending, style-value-settled, value-settled}
 use Rattle.html_step.proofs.FromSteps.{from-byte}
 use Rattle.html_step.proofs.FromTexts.{own-has}
 use Rattle.html_step.proofs.KeptBeginnings.{before-begins, keeps-back, keeps-fore, before-none, begins-value, is_url_value, side-begins, sides-within, stays-there}
-use Rattle.html_step.proofs.PathScans.{block_scanned, content_scanned, scanned, style_value_scanned, url_value}
+use Rattle.html_step.proofs.PathScans.{block_scanned, content_scanned, element_scanned, scanned, style_element_scanned, style_value_scanned, url_value}
 use Rattle.html_step.proofs.OneTexts.{Says, says}
 use Rattle.html_step.proofs.PlaceParts.{ValueBelow}
 use Rattle.html_step.proofs.ScanOrder.{ScanBelow, ScanHas, ScanValid, StyleUnderBody, UrlWithin, parts-of-below, under-body, url-within}
@@ -58,10 +62,10 @@ use Rattle.css_lexer.specs.States as style
 use Rattle.css_step.proofs.StyleScanned.{has-scan}
 use Rattle.css_step.specs.StyleOrigins.{scan_set_has, style_scan_parts}
 use Rattle.css_step.specs.StyleScanLaws.{IsStyleScan, scans_behind_hole, scans_between, scans_bare, scans_comment, scans_ended, scans_fresh, scans_less_than, scans_less_than_before, scans_quoted, scans_solidus, scans_solidus_before, scans_split_word, scans_star_before, scans_string, scans_word, style_scanned}
-use Rattle.css_step.specs.StyleScans.{StyleScan, ScanBareUrl, ScanQuotedUrl, style_scan_place, style_scan_start}
+use Rattle.css_step.specs.StyleScans.{StyleScan, ScanBareUrl, ScanQuotedUrl, is_style_start, style_scan_place, style_scan_start}
 use Rattle.css_step.specs.StyleSetLaws.{StyleScanBelow, below_itself}
 use Rattle.html_step.proofs.UrlOrder.{fed-grow, fed-more}
-use Rattle.html_step.proofs.UrlScans.{NextUrl, ScanPlain, below-goes, below-parts, below-reference, fed-same, has_met, next-url, raw-opened, scan-plain, scan-unmet, scan_fed, style-parts, url-parts, within-body}
+use Rattle.html_step.proofs.UrlScans.{NextUrl, ScanPlain, below-goes, below-parts, below-reference, element-closed-by, element-parts-by, fed-same, has_met, next-url, raw-opened, scan-plain, scan-unmet, scan_fed, style-parts, url-parts, within-body}
 use Rattle.html_step.proofs.ValidSteps.{scan-valid}
 use Rattle.html_step.proofs.WholeTexts.{end-ok, grows-from, step-ok, text-steps}
 use Rattle.url_lexer.specs.Classes.{url_class_of}
@@ -146,6 +150,28 @@ no-url-in q x v r t (Some n) e i h =
     none_some t (sym (style-parts (style_value x (quotes_at q)) n r ∙ no-url v n (has-scan v n e) i) ∙ h)
 no-url-in q x v r t None e i h = none_some t h
 
+-- in the element `style`
+where-parts : (p : Pending) (n : StyleScan) (t : Parts) → parts_where (element_scanned p n) ≡ Some t → style_scan_parts n ≡ Some t
+where-parts Nothing n t h = sym (element-parts-by n (is_style_start n) refl) ∙ h
+where-parts PendingLess n t h = h
+where-parts (PendingName letters) n t h = h
+where-parts LessAtCut n t h = absurd (none_some t h)
+where-parts PendingBang n t h = absurd (none_some t h)
+where-parts PendingBangDash n t h = absurd (none_some t h)
+
+where-closed : (p : Pending) (n : StyleScan) → reference_where (element_scanned p n) ≡ Closed
+where-closed Nothing n = element-closed-by n (is_style_start n)
+where-closed PendingLess n = refl
+where-closed (PendingName letters) n = refl
+where-closed LessAtCut n = refl
+where-closed PendingBang n = refl
+where-closed PendingBangDash n = refl
+
+no-url-there : (p : Pending) (v : Style Url) (t : Parts) (o : Option StyleScan) → style_scanned v ≡ o → url_in_style v ≡ None
+    → parts_where (style_element_scanned p o) ≡ Some t → ⊥
+no-url-there p v t (Some n) e i h = none_some t (sym (no-url v n (has-scan v n e) i) ∙ where-parts p n t h)
+no-url-there p v t None e i h = none_some t h
+
 url-path : (s : LexState ValueState) (t : Parts) → parts_where (scanned s) ≡ Some t → UrlPath s t
 url-path (Text r) t h = absurd (none_some t h)
 url-path (TagOpen r) t h = absurd (none_some t h)
@@ -209,6 +235,28 @@ url-path (AfterAttributeValue x) t h = absurd (none_some t h)
 url-path (SelfClosingStartTag x) t h = absurd (none_some t h)
 url-path (InContent e (Characters r) p) t h = absurd (none_some t (sym (content-none p e) ∙ h))
 url-path (InContent e Bytes p) t h = absurd (none_some t (sym (block-none p e) ∙ h))
+url-path (InContent element.Style (InLanguage (OfStyle (style.InUrl Bare u))) p) t h =
+    let n = ScanBareUrl (parts_of u.part) u.triple in
+    record {
+      part = u.part;
+      is = one_value t (parts_of u.part) (sym (where-parts p n t h));
+      begins = λ e. e;
+      value = λ f bytes e. absurd (closed-open f bytes (sym (where-closed p n) ∙ e));
+    }
+url-path (InContent element.Style (InLanguage (OfStyle (style.InUrl (Quoted y z) u))) p) t h =
+    let n = ScanQuotedUrl y z (parts_of u.part) u.triple in
+    record {
+      part = u.part;
+      is = one_value t (parts_of u.part) (sym (where-parts p n t h));
+      begins = λ e. e;
+      value = λ f bytes e. absurd (closed-open f bytes (sym (where-closed p n) ∙ e));
+    }
+url-path (InContent element.Style (InLanguage (OfStyle (style.InUrl Fresh u))) p) t h = absurd (no-url-there p (style.InUrl Fresh u) t (style_scanned (style.InUrl Fresh u)) refl refl h)
+url-path (InContent element.Style (InLanguage (OfStyle (style.InUrl Ended u))) p) t h = absurd (no-url-there p (style.InUrl Ended u) t (style_scanned (style.InUrl Ended u)) refl refl h)
+url-path (InContent element.Style (InLanguage (OfStyle (Out s))) p) t h = absurd (no-url-there p (Out s) t (style_scanned (Out s)) refl refl h)
+url-path (InContent element.Style (InLanguage (OfKind k)) p) t h = absurd (none_some t h)
+url-path (InContent element.Style (InLanguage (OfUrl u)) p) t h = absurd (none_some t h)
+url-path (InContent _ (InLanguage v) p) t h = absurd (none_some t h)
 url-path Unread t h = absurd (none_some t h)
 
 pub path-parts : (s : LexState ValueState) (g : Scan) (t : Parts) → scanned s ≡ Some g → scan_parts g ≡ Some t → UrlPath s t
@@ -301,6 +349,20 @@ part-members (InStyle v n r) t h =
     let a = style-start v.quotes n t h in
     let b = style-open v.quotes n t h in
     record { start = λ k. sym a ∙ k; starts = λ k. a ∙ k; open_in = λ k. sym b ∙ k; opens = λ k. b ∙ k }
+part-members (At (place.Style c)) t h =
+    let n = style_scan_start c in
+    let a = set-start n t h in
+    let b = set-open n t h in
+    record {
+      start = λ k. sym a ∙ has-place c member.PartStart k;
+      starts = λ k. place-has c member.PartStart (a ∙ k);
+      open_in = λ k. sym b ∙ has-place c member.PartOpen k;
+      opens = λ k. place-has c member.PartOpen (b ∙ k);
+    }
+part-members (InStyleElement n x) t h =
+    let a = set-start n t h in
+    let b = set-open n t h in
+    record { start = λ k. sym a ∙ k; starts = λ k. a ∙ k; open_in = λ k. sym b ∙ k; opens = λ k. b ∙ k }
 part-members (At _) t h = absurd (none_some t h)
 part-members _ t h = absurd (none_some t h)
 
@@ -386,11 +448,17 @@ points-apart s r bs p q x y h = record {
 }
 
 point-of : (s : LexState ValueState) (g : Scan) (bs : List ℕ) (p : spelling.Prefix) → UrlState s → scanned s ≡ Some g
-    → scan_parts (scan_read g bs) ≡ Some (parts_of (UrlOpen p)) → scan_reference (scan_read g bs) ≡ Closed → Keeps bs (state_before s bs) → ReadTaken g bs
-    → Point s bs p
-point-of s g bs p u e h k m n =
-    let d = shown-closed (scan_read g bs) bs (parts_of (UrlOpen p)) h k in
-    record { own = d.place; between = read-between s g bs u e k; stands = own-place s g bs u e n (read-shown g bs k) ∙ d.is; opened = d.opened; keeps = m }
+    → scan_parts (scan_read g bs) ≡ Some (parts_of (UrlOpen p)) → scan_reference (scan_read g bs) ≡ Closed → scan_pending g ≡ Nothing
+    → Keeps bs (state_before s bs) → ReadTaken g bs → Point s bs p
+point-of s g bs p u e h k w m n =
+    let d = shown-closed (scan_read g bs) bs (parts_of (UrlOpen p)) h k (none-pending (scan_read g bs) bs (read-settled g bs w)) in
+    record {
+      own = d.place;
+      between = read-between s g bs u e k;
+      stands = own-place s g bs u e n (read-shown g bs k) (none-pending g bs w) ∙ d.is;
+      opened = d.opened;
+      keeps = m;
+    }
 
 body-opened : (b : Body) (t : Parts) (bytes : List ℕ) → b ≡ body.Url t → beginning_in_body (parts_with b bytes) ≡ (feed_bytes parts_feeding t bytes).opened
 body-opened b t bytes h = ap (λ (x : Body). beginning_in_body (parts_with x bytes)) h
@@ -435,9 +503,9 @@ behind s g f b a z t h k n i j v met =
 
 -- the point behind the byte
 point-after : (s : LexState ValueState) (g f : Scan) (b : ℕ) (bs bytes : List ℕ) (t : Parts) (p : spelling.Prefix) → Behind s g f b t bytes
-    → scan_reference (scan_next f (class_of b) b) ≡ Closed → KeepsAll bs (scan_next f (class_of b) b)
+    → scan_reference (scan_next f (class_of b) b) ≡ Closed → scan_pending (scan_next f (class_of b) b) ≡ Nothing → KeepsAll bs (scan_next f (class_of b) b)
     → feed_bytes parts_feeding t bytes ≡ parts_of (UrlOpen p) → Point (next languages Template s (class_of b) b) bs p
-point-after s g f b bs bytes t p x c keep e =
+point-after s g f b bs bytes t p x c w keep e =
     let u = next languages Template s (class_of b) b in
     let d = scan_next g (class_of b) b in
     let parts = x.parts ∙ ap Some e in
@@ -446,6 +514,7 @@ point-after s g f b bs bytes t p x c keep e =
     let closed = x.reference ∙ c in
     let same = read-closed d bs closed in
     point-of u d bs p (url-of u value) x.stand.at (ap scan_parts same ∙ parts) (ap scan_reference same ∙ closed)
+    (below-pending d (scan_next f (class_of b) b) x.stand.below ∙ w)
     (keep u d x.stand ((part-members d (parts_of (UrlOpen p)) parts).opens refl)) (closed-taken d bs closed)
 
 -- the point before it, where it breaks a reference that is open
@@ -473,7 +542,7 @@ point-before s g f b bs a z t p form read v n h k inside i j e d l keep met spel
     let path = path-parts u (scan_next g c b) later x.stand.at x.parts in
     let taken = read-taken g f b bs (takes f b v n) i.below in
     let there = read-parts g b bs t i.valid j (stays-below g f b a i.below h (next-stays f b a v h met)) ∙ ap (λ (y : List ℕ). Some (feed_bytes parts_feeding t y)) (broken-bytes (scan_reference g) b form read own d) ∙ ap Some spelled in
-    point-of s g (b ∷ bs) p (url-of s value) i.at there (read-is g b bs form read t j own d)
+    point-of s g (b ∷ bs) p (url-of s value) i.at there (read-is g b bs form read t j own d) (open-settled g form read own)
     (keeps-fore b bs s
     (opened-begins (state_before s (b ∷ bs)) (parts_of (UrlOpen p))
     (path-parts (state_before s (b ∷ bs)) (scan_read g (b ∷ bs)) (parts_of (UrlOpen p)) (read-state s g (b ∷ bs) (url-of s value) i.at taken) there) refl)
@@ -482,7 +551,8 @@ point-before s g f b bs a z t p form read v n h k inside i j e d l keep met spel
 
 -- How a byte makes two paths come apart that were not: behind it, or before it.
 data Arises (f : Scan) (b : ℕ) (a : Parts) : Type 0 where
-  after : Comes (scan_fed f (class_of b) b) a → scan_reference (scan_next f (class_of b) b) ≡ Closed → Arises f b a
+  after : Comes (scan_fed f (class_of b) b) a → scan_reference (scan_next f (class_of b) b) ≡ Closed → scan_pending (scan_next f (class_of b) b) ≡ Nothing
+      → Arises f b a
   before : (form : Form) (read : List ℕ) → scan_reference f ≡ Open form read → turn (class_of b) form ≡ Breaks
       → scan_fed f (class_of b) b ≡ flushed true (is_equals_sign (class_of b)) form read ++ plain_bytes (class_of b) b
       → Comes (flushed true (is_equals_sign (class_of b)) form read) a → Arises f b a
@@ -496,21 +566,21 @@ fed-some (x ∷ xs) a n h = refl
 whole-arises : (f : Scan) (b : ℕ) (a : Parts) → ScanValid f → scan_parts f ≡ Some a → NotBroken (scan_reference f) b
     → spells_apart a.opened ≡ false → spells_apart (feed_bytes parts_feeding a (scan_fed f (class_of b) b)).opened ≡ true → Arises f b a
 whole-arises f b a v h k n d =
-    let fed = scan_fed f (class_of b) b in
-    after (character-comes fed a (scan-character f b k) n d) (next-closed f a b v h k (fed-some fed a n d))
+    let x = scan-arises f b a h k n d in
+    after (subst (λ (y : List ℕ). Comes y a) (sym x.arises.is) (one-comes x.arises.byte a n x.arises.arise)) x.closed x.settled
 
 -- where one is, by its bytes, or by the character behind them
 broken-arises : (y : Bool) (f : Scan) (b : ℕ) (a : Parts) (form : Form) (read : List ℕ) → NextUrl f a (class_of b) b → scan_reference f ≡ Open form read
-    → turn (class_of b) form ≡ Breaks → NoColon read
+    → scan_pending (scan_next f (class_of b) b) ≡ Nothing → turn (class_of b) form ≡ Breaks → NoColon read
     → ((t : Parts) → PartsBelow t a → PartsBelow (feed_bytes parts_feeding t (flushed true (is_equals_sign (class_of b)) form read))
     (feed_bytes parts_feeding a (flushed true (is_equals_sign (class_of b)) form read)))
     → scan_fed f (class_of b) b ≡ flushed true (is_equals_sign (class_of b)) form read ++ plain_bytes (class_of b) b
     → spells_apart a.opened ≡ false → spells_apart (feed_bytes parts_feeding a (scan_fed f (class_of b) b)).opened ≡ true
     → spells_apart (feed_bytes parts_feeding a (flushed true (is_equals_sign (class_of b)) form read)).opened ≡ y → Arises f b a
-broken-arises true f b a form read m e k w grow l n h y =
+broken-arises true f b a form read m e settled k w grow l n h y =
     let fl = flushed true (is_equals_sign (class_of b)) form read in
     before form read e k l (character-comes fl a (flushed-character (is_equals_sign (class_of b)) form read w) n y)
-broken-arises false f b a form read m e k w grow l n h y =
+broken-arises false f b a form read m e settled k w grow l n h y =
     let c = class_of b in
     let fl = flushed true (is_equals_sign c) form read in
     let over = feed_bytes parts_feeding a fl in
@@ -521,6 +591,7 @@ broken-arises false f b a form read m e k w grow l n h y =
       | inl j ↦ j
       | inr j ↦ j ∙ ap (λ (r : Reference). next_reference r c b) e ∙ ap (λ (x : ReferenceStep). reference_turned x read c b) k ∙ closes
     ])
+    settled
 
 -- the bytes of the reference lead sets below to sets below, where they are not refused
 read-grows : (v : ValuePlace) (t : Triple) (form : Form) (read : List ℕ) (a : Parts) (b : ℕ) → ScanValid (InUrl v t (Open form read)) → body_parts v.body ≡ Some a
@@ -545,7 +616,7 @@ turned-arises Breaks v t form read b a e w p n h y d =
     elim (fed-or v.quotes (Open form read) c b) [
       | inl i ↦ absurd (no (sym (fed-some (fed_in v.quotes (Open form read) c b) a y d) ∙ ap is_nothing i))
       | inr i ↦ broken-arises (spells_apart (feed_bytes parts_feeding a (flushed true (is_equals_sign c) form read)).opened) f b a form read
-          (next-url f a c b w h) refl e p (read-grows v t form read a b w h n e)
+          (next-url f a c b w h) refl (value-settled v t (Open form read) c b) e p (read-grows v t form read a b w h n e)
           (i ∙ ap (λ (x : ReferenceStep). turn_bytes true x form read c b) e) y d refl
     ]
 
@@ -582,7 +653,7 @@ style-arises Breaks v n form read b a e w p o h y d s =
     elim (fed-or v.quotes (Open form read) c b) [
       | inl i ↦ absurd (no (sym (fed-some (fed_in v.quotes (Open form read) c b) a y d) ∙ ap is_nothing i))
       | inr i ↦ broken-arises (spells_apart (feed_bytes parts_feeding a (flushed true (is_equals_sign c) form read)).opened) f b a form read
-          (next-url f a c b w h) refl e p (style-read-grows v n form read a b (takes f b w o) h e s)
+          (next-url f a c b w h) refl (style-value-settled v n (Open form read) c b) e p (style-read-grows v n form read a b (takes f b w o) h e s)
           (i ∙ ap (λ (x : ReferenceStep). turn_bytes true x form read c b) e) y d refl
     ]
 
@@ -593,14 +664,15 @@ arises (InUrl v t Closed) b a s w p n h y d = whole-arises (InUrl v t Closed) b 
 arises (InUrl v t (Open form read)) b a s w p n h y d = turned-arises (turn (class_of b) form) v t form read b a refl w p n h y d
 arises (InStyle v n Closed) b a s w p o h y d = whole-arises (InStyle v n Closed) b a w h tt y d
 arises (InStyle v n (Open form read)) b a s w p o h y d = style-arises (turn (class_of b) form) v n form read b a refl w p o h y d s
+arises (InStyleElement m x) b a s w p o h y d = whole-arises (InStyleElement m x) b a w h tt y d
 arises _ b a s w v n h y d = absurd (none_some a h)
 
 arises-start : (f : Scan) (b : ℕ) (a : Parts) → Arises f b a → a.start ≡ true
-arises-start f b a (after c e) = c.start
+arises-start f b a (after c e w) = c.start
 arises-start f b a (before form read e k l c) = c.start
 
 arises-open : (f : Scan) (b : ℕ) (a : Parts) → Arises f b a → is_some a.opened ≡ true
-arises-open f b a (after c e) = c.there
+arises-open f b a (after c e w) = c.there
 arises-open f b a (before form read e k l c) = c.there
 
 -- Where it comes from, from any scan state.
@@ -632,13 +704,13 @@ two-points : (f : Scan) (b : ℕ) (bs : List ℕ) (a z : Parts) → ScanValid f 
     → KeepsAll bs (scan_next f (class_of b) b) → has_met (scan_next f (class_of b) b) ≡ true → Arises f b a
     → (s r : LexState ValueState) (g h : Scan) → Stand s g f → ScanHas g member.PartStart → Stand r h f → ScanHas h member.PartOpen
     → PartFrom (scan_reference f) (b ∷ bs) s r
-two-points f b bs a z v n h k inside keep met (after c e) s r g d i x j y =
+two-points f b bs a z v n h k inside keep met (after c e settled) s r g d i x j y =
     let t = before-url s g f a h i x in
     let w = in-beginning r d f a h j y in
     let goes = c.goes w.spelled w.below in
     let fed = scan_fed f (class_of b) b in
-    let one = point-after s g f b bs fed (parts_of UrlStart) c.first (behind s g f b a z (parts_of UrlStart) h k n i t v met) e keep c.begins in
-    let other = point-after r d f b bs fed (parts_of (UrlOpen w.spelled)) goes.0 (behind r d f b a z (parts_of (UrlOpen w.spelled)) h k n j w.parts v met) e keep goes.1 in
+    let one = point-after s g f b bs fed (parts_of UrlStart) c.first (behind s g f b a z (parts_of UrlStart) h k n i t v met) e settled keep c.begins in
+    let other = point-after r d f b bs fed (parts_of (UrlOpen w.spelled)) goes.0 (behind r d f b a z (parts_of (UrlOpen w.spelled)) h k n j w.parts v met) e settled keep goes.1 in
     part-from (scan_reference f) (b ∷ bs) s r
     (inl (
       points-apart (next languages Template s (class_of b) b) (next languages Template r (class_of b) b) bs c.first goes.0 one other goes.2,
@@ -668,7 +740,7 @@ kept-all f b bs a z n h k inside keep v met o s g i x =
     let opened = open-bytes (scan_fed f c b) a t.0 some inside in
     let begins = opened-begins u later (path-parts u (scan_next g c b) later m.stand.at m.parts) opened in
     keeps-fore b bs s
-    (before-begins s b bs (opens-of s g (url-of s (begins-value s (opened-begins s t.0 (path-parts s g t.0 i.at t.1) some))) i.at (below-opens g f i.below o))
+    (before-begins s b bs (opens-of s g (url-of s (begins-value s (opened-begins s t.0 (path-parts s g t.0 i.at t.1) some))) i.at i.valid (below-opens g f i.below o))
     (opened-begins s t.0 (path-parts s g t.0 i.at t.1) some) begins)
     (keeps-back bs u begins (keep u (scan_next g c b) m.stand ((part-members (scan_next g c b) later m.parts).opens opened)))
 
@@ -711,33 +783,57 @@ below-has x v r l w h k =
     side-has (with_body x (parts_with x.body stands)) (ap is_some (body-opened x.body t.0 stands t.1) ∙ opened)
 
 -- in a style, which stays in the URL
-style-end-by : (x : ValuePlace) (k m : StyleScan) (s : Parts) (bytes : List ℕ) → StyleScanBelow k m → style_scan_parts m ≡ Some s
-    → beginning_in_css (style_scan_place (feed_bytes style_feeding m bytes)) ≡ Some prefix.Differs → ScanHas (InStyle x k Closed) side
-    → StaysInUrl m bytes ⊎ KnownUrl (feed_bytes style_feeding m bytes) → Has (with_style x (feed_bytes style_feeding k bytes)) side
-style-end-by x k m s bytes l i h y (inl w) =
+abbrev OpenedIn : StyleScan → Type 0
+OpenedIn k = (t : Parts) → style_scan_parts k ≡ Some t → is_some t.opened ≡ true
+
+style-end-by : (k m : StyleScan) (s : Parts) (bytes : List ℕ) → StyleScanBelow k m → style_scan_parts m ≡ Some s
+    → beginning_in_css (style_scan_place (feed_bytes style_feeding m bytes)) ≡ Some prefix.Differs → OpenedIn k
+    → StaysInUrl m bytes ⊎ KnownUrl (feed_bytes style_feeding m bytes) → is_some (beginning_in_css (style_scan_place (feed_bytes style_feeding k bytes))) ≡ true
+style-end-by k m s bytes l i h y (inl w) =
     let e = below-in-url k m s l i in
     let fed = stays-parts bytes k e.0 e.1 (stays-same bytes k m e.2.same w) in
     let above = stays-parts bytes m s i w in
     let apart = of-differs (feed_bytes parts_feeding s bytes).opened (sym (scan-opened (feed_bytes style_feeding m bytes) (feed_bytes parts_feeding s bytes) above) ∙ h) in
-    let opened = open-bytes bytes s e.0 ((part-members (InStyle x k Closed) e.0 e.1).open_in y) (apart-inside (feed_bytes parts_feeding s bytes) apart) in
-    side-has (with_style x (feed_bytes style_feeding k bytes))
-    (ap is_some (scan-opened (feed_bytes style_feeding k bytes) (feed_bytes parts_feeding e.0 bytes) fed) ∙ opened)
-style-end-by x k m s bytes l i h y (inr n) =
+    let opened = open-bytes bytes s e.0 (y e.0 e.1) (apart-inside (feed_bytes parts_feeding s bytes) apart) in
+    ap is_some (scan-opened (feed_bytes style_feeding k bytes) (feed_bytes parts_feeding e.0 bytes) fed) ∙ opened
+style-end-by k m s bytes l i h y (inr n) =
     absurd (no (sym (unmet-spells (feed_bytes style_feeding m bytes) (known-unmet (feed_bytes style_feeding m bytes) n)) ∙ ap spells_apart h))
 
-style-end-has : (x : ValuePlace) (k m : StyleScan) (o : Option Parts) (bytes : List ℕ) → StyleScanBelow k m → style_scan_parts m ≡ o
-    → beginning_in_css (style_scan_place (feed_bytes style_feeding m bytes)) ≡ Some prefix.Differs → ScanHas (InStyle x k Closed) side
-    → Has (with_style x (feed_bytes style_feeding k bytes)) side
-style-end-has x k m (Some s) bytes l i h y = style-end-by x k m s bytes l i h y (feeds bytes m s i)
-style-end-has x k m None bytes l i h y =
+style-end-opened : (k m : StyleScan) (o : Option Parts) (bytes : List ℕ) → StyleScanBelow k m → style_scan_parts m ≡ o
+    → beginning_in_css (style_scan_place (feed_bytes style_feeding m bytes)) ≡ Some prefix.Differs → OpenedIn k
+    → is_some (beginning_in_css (style_scan_place (feed_bytes style_feeding k bytes))) ≡ true
+style-end-opened k m (Some s) bytes l i h y = style-end-by k m s bytes l i h y (feeds bytes m s i)
+style-end-opened k m None bytes l i h y =
     let n = feed_bytes style_feeding m bytes in
     absurd (no (sym (unmet-spells n (known-unmet n (known-fed bytes m (known_none i)))) ∙ ap spells_apart h))
+
+style-end-has : (x : ValuePlace) (k m : StyleScan) (bytes : List ℕ) → StyleScanBelow k m
+    → beginning_in_css (style_scan_place (feed_bytes style_feeding m bytes)) ≡ Some prefix.Differs → ScanHas (InStyle x k Closed) side
+    → Has (with_style x (feed_bytes style_feeding k bytes)) side
+style-end-has x k m bytes l h y =
+    side-has (with_style x (feed_bytes style_feeding k bytes))
+    (style-end-opened k m (style_scan_parts m) bytes l refl h (λ t e. (part-members (InStyle x k Closed) t e).open_in y))
+
+element-end-has : (k m : StyleScan) (h : Pending) (bytes : List ℕ) → StyleScanBelow k m
+    → beginning_in_css (style_scan_place (feed_bytes style_feeding m bytes)) ≡ Some prefix.Differs → ScanHas (InStyleElement k h) side
+    → Has (place.Style (style_scan_place (feed_bytes style_feeding k bytes))) side
+element-end-has k m h bytes l e y =
+    side-has (place.Style (style_scan_place (feed_bytes style_feeding k bytes)))
+    (style-end-opened k m (style_scan_parts m) bytes l refl e (λ t i. (part-members (InStyleElement k h) t i).open_in y))
+
+element-has : (k : StyleScan) (x : Pending) (f : Scan) → ScanBelow (InStyleElement k x) f → HasApart (scan_place f) → ScanHas (InStyleElement k x) side
+    → Has (scan_place (InStyleElement k x)) side
+element-has k x f l h y =
+    under-element (λ g. HasApart (scan_place g) → Has (scan_place (InStyleElement k x)) side) k x f l
+    (λ m i e. element-end-has k m x (pending_bytes x) i e y)
+    (λ d j i e. subst (λ (z : Pending). Has (scan_place (InStyleElement k z)) side) (sym j)
+    (element-end-has k (style_scan_start d) x [] i (ap beginning_in_css (start-place d) ∙ e) y)) h
 
 under-has : (x : ValuePlace) (k : StyleScan) (w : ValuePlace) → StyleUnderBody x k w w.body → beginning_in_body w.body ≡ Some prefix.Differs
     → ScanHas (InStyle x k Closed) side → Has (with_style x k) side
 under-has x k w l h y =
     let d = under-body x k w w.body l in
-    style-end-has x k (style_scan_start d.0) (style_scan_parts (style_scan_start d.0)) [] d.2.scan refl
+    style-end-has x k (style_scan_start d.0) [] d.2.scan
     (ap beginning_in_css (start-place d.0) ∙ ap beginning_in_body (sym d.1) ∙ h) y
 
 end-has : (g f : Scan) → ScanValid f → ScanBelow g f → HasApart (scan_place f) → ScanHas g side → Has (scan_place g) side
@@ -746,12 +842,13 @@ end-has (InUrl x t r) (InUrl v u z) w l h k =
     subst (λ (y : Reference). Has (with_body x (parts_with x.body (as_it_stands y))) side) (sym l.2) (below-has x v z l.0 w.1 h k)
 end-has (InUrl x t r) _ w l h k = absurd l
 end-has (InStyle x k r) (InStyle v m z) w l h y =
-    style-end-has x k m (style_scan_parts m) (as_it_stands r) l.0.scan refl
+    style-end-has x k m (as_it_stands r) l.0.scan
     (ap (λ (a : Reference). beginning_in_css (style_scan_place (feed_bytes style_feeding m (as_it_stands a)))) l.1 ∙ h) y
 end-has (InStyle x k r) (At (place.Value v)) w l h y =
     subst (λ (a : Reference). Has (with_style x (feed_bytes style_feeding k (as_it_stands a))) side) (sym l.1) (under-has x k v l.0 h y)
 end-has (InStyle x k r) (At _) w l h y = absurd l.0
 end-has (InStyle x k r) _ w l h y = absurd l
+end-has (InStyleElement k x) f w l h y = element-has k x f l h y
 end-has (InAttributeName t x n) f w l h k = absurd (no k)
 end-has _ f w l h k = absurd (no k)
 

@@ -93,6 +93,9 @@ high-no-letter b l k m n e = let s : b ≡ k = sym (high-lower b (nat_lt b 65) (
 pub ampersand-no-letter : IsNoLetter 38
 ampersand-no-letter k m n e = let s : 38 ≡ k = e in omega (arith, m, s)
 
+pub less-no-letter : IsNoLetter 60
+less-no-letter k m n e = let s : 60 ≡ k = e in omega (arith, m, s)
+
 high-no-colon : (b : ℕ) → 128 ≤ b → url_class_of b ≡ class.Colon → ⊥
 high-no-colon b l e = let m = colon-byte b e in omega (arith, m, l)
 

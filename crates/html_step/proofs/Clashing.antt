@@ -10,7 +10,7 @@ use Rattle.place_core.specs.place.LanguagePlaces.{css_has, parts_have}
 use Rattle.place_core.specs.place.Places.{Has, block_has, body_has, dash_has, is_whole, joined_quotes, quotes_have, spots_have, typed_has}
 use Rattle.place_core.specs.place.StatePlaces.{only_after, only_before, only_inside, only_name, quotes_at, tag_spot, unbegun}
 use Rattle.place_core.specs.place.UrlParts.{parts_of}
-use Rattle.place_core.specs.page.States.{LexState, Text, TagOpen, EndTagOpen, DeclarationOpen, InComment, Inside, Broken, BogusComment, InDoctype, TagName, WholeTagName, BeforeAttributeName, AttributeName, WholeAttributeName, AfterAttributeName, BeforeAttributeValue, AttributeValue, AfterAttributeValue, SelfClosingStartTag, Characters, Bytes, Pending, Nothing, PendingLess, PendingName, PendingBang, PendingBangDash, InContent, Unread, LessAtCut}
+use Rattle.place_core.specs.page.States.{LexState, Text, TagOpen, EndTagOpen, DeclarationOpen, InComment, Inside, Broken, BogusComment, InDoctype, TagName, WholeTagName, BeforeAttributeName, AttributeName, WholeAttributeName, AfterAttributeName, BeforeAttributeValue, AttributeValue, AfterAttributeValue, SelfClosingStartTag, Characters, Bytes, InLanguage, Pending, Nothing, PendingLess, PendingName, PendingBang, PendingBangDash, InContent, Unread, LessAtCut}
 use Rattle.place_core.specs.page.Tags.{Value, ValueOf, Deciding, ValueState, OfKind, OfUrl, OfStyle, Quoting, DoubleQuoted, SingleQuoted, Unquoted, Tag, is_second_type}
 use Rattle.place_core.specs.declared.body.Body.{Body}
 use Rattle.place_core.specs.declared.body.Body.TheVariants as body
@@ -32,7 +32,7 @@ use Rattle.place_core.specs.declared.tag_place.TagPlace.{TagPlace}
 use Rattle.place_core.specs.declared.value_place.ValuePlace.{ValuePlace}
 use Rattle.place_core.proofs.JoinMembers.{the_has_grows}
 use Rattle.place_core.proofs.Semilattices.{none_some}
-use Rattle.html_scan.specs.Scans.{Scan, At, AfterLess, AfterLessSolidus, InDeclaration, InTagName, InAttributeName, InUrl, InStyle, InCommentEnd, InContentEnd, scan_error, url_scan, value_cause, body_cause, BeforeType, InType, quoted_error, style_cause, style_feeding}
+use Rattle.html_scan.specs.Scans.{Scan, At, AfterLess, AfterLessSolidus, InDeclaration, InTagName, InAttributeName, InUrl, InStyle, InStyleElement, InCommentEnd, InContentEnd, scan_error, url_scan, value_cause, body_cause, BeforeType, InType, quoted_error, style_cause, style_feeding}
 use Rattle.html_step.proofs.PlaceParts.{Under, value-below}
 use Rattle.html_step.proofs.ScanOrder.{ScanBelow, ScanHas, StyleUnderPlace, bare-parts, first-none, if-none, under-body}
 use Rattle.html_step.proofs.StylePaths.{empty_css, style_value}
@@ -43,14 +43,15 @@ use Rattle.css_lexer.specs.Escapes.{StyleEscape, NoEscape, AfterBackslash, HexDi
 use Rattle.css_lexer.specs.PartSpots.{has_read_nothing}
 use Rattle.css_lexer.specs.States.{Outside, SplitWord, Fresh, Bare, Quoted, Ended, Style, Out}
 use Rattle.css_lexer.specs.States as style
-use Rattle.css_step.specs.StyleOrigins.{scan_set_has}
+use Rattle.css_step.specs.StyleOrigins.{scan_set_has, style_scan_has}
 use Rattle.css_step.specs.StyleScanLaws.{style_scanned, style_scanned_outside}
 use Rattle.css_step.specs.StyleScans.{StyleScan, ScanCode, ScanWord, ScanSplitEscape, ScanSolidus, ScanLessThan, ScanComment, ScanStarBefore, ScanString, ScanFresh, ScanBareUrl, ScanQuotedUrl, ScanEnded, style_split_word}
 use Rattle.place_core.specs.declared.css.Css.{Css}
 use Rattle.place_core.specs.declared.css.Css.TheVariants as css
 use Rattle.url_lexer.specs.States.{Url}
 use Rattle.html_step.proofs.FedAlike.{first-caused}
-use Rattle.html_step.proofs.PathScans.{WhereScanned, block_scanned, content_scanned, scanned, style_value_scanned, none-at-hand, some, url_value}
+use Rattle.html_step.proofs.ElementFrom.{element-out}
+use Rattle.html_step.proofs.PathScans.{WhereScanned, block_scanned, content_scanned, language_scanned, scanned, style_element_scanned, style_value_scanned, none-at-hand, some, url_value}
 use Rattle.html_step.proofs.FromSteps.{or-false}
 use Rattle.url_lexer.specs.Parts.{UrlPart, UrlStart, UrlOpen}
 use Rattle.url_lexer.specs.TwoPaths.{is_open}
@@ -80,7 +81,8 @@ IsUnbegun (BeforeAttributeValue t kind.ScriptType) = ⊥
 IsUnbegun (BeforeAttributeValue t k) = ⊤
 IsUnbegun s = ⊥
 
--- The members that values alone have: these two, and the parts of a URL in which it begins and in which it has begun.
+-- Members of values: two that they alone have, and the parts of a URL in which it begins and in which it has begun, which a style in an
+-- element has too.
 pub record OfValue (m : Member) : Type 0 where
   pub whole : is_whole m ≡ false
   pub typed : (x : Bool) → typed_has x m ≡ false
@@ -146,9 +148,11 @@ no-block m o (PendingName l) _ = tt
 no-block m o PendingBang _ = tt
 no-block m o PendingBangDash _ = tt
 
+-- nor in the content of an element that a language reads
 abbrev IsNoValue : LexState ValueState → Type 0
 IsNoValue (BeforeAttributeValue t k) = ⊥
 IsNoValue (AttributeValue q t v r) = ⊥
+IsNoValue (InContent e (InLanguage v) h) = ⊥
 IsNoValue s = ⊤
 
 no-value-in : (m : Member) → OfValue m → (s : LexState ValueState) → IsNoValue s → WhereScanned (scanned s) (Lacks m)
@@ -175,6 +179,7 @@ no-value-in m o (AfterAttributeValue t) n = λ h. in-tag m o (tag_spot t only_be
 no-value-in m o (SelfClosingStartTag t) n = λ h. in-tag m o (tag_spot t only_before None) h
 no-value-in m o (InContent e (Characters r) p) n = no-content m o p e
 no-value-in m o (InContent e Bytes p) n = no-block m o p e
+no-value-in m o (InContent e (InLanguage v) p) n = absurd n
 no-value-in m o Unread n = tt
 
 no-value : (m : Member) → OfValue m → (s : LexState ValueState) (g : Scan) → IsNoValue s → scanned s ≡ Some g → ScanHas g m → ⊥
@@ -255,6 +260,35 @@ value-bears : (m : Member) → OfValue m → (q : Quoting) (t : Tag) (v : Value 
     → value_has v (quotes_at q) m ≡ true
 value-bears m o q t v r g e h = subst (λ (x : Option Scan). WhereScanned x (λ f. ScanHas f m → value_has v (quotes_at q) m ≡ true)) e (value-in m o q t v r) h
 
+-- In the element `style` it bears what the style has.
+element-at : (m : Member) → OfValue m → (n : StyleScan) → style_scan_has n m ≡ true → scan_set_has n m ≡ true
+element-at m o n h = second-of (is_whole m) (scan_set_has n m) o.whole h
+
+element-in : (m : Member) → OfValue m → (h : Pending) (x : Option StyleScan)
+    → WhereScanned (style_element_scanned h x) (λ f. ScanHas f m → style_set_has x m ≡ true)
+element-in m o Nothing (Some n) = λ h. element-at m o n (element-out n m h)
+element-in m o PendingLess (Some n) = λ h. element-at m o n h
+element-in m o (PendingName letters) (Some n) = λ h. element-at m o n h
+element-in m o LessAtCut (Some n) = tt
+element-in m o PendingBang (Some n) = tt
+element-in m o PendingBangDash (Some n) = tt
+element-in m o h None = tt
+
+abbrev language_has : ValueState → Member → Bool
+language_has (OfStyle s) m = style_set_has (style_scanned s) m
+language_has v m = false
+
+language-in : (m : Member) → OfValue m → (e : Element) (v : ValueState) (h : Pending)
+    → WhereScanned (language_scanned h e v) (λ f. ScanHas f m → language_has v m ≡ true)
+language-in m o element.Style (OfStyle s) h = element-in m o h (style_scanned s)
+language-in m o element.Style (OfKind k) h = tt
+language-in m o element.Style (OfUrl u) h = tt
+language-in m o _ v h = tt
+
+language-bears : (m : Member) → OfValue m → (e : Element) (v : ValueState) (p : Pending) (g : Scan) → scanned (InContent e (InLanguage v) p) ≡ Some g
+    → ScanHas g m → language_has v m ≡ true
+language-bears m o e v p g i h = subst (λ (x : Option Scan). WhereScanned x (λ f. ScanHas f m → language_has v m ≡ true)) i (language-in m o e v p) h
+
 -- a style has no member of quotes
 set-lacks : (n : StyleScan) → (scan_set_has n member.UnquotedValue ≡ false) × (scan_set_has n member.UnbegunValue ≡ false)
 set-lacks (ScanCode x) = (refl, refl)
@@ -306,9 +340,15 @@ unquoted-value SingleQuoted t (ValueOf (OfUrl u)) r h = absurd (no h)
 unquoted-value SingleQuoted t (ValueOf (OfStyle s)) r h = absurd (no (sym (no-set (style_scanned s)).0 ∙ h))
 unquoted-value q t (Deciding k before) r h = absurd (no h)
 
+unquoted-language : (v : ValueState) → language_has v member.UnquotedValue ≡ true → ⊥
+unquoted-language (OfStyle s) h = no (sym (no-set (style_scanned s)).0 ∙ h)
+unquoted-language (OfKind k) h = no h
+unquoted-language (OfUrl u) h = no h
+
 pub is-unquoted : (s : LexState ValueState) (g : Scan) → scanned s ≡ Some g → ScanHas g member.UnquotedValue → IsUnquoted s
 is-unquoted (BeforeAttributeValue t k) g e h = absurd (unquoted-before k (before-bears member.UnquotedValue of-unquoted t k g e h))
 is-unquoted (AttributeValue q t v r) g e h = unquoted-value q t v r (value-bears member.UnquotedValue of-unquoted q t v r g e h)
+is-unquoted (InContent x (InLanguage v) p) g e h = absurd (unquoted-language v (language-bears member.UnquotedValue of-unquoted x v p g e h))
 is-unquoted s g e h = absurd (no-value member.UnquotedValue of-unquoted s g tt e h)
 
 unbegun-before : (t : Tag) (k : Kind) → before_has k member.UnbegunValue ≡ true → IsUnbegun (BeforeAttributeValue t k)
@@ -327,9 +367,15 @@ unbegun-value DoubleQuoted (ValueOf (OfStyle s)) h = no (sym (no-set (style_scan
 unbegun-value SingleQuoted (ValueOf (OfStyle s)) h = no (sym (no-set (style_scanned s)).1 ∙ h)
 unbegun-value q (Deciding k before) h = no h
 
+unbegun-language : (v : ValueState) → language_has v member.UnbegunValue ≡ true → ⊥
+unbegun-language (OfStyle s) h = no (sym (no-set (style_scanned s)).1 ∙ h)
+unbegun-language (OfKind k) h = no h
+unbegun-language (OfUrl u) h = no h
+
 pub is-unbegun : (s : LexState ValueState) (g : Scan) → scanned s ≡ Some g → ScanHas g member.UnbegunValue → IsUnbegun s
 is-unbegun (BeforeAttributeValue t k) g e h = unbegun-before t k (before-bears member.UnbegunValue of-unbegun t k g e h)
 is-unbegun (AttributeValue q t v r) g e h = absurd (unbegun-value q v (value-bears member.UnbegunValue of-unbegun q t v r g e h))
+is-unbegun (InContent x (InLanguage v) p) g e h = absurd (unbegun-language v (language-bears member.UnbegunValue of-unbegun x v p g e h))
 is-unbegun s g e h = absurd (no-value member.UnbegunValue of-unbegun s g tt e h)
 
 -- a path on which a URL begins, which may be in a style
@@ -341,6 +387,7 @@ abbrev pub StartsUrl : LexState ValueState → Type 0
 StartsUrl (BeforeAttributeValue t kind.Url) = ⊤
 StartsUrl (AttributeValue q t (ValueOf (OfUrl u)) r) = u.part ≡ UrlStart
 StartsUrl (AttributeValue q t (ValueOf (OfStyle s)) r) = IsStart (url_in_style s)
+StartsUrl (InContent e (InLanguage (OfStyle s)) h) = IsStart (url_in_style s)
 StartsUrl s = ⊥
 
 start-part : (p : UrlPart) → parts_have (parts_of p) member.PartStart ≡ true → p ≡ UrlStart
@@ -417,9 +464,15 @@ start-value q t (ValueOf (OfUrl u)) r h =
     start-part u.part (second-of (quotes_have (quotes_at q) member.PartStart) (parts_have (parts_of u.part) member.PartStart) (no-start (quotes_at q)) h)
 start-value q t (Deciding k before) r h = absurd (no h)
 
+start-language : (e : Element) (v : ValueState) (p : Pending) → language_has v member.PartStart ≡ true → StartsUrl (InContent e (InLanguage v) p)
+start-language e (OfStyle s) p h = style-start s h
+start-language e (OfKind k) p h = absurd (no h)
+start-language e (OfUrl u) p h = absurd (no h)
+
 pub is-start : (s : LexState ValueState) (g : Scan) → scanned s ≡ Some g → ScanHas g member.PartStart → StartsUrl s
 is-start (BeforeAttributeValue t k) g e h = start-before t k (before-bears member.PartStart of-start t k g e h)
 is-start (AttributeValue q t v r) g e h = start-value q t v r (value-bears member.PartStart of-start q t v r g e h)
+is-start (InContent x (InLanguage v) p) g e h = start-language x v p (language-bears member.PartStart of-start x v p g e h)
 is-start s g e h = absurd (no-value member.PartStart of-start s g tt e h)
 
 open-before : (k : Kind) → before_has k member.PartOpen ≡ true → ⊥
@@ -436,9 +489,15 @@ open-value q t (ValueOf (OfUrl u)) r h =
     sym (open-part u.part) ∙ second-of (quotes_have (quotes_at q) member.PartOpen) (parts_have (parts_of u.part) member.PartOpen) (no-open (quotes_at q)) h
 open-value q t (Deciding k before) r h = absurd (no h)
 
+open-language : (e : Element) (v : ValueState) (p : Pending) → language_has v member.PartOpen ≡ true → is_in_beginning (InContent e (InLanguage v) p) ≡ true
+open-language e (OfStyle s) p h = style-open s h
+open-language e (OfKind k) p h = absurd (no h)
+open-language e (OfUrl u) p h = absurd (no h)
+
 pub is-open : (s : LexState ValueState) (g : Scan) → scanned s ≡ Some g → ScanHas g member.PartOpen → is_in_beginning s ≡ true
 is-open (BeforeAttributeValue t k) g e h = absurd (open-before k (before-bears member.PartOpen of-open t k g e h))
 is-open (AttributeValue q t v r) g e h = open-value q t v r (value-bears member.PartOpen of-open q t v r g e h)
+is-open (InContent x (InLanguage v) p) g e h = open-language x v p (language-bears member.PartOpen of-open x v p g e h)
 is-open s g e h = absurd (no-value member.PartOpen of-open s g tt e h)
 
 -- what these paths bear
@@ -541,6 +600,7 @@ at-grows a (InUrl v t r) m l h = absurd l
 at-grows a (InStyle v s r) m l h = absurd l
 at-grows a (InCommentEnd x) m l h = absurd l
 at-grows a (InContentEnd x y) m l h = absurd l
+at-grows a (InStyleElement x y) m l h = absurd l
 at-grows a (BeforeType t) m l h = absurd l
 at-grows a (InType t q v r) m l h = absurd l
 
@@ -555,6 +615,7 @@ url-grows v t r (InAttributeName u x y) m l h = absurd l
 url-grows v t r (InStyle w s z) m l h = absurd l
 url-grows v t r (InCommentEnd x) m l h = absurd l
 url-grows v t r (InContentEnd x y) m l h = absurd l
+url-grows v t r (InStyleElement x y) m l h = absurd l
 url-grows v t r (BeforeType u) m l h = absurd l
 url-grows v t r (InType u q w z) m l h = absurd l
 
@@ -584,6 +645,7 @@ has-grows : (m : Member) → OfValue m → ((n : StyleScan) → scan_set_has n m
 has-grows m o k (At a) f l h = at-grows a f m l h
 has-grows m o k (InUrl v t r) f l h = url-grows v t r f m l h
 has-grows m o k (InStyle v n r) f l h = style-grows v n r f m l (first-of (quotes_have v.quotes m) (scan_set_has n m) (k n) (of-style m o v n h))
+has-grows m o k (InStyleElement n x) f l h = absurd (no (sym (k n) ∙ element-at m o n h))
 has-grows m o k (InAttributeName t typed name) f l h = absurd (no-value-has m o t typed name h)
 has-grows m o k _ f l h = absurd (no-whole m o h)
 
@@ -631,8 +693,9 @@ style-both v n r b h k o =
 pub both-refuse : (f : Scan) (b : ℕ) → ScanHas f member.UnquotedValue → ScanHas f member.UnbegunValue → scan_error f White b ≡ None → ⊥
 both-refuse (At (place.Value v)) b h k n = value-both v Closed b h k n
 both-refuse (At (place.Script j)) b h k n = some _ n
-both-refuse (At (place.Style j)) b h k n = some _ n
+both-refuse (At (place.Style j)) b h k n = no (sym (css-lacks j).0 ∙ h)
 both-refuse (At _) b h k n = no h
 both-refuse (InUrl v t r) b h k n = value-both v r b h k n
 both-refuse (InStyle v s r) b h k n = style-both v s r b h k n
+both-refuse (InStyleElement s x) b h k n = no (sym (set-lacks s).0 ∙ h)
 both-refuse _ b h k n = no h

@@ -134,7 +134,7 @@ bare-undone h false true Closed c b s t g i v k e = (fed-beside h (plain_bytes c
 bare-undone h false false Closed c b s t g i v k e = (fed-beside h (plain_bytes c b) false 0 s t k e).1
 
 -- refused alike
-alike-first : (o p q : Option PathCause) → (o ≡ None → p ≡ q) → first_cause o p ≡ first_cause o q
+pub alike-first : (o p q : Option PathCause) → (o ≡ None → p ≡ q) → first_cause o p ≡ first_cause o q
 alike-first None p q h = h refl
 alike-first (Some e) p q h = refl
 

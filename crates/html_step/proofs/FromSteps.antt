@@ -20,9 +20,11 @@ use Rattle.place_core.specs.declared.tag_of.TagOf.{TagOf}
 use Rattle.place_core.specs.declared.tag_place.TagPlace.{TagPlace}
 use Rattle.place_core.specs.declared.value_place.ValuePlace.{ValuePlace}
 use Rattle.place_core.proofs.Joins.{places_same}
-use Rattle.html_scan.specs.Scans.{Scan, At, AfterLess, AfterLessSolidus, InDeclaration, InTagName, InAttributeName, InUrl, InStyle, InCommentEnd, InContentEnd, comment_next, comment_state, place_cause, scan_cut_error, scan_error, scan_next, scan_place, tag_next, value_cause, value_next, value_scan, BeforeType, InType, content_next}
+use Rattle.html_scan.specs.Scans.{Scan, At, AfterLess, AfterLessSolidus, InDeclaration, InTagName, InAttributeName, InUrl, InStyle, InStyleElement, InCommentEnd, InContentEnd, comment_next, comment_state, place_cause, scan_cut_error, scan_error, scan_next, scan_place, tag_next, value_cause, value_next, value_scan, BeforeType, InType, content_next}
 use Rattle.html_step.specs.Origins.{byte_origin, end_origin, name_origin, tag_origin, typed_origin, value_origin, white_origin}
 use Rattle.html_step.proofs.BelowScans.{IsRigid, below-at, below-at-tag, below-at-unstyled, below-attribute, below-url, comment-end-rigid, content-end-rigid, declaration-rigid, doctype-rigid, less-rigid, rcdata-rigid, solidus-rigid, tag-name-rigid, text-rigid, whole-in, before-type-rigid, type-rigid}
+use Rattle.html_step.proofs.ElementFrom.{end-element, from-element, from-element-place}
+use Rattle.html_step.proofs.StyleFrom.{has-placed}
 use Rattle.html_step.proofs.FromValues.{From, FromEnd, ValueFrom, content-whole, end-from, no-less, value-from, value_has}
 use Rattle.html_step.proofs.ScanOrder.{ScanBelow, ScanHas, ScanValid, Unstyled, UrlWithin, begun-open, begun-valid, has-kind, within-unstyled}
 use Rattle.html_step.proofs.StylePaths.{empty_css}
@@ -218,7 +220,7 @@ from-place (place.Rcdata e) c b y v n h = from-rigid (At (place.Rcdata e)) (rcda
 from-place (place.Tag t) c b y v n h = from-tag-byte t c b y v (none-at-hand (tag_error t c) n) h
 from-place (place.Value x) c b y v n h = from-value-byte x c b y x.body refl v n h
 from-place (place.Script j) c b y v n h = absurd (some _ n)
-from-place (place.Style j) c b y v n h = absurd (some _ n)
+from-place (place.Style j) c b y v n h = from-element-place j c b y n h
 from-place (place.Block lt) c b y v n h = from-whole (At (place.Block lt)) c b y (block-whole c y h)
 
 pub from-byte : (f : Scan) (c : Class) (b : ℕ) (y : Member) → ScanValid f → scan_error f c b ≡ None → ScanHas (scan_next f c b) y
@@ -234,6 +236,7 @@ from-byte (InUrl w t r) c b y v n h =
 from-byte (InStyle w s r) c b y v n h = from-in-style w s r c b y v.0 n h
 from-byte (InCommentEnd s) c b y v n h = from-rigid (InCommentEnd s) (comment-end-rigid s) c b y h
 from-byte (InContentEnd e x) c b y v n h = from-rigid (InContentEnd e x) (content-end-rigid e x) c b y h
+from-byte (InStyleElement s x) c b y v n h = from-element s x c b y n h
 from-byte (BeforeType t) c b y v n h = from-rigid (BeforeType t) (before-type-rigid t) c b y h
 from-byte (InType t q w r) c b y v n h = from-rigid (InType t q w r) (type-rigid t q w r) c b y h
 
@@ -249,7 +252,7 @@ end-rigid : (f : Scan) → IsRigid f → (y : Member) → Has (scan_place f) y �
 end-rigid f r y h = record { there = whole-in f member.Whole refl; leads = λ g z l o. subst (λ (x : Scan). Has (scan_place x) y) (sym (r g l)) h }
 
 end-at : (p : Place) (y : Member) (g : Scan) → ScanBelow g (At p) → ScanHas g y → Has (scan_place g) y
-end-at p y g l o = below-at (λ (g : Scan). ScanHas g y → Has (scan_place g) y) p (λ a l o. o) (λ v n u o. style-placed v n y o) g l o
+end-at p y g l o = below-at (λ (g : Scan). ScanHas g y → Has (scan_place g) y) p (λ a l o. o) (λ v n u o. style-placed v n y o) (λ n u o. has-placed n y o) g l o
 
 end-attribute : (t : TagOf) (typed : Bool) (name : List ℕ) (y : Member) → Has (scan_place (InAttributeName t typed name)) y
     → FromEnd (InAttributeName t typed name) y (name_origin typed)
@@ -269,6 +272,7 @@ from-end (InTagName end name) y v n h = end-rigid (InTagName end name) (tag-name
 from-end (InAttributeName t typed name) y v n h = end-attribute t typed name y h
 from-end (InCommentEnd s) y v n h = end-rigid (InCommentEnd s) (comment-end-rigid s) y h
 from-end (InContentEnd e x) y v n h = end-rigid (InContentEnd e x) (content-end-rigid e x) y h
+from-end (InStyleElement s x) y v n h = end-element s x y n h
 from-end (BeforeType t) y v n h = end-rigid (BeforeType t) (before-type-rigid t) y h
 from-end (InUrl w t r) y v n h = end-url w t r y v.1 n h
 from-end (InStyle w s r) y v n h = end-style w s r y v.0 n h

@@ -4,7 +4,8 @@ use Rattle.place_core.specs.page.Classes.{Class, White, QuotationMark, Apostroph
 use Rattle.place_core.specs.page.References.{Reference, Closed, Open, as_it_stands, next_reference, plain_bytes, undone_byte}
 use Rattle.place_core.specs.page.Tags.{feed_bytes}
 use Rattle.place_core.specs.place.Errors.{bare_error, body_error, at_hand, fed_error, language_error, quotes_error, value_error}
-use Rattle.place_core.specs.place.LanguagePlaces.{parts_have}
+use Rattle.place_core.specs.place.LanguagePlaces.{css_tails_have, parts_have}
+use Rattle.place_core.specs.place.StyleParts.{style_tails}
 use Rattle.place_core.specs.place.Places.{Has, IsValidQuotes, body_has, is_whole, joined_bodies, joined_quotes, quotes_have, some_bare, spots_have, typed_has}
 use Rattle.place_core.specs.place.StatePlaces.{only_before, unbegun}
 use Rattle.place_core.specs.declared.bare.Bare.{Bare}
@@ -30,7 +31,7 @@ use Rattle.html_step.proofs.FromParts.{AreTaken, fed-from, fed-quoted, fed-taken
 use Rattle.html_step.proofs.PathScans.{none-at-hand, some}
 use Rattle.html_step.proofs.PlaceParts.{Under, ValueBelow, below-value}
 use Rattle.html_step.proofs.ScanOrder.{BegunWhereOpen, ScanBelow, ScanHas, ScanValid, Unstyled, UrlWithin, bare-parts, bare-white, body-accepts, first-none, if-none, parts-below, url-within, within-unstyled}
-use Rattle.html_step.proofs.StyleFrom.{style-fed-typed, style-fed-whole, typed-none}
+use Rattle.html_step.proofs.StyleFrom.{no-tails, style-fed-typed, style-fed-whole, typed-none}
 use Rattle.css_step.specs.StyleScans.{style_scan_start}
 use Rattle.html_step.proofs.FedAlike.{BegunIf}
 use Rattle.url_lexer.specs.Triples.{Triple, NoTriple, AfterPercent, AfterDigit}
@@ -225,6 +226,8 @@ content-whole tag.End y h = whole-alone y h
 content-whole (tag.Start element.Title) y h = whole-alone y h
 content-whole (tag.Start element.Textarea) y h = whole-alone y h
 content-whole (tag.Start element.DataBlock) y h = no-less y h
+content-whole (tag.Start element.Style) y h =
+    or-either (is_whole y ≡ true) (is_whole y) (css_tails_have (style_tails false false false) y) h (λ e. e) (λ e. absurd (no-tails y e))
 content-whole (tag.Start _) y h = whole-alone y h
 
 abbrev BodyOrigin : ValuePlace → List ℕ → Member → Member

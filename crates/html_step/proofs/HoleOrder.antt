@@ -1,5 +1,5 @@
 -- Holes, over the order of places.
-use Rattle.std.proofs.Common.{◌≡◌, Bool, true, false, ◌||◌, Option, Some, None, option_map, Ok, Err, refl, sym, ap, ◌∙◌, subst}
+use Rattle.std.proofs.Common.{◌≡◌, Bool, true, false, ◌||◌, List, [], ◌∷◌, ◌++◌, Option, Some, None, option_map, Ok, Err, refl, sym, ap, ◌∙◌, subst}
 use Rattle.place_core.specs.page.States.{LexState}
 use Rattle.place_core.specs.page.Tags.{ValueState, refusal_code}
 use Rattle.place_core.specs.place.Errors.{hole_error}
@@ -28,8 +28,9 @@ use Rattle.place_core.specs.declared.value_place.ValuePlace.{ValuePlace}
 use Rattle.place_core.proofs.Semilattices.{none_some, one_value}
 use Rattle.html_scan.specs.Scans.{bare_begun}
 use Rattle.html_step.specs.HoleLaws.{AcceptsHole, CoversHole, GrowsHole, OneHole, ValidHole}
-use Rattle.html_step.specs.Holes.{Holed, after_hole, both_of, css_chain, css_holed, holed_quotes, last_of, named_by_data, only, plain_hole, url_chain, url_holed, value_hole, block_hole}
+use Rattle.html_step.specs.Holes.{Holed, after_hole, css_chain, css_holed, element_holed, holed_quotes, last_of, named_by_data, only, plain_hole, url_chain, url_holed, value_hole, block_hole}
 use Rattle.css_lexer.specs.RefusalCodes.{RefusalCode}
+use Rattle.css_step.specs.StyleChains.{style_hole_with_chain, style_sans}
 use Rattle.css_step.specs.StyleScans.{style_at_hole, style_hole_error}
 use Rattle.css_step.specs.StyleScanViews.{style_or_refusal}
 use Rattle.css_step.specs.StyleSetLaws.{StyleBelow}
@@ -37,10 +38,10 @@ use Rattle.css_step.proofs.StyleGrowth.{styles-grow, url-none}
 use Rattle.css_step.proofs.StyleParts.{styles-stay-valid}
 use Rattle.html_step.proofs.EscapeOrder.{css-dq-one, css-sq-one, css-url-one}
 use Rattle.html_step.proofs.StyleOrder.{below-css, css-below}
-use Rattle.url_lexer.specs.Parts.{UrlStart}
-use Rattle.html_step.proofs.ScanOrder.{one-spot, parts-below, value-from, block-below, plain-same}
+use Rattle.url_step.specs.Chains.{chain_of}
+use Rattle.html_step.proofs.ScanOrder.{one-spot, parts-below, value-from, block-below, plain-same, style-below-place, style-place-below}
 use Rattle.html_step.proofs.HoleSteps.{OwnHole, own-at}
-use Rattle.html_step.proofs.OnePart.{same-chain}
+use Rattle.html_step.proofs.OnePart.{same-chain, same-sans}
 use Rattle.html_step.proofs.PlaceParts.{TagBelow, Under, ValueBelow, below-tag, below-value, value-below, under-both, under-none}
 use Rattle.html_step.proofs.ScanOrder.{parts-of-below}
 use Rattle.html_step.proofs.UrlPlaces.{InUrl, body_url, css_url, url-place}
@@ -121,25 +122,29 @@ dq-parts s r h = css-dq-one (both_parts s r) r (one_value (css.UrlDq (both_parts
 pub sq-parts : (s r : Parts) → StyleBelow (css.UrlSq s) (css.UrlSq r) → PartsBelow s r
 sq-parts s r h = css-sq-one (both_parts s r) r (one_value (css.UrlSq (both_parts s r)) (css.UrlSq r) h)
 
+same-style-sans : (c d : Css) → IsValidCss c → StyleBelow c d → style_hole_error d ≡ None → style_sans c ≡ style_sans d
+same-style-sans (css.Code s) (css.Code r) v h n = refl
+same-style-sans css.Dq css.Dq v h n = refl
+same-style-sans css.Sq css.Sq v h n = refl
+same-style-sans css.UrlFresh css.UrlFresh v h n = refl
+same-style-sans (css.Url s) (css.Url r) v h n = same-sans s r v.0 (url-parts s r h) (url-none (parts_hole_error r) n)
+same-style-sans (css.UrlDq s) (css.UrlDq r) v h n = same-sans s r v.0 (dq-parts s r h) (url-none (parts_hole_error r) n)
+same-style-sans (css.UrlSq s) (css.UrlSq r) v h n = same-sans s r v.0 (sq-parts s r h) (url-none (parts_hole_error r) n)
+same-style-sans css.UrlEnd css.UrlEnd v h n = refl
+same-style-sans (css.Comment s) (css.Comment r) v h n = refl
+same-style-sans (css.Code s) d v h n = absurd (none_some d h)
+same-style-sans css.Dq d v h n = absurd (none_some d h)
+same-style-sans css.Sq d v h n = absurd (none_some d h)
+same-style-sans css.UrlFresh d v h n = absurd (none_some d h)
+same-style-sans (css.Url s) d v h n = absurd (none_some d h)
+same-style-sans (css.UrlDq s) d v h n = absurd (none_some d h)
+same-style-sans (css.UrlSq s) d v h n = absurd (none_some d h)
+same-style-sans css.UrlEnd d v h n = absurd (none_some d h)
+same-style-sans (css.Comment s) d v h n = absurd (none_some d h)
+
 same-css-chain : (c d : Css) (x y : San) → x ≡ y → IsValidCss c → StyleBelow c d → style_hole_error d ≡ None → css_chain c x ≡ css_chain d y
-same-css-chain (css.Code s) (css.Code r) x y e v h n = ap (both_of san.CssValue) e
-same-css-chain css.Dq css.Dq x y e v h n = ap (both_of san.CssString) e
-same-css-chain css.Sq css.Sq x y e v h n = ap (both_of san.CssString) e
-same-css-chain css.UrlFresh css.UrlFresh x y e v h n = ap (url_chain (parts_of UrlStart)) e
-same-css-chain (css.Url s) (css.Url r) x y e v h n = same-chain s r x y e v.0 (url-parts s r h) (url-none (parts_hole_error r) n)
-same-css-chain (css.UrlDq s) (css.UrlDq r) x y e v h n = same-chain s r x y e v.0 (dq-parts s r h) (url-none (parts_hole_error r) n)
-same-css-chain (css.UrlSq s) (css.UrlSq r) x y e v h n = same-chain s r x y e v.0 (sq-parts s r h) (url-none (parts_hole_error r) n)
-same-css-chain css.UrlEnd css.UrlEnd x y e v h n = ap only e
-same-css-chain (css.Comment s) (css.Comment r) x y e v h n = ap (both_of san.Drop) e
-same-css-chain (css.Code s) d x y e v h n = absurd (none_some d h)
-same-css-chain css.Dq d x y e v h n = absurd (none_some d h)
-same-css-chain css.Sq d x y e v h n = absurd (none_some d h)
-same-css-chain css.UrlFresh d x y e v h n = absurd (none_some d h)
-same-css-chain (css.Url s) d x y e v h n = absurd (none_some d h)
-same-css-chain (css.UrlDq s) d x y e v h n = absurd (none_some d h)
-same-css-chain (css.UrlSq s) d x y e v h n = absurd (none_some d h)
-same-css-chain css.UrlEnd d x y e v h n = absurd (none_some d h)
-same-css-chain (css.Comment s) d x y e v h n = absurd (none_some d h)
+same-css-chain c d x y e v h n =
+    ap (css_chain c) e ∙ ap (λ (z : List San). chain_of (z ++ y ∷ [])) (same-style-sans c d v h n)
 
 style-after : ValuePlace → Css → Place
 style-after x c = place.Value (record { tag = x.tag; typed = x.typed; quotes = holed_quotes x.quotes; body = body.Css (style_at_hole c) })
@@ -155,6 +160,18 @@ css-grows x y c d None h v b l n =
           ∙ ap (λ (z : Chain). Ok (style-after x c, z)) (same-css-chain c d (last_of x.quotes) (last_of y.quotes) (same-last x.quotes y.quotes h.quotes) v l n),
       value-from x.tag y.tag x.typed y.typed (holed_quotes x.quotes) (holed_quotes y.quotes) (body.Css (style_at_hole c)) (body.Css (style_at_hole d))
           h.tag h.typed (holed-below x.quotes y.quotes h.quotes) (below-css (style_at_hole c) (style_at_hole d) g.at_hole),
+    )
+
+-- and in the element
+element-hole-grows : (c d : Css) (o : Option RefusalCode) → IsValidCss c → StyleBelow c d → style_hole_error d ≡ o
+    → GrowsTo (element_holed (style_hole_with_chain d (style_or_refusal o (style_at_hole d)))) (place.Style c)
+element-hole-grows c d (Some e) v l n = tt
+element-hole-grows c d None v l n =
+    let g = styles-grow.places c d l in (
+      place.Style (style_at_hole c),
+      ap (λ (z : Option RefusalCode). element_holed (style_hole_with_chain c (style_or_refusal z (style_at_hole c)))) (g.hole_error n)
+          ∙ ap (λ (z : List San). Ok (place.Style (style_at_hole c), chain_of z)) (same-style-sans c d v l n),
+      style-place-below (style_at_hole c) (style_at_hole d) g.at_hole,
     )
 
 -- below a style is one
@@ -191,7 +208,7 @@ grows-to (place.Tag x) (place.Tag y) v h = tag-grows x y (y.spots.name || y.spot
 grows-to (place.Value x) (place.Value y) v h = value-grows x y y.body (below-value x y h) v refl
 grows-to p place.Doctype v h = tt
 grows-to p (place.Script j) v h = tt
-grows-to p (place.Style j) v h = tt
+grows-to (place.Style i) (place.Style j) v h = element-hole-grows i j (style_hole_error j) v (style-below-place i j h) refl
 grows-to (place.Block x) (place.Block y) v h = block-grows x y (block-below x y h)
 grows-to place.Text r v h = absurd (none_some r h)
 grows-to place.Doctype r v h = absurd (none_some r h)
@@ -240,6 +257,10 @@ value-valid x (body.Url s) v e = url-valid x s (parts_hole_error s) (subst IsVal
 value-valid x (body.Js j) v e = tt
 value-valid x (body.Css c) v e = css-valid x c (style_hole_error c) (subst IsValidBody e v.1)
 
+element-hole-valid : (c : Css) (o : Option RefusalCode) → IsValidCss c → ValidTo (element_holed (style_hole_with_chain c (style_or_refusal o (style_at_hole c))))
+element-hole-valid c (Some e) v = tt
+element-hole-valid c None v = styles-stay-valid.at_hole c v
+
 valid-to : (p : Place) → IsValid p → ValidTo (after_hole p)
 valid-to place.Text v = tt
 valid-to place.Doctype v = tt
@@ -248,7 +269,7 @@ valid-to (place.Rcdata e) v = v
 valid-to (place.Tag t) v = tag-valid t (t.spots.name || t.spots.inside)
 valid-to (place.Value x) v = value-valid x x.body v refl
 valid-to (place.Script j) v = tt
-valid-to (place.Style j) v = tt
+valid-to (place.Style j) v = element-hole-valid j (style_hole_error j) v
 valid-to (place.Block true) v = tt
 valid-to (place.Block false) v = tt
 
@@ -358,26 +379,36 @@ two-in-body t (body.Js s) h x y e i j = absurd (no-hole _ h e)
 two-in-body t (body.Css d) h x y e i j = two-in-css d x y (taken-style t d (style_hole_error d) h refl e) i j
 
 url-below : (t : ValuePlace) (a : Place) (x : UrlPart) → InUrl a x → Below a (place.Value t) → PartBelow x t.body
-url-below t a x i l = record {
-  own = i.value.body;
-  below = (below-value i.value t (subst (λ (z : Place). Below z (place.Value t)) i.is l)).body;
-  parts = i.parts;
-}
+url-below t (place.Value u) x i l = record { own = u.body; below = (below-value u t l).body; parts = i.parts }
+url-below t _ x i l = absurd (none_some (place.Value t) l)
 
-no-url : (p a : Place) (x : UrlPart) → InUrl a x → Below a p → ((v : ValuePlace) → Below (place.Value v) p → ⊥) → ⊥
-no-url p a x i l n = n i.value (subst (λ (z : Place). Below z p) i.is l)
+-- in the element too: its place has a part as a value that is the style has it
+taken-element : (c : Css) (o : Option RefusalCode) (h : Place × Chain) → style_hole_error c ≡ o
+    → element_holed (style_hole_with_chain c (style_or_refusal o (style_at_hole c))) ≡ Ok h → style_hole_error c ≡ None
+taken-element c None h n e = n
+taken-element c (Some x) h n e = cc
+
+element-url-below : (d : Css) (a : Place) (x : UrlPart) → InUrl a x → Below a (place.Style d) → PartBelow x (body.Css d)
+element-url-below d (place.Style c) x i l = record { own = body.Css c; below = below-css c d (style-below-place c d l); parts = i.parts }
+element-url-below d _ x i l = absurd (none_some (place.Style d) l)
+
+-- elsewhere no path is in a URL
+no-url : (p a : Place) (x : UrlPart) → InUrl a x → Below a p → ((v : ValuePlace) → Below (place.Value v) p → ⊥) → ((c : Css) → Below (place.Style c) p → ⊥) → ⊥
+no-url p (place.Value v) x i l n m = n v l
+no-url p (place.Style c) x i l n m = m c l
+no-url p _ x i l n m = none_some _ i.parts
 
 two-in : (p : Place) (h : Place × Chain) (a b : Place) (x y : UrlPart) → after_hole p ≡ Ok h → InUrl a x → InUrl b y → Below a p → Below b p
     → refuses_hole_on_two x y ≡ None
 two-in (place.Value t) h a b x y e i j l m = two-in-body t t.body h x y e (url-below t a x i l) (url-below t b y j m)
-two-in place.Text h a b x y e i j l m = absurd (no-url place.Text a x i l (λ v. none_some place.Text))
-two-in place.Doctype h a b x y e i j l m = absurd (no-url place.Doctype a x i l (λ v. none_some place.Doctype))
-two-in (place.Comment z) h a b x y e i j l m = absurd (no-url (place.Comment z) a x i l (λ v. none_some (place.Comment z)))
-two-in (place.Rcdata z) h a b x y e i j l m = absurd (no-url (place.Rcdata z) a x i l (λ v. none_some (place.Rcdata z)))
-two-in (place.Tag z) h a b x y e i j l m = absurd (no-url (place.Tag z) a x i l (λ v. none_some (place.Tag z)))
-two-in (place.Script z) h a b x y e i j l m = absurd (no-url (place.Script z) a x i l (λ v. none_some (place.Script z)))
-two-in (place.Style z) h a b x y e i j l m = absurd (no-url (place.Style z) a x i l (λ v. none_some (place.Style z)))
-two-in (place.Block z) h a b x y e i j l m = absurd (no-url (place.Block z) a x i l (λ v. none_some (place.Block z)))
+two-in place.Text h a b x y e i j l m = absurd (no-url place.Text a x i l (λ v. none_some place.Text) (λ c. none_some place.Text))
+two-in place.Doctype h a b x y e i j l m = absurd (no-url place.Doctype a x i l (λ v. none_some place.Doctype) (λ c. none_some place.Doctype))
+two-in (place.Comment z) h a b x y e i j l m = absurd (no-url (place.Comment z) a x i l (λ v. none_some (place.Comment z)) (λ c. none_some (place.Comment z)))
+two-in (place.Rcdata z) h a b x y e i j l m = absurd (no-url (place.Rcdata z) a x i l (λ v. none_some (place.Rcdata z)) (λ c. none_some (place.Rcdata z)))
+two-in (place.Tag z) h a b x y e i j l m = absurd (no-url (place.Tag z) a x i l (λ v. none_some (place.Tag z)) (λ c. none_some (place.Tag z)))
+two-in (place.Script z) h a b x y e i j l m = absurd (no-url (place.Script z) a x i l (λ v. none_some (place.Script z)) (λ c. none_some (place.Script z)))
+two-in (place.Style d) h a b x y e i j l m = two-in-css d x y (taken-element d (style_hole_error d) h refl e) (element-url-below d a x i l) (element-url-below d b y j m)
+two-in (place.Block z) h a b x y e i j l m = absurd (no-url (place.Block z) a x i l (λ v. none_some (place.Block z)) (λ c. none_some (place.Block z)))
 
 -- what clashes is in two parts
 clash-by : (s r : LexState ValueState) (p : Place) (h : Place × Chain) (e : Code) (o n : Option UrlPart) → after_hole p ≡ Ok h → IsIn p s → IsIn p r

@@ -29,24 +29,26 @@ use Rattle.html_step.specs.Laws.{EvidenceData, apart, one, two}
 use Rattle.html_step.specs.HoleOrigins.{body_hole_origin, css_hole_origin, css_hole_shows, fresh_hole_origin, hole_origin, hole_shows, part_hole_origin, quotes_origin, url_hole_shows, value_hole_shows, word_hole_origin}
 use Rattle.html_step.specs.Origins.{in_value_origin, typed_origin}
 use Rattle.html_step.specs.HoleLaws.{IsHoleOrigin, IsHoleEvidence, FromHole, HoleEvidence}
-use Rattle.html_step.specs.Holes.{Holed, after_hole, css_holed, holed_quotes, named_by_data, plain_hole, url_holed, value_hole, block_hole}
-use Rattle.html_step.proofs.BelowScans.{tag-place, value-place, below-at-block}
+use Rattle.html_step.specs.Holes.{Holed, after_hole, css_holed, element_holed, holed_quotes, named_by_data, plain_hole, url_holed, value_hole, block_hole}
+use Rattle.html_step.proofs.BelowScans.{tag-place, value-place, below-at-block, element-place}
+use Rattle.html_step.proofs.FromParts.{or-either, or-first}
 use Rattle.html_step.proofs.FromSteps.{false-or, no, or-false, or-last}
 use Rattle.html_step.proofs.FromValues.{in-body, in-quotes, in-typed, in-whole, out-part, part-kept, typed-more, typed-only, value-cases, value_has}
 use Rattle.html_step.proofs.FromTexts.{own-has}
-use Rattle.html_step.proofs.ScanOrder.{block-below, plain-same}
+use Rattle.html_step.proofs.ScanOrder.{block-below, plain-same, style-below-place}
 use Rattle.html_step.proofs.HoleOrder.{css-of-below, grows-hole, one-hole}
 use Rattle.html_step.proofs.HoleMembers.{part-behind}
 use Rattle.html_step.proofs.HolesShown.{HoleShown, ShownWhere, hole-where, on_bad, on_two}
-use Rattle.html_step.proofs.PlaceParts.{TagBelow, Under, ValueBelow}
+use Rattle.html_step.proofs.PlaceParts.{TagBelow, Under, ValueBelow, below-value}
 use Rattle.html_step.proofs.ScanOrder.{parts-of-below}
-use Rattle.html_step.proofs.UrlPlaces.{body_url, css_url, url-part}
+use Rattle.html_step.proofs.UrlPlaces.{AtPart, body_url, css_url, element-url-part, place_url, url-part}
 use Rattle.url_lexer.specs.Parts.{UrlPart}
 use Rattle.url_lexer.specs.Refusals.{UrlRefusal, AmbigContext, BadHTML, PartialEscape}
 use Rattle.css_lexer.specs.RefusalCodes.{RefusalCode}
 use Rattle.css_lexer.specs.Urls.{url_code, url_refusal}
+use Rattle.css_step.specs.StyleChains.{style_hole_with_chain}
 use Rattle.css_step.specs.StyleScans.{style_at_hole, style_hole_error}
-use Rattle.css_step.specs.StyleScanViews.{style_hole_answer, style_or_refusal}
+use Rattle.css_step.specs.StyleScanViews.{style_or_refusal}
 use Rattle.css_step.specs.StyleSetLaws.{StyleBelow}
 use Rattle.place_core.specs.declared.css.Css.{Css}
 use Rattle.place_core.specs.declared.css.Css.TheVariants as css
@@ -444,6 +446,45 @@ value-from-to t (body.Url p) y e = url-from t p (parts_hole_error p) y e
 value-from-to t (body.Js p) y e = tt
 value-from-to t (body.Css p) y e = css-from t p (style_hole_error p) y e
 
+-- in the element `style`
+after-element : (c : Css) (y : Member) (o : Option RefusalCode) → Has (place.Style (style_at_hole c)) y
+    → HasAfter (element_holed (style_hole_with_chain c (style_or_refusal o (style_at_hole c)))) y
+after-element c y None h = h
+after-element c y (Some e) h = tt
+
+from-element-by : (p : Css) (y x : Member) → Has (place.Style p) x
+    → ((c : Css) → StyleBelow c p → Has (place.Style c) x → Has (place.Style (style_at_hole c)) y) → FromPlace (place.Style p) y x
+from-element-by p y x h f = record {
+  there = h;
+  leads = λ a l o. element-place (λ (g : Scan). Has (scan_place g) x → HasAfter (after_hole (scan_place g)) y) p
+      (λ c m o. after-element c y (style_hole_error c) (f c m o)) a l o;
+}
+
+element-there : (p : Css) (x : Member) → (x ≡ member.Whole) ⊎ (css_has p x ≡ true) → Has (place.Style p) x
+element-there p x (inl e) = subst (Has (place.Style p)) (sym e) refl
+element-there p x (inr h) = or-last (is_whole x) (css_has p x) h
+
+-- what has it, has it in its set
+element-out : (p c : Css) (y : Member) → css_has p y ≡ true → Has (place.Style c) y → css_has c y ≡ true
+element-out p c y h k = or-either (css_has c y ≡ true) (is_whole y) (css_has c y) k (λ e. absurd (whole-no-css p y e h)) (λ e. e)
+
+whole-is : (y : Member) → is_whole y ≡ true → y ≡ member.Whole
+whole-is member.Whole h = refl
+whole-is _ h = absurd (no h)
+
+element-from : (p : Css) (o : Option RefusalCode) (y : Member)
+    → FromTo (element_holed (style_hole_with_chain p (style_or_refusal o (style_at_hole p)))) (place.Style p) y (css_hole_origin p y)
+element-from p (Some e) y = tt
+element-from p None y =
+    let From : Member → Type 0 = FromPlace (place.Style p) y in
+    λ h. or-either (From (css_hole_origin p y)) (is_whole y) (css_has (style_at_hole p) y) h
+    (λ k. subst From (sym (ap (css_hole_origin p) (whole-is y k) ∙ css-whole-origin p))
+    (from-element-by p y member.Whole refl (λ c m o. or-first (is_whole y) (css_has (style_at_hole c) y) k)))
+    (λ k. let n = css-behind p y k in
+    let x = css_hole_origin p y in
+    from-element-by p y x (element-there p x n.there)
+    (λ c m o. or-last (is_whole y) (css_has (style_at_hole c) y) (n.leads c m (λ i. element-out p c x i o))))
+
 from-to : (p : Place) (y : Member) → FromTo (after_hole p) p y (hole_origin p y)
 from-to place.Text y = λ h. record { there = h; leads = λ a l o. text-stays a y l o }
 from-to place.Doctype y = tt
@@ -452,7 +493,7 @@ from-to (place.Rcdata e) y = λ h. record { there = h; leads = λ a l o. rcdata-
 from-to (place.Tag t) y = tag-from t (t.spots.name || t.spots.inside) y
 from-to (place.Value t) y = value-from-to t t.body y refl
 from-to (place.Script j) y = tt
-from-to (place.Style j) y = tt
+from-to (place.Style j) y = element-from j (style_hole_error j) y
 from-to (place.Block true) y = tt
 from-to (place.Block false) y = λ h. record { there = h; leads = λ a l o. block-stays a y l o }
 
@@ -581,68 +622,97 @@ url-evidence t p None d h = tt
 url-evidence t p (Some e) d h = url-shown t p (refusal_code e) (url_hole_shows (parts_or_refusal (Some e) (parts_at_hole p)) p) d h
 
 -- in a style
-css-place : (P : ValuePlace → Css → Type 0) (t : ValuePlace) (p : Css) → t.body ≡ body.Css p
-    → ((u : ValuePlace) (c : Css) → ValueBelow u t → u.body ≡ body.Css c → StyleBelow c p → P u c)
-    → (Q : Place → Type 0) → ((u : ValuePlace) (c : Css) → P u c → Q (place.Value u)) → (a : Place) → Below a (place.Value t) → Q a
-css-place P t p b f Q g a l =
-    value-place (λ (z : Scan). Q (scan_place z)) t
-    (λ u m. let w = css-of-below u.body p (subst (λ (z : Body). joined_bodies u.body z ≡ Some z) b m.body) in g u w.0 (f u w.0 m w.1 w.2)) a l
-
 end-hole-error : (c : Css) → StyleBelow c css.UrlEnd → css_hole_error c ≡ Some code.BadString
 end-hole-error css.UrlEnd l = refl
 end-hole-error c l = absurd (none_some css.UrlEnd l)
 
-end-refuses : (t : ValuePlace) → t.body ≡ body.Css css.UrlEnd → ShownPlace (place.Value t) code.BadString member.Whole
-end-refuses t b = record {
-  there = refl;
-  refuses = λ a l o. css-place (λ u c. body_hole_error u.body ≡ Some code.BadString) t css.UrlEnd b
-      (λ u c m e k. ap body_hole_error e ∙ end-hole-error c k)
-      (λ (z : Place). hole_error z ≡ Some code.BadString) (λ u c h. h) a l;
+-- What a place in a value that is a style and a place in the element have: below it are such places alone, by the order of styles, each with its style's
+-- members, URL and refusals.
+record StyleAt (a : Place) (c : Css) : Type 0 where
+  refuses : hole_error a ≡ css_hole_error c
+  url : place_url a ≡ css_url c
+
+record InStyleOf (p : Place) (d : Css) : Type 0 where
+  has : (x : Member) → css_has d x ≡ true → Has p x
+  below : (a : Place) → Below a p → (c : Css) × StyleBelow c d × StyleAt a c × ((x : Member) → css_has d x ≡ true → Has a x → css_has c x ≡ true)
+  part : (s : LexState ValueState) (a : Place) (r : Parts) → Below a p → placed s ≡ Some a → place_url a ≡ Some r → AtPart s r
+
+value-style-at : (u : ValuePlace) (c : Css) → u.body ≡ body.Css c → StyleAt (place.Value u) c
+value-style-at u c e = record { refuses = ap body_hole_error e; url = ap body_url e }
+
+value-part : (t : ValuePlace) (s : LexState ValueState) (a : Place) (r : Parts) → Below a (place.Value t) → placed s ≡ Some a → place_url a ≡ Some r → AtPart s r
+value-part t s (place.Value v) r l h b = url-part s v r h b
+value-part t s _ r l h b = absurd (none_some (place.Value t) l)
+
+value-below-style : (t : ValuePlace) (p : Css) → t.body ≡ body.Css p → (a : Place) → Below a (place.Value t)
+    → (c : Css) × StyleBelow c p × StyleAt a c × ((x : Member) → css_has p x ≡ true → Has a x → css_has c x ≡ true)
+value-below-style t p b (place.Value u) l =
+    let w = css-of-below u.body p (subst (λ (z : Body). joined_bodies u.body z ≡ Some z) b (below-value u t l).body) in (
+      w.0,
+      w.2,
+      value-style-at u w.0 w.1,
+      λ x h k. css-out p w.0 u.typed u.quotes x h (subst (λ (z : Body). value_has u.typed u.quotes z x ≡ true) w.1 k),
+    )
+value-below-style t p b _ l = absurd (none_some (place.Value t) l)
+
+value-in-style : (t : ValuePlace) (p : Css) → t.body ≡ body.Css p → InStyleOf (place.Value t) p
+value-in-style t p b = record {
+  has = λ x h. css-there t p x b (inr h);
+  below = value-below-style t p b;
+  part = value-part t;
 }
 
-css-bears-part : (t : ValuePlace) (p : Css) (s : LexState ValueState) (x : Member) → t.body ≡ body.Css p → css_has p x ≡ true
-    → ((c : Css) → StyleBelow c p → (r : Parts) × (css_url c ≡ Some r) × (css_has c x ≡ true → parts_have r x ≡ true)) → IsIn (place.Value t) s
+element-part : (d : Css) (s : LexState ValueState) (a : Place) (r : Parts) → Below a (place.Style d) → placed s ≡ Some a → place_url a ≡ Some r → AtPart s r
+element-part d s (place.Style c) r l h b = element-url-part s c r h b
+element-part d s _ r l h b = absurd (none_some (place.Style d) l)
+
+element-below-style : (d : Css) (a : Place) → Below a (place.Style d)
+    → (c : Css) × StyleBelow c d × StyleAt a c × ((x : Member) → css_has d x ≡ true → Has a x → css_has c x ≡ true)
+element-below-style d (place.Style c) l = (c, style-below-place c d l, record { refuses = refl; url = refl }, λ x h k. element-out d c x h k)
+element-below-style d _ l = absurd (none_some (place.Style d) l)
+
+element-in-style : (d : Css) → InStyleOf (place.Style d) d
+element-in-style d = record { has = λ x h. element-there d x (inr h); below = element-below-style d; part = element-part d }
+
+end-refuses : (p : Place) → Has p member.Whole → InStyleOf p css.UrlEnd → ShownPlace p code.BadString member.Whole
+end-refuses p w i = record { there = w; refuses = λ a l o. let b = i.below a l in b.2.refuses ∙ end-hole-error b.0 b.1 }
+
+css-bears-part : (p : Place) (d : Css) (s : LexState ValueState) (x : Member) → InStyleOf p d → css_has d x ≡ true
+    → ((c : Css) → StyleBelow c d → (r : Parts) × (css_url c ≡ Some r) × (css_has c x ≡ true → parts_have r x ≡ true)) → IsIn p s
     → Bears s x → BearsPart s x
-css-bears-part t p s x d h f i o =
-    value-place (λ (g : Scan). placed s ≡ Some (scan_place g) → Has (scan_place g) x → BearsPart s x) t
-    (λ u l e k. let w = css-of-below u.body p (subst (λ (z : Body). joined_bodies u.body z ≡ Some z) d l.body) in
-    let r = f w.0 w.2 in
-    let m = url-part s u r.0 e (ap body_url w.1 ∙ r.1) in
+css-bears-part p d s x w h f i o =
+    let b = w.below i.own i.below in
+    let r = f b.0 b.1 in
+    let m = w.part s i.own r.0 i.below i.stands (b.2.url ∙ r.1) in
     record {
       part = m.part;
       is = m.is;
-      bears = subst (λ (z : Parts). parts_have z x ≡ true) m.parts
-          (r.2 (css-out p w.0 u.typed u.quotes x h (subst (λ (z : Body). value_has u.typed u.quotes z x ≡ true) w.1 k)));
-    })
-    i.own i.below i.stands (own-has (place.Value t) s x i o)
-
-has-css : (t : ValuePlace) (p : Css) (x : Member) → t.body ≡ body.Css p → css_has p x ≡ true → Has (place.Value t) x
-has-css t p x d h = css-there t p x d (inr h)
+      bears = subst (λ (z : Parts). parts_have z x ≡ true) m.parts (r.2 (b.3 x h (own-has p s x i o)));
+    }
 
 abbrev PartsIn : Css → Css → Type 0
 PartsIn p c = (r : Parts) × (css_url c ≡ Some r) × ((x : Member) → css_has c x ≡ true → parts_have r x ≡ true) × (css_hole_error c ≡ url_hole_error r.bad)
 
-css-bad-refuses : (t : ValuePlace) (p : Css) → t.body ≡ body.Css p → ((c : Css) → StyleBelow c p → PartsIn p c) → css_has p member.PartBad ≡ true
-    → ShownPlace (place.Value t) code.BadHTML member.PartBad
-css-bad-refuses t p d f h = record {
-  there = has-css t p member.PartBad d h;
-  refuses = λ a l o. css-place (λ u c. Has (place.Value u) member.PartBad → body_hole_error u.body ≡ Some code.BadHTML) t p d
-      (λ u c m e k. let r = f c k in
-      λ i. ap body_hole_error e ∙ (r.3
-      ∙ ap url_hole_error (r.2 member.PartBad (css-out p c u.typed u.quotes member.PartBad h (subst (λ (z : Body). value_has u.typed u.quotes z member.PartBad ≡ true) e i)))))
-      (λ (z : Place). Has z member.PartBad → hole_error z ≡ Some code.BadHTML) (λ u c h. h) a l o;
+css-bad-refuses : (p : Place) (d : Css) → InStyleOf p d → ((c : Css) → StyleBelow c d → PartsIn d c) → css_has d member.PartBad ≡ true
+    → ShownPlace p code.BadHTML member.PartBad
+css-bad-refuses p d w f h = record {
+  there = w.has member.PartBad h;
+  refuses = λ a l o.
+      let b = w.below a l in
+      let r = f b.0 b.1 in
+      b.2.refuses ∙ (r.3 ∙ ap url_hole_error (r.2 member.PartBad (b.3 member.PartBad h o)));
 }
 
-css-url-shown : (t : ValuePlace) (p : Css) (s : Parts) (e : Code) (z : EvidenceData) → t.body ≡ body.Css p → ((x : Member) → parts_have s x ≡ true → css_has p x ≡ true)
-    → ((c : Css) → StyleBelow c p → PartsIn p c) → HoleShown s e z → ShownAt (place.Value t) e z
-css-url-shown t p s e _ d g f (on_bad h i) =
-    subst (λ (c : Code). ShownPlace (place.Value t) c member.PartBad) (sym i) (css-bad-refuses t p d f (g member.PartBad h))
-css-url-shown t p s e _ d g f (on_two x y h k m) = (
-  has-css t p x d (g x h),
-  has-css t p y d (g y k),
+css-url-shown : (p : Place) (d : Css) (s : Parts) (e : Code) (z : EvidenceData) → InStyleOf p d → ((x : Member) → parts_have s x ≡ true → css_has d x ≡ true)
+    → ((c : Css) → StyleBelow c d → PartsIn d c) → HoleShown s e z → ShownAt p e z
+css-url-shown p d s e _ w g f (on_bad h i) =
+    subst (λ (c : Code). ShownPlace p c member.PartBad) (sym i) (css-bad-refuses p d w f (g member.PartBad h))
+css-url-shown p d s e _ w g f (on_two x y h k m) = (
+  w.has x (g x h),
+  w.has y (g y k),
   λ v r i b j o. two-clash v r e x y
-      (css-bears-part t p v x d (g x h) (λ c l. let n = f c l in (n.0, n.1, n.2 x)) i b)
-      (css-bears-part t p r y d (g y k) (λ c l. let n = f c l in (n.0, n.1, n.2 y)) j o)
+      (css-bears-part p d v x w (g x h) (λ c l. let n = f c l in (n.0, n.1, n.2 x)) i b)
+      (css-bears-part p d r y w (g y k) (λ c l. let n = f c l in (n.0, n.1, n.2 y)) j o)
       m,
 )
 
@@ -651,13 +721,18 @@ same-code AmbigContext = refl
 same-code BadHTML = refl
 same-code PartialEscape = refl
 
-css-url-evidence : (t : ValuePlace) (p : Css) (s : Parts) (o : Option UrlRefusal) → t.body ≡ body.Css p
-    → ((x : Member) → parts_have s x ≡ true → css_has p x ≡ true) → ((c : Css) → StyleBelow c p → PartsIn p c) → ShownWhere s o
-    → ShownTo (css_holed t p (style_or_refusal (url_refusal o) (style_at_hole p))) (place.Value t) (url_hole_shows (parts_or_refusal o (parts_at_hole s)) s)
-css-url-evidence t p s None d g f h = tt
-css-url-evidence t p s (Some e) d g f h =
-    subst (λ (c : Code). ShownAt (place.Value t) c (url_hole_shows (parts_or_refusal (Some e) (parts_at_hole s)) s)) (sym (same-code e))
-    (css-url-shown t p s (refusal_code e) (url_hole_shows (parts_or_refusal (Some e) (parts_at_hole s)) s) d g f h)
+-- what is answered of a hole, where it is refused in the style
+abbrev ShownWhereRefused : Option RefusalCode → Place → EvidenceData → Type 0
+ShownWhereRefused None p z = Unit {0}
+ShownWhereRefused (Some e) p z = ShownAt p (style_code e) z
+
+css-url-evidence : (p : Place) (d : Css) (s : Parts) (o : Option UrlRefusal) → InStyleOf p d
+    → ((x : Member) → parts_have s x ≡ true → css_has d x ≡ true) → ((c : Css) → StyleBelow c d → PartsIn d c) → ShownWhere s o
+    → ShownWhereRefused (url_refusal o) p (url_hole_shows (parts_or_refusal o (parts_at_hole s)) s)
+css-url-evidence p d s None w g f h = tt
+css-url-evidence p d s (Some e) w g f h =
+    subst (λ (c : Code). ShownAt p c (url_hole_shows (parts_or_refusal (Some e) (parts_at_hole s)) s)) (sym (same-code e))
+    (css-url-shown p d s (refusal_code e) (url_hole_shows (parts_or_refusal (Some e) (parts_at_hole s)) s) w g f h)
 
 url-in : (s : Parts) (c : Css) → StyleBelow c (css.Url s) → PartsIn (css.Url s) c
 url-in s (css.Url r) l = (r, refl, λ x h. h, refl)
@@ -671,23 +746,34 @@ sq-in : (s : Parts) (c : Css) → StyleBelow c (css.UrlSq s) → PartsIn (css.Ur
 sq-in s (css.UrlSq r) l = (r, refl, λ x h. h, refl)
 sq-in s c l = absurd (none_some (css.UrlSq s) l)
 
-css-evidence : (t : ValuePlace) (p : Css) → t.body ≡ body.Css p → ShownTo (css_holed t p (style_hole_answer p)) (place.Value t) (css_hole_shows p)
-css-evidence t (css.Url s) e = css-url-evidence t (css.Url s) s (parts_hole_error s) e (λ x h. h) (url-in s) (hole-where s)
-css-evidence t (css.UrlDq s) e = css-url-evidence t (css.UrlDq s) s (parts_hole_error s) e (λ x h. h) (dq-in s) (hole-where s)
-css-evidence t (css.UrlSq s) e = css-url-evidence t (css.UrlSq s) s (parts_hole_error s) e (λ x h. h) (sq-in s) (hole-where s)
-css-evidence t css.UrlEnd e = end-refuses t e
-css-evidence t (css.Code x) e = tt
-css-evidence t css.Dq e = tt
-css-evidence t css.Sq e = tt
-css-evidence t css.UrlFresh e = tt
-css-evidence t (css.Comment x) e = tt
+css-evidence : (p : Place) (d : Css) → Has p member.Whole → InStyleOf p d → ShownWhereRefused (style_hole_error d) p (css_hole_shows d)
+css-evidence p (css.Url s) k w = css-url-evidence p (css.Url s) s (parts_hole_error s) w (λ x h. h) (url-in s) (hole-where s)
+css-evidence p (css.UrlDq s) k w = css-url-evidence p (css.UrlDq s) s (parts_hole_error s) w (λ x h. h) (dq-in s) (hole-where s)
+css-evidence p (css.UrlSq s) k w = css-url-evidence p (css.UrlSq s) s (parts_hole_error s) w (λ x h. h) (sq-in s) (hole-where s)
+css-evidence p css.UrlEnd k w = end-refuses p k w
+css-evidence p (css.Code x) k w = tt
+css-evidence p css.Dq k w = tt
+css-evidence p css.Sq k w = tt
+css-evidence p css.UrlFresh k w = tt
+css-evidence p (css.Comment x) k w = tt
+
+-- in a value, and in the element
+value-answer : (t : ValuePlace) (p : Css) (o : Option RefusalCode) (z : EvidenceData) → ShownWhereRefused o (place.Value t) z
+    → ShownTo (css_holed t p (style_or_refusal o (style_at_hole p))) (place.Value t) z
+value-answer t p None z h = tt
+value-answer t p (Some e) z h = h
+
+element-answer : (p : Css) (o : Option RefusalCode) (z : EvidenceData) → ShownWhereRefused o (place.Style p) z
+    → ShownTo (element_holed (style_hole_with_chain p (style_or_refusal o (style_at_hole p)))) (place.Style p) z
+element-answer p None z h = tt
+element-answer p (Some e) z h = h
 
 value-evidence : (t : ValuePlace) (b : Body) → t.body ≡ b → ShownTo (value_hole b t) (place.Value t) (value_hole_shows b)
 value-evidence t body.Plain e = plain-evidence t t.quotes (one member.Whole)
 value-evidence t body.NoHole e = evidence-body t body.NoHole code.BadHTML e tt refl
 value-evidence t (body.Url p) e = url-evidence t p (parts_hole_error p) e (hole-where p)
 value-evidence t (body.Js p) e = evidence-body t (body.Js p) code.NotBuilt e tt refl
-value-evidence t (body.Css p) e = css-evidence t p e
+value-evidence t (body.Css p) e = value-answer t p (style_hole_error p) (css_hole_shows p) (css-evidence (place.Value t) p refl (value-in-style t p e))
 
 doctype-refuses : (a : Place) → Below a place.Doctype → hole_error a ≡ Some code.BadHTML
 doctype-refuses place.Doctype h = refl
@@ -696,10 +782,6 @@ doctype-refuses a h = absurd (none_some place.Doctype h)
 script-refuses : (j : _) (a : Place) → Below a (place.Script j) → hole_error a ≡ Some code.NotBuilt
 script-refuses j (place.Script i) h = refl
 script-refuses j a h = absurd (none_some (place.Script j) h)
-
-style-refuses : (j : _) (a : Place) → Below a (place.Style j) → hole_error a ≡ Some code.NotBuilt
-style-refuses j (place.Style i) h = refl
-style-refuses j a h = absurd (none_some (place.Style j) h)
 
 block-evidence : (less : Bool) → ShownTo (block_hole less) (place.Block less) (one member.BlockLt)
 block-evidence true = record { there = refl; refuses = λ a l o. below-at-block (λ (g : Scan). Has (scan_place g) member.BlockLt → hole_error (scan_place g) ≡ Some code.SplitToken) true (λ x u o. rw o refl) (At a) l o }
@@ -713,7 +795,7 @@ evidence-to (place.Rcdata e) = tt
 evidence-to (place.Tag t) = tag-evidence t t.spots.name t.spots.inside refl refl
 evidence-to (place.Value t) = value-evidence t t.body refl
 evidence-to (place.Script j) = record { there = refl; refuses = λ a l o. script-refuses j a l }
-evidence-to (place.Style j) = record { there = refl; refuses = λ a l o. style-refuses j a l }
+evidence-to (place.Style j) = element-answer j (style_hole_error j) (css_hole_shows j) (css-evidence (place.Style j) j refl (element-in-style j))
 evidence-to (place.Block less) = block-evidence less
 
 show : (p : Place) (e : Code) (z : EvidenceData) → ShownAt p e z → IsHoleEvidence p e z

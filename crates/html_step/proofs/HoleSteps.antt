@@ -5,14 +5,17 @@ use Rattle.place_core.specs.page.Paths.{at_hole}
 use Rattle.place_core.specs.page.References.{Closed, Open}
 use Rattle.place_core.specs.place.StatePlaces.{placed, tag_spot, value_spot, quotes_at, only_inside, only_after}
 use Rattle.place_core.specs.place.UrlParts.{parts_of}
-use Rattle.place_core.specs.page.States.{LexState, Text, TagOpen, EndTagOpen, DeclarationOpen, InComment, Started, StartedDash, Inside, Dash, DashDash, Bang, Broken, BogusComment, InDoctype, TagName, WholeTagName, BeforeAttributeName, AttributeName, WholeAttributeName, AfterAttributeName, BeforeAttributeValue, AttributeValue, AfterAttributeValue, SelfClosingStartTag, Characters, Bytes, Nothing, PendingLess, PendingName, PendingBang, PendingBangDash, InContent, Unread, LessAtCut}
+use Rattle.place_core.specs.page.States.{LexState, Text, TagOpen, EndTagOpen, DeclarationOpen, InComment, Started, StartedDash, Inside, Dash, DashDash, Bang, Broken, BogusComment, InDoctype, TagName, WholeTagName, BeforeAttributeName, AttributeName, WholeAttributeName, AfterAttributeName, BeforeAttributeValue, AttributeValue, AfterAttributeValue, SelfClosingStartTag, Characters, Bytes, InLanguage, Nothing, PendingLess, PendingName, PendingBang, PendingBangDash, InContent, Unread, LessAtCut}
 use Rattle.place_core.specs.page.Tags.{Tag, ValueOf, Deciding, ValueState, OfKind, OfUrl, OfStyle, languages, style_code, Quoting, DoubleQuoted, SingleQuoted, Unquoted, is_second_type}
 use Rattle.css_lexer.specs.RefusalCodes.{RefusalCode}
+use Rattle.css_lexer.specs.Paths.{style_after_hole}
 use Rattle.css_lexer.specs.States.{Style}
+use Rattle.css_lexer.specs.Urls.{urls}
+use Rattle.css_step.specs.StyleChains.{style_hole_with_chain}
 use Rattle.css_step.specs.StyleScans.{style_at_hole, style_hole_error, style_scan_place}
 use Rattle.css_step.specs.StyleScanViews.{style_or_refusal}
 use Rattle.html_step.proofs.StylePaths.{StyleHole, style-at-place, style-hole}
-use Rattle.place_core.specs.place.StyleParts.{style_body}
+use Rattle.place_core.specs.place.StyleParts.{style_body, style_css}
 use Rattle.place_core.specs.declared.body.Body.{Body}
 use Rattle.place_core.specs.declared.body.Body.TheVariants as body
 use Rattle.place_core.specs.declared.css.Css.{Css}
@@ -23,7 +26,8 @@ use Rattle.place_core.specs.declared.kind.Kind.TheVariants as kind
 use Rattle.place_core.specs.declared.place.Place.{Place}
 use Rattle.place_core.specs.declared.place.Place.TheVariants as place
 use Rattle.place_core.specs.declared.quotes.Quotes.{Quotes}
-use Rattle.html_step.specs.Holes.{Holed, after_hole, css_holed, holed_quotes}
+use Rattle.html_step.specs.Holes.{Holed, after_hole, css_holed, element_holed, holed_quotes}
+use Rattle.html_step.proofs.ElementSteps.{body-css, css-is}
 use Rattle.html_step.proofs.PathScans.{same-tag}
 use Rattle.url_lexer.specs.Parts.{UrlPart, UrlStart, UrlOpen, UrlOpenhole, UrlPrequery, UrlQuery, UrlBad, part_at_hole}
 use Rattle.url_lexer.specs.Spots.{where_whole}
@@ -91,6 +95,19 @@ style-own (Some b) v q t e =
     let c = style_scan_place a.scan in
     subst (λ (z : Body). WherePlaced (value_spot t (quotes_at q) (Some z)) (AttributeValue q t (ValueOf (OfStyle v)) Closed)) (sym a.place)
     (css-own (style_hole_error c) v c q t refl (style-hole v c (e ∙ ap Some a.place)))
+
+-- and in the element
+element-hole : (o : Option RefusalCode) (v : Style Url) (c : Css) → style_hole_error c ≡ o → StyleHole v c
+    → OwnHole (element_holed (style_hole_with_chain c (style_or_refusal o (style_at_hole c)))) (place.Style c) (InContent element.Style (InLanguage (OfStyle v)) Nothing)
+element-hole None v c e h = (
+  h.error ∙ ap (option_map style_code) e,
+  ap (option_map place.Style) (css-is (style_after_hole urls v) (style_at_hole c) (h.after e)),
+)
+element-hole (Some x) v c e h = h.error ∙ ap (option_map style_code) e
+
+element-own : (o : Option Css) (v : Style Url) → style_css v ≡ o → WherePlaced (option_map place.Style o) (InContent element.Style (InLanguage (OfStyle v)) Nothing)
+element-own None v e = tt
+element-own (Some c) v e = element-hole (style_hole_error c) v c refl (style-hole v c (body-css v ∙ ap (option_map body.Css) e))
 
 value-own : (q : Quoting) (t : Tag) (v : ValueState) → WherePlaced (placed (AttributeValue q t (ValueOf v) Closed)) (AttributeValue q t (ValueOf v) Closed)
 value-own DoubleQuoted t (OfKind kind.Plain) = (refl, refl)
@@ -160,6 +177,15 @@ own-hole (InContent element.Textarea Bytes Nothing) = tt
 own-hole (InContent element.Script Bytes Nothing) = tt
 own-hole (InContent element.Style Bytes Nothing) = tt
 own-hole (InContent element.Other Bytes Nothing) = tt
+own-hole (InContent element.Style (InLanguage (OfStyle s)) Nothing) = element-own (style_css s) s refl
+own-hole (InContent element.Style (InLanguage (OfKind k)) Nothing) = tt
+own-hole (InContent element.Style (InLanguage (OfUrl u)) Nothing) = tt
+own-hole (InContent element.Title (InLanguage v) Nothing) = tt
+own-hole (InContent element.Textarea (InLanguage v) Nothing) = tt
+own-hole (InContent element.DataBlock (InLanguage v) Nothing) = tt
+own-hole (InContent element.Script (InLanguage v) Nothing) = tt
+own-hole (InContent element.Other (InLanguage v) Nothing) = tt
+own-hole (InContent x (InLanguage v) LessAtCut) = tt
 own-hole (InContent x (Characters r) LessAtCut) = tt
 own-hole (InContent element.DataBlock Bytes LessAtCut) = refl
 own-hole (InContent element.Title Bytes LessAtCut) = tt

@@ -4,7 +4,7 @@ use Rattle.std.specs.Prelude.{IfSome, if◌then◌else◌}
 use Rattle.place_core.specs.page.Classes.{class_of}
 use Rattle.place_core.specs.page.Html.{next}
 use Rattle.place_core.specs.page.References.{Reference, Closed, Open}
-use Rattle.place_core.specs.page.States.{Template, LexState, Text, TagOpen, EndTagOpen, DeclarationOpen, CommentState, Started, StartedDash, Inside, Dash, DashDash, Bang, Broken, InComment, BogusComment, InDoctype, TagName, WholeTagName, BeforeAttributeName, AttributeName, WholeAttributeName, AfterAttributeName, BeforeAttributeValue, AttributeValue, AfterAttributeValue, SelfClosingStartTag, Characters, Bytes, Pending, Nothing, PendingLess, PendingName, PendingBang, PendingBangDash, InContent, Unread, LessAtCut}
+use Rattle.place_core.specs.page.States.{Template, LexState, Text, TagOpen, EndTagOpen, DeclarationOpen, CommentState, Started, StartedDash, Inside, Dash, DashDash, Bang, Broken, InComment, BogusComment, InDoctype, TagName, WholeTagName, BeforeAttributeName, AttributeName, WholeAttributeName, AfterAttributeName, BeforeAttributeValue, AttributeValue, AfterAttributeValue, SelfClosingStartTag, Characters, Bytes, InLanguage, Pending, Nothing, PendingLess, PendingName, PendingBang, PendingBangDash, InContent, Unread, LessAtCut}
 use Rattle.place_core.specs.page.Tags.{Tag, ValueState, OfKind, OfUrl, OfStyle, Quoting, languages, ValueOf, Deciding, is_second_type}
 use Rattle.place_core.specs.place.ApartPlaces.{ArePlacesApart, beginning_at, opened_apart}
 use Rattle.place_core.specs.place.Errors.{PathRefusal, place_before_bytes, shown_place, states}
@@ -16,18 +16,19 @@ use Rattle.place_core.specs.declared.element.Element.{Element}
 use Rattle.place_core.specs.declared.element.Element.TheVariants as element
 use Rattle.place_core.specs.declared.kind.Kind.TheVariants as kind
 use Rattle.place_core.specs.declared.place.Place.{Place}
+use Rattle.place_core.specs.declared.place.Place.TheVariants as place
 use Rattle.place_core.specs.declared.prefix.Prefix.{Prefix}
 use Rattle.place_core.specs.declared.value_place.ValuePlace.{ValuePlace}
 use Rattle.place_core.proofs.Semilattices.{one_value}
 use Rattle.url_lexer.specs.Triples.{Triple, NoTriple, AfterPercent, AfterDigit}
-use Rattle.html_scan.specs.Scans.{Scan, At, InStyle, scan_error, scan_next, scan_shown, scan_reference, style_scan, url_scan, with_style}
-use Rattle.css_step.specs.StyleScans.{StyleScan, is_style_start}
+use Rattle.html_scan.specs.Scans.{Scan, At, InStyle, InStyleElement, scan_error, scan_next, scan_shown, scan_reference, style_scan, url_scan, with_style}
+use Rattle.css_step.specs.StyleScans.{StyleScan, is_style_start, style_scan_place}
 use Rattle.css_step.specs.StyleScanLaws.{style_scanned}
 use Rattle.html_step.specs.ApartInText.{AreApartAfter, AreNotApart, IsLastIn, TakesByte}
 use Rattle.html_step.specs.ApartScans.{AreScansApart, IsLastApart, AnswersLast, beginning_after, scan_beginning, unless_in_reference}
 use Rattle.html_step.specs.Steps.{after_text, place_before, scan_after, stepped, with_place_before}
 use Rattle.html_step.proofs.OnePath.{ends-agree}
-use Rattle.html_step.proofs.PathScans.{Ends, IsShown, WhereScanned, content_scanned, block_scanned, scanned, url_value}
+use Rattle.html_step.proofs.PathScans.{Ends, IsShown, WhereScanned, content_scanned, block_scanned, language_scanned, scanned, style_element_scanned, url_value}
 use Rattle.html_step.proofs.StyleSteps.{where-styled}
 use Rattle.html_step.proofs.StylePaths.{style_value}
 use Rattle.html_step.proofs.OneTexts.{Reaches, agrees-at, at-place, is-shown-after, later, none, not-late, place-there}
@@ -103,6 +104,29 @@ block-begins PendingBang element.DataBlock = λ bs. refl
 block-begins PendingBangDash element.DataBlock = λ bs. refl
 block-begins h e = tt
 
+element-loose-begins : (x : Bool) (n : StyleScan) (v : ValueState)
+    → BeginsAs (InContent element.Style (InLanguage v) Nothing)
+    (if x then At (place.Style (style_scan_place n)) else InStyleElement n Nothing)
+element-loose-begins true n v bs = refl
+element-loose-begins false n v bs = refl
+
+element-begins : (h : Pending) (v : ValueState) (o : Option StyleScan)
+    → WhereScanned (style_element_scanned h o) (BeginsAs (InContent element.Style (InLanguage v) h))
+element-begins Nothing v (Some n) = element-loose-begins (is_style_start n) n v
+element-begins PendingLess v (Some n) = λ bs. refl
+element-begins (PendingName letters) v (Some n) = λ bs. refl
+element-begins LessAtCut v (Some n) = tt
+element-begins PendingBang v (Some n) = tt
+element-begins PendingBangDash v (Some n) = tt
+element-begins h v None = tt
+
+language-begins : (h : Pending) (e : Element) (v : ValueState)
+    → WhereScanned (language_scanned h e v) (BeginsAs (InContent e (InLanguage v) h))
+language-begins h element.Style (OfStyle s) = element-begins h (OfStyle s) (style_scanned s)
+language-begins h element.Style (OfKind k) = tt
+language-begins h element.Style (OfUrl u) = tt
+language-begins h _ v = tt
+
 begins : (s : LexState ValueState) → WhereScanned (scanned s) (BeginsAs s)
 begins (Text r) = λ bs. refl
 begins (TagOpen r) = λ bs. refl
@@ -140,6 +164,7 @@ begins (AfterAttributeValue t) = λ bs. refl
 begins (SelfClosingStartTag t) = λ bs. refl
 begins (InContent e (Characters r) h) = content-begins h e r
 begins (InContent e Bytes h) = block-begins h e
+begins (InContent e (InLanguage v) h) = language-begins h e v
 begins Unread = tt
 
 abbrev scanned_beginning : Option Scan → List ℕ → Option Prefix

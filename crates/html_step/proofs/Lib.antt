@@ -4,6 +4,12 @@ pub mod ApartParts
 pub mod BelowScans
 pub mod Characters
 pub mod Clashing
+pub mod ContentsAlike
+pub mod ElementFrom
+pub mod ElementShown
+pub mod ElementSteps
+pub mod ElementsBelow
+pub mod EndTagNames
 pub mod EndsApart
 pub mod EscapeOrder
 pub mod FedAlike
@@ -30,6 +36,7 @@ pub mod OwnScans
 pub mod OwnStyles
 pub mod Parentheses
 pub mod PathScans
+pub mod PendingScans
 pub mod PlaceParts
 pub mod ReadScans
 pub mod ReadStates
@@ -45,6 +52,7 @@ pub mod StyleOrder
 pub mod StyleOriginSteps
 pub mod StylePaths
 pub mod StyleQuoted
+pub mod StyleRuns
 pub mod StyleShown
 pub mod StyleShownSteps
 pub mod StyleSteps

@@ -24,11 +24,12 @@ use Rattle.place_core.proofs.Semilattices.{none_some}
 use Rattle.html_scan.specs.Scans.{At}
 use Rattle.css_lexer.specs.RefusalCodes.{RefusalCode}
 use Rattle.css_step.specs.StyleScans.{style_at_hole, style_hole_error}
+use Rattle.css_step.specs.StyleChains.{style_hole_with_chain}
 use Rattle.css_step.specs.StyleScanViews.{style_or_refusal}
 use Rattle.place_core.specs.declared.css.Css.{Css}
 use Rattle.place_core.specs.declared.css.Css.TheVariants as css
 use Rattle.html_step.specs.Apart.{ApartLaws}
-use Rattle.html_step.specs.Holes.{Holed, after_hole, block_hole, css_holed, named_by_data, plain_hole, url_holed, value_hole}
+use Rattle.html_step.specs.Holes.{Holed, after_hole, block_hole, css_holed, element_holed, named_by_data, plain_hole, url_holed, value_hole}
 use Rattle.html_step.specs.Steps.{after_text}
 use Rattle.html_step.proofs.OneTexts.{one-text}
 use Rattle.html_step.proofs.ApartOrigins.{apart-from}
@@ -64,6 +65,19 @@ css-clear t css.UrlEnd None = refl
 css-clear t (css.Comment x) None = refl
 css-clear t c (Some e) = tt
 
+-- in the element `style`
+element-clear : (c : Css) (o : Option RefusalCode) → IsClear (element_holed (style_hole_with_chain c (style_or_refusal o (style_at_hole c))))
+element-clear (css.Code x) None = refl
+element-clear css.Dq None = refl
+element-clear css.Sq None = refl
+element-clear css.UrlFresh None = refl
+element-clear (css.Url s) None = refl
+element-clear (css.UrlDq s) None = refl
+element-clear (css.UrlSq s) None = refl
+element-clear css.UrlEnd None = refl
+element-clear (css.Comment x) None = refl
+element-clear c (Some e) = tt
+
 value-clear : (b : Body) (t : ValuePlace) → t.body ≡ b → IsClear (value_hole b t)
 value-clear body.Plain t e = plain-clear t.quotes t e
 value-clear body.NoHole t e = tt
@@ -87,7 +101,7 @@ hole-clear (place.Rcdata e) = refl
 hole-clear (place.Tag t) = tag-clear (t.spots.name || t.spots.inside) t
 hole-clear (place.Value v) = value-clear v.body v refl
 hole-clear (place.Script j) = tt
-hole-clear (place.Style c) = tt
+hole-clear (place.Style c) = element-clear c (style_hole_error c)
 hole-clear (place.Block lt) = block-clear lt
 
 not-holed : (p q : Place) (c : Chain) → after_hole p ≡ Ok (q, c) → HasApart q → ⊥

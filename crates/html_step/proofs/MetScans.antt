@@ -1,15 +1,16 @@
 -- Paths of a place that has it of two of its paths that they met apart: within a text, scan state by scan state.
-use Rattle.std.proofs.Common.{◌≡◌, ℕ, ◌+◌, true, false, List, [], ◌∷◌, Some, None, Ok, option_map, refl, sym, ap, ◌∙◌, subst, inl, inr}
+use Rattle.std.proofs.Common.{◌≡◌, ℕ, ◌+◌, true, false, List, [], ◌∷◌, Option, Some, None, Ok, option_map, refl, sym, ap, ◌∙◌, subst, inl, inr}
 use Rattle.css_lexer.specs.Escapes.{NoEscape, AfterBackslash, HexDigits, AfterReturn}
-use Rattle.css_lexer.specs.Spots.{UrlSpot, QuotedUrlSpot}
+use Rattle.css_lexer.specs.Spots.{StyleSpot, UrlSpot, QuotedUrlSpot}
 use Rattle.css_lexer.specs.States.{Quote, DoubleQuote, SingleQuote, Fresh, Bare, Quoted, Ended, Out}
 use Rattle.css_lexer.specs.States as style
 use Rattle.css_step.specs.StyleOrigins.{style_scan_parts}
-use Rattle.css_step.specs.StyleScans.{StyleScan, ScanBareUrl, ScanQuotedUrl, is_style_start}
+use Rattle.css_step.specs.StyleScans.{StyleScan, ScanBareUrl, ScanQuotedUrl, is_style_start, style_scan_place}
 use Rattle.place_core.specs.page.Classes.{class_of}
 use Rattle.place_core.specs.page.Html.{next}
 use Rattle.place_core.specs.page.References.{Reference, Closed, Open}
-use Rattle.place_core.specs.page.States.{Template, LexState, AttributeValue}
+use Rattle.place_core.specs.page.States.{Template, LexState, AttributeValue, InContent, InLanguage, Pending, Nothing, PendingLess, LessAtCut, PendingName, PendingBang, PendingBangDash}
+use Rattle.place_core.specs.declared.element.Element.TheVariants as element
 use Rattle.place_core.specs.page.Tags.{Tag, ValueOf, Deciding, ValueState, OfKind, OfUrl, OfStyle, languages, Quoting}
 use Rattle.place_core.specs.place.ApartPlaces.{HasApart, beginning_at}
 use Rattle.place_core.specs.place.Errors.{node}
@@ -32,7 +33,7 @@ use Rattle.place_core.proofs.Semilattices.{none_some, one_value}
 use Rattle.html_scan.specs.Scans.{Scan, At, scan_reference, scan_error, scan_next, with_style}
 use Rattle.html_step.specs.Origins.{scan_parts}
 use Rattle.html_step.specs.Steps.{stepped}
-use Rattle.html_step.proofs.AcceptedTexts.{differ-apart, ends-apart, own-after, read-apart, reads}
+use Rattle.html_step.proofs.AcceptedTexts.{ends-apart, met-at, own-after, reads}
 use Rattle.html_step.proofs.ApartParts.{differs-of, of-differs, unknown-below}
 use Rattle.html_step.proofs.KeptBeginnings.{OpensNone, before-opens, node-unknown, side-begins, stays-there}
 use Rattle.html_step.proofs.OneTexts.{agrees-at, at-place}
@@ -42,7 +43,7 @@ use Rattle.html_step.proofs.ScanOrder.{HasBegun, ScanBelow, ScanValid, begun-val
 use Rattle.html_step.proofs.StyleOrder.{scan-of-start}
 use Rattle.html_step.proofs.StylePaths.{style_value}
 use Rattle.html_step.proofs.ReadScans.{read-ok, scan_read, takes}
-use Rattle.html_step.proofs.ReadStates.{Unknown, at-as, at-style-as, begun-at, open-parts, opens-of, set-valid, unknown, unknown-valid, url-before, with_set}
+use Rattle.html_step.proofs.ReadStates.{Unknown, at-as, at-style-as, begun-at, element-place-as, open-parts, opens-of, set-valid, unknown, unknown-valid, url-before, with_set}
 use Rattle.html_step.proofs.UrlScans.{Holds, above-parts, below-reference, next-holds, raw-opened, raw_place}
 use Rattle.html_step.proofs.ValidSteps.{scan-valid}
 use Rattle.html_step.proofs.WholeTexts.{step-ok}
@@ -100,7 +101,7 @@ met-unknown : (s : LexState ValueState) (g f : Scan) → is_in_beginning s ≡ t
 met-unknown s g f h a i =
     let p = open-parts s g h i.at in
     let x = url-apart g f (parts_of (UrlOpen p.0)) i.below p.1 a in
-    unknown s g f x.0 h i.at x.1 x.2 i.below
+    unknown s g f x.0 h i.at i.valid x.1 x.2 i.below
 
 -- its place has that two met apart
 unknown-opened : (p : UrlPart) → is_open p ≡ true → (parts_of (unknown_part p)).opened ≡ Some prefix.Differs
@@ -131,6 +132,22 @@ quoted-apart SingleQuote NoTriple p t q a h e = ap beginning_at (one_value a _ (
 quoted-apart y AfterPercent p t q a h e = absurd (none_some a e)
 quoted-apart y AfterDigit p t q a h e = absurd (none_some a e)
 
+-- in the element `style`
+abbrev SpotAt : Option (StyleSpot UrlPart) → Place → Type 0
+SpotAt o own = option_map place.Style (option_map style_place o) ≡ Some own
+
+element-bare-apart : (x : Triple) (p : UrlPart) (a : Place) → is_open p ≡ true → SpotAt (option_map UrlSpot (where_whole x (unknown_part p))) a → HasApart a
+element-bare-apart NoTriple p a h e = ap beginning_at (one_value a _ (sym e)) ∙ unknown-opened p h
+element-bare-apart AfterPercent p a h e = absurd (none_some a e)
+element-bare-apart AfterDigit p a h e = absurd (none_some a e)
+
+element-quoted-apart : (y : Quote) (x : Triple) (p : UrlPart) (a : Place) → is_open p ≡ true
+    → SpotAt (option_map (QuotedUrlSpot y) (where_whole x (unknown_part p))) a → HasApart a
+element-quoted-apart DoubleQuote NoTriple p a h e = ap beginning_at (one_value a _ (sym e)) ∙ unknown-opened p h
+element-quoted-apart SingleQuote NoTriple p a h e = ap beginning_at (one_value a _ (sym e)) ∙ unknown-opened p h
+element-quoted-apart y AfterPercent p a h e = absurd (none_some a e)
+element-quoted-apart y AfterDigit p a h e = absurd (none_some a e)
+
 unknown-placed : (s : LexState ValueState) (a : Place) → is_in_beginning s ≡ true → placed (unknown_beginning s) ≡ Some a → HasApart a
 unknown-placed (AttributeValue q t (ValueOf (OfUrl u)) Closed) a h e = raised-apart u.triple u.part t (quotes_at q) a h e
 unknown-placed (AttributeValue q t (ValueOf (OfUrl u)) (Open f bytes)) a h e = absurd (none_some a e)
@@ -146,6 +163,23 @@ unknown-placed (AttributeValue q t (ValueOf (OfStyle (style.InUrl Ended u))) Clo
 unknown-placed (AttributeValue q t (ValueOf (OfStyle (Out s))) Closed) a h e = absurd (no h)
 unknown-placed (AttributeValue q t (ValueOf (OfStyle s)) (Open f bytes)) a h e = absurd (none_some a e)
 unknown-placed (AttributeValue q t (Deciding k before) r) a h e = absurd (no h)
+unknown-placed (InContent element.Style (InLanguage (OfStyle (style.InUrl Bare u))) Nothing) a h e = element-bare-apart u.triple u.part a h e
+unknown-placed (InContent element.Style (InLanguage (OfStyle (style.InUrl (Quoted y NoEscape) u))) Nothing) a h e =
+    element-quoted-apart y u.triple u.part a h e
+unknown-placed (InContent element.Style (InLanguage (OfStyle (style.InUrl (Quoted y AfterBackslash) u))) Nothing) a h e = absurd (none_some a e)
+unknown-placed (InContent element.Style (InLanguage (OfStyle (style.InUrl (Quoted y (HexDigits k)) u))) Nothing) a h e = absurd (none_some a e)
+unknown-placed (InContent element.Style (InLanguage (OfStyle (style.InUrl (Quoted y AfterReturn) u))) Nothing) a h e = absurd (none_some a e)
+unknown-placed (InContent element.Style (InLanguage (OfStyle (style.InUrl Fresh u))) Nothing) a h e = absurd (no h)
+unknown-placed (InContent element.Style (InLanguage (OfStyle (style.InUrl Ended u))) Nothing) a h e = absurd (no h)
+unknown-placed (InContent element.Style (InLanguage (OfStyle (Out s))) Nothing) a h e = absurd (no h)
+unknown-placed (InContent _ (InLanguage (OfStyle s)) Nothing) a h e = absurd (none_some a e)
+unknown-placed (InContent x (InLanguage (OfStyle s)) PendingLess) a h e = absurd (none_some a e)
+unknown-placed (InContent x (InLanguage (OfStyle s)) LessAtCut) a h e = absurd (none_some a e)
+unknown-placed (InContent x (InLanguage (OfStyle s)) (PendingName letters)) a h e = absurd (none_some a e)
+unknown-placed (InContent x (InLanguage (OfStyle s)) PendingBang) a h e = absurd (none_some a e)
+unknown-placed (InContent x (InLanguage (OfStyle s)) PendingBangDash) a h e = absurd (none_some a e)
+unknown-placed (InContent x (InLanguage (OfKind k)) y) a h e = absurd (no h)
+unknown-placed (InContent x (InLanguage (OfUrl u)) y) a h e = absurd (no h)
 unknown-placed _ a h e = absurd (no h)
 
 -- So a path that stays in the beginning keeps it.
@@ -169,9 +203,8 @@ point-within (b ∷ bs) k since s r g h f q v n i j a m o e =
     let t = takes f b v (step-ok k since b bs f q e).0 in
     let x = reads s g f b bs i.at i.valid v t i.below m.0 in
     let y = reads r h f b bs j.at j.valid v t j.below o.0 in
-    let d = read-apart s r g h f b bs x y
-    (differ-apart a.own a.other_own (placed_prefix x.spelled) (placed_prefix y.spelled) (x.shown a.own a.stands) (y.shown a.other_own a.other_stands) a.apart) in
-    let opens = before-opens s (b ∷ bs) (opens-of s g (url-before s (b ∷ bs) m.0) i.at (below-opens g f i.below n)) in
+    let d = met-at s r g h f b bs x y i.at j.at i.below j.below (step-ok k since b bs f q e).0 a in
+    let opens = before-opens s (b ∷ bs) (opens-of s g (url-before s (b ∷ bs) m.0) i.at i.valid (below-opens g f i.below n)) in
     kept-apart (b ∷ bs) k since (state_before s (b ∷ bs)) (scan_read g (b ∷ bs)) (scan_read f (b ∷ bs)) q opens m.0
     (parts-apart (scan_read f (b ∷ bs)) d.0 d.1 d.2) (record { at = x.at; valid = x.valid; below = x.below }) m (read-ok b bs k since f q v e)
 
@@ -244,6 +277,36 @@ quoted-in y NoTriple p t q own a h e i l =
 quoted-in y AfterPercent p t q own a h e i l = absurd (none_some own i)
 quoted-in y AfterDigit p t q own a h e i l = absurd (none_some own i)
 
+-- in the element `style`
+element-raised : (n : StyleScan) (p : UrlPart) (own a : Place) → is_style_start n ≡ true → style_scan_parts n ≡ Some (parts_of p) → is_open p ≡ true
+    → HasApart a → Some (place.Style (style_scan_place n)) ≡ Some own → Below own a
+    → IsValid (place.Style (style_scan_place (with_set n (parts_of (unknown_part p)))))
+    × Below (place.Style (style_scan_place (with_set n (parts_of (unknown_part p))))) a
+element-raised n p own a g i h e k l =
+    let d = parts_of (unknown_part p) in
+    let low = subst (λ (z : Place). Below z a) (one_value own (place.Style (style_scan_place n)) (sym k)) l in
+    let x = url-apart (At (place.Style (style_scan_place n))) (At a) (parts_of p) low (ap style_scan_parts (scan-of-start n g) ∙ i) e in (
+      set-valid n (parts_of p) d i (unknown-valid p h),
+      element-place-as n (parts_of p) d x.0 (At a) g i x.1 (unknown-below p x.0 h x.2) low,
+    )
+
+element-bare-in : (x : Triple) (p : UrlPart) (own a : Place) → is_open p ≡ true → HasApart a → SpotAt (option_map UrlSpot (where_whole x p)) own → Below own a
+    → (w : Place) × SpotAt (option_map UrlSpot (where_whole x (unknown_part p))) w × IsValid w × Below w a
+element-bare-in NoTriple p own a h e i l =
+    let r = element-raised (ScanBareUrl (parts_of p) NoTriple) p own a refl refl h e i l in
+    (place.Style (style_scan_place (ScanBareUrl (parts_of (unknown_part p)) NoTriple)), refl, r.0, r.1)
+element-bare-in AfterPercent p own a h e i l = absurd (none_some own i)
+element-bare-in AfterDigit p own a h e i l = absurd (none_some own i)
+
+element-quoted-in : (y : Quote) (x : Triple) (p : UrlPart) (own a : Place) → is_open p ≡ true → HasApart a
+    → SpotAt (option_map (QuotedUrlSpot y) (where_whole x p)) own → Below own a
+    → (w : Place) × SpotAt (option_map (QuotedUrlSpot y) (where_whole x (unknown_part p))) w × IsValid w × Below w a
+element-quoted-in y NoTriple p own a h e i l =
+    let r = element-raised (ScanQuotedUrl y NoEscape (parts_of p) NoTriple) p own a refl refl h e i l in
+    (place.Style (style_scan_place (ScanQuotedUrl y NoEscape (parts_of (unknown_part p)) NoTriple)), refl, r.0, r.1)
+element-quoted-in y AfterPercent p own a h e i l = absurd (none_some own i)
+element-quoted-in y AfterDigit p own a h e i l = absurd (none_some own i)
+
 pub unknown-in : (a : Place) (s : LexState ValueState) → is_in_beginning s ≡ true → HasApart a → IsIn a s → IsIn a (unknown_beginning s)
 unknown-in a (AttributeValue q t (ValueOf (OfUrl u)) Closed) h e i =
     let r = raised-in u.triple u.part t q i.own a h e i.stands i.below in
@@ -264,4 +327,24 @@ unknown-in a (AttributeValue q t (ValueOf (OfStyle (style.InUrl Ended u))) Close
 unknown-in a (AttributeValue q t (ValueOf (OfStyle (Out s))) Closed) h e i = absurd (no h)
 unknown-in a (AttributeValue q t (ValueOf (OfStyle s)) (Open f bytes)) h e i = absurd (none_some i.own i.stands)
 unknown-in a (AttributeValue q t (Deciding k before) r) h e i = absurd (no h)
+unknown-in a (InContent element.Style (InLanguage (OfStyle (style.InUrl Bare u))) Nothing) h e i =
+    let r = element-bare-in u.triple u.part i.own a h e i.stands i.below in
+    record { own = r.0; stands = r.1; valid = r.2; below = r.3 }
+unknown-in a (InContent element.Style (InLanguage (OfStyle (style.InUrl (Quoted y NoEscape) u))) Nothing) h e i =
+    let r = element-quoted-in y u.triple u.part i.own a h e i.stands i.below in
+    record { own = r.0; stands = r.1; valid = r.2; below = r.3 }
+unknown-in a (InContent element.Style (InLanguage (OfStyle (style.InUrl (Quoted y AfterBackslash) u))) Nothing) h e i = absurd (none_some i.own i.stands)
+unknown-in a (InContent element.Style (InLanguage (OfStyle (style.InUrl (Quoted y (HexDigits k)) u))) Nothing) h e i = absurd (none_some i.own i.stands)
+unknown-in a (InContent element.Style (InLanguage (OfStyle (style.InUrl (Quoted y AfterReturn) u))) Nothing) h e i = absurd (none_some i.own i.stands)
+unknown-in a (InContent element.Style (InLanguage (OfStyle (style.InUrl Fresh u))) Nothing) h e i = absurd (no h)
+unknown-in a (InContent element.Style (InLanguage (OfStyle (style.InUrl Ended u))) Nothing) h e i = absurd (no h)
+unknown-in a (InContent element.Style (InLanguage (OfStyle (Out s))) Nothing) h e i = absurd (no h)
+unknown-in a (InContent _ (InLanguage (OfStyle s)) Nothing) h e i = absurd (none_some i.own i.stands)
+unknown-in a (InContent x (InLanguage (OfStyle s)) PendingLess) h e i = absurd (none_some i.own i.stands)
+unknown-in a (InContent x (InLanguage (OfStyle s)) LessAtCut) h e i = absurd (none_some i.own i.stands)
+unknown-in a (InContent x (InLanguage (OfStyle s)) (PendingName letters)) h e i = absurd (none_some i.own i.stands)
+unknown-in a (InContent x (InLanguage (OfStyle s)) PendingBang) h e i = absurd (none_some i.own i.stands)
+unknown-in a (InContent x (InLanguage (OfStyle s)) PendingBangDash) h e i = absurd (none_some i.own i.stands)
+unknown-in a (InContent x (InLanguage (OfKind k)) y) h e i = absurd (no h)
+unknown-in a (InContent x (InLanguage (OfUrl u)) y) h e i = absurd (no h)
 unknown-in a _ h e i = absurd (no h)

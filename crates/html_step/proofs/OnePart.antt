@@ -1,7 +1,6 @@
 -- A set of parts below one of which all paths are in one part has that part.
-use Rattle.std.proofs.Common.{◌≡◌, ◌≤◌, ◌+◌, Bool, true, false, ◌||◌, Option, Some, None, is_some, nat_lt, if◌then◌else◌, [], ◌∷◌, ◌++◌, refl, sym, ap, ◌∙◌, arith, ltb-false}
+use Rattle.std.proofs.Common.{◌≡◌, ◌≤◌, ◌+◌, Bool, true, false, ◌||◌, Option, Some, None, is_some, nat_lt, if◌then◌else◌, List, [], ◌∷◌, ◌++◌, refl, sym, ap, ◌∙◌, arith, ltb-false}
 use Rattle.place_core.specs.place.LanguagePlaces.{both_prefixes, some_part}
-use Rattle.place_core.specs.declared.chain.Chain.{Chain}
 use Rattle.place_core.specs.declared.parts.Parts.{Parts}
 use Rattle.place_core.specs.declared.prefix.Prefix.{Prefix}
 use Rattle.place_core.specs.declared.san.San.{San}
@@ -10,7 +9,7 @@ use Rattle.place_core.specs.declared.san.San.TheVariants as san
 use Rattle.html_step.proofs.PlaceParts.{Under}
 use Rattle.html_step.proofs.PathScans.{some}
 use Rattle.url_step.specs.Chains.{chain_of}
-use Rattle.url_step.specs.PartSets.{PartsBelow, one_if, part_count, parts_hole_error}
+use Rattle.url_step.specs.PartSets.{PartsBelow, one_if, part_count, part_sans, parts_hole_error}
 use Rattle.url_step.proofs.Growth.{hole-none}
 
 no : false ≡ true → ⊥
@@ -64,15 +63,18 @@ same-parts s t v h e =
       query = one-same s.query t.query (omega arith);
     }
 
-abbrev chain_by : Bool → Bool → Bool → San → Chain
-chain_by a p q last = chain_of ((if a then san.UrlFilter ∷ san.UrlNorm ∷ [] else (if p then san.UrlNorm ∷ []
-    else (if q then san.UrlQuery ∷ [] else san.UrlOpen ∷ []))) ++ last ∷ [])
+abbrev sans_by : Bool → Bool → Bool → List San
+sans_by a p q = if a then san.UrlFilter ∷ san.UrlNorm ∷ [] else (if p then san.UrlNorm ∷ [] else (if q then san.UrlQuery ∷ [] else san.UrlOpen ∷ []))
 
-chain-by : (a p q b r u : Bool) (last : San) → a ≡ b → p ≡ r → q ≡ u → chain_by a p q last ≡ chain_by b r u last
-chain-by a p q b r u last e f g = rw (e, f, g) refl
+sans-by : (a p q b r u : Bool) → a ≡ b → p ≡ r → q ≡ u → sans_by a p q ≡ sans_by b r u
+sans-by a p q b r u e f g = rw (e, f, g) refl
 
 -- so they have one chain
+pub same-sans : (s t : Parts) → some_part s ≡ true → PartsBelow s t → parts_hole_error t ≡ None → part_sans s ≡ part_sans t
+same-sans s t v h n =
+    let m = same-parts s t v h n in
+    sans-by s.start s.prequery s.query t.start t.prequery t.query m.start m.prequery m.query
+
 pub same-chain : (s t : Parts) (x y : San) → x ≡ y → some_part s ≡ true → PartsBelow s t → parts_hole_error t ≡ None → url_chain s x ≡ url_chain t y
 same-chain s t x y e v h n =
-    let m = same-parts s t v h n in
-    ap (url_chain s) e ∙ chain-by s.start s.prequery s.query t.start t.prequery t.query y m.start m.prequery m.query
+    ap (url_chain s) e ∙ ap (λ (z : List San). chain_of (z ++ y ∷ [])) (same-sans s t v h n)

@@ -11,7 +11,7 @@ use Rattle.place_core.specs.page.Html.{next, after_tag, next_declaration, next_b
 use Rattle.place_core.specs.page.Paths.{at_cut}
 use Rattle.place_core.specs.page.References.{Reference, settled, undone_byte, as_it_stands, Closed, Open, Form, ReferenceStep, Grows, Closes, Breaks, turn, meaning, flushed, plain_bytes, next_reference}
 use Rattle.place_core.specs.place.StatePlaces.{tag_spot, body_at, only_name, only_before, only_inside, only_after, value_spot, value_body, quotes_at, unbegun, placed}
-use Rattle.place_core.specs.page.States.{Template, LexState, Text, TagOpen, EndTagOpen, DeclarationOpen, CommentState, Started, StartedDash, Inside, Dash, DashDash, Bang, Broken, InComment, BogusComment, InDoctype, TagName, WholeTagName, BeforeAttributeName, AttributeName, WholeAttributeName, AfterAttributeName, BeforeAttributeValue, AttributeValue, AfterAttributeValue, SelfClosingStartTag, Characters, Bytes, Pending, Nothing, PendingLess, PendingName, PendingBang, PendingBangDash, InContent, Unread, LessAtCut}
+use Rattle.place_core.specs.page.States.{Template, LexState, Text, TagOpen, EndTagOpen, DeclarationOpen, CommentState, Started, StartedDash, Inside, Dash, DashDash, Bang, Broken, InComment, BogusComment, InDoctype, TagName, WholeTagName, BeforeAttributeName, AttributeName, WholeAttributeName, AfterAttributeName, BeforeAttributeValue, AttributeValue, AfterAttributeValue, SelfClosingStartTag, Characters, Bytes, InLanguage, Pending, Nothing, PendingLess, PendingName, PendingBang, PendingBangDash, InContent, Unread, LessAtCut}
 use Rattle.place_core.specs.page.Tags.{Tag, Value, ValueOf, Deciding, ValueState, OfKind, OfUrl, OfStyle, languages, feeding, feed_bytes, refusal_code, refuses_names_in, refuses_cut_of, attribute_value_of, tag_of_name, element_on, is_start, tag_by_type, with_bytes, tag_with_value, without_value, Quoting, DoubleQuoted, SingleQuoted, Unquoted, is_second_type, typed_by, cut_value}
 use Rattle.place_core.specs.page.Words.{kind_of, is_script_type}
 use Rattle.place_core.specs.place.UrlParts.{parts_of}
@@ -38,6 +38,7 @@ use Rattle.url_lexer.specs.Triples.{Triple, NoTriple, AfterPercent, AfterDigit, 
 use Rattle.url_step.proofs.OnePath.{one-next}
 pub use Rattle.html_step.proofs.PathScans.{WhereScanned, content_scanned, none-at-hand, none-unless, same-tag, scanned, some, url_scanned}
 use Rattle.html_step.proofs.PathScans.{Agrees, Ends, block_scanned, not-second, same-typed, same-with, tag-ends, unless-first, url_value, value_scanned}
+use Rattle.html_step.proofs.ElementSteps.{language-ends, language-steps}
 use Rattle.html_step.proofs.StyleSteps.{begin-style-steps, style-ends, style-steps, where-styled}
 
 -- What refuses nothing: the language of a value that is no URL and no style.
@@ -113,7 +114,7 @@ url-scan-error v AfterDigit r c b = refl
 pub only-hand : (o p : Option PathCause) → o ≡ None → first_cause o p ≡ p
 only-hand o p e = rw e refl
 
-tag-ends-with : (t : Tag) (k : Kind) → content_error t.tag ≡ None → scanned (after_tag (without_value t k).tag) ≡ Some (content_scan t.tag)
+tag-ends-with : (t : Tag) (k : Kind) → content_error t.tag ≡ None → scanned (after_tag languages (without_value t k).tag) ≡ Some (content_scan t.tag)
 tag-ends-with t k n = rw (same-tag t k) (tag-ends t.tag n)
 
 value-begins : (t : Tag) (typed : Bool) (k : Kind) → kind_error k ≡ None → is_second_type t.typed k ≡ false → typed ≡ (without_value t k).typed
@@ -189,7 +190,7 @@ whole-tag-steps t GreaterThan b = record { errors = refl; steps = λ n. tag-ends
 whole-tag-steps t _ b = record { errors = refl; steps = λ n. absurd (some _ n) }
 
 -- before a name, also after a quoted value and after a solidus
-before-next : (t : Tag) (c : Class) (b : ℕ) → at_hand (tag_error (tag_spot t only_before None) c) ≡ None → scanned (next_before_name c b t) ≡ Some (tag_next (tag_spot t only_before None) c b)
+before-next : (t : Tag) (c : Class) (b : ℕ) → at_hand (tag_error (tag_spot t only_before None) c) ≡ None → scanned (next_before_name languages c b t) ≡ Some (tag_next (tag_spot t only_before None) c b)
 before-next t White b n = refl
 before-next t Solidus b n = refl
 before-next t GreaterThan b n = tag-ends t.tag (none-at-hand _ n)
@@ -200,7 +201,7 @@ before-next t LessThan b n = absurd (some _ n)
 before-next t _ b n = refl
 
 attribute-next : (t : Tag) (k : Kind) (name : List ℕ) (c : Class) (b : ℕ) → attribute_name_error t.tag t.typed k (length name) c ≡ None
-    → scanned (next_name c b t k name) ≡ Some (attribute_name_next c b t.tag t.typed k name)
+    → scanned (next_name languages c b t k name) ≡ Some (attribute_name_next c b t.tag t.typed k name)
 attribute-next t k name White b n = rw (same-typed t k) (not-second t k _ (unless-first (is_second_type t.typed k) (length name) None n))
 attribute-next t k name Solidus b n = rw (same-tag t k, same-typed t k) refl
 attribute-next t k name GreaterThan b n = tag-ends-with t k (none-unless (is_second_type t.typed k) (length name) (content_error t.tag) n)
@@ -215,7 +216,7 @@ attribute-steps : (t : Tag) (name : List ℕ) (c : Class) (b : ℕ) → Agrees (
 attribute-steps t name c b = record { errors = refl; steps = λ n. attribute-next t (kind_of (element_on t.tag) name) name c b n }
 
 whole-name-next : (t : Tag) (k : Kind) (c : Class) (b : ℕ) → is_second_type t.typed k ≡ false → at_hand (tag_error (tag_spot t only_inside (Some k)) c) ≡ None
-    → scanned (next_after_name c b t k) ≡ Some (tag_next (tag_spot t only_inside (Some k)) c b)
+    → scanned (next_after_name languages c b t k) ≡ Some (tag_next (tag_spot t only_inside (Some k)) c b)
 whole-name-next t k White b f n = not-second t k _ f
 whole-name-next t k Solidus b f n = rw (same-tag t k) refl
 whole-name-next t k GreaterThan b f n = tag-ends-with t k (none-at-hand _ n)
@@ -223,7 +224,7 @@ whole-name-next t k EqualsSign b f n = value-begins t ((without_value t k).typed
 whole-name-next t k _ b f n = absurd (some _ n)
 
 after-name-next : (t : Tag) (k : Kind) (c : Class) (b : ℕ) → is_second_type t.typed k ≡ false → at_hand (tag_error (tag_spot t only_after (Some k)) c) ≡ None
-    → scanned (next_after_name c b t k) ≡ Some (tag_next (tag_spot t only_after (Some k)) c b)
+    → scanned (next_after_name languages c b t k) ≡ Some (tag_next (tag_spot t only_after (Some k)) c b)
 after-name-next t k White b f n = not-second t k _ f
 after-name-next t k Solidus b f n = rw (same-tag t k) refl
 after-name-next t k GreaterThan b f n = tag-ends-with t k (none-at-hand _ n)
@@ -402,7 +403,7 @@ after-typed : (t : Tag) (z : Value ValueState) → Typed z → t.typed ≡ false
 after-typed t z o e = rw o.is (rw (ending-typed t (Deciding kind.ScriptType o.value) e, same-type-typed t o.value e) refl)
 
 content-typed : (t : Tag) (z : Value ValueState) → t.typed ≡ false → content_error (type_tag t.tag z) ≡ None
-    → scanned (after_tag (tag_with_value t z).tag) ≡ Some (content_scan (type_tag t.tag z))
+    → scanned (after_tag languages (tag_with_value t z).tag) ≡ Some (content_scan (type_tag t.tag z))
 content-typed t z e n = rw (ending-typed t z e) (tag-ends (type_tag t.tag z) n)
 
 type-next : (q : Quoting) (t : Tag) (before : List ℕ) (r : Reference) (c : Class) (b : ℕ) → class_of b ≡ c → t.typed ≡ false
@@ -456,7 +457,7 @@ type-steps false q t before r c b i e = record {
 
 end-name-next : (grows whole : Bool) (c : Class) (b : ℕ) (e : Element) (r : Reference) (letters : List ℕ)
     → content_scanned (PendingName (letters ++ b ∷ [])) e ≡ Some (InContentEnd e (PendingName (letters ++ b ∷ []))) → content_scanned PendingLess e ≡ Some (InContentEnd e PendingLess) → content_scanned Nothing e ≡ Some (At (rest_place e))
-    → scanned (next_end_name grows whole c b e (Characters r) letters) ≡ Some (end_name_next grows whole c b e letters)
+    → scanned (next_end_name languages grows whole c b e (Characters r) letters) ≡ Some (end_name_next grows whole c b e letters)
 end-name-next true whole (Letter l) b e r letters f g h = f
 end-name-next true true White b e r letters f g h = refl
 end-name-next true true Solidus b e r letters f g h = refl
@@ -473,12 +474,12 @@ end-name-next false true _ b e r letters f g h = h
 end-name-next false false LessThan b e r letters f g h = g
 end-name-next false false _ b e r letters f g h = h
 
-loose-next : (c : Class) (b : ℕ) (e : Element) (r : Reference) → content_scanned PendingLess e ≡ Some (InContentEnd e PendingLess) → content_scanned Nothing e ≡ Some (At (rest_place e)) → scanned (next_loose c b e (Characters r)) ≡ Some (content_next c e)
+loose-next : (c : Class) (b : ℕ) (e : Element) (r : Reference) → content_scanned PendingLess e ≡ Some (InContentEnd e PendingLess) → content_scanned Nothing e ≡ Some (At (rest_place e)) → scanned (next_loose languages c b e (Characters r)) ≡ Some (content_next c e)
 loose-next LessThan b e r g h = g
 loose-next _ b e r g h = h
 
 less-next : (c : Class) (b : ℕ) (e : Element) (r : Reference) → pending_less_next ExclamationMark e ≡ At (rest_place e) → content_scanned (PendingName []) e ≡ Some (InContentEnd e (PendingName []))
-    → content_scanned PendingLess e ≡ Some (InContentEnd e PendingLess) → content_scanned Nothing e ≡ Some (At (rest_place e)) → scanned (next_less c b e (Characters r)) ≡ Some (pending_less_next c e)
+    → content_scanned PendingLess e ≡ Some (InContentEnd e PendingLess) → content_scanned Nothing e ≡ Some (At (rest_place e)) → scanned (next_less languages c b e (Characters r)) ≡ Some (pending_less_next c e)
 less-next Solidus b e r k f g h = f
 less-next ExclamationMark b e r k f g h = h ∙ ap Some (sym k)
 less-next LessThan b e r k f g h = g
@@ -505,22 +506,22 @@ content-steps PendingBang _ r c b = tt
 content-steps PendingBangDash _ r c b = tt
 
 -- data blocks
-block-loose : (c : Class) (b : ℕ) → scanned (next_loose c b element.DataBlock Bytes) ≡ Some (content_next c element.DataBlock)
+block-loose : (c : Class) (b : ℕ) → scanned (next_loose languages c b element.DataBlock Bytes) ≡ Some (content_next c element.DataBlock)
 block-loose LessThan b = refl
 block-loose _ b = refl
 
-block-less : (c : Class) (b : ℕ) → scanned (next_less c b element.DataBlock Bytes) ≡ Some (pending_less_next c element.DataBlock)
+block-less : (c : Class) (b : ℕ) → scanned (next_less languages c b element.DataBlock Bytes) ≡ Some (pending_less_next c element.DataBlock)
 block-less Solidus b = refl
 block-less ExclamationMark b = refl
 block-less LessThan b = refl
 block-less _ b = refl
 
-block-bang : (c : Class) (b : ℕ) → scanned (next_bang c b element.DataBlock Bytes) ≡ Some (bang_next c element.DataBlock)
+block-bang : (c : Class) (b : ℕ) → scanned (next_bang languages c b element.DataBlock Bytes) ≡ Some (bang_next c element.DataBlock)
 block-bang HyphenMinus b = refl
 block-bang LessThan b = refl
 block-bang _ b = refl
 
-block-name : (grows whole : Bool) (c : Class) (b : ℕ) (letters : List ℕ) → scanned (next_end_name grows whole c b element.DataBlock Bytes letters) ≡ Some (end_name_next grows whole c b element.DataBlock letters)
+block-name : (grows whole : Bool) (c : Class) (b : ℕ) (letters : List ℕ) → scanned (next_end_name languages grows whole c b element.DataBlock Bytes letters) ≡ Some (end_name_next grows whole c b element.DataBlock letters)
 block-name true whole (Letter l) b letters = refl
 block-name true true White b letters = refl
 block-name true true Solidus b letters = refl
@@ -618,6 +619,7 @@ agrees (AfterAttributeValue t) c b i = record { errors = refl; steps = before-ne
 agrees (SelfClosingStartTag t) c b i = record { errors = refl; steps = before-next t c b }
 agrees (InContent e (Characters r) h) c b i = content-steps h e r c b
 agrees (InContent e Bytes h) c b i = block-steps h e c b
+agrees (InContent e (InLanguage v) h) c b i = language-steps h e v c b
 agrees Unread c b i = tt
 
 content-ends : (h : Pending) (e : Element) (r : Reference) → WhereScanned (content_scanned h e) (Ends (InContent e (Characters r) h))
@@ -855,4 +857,5 @@ ends-agree (AfterAttributeValue t) = record { errors = refl; lexeme = λ n. refl
 ends-agree (SelfClosingStartTag t) = record { errors = refl; lexeme = λ n. refl; reference = refl; place = λ n. refl; shown = λ bs h. refl }
 ends-agree (InContent e (Characters r) h) = content-ends h e r
 ends-agree (InContent e Bytes h) = block-ends h e
+ends-agree (InContent e (InLanguage v) h) = language-ends h e v
 ends-agree Unread = tt

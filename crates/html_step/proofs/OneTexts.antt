@@ -1,31 +1,35 @@
 -- A whole text, from the place of one path.
-use Rattle.std.proofs.Common.{◌≡◌, ◌≤◌, ℕ, ◌+◌, ◌-◌, zero, suc, List, [], ◌∷◌, take, drop, Option, Some, None, Result, Ok, Err, refl, sym, ap, ◌∙◌, subst, arith, Bool, true, false, ◌⊎◌, inl, inr}
+use Rattle.std.proofs.Common.{◌≡◌, ◌≤◌, ℕ, ◌+◌, ◌-◌, zero, suc, List, [], ◌∷◌, ◌++◌, codes, take, drop, Option, Some, None, Result, Ok, Err, refl, sym, ap, ◌∙◌, subst, arith, Bool, true, false, ◌⊎◌, inl, inr}
 use Rattle.std.specs.Prelude.{⊤, is_some, if◌then◌else◌}
 use Rattle.std.specs.Option.{option_map}
-use Rattle.place_core.specs.page.Classes.{class_of}
-use Rattle.place_core.specs.place.Errors.{PathCause, PathRefusal, PathRefuses, refusal_from, standing_at, node, or_place, place_before_bytes, shown_from, shown_place, broken_off, lexeme_error}
+use Rattle.place_core.specs.page.Classes.{Class, White, Solidus, GreaterThan, Letter, class_of}
+use Rattle.place_core.specs.place.Errors.{PathCause, PathRefusal, PathRefuses, at_hand, end_name_error, first_cause, less_error, loose_byte_error, name_goes_on, pending_before, pending_error, split_error, unless_it_goes_on, refusal_from, standing_at, node, or_place, place_before_bytes, shown_from, shown_place, broken_off, lexeme_error}
 use Rattle.place_core.specs.place.LastLexeme.{last_lexeme_start, language_reference}
+use Rattle.place_core.specs.page.Contents.{is_name_of, may_be_name_of, pending_bytes}
 use Rattle.place_core.specs.page.Html.{next}
 use Rattle.place_core.specs.page.References.{Reference, Closed, Open}
 use Rattle.place_core.specs.place.UrlParts.{parts_of}
-use Rattle.place_core.specs.place.StyleParts.{style_body}
+use Rattle.place_core.specs.place.StyleParts.{style_body, style_css}
 use Rattle.place_core.specs.place.StatePlaces.{placed, quotes_at, value_spot}
-use Rattle.place_core.specs.page.States.{Template, LexState, Text, TagOpen, EndTagOpen, DeclarationOpen, Started, StartedDash, Inside, Dash, DashDash, Bang, Broken, InComment, BogusComment, InDoctype, TagName, WholeTagName, BeforeAttributeName, AttributeName, WholeAttributeName, AfterAttributeName, BeforeAttributeValue, AttributeValue, AfterAttributeValue, SelfClosingStartTag, Characters, Bytes, Nothing, PendingLess, PendingName, PendingBang, PendingBangDash, InContent, Unread, LessAtCut}
-use Rattle.place_core.specs.page.Tags.{Tag, ValueState, OfKind, OfUrl, OfStyle, Quoting, languages, ValueOf, Deciding, is_second_type}
+use Rattle.place_core.specs.page.States.{Template, LexState, Text, TagOpen, EndTagOpen, DeclarationOpen, Started, StartedDash, Inside, Dash, DashDash, Bang, Broken, InComment, BogusComment, InDoctype, TagName, WholeTagName, BeforeAttributeName, AttributeName, WholeAttributeName, AfterAttributeName, BeforeAttributeValue, AttributeValue, AfterAttributeValue, SelfClosingStartTag, Characters, Bytes, InLanguage, Pending, Nothing, PendingLess, PendingName, PendingBang, PendingBangDash, InContent, Unread, LessAtCut}
+use Rattle.place_core.specs.page.Tags.{Tag, ValueState, OfKind, OfUrl, OfStyle, Quoting, languages, ValueOf, Deciding, feed_bytes, is_second_type}
 use Rattle.css_lexer.specs.States.{Style}
-use Rattle.css_step.specs.StyleScans.{StyleScan}
+use Rattle.css_step.specs.StyleScans.{StyleScan, style_scan_place}
 use Rattle.place_core.specs.declared.body.Body.{Body}
 use Rattle.place_core.specs.declared.body.Body.TheVariants as body
 use Rattle.place_core.specs.declared.code.Code.{Code}
+use Rattle.place_core.specs.declared.css.Css.{Css}
 use Rattle.place_core.specs.declared.element.Element.TheVariants as element
 use Rattle.place_core.specs.declared.place.Place.{Place}
+use Rattle.place_core.specs.declared.place.Place.TheVariants as place
 use Rattle.place_core.specs.declared.step_err.StepErr.{StepErr}
-use Rattle.html_scan.specs.Scans.{Scan, At, InStyle, scan_next, scan_error, scan_place, scan_cut_error, scan_lexeme_error, scan_shown, scan_reference, url_scan, with_body, with_style}
+use Rattle.html_scan.specs.Scans.{Scan, At, InStyle, InStyleElement, element_cause, pending_left, style_less_cause, scan_next, scan_error, scan_place, scan_cut_error, scan_lexeme_error, scan_shown, scan_reference, style_feeding, url_scan, with_body, with_style}
 use Rattle.html_step.specs.Laws.{OneBefore, OneText}
 use Rattle.html_step.specs.Steps.{after_text, scan_after, stepped, unless_refused, unless_broken_off, place_before, with_place_before, or_shown, shown_scan}
+use Rattle.html_step.proofs.ElementSteps.{body-css}
 use Rattle.html_step.proofs.OnePath.{agrees, ends-agree}
-use Rattle.html_step.proofs.PathScans.{scanned, style_value_scanned, url_value, Agrees, Ends, IsShown, WhereScanned}
-use Rattle.html_step.proofs.StylePaths.{StandsHere, style-at-place, style_value}
+use Rattle.html_step.proofs.PathScans.{scanned, style_element_scanned, style_value_scanned, url_value, Agrees, Ends, IsShown, WhereScanned, refused_next}
+use Rattle.html_step.proofs.StylePaths.{StandsHere, end-here, first-here, one-css, style-at-place, style_value}
 use Rattle.place_core.specs.declared.kind.Kind.TheVariants as kind
 use Rattle.url_lexer.specs.Parts.{UrlPart}
 use Rattle.url_lexer.specs.Spots.{where_whole}
@@ -46,6 +50,16 @@ url-place : (q : Quoting) (t : Tag) (x : Triple) (u : UrlPart) (p : Place)
 url-place q t NoTriple u p e = ap (option_map At) e
 url-place q t AfterPercent u p e = absurd (none e)
 url-place q t AfterDigit u p e = absurd (none e)
+
+-- in the element `style`, outside of lexemes
+element-at : (s : Style Url) (p : Place) (o : Option Css) → style_css s ≡ o → option_map place.Style o ≡ Some p
+    → scanned (InContent element.Style (InLanguage (OfStyle s)) Nothing) ≡ Some (At p)
+element-at s p None h e = absurd (none e)
+element-at s p (Some c) h e =
+    let a = style-at-place s (body.Css c) (body-css s ∙ ap (option_map body.Css) h) in
+    ap (style_element_scanned Nothing) a.is
+    ∙ ap (λ (y : Bool). Some (if y then At (place.Style (style_scan_place a.scan)) else InStyleElement a.scan Nothing)) a.starts
+    ∙ ap (λ (d : Css). Some (At (place.Style d))) (sym (one-css c (style_scan_place a.scan) a.place)) ∙ ap (option_map At) e
 
 -- in a style, outside of lexemes
 style-at : (q : Quoting) (t : Tag) (s : Style Url) (p : Place) (o : Option Body) → style_body s ≡ o → value_spot t (quotes_at q) o ≡ Some p
@@ -106,6 +120,15 @@ at-place (InContent element.Textarea Bytes Nothing) p e = absurd (none e)
 at-place (InContent element.Script Bytes Nothing) p e = absurd (none e)
 at-place (InContent element.Style Bytes Nothing) p e = absurd (none e)
 at-place (InContent element.Other Bytes Nothing) p e = absurd (none e)
+at-place (InContent element.Style (InLanguage (OfStyle s)) Nothing) p e = element-at s p (style_css s) refl e
+at-place (InContent element.Style (InLanguage (OfKind k)) Nothing) p e = absurd (none e)
+at-place (InContent element.Style (InLanguage (OfUrl u)) Nothing) p e = absurd (none e)
+at-place (InContent element.Title (InLanguage v) Nothing) p e = absurd (none e)
+at-place (InContent element.Textarea (InLanguage v) Nothing) p e = absurd (none e)
+at-place (InContent element.DataBlock (InLanguage v) Nothing) p e = absurd (none e)
+at-place (InContent element.Script (InLanguage v) Nothing) p e = absurd (none e)
+at-place (InContent element.Other (InLanguage v) Nothing) p e = absurd (none e)
+at-place (InContent x (InLanguage v) LessAtCut) p e = absurd (none e)
 at-place (InContent x (Characters r) LessAtCut) p e = absurd (none e)
 at-place (InContent element.DataBlock Bytes LessAtCut) p e = ap (option_map At) e
 at-place (InContent element.Title Bytes LessAtCut) p e = absurd (none e)
@@ -199,17 +222,80 @@ stands-here j n None r h = tt
 stands-here j n (Some x) r (inl h) = inl (not-before j n x.back h)
 stands-here j n (Some x) r (inr h) = inr (not-before j n x.shown h)
 
+-- Nothing is pending there: no reference is open, and no end tag of the element may have begun.
+abbrev pub IsBetween : Scan → Type 0
+IsBetween (InStyleElement n h) = h ≡ Nothing
+IsBetween f = scan_reference f ≡ Closed
+
 abbrev pub BeginsClosed : ℕ → Scan → Type 0
-BeginsClosed k f = k ≡ 0 → scan_reference f ≡ Closed
+BeginsClosed k f = k ≡ 0 → IsBetween f
+
+-- What is pending back in the element and comes to nothing at a byte is refused before it.
+abbrev PendingTaken : StyleScan → Pending → Type 0
+PendingTaken n h = pending_error style_feeding n (pending_bytes h) ≡ None
+
+released-here : (n : StyleScan) (bytes : List ℕ) (rest : Option PathCause)
+    → StandsHere (first_cause (pending_error style_feeding n bytes) rest)
+    → pending_error style_feeding n bytes ≡ None
+released-here n bytes rest k = end-here n bytes (first-here (pending_error style_feeding n bytes) rest k)
+
+abbrev loose-rest : StyleScan → List ℕ → Class → ℕ → Option PathCause
+loose-rest n bytes c b = at_hand (loose_byte_error style_feeding (feed_bytes style_feeding n bytes) c b)
+
+less-here : (n : StyleScan) (c : Class) (b : ℕ) → StandsHere (less_error style_feeding n c b)
+    → PendingTaken n (pending_before element.Style PendingLess c b)
+less-here n Solidus b k = refl
+less-here n c b k = released-here n (codes "<") (loose-rest n (codes "<") c b) k
+
+name-here : (n : StyleScan) (grows whole : Bool) (c : Class) (b : ℕ) (letters : List ℕ)
+    → StandsHere (end_name_error style_feeding n grows whole c b letters)
+    → PendingTaken n (unless_it_goes_on (name_goes_on grows whole c) (PendingName letters))
+name-here n true whole (Letter l) b letters k = refl
+name-here n true true White b letters k = refl
+name-here n true true Solidus b letters k = refl
+name-here n true true GreaterThan b letters k = refl
+name-here n true true c b letters k = released-here n (codes "</" ++ letters) (loose-rest n (codes "</" ++ letters) c b) k
+name-here n true false c b letters k = released-here n (codes "</" ++ letters) (loose-rest n (codes "</" ++ letters) c b) k
+name-here n false true White b letters k = refl
+name-here n false true Solidus b letters k = refl
+name-here n false true GreaterThan b letters k = refl
+name-here n false true c b letters k = released-here n (codes "</" ++ letters) (loose-rest n (codes "</" ++ letters) c b) k
+name-here n false false (Letter l) b letters k =
+    released-here n (codes "</" ++ letters) (loose-rest n (codes "</" ++ letters) (Letter l) b) k
+name-here n false false c b letters k = released-here n (codes "</" ++ letters) (loose-rest n (codes "</" ++ letters) c b) k
+
+pending-here : (n : StyleScan) (h : Pending) (c : Class) (b : ℕ) → StandsHere (element_cause n h c b)
+    → PendingTaken n (pending_before element.Style h c b)
+pending-here n Nothing c b k = refl
+pending-here n PendingLess c b k = less-here n c b k
+pending-here n LessAtCut c b k = released-here n (codes "<") (loose-rest n (codes "<") c b) k
+pending-here n (PendingName letters) c b k =
+    name-here n (may_be_name_of element.Style (letters ++ b ∷ [])) (is_name_of element.Style letters) c b letters k
+pending-here n PendingBang c b k = released-here n (codes "<!") (loose-rest n (codes "<!") c b) k
+pending-here n PendingBangDash c b k = released-here n (codes "<!-") (loose-rest n (codes "<!-") c b) k
+
+pub stands-shown : (f : Scan) (bs : List ℕ) → StandsHere (refused_next f bs) → IsShown f bs
+stands-shown (InStyleElement n h) [] k = released-here n (pending_bytes h) (split_error style_less_cause n h) k
+stands-shown (InStyleElement n h) (b ∷ bs) k = pending-here n h (class_of b) b k
+stands-shown _ bs k = inr k
+
+none-shown : (n : StyleScan) (bs : List ℕ) → PendingTaken n (pending_left Nothing bs)
+none-shown n [] = refl
+none-shown n (b ∷ bs) = refl
+
+between-shown : (f : Scan) (bs : List ℕ) → IsBetween f → IsShown f bs
+between-shown (InStyleElement n h) bs e = subst (λ (x : Pending). PendingTaken n (pending_left x bs)) (sym e) (none-shown n bs)
+between-shown _ bs e = inl e
 
 goes-closed : (k : ℕ) (f : Scan) → BeginsClosed (k + 1) f
 goes-closed k f e = absurd (let more : k + 1 ≡ 0 = e in omega (arith, more))
 
 is-shown : (k n since : ℕ) (bytes : List ℕ) (f : Scan) → BeginsClosed k f → Reaches (k + n) (stepped k since bytes f) → IsShown f bytes
-is-shown zero n since bytes f c r = inl (c refl)
-is-shown (suc j) n since [] f c r = inr (stands-here j n (scan_cut_error f) (unless_broken_off (suc j) since (scan_lexeme_error f) (scan_place f)) r)
+is-shown zero n since bytes f c r = between-shown f bytes (c refl)
+is-shown (suc j) n since [] f c r =
+    stands-shown f [] (stands-here j n (scan_cut_error f) (unless_broken_off (suc j) since (scan_lexeme_error f) (scan_place f)) r)
 is-shown (suc j) n since (b ∷ bs) f c r =
-    inr (stands-here j n (scan_error f (class_of b) b)
+    stands-shown f (b ∷ bs) (stands-here j n (scan_error f (class_of b) b)
     (stepped (suc j + 1) (last_lexeme_start (suc j) since (scan_reference f) (class_of b) b) bs (scan_next f (class_of b) b)) r)
 
 -- likewise behind some bytes
@@ -223,12 +309,16 @@ is-shown-after (suc n) (b ∷ bs) k since f c r =
     is-shown-after n bs (k + 1) after g (goes-closed k g)
     (later k n (stepped (k + 1) after bs g) (not-late k n (scan_error f (class_of b) b) (stepped (k + 1) after bs g) r).1)
 
+shown-here : (s : LexState ValueState) (f : Scan) (bs : List ℕ) (o : Option Place) → scanned s ≡ Some f → IsShown f bs
+    → or_place (place_before_bytes s bs) o ≡ or_place (scan_shown f bs) o
+shown-here s f bs o e i = ap (λ (a : Option Place). or_place a o) ((ends-at s f e).shown bs i)
+
 -- the last place of a path, and the last one of its scan states
 pub shown-there : (n : ℕ) (bytes : List ℕ) (k since : ℕ) (s : LexState ValueState) (f : Scan) (o : Option Place) → scanned s ≡ Some f
     → BeginsClosed k f → Reaches (k + n) (stepped k since bytes f)
     → shown_from n bytes s o ≡ shown_scan n bytes f o
-shown-there zero bytes k since s f o e c r = ap (λ (a : Option Place). or_place a o) ((ends-at s f e).shown bytes (is-shown k zero since bytes f c r))
-shown-there (suc n) [] k since s f o e c r = ap (λ (a : Option Place). or_place a o) ((ends-at s f e).shown [] (is-shown k (suc n) since [] f c r))
+shown-there zero bytes k since s f o e c r = shown-here s f bytes o e (is-shown k zero since bytes f c r)
+shown-there (suc n) [] k since s f o e c r = shown-here s f [] o e (is-shown k (suc n) since [] f c r)
 shown-there (suc n) (b ∷ bs) k since s f o e c r =
     let a = agrees-at s f b e in
     let g = scan_next f (class_of b) b in
@@ -236,7 +326,7 @@ shown-there (suc n) (b ∷ bs) k since s f o e c r =
     let l = not-late k n (scan_error f (class_of b) b) (stepped (k + 1) after bs g) r in
     shown-there n bs (k + 1) after (next languages Template s (class_of b) b) g (or_place (place_before_bytes s (b ∷ bs)) o) (a.steps l.0)
     (goes-closed k g) (later k n (stepped (k + 1) after bs g) l.1)
-    ∙ ap (λ (a : Option Place). shown_scan n bs g (or_place a o)) ((ends-at s f e).shown (b ∷ bs) (is-shown k (suc n) since (b ∷ bs) f c r))
+    ∙ ap (shown_scan n bs g) (shown-here s f (b ∷ bs) o e (is-shown k (suc n) since (b ∷ bs) f c r))
 
 -- from a place there is always one
 or-some : (a o : Option Place) → is_some o ≡ true → is_some (or_place a o) ≡ true

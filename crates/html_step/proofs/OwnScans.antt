@@ -1,5 +1,5 @@
 -- The scan states of single paths.
-use Rattle.std.proofs.Common.{◌≡◌, Option, Some}
+use Rattle.std.proofs.Common.{◌≡◌, Some}
 use Rattle.place_core.specs.page.States.{LexState}
 use Rattle.place_core.specs.page.Tags.{ValueState}
 use Rattle.html_scan.specs.Scans.{Scan}

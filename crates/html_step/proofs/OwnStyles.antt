@@ -1,12 +1,11 @@
 -- At the place of a path before a value that is a style, the style is empty.
 use Rattle.std.proofs.Common.{◌≡◌, Bool, true, false, Option, Some, None, option_map, if◌then◌else◌, refl, sym, ◌∙◌, subst}
-use Rattle.css_lexer.specs.States.{Style}
-use Rattle.css_step.specs.StyleScans.{StyleScan, is_style_start}
+use Rattle.css_step.specs.StyleScans.{StyleScan, is_style_start, style_scan_place}
 use Rattle.css_step.specs.StyleScanLaws.{style_scanned}
 use Rattle.place_core.specs.page.References.{Reference, Closed, Open}
 use Rattle.place_core.specs.place.StatePlaces.{only_after, only_inside, quotes_at, tag_spot}
 use Rattle.place_core.specs.place.UrlParts.{parts_of}
-use Rattle.place_core.specs.page.States.{LexState, Text, TagOpen, EndTagOpen, DeclarationOpen, InComment, Inside, Broken, BogusComment, InDoctype, TagName, WholeTagName, BeforeAttributeName, AttributeName, WholeAttributeName, AfterAttributeName, BeforeAttributeValue, AttributeValue, AfterAttributeValue, SelfClosingStartTag, Characters, Bytes, Pending, Nothing, PendingLess, PendingName, PendingBang, PendingBangDash, InContent, Unread, LessAtCut}
+use Rattle.place_core.specs.page.States.{LexState, Text, TagOpen, EndTagOpen, DeclarationOpen, InComment, Inside, Broken, BogusComment, InDoctype, TagName, WholeTagName, BeforeAttributeName, AttributeName, WholeAttributeName, AfterAttributeName, BeforeAttributeValue, AttributeValue, AfterAttributeValue, SelfClosingStartTag, Characters, Bytes, InLanguage, Pending, Nothing, PendingLess, PendingName, PendingBang, PendingBangDash, InContent, Unread, LessAtCut}
 use Rattle.place_core.specs.page.Tags.{Tag, Value, ValueOf, Deciding, ValueState, OfKind, OfUrl, OfStyle, Quoting, DoubleQuoted, SingleQuoted, Unquoted, is_second_type}
 use Rattle.place_core.specs.declared.body.Body.{Body}
 use Rattle.place_core.specs.declared.body.Body.TheVariants as body
@@ -20,9 +19,9 @@ use Rattle.place_core.specs.declared.parts.Parts.{Parts}
 use Rattle.place_core.specs.declared.quotes.Quotes.{Quotes}
 use Rattle.place_core.specs.declared.quotes.Quotes.TheVariants as quotes
 use Rattle.place_core.specs.declared.value_place.ValuePlace.{ValuePlace}
-use Rattle.html_scan.specs.Scans.{Scan, At, InStyle, BeforeType, InType, style_scan, url_scan, with_style}
+use Rattle.html_scan.specs.Scans.{Scan, At, InStyle, InStyleElement, BeforeType, InType, style_scan, url_scan, with_style}
 use Rattle.html_step.proofs.OwnScans.{IsOwn}
-use Rattle.html_step.proofs.PathScans.{WhereScanned, block_scanned, content_scanned, scanned, url_value}
+use Rattle.html_step.proofs.PathScans.{WhereScanned, block_scanned, content_scanned, language_scanned, scanned, style_element_scanned, url_value}
 use Rattle.html_step.proofs.StylePaths.{empty_css, style_value}
 use Rattle.url_lexer.specs.Triples.{Triple, NoTriple, AfterPercent, AfterDigit}
 
@@ -121,6 +120,26 @@ value-empty q t (ValueOf (OfUrl u)) r = url-empty t q (parts_of u.part) u.triple
 value-empty q t (Deciding kind.ScriptType before) r = first-empty t.typed (InType t.tag q (Deciding kind.ScriptType before) r) tt
 value-empty q t (Deciding _ before) r = tt
 
+-- in the element `style` no value has not begun
+loose-empty : (x : Bool) (n : StyleScan) → IsEmptyBefore (if x then At (place.Style (style_scan_place n)) else InStyleElement n Nothing)
+loose-empty true n = tt
+loose-empty false n = tt
+
+element-empty : (h : Pending) (o : Option StyleScan) → WhereScanned (style_element_scanned h o) IsEmptyBefore
+element-empty Nothing (Some n) = loose-empty (is_style_start n) n
+element-empty PendingLess (Some n) = tt
+element-empty (PendingName l) (Some n) = tt
+element-empty LessAtCut (Some n) = tt
+element-empty PendingBang (Some n) = tt
+element-empty PendingBangDash (Some n) = tt
+element-empty h None = tt
+
+language-empty : (h : Pending) (e : Element) (v : ValueState) → WhereScanned (language_scanned h e v) IsEmptyBefore
+language-empty h element.Style (OfStyle s) = element-empty h (style_scanned s)
+language-empty h element.Style (OfKind k) = tt
+language-empty h element.Style (OfUrl u) = tt
+language-empty h _ v = tt
+
 own-empty : (s : LexState ValueState) → WhereScanned (scanned s) IsEmptyBefore
 own-empty (Text r) = tt
 own-empty (TagOpen r) = tt
@@ -143,6 +162,7 @@ own-empty (AfterAttributeValue t) = tt
 own-empty (SelfClosingStartTag t) = tt
 own-empty (InContent e (Characters r) p) = content-empty p e
 own-empty (InContent e Bytes p) = block-empty p e
+own-empty (InContent e (InLanguage v) p) = language-empty p e v
 own-empty Unread = tt
 
 pub own-unbegun : (v : ValuePlace) (p : Css) → IsOwn (At (place.Value v)) → has_begun v.quotes ≡ false → v.body ≡ body.Css p → p ≡ empty_css

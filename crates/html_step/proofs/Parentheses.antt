@@ -36,7 +36,7 @@ opening-seventh false false false false false false false false false false true
 opening-seventh false false false false false false false false false false false true h = absurd (no h)
 opening-seventh false false false false false false false false false false false false h = absurd (no h)
 
-opening-byte : (b : ℕ) → style_class b ≡ class.LeftParenthesis → b ≡ 40
+pub opening-byte : (b : ℕ) → style_class b ≡ class.LeftParenthesis → b ≡ 40
 unfolding style_class
 opening-byte b h =
     eqb-true b 40

@@ -6,12 +6,13 @@ use Rattle.css_step.specs.StyleScans.{StyleScan}
 use Rattle.css_step.specs.StyleScanLaws.{style_scanned}
 use Rattle.place_core.specs.page.Classes.{Class, class_of}
 use Rattle.place_core.specs.place.LastLexeme.{language_reference}
-use Rattle.place_core.specs.place.Errors.{byte_error, cut_error, at_hand, unless_second, content_error, PathCause, place_before_bytes, lexeme_error}
+use Rattle.place_core.specs.place.Errors.{byte_error, cut_error, at_hand, unless_second, content_error, PathCause, pending_error, place_before_bytes, lexeme_error}
+use Rattle.place_core.specs.page.Contents.{pending_bytes}
 use Rattle.place_core.specs.page.Html.{next, after_tag}
 use Rattle.place_core.specs.page.Paths.{at_cut}
 use Rattle.place_core.specs.page.References.{Reference, Closed}
 use Rattle.place_core.specs.place.StatePlaces.{tag_spot, only_name, only_before, only_inside, only_after, value_spot, value_body, quotes_at, unbegun, placed}
-use Rattle.place_core.specs.page.States.{Template, LexState, Text, TagOpen, EndTagOpen, DeclarationOpen, InComment, BogusComment, InDoctype, TagName, WholeTagName, BeforeAttributeName, AttributeName, WholeAttributeName, AfterAttributeName, BeforeAttributeValue, AttributeValue, AfterAttributeValue, SelfClosingStartTag, Characters, Bytes, Pending, Nothing, PendingLess, PendingName, PendingBang, PendingBangDash, InContent, Unread, LessAtCut}
+use Rattle.place_core.specs.page.States.{Template, LexState, Text, TagOpen, EndTagOpen, DeclarationOpen, InComment, BogusComment, InDoctype, TagName, WholeTagName, BeforeAttributeName, AttributeName, WholeAttributeName, AfterAttributeName, BeforeAttributeValue, AttributeValue, AfterAttributeValue, SelfClosingStartTag, Characters, Bytes, InLanguage, Pending, Nothing, PendingLess, PendingName, PendingBang, PendingBangDash, InContent, Unread, LessAtCut}
 use Rattle.place_core.specs.page.Tags.{Tag, Value, ValueOf, Deciding, ValueState, OfKind, OfUrl, OfStyle, languages, feed_value, feeding, feed_bytes, attribute_value_of, tag_by_type, with_bytes, tag_with_value, without_value, Quoting, is_second_type}
 use Rattle.place_core.specs.place.UrlParts.{parts_of}
 use Rattle.place_core.specs.declared.body.Body.TheVariants as body
@@ -26,7 +27,7 @@ use Rattle.place_core.specs.declared.quotes.Quotes.{Quotes}
 use Rattle.place_core.specs.declared.tag_of.TagOf.{TagOf}
 use Rattle.place_core.specs.declared.tag_of.TagOf.TheVariants as tag
 use Rattle.place_core.specs.declared.value_place.ValuePlace.{ValuePlace}
-use Rattle.html_scan.specs.Scans.{Scan, At, AfterLess, AfterLessSolidus, InDeclaration, InTagName, InAttributeName, InContentEnd, comment_scan, content_scan, typed_with, scan_next, scan_error, scan_place, scan_cut_error, BeforeType, InType, scan_shown, url_scan, scan_lexeme_error, scan_reference, style_scan}
+use Rattle.html_scan.specs.Scans.{Scan, At, AfterLess, AfterLessSolidus, InDeclaration, InTagName, InAttributeName, InContentEnd, InStyleElement, comment_scan, element_scan, content_scan, pending_left, typed_with, scan_next, scan_error, scan_place, scan_cut_error, BeforeType, InType, scan_shown, url_scan, scan_lexeme_error, scan_reference, style_feeding, style_scan}
 use Rattle.html_step.proofs.StylePaths.{StandsHere, style_value}
 use Rattle.url_lexer.specs.States.{Url, feed_url, feed_all}
 
@@ -48,6 +49,21 @@ block_scanned (PendingName letters) element.DataBlock = Some (InContentEnd eleme
 block_scanned PendingBang element.DataBlock = Some (InContentEnd element.DataBlock PendingBang)
 block_scanned PendingBangDash element.DataBlock = Some (InContentEnd element.DataBlock PendingBangDash)
 block_scanned h e = None
+
+-- In the element `style` it has the scan state of the style, before what is pending back.
+abbrev pub element_scanned : Pending → StyleScan → Option Scan
+element_scanned Nothing n = Some (element_scan n)
+element_scanned PendingLess n = Some (InStyleElement n PendingLess)
+element_scanned (PendingName letters) n = Some (InStyleElement n (PendingName letters))
+element_scanned h n = None
+
+abbrev pub style_element_scanned : Pending → Option StyleScan → Option Scan
+style_element_scanned h (Some n) = element_scanned h n
+style_element_scanned h None = None
+
+abbrev pub language_scanned : Pending → Element → ValueState → Option Scan
+language_scanned h element.Style (OfStyle s) = style_element_scanned h (style_scanned s)
+language_scanned h e v = None
 
 -- where a second `type` is not refused
 abbrev pub first_type : Tag → Kind → Scan → Option Scan
@@ -96,6 +112,7 @@ scanned (AfterAttributeValue t) = Some (At (place.Tag (tag_spot t only_before No
 scanned (SelfClosingStartTag t) = Some (At (place.Tag (tag_spot t only_before None)))
 scanned (InContent e (Characters r) h) = content_scanned h e
 scanned (InContent e Bytes h) = block_scanned h e
+scanned (InContent e (InLanguage v) h) = language_scanned h e v
 scanned Unread = None
 
 -- A state and its scan state refuse the same, and step alike where nothing is refused.
@@ -160,7 +177,9 @@ abbrev pub refused_next : Scan → List ℕ → Option PathCause
 refused_next f [] = scan_cut_error f
 refused_next f (b ∷ bs) = scan_error f (class_of b) b
 
+-- In the element, that nothing is refused of what is pending back and comes to nothing there.
 abbrev pub IsShown : Scan → List ℕ → Type 0
+IsShown (InStyleElement n h) bs = pending_error style_feeding n (pending_bytes (pending_left h bs)) ≡ None
 IsShown f bs = (scan_reference f ≡ Closed) ⊎ StandsHere (refused_next f bs)
 
 -- the end of a text, the reference that is open there, and the place that is shown before the bytes that are left
@@ -172,11 +191,11 @@ pub record Ends (s : LexState ValueState) (f : Scan) : Type 0 where
   pub shown : (bs : List ℕ) → IsShown f bs → place_before_bytes s bs ≡ scan_shown f bs
 
 -- the end of a tag
-pub tag-ends : (t : TagOf) → content_error t ≡ None → scanned (after_tag t) ≡ Some (content_scan t)
+pub tag-ends : (t : TagOf) → content_error t ≡ None → scanned (after_tag languages t) ≡ Some (content_scan t)
 tag-ends tag.End n = refl
 tag-ends (tag.Start element.Other) n = refl
 tag-ends (tag.Start element.Title) n = refl
 tag-ends (tag.Start element.Textarea) n = refl
-tag-ends (tag.Start element.Style) n = absurd (some _ n)
+tag-ends (tag.Start element.Style) n = refl
 tag-ends (tag.Start element.Script) n = absurd (some _ n)
 tag-ends (tag.Start element.DataBlock) n = refl

@@ -11,10 +11,13 @@ use Rattle.css_step.specs.StyleScans.{StyleScan, ScanBareUrl, ScanQuotedUrl, is_
 use Rattle.css_step.specs.StyleSetLaws.{StyleScanBelow, below_bare, below_quoted}
 use Rattle.place_core.specs.page.Classes.{Class, class_of, is_equals_sign}
 use Rattle.place_core.specs.page.References.{Form, Reference, Closed, Open, ReferenceStep, Grows, Closes, Breaks, flushed, turn}
-use Rattle.place_core.specs.page.States.{LexState, AttributeValue}
+use Rattle.place_core.specs.page.Contents.{pending_bytes}
+use Rattle.place_core.specs.page.States.{LexState, AttributeValue, InContent, InLanguage, Pending, Nothing, PendingLess, LessAtCut, PendingName, PendingBang, PendingBangDash}
 use Rattle.place_core.specs.page.Tags.{Deciding, OfKind, OfUrl, OfStyle, Tag, ValueOf, ValueState, languages, feed_bytes, with_bytes, Quoting, DoubleQuoted, SingleQuoted, Unquoted}
 use Rattle.place_core.specs.place.ApartPlaces.{beginning_at, beginning_in_css}
-use Rattle.place_core.specs.place.Errors.{flushed_error, is_written, place_before_bytes}
+use Rattle.place_core.specs.place.Errors.{flushed_error, is_written, pending_error, place_before_bytes}
+use Rattle.place_core.specs.declared.element.Element.{Element}
+use Rattle.place_core.specs.declared.element.Element.TheVariants as element
 use Rattle.place_core.specs.place.PathPairs.{is_broken_by, is_in_beginning, is_in_reference, read_before, state_before, unknown_beginning, unknown_part}
 use Rattle.place_core.specs.place.Places.{joined_bodies}
 use Rattle.place_core.specs.place.LanguagePlaces.{IsValidCss, IsValidParts}
@@ -30,22 +33,25 @@ use Rattle.place_core.specs.declared.place.Place.TheVariants as place
 use Rattle.place_core.specs.declared.quotes.Quotes.{Quotes}
 use Rattle.place_core.specs.declared.value_place.ValuePlace.{ValuePlace}
 use Rattle.place_core.proofs.Semilattices.{none_some, one_value}
-use Rattle.html_scan.specs.Scans.{Scan, At, InUrl, InStyle, parts_before, parts_feeding, parts_with, scan_shown, style_before, style_feeding, style_scan, triple_behind, url_scan, with_body, with_style, scan_reference}
+use Rattle.html_scan.specs.Scans.{Scan, At, InUrl, InStyle, InStyleElement, element_scan, pending_left, parts_before, parts_feeding, parts_with, scan_shown, style_before, style_feeding, style_scan, triple_behind, url_scan, with_body, with_style, scan_reference}
 use Rattle.html_step.specs.Origins.{body_parts, is_apart, scan_parts}
 use Rattle.html_step.proofs.ApartParts.{unknown-below}
 use Rattle.html_step.proofs.FromValues.{nothing-fed}
 use Rattle.html_step.proofs.KeptBeginnings.{OpensNone, before-value, begins-value, is_url_value}
 use Rattle.html_step.proofs.OnePath.{url-fed, url-reference, url-shown}
 use Rattle.html_step.proofs.Parentheses.{ReferenceOpensNone}
-use Rattle.html_step.proofs.PathScans.{scanned, style_value_scanned, url_scanned, url_value}
+use Rattle.html_step.proofs.PathScans.{IsShown, element_scanned, scanned, style_element_scanned, style_value_scanned, url_scanned, url_value}
 use Rattle.html_step.proofs.PlaceParts.{ValueBelow, below-value, value-below}
 use Rattle.html_step.proofs.ReadScans.{NotBroken, ReadTaken, read-closed, read_style, read_turn, scan_read}
-use Rattle.html_step.proofs.ScanOrder.{HasBegun, ScanBelow, ScanValid, StyleUnderBody, starts-in-order, under-body}
+use Rattle.html_step.proofs.ScanOrder.{HasBegun, IsPendingName, ScanBelow, ScanValid, StyleUnderBody, starts-in-order, style-place-below, under-body}
+use Rattle.html_step.proofs.ElementsBelow.{under-element}
+use Rattle.html_step.proofs.EndTagNames.{pending-no-opening}
+use Rattle.html_step.proofs.OneTexts.{ends-at}
 use Rattle.html_step.proofs.StyleOrder.{below-css, scan-below-start, scan-of-start}
 use Rattle.html_step.proofs.StylePaths.{style-scan-reference, style-scan-shown, style_value}
 use Rattle.html_step.proofs.StyleSteps.{at_style, style-ends, style-fed-there, style-there, style-turned}
 use Rattle.html_step.proofs.StyleUrls.{SameUrl, above-in-url, same_bare, same_quoted, scan-opened}
-use Rattle.html_step.proofs.UrlScans.{InBody, body-opened, in_style, in_url, parts-body, style-parts, url-parts}
+use Rattle.html_step.proofs.UrlScans.{InBody, body-opened, css-opened, element-closed-by, element-parts-by, elements-in-order, in_style, in_url, parts-body, style-parts, url-parts}
 use Rattle.html_step.proofs.ValidSteps.{style-valid, url-valid}
 use Rattle.url_lexer.specs.Parts.{UrlPart, UrlStart, UrlOpen, UrlOpenhole, UrlPrequery, UrlQuery, UrlBad}
 use Rattle.url_lexer.specs.Prefixes as spelling
@@ -57,16 +63,18 @@ use Rattle.url_step.specs.PartSets.{PartsBelow}
 no : false ≡ true → ⊥
 no e = cc
 
--- a path in a URL, or in a style
+-- a path in a URL, or in a style, be it that of a value or of the element `style`
 pub data UrlState (s : LexState ValueState) : Type 0 where
   url_state : (q : Quoting) (t : Tag) (u : Url) (r : Reference) → s ≡ AttributeValue q t (ValueOf (OfUrl u)) r → UrlState s
   style_state : (q : Quoting) (t : Tag) (v : Style Url) (r : Reference) → s ≡ AttributeValue q t (ValueOf (OfStyle v)) r → UrlState s
+  element_state : (e : Element) (v : Style Url) (x : Pending) → s ≡ InContent e (InLanguage (OfStyle v)) x → UrlState s
 
 pub url-of : (s : LexState ValueState) → is_url_value s ≡ true → UrlState s
 url-of (AttributeValue q t (ValueOf (OfUrl u)) r) h = url_state q t u r refl
 url-of (AttributeValue q t (ValueOf (OfKind k)) r) h = absurd (no h)
 url-of (AttributeValue q t (ValueOf (OfStyle v)) r) h = style_state q t v r refl
 url-of (AttributeValue q t (Deciding k before) r) h = absurd (no h)
+url-of (InContent e (InLanguage (OfStyle v)) x) h = element_state e v x refl
 url-of _ h = absurd (no h)
 
 -- a path that is in the beginning when it is read is in a URL or a style before
@@ -123,6 +131,60 @@ pub style-of : (q : Quoting) (t : Tag) (v : Style Url) (r : Reference) (g : Scan
     → StyleOf q t v r g
 style-of q t v r g h = style-of-by q t v r g (style_scanned v) refl h
 
+-- in the element `style`
+abbrev pub element_at : Pending → StyleScan → Scan
+element_at Nothing n = element_scan n
+element_at x n = InStyleElement n x
+
+pub record ElementOf (e : Element) (v : Style Url) (x : Pending) (g : Scan) : Type 0 where
+  pub element : e ≡ element.Style
+  pub scan : StyleScan
+  pub is : IsStyleScan v scan
+  pub at : element_scanned x scan ≡ Some g
+
+element-of-by : (v : Style Url) (x : Pending) (g : Scan) (o : Option StyleScan) → style_scanned v ≡ o → style_element_scanned x o ≡ Some g
+    → ElementOf element.Style v x g
+element-of-by v x g (Some n) e h = record { element = refl; scan = n; is = has-scan v n e; at = h }
+element-of-by v x g None e h = absurd (none_some g h)
+
+pub element-of : (e : Element) (v : Style Url) (x : Pending) (g : Scan) → scanned (InContent e (InLanguage (OfStyle v)) x) ≡ Some g → ElementOf e v x g
+element-of element.Style v x g h = element-of-by v x g (style_scanned v) refl h
+element-of _ v x g h = absurd (none_some g h)
+
+-- its form, which is that of any other scan state of a style there
+pub record ElementForm (x : Pending) (n : StyleScan) (g : Scan) : Type 0 where
+  pub same : element_at x n ≡ g
+  pub other : (m : StyleScan) → element_scanned x m ≡ Some (element_at x m)
+
+pub element-form : (x : Pending) (n : StyleScan) (g : Scan) → element_scanned x n ≡ Some g → ElementForm x n g
+element-form Nothing n g h = record { same = one_value (element_scan n) g h; other = λ m. refl }
+element-form PendingLess n g h = record { same = one_value (InStyleElement n PendingLess) g h; other = λ m. refl }
+element-form (PendingName letters) n g h = record { same = one_value (InStyleElement n (PendingName letters)) g h; other = λ m. refl }
+element-form LessAtCut n g h = absurd (none_some g h)
+element-form PendingBang n g h = absurd (none_some g h)
+element-form PendingBangDash n g h = absurd (none_some g h)
+
+pub element-at-closed : (x : Pending) (n : StyleScan) → scan_reference (element_at x n) ≡ Closed
+element-at-closed Nothing n = element-closed-by n (is_style_start n)
+element-at-closed PendingLess n = refl
+element-at-closed LessAtCut n = refl
+element-at-closed (PendingName letters) n = refl
+element-at-closed PendingBang n = refl
+element-at-closed PendingBangDash n = refl
+
+pub element-at-parts : (x : Pending) (n : StyleScan) → scan_parts (element_at x n) ≡ style_scan_parts n
+element-at-parts Nothing n = element-parts-by n (is_style_start n) refl
+element-at-parts PendingLess n = refl
+element-at-parts LessAtCut n = refl
+element-at-parts (PendingName letters) n = refl
+element-at-parts PendingBang n = refl
+element-at-parts PendingBangDash n = refl
+
+element-closed : (e : Element) (v : Style Url) (x : Pending) (g : Scan) → scanned (InContent e (InLanguage (OfStyle v)) x) ≡ Some g → scan_reference g ≡ Closed
+element-closed e v x g h =
+    let o = element-of e v x g h in
+    ap scan_reference (sym (element-form x o.scan g o.at).same) ∙ element-at-closed x o.scan
+
 style-closed : (v : ValuePlace) (n : StyleScan) (bs : List ℕ) → scan_read (style_scan v n Closed) bs ≡ style_scan v n Closed
 style-closed v n bs = read-closed (style_scan v n Closed) bs (style-scan-reference v n Closed)
 
@@ -156,6 +218,10 @@ read-state s g bs (style_state q t v r i) e k =
 read-state s g bs (url_state q t u r i) e k =
     let same : url_scanned q t u r ≡ g = one_value (url_scanned q t u r) g (sym (ap scanned i) ∙ e) in
     ap (λ (x : LexState ValueState). scanned (state_before x bs)) i ∙ read-url q t u r bs ∙ ap (λ (x : Scan). Some (scan_read x bs)) same
+read-state s g bs (element_state y v x i) e k =
+    let there = sym (ap scanned i) ∙ e in
+    ap (λ (z : LexState ValueState). scanned (state_before z bs)) i ∙ there
+    ∙ ap Some (sym (read-closed g bs (element-closed y v x g there)))
 
 -- where no reference is open then, none is open before with which the next byte goes on
 turn-between : (z : ReferenceStep) (v : ValuePlace) (t : Triple) (f : Form) (bytes : List ℕ) (c : Class) → scan_reference (read_turn z v t f bytes c) ≡ Closed
@@ -194,6 +260,12 @@ read-between s g bs (style_state q t v r i) e h =
 read-between s g bs (url_state q t u r i) e h =
     let same : url_scanned q t u r ≡ g = one_value (url_scanned q t u r) g (sym (ap scanned i) ∙ e) in
     ap (λ (x : LexState ValueState). is_in_reference x bs) i ∙ url-between q t u r bs (ap (λ (x : Scan). scan_reference (scan_read x bs)) same ∙ h)
+read-between s g bs (element_state y v x i) e h = ap (λ (z : LexState ValueState). is_in_reference z bs) i
+
+-- Nothing is pending there that comes to nothing at the next byte.
+abbrev pub NonePending : Scan → List ℕ → Type 0
+NonePending (InStyleElement n x) bs = pending_left x bs ≡ Nothing
+NonePending f bs = Unit {0}
 
 -- the place that is shown there spells what the scan state does
 step-body : (z : ReferenceStep) (x : Body) (c : Class) (f : Form) (bytes : List ℕ) → (z ≡ Breaks → ⊥) → parts_before z x c f bytes ≡ x
@@ -214,36 +286,44 @@ pub record Shown (g : Scan) (bs : List ℕ) (s : Parts) : Type 0 where
   pub is : scan_shown g bs ≡ Some place
   pub opened : beginning_at place ≡ s.opened
 
-pub shown-closed : (g : Scan) (bs : List ℕ) (s : Parts) → scan_parts g ≡ Some s → scan_reference g ≡ Closed → Shown g bs s
-shown-closed (At (place.Value v)) bs s h k = record { place = place.Value v; is = refl; opened = body-opened v.body s h }
-shown-closed (InUrl v t Closed) bs s h k = record {
+pub shown-closed : (g : Scan) (bs : List ℕ) (s : Parts) → scan_parts g ≡ Some s → scan_reference g ≡ Closed → NonePending g bs → Shown g bs s
+shown-closed (At (place.Value v)) bs s h k p = record { place = place.Value v; is = refl; opened = body-opened v.body s h }
+shown-closed (InUrl v t Closed) bs s h k p = record {
   place = with_body v (parts_with v.body []);
   is = refl;
   opened = body-opened (parts_with v.body []) s (ap body_parts (nothing-fed v.body) ∙ h);
 }
-shown-closed (InUrl v t (Open f bytes)) bs s h k = absurd (not-open f bytes k)
-shown-closed (InStyle v n Closed) bs s h k = record { place = with_style v n; is = refl; opened = scan-opened n s h }
-shown-closed (InStyle v n (Open f bytes)) bs s h k = absurd (not-open f bytes k)
-shown-closed (At _) bs s h k = absurd (none_some s h)
-shown-closed _ bs s h k = absurd (none_some s h)
+shown-closed (InUrl v t (Open f bytes)) bs s h k p = absurd (not-open f bytes k)
+shown-closed (InStyle v n Closed) bs s h k p = record { place = with_style v n; is = refl; opened = scan-opened n s h }
+shown-closed (InStyle v n (Open f bytes)) bs s h k p = absurd (not-open f bytes k)
+shown-closed (At (place.Style c)) bs s h k p = record { place = place.Style c; is = refl; opened = css-opened c s h }
+shown-closed (InStyleElement n x) bs s h k p = record {
+  place = place.Style (style_scan_place (feed_bytes style_feeding n (pending_bytes (pending_left x bs))));
+  is = refl;
+  opened = ap (λ (y : Pending). beginning_in_css (style_scan_place (feed_bytes style_feeding n (pending_bytes y)))) p ∙ scan-opened n s h;
+}
+shown-closed (At _) bs s h k p = absurd (none_some s h)
+shown-closed _ bs s h k p = absurd (none_some s h)
 
-pub shown-read : (g : Scan) (b : ℕ) (bs : List ℕ) (s : Parts) → scan_parts g ≡ Some s → NotBroken (scan_reference g) b → Shown g (b ∷ bs) s
-shown-read (InUrl v t (Open f bytes)) b bs s h n = record {
+pub shown-read : (g : Scan) (b : ℕ) (bs : List ℕ) (s : Parts) → scan_parts g ≡ Some s → NotBroken (scan_reference g) b → NonePending g (b ∷ bs)
+    → Shown g (b ∷ bs) s
+shown-read (InUrl v t (Open f bytes)) b bs s h n p = record {
   place = with_body v (parts_before (turn (class_of b) f) v.body (class_of b) f bytes);
   is = refl;
   opened = body-opened (parts_before (turn (class_of b) f) v.body (class_of b) f bytes) s
       (ap body_parts (step-body (turn (class_of b) f) v.body (class_of b) f bytes n) ∙ h);
 }
-shown-read (InUrl v t Closed) b bs s h n = shown-closed (InUrl v t Closed) (b ∷ bs) s h refl
-shown-read (InStyle v m (Open f bytes)) b bs s h n = record {
+shown-read (InUrl v t Closed) b bs s h n p = shown-closed (InUrl v t Closed) (b ∷ bs) s h refl p
+shown-read (InStyle v m (Open f bytes)) b bs s h n p = record {
   place = with_style v (style_before (turn (class_of b) f) m (class_of b) f bytes);
   is = refl;
   opened = ap (λ (x : StyleScan). beginning_in_css (style_scan_place x)) (step-style (turn (class_of b) f) m (class_of b) f bytes n)
       ∙ scan-opened m s h;
 }
-shown-read (InStyle v m Closed) b bs s h n = shown-closed (InStyle v m Closed) (b ∷ bs) s h refl
-shown-read (At p) b bs s h n = shown-closed (At p) (b ∷ bs) s h refl
-shown-read _ b bs s h n = absurd (none_some s h)
+shown-read (InStyle v m Closed) b bs s h n p = shown-closed (InStyle v m Closed) (b ∷ bs) s h refl p
+shown-read (At q) b bs s h n p = shown-closed (At q) (b ∷ bs) s h refl p
+shown-read (InStyleElement m x) b bs s h n p = shown-closed (InStyleElement m x) (b ∷ bs) s h refl p
+shown-read _ b bs s h n p = absurd (none_some s h)
 
 -- It is the path's own where it is shown: no reference is open at the end of a text.
 abbrev pub IsReadShown : Reference → List ℕ → Type 0
@@ -306,40 +386,65 @@ style-shown-turned Breaks q t n f bytes bs b k =
 style-shown-turned (Grows g) q t n f bytes bs b k = ap (λ (y : ReferenceStep). Some (at_style t q (style_before y n (class_of b) f bytes))) (sym k)
 style-shown-turned Closes q t n f bytes bs b k = ap (λ (y : ReferenceStep). Some (at_style t q (style_before y n (class_of b) f bytes))) (sym k)
 
+style-shown-closed : (w : ValuePlace) (n : StyleScan) (bs : List ℕ) (x : Bool) → IsShown (if x then At (with_style w n) else InStyle w n Closed) bs
+style-shown-closed w n bs true = inl refl
+style-shown-closed w n bs false = inl refl
+
 own-style : (q : Quoting) (t : Tag) (v : Style Url) (n : StyleScan) (r : Reference) (bs : List ℕ) → IsStyleScan v n
     → ReadTaken (style_scan (style_value t (quotes_at q)) n r) bs → IsReadShown r bs
     → place_before_bytes (AttributeValue q t (ValueOf (OfStyle v)) r) bs ≡ scan_shown (scan_read (style_scan (style_value t (quotes_at q)) n r) bs) bs
 own-style q t v n Closed bs i k h =
     let w = style_value t (quotes_at q) in
-    (style-ends q t v n Closed i).shown bs (inl (style-scan-reference w n Closed)) ∙ ap (λ (g : Scan). scan_shown g bs) (sym (style-closed w n bs))
+    (style-ends q t v n Closed i).shown bs (style-shown-closed w n bs (is_style_start n)) ∙ ap (λ (g : Scan). scan_shown g bs) (sym (style-closed w n bs))
 own-style q t v n (Open f bytes) [] i k h = absurd h
 own-style q t v n (Open f bytes) (b ∷ bs) i k h =
     style-turned (turn (class_of b) f) q t v n (class_of b) f bytes i k ∙ style-shown-turned (turn (class_of b) f) q t n f bytes bs b refl
 
+none-shown : (g : Scan) (bs : List ℕ) → scan_reference g ≡ Closed → NonePending g bs → IsShown g bs
+none-shown (InStyleElement n x) bs e p = ap (λ (y : Pending). pending_error style_feeding n (pending_bytes y)) p
+none-shown g bs e p = inl e
+
 pub own-place : (s : LexState ValueState) (g : Scan) (bs : List ℕ) → UrlState s → scanned s ≡ Some g → ReadTaken g bs
-    → IsReadShown (scan_reference g) bs → place_before_bytes s bs ≡ scan_shown (scan_read g bs) bs
-own-place s g bs (url_state q t u r i) e k h =
+    → IsReadShown (scan_reference g) bs → NonePending g bs → place_before_bytes s bs ≡ scan_shown (scan_read g bs) bs
+own-place s g bs (url_state q t u r i) e k h p =
     ap (λ (x : LexState ValueState). place_before_bytes x bs) i
     ∙ own-url q t u r bs
     ∙ ap (λ (x : Scan). scan_shown (scan_read x bs) bs) (one_value (url_scanned q t u r) g (sym (ap scanned i) ∙ e))
-own-place s g bs (style_state q t v r i) e k h =
+own-place s g bs (style_state q t v r i) e k h p =
     let o = style-of q t v r g (sym (ap scanned i) ∙ e) in
     let w = style_value t (quotes_at q) in
     let held : scan_reference g ≡ r = sym (ap scan_reference o.at) ∙ style-scan-reference w o.scan r in
     ap (λ (x : LexState ValueState). place_before_bytes x bs) i
     ∙ own-style q t v o.scan r bs o.is (subst (λ (x : Scan). ReadTaken x bs) (sym o.at) k) (subst (λ (x : Reference). IsReadShown x bs) held h)
     ∙ ap (λ (x : Scan). scan_shown (scan_read x bs) bs) o.at
+own-place s g bs (element_state y v x i) e k h p =
+    let there = sym (ap scanned i) ∙ e in
+    ap (λ (z : LexState ValueState). place_before_bytes z bs) i
+    ∙ (ends-at (InContent y (InLanguage (OfStyle v)) x) g there).shown bs (none-shown g bs (element-closed y v x g there) p)
+    ∙ ap (λ (z : Scan). scan_shown z bs) (sym (read-closed g bs (element-closed y v x g there)))
 
 -- what its reference has not is not in the reference of its scan state
-pub opens-of : (s : LexState ValueState) (g : Scan) → UrlState s → scanned s ≡ Some g → ReferenceOpensNone (scan_reference g) → OpensNone s
-opens-of s g (url_state q t u r i) e h =
+-- and what is pending back in the element is a beginning of its name
+element-name : (x : Pending) (n : StyleScan) (g : Scan) → element_scanned x n ≡ Some g → ScanValid g → IsPendingName x
+element-name Nothing n g h w = tt
+element-name PendingLess n g h w = tt
+element-name (PendingName letters) n g h w = (subst ScanValid (sym (one_value (InStyleElement n (PendingName letters)) g h)) w).1
+element-name LessAtCut n g h w = tt
+element-name PendingBang n g h w = tt
+element-name PendingBangDash n g h w = tt
+
+pub opens-of : (s : LexState ValueState) (g : Scan) → UrlState s → scanned s ≡ Some g → ScanValid g → ReferenceOpensNone (scan_reference g) → OpensNone s
+opens-of s g (url_state q t u r i) e w h =
     let same : url_scanned q t u r ≡ g = one_value (url_scanned q t u r) g (sym (ap scanned i) ∙ e) in
     let held : scan_reference g ≡ r = sym (ap scan_reference same) ∙ url-reference (url_value t (quotes_at q) (parts_of u.part)) u.triple r in
     subst OpensNone (sym i) (subst ReferenceOpensNone held h)
-opens-of s g (style_state q t v r i) e h =
+opens-of s g (style_state q t v r i) e w h =
     let o = style-of q t v r g (sym (ap scanned i) ∙ e) in
     let held : scan_reference g ≡ r = sym (ap scan_reference o.at) ∙ style-scan-reference (style_value t (quotes_at q)) o.scan r in
     subst OpensNone (sym i) (subst ReferenceOpensNone held h)
+opens-of s g (element_state y v x i) e w h =
+    let o = element-of y v x g (sym (ap scanned i) ∙ e) in
+    subst OpensNone (sym i) (pending-no-opening x (element-name x o.scan g o.at w))
 
 -- The path of which it is not known what it spells: below a scan state in which paths have spelled different things.
 pub record Unknown (s : LexState ValueState) (f : Scan) : Type 0 where
@@ -387,6 +492,8 @@ pub at-as : (t : Tag) (q : Quotes) (a d s : Parts) (f : Scan) → scan_parts f �
     → ScanBelow (At (place.Value (url_value t q d))) f
 at-as t q a d s (At (place.Value w)) h p l =
     value-below (url_value t q d) w (value-as t q a d s w (parts-body w.body s h) p (below-value (url_value t q a) w l))
+at-as t q a d s (At (place.Style c)) h p l = absurd (none_some (place.Style c) l)
+at-as t q a d s (InStyleElement m k) h p l = absurd l
 at-as t q a d s (At _) h p l = absurd (none_some s h)
 at-as t q a d s (InUrl w y z) h p l = absurd l
 at-as t q a d s (InStyle w y z) h p l = absurd l
@@ -396,6 +503,7 @@ in-as : (t : Tag) (q : Quotes) (a d s : Parts) (x : Triple) (r : Reference) (f :
     → ScanBelow (InUrl (url_value t q a) x r) f → ScanBelow (InUrl (url_value t q d) x r) f
 in-as t q a d s x r (InUrl w y z) h p l = (value-as t q a d s w (parts-body w.body s h) p l.0, l.1, l.2)
 in-as t q a d s x r (At y) h p l = absurd l
+in-as t q a d s x r (InStyleElement m k) h p l = absurd l
 in-as t q a d s x r (InStyle w y z) h p l = absurd l
 in-as t q a d s x r _ h p l = absurd (none_some s h)
 
@@ -479,6 +587,8 @@ pub at-style-as : (v : ValuePlace) (n : StyleScan) (a d s : Parts) (f : Scan) �
     → scan_parts f ≡ Some s → PartsBelow d s → ScanBelow (At (with_style v n)) f → ScanBelow (At (with_style v (with_set n d))) f
 at-style-as v n a d s (At (place.Value w)) g i h p l =
     value-below (styled_value v (with_set n d)) w (value-style-as v w n a d s g i h p (below-value (styled_value v n) w l))
+at-style-as v n a d s (At (place.Style c)) g i h p l = absurd (none_some (place.Style c) l)
+at-style-as v n a d s (InStyleElement m k) g i h p l = absurd l
 at-style-as v n a d s (At _) g i h p l = absurd (none_some s h)
 at-style-as v n a d s (InUrl w y z) g i h p l = absurd l
 at-style-as v n a d s (InStyle w m z) g i h p l = absurd l
@@ -509,6 +619,7 @@ in-style-as v n a d s r (InStyle w m z) i h p l = (
   l.1,
 )
 in-style-as v n a d s r (At (place.Value w)) i h p l = (under-as v n a d s w i h p l.0, l.1)
+in-style-as v n a d s r (At (place.Style c)) i h p l = absurd l.0
 in-style-as v n a d s r (At _) i h p l = absurd (none_some s h)
 in-style-as v n a d s r _ i h p l = absurd l
 
@@ -525,6 +636,73 @@ style-below-as : (v : ValuePlace) (n : StyleScan) (a d s : Parts) (r : Reference
 style-below-as v n a d s Closed f i h p l =
     subst (λ (x : Bool). ScanBelow (if_style v (with_set n d) x) f) (set-start n d) (style-as-by (is_style_start n) v n a d s f refl i h p l)
 style-below-as v n a d s (Open y bytes) f i h p l = in-style-as v n a d s (Open y bytes) f i h p l
+
+-- in the element
+pub element-place-as : (n : StyleScan) (a d s : Parts) (f : Scan) → is_style_start n ≡ true → style_scan_parts n ≡ Some a
+    → scan_parts f ≡ Some s → PartsBelow d s → ScanBelow (At (place.Style (style_scan_place n))) f
+    → ScanBelow (At (place.Style (style_scan_place (with_set n d)))) f
+element-place-as n a d s (At (place.Style c)) g i h p l =
+    let low = subst (λ (k : StyleScan). StyleScanBelow k (style_scan_start c)) (scan-of-start n g) (elements-in-order (style_scan_place n) c l) in
+    let over = set-over n (style_scan_start c) d s (above-in-url n (style_scan_start c) a low i).2.same h p in
+    style-place-below (style_scan_place (with_set n d)) c (scan-below-start (with_set n d) c over).1
+element-place-as n a d s (At x) g i h p l = absurd (none_some x l)
+element-place-as n a d s _ g i h p l = absurd l
+
+in-element-as : (x : Pending) (n : StyleScan) (a d s : Parts) (f : Scan) → style_scan_parts n ≡ Some a
+    → scan_parts f ≡ Some s → PartsBelow d s → ScanBelow (InStyleElement n x) f → ScanBelow (InStyleElement (with_set n d) x) f
+in-element-as x n a d s f i h p l =
+    under-element (λ g. scan_parts g ≡ Some s → ScanBelow (InStyleElement (with_set n d) x) g) n x f l
+    (λ m k e. (set-over n m d s (above-in-url n m a k i).2.same e p, refl))
+    (λ c j k e. (set-over n (style_scan_start c) d s (above-in-url n (style_scan_start c) a k i).2.same e p, j)) h
+
+abbrev if_element : StyleScan → Bool → Scan
+if_element n y = if y then At (place.Style (style_scan_place n)) else InStyleElement n Nothing
+
+element-as-by : (y : Bool) (n : StyleScan) (a d s : Parts) (f : Scan) → is_style_start n ≡ y → style_scan_parts n ≡ Some a
+    → scan_parts f ≡ Some s → PartsBelow d s → ScanBelow (if_element n y) f → ScanBelow (if_element (with_set n d) y) f
+element-as-by true n a d s f g i h p l = element-place-as n a d s f g i h p l
+element-as-by false n a d s f g i h p l = in-element-as Nothing n a d s f i h p l
+
+element-below-as : (x : Pending) (n : StyleScan) (a d s : Parts) (f : Scan) → style_scan_parts n ≡ Some a
+    → scan_parts f ≡ Some s → PartsBelow d s → ScanBelow (element_at x n) f → ScanBelow (element_at x (with_set n d)) f
+element-below-as Nothing n a d s f i h p l =
+    subst (λ (y : Bool). ScanBelow (if_element (with_set n d) y) f) (set-start n d) (element-as-by (is_style_start n) n a d s f refl i h p l)
+element-below-as PendingLess n a d s f i h p l = in-element-as PendingLess n a d s f i h p l
+element-below-as LessAtCut n a d s f i h p l = in-element-as LessAtCut n a d s f i h p l
+element-below-as (PendingName letters) n a d s f i h p l = in-element-as (PendingName letters) n a d s f i h p l
+element-below-as PendingBang n a d s f i h p l = in-element-as PendingBang n a d s f i h p l
+element-below-as PendingBangDash n a d s f i h p l = in-element-as PendingBangDash n a d s f i h p l
+
+element-valid-by : (y : Bool) (n : StyleScan) → IsValidCss (style_scan_place n) → ScanValid (if_element n y)
+element-valid-by true n v = v
+element-valid-by false n v = (v, tt)
+
+element-at-valid : (x : Pending) (n : StyleScan) → IsValidCss (style_scan_place n) → IsPendingName x → ScanValid (element_at x n)
+element-at-valid Nothing n v w = element-valid-by (is_style_start n) n v
+element-at-valid PendingLess n v w = (v, w)
+element-at-valid LessAtCut n v w = (v, w)
+element-at-valid (PendingName letters) n v w = (v, w)
+element-at-valid PendingBang n v w = (v, w)
+element-at-valid PendingBangDash n v w = (v, w)
+
+record UnknownElement (x : Pending) (m : StyleScan) (f : Scan) : Type 0 where
+  at : element_scanned x m ≡ Some (element_at x m)
+  valid : ScanValid (element_at x m)
+  below : ScanBelow (element_at x m) f
+  apart : is_apart (scan_parts (element_at x m)) ≡ true
+
+unknown-element : (x : Pending) (n : StyleScan) (u : UrlPart) (g f : Scan) (p : Parts) → style_scan_parts n ≡ Some (parts_of u) → is_open u ≡ true
+    → element_scanned x n ≡ Some g → ScanValid g → scan_parts f ≡ Some p → is_apart (Some p) ≡ true → ScanBelow g f
+    → UnknownElement x (with_set n (parts_of (unknown_part u))) f
+unknown-element x n u g f p i o e w h a l =
+    let d = parts_of (unknown_part u) in
+    let form = element-form x n g e in
+    record {
+      at = form.other (with_set n d);
+      valid = element-at-valid x (with_set n d) (set-valid n (parts_of u) d i (unknown-valid u o)) (element-name x n g e w);
+      below = element-below-as x n (parts_of u) d p f i h (unknown-below u p o a) (subst (λ (z : Scan). ScanBelow z f) (sym form.same) l);
+      apart = ap is_apart (element-at-parts x (with_set n d) ∙ set-parts n (parts_of u) d i) ∙ unknown-apart u o;
+    }
 
 unknown-style-valid : (q : Quoting) (t : Tag) (n : StyleScan) (x : UrlPart) (r : Reference) (a : Parts) → style_scan_parts n ≡ Some a
     → is_open x ≡ true → ScanValid (style_scan (style_value t (quotes_at q)) (with_set n (parts_of (unknown_part x))) r)
@@ -550,13 +728,13 @@ unknown-url q t u r f s o h a l =
       apart = ap is_apart (url-parts (url_value t (quotes_at q) x) u.triple r) ∙ unknown-apart u.part o;
     }
 
-pub unknown : (s : LexState ValueState) (g f : Scan) (p : Parts) → is_in_beginning s ≡ true → scanned s ≡ Some g → scan_parts f ≡ Some p
+pub unknown : (s : LexState ValueState) (g f : Scan) (p : Parts) → is_in_beginning s ≡ true → scanned s ≡ Some g → ScanValid g → scan_parts f ≡ Some p
     → is_apart (Some p) ≡ true → ScanBelow g f → Unknown s f
-unknown (AttributeValue q t (ValueOf (OfUrl u)) r) g f p o e h a l =
+unknown (AttributeValue q t (ValueOf (OfUrl u)) r) g f p o e w h a l =
     let same : url_scanned q t u r ≡ g = one_value (url_scanned q t u r) g e in
     unknown-url q t u r f p o h a (subst (λ (x : Scan). ScanBelow x f) (sym same) l)
-unknown (AttributeValue q t (ValueOf (OfKind k)) r) g f p o e h a l = absurd (no o)
-unknown (AttributeValue q t (ValueOf (OfStyle (style.InUrl Bare u))) r) g f p o e h a l =
+unknown (AttributeValue q t (ValueOf (OfKind k)) r) g f p o e w h a l = absurd (no o)
+unknown (AttributeValue q t (ValueOf (OfStyle (style.InUrl Bare u))) r) g f p o e w h a l =
     let n = ScanBareUrl (parts_of u.part) u.triple in
     let same : style_scan (style_value t (quotes_at q)) n r ≡ g = one_value (style_scan (style_value t (quotes_at q)) n r) g e in
     record {
@@ -567,7 +745,7 @@ unknown (AttributeValue q t (ValueOf (OfStyle (style.InUrl Bare u))) r) g f p o 
           (unknown-below u.part p o a) (subst (λ (x : Scan). ScanBelow x f) (sym same) l);
       apart = unknown-style-apart (style_value t (quotes_at q)) n (parts_of u.part) u.part r refl o;
     }
-unknown (AttributeValue q t (ValueOf (OfStyle (style.InUrl (Quoted y z) u))) r) g f p o e h a l =
+unknown (AttributeValue q t (ValueOf (OfStyle (style.InUrl (Quoted y z) u))) r) g f p o e w h a l =
     let n = ScanQuotedUrl y z (parts_of u.part) u.triple in
     let same : style_scan (style_value t (quotes_at q)) n r ≡ g = one_value (style_scan (style_value t (quotes_at q)) n r) g e in
     record {
@@ -578,11 +756,35 @@ unknown (AttributeValue q t (ValueOf (OfStyle (style.InUrl (Quoted y z) u))) r) 
           (unknown-below u.part p o a) (subst (λ (x : Scan). ScanBelow x f) (sym same) l);
       apart = unknown-style-apart (style_value t (quotes_at q)) n (parts_of u.part) u.part r refl o;
     }
-unknown (AttributeValue q t (ValueOf (OfStyle (style.InUrl Fresh u))) r) g f p o e h a l = absurd (no o)
-unknown (AttributeValue q t (ValueOf (OfStyle (style.InUrl Ended u))) r) g f p o e h a l = absurd (no o)
-unknown (AttributeValue q t (ValueOf (OfStyle (Out v))) r) g f p o e h a l = absurd (no o)
-unknown (AttributeValue q t (Deciding k before) r) g f p o e h a l = absurd (no o)
-unknown _ g f p o e h a l = absurd (no o)
+unknown (AttributeValue q t (ValueOf (OfStyle (style.InUrl Fresh u))) r) g f p o e w h a l = absurd (no o)
+unknown (AttributeValue q t (ValueOf (OfStyle (style.InUrl Ended u))) r) g f p o e w h a l = absurd (no o)
+unknown (AttributeValue q t (ValueOf (OfStyle (Out v))) r) g f p o e w h a l = absurd (no o)
+unknown (AttributeValue q t (Deciding k before) r) g f p o e w h a l = absurd (no o)
+unknown (InContent element.Style (InLanguage (OfStyle (style.InUrl Bare u))) x) g f p o e w h a l =
+    let k = unknown-element x (ScanBareUrl (parts_of u.part) u.triple) u.part g f p refl o e w h a l in
+    record {
+      scan = element_at x (ScanBareUrl (parts_of (unknown_part u.part)) u.triple);
+      at = k.at;
+      valid = k.valid;
+      below = k.below;
+      apart = k.apart;
+    }
+unknown (InContent element.Style (InLanguage (OfStyle (style.InUrl (Quoted y z) u))) x) g f p o e w h a l =
+    let k = unknown-element x (ScanQuotedUrl y z (parts_of u.part) u.triple) u.part g f p refl o e w h a l in
+    record {
+      scan = element_at x (ScanQuotedUrl y z (parts_of (unknown_part u.part)) u.triple);
+      at = k.at;
+      valid = k.valid;
+      below = k.below;
+      apart = k.apart;
+    }
+unknown (InContent element.Style (InLanguage (OfStyle (style.InUrl Fresh u))) x) g f p o e w h a l = absurd (no o)
+unknown (InContent element.Style (InLanguage (OfStyle (style.InUrl Ended u))) x) g f p o e w h a l = absurd (no o)
+unknown (InContent element.Style (InLanguage (OfStyle (Out v))) x) g f p o e w h a l = absurd (no o)
+unknown (InContent element.Style (InLanguage (OfKind k)) x) g f p o e w h a l = absurd (no o)
+unknown (InContent element.Style (InLanguage (OfUrl u)) x) g f p o e w h a l = absurd (no o)
+unknown (InContent _ (InLanguage v) x) g f p o e w h a l = absurd (none_some g e)
+unknown _ g f p o e w h a l = absurd (no o)
 
 -- the parts of a path, by its state
 open-part : (x : UrlPart) → is_open x ≡ true → (p : spelling.Prefix) × (x ≡ UrlOpen p)
@@ -613,4 +815,18 @@ open-parts (AttributeValue q t (ValueOf (OfStyle (style.InUrl Fresh u))) r) g o 
 open-parts (AttributeValue q t (ValueOf (OfStyle (style.InUrl Ended u))) r) g o e = absurd (no o)
 open-parts (AttributeValue q t (ValueOf (OfStyle (Out v))) r) g o e = absurd (no o)
 open-parts (AttributeValue q t (Deciding k before) r) g o e = absurd (no o)
+open-parts (InContent element.Style (InLanguage (OfStyle (style.InUrl Bare u))) x) g o e =
+    let n = ScanBareUrl (parts_of u.part) u.triple in
+    let p = open-part u.part o in
+    (p.0, ap scan_parts (sym (element-form x n g e).same) ∙ element-at-parts x n ∙ ap (λ (y : UrlPart). Some (parts_of y)) p.1)
+open-parts (InContent element.Style (InLanguage (OfStyle (style.InUrl (Quoted y z) u))) x) g o e =
+    let n = ScanQuotedUrl y z (parts_of u.part) u.triple in
+    let p = open-part u.part o in
+    (p.0, ap scan_parts (sym (element-form x n g e).same) ∙ element-at-parts x n ∙ ap (λ (y : UrlPart). Some (parts_of y)) p.1)
+open-parts (InContent element.Style (InLanguage (OfStyle (style.InUrl Fresh u))) x) g o e = absurd (no o)
+open-parts (InContent element.Style (InLanguage (OfStyle (style.InUrl Ended u))) x) g o e = absurd (no o)
+open-parts (InContent element.Style (InLanguage (OfStyle (Out v))) x) g o e = absurd (no o)
+open-parts (InContent element.Style (InLanguage (OfKind k)) x) g o e = absurd (no o)
+open-parts (InContent element.Style (InLanguage (OfUrl u)) x) g o e = absurd (no o)
+open-parts (InContent _ (InLanguage v) x) g o e = absurd (none_some g e)
 open-parts _ g o e = absurd (no o)

@@ -2,24 +2,27 @@
 use Rattle.std.proofs.Common.{◌≡◌, ◌≤◌, ℕ, ◌+◌, ◌-◌, suc, Bool, true, false, ◌⊎◌, inl, inr, List, [], ◌∷◌, Option, Some, None, Result, Err, is_some, refl, sym, ap, ◌∙◌, subst, arith, ⊎_elim}
 use Rattle.css_lexer.specs.States.{Fresh, Bare, Quoted, Ended, Out}
 use Rattle.css_lexer.specs.States as style
-use Rattle.css_step.specs.StyleOrigins.{style_scan_parts}
-use Rattle.css_step.specs.StyleScans.{StyleScan, ScanBareUrl, ScanQuotedUrl}
+use Rattle.css_step.specs.StyleOrigins.{scan_set_has, style_scan_parts}
+use Rattle.css_step.specs.StyleScans.{StyleScan, ScanBareUrl, ScanQuotedUrl, style_scan_start}
 use Rattle.place_core.specs.page.Classes.{Class, White, Ampersand, QuotationMark, Apostrophe, class_of, is_equals_sign}
 use Rattle.place_core.specs.page.Html.{next}
 use Rattle.place_core.specs.page.References.{Form, Reference, Closed, Open, ReferenceStep, Grows, Closes, Breaks, begin_reference, flushed, meaning, next_reference, plain_bytes, reference_turned, turn, turn_bytes, undone_byte}
-use Rattle.place_core.specs.page.States.{AttributeValue, BeforeAttributeValue, LexState, Template}
-use Rattle.place_core.specs.page.Tags.{OfStyle, OfUrl, ValueOf, ValueState, feed_bytes, languages}
+use Rattle.place_core.specs.page.States.{AttributeValue, BeforeAttributeValue, InContent, InLanguage, LexState, Nothing, Pending, Template}
+use Rattle.place_core.specs.page.Tags.{OfKind, OfStyle, OfUrl, ValueOf, ValueState, feed_bytes, languages}
 use Rattle.place_core.specs.place.ApartPlaces.{opened_apart, beginning_at, beginning_in_body, spell_apart}
 use Rattle.place_core.specs.place.Errors.{PathCause, PathRefusal, broken_off, byte_error, cut_error, lexeme_error, place_before_bytes, refusal_from, standing_at}
 use Rattle.place_core.specs.place.LastLexeme.{last_lexeme_start, language_reference}
 use Rattle.place_core.specs.place.PathPairs.{ApartBefore, Clashes, ClashesApart, MeetsColon, is_in_beginning, is_in_reference, state_before, unknown_beginning}
 use Rattle.place_core.specs.place.LanguagePlaces.{parts_have}
+use Rattle.place_core.specs.place.Places.{is_whole}
 use Rattle.place_core.specs.place.StatePlaces.{quotes_at}
 use Rattle.place_core.specs.place.UrlParts.{parts_of, placed_prefix}
 use Rattle.place_core.specs.declared.body.Body.{Body}
 use Rattle.place_core.specs.declared.body.Body.TheVariants as body
 use Rattle.place_core.specs.declared.code.Code.{Code}
 use Rattle.place_core.specs.declared.code.Code.TheVariants as code
+use Rattle.place_core.specs.declared.element.Element.{Element}
+use Rattle.place_core.specs.declared.element.Element.TheVariants as element
 use Rattle.place_core.specs.declared.kind.Kind.TheVariants as kind
 use Rattle.place_core.specs.declared.member.Member.{Member}
 use Rattle.place_core.specs.declared.member.Member.TheVariants as member
@@ -30,30 +33,33 @@ use Rattle.place_core.specs.declared.quotes.Quotes.{Quotes}
 use Rattle.place_core.specs.declared.quotes.Quotes.TheVariants as quotes
 use Rattle.place_core.specs.declared.value_place.ValuePlace.{ValuePlace}
 use Rattle.place_core.proofs.Semilattices.{none_some, one_value}
-use Rattle.html_scan.specs.Scans.{Scan, At, InUrl, InStyle, scan_reference, parts_feeding, parts_with, scan_error, scan_next, style_fed, style_feeding, style_scan, style_value_next, triple_behind, value_between}
+use Rattle.html_scan.specs.Scans.{Scan, At, InUrl, InStyle, InStyleElement, pending_left, scan_reference, parts_feeding, parts_with, scan_error, scan_next, style_fed, style_feeding, style_scan, style_value_next, triple_behind, value_between}
 use Rattle.html_step.specs.Origins.{body_parts, fed_in, is_apart, scan_parts}
 use Rattle.html_step.specs.Steps.{stepped, unless_refused}
 use Rattle.html_step.proofs.ApartParts.{AriseIn, apart-inside, arise-in, bytes-stay, opens-apart, waits}
 use Rattle.html_step.proofs.Characters.{IsCharacter, NoColon, ReferencePlain, flushed-character, nothing, utf8-character, plain-character}
 use Rattle.html_step.proofs.Clashing.{StartsUrl, is-open, is-start}
+use Rattle.html_step.proofs.ElementFrom.{place-has}
+use Rattle.html_step.proofs.FromParts.{or-behind}
 use Rattle.html_step.proofs.FromValues.{in-body}
 use Rattle.html_step.proofs.OnePath.{url-reference}
 use Rattle.html_step.proofs.OneTexts.{Says, agrees-at, says}
-use Rattle.html_step.proofs.PathScans.{scanned, url_scanned, url_value}
+use Rattle.html_step.proofs.PathScans.{element_scanned, language_scanned, scanned, url_scanned, url_value}
+use Rattle.html_step.proofs.PendingScans.{below-pending, element-arises, open-settled, read-settled, scan_pending, style-value-settled, value-settled}
 use Rattle.html_step.proofs.KeptBeginnings.{begins-value}
 use Rattle.html_step.proofs.ReadScans.{NotBroken, ReadTaken, Takes, closed-taken, not-broken, read-below, read-closed, read-on, read-taken, read-valid, read_style, read_turn, read_value, scan_read, style-fed-read, takes}
-use Rattle.html_step.proofs.ReadStates.{UrlState, open-parts, own-place, read-between, read-shown, read-state, shown-closed, style_state, unknown, url-of, url_state}
+use Rattle.html_step.proofs.ReadStates.{NonePending, UrlState, element-at-closed, element-at-parts, element-form, open-parts, own-place, read-between, read-shown, read-state, shown-closed, style_state, unknown, url-of, url_state}
 use Rattle.html_step.proofs.ScanOrder.{ScanBelow, ScanHas, ScanValid, StyleUnder, scan-grows}
 use Rattle.html_step.proofs.StylePaths.{empty_css, style-scan-reference, style_value}
 use Rattle.html_step.proofs.StyleValues.{in-set}
 use Rattle.html_step.proofs.StyleUrls.{KnownUrl, StaysInUrl, below-in-url, feeds, known-fed, known-unmet, stays-parts, stays-same}
-use Rattle.html_step.proofs.UrlScans.{ScanPlain, above-parts, below-goes, below-parts, below-reference, body-has-part, fed-same, goes-parts, has_met, lead-unmet, next-holds, raw-opened, reference_length, scan-length, scan-unmet, scan_fed, set-has-part, style-met, style-parts, url-parts, within-body}
+use Rattle.html_step.proofs.UrlScans.{Holds, ScanPlain, above-parts, below-goes, below-parts, below-reference, body-has-part, element-closed, fed-same, goes-parts, has_met, lead-unmet, next-holds, raw-opened, reference_length, scan-length, scan-unmet, scan_fed, set-has-part, style-met, style-parts, url-parts, within-body}
 use Rattle.html_step.proofs.ValidSteps.{scan-valid}
 use Rattle.url_lexer.specs.Classes.{url_class_of}
 use Rattle.url_lexer.specs.Parts.{UrlPart, UrlStart, UrlOpen}
 use Rattle.url_lexer.specs.Prefixes as spelling
 use Rattle.url_lexer.specs.Prefixes.{prefix_of_first, prefix_with_letter}
-use Rattle.url_lexer.specs.Triples.{Triple}
+use Rattle.url_lexer.specs.Triples.{Triple, NoTriple}
 use Rattle.url_step.specs.PartSets.{PartsBelow, spells_apart}
 
 no : false ≡ true → ⊥
@@ -73,6 +79,9 @@ pub parts-have : (g : Scan) (s : Parts) (y : Member) → scan_parts g ≡ Some s
 parts-have (At (place.Value v)) s y h k = in-body v.typed v.quotes v.body y (body-has-part v.body s y h k)
 parts-have (InUrl v t r) s y h k = in-body v.typed v.quotes v.body y (body-has-part v.body s y h k)
 parts-have (InStyle v n r) s y h k = in-set v.typed v.quotes n y (set-has-part n s y h k)
+parts-have (At (place.Style c)) s y h k =
+    place-has c y (or-behind (is_whole y) (scan_set_has (style_scan_start c) y) (set-has-part (style_scan_start c) s y h k))
+parts-have (InStyleElement n x) s y h k = or-behind (is_whole y) (scan_set_has n y) (set-has-part n s y h k)
 parts-have (At _) s y h k = absurd (none_some s h)
 parts-have _ s y h k = absurd (none_some s h)
 
@@ -181,12 +190,20 @@ pub record Point (s : LexState ValueState) (bs : List ℕ) (f : Scan) : Type 0 w
   pub between : is_in_reference s bs ≡ false
   pub opened : beginning_at place ≡ Some (placed_prefix spelled)
 
+left-none : (bs : List ℕ) → pending_left Nothing bs ≡ Nothing
+left-none [] = refl
+left-none (b ∷ bs) = refl
+
+pub none-pending : (g : Scan) (bs : List ℕ) → scan_pending g ≡ Nothing → NonePending g bs
+none-pending (InStyleElement n x) bs m = ap (λ (y : Pending). pending_left y bs) m ∙ left-none bs
+none-pending _ bs m = tt
+
 point : (s : LexState ValueState) (g : Scan) (bs : List ℕ) (f : Scan) (p : spelling.Prefix) → UrlState s → scanned s ≡ Some g → ReadTaken g bs
-    → scan_parts (scan_read g bs) ≡ Some (parts_of (UrlOpen p)) → scan_reference (scan_read g bs) ≡ Closed → ScanValid g → ScanBelow (scan_read g bs) f
-    → Point s bs f
-point s g bs f p u e n h k v l =
+    → scan_parts (scan_read g bs) ≡ Some (parts_of (UrlOpen p)) → scan_reference (scan_read g bs) ≡ Closed → scan_pending g ≡ Nothing
+    → ScanValid g → ScanBelow (scan_read g bs) f → Point s bs f
+point s g bs f p u e n h k m v l =
     let at = read-state s g bs u e n in
-    let d = shown-closed (scan_read g bs) bs (parts_of (UrlOpen p)) h k in
+    let d = shown-closed (scan_read g bs) bs (parts_of (UrlOpen p)) h k (none-pending (scan_read g bs) bs (read-settled g bs m)) in
     record {
       read = scan_read g bs;
       at = at;
@@ -195,7 +212,7 @@ point s g bs f p u e n h k v l =
       begins = is-open (state_before s bs) (scan_read g bs) at (parts-have (scan_read g bs) (parts_of (UrlOpen p)) member.PartOpen h refl);
       spelled = p;
       place = d.place;
-      own = own-place s g bs u e n (read-shown g bs k) ∙ d.is;
+      own = own-place s g bs u e n (read-shown g bs k) (none-pending g bs m) ∙ d.is;
       between = read-between s g bs u e k;
       opened = d.opened;
     }
@@ -205,7 +222,7 @@ pub meets : (bytes : List ℕ) (k i : ℕ) (f : Scan) (r : PathRefusal) (s : Lex
     → is_in_beginning s ≡ true → scanned s ≡ Some g → ScanValid g → ScanBelow g f → MeetsColon bytes s i
 meets bytes k i f r s g d a o e v l =
     let x = apart-in (scan_parts f) d.there in
-    let u = unknown s g f x.parts o e x.is x.apart l in
+    let u = unknown s g f x.parts o e v x.is x.apart l in
     let none : k ≡ k + 0 = omega arith in
     let refused : refusal_from (k + 0) 0 bytes (unknown_beginning s) ≡ Some r =
     subst (λ (n : ℕ). refusal_from n 0 bytes (unknown_beginning s) ≡ Some r) none
@@ -268,6 +285,34 @@ start-style : (v : ValuePlace) (n : StyleScan) (p : UrlPart) (r : Reference) (g 
 start-style v n p r g i a e =
     ap scan_parts (sym (one_value (style_scan v n r) g e)) ∙ style-parts v n r ∙ i ∙ ap (λ (x : UrlPart). Some (parts_of x)) a
 
+-- in the element `style`
+record StartScanned (g : Scan) : Type 0 where
+  parts : scan_parts g ≡ Some (parts_of UrlStart)
+  closed : scan_reference g ≡ Closed
+
+start-element : (h : Pending) (n : StyleScan) (p : UrlPart) (g : Scan) → style_scan_parts n ≡ Some (parts_of p) → p ≡ UrlStart
+    → element_scanned h n ≡ Some g → StartScanned g
+start-element h n p g i a e =
+    let same = (element-form h n g e).same in
+    record {
+      parts = ap scan_parts (sym same) ∙ element-at-parts h n ∙ i ∙ ap (λ (y : UrlPart). Some (parts_of y)) a;
+      closed = ap scan_reference (sym same) ∙ element-at-closed h n;
+    }
+
+start-language : (e : Element) (v : ValueState) (h : Pending) (g : Scan) → StartsUrl (InContent e (InLanguage v) h)
+    → language_scanned h e v ≡ Some g
+    → StartScanned g
+start-language element.Style (OfStyle (style.InUrl Bare u)) h g a e =
+    start-element h (ScanBareUrl (parts_of u.part) u.triple) u.part g refl a e
+start-language element.Style (OfStyle (style.InUrl (Quoted y z) u)) h g a e =
+    start-element h (ScanQuotedUrl y z (parts_of u.part) u.triple) u.part g refl a e
+start-language element.Style (OfStyle (style.InUrl Fresh u)) h g a e = absurd a
+start-language element.Style (OfStyle (style.InUrl Ended u)) h g a e = absurd a
+start-language element.Style (OfStyle (Out v)) h g a e = absurd a
+start-language element.Style (OfKind k) h g a e = absurd a
+start-language element.Style (OfUrl u) h g a e = absurd a
+start-language _ v h g a e = absurd (none_some g e)
+
 pub start-parts : (s : LexState ValueState) (g : Scan) → StartsUrl s → scanned s ≡ Some g → scan_parts g ≡ Some (parts_of UrlStart)
 start-parts (BeforeAttributeValue t kind.Url) g a e = sym (ap parts_where e)
 start-parts (AttributeValue q t (ValueOf (OfUrl u)) r) g a e =
@@ -280,12 +325,14 @@ start-parts (AttributeValue q t (ValueOf (OfStyle (style.InUrl (Quoted y z) u)))
 start-parts (AttributeValue q t (ValueOf (OfStyle (style.InUrl Fresh u))) r) g a e = absurd a
 start-parts (AttributeValue q t (ValueOf (OfStyle (style.InUrl Ended u))) r) g a e = absurd a
 start-parts (AttributeValue q t (ValueOf (OfStyle (Out v))) r) g a e = absurd a
+start-parts (InContent x (InLanguage v) h) g a e = (start-language x v h g a e).parts
 start-parts _ g a e = absurd a
 
 starts-in : (s : LexState ValueState) (g : Scan) (f : Form) (bytes : List ℕ) → StartsUrl s → scanned s ≡ Some g → scan_reference g ≡ Open f bytes → UrlState s
 starts-in (AttributeValue q t (ValueOf (OfUrl u)) r) g f bytes a e h = url_state q t u r refl
 starts-in (AttributeValue q t (ValueOf (OfStyle v)) r) g f bytes a e h = style_state q t v r refl
 starts-in (BeforeAttributeValue t kind.Url) g f bytes a e h = absurd (closed-open f bytes (ap reference_where e ∙ h))
+starts-in (InContent x (InLanguage v) p) g f bytes a e h = absurd (closed-open f bytes (sym (start-language x v p g a e).closed ∙ h))
 starts-in _ g f bytes a e h = absurd a
 
 -- the bytes of a reference that the byte breaks
@@ -326,6 +373,7 @@ read-parts (InUrl v t (Open f bytes)) b bs s w h k = turn-parts (turn (class_of 
 read-parts (InUrl v t Closed) b bs s w h k = h
 read-parts (InStyle v n (Open f bytes)) b bs s w h k = turn-style-parts (turn (class_of b) f) v n f bytes (class_of b) s h k
 read-parts (InStyle v n Closed) b bs s w h k = h
+read-parts (InStyleElement n x) b bs s w h k = h
 read-parts (At p) b bs s w h k = h
 read-parts _ b bs s w h k = absurd (none_some s h)
 
@@ -448,6 +496,7 @@ read-is (InUrl v t Closed) b bs f bytes s i h k = absurd (closed-open f bytes h)
 read-is (InStyle v n (Open x l)) b bs f bytes s i h k =
     turn-style-is (turn (class_of b) x) v n x l (class_of b) (ap (turn (class_of b)) (one-form x f l bytes h) ∙ k)
 read-is (InStyle v n Closed) b bs f bytes s i h k = absurd (closed-open f bytes h)
+read-is (InStyleElement n x) b bs f bytes s i h k = absurd (closed-open f bytes h)
 read-is (At p) b bs f bytes s i h k = absurd (closed-open f bytes h)
 read-is _ b bs f bytes s i h k = absurd (closed-open f bytes h)
 
@@ -482,12 +531,14 @@ two-read k b bs f r x bytes s w i j plain e taken n d =
           (read-taken g f b bs taken y.below)
           (read-parts g b bs (parts_of UrlStart) y.valid (start-parts v g starts y.at) (stays-below g f b s y.below i stays)
           ∙ ap (λ (l : List ℕ). Some (feed_bytes parts_feeding (parts_of UrlStart) l)) (broken-bytes (scan_reference g) b x bytes hold e) ∙ ap Some m.begins)
-          (read-is g b bs x bytes (parts_of UrlStart) (start-parts v g starts y.at) hold e) y.valid (read-below g f b bs w taken y.below) in
+          (read-is g b bs x bytes (parts_of UrlStart) (start-parts v g starts y.at) hold e) (open-settled g x bytes hold) y.valid
+          (read-below g f b bs w taken y.below) in
           let held = below-reference h f u.below ∙ j in
           let other = point t h (b ∷ bs) (scan_read f (b ∷ bs)) m.other (url-of t (begins-value t opens)) u.at (read-taken h f b bs taken u.below)
           (read-parts h b bs (parts_of (UrlOpen q.0)) u.valid q.1 (stays-below h f b s u.below i stays)
           ∙ ap (λ (l : List ℕ). Some (feed_bytes parts_feeding (parts_of (UrlOpen q.0)) l)) (broken-bytes (scan_reference h) b x bytes held e) ∙ ap Some m.goes)
-          (read-is h b bs x bytes (parts_of (UrlOpen q.0)) q.1 held e) u.valid (read-below h f b bs w taken u.below) in
+          (read-is h b bs x bytes (parts_of (UrlOpen q.0)) q.1 held e) (open-settled h x bytes held) u.valid
+          (read-below h f b bs w taken u.below) in
           inr (subst IsOpen (sym j) tt, apart-now (b ∷ bs) k p.0 (scan_read f (b ∷ bs)) r v t d p.1 own other m.apart);
     }
 
@@ -516,13 +567,6 @@ fed-or (quotes.Bare s) r _ b = inr refl
 fed-character : (q : Quotes) (r : Reference) (b : ℕ) → NotBroken r b → IsCharacter (fed_in q r (class_of b) b)
 fed-character q r b n = ⊎_elim (λ e. nothing e) (λ e. subst IsCharacter (sym e) (undone-character r b n)) (fed-or q r (class_of b) b)
 
-pub scan-character : (f : Scan) (b : ℕ) → NotBroken (scan_reference f) b → IsCharacter (scan_fed f (class_of b) b)
-scan-character (At (place.Value v)) b n = fed-character v.quotes Closed b n
-scan-character (InUrl v t r) b n = fed-character v.quotes r b n
-scan-character (InStyle v x r) b n = fed-character v.quotes r b n
-scan-character (At _) b n = nothing refl
-scan-character _ b n = nothing refl
-
 -- a byte that is fed leaves no reference open
 pub plain-closed : (c : Class) (b : ℕ) → is_nothing (undone_byte true Closed c b) ≡ false → begin_reference c ≡ Closed
 plain-closed Ampersand b h = absurd (no (sym h))
@@ -541,27 +585,60 @@ undone-closed (Open f bytes) b n h = turned-closed (turn (class_of b) f) f bytes
 fed-undone : (q : Quotes) (r : Reference) (c : Class) (b : ℕ) → is_nothing (fed_in q r c b) ≡ false → is_nothing (undone_byte true r c b) ≡ false
 fed-undone q r c b h = ⊎_elim (λ e. absurd (no (sym h ∙ ap is_nothing e))) (λ e. sym (ap is_nothing e) ∙ h) (fed-or q r c b)
 
-scan-undone : (f : Scan) (c : Class) (b : ℕ) → is_nothing (scan_fed f c b) ≡ false → is_nothing (undone_byte true (scan_reference f) c b) ≡ false
-scan-undone (At (place.Value v)) c b h = fed-undone v.quotes Closed c b h
-scan-undone (InUrl v t r) c b h = fed-undone v.quotes r c b h
-scan-undone (InStyle v n r) c b h = fed-undone v.quotes r c b h
-scan-undone (At _) c b h = absurd (no (sym h))
-scan-undone _ c b h = absurd (no (sym h))
+fed-closed : (q : Quotes) (r : Reference) (b : ℕ) (g : Scan) → Holds g r (class_of b) b → NotBroken r b
+    → is_nothing (fed_in q r (class_of b) b) ≡ false
+    → scan_reference g ≡ Closed
+fed-closed q r b g k n h = ⊎_elim (λ e. e) (λ e. e ∙ undone-closed r b n (fed-undone q r (class_of b) b h)) k
 
-pub next-closed : (f : Scan) (s : Parts) (b : ℕ) → ScanValid f → scan_parts f ≡ Some s → NotBroken (scan_reference f) b
-    → is_nothing (scan_fed f (class_of b) b) ≡ false
-    → scan_reference (scan_next f (class_of b) b) ≡ Closed
-next-closed f s b w i n h =
-    ⊎_elim (λ e. e) (λ e. e ∙ undone-closed (scan_reference f) b n (scan-undone f (class_of b) b h)) (next-holds f (class_of b) b)
+-- Where paths come apart in the bytes that are fed at a byte, there is one of them, and behind it no reference is open and nothing is
+-- pending back.
+pub record ScanArises (f : Scan) (b : ℕ) (s : Parts) : Type 0 where
+  pub arises : AriseIn (scan_fed f (class_of b) b) s
+  pub closed : scan_reference (scan_next f (class_of b) b) ≡ Closed
+  pub settled : scan_pending (scan_next f (class_of b) b) ≡ Nothing
+
+character-arises : (f : Scan) (b : ℕ) (s : Parts) → IsCharacter (scan_fed f (class_of b) b)
+    → (is_nothing (scan_fed f (class_of b) b) ≡ false → scan_reference (scan_next f (class_of b) b) ≡ Closed)
+    → scan_pending (scan_next f (class_of b) b) ≡ Nothing → spells_apart s.opened ≡ false
+    → spells_apart (feed_bytes parts_feeding s (scan_fed f (class_of b) b)).opened ≡ true → ScanArises f b s
+character-arises f b s a closes settled n d =
+    let x = arise-in (scan_fed f (class_of b) b) s a n d in record { arises = x; closed = closes (ap is_nothing x.is); settled = settled }
+
+pub scan-arises : (f : Scan) (b : ℕ) (s : Parts) → scan_parts f ≡ Some s → NotBroken (scan_reference f) b → spells_apart s.opened ≡ false
+    → spells_apart (feed_bytes parts_feeding s (scan_fed f (class_of b) b)).opened ≡ true → ScanArises f b s
+scan-arises (At (place.Value v)) b s i m n d =
+    let f = At (place.Value v) in
+    character-arises f b s (fed-character v.quotes Closed b m)
+    (λ h. fed-closed v.quotes Closed b (scan_next f (class_of b) b) (next-holds f (class_of b) b) m h)
+    (value-settled v NoTriple Closed (class_of b) b) n d
+scan-arises (InUrl v t r) b s i m n d =
+    let f = InUrl v t r in
+    character-arises f b s (fed-character v.quotes r b m)
+    (λ h. fed-closed v.quotes r b (scan_next f (class_of b) b) (next-holds f (class_of b) b) m h) (value-settled v t r (class_of b) b) n d
+scan-arises (InStyle v x r) b s i m n d =
+    let f = InStyle v x r in
+    character-arises f b s (fed-character v.quotes r b m)
+    (λ h. fed-closed v.quotes r b (scan_next f (class_of b) b) (next-holds f (class_of b) b) m h)
+    (style-value-settled v x r (class_of b) b) n d
+scan-arises (At (place.Style p)) b s i m n d =
+    let x = element-arises (style_scan_start p) Nothing (class_of b) b s n d in
+    record { arises = x.arises; closed = element-closed (style_scan_start p) Nothing (class_of b) b; settled = x.settled }
+scan-arises (InStyleElement y h) b s i m n d =
+    let x = element-arises y h (class_of b) b s n d in
+    record { arises = x.arises; closed = element-closed y h (class_of b) b; settled = x.settled }
+scan-arises (At _) b s i m n d = absurd (none_some s i)
+scan-arises _ b s i m n d = absurd (none_some s i)
 
 -- a path behind the byte
 behind-point : (v : LexState ValueState) (g f : Scan) (b : ℕ) (bs : List ℕ) (x : Parts) (p : spelling.Prefix) → ScanValid g → ScanValid f → ScanBelow g f
     → scanned v ≡ Some g
-    → scan_error f (class_of b) b ≡ None → scan_reference (scan_next f (class_of b) b) ≡ Closed → is_apart (scan_parts (scan_next f (class_of b) b)) ≡ true
+    → scan_error f (class_of b) b ≡ None → scan_reference (scan_next f (class_of b) b) ≡ Closed
+    → scan_pending (scan_next f (class_of b) b) ≡ Nothing
+    → is_apart (scan_parts (scan_next f (class_of b) b)) ≡ true
     → scan_parts (scan_read g (b ∷ bs)) ≡ Some x → feed_bytes parts_feeding x (scan_fed (scan_read g (b ∷ bs)) (class_of b) b) ≡ parts_of (UrlOpen p)
     → (q : Point (next languages Template v (class_of b) b) bs (scan_next f (class_of b) b)) × (q.spelled ≡ p)
 unfolding point
-behind-point v g f b bs x p vg vf l e n held apart i j =
+behind-point v g f b bs x p vg vf l e n held settled apart i j =
     let c = class_of b in
     let m = scan-grows g f c b vg l n in
     let a = agrees-at v g b e in
@@ -575,11 +652,12 @@ behind-point v g f b bs x p vg vf l e n held apart i j =
     (read-below g f b bs vf (takes f b vf n) l) i rf.error met (ap scan_parts ro.next ∙ z.1) in
     let parts : scan_parts (scan_next g c b) ≡ Some (parts_of (UrlOpen p)) = ap scan_parts (sym ro.next) ∙ y ∙ ap Some j in
     let closed = below-reference (scan_next g c b) (scan_next f c b) m.1 ∙ held in
+    let quiet = below-pending (scan_next g c b) (scan_next f c b) m.1 ∙ settled in
     let same = read-closed (scan_next g c b) bs closed in
     let u = url-of (next languages Template v c b) (begins-value (next languages Template v c b)
     (is-open (next languages Template v c b) (scan_next g c b) at (parts-have (scan_next g c b) (parts_of (UrlOpen p)) member.PartOpen parts refl))) in (
       point (next languages Template v c b) (scan_next g c b) bs (scan_next f c b) p u at (closed-taken (scan_next g c b) bs closed)
-          (ap scan_parts same ∙ parts) (ap scan_reference same ∙ closed)
+          (ap scan_parts same ∙ parts) (ap scan_reference same ∙ closed) quiet
           (scan-valid g c b vg m.0) (subst (λ (y : Scan). ScanBelow y (scan_next f c b)) (sym same) m.1),
       refl {a = p},
     )
@@ -602,9 +680,10 @@ two-next k b bs f r s y w i n j notyet d =
     let zs = scan_fed over c b in
     let p = goes-parts over y x.parts c b (read-valid f (b ∷ bs) w) j (ap scan_parts ro.next ∙ x.is) x.apart in
     let came : spells_apart (feed_bytes parts_feeding y zs).opened ≡ true = sym (ap is_apart (sym (ap scan_parts ro.next) ∙ p)) ∙ d.there in
-    let a = arise-in zs y (scan-character over b (not-broken f b bs y j)) notyet came in
-    let held : scan_reference (scan_next f c b) ≡ Closed =
-    ap scan_reference (sym ro.next) ∙ next-closed over y b (read-valid f (b ∷ bs) w) j (not-broken f b bs y j) (ap is_nothing a.is) in
+    let arises = scan-arises over b y j (not-broken f b bs y j) notyet came in
+    let a = arises.arises in
+    let held : scan_reference (scan_next f c b) ≡ Closed = ap scan_reference (sym ro.next) ∙ arises.closed in
+    let settled : scan_pending (scan_next f c b) ≡ Nothing = ap scan_pending (sym ro.next) ∙ arises.settled in
     let at = point-at (k + 1) bs (scan_next f c b) r d held in
     let xs = read_bytes (scan_reference f) b in
     let stays = next-stays f b s w i (met-there (scan_next f c b) d.there) in
@@ -632,10 +711,10 @@ two-next k b bs f r s y w i n j notyet d =
           let lower = read-below g f b bs w taken m.below in
           let lower-by = read-below h f b bs w taken u.below in
           let z = parted zs y wend.0 a notyet (opens-below (scan_read h (b ∷ bs)) over y wend.0 lower-by other j) in
-          let one = behind-point v g f b bs (parts_of UrlStart) z.first m.valid w m.below m.at n held d.there own
+          let one = behind-point v g f b bs (parts_of UrlStart) z.first m.valid w m.below m.at n held settled d.there own
           (fed-as (parts_of UrlStart) (scan_fed (scan_read g (b ∷ bs)) c b) zs (parts_of (UrlOpen z.first))
           (fed-same (scan_read g (b ∷ bs)) over y c b lower j) z.begins) in
-          let two = behind-point t h f b bs (parts_of (UrlOpen wend.0)) z.other u.valid w u.below u.at n held d.there other
+          let two = behind-point t h f b bs (parts_of (UrlOpen wend.0)) z.other u.valid w u.below u.at n held settled d.there other
           (fed-as (parts_of (UrlOpen wend.0)) (scan_fed (scan_read h (b ∷ bs)) c b) zs (parts_of (UrlOpen z.other))
           (fed-same (scan_read h (b ∷ bs)) over y c b lower-by j) z.goes) in
           let differ = spelled-apart one.0.spelled two.0.spelled z.first z.other one.1 two.1 z.apart in

@@ -1,8 +1,10 @@
 -- Scan states that are below one another, their validity and their members; a step keeps the order.
-use Rattle.std.proofs.Common.{◌≡◌, ℕ, Bool, true, false, ◌||◌, ◌&&◌, List, length, Option, Some, None, option_map, if◌then◌else◌, refl, sym, ap, ◌∙◌, subst}
+use Rattle.std.proofs.Common.{◌≡◌, ℕ, Bool, true, false, ◌||◌, ◌&&◌, List, [], ◌∷◌, ◌++◌, codes, length, Option, Some, None, option_map, if◌then◌else◌, refl, sym, ap, ◌∙◌, subst}
 use Rattle.std.specs.Option.{is_some}
-use Rattle.place_core.specs.page.Classes.{Class, White, ExclamationMark, QuotationMark, Apostrophe, HyphenMinus, Solidus, LessThan, EqualsSign, GreaterThan, GraveAccent}
-use Rattle.place_core.specs.place.Errors.{PathCause, at_hand, attribute_name_error, bare_error, body_error, comment_error, content_error, equals_error, first_cause, first_error, kind_error, quotes_error, language_error, tag_error, unless_second, value_error, block_error}
+use Rattle.place_core.specs.page.Classes.{Class, White, ExclamationMark, QuotationMark, Apostrophe, HyphenMinus, Solidus, LessThan, EqualsSign, GreaterThan, GraveAccent, Letter}
+use Rattle.place_core.specs.page.Contents.{is_name_of, may_be_name_of, pending_bytes}
+use Rattle.place_core.specs.page.States.{Pending, Nothing, PendingLess, LessAtCut, PendingName, PendingBang, PendingBangDash}
+use Rattle.place_core.specs.place.Errors.{PathCause, at_hand, attribute_name_error, bare_error, body_error, comment_error, content_error, equals_error, first_cause, first_error, kind_error, quotes_error, language_error, tag_error, unless_second, value_error, block_error, cut_cause, end_name_error, less_error, loose_byte_error, pending_error, released_error, split_error}
 use Rattle.place_core.specs.place.Places.{Below, Has, IsValid, IsValidQuotes, IsValidTag, both_bare, is_whole, joined_kinds, joined_quotes, joined_bodies, quotes_have, some_bare, typed_has}
 use Rattle.place_core.specs.place.StatePlaces.{only_after, only_before, only_inside, unbegun}
 use Rattle.place_core.specs.page.Words.{kind_of}
@@ -28,23 +30,27 @@ use Rattle.place_core.specs.declared.tag_place.TagPlace.{TagPlace}
 use Rattle.place_core.specs.declared.value_place.ValuePlace.{ValuePlace}
 use Rattle.place_core.proofs.JoinParts.{kinds_partial}
 use Rattle.place_core.proofs.Joins.{places_same}
-use Rattle.place_core.proofs.Semilattices.{no_map, none_some, one_value}
-use Rattle.html_scan.specs.Scans.{Scan, At, AfterLess, AfterLessSolidus, InDeclaration, InTagName, InAttributeName, InUrl, InStyle, InCommentEnd, InContentEnd, after_white, bare_begun, attribute_name_next, bare_white, comment_next, comment_state, content_scan, scan_next, scan_error, scan_place, scan_cut_error, scan_lexeme_error, in_tag, tag_next, typed_with, value_scan, with_quotes, BeforeType, InType, rest_place, content_next, parts_feeding, triple_behind, url_scan, with_parts, value_fed, value_next, quoted_error, body_cause, value_cause, place_cause, parts_with, with_body, open_cut_error, bare_leads, empty_style_between, quotes_lead, style_cause, style_fed, style_feeding, style_scan, style_value_next, value_between, with_style}
+use Rattle.place_core.proofs.Semilattices.{no_map, none_some, one_value, row_value}
+use Rattle.html_scan.specs.Scans.{Scan, At, AfterLess, AfterLessSolidus, InDeclaration, InTagName, InAttributeName, InUrl, InStyle, InStyleElement, InCommentEnd, InContentEnd, element_cause, element_less_next, element_name_next, element_next, element_pending_next, element_scan, released_next, style_less_cause, style_less_cut, after_white, bare_begun, attribute_name_next, bare_white, comment_next, comment_state, content_scan, scan_next, scan_error, scan_place, scan_cut_error, scan_lexeme_error, in_tag, tag_next, typed_with, value_scan, with_quotes, BeforeType, InType, rest_place, content_next, parts_feeding, triple_behind, url_scan, with_parts, value_fed, value_next, quoted_error, body_cause, value_cause, place_cause, parts_with, with_body, open_cut_error, bare_leads, empty_style_between, quotes_lead, style_cause, style_fed, style_feeding, style_scan, style_value_next, value_between, with_style}
+use Rattle.html_step.proofs.ContentsAlike.{content-beside, released-beside}
+use Rattle.html_step.proofs.ElementsBelow.{ElementUnder, under-element}
 use Rattle.html_step.proofs.PathScans.{none-at-hand, none-unless, some}
 use Rattle.html_step.proofs.PlaceParts.{Under, under-false, under-same, under-both, TagBelow, ValueBelow, below-tag, tag-below, below-value, value-below, below-rcdata, same-kinds}
 use Rattle.html_step.proofs.FedAlike.{BegunIf, FedBeside, GoesOn, bare-beside, bare-undone, fed-beside, first-caused, language-beside, undone-beside}
 use Rattle.html_step.proofs.StyleOrder.{below-css, css-below, scan-below-start, scan-of-start, starts-below, styles-beside}
 use Rattle.html_step.proofs.StylePaths.{empty_css, style_unfinished}
+use Rattle.css_lexer.specs.Elements.{less_than_cut_escape}
+use Rattle.css_lexer.specs.Escapes.{StyleEscape, NoEscape, AfterBackslash, HexDigits, AfterReturn}
 use Rattle.css_lexer.specs.RefusalCodes.{StyleCutRefusal}
-use Rattle.css_step.specs.StyleOrigins.{scan_set_has}
-use Rattle.css_step.specs.StyleScans.{StyleScan, is_style_start, style_scan_cut_error, style_scan_place, style_scan_start}
-use Rattle.css_step.specs.StyleSetLaws.{StyleScanBelow, below_itself}
+use Rattle.css_step.specs.StyleOrigins.{scan_set_has, style_scan_has}
+use Rattle.css_step.specs.StyleScans.{StyleScan, is_style_start, style_scan_cut_error, style_scan_place, style_scan_start, style_split_word}
+use Rattle.css_step.specs.StyleSetLaws.{StyleBelow, StyleScanBelow, below_bare, below_itself, below_quoted, below_split_word, below_star, below_tails}
 use Rattle.css_step.proofs.StyleGrowth.{styles-grow}
 use Rattle.html_step.proofs.UrlOrder.{fed-grow, parts-beside}
 use Rattle.place_core.specs.page.Html.{ends_value}
 use Rattle.place_core.specs.page.References.{Reference, Closed, Open, as_it_stands, next_reference, undone_byte}
-use Rattle.place_core.specs.page.Tags.{is_second_type, element_on, feed_bytes, style_code, DoubleQuoted, SingleQuoted, Feeding}
-use Rattle.place_core.specs.place.LanguagePlaces.{both_parts, IsValidCss, IsValidParts}
+use Rattle.place_core.specs.page.Tags.{is_second_type, element_on, feed_bytes, style_code, style_cut, DoubleQuoted, SingleQuoted, Feeding}
+use Rattle.place_core.specs.place.LanguagePlaces.{both_parts, joined_css, IsValidCss, IsValidParts}
 use Rattle.place_core.specs.place.UrlParts.{parts_of}
 use Rattle.place_core.specs.declared.parts.Parts.{Parts}
 use Rattle.url_lexer.specs.Parts.{UrlStart}
@@ -82,6 +88,7 @@ ScanBelow (InAttributeName t x n) g = ⊥
 ScanBelow (InUrl v t r) (InUrl w u z) = ValueBelow v w × (t ≡ u) × (r ≡ z)
 ScanBelow (InUrl v t r) g = ⊥
 ScanBelow (InStyle v s r) g = StyleUnder v s r g
+ScanBelow (InStyleElement s h) g = ElementUnder s h g
 ScanBelow AfterLess g = AfterLess ≡ g
 ScanBelow AfterLessSolidus g = AfterLessSolidus ≡ g
 ScanBelow (InDeclaration pending) g = InDeclaration pending ≡ g
@@ -105,12 +112,18 @@ pub url-within : (b : Body) → UrlWithin b → (s : Parts) × (b ≡ body.Url s
 url-within (body.Url s) v = (s, refl)
 url-within _ v = absurd v
 
+-- What may be the name in an end tag is a beginning of it.
+abbrev pub IsPendingName : Pending → Type 0
+IsPendingName (PendingName letters) = may_be_name_of element.Style letters ≡ true
+IsPendingName h = Unit {0}
+
 -- In a style the scan state has what the body of a place has.
 abbrev pub ScanValid : Scan → Type 0
 ScanValid (At p) = IsValid p
 ScanValid (InUrl v t r) = HasBegun v.quotes × UrlWithin v.body
 ScanValid (InStyle v s r) = HasBegun v.quotes × (v.body ≡ body.Css empty_css) × IsValidCss (style_scan_place s)
 ScanValid (InContentEnd e h) = IsValid (rest_place e)
+ScanValid (InStyleElement s h) = IsValidCss (style_scan_place s) × IsPendingName h
 ScanValid f = Unit {0}
 
 abbrev pub ScanHas : Scan → Member → Type 0
@@ -118,6 +131,7 @@ ScanHas (At p) m = Has p m
 ScanHas (InUrl v t r) m = Has (place.Value v) m
 ScanHas (InStyle v s r) m = (is_whole m || (typed_has v.typed m || (quotes_have v.quotes m || scan_set_has s m))) ≡ true
 ScanHas (InAttributeName t typed name) m = (is_whole m || typed_has typed m) ≡ true
+ScanHas (InStyleElement s h) m = style_scan_has s m ≡ true
 ScanHas f m = is_whole m ≡ true
 
 style-value-same : (v : ValuePlace) (n : StyleScan) → StyleValueBelow v v n n
@@ -134,6 +148,7 @@ scan-same (InDeclaration pending) = refl
 scan-same (InTagName ends name) = refl
 scan-same (InCommentEnd s) = refl
 scan-same (InContentEnd e h) = refl
+scan-same (InStyleElement s h) = (below_itself s, refl)
 scan-same (BeforeType t) = refl
 scan-same (InType t q v r) = refl
 
@@ -307,6 +322,66 @@ style-below-by v w n m false false e f h = (h, refl)
 pub style-below : (v w : ValuePlace) (n m : StyleScan) (r : Reference) → StyleValueBelow v w n m → ScanBelow (style_scan v n r) (style_scan w m r)
 style-below v w n m Closed h = style-below-by v w n m (is_style_start n) (is_style_start m) refl refl h
 style-below v w n m (Open f bytes) h = (h, refl)
+
+-- The element `style`: a byte, and bytes that were pending back.
+pub style-place-below : (c d : Css) → StyleBelow c d → Below (place.Style c) (place.Style d)
+style-place-below c d h = ap (λ (o : Option Css). option_map place.Style o) h
+
+element-below-by : (n m : StyleScan) (x y : Bool) → is_style_start n ≡ x → is_style_start m ≡ y → StyleScanBelow n m
+    → ScanBelow (if x then At (place.Style (style_scan_place n)) else InStyleElement n Nothing) (if y then At (place.Style (style_scan_place m)) else InStyleElement m Nothing)
+element-below-by n m true true e f h = style-place-below (style_scan_place n) (style_scan_place m) (styles-grow.scans n m h).place
+element-below-by n m true false e f h = absurd (no (sym f ∙ starts-below n m h e))
+element-below-by n m false true e f h = (subst (StyleScanBelow n) (sym (scan-of-start m f)) h, refl)
+element-below-by n m false false e f h = (h, refl)
+
+pub element-below : (n m : StyleScan) → StyleScanBelow n m → ScanBelow (element_scan n) (element_scan m)
+element-below n m h = element-below-by n m (is_style_start n) (is_style_start m) refl refl h
+
+loose-below : (c : Class) (b : ℕ) (n m : StyleScan) → StyleScanBelow n m → loose_byte_error style_feeding m c b ≡ None → ScanBelow (element_next n c b) (element_next m c b)
+loose-below LessThan b n m h e = (h, refl)
+loose-below _ b n m h e = element-below (style_feeding.feed n b) (style_feeding.feed m b) (styles-beside.goes n m b h e)
+
+released-below : (bytes : List ℕ) (c : Class) (b : ℕ) (n m : StyleScan) → StyleScanBelow n m → released_error style_feeding m bytes c b ≡ None
+    → ScanBelow (released_next n bytes c b) (released_next m bytes c b)
+released-below bytes c b n m h e =
+    let p = released-beside styles-beside bytes c b n m h e in
+    loose-below c b (feed_bytes style_feeding n bytes) (feed_bytes style_feeding m bytes) p.behind p.loose
+
+less-below : (c : Class) (b : ℕ) (n m : StyleScan) → StyleScanBelow n m → less_error style_feeding m c b ≡ None → ScanBelow (element_less_next n c b) (element_less_next m c b)
+less-below Solidus b n m h e = (h, refl)
+less-below c b n m h e = released-below (codes "<") c b n m h e
+
+end-tag-below : ScanBelow (in_tag tag.End false only_before None) (in_tag tag.End false only_before None)
+end-tag-below = scan-same (in_tag tag.End false only_before None)
+
+end-name-below : (grows whole : Bool) (c : Class) (b : ℕ) (letters : List ℕ) (n m : StyleScan) → StyleScanBelow n m
+    → end_name_error style_feeding m grows whole c b letters ≡ None
+    → ScanBelow (element_name_next n grows whole c b letters) (element_name_next m grows whole c b letters)
+end-name-below true whole (Letter l) b letters n m h e = (h, refl)
+end-name-below true true White b letters n m h e = end-tag-below
+end-name-below true true Solidus b letters n m h e = end-tag-below
+end-name-below true true GreaterThan b letters n m h e = refl
+end-name-below true true c b letters n m h e = released-below (codes "</" ++ letters) c b n m h e
+end-name-below true false c b letters n m h e = released-below (codes "</" ++ letters) c b n m h e
+end-name-below false true White b letters n m h e = end-tag-below
+end-name-below false true Solidus b letters n m h e = end-tag-below
+end-name-below false true GreaterThan b letters n m h e = refl
+end-name-below false true c b letters n m h e = released-below (codes "</" ++ letters) c b n m h e
+end-name-below false false c b letters n m h e = released-below (codes "</" ++ letters) c b n m h e
+
+pending-below : (h : Pending) (c : Class) (b : ℕ) (n m : StyleScan) → StyleScanBelow n m → element_cause m h c b ≡ None
+    → ScanBelow (element_pending_next n h c b) (element_pending_next m h c b)
+pending-below Nothing c b n m l e = loose-below c b n m l (none-at-hand (loose_byte_error style_feeding m c b) e)
+pending-below PendingLess c b n m l e = less-below c b n m l e
+pending-below LessAtCut c b n m l e = released-below (codes "<") c b n m l e
+pending-below (PendingName letters) c b n m l e =
+    end-name-below (may_be_name_of element.Style (letters ++ b ∷ [])) (is_name_of element.Style letters) c b letters n m l e
+pending-below PendingBang c b n m l e = released-below (codes "<!") c b n m l e
+pending-below PendingBangDash c b n m l e = released-below (codes "<!-") c b n m l e
+
+element-grows : (h : Pending) (c : Class) (b : ℕ) (n m : StyleScan) → StyleScanBelow n m → element_cause m h c b ≡ None
+    → (element_cause n h c b ≡ None) × ScanBelow (element_pending_next n h c b) (element_pending_next m h c b)
+element-grows h c b n m l e = (content-beside styles-beside element.Style h c b n m l e, pending-below h c b n m l e)
 
 -- The two bodies of values behind the bytes that they are fed.
 abbrev FedGoes : Body → Body → List ℕ → Type 0
@@ -557,6 +632,12 @@ Grows f g c b = (scan_error f c b ≡ None) × ScanBelow (scan_next f c b) (scan
 same-grows : (f g : Scan) (c : Class) (b : ℕ) → f ≡ g → scan_error g c b ≡ None → Grows f g c b
 same-grows f g c b e n = (ap (λ (h : Scan). scan_error h c b) e ∙ n, subst (λ (h : Scan). ScanBelow (scan_next f c b) (scan_next h c b)) e (scan-same (scan_next f c b)))
 
+one-style-place : (c d : Css) → place.Style c ≡ place.Style d → c ≡ d
+one-style-place c d e = cc
+
+pub style-below-place : (c d : Css) → Below (place.Style c) (place.Style d) → StyleBelow c d
+style-below-place c d h = row_value place.Style one-style-place (joined_css c d) d h
+
 place-grows : (x y : Place) (c : Class) (b : ℕ) → IsValid x → Below x y → place_cause y c b ≡ None → Grows (At x) (At y) c b
 place-grows place.Text place.Text c b v h n = (n, scan-same (scan_next (At place.Text) c b))
 place-grows place.Text y c b v h n = absurd (none_some y h)
@@ -574,7 +655,8 @@ place-grows (place.Value x) (place.Value y) c b v h n = value-grows x y NoTriple
 place-grows (place.Value x) y c b v h n = absurd (none_some y h)
 place-grows x (place.Script j) c b v h n = absurd (some _ n)
 place-grows (place.Script i) y c b v h n = absurd (none_some y h)
-place-grows x (place.Style j) c b v h n = absurd (some _ n)
+place-grows (place.Style i) (place.Style j) c b v h n =
+    element-grows Nothing c b (style_scan_start i) (style_scan_start j) (styles-grow.places i j (style-below-place i j h)).start n
 place-grows (place.Style i) y c b v h n = absurd (none_some y h)
 place-grows (place.Block x) (place.Block y) c b v h n =
     (hand-none (block_error x c) (block-grows x y c (block-below x y h) (none-at-hand (block_error y c) n)), scan-same (content_next c element.DataBlock))
@@ -679,6 +761,13 @@ under-place-grows x n r (place.Script d) c b v w h e k = absurd h
 under-place-grows x n r (place.Style d) c b v w h e k = absurd h
 under-place-grows x n r (place.Block d) c b v w h e k = absurd h
 
+-- in the element, from what is below
+element-grows-to : (s : StyleScan) (x : Pending) (g : Scan) (c : Class) (b : ℕ) → ElementUnder s x g → scan_error g c b ≡ None → Grows (InStyleElement s x) g c b
+element-grows-to s x g c b u n =
+    under-element (λ f. scan_error f c b ≡ None → Grows (InStyleElement s x) f c b) s x g u
+    (λ m l e. element-grows x c b s m l e)
+    (λ d k l e. subst (λ (z : Pending). Grows (InStyleElement s z) (At (place.Style d)) c b) (sym k) (element-grows Nothing c b s (style_scan_start d) l e)) n
+
 pub scan-grows : (f g : Scan) (c : Class) (b : ℕ) → ScanValid f → ScanBelow f g → scan_error g c b ≡ None → Grows f g c b
 scan-grows (At x) (At y) c b v h n = place-grows x y c b v h n
 scan-grows (At x) AfterLess c b v h n = absurd h
@@ -688,6 +777,7 @@ scan-grows (At x) (InTagName ends name) c b v h n = absurd h
 scan-grows (At x) (InAttributeName t y m) c b v h n = absurd h
 scan-grows (At x) (InCommentEnd s) c b v h n = absurd h
 scan-grows (At x) (InContentEnd e y) c b v h n = absurd h
+scan-grows (At x) (InStyleElement e y) c b v h n = absurd h
 scan-grows (At x) (BeforeType t) c b v h n = absurd h
 scan-grows (At x) (InType t q w r) c b v h n = absurd h
 scan-grows (At x) (InStyle w s r) c b v h n = absurd h
@@ -699,6 +789,7 @@ scan-grows (InAttributeName t x m) (InDeclaration pending) c b v h n = absurd h
 scan-grows (InAttributeName t x m) (InTagName ends name) c b v h n = absurd h
 scan-grows (InAttributeName t x m) (InCommentEnd s) c b v h n = absurd h
 scan-grows (InAttributeName t x m) (InContentEnd e y) c b v h n = absurd h
+scan-grows (InAttributeName t x m) (InStyleElement e y) c b v h n = absurd h
 scan-grows (InAttributeName t x m) (BeforeType u) c b v h n = absurd h
 scan-grows (InAttributeName t x m) (InType u q w r) c b v h n = absurd h
 scan-grows (InAttributeName t x m) (InStyle w s r) c b v h n = absurd h
@@ -713,6 +804,7 @@ scan-grows (InUrl x t r) (InTagName ends name) c b v h n = absurd h
 scan-grows (InUrl x t r) (InAttributeName u y l) c b v h n = absurd h
 scan-grows (InUrl x t r) (InCommentEnd s) c b v h n = absurd h
 scan-grows (InUrl x t r) (InContentEnd e y) c b v h n = absurd h
+scan-grows (InUrl x t r) (InStyleElement e y) c b v h n = absurd h
 scan-grows (InUrl x t r) (BeforeType u) c b v h n = absurd h
 scan-grows (InUrl x t r) (InType u q w z) c b v h n = absurd h
 scan-grows (InUrl x t r) (InStyle w s z) c b v h n = absurd h
@@ -725,6 +817,7 @@ scan-grows (InStyle x s r) (InTagName d e) c b v h n = absurd h
 scan-grows (InStyle x s r) (InAttributeName d e k) c b v h n = absurd h
 scan-grows (InStyle x s r) (InCommentEnd d) c b v h n = absurd h
 scan-grows (InStyle x s r) (InContentEnd d e) c b v h n = absurd h
+scan-grows (InStyle x s r) (InStyleElement d e) c b v h n = absurd h
 scan-grows (InStyle x s r) (BeforeType d) c b v h n = absurd h
 scan-grows (InStyle x s r) (InType d e k l) c b v h n = absurd h
 scan-grows (InStyle x s r) (InUrl d e k) c b v h n = absurd h
@@ -734,6 +827,7 @@ scan-grows (InDeclaration pending) g c b v h n = same-grows (InDeclaration pendi
 scan-grows (InTagName ends name) g c b v h n = same-grows (InTagName ends name) g c b h n
 scan-grows (InCommentEnd s) g c b v h n = same-grows (InCommentEnd s) g c b h n
 scan-grows (InContentEnd e x) g c b v h n = same-grows (InContentEnd e x) g c b h n
+scan-grows (InStyleElement m x) g c b v h n = element-grows-to m x g c b h n
 scan-grows (BeforeType t) g c b v h n = same-grows (BeforeType t) g c b h n
 scan-grows (InType t q w r) g c b v h n = same-grows (InType t q w r) g c b h n
 
@@ -822,6 +916,59 @@ style-ends-by x y n m r z h e f g =
     subst (λ (o : Reference). scan_cut_error (InStyle y m o) ≡ None → scan_lexeme_error (InStyle y m o) ≡ None → Ends (InStyle x n r) (InStyle y m o)) e
     (λ f g. style-ends x y n m r h f g) f g
 
+-- the element in which a text ends: what may be cut from what follows above, may be below
+split-less-grows : (e : StyleEscape) → style_less_cut (style_split_word e) ≡ None → less_than_cut_escape e ≡ None
+split-less-grows NoEscape h = refl
+split-less-grows AfterBackslash h = h
+split-less-grows (HexDigits k) h = refl
+split-less-grows AfterReturn h = refl
+
+less-cut-grows : (n m : StyleScan) → StyleScanBelow n m → style_less_cut m ≡ None → style_less_cut n ≡ None
+less-cut-grows _ _ (below_itself n) h = h
+less-cut-grows _ _ (below_tails x y e) h = refl
+less-cut-grows _ _ (below_split_word w e) h = split-less-grows e h
+less-cut-grows _ _ below_star h = refl
+less-cut-grows _ _ (below_bare s r t e) h = h
+less-cut-grows _ _ (below_quoted q e s r t i) h = h
+
+less-cause-grows : (n m : StyleScan) → StyleScanBelow n m → style_less_cause m ≡ None → style_less_cause n ≡ None
+less-cause-grows n m l h =
+    ap (λ (o : Option StyleCutRefusal). option_map cut_cause (option_map style_cut o))
+    (less-cut-grows n m l (no_map style_cut (style_less_cut m) (no_map cut_cause (option_map style_cut (style_less_cut m)) h)))
+
+split-grows : (h : Pending) (n m : StyleScan) → StyleScanBelow n m → split_error style_less_cause m h ≡ None → split_error style_less_cause n h ≡ None
+split-grows PendingLess n m l e = less-cause-grows n m l e
+split-grows Nothing n m l e = e
+split-grows LessAtCut n m l e = e
+split-grows (PendingName letters) n m l e = e
+split-grows PendingBang n m l e = e
+split-grows PendingBangDash n m l e = e
+
+element-cut-grows : (h : Pending) (n m : StyleScan) → StyleScanBelow n m → scan_cut_error (InStyleElement m h) ≡ None → scan_lexeme_error (InStyleElement m h) ≡ None
+    → Ends (InStyleElement n h) (InStyleElement m h)
+element-cut-grows h n m l e f =
+    let bytes = pending_bytes h in
+    let a = feed_bytes style_feeding n bytes in
+    let d = feed_bytes style_feeding m bytes in
+    let p = first-caused (pending_error style_feeding m bytes) (split_error style_less_cause m h) e in
+    let g = fed-beside styles-beside bytes true (length bytes) n m l p.0 in
+    let k : style_scan_cut_error d ≡ None = no_map (λ (o : StyleCutRefusal). style_code o.code) (style_scan_cut_error d) f in (
+      ap (λ (o : Option PathCause). first_cause o (split_error style_less_cause n h)) g.0 ∙ split-grows h n m l p.1,
+      unfinished-none a ((styles-grow.scans a d g.1).cut_error ∙ k),
+      style-place-below (style_scan_place a) (style_scan_place d) (styles-grow.scans a d g.1).place,
+    )
+
+element-start-ends : (n : StyleScan) (d : Css) → StyleScanBelow n (style_scan_start d) → Ends (InStyleElement n Nothing) (At (place.Style d))
+element-start-ends n d l =
+    let g = scan-below-start n d l in
+    (refl, unfinished-none n g.0, style-place-below (style_scan_place n) d g.1)
+
+element-ends-to : (s : StyleScan) (x : Pending) (g : Scan) → ElementUnder s x g → scan_cut_error g ≡ None → scan_lexeme_error g ≡ None → Ends (InStyleElement s x) g
+element-ends-to s x g u n o =
+    under-element (λ f. scan_cut_error f ≡ None → scan_lexeme_error f ≡ None → Ends (InStyleElement s x) f) s x g u
+    (λ m l e k. element-cut-grows x s m l e k)
+    (λ d i l e k. subst (λ (z : Pending). Ends (InStyleElement s z) (At (place.Style d))) (sym i) (element-start-ends s d l)) n o
+
 pub end-grows : (f g : Scan) → ScanBelow f g → scan_cut_error g ≡ None → scan_lexeme_error g ≡ None → Ends f g
 end-grows (At x) (At y) h n m = (refl, refl, h)
 end-grows (InUrl x t r) (InUrl y u z) h n m = url-ends x y t u r z h.0 h.1 h.2 n m
@@ -834,6 +981,7 @@ end-grows (At x) (InTagName ends name) h n m = absurd h
 end-grows (At x) (InAttributeName w y l) h n m = absurd h
 end-grows (At x) (InCommentEnd s) h n m = absurd h
 end-grows (At x) (InContentEnd e y) h n m = absurd h
+end-grows (At x) (InStyleElement e y) h n m = absurd h
 end-grows (At x) (BeforeType w) h n m = absurd h
 end-grows (At x) (InType w q v k) h n m = absurd h
 end-grows (At x) (InStyle w s k) h n m = absurd h
@@ -845,6 +993,7 @@ end-grows (InUrl x t r) (InTagName ends name) h n m = absurd h
 end-grows (InUrl x t r) (InAttributeName w y l) h n m = absurd h
 end-grows (InUrl x t r) (InCommentEnd s) h n m = absurd h
 end-grows (InUrl x t r) (InContentEnd e y) h n m = absurd h
+end-grows (InUrl x t r) (InStyleElement e y) h n m = absurd h
 end-grows (InUrl x t r) (BeforeType w) h n m = absurd h
 end-grows (InUrl x t r) (InType w q v k) h n m = absurd h
 end-grows (InUrl x t r) (InStyle w s k) h n m = absurd h
@@ -856,6 +1005,7 @@ end-grows (InAttributeName t x o) (InDeclaration pending) h n m = absurd h
 end-grows (InAttributeName t x o) (InTagName ends name) h n m = absurd h
 end-grows (InAttributeName t x o) (InCommentEnd s) h n m = absurd h
 end-grows (InAttributeName t x o) (InContentEnd e y) h n m = absurd h
+end-grows (InAttributeName t x o) (InStyleElement e y) h n m = absurd h
 end-grows (InAttributeName t x o) (BeforeType w) h n m = absurd h
 end-grows (InAttributeName t x o) (InType w q v k) h n m = absurd h
 end-grows (InAttributeName t x o) (InStyle w s k) h n m = absurd h
@@ -868,6 +1018,7 @@ end-grows (InStyle x s r) (InTagName d e) h n o = absurd h
 end-grows (InStyle x s r) (InAttributeName d e k) h n o = absurd h
 end-grows (InStyle x s r) (InCommentEnd d) h n o = absurd h
 end-grows (InStyle x s r) (InContentEnd d e) h n o = absurd h
+end-grows (InStyle x s r) (InStyleElement d e) h n o = absurd h
 end-grows (InStyle x s r) (BeforeType d) h n o = absurd h
 end-grows (InStyle x s r) (InType d e k l) h n o = absurd h
 end-grows (InStyle x s r) (InUrl d e k) h n o = absurd h
@@ -877,5 +1028,6 @@ end-grows (InDeclaration pending) g h n m = same-ends (InDeclaration pending) g 
 end-grows (InTagName ends name) g h n m = same-ends (InTagName ends name) g h n m
 end-grows (InCommentEnd s) g h n m = same-ends (InCommentEnd s) g h n m
 end-grows (InContentEnd e x) g h n m = same-ends (InContentEnd e x) g h n m
+end-grows (InStyleElement s x) g h n m = element-ends-to s x g h n m
 end-grows (BeforeType t) g h n m = same-ends (BeforeType t) g h n m
 end-grows (InType t q w r) g h n m = same-ends (InType t q w r) g h n m

@@ -27,19 +27,19 @@ use Rattle.place_core.proofs.Joins.{places_same}
 use Rattle.place_core.specs.declared.tag_place.TagPlace.{TagPlace}
 use Rattle.place_core.specs.declared.value_place.ValuePlace.{ValuePlace}
 use Rattle.place_core.proofs.Semilattices.{none_some, one_value}
-use Rattle.html_scan.specs.Scans.{Scan, At, AfterLess, AfterLessSolidus, InDeclaration, InTagName, InAttributeName, InUrl, InStyle, InCommentEnd, InContentEnd, open_cut_error, body_cause, parts_feeding, place_cause, quoted_error, scan_cut_error, scan_error, scan_lexeme_error, value_cause, BeforeType, InType, parts_with, triple_behind, url_scan, scan_reference}
+use Rattle.html_scan.specs.Scans.{Scan, At, AfterLess, AfterLessSolidus, InDeclaration, InTagName, InAttributeName, InUrl, InStyle, InStyleElement, InCommentEnd, InContentEnd, open_cut_error, body_cause, parts_feeding, place_cause, quoted_error, scan_cut_error, scan_error, scan_lexeme_error, value_cause, BeforeType, InType, parts_with, triple_behind, url_scan}
 use Rattle.html_step.specs.Laws.{EvidenceData, apart, one, two}
 use Rattle.html_step.specs.Origins.{bare_shows, body_or_quotes, body_parts, body_refusal_shows, byte_shows, colon_shows, end_shows, is_apart, name_origin, place_shows, quotes_show, scan_parts, tag_shows, url_shows, value_shows}
 use Rattle.html_step.proofs.BelowScans.{IsRigid, below-at, below-at-comment, below-at-tag, below-at-unstyled, below-attribute, below-url, tag-name-rigid, whole-in, below-at-block, before-type-rigid, content-end-rigid, type-rigid}
 use Rattle.html_step.proofs.ApartParts.{IsAmbiguous, apart-inside, bytes-stay, hole-before, hole-bytes, no-colon-fed, or-not}
 use Rattle.html_step.proofs.Characters.{ReferencePlain, stands-no-colon}
+use Rattle.html_step.proofs.ElementShown.{element-cut, element-lexeme, element-place-shown, element-shown}
 use Rattle.html_step.proofs.FromParts.{or-behind, or-either, or-first}
 use Rattle.html_step.proofs.FromSteps.{no, or-false, untyped-rigid}
 use Rattle.html_step.proofs.FromValues.{in-body, out-part, value_has}
-use Rattle.html_step.proofs.ScanOrder.{HasBegun, BegunWhereOpen, ScanBelow, ScanHas, ScanValid, StyleUnderPlace, Unstyled, bare-parts, begun-open, begun-valid, cause-accepts, kind-of-some, parts-below, parts-of-below, some-none, within-unstyled}
+use Rattle.html_step.proofs.ScanOrder.{HasBegun, BegunWhereOpen, ScanHas, ScanValid, Unstyled, bare-parts, begun-open, begun-valid, cause-accepts, kind-of-some, parts-below, parts-of-below, some-none, within-unstyled}
 use Rattle.html_step.proofs.ShownBytes.{ApartShown, ShownByte, ShownCut, ShownLexeme, TwoShown, by_colon, by_white}
 use Rattle.html_step.proofs.StyleShownSteps.{cut-style, lexeme-shown, lexeme-style, place-shown}
-use Rattle.css_step.specs.StyleScans.{StyleScan}
 use Rattle.html_step.proofs.ReadScans.{Behind, Broken, quoted-read, read_turn, read_value}
 use Rattle.html_step.proofs.UrlScans.{ScanPlain, reference_length}
 use Rattle.html_step.proofs.ShownUrls.{UrlShown, on_behind, on_each, on_first, quoted-shown, same-quoted}
@@ -476,13 +476,10 @@ script-error : (j : _) (c : Class) (b : ℕ) (a : Place) → Below a (place.Scri
 script-error j c b (place.Script i) h = refl
 script-error j c b _ h = absurd (none_some (place.Script j) h)
 
-style-error : (j : _) (c : Class) (b : ℕ) (a : Place) → Below a (place.Style j) → place_cause a c b ≡ at_hand (Some code.NotBuilt)
-style-error j c b (place.Style i) h = refl
-style-error j c b _ h = absurd (none_some (place.Style j) h)
-
-evidence-unbuilt : (p : Place) (c : Class) (b : ℕ) (e : PathCause) → ((a : Place) → Below a p → place_cause a c b ≡ at_hand (Some code.NotBuilt))
-    → ((u : ValuePlace) (n : StyleScan) → StyleUnderPlace u n p → ⊥) → at_hand (Some code.NotBuilt) ≡ Some e → ShownByte (At p) c b e (one member.Whole)
-evidence-unbuilt p c b e f k h = (refl, λ g v l o i. below-at (λ (g : Scan). scan_error g c b ≡ Some e) p (λ a l. f a l ∙ h) (λ u n z. absurd (k u n z)) g l)
+evidence-unbuilt : (j : _) (c : Class) (b : ℕ) (e : PathCause) → at_hand (Some code.NotBuilt) ≡ Some e
+    → ShownByte (At (place.Script j)) c b e (one member.Whole)
+evidence-unbuilt j c b e h =
+    (refl, λ g v l o i. below-at (λ (g : Scan). scan_error g c b ≡ Some e) (place.Script j) (λ a l. script-error j c b a l ∙ h) (λ u n z. absurd z) (λ n z. absurd z) g l)
 
 -- In a value.
 evidence-value : (v : ValuePlace) (c : Class) (b : ℕ) (e : PathCause) (x : Body) → c ≡ class_of b → v.body ≡ x
@@ -500,8 +497,8 @@ evidence-place (place.Comment dash) c b e k v h = evidence-comment dash c b e h
 evidence-place (place.Rcdata x) c b e k v h = absurd (none_some e h)
 evidence-place (place.Tag t) c b e k v h = evidence-tag-byte t c b e v h
 evidence-place (place.Value x) c b e k v h = evidence-value x c b e x.body k refl h
-evidence-place (place.Script j) c b e k v h = evidence-unbuilt (place.Script j) c b e (script-error j c b) (λ u n z. z) h
-evidence-place (place.Style j) c b e k v h = evidence-unbuilt (place.Style j) c b e (style-error j c b) (λ u n z. z) h
+evidence-place (place.Script j) c b e k v h = evidence-unbuilt j c b e h
+evidence-place (place.Style j) c b e k v h = element-place-shown j c b e h
 evidence-place (place.Block less) c b e k v h = evidence-block less c b e h
 
 evidence-attribute : (t : TagOf) (typed : Bool) (name : List ℕ) (c : Class) (b : ℕ) (e : PathCause)
@@ -525,6 +522,7 @@ evidence-byte (InUrl w t r) c b e k v n h =
     in-url w t r c b e (value_shows w r c b)
     (evidence-value-byte w (InUrl w t r) r c b e (λ y o. o) (λ z bytes i. (t, ap (InUrl w t) i)) k (begun-open r w.quotes v.0) n (within-unstyled w.body v.1) h)
 evidence-byte (InStyle w s r) c b e k v n h = lexeme-shown w s r c b e k v.0 v.1 n h
+evidence-byte (InStyleElement s x) c b e k v n h = element-shown s x c b e v.1 h
 evidence-byte (InCommentEnd s) c b e k v n h = absurd (none_some e h)
 evidence-byte (InContentEnd x y) c b e k v n h = evidence-rigid (InContentEnd x y) c b e (content-end-rigid x y) h
 evidence-byte (BeforeType t) c b e k v n h = evidence-rigid (BeforeType t) c b e (before-type-rigid t) h
@@ -576,19 +574,20 @@ cut-url : (b : Body) (r : Reference) → ReferencePlain r → open_cut_error b (
 cut-url (body.Url s) r n = no-colon-fed (as_it_stands r) s true (length (as_it_stands r)) (stands-no-colon r n)
 cut-url _ r n = refl
 
-pub evidence-cut : (f : Scan) (e : PathCause) → ScanPlain f → scan_cut_error f ≡ Some e → ShownCut f e (end_shows f)
-evidence-cut (InAttributeName t typed name) e n h = cut-attribute t typed name e h
-evidence-cut (InUrl v t r) e n h = absurd (none_some e (sym (cut-url v.body r n) ∙ h))
-evidence-cut (At p) e n h = absurd (none_some e h)
-evidence-cut AfterLess e n h = absurd (none_some e h)
-evidence-cut AfterLessSolidus e n h = absurd (none_some e h)
-evidence-cut (InDeclaration pending) e n h = absurd (none_some e h)
-evidence-cut (InTagName end name) e n h = absurd (none_some e h)
-evidence-cut (InCommentEnd s) e n h = absurd (none_some e h)
-evidence-cut (InContentEnd x y) e n h = cut-rigid (InContentEnd x y) e (content-end-rigid x y) h
-evidence-cut (BeforeType t) e n h = cut-rigid (BeforeType t) e (before-type-rigid t) h
-evidence-cut (InStyle w s r) e n h = cut-style w s r e n h
-evidence-cut (InType t q w r) e n h = cut-rigid (InType t q w r) e (type-rigid t q w r) h
+pub evidence-cut : (f : Scan) (e : PathCause) → ScanValid f → ScanPlain f → scan_cut_error f ≡ Some e → ShownCut f e (end_shows f)
+evidence-cut (InAttributeName t typed name) e v n h = cut-attribute t typed name e h
+evidence-cut (InUrl w t r) e v n h = absurd (none_some e (sym (cut-url w.body r n) ∙ h))
+evidence-cut (At p) e v n h = absurd (none_some e h)
+evidence-cut AfterLess e v n h = absurd (none_some e h)
+evidence-cut AfterLessSolidus e v n h = absurd (none_some e h)
+evidence-cut (InDeclaration pending) e v n h = absurd (none_some e h)
+evidence-cut (InTagName end name) e v n h = absurd (none_some e h)
+evidence-cut (InCommentEnd s) e v n h = absurd (none_some e h)
+evidence-cut (InContentEnd x y) e v n h = cut-rigid (InContentEnd x y) e (content-end-rigid x y) h
+evidence-cut (BeforeType t) e v n h = cut-rigid (BeforeType t) e (before-type-rigid t) h
+evidence-cut (InStyle w s r) e v n h = cut-style w s r e n h
+evidence-cut (InStyleElement s x) e v n h = element-cut s x e v.1 h
+evidence-cut (InType t q w r) e v n h = cut-rigid (InType t q w r) e (type-rigid t q w r) h
 
 pub evidence-lexeme : (f : Scan) (e : Code) → ScanPlain f → scan_cut_error f ≡ None → scan_lexeme_error f ≡ Some e → ShownLexeme f e (end_shows f)
 evidence-lexeme (InUrl v t r) e n m h = record {
@@ -596,6 +595,7 @@ evidence-lexeme (InUrl v t r) e n m h = record {
   refuses = λ g l o. below-url (λ (g : Scan). (scan_cut_error g ≡ None) × (scan_lexeme_error g ≡ Some e)) v t r (λ u l. (cut-url u.body r n, h)) g l;
 }
 evidence-lexeme (InStyle v s r) e n m h = lexeme-style v s r e m h
+evidence-lexeme (InStyleElement s x) e n m h = element-lexeme s x e m h
 evidence-lexeme (InAttributeName t typed name) e n m h = absurd (none_some e h)
 evidence-lexeme (At p) e n m h = absurd (none_some e h)
 evidence-lexeme AfterLess e n m h = absurd (none_some e h)

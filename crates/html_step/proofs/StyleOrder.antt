@@ -23,7 +23,7 @@ use Rattle.url_lexer.specs.Triples.{Triple, NoTriple, AfterPercent, AfterDigit}
 no : false ≡ true → ⊥
 no e = cc
 
-none-refused : (m : StyleScan) (b : ℕ) → style_feeding.refuses m b ≡ None → style_scan_error m (style_class b) b ≡ None
+pub none-refused : (m : StyleScan) (b : ℕ) → style_feeding.refuses m b ≡ None → style_scan_error m (style_class b) b ≡ None
 none-refused m b e = no_map style_code (style_scan_error m (style_class b) b) e
 
 pub styles-beside : FedBeside style_feeding style_feeding StyleScanBelow

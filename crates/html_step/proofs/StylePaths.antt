@@ -110,10 +110,10 @@ abbrev pub style_value : Tag → Quotes → ValuePlace
 style_value t q = record { tag = t.tag; typed = t.typed; quotes = q; body = body.Css empty_css }
 
 -- A start is where a text begins at its place, and no lexeme is open there.
-start-of : (n : StyleScan) → is_style_start n ≡ true → style_scan_start (style_scan_place n) ≡ n
+pub start-of : (n : StyleScan) → is_style_start n ≡ true → style_scan_start (style_scan_place n) ≡ n
 start-of n h = empty-texts-keep-styles.starts n h
 
-start-whole : (n : StyleScan) → is_style_start n ≡ true → style_scan_cut_error n ≡ None
+pub start-whole : (n : StyleScan) → is_style_start n ≡ true → style_scan_cut_error n ≡ None
 start-whole n h =
     ap style_scan_cut_error (sym (start-of n h)) ∙ (empty-texts-keep-styles.places (style_scan_place n)).cut_error
 
@@ -308,7 +308,7 @@ hole-by v n i h = record {
   after = λ e. body-after-hole v n i (sym (one-style v n i).cut_error ∙ start-whole n h) (sym (one-style v n i).hole_error ∙ e);
 }
 
-one-css : (c d : Css) → body.Css c ≡ body.Css d → c ≡ d
+pub one-css : (c d : Css) → body.Css c ≡ body.Css d → c ≡ d
 one-css c d e = cc
 
 pub style-hole : (v : Style Url) (c : Css) → style_body v ≡ Some (body.Css c) → StyleHole v c
@@ -321,7 +321,7 @@ abbrev pub StandsHere : Option PathCause → Type 0
 StandsHere None = Unit {0}
 StandsHere (Some x) = (x.back ≡ 0) ⊎ (x.shown ≡ 0)
 
-first-here : (o p : Option PathCause) → StandsHere (first_cause o p) → StandsHere o
+pub first-here : (o p : Option PathCause) → StandsHere (first_cause o p) → StandsHere o
 first-here None p h = tt
 first-here (Some x) p h = h
 

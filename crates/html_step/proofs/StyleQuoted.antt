@@ -1,21 +1,20 @@
 -- What a style refuses of a byte of the text, between quotes and with references undone, and what shows it.
-use Rattle.std.proofs.Common.{◌≡◌, ◌≤◌, ℕ, ◌+◌, Bool, true, false, ◌&&◌, List, [], ◌∷◌, length, Option, Some, None, option_map, is_some, if◌then◌else◌, refl, sym, ap, ◌∙◌, subst, arith, ◌⊎◌, inl, inr}
+use Rattle.std.proofs.Common.{◌≡◌, ◌≤◌, ℕ, ◌+◌, Bool, true, false, ◌&&◌, List, [], ◌∷◌, ◌++◌, length, Option, Some, None, option_map, if◌then◌else◌, refl, sym, ap, ◌∙◌, subst, arith}
 use Rattle.std.specs.Prelude.{encode_utf8}
 use Rattle.css_lexer.specs.Classes.{style_class}
 use Rattle.css_lexer.specs.RefusalCodes.{RefusalCode}
 use Rattle.css_lexer.specs.declared.class.StyleClass.{StyleClass}
 use Rattle.css_lexer.specs.declared.class.StyleClass.TheVariants as class
 use Rattle.css_step.specs.StyleOrigins.{style_scan_has, style_scan_parts}
-use Rattle.css_step.specs.StyleScans.{StyleScan, ScanBareUrl, ScanQuotedUrl, style_between, style_tails_error}
+use Rattle.css_step.specs.StyleScans.{StyleScan, style_between, style_tails_error}
 use Rattle.css_step.specs.StyleSetLaws.{StyleScanBelow}
 use Rattle.place_core.proofs.Semilattices.{none_some, one_value}
 use Rattle.place_core.specs.page.Classes.{Class, White, QuotationMark, Apostrophe, GreaterThan, class_of, is_equals_sign}
 use Rattle.place_core.specs.page.Html.{ends_value}
-use Rattle.place_core.specs.page.References.{Form, Reference, Closed, Open, ReferenceStep, Grows, Closes, Breaks, flushed, meaning, plain_bytes, turn, undone_byte}
+use Rattle.place_core.specs.page.References.{Form, Reference, Closed, Open, ReferenceStep, Grows, Closes, Breaks, flushed, meaning, plain_bytes, turn, turn_bytes, undone_byte}
 use Rattle.place_core.specs.page.Tags.{feed_bytes, style_code, Quoting, DoubleQuoted, SingleQuoted, Unquoted}
 use Rattle.place_core.specs.place.Errors.{PathCause, cause_back, fed_error, first_byte_error, first_cause, flushed_error, is_unknown_name, is_written, language_error, name_error, turned_error}
-use Rattle.place_core.specs.place.LanguagePlaces.{parts_have}
-use Rattle.place_core.specs.place.Places.{is_whole, joined_quotes}
+use Rattle.place_core.specs.place.Places.{joined_quotes}
 use Rattle.place_core.specs.place.StyleParts.{style_tails}
 use Rattle.place_core.specs.declared.bare.Bare.{Bare}
 use Rattle.place_core.specs.declared.code.Code.TheVariants as code
@@ -24,22 +23,18 @@ use Rattle.place_core.specs.declared.member.Member.TheVariants as member
 use Rattle.place_core.specs.declared.parts.Parts.{Parts}
 use Rattle.place_core.specs.declared.quotes.Quotes.{Quotes}
 use Rattle.place_core.specs.declared.quotes.Quotes.TheVariants as quotes
-use Rattle.html_scan.specs.Scans.{parts_feeding, quoted_error, style_feeding}
+use Rattle.html_scan.specs.Scans.{quoted_error, style_feeding}
 use Rattle.html_step.specs.Laws.{EvidenceData, apart, one}
 use Rattle.html_step.specs.Origins.{is_apart, style_fed_shown}
-use Rattle.html_step.proofs.ApartParts.{apart-inside, arise-in, bytes-stay}
 use Rattle.html_step.proofs.Characters.{NoColon, ReferencePlain, flushed-character, plain-character, utf8-character}
 use Rattle.html_step.proofs.FedAlike.{BegunIf}
-use Rattle.html_step.proofs.FromParts.{or-behind}
 use Rattle.html_step.proofs.OwnStyles.{has_begun}
 use Rattle.html_step.proofs.PlaceParts.{Under}
 use Rattle.html_step.proofs.ScanOrder.{BegunWhereOpen, bare-parts}
 use Rattle.html_step.proofs.ShownUrls.{is_quote, quote-no-colon}
-use Rattle.html_step.proofs.StyleFedShown.{BeginsColon, FedShown, NotHtml, character-fed, fed-back, fed_apart, fed_one, kept-fed, none-fed}
-use Rattle.html_step.proofs.StyleOrder.{style-fed-grow}
+use Rattle.html_step.proofs.StyleFedShown.{BeginsColon, FedShown, NotHtml, character-fed, fed-back, fed_apart, fed_one}
 use Rattle.html_step.proofs.StyleOriginSteps.{style-breaks-shown, style-closes-shown}
-use Rattle.html_step.proofs.StyleUrls.{KnownUrl, StaysInUrl, below-in-url, feeds, known-fed, known-unmet, known_none, stays-parts, stays-same}
-use Rattle.html_step.proofs.StyleValues.{style-fed-taken}
+use Rattle.html_step.proofs.StyleRuns.{RunError, RunShown, run-shown, run_member, run_met, run_two}
 use Rattle.html_step.proofs.UrlScans.{reference_length}
 use Rattle.url_step.specs.PartSets.{spells_apart}
 
@@ -122,135 +117,39 @@ broken-first n f bytes c b equals e refuses t i a goes h =
     (character-fed xs n written (length bytes + 1) e (flushed-character equals f bytes a) h)
 
 -- the byte behind it, where the text of the reference is not refused
-behind-broken : (y : EvidenceData) (n : StyleScan) (f : Form) (bytes : List ℕ) (c : Class) (b : ℕ) → turn c f ≡ Breaks
-    → style_fed_shown (flushed true (is_equals_sign c) f bytes) n ≡ None
-    → style_fed_shown (plain_bytes c b) (feed_bytes style_feeding n (flushed true (is_equals_sign c) f bytes)) ≡ Some y
-    → style_fed_shown (undone_byte true (Open f bytes) c b) n ≡ Some y
-behind-broken y n f bytes c b t h i =
-    sym (style-breaks-shown None (Some y) n (feed_bytes style_feeding n (flushed true (is_equals_sign c) f bytes)) f bytes c b
-    (is_equals_sign c) t refl refl
-    (sym h) (sym i))
-
--- the parts of a URL are members of its scan state
-parts-member : (n : StyleScan) (s : Parts) (y : Member) → style_scan_parts n ≡ Some s → parts_have s y ≡ true → style_scan_has n y ≡ true
-parts-member (ScanBareUrl r t) s y i h =
-    or-behind (is_whole y) (parts_have r y) (subst (λ (z : Parts). parts_have z y ≡ true) (sym (one_value r s i)) h)
-parts-member (ScanQuotedUrl q z r t) s y i h =
-    or-behind (is_whole y) (parts_have r y) (subst (λ (z : Parts). parts_have z y ≡ true) (sym (one_value r s i)) h)
-parts-member n s y i h = absurd (none_some s i)
-
--- paths that met apart before bytes of the URL are so behind them
-met-behind : (xs : List ℕ) (k n : StyleScan) (s : Parts) → StyleScanBelow k n → style_scan_parts n ≡ Some s → StaysInUrl n xs
-    → is_apart (style_scan_parts (feed_bytes style_feeding n xs)) ≡ true → is_apart (style_scan_parts k) ≡ true
-    → is_apart (style_scan_parts (feed_bytes style_feeding k xs)) ≡ true
-met-behind xs k n s l i w h o =
-    let d = below-in-url k n s l i in
-    let behind : spells_apart (feed_bytes parts_feeding s xs).opened ≡ true = sym (ap is_apart (stays-parts xs n s i w)) ∙ h in
-    let own : spells_apart d.0.opened ≡ true = sym (ap is_apart d.1) ∙ o in
-    ap is_apart (stays-parts xs k d.0 d.1 (stays-same xs k n d.2.same w))
-    ∙ (bytes-stay xs s d.0 (apart-inside (feed_bytes parts_feeding s xs) behind)).met own
-
-abbrev Flushed : Form → List ℕ → Class → List ℕ
-Flushed f bytes c = flushed true (is_equals_sign c) f bytes
-
 abbrev BehindError : StyleScan → Form → List ℕ → Class → ℕ → Option PathCause
 BehindError k f bytes c b =
-    first_cause (flushed_error style_feeding k (is_equals_sign c) f bytes)
-    (fed_error style_feeding (feed_bytes style_feeding k (Flushed f bytes c)) (plain_bytes c b) false 0)
+    RunError k (flushed true (is_equals_sign c) f bytes) (is_written (is_equals_sign c) f bytes) (length bytes + 1) (plain_bytes c b)
 
--- What is known where the byte behind the text is refused.
-record BehindRefused (n : StyleScan) (f : Form) (bytes : List ℕ) (c : Class) (b : ℕ) (e : PathCause) : Type 0 where
-  turns : turn c f ≡ Breaks
-  plain : NoColon bytes
-  taken : flushed_error style_feeding n (is_equals_sign c) f bytes ≡ None
-  shown : style_fed_shown (Flushed f bytes c) n ≡ None
-  back : e.back ≤ 0
+behind-shown : (y : EvidenceData) (n : StyleScan) (f : Form) (bytes : List ℕ) (c : Class) (b : ℕ) → turn c f ≡ Breaks
+    → style_fed_shown (flushed true (is_equals_sign c) f bytes ++ plain_bytes c b) n ≡ Some y
+    → style_fed_shown (undone_byte true (Open f bytes) c b) n ≡ Some y
+behind-shown y n f bytes c b t h = ap (λ (z : ReferenceStep). style_fed_shown (turn_bytes true z f bytes c b) n) t ∙ h
 
-behind-error : (k n : StyleScan) (f : Form) (bytes : List ℕ) (c : Class) (b : ℕ) (e : PathCause) → BehindRefused n f bytes c b e → StyleScanBelow k n
-    → fed_error style_feeding (feed_bytes style_feeding k (Flushed f bytes c)) (plain_bytes c b) false 0 ≡ Some e → BehindError k f bytes c b ≡ Some e
-behind-error k n f bytes c b e d l h =
-    ap (λ (o : Option PathCause). first_cause o (fed_error style_feeding (feed_bytes style_feeding k (Flushed f bytes c)) (plain_bytes c b) false 0))
-    (style-fed-grow (Flushed f bytes c) (is_written (is_equals_sign c) f bytes) (length bytes + 1) k n l d.taken).0 ∙ h
-
-below-behind : (k n : StyleScan) (f : Form) (bytes : List ℕ) (c : Class) (b : ℕ) (e : PathCause) → BehindRefused n f bytes c b e → StyleScanBelow k n
-    → StyleScanBelow (feed_bytes style_feeding k (Flushed f bytes c)) (feed_bytes style_feeding n (Flushed f bytes c))
-below-behind k n f bytes c b e d l =
-    (style-fed-grow (Flushed f bytes c) (is_written (is_equals_sign c) f bytes) (length bytes + 1) k n l d.taken).1
-
-abbrev MetBehind : StyleScan → Form → List ℕ → Class → ℕ → PathCause → Type 0
-MetBehind m f bytes c b e =
-    (k : StyleScan) → StyleScanBelow k m → is_apart (style_scan_parts k) ≡ true → fed_error style_feeding k (plain_bytes c b) false 0 ≡ Some e
-
--- where paths met apart behind the text: they did so before it, or meet in it
-met-by : (y : Bool) (n : StyleScan) (s : Parts) (f : Form) (bytes : List ℕ) (c : Class) (b : ℕ) (e : PathCause) → BehindRefused n f bytes c b e
-    → spells_apart s.opened ≡ y → style_scan_parts n ≡ Some s → StaysInUrl n (Flushed f bytes c)
-    → style_fed_shown (plain_bytes c b) (feed_bytes style_feeding n (Flushed f bytes c)) ≡ Some apart
-    → is_apart (style_scan_parts (feed_bytes style_feeding n (Flushed f bytes c))) ≡ true → e.code ≡ code.AmbigContext
-    → MetBehind (feed_bytes style_feeding n (Flushed f bytes c)) f bytes c b e → StyleShown n (Open f bytes) c b e (λ k. BehindError k f bytes c b)
-met-by true n s f bytes c b e d i p w is there code on =
-    let xs = Flushed f bytes c in
-    let back = d.back in
-    on_met (behind-broken apart n f bytes c b d.turns d.shown is) (ap is_apart p ∙ i) (λ j. not-closed f bytes j) code (omega (arith, back))
-    (λ k l o. behind-error k n f bytes c b e d l
-    (on (feed_bytes style_feeding k xs) (below-behind k n f bytes c b e d l) (met-behind xs k n s l p w there o)))
-met-by false n s f bytes c b e d i p w is there code on =
-    let xs = Flushed f bytes c in
-    let behind : spells_apart (feed_bytes parts_feeding s xs).opened ≡ true = sym (ap is_apart (stays-parts xs n s p w)) ∙ there in
-    let a = (arise-in xs s (flushed-character (is_equals_sign c) f bytes d.plain) i behind).arise in
-    on_two s f bytes refl p d.turns d.taken i (behind-broken apart n f bytes c b d.turns d.shown is) is there code
-    (parts-member n s member.PartStart p a.start) (parts-member n s member.PartOpen p (ap is_some a.opened))
-
-not-met : {A : Type 0} (xs : List ℕ) (n : StyleScan) → KnownUrl (feed_bytes style_feeding n xs)
-    → is_apart (style_scan_parts (feed_bytes style_feeding n xs)) ≡ true → A
-not-met xs n k h = absurd (no (sym (known-unmet (feed_bytes style_feeding n xs) k) ∙ h))
-
-met-or-known : (n : StyleScan) (s : Parts) (f : Form) (bytes : List ℕ) (c : Class) (b : ℕ) (e : PathCause) → BehindRefused n f bytes c b e
-    → style_scan_parts n ≡ Some s → StaysInUrl n (Flushed f bytes c) ⊎ KnownUrl (feed_bytes style_feeding n (Flushed f bytes c))
-    → style_fed_shown (plain_bytes c b) (feed_bytes style_feeding n (Flushed f bytes c)) ≡ Some apart
-    → is_apart (style_scan_parts (feed_bytes style_feeding n (Flushed f bytes c))) ≡ true → e.code ≡ code.AmbigContext
-    → MetBehind (feed_bytes style_feeding n (Flushed f bytes c)) f bytes c b e → StyleShown n (Open f bytes) c b e (λ k. BehindError k f bytes c b)
-met-or-known n s f bytes c b e d p (inl w) is there code on = met-by (spells_apart s.opened) n s f bytes c b e d refl p w is there code on
-met-or-known n s f bytes c b e d p (inr k) is there code on = not-met (Flushed f bytes c) n k there
-
-met-in : (o : Option Parts) (n : StyleScan) (f : Form) (bytes : List ℕ) (c : Class) (b : ℕ) (e : PathCause) → BehindRefused n f bytes c b e
-    → style_scan_parts n ≡ o
-    → style_fed_shown (plain_bytes c b) (feed_bytes style_feeding n (Flushed f bytes c)) ≡ Some apart
-    → is_apart (style_scan_parts (feed_bytes style_feeding n (Flushed f bytes c))) ≡ true → e.code ≡ code.AmbigContext
-    → MetBehind (feed_bytes style_feeding n (Flushed f bytes c)) f bytes c b e → StyleShown n (Open f bytes) c b e (λ k. BehindError k f bytes c b)
-met-in (Some s) n f bytes c b e d p is there code on = met-or-known n s f bytes c b e d p (feeds (Flushed f bytes c) n s p) is there code on
-met-in None n f bytes c b e d p is there code on = not-met (Flushed f bytes c) n (known-fed (Flushed f bytes c) n (known_none p)) there
-
-broken-behind : (n : StyleScan) (f : Form) (bytes : List ℕ) (c : Class) (b : ℕ) (e : PathCause) → BehindRefused n f bytes c b e
-    → FedShown (plain_bytes c b) (feed_bytes style_feeding n (Flushed f bytes c)) false 0 e
+broken-behind : (n : StyleScan) (f : Form) (bytes : List ℕ) (c : Class) (b : ℕ) (e : PathCause) → turn c f ≡ Breaks
+    → flushed_error style_feeding n (is_equals_sign c) f bytes ≡ None
+    → RunShown n (flushed true (is_equals_sign c) f bytes) (is_written (is_equals_sign c) f bytes) (length bytes + 1) (plain_bytes c b) e
     → StyleShown n (Open f bytes) c b e (λ k. BehindError k f bytes c b)
-broken-behind n f bytes c b e d (fed_one r) =
-    let xs = Flushed f bytes c in
-    let kept = kept-fed xs n r.member r.shower (style-fed-taken xs n (is_written (is_equals_sign c) f bytes) (length bytes + 1) d.taken) r.there in
-    on_member r.member (behind-broken (one r.member) n f bytes c b d.turns d.shown r.is) kept.there r.code
-    (λ k l o. behind-error k n f bytes c b e d l
-    (r.refuses (feed_bytes style_feeding k xs) (below-behind k n f bytes c b e d l) (kept.leads k l o)))
-broken-behind n f bytes c b e d (fed_apart is there colon code on) = met-in (style_scan_parts n) n f bytes c b e d refl is there code on
+broken-behind n f bytes c b e t i (run_member x is there nh refuses) = on_member x (behind-shown (one x) n f bytes c b t is) there nh refuses
+broken-behind n f bytes c b e t i (run_met is there code back refuses) =
+    on_met (behind-shown apart n f bytes c b t is) there (λ j. not-closed f bytes j) code (omega (arith, back)) refuses
+broken-behind n f bytes c b e t i (run_two s p not-yet is behind came code starts opens) =
+    on_two s f bytes refl p t i not-yet (behind-shown apart n f bytes c b t is) behind came code starts opens
 
 breaks-by : (o : Option PathCause) (n : StyleScan) (f : Form) (bytes : List ℕ) (c : Class) (b : ℕ) (e : PathCause) → NoColon bytes → turn c f ≡ Breaks
     → flushed_error style_feeding n (is_equals_sign c) f bytes ≡ o
-    → first_cause o (fed_error style_feeding (feed_bytes style_feeding n (Flushed f bytes c)) (plain_bytes c b) false 0) ≡ Some e
+    → first_cause o (fed_error style_feeding (feed_bytes style_feeding n (flushed true (is_equals_sign c) f bytes)) (plain_bytes c b) false 0) ≡ Some e
     → StyleShown n (Open f bytes) c b e (λ k. BehindError k f bytes c b)
 breaks-by (Some x) n f bytes c b e a t i h =
     broken-first n f bytes c b (is_equals_sign c) e (λ k. BehindError k f bytes c b) t refl a
     (λ k j. ap (λ (o : Option PathCause). first_cause o
-    (fed_error style_feeding (feed_bytes style_feeding k (Flushed f bytes c)) (plain_bytes c b) false 0)) j)
+    (fed_error style_feeding (feed_bytes style_feeding k (flushed true (is_equals_sign c) f bytes)) (plain_bytes c b) false 0)) j)
     (i ∙ h)
 breaks-by None n f bytes c b e a t i h =
-    let m = feed_bytes style_feeding n (Flushed f bytes c) in
-    broken-behind n f bytes c b e
-    (record {
-      turns = t;
-      plain = a;
-      taken = i;
-      shown = none-fed (Flushed f bytes c) n (is_written (is_equals_sign c) f bytes) (length bytes + 1) i;
-      back = fed-back (plain_bytes c b) m false 0 e h;
-    })
-    (character-fed (plain_bytes c b) m false 0 e (plain-character c b) h)
+    let equals = is_equals_sign c in
+    let xs = flushed true equals f bytes in
+    broken-behind n f bytes c b e t i
+    (run-shown n xs (is_written equals f bytes) (length bytes + 1) (plain_bytes c b) e (flushed-character equals f bytes a) (plain-character c b) i h)
 
 turned-by : (x : ReferenceStep) (n : StyleScan) (f : Form) (bytes : List ℕ) (c : Class) (b : ℕ) (e : PathCause) → NoColon bytes → turn c f ≡ x
     → turned_error style_feeding n x f bytes c b ≡ Some e → StyleShown n (Open f bytes) c b e (λ k. turned_error style_feeding k x f bytes c b)

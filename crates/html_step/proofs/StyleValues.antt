@@ -85,7 +85,7 @@ star-none : (y : Member) → css_has (css.Comment false) y ≡ false
 star-none member.CssStar = refl
 star-none _ = refl
 
-start-has : (n : StyleScan) (y : Member) → is_style_start n ≡ true → css_has (style_scan_place n) y ≡ scan_set_has n y
+pub start-has : (n : StyleScan) (y : Member) → is_style_start n ≡ true → css_has (style_scan_place n) y ≡ scan_set_has n y
 start-has (ScanCode x) y h = refl
 start-has (ScanWord w e) y h = absurd (no h)
 start-has (ScanSplitEscape e) y h = absurd (no h)
@@ -522,7 +522,7 @@ if-same false z = refl
 abbrev EndOrigin : List ℕ → StyleScan → Member → Member
 EndOrigin bytes n y = style_fed_origin bytes n (style_end_origin (feed_bytes style_feeding n bytes) y)
 
-end-whole : (bytes : List ℕ) (n : StyleScan) (y : Member) → is_whole y ≡ true → EndOrigin bytes n y ≡ member.Whole
+pub end-whole : (bytes : List ℕ) (n : StyleScan) (y : Member) → is_whole y ≡ true → EndOrigin bytes n y ≡ member.Whole
 end-whole bytes n member.Whole h =
     ap (style_fed_origin bytes n) (if-same (scan_set_has (feed_bytes style_feeding n bytes) member.Whole) member.Whole) ∙ style-fed-whole bytes n
 end-whole bytes n _ h = absurd (no h)

@@ -301,10 +301,12 @@ lexeme-cases k since f r None n i e h =
     absurd (err-ok (scan_place f) r (Ok (scan_place f)) refl
     (sym (ap (λ (y : Option Code). unless_broken_off k since y (scan_place f)) e) ∙ h))
 
-end-cases : (k since : ℕ) (f : Scan) (r : PathRefusal) (o : Option PathCause) → ScanPlain f → scan_cut_error f ≡ o → stepped k since [] f ≡ Err r
+end-cases : (k since : ℕ) (f : Scan) (r : PathRefusal) (o : Option PathCause) → ScanValid f → ScanPlain f → scan_cut_error f ≡ o
+    → stepped k since [] f ≡ Err r
     → ShownBytes k since [] f r (one (end_shows f))
-end-cases k since f r (Some x) n e h = cut-evidence k since f r x e h (evidence-cut f x n e)
-end-cases k since f r None n e h = lexeme-cases k since f r (scan_lexeme_error f) n e refl (later-refused k (scan_cut_error f) (AtEnd k since f) r e h)
+end-cases k since f r (Some x) v n e h = cut-evidence k since f r x e h (evidence-cut f x v n e)
+end-cases k since f r None v n e h =
+    lexeme-cases k since f r (scan_lexeme_error f) n e refl (later-refused k (scan_cut_error f) (AtEnd k since f) r e h)
 
 byte-cases : (k since b : ℕ) (bs : List ℕ) (f : Scan) (r : PathRefusal) (z : EvidenceData) (o : Option PathCause) → scan_error f (class_of b) b ≡ o
     → ScanValid f → ScanPlain f
@@ -317,7 +319,7 @@ byte-cases k since b bs f r z None e v n h more = earlier k since b bs f r z v n
 
 evidence-bytes : (bytes : List ℕ) (k since : ℕ) (f : Scan) (r : PathRefusal) → ScanValid f → ScanPlain f → stepped k since bytes f ≡ Err r
     → ShownBytes k since bytes f r (shows bytes f)
-evidence-bytes [] k since f r v n h = end-cases k since f r (scan_cut_error f) n refl h
+evidence-bytes [] k since f r v n h = end-cases k since f r (scan_cut_error f) v n refl h
 evidence-bytes (b ∷ bs) k since f r v n h =
     byte-cases k since b bs f r (shows bs (scan_next f (class_of b) b)) (scan_error f (class_of b) b) refl v n h
     (λ e. evidence-bytes bs (k + 1) (last_lexeme_start k since (scan_reference f) (class_of b) b) (scan_next f (class_of b) b) r (scan-valid f (class_of b) b v e)
@@ -367,6 +369,7 @@ body-apart _ h = absurd (no h)
 
 has-apart : (p : Place) → is_apart (scan_parts (At p)) ≡ true → HasApart p
 has-apart (place.Value v) h = body-apart v.body h
+has-apart (place.Style c) h = css-apart c h
 has-apart _ h = absurd (no h)
 
 apart-there : (bytes : List ℕ) (p : Place) (r : PathRefusal) (s : LexState ValueState) (c : Code) (at : ℕ) (i : IsIn p s) → Bears s side

@@ -7,12 +7,12 @@ use Rattle.css_lexer.specs.States.{Quote, DoubleQuote, SingleQuote, Outside, Bet
 use Rattle.css_lexer.specs.States as style
 use Rattle.place_core.proofs.Semilattices.{none_some, one_value}
 use Rattle.place_core.specs.place.PathPairs.{url_in_style, url_part_at}
-use Rattle.place_core.specs.place.StyleParts.{style_body, style_place}
+use Rattle.place_core.specs.place.StyleParts.{style_body, style_css, style_place}
 use Rattle.place_core.specs.page.References.{Closed, Open}
 use Rattle.place_core.specs.place.StatePlaces.{content_spot, only_after, only_inside, placed, quotes_at, tag_spot, value_spot}
 use Rattle.place_core.specs.place.UrlParts.{parts_of}
-use Rattle.place_core.specs.page.States.{LexState, Text, TagOpen, EndTagOpen, DeclarationOpen, InComment, Started, StartedDash, Inside, Dash, DashDash, Bang, Broken, BogusComment, InDoctype, TagName, WholeTagName, BeforeAttributeName, AttributeName, WholeAttributeName, AfterAttributeName, BeforeAttributeValue, AttributeValue, AfterAttributeValue, SelfClosingStartTag, Content, Characters, Bytes, Pending, Nothing, PendingLess, PendingName, PendingBang, PendingBangDash, InContent, Unread, LessAtCut}
-use Rattle.place_core.specs.page.Tags.{Tag, is_second_type, ValueOf, Deciding, ValueState, OfKind, OfUrl, OfStyle, Quoting}
+use Rattle.place_core.specs.page.States.{LexState, Text, TagOpen, EndTagOpen, DeclarationOpen, InComment, Started, StartedDash, Inside, Dash, DashDash, Bang, Broken, BogusComment, InDoctype, TagName, WholeTagName, BeforeAttributeName, AttributeName, WholeAttributeName, AfterAttributeName, BeforeAttributeValue, AttributeValue, AfterAttributeValue, SelfClosingStartTag, Content, Characters, Bytes, InLanguage, Pending, Nothing, PendingLess, PendingName, PendingBang, PendingBangDash, InContent, Unread, LessAtCut}
+use Rattle.place_core.specs.page.Tags.{Tag, is_second_type, ValueOf, Deciding, ValueState, OfKind, OfUrl, OfStyle, Quoting, DoubleQuoted}
 use Rattle.place_core.specs.declared.body.Body.{Body}
 use Rattle.place_core.specs.declared.body.Body.TheVariants as body
 use Rattle.place_core.specs.declared.css.Css.{Css}
@@ -24,7 +24,9 @@ use Rattle.place_core.specs.declared.kind.Kind.TheVariants as kind
 use Rattle.place_core.specs.declared.parts.Parts.{Parts}
 use Rattle.place_core.specs.declared.place.Place.{Place}
 use Rattle.place_core.specs.declared.place.Place.TheVariants as place
+use Rattle.place_core.specs.declared.tag_of.TagOf.TheVariants as tag
 use Rattle.place_core.specs.declared.value_place.ValuePlace.{ValuePlace}
+use Rattle.html_step.proofs.ElementSteps.{body-css}
 use Rattle.url_lexer.specs.Parts.{UrlPart}
 use Rattle.url_lexer.specs.States.{Url}
 use Rattle.url_lexer.specs.Triples.{Triple, NoTriple, AfterPercent, AfterDigit}
@@ -49,10 +51,17 @@ body_url (body.Js j) = None
 body_url body.Plain = None
 body_url body.NoHole = None
 
+abbrev pub place_url : Place → Option Parts
+place_url (place.Value v) = body_url v.body
+place_url (place.Style c) = css_url c
+place_url p = None
+
 abbrev Fits : Option UrlPart → Place → Type 0
 Fits (Some p) (place.Value v) = body_url v.body ≡ Some (parts_of p)
+Fits (Some p) (place.Style c) = css_url c ≡ Some (parts_of p)
 Fits (Some p) a = ⊥
 Fits None (place.Value v) = body_url v.body ≡ None
+Fits None (place.Style c) = css_url c ≡ None
 Fits None a = Unit {0}
 
 abbrev WhereFits : Option UrlPart → Option Place → Type 0
@@ -63,20 +72,26 @@ spot-fits : (second : Bool) (p : Place) → Fits None p → WhereFits None (if s
 spot-fits true p h = tt
 spot-fits false p h = h
 
-content-fits : (h : Pending) (x : Content) (e : Element) → WhereFits None (content_spot h x e)
-content-fits Nothing (Characters (Open f bytes)) e = tt
-content-fits Nothing (Characters Closed) element.Title = tt
-content-fits Nothing (Characters Closed) element.Textarea = tt
-content-fits Nothing (Characters Closed) _ = tt
-content-fits Nothing Bytes element.DataBlock = tt
-content-fits Nothing Bytes _ = tt
-content-fits LessAtCut Bytes element.DataBlock = tt
-content-fits LessAtCut Bytes _ = tt
-content-fits LessAtCut (Characters r) e = tt
-content-fits PendingLess x e = tt
-content-fits (PendingName letters) x e = tt
-content-fits PendingBang x e = tt
-content-fits PendingBangDash x e = tt
+abbrev IsNoLanguage : Content ValueState → Type 0
+IsNoLanguage (InLanguage v) = ⊥
+IsNoLanguage x = Unit {0}
+
+content-fits : (h : Pending) (x : Content ValueState) (e : Element) → IsNoLanguage x → WhereFits None (content_spot h x e)
+content-fits Nothing (Characters (Open f bytes)) e i = tt
+content-fits Nothing (Characters Closed) element.Title i = tt
+content-fits Nothing (Characters Closed) element.Textarea i = tt
+content-fits Nothing (Characters Closed) _ i = tt
+content-fits Nothing Bytes element.DataBlock i = tt
+content-fits Nothing Bytes _ i = tt
+content-fits LessAtCut Bytes element.DataBlock i = tt
+content-fits LessAtCut Bytes _ i = tt
+content-fits LessAtCut (Characters r) e i = tt
+content-fits PendingLess x e i = tt
+content-fits (PendingName letters) x e i = tt
+content-fits PendingBang x e i = tt
+content-fits PendingBangDash x e i = tt
+content-fits Nothing (InLanguage v) e i = absurd i
+content-fits LessAtCut (InLanguage v) e i = absurd i
 
 url-fits : (x : Triple) (p : UrlPart) (q : Quoting) (t : Tag)
     → WhereFits (Some p) (value_spot t (quotes_at q) (option_map (λ z. body.Url (parts_of z)) (where_whole x p)))
@@ -163,6 +178,31 @@ style-fits : (s : Style Url) (q : Quoting) (t : Tag) → StyleFits q t s
 style-fits (Out s) q t = outside-fits s q t
 style-fits (style.InUrl f u) q t = in-url-fits f u q t
 
+-- likewise in the element, whose place has what a body has
+element-fits-by : (o : Option UrlPart) (c : Option Css) (q : Quoting) (t : Tag)
+    → WhereFits o (value_spot t (quotes_at q) (option_map body.Css c)) → WhereFits o (option_map place.Style c)
+element-fits-by (Some p) (Some c) q t h = h
+element-fits-by None (Some c) q t h = h
+element-fits-by o None q t h = tt
+
+element-fits : (s : Style Url) → WhereFits (option_map (λ u. u.part) (url_in_style s)) (option_map place.Style (style_css s))
+element-fits s =
+    let t : Tag = record { tag = tag.End; typed = false } in
+    let o = option_map (λ (u : Url). u.part) (url_in_style s) in
+    element-fits-by o (style_css s) DoubleQuoted t
+    (subst (λ (z : Option Body). WhereFits o (value_spot t (quotes_at DoubleQuoted) z)) (body-css s) (style-fits s DoubleQuoted t))
+
+language-fits : (h : Pending) (e : Element) (v : ValueState) → WhereFits (url_part_at (InContent e (InLanguage v) h)) (content_spot h (InLanguage v) e)
+language-fits Nothing element.Style (OfStyle s) = element-fits s
+language-fits Nothing element.Style (OfKind k) = tt
+language-fits Nothing element.Style (OfUrl u) = tt
+language-fits Nothing _ v = tt
+language-fits LessAtCut e v = tt
+language-fits PendingLess e v = tt
+language-fits (PendingName letters) e v = tt
+language-fits PendingBang e v = tt
+language-fits PendingBangDash e v = tt
+
 fits : (s : LexState ValueState) → WhereFits (url_part_at s) (placed s)
 fits (Text Closed) = tt
 fits (Text (Open f bytes)) = tt
@@ -192,7 +232,9 @@ fits (AttributeValue q t (Deciding k before) Closed) = tt
 fits (AttributeValue q t v (Open f bytes)) = tt
 fits (AfterAttributeValue t) = tt
 fits (SelfClosingStartTag t) = tt
-fits (InContent e x h) = content-fits h x e
+fits (InContent e (Characters r) h) = content-fits h (Characters r) e tt
+fits (InContent e Bytes h) = content-fits h Bytes e tt
+fits (InContent e (InLanguage v) h) = language-fits h e v
 fits Unread = tt
 
 fits-at : (s : LexState ValueState) (a : Place) → placed s ≡ Some a → Fits (url_part_at s) a
@@ -200,12 +242,11 @@ fits-at s a e = subst (WhereFits (url_part_at s)) e (fits s)
 
 -- of a path at a place, what its part says of the place
 pub record InUrl (a : Place) (p : UrlPart) : Type 0 where
-  pub value : ValuePlace
-  pub is : a ≡ place.Value value
-  pub parts : body_url value.body ≡ Some (parts_of p)
+  pub parts : place_url a ≡ Some (parts_of p)
 
 in-url-by : (o : Option UrlPart) (p : UrlPart) (a : Place) → Fits o a → o ≡ Some p → InUrl a p
-in-url-by (Some r) p (place.Value v) h e = record { value = v; is = refl; parts = subst (λ (z : Option UrlPart). Fits z (place.Value v)) e h }
+in-url-by (Some r) p (place.Value v) h e = record { parts = subst (λ (z : Option UrlPart). Fits z (place.Value v)) e h }
+in-url-by (Some r) p (place.Style c) h e = record { parts = subst (λ (z : Option UrlPart). Fits z (place.Style c)) e h }
 in-url-by None p a h e = absurd (none_some p e)
 in-url-by (Some r) p _ h e = absurd h
 
@@ -224,3 +265,10 @@ at-part-by s None v r e h b = absurd (none_some r (sym h ∙ b))
 
 pub url-part : (s : LexState ValueState) (v : ValuePlace) (r : Parts) → placed s ≡ Some (place.Value v) → body_url v.body ≡ Some r → AtPart s r
 url-part s v r h b = at-part-by s (url_part_at s) v r refl (fits-at s (place.Value v) h) b
+
+pub element-url-part : (s : LexState ValueState) (c : Css) (r : Parts) → placed s ≡ Some (place.Style c) → css_url c ≡ Some r → AtPart s r
+element-url-part s c r h b = element-part-by s (url_part_at s) c r refl (fits-at s (place.Style c) h) b
+  where
+    element-part-by : (s : LexState ValueState) (o : Option UrlPart) (c : Css) (r : Parts) → url_part_at s ≡ o → Fits o (place.Style c) → css_url c ≡ Some r → AtPart s r
+    element-part-by s (Some p) c r e h b = record { part = p; is = e; parts = one_value r (parts_of p) (sym b ∙ h) }
+    element-part-by s None c r e h b = absurd (none_some r (sym h ∙ b))

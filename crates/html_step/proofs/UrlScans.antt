@@ -1,5 +1,5 @@
 -- Scan states of URLs, which may be in a style: their parts, and the reference that is open in them, where a byte leads.
-use Rattle.std.proofs.Common.{◌≡◌, ◌≤◌, ℕ, ◌+◌, Bool, true, false, ◌⊎◌, inl, inr, List, [], ◌∷◌, ◌++◌, length, Option, Some, None, if◌then◌else◌, refl, sym, ap, ◌∙◌, subst, arith, length-append, ⊎_elim}
+use Rattle.std.proofs.Common.{◌≡◌, ◌≤◌, ℕ, ◌+◌, Bool, true, false, ◌⊎◌, inl, inr, List, [], ◌∷◌, ◌++◌, codes, length, Option, Some, None, if◌then◌else◌, refl, sym, ap, ◌∙◌, subst, arith, length-append, ⊎_elim}
 use Rattle.place_core.specs.page.Classes.{Class, White, Ampersand, ExclamationMark, QuotationMark, Apostrophe, HyphenMinus, Solidus, LessThan, EqualsSign, GreaterThan, Letter, class_of}
 use Rattle.place_core.specs.page.Comments.{Declaration, OpensComment, OpensDoctype, Undecided, OpensNothing, closes_comment, declared_by, next_comment}
 use Rattle.place_core.specs.page.Contents.{is_name_of, may_be_name_of}
@@ -28,16 +28,19 @@ use Rattle.place_core.specs.declared.tag_of.TagOf.TheVariants as tag
 use Rattle.place_core.specs.declared.tag_place.TagPlace.{TagPlace}
 use Rattle.place_core.specs.declared.value_place.ValuePlace.{ValuePlace}
 use Rattle.place_core.proofs.Semilattices.{none_some, one_value}
-use Rattle.html_scan.specs.Scans.{Scan, At, AfterLess, AfterLessSolidus, InDeclaration, InTagName, InAttributeName, InUrl, InStyle, InCommentEnd, InContentEnd, BeforeType, InType, after_type, attribute_name_next, bare_white, before_type_next, comment_closed, comment_next, comment_scan, comment_state, content_end_next, content_next, content_scan, declaration_next, end_name_next, ended_type, parts_feeding, pending_less_next, quoted_next, rest_place, scan_error, scan_next, tag_name_next, tag_next, triple_behind, type_begun, type_next, type_tag, url_scan, value_cause, value_fed, value_next, value_scan, with_parts, with_quotes, scan_reference, body_cause, quoted_error, style_cause, bare_begun, empty_style_between, quotes_lead, style_fed, style_feeding, style_scan, style_value_next, value_between, with_style}
+use Rattle.html_scan.specs.Scans.{Scan, At, AfterLess, AfterLessSolidus, InDeclaration, InTagName, InAttributeName, InUrl, InStyle, InCommentEnd, InContentEnd, BeforeType, InType, InStyleElement, element_less_next, element_name_next, element_next, element_pending_next, element_scan, released_next, after_type, attribute_name_next, bare_white, before_type_next, comment_closed, comment_next, comment_scan, comment_state, content_end_next, content_next, content_scan, declaration_next, end_name_next, ended_type, parts_feeding, pending_less_next, quoted_next, rest_place, scan_error, scan_next, tag_name_next, tag_next, triple_behind, type_begun, type_next, type_tag, url_scan, value_cause, value_fed, value_next, value_scan, with_parts, with_quotes, scan_reference, body_cause, quoted_error, style_cause, bare_begun, empty_style_between, quotes_lead, style_fed, style_feeding, style_scan, style_value_next, value_between, with_style}
 use Rattle.html_step.proofs.OnePath.{url-reference}
-use Rattle.html_step.specs.Origins.{body_parts, fed_in, is_apart, scan_parts}
+use Rattle.html_step.specs.Origins.{body_parts, element_fed, end_name_fed, fed_in, is_apart, less_fed, loose_fed, scan_parts}
+use Rattle.html_scan.proofs.UrlsFed.{feed_more}
+use Rattle.html_step.proofs.ElementsBelow.{under-element}
 use Rattle.html_step.proofs.Characters.{ReferencePlain, next-plain}
-use Rattle.html_step.proofs.ScanOrder.{BegunWhereOpen, HasBegun, ScanBelow, ScanValid, StyleUnder, StyleUnderPlace, UrlWithin, bare-parts, begun-open, first-none, if-none, parts-below, starts-in-order, under-body}
+use Rattle.html_step.proofs.ScanOrder.{BegunWhereOpen, HasBegun, ScanBelow, ScanValid, StyleUnder, StyleUnderPlace, UrlWithin, bare-parts, begun-open, first-none, if-none, parts-below, starts-in-order, style-below-place, under-body}
 use Rattle.html_step.proofs.StyleOrder.{scan-of-start, start-place}
 use Rattle.html_step.proofs.StylePaths.{empty_css, style-scan-reference}
 use Rattle.html_step.proofs.StyleUrls.{KnownUrl, SameUrl, StaysInUrl, above-in-url, below-in-url, feeds, known-fed, known-unmet, known_none, scan-opened, stays-parts, stays-same, unmet-spells}
 use Rattle.css_step.specs.StyleOrigins.{scan_set_has, style_scan_parts}
-use Rattle.css_step.specs.StyleScans.{StyleScan, ScanBareUrl, ScanQuotedUrl, is_style_start, style_scan_start}
+use Rattle.css_step.specs.StyleScans.{StyleScan, ScanBareUrl, ScanQuotedUrl, is_style_start, style_scan_place, style_scan_start}
+use Rattle.css_step.proofs.StyleGrowth.{styles-grow}
 use Rattle.place_core.specs.place.ApartPlaces.{beginning_at, beginning_in_body, beginning_in_css}
 use Rattle.place_core.specs.place.StatePlaces.{unbegun}
 use Rattle.html_step.proofs.PlaceParts.{Under, ValueBelow, below-value, under-false}
@@ -47,15 +50,17 @@ use Rattle.place_core.specs.declared.bare.Bare.{Bare}
 use Rattle.place_core.specs.declared.code.Code.TheVariants as code
 use Rattle.css_step.specs.StyleSetLaws.{StyleScanBelow}
 use Rattle.html_step.proofs.PathScans.{none-at-hand}
-use Rattle.place_core.specs.place.Places.{body_has, joined_bodies, joined_quotes}
+use Rattle.place_core.specs.place.Places.{Below, body_has, joined_bodies, joined_quotes}
 use Rattle.url_lexer.specs.Triples.{Triple, NoTriple, AfterPercent, AfterDigit}
 use Rattle.url_step.specs.PartSets.{PartsBelow, spells_apart}
 
--- the bytes that its URL is fed
+-- the bytes that its URL, or the style in which it is, is fed
 abbrev pub scan_fed : Scan → Class → ℕ → List ℕ
 scan_fed (At (place.Value v)) c b = fed_in v.quotes Closed c b
 scan_fed (InUrl v t r) c b = fed_in v.quotes r c b
 scan_fed (InStyle v n r) c b = fed_in v.quotes r c b
+scan_fed (At (place.Style p)) c b = loose_fed c b
+scan_fed (InStyleElement n h) c b = element_fed h c b
 scan_fed f c b = []
 
 -- a value with parts of a URL is one, or a style in one
@@ -73,6 +78,7 @@ abbrev pub raw_place : Scan → Place
 raw_place (At p) = p
 raw_place (InUrl v t r) = place.Value v
 raw_place (InStyle v n r) = with_style v n
+raw_place (InStyleElement n h) = place.Style (style_scan_place n)
 raw_place f = place.Text
 
 pub css-opened : (c : Css) (s : Parts) → style_scan_parts (style_scan_start c) ≡ Some s → beginning_in_css c ≡ s.opened
@@ -87,6 +93,8 @@ pub raw-opened : (f : Scan) (s : Parts) → scan_parts f ≡ Some s → beginnin
 raw-opened (At (place.Value v)) s h = body-opened v.body s h
 raw-opened (InUrl v t r) s h = body-opened v.body s h
 raw-opened (InStyle v n r) s h = scan-opened n s h
+raw-opened (At (place.Style c)) s h = css-opened c s h
+raw-opened (InStyleElement n x) s h = scan-opened n s h
 raw-opened (At _) s h = absurd (none_some s h)
 raw-opened _ s h = absurd (none_some s h)
 
@@ -122,9 +130,17 @@ pub record StyleAt (f : Scan) (n : StyleScan) : Type 0 where
   pub holds : scan_reference f ≡ reference
   pub fed : (c : Class) (b : ℕ) → fed_in value.quotes reference c b ≡ scan_fed f c b
 
+-- Likewise in the element `style`, where bytes may be pending back.
+pub record ElementAt (f : Scan) (n : StyleScan) : Type 0 where
+  pub pending : Pending
+  pub next : (c : Class) (b : ℕ) → scan_next f c b ≡ element_pending_next n pending c b
+  pub holds : scan_reference f ≡ Closed
+  pub fed : (c : Class) (b : ℕ) → element_fed pending c b ≡ scan_fed f c b
+
 pub data UrlOrStyle (f : Scan) (s : Parts) : Type 0 where
   by_url : UrlAt f s → UrlOrStyle f s
   by_style : (n : StyleScan) → StyleAt f n → style_scan_parts n ≡ Some s → UrlOrStyle f s
+  by_element : (n : StyleScan) → ElementAt f n → style_scan_parts n ≡ Some s → UrlOrStyle f s
 
 place-url : (v : ValuePlace) (s : Parts) → v.body ≡ body.Url s → UrlAt (At (place.Value v)) s
 place-url v s e = record {
@@ -186,6 +202,12 @@ lexeme-style v n r w e = record {
   fed = λ c b. refl;
 }
 
+place-element : (c : Css) → ElementAt (At (place.Style c)) (style_scan_start c)
+place-element c = record { pending = Nothing; next = λ x b. refl; holds = refl; fed = λ x b. refl }
+
+lexeme-element : (n : StyleScan) (h : Pending) → ElementAt (InStyleElement n h) n
+lexeme-element n h = record { pending = h; next = λ c b. refl; holds = refl; fed = λ c b. refl }
+
 value-at : (v : ValuePlace) (s : Parts) → InBody v.body s → UrlOrStyle (At (place.Value v)) s
 value-at v s (in_url e) = by_url (place-url v s e)
 value-at v s (in_style c e h) = by_style (style_scan_start c) (place-style v c e) h
@@ -198,6 +220,8 @@ pub url-at : (f : Scan) (s : Parts) → ScanValid f → scan_parts f ≡ Some s 
 url-at (At (place.Value v)) s w h = value-at v s (parts-body v.body s h)
 url-at (InUrl v t r) s w h = by_url (lexeme-url v t r s w.0 (within-body v.body s w.1 h))
 url-at (InStyle v n r) s w h = by_style n (lexeme-style v n r w.0 w.1) h
+url-at (At (place.Style c)) s w h = by_element (style_scan_start c) (place-element c) h
+url-at (InStyleElement n x) s w h = by_element n (lexeme-element n x) h
 url-at (At _) s w h = absurd (none_some s h)
 url-at _ s w h = absurd (none_some s h)
 
@@ -225,6 +249,36 @@ pub style-met : (v : ValuePlace) (n : StyleScan) (r : Reference) → is_apart (s
 style-met v n Closed h = style-met-by v n (is_style_start n) h
 style-met v n (Open f bytes) h = unmet-spells n h
 
+pub element-parts-by : (n : StyleScan) (x : Bool) → is_style_start n ≡ x
+    → scan_parts (if x then At (place.Style (style_scan_place n)) else InStyleElement n Nothing) ≡ style_scan_parts n
+element-parts-by n true h = ap style_scan_parts (scan-of-start n h)
+element-parts-by n false h = refl
+
+element-met-by : (n : StyleScan) (x : Bool) → is_apart (style_scan_parts n) ≡ false
+    → has_met (if x then At (place.Style (style_scan_place n)) else InStyleElement n Nothing) ≡ false
+element-met-by n true h = unmet-spells n h
+element-met-by n false h = unmet-spells n h
+
+-- a byte where nothing is pending, behind bytes that have come to nothing
+loose-parts : (n : StyleScan) (c : Class) (b : ℕ) → scan_parts (element_next n c b) ≡ style_scan_parts (feed_bytes style_feeding n (loose_fed c b))
+loose-parts n LessThan b = refl
+loose-parts n _ b = element-parts-by (style_feeding.feed n b) (is_style_start (style_feeding.feed n b)) refl
+
+loose-met : (n : StyleScan) (c : Class) (b : ℕ) → is_apart (style_scan_parts (feed_bytes style_feeding n (loose_fed c b))) ≡ false
+    → has_met (element_next n c b) ≡ false
+loose-met n LessThan b h = unmet-spells n h
+loose-met n _ b h = element-met-by (style_feeding.feed n b) (is_style_start (style_feeding.feed n b)) h
+
+released-parts : (bytes : List ℕ) (n : StyleScan) (c : Class) (b : ℕ)
+    → scan_parts (released_next n bytes c b) ≡ style_scan_parts (feed_bytes style_feeding n (bytes ++ loose_fed c b))
+released-parts bytes n c b =
+    loose-parts (feed_bytes style_feeding n bytes) c b ∙ ap style_scan_parts (sym (feed_more style_feeding n bytes (loose_fed c b)))
+
+released-met : (bytes : List ℕ) (n : StyleScan) (c : Class) (b : ℕ) → is_apart (style_scan_parts (feed_bytes style_feeding n (bytes ++ loose_fed c b))) ≡ false
+    → has_met (released_next n bytes c b) ≡ false
+released-met bytes n c b h =
+    loose-met (feed_bytes style_feeding n bytes) c b (ap (λ (m : StyleScan). is_apart (style_scan_parts m)) (sym (feed_more style_feeding n bytes (loose_fed c b))) ∙ h)
+
 -- a scan state below one of a URL is one
 abbrev PartsUnder : Option Parts → Parts → Type 0
 PartsUnder o s = (t : Parts) × (o ≡ Some t) × PartsBelow t s
@@ -244,23 +298,39 @@ under-parts v n (place.Value w) s l h =
     let d = under-body v n w w.body l in
     let x = below-in-url n (style_scan_start d.0) s d.2.scan (sym (ap body_parts d.1) ∙ h) in
     (x.0, x.1, x.2.parts)
+under-parts v n (place.Style c) s l h = absurd l
 under-parts v n _ s l h = absurd (none_some s h)
+
+pub elements-in-order : (c d : Css) → Below (place.Style c) (place.Style d) → StyleScanBelow (style_scan_start c) (style_scan_start d)
+elements-in-order c d l = (styles-grow.places c d (style-below-place c d l)).start
+
+scans-below : (n m : StyleScan) (s : Parts) → StyleScanBelow n m → style_scan_parts m ≡ Some s → PartsUnder (style_scan_parts n) s
+scans-below n m s l h = (let x = below-in-url n m s l h in (x.0, x.1, x.2.parts))
 
 pub below-parts : (g f : Scan) (s : Parts) → ScanBelow g f → scan_parts f ≡ Some s → PartsUnder (scan_parts g) s
 below-parts (At (place.Value u)) (At (place.Value v)) s l h = bodies-below u.body v.body s (below-value u v l).body h
 below-parts (At x) (At (place.Value v)) s l h = absurd (none_some (place.Value v) l)
+below-parts (At (place.Style c)) (At (place.Style d)) s l h =
+    (let x = below-in-url (style_scan_start c) (style_scan_start d) s (elements-in-order c d l) h in (x.0, x.1, x.2.parts))
+below-parts (At x) (At (place.Style d)) s l h = absurd (none_some (place.Style d) l)
 below-parts (At x) (At _) s l h = absurd (none_some s h)
 below-parts (InUrl u t r) (InUrl v y z) s l h = bodies-below u.body v.body s l.0.body h
 below-parts (InStyle u n r) (InStyle v m z) s l h = (let x = below-in-url n m s l.0.scan h in (x.0, x.1, x.2.parts))
 below-parts (InStyle u n r) (At p) s l h = under-parts u n p s l.0 h
 below-parts (InStyle u n r) _ s l h = absurd l
+below-parts (InStyleElement n k) f s l h =
+    under-element (λ g. scan_parts g ≡ Some s → PartsUnder (style_scan_parts n) s) n k f l (λ m i e. scans-below n m s i e)
+    (λ d j i e. scans-below n (style_scan_start d) s i e) h
 below-parts (At x) (InUrl v t r) s l h = absurd l
 below-parts (At x) (InStyle v m r) s l h = absurd l
+below-parts (At x) (InStyleElement m k) s l h = absurd l
 below-parts (InUrl u t r) (At x) s l h = absurd l
 below-parts (InUrl u t r) (InStyle v m z) s l h = absurd l
+below-parts (InUrl u t r) (InStyleElement m k) s l h = absurd l
 below-parts (InAttributeName t x n) (At y) s l h = absurd l
 below-parts (InAttributeName t x n) (InUrl v y r) s l h = absurd l
 below-parts (InAttributeName t x n) (InStyle v m r) s l h = absurd l
+below-parts (InAttributeName t x n) (InStyleElement m k) s l h = absurd l
 below-parts AfterLess f s l h = absurd (none_some s (ap scan_parts l ∙ h))
 below-parts AfterLessSolidus f s l h = absurd (none_some s (ap scan_parts l ∙ h))
 below-parts (InDeclaration x) f s l h = absurd (none_some s (ap scan_parts l ∙ h))
@@ -290,12 +360,20 @@ over-parts v n (place.Value w) s l h =
     (x.0, ap body_parts d.1 ∙ x.1, x.2.parts)
 over-parts v n _ s l h = absurd l
 
+scans-above : (n m : StyleScan) (s : Parts) → StyleScanBelow n m → style_scan_parts n ≡ Some s → PartsOver s (style_scan_parts m)
+scans-above n m s l h = (let x = above-in-url n m s l h in (x.0, x.1, x.2.parts))
+
 pub above-parts : (g f : Scan) (s : Parts) → ScanBelow g f → scan_parts g ≡ Some s → PartsOver s (scan_parts f)
 above-parts (At (place.Value u)) (At (place.Value v)) s l h = bodies-above u.body v.body s (below-value u v l).body h
 above-parts (InUrl u t r) (InUrl v y z) s l h = bodies-above u.body v.body s l.0.body h
 above-parts (InStyle u n r) (InStyle v m z) s l h = (let x = above-in-url n m s l.0.scan h in (x.0, x.1, x.2.parts))
 above-parts (InStyle u n r) (At p) s l h = over-parts u n p s l.0 h
 above-parts (InStyle u n r) _ s l h = absurd l
+above-parts (InStyleElement n k) f s l h =
+    under-element (λ g. PartsOver s (scan_parts g)) n k f l (λ m i. scans-above n m s i h) (λ d j i. scans-above n (style_scan_start d) s i h)
+above-parts (At (place.Style c)) (At (place.Style d)) s l h = scans-above (style_scan_start c) (style_scan_start d) s (elements-in-order c d l) h
+above-parts (At (place.Style c)) (At x) s l h = absurd (none_some x l)
+above-parts (At (place.Style c)) _ s l h = absurd l
 above-parts (At (place.Value u)) (At x) s l h = absurd (none_some x l)
 above-parts (At (place.Value u)) _ s l h = absurd l
 above-parts (At _) f s l h = absurd (none_some s h)
@@ -311,11 +389,13 @@ pub below-reference : (g f : Scan) → ScanBelow g f → scan_reference g ≡ sc
 below-reference (At x) (At y) l = refl
 below-reference (At x) (InUrl v y z) l = absurd l
 below-reference (At x) (InStyle v y z) l = absurd l
+below-reference (At x) (InStyleElement m k) l = absurd l
 below-reference (At x) _ l = refl
 below-reference (InUrl u t r) (InUrl v y z) l = l.2
 below-reference (InUrl u t r) _ l = absurd l
 below-reference (InAttributeName t x n) (InUrl v y z) l = absurd l
 below-reference (InAttributeName t x n) (InStyle v y z) l = absurd l
+below-reference (InAttributeName t x n) (InStyleElement m k) l = absurd l
 below-reference (InAttributeName t x n) _ l = refl
 below-reference AfterLess f l = ap scan_reference l
 below-reference AfterLessSolidus f l = ap scan_reference l
@@ -326,6 +406,7 @@ below-reference (InContentEnd x y) f l = ap scan_reference l
 below-reference (BeforeType x) f l = ap scan_reference l
 below-reference (InType x y z w) f l = ap scan_reference l
 below-reference (InStyle x y z) f l = under-closed x y z f l
+below-reference (InStyleElement n k) f l = under-element (λ g. Closed ≡ scan_reference g) n k f l (λ m i. refl) (λ d j i. refl)
 
 -- the bytes that a scan state is fed are those that one below is fed
 quotes-fed : (p q : Quotes) (r : Reference) (c : Class) (b : ℕ) → joined_quotes p q ≡ Some q → fed_in p r c b ≡ fed_in q r c b
@@ -346,6 +427,7 @@ under-fed : (u : ValuePlace) (n : StyleScan) (r : Reference) (p : Place) (s : Pa
     → scan_parts (At p) ≡ Some s → scan_fed (InStyle u n r) c b ≡ scan_fed (At p) c b
 under-fed u n r (place.Value v) s c b l e h =
     ap (λ (x : Reference). fed_in u.quotes x c b) e ∙ quotes-fed u.quotes v.quotes Closed c b (under-body u n v v.body l).2.quotes
+under-fed u n r (place.Style p) s c b l e h = absurd l
 under-fed u n r _ s c b l e h = absurd (none_some s h)
 
 pub fed-same : (g f : Scan) (s : Parts) (c : Class) (b : ℕ) → ScanBelow g f → scan_parts f ≡ Some s → scan_fed g c b ≡ scan_fed f c b
@@ -354,11 +436,19 @@ fed-same (InUrl u t r) (InUrl v y z) s c b l h = ap (λ (x : Reference). fed_in 
 fed-same (InStyle u n r) (InStyle v m z) s c b l h = ap (λ (x : Reference). fed_in u.quotes x c b) l.1 ∙ quotes-fed u.quotes v.quotes z c b l.0.quotes
 fed-same (InStyle u n r) (At p) s c b l h = under-fed u n r p s c b l.0 l.1 h
 fed-same (InStyle u n r) _ s c b l h = absurd l
+fed-same (InStyleElement n k) f s c b l h =
+    under-element (λ g. scan_fed (InStyleElement n k) c b ≡ scan_fed g c b) n k f l (λ m i. refl) (λ d j i. ap (λ (x : Pending). element_fed x c b) j)
+fed-same (At (place.Style x)) (At (place.Style y)) s c b l h = refl
+fed-same (At x) (At (place.Style y)) s c b l h = absurd (none_some (place.Style y) l)
 fed-same (At x) (At (place.Value v)) s c b l h = absurd (none_some (place.Value v) l)
 fed-same (At x) (InUrl v y z) s c b l h = absurd l
 fed-same (At x) (InStyle v m z) s c b l h = absurd l
+fed-same (At x) (InStyleElement m k) s c b l h = absurd l
 fed-same (InUrl u t r) (At x) s c b l h = absurd l
 fed-same (InUrl u t r) (InStyle v m z) s c b l h = absurd l
+fed-same (InUrl u t r) (InStyleElement m k) s c b l h = absurd l
+fed-same g (At (place.Style d)) s c b l h = (let p = below-parts g (At (place.Style d)) s l h in absurd (none_some p.0 p.1))
+fed-same g (InStyleElement m k) s c b l h = (let p = below-parts g (InStyleElement m k) s l h in absurd (none_some p.0 p.1))
 fed-same g (At (place.Value v)) s c b l h = (let p = below-parts g (At (place.Value v)) s l h in absurd (none_some p.0 p.1))
 fed-same g (InUrl v y z) s c b l h = (let p = below-parts g (InUrl v y z) s l h in absurd (none_some p.0 p.1))
 fed-same g (InStyle v m z) s c b l h = (let p = below-parts g (InStyle v m z) s l h in absurd (none_some p.0 p.1))
@@ -425,6 +515,7 @@ content-out tag.End = (refl, (refl, refl))
 content-out (tag.Start element.Title) = (refl, (refl, refl))
 content-out (tag.Start element.Textarea) = (refl, (refl, refl))
 content-out (tag.Start element.DataBlock) = (refl, (refl, refl))
+content-out (tag.Start element.Style) = (refl, (refl, refl))
 content-out (tag.Start _) = (refl, (refl, refl))
 
 goes-white : (v : ValuePlace) (uq : Bool) (p : Quotes) (r : Reference) (b : ℕ) (s : Parts) → v.body ≡ body.Url s → v.quotes ≡ p
@@ -527,6 +618,40 @@ style-holds v n r c b =
     lead-holds v v.quotes r c b (λ p. style_fed (value_between v p) n r c b)
     (λ p. inr (style-scan-reference (value_between v p) (feed_bytes style_feeding n (undone_byte true r c b)) (next_reference r c b)))
 
+pub element-closed-by : (n : StyleScan) (x : Bool) → scan_reference (if x then At (place.Style (style_scan_place n)) else InStyleElement n Nothing) ≡ Closed
+element-closed-by n true = refl
+element-closed-by n false = refl
+
+loose-closed : (n : StyleScan) (c : Class) (b : ℕ) → scan_reference (element_next n c b) ≡ Closed
+loose-closed n LessThan b = refl
+loose-closed n _ b = element-closed-by (style_feeding.feed n b) (is_style_start (style_feeding.feed n b))
+
+less-closed : (n : StyleScan) (c : Class) (b : ℕ) → scan_reference (element_less_next n c b) ≡ Closed
+less-closed n Solidus b = refl
+less-closed n c b = loose-closed (feed_bytes style_feeding n (codes "<")) c b
+
+name-closed : (n : StyleScan) (grows whole : Bool) (c : Class) (b : ℕ) (letters : List ℕ) → scan_reference (element_name_next n grows whole c b letters) ≡ Closed
+name-closed n true whole (Letter l) b letters = refl
+name-closed n true true White b letters = refl
+name-closed n true true Solidus b letters = refl
+name-closed n true true GreaterThan b letters = refl
+name-closed n true true c b letters = loose-closed (feed_bytes style_feeding n (codes "</" ++ letters)) c b
+name-closed n true false c b letters = loose-closed (feed_bytes style_feeding n (codes "</" ++ letters)) c b
+name-closed n false true White b letters = refl
+name-closed n false true Solidus b letters = refl
+name-closed n false true GreaterThan b letters = refl
+name-closed n false true c b letters = loose-closed (feed_bytes style_feeding n (codes "</" ++ letters)) c b
+name-closed n false false c b letters = loose-closed (feed_bytes style_feeding n (codes "</" ++ letters)) c b
+
+pub element-closed : (n : StyleScan) (h : Pending) (c : Class) (b : ℕ) → scan_reference (element_pending_next n h c b) ≡ Closed
+element-closed n Nothing c b = loose-closed n c b
+element-closed n PendingLess c b = less-closed n c b
+element-closed n LessAtCut c b = loose-closed (feed_bytes style_feeding n (codes "<")) c b
+element-closed n (PendingName letters) c b =
+    name-closed n (may_be_name_of element.Style (letters ++ b ∷ [])) (is_name_of element.Style letters) c b letters
+element-closed n PendingBang c b = loose-closed (feed_bytes style_feeding n (codes "<!")) c b
+element-closed n PendingBangDash c b = loose-closed (feed_bytes style_feeding n (codes "<!-")) c b
+
 pub record NextUrl (f : Scan) (s : Parts) (c : Class) (b : ℕ) : Type 0 where
   pub parts : (has_met (scan_next f c b) ≡ false) ⊎ (scan_parts (scan_next f c b) ≡ Some (feed_bytes parts_feeding s (scan_fed f c b)))
   pub reference : (scan_reference (scan_next f c b) ≡ Closed) ⊎ (scan_reference (scan_next f c b) ≡ next_reference (scan_reference f) c b)
@@ -539,6 +664,46 @@ out-of : (g : Scan) (s : Parts) (bytes : List ℕ) → ((scan_parts g ≡ None) 
 out-of g s bytes (inl k) = inl k.1
 out-of g s bytes (inr k) = inr k
 
+-- In the element, where pending bytes come to nothing; where they go on with the end tag, nothing is fed.
+released-on : (bytes : List ℕ) (n : StyleScan) (c : Class) (b : ℕ) (s : Parts) → style_scan_parts n ≡ Some s
+    → StaysInUrl n (bytes ++ loose_fed c b) ⊎ KnownUrl (feed_bytes style_feeding n (bytes ++ loose_fed c b))
+    → PartsOrOut (released_next n bytes c b) s (bytes ++ loose_fed c b)
+released-on bytes n c b s h (inl k) = inr (released-parts bytes n c b ∙ stays-parts (bytes ++ loose_fed c b) n s h k)
+released-on bytes n c b s h (inr k) =
+    inl (released-met bytes n c b (known-unmet (feed_bytes style_feeding n (bytes ++ loose_fed c b)) k))
+
+released-goes : (bytes : List ℕ) (n : StyleScan) (c : Class) (b : ℕ) (s : Parts) → style_scan_parts n ≡ Some s
+    → PartsOrOut (released_next n bytes c b) s (bytes ++ loose_fed c b)
+released-goes bytes n c b s h = released-on bytes n c b s h (feeds (bytes ++ loose_fed c b) n s h)
+
+less-goes : (n : StyleScan) (c : Class) (b : ℕ) (s : Parts) → style_scan_parts n ≡ Some s → PartsOrOut (element_less_next n c b) s (less_fed c b)
+less-goes n Solidus b s h = inr h
+less-goes n c b s h = released-goes (codes "<") n c b s h
+
+name-goes : (n : StyleScan) (grows whole : Bool) (c : Class) (b : ℕ) (letters : List ℕ) (s : Parts) → style_scan_parts n ≡ Some s
+    → PartsOrOut (element_name_next n grows whole c b letters) s (end_name_fed grows whole c b letters)
+name-goes n true whole (Letter l) b letters s h = inr h
+name-goes n true true White b letters s h = inl refl
+name-goes n true true Solidus b letters s h = inl refl
+name-goes n true true GreaterThan b letters s h = inl refl
+name-goes n true true c b letters s h = released-goes (codes "</" ++ letters) n c b s h
+name-goes n true false c b letters s h = released-goes (codes "</" ++ letters) n c b s h
+name-goes n false true White b letters s h = inl refl
+name-goes n false true Solidus b letters s h = inl refl
+name-goes n false true GreaterThan b letters s h = inl refl
+name-goes n false true c b letters s h = released-goes (codes "</" ++ letters) n c b s h
+name-goes n false false c b letters s h = released-goes (codes "</" ++ letters) n c b s h
+
+element-goes : (n : StyleScan) (h : Pending) (c : Class) (b : ℕ) (s : Parts) → style_scan_parts n ≡ Some s
+    → PartsOrOut (element_pending_next n h c b) s (element_fed h c b)
+element-goes n Nothing c b s h = released-goes [] n c b s h
+element-goes n PendingLess c b s h = less-goes n c b s h
+element-goes n LessAtCut c b s h = released-goes (codes "<") n c b s h
+element-goes n (PendingName letters) c b s h =
+    name-goes n (may_be_name_of element.Style (letters ++ b ∷ [])) (is_name_of element.Style letters) c b letters s h
+element-goes n PendingBang c b s h = released-goes (codes "<!") n c b s h
+element-goes n PendingBangDash c b s h = released-goes (codes "<!-") n c b s h
+
 next-parts : (f : Scan) (s : Parts) (c : Class) (b : ℕ) → UrlOrStyle f s → PartsOrOut (scan_next f c b) s (scan_fed f c b)
 next-parts f s c b (by_url u) =
     subst (PartsOrOut (scan_next f c b) s) (u.fed c b) (out-of (scan_next f c b) s (fed_in u.value.quotes u.reference c b) (goes f s u c b).parts)
@@ -546,6 +711,9 @@ next-parts f s c b (by_style n u h) =
     subst (PartsOrOut (scan_next f c b) s) (u.fed c b)
     (subst (λ (g : Scan). PartsOrOut g s (fed_in u.value.quotes u.reference c b)) (sym (u.next c b))
     (style-lead u.value u.value.quotes u.over n u.reference c b s h refl u.kept))
+next-parts f s c b (by_element n u h) =
+    subst (PartsOrOut (scan_next f c b) s) (u.fed c b)
+    (subst (λ (g : Scan). PartsOrOut g s (element_fed u.pending c b)) (sym (u.next c b)) (element-goes n u.pending c b s h))
 
 value-next-holds : (f : Scan) (s : Parts) (c : Class) (b : ℕ) → UrlOrStyle f s → Holds (scan_next f c b) (scan_reference f) c b
 value-next-holds f s c b (by_url u) =
@@ -556,17 +724,26 @@ value-next-holds f s c b (by_style n u h) =
     (subst (λ (g : Scan). Holds g u.reference c b) (sym (u.next c b))
     (lead-holds u.value u.value.quotes u.reference c b (λ p. style_fed (u.over p) n u.reference c b)
     (λ p. inr (style-scan-reference (u.over p) (feed_bytes style_feeding n (undone_byte true u.reference c b)) (next_reference u.reference c b)))))
+value-next-holds f s c b (by_element n u h) = inl (ap scan_reference (u.next c b) ∙ element-closed n u.pending c b)
 
 pub next-url : (f : Scan) (s : Parts) (c : Class) (b : ℕ) → ScanValid f → scan_parts f ≡ Some s → NextUrl f s c b
 next-url f s c b w h =
     let u = url-at f s w h in
     record { parts = next-parts f s c b u; reference = value-next-holds f s c b u }
 
+parts-met : (g : Scan) (y : Parts) → scan_parts g ≡ Some y → spells_apart y.opened ≡ true → has_met g ≡ true
+parts-met g y k a = ap spells_apart (raw-opened g y k) ∙ a
+
+met-parts : (g : Scan) (s : Parts) (bytes : List ℕ) → PartsOrOut g s bytes → has_met g ≡ true → scan_parts g ≡ Some (feed_bytes parts_feeding s bytes)
+met-parts g s bytes (inl n) h = absurd (no (sym n ∙ h))
+met-parts g s bytes (inr e) h = e
+
 -- where paths have met in the beginning behind the byte
 pub goes-parts : (f : Scan) (s y : Parts) (c : Class) (b : ℕ) → ScanValid f → scan_parts f ≡ Some s → scan_parts (scan_next f c b) ≡ Some y
     → spells_apart y.opened ≡ true → scan_parts (scan_next f c b) ≡ Some (feed_bytes parts_feeding s (scan_fed f c b))
 goes-parts f s y c b w h k a =
-    ⊎_elim (λ n. absurd (no (sym n ∙ (ap spells_apart (raw-opened (scan_next f c b) y k) ∙ a)))) (λ e. e) (next-url f s c b w h).parts
+    let g = scan_next f c b in
+    met-parts g s (scan_fed f c b) (next-url f s c b w h).parts (parts-met g y k a)
 
 -- Below one of which paths have met in the beginning behind the byte, a scan state goes on too.
 on-below : (w x : ValuePlace) (n m : StyleScan) (r : Reference) (bytes : List ℕ) (t s : Parts) → style_scan_parts n ≡ Some t → SameUrl n m
@@ -645,11 +822,18 @@ styles-go g f n m x y t c b j r l h e met =
     ∙ ap (λ (z : List ℕ). Some (feed_bytes parts_feeding t z)) (x.fed c b))
 
 -- in a URL that is no style
+some-parts : (g : Scan) (t z : Parts) (bytes : List ℕ)
+    → ((scan_parts g ≡ None) × (has_met g ≡ false)) ⊎ (scan_parts g ≡ Some (feed_bytes parts_feeding t bytes)) → scan_parts g ≡ Some z
+    → scan_parts g ≡ Some (feed_bytes parts_feeding t bytes)
+some-parts g t z bytes (inl n) k = absurd (none_some z (sym n.0 ∙ k))
+some-parts g t z bytes (inr e) k = e
+
 url-goes : (g : Scan) (t z : Parts) (c : Class) (b : ℕ) (u : UrlAt g t) → scan_parts (scan_next g c b) ≡ Some z
     → scan_parts (scan_next g c b) ≡ Some (feed_bytes parts_feeding t (scan_fed g c b))
 url-goes g t z c b u k =
-    ⊎_elim (λ n. absurd (none_some z (sym n.0 ∙ k)))
-    (λ e. e ∙ ap (λ (bytes : List ℕ). Some (feed_bytes parts_feeding t bytes)) (u.fed c b)) (goes g t u c b).parts
+    let bytes = fed_in u.value.quotes u.reference c b in
+    subst (λ (x : List ℕ). scan_parts (scan_next g c b) ≡ Some (feed_bytes parts_feeding t x)) (u.fed c b)
+    (some-parts (scan_next g c b) t z bytes (goes g t u c b).parts k)
 
 css-above : (c : Css) (b : Body) → joined_bodies (body.Css c) b ≡ Some b → (d : Css) × (b ≡ body.Css d)
 css-above c (body.Css d) h = (d, refl)
@@ -678,6 +862,64 @@ under-go u n r (place.Value v) t c b w i l e h o met =
     styles-go (InStyle u n r) (At (place.Value v)) n (style_scan_start d.0) (lexeme-style u n r w i) (place-style v d.0 d.1) t c b d.2.quotes e d.2.scan h o met
 under-go u n r _ t c b w i l e h o met = absurd l
 
+-- in the element
+released-below : (bytes : List ℕ) (n m : StyleScan) (c : Class) (b : ℕ) (t : Parts) → style_scan_parts n ≡ Some t → SameUrl n m
+    → has_met (released_next m bytes c b) ≡ true
+    → StaysInUrl m (bytes ++ loose_fed c b) ⊎ KnownUrl (feed_bytes style_feeding m (bytes ++ loose_fed c b))
+    → scan_parts (released_next n bytes c b) ≡ Some (feed_bytes parts_feeding t (bytes ++ loose_fed c b))
+released-below bytes n m c b t h e met (inl k) =
+    let all = bytes ++ loose_fed c b in
+    released-parts bytes n c b ∙ stays-parts all n t h (stays-same all n m e k)
+released-below bytes n m c b t h e met (inr k) =
+    absurd (no (sym (released-met bytes m c b (known-unmet (feed_bytes style_feeding m (bytes ++ loose_fed c b)) k)) ∙ met))
+
+released-beside : (bytes : List ℕ) (n m : StyleScan) (c : Class) (b : ℕ) (t s : Parts) → style_scan_parts n ≡ Some t → style_scan_parts m ≡ Some s → SameUrl n m
+    → has_met (released_next m bytes c b) ≡ true
+    → scan_parts (released_next n bytes c b) ≡ Some (feed_bytes parts_feeding t (bytes ++ loose_fed c b))
+released-beside bytes n m c b t s h i e met = released-below bytes n m c b t h e met (feeds (bytes ++ loose_fed c b) m s i)
+
+less-beside : (n m : StyleScan) (c : Class) (b : ℕ) (t s : Parts) → style_scan_parts n ≡ Some t → style_scan_parts m ≡ Some s → SameUrl n m
+    → has_met (element_less_next m c b) ≡ true → scan_parts (element_less_next n c b) ≡ Some (feed_bytes parts_feeding t (less_fed c b))
+less-beside n m Solidus b t s h i e met = h
+less-beside n m c b t s h i e met = released-beside (codes "<") n m c b t s h i e met
+
+name-beside : (n m : StyleScan) (grows whole : Bool) (c : Class) (b : ℕ) (letters : List ℕ) (t s : Parts) → style_scan_parts n ≡ Some t
+    → style_scan_parts m ≡ Some s → SameUrl n m → has_met (element_name_next m grows whole c b letters) ≡ true
+    → scan_parts (element_name_next n grows whole c b letters) ≡ Some (feed_bytes parts_feeding t (end_name_fed grows whole c b letters))
+name-beside n m true whole (Letter l) b letters t s h i e met = h
+name-beside n m true true White b letters t s h i e met = absurd (no met)
+name-beside n m true true Solidus b letters t s h i e met = absurd (no met)
+name-beside n m true true GreaterThan b letters t s h i e met = absurd (no met)
+name-beside n m true true c b letters t s h i e met = released-beside (codes "</" ++ letters) n m c b t s h i e met
+name-beside n m true false c b letters t s h i e met = released-beside (codes "</" ++ letters) n m c b t s h i e met
+name-beside n m false true White b letters t s h i e met = absurd (no met)
+name-beside n m false true Solidus b letters t s h i e met = absurd (no met)
+name-beside n m false true GreaterThan b letters t s h i e met = absurd (no met)
+name-beside n m false true c b letters t s h i e met = released-beside (codes "</" ++ letters) n m c b t s h i e met
+name-beside n m false false c b letters t s h i e met = released-beside (codes "</" ++ letters) n m c b t s h i e met
+
+element-beside : (n m : StyleScan) (x : Pending) (c : Class) (b : ℕ) (t s : Parts) → style_scan_parts n ≡ Some t → style_scan_parts m ≡ Some s → SameUrl n m
+    → has_met (element_pending_next m x c b) ≡ true → scan_parts (element_pending_next n x c b) ≡ Some (feed_bytes parts_feeding t (element_fed x c b))
+element-beside n m Nothing c b t s h i e met = released-beside [] n m c b t s h i e met
+element-beside n m PendingLess c b t s h i e met = less-beside n m c b t s h i e met
+element-beside n m LessAtCut c b t s h i e met = released-beside (codes "<") n m c b t s h i e met
+element-beside n m (PendingName letters) c b t s h i e met =
+    name-beside n m (may_be_name_of element.Style (letters ++ b ∷ [])) (is_name_of element.Style letters) c b letters t s h i e met
+element-beside n m PendingBang c b t s h i e met = released-beside (codes "<!") n m c b t s h i e met
+element-beside n m PendingBangDash c b t s h i e met = released-beside (codes "<!-") n m c b t s h i e met
+
+elements-go : (n m : StyleScan) (x : Pending) (c : Class) (b : ℕ) (t : Parts) → StyleScanBelow n m → style_scan_parts n ≡ Some t
+    → has_met (element_pending_next m x c b) ≡ true → scan_parts (element_pending_next n x c b) ≡ Some (feed_bytes parts_feeding t (element_fed x c b))
+elements-go n m x c b t l h met = (let k = above-in-url n m t l h in element-beside n m x c b t k.0 h k.1 k.2.same met)
+
+element-go : (n : StyleScan) (x : Pending) (f : Scan) (t : Parts) (c : Class) (b : ℕ) → ScanBelow (InStyleElement n x) f → style_scan_parts n ≡ Some t
+    → has_met (scan_next f c b) ≡ true → scan_parts (element_pending_next n x c b) ≡ Some (feed_bytes parts_feeding t (element_fed x c b))
+element-go n x f t c b l h met =
+    under-element (λ g. has_met (scan_next g c b) ≡ true → scan_parts (element_pending_next n x c b) ≡ Some (feed_bytes parts_feeding t (element_fed x c b)))
+    n x f l (λ m i e. elements-go n m x c b t i h e)
+    (λ d j i e. subst (λ (y : Pending). scan_parts (element_pending_next n y c b) ≡ Some (feed_bytes parts_feeding t (element_fed y c b))) (sym j)
+    (elements-go n (style_scan_start d) Nothing c b t i h e)) met
+
 pub below-goes : (g f : Scan) (t z : Parts) (c : Class) (b : ℕ) → ScanValid g → ScanValid f → ScanBelow g f → scan_parts g ≡ Some t → scan_error f c b ≡ None
     → has_met (scan_next f c b) ≡ true → scan_parts (scan_next g c b) ≡ Some z
     → scan_parts (scan_next g c b) ≡ Some (feed_bytes parts_feeding t (scan_fed g c b))
@@ -689,6 +931,11 @@ below-goes (InStyle u p r) (InStyle v m x) t z c b w i l h n met k =
     styles-go (InStyle u p r) (InStyle v m x) p m (lexeme-style u p r w.0 w.1) (lexeme-style v m x i.0 i.1) t c b l.0.quotes l.1 l.0.scan h n met
 below-goes (InStyle u p r) (At x) t z c b w i l h n met k = under-go u p r x t c b w.0 w.1 l.0 l.1 h n met
 below-goes (InStyle u p r) _ t z c b w i l h n met k = absurd l
+below-goes (InStyleElement n x) f t z c b w i l h e met k = element-go n x f t c b l h met
+below-goes (At (place.Style p)) (At (place.Style q)) t z c b w i l h n met k =
+    elements-go (style_scan_start p) (style_scan_start q) Nothing c b t (elements-in-order p q l) h met
+below-goes (At (place.Style p)) (At x) t z c b w i l h n met k = absurd (none_some x l)
+below-goes (At (place.Style p)) _ t z c b w i l h n met k = absurd l
 below-goes (At (place.Value u)) (At x) t z c b w i l h n met k = absurd (none_some x l)
 below-goes (At (place.Value u)) _ t z c b w i l h n met k = absurd l
 below-goes (At _) f t z c b w i l h n met k = absurd (none_some t h)
@@ -793,6 +1040,39 @@ text-fresh : (c : Class) (b : ℕ) → IsFresh (scan_next (At place.Text) c b)
 text-fresh LessThan b = (refl, refl)
 text-fresh _ b = (refl, refl)
 
+-- in the element
+released-unmet : (bytes : List ℕ) (n : StyleScan) (c : Class) (b : ℕ) → style_scan_parts n ≡ None → has_met (released_next n bytes c b) ≡ false
+released-unmet bytes n c b h =
+    let all = bytes ++ loose_fed c b in
+    released-met bytes n c b (known-unmet (feed_bytes style_feeding n all) (known-fed all n (known_none h)))
+
+less-unmet : (n : StyleScan) (c : Class) (b : ℕ) → style_scan_parts n ≡ None → has_met (element_less_next n c b) ≡ false
+less-unmet n Solidus b h = unmet-spells n (ap is_apart h)
+less-unmet n c b h = released-unmet (codes "<") n c b h
+
+name-unmet : (n : StyleScan) (grows whole : Bool) (c : Class) (b : ℕ) (letters : List ℕ) → style_scan_parts n ≡ None
+    → has_met (element_name_next n grows whole c b letters) ≡ false
+name-unmet n true whole (Letter l) b letters h = unmet-spells n (ap is_apart h)
+name-unmet n true true White b letters h = refl
+name-unmet n true true Solidus b letters h = refl
+name-unmet n true true GreaterThan b letters h = refl
+name-unmet n true true c b letters h = released-unmet (codes "</" ++ letters) n c b h
+name-unmet n true false c b letters h = released-unmet (codes "</" ++ letters) n c b h
+name-unmet n false true White b letters h = refl
+name-unmet n false true Solidus b letters h = refl
+name-unmet n false true GreaterThan b letters h = refl
+name-unmet n false true c b letters h = released-unmet (codes "</" ++ letters) n c b h
+name-unmet n false false c b letters h = released-unmet (codes "</" ++ letters) n c b h
+
+element-unmet : (n : StyleScan) (x : Pending) (c : Class) (b : ℕ) → style_scan_parts n ≡ None → has_met (element_pending_next n x c b) ≡ false
+element-unmet n Nothing c b h = released-unmet [] n c b h
+element-unmet n PendingLess c b h = less-unmet n c b h
+element-unmet n LessAtCut c b h = released-unmet (codes "<") n c b h
+element-unmet n (PendingName letters) c b h =
+    name-unmet n (may_be_name_of element.Style (letters ++ b ∷ [])) (is_name_of element.Style letters) c b letters h
+element-unmet n PendingBang c b h = released-unmet (codes "<!") n c b h
+element-unmet n PendingBangDash c b h = released-unmet (codes "<!-") n c b h
+
 place-unmet : (p : Place) (c : Class) (b : ℕ) → scan_parts (At p) ≡ None → scan_error (At p) c b ≡ None → has_met (scan_next (At p) c b) ≡ false
 place-unmet place.Text c b h n = (text-fresh c b).0
 place-unmet place.Doctype GreaterThan b h n = refl
@@ -802,7 +1082,7 @@ place-unmet (place.Rcdata e) c b h n = (loose-fresh c e).0
 place-unmet (place.Tag t) c b h n = (tag-fresh t c b).0
 place-unmet (place.Value x) c b h n = value-unmet x NoTriple Closed c b h
 place-unmet (place.Script j) c b h n = refl
-place-unmet (place.Style j) c b h n = absurd (none_some _ (sym n))
+place-unmet (place.Style j) c b h n = element-unmet (style_scan_start j) Nothing c b h
 place-unmet (place.Block lt) c b h n = (loose-fresh c element.DataBlock).0
 
 place-holds : (p : Place) (c : Class) (b : ℕ) → Holds (scan_next (At p) c b) Closed c b
@@ -814,7 +1094,7 @@ place-holds (place.Rcdata e) c b = inl (loose-fresh c e).1
 place-holds (place.Tag t) c b = inl (tag-fresh t c b).1
 place-holds (place.Value x) c b = value-holds x NoTriple Closed c b
 place-holds (place.Script j) c b = inl refl
-place-holds (place.Style j) c b = inl refl
+place-holds (place.Style j) c b = inl (loose-closed (style_scan_start j) c b)
 place-holds (place.Block lt) c b = inl (loose-fresh c element.DataBlock).1
 
 less-fresh : (c : Class) (b : ℕ) → IsFresh (scan_next AfterLess c b)
@@ -898,6 +1178,7 @@ pub scan-unmet : (f : Scan) (c : Class) (b : ℕ) → ScanValid f → scan_parts
 scan-unmet (At p) c b v h n = place-unmet p c b h n
 scan-unmet (InUrl w t r) c b v h n = value-unmet w t r c b h
 scan-unmet (InStyle w s r) c b v h n = style-unmet w s r c b v.1 h
+scan-unmet (InStyleElement s x) c b v h n = element-unmet s x c b h
 scan-unmet AfterLess c b v h n = (less-fresh c b).0
 scan-unmet AfterLessSolidus c b v h n = (solidus-fresh c b).0
 scan-unmet (InDeclaration pending) c b v h n = (declaration-fresh (declared_by (pending ++ b ∷ [])) c b pending).0
@@ -913,6 +1194,7 @@ pub next-holds : (f : Scan) (c : Class) (b : ℕ) → Holds (scan_next f c b) (s
 next-holds (At p) c b = place-holds p c b
 next-holds (InUrl w t r) c b = value-holds w t r c b
 next-holds (InStyle w s r) c b = style-holds w s r c b
+next-holds (InStyleElement s x) c b = inl (element-closed s x c b)
 next-holds AfterLess c b = inl (less-fresh c b).1
 next-holds AfterLessSolidus c b = inl (solidus-fresh c b).1
 next-holds (InDeclaration pending) c b = inl (declaration-fresh (declared_by (pending ++ b ∷ [])) c b pending).1

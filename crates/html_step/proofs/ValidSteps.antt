@@ -1,8 +1,8 @@
 -- A step leads from what is valid to what is valid.
-use Rattle.std.proofs.Common.{◌≡◌, ℕ, Bool, true, false, ◌||◌, List, [], ◌∷◌, ◌++◌, Option, Some, None, if◌then◌else◌, refl, sym, subst}
+use Rattle.std.proofs.Common.{◌≡◌, ℕ, Bool, true, false, ◌||◌, List, [], ◌∷◌, ◌++◌, codes, Option, Some, None, if◌then◌else◌, refl, sym, subst}
 use Rattle.place_core.specs.page.Classes.{Class, White, QuotationMark, Apostrophe, Solidus, LessThan, EqualsSign, GreaterThan, Letter, ExclamationMark, HyphenMinus}
 use Rattle.place_core.specs.page.Comments.{Declaration, OpensComment, OpensDoctype, Undecided, OpensNothing, closes_comment, declared_by, next_comment}
-use Rattle.place_core.specs.page.Contents.{is_name_of, may_be_name_of}
+use Rattle.place_core.specs.page.Contents.{is_name_of, may_be_name_of, pending_bytes}
 use Rattle.place_core.specs.place.Places.{IsValid, IsValidBody, IsValidTag, is_rcdata}
 use Rattle.place_core.specs.page.States.{CommentState, Inside, Broken, Pending, Nothing, PendingLess, PendingName, PendingBang, PendingBangDash, LessAtCut}
 use Rattle.place_core.specs.page.Tags.{tag_of_name, element_on, feed_bytes, Quoting, DoubleQuoted, SingleQuoted, Unquoted, Value, ValueState}
@@ -19,7 +19,7 @@ use Rattle.place_core.specs.declared.tag_of.TagOf.{TagOf}
 use Rattle.place_core.specs.declared.tag_of.TagOf.TheVariants as tag
 use Rattle.place_core.specs.declared.tag_place.TagPlace.{TagPlace}
 use Rattle.place_core.specs.declared.value_place.ValuePlace.{ValuePlace}
-use Rattle.html_scan.specs.Scans.{Scan, At, AfterLess, AfterLessSolidus, InDeclaration, InTagName, InAttributeName, InUrl, InStyle, InCommentEnd, InContentEnd, attribute_name_next, bare_begun, bare_white, comment_closed, comment_scan, comment_next, comment_state, content_end_next, content_scan, content_next, declaration_next, end_name_next, scan_next, scan_place, tag_name_next, tag_next, value_scan, BeforeType, InType, rest_place, content_end_place, pending_less_next, before_type_next, after_type, type_next, type_begun, type_tag, ended_type, parts_feeding, parts_with, triple_behind, url_scan, value_fed, with_parts, place_cause, scan_error, value_next, empty_style_between, quotes_lead, style_fed, style_feeding, style_scan, style_value_next, value_between, with_style}
+use Rattle.html_scan.specs.Scans.{Scan, At, AfterLess, AfterLessSolidus, InDeclaration, InTagName, InAttributeName, InUrl, InStyle, InStyleElement, InCommentEnd, InContentEnd, element_less_next, element_name_next, element_next, element_pending_next, released_next, attribute_name_next, bare_begun, bare_white, comment_closed, comment_scan, comment_next, comment_state, content_end_next, content_scan, content_next, declaration_next, end_name_next, scan_next, scan_place, tag_name_next, tag_next, value_scan, BeforeType, InType, rest_place, content_end_place, pending_less_next, before_type_next, after_type, type_next, type_begun, type_tag, ended_type, parts_feeding, parts_with, triple_behind, url_scan, value_fed, with_parts, place_cause, scan_error, value_next, empty_style_between, quotes_lead, style_fed, style_feeding, style_scan, style_value_next, value_between, with_style}
 use Rattle.html_step.proofs.ScanOrder.{HasBegun, ScanValid, UrlWithin, begun-valid}
 use Rattle.html_step.proofs.StyleOrder.{start-valid, style-fed-valid}
 use Rattle.html_step.proofs.StylePaths.{empty_css}
@@ -162,6 +162,47 @@ rcdata-rest element.Script v = v
 rcdata-rest element.Style v = v
 rcdata-rest element.Other v = v
 
+-- in the element `style`
+element-valid-by : (n : StyleScan) (x : Bool) → IsValidCss (style_scan_place n)
+    → ScanValid (if x then At (place.Style (style_scan_place n)) else InStyleElement n Nothing)
+element-valid-by n true v = v
+element-valid-by n false v = (v, tt)
+
+element-loose-valid : (c : Class) (b : ℕ) (n : StyleScan) → IsValidCss (style_scan_place n) → ScanValid (element_next n c b)
+element-loose-valid LessThan b n v = (v, tt)
+element-loose-valid _ b n v =
+    let m = style_feeding.feed n b in element-valid-by m (is_style_start m) (style-fed-valid (b ∷ []) n v)
+
+element-released-valid : (bytes : List ℕ) (c : Class) (b : ℕ) (n : StyleScan) → IsValidCss (style_scan_place n) → ScanValid (released_next n bytes c b)
+element-released-valid bytes c b n v = element-loose-valid c b (feed_bytes style_feeding n bytes) (style-fed-valid bytes n v)
+
+element-less-valid : (c : Class) (b : ℕ) (n : StyleScan) → IsValidCss (style_scan_place n) → ScanValid (element_less_next n c b)
+element-less-valid Solidus b n v = (v, refl)
+element-less-valid c b n v = element-released-valid (codes "<") c b n v
+
+element-name-valid : (grows whole : Bool) (c : Class) (b : ℕ) (letters : List ℕ) (n : StyleScan)
+    → may_be_name_of element.Style (letters ++ b ∷ []) ≡ grows → IsValidCss (style_scan_place n) → ScanValid (element_name_next n grows whole c b letters)
+element-name-valid true whole (Letter l) b letters n e v = (v, e)
+element-name-valid true true White b letters n e v = (refl, refl)
+element-name-valid true true Solidus b letters n e v = (refl, refl)
+element-name-valid true true GreaterThan b letters n e v = tt
+element-name-valid true true c b letters n e v = element-released-valid (codes "</" ++ letters) c b n v
+element-name-valid true false c b letters n e v = element-released-valid (codes "</" ++ letters) c b n v
+element-name-valid false true White b letters n e v = (refl, refl)
+element-name-valid false true Solidus b letters n e v = (refl, refl)
+element-name-valid false true GreaterThan b letters n e v = tt
+element-name-valid false true c b letters n e v = element-released-valid (codes "</" ++ letters) c b n v
+element-name-valid false false c b letters n e v = element-released-valid (codes "</" ++ letters) c b n v
+
+element-valid : (h : Pending) (c : Class) (b : ℕ) (n : StyleScan) → IsValidCss (style_scan_place n) → ScanValid (element_pending_next n h c b)
+element-valid Nothing c b n v = element-loose-valid c b n v
+element-valid PendingLess c b n v = element-less-valid c b n v
+element-valid LessAtCut c b n v = element-released-valid (codes "<") c b n v
+element-valid (PendingName letters) c b n v =
+    element-name-valid (may_be_name_of element.Style (letters ++ b ∷ [])) (is_name_of element.Style letters) c b letters n refl v
+element-valid PendingBang c b n v = element-released-valid (codes "<!") c b n v
+element-valid PendingBangDash c b n v = element-released-valid (codes "<!-") c b n v
+
 place-valid : (p : Place) (c : Class) (b : ℕ) → IsValid p → place_cause p c b ≡ None → ScanValid (scan_next (At p) c b)
 place-valid place.Text LessThan b v n = tt
 place-valid place.Text _ b v n = tt
@@ -172,7 +213,7 @@ place-valid (place.Rcdata e) c b v n = loose-valid c e (rcdata-rest e v)
 place-valid (place.Tag t) c b v n = tag-valid t c b v
 place-valid (place.Value x) c b v n = value-valid x NoTriple Closed c b v.1
 place-valid (place.Script j) c b v n = v
-place-valid (place.Style j) c b v n = v
+place-valid (place.Style j) c b v n = element-loose-valid c b (style_scan_start j) (start-valid j v)
 place-valid (place.Block lt) c b v n = loose-valid c element.DataBlock tt
 
 declaration-valid : (d : Declaration) (c : Class) (b : ℕ) (pending : List ℕ) → ScanValid (declaration_next d c b pending)
@@ -251,6 +292,7 @@ scan-valid (InTagName ends name) c b v n = name-valid c b ends name
 scan-valid (InAttributeName t typed name) c b v n = attribute-valid c b t typed (kind_of (element_on t) name) name
 scan-valid (InCommentEnd s) c b v n = comment-valid s c
 scan-valid (InContentEnd e h) c b v n = content-end-valid h c b e v
+scan-valid (InStyleElement s h) c b v n = element-valid h c b s v.0
 scan-valid (BeforeType t) c b v n = before-type-valid t c b
 scan-valid (InType t q w r) c b v n = type-valid (ends_value q c) t q w r c b
 
@@ -275,5 +317,6 @@ end-valid (InTagName ends name) v = (refl, refl)
 end-valid (InAttributeName t typed name) v = (refl, refl)
 end-valid (InCommentEnd s) v = tt
 end-valid (InContentEnd e h) v = content-end-place-valid e h v
+end-valid (InStyleElement s h) v = style-fed-valid (pending_bytes h) s v.0
 end-valid (BeforeType t) v = tt
 end-valid (InType t q w r) v = tt

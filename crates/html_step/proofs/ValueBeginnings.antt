@@ -297,7 +297,7 @@ pub with-value : (bytes : List ℕ) (v : ValueState) → with_bytes languages (V
 with-value [] v = refl
 with-value (b ∷ bs) v = with-value bs (feed_value v b)
 
-fed-more : (xs ys : List ℕ) (v : ValueState) → fed_value v (xs ++ ys) ≡ fed_value (fed_value v xs) ys
+pub fed-more : (xs ys : List ℕ) (v : ValueState) → fed_value v (xs ++ ys) ≡ fed_value (fed_value v xs) ys
 fed-more [] ys v = refl
 fed-more (x ∷ xs) ys v = fed-more xs ys (feed_value v x)
 

@@ -56,6 +56,7 @@ quotes_origin (quotes.Bare b) y = in_value_origin y
 abbrev pub hole_origin : Place → Member → Member
 hole_origin (place.Tag t) y = typed_origin y
 hole_origin (place.Value v) y = body_hole_origin v.body (quotes_origin v.quotes y)
+hole_origin (place.Style c) y = css_hole_origin c y
 hole_origin p y = y
 
 -- Where several parts of a URL are there, the first two of them: the first one behind each, and so these two.
@@ -100,6 +101,7 @@ abbrev pub hole_shows : Place → EvidenceData
 hole_shows (place.Tag t) = one (if t.spots.name then member.NameSpot else member.InsideSpot)
 hole_shows (place.Block lt) = one member.BlockLt
 hole_shows (place.Value v) = value_hole_shows v.body
+hole_shows (place.Style c) = css_hole_shows c
 hole_shows p = one member.Whole
 
 -- In a URL the first part of it that is not its query shows that a value is not written as in one; elsewhere no path is in a query.

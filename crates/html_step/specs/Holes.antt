@@ -1,5 +1,5 @@
 -- A value of data at a place: what is done to it, and the place after it, or why none may stand there; and where a template may name an escaper.
-use Rattle.std.specs.Prelude.{Bool, true, false, not, is_none, ◌||◌, ◌&&◌, [], ◌∷◌, ◌++◌, Some, Result, Ok, Err, if◌then◌else◌}
+use Rattle.std.specs.Prelude.{Bool, true, false, not, is_none, ◌||◌, ◌&&◌, [], ◌∷◌, ◌++◌, Some, Result, Ok, Err}
 use Rattle.place_core.specs.place.StatePlaces.{only_inside}
 use Rattle.place_core.specs.declared.body.Body.{Body}
 use Rattle.place_core.specs.declared.body.Body.TheVariants as body
@@ -19,9 +19,8 @@ use Rattle.place_core.specs.declared.san.San.TheVariants as san
 use Rattle.place_core.specs.declared.tag_place.TagPlace.{TagPlace}
 use Rattle.place_core.specs.declared.value_place.ValuePlace.{ValuePlace}
 use Rattle.html_scan.specs.Scans.{bare_begun}
+use Rattle.css_step.specs.StyleChains.{style_hole_with_chain, style_sans}
 use Rattle.css_step.specs.StyleScanViews.{style_hole_answer}
-use Rattle.place_core.specs.place.UrlParts.{parts_of}
-use Rattle.url_lexer.specs.Parts.{UrlStart}
 use Rattle.url_step.specs.Chains.{chain_of}
 use Rattle.url_step.specs.PartSets.{hole_answer, part_sans}
 use Rattle.html_step.specs.declared.escaper.Escaper.{Escaper}
@@ -71,18 +70,9 @@ url_holed v before (Ok after) =
     Ok (place.Value (record { tag = v.tag; typed = v.typed; quotes = holed_quotes v.quotes; body = body.Url after }), url_chain before (last_of v.quotes))
 url_holed v before (Err e) = Err e
 
--- In a style the last sanitizer is that of the value's quotes too. Before it stands the one of the place in the style, or those of the part of its
--- URL; a value in a comment is left out. Behind a URL none may stand.
+-- In a style the last sanitizer is that of the value's quotes too; before it stand those of the place in the style.
 abbrev pub css_chain : Css → San → Chain
-css_chain (css.Code tails) last = both_of san.CssValue last
-css_chain css.Dq last = both_of san.CssString last
-css_chain css.Sq last = both_of san.CssString last
-css_chain css.UrlFresh last = url_chain (parts_of UrlStart) last
-css_chain (css.Url parts) last = url_chain parts last
-css_chain (css.UrlDq parts) last = url_chain parts last
-css_chain (css.UrlSq parts) last = url_chain parts last
-css_chain css.UrlEnd last = only last
-css_chain (css.Comment star) last = both_of san.Drop last
+css_chain c last = chain_of (style_sans c ++ last ∷ [])
 
 abbrev pub css_holed : ValuePlace → Css → Result Css Code → Holed
 css_holed v before (Ok after) =
@@ -95,6 +85,11 @@ value_hole body.NoHole v = Err code.BadHTML
 value_hole (body.Url parts) v = url_holed v parts (hole_answer parts)
 value_hole (body.Js js) v = Err code.NotBuilt
 value_hole (body.Css css) v = css_holed v css (style_hole_answer css)
+
+-- In the element `style` no quotes stand around the style: its chain is the whole one.
+abbrev pub element_holed : Result (Css × Chain) Code → Holed
+element_holed (Ok held) = Ok (place.Style held.0, held.1)
+element_holed (Err e) = Err e
 
 -- in a data block, where no node has ended in `<`
 abbrev pub block_hole : Bool → Holed
@@ -109,7 +104,7 @@ after_hole (place.Rcdata e) = Ok (place.Rcdata e, only san.Html)
 after_hole (place.Tag t) = named_by_data (t.spots.name || t.spots.inside) t
 after_hole (place.Value v) = value_hole v.body v
 after_hole (place.Script js) = Err code.NotBuilt
-after_hole (place.Style css) = Err code.NotBuilt
+after_hole (place.Style css) = element_holed (style_hole_with_chain css (style_hole_answer css))
 after_hole (place.Block lt) = block_hole lt
 
 -- Text, and values with quotes that are read as text, are where a value is written as text; the query of a URL is where it is written so.

@@ -1,18 +1,21 @@
 -- Which member of a place a member after a text comes from, and which one shows that a text is refused.
-use Rattle.std.specs.Prelude.{ℕ, Bool, true, false, List, [], ◌∷◌, Option, Some, None, option_map, is_some, if◌then◌else◌}
+use Rattle.std.specs.Prelude.{ℕ, Bool, true, false, List, [], ◌∷◌, ◌++◌, codes, Option, Some, None, option_map, is_some, if◌then◌else◌}
 use Rattle.css_lexer.specs.Classes.{style_class}
 use Rattle.css_lexer.specs.declared.class.StyleClass.{StyleClass}
 use Rattle.css_lexer.specs.declared.class.StyleClass.TheVariants as style
 use Rattle.css_step.specs.StyleOrigins.{scan_set_has, style_scan_parts}
 use Rattle.css_step.specs.StyleScans.{StyleScan, ScanCode, ScanSplitEscape, ScanStarBefore, ScanBareUrl, ScanQuotedUrl, style_scan_next, style_scan_start}
-use Rattle.place_core.specs.page.Classes.{Class, White, QuotationMark, Apostrophe, Solidus, LessThan, EqualsSign, GreaterThan, class_of}
+use Rattle.place_core.specs.page.Classes.{Class, White, QuotationMark, Apostrophe, Solidus, LessThan, EqualsSign, GreaterThan, Letter, class_of}
+use Rattle.place_core.specs.page.Contents.{is_name_of, may_be_name_of, pending_bytes}
 use Rattle.place_core.specs.page.References.{Reference, Closed, undone_byte, as_it_stands}
+use Rattle.place_core.specs.page.States.{Pending, Nothing, PendingLess, LessAtCut, PendingName, PendingBang, PendingBangDash}
 use Rattle.place_core.specs.page.Tags.{feed_bytes}
 use Rattle.place_core.specs.place.Errors.{PathCause, body_error}
 use Rattle.place_core.specs.declared.body.Body.{Body}
 use Rattle.place_core.specs.declared.body.Body.TheVariants as body
 use Rattle.place_core.specs.declared.code.Code.{Code}
 use Rattle.place_core.specs.declared.code.Code.TheVariants as code
+use Rattle.place_core.specs.declared.element.Element.TheVariants as element
 use Rattle.place_core.specs.declared.member.Member.{Member}
 use Rattle.place_core.specs.declared.member.Member.TheVariants as member
 use Rattle.place_core.specs.declared.parts.Parts.{Parts}
@@ -22,7 +25,7 @@ use Rattle.place_core.specs.declared.quotes.Quotes.{Quotes}
 use Rattle.place_core.specs.declared.quotes.Quotes.TheVariants as quotes
 use Rattle.place_core.specs.declared.spots.Spots.{Spots}
 use Rattle.place_core.specs.declared.value_place.ValuePlace.{ValuePlace}
-use Rattle.html_scan.specs.Scans.{Scan, At, InAttributeName, InUrl, InStyle, body_cause, quoted_error, scan_error, scan_next, style_feeding}
+use Rattle.html_scan.specs.Scans.{Scan, At, InAttributeName, InUrl, InStyle, InStyleElement, body_cause, quoted_error, scan_error, scan_next, style_feeding}
 use Rattle.html_step.specs.Laws.{EvidenceData, one, two, apart}
 use Rattle.url_lexer.specs.Classes.{url_class_of}
 use Rattle.url_lexer.specs.declared.class.UrlClass.{UrlClass}
@@ -139,10 +142,47 @@ value_origin v r c b y = body_origin v.body (fed_in v.quotes r c b) (in_value_or
 abbrev pub style_value_origin : ValuePlace → StyleScan → Reference → Class → ℕ → Member → Member
 style_value_origin v s r c b y = style_fed_origin (fed_in v.quotes r c b) s (in_value_origin y)
 
--- The member that a member after a byte comes from: behind the bytes that a value is fed, and before them.
+-- In the element `style`: the bytes that the style is fed at a byte, those first that were pending back and come to nothing. A `<` is pending itself.
+abbrev pub loose_fed : Class → ℕ → List ℕ
+loose_fed LessThan b = []
+loose_fed c b = b ∷ []
+
+abbrev pub less_fed : Class → ℕ → List ℕ
+less_fed Solidus b = []
+less_fed c b = codes "<" ++ loose_fed c b
+
+abbrev pub end_name_fed : (grows whole : Bool) → Class → ℕ → List ℕ → List ℕ
+end_name_fed true whole (Letter l) b letters = []
+end_name_fed grows true White b letters = []
+end_name_fed grows true Solidus b letters = []
+end_name_fed grows true GreaterThan b letters = []
+end_name_fed grows whole c b letters = (codes "</" ++ letters) ++ loose_fed c b
+
+abbrev pub element_fed : Pending → Class → ℕ → List ℕ
+element_fed Nothing c b = loose_fed c b
+element_fed PendingLess c b = less_fed c b
+element_fed LessAtCut c b = codes "<" ++ loose_fed c b
+element_fed (PendingName letters) c b =
+    end_name_fed (may_be_name_of element.Style (letters ++ b ∷ [])) (is_name_of element.Style letters) c b letters
+element_fed PendingBang c b = codes "<!" ++ loose_fed c b
+element_fed PendingBangDash c b = codes "<!-" ++ loose_fed c b
+
+-- Behind these bytes nothing has changed, but that the name of its end tag may have ended, behind which all is so on each path.
+abbrev pub end_name_origin : (whole : Bool) → Class → Member → Member
+end_name_origin true White y = member.Whole
+end_name_origin true Solidus y = member.Whole
+end_name_origin true GreaterThan y = member.Whole
+end_name_origin whole c y = y
+
+abbrev pub element_origin : Pending → Class → Member → Member
+element_origin (PendingName letters) c y = end_name_origin (is_name_of element.Style letters) c y
+element_origin h c y = y
+
+-- The member that a member after a byte comes from: behind the bytes that a value or a style is fed, and before them.
 abbrev pub place_origin : Place → Class → Member → Member
 place_origin (place.Tag t) c y = tag_origin c t.spots y
 place_origin (place.Value v) c y = in_value_origin y
+place_origin (place.Style p) c y = y
 place_origin _ c y = member.Whole
 
 abbrev pub behind_origin : Scan → Class → Member → Member
@@ -150,16 +190,19 @@ behind_origin (At p) c y = place_origin p c y
 behind_origin (InAttributeName t typed name) c y = name_origin typed
 behind_origin (InUrl v t r) c y = in_value_origin y
 behind_origin (InStyle v s r) c y = in_value_origin y
+behind_origin (InStyleElement s h) c y = element_origin h c y
 behind_origin f c y = member.Whole
 
 abbrev pub place_fed_origin : Place → Class → ℕ → Member → Member
 place_fed_origin (place.Value v) c b y = body_origin v.body (fed_in v.quotes Closed c b) y
+place_fed_origin (place.Style p) c b y = style_fed_origin (loose_fed c b) (style_scan_start p) y
 place_fed_origin p c b y = y
 
 abbrev pub scan_fed_origin : Scan → Class → ℕ → Member → Member
 scan_fed_origin (At p) c b y = place_fed_origin p c b y
 scan_fed_origin (InUrl v t r) c b y = body_origin v.body (fed_in v.quotes r c b) y
 scan_fed_origin (InStyle v s r) c b y = style_fed_origin (fed_in v.quotes r c b) s y
+scan_fed_origin (InStyleElement s h) c b y = style_fed_origin (element_fed h c b) s y
 scan_fed_origin f c b y = y
 
 abbrev pub byte_origin : Scan → Class → ℕ → Member → Member
@@ -169,11 +212,16 @@ byte_origin f c b y = scan_fed_origin f c b (behind_origin f c y)
 abbrev pub style_end_origin : StyleScan → Member → Member
 style_end_origin n y = if scan_set_has n y then y else typed_origin y
 
+-- before the bytes that it is fed there
+abbrev pub style_ends_origin : StyleScan → List ℕ → Member → Member
+style_ends_origin s bytes y = style_fed_origin bytes s (style_end_origin (feed_bytes style_feeding s bytes) y)
+
 abbrev pub end_origin : Scan → Member → Member
 end_origin (At p) y = y
 end_origin (InAttributeName t typed name) y = name_origin typed
 end_origin (InUrl v t r) y = body_origin v.body (as_it_stands r) y
-end_origin (InStyle v s r) y = style_fed_origin (as_it_stands r) s (style_end_origin (feed_bytes style_feeding s (as_it_stands r)) y)
+end_origin (InStyle v s r) y = style_ends_origin s (as_it_stands r) y
+end_origin (InStyleElement s h) y = style_ends_origin s (pending_bytes h) y
 end_origin f y = member.Whole
 
 -- the one before a text
@@ -212,12 +260,14 @@ body_parts x = None
 
 abbrev pub place_parts : Place → Option Parts
 place_parts (place.Value v) = body_parts v.body
+place_parts (place.Style c) = style_scan_parts (style_scan_start c)
 place_parts p = None
 
 abbrev pub scan_parts : Scan → Option Parts
 scan_parts (At p) = place_parts p
 scan_parts (InUrl v t r) = body_parts v.body
 scan_parts (InStyle v s r) = style_scan_parts s
+scan_parts (InStyleElement s h) = style_scan_parts s
 scan_parts f = None
 
 abbrev pub is_apart : Option Parts → Bool
@@ -270,10 +320,13 @@ met_before o None = one member.Whole
 met_before o (Some apart) = if is_apart o then apart else two member.PartStart member.PartOpen
 met_before o (Some x) = x
 
+abbrev pub fed_shows : StyleScan → List ℕ → EvidenceData
+fed_shows n bytes = met_before (style_scan_parts n) (style_fed_shown bytes n)
+
 -- these bytes, or before them a reference by a name that stands for no character
 abbrev pub style_shows : StyleScan → List ℕ → Code → EvidenceData
 style_shows n bytes code.BadHTML = one member.Whole
-style_shows n bytes e = met_before (style_scan_parts n) (style_fed_shown bytes n)
+style_shows n bytes e = fed_shows n bytes
 
 -- What the language of a value refuses of the bytes that it is fed.
 abbrev pub body_refusal_shows : Body → List ℕ → Code → EvidenceData
@@ -300,6 +353,7 @@ place_shows (place.Comment dash) c b = one member.CommentDash
 place_shows (place.Tag t) c b = one (tag_shows c t.spots)
 place_shows (place.Value v) c b = value_shows v Closed c b
 place_shows (place.Block lt) c b = one member.BlockLt
+place_shows (place.Style p) c b = fed_shows (style_scan_start p) (loose_fed c b)
 place_shows _ c b = one member.Whole
 
 abbrev pub byte_shows : Scan → Class → ℕ → EvidenceData
@@ -307,9 +361,11 @@ byte_shows (At p) c b = place_shows p c b
 byte_shows (InAttributeName t typed name) c b = one (name_origin typed)
 byte_shows (InUrl v t r) c b = value_shows v r c b
 byte_shows (InStyle v s r) c b = style_value_shows v s r c b
+byte_shows (InStyleElement s h) c b = fed_shows s (element_fed h c b)
 byte_shows f c b = one member.Whole
 
--- The end of a text is refused in a name, and elsewhere on each path; in a style a reference with which it ends is read as text.
+-- The end of a text is refused in a name, and elsewhere on each path; in a style a reference with which it ends is read as text, and in the element
+-- what is pending back.
 abbrev pub shown_member : Option EvidenceData → Member
 shown_member (Some (one x)) = x
 shown_member o = member.Whole
@@ -317,6 +373,7 @@ shown_member o = member.Whole
 abbrev pub end_shows : Scan → Member
 end_shows (InAttributeName t typed name) = name_origin typed
 end_shows (InStyle v s r) = shown_member (style_fed_shown (as_it_stands r) s)
+end_shows (InStyleElement s h) = shown_member (style_fed_shown (pending_bytes h) s)
 end_shows f = member.Whole
 
 -- What shows the refusal of a text, by members before it. That two paths met apart they show where it was so before, and else two members do, on

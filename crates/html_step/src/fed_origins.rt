@@ -6,6 +6,7 @@ ghost use Rattle.html_scan.specs.ScanViews.{open_form_at, open_reference_at, pen
 ghost use Rattle.html_step.specs.OriginViews.{origin_at};
 ghost use Rattle.html_step.specs.Origins.{body_origin, fed_in, fed_origin, place_fed_origin, scan_fed_origin};
 
+use crate::element_origins;
 use crate::origins::Origins;
 use crate::style_fed_origins::{at_style_end, in_style};
 use html_scan::{
@@ -33,6 +34,15 @@ pub fn behind_byte(origins: Origins, text: &[u8], index: usize, class: Class, sc
             style,
             reference,
         } => { in_style(origins, text, index, class, place.quotes, style, reference) }
+        Scan::InStyleElement(style) => {
+            element_origins::in_element(origins, class, text[index], style)
+        }
+        Scan::AfterStyleLess(style) => {
+            element_origins::after_less(origins, class, text[index], style)
+        }
+        Scan::InStyleName { style, from } => {
+            element_origins::in_name(origins, text, index, class, style, from)
+        }
         _ => origins,
     }
 }
@@ -44,6 +54,9 @@ fn at_place(origins: Origins, text: &[u8], index: usize, class: Class, place: Pl
 {
     match place {
         Place::Value(value) => in_value(origins, text, index, class, value, None),
+        Place::Style(css) => {
+            element_origins::in_element(origins, class, text[index], css_step::start(css))
+        }
         _ => origins,
     }
 }

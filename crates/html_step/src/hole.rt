@@ -1,4 +1,5 @@
 ghost use Rattle.std.specs.Prelude.{◌≡◌, ◌||◌};
+ghost use Rattle.css_step.specs.StyleChains.{style_hole_with_chain};
 ghost use Rattle.css_step.specs.StyleScanViews.{style_hole_answer};
 ghost use Rattle.url_step.specs.PartSets.{hole_answer};
 ghost use Rattle.html_step.specs.Holes as spec;
@@ -17,7 +18,7 @@ use url_step::at_hole;
 /// - `AmbigContext`: in a URL where some paths are in one part of it and some in another, as before a `?` and behind one: no one
 ///   chain of sanitizers fits all.
 /// - `BadString`: in a style, behind the URL of a `url(`.
-/// - `NotBuilt`: in a script, a style, and a value that is a script.
+/// - `NotBuilt`: in a script, and a value that is a script.
 ///
 /// Does not allocate.
 pub fn after_hole(place: Place) -> Result<(Place, Chain), Code>
@@ -30,8 +31,17 @@ pub fn after_hole(place: Place) -> Result<(Place, Chain), Code>
         Place::Tag(tag) => named_by_data(tag.spots.name || tag.spots.inside, tag),
         Place::Value(value) => in_value(value),
         Place::Block(less) => in_block(less),
-        Place::Script(_) | Place::Style(_) => Err(Code::NotBuilt),
+        Place::Style(css) => in_element(css),
+        Place::Script(_) => Err(Code::NotBuilt),
     }
+}
+
+// In the element `style`, without a sanitizer of quotes.
+fn in_element(css: Css) -> Result<(Place, Chain), Code>
+    ensures { result ≡ spec.element_holed (style_hole_with_chain css (style_hole_answer css)) }
+{
+    let (after, chain) = css_step::after_hole(css)?;
+    Ok((Place::Style(after), chain))
 }
 
 // In a data block: where a text has ended in `<`, the value would go on with it.
@@ -108,8 +118,7 @@ fn css_chain(css: Css, last: San) -> Chain
         Css::Url(parts) => url_chain(parts, last),
         Css::UrlDq(parts) => url_chain(parts, last),
         Css::UrlSq(parts) => url_chain(parts, last),
-        Css::UrlEnd => only(last),
-        Css::Comment(_) => both_of(San::Drop, last),
+        Css::UrlEnd | Css::Comment(_) => both_of(San::Drop, last),
     }
 }
 

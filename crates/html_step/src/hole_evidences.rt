@@ -39,6 +39,7 @@ fn origin(place: Place, member: Member) -> Member
     match place {
         Place::Tag(_) => typed_origin(member),
         Place::Value(value) => body_origin(value.body, quotes_origin(value.quotes, member)),
+        Place::Style(css) => in_style_origin(css, member),
         _ => member,
     }
 }
@@ -91,6 +92,7 @@ fn evidence(place: Place) -> Evidence
         Place::Tag(tag) if tag.spots.name => Evidence::One(Member::NameSpot),
         Place::Tag(_) => Evidence::One(Member::InsideSpot),
         Place::Value(value) => in_value(value.body),
+        Place::Style(css) => in_style(css),
         Place::Block(_) => Evidence::One(Member::BlockLt),
         _ => Evidence::One(Member::Whole),
     }

@@ -83,6 +83,9 @@ fn url_place(text: &[u8], index: usize, scan: Scan) -> Option<Place>
             }
             shown_place(text, index, scan)
         }
+        Scan::InStyleElement(_) | Scan::AfterStyleLess(_) | Scan::InStyleName { .. } => {
+            shown_place(text, index, scan)
+        }
         _ => None,
     }
 }

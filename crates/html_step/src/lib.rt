@@ -2,6 +2,8 @@
 #![tactic(auto)]
 
 mod bodies;
+mod element_origins;
+mod element_showing;
 mod escape_evidences;
 mod escaper;
 mod evidence;

@@ -7,13 +7,14 @@ ghost use Rattle.html_step.specs.OriginViews.{all_members, apart_through, eviden
 ghost use Rattle.html_step.specs.Origins as spec;
 ghost use Rattle.url_lexer.specs.Classes as urls;
 
+use crate::element_origins;
 use crate::evidence::Evidence;
 use crate::fed_origins::{behind_byte, behind_end};
 use crate::style_fed_origins::at_style_end;
 use crate::style_origins::{style_end_origin, style_is_apart, style_origin};
 use css_step::StyleScan;
-use html_scan::{Class, Scan, style_at_cut};
-use place_core::{Body, Member, Parts, Place, Prefix, Spots};
+use html_scan::{Class, Scan, behind_less, behind_name, is_name_of, pending, style_at_cut};
+use place_core::{Body, Element, Member, Parts, Place, Prefix, Spots};
 use url_lexer::{UrlClass, url_class_of};
 
 /// Which member before some bytes each member after them comes from, by the numbers of the 32 members.
@@ -72,7 +73,7 @@ impl Origins {
         let members = members();
         let mut before = members;
         for number in 0..32 {
-            before[number] = fed.of(behind_origin(scan, class, members[number]));
+            before[number] = fed.of(behind_origin(text, index, class, scan, members[number]));
         }
         Origins { before }
     }
@@ -125,6 +126,16 @@ impl Origins {
                 let end = style_end_origin(style_at_cut(text, style, reference), member);
                 at_style_end(self, text, style, reference).of(end)
             }
+            Scan::InStyleElement(style) => self.of(style_end_origin(style, member)),
+            Scan::AfterStyleLess(style) => {
+                let end = style_end_origin(behind_less(style), member);
+                self.then_style(style, b'<').of(end)
+            }
+            Scan::InStyleName { style, from } => {
+                let letters = pending(text, from + 2, text.len());
+                let end = style_end_origin(behind_name(style, letters), member);
+                element_origins::behind_name(self, style, letters).of(end)
+            }
             _ => self.of(Member::Whole),
         }
     }
@@ -137,8 +148,12 @@ fn scan_is_apart(scan: Scan) -> bool
 {
     match scan {
         Scan::At(Place::Value(value)) => is_apart(value.body),
+        Scan::At(Place::Style(css)) => style_is_apart(css_step::start(css)),
         Scan::InUrl { place, .. } => is_apart(place.body),
-        Scan::InStyle { style, .. } => style_is_apart(style),
+        Scan::InStyle { style, .. }
+        | Scan::InStyleElement(style)
+        | Scan::AfterStyleLess(style)
+        | Scan::InStyleName { style, .. } => style_is_apart(style),
         _ => false,
     }
 }
@@ -244,16 +259,33 @@ fn number(member: Member) -> usize
     }
 }
 
-// The member that a member after a byte comes from, behind the bytes that a URL is fed.
-fn behind_origin(scan: Scan, class: Class, member: Member) -> Member
-    ensures { (text : List ℕ) (k : ℕ) → result
-        ≡ spec.behind_origin (scan_at text k scan) (class_at class) member }
+// The member that a member after a byte comes from, behind the bytes that a URL or a style is fed.
+fn behind_origin(text: &[u8], index: usize, class: Class, scan: Scan, member: Member) -> Member
+    requires inside { index < length text.now }
+    requires pending { pending_from scan ≤ index }
+    ensures { result
+        ≡ spec.behind_origin (scan_at text.now index scan) (class_at class) member }
 {
     match scan {
         Scan::At(place) => place_origin(place, class, member),
         Scan::InAttributeName { typed, .. } => name_origin(typed),
         Scan::InUrl { .. } | Scan::InStyle { .. } => in_value_origin(member),
+        Scan::InStyleElement(_) | Scan::AfterStyleLess(_) => member,
+        Scan::InStyleName { from, .. } => {
+            let whole = is_name_of(Element::Style, pending(text, from + 2, index));
+            end_name_origin(whole, class, member)
+        }
         _ => Member::Whole,
+    }
+}
+
+// Behind the end tag of the element `style` all is so on each path.
+fn end_name_origin(whole: bool, class: Class, member: Member) -> Member
+    ensures { result ≡ spec.end_name_origin whole (class_at class) member }
+{
+    match class {
+        Class::White | Class::Solidus | Class::GreaterThan if whole => Member::Whole,
+        _ => member,
     }
 }
 
@@ -263,6 +295,7 @@ fn place_origin(place: Place, class: Class, member: Member) -> Member
     match place {
         Place::Tag(tag) => tag_origin(class, tag.spots, member),
         Place::Value(_) => in_value_origin(member),
+        Place::Style(_) => member,
         _ => Member::Whole,
     }
 }

@@ -11,12 +11,13 @@ ghost use Rattle.html_step.specs.Origins.{quotes_show, shows, style_value_shows,
 ghost use Rattle.html_step.specs.Origins as spec;
 ghost use Rattle.html_step.specs.Steps as steps;
 
+use crate::element_showing;
 use crate::evidence::Evidence;
 use crate::origins::{Origins, name_origin, spells_apart};
 use crate::style_showing::{shown_at_end, shown_in_style};
 use css_step::StyleScan;
 use html_scan::{
-    Class, OpenReference, Scan, at_byte, class_of, next, refused_in_style, refused_in_url,
+    Class, OpenReference, Scan, at_byte, class_of, next, pending, refused_in_style, refused_in_url,
 };
 use place_core::{Body, Code, Member, Parts, Place, Quotes, Spots, ValuePlace};
 
@@ -93,6 +94,11 @@ fn byte_shows(text: &[u8], index: usize, class: Class, scan: Scan) -> Evidence
             style,
             reference,
         } => in_style(text, index, class, place.quotes, style, reference),
+        Scan::InStyleElement(style) => element_showing::in_element(class, text[index], style),
+        Scan::AfterStyleLess(style) => element_showing::after_less(class, text[index], style),
+        Scan::InStyleName { style, from } => {
+            element_showing::in_name(text, index, class, style, from)
+        }
         _ => Evidence::One(Member::Whole),
     }
 }
@@ -107,6 +113,9 @@ fn place_shows(text: &[u8], index: usize, class: Class, place: Place) -> Evidenc
         Place::Tag(tag) => Evidence::One(tag_shows(class, tag.spots)),
         Place::Value(value) => in_value(text, index, class, value, None),
         Place::Block(_) => Evidence::One(Member::BlockLt),
+        Place::Style(css) => {
+            element_showing::in_element(class, text[index], css_step::start(css))
+        }
         _ => Evidence::One(Member::Whole),
     }
 }
@@ -229,6 +238,10 @@ fn end_shows(text: &[u8], scan: Scan) -> Member
             reference,
             ..
         } => shown_at_end(text, style, reference),
+        Scan::AfterStyleLess(style) => element_showing::at_less(style),
+        Scan::InStyleName { style, from } => {
+            element_showing::at_name(style, pending(text, from + 2, text.len()))
+        }
         _ => Member::Whole,
     }
 }

@@ -24,8 +24,8 @@ use place_core::{Place, StepErr};
 /// - `AmbigContext`: a blank that on some paths ends a value without quotes, and on others stands before one; in the beginning of
 ///   a URL a `:`, also as a reference, behind a value of data, or where paths have spelled different things.
 /// - `PartialEscape`: a text that ends in a percent triple of a URL.
-/// - `NotBuilt`: the `>` before the content of a script or a style; the `=` before a value that is a script or a style; and each
-///   byte at a place in one of these.
+/// - `NotBuilt`: the `>` before the content of a script; the `=` before a value that is a script; and each byte at a place in one of
+///   these.
 ///
 /// Takes no memory, and time in proportion to the length of the text.
 pub fn after_text(place: Place, text: &str) -> Result<Place, StepErr<Place>>

@@ -153,7 +153,8 @@ fn behind_char(origins: Origins, style: StyleScan, found: char) -> Origins
     behind_bytes(origins, style, found.encode_utf8(&mut buffer).as_bytes())
 }
 
-fn behind_bytes(origins: Origins, style: StyleScan, bytes: &[u8]) -> Origins
+/// Before these bytes.
+pub fn behind_bytes(origins: Origins, style: StyleScan, bytes: &[u8]) -> Origins
     ensures { (y : Member) → origin_at result y ≡ origin_at origins
         (style_fed_origin bytes.now (style_scan_at style) y) }
 {

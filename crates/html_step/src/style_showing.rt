@@ -55,7 +55,8 @@ pub fn shown_at_end(text: &[u8], style: StyleScan, reference: Option<OpenReferen
     }
 }
 
-fn shown_member(shown: Option<Evidence>) -> Member
+/// One member shows the end of a text.
+pub fn shown_member(shown: Option<Evidence>) -> Member
     ensures { result ≡ spec.shown_member (option_map evidence_at shown) }
 {
     match shown {
@@ -64,8 +65,8 @@ fn shown_member(shown: Option<Evidence>) -> Member
     }
 }
 
-// What shows the same before all of these bytes.
-fn before(style: StyleScan, shown: Option<Evidence>) -> Evidence
+/// What shows the same before all of these bytes.
+pub fn before(style: StyleScan, shown: Option<Evidence>) -> Evidence
     ensures { evidence_at result ≡ met_before (style_scan_parts (style_scan_at style))
         (option_map evidence_at shown) }
 {
@@ -129,7 +130,8 @@ fn in_reference(
     }
 }
 
-fn first_shown(shown: Option<Evidence>, later: Option<Evidence>) -> Option<Evidence>
+/// Of two refusals the first.
+pub fn first_shown(shown: Option<Evidence>, later: Option<Evidence>) -> Option<Evidence>
     ensures { option_map evidence_at result
         ≡ spec.first_shown (option_map evidence_at shown) (option_map evidence_at later) }
 {
@@ -169,7 +171,8 @@ fn of_char(style: StyleScan, found: char) -> Option<Evidence>
     of_bytes(style, found.encode_utf8(&mut buffer).as_bytes())
 }
 
-fn of_bytes(style: StyleScan, bytes: &[u8]) -> Option<Evidence>
+/// Bytes that it is fed.
+pub fn of_bytes(style: StyleScan, bytes: &[u8]) -> Option<Evidence>
     ensures { option_map evidence_at result ≡ style_fed_shown bytes.now (style_scan_at style) }
 {
     let mut fed = style;
@@ -193,7 +196,8 @@ fn of_plain_byte(style: StyleScan, class: Class, byte: u8) -> Option<Evidence>
     }
 }
 
-fn of_byte(style: StyleScan, byte: u8) -> Option<Evidence>
+/// A byte that the style is fed.
+pub fn of_byte(style: StyleScan, byte: u8) -> Option<Evidence>
     ensures { option_map evidence_at result ≡ spec.style_byte_shown (style_scan_at style) byte }
 {
     match css_step::refused(style, byte) {

@@ -7,7 +7,7 @@ use Rattle.std.specs.Bool.{⊤}
 use Rattle.std.specs.Char.{is_ascii_digit}
 use Rattle.std.specs.Fmt.{decimal, digits, digits_onto, digit_glyph, signed_decimal}
 use Rattle.page_datum.specs.Data.{Data, null, truth, int, text, list, dict, DataList, no_items, item, DataDict, no_entries, entry}
-use Rattle.js_lexer.specs.Classes.{is_space, is_line_end, class_of}
+use Rattle.js_lexer.specs.Classes.{is_space, is_line_terminator, class_of}
 use Rattle.js_lexer.specs.Events.{ScriptEvent, NumberBegins, StringBegins, ScriptByte, script_bytes}
 use Rattle.js_lexer.specs.Feeding.{script_reading, read_on}
 use Rattle.js_lexer.specs.Plain.{word_events, punctuator_event, number_events, text_events, literal_events, item_events, more_item_events, entry_events, more_entry_events}
@@ -53,7 +53,7 @@ digit-class : (b : ℕ) → is_ascii_digit b ≡ true → class_of b ≡ class.D
 unfolding class_of
 digit-class b h =
     let no_space : is_space b ≡ false = grind (arith, nat_tests) in
-    let no_end : is_line_end b ≡ false = grind (arith, nat_tests) in
+    let no_end : is_line_terminator b ≡ false = grind (arith, nat_tests) in
     rw no_space (rw no_end (rw h refl))
 
 digit-ascii : (b : ℕ) → is_ascii_digit b ≡ true → nat_lt b 128 ≡ true

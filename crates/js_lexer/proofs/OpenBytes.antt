@@ -3,7 +3,7 @@ use Rattle.std.proofs.Common.{◌≡◌, ◌||◌, ◌&&◌, ◌==◌, ℕ, zero
 use Rattle.std.proofs.lemmas.Bool.Decides.{nat_tests}
 use Rattle.std.specs.Bool.{⊤}
 use Rattle.std.specs.Char.{is_ascii_alphabetic, is_ascii_digit}
-use Rattle.js_lexer.specs.Classes.{is_space, is_line_end, class_of, script_opens}
+use Rattle.js_lexer.specs.Classes.{is_space, is_line_terminator, class_of, script_opens}
 use Rattle.js_lexer.specs.Events.{ScriptEvent}
 use Rattle.js_lexer.specs.Feeding.{feed_script, script_emits, ScriptReading, script_reading, read_on}
 use Rattle.js_lexer.specs.Holes.{IsBetweenEscapes}
@@ -123,8 +123,8 @@ byte-fine r b line return double quote slash star bracket =
     let class-3 : ScriptClass = if is_ascii_alphabetic b || (b == 95 || nat_le 128 b) then class.Letter else class-4 in
     let fine-2 = fine-if r (is_ascii_digit b) class.Digit class-3 (λ h. refl) fine-3 in
     let class-2 : ScriptClass = if is_ascii_digit b then class.Digit else class-3 in
-    let fine-1 = fine-if r (is_line_end b) class.LineEnd class-2 (no-both r (is_line_end b) class.LineEnd (no-either (b == 10) (b == 13) line return)) fine-2 in
-    let class-1 : ScriptClass = if is_line_end b then class.LineEnd else class-2 in
+    let fine-1 = fine-if r (is_line_terminator b) class.LineEnd class-2 (no-both r (is_line_terminator b) class.LineEnd (no-either (b == 10) (b == 13) line return)) fine-2 in
+    let class-1 : ScriptClass = if is_line_terminator b then class.LineEnd else class-2 in
     fine-if r (is_space b) class.Space class-1 (λ h. refl) fine-1
 
 -- no row is of what stands there

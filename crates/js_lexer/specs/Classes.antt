@@ -8,8 +8,8 @@ use Rattle.js_lexer.specs.declared.class.ScriptClass.TheVariants as class
 abbrev pub is_space : ℕ → Bool
 is_space b = b == 9 || (b == 11 || (b == 12 || b == 32))
 
-abbrev pub is_line_end : ℕ → Bool
-is_line_end b = b == 10 || b == 13
+abbrev pub is_line_terminator : ℕ → Bool
+is_line_terminator b = b == 10 || b == 13
 
 -- Of the characters that are tokens by themselves, those after which a slash begins a regular expression: , = % & | ^ ? ~ ( : ; and no more. So it does
 -- after { [ < > ! * which have classes of their own.
@@ -22,7 +22,7 @@ script_opens b =
 unfoldable pub class_of : ℕ → ScriptClass
 class_of b =
     if is_space b then class.Space
-    else (if is_line_end b then class.LineEnd
+    else (if is_line_terminator b then class.LineEnd
     else (if is_ascii_digit b then class.Digit
     else (if is_ascii_alphabetic b || (b == 95 || nat_le 128 b) then class.Letter
     else (if b == 36 then class.Dollar

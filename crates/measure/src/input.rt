@@ -30,6 +30,7 @@ pub fn input_of(alloc: Global, input: Input, size: usize) -> Result<String, Allo
         Input::Urls => repeated(alloc, "", URL, "", size),
         Input::Links => repeated(alloc, "", LINK, "", size),
         Input::Styles => repeated(alloc, "", STYLE, "", size),
+        Input::StyleElements => repeated(alloc, "", STYLE_ELEMENT, "", size),
         Input::Chain => chain(alloc, size),
         Input::Pairs => pairs(alloc, size),
         Input::Nests => nests(alloc, TAGS, size),
@@ -49,6 +50,9 @@ const LINK: &str = "<a href=\"/list/{{.v}}?q={{.w}}\">{{.v}}</a>\n";
 
 // A tag with two values in its style.
 const STYLE: &str = "<p style=\"color: {{.v}}; width: {{.w}}px\">{{.v}}</p>\n";
+
+// An element `style`, of which one property has a value.
+const STYLE_ELEMENT: &str = "<style>p{width:{{.w}}px}</style>\n";
 
 // A section of a page with a hole.
 const PAGE_HOLE: &str = "<p>{{.v}}</p>\n";

@@ -88,6 +88,8 @@ pub enum Input {
     Links,
     /// Tags with declarations of CSS, of which two properties have a value of data, again and again.
     Styles,
+    /// Elements `style`, of which one property has a value of data, again and again.
+    StyleElements,
     /// Variables; after each one the one with half its number is used.
     Variables,
     /// Templates, each of which calls the next one in eight places.
@@ -157,6 +159,7 @@ pub fn words_named(word: &str) -> Option<(Measured, Input)> {
         "page-sections" => Some((Measured::Page, Input::PageSections)),
         "page-links" => Some((Measured::Page, Input::Links)),
         "page-styles" => Some((Measured::Page, Input::Styles)),
+        "page-style-elements" => Some((Measured::Page, Input::StyleElements)),
         "page-text" => Some((Measured::Page, Input::Text)),
         "page-variables" => Some((Measured::Page, Input::Variables)),
         "page-dropped" => Some((Measured::Dropped, Input::Numbers)),
@@ -165,6 +168,7 @@ pub fn words_named(word: &str) -> Option<(Measured, Input)> {
         "pages-sections" => Some((Measured::Pages, Input::PageSections)),
         "pages-links" => Some((Measured::Pages, Input::Links)),
         "pages-styles" => Some((Measured::Pages, Input::Styles)),
+        "pages-style-elements" => Some((Measured::Pages, Input::StyleElements)),
         "pages-text" => Some((Measured::Pages, Input::Text)),
         "looks-1" => Some((Measured::Looks, Input::One)),
         "looks-4" => Some((Measured::Looks, Input::Four)),

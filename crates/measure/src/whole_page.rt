@@ -41,7 +41,7 @@ pub fn data_of(input: Input) -> &'static str {
     match input {
         Input::PageSections => "{\"l\":[\"a b\",\"c\"],\"v\":\"<&\",\"w\":7}",
         Input::Links => "{\"v\":\"a b\",\"w\":\"c&d\"}",
-        Input::Styles => "{\"v\":\"#1a2b3c\",\"w\":120}",
+        Input::Styles | Input::StyleElements => "{\"v\":\"#1a2b3c\",\"w\":120}",
         _ => "null",
     }
 }

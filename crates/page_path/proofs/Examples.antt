@@ -100,6 +100,22 @@ in_a_comment_of_a_style : page_bytes (pieces (codes "<b style=a/*") (codes "red"
 unfolding class_of style_class
 in_a_comment_of_a_style = refl
 
+-- in the element of a style the same, as it is; and there a value in a comment is left out
+in_a_style_element : page_bytes (pieces (codes "<style>b{color:") (codes "url(a)") (codes "}</style>"))
+    ≡ codes "<style>b{color:ZgotmplZ}</style>"
+unfolding class_of style_class
+in_a_style_element = refl
+
+in_a_string_of_an_element : page_bytes (pieces (codes "<style>b{content:'") (codes "</style>") (codes "'}</style>"))
+    ≡ codes "<style>b{content:'\\3c\\2fstyle\\3e '}</style>"
+unfolding class_of style_class
+in_a_string_of_an_element = refl
+
+in_a_comment_of_an_element : pieces (codes "<style>a/*") (codes "red") (codes "*/</style>")
+    ≡ words (codes "<style>a ") ∷ words (codes " </style>") ∷ []
+unfolding class_of style_class
+in_a_comment_of_an_element = refl
+
 -- with another sanitizer after Drop the value is not left out
 dropped_first : value_pieces (record { count = 2; sans = san.Drop ∷ san.AttrNospace ∷ san.AttrNospace ∷ [] }) (text (codes "a"))
     ≡ value (text (codes "a")) (codes "ZgotmplZ") ∷ []

@@ -8,6 +8,8 @@ use Rattle.page_datum.specs.Printed.{printed}
 use Rattle.page_path.specs.Pages.{chain_bytes}
 use Rattle.page_path.specs.Soundness.{IsBack, IsNameBack, ReadsBackOutside}
 use Rattle.page_path.specs.Textual.{IsTextBy}
+use Rattle.page_path.proofs.ElementBack.{in_style_element}
+use Rattle.page_path.proofs.ElementBack as elements
 use Rattle.page_path.proofs.StyleBack.{WrittenInStyles, code-back, comment-back, dropped-back, in_style, string-back, style-url-back, unbegun-style-back}
 use Rattle.page_path.proofs.StyleBack as styles
 use Rattle.page_path.proofs.UrlBack.{in-url, part-back, quoted-back, unbegun-back, url-back}
@@ -16,15 +18,15 @@ use Rattle.place_core.specs.place.Membership.{IsIn}
 use Rattle.place_core.specs.page.Plain.{settled_state}
 use Rattle.place_core.specs.place.Places.{IsValid}
 use Rattle.place_core.specs.page.References.{Closed, Reference}
-use Rattle.place_core.specs.place.StatePlaces.{content_spot, only_after, only_inside, placed, tag_spot, quotes_at, value_body, value_spot, where_closed}
-use Rattle.place_core.specs.place.StyleParts.{style_body, style_place}
+use Rattle.place_core.specs.place.StatePlaces.{content_spot, language_place, only_after, only_inside, placed, tag_spot, quotes_at, value_body, value_spot, where_closed}
+use Rattle.place_core.specs.place.StyleParts.{style_body, style_css, style_place}
 use Rattle.place_core.specs.place.UrlParts.{parts_of}
 use Rattle.css_lexer.specs.Escapes.{AfterBackslash, AfterReturn, HexDigits, NoEscape}
 use Rattle.css_lexer.specs.PartSpots.{has_read_nothing, is_at_start}
 use Rattle.css_lexer.specs.Sanitizers.{css_value}
 use Rattle.css_lexer.specs.Spots.{QuotedUrlSpot, UrlSpot}
 use Rattle.css_lexer.specs.States.{Quote, DoubleQuote, SingleQuote, Outside, Between, AfterLessThan, Word, AfterSolidus, Comment, InString, BadUrl, BehindHole, SplitWord, SolidusAtCut, LessThanAtCut, StarAtCut, UrlForm, Fresh, Bare, Quoted, Ended, Style, Out, InUrl}
-use Rattle.place_core.specs.page.States.{AfterAttributeName, AfterAttributeValue, AttributeValue, BeforeAttributeName, BeforeAttributeValue, Broken, Bytes, Characters, CommentState, Config, Content, Pending, InComment, InContent, Inside, LessAtCut, Nothing, SelfClosingStartTag, LexState, Text, WholeAttributeName}
+use Rattle.place_core.specs.page.States.{AfterAttributeName, AfterAttributeValue, AttributeValue, BeforeAttributeName, BeforeAttributeValue, Broken, Bytes, Characters, CommentState, Config, Content, Pending, InComment, InContent, InLanguage, Inside, LessAtCut, Nothing, SelfClosingStartTag, LexState, Text, WholeAttributeName}
 use Rattle.place_core.specs.page.Tags.{DoubleQuoted, Quoting, SingleQuoted, Tag, Unquoted, Value, ValueOf, ValueState, OfKind, OfStyle, OfUrl, is_second_type, languages, without_value}
 use Rattle.place_core.specs.declared.body.Body.{Body}
 use Rattle.place_core.specs.declared.body.Body.TheVariants as body
@@ -45,11 +47,13 @@ use Rattle.san_html.specs.ReadBack.{BeginsName, IsBackInBlock, IsBackInRcdata, I
 use Rattle.san_html.specs.Sanitizers.{attr_name, html, html_rows}
 use Rattle.san_url.specs.Back.{IsBackInPart}
 use Rattle.text_norm.proofs.Emits.{same-state}
+use Rattle.text_norm.proofs.StyleElementHoles.{IsLoose}
 use Rattle.text_norm.specs.HoleLaws.{IsBackBy, IsBackInBeginning, leaves_out}
 use Rattle.text_norm.specs.Standing.{TextStands}
 use Rattle.text_norm.specs.StandsLaws.{holds_nothing}
 use Rattle.url_lexer.specs.Parts.{UrlPart, UrlStart, UrlOpen, UrlOpenhole, UrlPrequery, UrlQuery, UrlBad}
 use Rattle.url_lexer.specs.Prefixes.{Prefix}
+use Rattle.url_lexer.specs.Refusals.{refuses_hole_in}
 use Rattle.url_lexer.specs.Sanitizers.{url_open}
 use Rattle.url_lexer.specs.Spots.{where_whole}
 use Rattle.url_lexer.specs.States.{Url}
@@ -115,7 +119,8 @@ in-block = record {
   back = λ laws datum u. same-back in_block datum _ refl (block-back (printed datum) u).undoes;
 }
 
-in-comment : (s : CommentState) → IsSafe (only san.Drop) (InComment s)
+-- in a comment, of HTML or of a style in its element, the value is left out
+in-comment : (s : LexState ValueState) → IsSafe (only san.Drop) s
 in-comment s = record { promised = λ laws datum u. refl; back = λ laws datum u. tt }
 
 abbrev of_plain : Value ValueState
@@ -153,15 +158,7 @@ before-name s tag begins free same = record {
   back = λ laws datum u. same-back s datum _ free (same datum (attr_name (printed datum)) ((tag-back (printed datum)).reads s tag [] begins));
 }
 
--- likewise, and so wherever a hole is accepted
-content-safe : (h : Pending) (x : Content) (e : Element) → SafeAt (InContent e x h) (content_spot h x e)
-content-safe Nothing (Characters Closed) element.Title = in-content element.Title
-content-safe Nothing (Characters Closed) element.Textarea = in-content element.Textarea
-content-safe Nothing Bytes element.DataBlock = in-block
-content-safe LessAtCut Bytes element.DataBlock = tt
-content-safe _ _ _ = tt
-
--- in a URL, by its part; behind a scheme that is code no hole is accepted, and inside a percent triple there is no place
+-- In a URL, by its part; behind a scheme that is code no hole is accepted, and inside a percent triple there is no place
 in-url-start : (q : Quoting) (tag : Tag) (u : Url) → u.part ≡ UrlStart
     → IsSafe (all_of san.UrlFilter san.UrlNorm (last_of (quotes_at q))) (in_value q tag (ValueOf (OfUrl u)))
 in-url-start q tag u is = record {
@@ -376,6 +373,134 @@ value-safe Closed (ValueOf (OfUrl u)) q tag = url-safe u.triple u.part q tag u r
 value-safe Closed (ValueOf (OfStyle v)) q tag = style-safe v q tag
 value-safe _ _ _ tag = tt
 
+-- In the element of a style: in code, in a string, and in a URL, by its part.
+element-code : (s : Outside) → IsLoose (Out s) → ((text : List ℕ) → ReadsBackOutside s text (css_value text))
+    → IsSafe (only san.CssValue) (in_style_element (Out s))
+element-code s o reads = record {
+  promised = λ laws datum utf8. elements.in-code laws (printed datum);
+  back = λ laws datum utf8 t d l. elements.code-back s datum o (reads (printed datum)) t d l;
+}
+
+element-string : (quote : Quote) → IsSafe (only san.CssString) (in_style_element (Out (InString quote NoEscape)))
+element-string quote = record {
+  promised = λ laws datum utf8. elements.in-string laws (printed datum);
+  back = λ laws datum utf8 t d l. elements.string-back (InString quote NoEscape) datum tt (laws.strings (printed datum)).reads t d l;
+}
+
+element-outside : (s : Outside) → SafeAt (in_style_element (Out s)) (option_map place.Style (style_css (Out s)))
+element-outside (Between k) = element-code (Between k) tt (λ text. refl)
+element-outside AfterLessThan = tt
+element-outside (Word w e) = tt
+element-outside (AfterSolidus k) = tt
+element-outside (Comment true) = tt
+element-outside (Comment false) = in-comment (in_style_element (Out (Comment false)))
+element-outside (InString DoubleQuote NoEscape) = element-string DoubleQuote
+element-outside (InString SingleQuote NoEscape) = element-string SingleQuote
+element-outside (InString quote AfterBackslash) = tt
+element-outside (InString quote (HexDigits n)) = tt
+element-outside (InString quote AfterReturn) = tt
+element-outside BadUrl = tt
+element-outside (BehindHole solidus less) = element-code (BehindHole solidus less) tt (λ text. refl)
+element-outside (SplitWord NoEscape) = element-code (SplitWord NoEscape) tt (λ text. refl)
+element-outside (SplitWord AfterBackslash) = tt
+element-outside (SplitWord (HexDigits n)) = tt
+element-outside (SplitWord AfterReturn) = tt
+element-outside (SolidusAtCut k) = element-code (SolidusAtCut k) tt (λ text. refl)
+element-outside LessThanAtCut = element-code LessThanAtCut tt (λ text. refl)
+element-outside StarAtCut = in-comment (in_style_element (Out StarAtCut))
+
+abbrev part_chain : UrlPart → Chain
+part_chain UrlStart = both_of san.UrlFilter san.UrlNorm
+part_chain UrlPrequery = only san.UrlNorm
+part_chain UrlQuery = only san.UrlQuery
+part_chain p = only san.UrlOpen
+
+element-url : (p : UrlPart) (f : UrlForm) (u : Url) → u.part ≡ p → refuses_hole_in p ≡ None
+    → IsSafe (part_chain p) (in_style_element (InUrl f u))
+element-url UrlStart f u is h = record {
+  promised = λ laws datum utf8. elements.in-url laws UrlStart (IsBackInPart UrlStart (printed datum)) (printed datum) utf8
+      (part-back UrlStart (printed datum) utf8 refl);
+  back = λ laws datum utf8 t d l. elements.url-back UrlStart f u datum is utf8 refl t d l;
+}
+element-url (UrlOpen spelled) f u is h = record {
+  promised = λ laws datum utf8. elements.in-url laws UrlOpenhole (IsBackInBeginning (printed datum)) (printed datum) utf8
+      (in-beginning (printed datum) utf8);
+  back = λ laws datum utf8 t d l. elements.url-back (UrlOpen spelled) f u datum is utf8 refl t d l;
+}
+element-url UrlOpenhole f u is h = record {
+  promised = λ laws datum utf8. elements.in-url laws UrlOpenhole (IsBackInBeginning (printed datum)) (printed datum) utf8
+      (in-beginning (printed datum) utf8);
+  back = λ laws datum utf8 t d l. elements.url-back UrlOpenhole f u datum is utf8 refl t d l;
+}
+element-url UrlPrequery f u is h = record {
+  promised = λ laws datum utf8. elements.in-url laws UrlPrequery (IsBackInPart UrlPrequery (printed datum)) (printed datum) utf8
+      (part-back UrlPrequery (printed datum) utf8 refl);
+  back = λ laws datum utf8 t d l. elements.url-back UrlPrequery f u datum is utf8 refl t d l;
+}
+element-url UrlQuery f u is h = record {
+  promised = λ laws datum utf8. elements.in-url laws UrlQuery (IsBackInPart UrlQuery (printed datum)) (printed datum) utf8
+      (part-back UrlQuery (printed datum) utf8 refl);
+  back = λ laws datum utf8 t d l. elements.url-back UrlQuery f u datum is utf8 refl t d l;
+}
+element-url UrlBad f u is h = cc
+
+element-fresh : (begins : Bool) (u : Url) → has_read_nothing u ≡ begins
+    → SafeAt (in_style_element (InUrl Fresh u)) (option_map place.Style (if begins then Some css.UrlFresh else None))
+element-fresh true u e = element-url UrlStart Fresh u (at-start u.part (and_parts (is_at_start u.part) _ e).0) refl
+element-fresh false u e = tt
+
+element-bare : (r : Triple) (p : UrlPart) (u : Url) → u.part ≡ p
+    → SafeAt (in_style_element (InUrl Bare u)) (option_map place.Style (option_map style_place (option_map UrlSpot (where_whole r p))))
+element-bare NoTriple UrlStart u is = element-url UrlStart Bare u is refl
+element-bare NoTriple (UrlOpen spelled) u is = element-url (UrlOpen spelled) Bare u is refl
+element-bare NoTriple UrlOpenhole u is = element-url UrlOpenhole Bare u is refl
+element-bare NoTriple UrlPrequery u is = element-url UrlPrequery Bare u is refl
+element-bare NoTriple UrlQuery u is = element-url UrlQuery Bare u is refl
+element-bare NoTriple UrlBad u is = tt
+element-bare AfterPercent p u is = tt
+element-bare AfterDigit p u is = tt
+
+element-quoted : (quote : Quote) (r : Triple) (p : UrlPart) (u : Url) → u.part ≡ p
+    → SafeAt (in_style_element (InUrl (Quoted quote NoEscape) u))
+    (option_map place.Style (option_map style_place (option_map (QuotedUrlSpot quote) (where_whole r p))))
+element-quoted DoubleQuote NoTriple UrlStart u is = element-url UrlStart (Quoted DoubleQuote NoEscape) u is refl
+element-quoted DoubleQuote NoTriple (UrlOpen spelled) u is = element-url (UrlOpen spelled) (Quoted DoubleQuote NoEscape) u is refl
+element-quoted DoubleQuote NoTriple UrlOpenhole u is = element-url UrlOpenhole (Quoted DoubleQuote NoEscape) u is refl
+element-quoted DoubleQuote NoTriple UrlPrequery u is = element-url UrlPrequery (Quoted DoubleQuote NoEscape) u is refl
+element-quoted DoubleQuote NoTriple UrlQuery u is = element-url UrlQuery (Quoted DoubleQuote NoEscape) u is refl
+element-quoted DoubleQuote NoTriple UrlBad u is = tt
+element-quoted SingleQuote NoTriple UrlStart u is = element-url UrlStart (Quoted SingleQuote NoEscape) u is refl
+element-quoted SingleQuote NoTriple (UrlOpen spelled) u is = element-url (UrlOpen spelled) (Quoted SingleQuote NoEscape) u is refl
+element-quoted SingleQuote NoTriple UrlOpenhole u is = element-url UrlOpenhole (Quoted SingleQuote NoEscape) u is refl
+element-quoted SingleQuote NoTriple UrlPrequery u is = element-url UrlPrequery (Quoted SingleQuote NoEscape) u is refl
+element-quoted SingleQuote NoTriple UrlQuery u is = element-url UrlQuery (Quoted SingleQuote NoEscape) u is refl
+element-quoted SingleQuote NoTriple UrlBad u is = tt
+element-quoted quote AfterPercent p u is = tt
+element-quoted quote AfterDigit p u is = tt
+
+element-safe : (v : Style Url) → SafeAt (in_style_element v) (option_map place.Style (style_css v))
+element-safe (Out s) = element-outside s
+element-safe (InUrl Fresh u) = element-fresh (has_read_nothing u) u refl
+element-safe (InUrl Bare u) = element-bare u.triple u.part u refl
+element-safe (InUrl (Quoted quote NoEscape) u) = element-quoted quote u.triple u.part u refl
+element-safe (InUrl (Quoted quote AfterBackslash) u) = tt
+element-safe (InUrl (Quoted quote (HexDigits n)) u) = tt
+element-safe (InUrl (Quoted quote AfterReturn) u) = tt
+element-safe (InUrl Ended u) = tt
+
+language-safe : (e : Element) (v : ValueState) → SafeAt (InContent e (InLanguage v) Nothing) (language_place e v)
+language-safe element.Style (OfStyle v) = element-safe v
+language-safe _ _ = tt
+
+-- likewise in any content, and so wherever a hole is accepted
+content-safe : (h : Pending) (x : Content ValueState) (e : Element) → SafeAt (InContent e x h) (content_spot h x e)
+content-safe Nothing (Characters Closed) element.Title = in-content element.Title
+content-safe Nothing (Characters Closed) element.Textarea = in-content element.Textarea
+content-safe Nothing Bytes element.DataBlock = in-block
+content-safe LessAtCut Bytes element.DataBlock = tt
+content-safe Nothing (InLanguage v) e = language-safe e v
+content-safe _ _ _ = tt
+
 -- after a name, unless it is a second `type`, where a path is at no place
 after-name-safe : (o : Bool) (tag : Tag) (k : Kind)
     → SafeAt (AfterAttributeName tag k) (if o then None else Some (place.Tag (tag_spot tag only_after (Some k))))
@@ -389,8 +514,8 @@ whole-name-safe false tag k = tt
 
 safe-at : (s : LexState ValueState) → SafeAt s (placed s)
 safe-at (Text Closed) = in-text
-safe-at (InComment Inside) = in-comment Inside
-safe-at (InComment Broken) = in-comment Broken
+safe-at (InComment Inside) = in-comment (InComment Inside)
+safe-at (InComment Broken) = in-comment (InComment Broken)
 safe-at (BeforeAttributeName tag) = before-name (BeforeAttributeName tag) tag refl refl (λ datum bytes h. h)
 safe-at (AfterAttributeName tag k) = after-name-safe (is_second_type tag.typed k) tag k
 safe-at (WholeAttributeName tag k) = whole-name-safe (is_second_type tag.typed k) tag k

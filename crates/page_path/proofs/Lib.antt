@@ -1,3 +1,4 @@
+pub mod ElementBack
 pub mod EventsFilled
 pub mod Examples
 pub mod Finding

@@ -95,7 +95,7 @@ page-reads s r text characters (cut_star star) b = b
 same-part : (u w : Url) (text characters : List ℕ) → urls.AreAlike u w → ReadsBack u.part text characters → ReadsBack w.part text characters
 same-part u w text characters a b = subst (λ (p : UrlPart). ReadsBack p text characters) (sym a.part) b
 
-style-reads : (v w : Style Url) (text characters : List ℕ) → StylesAlike urls v w → ReadsBackInStyle v text characters
+pub style-reads : (v w : Style Url) (text characters : List ℕ) → StylesAlike urls v w → ReadsBackInStyle v text characters
     → ReadsBackInStyle (style_settled w) text characters
 style-reads (Out s) (Out r) text characters (outside a) b = page-reads s r text characters a b
 style-reads (InUrl f u) (InUrl g w) text characters (in_url h a) b = same-part u w text characters a b

@@ -1,7 +1,7 @@
 -- What a chain writes for a value in a URL keeps what it promises, and reads back in every part where a hole has that chain.
-use Rattle.std.proofs.Common.{◌≡◌, ℕ, ◌==◌, not, nat_lt, true, List, [], ◌∷◌, IsUtf8, None, refl, sym, ap, ◌∙◌, subst}
-use Rattle.std.proofs.lemmas.Bool.{and_from, and_parts, not-true}
-use Rattle.std.specs.List.{list_all}
+use Rattle.std.proofs.Common.{◌≡◌, ℕ, false, true, List, [], ◌∷◌, IsUtf8, None, refl, sym, ap, ◌∙◌, subst}
+use Rattle.std.proofs.lemmas.Bool.{and_from}
+use Rattle.std.specs.List.{list_all, list_any}
 use Rattle.css_lexer.specs.StaysInUrl.{ValuesStayInUrls, is_byte}
 use Rattle.css_lexer.specs.Urls.{urls}
 use Rattle.html_step.specs.Holes.{last_of}
@@ -22,11 +22,11 @@ use Rattle.san_html.proofs.UnquotedValues.{unquoted-back}
 use Rattle.san_html.specs.ReadBack.{IsBackInQuoted, in_value, read_as_text, read_value}
 use Rattle.san_html.specs.Sanitizers.{html, html_rows}
 use Rattle.san_url.proofs.Parts.{back-in-part}
-use Rattle.san_url.proofs.WrittenAscii.{AreOwn, utf8-bytes, written-own, written-utf8}
+use Rattle.san_url.proofs.WrittenAscii.{AreOwn, own-no-less, own-no-nul, utf8-bytes, written-own, written-utf8}
 use Rattle.san_url.specs.Back.{IsBackInPart}
 use Rattle.text_norm.specs.FilledReadings.{value_text}
 use Rattle.text_norm.specs.Fillings.{url_bytes}
-use Rattle.text_norm.specs.HoleLaws.{IsBackByLast, IsBackInUrl}
+use Rattle.text_norm.specs.HoleLaws.{IsBackByLast, IsBackInUrl, is_less_than}
 use Rattle.text_norm.specs.Standing.{TextStands}
 use Rattle.url_lexer.proofs.ReadBack.{written-back}
 use Rattle.url_lexer.proofs.WrittenBytes.{written-plain}
@@ -54,9 +54,13 @@ by-last Unquoted characters u = unquoted-back characters u
 
 pub own-text : (bs : List ℕ) → AreOwn bs → read_as_text bs ≡ bs
 own-text [] h = refl
-own-text (b ∷ bs) h = rw (not-true (b == 0) (and_parts (nat_lt b 128) (not (b == 0)) h.0).1, own-text bs h.1) refl
+own-text (b ∷ bs) h = rw (own-no-nul b h.0, own-text bs h.1) refl
 
-all-bytes : (bs : List ℕ) → AreBytes bs → list_all is_byte bs ≡ true
+pub own-apart : (bs : List ℕ) → AreOwn bs → list_any is_less_than bs ≡ false
+own-apart [] h = refl
+own-apart (b ∷ bs) h = rw (own-no-less b h.0, own-apart bs h.1) refl
+
+pub all-bytes : (bs : List ℕ) → AreBytes bs → list_all is_byte bs ≡ true
 all-bytes [] a = refl
 all-bytes (b ∷ bs) a = and_from (is_byte b) (list_all is_byte bs) a.0 (all-bytes bs a.1)
 

@@ -126,7 +126,8 @@ state_behind forest (gives_hole n datum) ts s = at_hole languages s
 state_behind forest (enters n) ts s = s
 state_behind forest leaves ts s = s
 
--- what is written for a value of data: by the chain of the path's place. In a comment nothing is, which is no piece.
+-- what is written for a value of data: by the chain of the path's place. In a comment nothing is, which is no piece; but in one of a style
+-- in an attribute what its quotes ask for.
 abbrev pub value_pieces : Chain → Data → List PagePiece
 value_pieces c datum = if leaves_out c then [] else value datum (chain_bytes c datum) ∷ []
 

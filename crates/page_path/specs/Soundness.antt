@@ -13,8 +13,9 @@ use Rattle.place_core.specs.page.Paths.{Hole, Symbol, Written, read_path}
 use Rattle.place_core.specs.page.Plain.{IsPlain, settled_config}
 use Rattle.place_core.specs.page.References.{Closed, undone}
 use Rattle.place_core.specs.page.Shape.{PageReads, ShapePart, marked}
-use Rattle.place_core.specs.page.States.{AfterAttributeName, AfterAttributeValue, AttributeName, AttributeValue, BeforeAttributeName, BeforeAttributeValue, Bytes, Characters, Config, InContent, Nothing, Page, SelfClosingStartTag, LexState, Text, config}
-use Rattle.place_core.specs.page.Tags.{Deciding, OfKind, OfStyle, OfUrl, Quoting, Tag, Unquoted, Value, ValueOf, ValueState, languages, attribute_value_of, without_value}
+use Rattle.place_core.specs.page.States.{AfterAttributeName, AfterAttributeValue, AttributeName, AttributeValue, BeforeAttributeName, BeforeAttributeValue, Bytes, Characters, Config, InContent, InLanguage, Nothing, Page, SelfClosingStartTag, LexState, Text, config}
+use Rattle.place_core.specs.page.Tags.{Deciding, OfKind, OfStyle, OfUrl, Quoting, Tag, Unquoted, Value, ValueOf, ValueState, emits_fed, fed_state, languages, attribute_value_of, without_value}
+use Rattle.place_core.specs.declared.element.Element.{Element}
 use Rattle.san_html.specs.ReadBack.{read_value, as_name, read_as_text}
 use Rattle.text_norm.specs.FilledReadings.{value_text}
 use Rattle.text_norm.specs.Fillings.{FillsPath, url_bytes}
@@ -47,8 +48,8 @@ path_symbols (back ∷ ms) = path_symbols ms
 -- undone, as its part says, and without quotes, where there are none, with `ZgotmplZ`. In a style they read as such bytes do: in a string of it
 -- as bytes that are the text, with NUL as U+FFFD, where their escapes are undone; in a URL of it as in any URL; in a comment of it as none, of which
 -- a style tells nothing; and elsewhere as the text, of which the escapes are undone, or as `ZgotmplZ`, where that may not stand there: but how long
--- white space is, a style does not tell. In a tag they are the name of an attribute: the text in lower case, or `ZgotmplZ`, where data may not
--- make that name.
+-- white space is, a style does not tell. In the element `style` the bytes themselves are read so, all of them by the style. In a tag they are
+-- the name of an attribute: the text in lower case, or `ZgotmplZ`, where data may not make that name.
 abbrev pub IsNameBack : Tag → LexState ValueState → List ℕ → List ℕ → Type 0
 IsNameBack tag s text bytes =
     read Page bytes (config s []) ≡ config (AttributeName tag (as_name text)) (attribute_name_bytes (as_name text) (AttributeBegins ∷ []))
@@ -74,6 +75,12 @@ pub record IsStyleBack (q : Quoting) (tag : Tag) (style : Style Url) (s : LexSta
   pub goes_on : read Page bytes (config s []) ≡ read_value q tag (ValueOf (OfStyle style)) (url_bytes q characters) []
   pub reads : ReadsBackInStyle style text characters
 
+-- in the element of a style, which reads the bytes as they are
+pub record IsElementBack (e : Element) (style : Style Url) (text bytes : List ℕ) : Type 0 where
+  pub goes_on : read Page bytes (config (InContent e (InLanguage (OfStyle style)) Nothing) [])
+      ≡ config (InContent e (InLanguage (fed_state languages (OfStyle style) bytes)) Nothing) (emits_fed languages (OfStyle style) bytes [])
+  pub reads : ReadsBackInStyle style text bytes
+
 -- in a value of an attribute, by how it is read
 abbrev pub IsValueBack : Quoting → Tag → Value ValueState → LexState ValueState → List ℕ → List ℕ → Type 0
 IsValueBack q tag (ValueOf (OfKind k)) s text bytes =
@@ -89,6 +96,7 @@ IsBack (InContent e (Characters r) Nothing) datum bytes =
     read Page bytes (config (InContent e (Characters r) Nothing) [])
     ≡ config (InContent e (Characters Closed) Nothing) (event_text_bytes (read_as_text (printed datum)) [])
 IsBack (InContent e Bytes Nothing) datum bytes = undone false Closed bytes ≡ read_as_text (printed datum)
+IsBack (InContent e (InLanguage (OfStyle style)) Nothing) datum bytes = IsElementBack e style (printed datum) bytes
 IsBack (AttributeValue q tag v r) datum bytes = IsValueBack q tag v (AttributeValue q tag v r) (printed datum) bytes
 IsBack (BeforeAttributeValue tag k) datum bytes =
     IsValueBack Unquoted tag (attribute_value_of languages k) (BeforeAttributeValue tag k) (printed datum) bytes

@@ -1,8 +1,9 @@
 -- What a writer gives is what the chart's pair gives, event by event.
 use Rattle.std.proofs.Common.{◌≡◌, ℕ, Bool, true, false, List, [], ◌∷◌, ◌++◌, Option, Some, Ok, Err, refl, sym, ap, ◌∙◌, subst}
 use Rattle.std.specs.Prelude.{◌||◌, Result, if◌then◌else◌}
+use Rattle.css_step.specs.StyleChains.{style_hole_with_chain, style_sans}
 use Rattle.css_step.specs.StyleScanViews.{style_hole_answer}
-use Rattle.html_step.specs.Holes.{after_hole, block_hole, css_chain, css_holed, Holed, last_of, named_by_data, plain_hole, url_chain, url_holed, value_hole}
+use Rattle.html_step.specs.Holes.{after_hole, block_hole, css_chain, css_holed, element_holed, Holed, last_of, named_by_data, plain_hole, url_chain, url_holed, value_hole}
 use Rattle.page_datum.specs.Data.{Data}
 use Rattle.page_path.specs.ByChart.{ChartMay, PairMayEnter, MayHole, MayText, pair_pieces, text_pieces}
 use Rattle.page_path.specs.Pages.{bytes_in, hole_pieces, holed_pieces}
@@ -31,7 +32,7 @@ use Rattle.place_infer.specs.ChartViews.{ArePairCalls, ChartData, called_by, hol
 use Rattle.place_chart.specs.Exact.{places_of}
 use Rattle.text_norm.specs.Scanned.{written_at}
 use Rattle.url_step.specs.Chains.{chain_of}
-use Rattle.url_step.specs.PartSets.{hole_answer}
+use Rattle.url_step.specs.PartSets.{hole_answer, part_sans}
 use Rattle.tpl_events.specs.Events.{ExecEvent, enters, gives_hole, gives_text, leaves}
 use Rattle.tpl_paths.specs.Edges.{before, node_kind_at, start_in}
 use Rattle.page_path.specs.Taken.{move_sign}
@@ -88,6 +89,33 @@ style_built (css.UrlSq parts) v = style_url_built v (css.UrlSq parts) parts (sty
 style_built css.UrlEnd v = tt
 style_built (css.Comment star) v = (tt, (last_built v.quotes, tt))
 
+-- in the element of a style nothing is behind them
+part_built_by : (start prequery query : Bool)
+    → IsBuiltChain (chain_of (if start then san.UrlFilter ∷ san.UrlNorm ∷ [] else (if prequery then san.UrlNorm ∷ []
+    else (if query then san.UrlQuery ∷ [] else san.UrlOpen ∷ []))))
+part_built_by true prequery query = (tt, (tt, tt))
+part_built_by false true query = (tt, tt)
+part_built_by false false true = (tt, tt)
+part_built_by false false false = (tt, tt)
+
+part_built : (parts : Parts) → IsBuiltChain (chain_of (part_sans parts))
+part_built parts = part_built_by parts.start parts.prequery parts.query
+
+sans_built : (c : Css) → IsBuiltChain (chain_of (style_sans c))
+sans_built (css.Code tails) = (tt, tt)
+sans_built css.Dq = (tt, tt)
+sans_built css.Sq = (tt, tt)
+sans_built css.UrlFresh = (tt, (tt, tt))
+sans_built (css.Url parts) = part_built parts
+sans_built (css.UrlDq parts) = part_built parts
+sans_built (css.UrlSq parts) = part_built parts
+sans_built css.UrlEnd = (tt, tt)
+sans_built (css.Comment star) = (tt, tt)
+
+element_built : (c : Css) (o : Result Css Code) → HasBuiltChain (element_holed (style_hole_with_chain c o))
+element_built c (Ok after) = sans_built c
+element_built c (Err e) = tt
+
 value_built : (b : Body) (v : ValuePlace) → HasBuiltChain (value_hole b v)
 value_built body.Plain v = plain_built v.quotes v
 value_built body.NoHole v = tt
@@ -107,7 +135,7 @@ place_built (place.Rcdata e) = (tt, tt)
 place_built (place.Tag t) = named_built (t.spots.name || t.spots.inside) t
 place_built (place.Value v) = value_built v.body v
 place_built (place.Script js) = tt
-place_built (place.Style css) = tt
+place_built (place.Style css) = element_built css (style_hole_answer css)
 place_built (place.Block lt) = block_built lt
 
 module _ (forest : ForestData) (chart : ChartData) (outputs : List (List Output)) where

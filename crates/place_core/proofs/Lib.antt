@@ -6,9 +6,11 @@ pub mod JoinMembers
 pub mod JoinParts
 pub mod JoinValid
 pub mod Joins
+pub mod LanguageContents
 pub mod NotPlain
 pub mod PathExamples
 pub mod PlaceExamples
+pub mod StyleElementExamples
 pub mod StylePathExamples
 pub mod UrlPathExamples
 pub mod Readings

@@ -112,7 +112,7 @@ accepted : path_refusal (codes "a: '\\'' /* ; */ url(x)\"") (in_style style.styl
 unfolding in_style style_class url_class_of class_of meaning flushed is_unknown_name is_written lib.Utf8.encode
 accepted = refl
 
--- words and plain text are plain in code, and any byte but the quote and an escape that is open is plain in a string
+-- words and plain text are plain in code, and any bytes but the quote, a line end and an escape that is open in a string
 plain_word : IsPlain (codes "red 1") at_start
 unfolding in_style at_start style_class url_class_of class_of meaning flushed lib.Utf8.encode
 plain_word = (
@@ -137,7 +137,7 @@ plain_in_string = (
     within = refl;
     emitted = refl;
     some = tt;
-    leads = record { leads = refl; allowed = tt; tells = refl };
+    leads = record { leads = refl; allowed = refl; tells = refl };
   },
 )
 

@@ -17,7 +17,6 @@ use Rattle.place_core.specs.declared.place.Place.{Place}
 use Rattle.place_core.specs.declared.place.Place.TheVariants as place
 use Rattle.place_core.specs.declared.prefix.Prefix.{Prefix}
 use Rattle.place_core.specs.declared.prefix.Prefix.TheVariants as prefix
-use Rattle.place_core.specs.declared.value_place.ValuePlace.{ValuePlace}
 use Rattle.html_scan.specs.Scans.{with_body}
 
 -- none where no path is in the beginning
@@ -48,6 +47,7 @@ unknown_body (body.Css c) = option_map body.Css (unknown_css c)
 
 abbrev pub unknown_place : Place → Option Place
 unknown_place (place.Value v) = option_map (with_body v) (unknown_body v.body)
+unknown_place (place.Style c) = option_map place.Style (unknown_css c)
 unknown_place p = None
 
 -- it stands for the same paths, and for all that spell something else

@@ -13,6 +13,10 @@ pub(crate) fn unknown(place: Place) -> Option<Place>
             Some(body) => Some(Place::Value(ValuePlace { body, ..value })),
             None => None,
         },
+        Place::Style(css) => match in_style(css) {
+            Some(css) => Some(Place::Style(css)),
+            None => None,
+        },
         _ => None,
     }
 }

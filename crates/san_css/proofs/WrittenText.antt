@@ -1,11 +1,11 @@
--- What is written for a text of UTF-8 is UTF-8, and whatever the text none of its bytes is NUL.
+-- What is written for a text of UTF-8 is UTF-8, and whatever the text none of its bytes is NUL, and none is a `<`.
 use lib.Utf8.{low_scalar, scalar}
 use Rattle.std.proofs.Common.{◌≡◌, ℕ, zero, suc, ◌+◌, ◌-◌, ◌*◌, ◌<◌, ◌≤◌, ◌==◌, ◌&&◌, ◌||◌, not, nat_le, nat_lt, Bool, true, false, codes, List, [], ◌∷◌, ◌++◌, encode_utf8, refl, sym, ap, ◌∙◌, subst, inl, inr, arith, IsUtf8}
 use Rattle.std.specs.Prelude.{if◌then◌else◌}
 use Rattle.std.specs.Char.{InScalarRange, IsScalar, is_ascii_hexdigit, is_ascii_whitespace}
 use Rattle.std.specs.List.{list_all, list_any}
 use Rattle.std.specs.Str.{all_scalars, encode_utf8_all}
-use Rattle.std.proofs.lemmas.Bool.{agree_below, agree_below_at, and_parts, cases_lt, cond_both, le-ltb, leb-false, ltb-false, ltb-true, ne_eqb, not-true, or_parts, true≢false}
+use Rattle.std.proofs.lemmas.Bool.{agree_below, agree_below_at, and_parts, cases_lt, cond_both, eqb-true, le-ltb, leb-false, ltb-false, ltb-true, ne_eqb, not-true, or_parts, true≢false}
 use Rattle.std.proofs.lemmas.Bool.Decides.{nat_tests}
 use Rattle.std.proofs.lemmas.Str.{IsUtf8-append, IsUtf8-encode, IsUtf8-nil, encode_ascii}
 use Rattle.css_lexer.specs.Sanitizers.{css_string, css_value, goes_on_with, is_forbidden, is_unsafe, string_byte, string_digits, style_failsafe}
@@ -240,3 +240,56 @@ byte-no-nul b rest = elim (cases_lt b 128) [
 pub string-no-nul : (text : List ℕ) → HaveNoNul (css_string text)
 string-no-nul [] = tt
 string-no-nul (b ∷ bs) = no-nul-append (string_byte (string_digits b) b bs) (css_string bs) (byte-no-nul b bs) (string-no-nul bs)
+
+-- In the element `style` the end tag begins with a `<`: in code it is forbidden, and in a string it is an escape.
+abbrev pub is_less : ℕ → Bool
+is_less b = b == 60
+
+allowed-less : (b : ℕ) (q : Bool) → is_less b ≡ q → is_forbidden b ≡ false → is_less b ≡ false
+allowed-less b true e n = absurd (true≢false (sym (ap is_forbidden (eqb-true b 60 e)) ∙ n))
+allowed-less b false e n = e
+
+allowed-no-less : (bs : List ℕ) → list_any is_forbidden bs ≡ false → list_any is_less bs ≡ false
+allowed-no-less [] e = refl
+allowed-no-less (b ∷ bs) e =
+    let parts = or_parts (is_forbidden b) (list_any is_forbidden bs) e in
+    rw (allowed-less b (is_less b) refl parts.0, allowed-no-less bs parts.1) refl
+
+unless-no-less : (q : Bool) (text : List ℕ) → is_unsafe text ≡ q → list_any is_less (if q then style_failsafe else text) ≡ false
+unless-no-less true text e = refl
+unless-no-less false text e = allowed-no-less text (or_parts (list_any is_forbidden text) _ e).0
+
+pub value-no-less : (text : List ℕ) → list_any is_less (css_value text) ≡ false
+value-no-less text = unless-no-less (is_unsafe (style_escapes_undone text)) (style_escapes_undone text) refl
+
+abbrev has_less : Bool → ℕ → Bool
+has_less goes b = list_any is_less (byte_before (string_digits b) b goes)
+
+less-going : agree_below (has_less true) (λ b. false) 128 ≡ true
+less-going = refl
+
+less-ended : agree_below (has_less false) (λ b. false) 128 ≡ true
+less-ended = refl
+
+written-less : (goes : Bool) (b : ℕ) → b < 128 → has_less goes b ≡ false
+written-less true b l = agree_below_at (has_less true) (λ b. false) 128 b less-going l
+written-less false b l = agree_below_at (has_less false) (λ b. false) 128 b less-ended l
+
+high-less : (b : ℕ) → 128 ≤ b → list_any is_less (b ∷ []) ≡ false
+high-less b h = rw (ne_eqb b 60 (λ e. omega (arith, e, h))) refl
+
+byte-no-less : (b : ℕ) (rest : List ℕ) → list_any is_less (string_byte (string_digits b) b rest) ≡ false
+byte-no-less b rest = elim (cases_lt b 128) [
+  | inl low ↦ ap (list_any is_less) (by-next (string_digits b) b rest) ∙ written-less (goes_on_with rest) b low
+  | inr high ↦ ap (list_any is_less) (stays b rest (kept-high b high)) ∙ high-less b high
+]
+
+no-less-append : (xs ys : List ℕ) → list_any is_less xs ≡ false → list_any is_less ys ≡ false → list_any is_less (xs ++ ys) ≡ false
+no-less-append [] ys g h = h
+no-less-append (x ∷ xs) ys g h =
+    let parts = or_parts (is_less x) (list_any is_less xs) g in
+    rw (parts.0, no-less-append xs ys parts.1 h) refl
+
+pub string-no-less : (text : List ℕ) → list_any is_less (css_string text) ≡ false
+string-no-less [] = refl
+string-no-less (b ∷ bs) = no-less-append (string_byte (string_digits b) b bs) (css_string bs) (byte-no-less b bs) (string-no-less bs)

@@ -1,7 +1,7 @@
--- What is written for a text in a URL is of bytes of ASCII, and none of them is NUL.
+-- What is written for a text in a URL is of bytes of ASCII, and none of them is NUL or a `<`.
 use lib.Utf8.{scalar, scalar_cases}
 use Rattle.std.proofs.Common.{◌≡◌, ℕ, ◌<◌, ◌/◌, ◌%◌, ◌==◌, ◌&&◌, ◌||◌, not, nat_lt, Bool, true, false, codes, List, [], ◌∷◌, ◌++◌, refl, ap, subst, inl, inr, if◌then◌else◌, arith, encode_utf8, IsUtf8}
-use Rattle.std.proofs.lemmas.Bool.{agree_below, agree_below_at, and_parts, cond_both, eqb-true, lt-ltb, ltb-true}
+use Rattle.std.proofs.lemmas.Bool.{agree_below, agree_below_at, and_parts, cond_both, eqb-true, lt-ltb, ltb-true, not-true}
 use Rattle.std.proofs.lemmas.Str.{IsUtf8-from_ascii}
 use Rattle.std.proofs.lemmas.Str.Ascii.{IsAscii-nil, IsAscii-cons}
 use Rattle.std.specs.Str.{IsAscii, all_scalars, encode_utf8_all}
@@ -11,9 +11,9 @@ use Rattle.url_lexer.specs.Sanitizers.{before_colon, hexadecimal_digit, is_filte
 use Rattle.url_lexer.specs.Written.{AreBytes}
 use Rattle.url_lexer.proofs.WrittenBytes.{open-bytes}
 
--- a byte of ASCII that is not NUL
-abbrev is_own_byte : ℕ → Bool
-is_own_byte b = nat_lt b 128 && not (b == 0)
+-- a byte of ASCII that is neither NUL nor a `<`
+abbrev pub is_own_byte : ℕ → Bool
+is_own_byte b = nat_lt b 128 && (not (b == 0) && not (b == 60))
 
 abbrev pub AreOwn : List ℕ → Type 0
 AreOwn [] = Unit {0}
@@ -91,7 +91,7 @@ written-own UrlBad text a = tt
 -- so it is UTF-8
 own-ascii : (bs : List ℕ) → AreOwn bs → IsAscii bs
 own-ascii [] h = IsAscii-nil
-own-ascii (b ∷ bs) h = IsAscii-cons b bs (ltb-true b 128 (and_parts (nat_lt b 128) (not (b == 0)) h.0).0) (own-ascii bs h.1)
+own-ascii (b ∷ bs) h = IsAscii-cons b bs (ltb-true b 128 (and_parts (nat_lt b 128) (not (b == 0) && not (b == 60)) h.0).0) (own-ascii bs h.1)
 
 pub written-utf8 : (p : UrlPart) (text : List ℕ) → AreBytes text → IsUtf8 (written_in p text)
 written-utf8 p text a = IsUtf8-from_ascii (written_in p text) (own-ascii (written_in p text) (written-own p text a))
@@ -121,3 +121,13 @@ encodes-bytes (c ∷ cs) e =
 
 pub utf8-bytes : (text : List ℕ) → IsUtf8 text → AreBytes text
 utf8-bytes text u = subst AreBytes u.1.1 (encodes-bytes u.0 u.1.0)
+
+-- what is known of each of them
+own-parts : (b : ℕ) → is_own_byte b ≡ true → (not (b == 0) ≡ true) × (not (b == 60) ≡ true)
+own-parts b e = and_parts (not (b == 0)) (not (b == 60)) (and_parts (nat_lt b 128) (not (b == 0) && not (b == 60)) e).1
+
+pub own-no-nul : (b : ℕ) → is_own_byte b ≡ true → (b == 0) ≡ false
+own-no-nul b e = not-true (b == 0) (own-parts b e).0
+
+pub own-no-less : (b : ℕ) → is_own_byte b ≡ true → (b == 60) ≡ false
+own-no-less b e = not-true (b == 60) (own-parts b e).1

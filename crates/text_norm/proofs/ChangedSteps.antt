@@ -1,21 +1,24 @@
 -- A byte after a `<` that begins nothing, a byte that begins a comment, and one in a comment.
-use Rattle.std.proofs.Common.{◌≡◌, ℕ, ◌+◌, ◌-◌, ◌<◌, ◌≤◌, true, false, codes, List, [], ◌∷◌, ◌++◌, length, get_or, Option, Some, None, IfSome, refl, sym, ap, ◌∙◌, subst, arith}
+use Rattle.std.proofs.Common.{◌≡◌, ℕ, ◌+◌, ◌-◌, ◌<◌, ◌≤◌, true, false, codes, List, [], ◌∷◌, ◌++◌, ◌⊎◌, inl, inr, length, get_or, Option, Some, None, IfSome, refl, sym, ap, ap₂, ◌∙◌, subst, arith}
 use Rattle.std.proofs.lemmas.List.{append_assoc, append-nil, length-append}
 use Rattle.std.proofs.lemmas.Str.{IsCharBoundary-after_ascii, IsCharBoundary-before_ascii}
+use Rattle.std.specs.Char.{is_ascii_alphabetic}
+use Rattle.std.specs.List.{list_all}
 use Rattle.std.specs.Str.{IsCharBoundary, IsUtf8}
 use Rattle.place_core.specs.page.Classes.{class_of}
-use Rattle.place_core.specs.page.References.{Reference, as_it_stands, begin_reference}
-use Rattle.html_scan.proofs.PendingNames.{pending_grows, pending_nothing}
+use Rattle.place_core.specs.page.References.{Reference, Closed, as_it_stands, begin_reference}
+use Rattle.html_scan.proofs.PendingNames.{pending_begins, pending_grows, pending_nothing}
 use Rattle.html_scan.specs.ScanViews.{pending_from}
 use Rattle.html_scan.specs.Slices.{pending}
-use Rattle.text_norm.specs.Kept.{IsWriteEnd, IsProgressKept, IsPlaced, IsReadTo, ProgressReads, change_of, scan_of, hides, less_kept, reference_of}
+use Rattle.text_norm.specs.Kept.{IsWriteEnd, IsProgressKept, IsPlaced, IsReadTo, ProgressReads, change_of, in_style_comment, scan_of, hides, less_kept, reference_of}
 use Rattle.text_norm.specs.ReferenceViews.{reference_view}
 use Rattle.text_norm.specs.Written.{text_escaped}
 use Rattle.text_norm.specs.declared.pending.Change.TheVariants as change
 use Rattle.text_norm.specs.declared.reference.Opened.{Opened}
 use Rattle.text_norm.specs.declared.pending.WriteProgress.{WriteProgress}
+use Rattle.text_norm.proofs.ByteLaws.{no-name}
 use Rattle.text_norm.proofs.Kept.{less_parted}
-use Rattle.text_norm.proofs.Slices.{behind_first, first_byte}
+use Rattle.text_norm.proofs.Slices.{behind_first, first_byte, parted}
 use Rattle.text_norm.proofs.Spelled.{greater_ascii}
 use Rattle.text_norm.proofs.Steps.{byte_at, law_here, length-open, next_of, open_of, out_of, placed_after}
 
@@ -88,6 +91,8 @@ escapes text index less x y old new kept inside utf8 scan is reference so named 
         done = omega (arith, done, l.end);
         closed = λ h. same ∙ here.closed h;
         hidden = λ h. absurd (no (sym here.shown ∙ h));
+        alone = λ h. absurd (no (sym here.comment ∙ h));
+        letters = ap (list_all is_ascii_alphabetic) here.letters;
         cut = λ h. subst (IsCharBoundary text) (sym done) (IsCharBoundary-after_ascii text less utf8 (omega (arith, l.end, inside)) (omega (arith, l.byte)));
       };
       bytes = escape_bytes old new kept.free (as_it_stands (reference_of text x)) here.again (out_of text index x) (wrote ∙ ap (λ (xs : List ℕ). old ++ (xs ++ codes "&lt;")) l.before) here.out;
@@ -103,6 +108,8 @@ left_out text index y inside reference done named loose cut = record {
   done = omega (arith, done);
   closed = λ h. ap (reference_view text) reference;
   hidden = λ h. done;
+  alone = λ h. refl;
+  letters = no-name (scan_of text (index + 1) y) loose;
   cut = λ h. subst (IsCharBoundary text) (sym done) (cut h);
 }
 
@@ -120,13 +127,105 @@ empty : (xs ys : List ℕ) → xs ++ ys ≡ [] → xs ≡ []
 empty [] ys h = refl
 empty (a ∷ xs) ys h = cc
 
+nothing_free : (text : List ℕ) (index : ℕ) (x : WriteProgress) (kept : IsProgressKept text index x) → (hides (scan_of text index x) ≡ true) ⊎ (in_style_comment (scan_of text index x) ≡ true) → kept.free ≡ []
+nothing_free text index x kept (inl h) = empty kept.free (as_it_stands (reference_of text x) ++ less_kept (scan_of text index x)) (kept.parts ∙ ap (λ (d : ℕ). pending text d index) (kept.hidden h) ∙ pending_nothing text index)
+nothing_free text index x kept (inr h) = kept.alone h
+
 pub leaves : (text : List ℕ) (index : ℕ) (x y : WriteProgress) (out : List ℕ) (kept : IsProgressKept text index x) → index < length text → IsUtf8 text → scan_of text (index + 1) y ≡ next_of text index x → change.LeavesOut ≡ change_of (scan_of text index x) (scan_of text (index + 1) y) → y.reference ≡ None → pending_from y.scan ≤ index + 1 → y.done ≡ index + 1 → ProgressReads text index x y kept.free out out
 leaves text index x y out kept inside utf8 scan is reference named done =
     let here = law_here change.LeavesOut text index x y kept scan is in
-    let none : kept.free ≡ [] = empty kept.free (as_it_stands (reference_of text x) ++ less_kept (scan_of text index x)) (kept.parts ∙ ap (λ (d : ℕ). pending text d index) (kept.hidden here.before) ∙ pending_nothing text index) in
+    let none = nothing_free text index x kept here.before in
     record {
       scan = scan;
       reference = ap (reference_view text) reference ∙ sym here.reference;
       kept = left_out text index y inside reference done named here.loose (λ h. IsCharBoundary-after_ascii text index utf8 inside (greater_ascii (byte_at text index) (here.ends h)));
       bytes = ap (λ (xs : List ℕ). out ++ xs) (sym (ap (λ (xs : List ℕ). xs ++ out_of text index x) none ∙ here.out));
+    }
+
+-- In a style: where the `/` stands with which a comment begins.
+pub record IsSolidusAt (text : List ℕ) (index at : ℕ) (x : WriteProgress) (free more : List ℕ) : Type 0 where
+  pub order : x.done ≤ at
+  pub end : at + 1 ≡ index
+  pub cut : IsCharBoundary text at
+  pub before : pending text x.done at ≡ free ++ more
+
+pub solidus_at : (text : List ℕ) (index : ℕ) (x : WriteProgress) (more : List ℕ) (kept : IsProgressKept text index x) → index ≤ length text → less_kept (scan_of text index x) ≡ more ++ codes "/" → reference_of text x ≡ Closed → IsSolidusAt text index (index - 1) x kept.free more
+solidus_at text index x more kept inside less none =
+    let p = parted text x.done index (kept.free ++ more) (codes "/") kept.done inside
+    (append_assoc kept.free more (codes "/") ∙ sym (ap₂ (λ (r : Reference) (xs : List ℕ). kept.free ++ (as_it_stands r ++ xs)) none less) ∙ kept.parts) in
+    record {
+      order = omega (arith, p.start);
+      end = p.end;
+      cut = IsCharBoundary-before_ascii text (index - 1) (omega (arith, p.end, inside)) (omega (arith, first_byte text (index - 1) index 47 [] (omega (arith, p.end)) p.behind));
+      before = p.before;
+    }
+
+pub opens_style : (text : List ℕ) (index : ℕ) (x y : WriteProgress) (old new : List ℕ) (kept : IsProgressKept text index x) → index < length text → scan_of text (index + 1) y ≡ next_of text index x → change.OpensStyleComment ≡ change_of (scan_of text index x) (scan_of text (index + 1) y) → y.reference ≡ None → pending_from y.scan ≤ index + 1 → y.done ≡ index + 1 → new ≡ old ++ pending text x.done (index - 1) → ProgressReads text index x y kept.free old new
+opens_style text index x y old new kept inside scan is reference named done wrote =
+    let here = law_here change.OpensStyleComment text index x y kept scan is in
+    let s = solidus_at text index x here.more kept (omega (arith, inside)) here.less here.none in
+    record {
+      scan = scan;
+      reference = ap (reference_view text) reference ∙ sym here.reference;
+      kept = left_out text index y inside reference done named here.loose (λ h. absurd (no (sym h ∙ here.hidden)));
+      bytes = append-nil new ∙ wrote ∙ ap (λ (xs : List ℕ). old ++ xs) s.before ∙ ap (λ (xs : List ℕ). old ++ (kept.free ++ xs)) (sym here.out);
+    }
+
+pub ends_style : (text : List ℕ) (index : ℕ) (x y : WriteProgress) (old new : List ℕ) (kept : IsProgressKept text index x) → index < length text → IsUtf8 text → scan_of text (index + 1) y ≡ next_of text index x → change.EndsStyleComment ≡ change_of (scan_of text index x) (scan_of text (index + 1) y) → y.reference ≡ None → pending_from y.scan ≤ index + 1 → y.done ≡ index + 1 → new ≡ old ++ codes " " → ProgressReads text index x y kept.free old new
+ends_style text index x y old new kept inside utf8 scan is reference named done wrote =
+    let here = law_here change.EndsStyleComment text index x y kept scan is in
+    record {
+      scan = scan;
+      reference = ap (reference_view text) reference ∙ sym here.reference;
+      kept = left_out text index y inside reference done named here.loose (λ h. IsCharBoundary-after_ascii text index utf8 inside (omega (arith, here.byte)));
+      bytes = append-nil new ∙ wrote ∙ ap (λ (xs : List ℕ). old ++ xs) (sym (ap₂ (λ (xs ys : List ℕ). xs ++ ys) (kept.alone here.before) here.out));
+    }
+
+pub leaves_pending : (text : List ℕ) (index : ℕ) (x y : WriteProgress) (out : List ℕ) (kept : IsProgressKept text index x) → index < length text → scan_of text (index + 1) y ≡ next_of text index x → change.LeavesPending ≡ change_of (scan_of text index x) (scan_of text (index + 1) y) → y.reference ≡ None → pending_from y.scan ≤ index + 1 → y.done ≡ index → ProgressReads text index x y kept.free out out
+leaves_pending text index x y out kept inside scan is reference named done =
+    let here = law_here change.LeavesPending text index x y kept scan is in
+    let g = scan_of text (index + 1) y in
+    record {
+      scan = scan;
+      reference = ap (reference_view text) reference ∙ sym here.reference;
+      kept = record {
+        free = [];
+        parts = ap (λ (o : Option Opened). as_it_stands (reference_view text o) ++ less_kept g) reference ∙ here.less ∙ sym (pending_begins text index inside) ∙ ap (λ (d : ℕ). pending text d (index + 1)) (sym done);
+        placed = subst (λ (o : Option Opened). IfSome o (IsPlaced (y.done + 0) (index + 1))) (sym reference) tt;
+        named = named;
+        done = omega (arith, done);
+        closed = λ h. ap (reference_view text) reference;
+        hidden = λ h. absurd (no (sym here.shown ∙ h));
+        alone = λ h. refl;
+        letters = ap (list_all is_ascii_alphabetic) here.letters;
+        cut = λ h. subst (IsCharBoundary text) (sym done) (IsCharBoundary-before_ascii text index inside (omega (arith, here.byte)));
+      };
+      bytes = ap (λ (xs : List ℕ). out ++ xs) (sym (ap₂ (λ (xs ys : List ℕ). xs ++ ys) (kept.alone here.before) here.out));
+    }
+
+pub ends_in_style : (text : List ℕ) (index : ℕ) (x y : WriteProgress) (old new : List ℕ) (kept : IsProgressKept text index x) → index < length text → scan_of text (index + 1) y ≡ next_of text index x → change.EndsInStyleComment ≡ change_of (scan_of text index x) (scan_of text (index + 1) y) → y.reference ≡ None → pending_from y.scan ≤ index + 1 → y.done ≡ x.done → new ≡ old ++ codes " " → ProgressReads text index x y kept.free old new
+ends_in_style text index x y old new kept inside scan is reference named done wrote =
+    let here = law_here change.EndsInStyleComment text index x y kept scan is in
+    let f = scan_of text index x in
+    let g = scan_of text (index + 1) y in
+    let tag = less_kept f ++ byte_at text index ∷ [] in
+    let none = kept.alone here.before in
+    let whole : less_kept f ≡ pending text x.done index = sym (ap₂ (λ (xs : List ℕ) (r : Reference). xs ++ (as_it_stands r ++ less_kept f)) none here.none) ∙ kept.parts in
+    record {
+      scan = scan;
+      reference = ap (reference_view text) reference ∙ sym here.reference;
+      kept = record {
+        free = tag;
+        parts = ap₂ (λ (o : Option Opened) (xs : List ℕ). tag ++ (as_it_stands (reference_view text o) ++ xs)) reference here.loose ∙ append-nil tag
+            ∙ ap (λ (xs : List ℕ). xs ++ byte_at text index ∷ []) whole ∙ sym (pending_grows text x.done index kept.done inside) ∙ ap (λ (d : ℕ). pending text d (index + 1)) (sym done);
+        placed = subst (λ (o : Option Opened). IfSome o (IsPlaced (y.done + length tag) (index + 1))) (sym reference) tt;
+        named = named;
+        done = omega (arith, done, kept.done);
+        closed = λ h. ap (reference_view text) reference;
+        hidden = λ h. absurd (no (sym here.shown ∙ h));
+        alone = λ h. absurd (no (sym here.comment ∙ h));
+        letters = no-name g here.loose;
+        cut = λ h. subst (IsCharBoundary text) (sym done) (kept.cut here.cut);
+      };
+      bytes = ap (λ (xs : List ℕ). xs ++ tag) wrote ∙ append_assoc old (codes " ") tag ∙ ap (λ (xs : List ℕ). old ++ xs) (sym (ap₂ (λ (xs ys : List ℕ). xs ++ ys) none here.out));
     }

@@ -1,12 +1,12 @@
 -- What a page has told where its reading stands for a path, and where it is in the path's very state.
-use Rattle.std.proofs.Common.{◌≡◌, Bool, true, false, List, Option, Some, None, if◌then◌else◌, refl, sym, ap, ◌∙◌, subst}
+use Rattle.std.proofs.Common.{◌≡◌, Bool, true, false, List, Option, Some, None, option_map, if◌then◌else◌, refl, sym, ap, ◌∙◌, subst}
 use Rattle.std.specs.Bool.{⊤}
 use Rattle.place_core.specs.page.Events.{LexEvent}
 use Rattle.place_core.specs.place.Membership.{IsIn}
 use Rattle.place_core.specs.place.Places.{Below}
 use Rattle.place_core.specs.page.References.{Reference, Closed, Open}
-use Rattle.place_core.specs.place.StatePlaces.{block_place, comment_place, content_place, placed, quotes_at, unbegun, value_body, only_after, only_inside, tag_spot, value_spot, where_closed}
-use Rattle.place_core.specs.page.States.{LexState, Text, TagOpen, EndTagOpen, DeclarationOpen, CommentState, Inside, Broken, InComment, BogusComment, InDoctype, TagName, WholeTagName, BeforeAttributeName, AttributeName, WholeAttributeName, AfterAttributeName, BeforeAttributeValue, AttributeValue, AfterAttributeValue, SelfClosingStartTag, Characters, Bytes, Nothing, PendingLess, LessAtCut, PendingName, PendingBang, PendingBangDash, InContent, Unread, Config, config}
+use Rattle.place_core.specs.place.StatePlaces.{block_place, comment_place, content_place, content_spot, placed, quotes_at, unbegun, value_body, only_after, only_inside, tag_spot, value_spot, where_closed}
+use Rattle.place_core.specs.page.States.{LexState, Text, TagOpen, EndTagOpen, DeclarationOpen, CommentState, Inside, Broken, InComment, BogusComment, InDoctype, TagName, WholeTagName, BeforeAttributeName, AttributeName, WholeAttributeName, AfterAttributeName, BeforeAttributeValue, AttributeValue, AfterAttributeValue, SelfClosingStartTag, Characters, Bytes, InLanguage, Pending, Nothing, PendingLess, LessAtCut, PendingName, PendingBang, PendingBangDash, InContent, Unread, Config, config}
 use Rattle.place_core.specs.page.Tags.{Tag, is_second_type, ValueOf, Deciding, ValueState, OfKind, OfUrl, OfStyle, languages, attribute_value_of}
 use Rattle.place_core.specs.declared.body.Body.{Body}
 use Rattle.place_core.specs.declared.element.Element.{Element}
@@ -14,44 +14,79 @@ use Rattle.place_core.specs.declared.element.Element.TheVariants as element
 use Rattle.place_core.specs.declared.place.Place.{Place}
 use Rattle.place_core.specs.declared.place.Place.TheVariants as place
 use Rattle.place_core.specs.declared.quotes.Quotes.{Quotes}
-use Rattle.text_norm.specs.Standing.{TextStands}
-use Rattle.text_norm.specs.StandsLaws.{StandsWhereNothingIsPending, EmitsTheSame, holds_nothing}
+use Rattle.place_core.specs.place.StyleParts.{style_css}
+use Rattle.place_core.specs.declared.css.Css.{Css}
+use Rattle.css_lexer.specs.States.{AfterSolidus, BadUrl, Comment, StarAtCut, Style, Out, InUrl}
+use Rattle.url_lexer.specs.States.{Url}
+use Rattle.text_norm.specs.Standing.{StandsAtStyle, StandsInLanguage, StandsInStyleElement, TextStands, pending_in_page}
+use Rattle.text_norm.specs.StandsLaws.{StandsWhereNothingIsPending, EmitsTheSame, holds_nothing, in_comment_of_style, told_beside, told_there}
 
 -- the path has a place
 abbrev IsSome : Option Place → Type 0
 IsSome None = ⊥
 IsSome (Some p) = ⊤
 
-emitted-same : (s : LexState ValueState) (t : List LexEvent) (d : Config ValueState) → IsSome (placed s) → TextStands languages s t d → d.emitted ≡ t
-emitted-same (Text Closed) t d h l = ap (λ (c : Config ValueState). c.emitted) l
+-- in the element of a style
+style-told : (e : Element) (s : Style Url) (h : Pending) (t : List LexEvent) (d : Config ValueState) → StandsInStyleElement languages e s h t d → told_there d d.at ≡ t
+style-told e s h t d l = ap (λ (c : Config ValueState). told_there c c.at) l.at ∙ l.same
+
+style-same : (e : Element) (s : Style Url) (h : Pending) (t : List LexEvent) (d : Config ValueState) → IsSome (option_map place.Style (style_css s)) → StandsAtStyle languages e s h t d
+    → told_beside (in_comment_of_style (InContent e (InLanguage (OfStyle s)) h)) d ≡ t
+style-same e (Out (AfterSolidus k)) h t d o l = absurd o
+style-same e (Out (Comment star)) h t d o l = ap (λ (c : Config ValueState). c.emitted) l
+style-same e (Out StarAtCut) h t d o l = ap (λ (c : Config ValueState). c.emitted) l
+style-same e (Out BadUrl) h t d o l = absurd l
+style-same e (Out s) h t d o l = style-told e (Out s) h t d l
+style-same e (InUrl f u) h t d o l = style-told e (InUrl f u) h t d l
+
+language-same : (e : Element) (v : ValueState) (h : Pending) (t : List LexEvent) (d : Config ValueState) → IsSome (content_spot h (InLanguage v) e) → StandsInLanguage languages e v h t d
+    → told_beside (in_comment_of_style (InContent e (InLanguage v) h)) d ≡ t
+language-same element.Style (OfStyle s) Nothing t d o l = style-same element.Style s Nothing t d o l.1
+language-same _ (OfStyle s) Nothing t d o l = absurd o
+language-same e (OfStyle s) PendingLess t d o l = absurd o
+language-same e (OfStyle s) (PendingName letters) t d o l = absurd o
+language-same e (OfStyle s) LessAtCut t d o l = absurd o
+language-same e (OfStyle s) PendingBang t d o l = absurd o
+language-same e (OfStyle s) PendingBangDash t d o l = absurd o
+language-same e (OfKind k) h t d o l = absurd l
+language-same e (OfUrl u) h t d o l = absurd l
+
+-- elsewhere, by where the page is
+by-state : (s : LexState ValueState) (t : List LexEvent) (d : Config ValueState) → d ≡ config s t → told_there (config s t) s ≡ t → told_there d d.at ≡ t
+by-state s t d h e = ap (λ (c : Config ValueState). told_there c c.at) h ∙ e
+
+emitted-same : (s : LexState ValueState) (t : List LexEvent) (d : Config ValueState) → IsSome (placed s) → TextStands languages s t d
+    → told_beside (in_comment_of_style s) d ≡ t
+emitted-same (Text Closed) t d h l = by-state (Text Closed) t d l refl
 emitted-same (Text (Open f b)) t d h l = absurd h
 emitted-same (TagOpen r) t d h l = absurd h
 emitted-same (EndTagOpen r) t d h l = absurd h
 emitted-same (DeclarationOpen r pending) t d h l = absurd h
-emitted-same (InComment s) t d h l = ap (λ (c : Config ValueState). c.emitted) l
+emitted-same (InComment s) t d h l = by-state (Text Closed) t d l refl
 emitted-same BogusComment t d h l = absurd h
-emitted-same InDoctype t d h l = ap (λ (c : Config ValueState). c.emitted) l
-emitted-same (TagName ends name) t d h l = ap (λ (c : Config ValueState). c.emitted) l
-emitted-same (WholeTagName tag) t d h l = ap (λ (c : Config ValueState). c.emitted) l.at
-emitted-same (BeforeAttributeName tag) t d h l = ap (λ (c : Config ValueState). c.emitted) l
-emitted-same (AttributeName tag name) t d h l = ap (λ (c : Config ValueState). c.emitted) l
-emitted-same (WholeAttributeName tag k) t d h l = ap (λ (c : Config ValueState). c.emitted) l.at
-emitted-same (AfterAttributeName tag k) t d h l = ap (λ (c : Config ValueState). c.emitted) l
-emitted-same (BeforeAttributeValue tag k) t d h l = ap (λ (c : Config ValueState). c.emitted) l
-emitted-same (AttributeValue q tag (ValueOf v) Closed) t d h l = ap (λ (c : Config ValueState). c.emitted) l.stands
+emitted-same InDoctype t d h l = by-state InDoctype t d l refl
+emitted-same (TagName ends name) t d h l = by-state (TagName ends name) t d l refl
+emitted-same (WholeTagName tag) t d h l = by-state (TagName l.ends l.name) t d l.at refl
+emitted-same (BeforeAttributeName tag) t d h l = by-state (BeforeAttributeName tag) t d l refl
+emitted-same (AttributeName tag name) t d h l = by-state (AttributeName tag name) t d l refl
+emitted-same (WholeAttributeName tag k) t d h l = by-state (AttributeName tag l.name) t d l.at refl
+emitted-same (AfterAttributeName tag k) t d h l = by-state (AfterAttributeName tag k) t d l refl
+emitted-same (BeforeAttributeValue tag k) t d h l = by-state (BeforeAttributeValue tag k) t d l refl
+emitted-same (AttributeValue q tag (ValueOf v) Closed) t d h l = by-state (AttributeValue q tag (ValueOf l.there) Closed) t d l.stands refl
 emitted-same (AttributeValue q tag (ValueOf v) (Open f b)) t d h l = absurd h
 emitted-same (AttributeValue q tag (Deciding k before) Closed) t d h l = absurd h
 emitted-same (AttributeValue q tag (Deciding k before) (Open f b)) t d h l = absurd h
-emitted-same (AfterAttributeValue tag) t d h l = ap (λ (c : Config ValueState). c.emitted) l
-emitted-same (SelfClosingStartTag tag) t d h l = ap (λ (c : Config ValueState). c.emitted) l
-emitted-same (InContent e (Characters Closed) Nothing) t d h l = ap (λ (c : Config ValueState). c.emitted) l
+emitted-same (AfterAttributeValue tag) t d h l = by-state (AfterAttributeValue tag) t d l refl
+emitted-same (SelfClosingStartTag tag) t d h l = by-state (SelfClosingStartTag tag) t d l refl
+emitted-same (InContent e (Characters Closed) Nothing) t d h l = by-state (InContent e (Characters Closed) Nothing) t d l refl
 emitted-same (InContent e (Characters (Open f b)) Nothing) t d h l = absurd h
 emitted-same (InContent e (Characters r) PendingLess) t d h l = absurd h
 emitted-same (InContent e (Characters r) (PendingName letters)) t d h l = absurd h
 emitted-same (InContent e (Characters r) LessAtCut) t d h l = absurd h
 emitted-same (InContent e (Characters r) PendingBang) t d h l = absurd h
 emitted-same (InContent e (Characters r) PendingBangDash) t d h l = absurd h
-emitted-same (InContent e Bytes pending) t d h l = ap (λ (c : Config ValueState). c.emitted) l
+emitted-same (InContent e Bytes pending) t d h l = by-state (InContent e Bytes (pending_in_page pending)) t d l refl
+emitted-same (InContent e (InLanguage v) pending) t d h l = language-same e v pending t d h l
 emitted-same Unread t d h l = absurd h
 
 pub emits-the-same : EmitsTheSame
@@ -97,6 +132,7 @@ same-state (InContent e Bytes LessAtCut) t d h l = absurd (no h)
 same-state (InContent e Bytes (PendingName letters)) t d h l = l
 same-state (InContent e Bytes PendingBang) t d h l = l
 same-state (InContent e Bytes PendingBangDash) t d h l = l
+same-state (InContent e (InLanguage v) pending) t d h l = absurd (no h)
 same-state Unread t d h l = l
 
 -- the one state of the place Text
@@ -124,6 +160,23 @@ no-content _ h = h
 no-block : (e : Element) (lt : Bool) → IsText (block_place e lt) → ⊥
 no-block element.DataBlock lt h = h
 no-block _ lt h = h
+
+no-style-place : (o : Option Css) → IsText (option_map place.Style o) → ⊥
+no-style-place None h = h
+no-style-place (Some c) h = h
+
+no-style : (h : Pending) (v : ValueState) (e : Element) → IsText (content_spot h (InLanguage v) e) → ⊥
+no-style Nothing (OfStyle s) element.Style h = no-style-place (style_css s) h
+no-style Nothing (OfStyle s) _ h = h
+no-style Nothing (OfKind k) element.Style h = h
+no-style Nothing (OfKind k) _ h = h
+no-style Nothing (OfUrl u) element.Style h = h
+no-style Nothing (OfUrl u) _ h = h
+no-style PendingLess v e h = h
+no-style (PendingName letters) v e h = h
+no-style LessAtCut v e h = h
+no-style PendingBang v e h = h
+no-style PendingBangDash v e h = h
 
 no-name : (second : Bool) (p : Place) → (IsText (Some p) → ⊥) → IsText (if second then None else Some p) → ⊥
 no-name true p n h = h
@@ -165,6 +218,7 @@ in-text-state (InContent e Bytes LessAtCut) h = absurd (no-block e true h)
 in-text-state (InContent e Bytes (PendingName letters)) h = absurd h
 in-text-state (InContent e Bytes PendingBang) h = absurd h
 in-text-state (InContent e Bytes PendingBangDash) h = absurd h
+in-text-state (InContent e (InLanguage v) pending) h = absurd (no-style pending v e h)
 in-text-state Unread h = absurd h
 
 pub in-text : (s : LexState ValueState) → IsIn place.Text s → s ≡ Text Closed

@@ -4,20 +4,20 @@ use Rattle.std.proofs.Common.{ℕ, Bool, true, false, codes, List, [], ◌∷◌
 use Rattle.std.specs.Char.{to_ascii_lowercase}
 use Rattle.place_core.specs.page.Classes.{Class, White, ExclamationMark, QuotationMark, Apostrophe, HyphenMinus, Solidus, LessThan, EqualsSign, GreaterThan, QuestionMark, Letter, class_of}
 use Rattle.place_core.specs.page.Comments.{Declaration, OpensComment, OpensDoctype, Undecided, OpensNothing, declared_by, emits_doctype}
-use Rattle.place_core.specs.page.Contents.{content_bytes, pending_bytes, emits_content_cut, is_name_of, may_be_name_of, emits_bang, emits_bang_dash, emits_closed, emits_content, emits_end_name, emits_in_content, emits_less, emits_loose}
+use Rattle.place_core.specs.page.Contents.{content_after, content_bytes, content_ends, pending_bytes, emits_content_cut, is_name_of, may_be_name_of, emits_bang, emits_bang_dash, emits_closed, emits_content, emits_end_name, emits_in_content, emits_less, emits_loose}
 use Rattle.css_lexer.specs.Events.{InsideUrl}
 use Rattle.place_core.specs.page.Events.{LexEvent, InsideStyle, AttributeBegins, AttributeNameByte, AttributeNameEnds, BlockByte, Comment, DoctypeBegins, DoctypeByte, DoctypeEnds, EndTagBegins, Escape, Mark, StartTagBegins, TagEnds, TagNameByte, TextByte, UnreadByte, ValueByte, ValueScheme, block_bytes, doctype_bytes, tag_name_bytes, event_text_bytes}
 use Rattle.place_core.specs.page.Html.{byte_over, ends_value, read_over, emits, emits_after_name, emits_after_value, emits_before_name, emits_before_value, emits_bogus, emits_comment, emits_declaration, emits_end_tag_open, emits_name, emits_self_closing, emits_tag_name, emits_tag_open, emits_text, emits_value, emits_whole_name}
 use Rattle.place_core.specs.page.Paths.{read_node, emits_cut}
 use Rattle.place_core.specs.page.References.{Reference, Closed, as_it_stands, settled, undone_byte}
-use Rattle.place_core.specs.page.States.{AfterAttributeName, AfterAttributeValue, AttributeName, AttributeValue, BeforeAttributeName, BeforeAttributeValue, BogusComment, Bytes, Characters, Content, DeclarationOpen, EndTagOpen, Pending, PendingBang, PendingBangDash, PendingLess, LessAtCut, PendingName, InComment, InContent, InDoctype, Nothing, Page, LexMode, SelfClosingStartTag, LexState, TagName, TagOpen, Template, Text, Unread, WholeAttributeName, WholeTagName, Config}
-use Rattle.place_core.specs.page.Tags.{ValueLanguage, Quoting, Unquoted, Deciding, ValueOf, element_on, emitted_bytes, emitted_end, attribute_value_of, with_bytes}
+use Rattle.place_core.specs.page.States.{AfterAttributeName, AfterAttributeValue, AttributeName, AttributeValue, BeforeAttributeName, BeforeAttributeValue, BogusComment, Bytes, Characters, Content, InLanguage, DeclarationOpen, EndTagOpen, Pending, PendingBang, PendingBangDash, PendingLess, LessAtCut, PendingName, InComment, InContent, InDoctype, Nothing, Page, LexMode, SelfClosingStartTag, LexState, TagName, TagOpen, Template, Text, Unread, WholeAttributeName, WholeTagName, Config}
+use Rattle.place_core.specs.page.Tags.{ValueLanguage, Quoting, Unquoted, Deciding, ValueOf, element_on, emitted_bytes, emitted_end, emits_fed, fed_state, attribute_value_of, with_bytes}
 use Rattle.place_core.specs.page.Words.{kind_of}
 use Rattle.place_core.specs.declared.element.Element.{Element}
 use Rattle.place_core.specs.declared.kind.Kind.{Kind}
 use Rattle.place_core.specs.declared.kind.Kind.TheVariants as kind
 use Rattle.url_lexer.specs.Events.{UrlEnds}
-use Rattle.text_norm.proofs.StatesBeside.{IsFedAlike, IsOutside, StandBeside, cut-beside, next-beside}
+use Rattle.text_norm.proofs.StatesBeside.{IsFedAlike, IsOutside, NoLanguage, StandBeside, cut-beside, fed-state-beside, next-beside}
 
 -- an event that HTML emits by itself: neither a mark nor what the end of a URL tells
 abbrev pub IsOwn : LexEvent → Type 0
@@ -45,11 +45,11 @@ module _ (F : List LexEvent → List LexEvent → Type 0) (keep : (e : LexEvent)
   doctypes [] t u f = f
   doctypes (b ∷ bs) t u f = doctypes bs (DoctypeByte b ∷ t) (DoctypeByte b ∷ u) (keep (DoctypeByte b) t u tt f)
 
-  tag_names : (bs : List ℕ) (t u : List LexEvent) → F t u → F (tag_name_bytes bs t) (tag_name_bytes bs u)
-  tag_names [] t u f = f
-  tag_names (b ∷ bs) t u f =
+  pub tag-names : (bs : List ℕ) (t u : List LexEvent) → F t u → F (tag_name_bytes bs t) (tag_name_bytes bs u)
+  tag-names [] t u f = f
+  tag-names (b ∷ bs) t u f =
       let e = TagNameByte (to_ascii_lowercase b) in
-      tag_names bs (e ∷ t) (e ∷ u) (keep e t u tt f)
+      tag-names bs (e ∷ t) (e ∷ u) (keep e t u tt f)
 
   pub in-text : (c : Class) (b : ℕ) (r : Reference) (t u : List LexEvent) → F t u → F (emits_text c b r t) (emits_text c b r u)
   in-text LessThan b r t u f = f
@@ -128,66 +128,86 @@ module _ (F : List LexEvent → List LexEvent → Type 0) (keep : (e : LexEvent)
   after-value Unquoted c b t u f = before-name c b t u f
   after-value q c b t u f = f
 
-  in-contents : (x : Content) (bs : List ℕ) (t u : List LexEvent) → F t u → F (content_bytes x bs t) (content_bytes x bs u)
-  in-contents (Characters r) bs t u f = texts bs t u f
-  in-contents Bytes bs t u f = blocks bs t u f
+  -- a content that no language reads
+  module _ (B : Type 0) (x : ValueLanguage B) where
+    in-contents : (y : Content B) (bs : List ℕ) (t u : List LexEvent) → NoLanguage y → F t u → F (content_bytes x y bs t) (content_bytes x y bs u)
+    in-contents (Characters r) bs t u n f = texts bs t u f
+    in-contents Bytes bs t u n f = blocks bs t u f
+    in-contents (InLanguage v) bs t u n f = absurd n
 
-  in-closed : (x : Content) (t u : List LexEvent) → F t u → F (emits_closed x t) (emits_closed x u)
-  in-closed (Characters r) t u f = texts (settled false r) t u f
-  in-closed Bytes t u f = f
+    in-closed : (y : Content B) (t u : List LexEvent) → NoLanguage y → F t u → F (emits_closed y t) (emits_closed y u)
+    in-closed (Characters r) t u n f = texts (settled false r) t u f
+    in-closed Bytes t u n f = f
+    in-closed (InLanguage v) t u n f = absurd n
 
-  in-byte : (x : Content) (c : Class) (b : ℕ) (t u : List LexEvent) → F t u → F (emits_content x c b t) (emits_content x c b u)
-  in-byte (Characters r) c b t u f = texts (undone_byte false r c b) t u f
-  in-byte Bytes c b t u f = blocks (b ∷ []) t u f
+    in-byte : (y : Content B) (c : Class) (b : ℕ) (t u : List LexEvent) → NoLanguage y → F t u → F (emits_content x y c b t) (emits_content x y c b u)
+    in-byte (Characters r) c b t u n f = texts (undone_byte false r c b) t u f
+    in-byte Bytes c b t u n f = blocks (b ∷ []) t u f
+    in-byte (InLanguage v) c b t u n f = absurd n
 
-  loose : (c : Class) (b : ℕ) (x : Content) (t u : List LexEvent) → F t u → F (emits_loose c b x t) (emits_loose c b x u)
-  loose LessThan b x t u f = in-closed x t u f
-  loose c b x t u f = in-byte x c b t u f
+    in-ends : (y : Content B) (t u : List LexEvent) → NoLanguage y → F t u → F (content_ends x y t) (content_ends x y u)
+    in-ends (Characters r) t u n f = f
+    in-ends Bytes t u n f = f
+    in-ends (InLanguage v) t u n f = absurd n
 
-  less : (c : Class) (b : ℕ) (x : Content) (t u : List LexEvent) → F t u → F (emits_less c b x t) (emits_less c b x u)
-  less Solidus b x t u f = f
-  less ExclamationMark b Bytes t u f = f
-  less c b x t u f = loose c b x _ _ (in-contents x (codes "<") t u f)
+    after-none : (y : Content B) (bytes : List ℕ) → NoLanguage y → NoLanguage (content_after x y bytes)
+    after-none (Characters r) bytes n = tt
+    after-none Bytes bytes n = tt
+    after-none (InLanguage v) bytes n = absurd n
 
-  end-name : (grows whole : Bool) (c : Class) (b : ℕ) (x : Content) (letters : List ℕ) (t u : List LexEvent) → F t u
-      → F (emits_end_name grows whole c b x letters t) (emits_end_name grows whole c b x letters u)
-  end-name true whole (Letter l) b x letters t u f = f
-  end-name grows true White b x letters t u f = tag_names letters _ _ (keep EndTagBegins t u tt f)
-  end-name grows true Solidus b x letters t u f = tag_names letters _ _ (keep EndTagBegins t u tt f)
-  end-name grows true GreaterThan b x letters t u f = keep (TagEnds false) _ _ tt (tag_names letters _ _ (keep EndTagBegins t u tt f))
-  end-name grows whole c b x letters t u f = loose c b x _ _ (in-contents x (codes "</" ++ letters) t u f)
+    loose : (c : Class) (b : ℕ) (y : Content B) (t u : List LexEvent) → NoLanguage y → F t u → F (emits_loose x c b y t) (emits_loose x c b y u)
+    loose LessThan b y t u n f = in-closed y t u n f
+    loose c b y t u n f = in-byte y c b t u n f
 
-  bang : (c : Class) (b : ℕ) (x : Content) (t u : List LexEvent) → F t u → F (emits_bang c b x t) (emits_bang c b x u)
-  bang HyphenMinus b x t u f = f
-  bang c b x t u f = loose c b x _ _ (in-contents x (codes "<!") t u f)
+    behind : (c : Class) (b : ℕ) (y : Content B) (bs : List ℕ) (t u : List LexEvent) → NoLanguage y → F t u
+        → F (emits_loose x c b (content_after x y bs) (content_bytes x y bs t)) (emits_loose x c b (content_after x y bs) (content_bytes x y bs u))
+    behind c b y bs t u n f = loose c b (content_after x y bs) _ _ (after-none y bs n) (in-contents y bs t u n f)
 
-  bang-dash : (c : Class) (b : ℕ) (x : Content) (t u : List LexEvent) → F t u → F (emits_bang_dash c b x t) (emits_bang_dash c b x u)
-  bang-dash HyphenMinus b x t u f = keep Escape _ _ tt (in-contents x (codes "<!--") t u f)
-  bang-dash c b x t u f = loose c b x _ _ (in-contents x (codes "<!-") t u f)
+    less : (c : Class) (b : ℕ) (y : Content B) (t u : List LexEvent) → NoLanguage y → F t u → F (emits_less x c b y t) (emits_less x c b y u)
+    less Solidus b y t u n f = f
+    less ExclamationMark b Bytes t u n f = f
+    less c b y t u n f = behind c b y (codes "<") t u n f
 
-  pub in-content : (h : Pending) (c : Class) (b : ℕ) (e : Element) (x : Content) (t u : List LexEvent) → F t u
-      → F (emits_in_content h c b e x t) (emits_in_content h c b e x u)
-  in-content Nothing c b e x t u f = loose c b x t u f
-  in-content PendingLess c b e x t u f = less c b x t u f
-  in-content LessAtCut c b e x t u f = loose c b x _ _ (in-contents x (codes "<") t u f)
-  in-content (PendingName letters) c b e x t u f =
-      end-name (may_be_name_of e (letters ++ b ∷ [])) (is_name_of e letters) c b x letters t u f
-  in-content PendingBang c b e x t u f = bang c b x t u f
-  in-content PendingBangDash c b e x t u f = bang-dash c b x t u f
+    end-name : (grows whole : Bool) (c : Class) (b : ℕ) (y : Content B) (letters : List ℕ) (t u : List LexEvent) → NoLanguage y → F t u
+        → F (emits_end_name x grows whole c b y letters t) (emits_end_name x grows whole c b y letters u)
+    end-name true whole (Letter l) b y letters t u n f = f
+    end-name grows true White b y letters t u n f = tag-names letters _ _ (keep EndTagBegins _ _ tt (in-ends y t u n f))
+    end-name grows true Solidus b y letters t u n f = tag-names letters _ _ (keep EndTagBegins _ _ tt (in-ends y t u n f))
+    end-name grows true GreaterThan b y letters t u n f = keep (TagEnds false) _ _ tt (tag-names letters _ _ (keep EndTagBegins _ _ tt (in-ends y t u n f)))
+    end-name grows whole c b y letters t u n f = behind c b y (codes "</" ++ letters) t u n f
 
-  cut-content : (x : Content) (h : Pending) (t u : List LexEvent) → F t u → F (emits_content_cut x h t) (emits_content_cut x h u)
-  cut-content (Characters r) h t u f = texts (pending_bytes h) _ _ (texts (as_it_stands r) t u f)
-  cut-content Bytes PendingLess t u f = f
-  cut-content Bytes LessAtCut t u f = f
-  cut-content Bytes h t u f = blocks (pending_bytes h) t u f
+    bang : (c : Class) (b : ℕ) (y : Content B) (t u : List LexEvent) → NoLanguage y → F t u → F (emits_bang x c b y t) (emits_bang x c b y u)
+    bang HyphenMinus b y t u n f = f
+    bang c b y t u n f = behind c b y (codes "<!") t u n f
+
+    bang-dash : (c : Class) (b : ℕ) (y : Content B) (t u : List LexEvent) → NoLanguage y → F t u → F (emits_bang_dash x c b y t) (emits_bang_dash x c b y u)
+    bang-dash HyphenMinus b y t u n f = keep Escape _ _ tt (in-contents y (codes "<!--") t u n f)
+    bang-dash c b y t u n f = behind c b y (codes "<!-") t u n f
+
+    pub in-content : (h : Pending) (c : Class) (b : ℕ) (e : Element) (y : Content B) (t u : List LexEvent) → NoLanguage y → F t u
+        → F (emits_in_content x h c b e y t) (emits_in_content x h c b e y u)
+    in-content Nothing c b e y t u n f = loose c b y t u n f
+    in-content PendingLess c b e y t u n f = less c b y t u n f
+    in-content LessAtCut c b e y t u n f = behind c b y (codes "<") t u n f
+    in-content (PendingName letters) c b e y t u n f =
+        end-name (may_be_name_of e (letters ++ b ∷ [])) (is_name_of e letters) c b y letters t u n f
+    in-content PendingBang c b e y t u n f = bang c b y t u n f
+    in-content PendingBangDash c b e y t u n f = bang-dash c b y t u n f
+
+    cut-content : (y : Content B) (h : Pending) (t u : List LexEvent) → NoLanguage y → F t u → F (emits_content_cut x y h t) (emits_content_cut x y h u)
+    cut-content (Characters r) h t u n f = texts (pending_bytes h) _ _ (texts (as_it_stands r) t u f)
+    cut-content Bytes PendingLess t u n f = f
+    cut-content Bytes LessAtCut t u n f = f
+    cut-content Bytes h t u n f = blocks (pending_bytes h) t u f
+    cut-content (InLanguage v) h t u n f = absurd n
 
   -- the type of a script
   module _ (B : Type 0) (x : ValueLanguage B) where
-    type-bytes : (bs : List ℕ) (k : Kind) (before : List ℕ) (t u : List LexEvent) → F t u → F (emitted_bytes x (Deciding k before) bs t) (emitted_bytes x (Deciding k before) bs u)
+    pub type-bytes : (bs : List ℕ) (k : Kind) (before : List ℕ) (t u : List LexEvent) → F t u → F (emitted_bytes x (Deciding k before) bs t) (emitted_bytes x (Deciding k before) bs u)
     type-bytes [] k before t u f = f
     type-bytes (b ∷ bs) k before t u f = type-bytes bs k (before ++ b ∷ []) (ValueByte b ∷ t) (ValueByte b ∷ u) (keep (ValueByte b) t u tt f)
 
-    type-end : (bs : List ℕ) (k : Kind) (before : List ℕ) (t u : List LexEvent) → F t u
+    pub type-end : (bs : List ℕ) (k : Kind) (before : List ℕ) (t u : List LexEvent) → F t u
         → F (emitted_end x (with_bytes x (Deciding k before) bs) t) (emitted_end x (with_bytes x (Deciding k before) bs) u)
     type-end [] k before t u f = f
     type-end (b ∷ bs) k before t u f = type-end bs k (before ++ b ∷ []) t u f
@@ -216,6 +236,49 @@ module _ (F : List LexEvent → List LexEvent → Type 0) (keep : (e : LexEvent)
         let bs = settled true r in
         after-value q c b _ _ (emitted-end bs v w _ _ a (emitted-bytes bs v w t u a f))
     in-value false q c b v w r t u a f = emitted-bytes (undone_byte true r c b) v w t u a f
+
+    -- a content that the language reads
+    fed-emits : (bs : List ℕ) (v w : B) (t u : List LexEvent) → Related v w → F t u → F (emits_fed x v bs t) (emits_fed x w bs u)
+    fed-emits [] v w t u a f = f
+    fed-emits (b ∷ bs) v w t u a f = fed-emits bs (x.feed v b) (x.feed w b) (x.emits v b t) (x.emits w b u) (own.fed.feeds v w b a) (own.emits v w b t u a f)
+
+    loose-emits : (c : Class) (b : ℕ) (v w : B) (t u : List LexEvent) → Related v w → F t u → F (emits_loose x c b (InLanguage v) t) (emits_loose x c b (InLanguage w) u)
+    loose-emits LessThan b v w t u a f = f
+    loose-emits c b v w t u a f = own.emits v w b t u a f
+
+    behind-emits : (c : Class) (b : ℕ) (bs : List ℕ) (v w : B) (t u : List LexEvent) → Related v w → F t u
+        → F (emits_loose x c b (InLanguage (fed_state x v bs)) (emits_fed x v bs t)) (emits_loose x c b (InLanguage (fed_state x w bs)) (emits_fed x w bs u))
+    behind-emits c b bs v w t u a f =
+        loose-emits c b (fed_state x v bs) (fed_state x w bs) _ _ (fed-state-beside B x Related own.fed bs v w a) (fed-emits bs v w t u a f)
+
+    less-emits : (c : Class) (b : ℕ) (v w : B) (t u : List LexEvent) → Related v w → F t u → F (emits_less x c b (InLanguage v) t) (emits_less x c b (InLanguage w) u)
+    less-emits Solidus b v w t u a f = f
+    less-emits c b v w t u a f = behind-emits c b (codes "<") v w t u a f
+
+    name-emits : (grows whole : Bool) (c : Class) (b : ℕ) (letters : List ℕ) (v w : B) (t u : List LexEvent) → Related v w → F t u
+        → F (emits_end_name x grows whole c b (InLanguage v) letters t) (emits_end_name x grows whole c b (InLanguage w) letters u)
+    name-emits true whole (Letter l) b letters v w t u a f = f
+    name-emits grows true White b letters v w t u a f = tag-names letters _ _ (keep EndTagBegins _ _ tt (own.ends v w t u a f))
+    name-emits grows true Solidus b letters v w t u a f = tag-names letters _ _ (keep EndTagBegins _ _ tt (own.ends v w t u a f))
+    name-emits grows true GreaterThan b letters v w t u a f = keep (TagEnds false) _ _ tt (tag-names letters _ _ (keep EndTagBegins _ _ tt (own.ends v w t u a f)))
+    name-emits grows whole c b letters v w t u a f = behind-emits c b (codes "</" ++ letters) v w t u a f
+
+    bang-emits : (c : Class) (b : ℕ) (v w : B) (t u : List LexEvent) → Related v w → F t u → F (emits_bang x c b (InLanguage v) t) (emits_bang x c b (InLanguage w) u)
+    bang-emits HyphenMinus b v w t u a f = f
+    bang-emits c b v w t u a f = behind-emits c b (codes "<!") v w t u a f
+
+    dash-emits : (c : Class) (b : ℕ) (v w : B) (t u : List LexEvent) → Related v w → F t u → F (emits_bang_dash x c b (InLanguage v) t) (emits_bang_dash x c b (InLanguage w) u)
+    dash-emits HyphenMinus b v w t u a f = keep Escape _ _ tt (fed-emits (codes "<!--") v w t u a f)
+    dash-emits c b v w t u a f = behind-emits c b (codes "<!-") v w t u a f
+
+    pub language-emits : (h : Pending) (c : Class) (b : ℕ) (e : Element) (v w : B) (t u : List LexEvent) → Related v w → F t u
+        → F (emits_in_content x h c b e (InLanguage v) t) (emits_in_content x h c b e (InLanguage w) u)
+    language-emits Nothing c b e v w t u a f = loose-emits c b v w t u a f
+    language-emits PendingLess c b e v w t u a f = less-emits c b v w t u a f
+    language-emits LessAtCut c b e v w t u a f = behind-emits c b (codes "<") v w t u a f
+    language-emits (PendingName letters) c b e v w t u a f = name-emits (may_be_name_of e (letters ++ b ∷ [])) (is_name_of e letters) c b letters v w t u a f
+    language-emits PendingBang c b e v w t u a f = bang-emits c b v w t u a f
+    language-emits PendingBangDash c b e v w t u a f = dash-emits c b v w t u a f
 
     -- a value that begins
     begun-end : (k : Kind) (t u : List LexEvent) → F t u → F (emitted_end x (attribute_value_of x k) t) (emitted_end x (attribute_value_of x k) u)
@@ -262,7 +325,9 @@ module _ (F : List LexEvent → List LexEvent → Type 0) (keep : (e : LexEvent)
     self-emits m (AttributeValue q tag (Deciding k before) r) c b t u o f = in-type B x (ends_value q c) q c b k before r t u f
     self-emits m (AfterAttributeValue tag) c b t u o f = before-name c b t u f
     self-emits m (SelfClosingStartTag tag) c b t u o f = self-closing c b t u f
-    self-emits m (InContent e y h) c b t u o f = in-content h c b e y t u f
+    self-emits m (InContent e (Characters r) h) c b t u o f = in-content B x h c b e (Characters r) t u tt f
+    self-emits m (InContent e Bytes h) c b t u o f = in-content B x h c b e Bytes t u tt f
+    self-emits m (InContent e (InLanguage v) h) c b t u o f = absurd o
     self-emits m Unread c b t u o f = keep (UnreadByte b) t u tt f
 
     -- a byte, from one beside the other
@@ -271,6 +336,8 @@ module _ (F : List LexEvent → List LexEvent → Type 0) (keep : (e : LexEvent)
     emits-alike m (AttributeValue q tag (ValueOf v) r) z c b t u a f =
         subst (λ (y : LexState B). F (emits x m (AttributeValue q tag (ValueOf v) r) c b t) (emits x m y c b u)) (sym a.1)
         (in-value (ends_value q c) q c b v a.0 r t u a.2 f)
+    emits-alike m (InContent e (InLanguage v) h) z c b t u a f =
+        subst (λ (y : LexState B). F (emits x m (InContent e (InLanguage v) h) c b t) (emits x m y c b u)) (sym a.1) (language-emits h c b e v a.0 t u a.2 f)
     emits-alike m s z c b t u a f = subst (λ (y : LexState B). F (emits x m s c b t) (emits x m y c b u)) (sym a) (self-emits m s c b t u tt f)
 
     -- a node's end
@@ -281,13 +348,17 @@ module _ (F : List LexEvent → List LexEvent → Type 0) (keep : (e : LexEvent)
     self-cut (DeclarationOpen r pending) t u o f = texts (codes "<!" ++ pending) _ _ (texts (settled false r) t u f)
     self-cut (AttributeValue q tag (ValueOf v) r) t u o f = absurd o
     self-cut (AttributeValue q tag (Deciding k before) r) t u o f = type-bytes B x (as_it_stands r) k before t u f
-    self-cut (InContent e y h) t u o f = cut-content y h t u f
+    self-cut (InContent e (Characters r) h) t u o f = cut-content B x (Characters r) h t u tt f
+    self-cut (InContent e Bytes h) t u o f = cut-content B x Bytes h t u tt f
+    self-cut (InContent e (InLanguage v) h) t u o f = absurd o
     self-cut _ t u o f = f
 
     pub cut-alike : (s z : LexState B) (t u : List LexEvent) → StandBeside Related s z → F t u → F (emits_cut x s t) (emits_cut x z u)
     cut-alike (AttributeValue q tag (ValueOf v) r) z t u a f =
         subst (λ (y : LexState B). F (emits_cut x (AttributeValue q tag (ValueOf v) r) t) (emits_cut x y u)) (sym a.1)
         (emitted-bytes (as_it_stands r) v a.0 t u a.2 f)
+    cut-alike (InContent e (InLanguage v) h) z t u a f =
+        subst (λ (y : LexState B). F (emits_cut x (InContent e (InLanguage v) h) t) (emits_cut x y u)) (sym a.1) (fed-emits (pending_bytes h) v a.0 t u a.2 f)
     cut-alike s z t u a f = subst (λ (y : LexState B). F (emits_cut x s t) (emits_cut x y u)) (sym a) (self-cut s t u tt f)
 
     -- bytes that both read

@@ -1,8 +1,8 @@
 -- How a page's events, read as bytes alone, fill those of its reading with marks: an event, a mark, bytes of text, and a hole in each state.
-use Rattle.std.proofs.Common.{◌≡◌, ℕ, Bool, true, false, List, [], ◌∷◌, ◌++◌, None, ◌⊎◌, inl, inr, refl, sym, ap, ◌∙◌, subst}
+use Rattle.std.proofs.Common.{◌≡◌, ℕ, Bool, true, false, List, [], ◌∷◌, ◌++◌, None, ◌⊎◌, inl, inr, refl, sym, ap, ◌∙◌, subst, true≢false}
 use Rattle.css_lexer.specs.Classes.{style_class}
 use Rattle.css_lexer.specs.Events.{RunByte}
-use Rattle.css_lexer.specs.States.{Between, AfterSolidus, BehindHole, Style, Out}
+use Rattle.css_lexer.specs.States.{Between, AfterLessThan, AfterSolidus, BehindHole, Style, Out}
 use Rattle.page_datum.specs.Data.{Data}
 use Rattle.page_datum.specs.Printed.{printed}
 use Rattle.place_core.specs.page.Events.{AttributeBegins, AttributeNameByte, BlockByte, InsideStyle, LexEvent, Mark, TextByte, ValueByte, attribute_name_bytes, block_bytes, event_text_bytes, value_bytes}
@@ -14,7 +14,7 @@ use Rattle.place_core.specs.place.UrlParts.{parts_of}
 use Rattle.place_core.specs.page.Paths.{at_cut, at_hole, mark_in, read_node}
 use Rattle.place_core.specs.page.Shape.{marked, state_past_hole}
 use Rattle.place_core.specs.page.Plain.{settled_state}
-use Rattle.place_core.specs.page.States.{AttributeName, AttributeValue, BeforeAttributeValue, Config, LexState, Page, Template, Text, config}
+use Rattle.place_core.specs.page.States.{AfterAttributeName, AfterAttributeValue, AttributeName, AttributeValue, BeforeAttributeName, BeforeAttributeValue, Bytes, Characters, Config, InContent, InLanguage, LexState, Nothing, Page, Pending, PendingLess, SelfClosingStartTag, Template, Text, config}
 use Rattle.place_core.specs.page.References.{Closed}
 use Rattle.place_core.specs.page.Tags.{DoubleQuoted, Quoting, SingleQuoted, Tag, Unquoted, Value, ValueOf, ValueState, OfKind, OfUrl, OfStyle, emits_state, emitted_bytes, ends_state, feed_value, languages, value_start}
 use Rattle.place_core.specs.declared.element.Element.{Element}
@@ -28,11 +28,12 @@ use Rattle.text_norm.proofs.Emits.{same-state}
 use Rattle.text_norm.proofs.FilledEvents.{SchemesSame, fed-same, fills-keep, fills-mark, fills-scheme}
 use Rattle.text_norm.proofs.ReadBeside.{Beside, ReadsBeside, read-beside}
 use Rattle.text_norm.proofs.StatesBeside.{IsOutside}
+use Rattle.text_norm.proofs.StyleElementKeeps.{IsPending}
 use Rattle.text_norm.proofs.StyleRaw.{StyleBeside, style-end, style-fills, style-next}
 use Rattle.text_norm.proofs.UrlHoles.{IsUrlHole, url-begun, url-hole}
 use Rattle.text_norm.specs.Fillings.{BlockSite, Filling, Fills, FitsAt, NameSite, TextSite, UnquotedSite, UrlSite, filling, fillings_at, quoted_site, url_bytes}
 use Rattle.text_norm.specs.HoleLaws.{IsBackBy}
-use Rattle.text_norm.specs.Standing.{TextStands}
+use Rattle.text_norm.specs.Standing.{TextStands, in_element}
 use Rattle.url_lexer.specs.Alike.{UrlsAlike}
 use Rattle.url_lexer.specs.Holes.{url_behind}
 use Rattle.url_lexer.specs.Parts.{UrlPart, UrlStart}
@@ -82,7 +83,7 @@ raw-ends vs (OfStyle s) (OfStyle r) t u a = style-end vs s r t u a.0 a.1
 raw-ends vs (OfStyle s) (OfKind k) t u a = absurd a.0
 raw-ends vs (OfStyle s) (OfUrl z) t u a = absurd a.0
 
-raw-reads : (vs : List Filling) → ReadsBeside ValueState languages (Filled vs) (RawFilled vs)
+pub raw-reads : (vs : List Filling) → ReadsBeside ValueState languages (Filled vs) (RawFilled vs)
 raw-reads vs = record { keeps = fills-keep vs; starts = raw-starts vs; feeds = raw-feeds vs; ends = raw-ends vs }
 
 -- Where the page's reading of bytes alone stands, beside its reading with marks.
@@ -109,30 +110,110 @@ abbrev pub IsSlashPending : LexState ValueState → Config ValueState → Config
 IsSlashPending (AttributeValue q tag (ValueOf (OfStyle (Out (BehindHole true less)))) Closed) d settled = SlashPending q tag d settled
 IsSlashPending s d settled = ⊥
 
+-- So it is in the element of a style, where HTML may hold something back too: behind the `/`, by which that was no end tag,
+pub record SolidusPending (e : Element) (held : Pending) (d settled : Config ValueState) : Type 0 where
+  pub blank : Bool
+  pub told : List LexEvent
+  pub raw : d ≡ config (in_element e (OfStyle (Out (AfterSolidus blank))) held) told
+  pub is_settled : settled ≡ config (in_element e (OfStyle (Out (Between false))) held) (InsideStyle (RunByte 47) ∷ told)
+
+-- or a `<` before the hole, which the reading with marks has told. There the path takes no `/`.
+pub record LessPending (e : Element) (d settled : Config ValueState) : Type 0 where
+  pub there : ValueState
+  pub told : List LexEvent
+  pub raw : d ≡ config (in_element e there PendingLess) told
+  pub leads : languages.feed there 60 ≡ OfStyle (Out AfterLessThan)
+  pub is_settled : settled ≡ config (in_element e (OfStyle (Out AfterLessThan)) Nothing) (languages.emits there 60 told)
+
+abbrev pub SolidusIf : Bool → Element → Config ValueState → Config ValueState → Type 0
+SolidusIf true e d settled = SolidusPending e Nothing d settled
+SolidusIf false e d settled = ⊥
+
+abbrev pub LessIf : Bool → Element → Config ValueState → Config ValueState → Type 0
+LessIf true e d settled = LessPending e d settled
+LessIf false e d settled = ⊥
+
+abbrev pub IsElementPending : LexState ValueState → Config ValueState → Config ValueState → Type 0
+IsElementPending (InContent e (InLanguage (OfStyle (Out (BehindHole solidus less)))) Nothing) d settled = SolidusIf solidus e d settled ⊎ LessIf less e d settled
+IsElementPending s d settled = ⊥
+
+-- Where HTML holds something back behind the `/`, the `<` of that follows on the `/`, wherever the path is.
+pub record SolidusHeld (d settled : Config ValueState) : Type 0 where
+  pub element : Element
+  pub held : Pending
+  pub holds : IsPending held
+  pub own : SolidusPending element held d settled
+
+abbrev pub AreRaw : LexState ValueState → Config ValueState → Config ValueState → Type 0
+AreRaw s d settled = (d ≡ settled) ⊎ (IsSlashPending s d settled ⊎ (IsElementPending s d settled ⊎ SolidusHeld d settled))
+
 pub record StandsRaw (s : LexState ValueState) (vs : List Filling) (m d : Config ValueState) : Type 0 where
   pub settled : Config ValueState
   pub beside : RawStands vs m settled
-  pub pending : (d ≡ settled) ⊎ IsSlashPending s d settled
+  pub pending : AreRaw s d settled
 
 pub beside-raw : (s : LexState ValueState) (vs : List Filling) (m d : Config ValueState) → RawStands vs m d → StandsRaw s vs m d
 beside-raw s vs m d r = record { settled = d; beside = r; pending = inl refl }
 
--- outside of styles nothing is pending
+-- Outside of styles nothing is pending: there the reading with marks is in the path's state or in one of the same value, and so is that of bytes alone.
 abbrev pub IsNoStyle : LexState ValueState → Type 0
-IsNoStyle (AttributeValue q tag (ValueOf (OfStyle s)) r) = ⊥
-IsNoStyle s = Unit {0}
+IsNoStyle (Text Closed) = Unit {0}
+IsNoStyle (BeforeAttributeName tag) = Unit {0}
+IsNoStyle (AfterAttributeName tag k) = Unit {0}
+IsNoStyle (BeforeAttributeValue tag k) = Unit {0}
+IsNoStyle (AttributeValue q tag (ValueOf (OfKind k)) Closed) = Unit {0}
+IsNoStyle (AttributeValue q tag (ValueOf (OfUrl u)) Closed) = Unit {0}
+IsNoStyle (AfterAttributeValue tag) = Unit {0}
+IsNoStyle (SelfClosingStartTag tag) = Unit {0}
+IsNoStyle (InContent e (Characters Closed) Nothing) = Unit {0}
+IsNoStyle (InContent e Bytes h) = Unit {0}
+IsNoStyle s = ⊥
 
 no-slash : (s : LexState ValueState) (d e : Config ValueState) → IsNoStyle s → IsSlashPending s d e → ⊥
 no-slash (AttributeValue q tag (ValueOf (OfStyle v)) r) d e n h = n
 no-slash _ d e n h = h
 
-none-pending : (s : LexState ValueState) (vs : List Filling) (m d e : Config ValueState) → IsNoStyle s → RawStands vs m e
-    → (d ≡ e) ⊎ IsSlashPending s d e → RawStands vs m d
-none-pending s vs m d e n r (inl h) = subst (RawStands vs m) (sym h) r
-none-pending s vs m d e n r (inr h) = absurd (no-slash s d e n h)
+no-element : (s : LexState ValueState) (d e : Config ValueState) → IsNoStyle s → IsElementPending s d e → ⊥
+no-element (InContent i (InLanguage v) h) d e n p = n
+no-element _ d e n p = p
 
-pub raw-beside : (s : LexState ValueState) (vs : List Filling) (m d : Config ValueState) → IsNoStyle s → StandsRaw s vs m d → RawStands vs m d
-raw-beside s vs m d n r = none-pending s vs m d r.settled n r.beside r.pending
+abbrev pub is_in_language : LexState ValueState → Bool
+is_in_language (InContent e (InLanguage v) h) = true
+is_in_language s = false
+
+stands-outside : (s : LexState ValueState) (t : List LexEvent) (m : Config ValueState) → IsNoStyle s → TextStands languages s t m → is_in_language m.at ≡ false
+stands-outside (Text Closed) t m n l = ap (λ (c : Config ValueState). is_in_language c.at) l
+stands-outside (BeforeAttributeName tag) t m n l = ap (λ (c : Config ValueState). is_in_language c.at) l
+stands-outside (AfterAttributeName tag k) t m n l = ap (λ (c : Config ValueState). is_in_language c.at) l
+stands-outside (BeforeAttributeValue tag k) t m n l = ap (λ (c : Config ValueState). is_in_language c.at) l
+stands-outside (AttributeValue q tag (ValueOf (OfKind k)) Closed) t m n l = ap (λ (c : Config ValueState). is_in_language c.at) l.stands
+stands-outside (AttributeValue q tag (ValueOf (OfUrl u)) Closed) t m n l = ap (λ (c : Config ValueState). is_in_language c.at) l.stands
+stands-outside (AfterAttributeValue tag) t m n l = ap (λ (c : Config ValueState). is_in_language c.at) l
+stands-outside (SelfClosingStartTag tag) t m n l = ap (λ (c : Config ValueState). is_in_language c.at) l
+stands-outside (InContent e (Characters Closed) Nothing) t m n l = ap (λ (c : Config ValueState). is_in_language c.at) l
+stands-outside (InContent e Bytes h) t m n l = ap (λ (c : Config ValueState). is_in_language c.at) l
+stands-outside _ t m n l = absurd n
+
+same-kind-of-state : (vs : List Filling) (s z : LexState ValueState) (t u : List LexEvent) → Beside (Filled vs) (RawFilled vs) s z t u
+    → is_in_language z ≡ is_in_language s
+same-kind-of-state vs (AttributeValue q tag (ValueOf v) r) z t u a = ap is_in_language a.1
+same-kind-of-state vs (InContent e (InLanguage v) h) z t u a = ap is_in_language a.2
+same-kind-of-state vs _ z t u a = ap is_in_language a.0
+
+-- a page that is in no element of a style holds nothing back in one
+pub not-held : (d e : Config ValueState) → is_in_language e.at ≡ false → SolidusHeld d e → ⊥
+not-held d e n h = true≢false (sym (ap (λ (c : Config ValueState). is_in_language c.at) h.own.is_settled) ∙ n)
+
+none-pending : (s : LexState ValueState) (vs : List Filling) (m d e : Config ValueState) → IsNoStyle s → is_in_language m.at ≡ false → RawStands vs m e
+    → AreRaw s d e → RawStands vs m d
+none-pending s vs m d e n o r (inl h) = subst (RawStands vs m) (sym h) r
+none-pending s vs m d e n o r (inr (inl h)) = absurd (no-slash s d e n h)
+none-pending s vs m d e n o r (inr (inr (inl h))) = absurd (no-element s d e n h)
+none-pending s vs m d e n o r (inr (inr (inr h))) = absurd (not-held d e (same-kind-of-state vs m.at e.at m.emitted e.emitted r ∙ o) h)
+
+pub raw-beside : (s : LexState ValueState) (vs : List Filling) (t : List LexEvent) (m d : Config ValueState) → IsNoStyle s → TextStands languages s t m
+    → StandsRaw s vs m d → RawStands vs m d
+raw-beside s vs t m d n l r = none-pending s vs m d r.settled n (stands-outside s t m n l) r.beside r.pending
 
 -- the state after the text of a node does not depend on what was emitted
 same-states : (bytes : List ℕ) (s : LexState ValueState) (t : List LexEvent)
@@ -174,7 +255,7 @@ LeadsOn s text bytes =
     → RawStands (fillings_at s text vs) (marked bytes m) (read Page bytes d)
 
 pub leads-on : (s : LexState ValueState) (text bytes : List ℕ) → IsNoStyle s → LeadsOn s text bytes → Leads s text bytes
-leads-on s text bytes n k vs t m d l r = beside-raw (at_hole languages s) (fillings_at s text vs) _ _ (k vs t m d l (raw-beside s vs m d n r))
+leads-on s text bytes n k vs t m d l r = beside-raw (at_hole languages s) (fillings_at s text vs) _ _ (k vs t m d l (raw-beside s vs t m d n l r))
 
 -- where the reading with marks comes over a hole, by where its bytes lead
 pub marked-is : (s z : LexState ValueState) (bytes : List ℕ) (t run : List LexEvent) → read Page bytes (config (settled_state languages s) []) ≡ config z run
@@ -188,6 +269,7 @@ led vs m d c k e h r = subst (λ (z : Config ValueState). RawStands vs z d) (sym
 same-outside : (vs : List Filling) (s z : LexState ValueState) (t u : List LexEvent) → IsOutside s → Beside (Filled vs) (RawFilled vs) s z t u
     → (z ≡ s) × Fills t vs u
 same-outside vs (AttributeValue q tag (ValueOf v) r) z t u o a = absurd o
+same-outside vs (InContent e (InLanguage v) h) z t u o a = absurd o
 same-outside vs _ z t u o a = a
 
 pub raw-there : (s : LexState ValueState) (vs : List Filling) (t : List LexEvent) (m d : Config ValueState) → IsOutside s → m ≡ config s t

@@ -8,7 +8,7 @@ use Rattle.place_core.specs.page.Events.{AttributeBegins, InsideStyle, LexEvent,
 use Rattle.place_core.specs.page.Html.{read, start}
 use Rattle.place_core.specs.page.Paths.{Hole, Symbol, Written, at_hole, mark_in, read_node, read_path}
 use Rattle.place_core.specs.page.References.{Closed, Open, Reference}
-use Rattle.place_core.specs.page.States.{AfterAttributeName, AfterAttributeValue, AttributeValue, BeforeAttributeName, BeforeAttributeValue, Bytes, Characters, Config, Content, InContent, LexState, Nothing, Page, Pending, SelfClosingStartTag, Text, config}
+use Rattle.place_core.specs.page.States.{AfterAttributeName, AfterAttributeValue, AttributeValue, BeforeAttributeName, BeforeAttributeValue, Bytes, Characters, Config, Content, InContent, InLanguage, LexState, Nothing, Page, Pending, SelfClosingStartTag, Text, config}
 use Rattle.place_core.specs.page.Tags.{DoubleQuoted, Quoting, SingleQuoted, Tag, Deciding, Unquoted, Value, ValueOf, ValueState, OfKind, OfUrl, OfStyle, attribute_value_of, emits_state, emits_value_settled, emitted_hole, emitted_settled, ends_state, has_mark_in, holed_value, languages, mark_if, with_bytes}
 use Rattle.place_core.specs.place.Errors.{node}
 use Rattle.place_core.specs.declared.element.Element.{Element}
@@ -193,16 +193,18 @@ sure-if false t f = f
 sure-value : (v : Value ValueState) (t : List LexEvent) → AreSure t → AreSure (emitted_hole languages v t)
 sure-value v t f = sure-if (has_mark_in languages v) (emitted_settled languages v t) (sure-settled v t f)
 
-sure-mark : (s : LexState ValueState) (t : List LexEvent) → AreSure t → AreSure (mark_in languages s t)
-sure-mark (Text r) t f = f
-sure-mark (BeforeAttributeName tag) t f = f
-sure-mark (AfterAttributeName tag k) t f = f
-sure-mark (BeforeAttributeValue tag k) t f = sure-value (attribute_value_of languages k) t f
-sure-mark (AttributeValue q tag v r) t f = sure-value v t f
-sure-mark (AfterAttributeValue tag) t f = f
-sure-mark (SelfClosingStartTag tag) t f = f
-sure-mark (InContent e y h) t f = f
-sure-mark _ t f = f
+sure-mark : (s : LexState ValueState) (t : List LexEvent) → TakesHole s → AreSure t → AreSure (mark_in languages s t)
+sure-mark (Text r) t h f = f
+sure-mark (BeforeAttributeName tag) t h f = f
+sure-mark (AfterAttributeName tag k) t h f = f
+sure-mark (BeforeAttributeValue tag k) t h f = sure-value (attribute_value_of languages k) t f
+sure-mark (AttributeValue q tag v r) t h f = sure-value v t f
+sure-mark (AfterAttributeValue tag) t h f = f
+sure-mark (SelfClosingStartTag tag) t h f = f
+sure-mark (InContent e (Characters r) p) t h f = f
+sure-mark (InContent e Bytes p) t h f = f
+sure-mark (InContent e (InLanguage v) p) t h f = absurd h
+sure-mark _ t h f = f
 
 sure-value-hole : (v : Value ValueState) (r : Reference) (q : Quoting) (tag : Tag) → TakesValue v r → IsSure (AttributeValue q tag (holed_value languages v) r)
 sure-value-hole (ValueOf (OfKind k)) Closed q tag h = (OfKind k, refl, refl)
@@ -211,6 +213,9 @@ sure-value-hole _ _ q tag h = absurd h
 sure-hole : (s : LexState ValueState) → TakesHole s → IsSure s → IsSure (at_hole languages s)
 sure-hole (AttributeValue q tag v r) h a = sure-value-hole v r q tag h
 sure-hole (BeforeAttributeValue tag k) h a = sure-value-hole (attribute_value_of languages k) Closed Unquoted tag h
+sure-hole (InContent e (Characters r) p) h a = refl
+sure-hole (InContent e Bytes p) h a = absurd h
+sure-hole (InContent e (InLanguage v) p) h a = absurd h
 sure-hole _ h a = refl
 
 -- a hole with its text in the place of its mark
@@ -267,7 +272,7 @@ attribute-hole : (v : Value ValueState) (r : Reference) (q : Quoting) (tag : Tag
 attribute-hole (ValueOf (OfKind k)) Closed q tag text vs t u h f = value-hole q tag k text vs t u f
 attribute-hole _ _ q tag text vs t u h f = absurd h
 
-content-hole : (y : Content) (p : Pending) (e : Element) (text : List ℕ) (vs : List Filling) (t u : List LexEvent)
+content-hole : (y : Content ValueState) (p : Pending) (e : Element) (text : List ℕ) (vs : List Filling) (t u : List LexEvent)
     → TakesContent y p → Fills t vs u → IsFilledHole (InContent e y p) text vs t u
 content-hole (Characters r) Nothing e text vs t u h f = record {
   at = refl;
@@ -324,7 +329,7 @@ reading-fills (Hole ∷ symbols) [] s vs t u h a n f = absurd h
 reading-fills (Hole ∷ symbols) (text ∷ texts) s vs t u h a n f =
     let b = hole-filled s text vs t u h.0 f in
     let emitted = (holes_filled s text u).emitted in
-    let r = reading-fills symbols texts (at_hole languages s) (fillings_at s text vs) (mark_in languages s t) emitted h.1 (sure-hole s h.0 a) (sure-mark s t n) b.fills in
+    let r = reading-fills symbols texts (at_hole languages s) (fillings_at s text vs) (mark_in languages s t) emitted h.1 (sure-hole s h.0 a) (sure-mark s t h.0 n) b.fills in
     let own = sym b.at in
     let marked = read_path languages symbols (config (at_hole languages s) (mark_in languages s t)) in
     record {
@@ -358,7 +363,7 @@ before-run kind.Url tag text vs h o = absurd h
 before-run kind.Style tag text vs h o = absurd h
 before-run k tag text vs h o = (tt, o)
 
-content-run : (y : Content) (p : Pending) (e : Element) (text : List ℕ) (vs : List Filling) → TakesContent y p
+content-run : (y : Content ValueState) (p : Pending) (e : Element) (text : List ℕ) (vs : List Filling) → TakesContent y p
     → HaveOneRun vs → HaveOneRun (fillings_at (InContent e y p) text vs)
 content-run (Characters r) Nothing e text vs h o = (tt, o)
 content-run _ _ e text vs h o = absurd h
@@ -423,6 +428,7 @@ marks-emits n = record {
 
 beside-itself : (s : LexState ValueState) → StandBeside (λ v w. Unit {0}) s s
 beside-itself (AttributeValue q tag (ValueOf v) r) = (v, refl, tt)
+beside-itself (InContent e (InLanguage v) h) = (v, refl, tt)
 beside-itself _ = refl
 
 node-marks : (bytes : List ℕ) (s : LexState ValueState) (t : List LexEvent) → marks (read_node languages bytes (config s t)).emitted ≡ marks t
@@ -442,9 +448,10 @@ no-filling m l = omega arith
 no-mark : (m l : ℕ) → l + m ≡ m + l
 no-mark m l = omega arith
 
-content-count : (y : Content) (p : Pending) (e : Element) (text : List ℕ) (vs : List Filling) (t : List LexEvent) → IsSaidByText (InContent e y p)
+content-count : (y : Content ValueState) (p : Pending) (e : Element) (text : List ℕ) (vs : List Filling) (t : List LexEvent) → IsSaidByText (InContent e y p)
     → Counted (TakesContent y p) (length (fillings_at (InContent e y p) text vs) + marks t) (marks (mark_in languages (InContent e y p) t) + length vs)
 content-count Bytes p e text vs t n = absurd n
+content-count (InLanguage v) p e text vs t n = absurd n
 content-count (Characters r) Nothing e text vs t n = inl (tt, one-mark (marks t) (length vs))
 content-count (Characters r) _ e text vs t n = inr (no-filling (marks t) (length vs))
 

@@ -10,16 +10,17 @@ use Rattle.place_core.specs.page.Plain.{IsPlain, IsPlainName}
 use Rattle.html_scan.proofs.Lowered.{kind_lowered}
 use Rattle.place_core.specs.page.References.{Closed, Open}
 use Rattle.place_core.specs.page.Shape.{HolePart, PageReads, state_past_hole, marked}
-use Rattle.place_core.specs.place.StatePlaces.{only_after, only_inside, placed, quotes_at, tag_spot, value_spot}
-use Rattle.place_core.specs.place.StyleParts.{style_place, style_tails}
+use Rattle.place_core.specs.place.StatePlaces.{content_spot, only_after, only_inside, placed, quotes_at, tag_spot, value_spot}
+use Rattle.place_core.specs.place.StyleParts.{style_css, style_place, style_tails}
 use Rattle.place_core.specs.place.UrlParts.{parts_of}
 use Rattle.css_lexer.specs.PartSpots.{may_begin_text, part_spot}
 use Rattle.css_lexer.specs.RefusalCodes.{RefusalCode}
 use Rattle.css_lexer.specs.Spots.{StyleSpot}
 use Rattle.css_lexer.specs.States.{Style, style_start}
+use Rattle.css_step.specs.StyleChains.{style_hole_with_chain}
 use Rattle.css_step.specs.StyleScans.{style_at_hole, style_hole_error}
 use Rattle.css_step.specs.StyleScanViews.{style_or_refusal}
-use Rattle.place_core.specs.page.States.{Started, StartedDash, Inside, Dash, DashDash, Bang, Broken, Page, LexState, Text, TagOpen, EndTagOpen, DeclarationOpen, InComment, BogusComment, InDoctype, TagName, WholeTagName, BeforeAttributeName, AttributeName, WholeAttributeName, AfterAttributeName, BeforeAttributeValue, AttributeValue, AfterAttributeValue, SelfClosingStartTag, Characters, Bytes, Nothing, PendingLess, LessAtCut, PendingName, PendingBang, PendingBangDash, InContent, Unread, Config, config}
+use Rattle.place_core.specs.page.States.{Started, StartedDash, Inside, Dash, DashDash, Bang, Broken, Page, LexState, Text, TagOpen, EndTagOpen, DeclarationOpen, InComment, BogusComment, InDoctype, TagName, WholeTagName, BeforeAttributeName, AttributeName, WholeAttributeName, AfterAttributeName, BeforeAttributeValue, AttributeValue, AfterAttributeValue, SelfClosingStartTag, Characters, Bytes, InLanguage, Pending, Nothing, PendingLess, LessAtCut, PendingName, PendingBang, PendingBangDash, InContent, Unread, Config, config}
 use Rattle.place_core.specs.page.Tags.{Tag, ValueOf, Deciding, ValueState, OfKind, OfUrl, OfStyle, languages, emitted_hole, value_settled, is_second_type, Quoting, DoubleQuoted, SingleQuoted, Unquoted, element_on, without_value}
 use Rattle.place_core.specs.declared.body.Body.TheVariants as body
 use Rattle.place_core.specs.declared.chain.Chain.{Chain}
@@ -40,13 +41,15 @@ use Rattle.url_lexer.specs.States.{Url, url_start}
 use Rattle.url_lexer.specs.Triples.{Triple, NoTriple, AfterPercent, AfterDigit}
 use Rattle.url_lexer.proofs.Language.{language-laws}
 use Rattle.san_html.specs.ReadBack.{IsBackInQuoted, IsBackInUnquoted, IsBackInTag, BeginsName, in_block, in_value, reads_quoted}
-use Rattle.html_step.specs.Holes.{Holed, after_hole, css_chain, css_holed, last_of, only, url_chain}
+use Rattle.html_step.specs.Holes.{Holed, after_hole, css_chain, css_holed, element_holed, last_of, only, url_chain}
 use Rattle.html_step.proofs.HoleOrder.{covers-hole}
 use Rattle.text_norm.specs.HoleLaws.{ArePlain, ArePlainUnless, IsBackBy, KeepsHole, hole_parts, leaves_out, parts_unless}
-use Rattle.text_norm.specs.Standing.{TextStands, WholeAttribute}
+use Rattle.text_norm.specs.Standing.{StandsAtStyle, TextStands, WholeAttribute, in_element}
 use Rattle.text_norm.proofs.Emits.{same-state}
 use Rattle.text_norm.proofs.HarmlessNames.{harmless-kind}
 use Rattle.text_norm.proofs.LanguagesKeep.{languages-keep}
+use Rattle.text_norm.proofs.StyleElementHoles.{comment-hole-stands, element-hole}
+use Rattle.text_norm.proofs.StyleElementPromises.{ElementHolesAt, IsHoleUnless, element-holes, element_chain}
 use Rattle.text_norm.proofs.StyleHoles.{HolesAt, IsStyleHole, are-pages, css_of, style-begun-plain, style-holes, style-plain}
 use Rattle.text_norm.proofs.StyleValuesKeep.{style-laws}
 use Rattle.text_norm.proofs.UrlHoles.{url-begun, url-has-part, url-hole, url-plain}
@@ -312,6 +315,53 @@ style-begun-keeps tag x datum bytes t d e k l =
     subst (Kept style_begun_chain (style_unbegun tag) bytes t) (sym l)
     (kept (style_unbegun tag) bytes t (config (style_unbegun tag) t) plain (style-begun-leads tag bytes t plain))) k
 
+-- In the element of a style: what its place accepts, and its chain. A value that is left out has no part, and the page stays where it is.
+abbrev IsElementAccepted : Option Css → Chain → Type 0
+IsElementAccepted None x = ⊥
+IsElementAccepted (Some c) x = (style_hole_error c ≡ None) × (element_chain c ≡ x)
+
+place-accepted : (o : Option RefusalCode) (c : Css) (b : Place) (x : Chain) → style_hole_error c ≡ o
+    → element_holed (style_hole_with_chain c (style_or_refusal o (style_at_hole c))) ≡ Ok (b, x) → IsElementAccepted (Some c) x
+place-accepted None c b x e h = (e, ap chain_in h)
+place-accepted (Some r) c b x e h = absurd (refused _ _ h)
+
+element-accepted : (o : Option Css) (x : Chain) → HoleOf (option_map place.Style o) x → IsElementAccepted o x
+element-accepted None x h = h
+element-accepted (Some c) x h = place-accepted (style_hole_error c) c h.0 x refl h.1
+
+element-kept : (left_out : Bool) (e : Element) (s : Style Url) (bytes : List ℕ) (t : List LexEvent) (d : Config ValueState) → IsHoleUnless left_out s bytes
+    → StandsAtStyle languages e s Nothing t d
+    → (let z = in_element e (OfStyle s) Nothing in
+    ArePlainUnless left_out bytes d × ((to : Config ValueState) × PageReads (parts_unless left_out bytes) d to × TextStands languages (at_hole languages z) (mark_in languages z t) to))
+element-kept true e s bytes t d h l = (h.1, (d, refl, comment-hole-stands e s t d h.0 l))
+element-kept false e s bytes t d h l =
+    let own = element-hole e s bytes t d h.0 h.1 l in
+    kept (in_element e (OfStyle s) Nothing) bytes t d own.0 own.1
+
+element-keeps : (o : Option Css) (e : Element) (s : Style Url) (x : Chain) (datum : Data) (bytes : List ℕ) (t : List LexEvent) (d : Config ValueState)
+    → IsElementAccepted o x → ElementHolesAt s o datum bytes → IsBackBy x datum bytes → StandsAtStyle languages e s Nothing t d
+    → Kept x (in_element e (OfStyle s) Nothing) bytes t d
+element-keeps None e s x datum bytes t d h f k l = absurd h
+element-keeps (Some c) e s x datum bytes t d h f k l =
+    subst (λ (z : Chain). IsBackBy z datum bytes → Kept z (in_element e (OfStyle s) Nothing) bytes t d) h.1
+    (λ k. element-kept (leaves_out (element_chain c)) e s bytes t d (f h.0 k) l) k
+
+in-language-keeps : (pending : Pending) (v : ValueState) (e : Element) (x : Chain) (datum : Data) (bytes : List ℕ) (t : List LexEvent) (d : Config ValueState)
+    → HoleOf (content_spot pending (InLanguage v) e) x → IsBackBy x datum bytes → TextStands languages (in_element e v pending) t d
+    → Kept x (in_element e v pending) bytes t d
+in-language-keeps Nothing (OfStyle s) element.Style x datum bytes t d h k l =
+    element-keeps (style_css s) element.Style s x datum bytes t d (element-accepted (style_css s) x h) (element-holes s datum bytes) k l.1
+in-language-keeps Nothing (OfStyle s) _ x datum bytes t d h k l = absurd h
+in-language-keeps Nothing (OfKind j) element.Style x datum bytes t d h k l = absurd h
+in-language-keeps Nothing (OfKind j) _ x datum bytes t d h k l = absurd h
+in-language-keeps Nothing (OfUrl u) element.Style x datum bytes t d h k l = absurd h
+in-language-keeps Nothing (OfUrl u) _ x datum bytes t d h k l = absurd h
+in-language-keeps PendingLess v e x datum bytes t d h k l = absurd h
+in-language-keeps (PendingName letters) v e x datum bytes t d h k l = absurd h
+in-language-keeps LessAtCut v e x datum bytes t d h k l = absurd h
+in-language-keeps PendingBang v e x datum bytes t d h k l = absurd h
+in-language-keeps PendingBangDash v e x datum bytes t d h k l = absurd h
+
 hole-keeps : (s : LexState ValueState) (x : Chain) (datum : Data) (bytes : List ℕ) (t : List LexEvent) (d : Config ValueState)
     → HoleOf (placed s) x → IsBackBy x datum bytes → TextStands languages s t d → Kept x s bytes t d
 hole-keeps (Text Closed) x datum bytes t d h k l =
@@ -394,6 +444,7 @@ hole-keeps (InContent e Bytes PendingLess) x datum bytes t d h k l = absurd h
 hole-keeps (InContent e Bytes (PendingName letters)) x datum bytes t d h k l = absurd h
 hole-keeps (InContent e Bytes PendingBang) x datum bytes t d h k l = absurd h
 hole-keeps (InContent e Bytes PendingBangDash) x datum bytes t d h k l = absurd h
+hole-keeps (InContent e (InLanguage v) pending) x datum bytes t d h k l = in-language-keeps pending v e x datum bytes t d h k l
 hole-keeps Unread x datum bytes t d h k l = absurd h
 
 pub keeps-hole : KeepsHole

@@ -11,9 +11,9 @@ use Rattle.place_core.specs.page.Paths.{at_hole}
 use Rattle.place_core.specs.place.Places.{IsValid}
 use Rattle.place_core.specs.page.References.{Closed, Reference}
 use Rattle.place_core.specs.place.StatePlaces.{content_spot, only_after, only_inside, placed, tag_spot, quotes_at, value_body, value_spot, where_closed}
-use Rattle.place_core.specs.page.States.{AfterAttributeName, AfterAttributeValue, AttributeName, AttributeValue, BeforeAttributeName, BeforeAttributeValue, Broken, Bytes, Characters, Config, Content, Pending, InComment, InContent, Inside, LessAtCut, Nothing, SelfClosingStartTag, LexState, Text, WholeAttributeName}
+use Rattle.place_core.specs.page.States.{AfterAttributeName, AfterAttributeValue, AttributeName, AttributeValue, BeforeAttributeName, BeforeAttributeValue, Broken, Bytes, Characters, Config, Content, InLanguage, Pending, InComment, InContent, Inside, LessAtCut, Nothing, SelfClosingStartTag, LexState, Text, WholeAttributeName}
 use Rattle.place_core.specs.page.Tags.{DoubleQuoted, Quoting, SingleQuoted, Tag, Unquoted, Value, ValueOf, ValueState, OfKind, OfStyle, OfUrl, is_second_type, languages, without_value}
-use Rattle.place_core.specs.place.StyleParts.{style_body}
+use Rattle.place_core.specs.place.StyleParts.{style_body, style_css}
 use Rattle.place_core.specs.place.UrlParts.{parts_of}
 use Rattle.css_lexer.specs.Escapes.{NoEscape, AfterBackslash, HexDigits, AfterReturn}
 use Rattle.css_lexer.specs.PartSpots.{has_read_nothing, is_at_start, is_no_triple, is_scheme_ahead}
@@ -23,6 +23,7 @@ use Rattle.css_lexer.specs.States.{Quote, DoubleQuote, SingleQuote, Outside, Bet
 use Rattle.css_lexer.specs.Urls.{urls}
 use Rattle.place_core.specs.declared.body.Body.TheVariants as body
 use Rattle.place_core.specs.declared.chain.Chain.{Chain}
+use Rattle.place_core.specs.declared.css.Css.{Css}
 use Rattle.place_core.specs.declared.css.Css.TheVariants as css
 use Rattle.place_core.specs.declared.element.Element.{Element}
 use Rattle.place_core.specs.declared.element.Element.TheVariants as element
@@ -38,10 +39,14 @@ use Rattle.url_lexer.specs.Spots.{where_whole}
 use Rattle.url_lexer.specs.States.{Url, url_at}
 use Rattle.url_lexer.specs.Triples.{Triple, NoTriple, AfterPercent, AfterDigit}
 use Rattle.text_norm.proofs.FilledMarks.{Leads, StandsRaw, block-leads, content-leads, double-leads, in_plain, in_style, in_url, leads-on, marked-is, name-leads, single-leads, text-leads, unbegun-leads, unquoted-leads, url-begun-leads, url-leads}
+use Rattle.text_norm.proofs.StyleElementHoles.{IsLoose}
+use Rattle.text_norm.proofs.StyleElementLeads.{element-code-leads, element-string-leads, element-url-leads}
+use Rattle.text_norm.proofs.StyleElementPromises.{part_chain}
+use Rattle.text_norm.proofs.StyleHoles.{IsCode, at-start, no-triple}
 use Rattle.text_norm.proofs.StyleLeads.{CodeFills, IsCodeState, code-leads, comment-leads, string-leads, style-begun-leads, url-style-leads}
 use Rattle.text_norm.specs.Fillings.{Filling, fillings_at}
-use Rattle.text_norm.specs.HoleLaws.{IsBackBy, IsBackInStyle, leaves_out}
-use Rattle.text_norm.specs.Standing.{TextStands}
+use Rattle.text_norm.specs.HoleLaws.{IsBackBy, IsBackInElement, IsBackInStyle, leaves_out}
+use Rattle.text_norm.specs.Standing.{TextStands, in_element}
 
 -- What the chain promises leads the page on. A value that is left out has no part: the reading with marks stays where it is, and so does that of
 -- bytes alone.
@@ -62,7 +67,94 @@ abbrev SafeAt : LexState ValueState → Option Place → Type 0
 SafeAt s (Some p) = SafeBy s (after_hole p)
 SafeAt s None = Unit {0}
 
-content-safe : (h : Pending) (x : Content) (e : Element) → SafeAt (InContent e x h) (content_spot h x e)
+-- In the element of a style, by the state of the path: none may stand within a lexeme, and behind a URL; in a comment a value is left out.
+abbrev in_style_element : Style Url → LexState ValueState
+in_style_element v = in_element element.Style (OfStyle v) Nothing
+
+abbrev SafeInElement : Style Url → Type 0
+SafeInElement v = SafeAt (in_style_element v) (option_map place.Style (style_css v))
+
+code-element-safe : (v : Outside) → IsCodeState v → IsCode v → IsLoose (Out v) → CodeFills v → has_mark {U = Url} (Out v) ≡ true → (datum : Data) (bytes : List ℕ)
+    → IsBackInElement (IsBackInCode urls (printed datum)) bytes → Leads (in_style_element (Out v)) (printed datum) bytes
+code-element-safe v c i o own m datum bytes k = element-code-leads element.Style v c i o own m (printed datum) bytes k
+
+fresh-element-leads : (u : Url) (datum : Data) (bytes : List ℕ) → has_read_nothing u ≡ true → IsBackBy (part_chain UrlStart) datum bytes
+    → Leads (in_style_element (InUrl Fresh u)) (printed datum) bytes
+fresh-element-leads u datum bytes e k =
+    let first = and_parts (is_at_start u.part) _ e in
+    let second = and_parts (is_scheme_ahead u.scheme) _ first.1 in
+    let third = and_parts _ (is_no_triple u.triple) second.1 in
+    let part = at-start u.part first.0 in
+    element-url-leads element.Style Fresh u tt datum bytes (no-triple u.triple third.1) (subst (λ (p : UrlPart). refuses_hole_in p ≡ None) (sym part) refl)
+    (subst (λ (p : UrlPart). IsBackBy (part_chain p) datum bytes) (sym part) k)
+
+fresh-element : (b : Bool) (u : Url) → has_read_nothing u ≡ b → SafeAt (in_style_element (InUrl Fresh u)) (option_map place.Style (if b then Some css.UrlFresh else None))
+fresh-element false u e = tt
+fresh-element true u e = λ datum bytes k. fresh-element-leads u datum bytes e k
+
+bare-element : (p : UrlPart) (s : UrlScheme) (free : Bool) (t : Triple) → SafeInElement (InUrl Bare (url_at p s free t))
+bare-element UrlStart s free NoTriple = λ datum bytes k. element-url-leads element.Style Bare (url_at UrlStart s free NoTriple) tt datum bytes refl refl k
+bare-element (UrlOpen p) s free NoTriple = λ datum bytes k. element-url-leads element.Style Bare (url_at (UrlOpen p) s free NoTriple) tt datum bytes refl refl k
+bare-element UrlOpenhole s free NoTriple = λ datum bytes k. element-url-leads element.Style Bare (url_at UrlOpenhole s free NoTriple) tt datum bytes refl refl k
+bare-element UrlPrequery s free NoTriple = λ datum bytes k. element-url-leads element.Style Bare (url_at UrlPrequery s free NoTriple) tt datum bytes refl refl k
+bare-element UrlQuery s free NoTriple = λ datum bytes k. element-url-leads element.Style Bare (url_at UrlQuery s free NoTriple) tt datum bytes refl refl k
+bare-element UrlBad s free NoTriple = tt
+bare-element p s free AfterPercent = tt
+bare-element p s free AfterDigit = tt
+
+quoted-element-leads : (j : Quote) (u : Url) (datum : Data) (bytes : List ℕ) → u.triple ≡ NoTriple → refuses_hole_in u.part ≡ None → IsBackBy (part_chain u.part) datum bytes
+    → Leads (in_style_element (InUrl (Quoted j NoEscape) u)) (printed datum) bytes
+quoted-element-leads j u datum bytes t n k = element-url-leads element.Style (Quoted j NoEscape) u tt datum bytes t n k
+
+quoted-element : (j : Quote) (p : UrlPart) (s : UrlScheme) (free : Bool) (t : Triple) → SafeInElement (InUrl (Quoted j NoEscape) (url_at p s free t))
+quoted-element DoubleQuote UrlStart s free NoTriple = λ datum bytes k. quoted-element-leads DoubleQuote (url_at UrlStart s free NoTriple) datum bytes refl refl k
+quoted-element DoubleQuote (UrlOpen p) s free NoTriple = λ datum bytes k. quoted-element-leads DoubleQuote (url_at (UrlOpen p) s free NoTriple) datum bytes refl refl k
+quoted-element DoubleQuote UrlOpenhole s free NoTriple = λ datum bytes k. quoted-element-leads DoubleQuote (url_at UrlOpenhole s free NoTriple) datum bytes refl refl k
+quoted-element DoubleQuote UrlPrequery s free NoTriple = λ datum bytes k. quoted-element-leads DoubleQuote (url_at UrlPrequery s free NoTriple) datum bytes refl refl k
+quoted-element DoubleQuote UrlQuery s free NoTriple = λ datum bytes k. quoted-element-leads DoubleQuote (url_at UrlQuery s free NoTriple) datum bytes refl refl k
+quoted-element DoubleQuote UrlBad s free NoTriple = tt
+quoted-element SingleQuote UrlStart s free NoTriple = λ datum bytes k. quoted-element-leads SingleQuote (url_at UrlStart s free NoTriple) datum bytes refl refl k
+quoted-element SingleQuote (UrlOpen p) s free NoTriple = λ datum bytes k. quoted-element-leads SingleQuote (url_at (UrlOpen p) s free NoTriple) datum bytes refl refl k
+quoted-element SingleQuote UrlOpenhole s free NoTriple = λ datum bytes k. quoted-element-leads SingleQuote (url_at UrlOpenhole s free NoTriple) datum bytes refl refl k
+quoted-element SingleQuote UrlPrequery s free NoTriple = λ datum bytes k. quoted-element-leads SingleQuote (url_at UrlPrequery s free NoTriple) datum bytes refl refl k
+quoted-element SingleQuote UrlQuery s free NoTriple = λ datum bytes k. quoted-element-leads SingleQuote (url_at UrlQuery s free NoTriple) datum bytes refl refl k
+quoted-element SingleQuote UrlBad s free NoTriple = tt
+quoted-element j p s free AfterPercent = tt
+quoted-element j p s free AfterDigit = tt
+
+element-safe : (v : Style Url) → SafeInElement v
+element-safe (Out (Between k)) = λ datum bytes b. code-element-safe (Between k) tt tt tt (λ q text vs. refl) refl datum bytes b
+element-safe (Out AfterLessThan) = tt
+element-safe (Out (Word w e)) = tt
+element-safe (Out (AfterSolidus k)) = tt
+element-safe (Out (Comment true)) = tt
+element-safe (Out (Comment false)) = λ datum bytes b vs t m d l r. r
+element-safe (Out (InString DoubleQuote NoEscape)) = λ datum bytes b. element-string-leads element.Style DoubleQuote (printed datum) bytes b
+element-safe (Out (InString SingleQuote NoEscape)) = λ datum bytes b. element-string-leads element.Style SingleQuote (printed datum) bytes b
+element-safe (Out (InString j AfterBackslash)) = tt
+element-safe (Out (InString j (HexDigits n))) = tt
+element-safe (Out (InString j AfterReturn)) = tt
+element-safe (Out BadUrl) = tt
+element-safe (Out (BehindHole solidus less)) = λ datum bytes b. code-element-safe (BehindHole solidus less) tt tt tt (λ q text vs. refl) refl datum bytes b
+element-safe (Out (SplitWord NoEscape)) = λ datum bytes b. code-element-safe (SplitWord NoEscape) tt tt tt (λ q text vs. refl) refl datum bytes b
+element-safe (Out (SplitWord AfterBackslash)) = tt
+element-safe (Out (SplitWord (HexDigits n))) = tt
+element-safe (Out (SplitWord AfterReturn)) = tt
+element-safe (Out (SolidusAtCut k)) = λ datum bytes b. code-element-safe (SolidusAtCut k) tt tt tt (λ q text vs. refl) refl datum bytes b
+element-safe (Out LessThanAtCut) = λ datum bytes b. code-element-safe LessThanAtCut tt tt tt (λ q text vs. refl) refl datum bytes b
+element-safe (Out StarAtCut) = λ datum bytes b vs t m d l r. r
+element-safe (InUrl Fresh u) = fresh-element (has_read_nothing u) u refl
+element-safe (InUrl Bare u) = bare-element u.part u.scheme u.free u.triple
+element-safe (InUrl (Quoted j NoEscape) u) = quoted-element j u.part u.scheme u.free u.triple
+element-safe (InUrl (Quoted j AfterBackslash) u) = tt
+element-safe (InUrl (Quoted j (HexDigits n)) u) = tt
+element-safe (InUrl (Quoted j AfterReturn) u) = tt
+element-safe (InUrl Ended u) = tt
+
+content-safe : (h : Pending) (x : Content ValueState) (e : Element) → SafeAt (InContent e x h) (content_spot h x e)
+content-safe Nothing (InLanguage (OfStyle s)) element.Style = element-safe s
+content-safe Nothing (InLanguage (OfKind k)) element.Style = tt
+content-safe Nothing (InLanguage (OfUrl u)) element.Style = tt
 content-safe Nothing (Characters Closed) element.Title = λ datum bytes k. leads-on (in_rcdata element.Title) (printed datum) bytes tt
     (content-leads element.Title (printed datum) bytes k.1)
 content-safe Nothing (Characters Closed) element.Textarea = λ datum bytes k. leads-on (in_rcdata element.Textarea) (printed datum) bytes tt
@@ -95,19 +187,6 @@ code-safe : (v : Outside) → IsCodeState v → CodeFills v → has_mark {U = Ur
     → (q : Quoting) (tag : Tag) (datum : Data) (bytes : List ℕ)
     → IsBackInStyle (IsBackInCode urls (printed datum)) (last_of (quotes_at q)) bytes → Leads (in_style q tag (Out v)) (printed datum) bytes
 code-safe v c own m q tag datum bytes k = code-leads v c own m q tag (printed datum) bytes k
-
-at-start : (p : UrlPart) → is_at_start p ≡ true → p ≡ UrlStart
-at-start UrlStart e = refl
-at-start (UrlOpen x) e = absurd (true≢false (sym e))
-at-start UrlOpenhole e = absurd (true≢false (sym e))
-at-start UrlPrequery e = absurd (true≢false (sym e))
-at-start UrlQuery e = absurd (true≢false (sym e))
-at-start UrlBad e = absurd (true≢false (sym e))
-
-no-triple : (t : Triple) → is_no_triple t ≡ true → t ≡ NoTriple
-no-triple NoTriple e = refl
-no-triple AfterPercent e = absurd (true≢false (sym e))
-no-triple AfterDigit e = absurd (true≢false (sym e))
 
 -- before a URL, of which nothing has been read
 fresh-leads : (q : Quoting) (tag : Tag) (u : Url) (datum : Data) (bytes : List ℕ) → has_read_nothing u ≡ true

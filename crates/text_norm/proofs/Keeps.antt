@@ -10,7 +10,7 @@ use Rattle.place_core.specs.place.Membership.{IsIn}
 use Rattle.place_core.specs.page.Paths.{at_cut, read_node, emits_cut}
 use Rattle.place_core.specs.page.References.{Reference, Closed, Open, as_it_stands, settled}
 use Rattle.place_core.specs.place.StatePlaces.{only_before, quotes_at, tag_spot}
-use Rattle.place_core.specs.page.States.{Page, Template, LexState, Text, TagOpen, EndTagOpen, DeclarationOpen, CommentState, InComment, BogusComment, InDoctype, TagName, WholeTagName, BeforeAttributeName, AttributeName, WholeAttributeName, AfterAttributeName, BeforeAttributeValue, AttributeValue, AfterAttributeValue, SelfClosingStartTag, Characters, Bytes, Nothing, PendingLess, LessAtCut, PendingName, PendingBang, PendingBangDash, InContent, Unread, Config, config}
+use Rattle.place_core.specs.page.States.{Page, Template, LexState, Text, TagOpen, EndTagOpen, DeclarationOpen, CommentState, InComment, BogusComment, InDoctype, TagName, WholeTagName, BeforeAttributeName, AttributeName, WholeAttributeName, AfterAttributeName, BeforeAttributeValue, AttributeValue, AfterAttributeValue, SelfClosingStartTag, Characters, Bytes, InLanguage, Nothing, PendingLess, LessAtCut, PendingName, PendingBang, PendingBangDash, InContent, Unread, Config, config}
 use Rattle.place_core.specs.page.Tags.{Tag, ValueLanguage, Value, ValueOf, Deciding, ValueState, languages, feeding, Quoting, Unquoted, tag_of_name, attribute_value_of}
 use Rattle.place_core.specs.declared.code.Code.{Code}
 use Rattle.place_core.specs.declared.kind.Kind.{Kind}
@@ -24,6 +24,7 @@ use Rattle.text_norm.specs.Standing.{TextStands, page}
 use Rattle.text_norm.specs.Written.{cut_out, out, written}
 use Rattle.text_norm.proofs.ContentKeeps.{in-block, in-content}
 use Rattle.text_norm.proofs.Runs.{on}
+use Rattle.text_norm.proofs.StyleElementKeeps.{cut-language, in-language}
 use Rattle.text_norm.proofs.TagsKeep.{after-name, before-leads, in-name, in-tag-name, in-whole-name, in-whole-tag}
 use Rattle.text_norm.proofs.TextKeeps.{class_solidus, in-declaration, in-end-tag-open, in-tag-open, in-text}
 use Rattle.text_norm.proofs.LanguagesKeep.{languages-keep}
@@ -60,17 +61,17 @@ value-built : (tag : Tag) (k : Kind) (c : Class) (b : ℕ) → byte_error (Befor
 value-built tag k c b n e = none-at-hand _ (first-second (kind_error k) (content_error tag.tag) (subst (λ (z : Class). byte_error (BeforeAttributeValue tag k) z b ≡ None) e n))
 
 -- a comment writes nothing
-in-comment : {B : Type 0} (x : ValueLanguage B) (ended : Bool) (t : List LexEvent) (d : Config B) → d ≡ config (Text Closed) t → TextStands x (comment_ended ended) t d
+in-comment : (x : ValueLanguage ValueState) (ended : Bool) (t : List LexEvent) (d : Config ValueState) → d ≡ config (Text Closed) t → TextStands x (comment_ended ended) t d
 in-comment x true t d h = h
 in-comment x false t d h = h
 
-comment-leads : {B : Type 0} (x : ValueLanguage B) (s : CommentState) (c : Class) (t : List LexEvent) (d : Config B) → d ≡ config (Text Closed) t → TextStands x (next_in_comment c s) t d
+comment-leads : (x : ValueLanguage ValueState) (s : CommentState) (c : Class) (t : List LexEvent) (d : Config ValueState) → d ≡ config (Text Closed) t → TextStands x (next_in_comment c s) t d
 comment-leads x s GreaterThan t d h = in-comment x (closes_comment s) t d h
 comment-leads x s _ t d h = h
 
 -- a byte in each state
 follows : (s : LexState ValueState) (c : Class) (b : ℕ) (t : List LexEvent) (d : Config ValueState) → class_of b ≡ c → byte_error s c b ≡ None → TextStands languages s t d
-    → TextStands languages (next languages Template s c b) (emits languages Template s c b t) (page languages (out s c b) d)
+    → TextStands languages (next languages Template s c b) (emits languages Template s c b t) (page languages (out languages s c b) d)
 follows (Text r) c b t d e n h = in-text languages r c b t d e h
 follows (TagOpen r) c b t d e n h = in-tag-open languages r c b t d e h
 follows (EndTagOpen r) c b t d e n h = in-end-tag-open languages r c b t d e h
@@ -79,25 +80,26 @@ follows (InComment s) c b t d e n h = comment-leads languages s c t d h
 follows BogusComment c b t d e n h = absurd h
 follows InDoctype GreaterThan b t d e n h = rw (h, e) refl
 follows InDoctype _ b t d e n h = rw (h, e) refl
-follows (TagName ends name) c b t d e n h = in-tag-name languages ends name c b t d e (tag-built ends name c b n) h
-follows (WholeTagName tag) c b t d e n h = in-whole-tag languages tag c b t d e (none-at-hand _ n) h
-follows (BeforeAttributeName tag) c b t d e n h = before-leads languages tag c b _ (page languages (b ∷ []) d) (ends-built tag c n) (rw (h, e) refl)
-follows (AttributeName tag name) c b t d e n h = in-name languages tag name c b t d e (name-built tag name c b n) h
-follows (WholeAttributeName tag k) c b t d e n h = in-whole-name languages tag k c b t d e (none-at-hand _ n) h
-follows (AfterAttributeName tag k) c b t d e n h = after-name languages tag k c b t d e (after-built tag k c b n) h
+follows (TagName ends name) c b t d e n h = in-tag-name ends name c b t d e (tag-built ends name c b n) h
+follows (WholeTagName tag) c b t d e n h = in-whole-tag tag c b t d e (none-at-hand _ n) h
+follows (BeforeAttributeName tag) c b t d e n h = before-leads tag c b _ (page languages (b ∷ []) d) (ends-built tag c n) (rw (h, e) refl)
+follows (AttributeName tag name) c b t d e n h = in-name tag name c b t d e (name-built tag name c b n) h
+follows (WholeAttributeName tag k) c b t d e n h = in-whole-name tag k c b t d e (none-at-hand _ n) h
+follows (AfterAttributeName tag k) c b t d e n h = after-name tag k c b t d e (after-built tag k c b n) h
 follows (BeforeAttributeValue tag k) c b t d e n h = before-value languages-keep tag k c b t d e (value-taken tag k c b n) (value-built tag k c b n) h
 follows (AttributeValue q tag v r) c b t d e n h =
     let m = both-none (language_error (feeding languages) (ends_value q c) v r c b) _ n in
     in-value languages-keep q tag v r c b t d e m.0 (bare-built q tag v r c m.1) h
-follows (AfterAttributeValue tag) c b t d e n h = before-leads languages tag c b _ (page languages (b ∷ []) d) (ends-built tag c n) (rw (h, e) refl)
-follows (SelfClosingStartTag tag) c b t d e n h = before-leads languages tag c b _ (page languages (b ∷ []) d) (ends-built tag c n) (rw (h, e) refl)
+follows (AfterAttributeValue tag) c b t d e n h = before-leads tag c b _ (page languages (b ∷ []) d) (ends-built tag c n) (rw (h, e) refl)
+follows (SelfClosingStartTag tag) c b t d e n h = before-leads tag c b _ (page languages (b ∷ []) d) (ends-built tag c n) (rw (h, e) refl)
 follows (InContent x (Characters r) pending) c b t d e n h = in-content languages x r pending c b t d e h
 follows (InContent x Bytes pending) c b t d e n h = in-block languages x pending c b t d e n h
+follows (InContent x (InLanguage v) pending) c b t d e n h = in-language x v pending c b t d e n h
 follows Unread c b t d e n h = absurd (some _ n)
 
 -- the end of the node
 cut-follows : (s : LexState ValueState) (t : List LexEvent) (d : Config ValueState) → cut_error s ≡ None → lexeme_error s ≡ None → TextStands languages s t d
-    → TextStands languages (at_cut languages s) (emits_cut languages s t) (page languages (cut_out s) d)
+    → TextStands languages (at_cut languages s) (emits_cut languages s t) (page languages (cut_out languages s) d)
 cut-follows (Text Closed) t d n m h = h
 cut-follows (Text (Open f bytes)) t d n m h = h.cut
 cut-follows (TagOpen r) t d n m h = h.less
@@ -133,6 +135,7 @@ cut-follows (InContent e Bytes LessAtCut) t d n m h = h
 cut-follows (InContent e Bytes (PendingName letters)) t d n m h = absurd (some _ n)
 cut-follows (InContent e Bytes PendingBang) t d n m h = absurd (some _ n)
 cut-follows (InContent e Bytes PendingBangDash) t d n m h = absurd (some _ n)
+cut-follows (InContent e (InLanguage v) pending) t d n m h = cut-language e v pending t d n m h
 cut-follows Unread t d n m h = h
 
 -- what is refused at no byte
@@ -155,7 +158,7 @@ keeps-from (b ∷ bs) k since s t d n h =
     let later = last_lexeme_start k since (language_reference s) (class_of b) b in
     let m = goes k (byte_error s (class_of b) b) (refusal_from (k + 1) later bs z) n in
     let u = emits languages Template s (class_of b) b t in
-    let o = out s (class_of b) b in
+    let o = out languages s (class_of b) b in
     rw (over-append languages Page o (written languages bs z) d) (keeps-from bs (k + 1) later z u (page languages o d) m.1 (follows s (class_of b) b t d refl m.0 h))
 
 -- the states of a reading are those of its bytes

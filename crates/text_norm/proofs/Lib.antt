@@ -4,6 +4,7 @@ pub mod ContentKeeps
 pub mod Declared
 pub mod Emits
 pub mod EmittedAlike
+mod ElementsSame
 mod EndLaws
 mod FilledEvents
 pub mod FilledMarks
@@ -28,12 +29,22 @@ mod Slices
 mod Spelled
 mod StatesBeside
 mod Steps
+mod StyleElementFirst
+pub mod StyleElementHoles
+pub mod StyleElementKeeps
+mod StyleElementLeads
+mod StyleElementPromises
+mod StyleElementRaw
 mod StyleFillingExamples
 pub mod StyleHoles
 mod StyleLeads
 mod StyleRaw
+mod StyleScanBytes
+mod StyleScanWaits
 mod StyleTells
+mod StyleTexts
 mod StyleValuesKeep
+pub mod StyleWaits
 mod SureStates
 pub mod TagsKeep
 pub mod TextKeeps
@@ -41,3 +52,4 @@ pub mod ToyLanguage
 mod UrlHoles
 pub mod ValuesKeep
 pub mod WorkedTexts
+mod WritingsAlike

@@ -25,6 +25,8 @@ begins text p utf8 = record {
   done = omega arith;
   closed = λ h. refl;
   hidden = λ h. refl;
+  alone = λ h. refl;
+  letters = refl;
   cut = λ h. IsCharBoundary-start text utf8;
 }
 

@@ -137,7 +137,8 @@ in-text-filled c m d vs i l f =
     let own = in-text c.at i in
     let there : m ≡ config (Text Closed) c.emitted =
     same-state c.at c.emitted m (ap holds_nothing own) l ∙ ap (λ (z : LexState ValueState). config z c.emitted) own in
-    let beside = raw-beside (Text Closed) vs m d tt (subst (λ (z : LexState ValueState). StandsRaw z vs m d) own f) in
+    let beside = raw-beside (Text Closed) vs c.emitted m d tt (subst (λ (z : LexState ValueState). TextStands languages z c.emitted m) own l)
+    (subst (λ (z : LexState ValueState). StandsRaw z vs m d) own f) in
     let r = raw-there (Text Closed) vs c.emitted m d tt there beside in
     (ap (λ (z : Config ValueState). z.at) r.0 ∙ sym own, r.1)
 

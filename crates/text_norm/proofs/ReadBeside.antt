@@ -1,26 +1,39 @@
 -- Two pages that read the same bytes, from states that are the same but for those of a value's language. There the relation may also depend on what
 -- was told.
-use Rattle.std.proofs.Common.{◌≡◌, ℕ, Bool, true, false, List, [], ◌∷◌, ◌++◌, refl, sym, ap, ◌∙◌, subst}
-use Rattle.place_core.specs.page.Classes.{Class, White, QuotationMark, Apostrophe, GreaterThan, class_of}
+use Rattle.std.proofs.Common.{◌≡◌, ℕ, Bool, true, false, codes, List, [], ◌∷◌, ◌++◌, refl, sym, ap, ◌∙◌, subst}
+use Rattle.place_core.specs.page.Classes.{Class, White, QuotationMark, Apostrophe, Solidus, LessThan, EqualsSign, GreaterThan, Letter, class_of}
 use Rattle.place_core.specs.page.Comments.{declared_by}
-use Rattle.place_core.specs.page.Events.{LexEvent, TagEnds, UnreadByte}
-use Rattle.place_core.specs.page.Html.{byte_over, emits, emits_before_value, emits_value, ends_value, next, next_after_value, next_before_value, next_value, read_over}
+use Rattle.place_core.specs.page.Contents.{emits_end_name, emits_in_content, emits_less, emits_loose, is_name_of, may_be_name_of, next_end_name, next_in_content, next_less, next_loose}
+use Rattle.place_core.specs.page.Events.{EndTagBegins, LexEvent, TagEnds, UnreadByte}
+use Rattle.place_core.specs.page.Html.{after_tag, byte_over, emits, emits_after_name, emits_after_value, emits_before_name, emits_before_value, emits_name, emits_self_closing, emits_tag_name, emits_value, emits_whole_name, ends_value, next, next_after_name, next_after_value, next_before_name, next_before_value, next_name, next_tag_name, next_value, read_over}
 use Rattle.place_core.specs.page.References.{Reference, Closed, next_reference, settled, undone_byte}
-use Rattle.place_core.specs.page.States.{AfterAttributeName, AfterAttributeValue, AttributeName, AttributeValue, BeforeAttributeName, BeforeAttributeValue, BogusComment, Config, DeclarationOpen, EndTagOpen, InComment, InContent, InDoctype, LexState, Page, SelfClosingStartTag, TagName, TagOpen, Text, Unread, WholeAttributeName, WholeTagName}
-use Rattle.place_core.specs.page.Tags.{Deciding, Quoting, Tag, Unquoted, Value, ValueLanguage, ValueOf, attribute_value_of, element_on, emitted_bytes, emitted_end, tag_with_value, with_bytes, without_value}
+use Rattle.place_core.specs.page.States.{AfterAttributeName, AfterAttributeValue, AttributeName, AttributeValue, BeforeAttributeName, BeforeAttributeValue, BogusComment, Bytes, Characters, Config, DeclarationOpen, EndTagOpen, InComment, InContent, InDoctype, InLanguage, LessAtCut, LexState, Nothing, Page, Pending, PendingBang, PendingBangDash, PendingLess, PendingName, SelfClosingStartTag, TagName, TagOpen, Text, Unread, WholeAttributeName, WholeTagName}
+use Rattle.place_core.specs.page.Tags.{Deciding, DoubleQuoted, Quoting, SingleQuoted, Tag, Unquoted, Value, ValueLanguage, ValueOf, attribute_value_of, element_on, emits_fed, emitted_bytes, emitted_end, fed_state, tag_of_name, tag_with_value, with_bytes, without_value}
 use Rattle.place_core.specs.page.Words.{kind_of}
+use Rattle.place_core.specs.declared.element.Element.{Element}
+use Rattle.place_core.specs.declared.element.Element.TheVariants as element
 use Rattle.place_core.specs.declared.kind.Kind.{Kind}
 use Rattle.place_core.specs.declared.kind.Kind.TheVariants as kind
-use Rattle.text_norm.proofs.EmittedAlike.{IsOwn, after-name, after-value, before-name, in-content, in-declaration, in-doctype, in-end-tag-open, in-name, in-tag-name, in-tag-open, in-text, in-type, self-closing, whole-name}
-use Rattle.text_norm.proofs.StatesBeside.{IsOutside, after-name-outside, after-value-outside, before-name-outside, comment-outside, declaration-outside, doctype-outside, end-tag-open-outside, in-bogus-outside, in-content-outside, name-outside, tag-name-outside, tag-open-outside, tag-outside, text-outside}
+use Rattle.place_core.specs.declared.tag_of.TagOf.{TagOf}
+use Rattle.place_core.specs.declared.tag_of.TagOf.TheVariants as which
+use Rattle.text_norm.proofs.EmittedAlike.{IsOwn, after-name, before-name, in-content, in-declaration, in-doctype, in-end-tag-open, in-name, in-tag-name, in-tag-open, in-text, self-closing, tag-names, type-bytes, type-end, whole-name}
+use Rattle.text_norm.proofs.StatesBeside.{IsOutside, comment-outside, declaration-outside, doctype-outside, end-tag-open-outside, in-bogus-outside, in-content-outside, tag-open-outside, text-outside}
 use Rattle.text_norm.proofs.ValuesKeep.{fed, own-fed, own-tag, own-type}
+
+-- what may be pending back in a content that a language reads; `<!` is of data blocks alone
+abbrev pub IsOfLanguage : Pending → Type 0
+IsOfLanguage PendingBang = ⊥
+IsOfLanguage PendingBangDash = ⊥
+IsOfLanguage h = Unit {0}
 
 abbrev pub Beside : {B : Type 0} → (List LexEvent → List LexEvent → Type 0) → (B → B → List LexEvent → List LexEvent → Type 0)
     → (s z : LexState B) → (t u : List LexEvent) → Type 0
 Beside {B} F G (AttributeValue q tag (ValueOf v) r) z t u = (w : B) × (z ≡ AttributeValue q tag (ValueOf w) r) × G v w t u
+Beside {B} F G (InContent e (InLanguage v) h) z t u = IsOfLanguage h × (w : B) × (z ≡ InContent e (InLanguage w) h) × G v w t u
 Beside F G s z t u = (z ≡ s) × F t u
 
--- What is asked of the relations: outside of values that what HTML tells by itself keeps `F`; in them that a value begins, goes on and ends so.
+-- What is asked of the relations: outside of values and of contents that a language reads, that what HTML tells by itself keeps `F`; in them that they begin,
+-- go on and end so.
 pub record ReadsBeside (B : Type 0) (x : ValueLanguage B) (F : List LexEvent → List LexEvent → Type 0)
     (G : B → B → List LexEvent → List LexEvent → Type 0)
     : Type 0 where
@@ -33,7 +46,112 @@ module _ (B : Type 0) (x : ValueLanguage B) (F : List LexEvent → List LexEvent
     (own : ReadsBeside B x F G) where
   outside : (s z : LexState B) (t u : List LexEvent) → IsOutside s → z ≡ s → F t u → Beside F G s z t u
   outside (AttributeValue q tag (ValueOf v) r) z t u o e f = absurd o
+  outside (InContent i (InLanguage v) h) z t u o e f = absurd o
   outside _ z t u o e f = (e, f)
+
+  equal-step : (s z : LexState B) (t u : List LexEvent) → z ≡ s → Beside F G s s t u → Beside F G s z t u
+  equal-step s z t u e g = subst (λ (y : LexState B). Beside F G s y t u) (sym e) g
+
+  -- a tag that ends, which a style may begin behind, and what leads there
+  tag-step : (i : TagOf) (t u : List LexEvent) → F t u → (let z = after_tag x i in Beside F G z z t u)
+  tag-step which.End t u f = (refl, f)
+  tag-step (which.Start element.Title) t u f = (refl, f)
+  tag-step (which.Start element.Textarea) t u f = (refl, f)
+  tag-step (which.Start element.DataBlock) t u f = (refl, f)
+  tag-step (which.Start element.Script) t u f = (refl, f)
+  tag-step (which.Start element.Style) t u f = (tt, x.start kind.Style, refl, own.starts kind.Style t u f)
+  tag-step (which.Start element.Other) t u f = (refl, f)
+
+  tag-name-step : (c : Class) (b : ℕ) (ends : Bool) (name : List ℕ) (t u : List LexEvent) → F t u
+      → (let z = next_tag_name x c b ends name in Beside F G z z (emits_tag_name c b t) (emits_tag_name c b u))
+  tag-name-step White b ends name t u f = (refl, f)
+  tag-name-step Solidus b ends name t u f = (refl, f)
+  tag-name-step GreaterThan b ends name t u f = tag-step (tag_of_name ends name) _ _ (own.keeps (TagEnds false) t u tt f)
+  tag-name-step c b ends name t u f = (refl, in-tag-name F own.keeps c b t u f)
+
+  before-name-step : (c : Class) (b : ℕ) (tag : Tag) (t u : List LexEvent) → F t u
+      → (let z = next_before_name x c b tag in Beside F G z z (emits_before_name c b t) (emits_before_name c b u))
+  before-name-step White b tag t u f = (refl, f)
+  before-name-step Solidus b tag t u f = (refl, f)
+  before-name-step GreaterThan b tag t u f = tag-step tag.tag _ _ (own.keeps (TagEnds false) t u tt f)
+  before-name-step c b tag t u f = (refl, before-name F own.keeps c b t u f)
+
+  closing-step : (c : Class) (b : ℕ) (tag : Tag) (t u : List LexEvent) → F t u
+      → (let z = next_before_name x c b tag in Beside F G z z (emits_self_closing c b t) (emits_self_closing c b u))
+  closing-step White b tag t u f = (refl, f)
+  closing-step Solidus b tag t u f = (refl, f)
+  closing-step GreaterThan b tag t u f = tag-step tag.tag _ _ (own.keeps (TagEnds true) t u tt f)
+  closing-step c b tag t u f = (refl, self-closing F own.keeps c b t u f)
+
+  name-step : (c : Class) (b : ℕ) (tag : Tag) (k : Kind) (name : List ℕ) (t u : List LexEvent) → F t u
+      → (let z = next_name x c b tag k name in Beside F G z z (emits_name c b k t) (emits_name c b k u))
+  name-step White b tag k name t u f = (refl, in-name F own.keeps White b k t u f)
+  name-step Solidus b tag k name t u f = (refl, in-name F own.keeps Solidus b k t u f)
+  name-step GreaterThan b tag k name t u f = tag-step (without_value tag k).tag _ _ (in-name F own.keeps GreaterThan b k t u f)
+  name-step EqualsSign b tag k name t u f = (refl, in-name F own.keeps EqualsSign b k t u f)
+  name-step c b tag k name t u f = (refl, in-name F own.keeps c b k t u f)
+
+  whole-step : (c : Class) (b : ℕ) (tag : Tag) (k : Kind) (t u : List LexEvent) → F t u
+      → (let z = next_after_name x c b tag k in Beside F G z z (emits_whole_name c b k t) (emits_whole_name c b k u))
+  whole-step White b tag k t u f = (refl, whole-name F own.keeps White b k t u f)
+  whole-step Solidus b tag k t u f = (refl, whole-name F own.keeps Solidus b k t u f)
+  whole-step GreaterThan b tag k t u f = tag-step (without_value tag k).tag _ _ (whole-name F own.keeps GreaterThan b k t u f)
+  whole-step EqualsSign b tag k t u f = (refl, whole-name F own.keeps EqualsSign b k t u f)
+  whole-step c b tag k t u f = (refl, whole-name F own.keeps c b k t u f)
+
+  after-name-step : (c : Class) (b : ℕ) (tag : Tag) (k : Kind) (t u : List LexEvent) → F t u
+      → (let z = next_after_name x c b tag k in Beside F G z z (emits_after_name c b t) (emits_after_name c b u))
+  after-name-step White b tag k t u f = (refl, f)
+  after-name-step Solidus b tag k t u f = (refl, f)
+  after-name-step GreaterThan b tag k t u f = tag-step (without_value tag k).tag _ _ (own.keeps (TagEnds false) t u tt f)
+  after-name-step EqualsSign b tag k t u f = (refl, f)
+  after-name-step c b tag k t u f = (refl, after-name F own.keeps c b t u f)
+
+  after-value-step : (q : Quoting) (c : Class) (b : ℕ) (tag : Tag) (t u : List LexEvent) → F t u
+      → (let z = next_after_value x q c b tag in Beside F G z z (emits_after_value q c b t) (emits_after_value q c b u))
+  after-value-step Unquoted c b tag t u f = before-name-step c b tag t u f
+  after-value-step DoubleQuoted c b tag t u f = (refl, f)
+  after-value-step SingleQuoted c b tag t u f = (refl, f)
+
+  -- a content that the language reads
+  pub fed-step : (bs : List ℕ) (v w : B) (t u : List LexEvent) → G v w t u → G (fed_state x v bs) (fed_state x w bs) (emits_fed x v bs t) (emits_fed x w bs u)
+  fed-step [] v w t u g = g
+  fed-step (b ∷ bs) v w t u g = fed-step bs (x.feed v b) (x.feed w b) (x.emits v b t) (x.emits w b u) (own.feeds v w b t u g)
+
+  loose-step : (c : Class) (b : ℕ) (e : Element) (v w : B) (t u : List LexEvent) → G v w t u
+      → Beside F G (next_loose x c b e (InLanguage v)) (next_loose x c b e (InLanguage w)) (emits_loose x c b (InLanguage v) t) (emits_loose x c b (InLanguage w) u)
+  loose-step LessThan b e v w t u g = (tt, w, refl, g)
+  loose-step c b e v w t u g = (tt, x.feed w b, refl, own.feeds v w b t u g)
+
+  behind-step : (c : Class) (b : ℕ) (e : Element) (bs : List ℕ) (v w : B) (t u : List LexEvent) → G v w t u
+      → Beside F G (next_loose x c b e (InLanguage (fed_state x v bs))) (next_loose x c b e (InLanguage (fed_state x w bs)))
+      (emits_loose x c b (InLanguage (fed_state x v bs)) (emits_fed x v bs t)) (emits_loose x c b (InLanguage (fed_state x w bs)) (emits_fed x w bs u))
+  behind-step c b e bs v w t u g = loose-step c b e (fed_state x v bs) (fed_state x w bs) _ _ (fed-step bs v w t u g)
+
+  less-step : (c : Class) (b : ℕ) (e : Element) (v w : B) (t u : List LexEvent) → G v w t u
+      → Beside F G (next_less x c b e (InLanguage v)) (next_less x c b e (InLanguage w)) (emits_less x c b (InLanguage v) t) (emits_less x c b (InLanguage w) u)
+  less-step Solidus b e v w t u g = (tt, w, refl, g)
+  less-step c b e v w t u g = behind-step c b e (codes "<") v w t u g
+
+  end-name-step : (grows whole : Bool) (c : Class) (b : ℕ) (e : Element) (letters : List ℕ) (v w : B) (t u : List LexEvent) → G v w t u
+      → Beside F G (next_end_name x grows whole c b e (InLanguage v) letters) (next_end_name x grows whole c b e (InLanguage w) letters)
+      (emits_end_name x grows whole c b (InLanguage v) letters t) (emits_end_name x grows whole c b (InLanguage w) letters u)
+  end-name-step true whole (Letter l) b e letters v w t u g = (tt, w, refl, g)
+  end-name-step grows true White b e letters v w t u g = (refl, tag-names F own.keeps letters _ _ (own.keeps EndTagBegins _ _ tt (own.ends v w t u g)))
+  end-name-step grows true Solidus b e letters v w t u g = (refl, tag-names F own.keeps letters _ _ (own.keeps EndTagBegins _ _ tt (own.ends v w t u g)))
+  end-name-step grows true GreaterThan b e letters v w t u g =
+      (refl, own.keeps (TagEnds false) _ _ tt (tag-names F own.keeps letters _ _ (own.keeps EndTagBegins _ _ tt (own.ends v w t u g))))
+  end-name-step grows whole c b e letters v w t u g = behind-step c b e (codes "</" ++ letters) v w t u g
+
+  content-step : (h : Pending) (c : Class) (b : ℕ) (e : Element) (v w : B) (t u : List LexEvent) → IsOfLanguage h → G v w t u
+      → Beside F G (next_in_content x h c b e (InLanguage v)) (next_in_content x h c b e (InLanguage w))
+      (emits_in_content x h c b e (InLanguage v) t) (emits_in_content x h c b e (InLanguage w) u)
+  content-step Nothing c b e v w t u o g = loose-step c b e v w t u g
+  content-step PendingLess c b e v w t u o g = less-step c b e v w t u g
+  content-step LessAtCut c b e v w t u o g = behind-step c b e (codes "<") v w t u g
+  content-step (PendingName letters) c b e v w t u o g = end-name-step (may_be_name_of e (letters ++ b ∷ [])) (is_name_of e letters) c b e letters v w t u g
+  content-step PendingBang c b e v w t u o g = absurd o
+  content-step PendingBangDash c b e v w t u o g = absurd o
 
   -- the bytes of a value, and its end
   pub fed-beside : (bs : List ℕ) (v w : B) (t u : List LexEvent) → G v w t u
@@ -52,9 +170,8 @@ module _ (B : Type 0) (x : ValueLanguage B) (F : List LexEvent → List LexEvent
       (emits_value x ends q c b (ValueOf v) r t) (emits_value x ends q c b (ValueOf w) r u)
   value-step true q c b tag v w r t u g =
       let bs = settled true r in
-      outside _ _ _ _ (after-value-outside B q c b (tag_with_value tag (with_bytes x (ValueOf v) bs)))
-      (ap (next_after_value q c b) (own-tag x tag w bs ∙ sym (own-tag x tag v bs)))
-      (after-value F own.keeps q c b _ _ (ended-beside bs v w t u g))
+      equal-step _ _ _ _ (ap (next_after_value x q c b) (own-tag x tag w bs ∙ sym (own-tag x tag v bs)))
+      (after-value-step q c b (tag_with_value tag (with_bytes x (ValueOf v) bs)) _ _ (ended-beside bs v w t u g))
   value-step false q c b tag v w r t u g =
       let bs = undone_byte true r c b in
       let more = next_reference r c b in
@@ -63,17 +180,17 @@ module _ (B : Type 0) (x : ValueLanguage B) (F : List LexEvent → List LexEvent
       (sym (own-fed x v bs)) (fed x w bs, ap (λ (z : Value B). AttributeValue q tag z more) (own-fed x w bs), fed-beside bs v w t u g)
 
   -- the type of a script
-  type-outside : (ends : Bool) (q : Quoting) (c : Class) (b : ℕ) (tag : Tag) (k : Kind) (before : List ℕ) (r : Reference)
-      → IsOutside (next_value x ends q c b tag (Deciding k before) r)
-  type-outside true q c b tag k before r = after-value-outside B q c b (tag_with_value tag (with_bytes x (Deciding k before) (settled true r)))
-  type-outside false q c b tag k before r =
-      subst (λ (z : Value B). IsOutside (AttributeValue q tag z (next_reference r c b))) (sym (own-type x k before (undone_byte true r c b))) tt
+  type-outside : (q : Quoting) (tag : Tag) (k : Kind) (before bs : List ℕ) (r : Reference) → IsOutside (AttributeValue q tag (with_bytes x (Deciding k before) bs) r)
+  type-outside q tag k before bs r = subst (λ (z : Value B). IsOutside (AttributeValue q tag z r)) (sym (own-type x k before bs)) tt
 
   type-step : (ends : Bool) (q : Quoting) (c : Class) (b : ℕ) (tag : Tag) (k : Kind) (before : List ℕ) (r : Reference) (t u : List LexEvent) → F t u
       → (let z = next_value x ends q c b tag (Deciding k before) r in
       Beside F G z z (emits_value x ends q c b (Deciding k before) r t) (emits_value x ends q c b (Deciding k before) r u))
-  type-step ends q c b tag k before r t u f =
-      outside _ _ _ _ (type-outside ends q c b tag k before r) refl (in-type F own.keeps B x ends q c b k before r t u f)
+  type-step true q c b tag k before r t u f =
+      let bs = settled true r in
+      after-value-step q c b (tag_with_value tag (with_bytes x (Deciding k before) bs)) _ _ (type-end F own.keeps B x bs k before _ _ (type-bytes F own.keeps B x bs k before t u f))
+  type-step false q c b tag k before r t u f =
+      outside (AttributeValue q tag (with_bytes x (Deciding k before) (undone_byte true r c b)) (next_reference r c b)) _ _ _ (type-outside q tag k before (undone_byte true r c b) (next_reference r c b)) refl (type-bytes F own.keeps B x (undone_byte true r c b) k before t u f)
 
   -- a value that begins
   begun-step : (q : Quoting) (tag : Tag) (k : Kind) (t u : List LexEvent) → F t u
@@ -108,8 +225,7 @@ module _ (B : Type 0) (x : ValueLanguage B) (F : List LexEvent → List LexEvent
   before-value-step White b tag k t u f = (refl, f)
   before-value-step QuotationMark b tag k t u f = begun-step _ tag k t u f
   before-value-step Apostrophe b tag k t u f = begun-step _ tag k t u f
-  before-value-step GreaterThan b tag k t u f =
-      outside _ _ _ _ (tag-outside B (without_value tag k).tag) refl (own.keeps (TagEnds false) _ _ tt (begun-end k t u f))
+  before-value-step GreaterThan b tag k t u f = tag-step (without_value tag k).tag _ _ (own.keeps (TagEnds false) _ _ tt (begun-end k t u f))
   before-value-step c b tag k t u f = first-step c b tag k t u f
 
   -- a byte, from a state that is in no value of a language
@@ -124,20 +240,21 @@ module _ (B : Type 0) (x : ValueLanguage B) (F : List LexEvent → List LexEvent
   self-step (InComment s) c b t u o f = outside _ _ _ _ (comment-outside B c s) refl f
   self-step BogusComment c b t u o f = outside _ _ _ _ (in-bogus-outside B c) refl f
   self-step InDoctype c b t u o f = outside _ _ _ _ (doctype-outside B c) refl (in-doctype F own.keeps c b t u f)
-  self-step (TagName ends name) c b t u o f = outside _ _ _ _ (tag-name-outside B c b ends name) refl (in-tag-name F own.keeps c b t u f)
-  self-step (WholeTagName tag) c b t u o f = outside _ _ _ _ (before-name-outside B c b tag) refl (before-name F own.keeps c b t u f)
-  self-step (BeforeAttributeName tag) c b t u o f = outside _ _ _ _ (before-name-outside B c b tag) refl (before-name F own.keeps c b t u f)
-  self-step (AttributeName tag name) c b t u o f =
-      let k = kind_of (element_on tag.tag) name in
-      outside _ _ _ _ (name-outside B c b tag k name) refl (in-name F own.keeps c b k t u f)
-  self-step (WholeAttributeName tag k) c b t u o f = outside _ _ _ _ (after-name-outside B c b tag k) refl (whole-name F own.keeps c b k t u f)
-  self-step (AfterAttributeName tag k) c b t u o f = outside _ _ _ _ (after-name-outside B c b tag k) refl (after-name F own.keeps c b t u f)
+  self-step (TagName ends name) c b t u o f = tag-name-step c b ends name t u f
+  self-step (WholeTagName tag) c b t u o f = before-name-step c b tag t u f
+  self-step (BeforeAttributeName tag) c b t u o f = before-name-step c b tag t u f
+  self-step (AttributeName tag name) c b t u o f = name-step c b tag (kind_of (element_on tag.tag) name) name t u f
+  self-step (WholeAttributeName tag k) c b t u o f = whole-step c b tag k t u f
+  self-step (AfterAttributeName tag k) c b t u o f = after-name-step c b tag k t u f
   self-step (BeforeAttributeValue tag k) c b t u o f = before-value-step c b tag k t u f
   self-step (AttributeValue q tag (ValueOf v) r) c b t u o f = absurd o
   self-step (AttributeValue q tag (Deciding k before) r) c b t u o f = type-step (ends_value q c) q c b tag k before r t u f
-  self-step (AfterAttributeValue tag) c b t u o f = outside _ _ _ _ (before-name-outside B c b tag) refl (before-name F own.keeps c b t u f)
-  self-step (SelfClosingStartTag tag) c b t u o f = outside _ _ _ _ (before-name-outside B c b tag) refl (self-closing F own.keeps c b t u f)
-  self-step (InContent e y h) c b t u o f = outside _ _ _ _ (in-content-outside B h c b e y) refl (in-content F own.keeps h c b e y t u f)
+  self-step (AfterAttributeValue tag) c b t u o f = before-name-step c b tag t u f
+  self-step (SelfClosingStartTag tag) c b t u o f = closing-step c b tag t u f
+  self-step (InContent e (Characters r) h) c b t u o f =
+      outside _ _ _ _ (in-content-outside B x h c b e (Characters r) tt) refl (in-content F own.keeps B x h c b e (Characters r) t u tt f)
+  self-step (InContent e Bytes h) c b t u o f = outside _ _ _ _ (in-content-outside B x h c b e Bytes tt) refl (in-content F own.keeps B x h c b e Bytes t u tt f)
+  self-step (InContent e (InLanguage v) h) c b t u o f = absurd o
   self-step Unread c b t u o f = (refl, own.keeps (UnreadByte b) t u tt f)
 
   -- a byte, from one beside the other, and bytes
@@ -147,6 +264,10 @@ module _ (B : Type 0) (x : ValueLanguage B) (F : List LexEvent → List LexEvent
       let s = AttributeValue q tag (ValueOf v) r in
       subst (λ (y : LexState B). Beside F G (next x Page s c b) (next x Page y c b) (emits x Page s c b t) (emits x Page y c b u)) (sym a.1)
       (value-step (ends_value q c) q c b tag v a.0 r t u a.2)
+  step (InContent e (InLanguage v) h) z c b t u a =
+      let s = InContent e (InLanguage v) h in
+      subst (λ (y : LexState B). Beside F G (next x Page s c b) (next x Page y c b) (emits x Page s c b t) (emits x Page y c b u)) (sym a.2)
+      (content-step h c b e v a.1 t u a.0 a.3)
   step s z c b t u a =
       subst (λ (y : LexState B). Beside F G (next x Page s c b) (next x Page y c b) (emits x Page s c b t) (emits x Page y c b u)) (sym a.0)
       (self-step s c b t u tt a.1)

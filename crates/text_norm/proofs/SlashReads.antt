@@ -13,7 +13,7 @@ use Rattle.place_core.specs.page.Classes.{Class, class_of}
 use Rattle.place_core.specs.page.Events.{InsideStyle, LexEvent, told_in_style}
 use Rattle.place_core.specs.page.Html.{emits_after_value, emits_value, ends_value, next_after_value, next_value, read}
 use Rattle.place_core.specs.page.References.{Reference, Closed, Open, as_it_stands, next_reference, settled, undone_byte}
-use Rattle.place_core.specs.page.States.{AttributeValue, Config, LexState, Page, config}
+use Rattle.place_core.specs.page.States.{AttributeValue, Config, InContent, InLanguage, LexState, Nothing, Page, config}
 use Rattle.place_core.specs.page.Tags.{Quoting, Tag, Value, ValueOf, ValueState, OfStyle, emits_state, emitted_bytes, emitted_end, feed_value, feeding, languages, refuses_in_value, style_code, with_bytes}
 use Rattle.place_core.specs.place.Errors.{byte_error, cut_error, language_error, node, refusal_from}
 use Rattle.place_core.specs.place.LastLexeme.{last_lexeme_start, language_reference}
@@ -25,10 +25,11 @@ use Rattle.html_step.proofs.OneTexts.{one-text}
 use Rattle.html_step.proofs.WholeTexts.{grows-text}
 use Rattle.html_step.specs.Steps.{after_text}
 use Rattle.san_html.specs.ReadBack.{in_value}
-use Rattle.text_norm.proofs.FilledMarks.{IsSlashPending, RawStands, StandsRaw, raw-text}
+use Rattle.text_norm.proofs.FilledMarks.{AreRaw, IsSlashPending, RawStands, StandsRaw, raw-text}
 use Rattle.text_norm.proofs.Keeps.{goes}
 use Rattle.text_norm.proofs.Places.{value-run, value-since}
 use Rattle.text_norm.proofs.Runs.{follows-run, on}
+use Rattle.text_norm.proofs.StyleElementRaw.{element-text, held-text}
 use Rattle.text_norm.proofs.ValuesKeep.{AreTaken, at-end, both-none, fed-taken, own-tag, taken-end, taken-on}
 use Rattle.text_norm.specs.Fillings.{Filling}
 use Rattle.text_norm.specs.Standing.{StandsIn, page, standing_value}
@@ -193,7 +194,7 @@ slash-by true bs q tag less blank u k since r c b d e i s n later h g ih =
     let told = end-tells blank less own u (taken-end languages v r c b n) in
     let same : config (next_value languages true q c b tag (raw_value blank) r) (emits_value languages true q c b (raw_value blank) r u)
     ≡ config (next_value languages true q c b tag told_value r) (emits_value languages true q c b told_value r (with_solidus u))
-    = ap₂ (λ (y : Tag) (t : List LexEvent). config (next_after_value q c b y) (emits_after_value q c b t))
+    = ap₂ (λ (y : Tag) (t : List LexEvent). config (next_after_value languages q c b y) (emits_after_value q c b t))
     (own-tag languages tag (OfStyle (Out (AfterSolidus blank))) own ∙ sym (own-tag languages tag (OfStyle (Out (Between false))) own)) told in
     inl (behind-both (as_it_stands r ++ b ∷ []) _ d e _ (at-end languages q tag (raw_value blank) r c b u d i s h ∙ same)
     (at-end languages q tag told_value r c b (with_solidus u) e i s g))
@@ -237,20 +238,24 @@ slash-text bytes q tag less blank u vs m d e r (inr h) =
     record {
       settled = page languages out e;
       beside = raw-text vs out m e r;
-      pending = inr (subst (λ (z : LexState ValueState). IsSlashPending z (page languages out d) (page languages out e)) (sym h.0)
-          (record { blank = blank; told = u; raw = h.1; is_settled = h.2 }));
+      pending = inr (inl (subst (λ (z : LexState ValueState). IsSlashPending z (page languages out d) (page languages out e)) (sym h.0)
+          (record { blank = blank; told = u; raw = h.1; is_settled = h.2 })));
     }
 
 node-by : (bytes : List ℕ) (s : LexState ValueState) (vs : List Filling) (m d e : Config ValueState) → refusal_from 0 0 bytes s ≡ None
     → RawStands vs m e
-    → (d ≡ e) ⊎ IsSlashPending s d e → StandsRaw (node bytes s) vs (page languages (written languages bytes s) m)
+    → AreRaw s d e → StandsRaw (node bytes s) vs (page languages (written languages bytes s) m)
     (page languages (written languages bytes s) d)
 node-by bytes s vs m d e n r (inl h) =
     let out = written languages bytes s in
     record { settled = page languages out e; beside = raw-text vs out m e r; pending = inl (ap (page languages out) h) }
-node-by bytes (AttributeValue q tag (ValueOf (OfStyle (Out (BehindHole true less)))) Closed) vs m d e n r (inr h) =
+node-by bytes (AttributeValue q tag (ValueOf (OfStyle (Out (BehindHole true less)))) Closed) vs m d e n r (inr (inl h)) =
     slash-text bytes q tag less h.blank h.told vs m d e r (slash-read bytes q tag less h.blank h.told 0 0 Closed d e n h.raw h.is_settled)
-node-by bytes _ vs m d e n r (inr h) = absurd h
+node-by bytes (InContent i (InLanguage (OfStyle (Out (BehindHole solidus less)))) Nothing) vs m d e n r (inr (inr (inl h))) =
+    element-text bytes solidus less i vs m d e n r h
+node-by bytes s vs m d e n r (inr (inr (inr h))) = held-text bytes s vs m d e r h
+node-by bytes _ vs m d e n r (inr (inl h)) = absurd h
+node-by bytes _ vs m d e n r (inr (inr (inl h))) = absurd h
 
 pub raw-node : (bytes : List ℕ) (p q : Place) (s : LexState ValueState) (vs : List Filling) (m d : Config ValueState) → IsValid p → IsIn p s
     → after_text bytes p ≡ Ok q

@@ -1,5 +1,7 @@
 -- The bytes of classes.
 use Rattle.std.proofs.Common.{◌≡◌, ℕ, ◌<◌, ◌≤◌, ◌==◌, Bool, true, List, refl, sym, ◌∙◌, inl, inr, ◌⊎◌}
+use Rattle.std.specs.Char.{is_ascii_alphabetic}
+use Rattle.std.specs.List.{list_all}
 use Rattle.std.proofs.lemmas.Bool.{cases_lt, eqb-true, agree_below, agree_below_at}
 use Rattle.place_core.specs.page.Classes.{Class, White, ExclamationMark, QuotationMark, NumberSign, Ampersand, Apostrophe, HyphenMinus, Solidus, Digit, Semicolon, LessThan, EqualsSign, GreaterThan, QuestionMark, GraveAccent, Letter, OtherByte, class_of}
 use Rattle.place_core.specs.declared.element.Element.TheVariants as element
@@ -7,6 +9,7 @@ use Rattle.place_core.proofs.Bytes.{class-high}
 use Rattle.html_scan.specs.ScanViews.{scan_at}
 use Rattle.html_scan.specs.declared.scan.Scan.{Scan as ReadScan}
 use Rattle.html_scan.specs.declared.scan.Scan.TheVariants as scan
+use Rattle.text_norm.specs.Kept.{end_letters}
 use Rattle.text_norm.proofs.ByteLaws.{IsRead, Spelled}
 
 not_other : OtherByte ≡ GreaterThan → ⊥
@@ -17,6 +20,7 @@ is_spelled Ampersand b = b == 38
 is_spelled LessThan b = b == 60
 is_spelled Solidus b = b == 47
 is_spelled ExclamationMark b = b == 33
+is_spelled (Letter l) b = is_ascii_alphabetic b
 is_spelled c b = true
 
 low : agree_below (λ b. is_spelled (class_of b) b) (λ b. true) 128 ≡ true
@@ -46,7 +50,7 @@ by_test EqualsSign b h = refl
 by_test GreaterThan b h = refl
 by_test QuestionMark b h = refl
 by_test GraveAccent b h = refl
-by_test (Letter l) b h = refl
+by_test (Letter l) b h = h
 by_test OtherByte b h = refl
 
 pub spelled : (b : ℕ) → Spelled (class_of b) b
@@ -59,21 +63,24 @@ below b h (inr large) = absurd (not_other (sym (class-high b large) ∙ h))
 pub greater_ascii : (b : ℕ) → class_of b ≡ GreaterThan → b < 128
 greater_ascii b h = below b h (cases_lt b 128)
 
-pub is_read : (text : List ℕ) (k : ℕ) (f : ReadScan) → IsRead (scan_at text k f)
-is_read text k (scan.At p) = refl
-is_read text k scan.AfterLess = refl
-is_read text k scan.AfterLessSolidus = refl
-is_read text k (scan.InDeclaration from) = refl
-is_read text k (scan.InTagName ends from) = refl
-is_read text k (scan.InAttributeName t typed from) = refl
-is_read text k (scan.InCommentEnd s) = refl
-is_read text k (scan.InUrl v t r) = refl
-is_read text k (scan.InStyle v s r) = refl
-is_read text k (scan.AfterContentLess element.DataBlock) = refl
-is_read text k (scan.AfterContentLess e) = refl
-is_read text k (scan.InContentName element.DataBlock from) = refl
-is_read text k (scan.InContentName e from) = refl
-is_read text k scan.AfterBlockBang = refl
-is_read text k scan.AfterBlockBangDash = refl
-is_read text k (scan.BeforeType t) = refl
-is_read text k (scan.InType t q from) = refl
+pub is_read : (text : List ℕ) (k : ℕ) (f : ReadScan) → list_all is_ascii_alphabetic (end_letters (scan_at text k f)) ≡ true → IsRead (scan_at text k f)
+is_read text k (scan.At p) a = refl
+is_read text k scan.AfterLess a = refl
+is_read text k scan.AfterLessSolidus a = refl
+is_read text k (scan.InDeclaration from) a = refl
+is_read text k (scan.InTagName ends from) a = refl
+is_read text k (scan.InAttributeName t typed from) a = refl
+is_read text k (scan.InCommentEnd s) a = refl
+is_read text k (scan.InUrl v t r) a = refl
+is_read text k (scan.InStyle v s r) a = refl
+is_read text k (scan.AfterContentLess element.DataBlock) a = refl
+is_read text k (scan.AfterContentLess e) a = refl
+is_read text k (scan.InContentName element.DataBlock from) a = refl
+is_read text k (scan.InContentName e from) a = refl
+is_read text k scan.AfterBlockBang a = refl
+is_read text k scan.AfterBlockBangDash a = refl
+is_read text k (scan.InStyleElement s) a = tt
+is_read text k (scan.AfterStyleLess s) a = tt
+is_read text k (scan.InStyleName s from) a = a
+is_read text k (scan.BeforeType t) a = refl
+is_read text k (scan.InType t q from) a = refl

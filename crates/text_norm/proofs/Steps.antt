@@ -49,7 +49,7 @@ LawHere ch text index x y = LawOf ch (scan_of text index x) (scan_of text (index
 
 pub law_here : (ch : Change) (text : List ℕ) (index : ℕ) (x y : WriteProgress) → IsProgressKept text index x → scan_of text (index + 1) y ≡ next_of text index x → ch ≡ change_of (scan_of text index x) (scan_of text (index + 1) y) → LawHere ch text index x y
 law_here ch text index x y kept scan is =
-    let whole = law (scan_of text index x) (class_of (byte_at text index)) (byte_at text index) (reference_of text x) (is_read text index x.scan) (spelled (byte_at text index)) kept.closed in
+    let whole = law (scan_of text index x) (class_of (byte_at text index)) (byte_at text index) (reference_of text x) (is_read text index x.scan kept.letters) (spelled (byte_at text index)) kept.closed in
     subst (λ (c : Change). LawHere c text index x y) (sym is) (subst (λ (g : Scan). Law (scan_of text index x) g (reference_of text x) (open_of text index x) (class_of (byte_at text index)) (byte_at text index) (out_of text index x)) (sym scan) whole)
 
 keep_parts : (text : List ℕ) (done index : ℕ) (free a less out more : List ℕ) → done ≤ index → index < length text → free ++ (a ++ less) ≡ pending text done index → a ++ (less ++ byte_at text index ∷ []) ≡ out ++ more → (free ++ out) ++ more ≡ pending text done (index + 1)
@@ -121,6 +121,8 @@ keeps text index x y out kept inside scan is reference so named done =
         done = omega (arith, done, kept.done);
         closed = λ h. same ∙ here.closed h;
         hidden = λ h. absurd (no (sym here.shown ∙ h));
+        alone = λ h. rw (kept.alone (here.comment h).0, (here.comment h).1) refl;
+        letters = here.letters;
         cut = λ h. subst (IsCharBoundary text) (sym done) (kept.cut here.before);
       };
       bytes = refl;

@@ -1,7 +1,9 @@
 -- Small pages with styles that fill their paths, and pages that do not.
-use Rattle.std.proofs.Common.{◌≡◌, ℕ, Bool, true, false, codes, List, [], ◌∷◌, length, inr, arith, refl, sym, ap, ◌∙◌, subst, true≢false}
+use Rattle.std.proofs.Common.{◌≡◌, ℕ, ◌||◌, Bool, true, false, codes, List, [], ◌∷◌, length, inr, arith, refl, sym, ap, ◌∙◌, subst, true≢false}
+use Rattle.std.proofs.lemmas.Bool.{or_from, or_parts}
 use Rattle.css_lexer.specs.Classes.{style_class}
 use Rattle.css_lexer.specs.Events.{RunBlank, RunByte, InsideUrl}
+use Rattle.css_lexer.specs.Plain.{MayStandInUrl, is_excluded_from_url}
 use Rattle.css_lexer.specs.States.{Between, DoubleQuote, Out}
 use Rattle.place_core.specs.page.Classes.{class_of}
 use Rattle.place_core.specs.page.Events.{InsideStyle, LexEvent}
@@ -12,10 +14,10 @@ use Rattle.place_core.specs.page.States.{Page, Text}
 use Rattle.place_core.specs.page.Tags.{DoubleQuoted, languages}
 use Rattle.text_norm.proofs.FilledEvents.{fills-mark}
 use Rattle.text_norm.proofs.SureStates.{fills-node}
-use Rattle.text_norm.specs.Fillings.{BlankIsTold, CodeSite, Fills, FillsPath, IsChosen, IsCodeRun, StringSite, StyleUrlSite, filling, style_run}
+use Rattle.text_norm.specs.Fillings.{BlankIsTold, CodeSite, Fills, FillsPath, IsChosen, IsCodeRun, IsStyleUrlRun, StringSite, StyleUrlSite, filling, style_run, style_url_bytes}
 use Rattle.url_lexer.specs.Classes.{url_class_of}
-use Rattle.url_lexer.specs.Events.{Named, NoScheme, ToldScheme, UrlEnds}
-use Rattle.url_lexer.specs.Parts.{UrlStart}
+use Rattle.url_lexer.specs.Events.{Named, NoScheme, ToldScheme, UrlByte, UrlEnds}
+use Rattle.url_lexer.specs.Parts.{UrlPart, UrlStart}
 use Rattle.url_lexer.specs.Schemes.{is_safe_scheme}
 
 -- a text, a hole, another text
@@ -83,7 +85,7 @@ unfolding class_of style_class url_class_of meaning lib.Utf8.encode
 with_a_scheme =
     let t = page_events style_url in
     let v = filling (StyleUrlSite DoubleQuoted UrlStart) (codes "HTTP:a") in
-    let own = fills-mark v [] _ t t (record { bytes = codes "HTTP:a"; emitted = refl; allowed = tt; reads = refl }) (begun style_url) in
+    let own = fills-mark v [] _ t t (record { bytes = codes "HTTP:a"; emitted = refl; plain = refl; allowed = tt; reads = refl }) (begun style_url) in
     record { ends = refl; events = (_, _, refl, refl, (_, _, refl, refl, (_, _, refl, (Named (codes "http"), refl, refl), own))) }
 
 -- No text fills it with a page whose scheme is code.
@@ -113,3 +115,18 @@ not_code text h =
     (told.2 ∙ ap (λ (z : LexEvent). z ∷ told.1) scheme.1)) in
     let named : scheme.0 ≡ Named (codes "javascript") = sym (ap third_scheme whole) ∙ code_scheme in
     unsafe (subst IsChosen named scheme.2)
+
+-- No value fills a mark in a URL with an escape: CSS would read a scheme in it that the page does not tell.
+abbrev tells_excluded : List LexEvent → Bool
+tells_excluded [] = false
+tells_excluded (InsideStyle (InsideUrl (UrlByte b)) ∷ t) = is_excluded_from_url b || tells_excluded t
+tells_excluded (e ∷ t) = tells_excluded t
+
+none-told : (bs : List ℕ) (t : List LexEvent) → MayStandInUrl bs → tells_excluded t ≡ false → tells_excluded (style_url_bytes bs t) ≡ false
+none-told [] t n h = h
+none-told (b ∷ bs) t n h =
+    let parts = or_parts (is_excluded_from_url b) _ n in
+    none-told bs (InsideStyle (InsideUrl (UrlByte b)) ∷ t) parts.1 (or_from (is_excluded_from_url b) _ parts.0 h)
+
+no_escape : (part : UrlPart) (text : List ℕ) → IsStyleUrlRun DoubleQuoted part text (style_url_bytes (codes "\\6a avascript\\3a a") []) → ⊥
+no_escape part text h = true≢false (ap tells_excluded h.emitted ∙ none-told h.bytes [] h.plain refl)

@@ -28,7 +28,7 @@ use Rattle.place_core.specs.page.Events.{LexEvent, InsideStyle, ValueByte, told_
 use Rattle.place_core.specs.page.Html.{emits_value, ends_value, next_value, read}
 use Rattle.place_core.specs.page.Plain.{HasBytes, IsPlain, IsPlainInState, in_plain_value}
 use Rattle.place_core.specs.page.References.{Form, Begun, Named, Hashed, Decimal, HexMark, Hexadecimal, Reference, Closed, Open, ReferenceRow, ReferenceStep, Grows, Closes, Breaks, flushed, flushed_name, meaning, plain_bytes, reference_turned, settled, short_names, turn, turn_bytes, whole_in}
-use Rattle.place_core.specs.page.States.{AttributeValue, BeforeAttributeValue, Config, LexState, Page, config}
+use Rattle.place_core.specs.page.States.{AttributeValue, BeforeAttributeValue, Config, InContent, InLanguage, LexState, Page, config}
 use Rattle.place_core.specs.page.Tags.{DoubleQuoted, LeadsPlainInStyle, OfKind, OfStyle, OfUrl, Quoting, SingleQuoted, Tag, Unquoted, Value, ValueOf, ValueState, emitted_bytes, emitted_end, emits_state, end_tag, ends_state, languages, with_bytes}
 use Rattle.place_core.specs.place.StatePlaces.{quotes_at}
 use Rattle.place_core.specs.place.StyleParts.{style_place}
@@ -103,6 +103,7 @@ told-emits = record {
 
 beside-itself : (s : LexState ValueState) → StandBeside Any s s
 beside-itself (AttributeValue q tag (ValueOf v) r) = (v, refl, tt)
+beside-itself (InContent e (InLanguage v) h) = (v, refl, tt)
 beside-itself _ = refl
 
 stays-told : (bytes : List ℕ) (s : LexState ValueState) (t : List LexEvent) → t ≢ [] → (read Page bytes (config s t)).emitted ≢ []
@@ -252,7 +253,7 @@ are-pages (InUrl f u) (Out r) a = elim a [ ]
 are-pages (InUrl f u) (InUrl h w) a = tt
 
 -- The path's states in code, where a text may begin, and in comments.
-abbrev IsCode : Outside → Type 0
+abbrev pub IsCode : Outside → Type 0
 IsCode (Between k) = Unit {0}
 IsCode (BehindHole solidus less) = Unit {0}
 IsCode (SplitWord NoEscape) = Unit {0}
@@ -297,7 +298,7 @@ code-run s r cut_less_than c g = tt
 code-run s r (cut_star star) c g = absurd c
 
 -- in the string,
-string-same : (q : Quote) (r : Outside) → AreAlikeOutside (InString q NoEscape) r → r ≡ InString q NoEscape
+pub string-same : (q : Quote) (r : Outside) → AreAlikeOutside (InString q NoEscape) r → r ≡ InString q NoEscape
 string-same q r (the_same z o) = refl
 
 -- and in a comment.
@@ -327,14 +328,14 @@ comment-star s r cut_less_than c g = absurd c
 comment-star s r (cut_star star) c g = (star, refl)
 
 -- what is plain there is plain in each state of a page that is alike
-abbrev PlainAtAll : Style Url → List ℕ → Type 0
+abbrev pub PlainAtAll : Style Url → List ℕ → Type 0
 PlainAtAll s bs = (w : Style Url) → StylesAlike urls s w → IsPageStyle w → IsPlainInStyle urls bs w
 
-in-code : (bs : List ℕ) (s : Outside) → IsCode s → ((r : Outside) → InRun (out_settled r) → IsPlainInStyle urls bs (Out r)) → PlainAtAll (Out s) bs
+pub in-code : (bs : List ℕ) (s : Outside) → IsCode s → ((r : Outside) → InRun (out_settled r) → IsPlainInStyle urls bs (Out r)) → PlainAtAll (Out s) bs
 in-code bs s c p (Out r) (outside a) g = p r (code-run s r a c g)
 in-code bs s c p (InUrl f u) a g = elim a [ ]
 
-in-string : (bs : List ℕ) (q : Quote) → IsPlainInStyle urls bs (Out (InString q NoEscape)) → PlainAtAll (Out (InString q NoEscape)) bs
+pub in-string : (bs : List ℕ) (q : Quote) → IsPlainInStyle urls bs (Out (InString q NoEscape)) → PlainAtAll (Out (InString q NoEscape)) bs
 in-string bs q p (Out r) (outside a) g = subst (λ (z : Outside). IsPlainInStyle urls bs (Out z)) (sym (string-same q r a)) p
 in-string bs q p (InUrl f u) a g = elim a [ ]
 
@@ -370,11 +371,11 @@ in-url-plain bs f u o s p = record {
   apart = url-apart bs f u;
   leads = subst (λ (z : Style Url). StyleLeadsPlain urls (InUrl f u) z) (sym (s.leads f u o))
       (form-leads f bs o, subst (λ (z : Url). UrlLeadsPlain u z) (sym (fed-all bs u)) p.leads);
-  allowed = (s.allowed f, p.allowed);
+  allowed = (s.allowed, p.allowed);
   tells = s.tells f u o;
 }
 
-in-urls : (bs : List ℕ) (f : UrlForm) (u : Url) → UrlTakesHole f → StaysInUrl urls bs → ((w : Url) → UrlsAlike u w → IsPlainInUrl bs w)
+pub in-urls : (bs : List ℕ) (f : UrlForm) (u : Url) → UrlTakesHole f → StaysInUrl urls bs → ((w : Url) → UrlsAlike u w → IsPlainInUrl bs w)
     → PlainAtAll (InUrl f u) bs
 in-urls bs f u o s p (Out r) a g = elim a [ ]
 in-urls bs f u o s p (InUrl h w) (in_url i a) g = in-url-plain bs f w o s (p w a)
@@ -409,16 +410,16 @@ code-failsafe StarAtCut o = absurd o
 
 pub string-failsafe : (q : Quote) → IsPlainInStyle urls failsafe (Out (InString q NoEscape))
 unfolding style_class
-string-failsafe DoubleQuote = record { apart = refl; leads = refl; allowed = tt; tells = refl }
-string-failsafe SingleQuote = record { apart = refl; leads = refl; allowed = tt; tells = refl }
+string-failsafe DoubleQuote = record { apart = refl; leads = refl; allowed = refl; tells = refl }
+string-failsafe SingleQuote = record { apart = refl; leads = refl; allowed = refl; tells = refl }
 
 comment-failsafe : (star : Bool) → IsPlainInStyle urls failsafe (Out (Comment star))
 unfolding style_class
-comment-failsafe true = record { apart = refl; leads = inl refl; allowed = tt; tells = refl }
-comment-failsafe false = record { apart = refl; leads = inl refl; allowed = tt; tells = refl }
+comment-failsafe true = record { apart = refl; leads = inl refl; allowed = inr refl; tells = refl }
+comment-failsafe false = record { apart = refl; leads = inl refl; allowed = inr refl; tells = refl }
 
 comment-none : (star : Bool) → IsPlainInStyle urls [] (Out (Comment star))
-comment-none star = record { apart = tt; leads = inr refl; allowed = tt; tells = refl }
+comment-none star = record { apart = tt; leads = inr refl; allowed = inl refl; tells = refl }
 
 -- A hole in a style at the state of a path: the value that its bytes are read as, in a style and in any other value, which is plain in each state of
 -- a page that is alike.
@@ -479,10 +480,10 @@ HolesAt s q (Some c) datum bytes =
     style_hole_error c ≡ None → IsBackBy (css_chain c (last_of (quotes_at q))) datum bytes
     → (leaves_out (css_chain c (last_of (quotes_at q))) ≡ false) × IsStyleHole q s bytes
 
-given : {A : Type 0} (a : A) → Some a ≡ None → ⊥
+pub given : {A : Type 0} (a : A) → Some a ≡ None → ⊥
 given a e = cc
 
-none-refused : (p : UrlPart) → url_refusal (parts_hole_error (parts_of p)) ≡ None → refuses_hole_in p ≡ None
+pub none-refused : (p : UrlPart) → url_refusal (parts_hole_error (parts_of p)) ≡ None → refuses_hole_in p ≡ None
 none-refused UrlStart e = refl
 none-refused (UrlOpen x) e = refl
 none-refused UrlOpenhole e = refl
@@ -490,7 +491,7 @@ none-refused UrlPrequery e = refl
 none-refused UrlQuery e = refl
 none-refused UrlBad e = absurd (given _ e)
 
-at-start : (p : UrlPart) → is_at_start p ≡ true → p ≡ UrlStart
+pub at-start : (p : UrlPart) → is_at_start p ≡ true → p ≡ UrlStart
 at-start UrlStart e = refl
 at-start (UrlOpen x) e = absurd (true-false (sym e))
 at-start UrlOpenhole e = absurd (true-false (sym e))
@@ -498,7 +499,7 @@ at-start UrlPrequery e = absurd (true-false (sym e))
 at-start UrlQuery e = absurd (true-false (sym e))
 at-start UrlBad e = absurd (true-false (sym e))
 
-no-triple : (t : Triple) → is_no_triple t ≡ true → t ≡ NoTriple
+pub no-triple : (t : Triple) → is_no_triple t ≡ true → t ≡ NoTriple
 no-triple NoTriple e = refl
 no-triple AfterPercent e = absurd (true-false (sym e))
 no-triple AfterDigit e = absurd (true-false (sym e))

@@ -39,7 +39,7 @@ use Rattle.url_lexer.specs.Refusals.{refuses_hole_in}
 use Rattle.url_lexer.specs.States.{Url, feed_url}
 use Rattle.url_lexer.specs.Triples.{NoTriple}
 use Rattle.text_norm.proofs.FilledEvents.{SchemesSame, fed-same, fills-mark}
-use Rattle.text_norm.proofs.FilledMarks.{IsSlashPending, Leads, LeadsOn, RawFilled, RawStands, StandsRaw, in_style, led, marked-is, raw-there}
+use Rattle.text_norm.proofs.FilledMarks.{AreRaw, IsSlashPending, Leads, LeadsOn, RawFilled, RawStands, StandsRaw, in_style, is_in_language, led, marked-is, not-held, raw-there}
 use Rattle.text_norm.proofs.StyleHoles.{code-failsafe, string-failsafe}
 use Rattle.text_norm.proofs.StyleRaw.{HasTold, IsJoined, OutBeside, StyleBeside, bytes-beside, code-behind, raw-has-told, read-fed, read-told, style-pending, style-settles, style_fed, style_told, told-last, told-run, value-fed}
 use Rattle.text_norm.proofs.StyleValuesKeep.{style-laws}
@@ -468,6 +468,7 @@ url-goes g x z y o q text chars k back plain a same vs t u f =
     let fits : IsStyleUrlRun q x.part text (style_run (InUrl g y) bs) = record {
       bytes = chars;
       emitted = run;
+      plain = k.allowed;
       allowed = subst (λ (p : UrlPart). ArePlainBytes p bs) a.part plain.allowed;
       reads = back;
     } in (
@@ -570,7 +571,7 @@ solidus-same : (v : Outside) (j : Bool) → AreAlikeOutside v (AfterSolidus j) �
 solidus-same v j (the_same z o) = refl
 solidus-same v j (cut_solidus k) = refl
 
-solidus-path : (vs : List Filling) (v w : Style Url) (blank : Bool) (u : List LexEvent) → StylesAlike urls v w
+pub solidus-path : (vs : List Filling) (v w : Style Url) (blank : Bool) (u : List LexEvent) → StylesAlike urls v w
     → StyleBeside vs w (Out (AfterSolidus blank)) u
     → style_after_hole urls v ≡ Out (BehindHole true false)
 solidus-path vs (Out v) (Out w) blank u (outside a) b =
@@ -579,7 +580,7 @@ solidus-path vs (Out v) (Out w) blank u (outside a) b =
 solidus-path vs v (InUrl g z) blank u a b = absurd b
 solidus-path vs (InUrl g x) (Out w) blank u a b = elim a [ ]
 
-not-cut : {A : Type 0} (vs : List Filling) (w : Style Url) (k : Bool) (u : List LexEvent) → StyleBeside vs w (Out (SolidusAtCut k)) u → A
+pub not-cut : {A : Type 0} (vs : List Filling) (w : Style Url) (k : Bool) (u : List LexEvent) → StyleBeside vs w (Out (SolidusAtCut k)) u → A
 not-cut vs (Out w) k u b = absurd (raw-has-told vs w (SolidusAtCut k) u b)
 not-cut vs (InUrl g z) k u b = absurd b
 
@@ -614,6 +615,18 @@ pending-there q tag vs v w r u d a b (inr h) =
     inr (subst (λ (y : Style Url). IsSlashPending (in_style q tag (style_after_hole urls y)) d (AtEnd q tag r [] u)) (sym h.3)
     (record { blank = h.1; told = h.2; raw = h.4; is_settled = ap₂ (λ (z : Style Url) (t : List LexEvent). AtEnd q tag z [] t) h.5 h.6 }))
 
+-- a value holds nothing back in an element
+value-raw : (q : Quoting) (tag : Tag) (v : Style Url) (d e : Config ValueState) → (d ≡ e) ⊎ IsSlashPending (in_style q tag v) d e → AreRaw (in_style q tag v) d e
+value-raw q tag v d e (inl h) = inl h
+value-raw q tag v d e (inr h) = inr (inl h)
+
+raw-value : (q : Quoting) (tag : Tag) (v : Style Url) (y : ValueState) (d e : Config ValueState) → e.at ≡ in_value q tag (ValueOf y) → AreRaw (in_style q tag v) d e
+    → (d ≡ e) ⊎ IsSlashPending (in_style q tag v) d e
+raw-value q tag v y d e i (inl h) = inl h
+raw-value q tag v y d e i (inr (inl h)) = inr h
+raw-value q tag v y d e i (inr (inr (inl h))) = absurd h
+raw-value q tag v y d e i (inr (inr (inr h))) = absurd (not-held d e (ap is_in_language i) h)
+
 none-read : (q : Quoting) (tag : Tag) (v : Style Url) (bytes : List ℕ) (r : Style Url) (u : List LexEvent) (d : Config ValueState)
     → AreReadAs q bytes []
     → StandsThere q tag v r u d → read Page bytes d ≡ d
@@ -643,9 +656,9 @@ style-led q tag v text bytes [] reads k vs t w r u d a b f there =
       settled = end;
       beside = subst (λ (z : Config ValueState). RawStands own z end) (sym (marked-there q tag w bytes [] t reads))
           (OfStyle (style_settled r), refl, (g.0, g.1));
-      pending = subst (λ (z : Config ValueState). (z ≡ end) ⊎ IsSlashPending (in_style q tag (style_after_hole urls v)) z end)
+      pending = subst (λ (z : Config ValueState). AreRaw (in_style q tag (style_after_hole urls v)) z end)
           (sym (none-read q tag v bytes r u d reads there))
-          (pending-there q tag vs v w r u d a b there);
+          (value-raw q tag (style_after_hole urls v) d end (pending-there q tag vs v w r u d a b there));
     }
 style-led q tag v text bytes (c ∷ bs) reads k vs t w r u d a b f there =
     let own = value_fillings (ValueOf (OfStyle v)) q text vs in
@@ -712,7 +725,7 @@ style-stands q tag v text bytes bs reads k vs t (OfStyle w) m d a e r =
     let h = subst (λ (z : Config ValueState). RawStands vs z r.settled) e r.beside in
     subst (λ (z : Config ValueState). StandsRaw (in_style q tag (style_after_hole urls v)) own (marked bytes z) (read Page bytes d)) (sym e)
     (style-raw q tag v text bytes bs reads k vs t w h.0 d r.settled a (ap (λ (z : LexState ValueState). config z r.settled.emitted) h.1) h.2
-    r.pending)
+    (raw-value q tag v h.0 d r.settled h.1 r.pending))
 
 pub style-leads : (q : Quoting) (tag : Tag) (v : Style Url) (text bytes bs : List ℕ) → AreReadAs q bytes bs → IsStyleFilled v q text bs
     → Leads (in_style q tag v) text bytes

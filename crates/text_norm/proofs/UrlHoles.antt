@@ -31,7 +31,7 @@ use Rattle.url_lexer.proofs.WrittenBytes.{written-plain}
 use Rattle.text_norm.specs.Fillings.{url_bytes}
 use Rattle.text_norm.specs.HoleLaws.{IsBackBy, IsBackByLast, IsBackInUrl, leaves_out}
 
-refused : (e : UrlRefusal) → Some e ≡ None → ⊥
+pub refused : (e : UrlRefusal) → Some e ≡ None → ⊥
 refused e n = cc
 
 -- the promise, by the part in which the path is

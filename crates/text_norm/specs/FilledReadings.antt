@@ -5,7 +5,7 @@ use Rattle.place_core.specs.page.Events.{AttributeBegins, LexEvent, attribute_na
 use Rattle.place_core.specs.page.Html.{read, start}
 use Rattle.place_core.specs.page.Paths.{Hole, Symbol, Written, at_hole, read_node}
 use Rattle.place_core.specs.page.References.{Closed, Reference}
-use Rattle.place_core.specs.page.States.{AfterAttributeName, AfterAttributeValue, AttributeValue, BeforeAttributeName, BeforeAttributeValue, Bytes, Characters, Config, Content, InContent, LexState, Nothing, Page, Pending, SelfClosingStartTag, Text, WholeAttributeName, config}
+use Rattle.place_core.specs.page.States.{AfterAttributeName, AfterAttributeValue, AttributeValue, BeforeAttributeName, BeforeAttributeValue, Bytes, Characters, Config, Content, InContent, InLanguage, LexState, Nothing, Page, Pending, SelfClosingStartTag, Text, WholeAttributeName, config}
 use Rattle.place_core.specs.page.Tags.{Quoting, Tag, Deciding, Unquoted, Value, ValueOf, ValueState, OfKind, OfUrl, OfStyle, attribute_value_of, languages, without_value}
 use Rattle.place_core.specs.place.Errors.{node}
 use Rattle.place_core.specs.declared.kind.Kind.TheVariants as kind
@@ -46,7 +46,7 @@ holes_in (Written bytes ∷ symbols) = holes_in symbols
 holes_in (Hole ∷ symbols) = suc (holes_in symbols)
 
 -- The text of a value says which bytes stand in its hole: it stands neither in a data block, where references may be written otherwise, nor in a URL,
--- where percent triples may, nor in a style, where escapes may.
+-- where percent triples may, nor in a style, of a value or of an element, where escapes may.
 abbrev pub IsSaidInValue : Value ValueState → Type 0
 IsSaidInValue (ValueOf (OfKind k)) = ⊤
 IsSaidInValue (ValueOf (OfUrl u)) = ⊥
@@ -55,6 +55,7 @@ IsSaidInValue (Deciding k before) = ⊤
 
 abbrev pub IsSaidByText : LexState ValueState → Type 0
 IsSaidByText (InContent e Bytes h) = ⊥
+IsSaidByText (InContent e (InLanguage v) h) = ⊥
 IsSaidByText (AttributeValue q tag v r) = IsSaidInValue v
 IsSaidByText (BeforeAttributeValue tag k) = IsSaidInValue (attribute_value_of languages k)
 IsSaidByText s = ⊤
@@ -71,7 +72,7 @@ FilledPathsAreReadings = (symbols : List Symbol) (texts : List (List ℕ)) (page
     → AreSaidByTexts symbols start.at → FillsPath symbols texts page → read Page page start ≡ read_filled symbols texts start
 
 -- where a mark is filled, and by one run: neither in a data block, a URL or a style, nor where nothing fills it
-abbrev pub TakesContent : Content → Pending → Type 0
+abbrev pub TakesContent : Content ValueState → Pending → Type 0
 TakesContent (Characters r) Nothing = ⊤
 TakesContent y h = ⊥
 

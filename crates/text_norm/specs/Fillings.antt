@@ -6,7 +6,7 @@ use Rattle.std.specs.Prelude.{⊤, ◌≡◌, ◌⊎◌, ℕ, Bool, true, false,
 use Rattle.css_lexer.specs.Escapes.{NoEscape}
 use Rattle.css_lexer.specs.Events.{RunBlank, InsideUrl}
 use Rattle.css_lexer.specs.Paths as styles
-use Rattle.css_lexer.specs.Plain.{IsPlainInStyle}
+use Rattle.css_lexer.specs.Plain.{IsPlainInStyle, MayStandInUrl}
 use Rattle.css_lexer.specs.Sanitizers.{style_as_text, unless_unsafe}
 use Rattle.css_lexer.specs.States.{Quote, Between, InString, Style, Out, InUrl}
 use Rattle.css_lexer.specs.Unescaping.{style_escapes_undone}
@@ -15,8 +15,8 @@ use Rattle.place_core.specs.page.Events.{LexEvent, InsideStyle, Mark, ValueSchem
 use Rattle.place_core.specs.page.Html.{read, start}
 use Rattle.place_core.specs.page.Paths.{Hole, Symbol, Written, at_hole, read_path}
 use Rattle.place_core.specs.page.References.{Closed, undone}
-use Rattle.place_core.specs.page.States.{AfterAttributeName, AfterAttributeValue, AttributeValue, BeforeAttributeName, BeforeAttributeValue, Bytes, Characters, InContent, LexState, Nothing, Page, SelfClosingStartTag, Text}
-use Rattle.place_core.specs.page.Tags.{Quoting, Deciding, Unquoted, Value, ValueOf, ValueState, OfKind, OfUrl, OfStyle, attribute_value_of, emitted_bytes, languages}
+use Rattle.place_core.specs.page.States.{AfterAttributeName, AfterAttributeValue, AttributeValue, BeforeAttributeName, BeforeAttributeValue, Bytes, Characters, InContent, InLanguage, LexState, Nothing, Page, SelfClosingStartTag, Text}
+use Rattle.place_core.specs.page.Tags.{Quoting, Deciding, DoubleQuoted, Unquoted, Value, ValueOf, ValueState, OfKind, OfUrl, OfStyle, attribute_value_of, emitted_bytes, languages}
 use Rattle.place_core.specs.place.Errors.{node}
 use Rattle.san_html.specs.ReadBack.{as_name, as_unquoted, read_as_text}
 use Rattle.san_html.specs.Sanitizers.{failsafe}
@@ -29,7 +29,7 @@ use Rattle.url_lexer.specs.States.{Url}
 
 -- where a mark stands: in text, a title or a textarea; in a data block; in a value between quotes, or without them; as the name of an
 -- attribute; in a value that is a URL, by how it is written and the part of the URL; or in a value that is a style: in words and plain text, in
--- a string of it, by its quotes, or in a URL of it
+-- a string of it, by its quotes, or in a URL of it. In the element of a style a value stands as in a style between quotes: it may be empty.
 pub data MarkSite : Type 0 where
   TextSite : MarkSite
   BlockSite : MarkSite
@@ -114,7 +114,7 @@ pub record IsStringRun (q : Quoting) (quote : Quote) (text : List ℕ) (run : Li
   pub plain : IsPlainInStyle urls (url_bytes q bytes) (Out (InString quote NoEscape))
   pub reads : style_escapes_undone bytes ≡ style_as_text text
 
--- in a URL of it, bytes of that URL, as in any other
+-- in a URL of it, bytes of that URL, as in any other; none is white space, a control byte or a backslash
 abbrev pub style_url_bytes : List ℕ → List LexEvent → List LexEvent
 style_url_bytes [] t = t
 style_url_bytes (b ∷ bs) t = style_url_bytes bs (InsideStyle (InsideUrl (UrlByte b)) ∷ t)
@@ -122,6 +122,7 @@ style_url_bytes (b ∷ bs) t = style_url_bytes bs (InsideStyle (InsideUrl (UrlBy
 pub record IsStyleUrlRun (q : Quoting) (part : UrlPart) (text : List ℕ) (run : List LexEvent) : Type 0 where
   pub bytes : List ℕ
   pub emitted : run ≡ style_url_bytes (url_bytes q bytes) []
+  pub plain : MayStandInUrl (url_bytes q bytes)
   pub allowed : ArePlainBytes part (url_bytes q bytes)
   pub reads : ReadsBack part text bytes
 
@@ -184,6 +185,7 @@ abbrev pub fillings_at : LexState ValueState → List ℕ → List Filling → L
 fillings_at (Text r) text vs = filling TextSite text ∷ vs
 fillings_at (InContent e (Characters r) Nothing) text vs = filling TextSite text ∷ vs
 fillings_at (InContent e Bytes h) text vs = filling BlockSite text ∷ vs
+fillings_at (InContent e (InLanguage v) Nothing) text vs = value_fillings (ValueOf v) DoubleQuoted text vs
 fillings_at (AttributeValue q tag v Closed) text vs = value_fillings v q text vs
 fillings_at (BeforeAttributeValue tag k) text vs = value_fillings (attribute_value_of languages k) Unquoted text vs
 fillings_at (BeforeAttributeName tag) text vs = filling NameSite text ∷ vs

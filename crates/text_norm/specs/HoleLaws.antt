@@ -1,5 +1,6 @@
 -- What is promised of a hole: the bytes that its chain gives for a value keep the shape.
-use Rattle.std.specs.Prelude.{◌≡◌, ℕ, Bool, true, false, List, [], ◌∷◌, Ok, take}
+use Rattle.std.specs.List.{list_any}
+use Rattle.std.specs.Prelude.{◌≡◌, ℕ, ◌==◌, Bool, true, false, List, [], ◌∷◌, Ok, take}
 use Rattle.page_datum.specs.Data.{Data}
 use Rattle.page_datum.specs.Printed.{printed}
 use Rattle.place_core.specs.page.Events.{LexEvent}
@@ -33,19 +34,20 @@ abbrev pub Alone : List San → Type 0 → Type 0
 Alone [] promise = promise
 Alone (y ∷ ys) promise = ⊥
 
--- one of a sanitizer that has one behind it, which is the last; and of one that has `url_norm` behind it, and then the last
-abbrev pub BeforeLast : List San → (San → Type 0) → Type 0
-BeforeLast [] Promise = ⊥
-BeforeLast (last ∷ []) Promise = Promise last
-BeforeLast (x ∷ y ∷ ys) Promise = ⊥
+-- one of a sanitizer that has one behind it, which is the last, or none, as in the element of a style (`alone`); and of one that has `url_norm` behind
+-- it before that
+abbrev pub BeforeLast : List San → (alone : Type 0) → (San → Type 0) → Type 0
+BeforeLast [] alone Promise = alone
+BeforeLast (last ∷ []) alone Promise = Promise last
+BeforeLast (x ∷ y ∷ ys) alone Promise = ⊥
 
 abbrev pub BehindNorm : San → Type 0 → Type 0
 BehindNorm san.UrlNorm promise = promise
 BehindNorm x promise = ⊥
 
-abbrev pub BeforeNorm : List San → (San → Type 0) → Type 0
-BeforeNorm [] Promise = ⊥
-BeforeNorm (x ∷ behind) Promise = BehindNorm x (BeforeLast behind Promise)
+abbrev pub BeforeNorm : List San → (alone : Type 0) → (San → Type 0) → Type 0
+BeforeNorm [] alone Promise = ⊥
+BeforeNorm (x ∷ behind) alone Promise = BehindNorm x (BeforeLast behind alone Promise)
 
 -- The sanitizer of a value's quotes, of the characters that come to it.
 abbrev pub IsBackByLast : San → List ℕ → List ℕ → Type 0
@@ -69,10 +71,23 @@ pub record IsBackInStyle (IsBackThere : List ℕ → Type 0) (last : San) (bytes
   pub as_they_are : read_as_text characters ≡ characters
   pub written : IsBackByLast last characters bytes
 
+-- In the element of a style the bytes themselves are so; and no end tag begins with one of them.
+abbrev pub is_less_than : ℕ → Bool
+is_less_than b = b == 60
+
+pub record IsBackInElement (IsBackThere : List ℕ → Type 0) (bytes : List ℕ) : Type 0 where
+  pub there : IsBackThere bytes
+  pub apart : list_any is_less_than bytes ≡ false
+
+pub record IsBackInElementUrl (IsBackThere : List ℕ → Type 0) (bytes : List ℕ) : Type 0 where
+  pub there : IsBackThere bytes
+  pub stays : StaysInUrl urls bytes
+  pub apart : list_any is_less_than bytes ≡ false
+
 -- A value that is dropped has no characters; the last sanitizer, if there is one, gives what it gives for none.
 abbrev pub IsDropped : List San → List ℕ → Type 0
 IsDropped [] bytes = bytes ≡ []
-IsDropped (x ∷ behind) bytes = BeforeLast (x ∷ behind) (λ last. IsBackByLast last [] bytes)
+IsDropped (x ∷ behind) bytes = BeforeLast (x ∷ behind) (bytes ≡ []) (λ last. IsBackByLast last [] bytes)
 
 -- in the beginning, whatever it spells, and behind a hole in it
 pub record IsBackInBeginning (text characters : List ℕ) : Type 0 where
@@ -86,12 +101,18 @@ IsBackByFirst san.Attr behind datum bytes = Alone behind (IsBackInQuoted (printe
 IsBackByFirst san.AttrNospace behind datum bytes = Alone behind (IsBackInUnquoted (printed datum) bytes)
 IsBackByFirst san.AttrName behind datum bytes = Alone behind (IsBackInTag (printed datum) bytes)
 IsBackByFirst san.Drop behind datum bytes = IsDropped behind bytes
-IsBackByFirst san.UrlFilter behind datum bytes = BeforeNorm behind (λ last. IsBackInUrl (IsBackInPart UrlStart (printed datum)) last bytes)
-IsBackByFirst san.UrlOpen behind datum bytes = BeforeLast behind (λ last. IsBackInUrl (IsBackInBeginning (printed datum)) last bytes)
-IsBackByFirst san.UrlNorm behind datum bytes = BeforeLast behind (λ last. IsBackInUrl (IsBackInPart UrlPrequery (printed datum)) last bytes)
-IsBackByFirst san.UrlQuery behind datum bytes = BeforeLast behind (λ last. IsBackInUrl (IsBackInPart UrlQuery (printed datum)) last bytes)
-IsBackByFirst san.CssValue behind datum bytes = BeforeLast behind (λ last. IsBackInStyle (IsBackInCode urls (printed datum)) last bytes)
-IsBackByFirst san.CssString behind datum bytes = BeforeLast behind (λ last. IsBackInStyle (IsBackInString urls (printed datum)) last bytes)
+IsBackByFirst san.UrlFilter behind datum bytes =
+    BeforeNorm behind (IsBackInElementUrl (IsBackInPart UrlStart (printed datum)) bytes) (λ last. IsBackInUrl (IsBackInPart UrlStart (printed datum)) last bytes)
+IsBackByFirst san.UrlOpen behind datum bytes =
+    BeforeLast behind (IsBackInElementUrl (IsBackInBeginning (printed datum)) bytes) (λ last. IsBackInUrl (IsBackInBeginning (printed datum)) last bytes)
+IsBackByFirst san.UrlNorm behind datum bytes =
+    BeforeLast behind (IsBackInElementUrl (IsBackInPart UrlPrequery (printed datum)) bytes) (λ last. IsBackInUrl (IsBackInPart UrlPrequery (printed datum)) last bytes)
+IsBackByFirst san.UrlQuery behind datum bytes =
+    BeforeLast behind (IsBackInElementUrl (IsBackInPart UrlQuery (printed datum)) bytes) (λ last. IsBackInUrl (IsBackInPart UrlQuery (printed datum)) last bytes)
+IsBackByFirst san.CssValue behind datum bytes =
+    BeforeLast behind (IsBackInElement (IsBackInCode urls (printed datum)) bytes) (λ last. IsBackInStyle (IsBackInCode urls (printed datum)) last bytes)
+IsBackByFirst san.CssString behind datum bytes =
+    BeforeLast behind (IsBackInElement (IsBackInString urls (printed datum)) bytes) (λ last. IsBackInStyle (IsBackInString urls (printed datum)) last bytes)
 -- those of scripts, whatever is behind them, which no context has yet
 IsBackByFirst san.JsValue behind datum bytes = ⊥
 IsBackByFirst san.JsString behind datum bytes = ⊥

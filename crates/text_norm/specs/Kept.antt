@@ -1,14 +1,19 @@
 -- What is pending back of a text that has been read to a scan state, and what becomes of it at a byte.
 use Rattle.std.specs.Prelude.{ℕ, ◌+◌, ◌-◌, ◌≤◌, Bool, true, false, ◌≡◌, codes, List, [], ◌++◌, length, get_or, Option, IfSome, IsSomeAnd, ◌⊎◌}
+use Rattle.std.specs.Char.{is_ascii_alphabetic}
+use Rattle.std.specs.List.{list_all}
 use Rattle.std.specs.Str.{IsCharBoundary}
+use Rattle.css_step.specs.StyleScans.{StyleScan, ScanSolidus, ScanComment, ScanStarBefore}
 use Rattle.place_core.specs.page.Classes.{Class, Ampersand, class_of}
+use Rattle.place_core.specs.page.Contents.{pending_bytes}
 use Rattle.place_core.specs.page.References.{Reference, Closed, as_it_stands, next_reference}
 use Rattle.place_core.specs.page.States.{Pending, Nothing, PendingLess, PendingName}
+use Rattle.place_core.specs.declared.css.Css.TheVariants as css
 use Rattle.place_core.specs.declared.element.Element.{Element}
 use Rattle.place_core.specs.declared.element.Element.TheVariants as element
 use Rattle.place_core.specs.declared.place.Place.{Place}
 use Rattle.place_core.specs.declared.place.Place.TheVariants as place
-use Rattle.html_scan.specs.Scans.{Scan, At, AfterLess, AfterLessSolidus, InDeclaration, InTagName, InAttributeName, InCommentEnd, InContentEnd, InUrl, InStyle, BeforeType, InType, scan_next}
+use Rattle.html_scan.specs.Scans.{Scan, At, AfterLess, AfterLessSolidus, InDeclaration, InTagName, InAttributeName, InCommentEnd, InContentEnd, InStyleElement, InUrl, InStyle, BeforeType, InType, scan_next}
 use Rattle.html_scan.specs.ScanViews.{scan_at, pending_from}
 use Rattle.html_scan.specs.Slices.{pending}
 use Rattle.text_norm.specs.Scanned.{rcdata_open, scan_open, scan_out}
@@ -31,6 +36,11 @@ abbrev pub content_less : Element → Pending → List ℕ
 content_less element.DataBlock h = []
 content_less e h = less_pending h
 
+-- in a style, a `/` that may begin a comment, and then what may be its end tag
+abbrev pub solidus_kept : StyleScan → List ℕ
+solidus_kept ScanSolidus = codes "/"
+solidus_kept s = []
+
 abbrev pub less_kept : Scan → List ℕ
 less_kept (At p) = []
 less_kept AfterLess = codes "<"
@@ -40,6 +50,7 @@ less_kept (InTagName ends name) = []
 less_kept (InAttributeName t typed name) = []
 less_kept (InCommentEnd s) = []
 less_kept (InContentEnd e h) = content_less e h
+less_kept (InStyleElement s h) = solidus_kept s ++ pending_bytes h
 less_kept (InUrl v t z) = []
 less_kept (InStyle v s z) = []
 less_kept (BeforeType t) = []
@@ -67,15 +78,40 @@ bears (BeforeType t) = true
 bears (InType t q v z) = true
 bears f = false
 
--- in a comment, nothing is pending back
+-- in a comment of a style
+abbrev pub is_style_comment : StyleScan → Bool
+is_style_comment (ScanComment star) = true
+is_style_comment ScanStarBefore = true
+is_style_comment s = false
+
+abbrev pub style_place_comment : Place → Bool
+style_place_comment (place.Style (css.Comment star)) = true
+style_place_comment p = false
+
+abbrev pub in_style_comment : Scan → Bool
+in_style_comment (At p) = style_place_comment p
+in_style_comment (InStyleElement s h) = is_style_comment s
+in_style_comment f = false
+
+-- in a comment, nothing is pending back; but in one of a style what may be its end tag is
 abbrev pub place_hides : Place → Bool
 place_hides (place.Comment dash) = true
-place_hides p = false
+place_hides p = style_place_comment p
+
+abbrev pub loose_hides : Pending → StyleScan → Bool
+loose_hides Nothing s = is_style_comment s
+loose_hides h s = false
 
 abbrev pub hides : Scan → Bool
 hides (At p) = place_hides p
 hides (InCommentEnd s) = true
+hides (InStyleElement s h) = loose_hides h s
 hides f = false
+
+-- the letters of what may be the end tag of a style
+abbrev pub end_letters : Scan → List ℕ
+end_letters (InStyleElement s (PendingName letters)) = letters
+end_letters f = []
 
 -- what a byte does, by the scan states before and after it
 abbrev pub less_change : Scan → Change
@@ -93,8 +129,36 @@ abbrev pub content_end_change : Element → Scan → Change
 content_end_change element.DataBlock g = change.Keeps
 content_end_change e g = content_change g
 
+-- in a style: by whether the bytes before the one at hand, and those behind it, are in a comment
+abbrev pub comment_change : (before after : Bool) → Change
+comment_change true true = change.LeavesOut
+comment_change true false = change.EndsStyleComment
+comment_change false true = change.OpensStyleComment
+comment_change false false = change.Keeps
+
+abbrev pub end_tag_change : (before : Bool) → Change
+end_tag_change true = change.EndsInStyleComment
+end_tag_change false = change.Keeps
+
+abbrev pub may_end_change : (before : Bool) → Change
+may_end_change true = change.LeavesPending
+may_end_change false = change.Keeps
+
+abbrev pub style_place_change : Bool → Place → Change
+style_place_change before (place.Style p) = comment_change before (style_place_comment (place.Style p))
+style_place_change before p = end_tag_change before
+
+abbrev pub style_change : Bool → Scan → Change
+style_change before (At p) = style_place_change before p
+style_change before (InStyleElement s Nothing) = comment_change before (is_style_comment s)
+style_change before (InStyleElement s PendingLess) = may_end_change before
+style_change before (InStyleElement s h) = change.Keeps
+style_change before g = end_tag_change before
+
 abbrev pub change_of : Scan → Scan → Change
 change_of (At (place.Comment dash)) g = change.LeavesOut
+change_of (At (place.Style p)) g = style_change (style_place_comment (place.Style p)) g
+change_of (InStyleElement s h) g = style_change (is_style_comment s) g
 change_of (InCommentEnd s) g = change.LeavesOut
 change_of AfterLess g = less_change g
 change_of AfterLessSolidus g = less_change g
@@ -112,8 +176,14 @@ abbrev pub content_ending : Element → Pending → Ending
 content_ending element.DataBlock h = ending.Loose
 content_ending e h = pending_ending h
 
+abbrev pub style_ending : Bool → Ending
+style_ending true = ending.InStyleComment
+style_ending false = ending.InStyle
+
 abbrev pub ending_of : Scan → Ending
 ending_of (At (place.Comment dash)) = ending.InComment
+ending_of (At (place.Style p)) = style_ending (style_place_comment (place.Style p))
+ending_of (InStyleElement s h) = style_ending (is_style_comment s)
 ending_of (InCommentEnd s) = ending.InComment
 ending_of AfterLess = ending.BehindLess
 ending_of AfterLessSolidus = ending.BehindLess
@@ -195,6 +265,8 @@ pub record IsProgressKept (text : List ℕ) (index : ℕ) (x : WriteProgress) : 
   pub done : x.done ≤ index
   pub closed : bears (scan_of text index x) ≡ false → reference_of text x ≡ Closed
   pub hidden : hides (scan_of text index x) ≡ true → x.done ≡ index
+  pub alone : in_style_comment (scan_of text index x) ≡ true → free ≡ []
+  pub letters : list_all is_ascii_alphabetic (end_letters (scan_of text index x)) ≡ true
   pub cut : hides (scan_of text index x) ≡ false → IsCharBoundary text x.done
 
 -- A byte is read, and this was written for it.

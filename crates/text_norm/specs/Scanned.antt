@@ -1,5 +1,10 @@
 -- The same for all the paths of a place together: by the scan state to which they have read the text, and the reference that is open there.
-use Rattle.std.specs.Prelude.{ℕ, codes, List, [], ◌∷◌, ◌++◌}
+use Rattle.std.specs.Prelude.{ℕ, Bool, true, codes, List, [], ◌∷◌, ◌++◌}
+use Rattle.css_lexer.specs.Classes.{style_class}
+use Rattle.css_lexer.specs.Written.{written_behind_solidus, written_byte, written_in_word}
+use Rattle.css_lexer.specs.declared.class.StyleClass.{StyleClass}
+use Rattle.css_lexer.specs.declared.class.StyleClass.TheVariants as style
+use Rattle.css_step.specs.StyleScans.{StyleScan, ScanCode, ScanWord, ScanSplitEscape, ScanSolidus, ScanLessThan, ScanComment, ScanStarBefore, style_scan_start}
 use Rattle.place_core.specs.page.Classes.{Class, ExclamationMark, Solidus, LessThan, class_of}
 use Rattle.place_core.specs.page.Comments.{Declaration, Undecided, OpensNothing, declared_by}
 use Rattle.place_core.specs.page.References.{Reference, Closed, as_it_stands, begin_reference, next_reference}
@@ -8,8 +13,8 @@ use Rattle.place_core.specs.declared.element.Element.{Element}
 use Rattle.place_core.specs.declared.element.Element.TheVariants as element
 use Rattle.place_core.specs.declared.place.Place.{Place}
 use Rattle.place_core.specs.declared.place.Place.TheVariants as place
-use Rattle.html_scan.specs.Scans.{Scan, At, AfterLess, AfterLessSolidus, InDeclaration, InTagName, InAttributeName, InCommentEnd, InContentEnd, InUrl, InStyle, BeforeType, InType, scan_next}
-use Rattle.text_norm.specs.Written.{content_cut_out, content_out, declaration_out, text_escaped, less_out, loose_out, reference_out, solidus_out, text_out}
+use Rattle.html_scan.specs.Scans.{Scan, At, AfterLess, AfterLessSolidus, InDeclaration, InTagName, InAttributeName, InCommentEnd, InContentEnd, InStyleElement, InUrl, InStyle, BeforeType, InType, scan_next, style_feeding}
+use Rattle.text_norm.specs.Written.{ContentWriting, content_cut_out, content_out, declaration_out, language_content_cut_out, language_content_out, language_loose_out, text_escaped, less_out, loose_out, reference_out, solidus_out, text_out}
 
 -- the reference that is open after a byte
 abbrev pub text_open : Class → ℕ → Reference → Reference
@@ -50,10 +55,35 @@ scan_open (InTagName ends name) c b r = Closed
 scan_open (InAttributeName t typed name) c b r = Closed
 scan_open (InCommentEnd s) c b r = Closed
 scan_open (InContentEnd e h) c b r = content_end_open e c
+scan_open (InStyleElement s h) c b r = Closed
 scan_open (InUrl v t z) c b r = next_reference r c b
 scan_open (InStyle v s z) c b r = next_reference r c b
 scan_open (BeforeType t) c b r = next_reference r c b
 scan_open (InType t q v z) c b r = next_reference r c b
+
+-- A style in its element, as what is written of one path is, by its scan state: of the byte at hand, which ends a comment with a `/` behind a `*`.
+abbrev pub comment_scan_out : (star : Bool) → StyleClass → List ℕ
+comment_scan_out true style.Solidus = codes " "
+comment_scan_out star c = []
+
+abbrev pub style_scan_out : StyleScan → StyleClass → ℕ → List ℕ
+style_scan_out (ScanCode x) c b = written_byte c b
+style_scan_out (ScanWord w e) c b = written_in_word e c b
+style_scan_out (ScanSplitEscape e) c b = written_in_word e c b
+style_scan_out ScanSolidus c b = written_behind_solidus c b
+style_scan_out ScanLessThan c b = written_byte c b
+style_scan_out (ScanComment star) c b = comment_scan_out star c
+style_scan_out ScanStarBefore c b = comment_scan_out true c
+style_scan_out s c b = b ∷ []
+
+abbrev pub style_scan_cut_out : StyleScan → List ℕ
+style_scan_cut_out ScanSolidus = codes "/"
+style_scan_cut_out (ScanComment star) = codes " "
+style_scan_cut_out ScanStarBefore = codes " "
+style_scan_cut_out s = []
+
+abbrev pub scan_writing : ContentWriting StyleScan
+scan_writing = record { feeding = style_feeding; byte = λ s b. style_scan_out s (style_class b) b; cut = style_scan_cut_out }
 
 -- what is written at a byte, and at the end; a data block is written as it stands
 abbrev pub rcdata_out : Element → Class → ℕ → Reference → List ℕ
@@ -65,6 +95,7 @@ place_out place.Text c b r = text_out c b r
 place_out (place.Comment dash) c b r = []
 place_out (place.Rcdata e) c b r = rcdata_out e c b r
 place_out (place.Value v) c b r = reference_out r c b
+place_out (place.Style p) c b r = language_loose_out scan_writing c b (style_scan_start p)
 place_out p c b r = b ∷ []
 
 abbrev pub content_end_out : Element → Pending → Class → ℕ → Reference → List ℕ
@@ -80,6 +111,7 @@ scan_out (InTagName ends name) c b r = b ∷ []
 scan_out (InAttributeName t typed name) c b r = b ∷ []
 scan_out (InCommentEnd s) c b r = []
 scan_out (InContentEnd e h) c b r = content_end_out e h c b r
+scan_out (InStyleElement s h) c b r = language_content_out scan_writing h c b element.Style s
 scan_out (InUrl v t z) c b r = reference_out r c b
 scan_out (InStyle v s z) c b r = reference_out r c b
 scan_out (BeforeType t) c b r = reference_out r c b
@@ -89,8 +121,12 @@ abbrev pub content_end_cut_out : Element → Pending → Reference → List ℕ
 content_end_cut_out element.DataBlock h r = []
 content_end_cut_out e h r = content_cut_out h r
 
+abbrev pub place_cut_out : Place → Reference → List ℕ
+place_cut_out (place.Style p) r = style_scan_cut_out (style_scan_start p)
+place_cut_out p r = text_escaped r
+
 abbrev pub scan_cut_out : Scan → Reference → List ℕ
-scan_cut_out (At p) r = text_escaped r
+scan_cut_out (At p) r = place_cut_out p r
 scan_cut_out AfterLess r = as_it_stands r ++ codes "&lt;"
 scan_cut_out AfterLessSolidus r = (as_it_stands r ++ codes "&lt;") ++ codes "/"
 scan_cut_out (InDeclaration pending) r = (as_it_stands r ++ codes "&lt;") ++ (codes "!" ++ pending)
@@ -98,6 +134,7 @@ scan_cut_out (InTagName ends name) r = []
 scan_cut_out (InAttributeName t typed name) r = []
 scan_cut_out (InCommentEnd s) r = []
 scan_cut_out (InContentEnd e h) r = content_end_cut_out e h r
+scan_cut_out (InStyleElement s h) r = language_content_cut_out scan_writing h s
 scan_cut_out (InUrl v t z) r = text_escaped r
 scan_cut_out (InStyle v s z) r = text_escaped r
 scan_cut_out (BeforeType t) r = text_escaped r

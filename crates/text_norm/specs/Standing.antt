@@ -1,17 +1,24 @@
 -- Where the lexer of a page stands while a path of a template is read, of whose texts it reads what is written. Where nothing is pending back it
 -- stands where the path does, and has told the same. Where something is pending back it is said what it comes to by that: as it stands, and by
 -- what may be written for it. In a value the page has read the bytes of holes that the path has passed over: so there its state of the language
--- need not be the path's, but is alike.
-use Rattle.std.specs.Prelude.{ℕ, Bool, false, codes, List, [], ◌∷◌, ◌++◌, ◌≡◌}
-use Rattle.place_core.specs.page.Events.{LexEvent, event_text_bytes}
+-- need not be the path's, but is alike. So it is in a style in its element, where the page may also have a `<` pending that the style of the path has
+-- read.
+use Rattle.std.specs.Prelude.{⊤, ℕ, Bool, true, false, codes, List, [], ◌∷◌, ◌++◌, ◌≡◌}
+use Rattle.std.specs.Char.{is_ascii_alphabetic}
+use Rattle.std.specs.List.{list_all}
+use Rattle.css_lexer.specs.States.{Outside, Between, AfterSolidus, Comment, BadUrl, LessThanAtCut, StarAtCut, Style, Out, InUrl}
+use Rattle.css_lexer.specs.Steps.{blank_once}
+use Rattle.place_core.specs.page.Contents.{pending_bytes}
+use Rattle.place_core.specs.page.Events.{LexEvent, event_text_bytes, told_in_style}
 use Rattle.place_core.specs.page.Html.{read_over}
 use Rattle.place_core.specs.page.References.{Form, Reference, Closed, Open, as_it_stands, settled}
-use Rattle.place_core.specs.page.States.{Page, LexState, Text, TagOpen, EndTagOpen, DeclarationOpen, InComment, BogusComment, InDoctype, TagName, WholeTagName, BeforeAttributeName, AttributeName, WholeAttributeName, AfterAttributeName, BeforeAttributeValue, AttributeValue, AfterAttributeValue, SelfClosingStartTag, Content, Characters, Bytes, Pending, Nothing, PendingLess, LessAtCut, PendingName, InContent, Unread, Config, config}
-use Rattle.place_core.specs.page.Tags.{Tag, tag_named, element_on, Value, ValueOf, Deciding, ValueLanguage, Quoting, with_bytes, emitted_bytes}
+use Rattle.place_core.specs.page.States.{Page, LexState, Text, TagOpen, EndTagOpen, DeclarationOpen, InComment, BogusComment, InDoctype, TagName, WholeTagName, BeforeAttributeName, AttributeName, WholeAttributeName, AfterAttributeName, BeforeAttributeValue, AttributeValue, AfterAttributeValue, SelfClosingStartTag, Content, Characters, Bytes, InLanguage, Pending, Nothing, PendingLess, LessAtCut, PendingName, PendingBang, PendingBangDash, InContent, Unread, Config, config}
+use Rattle.place_core.specs.page.Tags.{Tag, tag_named, element_on, Value, ValueOf, Deciding, ValueLanguage, ValueState, OfKind, OfUrl, OfStyle, Quoting, with_bytes, emitted_bytes, fed_state, emits_fed}
 use Rattle.place_core.specs.page.Words.{kind_of}
 use Rattle.place_core.specs.declared.element.Element.{Element}
 use Rattle.place_core.specs.declared.kind.Kind.{Kind}
 use Rattle.text_norm.specs.Written.{text_escaped}
+use Rattle.url_lexer.specs.States.{Url}
 
 -- the bytes of a page, from where its reading stands
 abbrev pub page : {B : Type 0} → ValueLanguage B → List ℕ → Config B → Config B
@@ -80,11 +87,68 @@ abbrev pub pending_in_page : Pending → Pending
 pending_in_page LessAtCut = PendingLess
 pending_in_page h = h
 
-abbrev pub StandsInContent : {B : Type 0} → ValueLanguage B → Element → Content → Pending → List LexEvent → Config B → Type 0
+-- In a style in its element. What the page has pending its style reads where it comes to nothing. A `/` never goes on with it: where the path has
+-- something pending too, a `<` follows on the page; and behind the end of a node a `/` is refused.
+abbrev pub in_element : Element → ValueState → Pending → LexState ValueState
+in_element e v h = InContent e (InLanguage v) h
+
+abbrev pub ComesToNothing : (path page : Pending) → Style Url → Type 0
+ComesToNothing h Nothing s = ⊤
+ComesToNothing Nothing PendingLess (Out LessThanAtCut) = ⊤
+ComesToNothing Nothing held s = ⊥
+ComesToNothing h held s = ⊤
+
+pub record StandsInStyleElement (x : ValueLanguage ValueState) (e : Element) (s : Style Url) (h : Pending) (t : List LexEvent) (d : Config ValueState) : Type 0 where
+  pub there : ValueState
+  pub held : Pending
+  pub told : List LexEvent
+  pub at : d ≡ config (in_element e there held) told
+  pub alike : x.AreAlike (OfStyle s) (fed_state x there (pending_bytes held))
+  pub same : emits_fed x there (pending_bytes held) told ≡ t
+  pub nothing : ComesToNothing h held s
+
+-- The part of a comment is a space: what the page comes to by it. Behind a `/`, where a comment may begin, that too, and what it comes to by the `/`.
+abbrev pub behind_space : Element → List LexEvent → Config ValueState
+behind_space e t = config (in_element e (OfStyle (Out (Between true))) Nothing) t
+
+pub record PendingSolidus (x : ValueLanguage ValueState) (e : Element) (blank : Bool) (h : Pending) (t : List LexEvent) (d : Config ValueState) : Type 0 where
+  pub as_is : StandsInStyleElement x e (Out (AfterSolidus blank)) h t (page x (codes "/") d)
+  pub comment : page x (codes " ") d ≡ behind_space e (told_in_style (blank_once blank []) t)
+
+-- no path is in a url that is none
+abbrev pub StandsOutsideInElement : ValueLanguage ValueState → Element → Outside → Pending → List LexEvent → Config ValueState → Type 0
+StandsOutsideInElement x e (AfterSolidus blank) h t d = PendingSolidus x e blank h t d
+StandsOutsideInElement x e (Comment star) h t d = page x (codes " ") d ≡ behind_space e t
+StandsOutsideInElement x e StarAtCut h t d = page x (codes " ") d ≡ behind_space e t
+StandsOutsideInElement x e BadUrl h t d = ⊥
+StandsOutsideInElement x e s h t d = StandsInStyleElement x e (Out s) h t d
+
+abbrev pub StandsAtStyle : ValueLanguage ValueState → Element → Style Url → Pending → List LexEvent → Config ValueState → Type 0
+StandsAtStyle x e (Out s) h t d = StandsOutsideInElement x e s h t d
+StandsAtStyle x e (InUrl f u) h t d = StandsInStyleElement x e (InUrl f u) h t d
+
+-- What may be pending back on a path: nothing, a `<`, and `</` with letters, with which an end tag has begun in any style.
+pub record EndTagBegun (x : ValueLanguage ValueState) (e : Element) (letters : List ℕ) : Type 0 where
+  pub alphabetic : list_all is_ascii_alphabetic letters ≡ true
+  pub goes_on : (v : ValueState) (t : List LexEvent)
+      → page x (codes "</" ++ letters) (config (in_element e v Nothing) t) ≡ config (in_element e v (PendingName letters)) t
+
+abbrev pub MayGoOn : ValueLanguage ValueState → Element → Pending → Type 0
+MayGoOn x e Nothing = ⊤
+MayGoOn x e PendingLess = ⊤
+MayGoOn x e (PendingName letters) = EndTagBegun x e letters
+MayGoOn x e h = ⊥
+
+abbrev pub StandsInLanguage : ValueLanguage ValueState → Element → ValueState → Pending → List LexEvent → Config ValueState → Type 0
+StandsInLanguage x e (OfStyle s) h t d = MayGoOn x e h × StandsAtStyle x e s h t d
+StandsInLanguage x e v h t d = ⊥
+
+abbrev pub StandsInContent : ValueLanguage ValueState → Element → Content ValueState → Pending → List LexEvent → Config ValueState → Type 0
 StandsInContent x e (Characters r) Nothing t d = StandsIn x (standing_content e t) r d
-StandsInContent {B} x e (Characters Closed) PendingLess t d = PendingContentLess B x e t d
-StandsInContent {B} x e (Characters Closed) (PendingName letters) t d = PendingEndName B x e letters t d
+StandsInContent x e (Characters Closed) PendingLess t d = PendingContentLess ValueState x e t d
+StandsInContent x e (Characters Closed) (PendingName letters) t d = PendingEndName ValueState x e letters t d
 StandsInContent x e Bytes h t d = d ≡ config (InContent e Bytes (pending_in_page h)) t
+StandsInContent x e (InLanguage v) h t d = StandsInLanguage x e v h t d
 StandsInContent x e y h t d = ⊥
 
 -- In a value of a language: the page's state of the language, which is alike, and where it stands with that.
@@ -99,19 +163,19 @@ StandsInValue {B} x q tag (ValueOf v) r t d = StandsAlike B x q tag v r t d
 StandsInValue x q tag (Deciding k before) r t d = StandsIn x (standing_value x q tag (Deciding k before) t) r d
 
 -- The page's reading stands for the path that has come to a state and told these events. A comment is not written.
-abbrev pub TextStands : {B : Type 0} → ValueLanguage B → LexState B → List LexEvent → Config B → Type 0
+abbrev pub TextStands : ValueLanguage ValueState → LexState ValueState → List LexEvent → Config ValueState → Type 0
 TextStands x (Text r) t d = StandsIn x (standing_text t) r d
-TextStands {B} x (TagOpen r) t d = PendingLessThan B x r t d
-TextStands {B} x (EndTagOpen r) t d = PendingLessThan B x r t d
-TextStands {B} x (DeclarationOpen r pending) t d = PendingDeclaration B x r pending t d
+TextStands x (TagOpen r) t d = PendingLessThan ValueState x r t d
+TextStands x (EndTagOpen r) t d = PendingLessThan ValueState x r t d
+TextStands x (DeclarationOpen r pending) t d = PendingDeclaration ValueState x r pending t d
 TextStands x (InComment s) t d = d ≡ config (Text Closed) t
 TextStands x BogusComment t d = ⊥
 TextStands x InDoctype t d = d ≡ config InDoctype t
 TextStands x (TagName ends name) t d = d ≡ config (TagName ends name) t
-TextStands {B} x (WholeTagName tag) t d = WholeTag B tag t d
+TextStands x (WholeTagName tag) t d = WholeTag ValueState tag t d
 TextStands x (BeforeAttributeName tag) t d = d ≡ config (BeforeAttributeName tag) t
 TextStands x (AttributeName tag name) t d = d ≡ config (AttributeName tag name) t
-TextStands {B} x (WholeAttributeName tag k) t d = WholeAttribute B tag k t d
+TextStands x (WholeAttributeName tag k) t d = WholeAttribute ValueState tag k t d
 TextStands x (AfterAttributeName tag k) t d = d ≡ config (AfterAttributeName tag k) t
 TextStands x (BeforeAttributeValue tag k) t d = d ≡ config (BeforeAttributeValue tag k) t
 TextStands x (AttributeValue q tag v r) t d = StandsInValue x q tag v r t d

@@ -1,15 +1,18 @@
 -- What a page gets for the text of a template's node: the text, byte by byte as a path reads it, but for these. A comment is left out. A `<` that
 -- begins nothing, in text, a title or a textarea, becomes `&lt;`. An `&` with which a reference has begun becomes `&amp;` where the node ends
 -- in it, or a comment begins. What may still become one of these is pending back. A data block is written as it stands: there is no reference in
--- it, and a `<` in it is a byte of it.
+-- it, and a `<` in it is a byte of it. Of a style in its element a comment becomes a space, and what may begin its end tag is written when it is known
+-- to begin none, or with the end tag.
 use Rattle.std.specs.Prelude.{ℕ, Bool, true, false, codes, List, [], ◌∷◌, ◌++◌}
+use Rattle.css_lexer.specs.Urls.{urls}
+use Rattle.css_lexer.specs.Written.{style_written, style_written_at_cut}
 use Rattle.place_core.specs.page.Classes.{Class, White, ExclamationMark, Solidus, LessThan, GreaterThan, Letter, class_of}
 use Rattle.place_core.specs.page.Comments.{Declaration, OpensComment, OpensDoctype, Undecided, OpensNothing, declared_by}
-use Rattle.place_core.specs.page.Contents.{may_be_name_of, is_name_of}
+use Rattle.place_core.specs.page.Contents.{may_be_name_of, is_name_of, pending_bytes}
 use Rattle.place_core.specs.page.Html.{next, ends_value}
 use Rattle.place_core.specs.page.References.{Reference, Closed, Open, ReferenceStep, Grows, Closes, Breaks, turn, plain_bytes, as_it_stands}
-use Rattle.place_core.specs.page.States.{Template, LexState, Text, TagOpen, EndTagOpen, DeclarationOpen, InComment, BogusComment, InDoctype, TagName, WholeTagName, BeforeAttributeName, AttributeName, WholeAttributeName, AfterAttributeName, BeforeAttributeValue, AttributeValue, AfterAttributeValue, SelfClosingStartTag, Characters, Bytes, Pending, Nothing, PendingLess, PendingName, InContent, Unread}
-use Rattle.place_core.specs.page.Tags.{ValueLanguage}
+use Rattle.place_core.specs.page.States.{Template, LexState, Text, TagOpen, EndTagOpen, DeclarationOpen, InComment, BogusComment, InDoctype, TagName, WholeTagName, BeforeAttributeName, AttributeName, WholeAttributeName, AfterAttributeName, BeforeAttributeValue, AttributeValue, AfterAttributeValue, SelfClosingStartTag, Characters, Bytes, InLanguage, Pending, Nothing, PendingLess, LessAtCut, PendingName, PendingBang, PendingBangDash, InContent, Unread}
+use Rattle.place_core.specs.page.Tags.{Feeding, feed_bytes, language_feeding, ValueLanguage, ValueState, OfStyle}
 use Rattle.place_core.specs.declared.element.Element.{Element}
 
 -- the bytes of a reference that has begun, where it is to be text
@@ -76,28 +79,85 @@ content_out PendingLess c b e r = content_less_out c b
 content_out (PendingName letters) c b e r = end_name_out (may_be_name_of e (letters ++ b ∷ [])) (is_name_of e letters) c b letters
 content_out h c b e r = b ∷ []
 
+-- In the content of an element that a language reads: how bytes are fed to it, what is written of a byte, by the state before it, and what waits at the
+-- end of a node or of the content. The content of one path is written so, and that of all paths at a place together.
+pub record ContentWriting (S : Type 0) : Type 0 where
+  pub feeding : Feeding S
+  pub byte : S → ℕ → List ℕ
+  pub cut : S → List ℕ
+
+-- bytes that were pending back and have come to nothing, and the byte at hand behind them; a `<` is pending
+abbrev pub released_out : {S : Type 0} → ContentWriting S → S → List ℕ → List ℕ
+released_out w s [] = []
+released_out w s (b ∷ bs) = w.byte s b ++ released_out w (w.feeding.feed s b) bs
+
+abbrev pub language_loose_out : {S : Type 0} → ContentWriting S → Class → ℕ → S → List ℕ
+language_loose_out w LessThan b s = []
+language_loose_out w c b s = w.byte s b
+
+abbrev pub behind_released_out : {S : Type 0} → ContentWriting S → List ℕ → Class → ℕ → S → List ℕ
+behind_released_out w bytes c b s = released_out w s bytes ++ language_loose_out w c b (feed_bytes w.feeding s bytes)
+
+-- after `<`, and after `</` and letters: the end tag ends the content
+abbrev pub language_less_out : {S : Type 0} → ContentWriting S → Class → ℕ → S → List ℕ
+language_less_out w Solidus b s = []
+language_less_out w c b s = behind_released_out w (codes "<") c b s
+
+abbrev pub end_tag_out : {S : Type 0} → ContentWriting S → List ℕ → ℕ → S → List ℕ
+end_tag_out w letters b s = w.cut s ++ ((codes "</" ++ letters) ++ b ∷ [])
+
+abbrev pub language_name_out : {S : Type 0} → ContentWriting S → (grows whole : Bool) → Class → ℕ → List ℕ → S → List ℕ
+language_name_out w true whole (Letter l) b letters s = []
+language_name_out w grows true White b letters s = end_tag_out w letters b s
+language_name_out w grows true Solidus b letters s = end_tag_out w letters b s
+language_name_out w grows true GreaterThan b letters s = end_tag_out w letters b s
+language_name_out w grows whole c b letters s = behind_released_out w (codes "</" ++ letters) c b s
+
+abbrev pub language_content_out : {S : Type 0} → ContentWriting S → Pending → Class → ℕ → Element → S → List ℕ
+language_content_out w Nothing c b e s = language_loose_out w c b s
+language_content_out w PendingLess c b e s = language_less_out w c b s
+language_content_out w (PendingName letters) c b e s =
+    language_name_out w (may_be_name_of e (letters ++ b ∷ [])) (is_name_of e letters) c b letters s
+language_content_out w h c b e s = behind_released_out w (pending_bytes h) c b s
+
+abbrev pub language_content_cut_out : {S : Type 0} → ContentWriting S → Pending → S → List ℕ
+language_content_cut_out w h s = released_out w s (pending_bytes h) ++ w.cut (feed_bytes w.feeding s (pending_bytes h))
+
+-- of one path
+abbrev pub language_out : ValueState → ℕ → List ℕ
+language_out (OfStyle s) b = style_written urls s b
+language_out v b = b ∷ []
+
+abbrev pub language_cut_out : ValueState → List ℕ
+language_cut_out (OfStyle s) = style_written_at_cut s
+language_cut_out v = []
+
+abbrev pub path_writing : ValueLanguage ValueState → ContentWriting ValueState
+path_writing x = record { feeding = language_feeding x; byte = language_out; cut = language_cut_out }
+
 -- what is written when a byte is read
-abbrev pub out : {B : Type 0} → LexState B → Class → ℕ → List ℕ
-out (Text r) c b = text_out c b r
-out (TagOpen r) c b = less_out c b r
-out (EndTagOpen r) c b = solidus_out c b r
-out (DeclarationOpen r pending) c b = declaration_out (declared_by (pending ++ b ∷ [])) c b r pending
-out (InComment s) c b = []
-out BogusComment c b = b ∷ []
-out InDoctype c b = b ∷ []
-out (TagName ends name) c b = b ∷ []
-out (WholeTagName tag) c b = b ∷ []
-out (BeforeAttributeName tag) c b = b ∷ []
-out (AttributeName tag name) c b = b ∷ []
-out (WholeAttributeName tag k) c b = b ∷ []
-out (AfterAttributeName tag k) c b = b ∷ []
-out (BeforeAttributeValue tag k) c b = plain_bytes c b
-out (AttributeValue q tag v r) c b = value_out (ends_value q c) c b r
-out (AfterAttributeValue tag) c b = b ∷ []
-out (SelfClosingStartTag tag) c b = b ∷ []
-out (InContent e (Characters r) h) c b = content_out h c b e r
-out (InContent e Bytes h) c b = b ∷ []
-out Unread c b = b ∷ []
+abbrev pub out : ValueLanguage ValueState → LexState ValueState → Class → ℕ → List ℕ
+out x (Text r) c b = text_out c b r
+out x (TagOpen r) c b = less_out c b r
+out x (EndTagOpen r) c b = solidus_out c b r
+out x (DeclarationOpen r pending) c b = declaration_out (declared_by (pending ++ b ∷ [])) c b r pending
+out x (InComment s) c b = []
+out x BogusComment c b = b ∷ []
+out x InDoctype c b = b ∷ []
+out x (TagName ends name) c b = b ∷ []
+out x (WholeTagName tag) c b = b ∷ []
+out x (BeforeAttributeName tag) c b = b ∷ []
+out x (AttributeName tag name) c b = b ∷ []
+out x (WholeAttributeName tag k) c b = b ∷ []
+out x (AfterAttributeName tag k) c b = b ∷ []
+out x (BeforeAttributeValue tag k) c b = plain_bytes c b
+out x (AttributeValue q tag v r) c b = value_out (ends_value q c) c b r
+out x (AfterAttributeValue tag) c b = b ∷ []
+out x (SelfClosingStartTag tag) c b = b ∷ []
+out x (InContent e (Characters r) h) c b = content_out h c b e r
+out x (InContent e Bytes h) c b = b ∷ []
+out x (InContent e (InLanguage v) h) c b = language_content_out (path_writing x) h c b e v
+out x Unread c b = b ∷ []
 
 -- likewise, and where the node ends
 abbrev pub content_cut_out : Pending → Reference → List ℕ
@@ -106,29 +166,30 @@ content_cut_out PendingLess r = codes "&lt;"
 content_cut_out (PendingName letters) r = codes "&lt;" ++ (codes "/" ++ letters)
 content_cut_out h r = []
 
-abbrev pub cut_out : {B : Type 0} → LexState B → List ℕ
-cut_out (Text r) = text_escaped r
-cut_out (TagOpen r) = as_it_stands r ++ codes "&lt;"
-cut_out (EndTagOpen r) = (as_it_stands r ++ codes "&lt;") ++ codes "/"
-cut_out (DeclarationOpen r pending) = (as_it_stands r ++ codes "&lt;") ++ (codes "!" ++ pending)
-cut_out (InComment s) = []
-cut_out BogusComment = []
-cut_out InDoctype = []
-cut_out (TagName ends name) = []
-cut_out (WholeTagName tag) = []
-cut_out (BeforeAttributeName tag) = []
-cut_out (AttributeName tag name) = []
-cut_out (WholeAttributeName tag k) = []
-cut_out (AfterAttributeName tag k) = []
-cut_out (BeforeAttributeValue tag k) = []
-cut_out (AttributeValue q tag v r) = text_escaped r
-cut_out (AfterAttributeValue tag) = []
-cut_out (SelfClosingStartTag tag) = []
-cut_out (InContent e (Characters r) h) = content_cut_out h r
-cut_out (InContent e Bytes h) = []
-cut_out Unread = []
+abbrev pub cut_out : ValueLanguage ValueState → LexState ValueState → List ℕ
+cut_out x (Text r) = text_escaped r
+cut_out x (TagOpen r) = as_it_stands r ++ codes "&lt;"
+cut_out x (EndTagOpen r) = (as_it_stands r ++ codes "&lt;") ++ codes "/"
+cut_out x (DeclarationOpen r pending) = (as_it_stands r ++ codes "&lt;") ++ (codes "!" ++ pending)
+cut_out x (InComment s) = []
+cut_out x BogusComment = []
+cut_out x InDoctype = []
+cut_out x (TagName ends name) = []
+cut_out x (WholeTagName tag) = []
+cut_out x (BeforeAttributeName tag) = []
+cut_out x (AttributeName tag name) = []
+cut_out x (WholeAttributeName tag k) = []
+cut_out x (AfterAttributeName tag k) = []
+cut_out x (BeforeAttributeValue tag k) = []
+cut_out x (AttributeValue q tag v r) = text_escaped r
+cut_out x (AfterAttributeValue tag) = []
+cut_out x (SelfClosingStartTag tag) = []
+cut_out x (InContent e (Characters r) h) = content_cut_out h r
+cut_out x (InContent e Bytes h) = []
+cut_out x (InContent e (InLanguage v) h) = language_content_cut_out (path_writing x) h v
+cut_out x Unread = []
 
 -- what is written of the text of a node, from the state that its path has come to
-abbrev pub written : {B : Type 0} → ValueLanguage B → List ℕ → LexState B → List ℕ
-written x [] s = cut_out s
-written x (b ∷ bs) s = out s (class_of b) b ++ written x bs (next x Template s (class_of b) b)
+abbrev pub written : ValueLanguage ValueState → List ℕ → LexState ValueState → List ℕ
+written x [] s = cut_out x s
+written x (b ∷ bs) s = out x s (class_of b) b ++ written x bs (next x Template s (class_of b) b)

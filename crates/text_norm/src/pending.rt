@@ -1,11 +1,13 @@
 ghost use Rattle.std.specs.Prelude.{◌≡◌, ◌-◌, ◌≤◌, ℕ, List, length};
+ghost use Rattle.css_step.specs.StyleScanViews.{style_scan_at};
 ghost use Rattle.html_scan.specs.ScanViews.{scan_at, pending_from};
-ghost use Rattle.text_norm.specs.Kept.{content_change, ending_of, less_change, less_kept};
+ghost use Rattle.text_norm.specs.Kept.{comment_change, content_change, ending_of, less_change, less_kept, solidus_kept, style_change, style_ending};
 ghost use Rattle.text_norm.specs.Kept as spec;
 
 use crate::reference::Opened;
+use css_step::StyleScan;
 use html_scan::Scan;
-use place_core::{Element, Place};
+use place_core::{Css, Element, Place};
 
 /// How far a text has been read and written: the scan state to which it has been read, the reference that is open there, and the
 /// offset up to which what has been read has been written. The bytes from there on are pending.
@@ -27,6 +29,14 @@ pub enum Change {
     OpensComment,
     /// The byte is part of a comment, and is left out.
     LeavesOut,
+    /// The byte and the `/` before it begin a comment of a style, and are left out.
+    OpensStyleComment,
+    /// The byte ends a comment of a style, which becomes a space.
+    EndsStyleComment,
+    /// The byte is part of a comment of a style, or begins the end tag of the style: it is pending.
+    LeavesPending,
+    /// The pending end tag of a style ends its comment, which becomes a space.
+    EndsInStyleComment,
 }
 
 /// Where a text ends.
@@ -38,6 +48,10 @@ pub enum Ending {
     BehindLess,
     /// In a comment.
     InComment,
+    /// In a style, where all that is pending is written as it stands.
+    InStyle,
+    /// In a comment of a style, which becomes a space.
+    InStyleComment,
 }
 
 /// What becomes of a byte, by what has been read before it and with it.
@@ -56,7 +70,59 @@ pub fn change_of(before: Scan, after: Scan) -> Change
             ..
         } => Change::Keeps,
         Scan::AfterContentLess(_) | Scan::InContentName { .. } => after_content_less(after),
+        Scan::At(Place::Style(_))
+        | Scan::InStyleElement(_)
+        | Scan::AfterStyleLess(_)
+        | Scan::InStyleName { .. } => in_style(in_style_comment(before), after),
         _ => Change::Keeps,
+    }
+}
+
+// In the element `style`, where what stands before the byte is in a comment of the style, or not.
+fn in_style(before: bool, after: Scan) -> Change
+    ensures { (text : List ℕ) (k : ℕ) → result ≡ style_change before (scan_at text k after) }
+{
+    match after {
+        Scan::At(Place::Style(_)) | Scan::InStyleElement(_) => {
+            by_comment(before, in_style_comment(after))
+        }
+        Scan::AfterStyleLess(_) if before => Change::LeavesPending,
+        Scan::AfterStyleLess(_) | Scan::InStyleName { .. } => Change::Keeps,
+        _ if before => Change::EndsInStyleComment,
+        _ => Change::Keeps,
+    }
+}
+
+fn by_comment(before: bool, after: bool) -> Change
+    ensures { result ≡ comment_change before after }
+{
+    match (before, after) {
+        (true, true) => Change::LeavesOut,
+        (true, false) => Change::EndsStyleComment,
+        (false, true) => Change::OpensStyleComment,
+        (false, false) => Change::Keeps,
+    }
+}
+
+// Whether what has been read is in a comment of a style in its element.
+fn in_style_comment(scan: Scan) -> bool
+    ensures { (text : List ℕ) (k : ℕ) → result ≡ spec.in_style_comment (scan_at text k scan) }
+{
+    match scan {
+        Scan::At(Place::Style(Css::Comment(_))) => true,
+        Scan::InStyleElement(style)
+        | Scan::AfterStyleLess(style)
+        | Scan::InStyleName { style, .. } => is_comment(style),
+        _ => false,
+    }
+}
+
+fn is_comment(style: StyleScan) -> bool
+    ensures { result ≡ spec.is_style_comment (style_scan_at style) }
+{
+    match style {
+        StyleScan::Comment(_) | StyleScan::StarBefore => true,
+        _ => false,
     }
 }
 
@@ -95,11 +161,24 @@ pub fn ending_at(scan: Scan) -> Ending
         | Scan::InDeclaration { .. }
         | Scan::AfterContentLess(_)
         | Scan::InContentName { .. } => Ending::BehindLess,
+        Scan::At(Place::Style(_))
+        | Scan::InStyleElement(_)
+        | Scan::AfterStyleLess(_)
+        | Scan::InStyleName { .. } => style_end(in_style_comment(scan)),
         _ => Ending::Loose,
     }
 }
 
-/// The offset of the pending `<` after this many bytes, and this number itself where none is pending.
+fn style_end(in_comment: bool) -> Ending
+    ensures { result ≡ style_ending in_comment }
+{
+    if in_comment {
+        return Ending::InStyleComment;
+    }
+    Ending::InStyle
+}
+
+/// The offset of the pending `<` after this many bytes, or in a style of the pending `/`; and this number itself where none is pending.
 pub fn less_from(scan: Scan, index: usize) -> usize
     requires { pending_from scan ≤ index }
     ensures { (text : List ℕ) → index ≤ length text
@@ -115,6 +194,18 @@ pub fn less_from(scan: Scan, index: usize) -> usize
         Scan::AfterLessSolidus => index.saturating_sub(2),
         Scan::InDeclaration { from } => from.saturating_sub(2),
         Scan::InContentName { from, .. } => from,
+        Scan::InStyleElement(style) => style_from(style, index),
+        Scan::AfterStyleLess(style) => style_from(style, index.saturating_sub(1)),
+        Scan::InStyleName { style, from } => style_from(style, from),
+        _ => index,
+    }
+}
+
+fn style_from(style: StyleScan, index: usize) -> usize
+    ensures { result ≡ index - length (solidus_kept (style_scan_at style)) }
+{
+    match style {
+        StyleScan::Solidus => index.saturating_sub(1),
         _ => index,
     }
 }

@@ -149,12 +149,27 @@ fn stays(before: Scan, after: Scan) -> bool
     ensures { (text : List ℕ) (j k : ℕ) → result
         ≡ spec.stays (scan_at text j before) (scan_at text k after) }
 {
-    match (before, after) {
-        (Scan::At(Place::Text), Scan::AfterLess) => true,
-        (
-            Scan::AfterLess | Scan::InDeclaration { .. },
-            Scan::AfterLessSolidus | Scan::InDeclaration { .. },
-        ) => true,
+    match before {
+        Scan::At(Place::Text) => begins_less(after),
+        Scan::AfterLess | Scan::InDeclaration { .. } => goes_on_in_text(after),
+        _ => false,
+    }
+}
+
+fn begins_less(after: Scan) -> bool
+    ensures { (text : List ℕ) (k : ℕ) → result ≡ spec.begins_less (scan_at text k after) }
+{
+    match after {
+        Scan::AfterLess => true,
+        _ => false,
+    }
+}
+
+fn goes_on_in_text(after: Scan) -> bool
+    ensures { (text : List ℕ) (k : ℕ) → result ≡ spec.text_goes_on (scan_at text k after) }
+{
+    match after {
+        Scan::AfterLessSolidus | Scan::InDeclaration { .. } => true,
         _ => false,
     }
 }

@@ -15,7 +15,8 @@ use std::alloc::Global;
 ///
 /// - a comment is left out,
 /// - a `<` that begins nothing, in text, a title or a textarea, is written as `&lt;`,
-/// - an `&` with which a reference has begun is written as `&amp;` where the text ends in the reference, or a comment begins.
+/// - an `&` with which a reference has begun is written as `&amp;` where the text ends in the reference, or a comment begins,
+/// - in the element `style`, a comment is written as a space.
 ///
 /// So what comes after the text, or after the comment, goes on with none of these. A data block is written as it stands. (HTML Standard, section 13.2.5.) Fails only if
 /// allocation fails. Takes time in proportion to the length of the text.
@@ -83,6 +84,35 @@ fn write_byte(
             reference: None,
             done: index + 1,
         }),
+        Change::OpensStyleComment => {
+            push_run(out, text, progress.done, index - 1)?;
+            Ok(WriteProgress {
+                scan,
+                reference: None,
+                done: index + 1,
+            })
+        }
+        Change::EndsStyleComment => {
+            out.push_str(" ")?;
+            Ok(WriteProgress {
+                scan,
+                reference: None,
+                done: index + 1,
+            })
+        }
+        Change::LeavesPending => Ok(WriteProgress {
+            scan,
+            reference: None,
+            done: index,
+        }),
+        Change::EndsInStyleComment => {
+            out.push_str(" ")?;
+            Ok(WriteProgress {
+                scan,
+                reference: None,
+                done: progress.done,
+            })
+        }
     }
 }
 
@@ -116,6 +146,8 @@ fn write_end(out: &mut Text, text: &str, progress: WriteProgress) -> Result<(), 
 {
     match ending_at(progress.scan) {
         Ending::InComment => Ok(()),
+        Ending::InStyle => push_run(out, text, progress.done, text.len()),
+        Ending::InStyleComment => out.push_str(" "),
         Ending::BehindLess => {
             let less = less_from(progress.scan, text.len());
             push_less(out, text, progress.done, less)?;

@@ -1,14 +1,14 @@
--- The content of elements that holds no tags (HTML Standard, sections 13.2.5.2, 13.2.5.4, 13.2.5.9 to 13.2.5.11 and 13.2.5.15 to
--- 13.2.5.19): of title and textarea, which is text, and of data blocks, which is bytes. It goes up to the element's own end tag. A data
--- block has no escaped states here: a `<!--` in it is told, and changes nothing.
+-- The content of elements that holds no tags (HTML Standard, sections 13.2.5.2 to 13.2.5.4 and 13.2.5.9 to 13.2.5.19): of title and textarea, which is
+-- text, of data blocks, which is bytes, and of styles, which a language reads. It goes up to the element's own end tag, wherever in the language that
+-- stands. A data block has no escaped states here: a `<!--` in it is told, and changes nothing.
 use Rattle.std.specs.Prelude.{ℕ, Bool, true, false, codes, bytes_eq, nat_eq, List, [], ◌∷◌, ◌++◌}
 use Rattle.std.specs.List.{starts_with}
 use Rattle.std.specs.Str.{str_to_ascii_lowercase}
 use Rattle.place_core.specs.page.Classes.{Class, White, ExclamationMark, HyphenMinus, Solidus, LessThan, GreaterThan, Letter}
-use Rattle.place_core.specs.page.Events.{LexEvent, Escape, EndTagBegins, TagEnds, event_text_bytes, block_bytes, tag_name_bytes}
+use Rattle.place_core.specs.page.Events.{LexEvent, Escape, Mark, EndTagBegins, TagEnds, event_text_bytes, block_bytes, tag_name_bytes}
 use Rattle.place_core.specs.page.References.{Closed, next_reference, undone_byte, settled, as_it_stands}
-use Rattle.place_core.specs.page.States.{Content, Characters, Bytes, Pending, Nothing, PendingLess, LessAtCut, PendingName, PendingBang, PendingBangDash, LexState, Text, BeforeAttributeName, SelfClosingStartTag, InContent}
-use Rattle.place_core.specs.page.Tags.{end_tag}
+use Rattle.place_core.specs.page.States.{Content, Characters, Bytes, InLanguage, Pending, Nothing, PendingLess, LessAtCut, PendingName, PendingBang, PendingBangDash, LexState, Text, BeforeAttributeName, SelfClosingStartTag, InContent}
+use Rattle.place_core.specs.page.Tags.{end_tag, ValueLanguage, ValueOf, fed_state, emits_fed, emitted_hole}
 use Rattle.place_core.specs.declared.element.Element.{Element}
 use Rattle.place_core.specs.declared.element.Element.TheVariants as element
 
@@ -27,91 +27,108 @@ is_name_of e letters = bytes_eq (str_to_ascii_lowercase letters) (name_of e)
 abbrev pub may_be_name_of : Element → List ℕ → Bool
 may_be_name_of e letters = starts_with nat_eq (name_of e) (str_to_ascii_lowercase letters)
 
--- what is told of bytes of a content, and how it goes on after a byte and at a `<`
-abbrev pub content_bytes : Content → List ℕ → List LexEvent → List LexEvent
-content_bytes (Characters r) bytes t = event_text_bytes bytes t
-content_bytes Bytes bytes t = block_bytes bytes t
+-- Bytes of a content that were pending back and have come to nothing: what they make of it, and what is told of them.
+abbrev pub content_after : {B : Type 0} → ValueLanguage B → Content B → List ℕ → Content B
+content_after x (Characters r) bytes = Characters r
+content_after x Bytes bytes = Bytes
+content_after x (InLanguage v) bytes = InLanguage (fed_state x v bytes)
 
-abbrev pub next_content : Content → Class → ℕ → Content
-next_content (Characters r) c b = Characters (next_reference r c b)
-next_content Bytes c b = Bytes
+abbrev pub content_bytes : {B : Type 0} → ValueLanguage B → Content B → List ℕ → List LexEvent → List LexEvent
+content_bytes x (Characters r) bytes t = event_text_bytes bytes t
+content_bytes x Bytes bytes t = block_bytes bytes t
+content_bytes x (InLanguage v) bytes t = emits_fed x v bytes t
 
-abbrev pub emits_content : Content → Class → ℕ → List LexEvent → List LexEvent
-emits_content (Characters r) c b t = event_text_bytes (undone_byte false r c b) t
-emits_content Bytes c b t = block_bytes (b ∷ []) t
+-- how it goes on after a byte, after a `<`, which is pending back, and what the end of the content tells
+abbrev pub next_content : {B : Type 0} → ValueLanguage B → Content B → Class → ℕ → Content B
+next_content x (Characters r) c b = Characters (next_reference r c b)
+next_content x Bytes c b = Bytes
+next_content x (InLanguage v) c b = InLanguage (x.feed v b)
 
-abbrev pub closed_content : Content → Content
+abbrev pub emits_content : {B : Type 0} → ValueLanguage B → Content B → Class → ℕ → List LexEvent → List LexEvent
+emits_content x (Characters r) c b t = event_text_bytes (undone_byte false r c b) t
+emits_content x Bytes c b t = block_bytes (b ∷ []) t
+emits_content x (InLanguage v) c b t = x.emits v b t
+
+abbrev pub closed_content : {B : Type 0} → Content B → Content B
 closed_content (Characters r) = Characters Closed
 closed_content Bytes = Bytes
+closed_content (InLanguage v) = InLanguage v
 
-abbrev pub emits_closed : Content → List LexEvent → List LexEvent
+abbrev pub emits_closed : {B : Type 0} → Content B → List LexEvent → List LexEvent
 emits_closed (Characters r) t = event_text_bytes (settled false r) t
 emits_closed Bytes t = t
+emits_closed (InLanguage v) t = t
+
+abbrev pub content_ends : {B : Type 0} → ValueLanguage B → Content B → List LexEvent → List LexEvent
+content_ends x (Characters r) t = t
+content_ends x Bytes t = t
+content_ends x (InLanguage v) t = x.ends v t
 
 -- a byte where nothing is pending back
-abbrev pub next_loose : {B : Type 0} → Class → ℕ → Element → Content → LexState B
-next_loose LessThan b e x = InContent e (closed_content x) PendingLess
-next_loose c b e x = InContent e (next_content x c b) Nothing
+abbrev pub next_loose : {B : Type 0} → ValueLanguage B → Class → ℕ → Element → Content B → LexState B
+next_loose x LessThan b e y = InContent e (closed_content y) PendingLess
+next_loose x c b e y = InContent e (next_content x y c b) Nothing
 
-abbrev pub emits_loose : Class → ℕ → Content → List LexEvent → List LexEvent
-emits_loose LessThan b x t = emits_closed x t
-emits_loose c b x t = emits_content x c b t
+abbrev pub emits_loose : {B : Type 0} → ValueLanguage B → Class → ℕ → Content B → List LexEvent → List LexEvent
+emits_loose x LessThan b y t = emits_closed y t
+emits_loose x c b y t = emits_content x y c b t
 
 -- after `<`; only a data block has `<!`
-abbrev pub next_less : {B : Type 0} → Class → ℕ → Element → Content → LexState B
-next_less Solidus b e x = InContent e x (PendingName [])
-next_less ExclamationMark b e Bytes = InContent e Bytes PendingBang
-next_less c b e x = next_loose c b e x
+abbrev pub next_less : {B : Type 0} → ValueLanguage B → Class → ℕ → Element → Content B → LexState B
+next_less x Solidus b e y = InContent e y (PendingName [])
+next_less x ExclamationMark b e Bytes = InContent e Bytes PendingBang
+next_less x c b e y = next_loose x c b e (content_after x y (codes "<"))
 
-abbrev pub emits_less : Class → ℕ → Content → List LexEvent → List LexEvent
-emits_less Solidus b x t = t
-emits_less ExclamationMark b Bytes t = t
-emits_less c b x t = emits_loose c b x (content_bytes x (codes "<") t)
+abbrev pub emits_less : {B : Type 0} → ValueLanguage B → Class → ℕ → Content B → List LexEvent → List LexEvent
+emits_less x Solidus b y t = t
+emits_less x ExclamationMark b Bytes t = t
+emits_less x c b y t = emits_loose x c b (content_after x y (codes "<")) (content_bytes x y (codes "<") t)
 
 -- after `</` and letters: whether the byte goes on with the element's name, and whether they are all of it
-abbrev pub next_end_name : {B : Type 0} → Bool → Bool → Class → ℕ → Element → Content → List ℕ → LexState B
-next_end_name true whole (Letter l) b e x letters = InContent e x (PendingName (letters ++ b ∷ []))
-next_end_name grows true White b e x letters = BeforeAttributeName end_tag
-next_end_name grows true Solidus b e x letters = SelfClosingStartTag end_tag
-next_end_name grows true GreaterThan b e x letters = Text Closed
-next_end_name grows whole c b e x letters = next_loose c b e x
+abbrev pub next_end_name : {B : Type 0} → ValueLanguage B → Bool → Bool → Class → ℕ → Element → Content B → List ℕ → LexState B
+next_end_name x true whole (Letter l) b e y letters = InContent e y (PendingName (letters ++ b ∷ []))
+next_end_name x grows true White b e y letters = BeforeAttributeName end_tag
+next_end_name x grows true Solidus b e y letters = SelfClosingStartTag end_tag
+next_end_name x grows true GreaterThan b e y letters = Text Closed
+next_end_name x grows whole c b e y letters = next_loose x c b e (content_after x y (codes "</" ++ letters))
 
-abbrev pub emits_end_name : Bool → Bool → Class → ℕ → Content → List ℕ → List LexEvent → List LexEvent
-emits_end_name true whole (Letter l) b x letters t = t
-emits_end_name grows true White b x letters t = tag_name_bytes letters (EndTagBegins ∷ t)
-emits_end_name grows true Solidus b x letters t = tag_name_bytes letters (EndTagBegins ∷ t)
-emits_end_name grows true GreaterThan b x letters t = TagEnds false ∷ tag_name_bytes letters (EndTagBegins ∷ t)
-emits_end_name grows whole c b x letters t = emits_loose c b x (content_bytes x (codes "</" ++ letters) t)
+abbrev pub emits_end_name : {B : Type 0} → ValueLanguage B → Bool → Bool → Class → ℕ → Content B → List ℕ → List LexEvent → List LexEvent
+emits_end_name x true whole (Letter l) b y letters t = t
+emits_end_name x grows true White b y letters t = tag_name_bytes letters (EndTagBegins ∷ content_ends x y t)
+emits_end_name x grows true Solidus b y letters t = tag_name_bytes letters (EndTagBegins ∷ content_ends x y t)
+emits_end_name x grows true GreaterThan b y letters t = TagEnds false ∷ tag_name_bytes letters (EndTagBegins ∷ content_ends x y t)
+emits_end_name x grows whole c b y letters t =
+    emits_loose x c b (content_after x y (codes "</" ++ letters)) (content_bytes x y (codes "</" ++ letters) t)
 
 -- after `<!` and `<!-` of a data block
-abbrev pub next_bang : {B : Type 0} → Class → ℕ → Element → Content → LexState B
-next_bang HyphenMinus b e x = InContent e x PendingBangDash
-next_bang c b e x = next_loose c b e x
+abbrev pub next_bang : {B : Type 0} → ValueLanguage B → Class → ℕ → Element → Content B → LexState B
+next_bang x HyphenMinus b e y = InContent e y PendingBangDash
+next_bang x c b e y = next_loose x c b e (content_after x y (codes "<!"))
 
-abbrev pub emits_bang : Class → ℕ → Content → List LexEvent → List LexEvent
-emits_bang HyphenMinus b x t = t
-emits_bang c b x t = emits_loose c b x (content_bytes x (codes "<!") t)
+abbrev pub emits_bang : {B : Type 0} → ValueLanguage B → Class → ℕ → Content B → List LexEvent → List LexEvent
+emits_bang x HyphenMinus b y t = t
+emits_bang x c b y t = emits_loose x c b (content_after x y (codes "<!")) (content_bytes x y (codes "<!") t)
 
-abbrev pub emits_bang_dash : Class → ℕ → Content → List LexEvent → List LexEvent
-emits_bang_dash HyphenMinus b x t = Escape ∷ content_bytes x (codes "<!--") t
-emits_bang_dash c b x t = emits_loose c b x (content_bytes x (codes "<!-") t)
+abbrev pub emits_bang_dash : {B : Type 0} → ValueLanguage B → Class → ℕ → Content B → List LexEvent → List LexEvent
+emits_bang_dash x HyphenMinus b y t = Escape ∷ content_bytes x y (codes "<!--") t
+emits_bang_dash x c b y t = emits_loose x c b (content_after x y (codes "<!-")) (content_bytes x y (codes "<!-") t)
 
 -- a byte in such a content
-abbrev pub next_in_content : {B : Type 0} → Pending → Class → ℕ → Element → Content → LexState B
-next_in_content Nothing c b e x = next_loose c b e x
-next_in_content PendingLess c b e x = next_less c b e x
-next_in_content LessAtCut c b e x = next_loose c b e x
-next_in_content (PendingName letters) c b e x = next_end_name (may_be_name_of e (letters ++ b ∷ [])) (is_name_of e letters) c b e x letters
-next_in_content PendingBang c b e x = next_bang c b e x
-next_in_content PendingBangDash c b e x = next_loose c b e x
+abbrev pub next_in_content : {B : Type 0} → ValueLanguage B → Pending → Class → ℕ → Element → Content B → LexState B
+next_in_content x Nothing c b e y = next_loose x c b e y
+next_in_content x PendingLess c b e y = next_less x c b e y
+next_in_content x LessAtCut c b e y = next_loose x c b e (content_after x y (codes "<"))
+next_in_content x (PendingName letters) c b e y = next_end_name x (may_be_name_of e (letters ++ b ∷ [])) (is_name_of e letters) c b e y letters
+next_in_content x PendingBang c b e y = next_bang x c b e y
+next_in_content x PendingBangDash c b e y = next_loose x c b e (content_after x y (codes "<!-"))
 
-abbrev pub emits_in_content : Pending → Class → ℕ → Element → Content → List LexEvent → List LexEvent
-emits_in_content Nothing c b e x t = emits_loose c b x t
-emits_in_content PendingLess c b e x t = emits_less c b x t
-emits_in_content LessAtCut c b e x t = emits_loose c b x (content_bytes x (codes "<") t)
-emits_in_content (PendingName letters) c b e x t = emits_end_name (may_be_name_of e (letters ++ b ∷ [])) (is_name_of e letters) c b x letters t
-emits_in_content PendingBang c b e x t = emits_bang c b x t
-emits_in_content PendingBangDash c b e x t = emits_bang_dash c b x t
+abbrev pub emits_in_content : {B : Type 0} → ValueLanguage B → Pending → Class → ℕ → Element → Content B → List LexEvent → List LexEvent
+emits_in_content x Nothing c b e y t = emits_loose x c b y t
+emits_in_content x PendingLess c b e y t = emits_less x c b y t
+emits_in_content x LessAtCut c b e y t = emits_loose x c b (content_after x y (codes "<")) (content_bytes x y (codes "<") t)
+emits_in_content x (PendingName letters) c b e y t = emits_end_name x (may_be_name_of e (letters ++ b ∷ [])) (is_name_of e letters) c b y letters t
+emits_in_content x PendingBang c b e y t = emits_bang x c b y t
+emits_in_content x PendingBangDash c b e y t = emits_bang_dash x c b y t
 
 -- the bytes that are pending back
 abbrev pub pending_bytes : Pending → List ℕ
@@ -123,8 +140,14 @@ pending_bytes PendingBang = codes "<!"
 pending_bytes PendingBangDash = codes "<!-"
 
 -- A node's end: in a title or a textarea what is pending back is text. In a data block a `<` stays pending, since no byte of it is written
--- otherwise; what else is pending there is refused, and is bytes.
-abbrev pub pending_at_cut : Content → Pending → Pending
+-- otherwise; what else is pending there is refused, and is bytes. A language is fed what is pending, and remembers of it what the next text may
+-- not go on with.
+abbrev pub content_at_cut : {B : Type 0} → ValueLanguage B → Content B → Pending → Content B
+content_at_cut x (Characters r) h = Characters Closed
+content_at_cut x Bytes h = Bytes
+content_at_cut x (InLanguage v) h = InLanguage (x.after_cut (fed_state x v (pending_bytes h)))
+
+abbrev pub pending_at_cut : {B : Type 0} → Content B → Pending → Pending
 pending_at_cut (Characters r) h = Nothing
 pending_at_cut Bytes Nothing = Nothing
 pending_at_cut Bytes PendingLess = LessAtCut
@@ -132,9 +155,37 @@ pending_at_cut Bytes LessAtCut = LessAtCut
 pending_at_cut Bytes (PendingName letters) = Nothing
 pending_at_cut Bytes PendingBang = Nothing
 pending_at_cut Bytes PendingBangDash = Nothing
+pending_at_cut (InLanguage v) h = Nothing
 
-abbrev pub emits_content_cut : Content → Pending → List LexEvent → List LexEvent
-emits_content_cut (Characters r) h t = event_text_bytes (pending_bytes h) (event_text_bytes (as_it_stands r) t)
-emits_content_cut Bytes PendingLess t = t
-emits_content_cut Bytes LessAtCut t = t
-emits_content_cut Bytes h t = block_bytes (pending_bytes h) t
+abbrev pub emits_content_cut : {B : Type 0} → ValueLanguage B → Content B → Pending → List LexEvent → List LexEvent
+emits_content_cut x (Characters r) h t = event_text_bytes (pending_bytes h) (event_text_bytes (as_it_stands r) t)
+emits_content_cut x Bytes PendingLess t = t
+emits_content_cut x Bytes LessAtCut t = t
+emits_content_cut x Bytes h t = block_bytes (pending_bytes h) t
+emits_content_cut x (InLanguage v) h t = emits_fed x v (pending_bytes h) t
+
+-- A hole: a language is fed what is pending first, and then it settles, as in a value; elsewhere nothing is told before the mark.
+abbrev pub content_at_hole : {B : Type 0} → ValueLanguage B → Element → Content B → Pending → LexState B
+content_at_hole x e (Characters r) h = InContent e (Characters r) h
+content_at_hole x e Bytes h = InContent e Bytes h
+content_at_hole x e (InLanguage v) h = InContent e (InLanguage (x.after_hole (fed_state x v (pending_bytes h)))) Nothing
+
+abbrev pub emits_content_hole : {B : Type 0} → ValueLanguage B → Content B → Pending → List LexEvent → List LexEvent
+emits_content_hole x (Characters r) h t = Mark ∷ t
+emits_content_hole x Bytes h t = Mark ∷ t
+emits_content_hole x (InLanguage v) h t = emitted_hole x (ValueOf (fed_state x v (pending_bytes h))) (emits_fed x v (pending_bytes h) t)
+
+abbrev pub settled_content : {B : Type 0} → ValueLanguage B → Element → Content B → Pending → LexState B
+settled_content x e (Characters r) h = InContent e (Characters r) h
+settled_content x e Bytes h = InContent e Bytes h
+settled_content x e (InLanguage v) h = InContent e (InLanguage (x.settled (fed_state x v (pending_bytes h)))) Nothing
+
+abbrev pub emits_settled_content : {B : Type 0} → ValueLanguage B → Content B → Pending → List LexEvent → List LexEvent
+emits_settled_content x (Characters r) h t = t
+emits_settled_content x Bytes h t = t
+emits_settled_content x (InLanguage v) h t = x.emits_settled (fed_state x v (pending_bytes h)) (emits_fed x v (pending_bytes h) t)
+
+-- the content of a page behind the bytes of a hole, by what they have made of it, and by what it was before them
+abbrev pub content_behind : {B : Type 0} → ValueLanguage B → Content B → Content B → Content B
+content_behind x (InLanguage w) (InLanguage v) = InLanguage (x.behind v w)
+content_behind x after before = after

@@ -34,7 +34,7 @@ pub data LexEvent : Type 0 where
   DoctypeBegins : LexEvent
   DoctypeByte : ℕ → LexEvent
   DoctypeEnds : LexEvent
-  -- a byte of what is not read yet: the content of scripts and styles
+  -- a byte of what is not read yet: the content of scripts
   UnreadByte : ℕ → LexEvent
 
 -- Events are told the last first: of two such calls, one in the other, the inner one is told before.

@@ -1,7 +1,7 @@
 -- How the bytes of a page are read, and the texts of a template (HTML Standard, section 13.2.5): text, comments, doctypes, tags, the values of
--- attributes, and the content of title, textarea and data blocks. The content of scripts and styles is not read yet: it is one state, Unread,
--- out of which nothing leads; nor is it said here what the end of a page tells: of what is pending back there, and inside a tag, a comment or a doctype. NUL, CR and CR LF are
--- bytes like others. The language of the values is a parameter.
+-- attributes, and the content of title, textarea, data blocks and styles. The content of scripts is not read yet: it is one state, Unread, out of
+-- which nothing leads; nor is it said here what the end of a page tells: of what is pending back there, and inside a tag, a comment or a doctype. NUL,
+-- CR and CR LF are bytes like others. The language of the values and of styles is a parameter.
 use Rattle.std.specs.Prelude.{ℕ, Bool, true, false, codes, List, [], ◌∷◌, ◌++◌}
 use Rattle.std.specs.Char.{to_ascii_lowercase}
 use Rattle.place_core.specs.page.Classes.{Class, White, ExclamationMark, QuotationMark, Apostrophe, Solidus, LessThan, EqualsSign, GreaterThan, QuestionMark, Letter, class_of}
@@ -9,27 +9,28 @@ use Rattle.place_core.specs.page.Comments.{Declaration, OpensComment, OpensDocty
 use Rattle.place_core.specs.page.Contents.{next_in_content, emits_in_content}
 use Rattle.place_core.specs.page.Events.{LexEvent, StartTagBegins, EndTagBegins, TagNameByte, AttributeBegins, AttributeNameByte, AttributeNameEnds, TagEnds, Comment, DoctypeBegins, UnreadByte, event_text_bytes, doctype_bytes}
 use Rattle.place_core.specs.page.References.{Reference, Closed, next_reference, undone_byte, settled, as_it_stands}
-use Rattle.place_core.specs.page.States.{LexMode, Page, Template, LexState, Text, TagOpen, EndTagOpen, DeclarationOpen, InComment, Started, BogusComment, InDoctype, TagName, WholeTagName, BeforeAttributeName, AttributeName, WholeAttributeName, AfterAttributeName, BeforeAttributeValue, AttributeValue, AfterAttributeValue, SelfClosingStartTag, InContent, Characters, Bytes, Nothing, Unread, Config, config}
+use Rattle.place_core.specs.page.States.{LexMode, Page, Template, LexState, Text, TagOpen, EndTagOpen, DeclarationOpen, InComment, Started, BogusComment, InDoctype, TagName, WholeTagName, BeforeAttributeName, AttributeName, WholeAttributeName, AfterAttributeName, BeforeAttributeValue, AttributeValue, AfterAttributeValue, SelfClosingStartTag, InContent, Characters, Bytes, InLanguage, Nothing, Unread, Config, config}
 use Rattle.place_core.specs.page.Tags.{Tag, tag_of_name, tag_named, element_on, Value, ValueLanguage, languages, attribute_value_of, with_bytes, emitted_bytes, emitted_end, tag_with_value, without_value, Quoting, DoubleQuoted, SingleQuoted, Unquoted, ValueState}
 use Rattle.place_core.specs.page.Words.{kind_of}
 use Rattle.place_core.specs.declared.element.Element.{Element}
 use Rattle.place_core.specs.declared.element.Element.TheVariants as element
 use Rattle.place_core.specs.declared.kind.Kind.{Kind}
+use Rattle.place_core.specs.declared.kind.Kind.TheVariants as kind
 use Rattle.place_core.specs.declared.tag_of.TagOf.{TagOf}
 use Rattle.place_core.specs.declared.tag_of.TagOf.TheVariants as tag_of
 
 -- the content of the element after a tag
-abbrev pub content_of : {B : Type 0} → Element → LexState B
-content_of element.Title = InContent element.Title (Characters Closed) Nothing
-content_of element.Textarea = InContent element.Textarea (Characters Closed) Nothing
-content_of element.DataBlock = InContent element.DataBlock Bytes Nothing
-content_of element.Script = Unread
-content_of element.Style = Unread
-content_of element.Other = Text Closed
+abbrev pub content_of : {B : Type 0} → ValueLanguage B → Element → LexState B
+content_of x element.Title = InContent element.Title (Characters Closed) Nothing
+content_of x element.Textarea = InContent element.Textarea (Characters Closed) Nothing
+content_of x element.DataBlock = InContent element.DataBlock Bytes Nothing
+content_of x element.Script = Unread
+content_of x element.Style = InContent element.Style (InLanguage (x.start kind.Style)) Nothing
+content_of x element.Other = Text Closed
 
-abbrev pub after_tag : {B : Type 0} → TagOf → LexState B
-after_tag tag_of.End = Text Closed
-after_tag (tag_of.Start e) = content_of e
+abbrev pub after_tag : {B : Type 0} → ValueLanguage B → TagOf → LexState B
+after_tag x tag_of.End = Text Closed
+after_tag x (tag_of.Start e) = content_of x e
 
 -- Text.
 
@@ -92,11 +93,11 @@ emits_declaration OpensNothing m c b r pending t = emits_bogus m (codes "<!" ++ 
 
 -- Tags.
 
-abbrev pub next_tag_name : {B : Type 0} → Class → ℕ → Bool → List ℕ → LexState B
-next_tag_name White b ends name = BeforeAttributeName (tag_named ends name)
-next_tag_name Solidus b ends name = SelfClosingStartTag (tag_named ends name)
-next_tag_name GreaterThan b ends name = after_tag (tag_of_name ends name)
-next_tag_name c b ends name = TagName ends (name ++ to_ascii_lowercase b ∷ [])
+abbrev pub next_tag_name : {B : Type 0} → ValueLanguage B → Class → ℕ → Bool → List ℕ → LexState B
+next_tag_name x White b ends name = BeforeAttributeName (tag_named ends name)
+next_tag_name x Solidus b ends name = SelfClosingStartTag (tag_named ends name)
+next_tag_name x GreaterThan b ends name = after_tag x (tag_of_name ends name)
+next_tag_name x c b ends name = TagName ends (name ++ to_ascii_lowercase b ∷ [])
 
 abbrev pub emits_tag_name : Class → ℕ → List LexEvent → List LexEvent
 emits_tag_name White b t = t
@@ -105,11 +106,11 @@ emits_tag_name GreaterThan b t = TagEnds false ∷ t
 emits_tag_name c b t = TagNameByte (to_ascii_lowercase b) ∷ t
 
 -- before the name of an attribute, also after a quoted value
-abbrev pub next_before_name : {B : Type 0} → Class → ℕ → Tag → LexState B
-next_before_name White b tag = BeforeAttributeName tag
-next_before_name Solidus b tag = SelfClosingStartTag tag
-next_before_name GreaterThan b tag = after_tag tag.tag
-next_before_name c b tag = AttributeName tag (to_ascii_lowercase b ∷ [])
+abbrev pub next_before_name : {B : Type 0} → ValueLanguage B → Class → ℕ → Tag → LexState B
+next_before_name x White b tag = BeforeAttributeName tag
+next_before_name x Solidus b tag = SelfClosingStartTag tag
+next_before_name x GreaterThan b tag = after_tag x tag.tag
+next_before_name x c b tag = AttributeName tag (to_ascii_lowercase b ∷ [])
 
 abbrev pub emits_before_name : Class → ℕ → List LexEvent → List LexEvent
 emits_before_name White b t = t
@@ -118,12 +119,12 @@ emits_before_name GreaterThan b t = TagEnds false ∷ t
 emits_before_name c b t = AttributeNameByte (to_ascii_lowercase b) ∷ AttributeBegins ∷ t
 
 -- in the name of an attribute, which has this kind if it ends here
-abbrev pub next_name : {B : Type 0} → Class → ℕ → Tag → Kind → List ℕ → LexState B
-next_name White b tag k name = AfterAttributeName tag k
-next_name Solidus b tag k name = SelfClosingStartTag (without_value tag k)
-next_name GreaterThan b tag k name = after_tag (without_value tag k).tag
-next_name EqualsSign b tag k name = BeforeAttributeValue tag k
-next_name c b tag k name = AttributeName tag (name ++ to_ascii_lowercase b ∷ [])
+abbrev pub next_name : {B : Type 0} → ValueLanguage B → Class → ℕ → Tag → Kind → List ℕ → LexState B
+next_name x White b tag k name = AfterAttributeName tag k
+next_name x Solidus b tag k name = SelfClosingStartTag (without_value tag k)
+next_name x GreaterThan b tag k name = after_tag x (without_value tag k).tag
+next_name x EqualsSign b tag k name = BeforeAttributeValue tag k
+next_name x c b tag k name = AttributeName tag (name ++ to_ascii_lowercase b ∷ [])
 
 abbrev pub emits_name : Class → ℕ → Kind → List LexEvent → List LexEvent
 emits_name White b k t = AttributeNameEnds k ∷ t
@@ -132,10 +133,10 @@ emits_name GreaterThan b k t = TagEnds false ∷ AttributeNameEnds k ∷ t
 emits_name EqualsSign b k t = AttributeNameEnds k ∷ t
 emits_name c b k t = AttributeNameByte (to_ascii_lowercase b) ∷ t
 
-abbrev pub next_after_name : {B : Type 0} → Class → ℕ → Tag → Kind → LexState B
-next_after_name White b tag k = AfterAttributeName tag k
-next_after_name EqualsSign b tag k = BeforeAttributeValue tag k
-next_after_name c b tag k = next_before_name c b (without_value tag k)
+abbrev pub next_after_name : {B : Type 0} → ValueLanguage B → Class → ℕ → Tag → Kind → LexState B
+next_after_name x White b tag k = AfterAttributeName tag k
+next_after_name x EqualsSign b tag k = BeforeAttributeValue tag k
+next_after_name x c b tag k = next_before_name x c b (without_value tag k)
 
 abbrev pub emits_after_name : Class → ℕ → List LexEvent → List LexEvent
 emits_after_name EqualsSign b t = t
@@ -161,16 +162,16 @@ ends_value Unquoted White = true
 ends_value Unquoted GreaterThan = true
 ends_value q c = false
 
-abbrev pub next_after_value : {B : Type 0} → Quoting → Class → ℕ → Tag → LexState B
-next_after_value Unquoted c b tag = next_before_name c b tag
-next_after_value q c b tag = AfterAttributeValue tag
+abbrev pub next_after_value : {B : Type 0} → ValueLanguage B → Quoting → Class → ℕ → Tag → LexState B
+next_after_value x Unquoted c b tag = next_before_name x c b tag
+next_after_value x q c b tag = AfterAttributeValue tag
 
 abbrev pub emits_after_value : Quoting → Class → ℕ → List LexEvent → List LexEvent
 emits_after_value Unquoted c b t = emits_before_name c b t
 emits_after_value q c b t = t
 
 abbrev pub next_value : {B : Type 0} → ValueLanguage B → Bool → Quoting → Class → ℕ → Tag → Value B → Reference → LexState B
-next_value x true q c b tag v r = next_after_value q c b (tag_with_value tag (with_bytes x v (settled true r)))
+next_value x true q c b tag v r = next_after_value x q c b (tag_with_value tag (with_bytes x v (settled true r)))
 next_value x false q c b tag v r = AttributeValue q tag (with_bytes x v (undone_byte true r c b)) (next_reference r c b)
 
 abbrev pub emits_value : {B : Type 0} → ValueLanguage B → Bool → Quoting → Class → ℕ → Value B → Reference → List LexEvent → List LexEvent
@@ -181,7 +182,7 @@ abbrev pub next_before_value : {B : Type 0} → ValueLanguage B → Class → �
 next_before_value x White b tag k = BeforeAttributeValue tag k
 next_before_value x QuotationMark b tag k = AttributeValue DoubleQuoted tag (attribute_value_of x k) Closed
 next_before_value x Apostrophe b tag k = AttributeValue SingleQuoted tag (attribute_value_of x k) Closed
-next_before_value x GreaterThan b tag k = after_tag (without_value tag k).tag
+next_before_value x GreaterThan b tag k = after_tag x (without_value tag k).tag
 next_before_value x c b tag k = next_value x false Unquoted c b tag (attribute_value_of x k) Closed
 
 abbrev pub emits_before_value : {B : Type 0} → ValueLanguage B → Class → ℕ → Kind → List LexEvent → List LexEvent
@@ -201,17 +202,17 @@ next x m (DeclarationOpen r pending) c b = next_declaration (declared_by (pendin
 next x m (InComment s) c b = next_in_comment c s
 next x m BogusComment c b = next_in_bogus c
 next x m InDoctype c b = next_in_doctype c
-next x m (TagName ends name) c b = next_tag_name c b ends name
-next x m (WholeTagName tag) c b = next_before_name c b tag
-next x m (BeforeAttributeName tag) c b = next_before_name c b tag
-next x m (AttributeName tag name) c b = next_name c b tag (kind_of (element_on tag.tag) name) name
-next x m (WholeAttributeName tag k) c b = next_after_name c b tag k
-next x m (AfterAttributeName tag k) c b = next_after_name c b tag k
+next x m (TagName ends name) c b = next_tag_name x c b ends name
+next x m (WholeTagName tag) c b = next_before_name x c b tag
+next x m (BeforeAttributeName tag) c b = next_before_name x c b tag
+next x m (AttributeName tag name) c b = next_name x c b tag (kind_of (element_on tag.tag) name) name
+next x m (WholeAttributeName tag k) c b = next_after_name x c b tag k
+next x m (AfterAttributeName tag k) c b = next_after_name x c b tag k
 next x m (BeforeAttributeValue tag k) c b = next_before_value x c b tag k
 next x m (AttributeValue q tag v r) c b = next_value x (ends_value q c) q c b tag v r
-next x m (AfterAttributeValue tag) c b = next_before_name c b tag
-next x m (SelfClosingStartTag tag) c b = next_before_name c b tag
-next x m (InContent e y h) c b = next_in_content h c b e y
+next x m (AfterAttributeValue tag) c b = next_before_name x c b tag
+next x m (SelfClosingStartTag tag) c b = next_before_name x c b tag
+next x m (InContent e y h) c b = next_in_content x h c b e y
 next x m Unread c b = Unread
 
 abbrev pub emits : {B : Type 0} → ValueLanguage B → LexMode → LexState B → Class → ℕ → List LexEvent → List LexEvent
@@ -232,7 +233,7 @@ emits x m (BeforeAttributeValue tag k) c b t = emits_before_value x c b k t
 emits x m (AttributeValue q tag v r) c b t = emits_value x (ends_value q c) q c b v r t
 emits x m (AfterAttributeValue tag) c b t = emits_before_name c b t
 emits x m (SelfClosingStartTag tag) c b t = emits_self_closing c b t
-emits x m (InContent e y h) c b t = emits_in_content h c b e y t
+emits x m (InContent e y h) c b t = emits_in_content x h c b e y t
 emits x m Unread c b t = UnreadByte b ∷ t
 
 abbrev pub byte_over : {B : Type 0} → ValueLanguage B → LexMode → ℕ → Config B → Config B

@@ -1,7 +1,7 @@
 -- How a path of a template is read: its texts, node by node, and its holes as symbols, without any data.
 use Rattle.std.specs.Prelude.{ℕ, false, codes, List, [], ◌∷◌, ◌++◌}
 use Rattle.place_core.specs.page.Comments.{comment_broken_off}
-use Rattle.place_core.specs.page.Contents.{closed_content, pending_at_cut, emits_content_cut}
+use Rattle.place_core.specs.page.Contents.{content_at_cut, pending_at_cut, emits_content_cut, content_at_hole, emits_content_hole}
 use Rattle.place_core.specs.page.Events.{LexEvent, Mark, AttributeBegins, event_text_bytes}
 use Rattle.place_core.specs.page.Html.{read_over}
 use Rattle.place_core.specs.page.References.{Closed, settled, as_it_stands}
@@ -35,7 +35,7 @@ at_cut x (BeforeAttributeValue tag k) = BeforeAttributeValue tag k
 at_cut x (AttributeValue q tag v r) = AttributeValue q tag (cut_value x (with_bytes x v (as_it_stands r))) Closed
 at_cut x (AfterAttributeValue tag) = AfterAttributeValue tag
 at_cut x (SelfClosingStartTag tag) = SelfClosingStartTag tag
-at_cut x (InContent e y h) = InContent e (closed_content y) (pending_at_cut y h)
+at_cut x (InContent e y h) = InContent e (content_at_cut x y h) (pending_at_cut y h)
 at_cut x Unread = Unread
 
 abbrev pub emits_cut : {B : Type 0} → ValueLanguage B → LexState B → List LexEvent → List LexEvent
@@ -56,7 +56,7 @@ emits_cut x (BeforeAttributeValue tag k) t = t
 emits_cut x (AttributeValue q tag v r) t = emitted_bytes x v (as_it_stands r) t
 emits_cut x (AfterAttributeValue tag) t = t
 emits_cut x (SelfClosingStartTag tag) t = t
-emits_cut x (InContent e y h) t = emits_content_cut y h t
+emits_cut x (InContent e y h) t = emits_content_cut x y h t
 emits_cut x Unread t = t
 
 abbrev pub cut : {B : Type 0} → ValueLanguage B → Config B → Config B
@@ -86,11 +86,11 @@ at_hole x (BeforeAttributeValue tag k) = AttributeValue Unquoted tag (holed_valu
 at_hole x (AttributeValue q tag v r) = AttributeValue q tag (holed_value x v) r
 at_hole x (AfterAttributeValue tag) = WholeAttributeName tag kind.Plain
 at_hole x (SelfClosingStartTag tag) = WholeAttributeName tag kind.Plain
-at_hole x (InContent e y h) = InContent e y h
+at_hole x (InContent e y h) = content_at_hole x e y h
 at_hole x Unread = Unread
 
--- what a hole tells in its place: its mark in the text, value or content that is open there, after what a value has pending back, or in a name that
--- begins with it; in a comment nothing, since no part of a page stands for it
+-- what a hole tells in its place: its mark in the text, value or content that is open there, after what a value or a style has pending back, or in a
+-- name that begins with it; in a comment nothing, since nothing of a comment is told
 abbrev pub mark_in : {B : Type 0} → ValueLanguage B → LexState B → List LexEvent → List LexEvent
 mark_in x (Text r) t = Mark ∷ t
 mark_in x (TagOpen r) t = t
@@ -109,7 +109,7 @@ mark_in x (BeforeAttributeValue tag k) t = emitted_hole x (attribute_value_of x 
 mark_in x (AttributeValue q tag v r) t = emitted_hole x v t
 mark_in x (AfterAttributeValue tag) t = Mark ∷ AttributeBegins ∷ t
 mark_in x (SelfClosingStartTag tag) t = Mark ∷ AttributeBegins ∷ t
-mark_in x (InContent e y h) t = Mark ∷ t
+mark_in x (InContent e y h) t = emits_content_hole x y h t
 mark_in x Unread t = t
 
 abbrev pub read_symbol : {B : Type 0} → ValueLanguage B → Symbol → Config B → Config B

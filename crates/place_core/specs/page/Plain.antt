@@ -1,13 +1,15 @@
 -- When the bytes of a hole are plain in their place: they lie in one token, no reference lies partly in them, and they begin and end nothing else.
-use Rattle.std.specs.Prelude.{⊤, ◌≡◌, ◌≢◌, ℕ, Bool, true, false, not, IsTrue, List, [], ◌∷◌}
+use Rattle.std.specs.Prelude.{⊤, ◌≡◌, ◌≢◌, ℕ, ◌==◌, Bool, true, false, not, IsTrue, List, [], ◌∷◌}
 use Rattle.std.specs.Char.{is_ascii_alphanumeric, is_ascii_whitespace}
 use Rattle.std.specs.List.{list_all}
 use Rattle.std.specs.Str.{str_to_ascii_lowercase}
+use Rattle.css_lexer.specs.States.{AfterLessThan, Out}
+use Rattle.place_core.specs.page.Contents.{settled_content, emits_settled_content}
 use Rattle.place_core.specs.page.Events.{LexEvent, TextByte, BlockByte, AttributeBegins, attribute_name_bytes, value_bytes}
 use Rattle.place_core.specs.page.Html.{read}
 use Rattle.place_core.specs.page.References.{Reference, Closed}
-use Rattle.place_core.specs.page.States.{Page, LexState, Text, BeforeAttributeName, AfterAttributeName, AfterAttributeValue, SelfClosingStartTag, AttributeName, BeforeAttributeValue, AttributeValue, Content, Characters, Bytes, Pending, Nothing, InContent, Config, config}
-use Rattle.place_core.specs.page.Tags.{Tag, Value, ValueOf, Deciding, Quoting, Unquoted, attribute_value_of, without_value, ValueLanguage, settled_value, emitted_settled, languages, ValueState, OfKind, OfUrl, OfStyle}
+use Rattle.place_core.specs.page.States.{Page, LexState, Text, BeforeAttributeName, AfterAttributeName, AfterAttributeValue, SelfClosingStartTag, AttributeName, BeforeAttributeValue, AttributeValue, Content, Characters, Bytes, InLanguage, Pending, Nothing, InContent, Config, config}
+use Rattle.place_core.specs.page.Tags.{Tag, Value, ValueOf, Deciding, Quoting, Unquoted, attribute_value_of, without_value, ValueLanguage, settled_value, emitted_settled, fed_state, emits_fed, languages, ValueState, OfKind, OfUrl, OfStyle}
 use Rattle.place_core.specs.page.Words.{is_special}
 use Rattle.place_core.specs.declared.element.Element.{Element}
 use Rattle.place_core.specs.declared.kind.Kind.{Kind}
@@ -76,18 +78,37 @@ abbrev pub WhereClosed : Reference → Type 0 → Type 0
 WhereClosed Closed fact = fact
 WhereClosed _ fact = ⊥
 
--- in a title or a textarea, and in a data block, where nothing is pending back
-abbrev pub IsPlainContent : Pending → Content → Element → Config ValueState → Type 0
-IsPlainContent Nothing (Characters r) e d = WhereClosed r ((d.at ≡ InContent e (Characters Closed) Nothing) × IsTrue (only_text d.emitted))
-IsPlainContent Nothing Bytes e d = (d.at ≡ InContent e Bytes Nothing) × IsTrue (only_block d.emitted)
-IsPlainContent _ x e d = ⊥
+-- In an element, whether the style stands right behind a `<`. A hole without bytes may stand between that and the bytes at hand: they are read
+-- alike before and after it, but a `/` would be part of the end tag.
+abbrev pub is_behind_less : ValueState → Bool
+is_behind_less (OfStyle (Out AfterLessThan)) = true
+is_behind_less v = false
+
+abbrev pub begins_with_solidus : List ℕ → Bool
+begins_with_solidus [] = false
+begins_with_solidus (b ∷ bs) = b == 47
+
+-- The bytes lie in the content of an element that is read by a language: it reads all of them, and nothing else does; nothing of them is pending at
+-- their end; and in it they are plain.
+pub record IsPlainInContent (v : ValueState) (e : Element) (bytes : List ℕ) (d : Config ValueState) : Type 0 where
+  pub within : d.at ≡ InContent e (InLanguage (fed_state languages v bytes)) Nothing
+  pub emitted : d.emitted ≡ emits_fed languages v bytes []
+  pub begins : is_behind_less v ≡ true → begins_with_solidus bytes ≡ false
+  pub leads : languages.LeadsPlain v bytes (fed_state languages v bytes)
+
+-- in a title or a textarea, in a data block, and in a language, where nothing is pending back
+abbrev pub IsPlainContent : Pending → Content ValueState → Element → List ℕ → Config ValueState → Type 0
+IsPlainContent Nothing (Characters r) e bytes d = WhereClosed r ((d.at ≡ InContent e (Characters Closed) Nothing) × IsTrue (only_text d.emitted))
+IsPlainContent Nothing Bytes e bytes d = (d.at ≡ InContent e Bytes Nothing) × IsTrue (only_block d.emitted)
+IsPlainContent Nothing (InLanguage v) e bytes d = IsPlainInContent v e bytes d
+IsPlainContent _ y e bytes d = ⊥
 
 -- Bytes that read from this state, with nothing told, to `d` are plain there. In text, title, textarea and data block they are bytes of that very
--- text; in a value of that value; in a tag they are one whole name. In the other states none are plain, nor are bytes at whose beginning
+-- text; in a value and in a style of that value and that style; in a tag they are one whole name. In the other states none are plain, nor are bytes at whose beginning
 -- or end the lexer holds something back, even where it could come to nothing (`</` before an `x`, in a title), nor a whole `<!--` in a data block.
 abbrev pub IsPlainFrom : LexState ValueState → List ℕ → Config ValueState → Type 0
 IsPlainFrom (Text r) bytes d = WhereClosed r ((d.at ≡ Text Closed) × IsTrue (only_text d.emitted))
-IsPlainFrom (InContent e x h) bytes d = IsPlainContent h x e d
+IsPlainFrom (InContent e y h) bytes d = IsPlainContent h y e bytes d
 IsPlainFrom (BeforeAttributeName tag) bytes d = IsPlainName tag bytes d
 IsPlainFrom (AfterAttributeName tag k) bytes d = IsPlainName (without_value tag k) bytes d
 IsPlainFrom (AfterAttributeValue tag) bytes d = IsPlainName tag bytes d
@@ -96,20 +117,23 @@ IsPlainFrom (BeforeAttributeValue tag k) bytes d = IsPlainBefore k tag bytes d
 IsPlainFrom (AttributeValue q tag v r) bytes d = WhereClosed r (IsPlainValue v q tag bytes d)
 IsPlainFrom _ bytes d = ⊥
 
--- Where a hole begins, what the language of a value still holds back is told first. The other states need no such telling: where they hold
--- something back no hole is plain.
+-- Where a hole begins, what is pending back in an element that a language reads is told first, and then what the language still holds back, as in a
+-- value. The other states need no such telling: where they hold something back no hole is plain.
 abbrev pub settled_state : {B : Type 0} → ValueLanguage B → LexState B → LexState B
 settled_state x (AttributeValue q tag v r) = AttributeValue q tag (settled_value x v) r
+settled_state x (InContent e y h) = settled_content x e y h
 settled_state x s = s
 
 abbrev pub emits_settled_state : {B : Type 0} → ValueLanguage B → LexState B → List LexEvent → List LexEvent
 emits_settled_state x (AttributeValue q tag v r) t = emitted_settled x v t
+emits_settled_state x (InContent e y h) t = emits_settled_content x y h t
 emits_settled_state x s t = t
 
 abbrev pub settled_config : {B : Type 0} → ValueLanguage B → Config B → Config B
 settled_config x c = config (settled_state x c.at) (emits_settled_state x c.at c.emitted)
 
--- Plain in its place, and no token of what stands before lies partly in it. No bytes lie in none.
+-- Plain in its place, and no token of what stands before lies partly in it. No bytes lie in none: a `<` before them stays a `<`, since text behind
+-- them that begins with a `/` is refused, and no bytes of another hole that do are plain.
 abbrev pub IsPlain : List ℕ → Config ValueState → Type 0
 IsPlain bytes c =
     (bytes ≢ [] → read Page bytes c ≡ read Page bytes (settled_config languages c))

@@ -1,13 +1,14 @@
 -- The shape of a page: what it reads as, with a mark for each hole whose bytes are plain in their place.
 use Rattle.std.specs.Prelude.{◌≡◌, ℕ, List, [], ◌∷◌, ◌++◌, reverse, Option, Some, None, ◌⊎◌}
+use Rattle.place_core.specs.page.Contents.{content_behind}
 use Rattle.place_core.specs.page.Events.{LexEvent, TextByte, Mark, StartTagBegins, EndTagBegins, TagEnds, Comment}
 use Rattle.place_core.specs.page.Html.{read, read_over}
 use Rattle.place_core.specs.page.Paths.{mark_in}
 use Rattle.place_core.specs.page.Plain.{settled_state, IsPlain}
-use Rattle.place_core.specs.page.States.{Page, LexState, BeforeAttributeValue, AttributeValue, Config, config}
+use Rattle.place_core.specs.page.States.{Page, LexState, BeforeAttributeValue, AttributeValue, Content, Bytes, InContent, Config, config}
 use Rattle.place_core.specs.page.Tags.{ValueLanguage, Value, attribute_value_of, value_behind, languages, ValueState}
 
--- a part of a page: bytes of a text, or bytes of a hole; a hole in a comment has no part
+-- a part of a page: bytes of a text, or bytes of a hole; a hole in a comment of HTML has no part
 pub data ShapePart : Type 0 where
   TextPart : List ℕ → ShapePart
   HolePart : List ℕ → ShapePart
@@ -18,16 +19,22 @@ event_bytes [] = []
 event_bytes (TextPart bytes ∷ parts) = bytes ++ event_bytes parts
 event_bytes (HolePart bytes ∷ parts) = bytes ++ event_bytes parts
 
--- The bytes of a hole are passed over: the reading goes on where they end, and has told the mark instead of them; in a value the language says
--- what of them it still knows. A mark needs no number: the order of the marks gives it. After a name the next byte of the page says whether the
+-- The bytes of a hole are passed over: the reading goes on where they end, and has told the mark instead of them; in a value and in a style the
+-- language says what of them it still knows. A mark needs no number: the order of the marks gives it. After a name the next byte of the page says whether the
 -- name is the hole alone: any more of it is told.
 abbrev pub open_value : {B : Type 0} → ValueLanguage B → LexState B → Option (Value B)
 open_value x (AttributeValue q tag v r) = Some v
 open_value x (BeforeAttributeValue tag k) = Some (attribute_value_of x k)
 open_value x s = None
 
+-- the content that is open there; outside of one it does not matter what it is
+abbrev pub open_content : {B : Type 0} → LexState B → Content B
+open_content (InContent e y h) = y
+open_content s = Bytes
+
 abbrev pub state_past_hole : {B : Type 0} → ValueLanguage B → LexState B → LexState B → LexState B
 state_past_hole x before (AttributeValue q tag v r) = AttributeValue q tag (value_behind x (open_value x before) v) r
+state_past_hole x before (InContent e y h) = InContent e (content_behind x y (open_content before)) h
 state_past_hole x before after = after
 
 abbrev pub marked_over : {B : Type 0} → ValueLanguage B → List ℕ → Config B → Config B

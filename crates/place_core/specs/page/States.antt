@@ -24,10 +24,11 @@ pub data CommentState : Type 0 where
   Bang : CommentState
   Broken : CommentState
 
--- how the content of an element is read that holds no tags: as text with references, or as bytes
-pub data Content : Type 0 where
-  Characters : Reference → Content
-  Bytes : Content
+-- how the content of an element is read that holds no tags: as text with references, as bytes, or by a language, which is in this state
+pub data Content (B : Type 0) : Type 0 where
+  Characters : Reference → Content B
+  Bytes : Content B
+  InLanguage : B → Content B
 
 -- what is pending back in such a content, since it may begin the end tag, or in a data block a `<!--`: nothing, `<` (less-than sign state), `</`
 -- and letters that may become the element's name (end tag open and end tag name states), `<!` and `<!-` (escape start states); and on a path a
@@ -67,9 +68,10 @@ pub data LexState (B : Type 0) : Type 0 where
   AttributeValue : Quoting → Tag → Value B → Reference → LexState B
   AfterAttributeValue : Tag → LexState B
   SelfClosingStartTag : Tag → LexState B
-  -- in the content of a title or a textarea (RCDATA states), and of a data block (script data states), with what is pending back
-  InContent : Element → Content → Pending → LexState B
-  -- in the content of a script or a style
+  -- in the content of a title or a textarea (RCDATA states), of a data block (script data states), and of a style (RAWTEXT states), with what is
+  -- pending back
+  InContent : Element → Content B → Pending → LexState B
+  -- in the content of a script
   Unread : LexState B
 
 -- where the reading stands, and the events so far, the last first

@@ -1,10 +1,12 @@
 -- What the lexer of HTML remembers of the tag that it reads, and of the value in it.
 use Rattle.std.specs.Prelude.{◌≡◌, ℕ, Bool, true, false, ◌||◌, bytes_eq, codes, List, [], ◌∷◌, ◌++◌, Option, Some, None, option_map, if◌then◌else◌, IsTrue}
 use Rattle.css_lexer.specs.Alike.{StylesAlike}
+use Rattle.css_lexer.specs.Elements.{refuses_less_than_cut}
 use Rattle.css_lexer.specs.Paths as styles
 use Rattle.css_lexer.specs.Paths.{style_after_cut, style_settled, style_emits_settled, style_after_hole, style_behind}
 use Rattle.css_lexer.specs.Plain.{StyleLeadsPlain, MayBePlain, tells_plain}
 use Rattle.css_lexer.specs.RefusalCodes as style
+use Rattle.css_lexer.specs.RefusalCodes.{StyleCutRefusal}
 use Rattle.css_lexer.specs.Refusals.{style_refuses, style_refuses_cut}
 use Rattle.css_lexer.specs.States.{Style, style_start}
 use Rattle.css_lexer.specs.Steps.{feed_style, style_emits, style_ends, read_style, style_reading}
@@ -60,12 +62,20 @@ abbrev pub is_start : TagOf → Bool
 is_start tag.End = false
 is_start (tag.Start e) = true
 
--- A language of values: how the bytes of a value are read, with references undone. `start` is its state where a value of a kind begins.
+-- Why the end of a node is refused, how many bytes before it that stands, and how many before it the lexeme begins in which it stands.
+pub record CutRefusal : Type 0 where
+  pub code : Code
+  pub back : ℕ
+  pub shown : ℕ
+
+-- A language of values, and of the content of elements: how the bytes of a value are read, with references undone, and those of a content. `start` is
+-- its state where a value of a kind, or such a content, begins.
 -- - A byte leads to the state `feed` and tells `emits`; in the text of a template it may be refused (`refuses`). Where `refuses_names` says so,
---   a reference by a name that stands for no character is refused there. The end of the value tells `ends`.
--- - The end of a node leads a path to the state `after_cut`, where it is not refused (`refuses_cut`).
--- - A hole: what is pending back before it is told first (`emits_settled`), which leads to the state `settled`. It has a mark unless no part of a page
---   stands for it (`has_mark`). It leads a path to the state `after_hole`, and a page to the state `behind`, by the state before the bytes of the
+--   a reference by a name that stands for no character is refused there. The end of the value, or of the content, tells `ends`.
+-- - The end of a node leads a path to the state `after_cut`, where it is not refused (`refuses_cut`). In the content of an element it may stand behind
+--   a `<`: by the state before that, `refuses_less` says whether the `<` may not be cut from what follows, with which it may be an end tag.
+-- - A hole: what is pending back before it is told first (`emits_settled`), which leads to the state `settled`. It has a mark unless nothing of it is
+--   told there (`has_mark`). It leads a path to the state `after_hole`, and a page to the state `behind`, by the state before the bytes of the
 --   hole and the one after them. `LeadsPlain` says that these bytes, of which the value has such, are plain, and lead from the one to the other.
 -- - A page that stands for a path is in a state that is alike (`AreAlike`): so it tells the same of the bytes that follow.
 pub record ValueLanguage (B : Type 0) : Type 1 where
@@ -77,6 +87,7 @@ pub record ValueLanguage (B : Type 0) : Type 1 where
   pub ends : B → List LexEvent → List LexEvent
   pub after_cut : B → B
   pub refuses_cut : B → Option Code
+  pub refuses_less : B → Option CutRefusal
   pub settled : B → B
   pub emits_settled : B → List LexEvent → List LexEvent
   pub has_mark : B → Bool
@@ -147,6 +158,15 @@ refuses_value_cut (OfKind k) = None
 refuses_value_cut (OfUrl u) = option_map (λ e. refusal_code e.refusal) (url_refuses_cut u)
 refuses_value_cut (OfStyle s) = option_map (λ e. style_code e.code) (style_refuses_cut urls s)
 
+-- A `<` that ends a node in the element: a style says where it may not. Of what is no style no element consists.
+abbrev pub style_cut : StyleCutRefusal → CutRefusal
+style_cut e = record { code = style_code e.code; back = e.back; shown = e.shown }
+
+abbrev pub refuses_value_less : ValueState → Option CutRefusal
+refuses_value_less (OfKind k) = None
+refuses_value_less (OfUrl u) = None
+refuses_value_less (OfStyle s) = option_map style_cut (refuses_less_than_cut urls s)
+
 -- where a hole begins, a style tells a `/` that is pending; in a comment of a style a hole has no mark
 abbrev pub value_settled : ValueState → ValueState
 value_settled (OfStyle s) = OfStyle (style_settled s)
@@ -201,6 +221,7 @@ languages = record {
   ends = ends_state;
   after_cut = value_after_cut;
   refuses_cut = refuses_value_cut;
+  refuses_less = refuses_value_less;
   settled = value_settled;
   emits_settled = emits_value_settled;
   has_mark = value_has_mark;
@@ -230,6 +251,17 @@ pub record Feeding (S : Type 0) : Type 0 where
 abbrev pub feed_bytes : {S : Type 0} → Feeding S → S → List ℕ → S
 feed_bytes m s [] = s
 feed_bytes m s (b ∷ bs) = feed_bytes m (m.feed s b) bs
+
+-- the content of an element, which is in a language: the state after bytes, and what they tell
+abbrev pub language_feeding : {B : Type 0} → ValueLanguage B → Feeding B
+language_feeding x = record { feed = x.feed; refuses = x.refuses; refuses_names = x.refuses_names }
+
+abbrev pub fed_state : {B : Type 0} → ValueLanguage B → B → List ℕ → B
+fed_state x v bytes = feed_bytes (language_feeding x) v bytes
+
+abbrev pub emits_fed : {B : Type 0} → ValueLanguage B → B → List ℕ → List LexEvent → List LexEvent
+emits_fed x v [] t = t
+emits_fed x v (b ∷ bs) t = emits_fed x (x.feed v b) bs (x.emits v b t)
 
 abbrev pub with_byte : {B : Type 0} → ValueLanguage B → Value B → ℕ → Value B
 with_byte x (ValueOf v) b = ValueOf (x.feed v b)

@@ -1,14 +1,15 @@
 -- Where a text of a template is refused, and by which code: the conditions that stand on the places of paths, byte by byte, at the end of a
 -- node and at a hole. The checks of a byte have one order, whether one path stands at a place or several do.
-use Rattle.std.specs.Prelude.{◌≡◌, ℕ, zero, suc, ◌+◌, ◌-◌, ◌==◌, bytes_eq, encode_utf8, Bool, true, false, ◌&&◌, ◌||◌, List, [], ◌∷◌, length, Option, Some, None, if◌then◌else◌}
-use Rattle.place_core.specs.page.Classes.{Class, White, ExclamationMark, QuotationMark, Apostrophe, HyphenMinus, Solidus, LessThan, EqualsSign, GreaterThan, GraveAccent, is_equals_sign, class_of}
+use Rattle.std.specs.Prelude.{◌≡◌, ℕ, zero, suc, ◌+◌, ◌-◌, ◌==◌, bytes_eq, encode_utf8, Bool, true, false, ◌&&◌, ◌||◌, codes, List, [], ◌∷◌, ◌++◌, length, Option, Some, None, option_map, if◌then◌else◌}
+use Rattle.place_core.specs.page.Classes.{Class, White, ExclamationMark, QuotationMark, Apostrophe, HyphenMinus, Solidus, LessThan, EqualsSign, GreaterThan, GraveAccent, Letter, is_equals_sign, class_of}
+use Rattle.place_core.specs.page.Contents.{is_name_of, may_be_name_of, pending_bytes}
 use Rattle.place_core.specs.page.Html.{next, ends_value}
 use Rattle.place_core.specs.page.Paths.{at_cut}
 use Rattle.place_core.specs.page.References.{Form, Named, Reference, Closed, Open, ReferenceStep, Grows, Closes, Breaks, turn, names, named_in, replacement, meaning, flushed, plain_bytes, settled, as_it_stands}
 use Rattle.place_core.specs.place.LastLexeme.{last_lexeme_start, language_reference}
 use Rattle.place_core.specs.place.StatePlaces.{placed, value_spot, value_body, tag_spot, only_name, only_before, only_inside, only_after, quotes_at}
-use Rattle.place_core.specs.page.States.{Template, LexState, Text, TagOpen, EndTagOpen, DeclarationOpen, InComment, Broken, CommentState, BogusComment, InDoctype, TagName, WholeTagName, BeforeAttributeName, AttributeName, WholeAttributeName, AfterAttributeName, BeforeAttributeValue, AttributeValue, AfterAttributeValue, SelfClosingStartTag, Characters, Bytes, Pending, Nothing, PendingLess, LessAtCut, PendingName, PendingBang, PendingBangDash, InContent, Unread}
-use Rattle.place_core.specs.page.Tags.{Tag, is_second_type, Value, attribute_value_of, ValueOf, Deciding, ValueLanguage, with_bytes, Feeding, feeding, feed_bytes, refuses_cut_of, cut_value, tag_with_value, ValueState, languages, tag_of_name, element_on}
+use Rattle.place_core.specs.page.States.{Template, LexState, Text, TagOpen, EndTagOpen, DeclarationOpen, InComment, Broken, CommentState, BogusComment, InDoctype, TagName, WholeTagName, BeforeAttributeName, AttributeName, WholeAttributeName, AfterAttributeName, BeforeAttributeValue, AttributeValue, AfterAttributeValue, SelfClosingStartTag, Characters, Bytes, InLanguage, Pending, Nothing, PendingLess, LessAtCut, PendingName, PendingBang, PendingBangDash, InContent, Unread}
+use Rattle.place_core.specs.page.Tags.{Tag, is_second_type, Value, attribute_value_of, ValueOf, Deciding, ValueLanguage, CutRefusal, with_bytes, Feeding, feeding, language_feeding, feed_bytes, fed_state, refuses_cut_of, cut_value, tag_with_value, ValueState, languages, tag_of_name, element_on}
 use Rattle.place_core.specs.page.Words.{kind_of}
 use Rattle.place_core.specs.declared.bare.Bare.{Bare}
 use Rattle.place_core.specs.declared.body.Body.{Body}
@@ -17,6 +18,7 @@ use Rattle.place_core.specs.declared.code.Code.{Code}
 use Rattle.place_core.specs.declared.code.Code.TheVariants as code
 use Rattle.place_core.specs.declared.css.Css.{Css}
 use Rattle.place_core.specs.declared.css.Css.TheVariants as css
+use Rattle.place_core.specs.declared.element.Element.{Element}
 use Rattle.place_core.specs.declared.element.Element.TheVariants as element
 use Rattle.place_core.specs.declared.kind.Kind.{Kind}
 use Rattle.place_core.specs.declared.kind.Kind.TheVariants as kind
@@ -30,12 +32,12 @@ use Rattle.place_core.specs.declared.tag_of.TagOf.TheVariants as tag
 use Rattle.place_core.specs.declared.tag_place.TagPlace.{TagPlace}
 use Rattle.place_core.specs.declared.value_place.ValuePlace.{ValuePlace}
 
--- What is not built yet: a tag that ends and enters the content of a script or a style, and values that are scripts.
+-- What is not built yet: a tag that ends and enters the content of a script, and values that are scripts.
 abbrev pub content_error : TagOf → Option Code
 content_error tag.End = None
 content_error (tag.Start element.Title) = None
 content_error (tag.Start element.Textarea) = None
-content_error (tag.Start element.Style) = Some code.NotBuilt
+content_error (tag.Start element.Style) = None
 content_error (tag.Start element.Script) = Some code.NotBuilt
 content_error (tag.Start element.DataBlock) = None
 content_error (tag.Start element.Other) = None
@@ -111,7 +113,7 @@ block_error true Solidus = Some code.SplitToken
 block_error true ExclamationMark = Some code.SplitToken
 block_error lt c = None
 
--- a byte at a place, but for what the language of a value refuses
+-- a byte at a place, but for what the language of a value or of a style refuses
 abbrev pub place_error : Place → Class → Option Code
 place_error place.Text c = None
 place_error place.Doctype c = None
@@ -120,7 +122,7 @@ place_error (place.Rcdata e) c = None
 place_error (place.Tag t) c = tag_error t c
 place_error (place.Value v) c = value_error v c
 place_error (place.Script js) c = Some code.NotBuilt
-place_error (place.Style s) c = Some code.NotBuilt
+place_error (place.Style s) c = None
 place_error (place.Block lt) c = block_error lt c
 
 -- A cause stands at the byte at hand, or that many bytes of the text before it (`back`). The place that is shown for it is the one before the
@@ -224,6 +226,50 @@ first_byte_error m s Apostrophe b = None
 first_byte_error m s GreaterThan b = None
 first_byte_error m s c b = fed_error m s (plain_bytes c b) false 0
 
+-- In the content of an element that is read by a language: what it refuses of the pending bytes that come to nothing at a byte, each at its own
+-- place, and then of the byte at hand. A `<` is not read yet, but pending.
+abbrev pub loose_byte_error : {S : Type 0} → Feeding S → S → Class → ℕ → Option Code
+loose_byte_error m s LessThan b = None
+loose_byte_error m s c b = m.refuses s b
+
+abbrev pub pending_error : {S : Type 0} → Feeding S → S → List ℕ → Option PathCause
+pending_error m s bytes = fed_error m s bytes true (length bytes)
+
+abbrev pub released_error : {S : Type 0} → Feeding S → S → List ℕ → Class → ℕ → Option PathCause
+released_error m s bytes c b = first_cause (pending_error m s bytes) (at_hand (loose_byte_error m (feed_bytes m s bytes) c b))
+
+-- after `<`, and after `</` and letters; of what the end tag goes on with, and of its end, nothing is refused
+abbrev pub less_error : {S : Type 0} → Feeding S → S → Class → ℕ → Option PathCause
+less_error m s Solidus b = None
+less_error m s c b = released_error m s (codes "<") c b
+
+abbrev pub end_name_error : {S : Type 0} → Feeding S → S → (grows whole : Bool) → Class → ℕ → List ℕ → Option PathCause
+end_name_error m s true whole (Letter l) b letters = None
+end_name_error m s grows true White b letters = None
+end_name_error m s grows true Solidus b letters = None
+end_name_error m s grows true GreaterThan b letters = None
+end_name_error m s grows whole c b letters = released_error m s (codes "</" ++ letters) c b
+
+abbrev pub content_byte_error : {S : Type 0} → Feeding S → Element → S → Pending → Class → ℕ → Option PathCause
+content_byte_error m e s Nothing c b = at_hand (loose_byte_error m s c b)
+content_byte_error m e s PendingLess c b = less_error m s c b
+content_byte_error m e s LessAtCut c b = released_error m s (codes "<") c b
+content_byte_error m e s (PendingName letters) c b = end_name_error m s (may_be_name_of e (letters ++ b ∷ [])) (is_name_of e letters) c b letters
+content_byte_error m e s PendingBang c b = released_error m s (codes "<!") c b
+content_byte_error m e s PendingBangDash c b = released_error m s (codes "<!-") c b
+
+-- The end of a node there: the pending bytes, each at its own place; then a `<` that the language may not cut from what follows (`refuses_less`, by
+-- the state before it), and more of the end tag.
+abbrev pub split_error : {S : Type 0} → (refuses_less : S → Option PathCause) → S → Pending → Option PathCause
+split_error refuses_less s PendingLess = refuses_less s
+split_error refuses_less s h = block_cut_error h
+
+abbrev pub content_end_cut_error : {S : Type 0} → Feeding S → (refuses_less : S → Option PathCause) → S → Pending → Option PathCause
+content_end_cut_error m refuses_less s h = first_cause (pending_error m s (pending_bytes h)) (split_error refuses_less s h)
+
+abbrev pub cut_cause : CutRefusal → PathCause
+cut_cause e = record { code = e.code; back = e.back; shown = e.shown }
+
 -- the tag where a value ends
 abbrev pub ending_tag : {B : Type 0} → ValueLanguage B → Tag → Value B → Reference → Tag
 ending_tag x t v r = tag_with_value t (with_bytes x v (settled true r))
@@ -255,6 +301,7 @@ byte_error (AfterAttributeValue t) c b = at_hand (tag_error (tag_spot t only_bef
 byte_error (SelfClosingStartTag t) c b = at_hand (tag_error (tag_spot t only_before None) c)
 byte_error (InContent e (Characters r) h) c b = None
 byte_error (InContent e Bytes h) c b = block_byte_error h c
+byte_error (InContent e (InLanguage v) h) c b = content_byte_error (language_feeding languages) e v h c b
 byte_error Unread c b = at_hand (Some code.NotBuilt)
 
 -- A node that ends: a second `type`, the value of a type, and in a data block what its end tag begins with.
@@ -287,11 +334,13 @@ cut_error (AfterAttributeValue t) = None
 cut_error (SelfClosingStartTag t) = None
 cut_error (InContent e (Characters r) h) = None
 cut_error (InContent e Bytes h) = block_cut_error h
+cut_error (InContent e (InLanguage v) h) = content_end_cut_error (language_feeding languages) (λ s. option_map cut_cause (languages.refuses_less s)) v h
 cut_error Unread = None
 
--- What the language of a value refuses at the end of a node, as a lexeme that has begun.
+-- What the language of a value or a content refuses at the end of a node, as a lexeme that has begun.
 abbrev pub lexeme_error : LexState ValueState → Option Code
 lexeme_error (AttributeValue q t v r) = refuses_cut_of languages (with_bytes languages v (as_it_stands r))
+lexeme_error (InContent e (InLanguage v) h) = languages.refuses_cut (fed_state languages v (pending_bytes h))
 lexeme_error s = None
 
 -- Where a value of data may not stand: in a name, which it would go on with, and where it would decide how the page is read; in a URL behind a
@@ -300,7 +349,7 @@ abbrev pub url_hole_error : Bool → Option Code
 url_hole_error true = Some code.BadHTML
 url_hole_error false = None
 
--- in a style none behind the URL of a url token
+-- in a style, in a value or an element, none behind the URL of a url token
 abbrev pub css_hole_error : Css → Option Code
 css_hole_error (css.Code x) = None
 css_hole_error css.Dq = None
@@ -327,7 +376,7 @@ hole_error (place.Rcdata e) = None
 hole_error (place.Tag t) = if t.spots.name || t.spots.inside then Some code.SplitToken else None
 hole_error (place.Value v) = body_hole_error v.body
 hole_error (place.Script js) = Some code.NotBuilt
-hole_error (place.Style s) = Some code.NotBuilt
+hole_error (place.Style c) = css_hole_error c
 hole_error (place.Block lt) = if lt then Some code.SplitToken else None
 
 -- What is refused of a text, and at which of its bytes; an error of the node's end stands at its length, or before that. And the byte before which
@@ -370,9 +419,29 @@ abbrev pub value_before : ReferenceStep → Value ValueState → Class → Form 
 value_before Breaks v c f bytes = with_bytes languages v (flushed true (is_equals_sign c) f bytes)
 value_before step v c f bytes = v
 
+-- So is what may be the end tag of an element whose content a language reads: it is behind it where the next byte is none of it, and else before it.
+abbrev pub name_goes_on : (grows whole : Bool) → Class → Bool
+name_goes_on grows whole (Letter l) = grows
+name_goes_on grows whole White = whole
+name_goes_on grows whole Solidus = whole
+name_goes_on grows whole GreaterThan = whole
+name_goes_on grows whole c = false
+
+abbrev pub unless_it_goes_on : Bool → Pending → Pending
+unless_it_goes_on true h = Nothing
+unless_it_goes_on false h = h
+
+abbrev pub pending_before : Element → Pending → Class → ℕ → Pending
+pending_before e PendingLess Solidus b = Nothing
+pending_before e (PendingName letters) c b =
+    unless_it_goes_on (name_goes_on (may_be_name_of e (letters ++ b ∷ [])) (is_name_of e letters) c) (PendingName letters)
+pending_before e h c b = h
+
 abbrev pub place_before_bytes : LexState ValueState → List ℕ → Option Place
 place_before_bytes (AttributeValue q t v (Open f bytes)) (b ∷ bs) =
     value_spot t (quotes_at q) (value_body (cut_value languages (value_before (turn (class_of b) f) v (class_of b) f bytes)))
+place_before_bytes (InContent e (InLanguage v) h) (b ∷ bs) =
+    placed (at_cut languages (InContent e (InLanguage v) (pending_before e h (class_of b) b)))
 place_before_bytes (AttributeName t name) bs = Some (place.Tag (tag_spot t only_inside (Some (kind_of (element_on t.tag) name))))
 place_before_bytes s bs = placed (at_cut languages s)
 

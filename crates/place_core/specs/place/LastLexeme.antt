@@ -1,7 +1,7 @@
 -- Where the lexeme begins in which a text ends unfinished, a percent triple of a URL or an escape of a style: at the last byte of the text that may begin
 -- one, a `%` or a `\`. None is open where a text begins. Behind the `%` of an unfinished triple stands at most one hexadecimal digit, and behind the `\`
 -- of an unfinished escape at most six hexadecimal digits or a carriage return: so neither byte stands behind it once more, nor a reference to one. In a URL
--- and in a style a reference to such a byte is one, and stands at its `&`; elsewhere it does not matter.
+-- and in a style that are values a reference to such a byte is one, and stands at its `&`; in an element there are none, and elsewhere it does not matter.
 use Rattle.std.specs.Prelude.{ℕ, ◌+◌, ◌-◌, ◌==◌, Bool, true, ◌||◌, bytes_eq, encode_utf8, List, [], ◌∷◌, length, if◌then◌else◌}
 use Rattle.place_core.specs.page.Classes.{Class, is_equals_sign}
 use Rattle.place_core.specs.page.References.{Form, Reference, Closed, Open, ReferenceStep, Grows, Closes, Breaks, turn, meaning, flushed}

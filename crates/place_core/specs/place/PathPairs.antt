@@ -5,7 +5,7 @@ use Rattle.css_lexer.specs.States.{Bare, Quoted, Style, InUrl}
 use Rattle.place_core.specs.page.Classes.{Class, White, class_of}
 use Rattle.place_core.specs.page.Html.{next}
 use Rattle.place_core.specs.page.References.{Closed, Open, ReferenceStep, Breaks, turn}
-use Rattle.place_core.specs.page.States.{Template, LexState, BeforeAttributeValue, AttributeValue}
+use Rattle.place_core.specs.page.States.{Template, LexState, BeforeAttributeValue, AttributeValue, InLanguage, InContent}
 use Rattle.place_core.specs.page.Tags.{ValueOf, ValueState, OfUrl, OfStyle, Unquoted, languages, refusal_code}
 use Rattle.place_core.specs.place.ApartPlaces.{ArePlacesApart, side}
 use Rattle.place_core.specs.place.Errors.{byte_error, node, path_refusal, place_before_bytes, value_before}
@@ -83,6 +83,7 @@ is_in_open None = false
 abbrev pub is_in_beginning : LexState ValueState → Bool
 is_in_beginning (AttributeValue q t (ValueOf (OfUrl u)) r) = is_open u.part
 is_in_beginning (AttributeValue q t (ValueOf (OfStyle s)) r) = is_in_open (url_in_style s)
+is_in_beginning (InContent e (InLanguage (OfStyle s)) h) = is_in_open (url_in_style s)
 is_in_beginning s = false
 
 abbrev pub Keeps : List ℕ → LexState ValueState → Type 0
@@ -113,6 +114,7 @@ unknown_style s = s
 abbrev pub unknown_beginning : LexState ValueState → LexState ValueState
 unknown_beginning (AttributeValue q t (ValueOf (OfUrl u)) r) = AttributeValue q t (ValueOf (OfUrl (unknown_url u))) r
 unknown_beginning (AttributeValue q t (ValueOf (OfStyle s)) r) = AttributeValue q t (ValueOf (OfStyle (unknown_style s))) r
+unknown_beginning (InContent e (InLanguage (OfStyle s)) h) = InContent e (InLanguage (OfStyle (unknown_style s))) h
 unknown_beginning s = s
 
 pub record MeetsColon (bytes : List ℕ) (s : LexState ValueState) (at : ℕ) : Type 0 where
@@ -142,6 +144,7 @@ abbrev pub url_part_at : LexState ValueState → Option UrlPart
 url_part_at (BeforeAttributeValue t kind.Url) = Some UrlStart
 url_part_at (AttributeValue q t (ValueOf (OfUrl u)) r) = Some u.part
 url_part_at (AttributeValue q t (ValueOf (OfStyle s)) r) = option_map (λ u. u.part) (url_in_style s)
+url_part_at (InContent e (InLanguage (OfStyle s)) h) = option_map (λ u. u.part) (url_in_style s)
 url_part_at s = None
 
 abbrev pub parts_clash : Option UrlPart → Option UrlPart → Option Code

@@ -1,9 +1,9 @@
 -- The place of a path: what is kept of the state that it has come to. Inside a lexeme, such as a name or a reference, it has none.
 use Rattle.std.specs.Prelude.{Bool, true, false, Option, Some, None, option_map, if◌then◌else◌}
 use Rattle.place_core.specs.page.References.{Reference, Closed, Open}
-use Rattle.place_core.specs.page.States.{LexState, Text, TagOpen, EndTagOpen, DeclarationOpen, CommentState, Started, StartedDash, Inside, Dash, DashDash, Bang, Broken, InComment, BogusComment, InDoctype, TagName, WholeTagName, BeforeAttributeName, AttributeName, WholeAttributeName, AfterAttributeName, BeforeAttributeValue, AttributeValue, AfterAttributeValue, SelfClosingStartTag, Content, Characters, Bytes, Pending, Nothing, LessAtCut, InContent, Unread}
+use Rattle.place_core.specs.page.States.{LexState, Text, TagOpen, EndTagOpen, DeclarationOpen, CommentState, Started, StartedDash, Inside, Dash, DashDash, Bang, Broken, InComment, BogusComment, InDoctype, TagName, WholeTagName, BeforeAttributeName, AttributeName, WholeAttributeName, AfterAttributeName, BeforeAttributeValue, AttributeValue, AfterAttributeValue, SelfClosingStartTag, Content, Characters, Bytes, InLanguage, Pending, Nothing, LessAtCut, InContent, Unread}
 use Rattle.place_core.specs.page.Tags.{Tag, is_second_type, Value, ValueOf, Deciding, ValueState, OfKind, OfUrl, OfStyle, languages, attribute_value_of, without_value, Quoting, DoubleQuoted, SingleQuoted, Unquoted}
-use Rattle.place_core.specs.place.StyleParts.{style_body}
+use Rattle.place_core.specs.place.StyleParts.{style_body, style_css}
 use Rattle.place_core.specs.place.UrlParts.{parts_of}
 use Rattle.url_lexer.specs.Spots.{url_spot}
 use Rattle.place_core.specs.declared.body.Body.{Body}
@@ -97,11 +97,16 @@ abbrev pub block_place : Element → Bool → Option Place
 block_place element.DataBlock lt = Some (place.Block lt)
 block_place e lt = None
 
-abbrev pub content_spot : Pending → Content → Element → Option Place
+abbrev pub language_place : Element → ValueState → Option Place
+language_place element.Style (OfStyle s) = option_map place.Style (style_css s)
+language_place e v = None
+
+abbrev pub content_spot : Pending → Content ValueState → Element → Option Place
 content_spot Nothing (Characters r) e = where_closed r (content_place e)
 content_spot Nothing Bytes e = block_place e false
+content_spot Nothing (InLanguage v) e = language_place e v
 content_spot LessAtCut Bytes e = block_place e true
-content_spot h x e = None
+content_spot h y e = None
 
 abbrev pub placed : LexState ValueState → Option Place
 placed (Text r) = where_closed r (Some place.Text)
@@ -121,5 +126,5 @@ placed (BeforeAttributeValue t k) = value_spot t unbegun (value_body (attribute_
 placed (AttributeValue q t v r) = where_closed r (value_spot t (quotes_at q) (value_body v))
 placed (AfterAttributeValue t) = Some (place.Tag (tag_spot t only_before None))
 placed (SelfClosingStartTag t) = Some (place.Tag (tag_spot t only_before None))
-placed (InContent e x h) = content_spot h x e
+placed (InContent e y h) = content_spot h y e
 placed Unread = None

@@ -33,6 +33,9 @@ style_place (QuotedUrlSpot q p) = style_quoted_place q (parts_of p)
 style_place EndedSpot = css.UrlEnd
 style_place (CommentSpot star) = css.Comment star
 
--- the body of a value that is a style; inside a lexeme there is none
+-- the place in a style where a text may begin, and the body of a value that is a style; inside a lexeme there is none
+abbrev pub style_css : Style Url → Option Css
+style_css s = if may_begin_text s then option_map style_place (part_spot s) else None
+
 abbrev pub style_body : Style Url → Option Body
 style_body s = if may_begin_text s then option_map (λ p. body.Css (style_place p)) (part_spot s) else None

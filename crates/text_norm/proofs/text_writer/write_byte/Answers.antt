@@ -7,7 +7,7 @@ use Rattle.html_scan.specs.ScanViews.{scan_at}
 use Rattle.text_norm.specs.Kept.{Continues, IsReadTo, change_of, scan_of, reference_kept, reference_of, stays}
 use Rattle.text_norm.specs.declared.pending.Change.TheVariants as change
 use Rattle.text_norm.specs.declared.pending.WriteProgress.{WriteProgress}
-use Rattle.text_norm.proofs.ChangedSteps.{ends_at_less, escapes, leaves, less_at, opens}
+use Rattle.text_norm.proofs.ChangedSteps.{ends_at_less, ends_in_style, ends_style, escapes, leaves, leaves_pending, less_at, opens, opens_style, solidus_at}
 use Rattle.text_norm.proofs.Kept.{reaches}
 use Rattle.text_norm.proofs.Steps.{byte_at, scan_is, keeps, law_here}
 use Rattle.text_norm.proofs.text_writer.write_byte.Goals as goal
@@ -91,3 +91,77 @@ returns-in-LeavesOut c kept =
     let is : change.LeavesOut ≡ change_of (scan_of c.args.text.now c.args.index c.args.progress) (scan_at c.args.text.now (c.args.index + 1) c.next-scan.result) = sym c.in-LeavesOut.is ∙ c.change_of.ensures c.args.text.now c.args.index (c.args.index + 1) in
     let y : WriteProgress = record { scan = c.next-scan.result; reference = None; done = c.args.index + 1 } in
     leaves c.args.text.now c.args.index c.args.progress y c.args.out.now kept c.requires.inside c.utf8.text scan is refl c.next-scan.ensures.pending refl
+
+pub overflow_sub-index : goal.overflow_sub-index
+overflow_sub-index c =
+    let class : class_at c.class_of-class.result ≡ class_of (byte_at c.args.text.now c.args.index) = c.class_of-class.ensures ∙ ap (λ (bytes : List ℕ). class_of (get_or bytes c.args.index 0)) c.as_bytes-bytes.ensures.value in
+    let scan = scan_is c.as_bytes-bytes.result.now c.args.text.now c.args.index c.args.progress.scan c.next-scan.result c.class_of-class.result c.as_bytes-bytes.ensures.value class c.next-scan.ensures.scan in
+    let is : change.OpensStyleComment ≡ change_of (scan_of c.args.text.now c.args.index c.args.progress) (scan_at c.args.text.now (c.args.index + 1) c.next-scan.result) = sym c.in-OpensStyleComment.is ∙ c.change_of.ensures c.args.text.now c.args.index (c.args.index + 1) in
+    let y : WriteProgress = record { scan = c.next-scan.result; reference = None; done = 0 } in
+    let here = law_here change.OpensStyleComment c.args.text.now c.args.index c.args.progress y c.requires.kept scan is in
+    let inside : c.args.index ≤ length c.args.text.now = omega (arith, c.requires.inside) in
+    let s = solidus_at c.args.text.now c.args.index c.args.progress here.more c.requires.kept inside here.less here.none in
+    omega (arith, s.end)
+
+pub push_run-requires-clause-order : goal.push_run-requires-clause-order
+push_run-requires-clause-order c =
+    let class : class_at c.class_of-class.result ≡ class_of (byte_at c.args.text.now c.args.index) = c.class_of-class.ensures ∙ ap (λ (bytes : List ℕ). class_of (get_or bytes c.args.index 0)) c.as_bytes-bytes.ensures.value in
+    let scan = scan_is c.as_bytes-bytes.result.now c.args.text.now c.args.index c.args.progress.scan c.next-scan.result c.class_of-class.result c.as_bytes-bytes.ensures.value class c.next-scan.ensures.scan in
+    let is : change.OpensStyleComment ≡ change_of (scan_of c.args.text.now c.args.index c.args.progress) (scan_at c.args.text.now (c.args.index + 1) c.next-scan.result) = sym c.in-OpensStyleComment.is ∙ c.change_of.ensures c.args.text.now c.args.index (c.args.index + 1) in
+    let y : WriteProgress = record { scan = c.next-scan.result; reference = None; done = 0 } in
+    let here = law_here change.OpensStyleComment c.args.text.now c.args.index c.args.progress y c.requires.kept scan is in
+    let inside : c.args.index ≤ length c.args.text.now = omega (arith, c.requires.inside) in
+    let s = solidus_at c.args.text.now c.args.index c.args.progress here.more c.requires.kept inside here.less here.none in
+    s.order
+
+pub push_run-requires-clause-from : goal.push_run-requires-clause-from
+push_run-requires-clause-from c =
+    let class : class_at c.class_of-class.result ≡ class_of (byte_at c.args.text.now c.args.index) = c.class_of-class.ensures ∙ ap (λ (bytes : List ℕ). class_of (get_or bytes c.args.index 0)) c.as_bytes-bytes.ensures.value in
+    let scan = scan_is c.as_bytes-bytes.result.now c.args.text.now c.args.index c.args.progress.scan c.next-scan.result c.class_of-class.result c.as_bytes-bytes.ensures.value class c.next-scan.ensures.scan in
+    let is : change.OpensStyleComment ≡ change_of (scan_of c.args.text.now c.args.index c.args.progress) (scan_at c.args.text.now (c.args.index + 1) c.next-scan.result) = sym c.in-OpensStyleComment.is ∙ c.change_of.ensures c.args.text.now c.args.index (c.args.index + 1) in
+    let y : WriteProgress = record { scan = c.next-scan.result; reference = None; done = 0 } in
+    let here = law_here change.OpensStyleComment c.args.text.now c.args.index c.args.progress y c.requires.kept scan is in
+    c.requires.kept.cut here.before
+
+pub push_run-requires-clause-to : goal.push_run-requires-clause-to
+push_run-requires-clause-to c =
+    let class : class_at c.class_of-class.result ≡ class_of (byte_at c.args.text.now c.args.index) = c.class_of-class.ensures ∙ ap (λ (bytes : List ℕ). class_of (get_or bytes c.args.index 0)) c.as_bytes-bytes.ensures.value in
+    let scan = scan_is c.as_bytes-bytes.result.now c.args.text.now c.args.index c.args.progress.scan c.next-scan.result c.class_of-class.result c.as_bytes-bytes.ensures.value class c.next-scan.ensures.scan in
+    let is : change.OpensStyleComment ≡ change_of (scan_of c.args.text.now c.args.index c.args.progress) (scan_at c.args.text.now (c.args.index + 1) c.next-scan.result) = sym c.in-OpensStyleComment.is ∙ c.change_of.ensures c.args.text.now c.args.index (c.args.index + 1) in
+    let y : WriteProgress = record { scan = c.next-scan.result; reference = None; done = 0 } in
+    let here = law_here change.OpensStyleComment c.args.text.now c.args.index c.args.progress y c.requires.kept scan is in
+    let inside : c.args.index ≤ length c.args.text.now = omega (arith, c.requires.inside) in
+    let s = solidus_at c.args.text.now c.args.index c.args.progress here.more c.requires.kept inside here.less here.none in
+    s.cut
+
+pub returns-in_ok-push_run-in-OpensStyleComment : goal.returns-in_ok-push_run-in-OpensStyleComment
+returns-in_ok-push_run-in-OpensStyleComment c kept =
+    let class : class_at c.class_of-class.result ≡ class_of (byte_at c.args.text.now c.args.index) = c.class_of-class.ensures ∙ ap (λ (bytes : List ℕ). class_of (get_or bytes c.args.index 0)) c.as_bytes-bytes.ensures.value in
+    let scan = scan_is c.as_bytes-bytes.result.now c.args.text.now c.args.index c.args.progress.scan c.next-scan.result c.class_of-class.result c.as_bytes-bytes.ensures.value class c.next-scan.ensures.scan in
+    let is : change.OpensStyleComment ≡ change_of (scan_of c.args.text.now c.args.index c.args.progress) (scan_at c.args.text.now (c.args.index + 1) c.next-scan.result) = sym c.in-OpensStyleComment.is ∙ c.change_of.ensures c.args.text.now c.args.index (c.args.index + 1) in
+    let y : WriteProgress = record { scan = c.next-scan.result; reference = None; done = c.args.index + 1 } in
+    opens_style c.args.text.now c.args.index c.args.progress y c.args.out.now c.push_run.new.out kept c.requires.inside scan is refl c.next-scan.ensures.pending refl c.in_ok-push_run-in-OpensStyleComment.ensures
+
+pub returns-in_ok-push_str-in-EndsStyleComment : goal.returns-in_ok-push_str-in-EndsStyleComment
+returns-in_ok-push_str-in-EndsStyleComment c kept =
+    let class : class_at c.class_of-class.result ≡ class_of (byte_at c.args.text.now c.args.index) = c.class_of-class.ensures ∙ ap (λ (bytes : List ℕ). class_of (get_or bytes c.args.index 0)) c.as_bytes-bytes.ensures.value in
+    let scan = scan_is c.as_bytes-bytes.result.now c.args.text.now c.args.index c.args.progress.scan c.next-scan.result c.class_of-class.result c.as_bytes-bytes.ensures.value class c.next-scan.ensures.scan in
+    let is : change.EndsStyleComment ≡ change_of (scan_of c.args.text.now c.args.index c.args.progress) (scan_at c.args.text.now (c.args.index + 1) c.next-scan.result) = sym c.in-EndsStyleComment.is ∙ c.change_of.ensures c.args.text.now c.args.index (c.args.index + 1) in
+    let y : WriteProgress = record { scan = c.next-scan.result; reference = None; done = c.args.index + 1 } in
+    ends_style c.args.text.now c.args.index c.args.progress y c.args.out.now c.push_str.new.self kept c.requires.inside c.utf8.text scan is refl c.next-scan.ensures.pending refl c.in_ok-push_str-in-EndsStyleComment.ensures.ok
+
+pub returns-in-LeavesPending : goal.returns-in-LeavesPending
+returns-in-LeavesPending c kept =
+    let class : class_at c.class_of-class.result ≡ class_of (byte_at c.args.text.now c.args.index) = c.class_of-class.ensures ∙ ap (λ (bytes : List ℕ). class_of (get_or bytes c.args.index 0)) c.as_bytes-bytes.ensures.value in
+    let scan = scan_is c.as_bytes-bytes.result.now c.args.text.now c.args.index c.args.progress.scan c.next-scan.result c.class_of-class.result c.as_bytes-bytes.ensures.value class c.next-scan.ensures.scan in
+    let is : change.LeavesPending ≡ change_of (scan_of c.args.text.now c.args.index c.args.progress) (scan_at c.args.text.now (c.args.index + 1) c.next-scan.result) = sym c.in-LeavesPending.is ∙ c.change_of.ensures c.args.text.now c.args.index (c.args.index + 1) in
+    let y : WriteProgress = record { scan = c.next-scan.result; reference = None; done = c.args.index } in
+    leaves_pending c.args.text.now c.args.index c.args.progress y c.args.out.now kept c.requires.inside scan is refl c.next-scan.ensures.pending refl
+
+pub returns-in_ok-push_str-in-EndsInStyleComment : goal.returns-in_ok-push_str-in-EndsInStyleComment
+returns-in_ok-push_str-in-EndsInStyleComment c kept =
+    let class : class_at c.class_of-class.result ≡ class_of (byte_at c.args.text.now c.args.index) = c.class_of-class.ensures ∙ ap (λ (bytes : List ℕ). class_of (get_or bytes c.args.index 0)) c.as_bytes-bytes.ensures.value in
+    let scan = scan_is c.as_bytes-bytes.result.now c.args.text.now c.args.index c.args.progress.scan c.next-scan.result c.class_of-class.result c.as_bytes-bytes.ensures.value class c.next-scan.ensures.scan in
+    let is : change.EndsInStyleComment ≡ change_of (scan_of c.args.text.now c.args.index c.args.progress) (scan_at c.args.text.now (c.args.index + 1) c.next-scan.result) = sym c.in-EndsInStyleComment.is ∙ c.change_of.ensures c.args.text.now c.args.index (c.args.index + 1) in
+    let y : WriteProgress = record { scan = c.next-scan.result; reference = None; done = c.args.progress.done } in
+    ends_in_style c.args.text.now c.args.index c.args.progress y c.args.out.now c.push_str-in-EndsInStyleComment.new.self kept c.requires.inside scan is refl c.next-scan.ensures.pending refl c.in_ok-push_str-in-EndsInStyleComment.ensures.ok

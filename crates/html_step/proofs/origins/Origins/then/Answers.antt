@@ -20,14 +20,16 @@ loop-number-preserved c =
     let fed = c.behind_byte-fed.result in
     let count = inv.count in
     let below = c.loop-number-test.true in
+    let text = c.args.text.now in
+    let k = c.args.index in
     record {
       count = length-set before i v ∙ count;
-      origins = λ text k n lt. (
+      origins = λ n lt. (
           let f : ℕ → Member = λ m. origin_at fed (behind_origin (scan_at text k c.args.scan) (class_at c.args.class) (slice_index_or all_members m member.Whole)) in
-          let is : v ≡ f i = c.of.ensures ∙ ap (origin_at fed) (c.behind_origin.ensures text k)
+          let is : v ≡ f i = c.of.ensures ∙ ap (origin_at fed) c.behind_origin.ensures
           ∙ ap (λ (xs : List Member). origin_at fed (behind_origin (scan_at text k c.args.scan) (class_at c.args.class) (slice_index_or xs i member.Whole))) c.members-members.ensures in
           subst (λ (w : Member). slice_index_or (set before i w) n member.Whole ≡ f n) (sym is)
-          (fill_by_more f before i member.Whole (omega (arith, count, below)) (λ m less. inv.origins text k m less) n lt));
+          (fill_by_more f before i member.Whole (omega (arith, count, below)) (λ m less. inv.origins m less) n lt));
     }
 
 pub returns : goal.returns
@@ -36,6 +38,6 @@ returns c = λ y.
     let end = c.loop-number-test.false in
     let text = c.args.text.now in
     let k = c.args.index in
-    c.loop-number.invariant.origins text k (member_number y) (omega (arith, below, end))
+    c.loop-number.invariant.origins (member_number y) (omega (arith, below, end))
     ∙ member-at (λ m. origin_at c.behind_byte-fed.result (behind_origin (scan_at text k c.args.scan) (class_at c.args.class) m)) y
     ∙ c.behind_byte-fed.ensures (behind_origin (scan_at text k c.args.scan) (class_at c.args.class) y)

@@ -1,4 +1,4 @@
-use Rattle.std.proofs.Common.{◌≡◌, ◌<◌, ℕ, List, length}
+use Rattle.std.proofs.Common.{◌≡◌, ◌<◌, ℕ, length}
 use Rattle.std.specs.Prelude.{slice_index_or}
 use Rattle.html_scan.specs.ClassViews.{class_at}
 use Rattle.html_scan.specs.ScanViews.{scan_at}
@@ -10,6 +10,6 @@ use Rattle.html_step.proofs.origins.Origins.then.Given as goal
 abbrev pub invariant-loop-number : goal.invariant-loop-number
 invariant-loop-number l = record {
   count : length l.before ≡ 32;
-  origins : (text : List ℕ) (k n : ℕ) → n < l.number → slice_index_or l.before n member.Whole
-      ≡ origin_at l.fed (behind_origin (scan_at text k l.scan) (class_at l.class) (slice_index_or all_members n member.Whole));
+  origins : (n : ℕ) → n < l.number → slice_index_or l.before n member.Whole
+      ≡ origin_at l.fed (behind_origin (scan_at l.text l.index l.scan) (class_at l.class) (slice_index_or all_members n member.Whole));
 }
