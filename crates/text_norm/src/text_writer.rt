@@ -18,8 +18,8 @@ use std::alloc::Global;
 /// - an `&` with which a reference has begun is written as `&amp;` where the text ends in the reference, or a comment begins,
 /// - in the element `style`, a comment is written as a space.
 ///
-/// So what comes after the text, or after the comment, goes on with none of these. A data block is written as it stands. (HTML Standard, section 13.2.5.) Fails only if
-/// allocation fails. Takes time in proportion to the length of the text.
+/// So what comes after the text, or after the comment, goes on with none of these. A data block is written as it stands. (HTML
+/// Standard, section 13.2.5.) Fails only if allocation fails. Takes time in proportion to the length of the text.
 pub fn write_text(alloc: Global, place: Place, text: &str) -> Result<Text, Memory>
     requires { length text.now < 2 ^ 32 }
     ensures { IfOk result (λ written. written ≡ written_at text.now place) }
