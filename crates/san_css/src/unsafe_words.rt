@@ -21,8 +21,11 @@ pub(crate) fn is_spelled_in(word: &[u8], text: &[u8]) -> bool
     requires { 0 < length word.now }
     ensures { result ≡ spec.holds_word word.now (spec.style_spelled text.now) }
 {
+    if text.len() < word.len() {
+        return false;
+    }
     for at in 0..text.len() {
-        if is_spelled(text[at]) && spells(&text[at..], word) {
+        if text[at].to_ascii_lowercase() == word[0] && spells(&text[at..], word) {
             return true;
         }
     }
