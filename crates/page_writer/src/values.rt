@@ -1,4 +1,5 @@
 ghost use Rattle.std.specs.Prelude.{◌≡◌, ◌++◌, IfSome, OnOk, string_bytes};
+ghost use Rattle.page_datum.specs.Data.{int};
 ghost use Rattle.page_datum.specs.View.{ref_view};
 ghost use Rattle.page_path.specs.Pages.{datum_bytes, san_bytes};
 ghost use Rattle.page_path.specs.Textual.{IsTextBy, IsTextFor};
@@ -12,10 +13,11 @@ use san_html::{push_attr_name, push_attr_nospace, push_html};
 use san_url::{push_url_norm, push_url_open, push_url_query, url_filter};
 use std::alloc::Global;
 
-/// What a chain keeps of a value between two of its sanitizers: one text that a sanitizer reads, and one to which it writes. They are
-/// cleared and used again for the next value, and have no bytes where no chain has two.
+/// What a chain keeps of a value: the digits of a number, and between two of its sanitizers one text that a sanitizer reads, and one to
+/// which it writes. They are cleared and used again for the next value; these texts have no bytes where no chain has two.
 #[derive(Drop)]
 pub struct ChainBuffer {
+    digits: String,
     first: String,
     second: String,
 }
@@ -24,6 +26,7 @@ impl ChainBuffer {
     /// A buffer without bytes. Does not allocate.
     pub fn new(alloc: Global) -> ChainBuffer {
         ChainBuffer {
+            digits: String::new(alloc),
             first: String::new(alloc),
             second: String::new(alloc),
         }
@@ -44,10 +47,10 @@ pub fn push_chain(
     ensures textual { OnOk result (IsTextBy chain (ref_view datum.entry)) }
 {
     if chain.count == 1 {
-        return push_first(out, chain.sans[0], datum);
+        return push_first(out, &mut buffer.digits, chain.sans[0], datum);
     }
     buffer.first.clear();
-    push_first(&mut buffer.first, chain.sans[0], datum)?;
+    push_first(&mut buffer.first, &mut buffer.digits, chain.sans[0], datum)?;
     if chain.count == 2 {
         return push_sanitized(out, chain.sans[1], buffer.first.as_str());
     }
@@ -58,12 +61,20 @@ pub fn push_chain(
 
 // Appends what the first sanitizer of a chain gives for a value, which is printed only where its text is needed. Fails only if allocation
 // fails, and then a part of it may be there.
-fn push_first(out: &mut String, san: San, datum: DatumRef<'_>) -> Result<(), Memory>
+fn push_first(
+    out: &mut String,
+    digits: &mut String,
+    san: San,
+    datum: DatumRef<'_>,
+) -> Result<(), Memory>
     requires { IsBuilt san }
     ensures bytes { OnOk result (string_bytes out.new
         ≡ string_bytes out.old ++ datum_bytes san (ref_view datum.entry)) }
     ensures textual { OnOk result (IsTextFor san (ref_view datum.entry)) }
 {
+    if let DatumRef::Int(number) = datum {
+        return push_number(out, digits, san, number);
+    }
     match unprinted(san, datum) {
         Some(text) => push_sanitized(out, san, text),
         None => {
@@ -71,6 +82,18 @@ fn push_first(out: &mut String, san: San, datum: DatumRef<'_>) -> Result<(), Mem
             push_sanitized(out, san, text.as_str())
         }
     }
+}
+
+// The same of a number, whose digits take the place of what was in that buffer.
+fn push_number(out: &mut String, digits: &mut String, san: San, number: i64) -> Result<(), Memory>
+    requires { IsBuilt san }
+    ensures bytes { OnOk result (string_bytes out.new
+        ≡ string_bytes out.old ++ datum_bytes san (int number)) }
+    ensures textual { OnOk result (IsTextFor san (int number)) }
+{
+    digits.clear();
+    write!(digits, "{number}")?;
+    push_sanitized(out, san, digits.as_str())
 }
 
 // The text to sanitize in place of a printed value, where the value need not be printed: a text itself; of a list or a dictionary nothing
