@@ -15,6 +15,12 @@ NAME = re.compile("[A-Za-z0-9_\\-\u0080-\U0010ffff]")
 NUMBER = re.compile(r"[+-]?(?:[0-9]+(?:\.[0-9]+)?|\.[0-9]+)(?:[eE][+-]?[0-9]+)?")
 HEX = "0123456789abcdefABCDEF"
 SINGLE = "()[]{},:;"
+RUNS = {  # of characters that stand for themselves: in a name, in each kind of string, and in a URL
+    "name": re.compile("[A-Za-z0-9_\\-\u0080-\U0010ffff]*"),
+    '"': re.compile(r'[^"\\\n]*'),
+    "'": re.compile(r"[^'\\\n]*"),
+    "url": re.compile("[^\0-\x1f\x7f \"'()\\\\]*"),
+}
 CONTROL = [chr(c) for c in (*range(9), 11, *range(14, 32), 127)]  # code points that are not printable (4.2)
 
 # What is no part of the structure of a style: such tokens side by side are words, of which data may make more.
@@ -87,11 +93,17 @@ class Tokenizer:
         code = int(digits[0], 16)
         return "\ufffd" if code == 0 or 0xD800 <= code <= 0xDFFF or code > 0x10FFFF else chr(code)
 
+    def run(self, kind):
+        """The longest run of such characters from here on, which is passed."""
+        found = RUNS[kind].match(self.text, self.at)
+        self.at = found.end()
+        return found[0]
+
     def name(self):
-        read = ""
-        while NAME.match(self.peek()) or self.is_escape(0):
+        read = self.run("name")
+        while self.is_escape(0):
             self.at += 1
-            read += self.escaped() if self.text[self.at - 1] == "\\" else self.text[self.at - 1]
+            read += self.escaped() + self.run("name")
         return read
 
     def number(self):
@@ -111,18 +123,18 @@ class Tokenizer:
         return "function", name.lower()
 
     def string(self):
-        quote, read = self.peek(), ""
+        quote = self.peek()
         self.at += 1
+        read = self.run(quote)
         while self.peek() and self.peek() != quote:
             if self.peek() == "\n":
                 return "bad string", read
-            self.at += 1
-            if self.text[self.at - 1] != "\\":
-                read += self.text[self.at - 1]
-            elif self.peek() == "\n":
+            self.at += 1  # behind a backslash
+            if self.peek() == "\n":
                 self.at += 1
             elif self.peek():
                 read += self.escaped()
+            read += self.run(quote)
         self.at += 1
         return "string", read
 
@@ -138,9 +150,11 @@ class Tokenizer:
                     return self.bad_url()
             elif self.peek() in "\"'(" or self.peek() in CONTROL or self.peek() == "\\" and not self.is_escape(0):
                 return self.bad_url()
-            else:
+            elif self.peek() == "\\":
                 self.at += 1
-                read += self.escaped() if self.text[self.at - 1] == "\\" else self.text[self.at - 1]
+                read += self.escaped()
+            else:
+                read += self.run("url")
         self.at += 1
         return "url", read
 
