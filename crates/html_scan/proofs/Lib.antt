@@ -1,6 +1,16 @@
+pub mod FedRuns
+pub mod FedTexts
 pub mod Lowered
 pub mod PendingNames
+pub mod ScriptCauses
+pub mod ScriptCounts
+pub mod ScriptEnds
+pub mod ScriptErrors
+pub mod ScriptReading
+pub mod ScriptStandings
+pub mod ScriptsFed
 pub mod Shortened
+pub mod ShownElsewhere
 pub mod StyleElements
 pub mod StylesFed
 pub mod TypesRead

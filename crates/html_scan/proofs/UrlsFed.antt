@@ -51,7 +51,7 @@ fed_breaks v q s w t u f read c b equals e n x y =
     (let bytes = flushed true (is_equals_sign c) f read in let more = plain_bytes c b in rw (← feed_more parts_feeding s bytes more, ← triple_more t bytes more) refl)
 
 -- A byte past ASCII is no ampersand.
-not-ampersand : (b : ℕ) (bs read : List ℕ) → 128 ≤ b → bytes_eq (b ∷ bs) (38 ∷ read) ≡ false
+pub not-ampersand : (b : ℕ) (bs read : List ℕ) → 128 ≤ b → bytes_eq (b ∷ bs) (38 ∷ read) ≡ false
 not-ampersand b bs read h = (let other : (b == 38) ≡ false = grind (arith, nat_tests) in rw other refl)
 
 -- The bytes of a character all stand where it begins: whether they are the reference as it is written does not matter then.

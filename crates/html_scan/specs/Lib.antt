@@ -2,4 +2,5 @@ pub mod BrokenReferences
 pub mod ClassViews
 pub mod ScanViews
 pub mod Scans
+pub mod ScriptPlaces
 pub mod Slices

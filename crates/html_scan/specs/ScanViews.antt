@@ -1,5 +1,5 @@
 -- The scan states and the causes of the code, where that many bytes of a text have been read.
-use Rattle.std.specs.Prelude.{ℕ, ◌+◌, List, [], ◌∷◌, Option, Some, None}
+use Rattle.std.specs.Prelude.{ℕ, ◌+◌, ◌-◌, ◌*◌, ◌/◌, max, List, [], ◌∷◌, Option, Some, None}
 use Rattle.std.specs.Str.{str_to_ascii_lowercase}
 use Rattle.place_core.specs.page.Classes.{class_of}
 use Rattle.place_core.specs.page.References.{Form, Begun, Named, Hashed, Decimal, HexMark, Hexadecimal, Reference, Closed, Open, ReferenceStep, Grows, Closes, Breaks, next_reference}
@@ -10,11 +10,13 @@ use Rattle.place_core.specs.page.Tags.{Value, ValueState, Quoting, DoubleQuoted,
 use Rattle.place_core.specs.declared.element.Element.TheVariants as element
 use Rattle.place_core.specs.declared.place.Place.{Place}
 use Rattle.url_lexer.specs.Triples.{Triple, NoTriple, AfterPercent, AfterDigit}
-use Rattle.html_scan.specs.Scans.{Scan, At, AfterLess, AfterLessSolidus, InDeclaration, InTagName, InAttributeName, InCommentEnd, InContentEnd, InStyleElement, InUrl, InStyle, BeforeType, InType, type_begun, type_read}
+use Rattle.html_scan.specs.Scans.{Scan, At, AfterLess, AfterLessSolidus, InDeclaration, InTagName, InAttributeName, InCommentEnd, InContentEnd, InStyleElement, InUrl, InStyle, InScript, BeforeType, InType, type_begun, type_read}
 use Rattle.html_scan.specs.Slices.{pending}
 use Rattle.css_lexer.specs.Escapes.{StyleEscape, AfterBackslash}
 use Rattle.css_step.specs.StyleScans.{StyleScan, ScanWord, ScanSplitEscape, ScanString, ScanQuotedUrl}
 use Rattle.css_step.specs.StyleScanViews.{style_scan_at}
+use Rattle.js_step.specs.ScriptScanViews.{script_scan_at}
+use Rattle.js_step.specs.declared.scan.ScriptScan.{ScriptScan as ReadScript}
 use Rattle.html_scan.specs.declared.declaration.Declaration.{Declaration as ReadDeclaration}
 use Rattle.html_scan.specs.declared.declaration.Declaration.TheVariants as declaration
 use Rattle.html_scan.specs.declared.cause.Cause.{Cause as ReadCause}
@@ -87,6 +89,7 @@ scan_at text k (scan.InAttributeName t typed from) = InAttributeName t typed (st
 scan_at text k (scan.InCommentEnd s) = InCommentEnd (stage_at s)
 scan_at text k (scan.InUrl v t r) = InUrl v (triple_at t) (open_reference_at text k r)
 scan_at text k (scan.InStyle v s r) = InStyle v (style_scan_at s) (open_reference_at text k r)
+scan_at text k (scan.InScript v n r) = InScript v (script_scan_at n) (open_reference_at text k r)
 scan_at text k (scan.AfterContentLess e) = InContentEnd e PendingLess
 scan_at text k (scan.InContentName e from) = InContentEnd e (PendingName (pending text (from + 2) k))
 scan_at text k (scan.InStyleElement s) = InStyleElement (style_scan_at s) Nothing
@@ -114,6 +117,19 @@ begun_lexeme (ScanString q e) = begun_escape e
 begun_lexeme (ScanQuotedUrl q e s t) = begun_escape e
 begun_lexeme s = 0
 
+-- The greatest of the counts of a script, which are of the bytes that it was fed since a lexeme began. Each byte of a text feeds a script
+-- no more than five, as it may end a reference to a character of four, and what a reference that is open may be is fed behind it.
+abbrev pub greatest : List ℕ → ℕ
+greatest [] = 0
+greatest (x ∷ xs) = max x (greatest xs)
+
+abbrev pub script_count : ReadScript → ℕ
+script_count n = greatest ((n.trail.brace - 2) ∷ n.trail.bracket ∷ n.trail.literal ∷ n.literals.braces)
+
+abbrev pub script_from : ℕ → Option OpenReference → ℕ
+script_from count None = (count + 4) / 5
+script_from count (Some r) = r.from + 1 + (count - 5 * r.from)
+
 abbrev pub pending_from : ReadScan → ℕ
 pending_from (scan.At p) = 0
 pending_from scan.AfterLess = 0
@@ -124,6 +140,7 @@ pending_from (scan.InAttributeName t typed from) = from
 pending_from (scan.InCommentEnd s) = 0
 pending_from (scan.InUrl v t r) = reference_from r
 pending_from (scan.InStyle v s r) = reference_from r
+pending_from (scan.InScript v n r) = script_from (script_count n) r
 pending_from (scan.AfterContentLess e) = 1
 pending_from (scan.InContentName e from) = from + 2
 pending_from (scan.InStyleElement s) = begun_lexeme (style_scan_at s)

@@ -1,8 +1,8 @@
--- How a text is stepped, byte by byte, for all the paths that stand at a place together. Between lexemes they are at a place, which has sets; in
--- a lexeme they are all in the same one. In a lexeme or a reference of a URL or a style, and in what may be the end tag of the element `style`, what is
--- a set all the same is kept: the parts of a URL, and what paths of a style ended in before the text. What is left out of the states of the lexer is
--- what no place depends on: references in text and in values that are text.
-use Rattle.std.specs.Prelude.{ℕ, Bool, true, false, ◌||◌, codes, List, [], ◌∷◌, ◌++◌, length, Option, Some, None, option_map, if◌then◌else◌}
+-- How a text is stepped, byte by byte, for all the paths that stand at a place together. Between lexemes they are at a place, which has
+-- sets; in a lexeme they are all in the same one. In a lexeme or a reference of a URL or a style, and in what may be the end tag of the
+-- element `style`, what is a set all the same is kept: the parts of a URL, and what paths of a style ended in before the text. What is
+-- left out of the states of the lexer is what no place depends on: references in text and in values that are text.
+use Rattle.std.specs.Prelude.{ℕ, Bool, true, false, ◌||◌, ◌&&◌, codes, List, [], ◌∷◌, ◌++◌, length, Option, Some, None, option_map, if◌then◌else◌}
 use Rattle.std.specs.Char.{to_ascii_lowercase}
 use Rattle.place_core.specs.page.Classes.{Class, White, ExclamationMark, QuotationMark, Apostrophe, HyphenMinus, Solidus, LessThan, EqualsSign, GreaterThan, Letter, class_of, is_equals_sign}
 use Rattle.place_core.specs.page.Comments.{Declaration, OpensComment, OpensDoctype, Undecided, OpensNothing, declared_by, next_comment, closes_comment}
@@ -10,14 +10,18 @@ use Rattle.place_core.specs.page.Contents.{may_be_name_of, is_name_of, pending_b
 use Rattle.css_lexer.specs.Classes.{style_class}
 use Rattle.css_lexer.specs.Elements.{less_than_cut_escape, less_than_cut_string}
 use Rattle.css_lexer.specs.RefusalCodes.{SplitToken, StyleCutRefusal, at_end}
+use Rattle.js_lexer.specs.declared.sense.Sense.TheVariants as sense
+use Rattle.js_step.specs.KeptWords.{kept_scan}
+use Rattle.js_step.specs.ScriptScans.{ScriptScan, script_scan_start, script_scan_next, script_scan_error, script_scan_place, script_scan_shown, script_scan_cut_error, script_scan_end_error}
 use Rattle.css_step.specs.StyleScans.{StyleScan, ScanCode, ScanWord, ScanSplitEscape, ScanSolidus, ScanLessThan, ScanComment, ScanStarBefore, ScanString, ScanFresh, ScanBareUrl, ScanQuotedUrl, ScanEnded, style_scan_start, style_scan_next, style_scan_error, style_scan_place, style_scan_cut_error, is_style_start}
-use Rattle.place_core.specs.place.Errors.{PathCause, place_error, value_error, fed_error, language_error, first_byte_error, first_cause, at_hand, quotes_error, block_byte_error, block_cut_error, content_byte_error, content_end_cut_error, cut_cause, pending_before, tag_name_error, attribute_name_error, unless_second}
+use Rattle.place_core.specs.place.Errors.{PathCause, PathRefusal, FedByte, ScriptFeeding, fed_places, first_places, cut_places, places_with, script_places_refusal, script_ending_refusal, deep_place, place_error, value_error, fed_error, language_error, first_byte_error, first_cause, at_hand, quotes_error, block_byte_error, block_cut_error, content_byte_error, content_end_cut_error, cut_cause, pending_before, tag_name_error, attribute_name_error, unless_second}
 use Rattle.place_core.specs.page.Html.{ends_value}
 use Rattle.place_core.specs.page.References.{Form, Reference, Closed, Open, ReferenceStep, Breaks, turn, flushed, next_reference, undone_byte, settled, as_it_stands}
+use Rattle.place_core.specs.place.ScriptParts.{script_senses, script_no_tails}
 use Rattle.place_core.specs.place.StyleParts.{style_tails}
 use Rattle.place_core.specs.place.StatePlaces.{only_name, only_before, only_inside, only_after, unbegun, body_at, quotes_at}
 use Rattle.place_core.specs.page.States.{CommentState, Started, Inside, Broken, Pending, Nothing, PendingLess, LessAtCut, PendingName, PendingBang, PendingBangDash}
-use Rattle.place_core.specs.page.Tags.{is_second_type, is_start, tag_of_name, element_on, Value, ValueState, languages, value_start, attribute_value_of, with_bytes, Feeding, feed_bytes, refusal_code, style_code, style_cut, tag_with_value, Quoting, DoubleQuoted, SingleQuoted, Unquoted}
+use Rattle.place_core.specs.page.Tags.{is_second_type, is_start, tag_of_name, element_on, Value, ValueState, languages, value_start, attribute_value_of, with_bytes, Feeding, feed_bytes, refusal_code, style_code, script_code, style_cut, tag_with_value, Quoting, DoubleQuoted, SingleQuoted, Unquoted}
 use Rattle.place_core.specs.page.Words.{kind_of}
 use Rattle.place_core.specs.declared.body.Body.{Body}
 use Rattle.place_core.specs.declared.body.Body.TheVariants as body
@@ -26,6 +30,7 @@ use Rattle.place_core.specs.declared.code.Code.TheVariants as code
 use Rattle.place_core.specs.declared.css.Css.TheVariants as css
 use Rattle.place_core.specs.declared.element.Element.{Element}
 use Rattle.place_core.specs.declared.element.Element.TheVariants as element
+use Rattle.place_core.specs.declared.js.Js.TheVariants as js
 use Rattle.place_core.specs.declared.kind.Kind.{Kind}
 use Rattle.place_core.specs.declared.kind.Kind.TheVariants as kind
 use Rattle.place_core.specs.declared.parts.Parts.{Parts}
@@ -56,9 +61,11 @@ pub data Scan : Type 0 where
   InCommentEnd : CommentState → Scan
   -- in a value that is a URL, in a percent triple or a reference
   InUrl : ValuePlace → Triple → Reference → Scan
-  -- in a value that is a style, in a lexeme of it or a reference: its place, but for the body, which is that of an empty style, since the scan state of
-  -- the style has it; and the reference that is open
+  -- in a value that is a style, in a lexeme of it or a reference: its place, but for the body, which is that of an empty style, since the
+  -- scan state of the style has it; and the reference that is open
   InStyle : ValuePlace → StyleScan → Reference → Scan
+  -- in a value that is a script, behind a byte of this text or in a reference: likewise
+  InScript : ValuePlace → ScriptScan → Reference → Scan
   -- in a title, a textarea or a data block, in what may be its end tag, or in the latter a `<!--`
   InContentEnd : Element → Pending → Scan
   -- in the element `style`, in a lexeme of the style or in what may be its end tag: the scan state of the style before that
@@ -196,6 +203,37 @@ abbrev pub style_scan : ValuePlace → StyleScan → Reference → Scan
 style_scan v s Closed = if is_style_start s then At (with_style v s) else InStyle v s Closed
 style_scan v s r = InStyle v s r
 
+-- In a script, on all paths together: its own scan state, with what is kept of its words, with the codes of what is refused, and with the
+-- causes.
+abbrev pub script_fed_byte : ScriptScan → ℕ → ScriptScan
+script_fed_byte n b = kept_scan (script_scan_next n b)
+
+abbrev pub script_feeding : Feeding ScriptScan
+script_feeding = record {
+  feed = script_fed_byte;
+  refuses = λ n b. option_map (λ e. script_code e.refusal) (script_scan_error false n b);
+  refuses_names = λ n. true;
+}
+
+abbrev pub all_scripts : ScriptFeeding ScriptScan
+all_scripts = record {
+  feed = script_fed_byte;
+  refuses = script_scan_error false;
+  refuses_cut = script_scan_cut_error;
+  refuses_end = script_scan_end_error;
+}
+
+abbrev pub empty_script_between : ValuePlace → Quotes → ValuePlace
+empty_script_between v q =
+    record { tag = v.tag; typed = v.typed; quotes = q; body = body.Js (js.Code (script_senses sense.Re) script_no_tails) }
+
+abbrev pub with_script : ValuePlace → ScriptScan → Place
+with_script v n = with_body v (body.Js (script_scan_place n))
+
+-- Behind the first byte no text begins in the value any more.
+abbrev pub script_fed_next : ValuePlace → ScriptScan → Reference → Class → ℕ → Scan
+script_fed_next v n r c b = InScript v (feed_bytes script_feeding n (undone_byte true r c b)) (next_reference r c b)
+
 abbrev pub style_fed : ValuePlace → StyleScan → Reference → Class → ℕ → Scan
 style_fed v s r c b = style_scan v (feed_bytes style_feeding s (undone_byte true r c b)) (next_reference r c b)
 
@@ -204,6 +242,7 @@ abbrev pub value_fed : ValuePlace → Quotes → Body → Triple → Reference �
 value_fed v q (body.Url s) t r c b =
     url_scan (with_parts v q (feed_bytes parts_feeding s (undone_byte true r c b))) (triple_behind t (undone_byte true r c b)) (next_reference r c b)
 value_fed v q (body.Css p) t r c b = style_fed (empty_style_between v q) (style_scan_start p) r c b
+value_fed v q (body.Js j) t r c b = script_fed_next (empty_script_between v q) (script_scan_start j) r c b
 value_fed v q x t r c b = with_quotes v q
 
 abbrev pub bare_white : ValuePlace → Bool → Scan
@@ -237,6 +276,10 @@ value_next v t r c b = quoted_next v v.quotes t r c b
 abbrev pub style_value_next : ValuePlace → StyleScan → Reference → Class → ℕ → Scan
 style_value_next v s r c b = quotes_lead v v.quotes c (λ p. style_fed (value_between v p) s r c b)
 
+-- in a script behind a byte of the text, or in a reference
+abbrev pub script_value_next : ValuePlace → ScriptScan → Reference → Class → ℕ → Scan
+script_value_next v n r c b = quotes_lead v v.quotes c (λ p. script_fed_next (value_between v p) n r c b)
+
 -- What is refused in a value: by its language, and then by its quotes.
 abbrev pub quoted_error : {S : Type 0} → Feeding S → Quotes → S → Reference → Class → ℕ → Option PathCause
 quoted_error m quotes.Dq s r c b = language_error m (ends_value DoubleQuoted c) s r c b
@@ -246,6 +289,7 @@ quoted_error m (quotes.Bare x) s r c b = if x.uq then language_error m (ends_val
 abbrev pub body_cause : Body → Quotes → Reference → Class → ℕ → Option PathCause
 body_cause (body.Url s) q r c b = quoted_error parts_feeding q s r c b
 body_cause (body.Css p) q r c b = quoted_error style_feeding q (style_scan_start p) r c b
+body_cause (body.Js j) q r c b = quoted_error script_feeding q (script_scan_start j) r c b
 body_cause x q r c b = None
 
 abbrev pub value_cause : ValuePlace → Reference → Class → ℕ → Option PathCause
@@ -253,6 +297,39 @@ value_cause v r c b = first_cause (body_cause v.body v.quotes r c b) (at_hand (v
 
 abbrev pub style_cause : ValuePlace → StyleScan → Reference → Class → ℕ → Option PathCause
 style_cause v s r c b = first_cause (quoted_error style_feeding v.quotes s r c b) (at_hand (value_error v c))
+
+abbrev pub script_cause : ValuePlace → ScriptScan → Reference → Class → ℕ → Option PathCause
+script_cause v n r c b = first_cause (quoted_error script_feeding v.quotes n r c b) (at_hand (value_error v c))
+
+-- Where that stands in the text, and the places of the bytes that the byte at `k` feeds a script, by its quotes: what `Errors.antt` says
+-- of one path.
+abbrev pub quoted_places : Quotes → ℕ → Reference → Class → ℕ → List FedByte
+quoted_places quotes.Dq k r c b = fed_places (ends_value DoubleQuoted c) k r c b
+quoted_places quotes.Sq k r c b = fed_places (ends_value SingleQuoted c) k r c b
+quoted_places (quotes.Bare x) k r c b = if x.uq then fed_places (ends_value Unquoted c) k r c b else first_places k c b
+
+abbrev pub ends_quoted : Quotes → Class → Bool
+ends_quoted quotes.Dq c = ends_value DoubleQuoted c
+ends_quoted quotes.Sq c = ends_value SingleQuoted c
+ends_quoted (quotes.Bare x) c = x.uq && ends_value Unquoted c
+
+abbrev pub script_step_refusal : Quotes → ℕ → List ℕ → ScriptScan → Reference → Class → ℕ → Option PathRefusal
+script_step_refusal q k places n r c b = script_places_refusal all_scripts (ends_quoted q c) k places n (quoted_places q k r c b)
+
+abbrev pub script_step_deep : Quotes → ℕ → List ℕ → ScriptScan → Reference → Class → ℕ → Option ℕ
+script_step_deep q k places n r c b = deep_place all_scripts (ends_quoted q c) k places n (quoted_places q k r c b)
+
+abbrev pub begun_script_refusal : Body → Quotes → ℕ → Class → ℕ → Option PathRefusal
+begun_script_refusal (body.Js j) q k c b = script_step_refusal q k [] (script_scan_start j) Closed c b
+begun_script_refusal x q k c b = None
+
+abbrev pub begun_script_deep : Body → Quotes → ℕ → Class → ℕ → Option ℕ
+begun_script_deep (body.Js j) q k c b = script_step_deep q k [] (script_scan_start j) Closed c b
+begun_script_deep x q k c b = None
+
+abbrev pub begun_script_fed : Body → Quotes → ℕ → Class → ℕ → List ℕ
+begun_script_fed (body.Js j) q k c b = places_with (quoted_places q k Closed c b) []
+begun_script_fed x q k c b = []
 
 -- The value of a script's `type`: where it begins, and the tag after it, by what the value is. Behind it a `type` has been seen, but in an
 -- end tag, of which none is remembered.
@@ -392,6 +469,7 @@ scan_next (InContentEnd e h) c b = content_end_next h c b e
 scan_next (InStyleElement s h) c b = element_pending_next s h c b
 scan_next (InUrl v t r) c b = value_next v t r c b
 scan_next (InStyle v s r) c b = style_value_next v s r c b
+scan_next (InScript v n r) c b = script_value_next v n r c b
 scan_next (BeforeType t) c b = before_type_next c b t
 scan_next (InType t q v r) c b = type_next (ends_value q c) c b t q v r
 
@@ -411,6 +489,7 @@ abbrev pub scan_error : Scan → Class → ℕ → Option PathCause
 scan_error (At p) c b = place_cause p c b
 scan_error (InUrl v t r) c b = value_cause v r c b
 scan_error (InStyle v s r) c b = style_cause v s r c b
+scan_error (InScript v n r) c b = script_cause v n r c b
 scan_error (InTagName ends name) c b = at_hand (tag_name_error (tag_of_name ends name) c)
 scan_error (InAttributeName t typed name) c b = attribute_name_error t typed (kind_of (element_on t) name) (length name) c
 scan_error AfterLess c b = None
@@ -439,6 +518,7 @@ abbrev pub scan_place : Scan → Place
 scan_place (At p) = p
 scan_place (InUrl v t r) = with_body v (parts_with v.body (as_it_stands r))
 scan_place (InStyle v s r) = with_style v (feed_bytes style_feeding s (as_it_stands r))
+scan_place (InScript v n r) = with_script v (feed_bytes script_feeding n (as_it_stands r))
 scan_place AfterLess = place.Text
 scan_place AfterLessSolidus = place.Text
 scan_place (InDeclaration pending) = place.Text
@@ -450,8 +530,8 @@ scan_place (InStyleElement s h) = place.Style (style_scan_place (feed_bytes styl
 scan_place (BeforeType t) = place.Text
 scan_place (InType t q v r) = place.Text
 
--- The place that is shown there, before the bytes that are left: in the value of a script's `type` there is none. In a URL and a style the reference that
--- stands before them is read with them: it is behind them where the next byte breaks it, and else it has not begun.
+-- The place that is shown there, before the bytes that are left: in the value of a script's `type` there is none. In a URL and a style
+-- the reference that stands before them is read with them: it is behind them where the next byte breaks it, and else it has not begun.
 abbrev pub parts_before : ReferenceStep → Body → Class → Form → List ℕ → Body
 parts_before Breaks x c f bytes = parts_with x (flushed true (is_equals_sign c) f bytes)
 parts_before step x c f bytes = x
@@ -468,6 +548,14 @@ abbrev pub style_scan_before : StyleScan → Reference → List ℕ → StyleSca
 style_scan_before s (Open f bytes) (b ∷ bs) = style_before (turn (class_of b) f) s (class_of b) f bytes
 style_scan_before s r bs = feed_bytes style_feeding s (as_it_stands r)
 
+abbrev pub script_before_turn : ReferenceStep → ScriptScan → Class → Form → List ℕ → ScriptScan
+script_before_turn Breaks n c f bytes = feed_bytes script_feeding n (flushed true (is_equals_sign c) f bytes)
+script_before_turn step n c f bytes = n
+
+abbrev pub script_scan_before : ScriptScan → Reference → List ℕ → ScriptScan
+script_scan_before n (Open f bytes) (b ∷ bs) = script_before_turn (turn (class_of b) f) n (class_of b) f bytes
+script_scan_before n r bs = feed_bytes script_feeding n (as_it_stands r)
+
 -- what is pending back in the element `style`, before the bytes that are left
 abbrev pub pending_left : Pending → List ℕ → Pending
 pending_left h [] = h
@@ -476,6 +564,7 @@ pending_left h (b ∷ bs) = pending_before element.Style h (class_of b) b
 abbrev pub scan_shown : Scan → List ℕ → Option Place
 scan_shown (InUrl v t r) bs = Some (url_before v r bs)
 scan_shown (InStyle v s r) bs = Some (with_style v (style_scan_before s r bs))
+scan_shown (InScript v n r) bs = option_map (λ j. with_body v (body.Js j)) (script_scan_shown (script_scan_before n r bs))
 scan_shown (InStyleElement s h) bs = Some (scan_place (InStyleElement s (pending_left h bs)))
 scan_shown (BeforeType t) bs = None
 scan_shown (InType t q v r) bs = None
@@ -493,8 +582,8 @@ abbrev pub open_cut_error : Body → List ℕ → Option PathCause
 open_cut_error (body.Url s) bytes = written_error parts_feeding s bytes
 open_cut_error x bytes = None
 
--- Where the element's text ends in a `<`: in a string, a URL and behind a backslash it may not be cut from what follows. The scan state is the one
--- before the `<`.
+-- Where the element's text ends in a `<`: in a string, a URL and behind a backslash it may not be cut from what follows. The scan state
+-- is the one before the `<`.
 abbrev pub style_less_cut : StyleScan → Option StyleCutRefusal
 style_less_cut (ScanCode x) = None
 style_less_cut (ScanWord w e) = less_than_cut_escape e
@@ -517,6 +606,7 @@ scan_cut_error (InAttributeName t typed name) = unless_second (is_second_type ty
 scan_cut_error (At p) = None
 scan_cut_error (InUrl v t r) = open_cut_error v.body (as_it_stands r)
 scan_cut_error (InStyle v s r) = written_error style_feeding s (as_it_stands r)
+scan_cut_error (InScript v n r) = written_error script_feeding n (as_it_stands r)
 scan_cut_error AfterLess = None
 scan_cut_error AfterLessSolidus = None
 scan_cut_error (InDeclaration pending) = None
@@ -538,6 +628,27 @@ scan_lexeme_error (InUrl v t r) = if_unfinished (triple_behind t (as_it_stands r
 scan_lexeme_error (InStyle v s r) = option_map (λ e. style_code e.code) (style_scan_cut_error (feed_bytes style_feeding s (as_it_stands r)))
 scan_lexeme_error (InStyleElement s h) = option_map (λ e. style_code e.code) (style_scan_cut_error (feed_bytes style_feeding s (pending_bytes h)))
 scan_lexeme_error f = None
+
+-- What a script refuses, and where it stands in the text, by what is kept of the bytes before: at a byte, and at the end of the node; and
+-- what is kept behind the byte. So it is on one path (`Errors.antt` of `place_core`).
+abbrev pub scan_script_refusal : ℕ → List ℕ → Scan → Class → ℕ → Option PathRefusal
+scan_script_refusal k places (InScript v n r) c b = script_step_refusal v.quotes k places n r c b
+scan_script_refusal k places (At (place.Value v)) c b = begun_script_refusal v.body v.quotes k c b
+scan_script_refusal k places f c b = None
+
+abbrev pub scan_script_cut_refusal : ℕ → List ℕ → Scan → Option PathRefusal
+scan_script_cut_refusal k places (InScript v n r) = script_ending_refusal all_scripts k places n (cut_places k r)
+scan_script_cut_refusal k places f = None
+
+abbrev pub scan_fed_behind : ℕ → List ℕ → Scan → Class → ℕ → List ℕ
+scan_fed_behind k places (InScript v n r) c b = places_with (quoted_places v.quotes k r c b) places
+scan_fed_behind k places (At (place.Value v)) c b = begun_script_fed v.body v.quotes k c b
+scan_fed_behind k places f c b = []
+
+abbrev pub scan_deep_behind : ℕ → List ℕ → Scan → Class → ℕ → Option ℕ
+scan_deep_behind k places (InScript v n r) c b = script_step_deep v.quotes k places n r c b
+scan_deep_behind k places (At (place.Value v)) c b = begun_script_deep v.body v.quotes k c b
+scan_deep_behind k places f c b = None
 
 -- the reference that is open in a URL or a style
 abbrev pub scan_reference : Scan → Reference

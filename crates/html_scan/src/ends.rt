@@ -1,13 +1,17 @@
-ghost use Rattle.std.specs.Prelude.{◌≡◌, ◌+◌, ◌≤◌, ℕ, List, true, drop, is_some, length};
+ghost use Rattle.std.specs.Prelude.{◌≡◌, ◌+◌, ◌≤◌, ℕ, List, true, drop, is_some, length, option_map};
 ghost use Rattle.place_core.specs.page.References as references;
 ghost use Rattle.place_core.specs.page.States.{PendingLess, PendingName};
 ghost use Rattle.place_core.specs.place.Errors.{pending_before};
 ghost use Rattle.place_core.specs.declared.element.Element.TheVariants as element;
 ghost use Rattle.css_step.specs.StyleScanViews.{style_scan_at};
+ghost use Rattle.js_step.specs.ScriptScanViews.{most_bytes, script_scan_at};
+ghost use Rattle.js_step.specs.ScriptScans.{script_scan_shown};
+ghost use Rattle.place_core.specs.declared.body.Body.TheVariants as body;
+ghost use Rattle.place_core.specs.declared.js.Js.{Js};
 ghost use Rattle.html_scan.specs.ClassViews.{class_at};
-ghost use Rattle.html_scan.specs.ScanViews.{open_form_at, open_reference_at, reference_from, scan_at, pending_from};
+ghost use Rattle.html_scan.specs.ScanViews.{open_form_at, open_reference_at, reference_from, scan_at, pending_from, script_count, script_from};
 ghost use Rattle.html_scan.specs.Scans.{InStyleElement, parts_before, parts_with, pending_left, scan_place, scan_shown};
-ghost use Rattle.html_scan.specs.Scans.{style_scan_before, with_body};
+ghost use Rattle.html_scan.specs.Scans.{script_scan_before, style_scan_before, with_body};
 ghost use Rattle.html_scan.specs.Scans as spec;
 ghost use Rattle.html_scan.specs.Slices as slices;
 
@@ -16,12 +20,14 @@ use crate::contents::rest_place;
 use crate::names::{is_name_of, kind_on, may_be_name_of, tag_named};
 use crate::references::{OpenReference, Outcome, ReferenceForm, is_equals, turn};
 use crate::scan::Scan;
+use crate::scripts::{broken as broken_script, script_at_cut, with_script};
 use crate::slices::pending;
 use crate::style_elements::{behind_less, behind_name, end_tag_goes_on, style_place};
 use crate::styles::{broken, style_at_cut, with_style};
 use crate::tags::{whole_attribute_name, whole_tag_name};
 use crate::urls::{broken_parts, parts_at_cut};
 use css_step::StyleScan;
+use js_step::ScriptScan;
 use place_core::{Body, Element, Place, ValuePlace};
 
 /// The place where a text ends.
@@ -51,6 +57,11 @@ pub fn end_place(text: &[u8], scan: Scan) -> Place
             style,
             reference,
         } => with_style(place, style_at_cut(text, style, reference)),
+        Scan::InScript {
+            place,
+            script,
+            reference,
+        } => with_script(place, script_at_cut(text, script, reference)),
         Scan::AfterContentLess(Element::DataBlock) => Place::Block(true),
         Scan::AfterContentLess(element) => rest_place(element),
         Scan::InContentName { element, .. } => rest_place(element),
@@ -105,6 +116,11 @@ pub fn shown_place(text: &[u8], index: usize, scan: Scan) -> Option<Place>
             style,
             reference,
         } => Some(with_style(place, style_before(text, index, style, reference))),
+        Scan::InScript {
+            place,
+            script,
+            reference,
+        } => script_shown(place, script_before(text, index, script, reference)),
         Scan::AfterStyleLess(style) => Some(less_before(text, index, style)),
         Scan::InStyleName { style, from } => Some(name_before(text, index, style, from)),
         _ => {
@@ -241,13 +257,70 @@ fn style_turned(style: StyleScan, form: ReferenceForm, read: &[u8], class: Class
     }
 }
 
-/// Whether a place is shown where a text has been read to.
-pub fn is_shown(scan: Scan) -> bool
-    ensures { (text : List ℕ) (k : ℕ) (left : List ℕ)
-        → result ≡ is_some (scan_shown (scan_at text k scan) left) }
+// The place that is shown in a script; none within a template literal, nor behind a slash after `}`.
+fn script_shown(place: ValuePlace, script: ScriptScan) -> Option<Place>
+    ensures { result ≡ option_map (λ (j : Js). with_body place (body.Js j))
+        (script_scan_shown (script_scan_at script)) }
+{
+    match js_step::shown(script) {
+        Some(js) => Some(Place::Value(ValuePlace {
+            body: Body::Js(js),
+            ..place
+        })),
+        None => None,
+    }
+}
+
+// In a script, before the bytes that are left, as in a style.
+fn script_before(
+    text: &[u8],
+    index: usize,
+    script: ScriptScan,
+    reference: Option<OpenReference>,
+) -> ScriptScan
+    requires inside { index ≤ length text.now }
+    requires pending { script_from (script_count script) reference ≤ index }
+    ensures { script_scan_at result ≡ script_scan_before (script_scan_at script)
+        (open_reference_at text.now index reference) (drop index text.now) }
+{
+    let (read, left) = text.split_at(index);
+    match reference {
+        None => script,
+        Some(open) => match left.split_first() {
+            None => script_at_cut(read, script, reference),
+            Some((byte, _)) => {
+                let behind = pending(text, open.from + 1, index);
+                script_turned(script, open.form, behind, class_of(*byte))
+            }
+        },
+    }
+}
+
+fn script_turned(script: ScriptScan, form: ReferenceForm, read: &[u8], class: Class) -> ScriptScan
+    requires room { script_count script + length read.now + 4 ≤ most_bytes }
+    ensures { script_scan_at result ≡ spec.script_before_turn
+        (references.turn (class_at class) (open_form_at form)) (script_scan_at script)
+        (class_at class) (open_form_at form) read.now }
+{
+    match turn(class, form) {
+        Outcome::Grows(_) | Outcome::Closes => script,
+        Outcome::Breaks => broken_script(script, is_equals(class), form, read),
+    }
+}
+
+/// Whether a place is shown where a text has been read to, before the bytes that are left.
+pub fn is_shown(text: &[u8], index: usize, scan: Scan) -> bool
+    requires inside { index ≤ length text.now }
+    requires pending { pending_from scan ≤ index }
+    ensures { result ≡ is_some (scan_shown (scan_at text.now index scan) (drop index text.now)) }
 {
     match scan {
         Scan::BeforeType(_) | Scan::InType { .. } => false,
+        Scan::InScript {
+            place,
+            script,
+            reference,
+        } => script_shown(place, script_before(text, index, script, reference)).is_some(),
         _ => true,
     }
 }

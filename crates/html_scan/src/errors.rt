@@ -6,9 +6,10 @@ ghost use Rattle.place_core.specs.page.Tags.{element_on, is_second_type};
 ghost use Rattle.place_core.specs.page.States.{PendingBangDash};
 ghost use Rattle.place_core.specs.page.Words.{kind_of};
 ghost use Rattle.css_step.specs.StyleScanViews.{style_scan_at};
+ghost use Rattle.js_step.specs.ScriptScanViews.{script_scan_at};
 ghost use Rattle.html_scan.specs.ClassViews.{class_at};
-ghost use Rattle.html_scan.specs.ScanViews.{cause_at, open_reference_at, reference_from};
-ghost use Rattle.html_scan.specs.Scans.{place_cause, style_cause, value_cause};
+ghost use Rattle.html_scan.specs.ScanViews.{cause_at, open_reference_at, reference_from, script_count, script_from};
+ghost use Rattle.html_scan.specs.Scans.{place_cause, script_cause, style_cause, value_cause};
 ghost use Rattle.place_core.specs.place.Errors as spec;
 ghost use Rattle.place_core.specs.page.Tags as tags;
 
@@ -16,10 +17,12 @@ use crate::cause::Cause;
 use crate::class::Class;
 use crate::names::{kind_on, tag_named};
 use crate::references::OpenReference;
-use crate::style_elements;
+use crate::script_refusals::refused_in_script;
 use crate::style_refusals::refused_in_style;
 use crate::url_refusals::refused_in_url;
+use crate::{scripts, style_elements};
 use css_step::StyleScan;
+use js_step::ScriptScan;
 use place_core::{Bare, Body, Code, Element, Kind, Place, Quotes, TagOf, TagPlace, ValuePlace};
 
 /// Why a byte is refused at a place.
@@ -170,7 +173,10 @@ fn in_value(
             let style = css_step::start(css);
             in_style(text, index, class, place, style, reference)
         }
-        Body::Js(_) => at_hand(Some(Code::NotBuilt)),
+        Body::Js(js) => {
+            let script = scripts::begun(js);
+            in_script(text, index, class, place, script, reference)
+        }
     }
 }
 
@@ -212,15 +218,35 @@ pub fn in_style(
     }
 }
 
+/// In a value that is a script.
+pub fn in_script(
+    text: &[u8],
+    index: usize,
+    class: Class,
+    place: ValuePlace,
+    script: ScriptScan,
+    reference: Option<OpenReference>,
+) -> Option<Cause>
+    requires inside { index < length text.now }
+    requires pending { script_from (script_count script) reference ≤ index }
+    ensures error { cause_at result ≡ script_cause place (script_scan_at script)
+        (open_reference_at text.now index reference) (class_at class) (get_or text.now index 0) }
+    ensures bound { IfSome result (λ cause. (cause.back ≤ index) × (cause.shown ≤ index)) }
+{
+    match refused_in_script(text, index, class, place.quotes, script, reference) {
+        Some(cause) => Some(cause),
+        None => at_hand(of_value(place, class)),
+    }
+}
+
 // In a value, but for what its language says of the bytes.
 fn of_value(place: ValuePlace, class: Class) -> Option<Code>
     ensures { result ≡ value_error place (class_at class) }
 {
     match place.body {
-        Body::Plain | Body::NoHole | Body::Url(_) | Body::Css(_) => {
+        Body::Plain | Body::NoHole | Body::Url(_) | Body::Css(_) | Body::Js(_) => {
             in_quotes(place.tag, place.quotes, class)
         }
-        Body::Js(_) => Some(Code::NotBuilt),
     }
 }
 

@@ -10,12 +10,17 @@ mod contents;
 mod declaration;
 mod ends;
 mod errors;
+mod fed_run;
 mod last_lexeme;
+mod laws;
 mod names;
 mod quoting;
 mod references;
 mod refusals;
 mod scan;
+mod script_places;
+mod script_refusals;
+mod scripts;
 mod slices;
 mod step;
 mod style_elements;
@@ -34,6 +39,7 @@ pub use class::{Class, Letter, class_of};
 pub use comment_stage::CommentStage;
 pub use ends::{end_place, is_shown, shown_place};
 pub use last_lexeme::last_lexeme_start;
+pub use laws::scripts_read_on;
 pub use names::{is_name_of, may_be_name_of};
 pub use quoting::Quoting;
 pub use references::{
@@ -41,6 +47,13 @@ pub use references::{
 };
 pub use refusals::{at_byte, at_end, lexeme_at_end};
 pub use scan::Scan;
+pub use script_refusals::{
+    ends_between, is_told_at_node_end, refused_in_script, script_at_byte, script_at_end,
+    script_begins, script_too_deep, stops,
+};
+pub use scripts::{
+    after_byte as after_script_byte, begun as begun_script, broken as broken_script, script_at_cut,
+};
 pub use slices::pending;
 pub use step::next;
 pub use style_elements::{behind_less, behind_name, end_tag_goes_on};

@@ -9,12 +9,13 @@ ghost use Rattle.html_scan.specs.declared.scan.Scan.TheVariants as scan;
 use crate::cause::Cause;
 use crate::class::Class;
 use crate::errors::{
-    after_block_bang_dash, at_hand, at_place, in_attribute_name, in_lexeme, in_quotes, in_style,
-    in_tag_name, name_ends,
+    after_block_bang_dash, at_hand, at_place, in_attribute_name, in_lexeme, in_quotes, in_script,
+    in_style, in_tag_name, name_ends,
 };
 use crate::names::{is_name_of, kind_on, may_be_name_of};
 use crate::quoting::Quoting;
 use crate::scan::Scan;
+use crate::script_refusals::of_open_in_script;
 use crate::slices::pending;
 use crate::style_elements;
 use crate::style_refusals::{of_open_in_style, of_unfinished_style};
@@ -52,6 +53,11 @@ pub fn at_byte(text: &[u8], index: usize, class: Class, scan: Scan) -> Option<Ca
             style,
             reference,
         } => in_style(text, index, class, place, style, reference),
+        Scan::InScript {
+            place,
+            script,
+            reference,
+        } => in_script(text, index, class, place, script, reference),
         Scan::InStyleElement(style) => at_hand(style_elements::refused(style, class, text[index])),
         Scan::AfterStyleLess(style) => {
             style_elements::refused_after_less(style, class, text[index])
@@ -95,6 +101,11 @@ pub fn at_end(text: &[u8], scan: Scan) -> Option<Cause>
             reference,
             ..
         } => of_open_in_style(text, style, reference),
+        Scan::InScript {
+            script,
+            reference,
+            ..
+        } => of_open_in_script(text, script, reference),
         Scan::BeforeType(_) | Scan::InType { .. } => at_hand(Some(Code::BadHTML)),
         Scan::AfterStyleLess(style) => style_elements::refused_at_less(style),
         Scan::InStyleName { style, from } => {

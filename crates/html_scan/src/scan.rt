@@ -3,6 +3,7 @@ use crate::quoting::Quoting;
 use crate::references::OpenReference;
 use crate::triple::Triple;
 use css_step::StyleScan;
+use js_step::ScriptScan;
 use place_core::{Element, Place, TagOf, ValuePlace};
 
 /// Where a text has been read to: a place, or within a lexeme. What has been read of a name, or of the value of a `type`, begins
@@ -43,6 +44,12 @@ pub enum Scan {
     InStyle {
         place: ValuePlace,
         style: StyleScan,
+        reference: Option<OpenReference>,
+    },
+    /// In a value that is a script, behind a byte of this text or in a reference. `script` has the body.
+    InScript {
+        place: ValuePlace,
+        script: ScriptScan,
         reference: Option<OpenReference>,
     },
     /// In a title, a textarea or a data block, after `<`.

@@ -16,7 +16,7 @@ use crate::tags::{in_attribute_name, in_tag, in_tag_name};
 use crate::texts::{after_less, after_solidus, in_declaration, in_doctype, in_text};
 use crate::triple::Triple;
 use crate::types::{before_type, in_type};
-use crate::values::{in_lexeme, in_style, in_value};
+use crate::values::{in_lexeme, in_script, in_style, in_value};
 use css_step::StyleScan;
 use place_core::{Element, Place};
 
@@ -54,6 +54,11 @@ pub fn next(text: &[u8], index: usize, class: Class, scan: Scan) -> Scan
             style,
             reference,
         } => in_style(text, index, class, place, style, reference),
+        Scan::InScript {
+            place,
+            script,
+            reference,
+        } => in_script(text, index, class, place, script, reference),
         Scan::AfterContentLess(element) => after_content_less(class, element, index),
         Scan::InContentName { element, from } => after_letters(text, index, class, element, from),
         Scan::InStyleElement(style) => style_elements::in_element(class, text[index], style),

@@ -13,8 +13,8 @@ use crate::class::Class;
 use crate::names::{kind_on, tag_named};
 use crate::scan::Scan;
 use place_core::{
-    Bare, Body, Css, CssTails, Element, Kind, Parts, Place, Quotes, Spots, TagOf, TagPlace,
-    ValuePlace,
+    Bare, Body, Css, CssTails, Element, Js, JsTails, Kind, Parts, Place, Quotes, Senses, Spots,
+    TagOf, TagPlace, ValuePlace,
 };
 
 // Where in a tag a path stands alone.
@@ -63,6 +63,24 @@ const STYLE_START: Css = Css::Code(CssTails {
     slash: false,
     lt: false,
 });
+
+/// Where a script begins, and where an empty one is.
+pub const SCRIPT_START: Js = Js::Code(
+    Senses {
+        re: true,
+        div: false,
+        brace: false,
+    },
+    JsTails {
+        word: false,
+        num: false,
+        lt: false,
+        slash: false,
+        plus: false,
+        minus: false,
+        hash: false,
+    },
+);
 
 /// Where a value has not begun.
 pub const UNBEGUN: Quotes = Quotes::Bare(Bare {
@@ -175,7 +193,7 @@ fn after_white(spots: Spots) -> Spots
     }
 }
 
-// Where a value of this kind begins; of one that is not read yet, it is refused.
+// Where a value of this kind begins; of a tag without one, it is refused.
 fn value_begins(tag: TagOf, typed: bool, kind: Option<Kind>) -> Scan
     ensures scan { (text : List ℕ) (k : ℕ)
         → scan_at text k result ≡ value_scan tag typed kind }
@@ -186,8 +204,9 @@ fn value_begins(tag: TagOf, typed: bool, kind: Option<Kind>) -> Scan
         Some(Kind::NoHole) => Scan::At(body_begins(tag, typed, Body::NoHole)),
         Some(Kind::Url) => Scan::At(body_begins(tag, typed, Body::Url(URL_START))),
         Some(Kind::Style) => Scan::At(body_begins(tag, typed, Body::Css(STYLE_START))),
+        Some(Kind::Script) => Scan::At(body_begins(tag, typed, Body::Js(SCRIPT_START))),
         Some(Kind::ScriptType) => Scan::BeforeType(tag),
-        _ => Scan::At(Place::Text),
+        None => Scan::At(Place::Text),
     }
 }
 

@@ -1,20 +1,22 @@
 ghost use Rattle.std.specs.Prelude.{◌≡◌, ◌+◌, ◌<◌, ◌≤◌, get_or, length};
 ghost use Rattle.css_step.specs.StyleScanViews.{style_scan_at};
+ghost use Rattle.js_step.specs.ScriptScanViews.{script_scan_at};
 ghost use Rattle.html_scan.specs.ClassViews.{class_at};
 ghost use Rattle.html_scan.specs.ScanViews.{open_reference_at, pending_from, reference_from, scan_at, triple_at};
-ghost use Rattle.html_scan.specs.ScanViews.{unless_led};
+ghost use Rattle.html_scan.specs.ScanViews.{script_count, script_from, unless_led};
 ghost use Rattle.html_scan.specs.Scans.{At, bare_leads, bare_next, style_fed, style_value_next};
-ghost use Rattle.html_scan.specs.Scans.{value_fed, value_next};
+ghost use Rattle.html_scan.specs.Scans.{script_fed_next, script_value_next, value_fed, value_next};
 ghost use Rattle.html_scan.specs.Scans as spec;
 
 use crate::class::Class;
 use crate::references::OpenReference;
 use crate::scan::Scan;
-use crate::styles;
-use crate::tags::{UNBEGUN, before_name, content};
+use crate::tags::{SCRIPT_START, UNBEGUN, before_name, content};
 use crate::triple::Triple;
 use crate::urls::{UrlPoint, in_url};
+use crate::{scripts, styles};
 use css_step::StyleScan;
+use js_step::ScriptScan;
 use place_core::{Bare, Body, Css, CssTails, Place, Quotes, ValuePlace};
 
 /// In a value without quotes that has begun.
@@ -116,6 +118,62 @@ fn in_bare_style(
     }
 }
 
+/// In a value that is a script, behind a byte of the text or in a reference.
+pub fn in_script(
+    text: &[u8],
+    index: usize,
+    class: Class,
+    place: ValuePlace,
+    script: ScriptScan,
+    reference: Option<OpenReference>,
+) -> Scan
+    requires inside { index < length text.now }
+    requires pending { script_from (script_count script) reference ≤ index }
+    ensures scan { scan_at text.now (index + 1) result ≡ script_value_next place
+        (script_scan_at script) (open_reference_at text.now index reference) (class_at class)
+        (get_or text.now index 0) }
+    ensures pending { pending_from result ≤ index + 1 }
+{
+    match (place.quotes, class) {
+        (Quotes::Dq, Class::QuotationMark) => Scan::At(before_name(place.tag, place.typed)),
+        (Quotes::Sq, Class::Apostrophe) => Scan::At(before_name(place.tag, place.typed)),
+        (Quotes::Bare(bare), _) => in_bare_script(
+            text, index, class, place, bare.uq, script, reference,
+        ),
+        (quotes, _) => scripts::fed(
+            text,
+            index,
+            class,
+            between(place, quotes),
+            script,
+            reference,
+        ),
+    }
+}
+
+// The same without quotes.
+fn in_bare_script(
+    text: &[u8],
+    index: usize,
+    class: Class,
+    place: ValuePlace,
+    begun: bool,
+    script: ScriptScan,
+    reference: Option<OpenReference>,
+) -> Scan
+    requires inside { index < length text.now }
+    requires pending { script_from (script_count script) reference ≤ index }
+    ensures scan { scan_at text.now (index + 1) result ≡ bare_leads place begun (class_at class)
+        (script_fed_next (spec.value_between place spec.bare_begun) (script_scan_at script)
+        (open_reference_at text.now index reference) (class_at class) (get_or text.now index 0)) }
+    ensures pending { pending_from result ≤ index + 1 }
+{
+    match led(class, place, begun) {
+        Some(place) => Scan::At(place),
+        None => scripts::fed(text, index, class, between(place, BEGUN), script, reference),
+    }
+}
+
 // In a value without quotes, or before one.
 fn in_bare(
     text: &[u8],
@@ -189,7 +247,11 @@ fn fed(
                 reference,
             )
         }
-        Body::Plain | Body::NoHole | Body::Js(_) => Scan::At(with_quotes(place, quotes)),
+        Body::Js(js) => {
+            let place = empty_script_between(place, quotes);
+            scripts::fed(text, index, class, place, scripts::begun(js), reference)
+        }
+        Body::Plain | Body::NoHole => Scan::At(with_quotes(place, quotes)),
     }
 }
 
@@ -211,6 +273,17 @@ fn empty_style_between(place: ValuePlace, quotes: Quotes) -> ValuePlace
     ValuePlace {
         quotes,
         body: Body::Css(Css::Code(empty)),
+        ..place
+    }
+}
+
+// So has that of a script.
+fn empty_script_between(place: ValuePlace, quotes: Quotes) -> ValuePlace
+    ensures { result ≡ spec.empty_script_between place quotes }
+{
+    ValuePlace {
+        quotes,
+        body: Body::Js(SCRIPT_START),
         ..place
     }
 }

@@ -1,5 +1,5 @@
 -- Whole texts: what is accepted is refused on no path, and on no two.
-use Rattle.std.proofs.Common.{◌≡◌, ℕ, ◌+◌, zero, suc, Bool, false, true, if◌then◌else◌, List, [], ◌∷◌, length, Option, Some, None, Result, Ok, is_some, refl, sym, ap, ◌∙◌, subst, ⊎_elim}
+use Rattle.std.proofs.Common.{◌≡◌, ℕ, ◌+◌, zero, suc, Bool, false, true, if◌then◌else◌, List, [], ◌∷◌, length, Option, Some, None, Result, Ok, is_some, refl, sym, ap, ◌∙◌, subst, ⊎_elim, option_map, ◌++◌}
 use Rattle.place_core.specs.page.Classes.{Class, class_of, is_equals_sign}
 use Rattle.place_core.specs.page.Contents.{pending_bytes}
 use Rattle.css_step.specs.StyleOrigins.{style_scan_parts}
@@ -8,17 +8,18 @@ use Rattle.css_step.specs.StyleSetLaws.{StyleScanBelow}
 use Rattle.css_step.proofs.StyleGrowth.{styles-grow}
 use Rattle.place_core.specs.place.ApartPlaces.{ArePlacesApart, HasApart, opened_apart, beginning_at, spell_apart}
 use Rattle.place_core.specs.page.Paths.{at_cut}
-use Rattle.place_core.specs.page.References.{Form, Reference, Closed, Open, ReferenceStep, Grows, Closes, Breaks, flushed, turn}
+use Rattle.place_core.specs.page.References.{Form, Reference, Closed, Open, ReferenceStep, Grows, Closes, Breaks, flushed, turn, as_it_stands}
 use Rattle.place_core.specs.place.Places.{Below}
 use Rattle.place_core.proofs.ApartPlacesFacts.{apart-sides, has-side, two-below}
-use Rattle.place_core.specs.place.Errors.{node, PathRefusal, broken_off, cut_error, lexeme_error, path_refusal, place_before_bytes, standing_at}
+use Rattle.place_core.specs.place.Errors.{node, PathRefusal, broken_off, cut_error, lexeme_error, path_refusal, place_before_bytes, standing_at, TextRead, nothing_read}
 use Rattle.place_core.specs.place.LastLexeme.{last_lexeme_start}
-use Rattle.place_core.specs.place.PathPairs.{ApartBefore, Clashes, ClashesApart, MeetsColon, byte_clash, is_in_beginning, state_before, unknown_beginning, unknown_part}
+use Rattle.place_core.specs.place.PathPairs.{ApartBefore, ClashesInText, ClashesApart, MeetsColon, byte_clash, is_in_beginning, state_before, unknown_beginning, unknown_part}
 use Rattle.place_core.specs.page.Html.{next}
 use Rattle.place_core.specs.page.States.{AttributeName, AttributeValue, InContent, Characters, Bytes, InLanguage, Pending, Template, LexState}
-use Rattle.place_core.specs.page.Tags.{Deciding, OfKind, OfUrl, OfStyle, Quoting, Tag, ValueOf, ValueState, feed_bytes, languages}
-use Rattle.place_core.specs.place.StatePlaces.{placed}
+use Rattle.place_core.specs.page.Tags.{Deciding, OfKind, OfUrl, OfStyle, Quoting, Tag, ValueOf, ValueState, feed_bytes, languages, OfScript, Value, with_bytes, feed_value, cut_value}
+use Rattle.place_core.specs.place.StatePlaces.{placed, quotes_at, value_spot, value_body_before, value_body}
 use Rattle.place_core.specs.place.UrlParts.{parts_of, placed_prefix}
+use Rattle.place_core.specs.declared.body.Body.TheVariants as body
 use Rattle.place_core.specs.declared.code.Code.{Code}
 use Rattle.place_core.specs.declared.code.Code.TheVariants as code
 use Rattle.place_core.specs.declared.parts.Parts.{Parts}
@@ -27,10 +28,17 @@ use Rattle.place_core.specs.declared.place.Place.TheVariants as place
 use Rattle.place_core.specs.declared.value_place.ValuePlace.{ValuePlace}
 use Rattle.place_core.specs.declared.prefix.Prefix.{Prefix}
 use Rattle.place_core.proofs.Semilattices.{none_some, one_value}
-use Rattle.html_scan.specs.Scans.{Scan, At, AfterLess, AfterLessSolidus, InDeclaration, InTagName, InAttributeName, InUrl, InStyle, InStyleElement, InCommentEnd, InContentEnd, BeforeType, InType, if_unfinished, pending_left, scan_place, scan_reference, scan_error, scan_next, style_feeding, style_scan, triple_behind, url_scan, with_style}
+use Rattle.html_scan.specs.Scans.{Scan, At, AfterLess, AfterLessSolidus, InDeclaration, InTagName, InAttributeName, InUrl, InStyle, InStyleElement, InCommentEnd, InContentEnd, BeforeType, InType, if_unfinished, pending_left, scan_place, scan_reference, scan_error, scan_next, style_feeding, style_scan, triple_behind, url_scan, with_style, InScript}
+use Rattle.js_lexer.specs.Feeding.{feed_script}
+use Rattle.js_lexer.specs.Spots.{Spot, spot_before}
+use Rattle.js_lexer.specs.States.{ScriptState}
+use Rattle.place_core.specs.place.ScriptParts.{script_place}
+use Rattle.place_core.specs.declared.quotes.Quotes.{Quotes}
+use Rattle.html_step.proofs.ScriptReads.{nil-fits}
+use Rattle.html_step.proofs.ScriptSlashes.{slash-accepted}
 use Rattle.html_step.specs.Laws.{AcceptsText}
 use Rattle.html_step.specs.Origins.{is_apart, scan_parts}
-use Rattle.html_step.specs.Steps.{stepped}
+use Rattle.html_step.specs.Steps.{stepped, scan_read_behind}
 use Rattle.html_step.proofs.ApartParts.{both-apart, of-differs}
 use Rattle.html_step.proofs.BelowScans.{below-element}
 use Rattle.html_step.proofs.ElementsBelow.{under-element}
@@ -168,7 +176,7 @@ own-shown : (s : LexState ValueState) (n m : StyleScan) (k : Pending) (b : ℕ) 
     → Below own (scan_place (InStyleElement m (pending_left k (b ∷ bs))))
 own-shown s n m k b bs own i l e h =
     let left = pending_bytes (pending_left k (b ∷ bs)) in
-    let taken = stands-shown (InStyleElement m k) (b ∷ bs) (subst StandsHere (sym e) tt) in
+    let taken = stands-shown (InStyleElement m k) (b ∷ bs) tt (subst StandsHere (sym e) tt) in
     let fed = fed-beside styles-beside left true (length left) n m l taken in
     let low = feed_bytes style_feeding n left in
     let high = feed_bytes style_feeding m left in
@@ -203,6 +211,7 @@ met-at s t g h (InStyleElement m k) b bs x y i j l n e a =
 met-at s t g h (At z) b bs x y i j l n e a = apart-at s t g h (At z) b bs x y tt a
 met-at s t g h (InUrl v z r) b bs x y i j l n e a = apart-at s t g h (InUrl v z r) b bs x y tt a
 met-at s t g h (InStyle v z r) b bs x y i j l n e a = apart-at s t g h (InStyle v z r) b bs x y tt a
+met-at s t g h (InScript v z r) b bs x y i j l n e a = apart-at s t g h (InScript v z r) b bs x y tt a
 met-at s t g h AfterLess b bs x y i j l n e a = apart-at s t g h AfterLess b bs x y tt a
 met-at s t g h AfterLessSolidus b bs x y i j l n e a = apart-at s t g h AfterLessSolidus b bs x y tt a
 met-at s t g h (InDeclaration z) b bs x y i j l n e a = apart-at s t g h (InDeclaration z) b bs x y tt a
@@ -213,32 +222,78 @@ met-at s t g h (InContentEnd z w) b bs x y i j l n e a = apart-at s t g h (InCon
 met-at s t g h (BeforeType z) b bs x y i j l n e a = apart-at s t g h (BeforeType z) b bs x y tt a
 met-at s t g h (InType z w v u) b bs x y i j l n e a = apart-at s t g h (InType z w v u) b bs x y tt a
 
-unknown-accepted : (bytes : List ℕ) (k since : ℕ) (s : LexState ValueState) (f : Scan) (q : Place) (u : Unknown s f) (x : PathRefusal) → stepped k since bytes f ≡ Ok q
+unknown-accepted : (bytes : List ℕ) (k : ℕ) (since : TextRead) (s : LexState ValueState) (f : Scan) (q : Place) (u : Unknown s f) (x : PathRefusal) → stepped k since bytes f ≡ Ok q
     → path_refusal bytes (unknown_beginning s) ≡ Some x → ⊥
 unknown-accepted bytes k since s f q u x o h =
-    let a = grows-from bytes 0 0 0 u.scan f q u.valid u.below (accepts-anywhere bytes k since 0 0 f q o) in
+    let a = grows-from bytes 0 nothing_read nothing_read u.scan f q refl u.valid u.below (accepts-anywhere bytes k since 0 nothing_read f q refl o) in
     none-refused x (path_refusal bytes (unknown_beginning s))
-    (subst (λ (r : Result Place PathRefusal). Says r 0 0 bytes (unknown_beginning s)) a.1 (says bytes 0 0 (unknown_beginning s) u.scan u.at)).0 h
+    (subst (λ (r : Result Place PathRefusal). Says r 0 nothing_read bytes (unknown_beginning s)) a.1 (says bytes 0 nothing_read (unknown_beginning s) u.scan u.at (nil-fits (unknown_beginning s)))).0 h
 
--- At the end of a text the place is above those of paths that are apart there.
+-- At the end of a text the place is above those of paths that are apart there. In a script none is.
+script-sides : (t : Tag) (q : Quotes) (o : Option Spot) (a : Place) → value_spot t q (option_map (λ p. body.Js (script_place p)) o) ≡ Some a
+    → is_some (beginning_at a) ≡ true → ⊥
+script-sides t q (Some p) a e h =
+    no (ap (λ (x : Place). is_some (beginning_at x)) (one_value (place.Value (record { tag = t.tag; typed = t.typed; quotes = q; body = body.Js (script_place p) })) a e) ∙ h)
+script-sides t q None a e h = absurd (none_some a e)
+
+script-value-side : (t : Tag) (q : Quotes) (v : Value ValueState) (bytes : List ℕ) (s : ScriptState) → v ≡ ValueOf (OfScript s) → (a : Place)
+    → value_spot t q (value_body_before v) ≡ Some a → is_some (beginning_at a) ≡ true → ⊥
+script-value-side t q v bytes s d a e h =
+    script-sides t q (spot_before s) a (sym (ap (λ (x : Value ValueState). value_spot t q (value_body_before x)) d) ∙ e) h
+
+script-bytes : (bytes : List ℕ) (s : ScriptState) → (r : ScriptState) × (with_bytes languages (ValueOf (OfScript s)) bytes ≡ ValueOf (OfScript r))
+script-bytes [] s = (s, refl)
+script-bytes (b ∷ []) s = (feed_script s b, refl)
+script-bytes (b ∷ d ∷ bs) s = script-bytes (d ∷ bs) (feed_script s b)
+
+-- of a value that is no script it is the one at the end of the text
+abbrev IsNoScript : Value ValueState → Type 0
+IsNoScript (ValueOf (OfScript v)) = ⊥
+IsNoScript v = Unit {0}
+
+before-cut : (bytes : List ℕ) (v : Value ValueState) → IsNoScript v
+    → value_body_before (with_bytes languages v bytes) ≡ value_body (cut_value languages (with_bytes languages v bytes))
+before-cut [] (ValueOf (OfKind k)) i = refl
+before-cut [] (ValueOf (OfUrl u)) i = refl
+before-cut [] (ValueOf (OfStyle v)) i = refl
+before-cut [] (ValueOf (OfScript v)) i = absurd i
+before-cut [] (Deciding k before) i = refl
+before-cut (b ∷ bs) (ValueOf (OfKind k)) i = before-cut bs (ValueOf (OfKind k)) tt
+before-cut (b ∷ bs) (ValueOf (OfUrl u)) i = before-cut bs (ValueOf (feed_value (OfUrl u) b)) tt
+before-cut (b ∷ bs) (ValueOf (OfStyle v)) i = before-cut bs (ValueOf (feed_value (OfStyle v) b)) tt
+before-cut (b ∷ bs) (ValueOf (OfScript v)) i = absurd i
+before-cut (b ∷ bs) (Deciding k before) i = before-cut bs (Deciding k (before ++ b ∷ [])) tt
+
+before-whole : (q : Quoting) (t : Tag) (v : Value ValueState) (r : Reference) (a : Place) → place_before_bytes (AttributeValue q t v r) [] ≡ Some a
+    → value_spot t (quotes_at q) (value_body_before (with_bytes languages v (as_it_stands r))) ≡ Some a
+before-whole q t v Closed a e = e
+before-whole q t v (Open f bytes) a e = e
+
 pub before-side : (s : LexState ValueState) (a : Place) → place_before_bytes s [] ≡ Some a → is_some (beginning_at a) ≡ true
     → placed (at_cut languages s) ≡ Some a
 before-side (AttributeName t name) a e h = absurd (no (ap on_side e ∙ h))
-before-side (AttributeValue q t v Closed) a e h = e
-before-side (AttributeValue q t v (Open f bytes)) a e h = e
+before-side (AttributeValue q t (ValueOf (OfScript v)) Closed) a e h =
+    (let d = script-bytes [] v in absurd (script-value-side t (quotes_at q) (with_bytes languages (ValueOf (OfScript v)) []) [] d.0 d.1 a e h))
+before-side (AttributeValue q t (ValueOf (OfScript v)) (Open f bytes)) a e h =
+    (let d = script-bytes (38 ∷ bytes) v in
+    absurd (script-value-side t (quotes_at q) (with_bytes languages (ValueOf (OfScript v)) (38 ∷ bytes)) (38 ∷ bytes) d.0 d.1 a e h))
+before-side (AttributeValue q t (ValueOf (OfKind k)) r) a e h = ap (value_spot t (quotes_at q)) (sym (before-cut (as_it_stands r) (ValueOf (OfKind k)) tt)) ∙ before-whole q t (ValueOf (OfKind k)) r a e
+before-side (AttributeValue q t (ValueOf (OfUrl u)) r) a e h = ap (value_spot t (quotes_at q)) (sym (before-cut (as_it_stands r) (ValueOf (OfUrl u)) tt)) ∙ before-whole q t (ValueOf (OfUrl u)) r a e
+before-side (AttributeValue q t (ValueOf (OfStyle v)) r) a e h = ap (value_spot t (quotes_at q)) (sym (before-cut (as_it_stands r) (ValueOf (OfStyle v)) tt)) ∙ before-whole q t (ValueOf (OfStyle v)) r a e
+before-side (AttributeValue q t (Deciding k before) r) a e h = ap (value_spot t (quotes_at q)) (sym (before-cut (as_it_stands r) (Deciding k before) tt)) ∙ before-whole q t (Deciding k before) r a e
 before-side (InContent x (InLanguage v) y) a e h = e
 before-side (InContent x (Characters r) y) a e h = e
 before-side (InContent x Bytes y) a e h = e
 before-side _ a e h = e
 
 -- the path's own place after the bytes, below the one of the text
-pub own-after : (bytes : List ℕ) (k since : ℕ) (s : LexState ValueState) (g f : Scan) (q : Place) → scanned s ≡ Some g → ScanValid g → ScanBelow g f
+pub own-after : (bytes : List ℕ) (k : ℕ) (since : TextRead) (s : LexState ValueState) (g f : Scan) (q : Place) → scanned s ≡ Some g → ScanValid g → ScanBelow g f
     → stepped k since bytes f ≡ Ok q → (a : Place) × (placed (node bytes s) ≡ Some a) × Below a q
 own-after bytes k since s g f q i v l e =
-    let r = grows-from bytes k since since g f q v l e in
-    (r.0, (subst (λ o. Says o k since bytes s) r.1 (says bytes k since s g i)).1, r.2)
+    let r = grows-from bytes 0 nothing_read nothing_read g f q refl v l (accepts-anywhere bytes k since 0 nothing_read f q refl e) in
+    (r.0, (subst (λ o. Says o 0 nothing_read bytes s) r.1 (says bytes 0 nothing_read s g i (nil-fits s))).1, r.2)
 
-pub ends-apart : (k since : ℕ) (f : Scan) (q : Place) (s t : LexState ValueState) (g h : Scan) → scanned s ≡ Some g → scanned t ≡ Some h
+pub ends-apart : (k : ℕ) (since : TextRead) (f : Scan) (q : Place) (s t : LexState ValueState) (g h : Scan) → scanned s ≡ Some g → scanned t ≡ Some h
     → ScanValid g → ScanValid h → ScanBelow g f → ScanBelow h f → stepped k since [] f ≡ Ok q → ApartBefore [] s t → HasApart q
 ends-apart k since f q s t g h i j v w l m e a =
     let sides = apart-sides a.own a.other_own a.apart in
@@ -249,7 +304,7 @@ ends-apart k since f q s t g h i j v w l m e a =
     (subst (λ (z : Place). Below z q) (one_value y.0 a.other_own (sym y.1 ∙ before-side t a.other_own a.other_stands (has-side a.other_own sides.1))) y.2)
     a.apart
 
-never-apart : (bs : List ℕ) (k since : ℕ) (f : Scan) (q : Place) (s t : LexState ValueState) (g h : Scan) (e : Code) (at : ℕ) → scanned s ≡ Some g
+never-apart : (bs : List ℕ) (k : ℕ) (since : TextRead) (f : Scan) (q : Place) (s t : LexState ValueState) (g h : Scan) (e : Code) (at : ℕ) → scanned s ≡ Some g
     → scanned t ≡ Some h → ScanValid g → ScanValid h → ScanBelow g f → ScanBelow h f → ScanValid f → ScanPlain f
     → stepped k since bs f ≡ Ok q → ApartBefore bs s t → ClashesApart bs (state_before s bs) (state_before t bs) e at → ⊥
 never-apart [] k since f q s t g h e at i j v w l m z p o a c =
@@ -271,9 +326,9 @@ never-apart (b ∷ bs) k since f q s t g h e at i j v w l m z p o a c =
     (read-ok b bs k since f q z o)
     c.one.refused
 
-never-clashes : (bytes : List ℕ) (k since : ℕ) (f : Scan) (q : Place) (s t : LexState ValueState) (g h : Scan) (e : Code) (at : ℕ) → scanned s ≡ Some g
+never-clashes : (bytes : List ℕ) (k : ℕ) (since : TextRead) (f : Scan) (q : Place) (s t : LexState ValueState) (g h : Scan) (e : Code) (at : ℕ) → scanned s ≡ Some g
     → scanned t ≡ Some h → ScanValid g → ScanValid h → ScanBelow g f → ScanBelow h f → ScanValid f → ScanPlain f
-    → stepped k since bytes f ≡ Ok q → Clashes bytes s t e at → ⊥
+    → stepped k since bytes f ≡ Ok q → ClashesInText bytes s t e at → ⊥
 never-clashes [] k since f q s t g h e at i j v w l m z p o c = c
 never-clashes (b ∷ bs) k since f q s t g h e zero i j v w l m z p o c = no-clash s t g h f (class_of b) b e i j l m (step-ok k since b bs f q o).0 c
 never-clashes (b ∷ bs) k since f q s t g h e (suc at) i j v w l m z p o c =
@@ -284,7 +339,7 @@ never-clashes (b ∷ bs) k since f q s t g h e (suc at) i j v w l m z p o c =
     let other = next languages Template t (class_of b) b in
     let i = (agrees-at s g b i).steps x.0 in
     let j = (agrees-at t h b j).steps y.0 in
-    let last = last_lexeme_start k since (scan_reference f) (class_of b) b in
+    let last = scan_read_behind k since f (class_of b) b in
     let v = scan-valid g (class_of b) b v x.0 in
     let w = scan-valid h (class_of b) b w y.0 in
     let p = scan-plain f b p in
@@ -297,6 +352,8 @@ never-clashes (b ∷ bs) k since f q s t g h e (suc at) i j v w l m z p o c =
 pub accepts-text : AcceptsText
 accepts-text bytes p q s v e i = (
   (let g = grows-text bytes i.own p q i.valid v i.below e in ((one-text bytes i.own s i.stands).0 g.0 g.1).0),
-  λ t x at j c. never-clashes bytes 0 0 (At p) q s t (At i.own) (At j.own) x at (at-place s i.own i.stands) (at-place t j.own j.stands)
-      i.valid j.valid i.below j.below v tt (text-steps bytes p q e) c,
+  λ t x at j c. ⊎_elim
+      (λ d. never-clashes bytes 0 nothing_read (At p) q s t (At i.own) (At j.own) x at (at-place s i.own i.stands) (at-place t j.own j.stands)
+      i.valid j.valid i.below j.below v tt (text-steps bytes p q e) d)
+      (λ d. slash-accepted bytes p q s t x at v e i j d) c,
 )

@@ -1,16 +1,19 @@
 -- Where it comes from that two paths of a place met apart: they did before the text, and stay in the beginning of the URL; or they come apart within
 -- it, where one begins the URL with a byte and the other goes on with it.
+use Rattle.js_lexer.specs.States.{At as ScriptAt, InRegexp, InString, Slash}
+use Rattle.place_core.specs.declared.js_tails.JsTails.{JsTails}
+use Rattle.place_core.specs.declared.senses.Senses.{Senses}
+use Rattle.js_step.specs.ScriptOrigins.{script_set_at, script_set_has}
 use Rattle.std.proofs.Common.{◌≡◌, ℕ, ◌+◌, Bool, true, false, ◌||◌, List, [], ◌∷◌, ◌++◌, length, arith, Option, Some, None, Ok, is_some, option_map, if◌then◌else◌, refl, sym, ap, ap₂, ◌∙◌, subst, ◌⊎◌, inl, inr}
 use Rattle.place_core.specs.page.Classes.{is_equals_sign, class_of}
 use Rattle.place_core.specs.page.Contents.{pending_bytes}
 use Rattle.place_core.specs.page.Html.{next}
 use Rattle.place_core.specs.page.References.{Reference, Closed, Open, Form, ReferenceStep, Grows, Closes, Breaks, turn, flushed, plain_bytes, next_reference, as_it_stands, reference_turned, turn_bytes}
 use Rattle.place_core.specs.page.States.{Template, LexState, Text, TagOpen, EndTagOpen, DeclarationOpen, Started, StartedDash, Inside, Dash, DashDash, Bang, Broken, InComment, BogusComment, InDoctype, TagName, WholeTagName, BeforeAttributeName, AttributeName, WholeAttributeName, AfterAttributeName, BeforeAttributeValue, AttributeValue, AfterAttributeValue, SelfClosingStartTag, Characters, Bytes, InLanguage, Pending, Nothing, PendingLess, LessAtCut, PendingName, PendingBang, PendingBangDash, InContent, Unread}
-use Rattle.place_core.specs.page.Tags.{Quoting, Tag, is_second_type, ValueOf, Deciding, ValueState, OfKind, OfUrl, OfStyle, languages, feed_bytes}
+use Rattle.place_core.specs.page.Tags.{Quoting, Tag, is_second_type, ValueOf, Deciding, ValueState, OfKind, OfUrl, OfStyle, languages, feed_bytes, OfScript}
 use Rattle.place_core.specs.place.ApartPlaces.{HasApart, opened_apart, beginning_at, beginning_in_body, beginning_in_css, side, spell_apart}
-use Rattle.place_core.specs.place.Errors.{is_written, node, place_before_bytes}
-use Rattle.place_core.specs.place.LastLexeme.{last_lexeme_start}
-use Rattle.place_core.specs.place.LanguagePlaces.{both_prefixes}
+use Rattle.place_core.specs.place.Errors.{is_written, node, place_before_bytes, TextRead, nothing_read}
+use Rattle.place_core.specs.place.LanguagePlaces.{both_prefixes, js_star_has}
 use Rattle.place_core.specs.place.Membership.{IsIn, Bears}
 use Rattle.place_core.specs.place.PathPairs.{ApartBefore, Keeps, PartWithin, state_before, is_in_beginning, is_in_reference, url_in_style}
 use Rattle.place_core.specs.place.Places.{Has, IsValid, body_has, joined_bodies, quotes_have}
@@ -33,9 +36,15 @@ use Rattle.place_core.specs.declared.quotes.Quotes.{Quotes}
 use Rattle.place_core.specs.declared.quotes.Quotes.TheVariants as quotes
 use Rattle.place_core.specs.declared.value_place.ValuePlace.{ValuePlace}
 use Rattle.place_core.proofs.Semilattices.{none_some, one_value}
-use Rattle.html_scan.specs.Scans.{Scan, At, InAttributeName, InUrl, InStyle, InStyleElement, scan_reference, scan_error, scan_next, scan_place, parts_feeding, parts_with, style_feeding, with_body, with_style}
+use Rattle.html_scan.specs.Scans.{Scan, At, InAttributeName, InUrl, InStyle, InStyleElement, scan_reference, scan_error, scan_next, scan_place, parts_feeding, parts_with, style_feeding, with_body, with_style, InScript}
+use Rattle.js_lexer.specs.Spots.{Spot, script_spot}
+use Rattle.js_lexer.specs.States.{ScriptState}
+use Rattle.js_step.specs.ScriptScans.{ScriptScan}
+use Rattle.place_core.specs.place.ScriptParts.{script_may_begin_text, script_place}
+use Rattle.html_step.proofs.ScriptPaths.{kept_script_scanned}
+use Rattle.html_step.proofs.ScriptReads.{nil-fits}
 use Rattle.html_step.specs.Origins.{body_parts, byte_origin, fed_in, scan_parts}
-use Rattle.html_step.specs.Steps.{after_text, stepped}
+use Rattle.html_step.specs.Steps.{after_text, stepped, scan_read_behind}
 use Rattle.html_step.proofs.ApartParts.{Arise, arise-in, inside-bytes, is_inside, mapped-some, of-differs, opens-apart, several-apart, waits, apart-inside}
 use Rattle.html_step.proofs.EndsApart.{end-apart}
 use Rattle.html_step.proofs.MetScans.{ScanApart, ScanOpensNone, Stand, below-opens, next-stand, parts-apart, scan-opens, stand-in}
@@ -49,7 +58,7 @@ use Rattle.html_step.proofs.PendingScans.{below-pending, open-settled, read-sett
 use Rattle.html_step.proofs.FromSteps.{from-byte}
 use Rattle.html_step.proofs.FromTexts.{own-has}
 use Rattle.html_step.proofs.KeptBeginnings.{before-begins, keeps-back, keeps-fore, before-none, begins-value, is_url_value, side-begins, sides-within, stays-there}
-use Rattle.html_step.proofs.PathScans.{block_scanned, content_scanned, element_scanned, scanned, style_element_scanned, style_value_scanned, url_value}
+use Rattle.html_step.proofs.PathScans.{block_scanned, content_scanned, element_scanned, scanned, style_element_scanned, style_value_scanned, url_value, script_there, script_unless_placed, script_value_scanned}
 use Rattle.html_step.proofs.OneTexts.{Says, says}
 use Rattle.html_step.proofs.PlaceParts.{ValueBelow}
 use Rattle.html_step.proofs.ScanOrder.{ScanBelow, ScanHas, ScanValid, StyleUnderBody, UrlWithin, parts-of-below, under-body, url-within}
@@ -67,7 +76,7 @@ use Rattle.css_step.specs.StyleSetLaws.{StyleScanBelow, below_itself}
 use Rattle.html_step.proofs.UrlOrder.{fed-grow, fed-more}
 use Rattle.html_step.proofs.UrlScans.{NextUrl, ScanPlain, below-goes, below-parts, below-reference, element-closed-by, element-parts-by, fed-same, has_met, next-url, raw-opened, scan-plain, scan-unmet, scan_fed, style-parts, url-parts, within-body}
 use Rattle.html_step.proofs.ValidSteps.{scan-valid}
-use Rattle.html_step.proofs.WholeTexts.{end-ok, grows-from, step-ok, text-steps}
+use Rattle.html_step.proofs.WholeTexts.{end-ok, grows-from, step-ok, text-steps, accepts-anywhere}
 use Rattle.url_lexer.specs.Classes.{url_class_of}
 use Rattle.url_lexer.specs.Parts.{UrlPart, UrlStart, UrlOpen, UrlOpenhole, UrlPrequery, UrlQuery, UrlBad}
 use Rattle.url_lexer.specs.Prefixes as spelling
@@ -172,6 +181,21 @@ no-url-there : (p : Pending) (v : Style Url) (t : Parts) (o : Option StyleScan) 
 no-url-there p v t (Some n) e i h = none_some t (sym (no-url v n (has-scan v n e) i) ∙ where-parts p n t h)
 no-url-there p v t None e i h = none_some t h
 
+-- in a script there is no URL
+no-url-kept : (q : Quoting) (x : Tag) (o : Option ScriptScan) (r : Reference) → parts_where (script_there q x o r) ≡ None
+no-url-kept q x (Some n) r = refl
+no-url-kept q x None r = refl
+
+no-url-placed : (q : Quoting) (x : Tag) (begins : Bool) (p : Option Spot) (o : Option ScriptScan)
+    → parts_where (script_unless_placed q x (if begins then option_map (λ (z : Spot). body.Js (script_place z)) p else None) o) ≡ None
+no-url-placed q x true (Some z) o = refl
+no-url-placed q x true None o = no-url-kept q x o Closed
+no-url-placed q x false p o = no-url-kept q x o Closed
+
+no-url-script : (q : Quoting) (x : Tag) (s : ScriptState) (r : Reference) → parts_where (script_value_scanned q x s r) ≡ None
+no-url-script q x s Closed = no-url-placed q x (script_may_begin_text s) (script_spot s) (kept_script_scanned s)
+no-url-script q x s (Open f bytes) = no-url-kept q x (kept_script_scanned s) (Open f bytes)
+
 url-path : (s : LexState ValueState) (t : Parts) → parts_where (scanned s) ≡ Some t → UrlPath s t
 url-path (Text r) t h = absurd (none_some t h)
 url-path (TagOpen r) t h = absurd (none_some t h)
@@ -219,6 +243,7 @@ url-path (AttributeValue q x (ValueOf (OfStyle (style.InUrl (Quoted y z) u))) r)
 url-path (AttributeValue q x (ValueOf (OfStyle (style.InUrl Fresh u))) r) t h = absurd (no-url-in q x (style.InUrl Fresh u) r t (style_scanned (style.InUrl Fresh u)) refl refl h)
 url-path (AttributeValue q x (ValueOf (OfStyle (style.InUrl Ended u))) r) t h = absurd (no-url-in q x (style.InUrl Ended u) r t (style_scanned (style.InUrl Ended u)) refl refl h)
 url-path (AttributeValue q x (ValueOf (OfStyle (Out s))) r) t h = absurd (no-url-in q x (Out s) r t (style_scanned (Out s)) refl refl h)
+url-path (AttributeValue q x (ValueOf (OfScript s)) r) t h = absurd (none_some t (sym (no-url-script q x s r) ∙ h))
 url-path (AttributeValue q x (ValueOf (OfUrl u)) r) t h = record {
   part = u.part;
   is = one_value t (parts_of u.part) (sym h ∙ url-parts (url_value x (quotes_at q) (parts_of u.part)) u.triple r);
@@ -255,6 +280,7 @@ url-path (InContent element.Style (InLanguage (OfStyle (style.InUrl Fresh u))) p
 url-path (InContent element.Style (InLanguage (OfStyle (style.InUrl Ended u))) p) t h = absurd (no-url-there p (style.InUrl Ended u) t (style_scanned (style.InUrl Ended u)) refl refl h)
 url-path (InContent element.Style (InLanguage (OfStyle (Out s))) p) t h = absurd (no-url-there p (Out s) t (style_scanned (Out s)) refl refl h)
 url-path (InContent element.Style (InLanguage (OfKind k)) p) t h = absurd (none_some t h)
+url-path (InContent element.Style (InLanguage (OfScript k)) p) t h = absurd (none_some t h)
 url-path (InContent element.Style (InLanguage (OfUrl u)) p) t h = absurd (none_some t h)
 url-path (InContent _ (InLanguage v) p) t h = absurd (none_some t h)
 url-path Unread t h = absurd (none_some t h)
@@ -836,6 +862,22 @@ under-has x k w l h y =
     style-end-has x k (style_scan_start d.0) [] d.2.scan
     (ap beginning_in_css (start-place d.0) ∙ ap beginning_in_body (sym d.1) ∙ h) y
 
+-- a script has no part of a URL
+star-open : (star : Bool) → js_star_has star side ≡ false
+star-open true = refl
+star-open false = refl
+
+set-open-at : (s : Senses) (x : JsTails) (star : Bool) (a : ScriptAt) → script_set_at s x star a side ≡ false
+set-open-at s x star (InString q e) = star-open star
+set-open-at s x star (InRegexp k e) = star-open star
+set-open-at s x star (Slash t) = star-open star
+set-open-at s x star a = star-open star
+
+script-open : (q : Quotes) (n : ScriptScan) → (quotes_have q side || script_set_has n side) ≡ false
+script-open quotes.Dq n = set-open-at n.senses n.before n.star n.state.at
+script-open quotes.Sq n = set-open-at n.senses n.before n.star n.state.at
+script-open (quotes.Bare b) n = set-open-at n.senses n.before n.star n.state.at
+
 end-has : (g f : Scan) → ScanValid f → ScanBelow g f → HasApart (scan_place f) → ScanHas g side → Has (scan_place g) side
 end-has (At p) f w l h k = k
 end-has (InUrl x t r) (InUrl v u z) w l h k =
@@ -850,13 +892,14 @@ end-has (InStyle x k r) (At _) w l h y = absurd l.0
 end-has (InStyle x k r) _ w l h y = absurd l
 end-has (InStyleElement k x) f w l h y = element-has k x f l h y
 end-has (InAttributeName t x n) f w l h k = absurd (no k)
+end-has (InScript x n r) f w l h k = absurd (no (sym (script-open x.quotes n) ∙ k))
 end-has _ f w l h k = absurd (no k)
 
-end-keeps : (k since : ℕ) (f : Scan) (q : Place) → ScanValid f → stepped k since [] f ≡ Ok q → HasApart q → KeepsAll [] f
+end-keeps : (k : ℕ) (since : TextRead) (f : Scan) (q : Place) → ScanValid f → stepped k since [] f ≡ Ok q → HasApart q → KeepsAll [] f
 end-keeps k since f q v e a s g i x =
-    let r = grows-from [] k since since g f q i.valid i.below e in
-    let own = (subst (λ o. Says o k since [] s) r.1 (says [] k since s g i.at)).1 in
-    let there = (end-ok k since g r.0 r.1).place in
+    let r = grows-from [] 0 nothing_read nothing_read g f q refl i.valid i.below (accepts-anywhere [] k since 0 nothing_read f q refl e) in
+    let own = (subst (λ o. Says o 0 nothing_read [] s) r.1 (says [] 0 nothing_read s g i.at (nil-fits s))).1 in
+    let there = (end-ok 0 nothing_read g r.0 r.1).place in
     subst (Keeps []) (sym (before-none s))
     (record {
       own = r.0;
@@ -864,7 +907,7 @@ end-keeps k since f q v e a s g i x =
       has = subst (λ (p : Place). Has p side) there (end-has g f v i.below (subst HasApart (sym (end-ok k since f q e).place) a) x);
     })
 
-comes-from : (bytes : List ℕ) (k since : ℕ) (f : Scan) (q : Place) → ScanOpensNone f → ScanValid f → ScanPlain f → stepped k since bytes f ≡ Ok q → HasApart q
+comes-from : (bytes : List ℕ) (k : ℕ) (since : TextRead) (f : Scan) (q : Place) → ScanOpensNone f → ScanValid f → ScanPlain f → stepped k since bytes f ≡ Ok q → HasApart q
     → ComesFrom bytes f
 comes-from [] k since f q o v w e a =
     inl (end-apart f v (subst HasApart (sym (end-ok k since f q e).place) a), end-keeps k since f q v e a)
@@ -873,7 +916,7 @@ comes-from (b ∷ bs) k since f q o v w e a =
     let c = class_of b in
     let f2 = scan_next f c b in
     let v2 = scan-valid f c b v n.0 in
-    elim (comes-from bs (k + 1) (last_lexeme_start k since (scan_reference f) (class_of b) b) f2 q (scan-opens f b o) v2 (scan-plain f b w) n.1 a) [
+    elim (comes-from bs (k + 1) (scan_read_behind k since f (class_of b) b) f2 q (scan-opens f b o) v2 (scan-plain f b w) n.1 a) [
       | inl m ↦ apart-before (scan_parts f) f b bs refl o v w n.0 m.0 m.1
       | inr m ↦ (let x = from-byte f c b m.0 v n.0 m.2 in let z = from-byte f c b m.1 v n.0 m.3 in
           inr (
@@ -892,7 +935,7 @@ pub apart-from : (bytes : List ℕ) (p q : Place) → IsValid p → after_text b
     (HasApart p × ((s : LexState ValueState) → IsIn p s → Bears s side → Keeps bytes s × Bears (node bytes s) side))
     ⊎ ((x : Member) × (z : Member) × Has p x × Has p z × ((s r : LexState ValueState) → IsIn p s → Bears s x → IsIn p r → Bears r z
     → PartWithin bytes s r × Bears (node bytes s) side × Bears (node bytes r) side))
-apart-from bytes p q v e a = elim (comes-from bytes 0 0 (At p) q tt v tt (text-steps bytes p q e) a) [
+apart-from bytes p q v e a = elim (comes-from bytes 0 nothing_read (At p) q tt v tt (text-steps bytes p q e) a) [
   | inl m ↦ inl (
     m.0,
     λ s i b. let k = keeps-back bytes s (side-begins s b) (m.1 s (At i.own) (stand-in p s i) (own-has p s side i b)) in

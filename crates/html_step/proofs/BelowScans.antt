@@ -10,13 +10,14 @@ use Rattle.place_core.specs.declared.tag_of.TagOf.{TagOf}
 use Rattle.place_core.specs.declared.tag_place.TagPlace.{TagPlace}
 use Rattle.place_core.specs.declared.value_place.ValuePlace.{ValuePlace}
 use Rattle.place_core.proofs.Semilattices.{none_some, one_value}
-use Rattle.html_scan.specs.Scans.{Scan, At, AfterLess, AfterLessSolidus, InDeclaration, InTagName, InAttributeName, InUrl, InStyle, InStyleElement, InCommentEnd, InContentEnd, BeforeType, InType}
+use Rattle.html_scan.specs.Scans.{Scan, At, AfterLess, AfterLessSolidus, InDeclaration, InTagName, InAttributeName, InUrl, InStyle, InScript, InStyleElement, InCommentEnd, InContentEnd, BeforeType, InType}
 use Rattle.html_step.proofs.ElementsBelow.{ElementUnderPlace}
-use Rattle.html_step.proofs.ScanOrder.{ScanBelow, ScanHas, StyleUnderPlace, StyleValueBelow, Unstyled, comment-one, style-below-place, under-body}
+use Rattle.html_step.proofs.ScanOrder.{ScanBelow, ScanHas, ScriptValueBelow, StyleUnderPlace, StyleValueBelow, Unstyled, comment-one, style-below-place, under-body}
 use Rattle.html_step.proofs.PlaceParts.{Under, TagBelow, ValueBelow, below-tag, below-value, below-rcdata}
 use Rattle.place_core.specs.page.References.{Reference, Closed}
 use Rattle.url_lexer.specs.Triples.{Triple}
 use Rattle.css_step.specs.StyleScans.{StyleScan, style_scan_start}
+use Rattle.js_step.specs.ScriptScans.{ScriptScan}
 use Rattle.css_step.specs.StyleSetLaws.{StyleBelow, StyleScanBelow}
 use Rattle.place_core.specs.declared.body.Body.{Body}
 use Rattle.place_core.specs.declared.body.Body.TheVariants as body
@@ -37,6 +38,7 @@ whole-in (InStyleElement s h) y e = rw e refl
 whole-in (BeforeType t) y e = e
 whole-in (InType t q v r) y e = e
 whole-in (InStyle v s r) y e = rw e refl
+whole-in (InScript v s r) y e = rw e refl
 
 -- below a place are places, and below one of a style also lexemes of it
 pub below-at : (P : Scan → Type 0) (p : Place) → ((a : Place) → Below a p → P (At a)) → ((v : ValuePlace) (n : StyleScan) → StyleUnderPlace v n p → P (InStyle v n Closed))
@@ -47,6 +49,7 @@ below-at P p f k j (InStyleElement n x) h = subst (λ (z : Pending). P (InStyleE
 below-at P p f k j (InStyle v n r) h = subst (λ (z : Reference). P (InStyle v n z)) (sym h.1) (k v n h.0)
 below-at P p f k j (InAttributeName t x n) h = absurd h
 below-at P p f k j (InUrl v t r) h = absurd h
+below-at P p f k j (InScript v n r) h = absurd h
 below-at P p f k j AfterLess h = cc
 below-at P p f k j AfterLessSolidus h = cc
 below-at P p f k j (InDeclaration pending) h = cc
@@ -86,7 +89,7 @@ pub below-at-value : (P : Scan → Type 0) (t : ValuePlace) → ((u : ValuePlace
     → (g : Scan) → ScanBelow g (At (place.Value t)) → P g
 below-at-value P t f k g h = below-at P (place.Value t) (value-place P t f) (λ v n u. let d = under-body v n t t.body u in k v n d.0 d.1 d.2) (λ n u. absurd u) g h
 
--- below one that is no style, places alone
+-- below one that is neither a style nor a script, places alone
 styled : (b : Body) (d : Css) → b ≡ body.Css d → Unstyled b → ⊥
 styled b d e u = subst Unstyled e u
 
@@ -101,6 +104,7 @@ below-style P v m r f (InStyle u n z) h = subst (λ (x : Reference). P (InStyle 
 below-style P v m r f (At p) h = absurd h
 below-style P v m r f (InAttributeName t x n) h = absurd h
 below-style P v m r f (InUrl u t z) h = absurd h
+below-style P v m r f (InScript u n z) h = absurd h
 below-style P v m r f AfterLess h = cc
 below-style P v m r f AfterLessSolidus h = cc
 below-style P v m r f (InDeclaration pending) h = cc
@@ -110,6 +114,24 @@ below-style P v m r f (InContentEnd e x) h = cc
 below-style P v m r f (InStyleElement e x) h = absurd h
 below-style P v m r f (BeforeType u) h = cc
 below-style P v m r f (InType u q w z) h = cc
+
+-- below a script behind a byte of the text
+pub below-script : (P : Scan → Type 0) (v : ValuePlace) (m : ScriptScan) (r : Reference) → ((u : ValuePlace) (n : ScriptScan) → ScriptValueBelow u v n m → P (InScript u n r))
+    → (g : Scan) → ScanBelow g (InScript v m r) → P g
+below-script P v m r f (InScript u n z) h = subst (λ (x : Reference). P (InScript u n x)) (sym h.1) (f u n h.0)
+below-script P v m r f (At p) h = absurd h
+below-script P v m r f (InAttributeName t x n) h = absurd h
+below-script P v m r f (InUrl u t z) h = absurd h
+below-script P v m r f (InStyle u n z) h = absurd h
+below-script P v m r f AfterLess h = cc
+below-script P v m r f AfterLessSolidus h = cc
+below-script P v m r f (InDeclaration pending) h = cc
+below-script P v m r f (InTagName ends name) h = cc
+below-script P v m r f (InCommentEnd s) h = cc
+below-script P v m r f (InContentEnd e x) h = cc
+below-script P v m r f (InStyleElement e x) h = absurd h
+below-script P v m r f (BeforeType u) h = cc
+below-script P v m r f (InType u q w z) h = cc
 
 comment-place : (P : Scan → Type 0) (y : Bool) → ((x : Bool) → Under x y → P (At (place.Comment x))) → (a : Place) → Below a (place.Comment y) → P (At a)
 comment-place P y f (place.Comment x) h = f x (comment-one (x || y) y (one_value (place.Comment (x || y)) (place.Comment y) h))
@@ -164,6 +186,7 @@ less-rigid (InStyleElement e x) h = absurd h
 less-rigid (BeforeType u) h = h
 less-rigid (InType u q v r) h = h
 less-rigid (InStyle u k d) h = absurd h
+less-rigid (InScript u k d) h = absurd h
 
 pub solidus-rigid : IsRigid AfterLessSolidus
 solidus-rigid (At p) h = absurd h
@@ -179,6 +202,7 @@ solidus-rigid (InStyleElement e x) h = absurd h
 solidus-rigid (BeforeType u) h = h
 solidus-rigid (InType u q v r) h = h
 solidus-rigid (InStyle u k d) h = absurd h
+solidus-rigid (InScript u k d) h = absurd h
 
 pub declaration-rigid : (l : List ℕ) → IsRigid (InDeclaration l)
 declaration-rigid l (At p) h = absurd h
@@ -194,6 +218,7 @@ declaration-rigid l (InStyleElement e x) h = absurd h
 declaration-rigid l (BeforeType u) h = h
 declaration-rigid l (InType u q v r) h = h
 declaration-rigid l (InStyle u k d) h = absurd h
+declaration-rigid l (InScript u k d) h = absurd h
 
 pub tag-name-rigid : (z : Bool) (l : List ℕ) → IsRigid (InTagName z l)
 tag-name-rigid z l (At p) h = absurd h
@@ -209,6 +234,7 @@ tag-name-rigid z l (InStyleElement e x) h = absurd h
 tag-name-rigid z l (BeforeType u) h = h
 tag-name-rigid z l (InType u q v r) h = h
 tag-name-rigid z l (InStyle u k d) h = absurd h
+tag-name-rigid z l (InScript u k d) h = absurd h
 
 pub comment-end-rigid : (z : CommentState) → IsRigid (InCommentEnd z)
 comment-end-rigid z (At p) h = absurd h
@@ -224,6 +250,7 @@ comment-end-rigid z (InStyleElement e x) h = absurd h
 comment-end-rigid z (BeforeType u) h = h
 comment-end-rigid z (InType u q v r) h = h
 comment-end-rigid z (InStyle u k d) h = absurd h
+comment-end-rigid z (InScript u k d) h = absurd h
 
 pub content-end-rigid : (z : Element) (l : Pending) → IsRigid (InContentEnd z l)
 content-end-rigid z l (At p) h = absurd h
@@ -239,6 +266,7 @@ content-end-rigid z l (InStyleElement e x) h = absurd h
 content-end-rigid z l (BeforeType u) h = h
 content-end-rigid z l (InType u q v r) h = h
 content-end-rigid z l (InStyle u k d) h = absurd h
+content-end-rigid z l (InScript u k d) h = absurd h
 
 pub before-type-rigid : (t : TagOf) → IsRigid (BeforeType t)
 before-type-rigid t (At p) h = absurd h
@@ -254,6 +282,7 @@ before-type-rigid t (InStyleElement e x) h = absurd h
 before-type-rigid t (BeforeType u) h = h
 before-type-rigid t (InType u q v r) h = h
 before-type-rigid t (InStyle u k d) h = absurd h
+before-type-rigid t (InScript u k d) h = absurd h
 
 pub type-rigid : (t : TagOf) (o : Quoting) (w : Value ValueState) (c : Reference) → IsRigid (InType t o w c)
 type-rigid t o w c (At p) h = absurd h
@@ -269,6 +298,7 @@ type-rigid t o w c (InStyleElement e x) h = absurd h
 type-rigid t o w c (BeforeType u) h = h
 type-rigid t o w c (InType u q v r) h = h
 type-rigid t o w c (InStyle u k d) h = absurd h
+type-rigid t o w c (InScript u k d) h = absurd h
 
 -- a data block
 pub block-one : (x y : Bool) → place.Block x ≡ place.Block y → x ≡ y
@@ -304,6 +334,7 @@ below-attribute P t y n f (InStyleElement e x) h = absurd h
 below-attribute P t y n f (BeforeType u) h = cc
 below-attribute P t y n f (InType u q v r) h = cc
 below-attribute P t y n f (InStyle u k d) h = absurd h
+below-attribute P t y n f (InScript u k d) h = absurd h
 
 -- a URL in a percent triple or a reference
 pub below-url : (P : Scan → Type 0) (v : ValuePlace) (t : Triple) (r : Reference) → ((u : ValuePlace) → ValueBelow u v → P (InUrl u t r)) → (g : Scan)
@@ -322,6 +353,7 @@ below-url P v t r f (InStyleElement e x) h = absurd h
 below-url P v t r f (BeforeType u) h = cc
 below-url P v t r f (InType u q x z) h = cc
 below-url P v t r f (InStyle u k d) h = absurd h
+below-url P v t r f (InScript u k d) h = absurd h
 
 -- in the element `style`: a lexeme, or what may be its end tag
 pub below-element : (P : Scan → Type 0) (m : StyleScan) (x : Pending) → ((n : StyleScan) → StyleScanBelow n m → P (InStyleElement n x)) → (g : Scan)
@@ -339,6 +371,7 @@ below-element P m x f (InContentEnd e y) h = cc
 below-element P m x f (BeforeType u) h = cc
 below-element P m x f (InType u q w z) h = cc
 below-element P m x f (InStyle u k d) h = absurd h
+below-element P m x f (InScript u k d) h = absurd h
 
 -- and a place in it
 pub element-place : (P : Scan → Type 0) (d : Css) → ((c : Css) → StyleBelow c d → P (At (place.Style c))) → (a : Place) → Below a (place.Style d) → P (At a)

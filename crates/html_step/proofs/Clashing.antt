@@ -1,23 +1,25 @@
 -- Two paths that are refused together for white space: one is in a value without quotes and the other before a value. And the paths that begin a URL,
 -- or are in its beginning.
-use Rattle.std.proofs.Common.{◌≡◌, true, ◌&&◌, ◌||◌, List, Option, Some, None, refl, sym, ◌∙◌, subst, ℕ, Bool, if◌then◌else◌, false}
+use Rattle.std.proofs.Common.{◌≡◌, true, ◌&&◌, ◌||◌, List, Option, Some, None, refl, sym, ◌∙◌, subst, ℕ, Bool, if◌then◌else◌, false, option_map}
 use Rattle.std.specs.Prelude.{⊤}
 use Rattle.place_core.specs.page.Classes.{Class, White}
 use Rattle.place_core.specs.page.References.{Reference, Closed, Open}
 use Rattle.place_core.specs.place.Errors.{body_error, at_hand, quotes_error, value_error}
 use Rattle.place_core.specs.place.PathPairs.{begun_clash, byte_clash, is_in_beginning, is_in_open, url_in_style}
-use Rattle.place_core.specs.place.LanguagePlaces.{css_has, parts_have}
+use Rattle.place_core.specs.place.LanguagePlaces.{css_has, parts_have, js_has}
 use Rattle.place_core.specs.place.Places.{Has, block_has, body_has, dash_has, is_whole, joined_quotes, quotes_have, spots_have, typed_has}
 use Rattle.place_core.specs.place.StatePlaces.{only_after, only_before, only_inside, only_name, quotes_at, tag_spot, unbegun}
 use Rattle.place_core.specs.place.UrlParts.{parts_of}
 use Rattle.place_core.specs.page.States.{LexState, Text, TagOpen, EndTagOpen, DeclarationOpen, InComment, Inside, Broken, BogusComment, InDoctype, TagName, WholeTagName, BeforeAttributeName, AttributeName, WholeAttributeName, AfterAttributeName, BeforeAttributeValue, AttributeValue, AfterAttributeValue, SelfClosingStartTag, Characters, Bytes, InLanguage, Pending, Nothing, PendingLess, PendingName, PendingBang, PendingBangDash, InContent, Unread, LessAtCut}
-use Rattle.place_core.specs.page.Tags.{Value, ValueOf, Deciding, ValueState, OfKind, OfUrl, OfStyle, Quoting, DoubleQuoted, SingleQuoted, Unquoted, Tag, is_second_type}
+use Rattle.place_core.specs.page.Tags.{Value, ValueOf, Deciding, ValueState, OfKind, OfUrl, OfStyle, Quoting, DoubleQuoted, SingleQuoted, Unquoted, Tag, is_second_type, OfScript}
 use Rattle.place_core.specs.declared.body.Body.{Body}
 use Rattle.place_core.specs.declared.body.Body.TheVariants as body
 use Rattle.place_core.specs.declared.code.Code.{Code}
 use Rattle.place_core.specs.declared.code.Code.TheVariants as code
 use Rattle.place_core.specs.declared.element.Element.{Element}
 use Rattle.place_core.specs.declared.element.Element.TheVariants as element
+use Rattle.place_core.specs.declared.js.Js.{Js}
+use Rattle.place_core.specs.declared.js.Js.TheVariants as js
 use Rattle.place_core.specs.declared.kind.Kind.{Kind}
 use Rattle.place_core.specs.declared.kind.Kind.TheVariants as kind
 use Rattle.place_core.specs.declared.member.Member.{Member}
@@ -32,7 +34,16 @@ use Rattle.place_core.specs.declared.tag_place.TagPlace.{TagPlace}
 use Rattle.place_core.specs.declared.value_place.ValuePlace.{ValuePlace}
 use Rattle.place_core.proofs.JoinMembers.{the_has_grows}
 use Rattle.place_core.proofs.Semilattices.{none_some}
-use Rattle.html_scan.specs.Scans.{Scan, At, AfterLess, AfterLessSolidus, InDeclaration, InTagName, InAttributeName, InUrl, InStyle, InStyleElement, InCommentEnd, InContentEnd, scan_error, url_scan, value_cause, body_cause, BeforeType, InType, quoted_error, style_cause, style_feeding}
+use Rattle.html_scan.specs.Scans.{Scan, At, AfterLess, AfterLessSolidus, InDeclaration, InTagName, InAttributeName, InUrl, InStyle, InStyleElement, InCommentEnd, InContentEnd, scan_error, url_scan, value_cause, body_cause, BeforeType, InType, quoted_error, style_cause, style_feeding, InScript, script_cause, script_feeding}
+use Rattle.js_lexer.specs.Spots.{Spot, script_spot}
+use Rattle.js_lexer.specs.States.{ScriptState}
+use Rattle.js_lexer.specs.declared.sense.Sense.TheVariants as sense
+use Rattle.js_step.specs.ScriptOrigins.{script_set_has}
+use Rattle.js_step.specs.ScriptScans.{ScriptScan}
+use Rattle.place_core.specs.place.ScriptParts.{script_may_begin_text, script_no_tails, script_place, script_senses}
+use Rattle.html_step.proofs.FromParts.{or-behind, or-either, or-first}
+use Rattle.html_step.proofs.ScriptFrom.{IsScriptMember, js-is, set-is}
+use Rattle.html_step.proofs.ScriptPaths.{kept_script_scanned, script_value}
 use Rattle.html_step.proofs.PlaceParts.{Under, value-below}
 use Rattle.html_step.proofs.ScanOrder.{ScanBelow, ScanHas, StyleUnderPlace, bare-parts, first-none, if-none, under-body}
 use Rattle.html_step.proofs.StylePaths.{empty_css, style_value}
@@ -51,7 +62,7 @@ use Rattle.place_core.specs.declared.css.Css.TheVariants as css
 use Rattle.url_lexer.specs.States.{Url}
 use Rattle.html_step.proofs.FedAlike.{first-caused}
 use Rattle.html_step.proofs.ElementFrom.{element-out}
-use Rattle.html_step.proofs.PathScans.{WhereScanned, block_scanned, content_scanned, language_scanned, scanned, style_element_scanned, style_value_scanned, none-at-hand, some, url_value}
+use Rattle.html_step.proofs.PathScans.{WhereScanned, block_scanned, content_scanned, language_scanned, scanned, style_element_scanned, style_value_scanned, none-at-hand, some, url_value, script_there, script_unless_placed, script_value_scanned}
 use Rattle.html_step.proofs.FromSteps.{or-false}
 use Rattle.url_lexer.specs.Parts.{UrlPart, UrlStart, UrlOpen}
 use Rattle.url_lexer.specs.TwoPaths.{is_open}
@@ -89,18 +100,19 @@ pub record OfValue (m : Member) : Type 0 where
   pub spots : (s : Spots) → spots_have s m ≡ false
   pub dash : (x : Bool) → dash_has x m ≡ false
   pub block : (x : Bool) → block_has x m ≡ false
+  pub script : IsScriptMember m → ⊥
 
 of-unquoted : OfValue member.UnquotedValue
-of-unquoted = record { whole = refl; typed = λ x. refl; spots = λ s. refl; dash = λ x. refl; block = λ x. refl }
+of-unquoted = record { whole = refl; typed = λ x. refl; spots = λ s. refl; dash = λ x. refl; block = λ x. refl; script = λ i. i }
 
 of-unbegun : OfValue member.UnbegunValue
-of-unbegun = record { whole = refl; typed = λ x. refl; spots = λ s. refl; dash = λ x. refl; block = λ x. refl }
+of-unbegun = record { whole = refl; typed = λ x. refl; spots = λ s. refl; dash = λ x. refl; block = λ x. refl; script = λ i. i }
 
 of-start : OfValue member.PartStart
-of-start = record { whole = refl; typed = λ x. refl; spots = λ s. refl; dash = λ x. refl; block = λ x. refl }
+of-start = record { whole = refl; typed = λ x. refl; spots = λ s. refl; dash = λ x. refl; block = λ x. refl; script = λ i. i }
 
 of-open : OfValue member.PartOpen
-of-open = record { whole = refl; typed = λ x. refl; spots = λ s. refl; dash = λ x. refl; block = λ x. refl }
+of-open = record { whole = refl; typed = λ x. refl; spots = λ s. refl; dash = λ x. refl; block = λ x. refl; script = λ i. i }
 
 -- Elsewhere no path bears them.
 first-where : (second : Bool) (f : Scan) (P : Scan → Type 0) → P f → WhereScanned (if second then None else Some f) P
@@ -217,18 +229,28 @@ abbrev value_has : Value ValueState → Quotes → Member → Bool
 value_has (ValueOf (OfKind k)) q m = quotes_have q m || false
 value_has (ValueOf (OfUrl u)) q m = quotes_have q m || parts_have (parts_of u.part) m
 value_has (ValueOf (OfStyle s)) q m = quotes_have q m || style_set_has (style_scanned s) m
+value_has (ValueOf (OfScript s)) q m = quotes_have q m || false
 value_has (Deciding k before) q m = false
 
 abbrev value-of : Tag → Quotes → Body → ValuePlace
 value-of t q b = record { tag = t.tag; typed = t.typed; quotes = q; body = b }
+
+-- a script has none of them
+script-less : (m : Member) → OfValue m → (q : Quotes) (x : Bool) → (x ≡ true → IsScriptMember m) → (quotes_have q m || x) ≡ true
+    → (quotes_have q m || false) ≡ true
+script-less m o q x f h =
+    or-either ((quotes_have q m || false) ≡ true) (quotes_have q m) x h (λ k. or-first (quotes_have q m) false k) (λ k. absurd (o.script (f k)))
+
+js-less : (m : Member) → OfValue m → (t : Tag) (q : Quotes) (j : Js) → Has (place.Value (value-of t q (body.Js j))) m → (quotes_have q m || false) ≡ true
+js-less m o t q j h = script-less m o q (js_has j m) (λ k. js-is j m k) (of-place m o (value-of t q (body.Js j)) h)
 
 before-in : (m : Member) → OfValue m → (t : Tag) (k : Kind) → WhereScanned (scanned (BeforeAttributeValue t k)) (λ f. ScanHas f m → before_has k m ≡ true)
 before-in m o t kind.Plain = λ h. of-place m o (value-of t unbegun body.Plain) h
 before-in m o t kind.NoHole = λ h. of-place m o (value-of t unbegun body.NoHole) h
 before-in m o t kind.Style = λ h. of-place m o (value-of t unbegun (body.Css empty_css)) h
 before-in m o t kind.Url = λ h. of-place m o (url_value t unbegun (parts_of UrlStart)) h
+before-in m o t kind.Script = λ h. js-less m o t unbegun (js.Code (script_senses sense.Re) script_no_tails) h
 before-in m o t kind.ScriptType = first-where t.typed (BeforeType t.tag) (λ f. ScanHas f m → before_has kind.ScriptType m ≡ true) (λ h. absurd (no-whole m o h))
-before-in m o t _ = tt
 
 of-style : (m : Member) → OfValue m → (v : ValuePlace) (n : StyleScan) → style_has v.typed v.quotes n m ≡ true → (quotes_have v.quotes m || scan_set_has n m) ≡ true
 of-style m o v n h =
@@ -240,12 +262,36 @@ style-value-in : (m : Member) → OfValue m → (q : Quoting) (t : Tag) (x : Opt
 style-value-in m o q t (Some n) r = λ h. of-style m o (style_value t (quotes_at q)) n (style-out (style_value t (quotes_at q)) n r m h)
 style-value-in m o q t None r = tt
 
+of-script : (m : Member) → OfValue m → (v : ValuePlace) (n : ScriptScan) (r : Reference) → ScanHas (InScript v n r) m → (quotes_have v.quotes m || false) ≡ true
+of-script m o v n r h =
+    let rest = quotes_have v.quotes m || script_set_has n m in
+    script-less m o v.quotes (script_set_has n m) (λ k. set-is n m k)
+    (second-of (typed_has v.typed m) rest (o.typed v.typed) (second-of (is_whole m) (typed_has v.typed m || rest) o.whole h))
+
+script-there-in : (m : Member) → OfValue m → (q : Quoting) (t : Tag) (x : Option ScriptScan) (r : Reference)
+    → WhereScanned (script_there q t x r) (λ f. ScanHas f m → (quotes_have (quotes_at q) m || false) ≡ true)
+script-there-in m o q t (Some n) r = λ h. of-script m o (script_value t (quotes_at q)) n r h
+script-there-in m o q t None r = tt
+
+script-placed-in : (m : Member) → OfValue m → (q : Quoting) (t : Tag) (begins : Bool) (p : Option Spot) (x : Option ScriptScan)
+    → WhereScanned (script_unless_placed q t (if begins then option_map (λ (z : Spot). body.Js (script_place z)) p else None) x)
+    (λ f. ScanHas f m → (quotes_have (quotes_at q) m || false) ≡ true)
+script-placed-in m o q t true (Some z) x = λ h. js-less m o t (quotes_at q) (script_place z) h
+script-placed-in m o q t true None x = script-there-in m o q t x Closed
+script-placed-in m o q t false p x = script-there-in m o q t x Closed
+
+script-value-in : (m : Member) → OfValue m → (q : Quoting) (t : Tag) (s : ScriptState) (r : Reference)
+    → WhereScanned (script_value_scanned q t s r) (λ f. ScanHas f m → (quotes_have (quotes_at q) m || false) ≡ true)
+script-value-in m o q t s Closed = script-placed-in m o q t (script_may_begin_text s) (script_spot s) (kept_script_scanned s)
+script-value-in m o q t s (Open f bytes) = script-there-in m o q t (kept_script_scanned s) (Open f bytes)
+
 value-in : (m : Member) → OfValue m → (q : Quoting) (t : Tag) (v : Value ValueState) (r : Reference)
     → WhereScanned (scanned (AttributeValue q t v r)) (λ f. ScanHas f m → value_has v (quotes_at q) m ≡ true)
 value-in m o q t (ValueOf (OfKind kind.Plain)) r = λ h. of-place m o (value-of t (quotes_at q) body.Plain) h
 value-in m o q t (ValueOf (OfKind kind.NoHole)) r = λ h. of-place m o (value-of t (quotes_at q) body.NoHole) h
 value-in m o q t (ValueOf (OfKind _)) r = tt
 value-in m o q t (ValueOf (OfStyle s)) r = style-value-in m o q t (style_scanned s) r
+value-in m o q t (ValueOf (OfScript s)) r = script-value-in m o q t s r
 value-in m o q t (ValueOf (OfUrl u)) r =
     λ h. of-place m o (url_value t (quotes_at q) (parts_of u.part)) (url-of (url_value t (quotes_at q) (parts_of u.part)) u.triple r m h)
 value-in m o q t (Deciding kind.ScriptType before) r =
@@ -283,6 +329,7 @@ language-in : (m : Member) → OfValue m → (e : Element) (v : ValueState) (h :
 language-in m o element.Style (OfStyle s) h = element-in m o h (style_scanned s)
 language-in m o element.Style (OfKind k) h = tt
 language-in m o element.Style (OfUrl u) h = tt
+language-in m o element.Style (OfScript s) h = tt
 language-in m o _ v h = tt
 
 language-bears : (m : Member) → OfValue m → (e : Element) (v : ValueState) (p : Pending) (g : Scan) → scanned (InContent e (InLanguage v) p) ≡ Some g
@@ -334,9 +381,11 @@ unquoted-value : (q : Quoting) (t : Tag) (v : Value ValueState) (r : Reference) 
 unquoted-value Unquoted t (ValueOf v) r h = tt
 unquoted-value DoubleQuoted t (ValueOf (OfKind k)) r h = absurd (no h)
 unquoted-value DoubleQuoted t (ValueOf (OfUrl u)) r h = absurd (no h)
+unquoted-value DoubleQuoted t (ValueOf (OfScript s)) r h = absurd (no h)
 unquoted-value DoubleQuoted t (ValueOf (OfStyle s)) r h = absurd (no (sym (no-set (style_scanned s)).0 ∙ h))
 unquoted-value SingleQuoted t (ValueOf (OfKind k)) r h = absurd (no h)
 unquoted-value SingleQuoted t (ValueOf (OfUrl u)) r h = absurd (no h)
+unquoted-value SingleQuoted t (ValueOf (OfScript s)) r h = absurd (no h)
 unquoted-value SingleQuoted t (ValueOf (OfStyle s)) r h = absurd (no (sym (no-set (style_scanned s)).0 ∙ h))
 unquoted-value q t (Deciding k before) r h = absurd (no h)
 
@@ -344,6 +393,7 @@ unquoted-language : (v : ValueState) → language_has v member.UnquotedValue ≡
 unquoted-language (OfStyle s) h = no (sym (no-set (style_scanned s)).0 ∙ h)
 unquoted-language (OfKind k) h = no h
 unquoted-language (OfUrl u) h = no h
+unquoted-language (OfScript s) h = no h
 
 pub is-unquoted : (s : LexState ValueState) (g : Scan) → scanned s ≡ Some g → ScanHas g member.UnquotedValue → IsUnquoted s
 is-unquoted (BeforeAttributeValue t k) g e h = absurd (unquoted-before k (before-bears member.UnquotedValue of-unquoted t k g e h))
@@ -358,10 +408,13 @@ unbegun-before t _ h = tt
 unbegun-value : (q : Quoting) (v : Value ValueState) → value_has v (quotes_at q) member.UnbegunValue ≡ true → ⊥
 unbegun-value Unquoted (ValueOf (OfKind k)) h = no h
 unbegun-value Unquoted (ValueOf (OfUrl u)) h = no h
+unbegun-value Unquoted (ValueOf (OfScript s)) h = no h
 unbegun-value DoubleQuoted (ValueOf (OfKind k)) h = no h
 unbegun-value DoubleQuoted (ValueOf (OfUrl u)) h = no h
+unbegun-value DoubleQuoted (ValueOf (OfScript s)) h = no h
 unbegun-value SingleQuoted (ValueOf (OfKind k)) h = no h
 unbegun-value SingleQuoted (ValueOf (OfUrl u)) h = no h
+unbegun-value SingleQuoted (ValueOf (OfScript s)) h = no h
 unbegun-value Unquoted (ValueOf (OfStyle s)) h = no (sym (no-set (style_scanned s)).1 ∙ h)
 unbegun-value DoubleQuoted (ValueOf (OfStyle s)) h = no (sym (no-set (style_scanned s)).1 ∙ h)
 unbegun-value SingleQuoted (ValueOf (OfStyle s)) h = no (sym (no-set (style_scanned s)).1 ∙ h)
@@ -371,6 +424,7 @@ unbegun-language : (v : ValueState) → language_has v member.UnbegunValue ≡ t
 unbegun-language (OfStyle s) h = no (sym (no-set (style_scanned s)).1 ∙ h)
 unbegun-language (OfKind k) h = no h
 unbegun-language (OfUrl u) h = no h
+unbegun-language (OfScript s) h = no h
 
 pub is-unbegun : (s : LexState ValueState) (g : Scan) → scanned s ≡ Some g → ScanHas g member.UnbegunValue → IsUnbegun s
 is-unbegun (BeforeAttributeValue t k) g e h = unbegun-before t k (before-bears member.UnbegunValue of-unbegun t k g e h)
@@ -462,12 +516,14 @@ start-value q t (ValueOf (OfStyle s)) r h =
     style-start s (second-of (quotes_have (quotes_at q) member.PartStart) (style_set_has (style_scanned s) member.PartStart) (no-start (quotes_at q)) h)
 start-value q t (ValueOf (OfUrl u)) r h =
     start-part u.part (second-of (quotes_have (quotes_at q) member.PartStart) (parts_have (parts_of u.part) member.PartStart) (no-start (quotes_at q)) h)
+start-value q t (ValueOf (OfScript s)) r h = absurd (neither (quotes_have (quotes_at q) member.PartStart) false (no-start (quotes_at q)) refl h)
 start-value q t (Deciding k before) r h = absurd (no h)
 
 start-language : (e : Element) (v : ValueState) (p : Pending) → language_has v member.PartStart ≡ true → StartsUrl (InContent e (InLanguage v) p)
 start-language e (OfStyle s) p h = style-start s h
 start-language e (OfKind k) p h = absurd (no h)
 start-language e (OfUrl u) p h = absurd (no h)
+start-language e (OfScript s) p h = absurd (no h)
 
 pub is-start : (s : LexState ValueState) (g : Scan) → scanned s ≡ Some g → ScanHas g member.PartStart → StartsUrl s
 is-start (BeforeAttributeValue t k) g e h = start-before t k (before-bears member.PartStart of-start t k g e h)
@@ -487,12 +543,14 @@ open-value q t (ValueOf (OfStyle s)) r h =
     style-open s (second-of (quotes_have (quotes_at q) member.PartOpen) (style_set_has (style_scanned s) member.PartOpen) (no-open (quotes_at q)) h)
 open-value q t (ValueOf (OfUrl u)) r h =
     sym (open-part u.part) ∙ second-of (quotes_have (quotes_at q) member.PartOpen) (parts_have (parts_of u.part) member.PartOpen) (no-open (quotes_at q)) h
+open-value q t (ValueOf (OfScript s)) r h = absurd (neither (quotes_have (quotes_at q) member.PartOpen) false (no-open (quotes_at q)) refl h)
 open-value q t (Deciding k before) r h = absurd (no h)
 
 open-language : (e : Element) (v : ValueState) (p : Pending) → language_has v member.PartOpen ≡ true → is_in_beginning (InContent e (InLanguage v) p) ≡ true
 open-language e (OfStyle s) p h = style-open s h
 open-language e (OfKind k) p h = absurd (no h)
 open-language e (OfUrl u) p h = absurd (no h)
+open-language e (OfScript s) p h = absurd (no h)
 
 pub is-open : (s : LexState ValueState) (g : Scan) → scanned s ≡ Some g → ScanHas g member.PartOpen → is_in_beginning s ≡ true
 is-open (BeforeAttributeValue t k) g e h = absurd (open-before k (before-bears member.PartOpen of-open t k g e h))
@@ -505,11 +563,27 @@ style-unquoted : (t : Tag) (x : Option StyleScan) (r : Reference) → WhereScann
 style-unquoted t (Some n) r = style-in (style_value t (quotes_at Unquoted)) n r member.UnquotedValue refl
 style-unquoted t None r = tt
 
+script-there-unquoted : (t : Tag) (x : Option ScriptScan) (r : Reference) → WhereScanned (script_there Unquoted t x r) (λ f. ScanHas f member.UnquotedValue)
+script-there-unquoted t (Some n) r = refl
+script-there-unquoted t None r = tt
+
+script-placed-unquoted : (t : Tag) (begins : Bool) (p : Option Spot) (x : Option ScriptScan)
+    → WhereScanned (script_unless_placed Unquoted t (if begins then option_map (λ (z : Spot). body.Js (script_place z)) p else None) x)
+    (λ f. ScanHas f member.UnquotedValue)
+script-placed-unquoted t true (Some z) x = refl
+script-placed-unquoted t true None x = script-there-unquoted t x Closed
+script-placed-unquoted t false p x = script-there-unquoted t x Closed
+
+script-unquoted : (t : Tag) (s : ScriptState) (r : Reference) → WhereScanned (script_value_scanned Unquoted t s r) (λ f. ScanHas f member.UnquotedValue)
+script-unquoted t s Closed = script-placed-unquoted t (script_may_begin_text s) (script_spot s) (kept_script_scanned s)
+script-unquoted t s (Open f bytes) = script-there-unquoted t (kept_script_scanned s) (Open f bytes)
+
 unquoted-bears : (t : Tag) (v : ValueState) (r : Reference)
     → WhereScanned (scanned (AttributeValue Unquoted t (ValueOf v) r)) (λ f. ScanHas f member.UnquotedValue)
 unquoted-bears t (OfKind kind.Plain) r = refl
 unquoted-bears t (OfKind kind.NoHole) r = refl
 unquoted-bears t (OfKind _) r = tt
+unquoted-bears t (OfScript s) r = script-unquoted t s r
 unquoted-bears t (OfStyle s) r = style-unquoted t (style_scanned s) r
 unquoted-bears t (OfUrl u) r = of-url (url_value t (quotes_at Unquoted) (parts_of u.part)) u.triple r member.UnquotedValue refl
 
@@ -525,8 +599,8 @@ has-unbegun-in (BeforeAttributeValue t kind.Plain) a = refl
 has-unbegun-in (BeforeAttributeValue t kind.NoHole) a = refl
 has-unbegun-in (BeforeAttributeValue t kind.Url) a = refl
 has-unbegun-in (BeforeAttributeValue t kind.Style) a = refl
+has-unbegun-in (BeforeAttributeValue t kind.Script) a = refl
 has-unbegun-in (BeforeAttributeValue t kind.ScriptType) a = absurd a
-has-unbegun-in (BeforeAttributeValue t _) a = tt
 has-unbegun-in _ a = absurd a
 
 pub has-unquoted : (s : LexState ValueState) (g : Scan) → scanned s ≡ Some g → IsUnquoted s → ScanHas g member.UnquotedValue
@@ -598,6 +672,7 @@ at-grows a (InTagName x y) m l h = absurd l
 at-grows a (InAttributeName t x y) m l h = absurd l
 at-grows a (InUrl v t r) m l h = absurd l
 at-grows a (InStyle v s r) m l h = absurd l
+at-grows a (InScript v s r) m l h = absurd l
 at-grows a (InCommentEnd x) m l h = absurd l
 at-grows a (InContentEnd x y) m l h = absurd l
 at-grows a (InStyleElement x y) m l h = absurd l
@@ -613,6 +688,7 @@ url-grows v t r (InDeclaration x) m l h = absurd l
 url-grows v t r (InTagName x y) m l h = absurd l
 url-grows v t r (InAttributeName u x y) m l h = absurd l
 url-grows v t r (InStyle w s z) m l h = absurd l
+url-grows v t r (InScript w s z) m l h = absurd l
 url-grows v t r (InCommentEnd x) m l h = absurd l
 url-grows v t r (InContentEnd x y) m l h = absurd l
 url-grows v t r (InStyleElement x y) m l h = absurd l
@@ -641,10 +717,19 @@ style-grows v n r (At p) m l h = under-grows v n p m l.0 h
 style-grows v n r (InStyle w x z) m l h = styles.in-quotes w.typed w.quotes x m (quotes-grow v.quotes w.quotes m l.0.quotes h)
 style-grows v n r _ m l h = absurd l
 
+-- and in a script
+script-grows : (v : ValuePlace) (n : ScriptScan) (r : Reference) (f : Scan) (m : Member) → ScanBelow (InScript v n r) f → quotes_have v.quotes m ≡ true → ScanHas f m
+script-grows v n r (InScript w x z) m l h =
+    or-behind (is_whole m) (typed_has w.typed m || (quotes_have w.quotes m || script_set_has x m))
+    (or-behind (typed_has w.typed m) (quotes_have w.quotes m || script_set_has x m)
+    (or-first (quotes_have w.quotes m) (script_set_has x m) (quotes-grow v.quotes w.quotes m l.0.quotes h)))
+script-grows v n r _ m l h = absurd l
+
 has-grows : (m : Member) → OfValue m → ((n : StyleScan) → scan_set_has n m ≡ false) → (g f : Scan) → ScanBelow g f → ScanHas g m → ScanHas f m
 has-grows m o k (At a) f l h = at-grows a f m l h
 has-grows m o k (InUrl v t r) f l h = url-grows v t r f m l h
 has-grows m o k (InStyle v n r) f l h = style-grows v n r f m l (first-of (quotes_have v.quotes m) (scan_set_has n m) (k n) (of-style m o v n h))
+has-grows m o k (InScript v n r) f l h = script-grows v n r f m l (or-false (quotes_have v.quotes m) (of-script m o v n r h))
 has-grows m o k (InStyleElement n x) f l h = absurd (no (sym (k n) ∙ element-at m o n h))
 has-grows m o k (InAttributeName t typed name) f l h = absurd (no-value-has m o t typed name h)
 has-grows m o k _ f l h = absurd (no-whole m o h)
@@ -663,13 +748,17 @@ bare-both t quotes.Sq h k n = no h
 
 unquoted-there : (b : Body) (q : Quotes) → body_error b ≡ None → (quotes_have q member.UnquotedValue || body_has b member.UnquotedValue) ≡ true
     → quotes_have q member.UnquotedValue ≡ true
-unquoted-there (body.Js j) q n h = absurd (some _ n)
+unquoted-there (body.Js j) q n h =
+    or-either (quotes_have q member.UnquotedValue ≡ true) (quotes_have q member.UnquotedValue) (js_has j member.UnquotedValue) h (λ k. k)
+    (λ k. absurd (js-is j member.UnquotedValue k))
 unquoted-there (body.Css c) q n h = first-of (quotes_have q member.UnquotedValue) (css_has c member.UnquotedValue) (css-lacks c).0 h
 unquoted-there _ q n h = or-false (quotes_have q member.UnquotedValue) h
 
 unbegun-there : (b : Body) (q : Quotes) → body_error b ≡ None → (quotes_have q member.UnbegunValue || body_has b member.UnbegunValue) ≡ true
     → quotes_have q member.UnbegunValue ≡ true
-unbegun-there (body.Js j) q n h = absurd (some _ n)
+unbegun-there (body.Js j) q n h =
+    or-either (quotes_have q member.UnbegunValue ≡ true) (quotes_have q member.UnbegunValue) (js_has j member.UnbegunValue) h (λ k. k)
+    (λ k. absurd (js-is j member.UnbegunValue k))
 unbegun-there (body.Css c) q n h = first-of (quotes_have q member.UnbegunValue) (css_has c member.UnbegunValue) (css-lacks c).1 h
 unbegun-there _ q n h = or-false (quotes_have q member.UnbegunValue) h
 
@@ -690,6 +779,14 @@ style-both v n r b h k o =
     (first-of (quotes_have v.quotes member.UnquotedValue) (scan_set_has n member.UnquotedValue) (set-lacks n).0 (of-style member.UnquotedValue of-unquoted v n h))
     (first-of (quotes_have v.quotes member.UnbegunValue) (scan_set_has n member.UnbegunValue) (set-lacks n).1 (of-style member.UnbegunValue of-unbegun v n k)) f.1
 
+script-both : (v : ValuePlace) (n : ScriptScan) (r : Reference) (b : ℕ) → ScanHas (InScript v n r) member.UnquotedValue
+    → ScanHas (InScript v n r) member.UnbegunValue → script_cause v n r White b ≡ None → ⊥
+script-both v n r b h k o =
+    let m = first-caused (quoted_error script_feeding v.quotes n r White b) (at_hand (value_error v White)) o in
+    let f = first-none (body_error v.body) (quotes_error v.tag v.quotes White) (none-at-hand (value_error v White) m.1) in
+    bare-both v.tag v.quotes (or-false (quotes_have v.quotes member.UnquotedValue) (of-script member.UnquotedValue of-unquoted v n r h))
+    (or-false (quotes_have v.quotes member.UnbegunValue) (of-script member.UnbegunValue of-unbegun v n r k)) f.1
+
 pub both-refuse : (f : Scan) (b : ℕ) → ScanHas f member.UnquotedValue → ScanHas f member.UnbegunValue → scan_error f White b ≡ None → ⊥
 both-refuse (At (place.Value v)) b h k n = value-both v Closed b h k n
 both-refuse (At (place.Script j)) b h k n = some _ n
@@ -697,5 +794,6 @@ both-refuse (At (place.Style j)) b h k n = no (sym (css-lacks j).0 ∙ h)
 both-refuse (At _) b h k n = no h
 both-refuse (InUrl v t r) b h k n = value-both v r b h k n
 both-refuse (InStyle v s r) b h k n = style-both v s r b h k n
+both-refuse (InScript v s r) b h k n = script-both v s r b h k n
 both-refuse (InStyleElement s x) b h k n = no (sym (set-lacks s).0 ∙ h)
 both-refuse _ b h k n = no h

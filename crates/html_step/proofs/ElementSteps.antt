@@ -17,8 +17,8 @@ use Rattle.css_step.proofs.StyleBodies.{body-after-cut}
 use Rattle.place_core.proofs.Semilattices.{no_map, one_value}
 use Rattle.place_core.specs.page.Classes.{Class, White, ExclamationMark, Solidus, LessThan, GreaterThan, Letter, class_of}
 use Rattle.place_core.specs.page.Contents.{content_after, is_name_of, may_be_name_of, next_end_name, next_less, next_loose, pending_bytes}
-use Rattle.place_core.specs.page.States.{InContent, InLanguage, Pending, Nothing, PendingLess, LessAtCut, PendingName, PendingBang, PendingBangDash}
-use Rattle.place_core.specs.page.Tags.{ValueState, ValueOf, OfKind, OfUrl, OfStyle, feed_bytes, fed_state, language_feeding, languages, style_code, style_cut}
+use Rattle.place_core.specs.page.States.{LexState, InContent, InLanguage, Pending, Nothing, PendingLess, LessAtCut, PendingName, PendingBang, PendingBangDash}
+use Rattle.place_core.specs.page.Tags.{ValueState, ValueOf, OfKind, OfUrl, OfStyle, OfScript, feed_bytes, fed_state, language_feeding, languages, style_code, style_cut}
 use Rattle.place_core.specs.place.Errors.{PathCause, block_cut_error, cause_back, cut_cause, end_name_error, first_cause, less_error, loose_byte_error, pending_before, pending_error, place_before_bytes, released_error}
 use Rattle.place_core.specs.place.StatePlaces.{language_place}
 use Rattle.place_core.specs.place.StyleParts.{style_body, style_css, style_place}
@@ -28,10 +28,10 @@ use Rattle.place_core.specs.declared.css.Css.{Css}
 use Rattle.place_core.specs.declared.element.Element.{Element}
 use Rattle.place_core.specs.declared.element.Element.TheVariants as element
 use Rattle.place_core.specs.declared.place.Place.TheVariants as place
-use Rattle.html_scan.specs.Scans.{Scan, At, InStyleElement, element_cause, element_less_next, element_name_next, element_next, element_scan, pending_left, released_next, scan_cut_error, scan_error, scan_lexeme_error, scan_next, scan_place, scan_reference, scan_shown, style_feeding, style_less_cause, style_less_cut}
+use Rattle.html_scan.specs.Scans.{Scan, At, InStyleElement, element_cause, element_less_next, element_name_next, element_next, element_scan, pending_left, released_next, scan_cut_error, scan_error, scan_lexeme_error, scan_next, scan_place, scan_reference, scan_script_cut_refusal, scan_shown, style_feeding, style_less_cause, style_less_cut}
 use Rattle.html_step.proofs.ContentsAlike.{content-alike, pending-alike, pending-behind, released-beside}
 use Rattle.html_step.proofs.FedAlike.{FedAlike, alike-first, beside, cause-none, first-caused}
-use Rattle.html_step.proofs.PathScans.{Agrees, Ends, WhereScanned, element_scanned, language_scanned, none-at-hand, scanned, style_element_scanned}
+use Rattle.html_step.proofs.PathScans.{Agrees, Ends, ScriptFacts, ScriptsAgree, WhereScanned, element_scanned, language_scanned, none-at-hand, scanned, style_element_scanned}
 use Rattle.html_step.proofs.StylePaths.{one-css, start-of, start-whole, style_unfinished, styles-alike}
 use Rattle.url_lexer.specs.Parts.{UrlPart}
 use Rattle.url_lexer.specs.States.{Url}
@@ -41,24 +41,28 @@ abbrev pub IsStyleState : ValueState → StyleScan → Type 0
 IsStyleState (OfStyle v) n = IsStyleScan v n
 IsStyleState (OfKind k) n = ⊥
 IsStyleState (OfUrl u) n = ⊥
+IsStyleState (OfScript v) n = ⊥
 
 state-errors : (z : ValueState) (n : StyleScan) (b : ℕ) → IsStyleState z n
     → (language_feeding languages).refuses z b ≡ style_feeding.refuses n b
 state-errors (OfStyle v) n b i = styles-alike.errors (ValueOf (OfStyle v)) n b i
 state-errors (OfKind k) n b i = absurd i
 state-errors (OfUrl u) n b i = absurd i
+state-errors (OfScript v) n b i = absurd i
 
 state-goes : (z : ValueState) (n : StyleScan) (b : ℕ) → IsStyleState z n → style_feeding.refuses n b ≡ None
     → IsStyleState ((language_feeding languages).feed z b) (style_feeding.feed n b)
 state-goes (OfStyle v) n b i e = styles-alike.goes (ValueOf (OfStyle v)) n b i e
 state-goes (OfKind k) n b i e = absurd i
 state-goes (OfUrl u) n b i e = absurd i
+state-goes (OfScript v) n b i e = absurd i
 
 state-names : (z : ValueState) (n : StyleScan) → IsStyleState z n
     → (language_feeding languages).refuses_names z ≡ style_feeding.refuses_names n
 state-names (OfStyle v) n i = refl
 state-names (OfKind k) n i = absurd i
 state-names (OfUrl u) n i = absurd i
+state-names (OfScript v) n i = absurd i
 
 pub states-alike : FedAlike (language_feeding languages) style_feeding IsStyleState
 states-alike = record { errors = state-errors; goes = state-goes; names = state-names }
@@ -116,12 +120,30 @@ shown-by true n [] = refl
 shown-by true n (b ∷ bs) = refl
 shown-by false n bs = refl
 
+-- no script is in it
+places-by : (x : Bool) (z : ValueState) (n : StyleScan) (c : Class) (b k : ℕ) (places : List ℕ)
+    → ScriptsAgree k places (InContent element.Style (InLanguage z) Nothing)
+    (if x then At (place.Style (style_scan_place n)) else InStyleElement n Nothing) c b
+places-by true z n c b k places = (refl, refl, λ h. refl)
+places-by false z n c b k places = (refl, refl, λ h. refl)
+
+script-cut-by : (x : Bool) (n : StyleScan) (k : ℕ) (places : List ℕ)
+    → None ≡ scan_script_cut_refusal k places (if x then At (place.Style (style_scan_place n)) else InStyleElement n Nothing)
+script-cut-by true n k places = refl
+script-cut-by false n k places = refl
+
+facts-by : (x : Bool) (s : LexState ValueState) (n : StyleScan)
+    → ScriptFacts s (if x then At (place.Style (style_scan_place n)) else InStyleElement n Nothing)
+facts-by true s n = tt
+facts-by false s n = tt
+
 -- a byte
 there : (z : ValueState) (n : StyleScan) (h : Pending) → IsStyleState z n
     → scanned (InContent element.Style (InLanguage z) h) ≡ element_scanned h n
 there (OfStyle s) n h i = ap (style_element_scanned h) (exact-on-one-style.scanned s n i)
 there (OfKind k) n h i = absurd i
 there (OfUrl u) n h i = absurd i
+there (OfScript v) n h i = absurd i
 
 element-loose : (c : Class) (b : ℕ) (z : ValueState) (n : StyleScan) → IsStyleState z n → loose_byte_error style_feeding n c b ≡ None
     → scanned (next_loose languages c b element.Style (InLanguage z)) ≡ Some (element_next n c b)
@@ -161,16 +183,19 @@ element-steps : (h : Pending) (z : ValueState) (n : StyleScan) (c : Class) (b : 
     → WhereScanned (element_scanned h n) (λ f. Agrees (InContent element.Style (InLanguage z) h) f c b)
 element-steps Nothing z n c b i = record {
   errors = content-alike states-alike element.Style Nothing c b z n i ∙ sym (element-scan-error n c b);
+  scripts = λ k places w. places-by (is_style_start n) z n c b k places;
   steps = λ e.
       element-loose c b z n i (none-at-hand (loose_byte_error style_feeding n c b) (sym (element-scan-error n c b) ∙ e))
       ∙ ap Some (sym (element-scan-next n c b));
 }
 element-steps PendingLess z n c b i = record {
   errors = content-alike states-alike element.Style PendingLess c b z n i;
+  scripts = λ k places w. (refl, refl, λ h. refl);
   steps = λ e. element-less c b z n i e;
 }
 element-steps (PendingName letters) z n c b i = record {
   errors = content-alike states-alike element.Style (PendingName letters) c b z n i;
+  scripts = λ k places w. (refl, refl, λ h. refl);
   steps = λ e. element-name (may_be_name_of element.Style (letters ++ b ∷ [])) (is_name_of element.Style letters) c b letters z n i e;
 }
 element-steps LessAtCut z n c b i = tt
@@ -189,6 +214,7 @@ language-steps h element.Style (OfStyle s) c b =
     (λ n i. element-steps h (OfStyle s) n c b i)
 language-steps h element.Style (OfKind k) c b = tt
 language-steps h element.Style (OfUrl u) c b = tt
+language-steps h element.Style (OfScript v) c b = tt
 language-steps h _ v c b = tt
 
 -- the place where a text ends, and behind a hole
@@ -217,11 +243,13 @@ state-place : (z : ValueState) (n : StyleScan) → IsStyleState z n
 state-place (OfStyle s) n i = ap (option_map place.Style) (css-is (style_after_cut urls s) (style_scan_place n) (body-after-cut s n i))
 state-place (OfKind k) n i = absurd i
 state-place (OfUrl u) n i = absurd i
+state-place (OfScript v) n i = absurd i
 
 state-lexeme : (z : ValueState) (n : StyleScan) → IsStyleState z n → languages.refuses_cut z ≡ style_unfinished n
 state-lexeme (OfStyle s) n i = ap (option_map (λ (e : StyleCutRefusal). style_code e.code)) (sym (one-style s n i).cut_error)
 state-lexeme (OfKind k) n i = absurd i
 state-lexeme (OfUrl u) n i = absurd i
+state-lexeme (OfScript v) n i = absurd i
 
 -- A `<` that the style does not refuse: whether it may be cut from what follows.
 split-less : (e : StyleEscape) → less_than_cut_in {U = Url} (Out (SplitWord e)) ≡ style_less_cut (style_split_word e)
@@ -260,6 +288,7 @@ state-less (OfStyle s) n i e =
     ∙ ap (λ (o : Option StyleCutRefusal). option_map cut_cause (option_map style_cut o)) (less-cut s n i)
 state-less (OfKind k) n i e = absurd i
 state-less (OfUrl u) n i e = absurd i
+state-less (OfScript v) n i e = absurd i
 
 -- the end of a text
 pending-place : (bytes : List ℕ) (z : ValueState) (n : StyleScan) → IsStyleState z n → pending_error style_feeding n bytes ≡ None
@@ -288,6 +317,8 @@ element-ends : (h : Pending) (z : ValueState) (n : StyleScan) → IsStyleState z
     → WhereScanned (element_scanned h n) (Ends (InContent element.Style (InLanguage z) h))
 element-ends Nothing z n i = record {
   errors = sym (element-scan-cut n);
+  scripts = λ k places. script-cut-by (is_style_start n) n k places;
+  facts = facts-by (is_style_start n) (InContent element.Style (InLanguage z) Nothing) n;
   lexeme = λ e. state-lexeme z n i ∙ sym (element-scan-lexeme n);
   reference = sym (reference-by (is_style_start n) n);
   place = λ e. state-place z n i ∙ ap Some (sym (element-scan-place n));
@@ -299,9 +330,11 @@ element-ends PendingLess z n i =
     record {
       errors = ap (λ (o : Option PathCause). first_cause o own) (pending-alike states-alike bytes z n i)
           ∙ alike-first (pending_error style_feeding n bytes) own (style_less_cause n) (λ e. state-less z n i e);
-      lexeme = λ e. pending-lexeme bytes z n i (first-caused (pending_error style_feeding n bytes) (style_less_cause n) e).0;
+      scripts = λ k places. refl;
+      facts = tt;
+      lexeme = λ e. pending-lexeme bytes z n i (first-caused (pending_error style_feeding n bytes) (style_less_cause n) e.cut).0;
       reference = refl;
-      place = λ e. pending-place bytes z n i (first-caused (pending_error style_feeding n bytes) (style_less_cause n) e).0;
+      place = λ e. pending-place bytes z n i (first-caused (pending_error style_feeding n bytes) (style_less_cause n) e.cut).0;
       shown = λ bs e. element-shown PendingLess bs z n i e;
     }
 element-ends (PendingName letters) z n i =
@@ -309,9 +342,11 @@ element-ends (PendingName letters) z n i =
     let split = block_cut_error (PendingName letters) in
     record {
       errors = ap (λ (o : Option PathCause). first_cause o split) (pending-alike states-alike bytes z n i);
-      lexeme = λ e. pending-lexeme bytes z n i (first-caused (pending_error style_feeding n bytes) split e).0;
+      scripts = λ k places. refl;
+      facts = tt;
+      lexeme = λ e. pending-lexeme bytes z n i (first-caused (pending_error style_feeding n bytes) split e.cut).0;
       reference = refl;
-      place = λ e. pending-place bytes z n i (first-caused (pending_error style_feeding n bytes) split e).0;
+      place = λ e. pending-place bytes z n i (first-caused (pending_error style_feeding n bytes) split e.cut).0;
       shown = λ bs e. element-shown (PendingName letters) bs z n i e;
     }
 element-ends LessAtCut z n i = tt
@@ -325,4 +360,5 @@ language-ends h element.Style (OfStyle s) =
     (λ n i. element-ends h (OfStyle s) n i)
 language-ends h element.Style (OfKind k) = tt
 language-ends h element.Style (OfUrl u) = tt
+language-ends h element.Style (OfScript v) = tt
 language-ends h _ v = tt

@@ -6,7 +6,7 @@ use Rattle.place_core.specs.page.States.{Pending, Nothing}
 use Rattle.place_core.specs.declared.css.Css.{Css}
 use Rattle.place_core.specs.declared.place.Place.{Place}
 use Rattle.place_core.specs.declared.place.Place.TheVariants as place
-use Rattle.html_scan.specs.Scans.{Scan, At, AfterLess, AfterLessSolidus, InDeclaration, InTagName, InAttributeName, InUrl, InStyle, InStyleElement, InCommentEnd, InContentEnd, BeforeType, InType}
+use Rattle.html_scan.specs.Scans.{Scan, At, AfterLess, AfterLessSolidus, InDeclaration, InTagName, InAttributeName, InUrl, InStyle, InScript, InStyleElement, InCommentEnd, InContentEnd, BeforeType, InType}
 
 -- A lexeme of a style may be below a place, as in a value.
 abbrev pub ElementUnderPlace : StyleScan → Place → Type 0
@@ -45,3 +45,4 @@ under-element P n h (BeforeType x) u f g = absurd u
 under-element P n h (InType x y z w) u f g = absurd u
 under-element P n h (InUrl x y z) u f g = absurd u
 under-element P n h (InStyle x y z) u f g = absurd u
+under-element P n h (InScript x y z) u f g = absurd u

@@ -20,14 +20,16 @@ use Rattle.place_core.specs.declared.tag_of.TagOf.{TagOf}
 use Rattle.place_core.specs.declared.tag_place.TagPlace.{TagPlace}
 use Rattle.place_core.specs.declared.value_place.ValuePlace.{ValuePlace}
 use Rattle.place_core.proofs.Joins.{places_same}
-use Rattle.html_scan.specs.Scans.{Scan, At, AfterLess, AfterLessSolidus, InDeclaration, InTagName, InAttributeName, InUrl, InStyle, InStyleElement, InCommentEnd, InContentEnd, comment_next, comment_state, place_cause, scan_cut_error, scan_error, scan_next, scan_place, tag_next, value_cause, value_next, value_scan, BeforeType, InType, content_next}
+use Rattle.html_scan.specs.Scans.{Scan, At, AfterLess, AfterLessSolidus, InDeclaration, InTagName, InAttributeName, InUrl, InStyle, InScript, InStyleElement, InCommentEnd, InContentEnd, comment_next, comment_state, place_cause, scan_cut_error, scan_error, scan_next, scan_place, tag_next, value_cause, value_next, value_scan, BeforeType, InType, content_next}
 use Rattle.html_step.specs.Origins.{byte_origin, end_origin, name_origin, tag_origin, typed_origin, value_origin, white_origin}
 use Rattle.html_step.proofs.BelowScans.{IsRigid, below-at, below-at-tag, below-at-unstyled, below-attribute, below-url, comment-end-rigid, content-end-rigid, declaration-rigid, doctype-rigid, less-rigid, rcdata-rigid, solidus-rigid, tag-name-rigid, text-rigid, whole-in, before-type-rigid, type-rigid}
 use Rattle.html_step.proofs.ElementFrom.{end-element, from-element, from-element-place}
 use Rattle.html_step.proofs.StyleFrom.{has-placed}
 use Rattle.html_step.proofs.FromValues.{From, FromEnd, ValueFrom, content-whole, end-from, no-less, value-from, value_has}
-use Rattle.html_step.proofs.ScanOrder.{ScanBelow, ScanHas, ScanValid, Unstyled, UrlWithin, begun-open, begun-valid, has-kind, within-unstyled}
+use Rattle.html_step.proofs.ScanOrder.{ScanBelow, ScanHas, ScanValid, Unstyled, UrlWithin, begun-open, begun-valid, has-kind, within-unstyled, script_cut}
 use Rattle.html_step.proofs.StylePaths.{empty_css}
+use Rattle.html_step.proofs.ScriptPaths.{empty_js}
+use Rattle.html_step.proofs.ScriptValues.{end-script, from-in-script, from-script-place}
 use Rattle.html_step.proofs.StyleValues.{end-style, from-in-style, from-style-place, style-placed}
 use Rattle.html_step.proofs.PathScans.{none-at-hand, some}
 use Rattle.html_step.proofs.PlaceParts.{TagBelow, below-tag, under-false}
@@ -98,7 +100,7 @@ begins-typed : (t : TagOf) (x : Bool) (k : Kind) → kind_error k ≡ None → S
 begins-typed t x kind.Plain n h = h
 begins-typed t x kind.NoHole n h = h
 begins-typed t x kind.Url n h = h
-begins-typed t x kind.Script n h = absurd (some _ n)
+begins-typed t x kind.Script n h = h
 begins-typed t x kind.Style n h = h
 begins-typed t x kind.ScriptType n h = absurd (no h)
 
@@ -114,7 +116,7 @@ begins-alike : (t u : TagOf) (x z : Bool) (k : Kind) (y : Member) → kind_error
 begins-alike t u x z kind.Plain y n h f = value-typed x z unbegun body.Plain y h f
 begins-alike t u x z kind.NoHole y n h f = value-typed x z unbegun body.NoHole y h f
 begins-alike t u x z kind.Url y n h f = value-typed x z unbegun (body.Url (parts_of UrlStart)) y h f
-begins-alike t u x z kind.Script y n h f = absurd (some _ n)
+begins-alike t u x z kind.Script y n h f = value-typed x z unbegun (body.Js empty_js) y h f
 begins-alike t u x z kind.Style y n h f = value-typed x z unbegun (body.Css empty_css) y h f
 begins-alike t u x z kind.ScriptType y n h f = h
 
@@ -206,6 +208,7 @@ block-whole _ y h = no-less y h
 from-value-byte : (v : ValuePlace) (c : Class) (b : ℕ) (y : Member) (x : Body) → v.body ≡ x → IsValid (place.Value v) → value_cause v Closed c b ≡ None
     → ScanHas (value_next v NoTriple Closed c b) y → From (At (place.Value v)) c b y (value_origin v Closed c b y)
 from-value-byte v c b y (body.Css p) d w n h = from-style-place v c b y p d w.0 n h
+from-value-byte v c b y (body.Js p) d w n h = from-script-place v c b y p d w n h
 from-value-byte v c b y x d w n h =
     let z = subst Unstyled (sym d) tt in
     from-value v c b y (value_origin v Closed c b y) z (value-from v NoTriple Closed c b y w.0 tt z n h)
@@ -234,6 +237,7 @@ from-byte (InAttributeName t typed name) c b y v n h = from-attribute t typed na
 from-byte (InUrl w t r) c b y v n h =
     from-url w t r c b y (value_origin w r c b y) (value-from w t r c b y (begun-valid w.quotes v.0) (begun-open r w.quotes v.0) (within-unstyled w.body v.1) n h)
 from-byte (InStyle w s r) c b y v n h = from-in-style w s r c b y v.0 n h
+from-byte (InScript w s r) c b y v n h = from-in-script w s r c b y v.0 v.2 n h
 from-byte (InCommentEnd s) c b y v n h = from-rigid (InCommentEnd s) (comment-end-rigid s) c b y h
 from-byte (InContentEnd e x) c b y v n h = from-rigid (InContentEnd e x) (content-end-rigid e x) c b y h
 from-byte (InStyleElement s x) c b y v n h = from-element s x c b y n h
@@ -263,17 +267,18 @@ end-attribute t true name y h = record {
       (λ x u o. subst (λ (z : Bool). Has (scan_place (InAttributeName t z name)) y) (sym o) h) g l o;
 }
 
-pub from-end : (f : Scan) (y : Member) → ScanValid f → scan_cut_error f ≡ None → Has (scan_place f) y → FromEnd f y (end_origin f y)
-from-end (At p) y v n h = record { there = h; leads = λ g z l o. end-at p y g l o }
-from-end AfterLess y v n h = end-rigid AfterLess less-rigid y h
-from-end AfterLessSolidus y v n h = end-rigid AfterLessSolidus solidus-rigid y h
-from-end (InDeclaration pending) y v n h = end-rigid (InDeclaration pending) (declaration-rigid pending) y h
-from-end (InTagName end name) y v n h = end-rigid (InTagName end name) (tag-name-rigid end name) y h
-from-end (InAttributeName t typed name) y v n h = end-attribute t typed name y h
-from-end (InCommentEnd s) y v n h = end-rigid (InCommentEnd s) (comment-end-rigid s) y h
-from-end (InContentEnd e x) y v n h = end-rigid (InContentEnd e x) (content-end-rigid e x) y h
-from-end (InStyleElement s x) y v n h = end-element s x y n h
-from-end (BeforeType t) y v n h = end-rigid (BeforeType t) (before-type-rigid t) y h
-from-end (InUrl w t r) y v n h = end-url w t r y v.1 n h
-from-end (InStyle w s r) y v n h = end-style w s r y v.0 n h
-from-end (InType t q w r) y v n h = end-rigid (InType t q w r) (type-rigid t q w r) y h
+pub from-end : (f : Scan) (y : Member) → ScanValid f → scan_cut_error f ≡ None → script_cut f ≡ None → Has (scan_place f) y → FromEnd f y (end_origin f y)
+from-end (At p) y v n o h = record { there = h; leads = λ g z l o. end-at p y g l o }
+from-end AfterLess y v n o h = end-rigid AfterLess less-rigid y h
+from-end AfterLessSolidus y v n o h = end-rigid AfterLessSolidus solidus-rigid y h
+from-end (InDeclaration pending) y v n o h = end-rigid (InDeclaration pending) (declaration-rigid pending) y h
+from-end (InTagName end name) y v n o h = end-rigid (InTagName end name) (tag-name-rigid end name) y h
+from-end (InAttributeName t typed name) y v n o h = end-attribute t typed name y h
+from-end (InCommentEnd s) y v n o h = end-rigid (InCommentEnd s) (comment-end-rigid s) y h
+from-end (InContentEnd e x) y v n o h = end-rigid (InContentEnd e x) (content-end-rigid e x) y h
+from-end (InStyleElement s x) y v n o h = end-element s x y n h
+from-end (BeforeType t) y v n o h = end-rigid (BeforeType t) (before-type-rigid t) y h
+from-end (InUrl w t r) y v n o h = end-url w t r y v.1 n h
+from-end (InStyle w s r) y v n o h = end-style w s r y v.0 n h
+from-end (InScript w s r) y v n o h = end-script w s r y v.0 v.2 n o h
+from-end (InType t q w r) y v n o h = end-rigid (InType t q w r) (type-rigid t q w r) y h

@@ -28,6 +28,8 @@ use Rattle.html_scan.specs.Scans.{Scan, bare_begun, bare_next, bare_white, conte
 use Rattle.html_step.specs.Origins.{body_origin, fed_in, fed_origin, in_value_origin, value_origin}
 use Rattle.html_step.proofs.BelowScans.{whole-in}
 use Rattle.html_step.proofs.FromParts.{AreTaken, fed-from, fed-quoted, fed-taken, fed-typed, fed-whole, first-no-cause, language-taken, or-behind, or-either, or-first}
+use Rattle.html_step.proofs.ScriptFrom.{js-is, script-typed-origin, script-whole-origin}
+use Rattle.js_step.specs.ScriptScans.{script_scan_start}
 use Rattle.html_step.proofs.PathScans.{none-at-hand, some}
 use Rattle.html_step.proofs.PlaceParts.{Under, ValueBelow, below-value}
 use Rattle.html_step.proofs.ScanOrder.{BegunWhereOpen, ScanBelow, ScanHas, ScanValid, Unstyled, UrlWithin, bare-parts, bare-white, body-accepts, first-none, if-none, parts-below, url-within, within-unstyled}
@@ -107,7 +109,9 @@ typed-only false quotes.Dq (body.Url p) n h = h
 typed-only false quotes.Sq body.Plain n h = h
 typed-only false quotes.Sq body.NoHole n h = h
 typed-only false quotes.Sq (body.Url p) n h = h
-typed-only false q (body.Js p) n h = absurd (some _ n)
+typed-only false (quotes.Bare s) (body.Js p) n h = absurd (js-is p member.Typed h)
+typed-only false quotes.Dq (body.Js p) n h = absurd (js-is p member.Typed h)
+typed-only false quotes.Sq (body.Js p) n h = absurd (js-is p member.Typed h)
 typed-only false (quotes.Bare s) (body.Css p) n h = absurd (typed-none p h)
 typed-only false quotes.Dq (body.Css p) n h = absurd (typed-none p h)
 typed-only false quotes.Sq (body.Css p) n h = absurd (typed-none p h)
@@ -116,11 +120,13 @@ typed-only false quotes.Sq (body.Css p) n h = absurd (typed-none p h)
 body-whole : (b : Body) (bytes : List ℕ) → body_origin b bytes member.Whole ≡ member.Whole
 body-whole (body.Url s) bytes = fed-whole bytes s
 body-whole (body.Css c) bytes = style-fed-whole bytes (style_scan_start c)
+body-whole (body.Js j) bytes = script-whole-origin (script_scan_start j)
 body-whole _ bytes = refl
 
 body-typed : (b : Body) (bytes : List ℕ) → body_origin b bytes member.Typed ≡ member.Typed
 body-typed (body.Url s) bytes = fed-typed bytes s
 body-typed (body.Css c) bytes = style-fed-typed bytes (style_scan_start c)
+body-typed (body.Js j) bytes = script-typed-origin (script_scan_start j)
 body-typed _ bytes = refl
 
 whole-origin : (b : Body) (bytes : List ℕ) (y : Member) → is_whole y ≡ true → body_origin b bytes (in_value_origin y) ≡ member.Whole
@@ -156,13 +162,15 @@ part-kept s member.PartQuery h = refl
 part-kept s member.PartBad h = refl
 part-kept s _ h = absurd (no h)
 
--- a value of a language that is built, and no style
+-- a value of a language that is built, and neither a style nor a script
 abbrev pub Built : Body → Type 0
 Built b = (body_error b ≡ None) × Unstyled b
 
 pub unstyled-below : (b d : Body) → joined_bodies b d ≡ Some d → Unstyled d → Unstyled b
 unstyled-below b (body.Css c) j z = absurd z
+unstyled-below b (body.Js c) j z = absurd z
 unstyled-below (body.Css c) d j z = absurd (none_some d j)
+unstyled-below (body.Js c) d j z = absurd (none_some d j)
 unstyled-below _ d j z = tt
 
 -- A body after bytes that it is fed.
@@ -185,7 +193,7 @@ body-there x p (body.Url s) bytes y n a h =
     (in-body x p (body.Url s) (fed_origin bytes s y) ((fed-from bytes s y a h).there))
 body-there x p body.Plain bytes y n a h = absurd (no h)
 body-there x p body.NoHole bytes y n a h = absurd (no h)
-body-there x p (body.Js j) bytes y n a h = absurd (some _ n.0)
+body-there x p (body.Js j) bytes y n a h = absurd n.1
 body-there x p (body.Css j) bytes y n a h = absurd n.1
 
 -- a body below goes on alike
@@ -202,7 +210,7 @@ body-leads (body.Url s) d z w bytes y n a j h o =
     (subst (λ (m : Member). value_has z w d (fed_origin bytes s m) ≡ true) (part-kept (feed_bytes parts_feeding s bytes) y h) o)
 body-leads body.Plain d z w bytes y n a j h o = absurd (no h)
 body-leads body.NoHole d z w bytes y n a j h o = absurd (no h)
-body-leads (body.Js i) d z w bytes y n a j h o = absurd (some _ n.0)
+body-leads (body.Js i) d z w bytes y n a j h o = absurd n.1
 body-leads (body.Css i) d z w bytes y n a j h o = absurd n.1
 
 -- A value, and one below it, go on alike: the tag goes on behind both, or ends, or both go on with these quotes and the bytes that they are fed.
@@ -301,6 +309,7 @@ fed-in : (v : ValuePlace) (q : Quotes) (x : Body) (t : Triple) (r : Reference) (
 fed-in v q (body.Url s) t r c b y e n h =
     url-in (with_parts v q (feed_bytes parts_feeding s (undone_byte true r c b))) (triple_behind t (undone_byte true r c b)) (next_reference r c b) y h
 fed-in v q (body.Css p) t r c b y e n h = absurd n.1
+fed-in v q (body.Js p) t r c b y e n h = absurd n.1
 fed-in v q _ t r c b y e n h = subst (λ (z : Body). value_has v.typed q z y ≡ true) (sym e) h
 
 fed-out : (v : ValuePlace) (q : Quotes) (x : Body) (t : Triple) (r : Reference) (c : Class) (b : ℕ) (y : Member) → v.body ≡ x
@@ -308,6 +317,7 @@ fed-out : (v : ValuePlace) (q : Quotes) (x : Body) (t : Triple) (r : Reference) 
 fed-out v q (body.Url s) t r c b y e n h =
     url-out (with_parts v q (feed_bytes parts_feeding s (undone_byte true r c b))) (triple_behind t (undone_byte true r c b)) (next_reference r c b) y h
 fed-out v q (body.Css p) t r c b y e n h = absurd n.1
+fed-out v q (body.Js p) t r c b y e n h = absurd n.1
 fed-out v q _ t r c b y e n h = subst (λ (z : Body). value_has v.typed q z y ≡ true) e h
 
 goes-fed : (u v : ValuePlace) (q : Quotes) (t : Triple) (r : Reference) (c : Class) (b : ℕ) → AreBuilt u v → BodyTaken v.body (undone_byte true r c b)
@@ -398,6 +408,7 @@ value-from v t r c b y w i z n h =
 end-other : (b : Body) (bytes : List ℕ) (y : Member) → Unstyled b → ((s : Parts) → fed_origin bytes s y ≡ y) → body_origin b bytes y ≡ y
 end-other (body.Url s) bytes y z e = e s
 end-other (body.Css c) bytes y z e = absurd z
+end-other (body.Js c) bytes y z e = absurd z
 end-other _ bytes y z e = refl
 
 whole-stays : (b : Body) (bytes : List ℕ) (y : Member) → is_whole y ≡ true → body_origin b bytes y ≡ y

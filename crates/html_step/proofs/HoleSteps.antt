@@ -6,7 +6,7 @@ use Rattle.place_core.specs.page.References.{Closed, Open}
 use Rattle.place_core.specs.place.StatePlaces.{placed, tag_spot, value_spot, quotes_at, only_inside, only_after}
 use Rattle.place_core.specs.place.UrlParts.{parts_of}
 use Rattle.place_core.specs.page.States.{LexState, Text, TagOpen, EndTagOpen, DeclarationOpen, InComment, Started, StartedDash, Inside, Dash, DashDash, Bang, Broken, BogusComment, InDoctype, TagName, WholeTagName, BeforeAttributeName, AttributeName, WholeAttributeName, AfterAttributeName, BeforeAttributeValue, AttributeValue, AfterAttributeValue, SelfClosingStartTag, Characters, Bytes, InLanguage, Nothing, PendingLess, PendingName, PendingBang, PendingBangDash, InContent, Unread, LessAtCut}
-use Rattle.place_core.specs.page.Tags.{Tag, ValueOf, Deciding, ValueState, OfKind, OfUrl, OfStyle, languages, style_code, Quoting, DoubleQuoted, SingleQuoted, Unquoted, is_second_type}
+use Rattle.place_core.specs.page.Tags.{Tag, ValueOf, Deciding, ValueState, OfKind, OfUrl, OfStyle, OfScript, languages, style_code, Quoting, DoubleQuoted, SingleQuoted, Unquoted, is_second_type}
 use Rattle.css_lexer.specs.RefusalCodes.{RefusalCode}
 use Rattle.css_lexer.specs.Paths.{style_after_hole}
 use Rattle.css_lexer.specs.States.{Style}
@@ -14,6 +14,9 @@ use Rattle.css_lexer.specs.Urls.{urls}
 use Rattle.css_step.specs.StyleChains.{style_hole_with_chain}
 use Rattle.css_step.specs.StyleScans.{style_at_hole, style_hole_error, style_scan_place}
 use Rattle.css_step.specs.StyleScanViews.{style_or_refusal}
+use Rattle.js_lexer.specs.States.{ScriptState}
+use Rattle.js_step.proofs.ScriptPaths.{script-paths-are-scanned}
+use Rattle.place_core.specs.place.ScriptParts.{script_body}
 use Rattle.html_step.proofs.StylePaths.{StyleHole, style-at-place, style-hole}
 use Rattle.place_core.specs.place.StyleParts.{style_body, style_css}
 use Rattle.place_core.specs.declared.body.Body.{Body}
@@ -96,6 +99,14 @@ style-own (Some b) v q t e =
     subst (λ (z : Body). WherePlaced (value_spot t (quotes_at q) (Some z)) (AttributeValue q t (ValueOf (OfStyle v)) Closed)) (sym a.place)
     (css-own (style_hole_error c) v c q t refl (style-hole v c (e ∙ ap Some a.place)))
 
+-- in a script
+script-own : (o : Option Body) (v : ScriptState) (q : Quoting) (t : Tag) → script_body v ≡ o
+    → WherePlaced (value_spot t (quotes_at q) o) (AttributeValue q t (ValueOf (OfScript v)) Closed)
+script-own None v q t e = tt
+script-own (Some x) v q t e =
+    let j = script-paths-are-scanned.is_script v x e in
+    subst (λ (z : Body). WherePlaced (value_spot t (quotes_at q) (Some z)) (AttributeValue q t (ValueOf (OfScript v)) Closed)) (sym j.1) refl
+
 -- and in the element
 element-hole : (o : Option RefusalCode) (v : Style Url) (c : Css) → style_hole_error c ≡ o → StyleHole v c
     → OwnHole (element_holed (style_hole_with_chain c (style_or_refusal o (style_at_hole c)))) (place.Style c) (InContent element.Style (InLanguage (OfStyle v)) Nothing)
@@ -120,12 +131,13 @@ value-own q t (OfKind kind.Style) = tt
 value-own q t (OfKind kind.ScriptType) = tt
 value-own q t (OfUrl u) = url-own u.triple u q t
 value-own q t (OfStyle s) = style-own (style_body s) s q t refl
+value-own q t (OfScript s) = script-own (script_body s) s q t refl
 
 before-own : (t : Tag) (k : Kind) → WherePlaced (placed (BeforeAttributeValue t k)) (BeforeAttributeValue t k)
 before-own t kind.Plain = (refl, refl)
 before-own t kind.NoHole = refl
 before-own t kind.Url = (refl, refl)
-before-own t kind.Script = tt
+before-own t kind.Script = refl
 before-own t kind.Style = (refl, refl)
 before-own t kind.ScriptType = tt
 
@@ -180,6 +192,7 @@ own-hole (InContent element.Other Bytes Nothing) = tt
 own-hole (InContent element.Style (InLanguage (OfStyle s)) Nothing) = element-own (style_css s) s refl
 own-hole (InContent element.Style (InLanguage (OfKind k)) Nothing) = tt
 own-hole (InContent element.Style (InLanguage (OfUrl u)) Nothing) = tt
+own-hole (InContent element.Style (InLanguage (OfScript s)) Nothing) = tt
 own-hole (InContent element.Title (InLanguage v) Nothing) = tt
 own-hole (InContent element.Textarea (InLanguage v) Nothing) = tt
 own-hole (InContent element.DataBlock (InLanguage v) Nothing) = tt

@@ -7,7 +7,7 @@ use Rattle.place_core.specs.page.Html.{next, next_value, next_after_value, next_
 use Rattle.place_core.specs.page.Paths.{at_cut}
 use Rattle.place_core.specs.page.References.{Reference, Closed, Open, Form, ReferenceStep, Grows, Closes, Breaks, turn, flushed, plain_bytes, undone_byte, next_reference, settled, as_it_stands}
 use Rattle.place_core.specs.page.States.{Template, LexState, Text, TagOpen, EndTagOpen, DeclarationOpen, Started, StartedDash, Inside, Dash, DashDash, Bang, Broken, InComment, BogusComment, InDoctype, TagName, WholeTagName, BeforeAttributeName, AttributeName, WholeAttributeName, AfterAttributeName, BeforeAttributeValue, AttributeValue, AfterAttributeValue, SelfClosingStartTag, Characters, Bytes, InLanguage, Pending, Nothing, PendingLess, LessAtCut, PendingName, PendingBang, PendingBangDash, InContent, Unread}
-use Rattle.place_core.specs.page.Tags.{Tag, is_second_type, Value, ValueOf, Deciding, ValueState, OfKind, OfUrl, OfStyle, languages, end_tag, fed_state, with_bytes, tag_with_value, cut_value, feed_value, Quoting, DoubleQuoted, SingleQuoted, Unquoted}
+use Rattle.place_core.specs.page.Tags.{Tag, is_second_type, Value, ValueOf, Deciding, ValueState, OfKind, OfUrl, OfStyle, languages, end_tag, fed_state, with_bytes, tag_with_value, cut_value, feed_value, Quoting, DoubleQuoted, SingleQuoted, Unquoted, OfScript}
 use Rattle.place_core.specs.place.ApartPlaces.{beginning_at, beginning_in_body, beginning_in_css, side}
 use Rattle.place_core.specs.place.Errors.{node, value_before}
 use Rattle.place_core.specs.place.Membership.{Bears}
@@ -34,6 +34,8 @@ use Rattle.place_core.specs.declared.value_place.ValuePlace.{ValuePlace}
 use Rattle.place_core.proofs.ApartPlacesFacts.{has-side, turned-apart}
 use Rattle.place_core.proofs.Semilattices.{none_some, one_value}
 use Rattle.css_lexer.specs.States.{Style}
+use Rattle.js_lexer.specs.Spots.{Spot, script_spot}
+use Rattle.place_core.specs.place.ScriptParts.{script_may_begin_text, script_place}
 use Rattle.html_step.proofs.Parentheses.{NoOpening, OpensAtEnds, OpensLast, ReferenceOpensNone, ends-before, flushed-opens, last-ends, next-opens, plain-last, stands-ends, step-ends}
 use Rattle.html_step.proofs.EndTagNames.{hyphen-opens-none, last-nil, less-opens-none, name-opens-none, no-opening-more, no-opening-nil, opens-behind, opens-last, solidus-opens-none}
 use Rattle.html_step.proofs.StylePaths.{ends-no-equals}
@@ -188,6 +190,13 @@ element-begins s (Some c) e h =
     let a = element-url-part (InContent element.Style (InLanguage (OfStyle s)) Nothing) c d.parts (ap (option_map place.Style) e) d.is in
     open-by (url_in_style s) a.part a.is (part-opened a.part (sym (ap (λ (r : Parts). is_some r.opened) a.parts) ∙ d.opened))
 
+-- none is in a script
+script-no-side : (t : Tag) (q : Quotes) (x : Bool) (o : Option Spot)
+    → on_side (value_spot t q (if x then option_map (λ (p : Spot). body.Js (script_place p)) o else None)) ≡ true → ⊥
+script-no-side t q true (Some p) h = no h
+script-no-side t q true None h = no h
+script-no-side t q false o h = no h
+
 second-not : (second : Bool) (t : TagPlace) → on_side (if second then None else Some (place.Tag t)) ≡ true → ⊥
 second-not true t h = no h
 second-not false t h = no h
@@ -227,6 +236,7 @@ placed-begins (AttributeValue q t (ValueOf (OfKind kind.Style)) Closed) h = absu
 placed-begins (AttributeValue q t (ValueOf (OfKind kind.ScriptType)) Closed) h = absurd (no h)
 placed-begins (AttributeValue q t (ValueOf (OfUrl u)) Closed) h = url-begins t (quotes_at q) u.triple u.part h
 placed-begins (AttributeValue q t (ValueOf (OfStyle s)) Closed) h = style-begins q t s (style_body s) refl h
+placed-begins (AttributeValue q t (ValueOf (OfScript s)) Closed) h = absurd (script-no-side t (quotes_at q) (script_may_begin_text s) (script_spot s) h)
 placed-begins (AttributeValue q t (Deciding k before) Closed) h = absurd (no h)
 placed-begins (AttributeValue q t v (Open f bytes)) h = absurd (no h)
 placed-begins (AfterAttributeValue t) h = absurd (no h)
@@ -246,6 +256,7 @@ placed-begins (InContent element.Style Bytes Nothing) h = absurd (no h)
 placed-begins (InContent element.Other Bytes Nothing) h = absurd (no h)
 placed-begins (InContent element.Style (InLanguage (OfStyle s)) Nothing) h = element-begins s (style_css s) refl h
 placed-begins (InContent element.Style (InLanguage (OfKind k)) Nothing) h = absurd (no h)
+placed-begins (InContent element.Style (InLanguage (OfScript k)) Nothing) h = absurd (no h)
 placed-begins (InContent element.Style (InLanguage (OfUrl u)) Nothing) h = absurd (no h)
 placed-begins (InContent element.Title (InLanguage v) Nothing) h = absurd (no h)
 placed-begins (InContent element.Textarea (InLanguage v) Nothing) h = absurd (no h)
@@ -285,6 +296,7 @@ pub begins-value : (s : LexState ValueState) → is_in_beginning s ≡ true → 
 begins-value (AttributeValue q t (ValueOf (OfUrl u)) r) h = refl
 begins-value (AttributeValue q t (ValueOf (OfStyle s)) r) h = refl
 begins-value (AttributeValue q t (ValueOf (OfKind k)) r) h = absurd (no h)
+begins-value (AttributeValue q t (ValueOf (OfScript k)) r) h = absurd (no h)
 begins-value (AttributeValue q t (Deciding k before) r) h = absurd (no h)
 begins-value (InContent e (InLanguage (OfStyle s)) Nothing) h = h
 begins-value (InContent e (InLanguage (OfStyle s)) PendingLess) h = refl
@@ -293,6 +305,7 @@ begins-value (InContent e (InLanguage (OfStyle s)) (PendingName letters)) h = re
 begins-value (InContent e (InLanguage (OfStyle s)) PendingBang) h = refl
 begins-value (InContent e (InLanguage (OfStyle s)) PendingBangDash) h = refl
 begins-value (InContent e (InLanguage (OfKind k)) x) h = absurd (no h)
+begins-value (InContent e (InLanguage (OfScript k)) x) h = absurd (no h)
 begins-value (InContent e (InLanguage (OfUrl u)) x) h = absurd (no h)
 begins-value _ h = absurd (no h)
 
@@ -300,12 +313,14 @@ with-url-value : (bytes : List ℕ) (v : Value ValueState) → may_begin (with_b
 with-url-value [] v = refl
 with-url-value (b ∷ bs) (ValueOf (OfUrl u)) = with-url-value bs (ValueOf (OfUrl (feed_url u b)))
 with-url-value (b ∷ bs) (ValueOf (OfKind k)) = with-url-value bs (ValueOf (OfKind k))
+with-url-value (b ∷ bs) (ValueOf (OfScript k)) = with-url-value bs (ValueOf (feed_value (OfScript k) b))
 with-url-value (b ∷ bs) (ValueOf (OfStyle s)) = with-url-value bs (ValueOf (feed_value (OfStyle s) b))
 with-url-value (b ∷ bs) (Deciding k before) = with-url-value bs (Deciding k (before ++ b ∷ []))
 
 cut-url-value : (v : Value ValueState) → may_begin (cut_value languages v) ≡ may_begin v
 cut-url-value (ValueOf (OfUrl u)) = refl
 cut-url-value (ValueOf (OfKind k)) = refl
+cut-url-value (ValueOf (OfScript k)) = refl
 cut-url-value (ValueOf (OfStyle s)) = refl
 cut-url-value (Deciding k before) = refl
 
@@ -322,22 +337,26 @@ fed-style : (bytes : List ℕ) (v : ValueState) → is_style_value (fed_value v 
 fed-style [] v = refl
 fed-style (b ∷ bs) (OfStyle s) = fed-style bs (feed_value (OfStyle s) b)
 fed-style (b ∷ bs) (OfKind k) = fed-style bs (OfKind k)
+fed-style (b ∷ bs) (OfScript k) = fed-style bs (feed_value (OfScript k) b)
 fed-style (b ∷ bs) (OfUrl u) = fed-style bs (OfUrl (feed_url u b))
 
 cut-style : (v : ValueState) → is_style_value (languages.after_cut v) ≡ is_style_value v
 cut-style (OfStyle s) = refl
 cut-style (OfKind k) = refl
+cut-style (OfScript k) = refl
 cut-style (OfUrl u) = refl
 
 in-element : (e : Element) (v : ValueState) (h : Pending) → is_in_beginning (InContent e (InLanguage v) h) ≡ (is_style_value v && begins_in v)
 in-element e (OfStyle s) h = refl
 in-element e (OfKind k) h = refl
+in-element e (OfScript k) h = refl
 in-element e (OfUrl u) h = refl
 
 unknown-element : (e : Element) (v : ValueState) (h : Pending) → is_style_value v ≡ true
     → unknown_beginning (InContent e (InLanguage v) h) ≡ InContent e (InLanguage (unknown_value v)) h
 unknown-element e (OfStyle s) h i = refl
 unknown-element e (OfKind k) h i = absurd (no i)
+unknown-element e (OfScript k) h i = absurd (no i)
 unknown-element e (OfUrl u) h i = absurd (no i)
 
 both-true : (x y : Bool) → (x && y) ≡ true → (x ≡ true) × (y ≡ true)
@@ -372,6 +391,7 @@ element-value e (OfStyle s) (PendingName letters) i k = refl
 element-value e (OfStyle s) PendingBang i k = refl
 element-value e (OfStyle s) PendingBangDash i k = refl
 element-value e (OfKind k) h i j = absurd (no i)
+element-value e (OfScript k) h i j = absurd (no i)
 element-value e (OfUrl u) h i j = absurd (no i)
 
 cut-value : (s : LexState ValueState) → is_in_beginning (at_cut languages s) ≡ true → is_url_value s ≡ true
@@ -403,12 +423,14 @@ kept-value (b ∷ bs) s h = begins-value s h.0
 -- A path in a value is in the beginning where its value is.
 begins-is : (q : Quoting) (t : Tag) (v : ValueState) (r : Reference) → is_in_beginning (AttributeValue q t (ValueOf v) r) ≡ begins_in v
 begins-is q t (OfKind k) r = refl
+begins-is q t (OfScript k) r = refl
 begins-is q t (OfUrl u) r = refl
 begins-is q t (OfStyle s) r = refl
 
 unknown-is : (q : Quoting) (t : Tag) (v : ValueState) (r : Reference)
     → unknown_beginning (AttributeValue q t (ValueOf v) r) ≡ AttributeValue q t (ValueOf (unknown_value v)) r
 unknown-is q t (OfKind k) r = refl
+unknown-is q t (OfScript k) r = refl
 unknown-is q t (OfUrl u) r = refl
 unknown-is q t (OfStyle s) r = refl
 

@@ -1,13 +1,13 @@
 -- Two paths are apart in the beginning of a URL where their scan states say so, up to the byte at which the text is refused on one of them.
-use Rattle.std.proofs.Common.{◌≡◌, ◌<◌, ◌≤◌, ◌+◌, ℕ, zero, suc, inl, Bool, true, false, List, [], ◌∷◌, drop, take, Option, Some, None, Result, Ok, Err, refl, sym, ap, ◌∙◌, subst, arith}
+use Rattle.std.proofs.Common.{◌≡◌, ◌<◌, ◌≤◌, ◌+◌, ℕ, zero, suc, inl, Bool, true, false, List, [], ◌∷◌, drop, take, Option, Some, None, option_map, Result, Ok, Err, refl, sym, ap, ◌∙◌, subst, arith}
 use Rattle.std.specs.Prelude.{IfSome, if◌then◌else◌}
 use Rattle.place_core.specs.page.Classes.{class_of}
 use Rattle.place_core.specs.page.Html.{next}
 use Rattle.place_core.specs.page.References.{Reference, Closed, Open}
 use Rattle.place_core.specs.page.States.{Template, LexState, Text, TagOpen, EndTagOpen, DeclarationOpen, CommentState, Started, StartedDash, Inside, Dash, DashDash, Bang, Broken, InComment, BogusComment, InDoctype, TagName, WholeTagName, BeforeAttributeName, AttributeName, WholeAttributeName, AfterAttributeName, BeforeAttributeValue, AttributeValue, AfterAttributeValue, SelfClosingStartTag, Characters, Bytes, InLanguage, Pending, Nothing, PendingLess, PendingName, PendingBang, PendingBangDash, InContent, Unread, LessAtCut}
-use Rattle.place_core.specs.page.Tags.{Tag, ValueState, OfKind, OfUrl, OfStyle, Quoting, languages, ValueOf, Deciding, is_second_type}
+use Rattle.place_core.specs.page.Tags.{Tag, ValueState, OfKind, OfUrl, OfStyle, Quoting, languages, ValueOf, Deciding, is_second_type, OfScript}
 use Rattle.place_core.specs.place.ApartPlaces.{ArePlacesApart, beginning_at, opened_apart}
-use Rattle.place_core.specs.place.Errors.{PathRefusal, place_before_bytes, shown_place, states}
+use Rattle.place_core.specs.place.Errors.{PathRefusal, place_before_bytes, shown_place, states, TextRead, nothing_read}
 use Rattle.place_core.specs.place.LastLexeme.{last_lexeme_start}
 use Rattle.place_core.specs.place.PathPairs.{ApartBefore, is_in_reference}
 use Rattle.place_core.specs.place.StatePlaces.{placed, quotes_at}
@@ -21,17 +21,25 @@ use Rattle.place_core.specs.declared.prefix.Prefix.{Prefix}
 use Rattle.place_core.specs.declared.value_place.ValuePlace.{ValuePlace}
 use Rattle.place_core.proofs.Semilattices.{one_value}
 use Rattle.url_lexer.specs.Triples.{Triple, NoTriple, AfterPercent, AfterDigit}
-use Rattle.html_scan.specs.Scans.{Scan, At, InStyle, InStyleElement, scan_error, scan_next, scan_shown, scan_reference, style_scan, url_scan, with_style}
+use Rattle.html_scan.specs.Scans.{Scan, At, InStyle, InStyleElement, scan_error, scan_next, scan_shown, scan_reference, style_scan, url_scan, with_style, InScript, script_scan_before, with_body}
 use Rattle.css_step.specs.StyleScans.{StyleScan, is_style_start, style_scan_place}
 use Rattle.css_step.specs.StyleScanLaws.{style_scanned}
+use Rattle.js_lexer.specs.States.{ScriptState}
+use Rattle.js_step.specs.ScriptScans.{ScriptScan, script_scan_shown}
+use Rattle.place_core.specs.place.ScriptParts.{script_body}
+use Rattle.place_core.specs.declared.js.Js.{Js}
+use Rattle.place_core.specs.declared.body.Body.{Body}
+use Rattle.place_core.specs.declared.body.Body.TheVariants as body
+use Rattle.html_step.proofs.ScriptReads.{ReadFits, begins-fits}
+use Rattle.html_step.proofs.ScriptPaths.{kept_script_scanned, script_value}
 use Rattle.html_step.specs.ApartInText.{AreApartAfter, AreNotApart, IsLastIn, TakesByte}
 use Rattle.html_step.specs.ApartScans.{AreScansApart, IsLastApart, AnswersLast, beginning_after, scan_beginning, unless_in_reference}
-use Rattle.html_step.specs.Steps.{after_text, place_before, scan_after, stepped, with_place_before}
+use Rattle.html_step.specs.Steps.{after_text, place_before, scan_after, stepped, with_place_before, scan_read_behind}
 use Rattle.html_step.proofs.OnePath.{ends-agree}
-use Rattle.html_step.proofs.PathScans.{Ends, IsShown, WhereScanned, content_scanned, block_scanned, language_scanned, scanned, style_element_scanned, url_value}
+use Rattle.html_step.proofs.PathScans.{Ends, IsShown, WhereScanned, content_scanned, block_scanned, language_scanned, scanned, style_element_scanned, url_value, script_there, script_unless_placed, script_value_scanned}
 use Rattle.html_step.proofs.StyleSteps.{where-styled}
 use Rattle.html_step.proofs.StylePaths.{style_value}
-use Rattle.html_step.proofs.OneTexts.{Reaches, agrees-at, at-place, is-shown-after, later, none, not-late, place-there}
+use Rattle.html_step.proofs.OneTexts.{Reaches, agrees-at, at-place, is-shown-after, none, place-there, goes-on}
 
 -- what the beginning of a URL spells at a place that is shown, and on a path before the bytes that are left
 abbrev shown_beginning : Option Place → Option Prefix
@@ -86,6 +94,31 @@ style-begins q t v n w Closed bs = style-begins-by (is_style_start n) q t v n w 
 style-begins q t v n w (Open f bytes) [] = refl
 style-begins q t v n w (Open f bytes) (b ∷ bs) = refl
 
+shown-script : (v : ValuePlace) (o : Option Js) → shown_beginning (option_map (λ j. with_body v (body.Js j)) o) ≡ None
+shown-script v (Some j) = refl
+shown-script v None = refl
+
+script-in-begins : (q : Quoting) (t : Tag) (s : ScriptState) (v : ValuePlace) (n : ScriptScan) (r : Reference)
+    → BeginsAs (AttributeValue q t (ValueOf (OfScript s)) r) (InScript v n r)
+script-in-begins q t s v n r bs =
+    ap (unless_in_reference (is_in_reference (AttributeValue q t (ValueOf (OfScript s)) r) bs)) (shown-script v (script_scan_shown (script_scan_before n r bs)))
+    ∙ none-within (is_in_reference (AttributeValue q t (ValueOf (OfScript s)) r) bs)
+
+script-there-begins : (q : Quoting) (t : Tag) (s : ScriptState) (o : Option ScriptScan) (r : Reference)
+    → WhereScanned (script_there q t o r) (BeginsAs (AttributeValue q t (ValueOf (OfScript s)) r))
+script-there-begins q t s (Some n) r = script-in-begins q t s (script_value t (quotes_at q)) n r
+script-there-begins q t s None r = tt
+
+script-placed-begins : (q : Quoting) (t : Tag) (s : ScriptState) (x : Option Body) (o : Option ScriptScan)
+    → WhereScanned (script_unless_placed q t x o) (BeginsAs (AttributeValue q t (ValueOf (OfScript s)) Closed))
+script-placed-begins q t s (Some b) o = λ bs. refl
+script-placed-begins q t s None o = script-there-begins q t s o Closed
+
+script-begins : (q : Quoting) (t : Tag) (s : ScriptState) (r : Reference)
+    → WhereScanned (script_value_scanned q t s r) (BeginsAs (AttributeValue q t (ValueOf (OfScript s)) r))
+script-begins q t s Closed = script-placed-begins q t s (script_body s) (kept_script_scanned s)
+script-begins q t s (Open f bytes) = script-there-begins q t s (kept_script_scanned s) (Open f bytes)
+
 content-begins : (h : Pending) (e : Element) (r : Reference) → WhereScanned (content_scanned h e) (BeginsAs (InContent e (Characters r) h))
 content-begins Nothing element.Title r = λ bs. refl
 content-begins Nothing element.Textarea r = λ bs. refl
@@ -125,6 +158,7 @@ language-begins : (h : Pending) (e : Element) (v : ValueState)
 language-begins h element.Style (OfStyle s) = element-begins h (OfStyle s) (style_scanned s)
 language-begins h element.Style (OfKind k) = tt
 language-begins h element.Style (OfUrl u) = tt
+language-begins h element.Style (OfScript s) = tt
 language-begins h _ v = tt
 
 begins : (s : LexState ValueState) → WhereScanned (scanned s) (BeginsAs s)
@@ -144,7 +178,7 @@ begins (AfterAttributeName t k) = first-begins (is_second_type t.typed k) (After
 begins (BeforeAttributeValue t kind.Plain) = λ bs. refl
 begins (BeforeAttributeValue t kind.NoHole) = λ bs. refl
 begins (BeforeAttributeValue t kind.Url) = λ bs. refl
-begins (BeforeAttributeValue t kind.Script) = tt
+begins (BeforeAttributeValue t kind.Script) = λ bs. refl
 begins (BeforeAttributeValue t kind.Style) = λ bs. refl
 begins (BeforeAttributeValue t kind.ScriptType) = first-begins t.typed (BeforeAttributeValue t kind.ScriptType) _ (λ bs. refl)
 begins (AttributeValue q t (ValueOf (OfKind kind.Plain)) r) =
@@ -155,6 +189,7 @@ begins (AttributeValue q t (ValueOf (OfKind k)) r) = tt
 begins (AttributeValue q t (ValueOf (OfStyle s)) r) =
     where-styled q t s r (BeginsAs (AttributeValue q t (ValueOf (OfStyle s)) r)) (style_scanned s) refl
     (λ n i. style-begins q t (style_value t (quotes_at q)) n (OfStyle s) r)
+begins (AttributeValue q t (ValueOf (OfScript s)) r) = script-begins q t s r
 begins (AttributeValue q t (ValueOf (OfUrl u)) r) = url-begins q t (url_value t (quotes_at q) (parts_of u.part)) u.triple (OfUrl u) r
 begins (AttributeValue q t (Deciding kind.ScriptType before) r) =
     first-begins t.typed (AttributeValue q t (Deciding kind.ScriptType before) r) _
@@ -228,17 +263,15 @@ before-apart : (bs : List ℕ) (s r : LexState ValueState) → ApartBefore bs s 
 before-apart bs s r a = rw (a.between, a.other_between, a.stands, a.other_stands) a.apart
 
 -- the scan state of a path after some bytes, up to the one that is refused
-states-there : (n : ℕ) (bytes : List ℕ) (k since : ℕ) (s : LexState ValueState) (f : Scan) → scanned s ≡ Some f
+states-there : (n : ℕ) (bytes : List ℕ) (k : ℕ) (since : TextRead) (s : LexState ValueState) (f : Scan) → scanned s ≡ Some f → ReadFits k since s
     → Reaches (k + n) (stepped k since bytes f)
     → scanned (states (take n bytes) s) ≡ Some (scan_after (take n bytes) f)
-states-there zero bytes k since s f e r = e
-states-there (suc n) [] k since s f e r = e
-states-there (suc n) (b ∷ bs) k since s f e r =
-    let g = scan_next f (class_of b) b in
-    let after = last_lexeme_start k since (scan_reference f) (class_of b) b in
-    let l = not-late k n (scan_error f (class_of b) b) (stepped (k + 1) after bs g) r in
-    states-there n bs (k + 1) after (next languages Template s (class_of b) b) g ((agrees-at s f b e).steps l.0)
-    (later k n (stepped (k + 1) after bs g) l.1)
+states-there zero bytes k since s f e w r = e
+states-there (suc n) [] k since s f e w r = e
+states-there (suc n) (b ∷ bs) k since s f e w r =
+    let l = goes-on k n since b bs s f e w r in
+    states-there n bs (k + 1) (scan_read_behind k since f (class_of b) b) (next languages Template s (class_of b) b) (scan_next f (class_of b) b) l.at l.fits
+    l.reaches
 
 takes-by : (n upto : ℕ) (bytes : List ℕ) (p : Place) (r : Result Place PathRefusal) → TakesByte upto (with_place_before bytes p r)
     → n ≤ upto → Reaches (0 + n) r
@@ -251,15 +284,15 @@ record Taken (upto : ℕ) (bytes : List ℕ) (s : LexState ValueState) (p : Plac
   takes : TakesByte upto (after_text bytes p)
 
 reaches : (upto n : ℕ) (bytes : List ℕ) (s : LexState ValueState) (p : Place) → Taken upto bytes s p → n ≤ upto
-    → Reaches (0 + n) (stepped 0 0 bytes (At p))
-reaches upto n bytes s p k l = takes-by n upto bytes p (stepped 0 0 bytes (At p)) k.takes l
+    → Reaches (0 + n) (stepped 0 nothing_read bytes (At p))
+reaches upto n bytes s p k l = takes-by n upto bytes p (stepped 0 nothing_read bytes (At p)) k.takes l
 
 begins-after : (upto n : ℕ) (bytes : List ℕ) (s : LexState ValueState) (p : Place) → Taken upto bytes s p → n ≤ upto
     → path_beginning (states (take n bytes) s) (drop n bytes) ≡ beginning_after n bytes (At p)
 begins-after upto n bytes s p k l =
     begins-at (states (take n bytes) s) (scan_after (take n bytes) (At p))
-    (states-there n bytes 0 0 s (At p) (at-place s p k.at) (reaches upto n bytes s p k l)) (drop n bytes)
-    (is-shown-after n bytes 0 0 (At p) (λ z. refl) (reaches upto n bytes s p k l))
+    (states-there n bytes 0 nothing_read s (At p) (at-place s p k.at) (begins-fits s p 0 k.at) (reaches upto n bytes s p k l)) (drop n bytes)
+    (is-shown-after n bytes 0 nothing_read s (At p) (at-place s p k.at) (begins-fits s p 0 k.at) (λ z. refl) (reaches upto n bytes s p k l))
 
 apart-after : (upto n : ℕ) (bytes : List ℕ) (s r : LexState ValueState) (p q : Place) → Taken upto bytes s p → Taken upto bytes r q
     → n ≤ upto
@@ -279,7 +312,7 @@ after-apart upto n bytes s r p q k h l a =
 
 stands-after : (upto n : ℕ) (bytes : List ℕ) (s : LexState ValueState) (p : Place) → Taken upto bytes s p → n ≤ upto
     → shown_place n bytes s ≡ Some (place_before bytes n p)
-stands-after upto n bytes s p k l = place-there n bytes 0 0 s p k.at (reaches upto n bytes s p k l)
+stands-after upto n bytes s p k l = place-there n bytes 0 s p k.at (reaches upto n bytes s p k l)
 
 -- what the scan states say of the last point is so on the paths
 abbrev pub OnPaths : ℕ → List ℕ → Place → Place → (LexState ValueState → LexState ValueState → Type 0) → Type 0

@@ -28,6 +28,7 @@ use Rattle.css_step.specs.StyleChains.{style_hole_with_chain}
 use Rattle.css_step.specs.StyleScanViews.{style_or_refusal}
 use Rattle.place_core.specs.declared.css.Css.{Css}
 use Rattle.place_core.specs.declared.css.Css.TheVariants as css
+use Rattle.place_core.specs.place.Errors.{nothing_read}
 use Rattle.html_step.specs.Apart.{ApartLaws}
 use Rattle.html_step.specs.Holes.{Holed, after_hole, block_hole, css_holed, element_holed, named_by_data, plain_hole, url_holed, value_hole}
 use Rattle.html_step.specs.Steps.{after_text}
@@ -126,12 +127,12 @@ met-apart = record {
   below = below-apart;
   turns_places = turned-apart;
   stays = λ bytes p q s a i b e m.
-      kept-apart bytes 0 0 s (At i.own) (At p) q (placed-opens s i.own i.stands) (side-begins s b) a (stand-in p s i) m (text-steps bytes p q e);
+      kept-apart bytes 0 nothing_read s (At i.own) (At p) q (placed-opens s i.own i.stands) (side-begins s b) a (stand-in p s i) m (text-steps bytes p q e);
   holed = not-holed;
   above = above-apart;
   met = met-here;
   parted = λ bytes p q s r v i j e a.
-      within-apart bytes 0 0 s r (At i.own) (At j.own) (At p) q v tt (stand-in p s i) (stand-in p r j) a (text-steps bytes p q e);
+      within-apart bytes 0 nothing_read s r (At i.own) (At j.own) (At p) q v tt (stand-in p s i) (stand-in p r j) a (text-steps bytes p q e);
   sides = path-sides;
   sides_within = sides-within;
   keeps = λ bytes s b m. stays-there bytes s m;

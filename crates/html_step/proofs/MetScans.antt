@@ -11,10 +11,9 @@ use Rattle.place_core.specs.page.Html.{next}
 use Rattle.place_core.specs.page.References.{Reference, Closed, Open}
 use Rattle.place_core.specs.page.States.{Template, LexState, AttributeValue, InContent, InLanguage, Pending, Nothing, PendingLess, LessAtCut, PendingName, PendingBang, PendingBangDash}
 use Rattle.place_core.specs.declared.element.Element.TheVariants as element
-use Rattle.place_core.specs.page.Tags.{Tag, ValueOf, Deciding, ValueState, OfKind, OfUrl, OfStyle, languages, Quoting}
+use Rattle.place_core.specs.page.Tags.{Tag, ValueOf, Deciding, ValueState, OfKind, OfUrl, OfStyle, languages, Quoting, OfScript}
 use Rattle.place_core.specs.place.ApartPlaces.{HasApart, beginning_at}
-use Rattle.place_core.specs.place.Errors.{node}
-use Rattle.place_core.specs.place.LastLexeme.{last_lexeme_start}
+use Rattle.place_core.specs.place.Errors.{node, TextRead}
 use Rattle.place_core.specs.place.Membership.{IsIn}
 use Rattle.place_core.specs.place.PathPairs.{ApartBefore, Keeps, PartWithin, state_before, is_in_beginning, unknown_beginning, unknown_part}
 use Rattle.place_core.specs.place.Places.{Below, IsValid}
@@ -32,7 +31,7 @@ use Rattle.place_core.proofs.ApartPlacesFacts.{above-apart}
 use Rattle.place_core.proofs.Semilattices.{none_some, one_value}
 use Rattle.html_scan.specs.Scans.{Scan, At, scan_reference, scan_error, scan_next, with_style}
 use Rattle.html_step.specs.Origins.{scan_parts}
-use Rattle.html_step.specs.Steps.{stepped}
+use Rattle.html_step.specs.Steps.{stepped, scan_read_behind}
 use Rattle.html_step.proofs.AcceptedTexts.{ends-apart, met-at, own-after, reads}
 use Rattle.html_step.proofs.ApartParts.{differs-of, of-differs, unknown-below}
 use Rattle.html_step.proofs.KeptBeginnings.{OpensNone, before-opens, node-unknown, side-begins, stays-there}
@@ -152,6 +151,7 @@ unknown-placed : (s : LexState ValueState) (a : Place) → is_in_beginning s ≡
 unknown-placed (AttributeValue q t (ValueOf (OfUrl u)) Closed) a h e = raised-apart u.triple u.part t (quotes_at q) a h e
 unknown-placed (AttributeValue q t (ValueOf (OfUrl u)) (Open f bytes)) a h e = absurd (none_some a e)
 unknown-placed (AttributeValue q t (ValueOf (OfKind k)) r) a h e = absurd (no h)
+unknown-placed (AttributeValue q t (ValueOf (OfScript k)) r) a h e = absurd (no h)
 unknown-placed (AttributeValue q t (ValueOf (OfStyle (style.InUrl Bare u))) Closed) a h e = bare-apart u.triple u.part t (quotes_at q) a h e
 unknown-placed (AttributeValue q t (ValueOf (OfStyle (style.InUrl (Quoted y NoEscape) u))) Closed) a h e =
     quoted-apart y u.triple u.part t (quotes_at q) a h e
@@ -179,11 +179,12 @@ unknown-placed (InContent x (InLanguage (OfStyle s)) (PendingName letters)) a h 
 unknown-placed (InContent x (InLanguage (OfStyle s)) PendingBang) a h e = absurd (none_some a e)
 unknown-placed (InContent x (InLanguage (OfStyle s)) PendingBangDash) a h e = absurd (none_some a e)
 unknown-placed (InContent x (InLanguage (OfKind k)) y) a h e = absurd (no h)
+unknown-placed (InContent x (InLanguage (OfScript k)) y) a h e = absurd (no h)
 unknown-placed (InContent x (InLanguage (OfUrl u)) y) a h e = absurd (no h)
 unknown-placed _ a h e = absurd (no h)
 
 -- So a path that stays in the beginning keeps it.
-pub kept-apart : (bytes : List ℕ) (k since : ℕ) (s : LexState ValueState) (g f : Scan) (q : Place) → OpensNone s → is_in_beginning s ≡ true
+pub kept-apart : (bytes : List ℕ) (k : ℕ) (since : TextRead) (s : LexState ValueState) (g f : Scan) (q : Place) → OpensNone s → is_in_beginning s ≡ true
     → ScanApart f → Stand s g f → Keeps bytes s → stepped k since bytes f ≡ Ok q → HasApart q
 kept-apart bytes k since s g f q o h a i m e =
     let u = met-unknown s g f h a i in
@@ -192,11 +193,11 @@ kept-apart bytes k since s g f q o h a i m e =
     (unknown-placed (node bytes s) r.0 (side-begins (node bytes s) (stays-there bytes s m)) (sym (ap placed (node-unknown bytes s o h m)) ∙ r.1))
 
 -- Two paths that come apart within the text.
-end-apart : (k since : ℕ) (s r : LexState ValueState) (g h f : Scan) (q : Place) → Stand s g f → Stand r h f → ApartBefore [] s r
+end-apart : (k : ℕ) (since : TextRead) (s r : LexState ValueState) (g h f : Scan) (q : Place) → Stand s g f → Stand r h f → ApartBefore [] s r
     → stepped k since [] f ≡ Ok q → HasApart q
 end-apart k since s r g h f q i j a e = ends-apart k since f q s r g h i.at j.at i.valid j.valid i.below j.below e a
 
-point-within : (bs : List ℕ) (k since : ℕ) (s r : LexState ValueState) (g h f : Scan) (q : Place) → ScanValid f → ScanOpensNone f → Stand s g f
+point-within : (bs : List ℕ) (k : ℕ) (since : TextRead) (s r : LexState ValueState) (g h f : Scan) (q : Place) → ScanValid f → ScanOpensNone f → Stand s g f
     → Stand r h f → ApartBefore bs s r → Keeps bs (state_before s bs) → Keeps bs (state_before r bs) → stepped k since bs f ≡ Ok q → HasApart q
 point-within [] k since s r g h f q v n i j a m o e = end-apart k since s r g h f q i j a e
 point-within (b ∷ bs) k since s r g h f q v n i j a m o e =
@@ -208,7 +209,7 @@ point-within (b ∷ bs) k since s r g h f q v n i j a m o e =
     kept-apart (b ∷ bs) k since (state_before s (b ∷ bs)) (scan_read g (b ∷ bs)) (scan_read f (b ∷ bs)) q opens m.0
     (parts-apart (scan_read f (b ∷ bs)) d.0 d.1 d.2) (record { at = x.at; valid = x.valid; below = x.below }) m (read-ok b bs k since f q v e)
 
-pub within-apart : (bytes : List ℕ) (k since : ℕ) (s r : LexState ValueState) (g h f : Scan) (q : Place) → ScanValid f → ScanOpensNone f → Stand s g f
+pub within-apart : (bytes : List ℕ) (k : ℕ) (since : TextRead) (s r : LexState ValueState) (g h f : Scan) (q : Place) → ScanValid f → ScanOpensNone f → Stand s g f
     → Stand r h f → PartWithin bytes s r → stepped k since bytes f ≡ Ok q → HasApart q
 within-apart [] k since s r g h f q v w i j a e = absurd a
 within-apart (b ∷ bs) k since s r g h f q v w i j a e =
@@ -217,7 +218,7 @@ within-apart (b ∷ bs) k since s r g h f q v w i j a e =
     let u = next languages Template r (class_of b) b in
     let x = next-stand s g f b n.0 i in
     let y = next-stand r h f b n.0 j in
-    let after = last_lexeme_start k since (scan_reference f) (class_of b) b in
+    let after = scan_read_behind k since f (class_of b) b in
     elim a [
       | inl z ↦ point-within bs (k + 1) after t u (scan_next g (class_of b) b) (scan_next h (class_of b) b) (scan_next f (class_of b) b) q
           (scan-valid f (class_of b) b v n.0) (scan-opens f b w) x y z.0 z.1 z.2 n.1
@@ -313,6 +314,7 @@ unknown-in a (AttributeValue q t (ValueOf (OfUrl u)) Closed) h e i =
     record { own = r.0; stands = r.1; valid = r.2; below = r.3 }
 unknown-in a (AttributeValue q t (ValueOf (OfUrl u)) (Open f bytes)) h e i = absurd (none_some i.own i.stands)
 unknown-in a (AttributeValue q t (ValueOf (OfKind k)) r) h e i = absurd (no h)
+unknown-in a (AttributeValue q t (ValueOf (OfScript k)) r) h e i = absurd (no h)
 unknown-in a (AttributeValue q t (ValueOf (OfStyle (style.InUrl Bare u))) Closed) h e i =
     let r = bare-in u.triple u.part t q i.own a h e i.stands i.below in
     record { own = r.0; stands = r.1; valid = r.2; below = r.3 }
@@ -346,5 +348,6 @@ unknown-in a (InContent x (InLanguage (OfStyle s)) (PendingName letters)) h e i 
 unknown-in a (InContent x (InLanguage (OfStyle s)) PendingBang) h e i = absurd (none_some i.own i.stands)
 unknown-in a (InContent x (InLanguage (OfStyle s)) PendingBangDash) h e i = absurd (none_some i.own i.stands)
 unknown-in a (InContent x (InLanguage (OfKind k)) y) h e i = absurd (no h)
+unknown-in a (InContent x (InLanguage (OfScript k)) y) h e i = absurd (no h)
 unknown-in a (InContent x (InLanguage (OfUrl u)) y) h e i = absurd (no h)
 unknown-in a _ h e i = absurd (no h)

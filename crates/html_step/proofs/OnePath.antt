@@ -10,9 +10,9 @@ use Rattle.place_core.specs.place.Errors.{byte_error, at_hand, content_error, ki
 use Rattle.place_core.specs.page.Html.{next, after_tag, next_declaration, next_before_name, next_name, next_after_name, next_before_value, ends_value}
 use Rattle.place_core.specs.page.Paths.{at_cut}
 use Rattle.place_core.specs.page.References.{Reference, settled, undone_byte, as_it_stands, Closed, Open, Form, ReferenceStep, Grows, Closes, Breaks, turn, meaning, flushed, plain_bytes, next_reference}
-use Rattle.place_core.specs.place.StatePlaces.{tag_spot, body_at, only_name, only_before, only_inside, only_after, value_spot, value_body, quotes_at, unbegun, placed}
+use Rattle.place_core.specs.place.StatePlaces.{tag_spot, body_at, only_name, only_before, only_inside, only_after, value_spot, value_body, value_body_before, quotes_at, unbegun, placed}
 use Rattle.place_core.specs.page.States.{Template, LexState, Text, TagOpen, EndTagOpen, DeclarationOpen, CommentState, Started, StartedDash, Inside, Dash, DashDash, Bang, Broken, InComment, BogusComment, InDoctype, TagName, WholeTagName, BeforeAttributeName, AttributeName, WholeAttributeName, AfterAttributeName, BeforeAttributeValue, AttributeValue, AfterAttributeValue, SelfClosingStartTag, Characters, Bytes, InLanguage, Pending, Nothing, PendingLess, PendingName, PendingBang, PendingBangDash, InContent, Unread, LessAtCut}
-use Rattle.place_core.specs.page.Tags.{Tag, Value, ValueOf, Deciding, ValueState, OfKind, OfUrl, OfStyle, languages, feeding, feed_bytes, refusal_code, refuses_names_in, refuses_cut_of, attribute_value_of, tag_of_name, element_on, is_start, tag_by_type, with_bytes, tag_with_value, without_value, Quoting, DoubleQuoted, SingleQuoted, Unquoted, is_second_type, typed_by, cut_value}
+use Rattle.place_core.specs.page.Tags.{Tag, Value, ValueOf, Deciding, ValueState, OfKind, OfUrl, OfStyle, OfScript, languages, feeding, feed_bytes, refusal_code, refuses_names_in, refuses_cut_of, attribute_value_of, tag_of_name, element_on, is_start, tag_by_type, with_bytes, tag_with_value, without_value, Quoting, DoubleQuoted, SingleQuoted, Unquoted, is_second_type, typed_by, cut_value}
 use Rattle.place_core.specs.page.Words.{kind_of, is_script_type}
 use Rattle.place_core.specs.place.UrlParts.{parts_of}
 use Rattle.place_core.specs.declared.body.Body.{Body}
@@ -27,7 +27,7 @@ use Rattle.place_core.specs.declared.quotes.Quotes.{Quotes}
 use Rattle.place_core.specs.declared.tag_of.TagOf.{TagOf}
 use Rattle.place_core.specs.declared.tag_of.TagOf.TheVariants as tag
 use Rattle.place_core.specs.declared.value_place.ValuePlace.{ValuePlace}
-use Rattle.html_scan.specs.Scans.{Scan, At, AfterLess, AfterLessSolidus, InDeclaration, InTagName, InAttributeName, InContentEnd, comment_scan, content_scan, value_scan, declaration_next, content_next, pending_less_next, end_name_next, attribute_name_next, tag_next, scan_next, scan_error, scan_place, scan_cut_error, BeforeType, InType, bang_next, before_type_next, ended_type, in_tag, scan_shown, type_tag, rest_place, parts_feeding, triple_behind, url_scan, value_fed, value_next, value_cause, body_cause, with_quotes, open_cut_error, if_unfinished, parts_before, scan_lexeme_error, scan_reference}
+use Rattle.html_scan.specs.Scans.{Scan, At, AfterLess, AfterLessSolidus, InDeclaration, InTagName, InAttributeName, InContentEnd, comment_scan, content_scan, value_scan, declaration_next, content_next, pending_less_next, end_name_next, attribute_name_next, tag_next, scan_next, scan_error, scan_place, scan_cut_error, BeforeType, InType, bang_next, before_type_next, ended_type, in_tag, scan_shown, type_tag, rest_place, parts_feeding, triple_behind, url_scan, value_fed, value_next, value_cause, body_cause, with_quotes, open_cut_error, if_unfinished, parts_before, scan_lexeme_error, scan_reference, scan_script_cut_refusal}
 use Rattle.html_step.proofs.FedAlike.{fed-alike, first-byte-alike, first-caused, language-alike}
 use Rattle.html_step.proofs.StylePaths.{quoted-at, urls-alike}
 use Rattle.url_lexer.specs.Classes.{url_class_of}
@@ -37,15 +37,17 @@ use Rattle.url_lexer.specs.States.{Url, url_start, feed_url}
 use Rattle.url_lexer.specs.Triples.{Triple, NoTriple, AfterPercent, AfterDigit, next_triple}
 use Rattle.url_step.proofs.OnePath.{one-next}
 pub use Rattle.html_step.proofs.PathScans.{WhereScanned, content_scanned, none-at-hand, none-unless, same-tag, scanned, some, url_scanned}
-use Rattle.html_step.proofs.PathScans.{Agrees, Ends, block_scanned, not-second, same-typed, same-with, tag-ends, unless-first, url_value, value_scanned}
+use Rattle.html_step.proofs.PathScans.{Agrees, Ends, ScriptFacts, ScriptsAgree, block_scanned, not-second, same-typed, same-with, tag-ends, unless-first, url_value, value_scanned}
 use Rattle.html_step.proofs.ElementSteps.{language-ends, language-steps}
+use Rattle.html_step.proofs.ScriptSteps.{begin-script-steps, value-script-ends, value-script-steps}
 use Rattle.html_step.proofs.StyleSteps.{begin-style-steps, style-ends, style-steps, where-styled}
 
--- What refuses nothing: the language of a value that is no URL and no style.
+-- What refuses nothing: the language of a value that is neither a URL nor a style nor a script.
 abbrev pub IsNoUrl : Value ValueState → Type 0
 IsNoUrl (ValueOf (OfKind k)) = ⊤
 IsNoUrl (ValueOf (OfUrl u)) = ⊥
 IsNoUrl (ValueOf (OfStyle s)) = ⊥
+IsNoUrl (ValueOf (OfScript s)) = ⊥
 IsNoUrl (Deciding k before) = ⊤
 
 pub fed-none : (v : Value ValueState) (bs : List ℕ) (written : Bool) (n : ℕ) → IsNoUrl v → fed_error (feeding languages) v bs written n ≡ None
@@ -53,6 +55,7 @@ fed-none v [] written n y = refl
 fed-none (ValueOf (OfKind k)) (b ∷ bs) written n y = fed-none (ValueOf (OfKind k)) bs written (if written then n - 1 else n) tt
 fed-none (ValueOf (OfUrl u)) (b ∷ bs) written n y = absurd y
 fed-none (ValueOf (OfStyle s)) (b ∷ bs) written n y = absurd y
+fed-none (ValueOf (OfScript s)) (b ∷ bs) written n y = absurd y
 fed-none (Deciding k before) (b ∷ bs) written n y = fed-none (Deciding k (before ++ b ∷ [])) bs written (if written then n - 1 else n) tt
 
 stays-no-url : (v : Value ValueState) (bs : List ℕ) → IsNoUrl v → IsNoUrl (feed_bytes (feeding languages) v bs)
@@ -60,12 +63,14 @@ stays-no-url v [] y = y
 stays-no-url (ValueOf (OfKind k)) (b ∷ bs) y = stays-no-url (ValueOf (OfKind k)) bs tt
 stays-no-url (ValueOf (OfUrl u)) (b ∷ bs) y = absurd y
 stays-no-url (ValueOf (OfStyle s)) (b ∷ bs) y = absurd y
+stays-no-url (ValueOf (OfScript s)) (b ∷ bs) y = absurd y
 stays-no-url (Deciding k before) (b ∷ bs) y = stays-no-url (Deciding k (before ++ b ∷ [])) bs tt
 
 names-none : (v : Value ValueState) (x : Bool) (n : ℕ) → IsNoUrl v → name_error (refuses_names_in languages v && x) n ≡ None
 names-none (ValueOf (OfKind k)) x n y = refl
 names-none (ValueOf (OfUrl u)) x n y = absurd y
 names-none (ValueOf (OfStyle s)) x n y = absurd y
+names-none (ValueOf (OfScript s)) x n y = absurd y
 names-none (Deciding k before) x n y = refl
 
 pub neither : (o p : Option PathCause) → o ≡ None → p ≡ None → first_cause o p ≡ None
@@ -111,6 +116,26 @@ url-scan-error v NoTriple (Open f bytes) c b = refl
 url-scan-error v AfterPercent r c b = refl
 url-scan-error v AfterDigit r c b = refl
 
+-- no script is in the scan state of a URL
+url-scan-places : (q : Quoting) (t : Tag) (u : Url) (s : Parts) (x : Triple) (r : Reference) (c : Class) (b k : ℕ) (places : List ℕ)
+    → ScriptsAgree k places (AttributeValue q t (ValueOf (OfUrl u)) r) (url_scan (url_value t (quotes_at q) s) x r) c b
+url-scan-places q t u s NoTriple Closed c b k places = (refl, refl, λ h. refl)
+url-scan-places q t u s NoTriple (Open f bytes) c b k places = (refl, refl, λ h. refl)
+url-scan-places q t u s AfterPercent r c b k places = (refl, refl, λ h. refl)
+url-scan-places q t u s AfterDigit r c b k places = (refl, refl, λ h. refl)
+
+url-scan-script-cut : (v : ValuePlace) (t : Triple) (r : Reference) (k : ℕ) (places : List ℕ) → None ≡ scan_script_cut_refusal k places (url_scan v t r)
+url-scan-script-cut v NoTriple Closed k places = refl
+url-scan-script-cut v NoTriple (Open f bytes) k places = refl
+url-scan-script-cut v AfterPercent r k places = refl
+url-scan-script-cut v AfterDigit r k places = refl
+
+url-scan-facts : (s : LexState ValueState) (v : ValuePlace) (t : Triple) (r : Reference) → ScriptFacts s (url_scan v t r)
+url-scan-facts s v NoTriple Closed = tt
+url-scan-facts s v NoTriple (Open f bytes) = tt
+url-scan-facts s v AfterPercent r = tt
+url-scan-facts s v AfterDigit r = tt
+
 pub only-hand : (o p : Option PathCause) → o ≡ None → first_cause o p ≡ p
 only-hand o p e = rw e refl
 
@@ -122,7 +147,7 @@ value-begins : (t : Tag) (typed : Bool) (k : Kind) → kind_error k ≡ None →
 value-begins t typed kind.Plain n f e = rw e refl
 value-begins t typed kind.NoHole n f e = rw e refl
 value-begins t typed kind.Url n f e = rw e refl
-value-begins t typed kind.Script n f e = absurd (some _ n)
+value-begins t typed kind.Script n f e = rw e refl
 value-begins t typed kind.Style n f e = rw e refl
 value-begins t typed kind.ScriptType n f e = not-second t kind.ScriptType (BeforeType t.tag) f
 
@@ -130,22 +155,22 @@ value-begins-here : (t : Tag) (k : Kind) → kind_error k ≡ None → is_second
 value-begins-here t kind.Plain n f = refl
 value-begins-here t kind.NoHole n f = refl
 value-begins-here t kind.Url n f = refl
-value-begins-here t kind.Script n f = absurd (some _ n)
+value-begins-here t kind.Script n f = refl
 value-begins-here t kind.Style n f = refl
 value-begins-here t kind.ScriptType n f = not-second t kind.ScriptType (BeforeType t.tag) f
 
 -- state by state
 text-steps : (r : Reference) (c : Class) (b : ℕ) → Agrees (Text r) (At place.Text) c b
-text-steps r LessThan b = record { errors = refl; steps = λ n. refl }
-text-steps r _ b = record { errors = refl; steps = λ n. refl }
+text-steps r LessThan b = record { errors = refl; scripts = λ k places w. (refl, refl, λ h. refl); steps = λ n. refl }
+text-steps r _ b = record { errors = refl; scripts = λ k places w. (refl, refl, λ h. refl); steps = λ n. refl }
 
 less-steps : (r : Reference) (c : Class) (b : ℕ) → Agrees (TagOpen r) AfterLess c b
-less-steps r LessThan b = record { errors = refl; steps = λ n. refl }
-less-steps r _ b = record { errors = refl; steps = λ n. refl }
+less-steps r LessThan b = record { errors = refl; scripts = λ k places w. (refl, refl, λ h. refl); steps = λ n. refl }
+less-steps r _ b = record { errors = refl; scripts = λ k places w. (refl, refl, λ h. refl); steps = λ n. refl }
 
 solidus-steps : (r : Reference) (c : Class) (b : ℕ) → Agrees (EndTagOpen r) AfterLessSolidus c b
-solidus-steps r LessThan b = record { errors = refl; steps = λ n. refl }
-solidus-steps r _ b = record { errors = refl; steps = λ n. refl }
+solidus-steps r LessThan b = record { errors = refl; scripts = λ k places w. (refl, refl, λ h. refl); steps = λ n. refl }
+solidus-steps r _ b = record { errors = refl; scripts = λ k places w. (refl, refl, λ h. refl); steps = λ n. refl }
 
 declaration-next : (d : Declaration) (r : Reference) (pending : List ℕ) (c : Class) (b : ℕ) → scanned (next_declaration d Template c b r pending) ≡ Some (declaration_next d c b pending)
 declaration-next OpensComment r pending c b = refl
@@ -155,39 +180,39 @@ declaration-next OpensNothing r pending LessThan b = refl
 declaration-next OpensNothing r pending _ b = refl
 
 declaration-steps : (r : Reference) (pending : List ℕ) (c : Class) (b : ℕ) → Agrees (DeclarationOpen r pending) (InDeclaration pending) c b
-declaration-steps r pending c b = record { errors = refl; steps = λ n. declaration-next (declared_by (pending ++ b ∷ [])) r pending c b }
+declaration-steps r pending c b = record { errors = refl; scripts = λ k places w. (refl, refl, λ h. refl); steps = λ n. declaration-next (declared_by (pending ++ b ∷ [])) r pending c b }
 
 comment-steps : (s : CommentState) (c : Class) (b : ℕ) → Agrees (InComment s) (comment_scan s) c b
-comment-steps Started HyphenMinus b = record { errors = refl; steps = λ n. refl }
-comment-steps Started _ b = record { errors = refl; steps = λ n. refl }
-comment-steps StartedDash HyphenMinus b = record { errors = refl; steps = λ n. refl }
-comment-steps StartedDash _ b = record { errors = refl; steps = λ n. refl }
-comment-steps Inside HyphenMinus b = record { errors = refl; steps = λ n. refl }
-comment-steps Inside _ b = record { errors = refl; steps = λ n. refl }
-comment-steps Dash HyphenMinus b = record { errors = refl; steps = λ n. refl }
-comment-steps Dash _ b = record { errors = refl; steps = λ n. refl }
-comment-steps DashDash HyphenMinus b = record { errors = refl; steps = λ n. refl }
-comment-steps DashDash _ b = record { errors = refl; steps = λ n. refl }
-comment-steps Bang HyphenMinus b = record { errors = refl; steps = λ n. refl }
-comment-steps Bang _ b = record { errors = refl; steps = λ n. refl }
-comment-steps Broken HyphenMinus b = record { errors = refl; steps = λ n. refl }
-comment-steps Broken _ b = record { errors = refl; steps = λ n. refl }
+comment-steps Started HyphenMinus b = record { errors = refl; scripts = λ k places w. (refl, refl, λ h. refl); steps = λ n. refl }
+comment-steps Started _ b = record { errors = refl; scripts = λ k places w. (refl, refl, λ h. refl); steps = λ n. refl }
+comment-steps StartedDash HyphenMinus b = record { errors = refl; scripts = λ k places w. (refl, refl, λ h. refl); steps = λ n. refl }
+comment-steps StartedDash _ b = record { errors = refl; scripts = λ k places w. (refl, refl, λ h. refl); steps = λ n. refl }
+comment-steps Inside HyphenMinus b = record { errors = refl; scripts = λ k places w. (refl, refl, λ h. refl); steps = λ n. refl }
+comment-steps Inside _ b = record { errors = refl; scripts = λ k places w. (refl, refl, λ h. refl); steps = λ n. refl }
+comment-steps Dash HyphenMinus b = record { errors = refl; scripts = λ k places w. (refl, refl, λ h. refl); steps = λ n. refl }
+comment-steps Dash _ b = record { errors = refl; scripts = λ k places w. (refl, refl, λ h. refl); steps = λ n. refl }
+comment-steps DashDash HyphenMinus b = record { errors = refl; scripts = λ k places w. (refl, refl, λ h. refl); steps = λ n. refl }
+comment-steps DashDash _ b = record { errors = refl; scripts = λ k places w. (refl, refl, λ h. refl); steps = λ n. refl }
+comment-steps Bang HyphenMinus b = record { errors = refl; scripts = λ k places w. (refl, refl, λ h. refl); steps = λ n. refl }
+comment-steps Bang _ b = record { errors = refl; scripts = λ k places w. (refl, refl, λ h. refl); steps = λ n. refl }
+comment-steps Broken HyphenMinus b = record { errors = refl; scripts = λ k places w. (refl, refl, λ h. refl); steps = λ n. refl }
+comment-steps Broken _ b = record { errors = refl; scripts = λ k places w. (refl, refl, λ h. refl); steps = λ n. refl }
 
 doctype-steps : (c : Class) (b : ℕ) → Agrees InDoctype (At place.Doctype) c b
-doctype-steps GreaterThan b = record { errors = refl; steps = λ n. refl }
-doctype-steps _ b = record { errors = refl; steps = λ n. refl }
+doctype-steps GreaterThan b = record { errors = refl; scripts = λ k places w. (refl, refl, λ h. refl); steps = λ n. refl }
+doctype-steps _ b = record { errors = refl; scripts = λ k places w. (refl, refl, λ h. refl); steps = λ n. refl }
 
 tag-name-steps : (ends : Bool) (name : List ℕ) (c : Class) (b : ℕ) → Agrees (TagName ends name) (InTagName ends name) c b
-tag-name-steps ends name White b = record { errors = refl; steps = λ n. refl }
-tag-name-steps ends name Solidus b = record { errors = refl; steps = λ n. refl }
-tag-name-steps ends name GreaterThan b = record { errors = refl; steps = λ n. tag-ends (tag_of_name ends name) (none-at-hand _ n) }
-tag-name-steps ends name _ b = record { errors = refl; steps = λ n. refl }
+tag-name-steps ends name White b = record { errors = refl; scripts = λ k places w. (refl, refl, λ h. refl); steps = λ n. refl }
+tag-name-steps ends name Solidus b = record { errors = refl; scripts = λ k places w. (refl, refl, λ h. refl); steps = λ n. refl }
+tag-name-steps ends name GreaterThan b = record { errors = refl; scripts = λ k places w. (refl, refl, λ h. refl); steps = λ n. tag-ends (tag_of_name ends name) (none-at-hand _ n) }
+tag-name-steps ends name _ b = record { errors = refl; scripts = λ k places w. (refl, refl, λ h. refl); steps = λ n. refl }
 
 whole-tag-steps : (t : Tag) (c : Class) (b : ℕ) → Agrees (WholeTagName t) (At (place.Tag (tag_spot t only_name None))) c b
-whole-tag-steps t White b = record { errors = refl; steps = λ n. refl }
-whole-tag-steps t Solidus b = record { errors = refl; steps = λ n. refl }
-whole-tag-steps t GreaterThan b = record { errors = refl; steps = λ n. tag-ends t.tag (none-at-hand _ n) }
-whole-tag-steps t _ b = record { errors = refl; steps = λ n. absurd (some _ n) }
+whole-tag-steps t White b = record { errors = refl; scripts = λ k places w. (refl, refl, λ h. refl); steps = λ n. refl }
+whole-tag-steps t Solidus b = record { errors = refl; scripts = λ k places w. (refl, refl, λ h. refl); steps = λ n. refl }
+whole-tag-steps t GreaterThan b = record { errors = refl; scripts = λ k places w. (refl, refl, λ h. refl); steps = λ n. tag-ends t.tag (none-at-hand _ n) }
+whole-tag-steps t _ b = record { errors = refl; scripts = λ k places w. (refl, refl, λ h. refl); steps = λ n. absurd (some _ n) }
 
 -- before a name, also after a quoted value and after a solidus
 before-next : (t : Tag) (c : Class) (b : ℕ) → at_hand (tag_error (tag_spot t only_before None) c) ≡ None → scanned (next_before_name languages c b t) ≡ Some (tag_next (tag_spot t only_before None) c b)
@@ -213,7 +238,7 @@ attribute-next t k name LessThan b n = absurd (some _ n)
 attribute-next t k name _ b n = refl
 
 attribute-steps : (t : Tag) (name : List ℕ) (c : Class) (b : ℕ) → Agrees (AttributeName t name) (InAttributeName t.tag t.typed name) c b
-attribute-steps t name c b = record { errors = refl; steps = λ n. attribute-next t (kind_of (element_on t.tag) name) name c b n }
+attribute-steps t name c b = record { errors = refl; scripts = λ k places w. (refl, refl, λ h. refl); steps = λ n. attribute-next t (kind_of (element_on t.tag) name) name c b n }
 
 whole-name-next : (t : Tag) (k : Kind) (c : Class) (b : ℕ) → is_second_type t.typed k ≡ false → at_hand (tag_error (tag_spot t only_inside (Some k)) c) ≡ None
     → scanned (next_after_name languages c b t k) ≡ Some (tag_next (tag_spot t only_inside (Some k)) c b)
@@ -237,12 +262,12 @@ after-name-next t k _ b f n = rw (same-tag t k) refl
 whole-name-steps : (second : Bool) (t : Tag) (k : Kind) (c : Class) (b : ℕ) → is_second_type t.typed k ≡ second
     → WhereScanned (if second then None else Some (At (place.Tag (tag_spot t only_inside (Some k))))) (λ f. Agrees (WholeAttributeName t k) f c b)
 whole-name-steps true t k c b e = tt
-whole-name-steps false t k c b e = record { errors = refl; steps = whole-name-next t k c b e }
+whole-name-steps false t k c b e = record { errors = refl; scripts = λ k places w. (refl, refl, λ h. refl); steps = whole-name-next t k c b e }
 
 after-name-steps : (second : Bool) (t : Tag) (k : Kind) (c : Class) (b : ℕ) → is_second_type t.typed k ≡ second
     → WhereScanned (if second then None else Some (At (place.Tag (tag_spot t only_after (Some k))))) (λ f. Agrees (AfterAttributeName t k) f c b)
 after-name-steps true t k c b e = tt
-after-name-steps false t k c b e = record { errors = refl; steps = after-name-next t k c b e }
+after-name-steps false t k c b e = record { errors = refl; scripts = λ k places w. (refl, refl, λ h. refl); steps = after-name-next t k c b e }
 
 -- values of the kinds that are built
 abbrev place-of : Tag → Quotes → Body → ValuePlace
@@ -359,6 +384,7 @@ url-steps q t u r c b =
     let v = url_value t (quotes_at q) (parts_of u.part) in
     record {
       errors = url-errors q t u r c b ∙ sym (url-scan-error v u.triple r c b);
+      scripts = λ k places w. url-scan-places q t u (parts_of u.part) u.triple r c b k places;
       steps = λ n.
           url-next q t u r c b
           (first-caused (body_cause v.body v.quotes r c b) (at_hand (quotes_error t.tag (quotes_at q) c)) (sym (url-scan-error v u.triple r c b) ∙ n)).1
@@ -370,6 +396,7 @@ begin-url-steps t c b =
     let own = body_cause (body.Url (parts_of UrlStart)) unbegun Closed c b in
     record {
       errors = begin-url-errors t c b;
+      scripts = λ k places w. (refl, refl, λ h. refl);
       steps = λ n. begin-url t c b (first-caused own (at_hand (bare_error t.tag (record { uq = false; unbegun = true }) c)) n).1;
     }
 
@@ -442,6 +469,7 @@ before-type-steps : (typed : Bool) (t : Tag) (c : Class) (b : ℕ) → class_of 
 before-type-steps true t c b i e = tt
 before-type-steps false t c b i e = record {
   errors = only-hand (first_byte_error (feeding languages) (Deciding kind.ScriptType []) c b) _ (first-byte-none (Deciding kind.ScriptType []) c b tt);
+  scripts = λ k places w. (refl, refl, λ h. refl);
   steps = begin-type t c b i e;
 }
 
@@ -452,6 +480,7 @@ type-steps false q t before r c b i e = record {
   errors = only-hand (language_error (feeding languages) (ends_value q c) (Deciding kind.ScriptType before) r c b) _
       (language-none (ends_value q c) (Deciding kind.ScriptType before) r c b tt)
       ∙ ap (λ (u : TagOf). at_hand (quotes_error u (quotes_at q) c)) (ending-typed t (ended_type (Deciding kind.ScriptType before) r) e);
+  scripts = λ k places w. (refl, refl, λ h. refl);
   steps = type-next q t before r c b i e;
 }
 
@@ -486,12 +515,12 @@ less-next LessThan b e r k f g h = g
 less-next _ b e r k f g h = h
 
 content-steps : (h : Pending) (e : Element) (r : Reference) (c : Class) (b : ℕ) → WhereScanned (content_scanned h e) (λ f. Agrees (InContent e (Characters r) h) f c b)
-content-steps Nothing element.Title r c b = record { errors = refl; steps = λ n. loose-next c b element.Title r refl refl }
-content-steps Nothing element.Textarea r c b = record { errors = refl; steps = λ n. loose-next c b element.Textarea r refl refl }
-content-steps PendingLess element.Title r c b = record { errors = refl; steps = λ n. less-next c b element.Title r refl refl refl refl }
-content-steps PendingLess element.Textarea r c b = record { errors = refl; steps = λ n. less-next c b element.Textarea r refl refl refl refl }
-content-steps (PendingName letters) element.Title r c b = record { errors = refl; steps = λ n. end-name-next (may_be_name_of element.Title (letters ++ b ∷ [])) (is_name_of element.Title letters) c b element.Title r letters refl refl refl }
-content-steps (PendingName letters) element.Textarea r c b = record { errors = refl; steps = λ n. end-name-next (may_be_name_of element.Textarea (letters ++ b ∷ [])) (is_name_of element.Textarea letters) c b element.Textarea r letters refl refl refl }
+content-steps Nothing element.Title r c b = record { errors = refl; scripts = λ k places w. (refl, refl, λ h. refl); steps = λ n. loose-next c b element.Title r refl refl }
+content-steps Nothing element.Textarea r c b = record { errors = refl; scripts = λ k places w. (refl, refl, λ h. refl); steps = λ n. loose-next c b element.Textarea r refl refl }
+content-steps PendingLess element.Title r c b = record { errors = refl; scripts = λ k places w. (refl, refl, λ h. refl); steps = λ n. less-next c b element.Title r refl refl refl refl }
+content-steps PendingLess element.Textarea r c b = record { errors = refl; scripts = λ k places w. (refl, refl, λ h. refl); steps = λ n. less-next c b element.Textarea r refl refl refl refl }
+content-steps (PendingName letters) element.Title r c b = record { errors = refl; scripts = λ k places w. (refl, refl, λ h. refl); steps = λ n. end-name-next (may_be_name_of element.Title (letters ++ b ∷ [])) (is_name_of element.Title letters) c b element.Title r letters refl refl refl }
+content-steps (PendingName letters) element.Textarea r c b = record { errors = refl; scripts = λ k places w. (refl, refl, λ h. refl); steps = λ n. end-name-next (may_be_name_of element.Textarea (letters ++ b ∷ [])) (is_name_of element.Textarea letters) c b element.Textarea r letters refl refl refl }
 content-steps LessAtCut element.Title r c b = tt
 content-steps LessAtCut element.Textarea r c b = tt
 content-steps PendingBang element.Title r c b = tt
@@ -539,15 +568,16 @@ block-name false false LessThan b letters = refl
 block-name false false _ b letters = refl
 
 block-steps : (h : Pending) (e : Element) (c : Class) (b : ℕ) → WhereScanned (block_scanned h e) (λ f. Agrees (InContent e Bytes h) f c b)
-block-steps Nothing element.DataBlock c b = record { errors = refl; steps = λ n. block-loose c b }
-block-steps LessAtCut element.DataBlock c b = record { errors = refl; steps = λ n. block-loose c b }
-block-steps PendingLess element.DataBlock c b = record { errors = refl; steps = λ n. block-less c b }
+block-steps Nothing element.DataBlock c b = record { errors = refl; scripts = λ k places w. (refl, refl, λ h. refl); steps = λ n. block-loose c b }
+block-steps LessAtCut element.DataBlock c b = record { errors = refl; scripts = λ k places w. (refl, refl, λ h. refl); steps = λ n. block-loose c b }
+block-steps PendingLess element.DataBlock c b = record { errors = refl; scripts = λ k places w. (refl, refl, λ h. refl); steps = λ n. block-less c b }
 block-steps (PendingName letters) element.DataBlock c b = record {
   errors = refl;
+  scripts = λ k places w. (refl, refl, λ h. refl);
   steps = λ n. block-name (may_be_name_of element.DataBlock (letters ++ b ∷ [])) (is_name_of element.DataBlock letters) c b letters;
 }
-block-steps PendingBang element.DataBlock c b = record { errors = refl; steps = λ n. block-bang c b }
-block-steps PendingBangDash element.DataBlock c b = record { errors = refl; steps = λ n. block-loose c b }
+block-steps PendingBang element.DataBlock c b = record { errors = refl; scripts = λ k places w. (refl, refl, λ h. refl); steps = λ n. block-bang c b }
+block-steps PendingBangDash element.DataBlock c b = record { errors = refl; scripts = λ k places w. (refl, refl, λ h. refl); steps = λ n. block-loose c b }
 block-steps Nothing _ c b = tt
 block-steps LessAtCut _ c b = tt
 block-steps PendingLess _ c b = tt
@@ -556,21 +586,23 @@ block-steps PendingBang _ c b = tt
 block-steps PendingBangDash _ c b = tt
 
 unbegun-errors : (t : Tag) (k : Kind) (c : Class) (b : ℕ) → IsNoUrl (attribute_value_of languages k)
-    → byte_error (BeforeAttributeValue t k) c b ≡ at_hand (first_error (kind_error k) (bare_error t.tag (record { uq = false; unbegun = true }) c))
+    → byte_error (BeforeAttributeValue t k) c b ≡ at_hand (bare_error t.tag (record { uq = false; unbegun = true }) c)
 unbegun-errors t k c b y =
     only-hand (first_byte_error (feeding languages) (attribute_value_of languages k) c b) _ (first-byte-none (attribute_value_of languages k) c b y)
 
 unbegun-steps : (t : Tag) (k : Kind) (c : Class) (b : ℕ) → class_of b ≡ c → WhereScanned (scanned (BeforeAttributeValue t k)) (λ f. Agrees (BeforeAttributeValue t k) f c b)
 unbegun-steps t kind.Plain c b i = record {
   errors = unbegun-errors t kind.Plain c b tt;
+  scripts = λ k places w. (refl, refl, λ h. refl);
   steps = λ n. unbegun-next t kind.Plain body.Plain c b (λ v q c b. refl) refl refl refl n;
 }
 unbegun-steps t kind.NoHole c b i = record {
   errors = unbegun-errors t kind.NoHole c b tt;
+  scripts = λ k places w. (refl, refl, λ h. refl);
   steps = λ n. unbegun-next t kind.NoHole body.NoHole c b (λ v q c b. refl) refl refl refl n;
 }
 unbegun-steps t kind.Url c b i = begin-url-steps t c b
-unbegun-steps t kind.Script c b i = tt
+unbegun-steps t kind.Script c b i = begin-script-steps t c b
 unbegun-steps t kind.Style c b i = begin-style-steps t c b
 unbegun-steps t kind.ScriptType c b i = before-type-steps t.typed t c b i refl
 
@@ -583,10 +615,12 @@ value-errors q t k r c b =
 value-steps : (q : Quoting) (t : Tag) (v : Value ValueState) (r : Reference) (c : Class) (b : ℕ) → class_of b ≡ c → WhereScanned (scanned (AttributeValue q t v r)) (λ f. Agrees (AttributeValue q t v r) f c b)
 value-steps q t (ValueOf (OfKind kind.Plain)) r c b i = record {
   errors = value-errors q t kind.Plain r c b;
+  scripts = λ k places w. (refl, refl, λ h. refl);
   steps = λ n. value-next q t kind.Plain body.Plain r c b (λ v q c b. refl) refl n;
 }
 value-steps q t (ValueOf (OfKind kind.NoHole)) r c b i = record {
   errors = value-errors q t kind.NoHole r c b;
+  scripts = λ k places w. (refl, refl, λ h. refl);
   steps = λ n. value-next q t kind.NoHole body.NoHole r c b (λ v q c b. refl) refl n;
 }
 value-steps q t (ValueOf (OfKind kind.Url)) r c b i = tt
@@ -596,6 +630,7 @@ value-steps q t (ValueOf (OfKind kind.ScriptType)) r c b i = tt
 value-steps q t (ValueOf (OfUrl u)) r c b i = url-steps q t u r c b
 value-steps q t (ValueOf (OfStyle s)) r c b i =
     where-styled q t s r (λ f. Agrees (AttributeValue q t (ValueOf (OfStyle s)) r) f c b) (style_scanned s) refl (λ n h. style-steps q t s n r c b h)
+value-steps q t (ValueOf (OfScript s)) r c b i = value-script-steps q t s r c b
 value-steps q t (Deciding kind.ScriptType before) r c b i = type-steps t.typed q t before r c b i refl
 value-steps q t (Deciding k before) r c b i = tt
 
@@ -609,26 +644,26 @@ agrees BogusComment c b i = tt
 agrees InDoctype c b i = doctype-steps c b
 agrees (TagName ends name) c b i = tag-name-steps ends name c b
 agrees (WholeTagName t) c b i = whole-tag-steps t c b
-agrees (BeforeAttributeName t) c b i = record { errors = refl; steps = before-next t c b }
+agrees (BeforeAttributeName t) c b i = record { errors = refl; scripts = λ k places w. (refl, refl, λ h. refl); steps = before-next t c b }
 agrees (AttributeName t name) c b i = attribute-steps t name c b
 agrees (WholeAttributeName t k) c b i = whole-name-steps (is_second_type t.typed k) t k c b refl
 agrees (AfterAttributeName t k) c b i = after-name-steps (is_second_type t.typed k) t k c b refl
 agrees (BeforeAttributeValue t k) c b i = unbegun-steps t k c b i
 agrees (AttributeValue q t v r) c b i = value-steps q t v r c b i
-agrees (AfterAttributeValue t) c b i = record { errors = refl; steps = before-next t c b }
-agrees (SelfClosingStartTag t) c b i = record { errors = refl; steps = before-next t c b }
+agrees (AfterAttributeValue t) c b i = record { errors = refl; scripts = λ k places w. (refl, refl, λ h. refl); steps = before-next t c b }
+agrees (SelfClosingStartTag t) c b i = record { errors = refl; scripts = λ k places w. (refl, refl, λ h. refl); steps = before-next t c b }
 agrees (InContent e (Characters r) h) c b i = content-steps h e r c b
 agrees (InContent e Bytes h) c b i = block-steps h e c b
 agrees (InContent e (InLanguage v) h) c b i = language-steps h e v c b
 agrees Unread c b i = tt
 
 content-ends : (h : Pending) (e : Element) (r : Reference) → WhereScanned (content_scanned h e) (Ends (InContent e (Characters r) h))
-content-ends Nothing element.Title r = record { errors = refl; lexeme = λ n. refl; reference = refl; place = λ n. refl; shown = λ bs h. refl }
-content-ends Nothing element.Textarea r = record { errors = refl; lexeme = λ n. refl; reference = refl; place = λ n. refl; shown = λ bs h. refl }
-content-ends PendingLess element.Title r = record { errors = refl; lexeme = λ n. refl; reference = refl; place = λ n. refl; shown = λ bs h. refl }
-content-ends PendingLess element.Textarea r = record { errors = refl; lexeme = λ n. refl; reference = refl; place = λ n. refl; shown = λ bs h. refl }
-content-ends (PendingName letters) element.Title r = record { errors = refl; lexeme = λ n. refl; reference = refl; place = λ n. refl; shown = λ bs h. refl }
-content-ends (PendingName letters) element.Textarea r = record { errors = refl; lexeme = λ n. refl; reference = refl; place = λ n. refl; shown = λ bs h. refl }
+content-ends Nothing element.Title r = record { errors = refl; scripts = λ k places. refl; facts = tt; lexeme = λ n. refl; reference = refl; place = λ n. refl; shown = λ bs h. refl }
+content-ends Nothing element.Textarea r = record { errors = refl; scripts = λ k places. refl; facts = tt; lexeme = λ n. refl; reference = refl; place = λ n. refl; shown = λ bs h. refl }
+content-ends PendingLess element.Title r = record { errors = refl; scripts = λ k places. refl; facts = tt; lexeme = λ n. refl; reference = refl; place = λ n. refl; shown = λ bs h. refl }
+content-ends PendingLess element.Textarea r = record { errors = refl; scripts = λ k places. refl; facts = tt; lexeme = λ n. refl; reference = refl; place = λ n. refl; shown = λ bs h. refl }
+content-ends (PendingName letters) element.Title r = record { errors = refl; scripts = λ k places. refl; facts = tt; lexeme = λ n. refl; reference = refl; place = λ n. refl; shown = λ bs h. refl }
+content-ends (PendingName letters) element.Textarea r = record { errors = refl; scripts = λ k places. refl; facts = tt; lexeme = λ n. refl; reference = refl; place = λ n. refl; shown = λ bs h. refl }
 content-ends LessAtCut element.Title r = tt
 content-ends LessAtCut element.Textarea r = tt
 content-ends PendingBang element.Title r = tt
@@ -643,12 +678,12 @@ content-ends PendingBang _ r = tt
 content-ends PendingBangDash _ r = tt
 
 block-ends : (h : Pending) (e : Element) → WhereScanned (block_scanned h e) (Ends (InContent e Bytes h))
-block-ends Nothing element.DataBlock = record { errors = refl; lexeme = λ n. refl; reference = refl; place = λ n. refl; shown = λ bs h. refl }
-block-ends LessAtCut element.DataBlock = record { errors = refl; lexeme = λ n. refl; reference = refl; place = λ n. refl; shown = λ bs h. refl }
-block-ends PendingLess element.DataBlock = record { errors = refl; lexeme = λ n. refl; reference = refl; place = λ n. refl; shown = λ bs h. refl }
-block-ends (PendingName letters) element.DataBlock = record { errors = refl; lexeme = λ n. refl; reference = refl; place = λ n. refl; shown = λ bs h. refl }
-block-ends PendingBang element.DataBlock = record { errors = refl; lexeme = λ n. refl; reference = refl; place = λ n. refl; shown = λ bs h. refl }
-block-ends PendingBangDash element.DataBlock = record { errors = refl; lexeme = λ n. refl; reference = refl; place = λ n. refl; shown = λ bs h. refl }
+block-ends Nothing element.DataBlock = record { errors = refl; scripts = λ k places. refl; facts = tt; lexeme = λ n. refl; reference = refl; place = λ n. refl; shown = λ bs h. refl }
+block-ends LessAtCut element.DataBlock = record { errors = refl; scripts = λ k places. refl; facts = tt; lexeme = λ n. refl; reference = refl; place = λ n. refl; shown = λ bs h. refl }
+block-ends PendingLess element.DataBlock = record { errors = refl; scripts = λ k places. refl; facts = tt; lexeme = λ n. refl; reference = refl; place = λ n. refl; shown = λ bs h. refl }
+block-ends (PendingName letters) element.DataBlock = record { errors = refl; scripts = λ k places. refl; facts = tt; lexeme = λ n. refl; reference = refl; place = λ n. refl; shown = λ bs h. refl }
+block-ends PendingBang element.DataBlock = record { errors = refl; scripts = λ k places. refl; facts = tt; lexeme = λ n. refl; reference = refl; place = λ n. refl; shown = λ bs h. refl }
+block-ends PendingBangDash element.DataBlock = record { errors = refl; scripts = λ k places. refl; facts = tt; lexeme = λ n. refl; reference = refl; place = λ n. refl; shown = λ bs h. refl }
 block-ends Nothing _ = tt
 block-ends LessAtCut _ = tt
 block-ends PendingLess _ = tt
@@ -657,30 +692,32 @@ block-ends PendingBang _ = tt
 block-ends PendingBangDash _ = tt
 
 comment-ends : (s : CommentState) → Ends (InComment s) (comment_scan s)
-comment-ends Inside = record { errors = refl; lexeme = λ n. refl; reference = refl; place = λ n. refl; shown = λ bs h. refl }
-comment-ends Broken = record { errors = refl; lexeme = λ n. refl; reference = refl; place = λ n. refl; shown = λ bs h. refl }
-comment-ends _ = record { errors = refl; lexeme = λ n. refl; reference = refl; place = λ n. refl; shown = λ bs h. refl }
+comment-ends Inside = record { errors = refl; scripts = λ k places. refl; facts = tt; lexeme = λ n. refl; reference = refl; place = λ n. refl; shown = λ bs h. refl }
+comment-ends Broken = record { errors = refl; scripts = λ k places. refl; facts = tt; lexeme = λ n. refl; reference = refl; place = λ n. refl; shown = λ bs h. refl }
+comment-ends _ = record { errors = refl; scripts = λ k places. refl; facts = tt; lexeme = λ n. refl; reference = refl; place = λ n. refl; shown = λ bs h. refl }
 
 attribute-ends : (t : Tag) (name : List ℕ) → Ends (AttributeName t name) (InAttributeName t.tag t.typed name)
 attribute-ends t name =
     let k = kind_of (element_on t.tag) name in
     record {
       errors = refl;
+      scripts = λ k places. refl;
+      facts = tt;
       lexeme = λ n. refl;
       reference = refl;
-      place = λ n. rw (unless-first (is_second_type t.typed k) (length name) None n, same-typed t k) refl;
+      place = λ n. rw (unless-first (is_second_type t.typed k) (length name) None n.cut, same-typed t k) refl;
       shown = λ bs h. rw (same-typed t k) refl;
     }
 
 whole-name-ends : (second : Bool) (t : Tag) (k : Kind) → is_second_type t.typed k ≡ second
     → WhereScanned (if second then None else Some (At (place.Tag (tag_spot t only_inside (Some k))))) (Ends (WholeAttributeName t k))
 whole-name-ends true t k e = tt
-whole-name-ends false t k e = record { errors = refl; lexeme = λ n. refl; reference = refl; place = λ n. rw e refl; shown = λ bs h. rw e refl }
+whole-name-ends false t k e = record { errors = refl; scripts = λ k places. refl; facts = tt; lexeme = λ n. refl; reference = refl; place = λ n. rw e refl; shown = λ bs h. rw e refl }
 
 after-name-ends : (second : Bool) (t : Tag) (k : Kind) → is_second_type t.typed k ≡ second
     → WhereScanned (if second then None else Some (At (place.Tag (tag_spot t only_after (Some k))))) (Ends (AfterAttributeName t k))
 after-name-ends true t k e = tt
-after-name-ends false t k e = record { errors = refl; lexeme = λ n. refl; reference = refl; place = λ n. rw e refl; shown = λ bs h. rw e refl }
+after-name-ends false t k e = record { errors = refl; scripts = λ k places. refl; facts = tt; lexeme = λ n. refl; reference = refl; place = λ n. rw e refl; shown = λ bs h. rw e refl }
 
 -- the body of a value of a kind does not change, and its language refuses nothing
 cut-body : (bs : List ℕ) (k : Kind) → value_body (cut_value languages (with_bytes languages (ValueOf (OfKind k)) bs)) ≡ value_body (ValueOf (OfKind k))
@@ -691,9 +728,13 @@ kind-whole : (bs : List ℕ) (k : Kind) → refuses_cut_of languages (with_bytes
 kind-whole [] k = refl
 kind-whole (b ∷ bs) k = kind-whole bs k
 
+kind-before : (bs : List ℕ) (k : Kind) → value_body_before (with_bytes languages (ValueOf (OfKind k)) bs) ≡ value_body (ValueOf (OfKind k))
+kind-before [] k = refl
+kind-before (b ∷ bs) k = kind-before bs k
+
 body-before : (step : ReferenceStep) (k : Kind) (c : Class) (f : Form) (bytes : List ℕ)
-    → value_body (cut_value languages (value_before step (ValueOf (OfKind k)) c f bytes)) ≡ value_body (ValueOf (OfKind k))
-body-before Breaks k c f bytes = cut-body (flushed true (is_equals_sign c) f bytes) k
+    → value_body_before (value_before step (ValueOf (OfKind k)) c f bytes) ≡ value_body (ValueOf (OfKind k))
+body-before Breaks k c f bytes = kind-before (flushed true (is_equals_sign c) f bytes) k
 body-before (Grows g) k c f bytes = refl
 body-before Closes k c f bytes = refl
 
@@ -704,13 +745,15 @@ value-place q t k x r e = rw (cut-body (as_it_stands r) k, e) refl
 value-shown : (q : Quoting) (t : Tag) (k : Kind) (x : Body) (r : Reference) (bs : List ℕ) → body_at (OfKind k) ≡ Some x
     → place_before_bytes (AttributeValue q t (ValueOf (OfKind k)) r) bs ≡ Some (scan_place (value-at t (quotes_at q) x))
 value-shown q t k x Closed bs e = value-place q t k x Closed e
-value-shown q t k x (Open f bytes) [] e = value-place q t k x (Open f bytes) e
+value-shown q t k x (Open f bytes) [] e = rw (kind-before (38 ∷ bytes) k, e) refl
 value-shown q t k x (Open f bytes) (b ∷ bs) e = rw (body-before (turn (class_of b) f) k (class_of b) f bytes, e) refl
 
 value-ends : (q : Quoting) (t : Tag) (k : Kind) (x : Body) (r : Reference) → body_at (OfKind k) ≡ Some x
     → Ends (AttributeValue q t (ValueOf (OfKind k)) r) (value-at t (quotes_at q) x)
 value-ends q t k x r e = record {
   errors = fed-none (ValueOf (OfKind k)) (as_it_stands r) true (length (as_it_stands r)) tt;
+  scripts = λ k places. refl;
+  facts = tt;
   lexeme = λ n. kind-whole (as_it_stands r) k;
   reference = refl;
   place = λ n. value-place q t k x r e;
@@ -724,9 +767,15 @@ url-body u [] = refl
 url-body u (b ∷ bs) =
     url-body (feed_url u b) bs ∙ ap (λ (s : Parts). Some (body.Url (feed_bytes parts_feeding s bs))) (sym (one-next u.part (url_class_of b) b))
 
+url-before : (u : Url) (bs : List ℕ)
+    → value_body_before (with_bytes languages (ValueOf (OfUrl u)) bs) ≡ Some (body.Url (feed_bytes parts_feeding (parts_of u.part) bs))
+url-before u [] = refl
+url-before u (b ∷ bs) =
+    url-before (feed_url u b) bs ∙ ap (λ (s : Parts). Some (body.Url (feed_bytes parts_feeding s bs))) (sym (one-next u.part (url_class_of b) b))
+
 url-body-before : (step : ReferenceStep) (u : Url) (c : Class) (f : Form) (bytes : List ℕ)
-    → value_body (cut_value languages (value_before step (ValueOf (OfUrl u)) c f bytes)) ≡ Some (parts_before step (body.Url (parts_of u.part)) c f bytes)
-url-body-before Breaks u c f bytes = url-body u (flushed true (is_equals_sign c) f bytes)
+    → value_body_before (value_before step (ValueOf (OfUrl u)) c f bytes) ≡ Some (parts_before step (body.Url (parts_of u.part)) c f bytes)
+url-body-before Breaks u c f bytes = url-before u (flushed true (is_equals_sign c) f bytes)
 url-body-before (Grows g) u c f bytes = refl
 url-body-before Closes u c f bytes = refl
 
@@ -771,11 +820,11 @@ pub url-shown : (q : Quoting) (t : Tag) (u : Url) (x : Triple) (r : Reference) (
 url-shown q t u NoTriple Closed bs = refl
 url-shown q t u AfterPercent Closed bs = refl
 url-shown q t u AfterDigit Closed bs = refl
-url-shown q t u NoTriple (Open f bytes) [] = ap (value_spot t (quotes_at q)) (url-body u (as_it_stands (Open f bytes)))
+url-shown q t u NoTriple (Open f bytes) [] = ap (value_spot t (quotes_at q)) (url-before u (as_it_stands (Open f bytes)))
 url-shown q t u NoTriple (Open f bytes) (b ∷ bs) = ap (value_spot t (quotes_at q)) (url-body-before (turn (class_of b) f) u (class_of b) f bytes)
-url-shown q t u AfterPercent (Open f bytes) [] = ap (value_spot t (quotes_at q)) (url-body u (as_it_stands (Open f bytes)))
+url-shown q t u AfterPercent (Open f bytes) [] = ap (value_spot t (quotes_at q)) (url-before u (as_it_stands (Open f bytes)))
 url-shown q t u AfterPercent (Open f bytes) (b ∷ bs) = ap (value_spot t (quotes_at q)) (url-body-before (turn (class_of b) f) u (class_of b) f bytes)
-url-shown q t u AfterDigit (Open f bytes) [] = ap (value_spot t (quotes_at q)) (url-body u (as_it_stands (Open f bytes)))
+url-shown q t u AfterDigit (Open f bytes) [] = ap (value_spot t (quotes_at q)) (url-before u (as_it_stands (Open f bytes)))
 url-shown q t u AfterDigit (Open f bytes) (b ∷ bs) = ap (value_spot t (quotes_at q)) (url-body-before (turn (class_of b) f) u (class_of b) f bytes)
 
 url-ends : (q : Quoting) (t : Tag) (u : Url) (r : Reference) → Ends (AttributeValue q t (ValueOf (OfUrl u)) r) (url_scanned q t u r)
@@ -783,6 +832,8 @@ url-ends q t u r =
     let v = url_value t (quotes_at q) (parts_of u.part) in
     record {
       errors = fed-alike urls-alike (as_it_stands r) true (length (as_it_stands r)) (ValueOf (OfUrl u)) (parts_of u.part) refl ∙ sym (url-scan-cut t (quotes_at q) (parts_of u.part) u.triple r);
+      scripts = λ k places. url-scan-script-cut v u.triple r k places;
+      facts = url-scan-facts (AttributeValue q t (ValueOf (OfUrl u)) r) v u.triple r;
       lexeme = λ n. url-lexeme u (as_it_stands r) ∙ sym (url-scan-lexeme v u.triple r);
       reference = sym (url-reference v u.triple r);
       place = λ n. ap (value_spot t (quotes_at q)) (url-body u (as_it_stands r)) ∙ ap Some (sym (url-scan-place t (quotes_at q) (parts_of u.part) u.triple r));
@@ -798,49 +849,56 @@ type-whole : (bs before : List ℕ) → refuses_cut_of languages (with_bytes lan
 type-whole [] before = refl
 type-whole (b ∷ bs) before = type-whole bs (before ++ b ∷ [])
 
-type-before : (step : ReferenceStep) (before : List ℕ) (c : Class) (f : Form) (bytes : List ℕ) → value_body (cut_value languages (value_before step (Deciding kind.ScriptType before) c f bytes)) ≡ None
-type-before Breaks before c f bytes = type-body (flushed true (is_equals_sign c) f bytes) before
+type-body-before : (bs before : List ℕ) → value_body_before (with_bytes languages (Deciding kind.ScriptType before) bs) ≡ None
+type-body-before [] before = refl
+type-body-before (b ∷ bs) before = type-body-before bs (before ++ b ∷ [])
+
+type-before : (step : ReferenceStep) (before : List ℕ) (c : Class) (f : Form) (bytes : List ℕ)
+    → value_body_before (value_before step (Deciding kind.ScriptType before) c f bytes) ≡ None
+type-before Breaks before c f bytes = type-body-before (flushed true (is_equals_sign c) f bytes) before
 type-before (Grows g) before c f bytes = refl
 type-before Closes before c f bytes = refl
 
 type-shown : (q : Quoting) (t : Tag) (before : List ℕ) (r : Reference) (bs : List ℕ) → place_before_bytes (AttributeValue q t (Deciding kind.ScriptType before) r) bs ≡ None
 type-shown q t before Closed bs = refl
-type-shown q t before (Open f bytes) [] = rw (type-body (38 ∷ bytes) before) refl
+type-shown q t before (Open f bytes) [] = rw (type-body-before (38 ∷ bytes) before) refl
 type-shown q t before (Open f bytes) (b ∷ bs) = rw (type-before (turn (class_of b) f) before (class_of b) f bytes) refl
 
 type-ends : (typed : Bool) (q : Quoting) (t : Tag) (before : List ℕ) (r : Reference) → WhereScanned (if typed then None else Some (InType t.tag q (Deciding kind.ScriptType before) r)) (Ends (AttributeValue q t (Deciding kind.ScriptType before) r))
 type-ends true q t before r = tt
 type-ends false q t before r = record {
   errors = refl;
+  scripts = λ k places. refl;
+  facts = tt;
   lexeme = λ n. type-whole (as_it_stands r) before;
   reference = refl;
-  place = λ n. absurd (some _ n);
+  place = λ n. absurd (some _ n.cut);
   shown = λ bs h. type-shown q t before r bs;
 }
 
 begin-type-ends : (typed : Bool) (t : Tag) → WhereScanned (if typed then None else Some (BeforeType t.tag)) (Ends (BeforeAttributeValue t kind.ScriptType))
 begin-type-ends true t = tt
-begin-type-ends false t = record { errors = refl; lexeme = λ n. refl; reference = refl; place = λ n. absurd (some _ n); shown = λ bs h. refl }
+begin-type-ends false t = record { errors = refl; scripts = λ k places. refl; facts = tt; lexeme = λ n. refl; reference = refl; place = λ n. absurd (some _ n.cut); shown = λ bs h. refl }
 
 pub ends-agree : (s : LexState ValueState) → WhereScanned (scanned s) (Ends s)
-ends-agree (Text r) = record { errors = refl; lexeme = λ n. refl; reference = refl; place = λ n. refl; shown = λ bs h. refl }
-ends-agree (TagOpen r) = record { errors = refl; lexeme = λ n. refl; reference = refl; place = λ n. refl; shown = λ bs h. refl }
-ends-agree (EndTagOpen r) = record { errors = refl; lexeme = λ n. refl; reference = refl; place = λ n. refl; shown = λ bs h. refl }
-ends-agree (DeclarationOpen r pending) = record { errors = refl; lexeme = λ n. refl; reference = refl; place = λ n. refl; shown = λ bs h. refl }
+ends-agree (Text r) = record { errors = refl; scripts = λ k places. refl; facts = tt; lexeme = λ n. refl; reference = refl; place = λ n. refl; shown = λ bs h. refl }
+ends-agree (TagOpen r) = record { errors = refl; scripts = λ k places. refl; facts = tt; lexeme = λ n. refl; reference = refl; place = λ n. refl; shown = λ bs h. refl }
+ends-agree (EndTagOpen r) = record { errors = refl; scripts = λ k places. refl; facts = tt; lexeme = λ n. refl; reference = refl; place = λ n. refl; shown = λ bs h. refl }
+ends-agree (DeclarationOpen r pending) = record { errors = refl; scripts = λ k places. refl; facts = tt; lexeme = λ n. refl; reference = refl; place = λ n. refl; shown = λ bs h. refl }
 ends-agree (InComment s) = comment-ends s
 ends-agree BogusComment = tt
-ends-agree InDoctype = record { errors = refl; lexeme = λ n. refl; reference = refl; place = λ n. refl; shown = λ bs h. refl }
-ends-agree (TagName ends name) = record { errors = refl; lexeme = λ n. refl; reference = refl; place = λ n. refl; shown = λ bs h. refl }
-ends-agree (WholeTagName t) = record { errors = refl; lexeme = λ n. refl; reference = refl; place = λ n. refl; shown = λ bs h. refl }
-ends-agree (BeforeAttributeName t) = record { errors = refl; lexeme = λ n. refl; reference = refl; place = λ n. refl; shown = λ bs h. refl }
+ends-agree InDoctype = record { errors = refl; scripts = λ k places. refl; facts = tt; lexeme = λ n. refl; reference = refl; place = λ n. refl; shown = λ bs h. refl }
+ends-agree (TagName ends name) = record { errors = refl; scripts = λ k places. refl; facts = tt; lexeme = λ n. refl; reference = refl; place = λ n. refl; shown = λ bs h. refl }
+ends-agree (WholeTagName t) = record { errors = refl; scripts = λ k places. refl; facts = tt; lexeme = λ n. refl; reference = refl; place = λ n. refl; shown = λ bs h. refl }
+ends-agree (BeforeAttributeName t) = record { errors = refl; scripts = λ k places. refl; facts = tt; lexeme = λ n. refl; reference = refl; place = λ n. refl; shown = λ bs h. refl }
 ends-agree (AttributeName t name) = attribute-ends t name
 ends-agree (WholeAttributeName t k) = whole-name-ends (is_second_type t.typed k) t k refl
 ends-agree (AfterAttributeName t k) = after-name-ends (is_second_type t.typed k) t k refl
-ends-agree (BeforeAttributeValue t kind.Plain) = record { errors = refl; lexeme = λ n. refl; reference = refl; place = λ n. refl; shown = λ bs h. refl }
-ends-agree (BeforeAttributeValue t kind.NoHole) = record { errors = refl; lexeme = λ n. refl; reference = refl; place = λ n. refl; shown = λ bs h. refl }
-ends-agree (BeforeAttributeValue t kind.Url) = record { errors = refl; lexeme = λ n. refl; reference = refl; place = λ n. refl; shown = λ bs h. refl }
-ends-agree (BeforeAttributeValue t kind.Script) = tt
-ends-agree (BeforeAttributeValue t kind.Style) = record { errors = refl; lexeme = λ n. refl; reference = refl; place = λ n. refl; shown = λ bs h. refl }
+ends-agree (BeforeAttributeValue t kind.Plain) = record { errors = refl; scripts = λ k places. refl; facts = tt; lexeme = λ n. refl; reference = refl; place = λ n. refl; shown = λ bs h. refl }
+ends-agree (BeforeAttributeValue t kind.NoHole) = record { errors = refl; scripts = λ k places. refl; facts = tt; lexeme = λ n. refl; reference = refl; place = λ n. refl; shown = λ bs h. refl }
+ends-agree (BeforeAttributeValue t kind.Url) = record { errors = refl; scripts = λ k places. refl; facts = tt; lexeme = λ n. refl; reference = refl; place = λ n. refl; shown = λ bs h. refl }
+ends-agree (BeforeAttributeValue t kind.Script) = record { errors = refl; scripts = λ k places. refl; facts = tt; lexeme = λ n. refl; reference = refl; place = λ n. refl; shown = λ bs h. refl }
+ends-agree (BeforeAttributeValue t kind.Style) = record { errors = refl; scripts = λ k places. refl; facts = tt; lexeme = λ n. refl; reference = refl; place = λ n. refl; shown = λ bs h. refl }
 ends-agree (BeforeAttributeValue t kind.ScriptType) = begin-type-ends t.typed t
 ends-agree (AttributeValue q t (ValueOf (OfKind kind.Plain)) r) = value-ends q t kind.Plain body.Plain r refl
 ends-agree (AttributeValue q t (ValueOf (OfKind kind.NoHole)) r) = value-ends q t kind.NoHole body.NoHole r refl
@@ -851,10 +909,11 @@ ends-agree (AttributeValue q t (ValueOf (OfKind kind.ScriptType)) r) = tt
 ends-agree (AttributeValue q t (ValueOf (OfUrl u)) r) = url-ends q t u r
 ends-agree (AttributeValue q t (ValueOf (OfStyle s)) r) =
     where-styled q t s r (Ends (AttributeValue q t (ValueOf (OfStyle s)) r)) (style_scanned s) refl (λ n h. style-ends q t s n r h)
+ends-agree (AttributeValue q t (ValueOf (OfScript s)) r) = value-script-ends q t s r
 ends-agree (AttributeValue q t (Deciding kind.ScriptType before) r) = type-ends t.typed q t before r
 ends-agree (AttributeValue q t (Deciding k before) r) = tt
-ends-agree (AfterAttributeValue t) = record { errors = refl; lexeme = λ n. refl; reference = refl; place = λ n. refl; shown = λ bs h. refl }
-ends-agree (SelfClosingStartTag t) = record { errors = refl; lexeme = λ n. refl; reference = refl; place = λ n. refl; shown = λ bs h. refl }
+ends-agree (AfterAttributeValue t) = record { errors = refl; scripts = λ k places. refl; facts = tt; lexeme = λ n. refl; reference = refl; place = λ n. refl; shown = λ bs h. refl }
+ends-agree (SelfClosingStartTag t) = record { errors = refl; scripts = λ k places. refl; facts = tt; lexeme = λ n. refl; reference = refl; place = λ n. refl; shown = λ bs h. refl }
 ends-agree (InContent e (Characters r) h) = content-ends h e r
 ends-agree (InContent e Bytes h) = block-ends h e
 ends-agree (InContent e (InLanguage v) h) = language-ends h e v

@@ -15,7 +15,7 @@ use Rattle.place_core.specs.declared.parts.Parts.{Parts}
 use Rattle.html_scan.specs.Scans.{Scan, parts_feeding, scan_error, scan_next}
 use Rattle.html_step.specs.Laws.{EvidenceData, apart, one, two}
 use Rattle.html_step.specs.OriginViews.{all_members, apart_through, evidence_through, member_number}
-use Rattle.html_step.specs.Origins.{back_by, byte_origin, byte_shows, end_shows, fed_origin, is_apart, part_origin, scan_parts, shows, unless_shown}
+use Rattle.html_step.specs.Origins.{back_by, byte_origin, byte_shows, end_shows, fed_origin, is_apart, part_origin, scan_parts, shows, unless_shown, or_evidence, script_end_shown, script_shown}
 use Rattle.html_scan.specs.declared.cause.Cause.{Cause as ReadCause}
 use Rattle.url_lexer.specs.Classes.{url_class_of}
 use Rattle.url_step.specs.PartSets.{parts_next}
@@ -118,16 +118,19 @@ through m n met after f c b apart e d = d ∙ apart-back m met (is_apart (scan_p
 
 pub evidence-then : (m n : Member → Member) (met after : EvidenceData) (f g : Scan) (c : Class) (b : ℕ) (xs bs : List ℕ) (o : Option ReadCause) (r : EvidenceData)
     → xs ≡ b ∷ bs
-    → c ≡ class_of b → cause_at o ≡ scan_error f c b → is_some o ≡ false
+    → c ≡ class_of b → cause_at o ≡ scan_error f c b → is_some o ≡ false → script_shown f c b ≡ None
     → ((y : Member) → n y ≡ m (byte_origin f c b y)) → after ≡ apart_through m met (is_apart (scan_parts f)) → g ≡ scan_next f c b
     → evidence_through m met (shows xs f) ≡ r → evidence_through n after (shows bs g) ≡ r
-evidence-then m n met after f g c b xs bs o r i k h j e d l s =
+evidence-then m n met after f g c b xs bs o r i k h j q e d l s =
     let none : scan_error f (class_of b) b ≡ None = ap (λ (x : Class). scan_error f x b) (sym k) ∙ sym h ∙ none-cause o j in
+    let quiet : script_shown f (class_of b) b ≡ None = ap (λ (x : Class). script_shown f x b) (sym k) ∙ q in
     let next : g ≡ scan_next f (class_of b) b = l ∙ ap (λ (x : Class). scan_next f x b) k in
     let goes : (y : Member) → n y ≡ m (byte_origin f (class_of b) b y) = λ y. e y ∙ ap (λ (x : Class). m (byte_origin f x b y)) k in
     ap (λ (x : Scan). evidence_through n after (shows bs x)) next
     ∙ through m n met after f (class_of b) b (shows bs (scan_next f (class_of b) b)) goes d
-    ∙ sym (ap (λ (x : Option PathCause). evidence_through m met
+    ∙ sym (ap (λ (x : Option EvidenceData). evidence_through m met (or_evidence x
+    (unless_shown (scan_error f (class_of b) b) (byte_shows f (class_of b) b) (back_by f (class_of b) b (shows bs (scan_next f (class_of b) b)))))) quiet
+    ∙ ap (λ (x : Option PathCause). evidence_through m met
     (unless_shown x (byte_shows f (class_of b) b) (back_by f (class_of b) b (shows bs (scan_next f (class_of b) b))))) none)
     ∙ sym (ap (λ (x : List ℕ). evidence_through m met (shows x f)) i) ∙ s
 
@@ -156,7 +159,9 @@ breaks-origin m n s w f read c b equals y e i j h =
     ∙ ap (λ (x : ReferenceStep). fed_origin (turn_bytes true x f read c b) s y) (sym e))
 
 -- the end of a text shows its refusal by the members before it
-pub evidence-ends : (m : Member → Member) (met : EvidenceData) (text : List ℕ) (f : Scan) (i : ℕ) (x : Member) (r : EvidenceData) → length text ≤ i
+pub evidence-ends : (m : Member → Member) (met : EvidenceData) (text : List ℕ) (f : Scan) (i : ℕ) (x : Member) (r : EvidenceData) → length text ≤ i → script_end_shown f ≡ None
     → x ≡ m (end_shows f)
     → evidence_through m met (shows (drop i text) f) ≡ r → one x ≡ r
-evidence-ends m met text f i x r l h s = ap one h ∙ sym (ap (λ (xs : List ℕ). evidence_through m met (shows xs f)) (drop_all i text l)) ∙ s
+evidence-ends m met text f i x r l q h s =
+    ap one h ∙ sym (ap (λ (o : Option EvidenceData). evidence_through m met (or_evidence o (one (end_shows f)))) q)
+    ∙ sym (ap (λ (xs : List ℕ). evidence_through m met (shows xs f)) (drop_all i text l)) ∙ s

@@ -6,7 +6,7 @@ use Rattle.place_core.specs.page.References.{Reference, Closed, Open}
 use Rattle.place_core.specs.place.StatePlaces.{only_after, only_inside, quotes_at, tag_spot}
 use Rattle.place_core.specs.place.UrlParts.{parts_of}
 use Rattle.place_core.specs.page.States.{LexState, Text, TagOpen, EndTagOpen, DeclarationOpen, InComment, Inside, Broken, BogusComment, InDoctype, TagName, WholeTagName, BeforeAttributeName, AttributeName, WholeAttributeName, AfterAttributeName, BeforeAttributeValue, AttributeValue, AfterAttributeValue, SelfClosingStartTag, Characters, Bytes, InLanguage, Pending, Nothing, PendingLess, PendingName, PendingBang, PendingBangDash, InContent, Unread, LessAtCut}
-use Rattle.place_core.specs.page.Tags.{Tag, Value, ValueOf, Deciding, ValueState, OfKind, OfUrl, OfStyle, Quoting, DoubleQuoted, SingleQuoted, Unquoted, is_second_type}
+use Rattle.place_core.specs.page.Tags.{Tag, Value, ValueOf, Deciding, ValueState, OfKind, OfUrl, OfStyle, OfScript, Quoting, DoubleQuoted, SingleQuoted, Unquoted, is_second_type}
 use Rattle.place_core.specs.declared.body.Body.{Body}
 use Rattle.place_core.specs.declared.body.Body.TheVariants as body
 use Rattle.place_core.specs.declared.css.Css.{Css}
@@ -22,6 +22,7 @@ use Rattle.place_core.specs.declared.value_place.ValuePlace.{ValuePlace}
 use Rattle.html_scan.specs.Scans.{Scan, At, InStyle, InStyleElement, BeforeType, InType, style_scan, url_scan, with_style}
 use Rattle.html_step.proofs.OwnScans.{IsOwn}
 use Rattle.html_step.proofs.PathScans.{WhereScanned, block_scanned, content_scanned, language_scanned, scanned, style_element_scanned, url_value}
+use Rattle.html_step.proofs.ScriptSteps.{where-scripted}
 use Rattle.html_step.proofs.StylePaths.{empty_css, style_value}
 use Rattle.url_lexer.specs.Triples.{Triple, NoTriple, AfterPercent, AfterDigit}
 
@@ -79,9 +80,9 @@ before-empty : (t : Tag) (k : Kind) → WhereScanned (scanned (BeforeAttributeVa
 before-empty t kind.Plain = λ p n e. cc
 before-empty t kind.NoHole = λ p n e. cc
 before-empty t kind.Url = λ p n e. cc
+before-empty t kind.Script = λ p n e. cc
 before-empty t kind.Style = λ p n e. one-css empty_css p e
 before-empty t kind.ScriptType = first-empty t.typed (BeforeType t.tag) tt
-before-empty t _ = tt
 
 begun : (q : Quoting) → has_begun (quotes_at q) ≡ true
 begun DoubleQuoted = refl
@@ -116,6 +117,8 @@ value-empty q t (ValueOf (OfKind kind.Plain)) r = never q body.Plain
 value-empty q t (ValueOf (OfKind kind.NoHole)) r = never q body.NoHole
 value-empty q t (ValueOf (OfKind _)) r = tt
 value-empty q t (ValueOf (OfStyle s)) r = style-empty t q (style_scanned s) r
+value-empty q t (ValueOf (OfScript s)) r =
+    where-scripted q t s r IsEmptyBefore (λ j e h. never q (body.Js j)) (λ n h. tt)
 value-empty q t (ValueOf (OfUrl u)) r = url-empty t q (parts_of u.part) u.triple r
 value-empty q t (Deciding kind.ScriptType before) r = first-empty t.typed (InType t.tag q (Deciding kind.ScriptType before) r) tt
 value-empty q t (Deciding _ before) r = tt
@@ -138,6 +141,7 @@ language-empty : (h : Pending) (e : Element) (v : ValueState) → WhereScanned (
 language-empty h element.Style (OfStyle s) = element-empty h (style_scanned s)
 language-empty h element.Style (OfKind k) = tt
 language-empty h element.Style (OfUrl u) = tt
+language-empty h element.Style (OfScript v) = tt
 language-empty h _ v = tt
 
 own-empty : (s : LexState ValueState) → WhereScanned (scanned s) IsEmptyBefore

@@ -4,17 +4,21 @@ use Rattle.std.specs.Prelude.{⊤, ◌||◌, if◌then◌else◌}
 use Rattle.std.specs.Option.{option_map}
 use Rattle.css_step.specs.StyleScans.{StyleScan}
 use Rattle.css_step.specs.StyleScanLaws.{style_scanned}
-use Rattle.place_core.specs.page.Classes.{Class, class_of}
+use Rattle.js_lexer.specs.States.{ScriptState}
+use Rattle.js_step.specs.ScriptScans.{ScriptScan}
+use Rattle.place_core.specs.page.Classes.{Class, class_of, is_equals_sign}
 use Rattle.place_core.specs.place.LastLexeme.{language_reference}
-use Rattle.place_core.specs.place.Errors.{byte_error, cut_error, at_hand, unless_second, content_error, PathCause, pending_error, place_before_bytes, lexeme_error}
+use Rattle.place_core.specs.place.Errors.{byte_error, cut_error, at_hand, deep_behind, fed_behind, flushed_error, unless_second, content_error, PathCause, pending_error, place_before_bytes, lexeme_error, script_byte_refusal, script_cut_refusal}
 use Rattle.place_core.specs.page.Contents.{pending_bytes}
 use Rattle.place_core.specs.page.Html.{next, after_tag}
 use Rattle.place_core.specs.page.Paths.{at_cut}
-use Rattle.place_core.specs.page.References.{Reference, Closed}
+use Rattle.place_core.specs.page.References.{Reference, Closed, Open, Breaks, turn}
+use Rattle.place_core.specs.place.ScriptParts.{script_body}
 use Rattle.place_core.specs.place.StatePlaces.{tag_spot, only_name, only_before, only_inside, only_after, value_spot, value_body, quotes_at, unbegun, placed}
 use Rattle.place_core.specs.page.States.{Template, LexState, Text, TagOpen, EndTagOpen, DeclarationOpen, InComment, BogusComment, InDoctype, TagName, WholeTagName, BeforeAttributeName, AttributeName, WholeAttributeName, AfterAttributeName, BeforeAttributeValue, AttributeValue, AfterAttributeValue, SelfClosingStartTag, Characters, Bytes, InLanguage, Pending, Nothing, PendingLess, PendingName, PendingBang, PendingBangDash, InContent, Unread, LessAtCut}
-use Rattle.place_core.specs.page.Tags.{Tag, Value, ValueOf, Deciding, ValueState, OfKind, OfUrl, OfStyle, languages, feed_value, feeding, feed_bytes, attribute_value_of, tag_by_type, with_bytes, tag_with_value, without_value, Quoting, is_second_type}
+use Rattle.place_core.specs.page.Tags.{Tag, Value, ValueOf, Deciding, ValueState, OfKind, OfUrl, OfStyle, OfScript, languages, feed_value, feeding, feed_bytes, attribute_value_of, tag_by_type, with_bytes, tag_with_value, without_value, Quoting, is_second_type}
 use Rattle.place_core.specs.place.UrlParts.{parts_of}
+use Rattle.place_core.specs.declared.body.Body.{Body}
 use Rattle.place_core.specs.declared.body.Body.TheVariants as body
 use Rattle.place_core.specs.declared.code.Code.{Code}
 use Rattle.place_core.specs.declared.element.Element.{Element}
@@ -27,8 +31,9 @@ use Rattle.place_core.specs.declared.quotes.Quotes.{Quotes}
 use Rattle.place_core.specs.declared.tag_of.TagOf.{TagOf}
 use Rattle.place_core.specs.declared.tag_of.TagOf.TheVariants as tag
 use Rattle.place_core.specs.declared.value_place.ValuePlace.{ValuePlace}
-use Rattle.html_scan.specs.Scans.{Scan, At, AfterLess, AfterLessSolidus, InDeclaration, InTagName, InAttributeName, InContentEnd, InStyleElement, comment_scan, element_scan, content_scan, pending_left, typed_with, scan_next, scan_error, scan_place, scan_cut_error, BeforeType, InType, scan_shown, url_scan, scan_lexeme_error, scan_reference, style_feeding, style_scan}
-use Rattle.html_step.proofs.StylePaths.{StandsHere, style_value}
+use Rattle.html_scan.specs.Scans.{Scan, At, AfterLess, AfterLessSolidus, InDeclaration, InTagName, InAttributeName, InContentEnd, InScript, InStyleElement, comment_scan, element_scan, content_scan, pending_left, typed_with, scan_next, scan_error, scan_place, scan_cut_error, BeforeType, InType, scan_shown, url_scan, scan_lexeme_error, scan_deep_behind, scan_fed_behind, scan_reference, scan_script_cut_refusal, scan_script_refusal, script_feeding, style_feeding, style_scan, written_error}
+use Rattle.html_step.proofs.ScriptPaths.{kept_script_scanned, script_value}
+use Rattle.html_step.proofs.StylePaths.{HasValue, StandsHere, style_value}
 use Rattle.url_lexer.specs.States.{Url, feed_url, feed_all}
 
 -- the scan state of a path's state
@@ -80,6 +85,18 @@ url_scanned q t u r = url_scan (url_value t (quotes_at q) (parts_of u.part)) u.t
 abbrev pub style_value_scanned : Quoting → Tag → Option StyleScan → Reference → Option Scan
 style_value_scanned q t o r = option_map (λ n. style_scan (style_value t (quotes_at q)) n r) o
 
+-- In a script it has the scan state of the script and the reference; but where a text begins it is at the place.
+abbrev pub script_there : Quoting → Tag → Option ScriptScan → Reference → Option Scan
+script_there q t o r = option_map (λ n. InScript (script_value t (quotes_at q)) n r) o
+
+abbrev pub script_unless_placed : Quoting → Tag → Option Body → Option ScriptScan → Option Scan
+script_unless_placed q t (Some x) o = option_map At (value_spot t (quotes_at q) (Some x))
+script_unless_placed q t None o = script_there q t o Closed
+
+abbrev pub script_value_scanned : Quoting → Tag → ScriptState → Reference → Option Scan
+script_value_scanned q t s Closed = script_unless_placed q t (script_body s) (kept_script_scanned s)
+script_value_scanned q t s (Open f bytes) = script_there q t (kept_script_scanned s) (Open f bytes)
+
 abbrev pub before_scanned : Tag → Value ValueState → Option Scan
 before_scanned t (ValueOf v) = option_map At (value_spot t unbegun (value_body (ValueOf v)))
 before_scanned t (Deciding kind.ScriptType before) = first_type t kind.ScriptType (BeforeType t.tag)
@@ -89,6 +106,7 @@ abbrev pub value_scanned : Quoting → Tag → Value ValueState → Reference �
 value_scanned q t (ValueOf (OfKind k)) r = option_map At (value_spot t (quotes_at q) (value_body (ValueOf (OfKind k))))
 value_scanned q t (ValueOf (OfUrl u)) r = Some (url_scanned q t u r)
 value_scanned q t (ValueOf (OfStyle s)) r = style_value_scanned q t (style_scanned s) r
+value_scanned q t (ValueOf (OfScript s)) r = script_value_scanned q t s r
 value_scanned q t (Deciding kind.ScriptType before) r = first_type t kind.ScriptType (InType t.tag q (Deciding kind.ScriptType before) r)
 value_scanned q t (Deciding k before) r = None
 
@@ -115,9 +133,26 @@ scanned (InContent e Bytes h) = block_scanned h e
 scanned (InContent e (InLanguage v) h) = language_scanned h e v
 scanned Unread = None
 
+-- Of the bytes of a script the places are kept; where a value is at a place, no byte of it has been read.
+abbrev pub FitsValue : List ℕ → Value ValueState → Reference → Type 0
+FitsValue places (ValueOf (OfScript s)) Closed = (x : Body) → script_body s ≡ Some x → places ≡ []
+FitsValue places v r = Unit {0}
+
+abbrev pub FitsFed : List ℕ → LexState ValueState → Type 0
+FitsFed places (AttributeValue q t v r) = FitsValue places v r
+FitsFed places s = Unit {0}
+
+-- what a script refuses at a byte, and where, and what is kept of the bytes that have been read
+abbrev pub ScriptsAgree : ℕ → List ℕ → LexState ValueState → Scan → Class → ℕ → Type 0
+ScriptsAgree k places s f c b =
+    (script_byte_refusal k places s c b ≡ scan_script_refusal k places f c b)
+    × (fed_behind k places s c b ≡ scan_fed_behind k places f c b)
+    × (scan_script_refusal k places f c b ≡ None → deep_behind k places s c b ≡ scan_deep_behind k places f c b)
+
 -- A state and its scan state refuse the same, and step alike where nothing is refused.
 pub record Agrees (s : LexState ValueState) (f : Scan) (c : Class) (b : ℕ) : Type 0 where
   pub errors : byte_error s c b ≡ scan_error f c b
+  pub scripts : (k : ℕ) (places : List ℕ) → FitsFed places s → ScriptsAgree k places s f c b
   pub steps : scan_error f c b ≡ None → scanned (next languages Template s c b) ≡ Some (scan_next f c b)
 
 abbrev pub WhereScanned : Option Scan → (Scan → Type 0) → Type 0
@@ -177,17 +212,43 @@ abbrev pub refused_next : Scan → List ℕ → Option PathCause
 refused_next f [] = scan_cut_error f
 refused_next f (b ∷ bs) = scan_error f (class_of b) b
 
+-- In a script, that nothing is refused of a reference that stands before the bytes.
+abbrev pub IsScriptShown : ScriptScan → Reference → List ℕ → Type 0
+IsScriptShown n Closed bs = Unit {0}
+IsScriptShown n (Open f bytes) [] = written_error script_feeding n (38 ∷ bytes) ≡ None
+IsScriptShown n (Open f bytes) (b ∷ bs) =
+    turn (class_of b) f ≡ Breaks → flushed_error script_feeding n (is_equals_sign (class_of b)) f bytes ≡ None
+
 -- In the element, that nothing is refused of what is pending back and comes to nothing there.
 abbrev pub IsShown : Scan → List ℕ → Type 0
 IsShown (InStyleElement n h) bs = pending_error style_feeding n (pending_bytes (pending_left h bs)) ≡ None
+IsShown (InScript v n r) bs = IsScriptShown n r bs
 IsShown f bs = (scan_reference f ≡ Closed) ⊎ StandsHere (refused_next f bs)
+
+-- the end of a text is refused neither by what is read there nor by a script
+pub record TakesEnd (f : Scan) : Type 0 where
+  pub cut : scan_cut_error f ≡ None
+  pub at : ℕ
+  pub places : List ℕ
+  pub scripts : scan_script_cut_refusal at places f ≡ None
+
+-- the reference that is open in a value; a scan state in a script has it, and the quotes of a value that has begun
+abbrev pub value_reference : LexState ValueState → Reference
+value_reference (AttributeValue q t v r) = r
+value_reference s = Closed
+
+abbrev pub ScriptFacts : LexState ValueState → Scan → Type 0
+ScriptFacts s (InScript v n r) = HasValue v.quotes × (value_reference s ≡ r)
+ScriptFacts s f = Unit {0}
 
 -- the end of a text, the reference that is open there, and the place that is shown before the bytes that are left
 pub record Ends (s : LexState ValueState) (f : Scan) : Type 0 where
   pub errors : cut_error s ≡ scan_cut_error f
-  pub lexeme : scan_cut_error f ≡ None → lexeme_error s ≡ scan_lexeme_error f
+  pub scripts : (k : ℕ) (places : List ℕ) → script_cut_refusal k places s ≡ scan_script_cut_refusal k places f
+  pub facts : ScriptFacts s f
+  pub lexeme : TakesEnd f → lexeme_error s ≡ scan_lexeme_error f
   pub reference : language_reference s ≡ scan_reference f
-  pub place : scan_cut_error f ≡ None → placed (at_cut languages s) ≡ Some (scan_place f)
+  pub place : TakesEnd f → placed (at_cut languages s) ≡ Some (scan_place f)
   pub shown : (bs : List ℕ) → IsShown f bs → place_before_bytes s bs ≡ scan_shown f bs
 
 -- the end of a tag

@@ -17,7 +17,7 @@ use Rattle.place_core.specs.declared.quotes.Quotes.TheVariants as quotes
 use Rattle.place_core.specs.declared.tag_of.TagOf.{TagOf}
 use Rattle.place_core.specs.declared.tag_of.TagOf.TheVariants as tag
 use Rattle.place_core.specs.declared.value_place.ValuePlace.{ValuePlace}
-use Rattle.html_scan.specs.Scans.{Scan, At, AfterLess, AfterLessSolidus, InDeclaration, InTagName, InAttributeName, InUrl, InStyle, InStyleElement, InCommentEnd, InContentEnd, BeforeType, InType, bare_begun, bare_white, content_scan, element_next, element_pending_next, empty_style_between, parts_feeding, quotes_lead, scan_reference, style_fed, style_feeding, style_scan, style_value_next, triple_behind, url_scan, value_between, value_fed, value_next, with_parts, with_style}
+use Rattle.html_scan.specs.Scans.{Scan, At, AfterLess, AfterLessSolidus, InDeclaration, InTagName, InAttributeName, InUrl, InStyle, InStyleElement, InCommentEnd, InContentEnd, BeforeType, InType, bare_begun, bare_white, content_scan, element_next, element_pending_next, empty_style_between, parts_feeding, quotes_lead, scan_reference, style_fed, style_feeding, style_scan, style_value_next, triple_behind, url_scan, value_between, value_fed, value_next, with_parts, with_style, InScript}
 use Rattle.html_step.specs.Origins.{element_fed, end_name_fed, less_fed, loose_fed}
 use Rattle.html_step.proofs.ApartParts.{AriseIn, arise-in, several-apart}
 use Rattle.html_step.proofs.Characters.{less-no-letter}
@@ -44,6 +44,8 @@ below-pending (InUrl u t r) (InStyleElement m k) l = absurd l
 below-pending (InUrl u t r) _ l = refl
 below-pending (InStyle u n r) (InStyleElement m k) l = absurd l
 below-pending (InStyle u n r) _ l = refl
+below-pending (InScript u n r) (InStyleElement m k) l = absurd l
+below-pending (InScript u n r) _ l = refl
 below-pending (InAttributeName t x n) (InStyleElement m k) l = absurd l
 below-pending (InAttributeName t x n) _ l = refl
 below-pending AfterLess f l = ap scan_pending l

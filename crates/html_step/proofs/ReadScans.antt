@@ -1,10 +1,10 @@
 -- The scan state before the bytes that are left of a text: a reference that the next byte breaks has been read. The states of paths are read alike.
-use Rattle.std.proofs.Common.{◌≡◌, ℕ, ◌+◌, Bool, true, false, List, [], ◌∷◌, ◌++◌, length, Option, Some, None, Ok, refl, sym, ap, ◌∙◌, subst}
+use Rattle.std.proofs.Common.{◌≡◌, ℕ, ◌+◌, Bool, true, false, List, [], ◌∷◌, ◌++◌, length, Option, Some, None, Ok, refl, sym, ap, ◌∙◌, subst, if◌then◌else◌}
 use Rattle.place_core.specs.page.Classes.{Class, White, QuotationMark, Apostrophe, GreaterThan, class_of, is_equals_sign}
 use Rattle.place_core.specs.page.Html.{ends_value}
 use Rattle.place_core.specs.page.References.{Form, Reference, Closed, Open, ReferenceStep, Grows, Closes, Breaks, begin_reference, flushed, plain_bytes, reference_turned, turn, turn_bytes}
 use Rattle.place_core.specs.page.Tags.{Feeding, Tag, feed_bytes, DoubleQuoted, SingleQuoted, Unquoted}
-use Rattle.place_core.specs.place.Errors.{PathCause, body_error, at_hand, fed_error, first_cause, first_error, flushed_error, is_written, language_error, quotes_error, turned_error, value_error}
+use Rattle.place_core.specs.place.Errors.{PathCause, body_error, at_hand, fed_error, first_cause, first_error, flushed_error, is_written, language_error, quotes_error, turned_error, value_error, TextRead}
 use Rattle.place_core.specs.declared.body.Body.{Body}
 use Rattle.place_core.specs.declared.body.Body.TheVariants as body
 use Rattle.place_core.specs.declared.parts.Parts.{Parts}
@@ -13,9 +13,10 @@ use Rattle.place_core.specs.place.LastLexeme.{last_lexeme_start}
 use Rattle.place_core.specs.declared.quotes.Quotes.{Quotes}
 use Rattle.place_core.specs.declared.quotes.Quotes.TheVariants as quotes
 use Rattle.place_core.specs.declared.value_place.ValuePlace.{ValuePlace}
-use Rattle.html_scan.specs.Scans.{Scan, At, InUrl, InStyle, bare_begun, body_cause, parts_feeding, parts_with, quoted_error, quoted_next, quotes_lead, scan_error, scan_next, style_cause, style_fed, style_feeding, style_scan, triple_behind, url_scan, value_between, value_cause, value_fed, with_parts, scan_reference}
+use Rattle.html_scan.specs.Scans.{Scan, At, InUrl, InStyle, bare_begun, body_cause, parts_feeding, parts_with, quoted_error, quoted_next, quotes_lead, scan_error, scan_next, style_cause, style_fed, style_feeding, style_scan, triple_behind, url_scan, value_between, value_cause, value_fed, with_parts, scan_reference, with_style}
+use Rattle.html_step.proofs.ScriptEnds.{script_end}
 use Rattle.html_step.specs.Origins.{scan_parts}
-use Rattle.html_step.specs.Steps.{stepped}
+use Rattle.html_step.specs.Steps.{stepped, scan_read_behind}
 use Rattle.html_scan.proofs.UrlsFed.{feed_more}
 use Rattle.html_step.proofs.BelowScans.{below-style, below-url}
 use Rattle.html_step.proofs.FedAlike.{first-caused}
@@ -27,12 +28,12 @@ use Rattle.html_step.proofs.StylePaths.{HasValue, empty_css, ends-no-equals, sty
 use Rattle.html_step.proofs.UrlOrder.{fed-grow, fed-more}
 use Rattle.html_step.proofs.UrlScans.{below-reference}
 use Rattle.html_step.proofs.ValidSteps.{style-valid, url-valid, with-within}
-use Rattle.css_step.specs.StyleScans.{StyleScan, style_scan_place}
-use Rattle.html_step.proofs.WholeTexts.{accepts-anywhere, refused-not, step-ok}
+use Rattle.css_step.specs.StyleScans.{StyleScan, is_style_start, style_scan_place}
+use Rattle.html_step.proofs.WholeTexts.{accepts-anywhere, step-ok, deep-behind, not-deep, ok-step}
 use Rattle.place_core.specs.place.LanguagePlaces.{IsValidCss}
 use Rattle.place_core.specs.place.Places.{joined_bodies}
 use Rattle.place_core.proofs.Semilattices.{none_some}
-use Rattle.url_lexer.specs.Triples.{Triple}
+use Rattle.url_lexer.specs.Triples.{Triple, NoTriple, AfterPercent, AfterDigit}
 use Rattle.url_lexer.specs.Classes.{url_class_of}
 use Rattle.url_lexer.specs.Triples.{next_triple}
 
@@ -245,16 +246,55 @@ read-on (InStyle v m (Open f bytes)) b bs w n = style-read-on v m f bytes (class
 read-on (InStyle v m Closed) b bs w n = record { error = n; next = refl }
 read-on f b bs w n = record { error = n; next = refl }
 
-pub read-ok : (b : ℕ) (bs : List ℕ) (k since : ℕ) (f : Scan) (q : Place) → ScanValid f → stepped k since (b ∷ bs) f ≡ Ok q
+-- what is read is no script
+url-no-script : (v : ValuePlace) (t : Triple) (r : Reference) (c : Class) → script_end (url_scan v t r) c ≡ None
+url-no-script v NoTriple Closed c = refl
+url-no-script v NoTriple (Open f bytes) c = refl
+url-no-script v AfterPercent r c = refl
+url-no-script v AfterDigit r c = refl
+
+style-no-script-by : (v : ValuePlace) (n : StyleScan) (x : Bool) (c : Class)
+    → script_end (if x then At (with_style v n) else InStyle v n Closed) c ≡ None
+style-no-script-by v n true c = refl
+style-no-script-by v n false c = refl
+
+style-no-script : (v : ValuePlace) (n : StyleScan) (r : Reference) (c : Class) → script_end (style_scan v n r) c ≡ None
+style-no-script v n Closed c = style-no-script-by v n (is_style_start n) c
+style-no-script v n (Open f bytes) c = refl
+
+turn-no-script : (z : ReferenceStep) (v : ValuePlace) (t : Triple) (f : Form) (bytes : List ℕ) (c d : Class) → script_end (read_turn z v t f bytes c) d ≡ None
+turn-no-script Breaks v t f bytes c d =
+    (let xs = flushed true (is_equals_sign c) f bytes in url-no-script (read_value v xs) (triple_behind t xs) Closed d)
+turn-no-script (Grows g) v t f bytes c d = refl
+turn-no-script Closes v t f bytes c d = refl
+
+style-turn-no-script : (z : ReferenceStep) (v : ValuePlace) (n : StyleScan) (f : Form) (bytes : List ℕ) (c d : Class) → script_end (read_style z v n f bytes c) d ≡ None
+style-turn-no-script Breaks v n f bytes c d = style-no-script v (feed_bytes style_feeding n (flushed true (is_equals_sign c) f bytes)) Closed d
+style-turn-no-script (Grows g) v n f bytes c d = refl
+style-turn-no-script Closes v n f bytes c d = refl
+
+read-script-end : (f : Scan) (bs : List ℕ) (c : Class) → script_end f c ≡ None → script_end (scan_read f bs) c ≡ None
+read-script-end (InUrl v t (Open x l)) (b ∷ bs) c h = turn-no-script (turn (class_of b) x) v t x l (class_of b) c
+read-script-end (InUrl v t (Open x l)) [] c h = refl
+read-script-end (InUrl v t Closed) bs c h = refl
+read-script-end (InStyle v n (Open x l)) (b ∷ bs) c h = style-turn-no-script (turn (class_of b) x) v n x l (class_of b) c
+read-script-end (InStyle v n (Open x l)) [] c h = refl
+read-script-end (InStyle v n Closed) bs c h = refl
+read-script-end _ bs c h = h
+
+pub read-ok : (b : ℕ) (bs : List ℕ) (k : ℕ) (since : TextRead) (f : Scan) (q : Place) → ScanValid f → stepped k since (b ∷ bs) f ≡ Ok q
     → stepped k since (b ∷ bs) (scan_read f (b ∷ bs)) ≡ Ok q
 read-ok b bs k since f q w e =
     let n = step-ok k since b bs f q e in
     let m = read-on f b bs w n.0 in
     let g = scan_read f (b ∷ bs) in
-    let last = last_lexeme_start k since (scan_reference f) (class_of b) b in
-    let over = last_lexeme_start k since (scan_reference g) (class_of b) b in
-    refused-not k (scan_error g (class_of b) b) (stepped (k + 1) over bs (scan_next g (class_of b) b)) q m.error
-    (ap (stepped (k + 1) over bs) m.next ∙ accepts-anywhere bs (k + 1) last (k + 1) over (scan_next f (class_of b) b) q n.1)
+    let last = scan_read_behind k since f (class_of b) b in
+    let over = scan_read_behind k since g (class_of b) b in
+    let ends = read-script-end f (b ∷ bs) (class_of b) n.2 in
+    ok-step k since b bs g q m.error ends
+    (ap (stepped (k + 1) over bs) m.next
+    ∙ accepts-anywhere bs (k + 1) last (k + 1) over (scan_next f (class_of b) b) q
+    (deep-behind k since b g (not-deep (b ∷ bs) k since f q e) m.error ends) n.1)
 
 -- a reference that is open in it is not broken by the byte
 abbrev pub NotBroken : Reference → ℕ → Type 0

@@ -13,7 +13,7 @@ use Rattle.place_core.specs.page.Classes.{Class, class_of, is_equals_sign}
 use Rattle.place_core.specs.page.References.{Form, Reference, Closed, Open, ReferenceStep, Grows, Closes, Breaks, flushed, turn}
 use Rattle.place_core.specs.page.Contents.{pending_bytes}
 use Rattle.place_core.specs.page.States.{LexState, AttributeValue, InContent, InLanguage, Pending, Nothing, PendingLess, LessAtCut, PendingName, PendingBang, PendingBangDash}
-use Rattle.place_core.specs.page.Tags.{Deciding, OfKind, OfUrl, OfStyle, Tag, ValueOf, ValueState, languages, feed_bytes, with_bytes, Quoting, DoubleQuoted, SingleQuoted, Unquoted}
+use Rattle.place_core.specs.page.Tags.{Deciding, OfKind, OfUrl, OfStyle, OfScript, Tag, ValueOf, ValueState, languages, feed_bytes, with_bytes, Quoting, DoubleQuoted, SingleQuoted, Unquoted}
 use Rattle.place_core.specs.place.ApartPlaces.{beginning_at, beginning_in_css}
 use Rattle.place_core.specs.place.Errors.{flushed_error, is_written, pending_error, place_before_bytes}
 use Rattle.place_core.specs.declared.element.Element.{Element}
@@ -33,7 +33,7 @@ use Rattle.place_core.specs.declared.place.Place.TheVariants as place
 use Rattle.place_core.specs.declared.quotes.Quotes.{Quotes}
 use Rattle.place_core.specs.declared.value_place.ValuePlace.{ValuePlace}
 use Rattle.place_core.proofs.Semilattices.{none_some, one_value}
-use Rattle.html_scan.specs.Scans.{Scan, At, InUrl, InStyle, InStyleElement, element_scan, pending_left, parts_before, parts_feeding, parts_with, scan_shown, style_before, style_feeding, style_scan, triple_behind, url_scan, with_body, with_style, scan_reference}
+use Rattle.html_scan.specs.Scans.{Scan, At, InScript, InUrl, InStyle, InStyleElement, element_scan, pending_left, parts_before, parts_feeding, parts_with, scan_shown, style_before, style_feeding, style_scan, triple_behind, url_scan, with_body, with_style, scan_reference}
 use Rattle.html_step.specs.Origins.{body_parts, is_apart, scan_parts}
 use Rattle.html_step.proofs.ApartParts.{unknown-below}
 use Rattle.html_step.proofs.FromValues.{nothing-fed}
@@ -46,7 +46,7 @@ use Rattle.html_step.proofs.ReadScans.{NotBroken, ReadTaken, read-closed, read_s
 use Rattle.html_step.proofs.ScanOrder.{HasBegun, IsPendingName, ScanBelow, ScanValid, StyleUnderBody, starts-in-order, style-place-below, under-body}
 use Rattle.html_step.proofs.ElementsBelow.{under-element}
 use Rattle.html_step.proofs.EndTagNames.{pending-no-opening}
-use Rattle.html_step.proofs.OneTexts.{ends-at}
+use Rattle.html_step.proofs.OneTexts.{IsNoScriptScan, ends-at}
 use Rattle.html_step.proofs.StyleOrder.{below-css, scan-below-start, scan-of-start}
 use Rattle.html_step.proofs.StylePaths.{style-scan-reference, style-scan-shown, style_value}
 use Rattle.html_step.proofs.StyleSteps.{at_style, style-ends, style-fed-there, style-there, style-turned}
@@ -72,6 +72,7 @@ pub data UrlState (s : LexState ValueState) : Type 0 where
 pub url-of : (s : LexState ValueState) → is_url_value s ≡ true → UrlState s
 url-of (AttributeValue q t (ValueOf (OfUrl u)) r) h = url_state q t u r refl
 url-of (AttributeValue q t (ValueOf (OfKind k)) r) h = absurd (no h)
+url-of (AttributeValue q t (ValueOf (OfScript v)) r) h = absurd (no h)
 url-of (AttributeValue q t (ValueOf (OfStyle v)) r) h = style_state q t v r refl
 url-of (AttributeValue q t (Deciding k before) r) h = absurd (no h)
 url-of (InContent e (InLanguage (OfStyle v)) x) h = element_state e v x refl
@@ -400,9 +401,27 @@ own-style q t v n (Open f bytes) [] i k h = absurd h
 own-style q t v n (Open f bytes) (b ∷ bs) i k h =
     style-turned (turn (class_of b) f) q t v n (class_of b) f bytes i k ∙ style-shown-turned (turn (class_of b) f) q t n f bytes bs b refl
 
-none-shown : (g : Scan) (bs : List ℕ) → scan_reference g ≡ Closed → NonePending g bs → IsShown g bs
-none-shown (InStyleElement n x) bs e p = ap (λ (y : Pending). pending_error style_feeding n (pending_bytes y)) p
-none-shown g bs e p = inl e
+none-shown : (g : Scan) (bs : List ℕ) → IsNoScriptScan g → scan_reference g ≡ Closed → NonePending g bs → IsShown g bs
+none-shown (InStyleElement n x) bs i e p = ap (λ (y : Pending). pending_error style_feeding n (pending_bytes y)) p
+none-shown (InScript v n r) bs i e p = absurd i
+none-shown g bs i e p = inl e
+
+no-script-by : (x : Bool) (n : StyleScan) → IsNoScriptScan (if x then At (place.Style (style_scan_place n)) else InStyleElement n Nothing)
+no-script-by true n = tt
+no-script-by false n = tt
+
+element-no-script-at : (x : Pending) (n : StyleScan) → IsNoScriptScan (element_at x n)
+element-no-script-at Nothing n = no-script-by (is_style_start n) n
+element-no-script-at PendingLess n = tt
+element-no-script-at LessAtCut n = tt
+element-no-script-at (PendingName letters) n = tt
+element-no-script-at PendingBang n = tt
+element-no-script-at PendingBangDash n = tt
+
+element-no-script : (e : Element) (v : Style Url) (x : Pending) (g : Scan) → scanned (InContent e (InLanguage (OfStyle v)) x) ≡ Some g → IsNoScriptScan g
+element-no-script e v x g h =
+    let o = element-of e v x g h in
+    subst IsNoScriptScan (element-form x o.scan g o.at).same (element-no-script-at x o.scan)
 
 pub own-place : (s : LexState ValueState) (g : Scan) (bs : List ℕ) → UrlState s → scanned s ≡ Some g → ReadTaken g bs
     → IsReadShown (scan_reference g) bs → NonePending g bs → place_before_bytes s bs ≡ scan_shown (scan_read g bs) bs
@@ -420,7 +439,7 @@ own-place s g bs (style_state q t v r i) e k h p =
 own-place s g bs (element_state y v x i) e k h p =
     let there = sym (ap scanned i) ∙ e in
     ap (λ (z : LexState ValueState). place_before_bytes z bs) i
-    ∙ (ends-at (InContent y (InLanguage (OfStyle v)) x) g there).shown bs (none-shown g bs (element-closed y v x g there) p)
+    ∙ (ends-at (InContent y (InLanguage (OfStyle v)) x) g there).shown bs (none-shown g bs (element-no-script y v x g there) (element-closed y v x g there) p)
     ∙ ap (λ (z : Scan). scan_shown z bs) (sym (read-closed g bs (element-closed y v x g there)))
 
 -- what its reference has not is not in the reference of its scan state
@@ -734,6 +753,7 @@ unknown (AttributeValue q t (ValueOf (OfUrl u)) r) g f p o e w h a l =
     let same : url_scanned q t u r ≡ g = one_value (url_scanned q t u r) g e in
     unknown-url q t u r f p o h a (subst (λ (x : Scan). ScanBelow x f) (sym same) l)
 unknown (AttributeValue q t (ValueOf (OfKind k)) r) g f p o e w h a l = absurd (no o)
+unknown (AttributeValue q t (ValueOf (OfScript v)) r) g f p o e w h a l = absurd (no o)
 unknown (AttributeValue q t (ValueOf (OfStyle (style.InUrl Bare u))) r) g f p o e w h a l =
     let n = ScanBareUrl (parts_of u.part) u.triple in
     let same : style_scan (style_value t (quotes_at q)) n r ≡ g = one_value (style_scan (style_value t (quotes_at q)) n r) g e in
@@ -782,6 +802,7 @@ unknown (InContent element.Style (InLanguage (OfStyle (style.InUrl Fresh u))) x)
 unknown (InContent element.Style (InLanguage (OfStyle (style.InUrl Ended u))) x) g f p o e w h a l = absurd (no o)
 unknown (InContent element.Style (InLanguage (OfStyle (Out v))) x) g f p o e w h a l = absurd (no o)
 unknown (InContent element.Style (InLanguage (OfKind k)) x) g f p o e w h a l = absurd (no o)
+unknown (InContent element.Style (InLanguage (OfScript v)) x) g f p o e w h a l = absurd (no o)
 unknown (InContent element.Style (InLanguage (OfUrl u)) x) g f p o e w h a l = absurd (no o)
 unknown (InContent _ (InLanguage v) x) g f p o e w h a l = absurd (none_some g e)
 unknown _ g f p o e w h a l = absurd (no o)
@@ -801,6 +822,7 @@ open-parts (AttributeValue q t (ValueOf (OfUrl u)) r) g o e =
     let p = open-part u.part o in
     (p.0, ap scan_parts (sym same) ∙ url-parts (url_value t (quotes_at q) (parts_of u.part)) u.triple r ∙ ap (λ (x : UrlPart). Some (parts_of x)) p.1)
 open-parts (AttributeValue q t (ValueOf (OfKind k)) r) g o e = absurd (no o)
+open-parts (AttributeValue q t (ValueOf (OfScript v)) r) g o e = absurd (no o)
 open-parts (AttributeValue q t (ValueOf (OfStyle (style.InUrl Bare u))) r) g o e =
     let n = ScanBareUrl (parts_of u.part) u.triple in
     let same : style_scan (style_value t (quotes_at q)) n r ≡ g = one_value (style_scan (style_value t (quotes_at q)) n r) g e in
@@ -827,6 +849,7 @@ open-parts (InContent element.Style (InLanguage (OfStyle (style.InUrl Fresh u)))
 open-parts (InContent element.Style (InLanguage (OfStyle (style.InUrl Ended u))) x) g o e = absurd (no o)
 open-parts (InContent element.Style (InLanguage (OfStyle (Out v))) x) g o e = absurd (no o)
 open-parts (InContent element.Style (InLanguage (OfKind k)) x) g o e = absurd (no o)
+open-parts (InContent element.Style (InLanguage (OfScript v)) x) g o e = absurd (no o)
 open-parts (InContent element.Style (InLanguage (OfUrl u)) x) g o e = absurd (no o)
 open-parts (InContent _ (InLanguage v) x) g o e = absurd (none_some g e)
 open-parts _ g o e = absurd (no o)

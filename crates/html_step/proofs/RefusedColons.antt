@@ -8,11 +8,10 @@ use Rattle.place_core.specs.page.Classes.{Class, White, Ampersand, QuotationMark
 use Rattle.place_core.specs.page.Html.{next}
 use Rattle.place_core.specs.page.References.{Form, Reference, Closed, Open, ReferenceStep, Grows, Closes, Breaks, begin_reference, flushed, meaning, next_reference, plain_bytes, reference_turned, turn, turn_bytes, undone_byte}
 use Rattle.place_core.specs.page.States.{AttributeValue, BeforeAttributeValue, InContent, InLanguage, LexState, Nothing, Pending, Template}
-use Rattle.place_core.specs.page.Tags.{OfKind, OfStyle, OfUrl, ValueOf, ValueState, feed_bytes, languages}
+use Rattle.place_core.specs.page.Tags.{OfKind, OfStyle, OfUrl, ValueOf, ValueState, feed_bytes, languages, OfScript}
 use Rattle.place_core.specs.place.ApartPlaces.{opened_apart, beginning_at, beginning_in_body, spell_apart}
-use Rattle.place_core.specs.place.Errors.{PathCause, PathRefusal, broken_off, byte_error, cut_error, lexeme_error, place_before_bytes, refusal_from, standing_at}
-use Rattle.place_core.specs.place.LastLexeme.{last_lexeme_start, language_reference}
-use Rattle.place_core.specs.place.PathPairs.{ApartBefore, Clashes, ClashesApart, MeetsColon, is_in_beginning, is_in_reference, state_before, unknown_beginning}
+use Rattle.place_core.specs.place.Errors.{PathCause, PathRefusal, place_before_bytes, TextRead, nothing_read, path_refusal}
+use Rattle.place_core.specs.place.PathPairs.{ApartBefore, ClashesApart, MeetsColon, is_in_beginning, is_in_reference, state_before, unknown_beginning, ClashesInText}
 use Rattle.place_core.specs.place.LanguagePlaces.{parts_have}
 use Rattle.place_core.specs.place.Places.{is_whole}
 use Rattle.place_core.specs.place.StatePlaces.{quotes_at}
@@ -33,9 +32,11 @@ use Rattle.place_core.specs.declared.quotes.Quotes.{Quotes}
 use Rattle.place_core.specs.declared.quotes.Quotes.TheVariants as quotes
 use Rattle.place_core.specs.declared.value_place.ValuePlace.{ValuePlace}
 use Rattle.place_core.proofs.Semilattices.{none_some, one_value}
-use Rattle.html_scan.specs.Scans.{Scan, At, InUrl, InStyle, InStyleElement, pending_left, scan_reference, parts_feeding, parts_with, scan_error, scan_next, style_fed, style_feeding, style_scan, style_value_next, triple_behind, value_between}
+use Rattle.html_scan.specs.Scans.{Scan, At, InUrl, InStyle, InStyleElement, pending_left, scan_reference, parts_feeding, parts_with, scan_error, scan_next, style_fed, style_feeding, style_scan, style_value_next, triple_behind, value_between, InScript, scan_script_refusal}
+use Rattle.html_step.proofs.ScriptReads.{nil-fits}
+use Rattle.html_step.proofs.ScriptEnds.{script-takes, script_end}
 use Rattle.html_step.specs.Origins.{body_parts, fed_in, is_apart, scan_parts}
-use Rattle.html_step.specs.Steps.{stepped, unless_refused}
+use Rattle.html_step.specs.Steps.{stepped, unless_refused, scan_read_behind, unless_script_refused}
 use Rattle.html_step.proofs.ApartParts.{AriseIn, apart-inside, arise-in, bytes-stay, opens-apart, waits}
 use Rattle.html_step.proofs.Characters.{IsCharacter, NoColon, ReferencePlain, flushed-character, nothing, utf8-character, plain-character}
 use Rattle.html_step.proofs.Clashing.{StartsUrl, is-open, is-start}
@@ -89,12 +90,18 @@ parts-have _ s y h k = absurd (none_some s h)
 met-there : (f : Scan) → is_apart (scan_parts f) ≡ true → has_met f ≡ true
 met-there f a = (let x = apart-in (scan_parts f) a in ap spells_apart (raw-opened f x.parts x.is) ∙ x.apart)
 
--- Bytes that stand at `k` are refused of each path of which it is not known what it spells, by this.
+-- A refusal of bytes that stand at one place, where they stand at another.
+abbrev pub ShiftedTo : ℕ → PathRefusal → Result Place PathRefusal → Type 0
+ShiftedTo i r o = (shown : ℕ) × (o ≡ Err (record { code = r.code; at = i; shown = shown }))
+
+-- Bytes that stand at `k` are refused of each path of which it is not known what it spells, by this; and where they stand at another place of their
+-- text, by what stands so much before.
 pub record ShownApart (k : ℕ) (bytes : List ℕ) (f : Scan) (r : PathRefusal) : Type 0 where
   pub there : is_apart (scan_parts f) ≡ true
   pub code : r.code ≡ code.AmbigContext
   pub within : k ≤ r.at + reference_length (scan_reference f)
-  pub refuses : (since : ℕ) (g : Scan) → ScanValid g → ScanBelow g f → is_apart (scan_parts g) ≡ true → stepped k since bytes g ≡ Err r
+  pub refuses : (j n i : ℕ) → n + j ≡ k → r.at ≡ n + i → (since : TextRead) (g : Scan) → ScanValid g → ScanBelow g f → is_apart (scan_parts g) ≡ true
+      → ShiftedTo i r (stepped j since bytes g)
 
 -- a scan state of a URL comes from one, where paths have spelled different things in it
 pub before-apart : (f : Scan) (c : Class) (b : ℕ) (o : Option Parts) → ScanValid f → scan_parts f ≡ o → scan_error f c b ≡ None
@@ -119,8 +126,15 @@ next-apart g f c b v w n l m a d =
     ∙ ap (λ (bytes : List ℕ). is_apart (Some (feed_bytes parts_feeding x.parts bytes))) (fed-same g f s.0 c b l s.1)
     ∙ (bytes-stay (scan_fed f c b) s.0 x.parts inside).met x.apart
 
-pub refused-later : (k : ℕ) (o : Option PathCause) (r : Result Place PathRefusal) (e : PathRefusal) → o ≡ None → r ≡ Err e → unless_refused k o r ≡ Err e
-refused-later k o r e i h = ap (λ (y : Option PathCause). unless_refused k y r) i ∙ h
+pub refused-later : (k : ℕ) (x : Option PathRefusal) (o : Option PathCause) (r : Result Place PathRefusal) (e : PathRefusal) → x ≡ None → o ≡ None → r ≡ Err e
+    → unless_script_refused k x o r ≡ Err e
+refused-later k x o r e m i h =
+    ap (λ (y : Option PathRefusal). unless_script_refused k y o r) m ∙ ap (λ (y : Option PathCause). unless_refused k y r) i ∙ h
+
+-- a scan state of a URL is that of no script
+pub apart-no-script : (g : Scan) (c : Class) → is_apart (scan_parts g) ≡ true → script_end g c ≡ None
+apart-no-script (InScript v n r) c a = absurd (no a)
+apart-no-script _ c a = refl
 
 -- before a byte, where it is so there
 pub kept-apart : (k b : ℕ) (bs : List ℕ) (f : Scan) (r : PathRefusal) → ScanValid f → scan_error f (class_of b) b ≡ None
@@ -133,49 +147,16 @@ kept-apart k b bs f r w n d a =
       there = a;
       code = d.code;
       within = omega (arith, long, there);
-      refuses = λ since g v l o.
-          let m = scan-grows g f c b v l n in
-          refused-later k (scan_error g c b) (stepped (k + 1) (last_lexeme_start k since (scan_reference g) (class_of b) b) bs (scan_next g c b)) r m.0
-          (d.refuses (last_lexeme_start k since (scan_reference g) (class_of b) b) (scan_next g c b) (scan-valid g c b v m.0) m.1 (next-apart g f c b v w n l m.1 o d.there));
+      refuses = λ j m i at is since g v l o.
+          let x = scan-grows g f c b v l n in
+          let e = script-takes g c b x.0 (apart-no-script g c o) j since.fed in
+          let next : m + (j + 1) ≡ k + 1 = omega (arith, at) in
+          let h = d.refuses (j + 1) m i next is (scan_read_behind j since g c b) (scan_next g c b) (scan-valid g c b v x.0) x.1 (next-apart g f c b v w n l x.1 o d.there) in (
+            h.0,
+            refused-later j (scan_script_refusal j since.fed g c b) (scan_error g c b) (stepped (j + 1) (scan_read_behind j since g c b) bs (scan_next g c b))
+                (record { code = r.code; at = i; shown = h.0 }) e.0 x.0 h.1,
+          );
     }
-
--- A refusal of bytes that stand at one place, where they stand at another.
-back-at : (k j i back : ℕ) → (k + j) - back ≡ k + i → j - back ≡ i
-back-at k j i back h = omega (arith, h)
-
-abbrev pub ShiftedTo : ℕ → PathRefusal → Option PathRefusal → Type 0
-ShiftedTo i r o = (shown : ℕ) × (o ≡ Some (record { code = r.code; at = i; shown = shown }))
-
-standing-shift : (k j i : ℕ) (o : Option PathCause) (rest other : Option PathRefusal) (r : PathRefusal) → standing_at (k + j) o rest ≡ Some r → r.at ≡ k + i
-    → (rest ≡ Some r → ShiftedTo i r other) → ShiftedTo i r (standing_at j o other)
-standing-shift k j i None rest other r h a f = f h
-standing-shift k j i (Some e) rest other r h a f =
-    let is : record { code = e.code; at = (k + j) - e.back; shown = (k + j) - e.shown } ≡ r = one_value (record { code = e.code; at = (k + j) - e.back; shown = (k + j) - e.shown }) r h in
-    let at : j - e.back ≡ i = back-at k j i e.back (ap (λ (x : PathRefusal). x.at) is ∙ a) in
-    let code : e.code ≡ r.code = ap (λ (x : PathRefusal). x.code) is in
-    (j - e.shown, rw (at, code) refl)
-
-broken-shift : (k j i since other : ℕ) (o : Option Code) (r : PathRefusal) → broken_off (k + j) since o ≡ Some r → r.at ≡ k + i → ShiftedTo i r (broken_off j other o)
-broken-shift k j i since other None r h a = absurd (none_some r h)
-broken-shift k j i since other (Some e) r h a =
-    let is : record { code = e; at = k + j; shown = since } ≡ r = one_value (record { code = e; at = k + j; shown = since }) r h in
-    let same : k + j ≡ k + i = ap (λ (x : PathRefusal). x.at) is ∙ a in
-    let at : j ≡ i = omega (arith, same) in
-    let code : e ≡ r.code = ap (λ (x : PathRefusal). x.code) is in
-    (other, rw (at, code) refl)
-
-pub refusal-shift : (bytes : List ℕ) (k j i since other : ℕ) (s : LexState ValueState) (r : PathRefusal) → refusal_from (k + j) since bytes s ≡ Some r → r.at ≡ k + i
-    → ShiftedTo i r (refusal_from j other bytes s)
-refusal-shift [] k j i since other s r h a =
-    standing-shift k j i (cut_error s) (broken_off (k + j) since (lexeme_error s)) (broken_off j other (lexeme_error s)) r h a
-    (λ m. broken-shift k j i since other (lexeme_error s) r m a)
-refusal-shift (b ∷ bs) k j i since other s r h a =
-    let after = next languages Template s (class_of b) b in
-    let last = last_lexeme_start (k + j) since (language_reference s) (class_of b) b in
-    let here = last_lexeme_start j other (language_reference s) (class_of b) b in
-    standing-shift k j i (byte_error s (class_of b) b) (refusal_from (k + j + 1) last bs after) (refusal_from (j + 1) here bs after) r h a
-    (λ m. refusal-shift bs k (j + 1) i last here after r
-    (subst (λ (n : ℕ). refusal_from n last bs after ≡ Some r) (let e : k + j + 1 ≡ k + (j + 1) = omega arith in e) m) a)
 
 -- A path before the bytes that are left of a text, where it is read: in the beginning of a URL, at a scan state below this one.
 pub record Point (s : LexState ValueState) (bs : List ℕ) (f : Scan) : Type 0 where
@@ -223,12 +204,12 @@ pub meets : (bytes : List ℕ) (k i : ℕ) (f : Scan) (r : PathRefusal) (s : Lex
 meets bytes k i f r s g d a o e v l =
     let x = apart-in (scan_parts f) d.there in
     let u = unknown s g f x.parts o e v x.is x.apart l in
-    let none : k ≡ k + 0 = omega arith in
-    let refused : refusal_from (k + 0) 0 bytes (unknown_beginning s) ≡ Some r =
-    subst (λ (n : ℕ). refusal_from n 0 bytes (unknown_beginning s) ≡ Some r) none
-    (subst (λ (z : Result Place PathRefusal). Says z k 0 bytes (unknown_beginning s)) (d.refuses 0 u.scan u.valid u.below u.apart) (says bytes k 0 (unknown_beginning s) u.scan u.at)) in
-    let m = refusal-shift bytes k 0 i 0 0 (unknown_beginning s) r refused a in
-    record { shown = m.0; begins = o; refused = m.1 ∙ ap (λ (c : Code). Some (record { code = c; at = i; shown = m.0 })) d.code }
+    let none : k + 0 ≡ k = omega arith in
+    let m = d.refuses 0 k i none a nothing_read u.scan u.valid u.below u.apart in
+    let refused : path_refusal bytes (unknown_beginning s) ≡ Some (record { code = r.code; at = i; shown = m.0 }) =
+    subst (λ (z : Result Place PathRefusal). Says z 0 nothing_read bytes (unknown_beginning s)) m.1
+    (says bytes 0 nothing_read (unknown_beginning s) u.scan u.at (nil-fits (unknown_beginning s))) in
+    record { shown = m.0; begins = o; refused = refused ∙ ap (λ (c : Code). Some (record { code = c; at = i; shown = m.0 })) d.code }
 
 -- Two paths are apart there, and are refused together at the `:`.
 abbrev pub ApartNow : List ℕ → LexState ValueState → LexState ValueState → Code → ℕ → Type 0
@@ -310,6 +291,7 @@ start-language element.Style (OfStyle (style.InUrl Fresh u)) h g a e = absurd a
 start-language element.Style (OfStyle (style.InUrl Ended u)) h g a e = absurd a
 start-language element.Style (OfStyle (Out v)) h g a e = absurd a
 start-language element.Style (OfKind k) h g a e = absurd a
+start-language element.Style (OfScript k) h g a e = absurd a
 start-language element.Style (OfUrl u) h g a e = absurd a
 start-language _ v h g a e = absurd (none_some g e)
 
@@ -462,7 +444,7 @@ IsOpen Closed = ⊥
 IsOpen (Open f bytes) = Unit {0}
 
 abbrev pub ClashesFrom : Scan → List ℕ → LexState ValueState → LexState ValueState → Code → ℕ → Type 0
-ClashesFrom f bytes s t c i = Clashes bytes s t c i ⊎ (IsOpen (scan_reference f) × ApartNow bytes s t c i)
+ClashesFrom f bytes s t c i = ClashesInText bytes s t c i ⊎ (IsOpen (scan_reference f) × ApartNow bytes s t c i)
 
 pub record ShownTwo (k : ℕ) (bytes : List ℕ) (f : Scan) (r : PathRefusal) (x y : Member) : Type 0 where
   pub behind : ℕ

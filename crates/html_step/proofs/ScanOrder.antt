@@ -5,7 +5,7 @@ use Rattle.place_core.specs.page.Classes.{Class, White, ExclamationMark, Quotati
 use Rattle.place_core.specs.page.Contents.{is_name_of, may_be_name_of, pending_bytes}
 use Rattle.place_core.specs.page.States.{Pending, Nothing, PendingLess, LessAtCut, PendingName, PendingBang, PendingBangDash}
 use Rattle.place_core.specs.place.Errors.{PathCause, at_hand, attribute_name_error, bare_error, body_error, comment_error, content_error, equals_error, first_cause, first_error, kind_error, quotes_error, language_error, tag_error, unless_second, value_error, block_error, cut_cause, end_name_error, less_error, loose_byte_error, pending_error, released_error, split_error}
-use Rattle.place_core.specs.place.Places.{Below, Has, IsValid, IsValidQuotes, IsValidTag, both_bare, is_whole, joined_kinds, joined_quotes, joined_bodies, quotes_have, some_bare, typed_has}
+use Rattle.place_core.specs.place.Places.{Below, Has, IsValid, IsValidBody, IsValidQuotes, IsValidTag, both_bare, is_whole, joined_kinds, joined_quotes, joined_bodies, quotes_have, some_bare, typed_has}
 use Rattle.place_core.specs.place.StatePlaces.{only_after, only_before, only_inside, unbegun}
 use Rattle.place_core.specs.page.Words.{kind_of}
 use Rattle.place_core.specs.declared.bare.Bare.{Bare}
@@ -16,6 +16,7 @@ use Rattle.place_core.specs.declared.code.Code.TheVariants as code
 use Rattle.place_core.specs.declared.css.Css.{Css}
 use Rattle.place_core.specs.declared.element.Element.{Element}
 use Rattle.place_core.specs.declared.element.Element.TheVariants as element
+use Rattle.place_core.specs.declared.js.Js.{Js}
 use Rattle.place_core.specs.declared.kind.Kind.{Kind}
 use Rattle.place_core.specs.declared.kind.Kind.TheVariants as kind
 use Rattle.place_core.specs.declared.member.Member.{Member}
@@ -31,12 +32,19 @@ use Rattle.place_core.specs.declared.value_place.ValuePlace.{ValuePlace}
 use Rattle.place_core.proofs.JoinParts.{kinds_partial}
 use Rattle.place_core.proofs.Joins.{places_same}
 use Rattle.place_core.proofs.Semilattices.{no_map, none_some, one_value, row_value}
-use Rattle.html_scan.specs.Scans.{Scan, At, AfterLess, AfterLessSolidus, InDeclaration, InTagName, InAttributeName, InUrl, InStyle, InStyleElement, InCommentEnd, InContentEnd, element_cause, element_less_next, element_name_next, element_next, element_pending_next, element_scan, released_next, style_less_cause, style_less_cut, after_white, bare_begun, attribute_name_next, bare_white, comment_next, comment_state, content_scan, scan_next, scan_error, scan_place, scan_cut_error, scan_lexeme_error, in_tag, tag_next, typed_with, value_scan, with_quotes, BeforeType, InType, rest_place, content_next, parts_feeding, triple_behind, url_scan, with_parts, value_fed, value_next, quoted_error, body_cause, value_cause, place_cause, parts_with, with_body, open_cut_error, bare_leads, empty_style_between, quotes_lead, style_cause, style_fed, style_feeding, style_scan, style_value_next, value_between, with_style}
+use Rattle.html_scan.specs.Scans.{Scan, At, AfterLess, AfterLessSolidus, InDeclaration, InTagName, InAttributeName, InUrl, InStyle, InScript, InStyleElement, InCommentEnd, InContentEnd, element_cause, element_less_next, element_name_next, element_next, element_pending_next, element_scan, released_next, style_less_cause, style_less_cut, after_white, bare_begun, attribute_name_next, bare_white, comment_next, comment_state, content_scan, scan_next, scan_error, scan_place, scan_cut_error, scan_lexeme_error, in_tag, tag_next, typed_with, value_scan, with_quotes, BeforeType, InType, rest_place, content_next, parts_feeding, triple_behind, url_scan, with_parts, value_fed, value_next, quoted_error, body_cause, value_cause, place_cause, parts_with, with_body, open_cut_error, bare_leads, empty_style_between, quotes_lead, style_cause, style_fed, style_feeding, style_scan, style_value_next, value_between, with_style, empty_script_between, script_cause, script_fed_next, script_feeding, script_value_next, with_script}
 use Rattle.html_step.proofs.ContentsAlike.{content-beside, released-beside}
 use Rattle.html_step.proofs.ElementsBelow.{ElementUnder, under-element}
 use Rattle.html_step.proofs.PathScans.{none-at-hand, none-unless, some}
 use Rattle.html_step.proofs.PlaceParts.{Under, under-false, under-same, under-both, TagBelow, ValueBelow, below-tag, tag-below, below-value, value-below, below-rcdata, same-kinds}
 use Rattle.html_step.proofs.FedAlike.{BegunIf, FedBeside, GoesOn, bare-beside, bare-undone, fed-beside, first-caused, language-beside, undone-beside}
+use Rattle.html_step.proofs.ScriptOrder.{ScriptUnder, under_same, below-js, script-grows, scripts-beside, scripts-in-order}
+use Rattle.html_step.proofs.ScriptPaths.{empty_js}
+use Rattle.js_step.specs.ScriptOrigins.{script_set_has}
+use Rattle.js_lexer.specs.Refusals.{Cause}
+use Rattle.js_step.specs.ScriptSetLaws.{ScriptBelow}
+use Rattle.js_step.specs.ScriptScans.{ScriptScan, script_scan_cut_error, script_scan_end_error, script_scan_place, script_scan_start}
+use Rattle.js_step.specs.ScriptValidity.{IsScriptScan}
 use Rattle.html_step.proofs.StyleOrder.{below-css, css-below, scan-below-start, scan-of-start, starts-below, styles-beside}
 use Rattle.html_step.proofs.StylePaths.{empty_css, style_unfinished}
 use Rattle.css_lexer.specs.Elements.{less_than_cut_escape}
@@ -64,6 +72,13 @@ pub record StyleValueBelow (v w : ValuePlace) (n m : StyleScan) : Type 0 where
   pub quotes : joined_quotes v.quotes w.quotes ≡ Some w.quotes
   pub scan : StyleScanBelow n m
 
+-- Two values that are scripts, behind a byte of them.
+pub record ScriptValueBelow (v w : ValuePlace) (n m : ScriptScan) : Type 0 where
+  pub tag : v.tag ≡ w.tag
+  pub typed : Under v.typed w.typed
+  pub quotes : joined_quotes v.quotes w.quotes ≡ Some w.quotes
+  pub scan : ScriptUnder n m
+
 -- A lexeme of a style may be below a place: a word of this text, where some path has one from before it. The other way a place is below none.
 abbrev pub StyleUnderBody : ValuePlace → StyleScan → ValuePlace → Body → Type 0
 StyleUnderBody v n w (body.Css c) = StyleValueBelow v w n (style_scan_start c)
@@ -88,6 +103,8 @@ ScanBelow (InAttributeName t x n) g = ⊥
 ScanBelow (InUrl v t r) (InUrl w u z) = ValueBelow v w × (t ≡ u) × (r ≡ z)
 ScanBelow (InUrl v t r) g = ⊥
 ScanBelow (InStyle v s r) g = StyleUnder v s r g
+ScanBelow (InScript v n r) (InScript w m z) = ScriptValueBelow v w n m × (r ≡ z)
+ScanBelow (InScript v n r) g = ⊥
 ScanBelow (InStyleElement s h) g = ElementUnder s h g
 ScanBelow AfterLess g = AfterLess ≡ g
 ScanBelow AfterLessSolidus g = AfterLessSolidus ≡ g
@@ -122,6 +139,7 @@ abbrev pub ScanValid : Scan → Type 0
 ScanValid (At p) = IsValid p
 ScanValid (InUrl v t r) = HasBegun v.quotes × UrlWithin v.body
 ScanValid (InStyle v s r) = HasBegun v.quotes × (v.body ≡ body.Css empty_css) × IsValidCss (style_scan_place s)
+ScanValid (InScript v n r) = HasBegun v.quotes × (v.body ≡ body.Js empty_js) × IsScriptScan n
 ScanValid (InContentEnd e h) = IsValid (rest_place e)
 ScanValid (InStyleElement s h) = IsValidCss (style_scan_place s) × IsPendingName h
 ScanValid f = Unit {0}
@@ -130,6 +148,7 @@ abbrev pub ScanHas : Scan → Member → Type 0
 ScanHas (At p) m = Has p m
 ScanHas (InUrl v t r) m = Has (place.Value v) m
 ScanHas (InStyle v s r) m = (is_whole m || (typed_has v.typed m || (quotes_have v.quotes m || scan_set_has s m))) ≡ true
+ScanHas (InScript v n r) m = (is_whole m || (typed_has v.typed m || (quotes_have v.quotes m || script_set_has n m))) ≡ true
 ScanHas (InAttributeName t typed name) m = (is_whole m || typed_has typed m) ≡ true
 ScanHas (InStyleElement s h) m = style_scan_has s m ≡ true
 ScanHas f m = is_whole m ≡ true
@@ -137,11 +156,15 @@ ScanHas f m = is_whole m ≡ true
 style-value-same : (v : ValuePlace) (n : StyleScan) → StyleValueBelow v v n n
 style-value-same v n = (let h = below-value v v (places_same (place.Value v)) in record { tag = h.tag; typed = h.typed; quotes = h.quotes; scan = below_itself n })
 
+script-value-same : (v : ValuePlace) (n : ScriptScan) → ScriptValueBelow v v n n
+script-value-same v n = (let h = below-value v v (places_same (place.Value v)) in record { tag = h.tag; typed = h.typed; quotes = h.quotes; scan = under_same refl })
+
 pub scan-same : (f : Scan) → ScanBelow f f
 scan-same (At p) = places_same p
 scan-same (InAttributeName t x n) = (refl, under-same x, refl)
 scan-same (InUrl v t r) = (below-value v v (places_same (place.Value v)), refl, refl)
 scan-same (InStyle v s r) = (style-value-same v s, refl)
+scan-same (InScript v n r) = (script-value-same v n, refl)
 scan-same AfterLess = refl
 scan-same AfterLessSolidus = refl
 scan-same (InDeclaration pending) = refl
@@ -175,7 +198,7 @@ begins-same : (t u : TagOf) (x y : Bool) (k : Kind) → kind_error k ≡ None �
 begins-same t u x y kind.Plain n e f = value-from t u x y unbegun unbegun body.Plain body.Plain e f refl refl
 begins-same t u x y kind.NoHole n e f = value-from t u x y unbegun unbegun body.NoHole body.NoHole e f refl refl
 begins-same t u x y kind.Url n e f = value-from t u x y unbegun unbegun (body.Url (parts_of UrlStart)) (body.Url (parts_of UrlStart)) e f refl refl
-begins-same t u x y kind.Script n e f = absurd (some _ n)
+begins-same t u x y kind.Script n e f = value-from t u x y unbegun unbegun (body.Js empty_js) (body.Js empty_js) e f refl refl
 begins-same t u x y kind.Style n e f = value-from t u x y unbegun unbegun (body.Css empty_css) (body.Css empty_css) e f refl refl
 begins-same t u x y kind.ScriptType n e f = ap BeforeType e
 
@@ -248,13 +271,13 @@ plain-same body.Plain h = refl
 plain-same _ h = absurd (none_some body.Plain h)
 
 pub body-accepts : (b c : Body) → joined_bodies b c ≡ Some c → body_error c ≡ None → body_error b ≡ None
-body-accepts b (body.Js j) h n = absurd (some _ n)
-body-accepts (body.Js j) c h n = absurd (none_some c h)
+body-accepts (body.Js j) c h n = refl
 body-accepts _ c h n = refl
 
--- a value that is no style
+-- a value that is neither a style nor a script
 abbrev pub Unstyled : Body → Type 0
 Unstyled (body.Css c) = ⊥
+Unstyled (body.Js j) = ⊥
 Unstyled b = Unit {0}
 
 pub within-unstyled : (b : Body) → UrlWithin b → Unstyled b
@@ -386,6 +409,7 @@ element-grows h c b n m l e = (content-beside styles-beside element.Style h c b 
 -- The two bodies of values behind the bytes that they are fed.
 abbrev FedGoes : Body → Body → List ℕ → Type 0
 FedGoes (body.Css c) (body.Css d) bytes = StyleScanBelow (feed_bytes style_feeding (style_scan_start c) bytes) (feed_bytes style_feeding (style_scan_start d) bytes)
+FedGoes (body.Js c) (body.Js d) bytes = ScriptUnder (feed_bytes script_feeding (script_scan_start c) bytes) (feed_bytes script_feeding (script_scan_start d) bytes)
 FedGoes b c bytes = FedBelow b c bytes
 
 fed-next : (x y : ValuePlace) (q : Quotes) (b d : Body) (t : Triple) (r : Reference) (c : Class) (byte : ℕ) → ValueBelow x y → joined_quotes q q ≡ Some q
@@ -404,6 +428,9 @@ fed-next x y q (body.Css p) (body.Css d) t r c byte h e k f =
     (record { tag = h.tag; typed = h.typed; quotes = e; scan = f })
 fed-next x y q (body.Css p) d t r c byte h e k f = absurd (none_some d k)
 fed-next x y q b (body.Css p) t r c byte h e k f = absurd (none_some (body.Css p) k)
+fed-next x y q (body.Js p) (body.Js d) t r c byte h e k f = (record { tag = h.tag; typed = h.typed; quotes = e; scan = f }, refl)
+fed-next x y q (body.Js p) d t r c byte h e k f = absurd (none_some d k)
+fed-next x y q b (body.Js p) t r c byte h e k f = absurd (none_some (body.Js p) k)
 fed-next x y q _ d t r c byte h e k f = value-goes x y q h e
 
 abbrev pub BegunWhereOpen : Reference → Quotes → Type 0
@@ -459,28 +486,36 @@ quoted-goes f (quotes.Bare x) quotes.Sq r c b s t j v h g n = absurd (none_some 
 pub starts-in-order : (c d : Css) → joined_bodies (body.Css c) (body.Css d) ≡ Some (body.Css d) → StyleScanBelow (style_scan_start c) (style_scan_start d)
 starts-in-order c d h = (styles-grow.places c d (css-below c d h)).start
 
-pub cause-accepts : (b d : Body) (q p : Quotes) (r : Reference) (c : Class) (byte : ℕ) → joined_bodies b d ≡ Some d → joined_quotes q p ≡ Some p
+pub cause-accepts : (b d : Body) (q p : Quotes) (r : Reference) (c : Class) (byte : ℕ) → IsValidBody b → joined_bodies b d ≡ Some d → joined_quotes q p ≡ Some p
     → BegunWhereOpen r q → body_cause d p r c byte ≡ None → body_cause b q r c byte ≡ None
-cause-accepts (body.Url s) (body.Url t) q p r c byte h j v n = quoted-takes parts-beside q p r c byte s t j v (parts-below s t h) n
-cause-accepts (body.Url s) d q p r c byte h j v n = absurd (none_some d h)
-cause-accepts b (body.Url t) q p r c byte h j v n = absurd (none_some (body.Url t) h)
-cause-accepts (body.Css s) (body.Css t) q p r c byte h j v n =
+cause-accepts (body.Url s) (body.Url t) q p r c byte w h j v n = quoted-takes parts-beside q p r c byte s t j v (parts-below s t h) n
+cause-accepts (body.Url s) d q p r c byte w h j v n = absurd (none_some d h)
+cause-accepts b (body.Url t) q p r c byte w h j v n = absurd (none_some (body.Url t) h)
+cause-accepts (body.Css s) (body.Css t) q p r c byte w h j v n =
     quoted-takes styles-beside q p r c byte (style_scan_start s) (style_scan_start t) j v (starts-in-order s t h) n
-cause-accepts (body.Css s) d q p r c byte h j v n = absurd (none_some d h)
-cause-accepts b (body.Css t) q p r c byte h j v n = absurd (none_some (body.Css t) h)
-cause-accepts _ d q p r c byte h j v n = refl
+cause-accepts (body.Css s) d q p r c byte w h j v n = absurd (none_some d h)
+cause-accepts b (body.Css t) q p r c byte w h j v n = absurd (none_some (body.Css t) h)
+cause-accepts (body.Js s) (body.Js t) q p r c byte w h j v n =
+    quoted-takes scripts-beside q p r c byte (script_scan_start s) (script_scan_start t) j v (scripts-in-order s t w h) n
+cause-accepts (body.Js s) d q p r c byte w h j v n = absurd (none_some d h)
+cause-accepts b (body.Js t) q p r c byte w h j v n = absurd (none_some (body.Js t) h)
+cause-accepts _ d q p r c byte w h j v n = refl
 
-fed-goes : (b d : Body) (q p : Quotes) (r : Reference) (c : Class) (byte : ℕ) → joined_bodies b d ≡ Some d → joined_quotes q p ≡ Some p
+fed-goes : (b d : Body) (q p : Quotes) (r : Reference) (c : Class) (byte : ℕ) → IsValidBody b → joined_bodies b d ≡ Some d → joined_quotes q p ≡ Some p
     → BegunWhereOpen r q → GoesIn p c → body_cause d p r c byte ≡ None → FedGoes b d (undone_byte true r c byte)
-fed-goes (body.Url s) (body.Url t) q p r c byte h j v g n =
+fed-goes (body.Url s) (body.Url t) q p r c byte w h j v g n =
     ap (λ (z : Parts). Some (body.Url z)) (quoted-goes parts-beside q p r c byte s t j v (parts-below s t h) g n)
-fed-goes (body.Url s) d q p r c byte h j v g n = absurd (none_some d h)
-fed-goes b (body.Url t) q p r c byte h j v g n = absurd (none_some (body.Url t) h)
-fed-goes (body.Css s) (body.Css t) q p r c byte h j v g n =
+fed-goes (body.Url s) d q p r c byte w h j v g n = absurd (none_some d h)
+fed-goes b (body.Url t) q p r c byte w h j v g n = absurd (none_some (body.Url t) h)
+fed-goes (body.Css s) (body.Css t) q p r c byte w h j v g n =
     quoted-goes styles-beside q p r c byte (style_scan_start s) (style_scan_start t) j v (starts-in-order s t h) g n
-fed-goes (body.Css s) d q p r c byte h j v g n = absurd (none_some d h)
-fed-goes b (body.Css t) q p r c byte h j v g n = absurd (none_some (body.Css t) h)
-fed-goes _ d q p r c byte h j v g n = h
+fed-goes (body.Css s) d q p r c byte w h j v g n = absurd (none_some d h)
+fed-goes b (body.Css t) q p r c byte w h j v g n = absurd (none_some (body.Css t) h)
+fed-goes (body.Js s) (body.Js t) q p r c byte w h j v g n =
+    quoted-goes scripts-beside q p r c byte (script_scan_start s) (script_scan_start t) j v (scripts-in-order s t w h) g n
+fed-goes (body.Js s) d q p r c byte w h j v g n = absurd (none_some d h)
+fed-goes b (body.Js t) q p r c byte w h j v g n = absurd (none_some (body.Js t) h)
+fed-goes _ d q p r c byte w h j v g n = h
 
 -- A byte of a value, by its quotes: where it goes on, and, before it begins, where it still does.
 abbrev pub NotBegun : Quotes → Type 0
@@ -547,20 +582,20 @@ both-none o p e f = ap (λ (z : Option Code). first_error z p) e ∙ f
 causes-none : (o : Option PathCause) (p : Option Code) → o ≡ None → p ≡ None → first_cause o (at_hand p) ≡ None
 causes-none o p e f = ap (λ (z : Option PathCause). first_cause z (at_hand p)) e ∙ ap at_hand f
 
-value-grows : (x y : ValuePlace) (t : Triple) (r : Reference) (c : Class) (b : ℕ) → IsValidQuotes x.quotes → BegunWhereOpen r x.quotes → ValueBelow x y
+value-grows : (x y : ValuePlace) (t : Triple) (r : Reference) (c : Class) (b : ℕ) → IsValidQuotes x.quotes → IsValidBody x.body → BegunWhereOpen r x.quotes → ValueBelow x y
     → value_cause y r c b ≡ None
     → (value_cause x r c b ≡ None) × ScanBelow (value_next x t r c b) (value_next y t r c b)
-value-grows x y t r c b v i h n =
+value-grows x y t r c b v w i h n =
     let m = first-caused (body_cause y.body y.quotes r c b) (at_hand (value_error y c)) n in
     let e = first-none (body_error y.body) (quotes_error y.tag y.quotes c) (none-at-hand (value_error y c) m.1) in
     let leads : Leads x y x.quotes y.quotes c (λ z. value_fed x z x.body t r c b) (λ z. value_fed y z y.body t r c b) = record {
       tag = h.tag;
       typed = h.typed;
       kept = λ z k a. value-goes x y z h k;
-      goes = λ z k a. fed-next x y z x.body y.body t r c b h k h.body (fed-goes x.body y.body x.quotes y.quotes r c b h.body h.quotes i a m.0);
+      goes = λ z k a. fed-next x y z x.body y.body t r c b h k h.body (fed-goes x.body y.body x.quotes y.quotes r c b w h.body h.quotes i a m.0);
     } in
     let g = quotes-grow x y x.quotes y.quotes c (λ z. value_fed x z x.body t r c b) (λ z. value_fed y z y.body t r c b) v leads h.quotes e.1 in (
-      causes-none (body_cause x.body x.quotes r c b) (value_error x c) (cause-accepts x.body y.body x.quotes y.quotes r c b h.body h.quotes i m.0)
+      causes-none (body_cause x.body x.quotes r c b) (value_error x c) (cause-accepts x.body y.body x.quotes y.quotes r c b w h.body h.quotes i m.0)
           (both-none (body_error x.body) (quotes_error x.tag x.quotes c) (body-accepts x.body y.body h.body e.0) g.0),
       g.1,
     )
@@ -589,6 +624,30 @@ style-byte x y n m r c b g v w h goes e =
     } in
     let l = quotes-grow x y x.quotes y.quotes c (λ z. style_fed (value_between x z) n r c b) g (begun-valid x.quotes v) leads h.quotes k.1 in (
       causes-none (quoted_error style_feeding x.quotes n r c b) (value_error x c) (quoted-takes styles-beside x.quotes y.quotes r c b n m h.quotes i h.scan d.0)
+          (both-none (body_error x.body) (quotes_error x.tag x.quotes c) w l.0),
+      l.1,
+    )
+
+-- In a script behind a byte of this text: a byte of the value below.
+script-byte : (x y : ValuePlace) (n m : ScriptScan) (r : Reference) (c : Class) (b : ℕ) → HasBegun x.quotes → body_error x.body ≡ None
+    → ScriptValueBelow x y n m → script_cause y m r c b ≡ None
+    → (script_cause x n r c b ≡ None) × ScanBelow (script_value_next x n r c b) (script_value_next y m r c b)
+script-byte x y n m r c b v w h e =
+    let d = first-caused (quoted_error script_feeding y.quotes m r c b) (at_hand (value_error y c)) e in
+    let k = first-none (body_error y.body) (quotes_error y.tag y.quotes c) (none-at-hand (value_error y c) d.1) in
+    let i = begun-open r x.quotes v in
+    let leads : Leads x y x.quotes y.quotes c (λ z. script_fed_next (value_between x z) n r c b) (λ z. script_fed_next (value_between y z) m r c b) = record {
+      tag = h.tag;
+      typed = h.typed;
+      kept = λ z l a. absurd (begun-not x.quotes v a);
+      goes = λ z l a. (
+        record { tag = h.tag; typed = h.typed; quotes = l; scan = (quoted-goes scripts-beside x.quotes y.quotes r c b n m h.quotes i h.scan a d.0) },
+        refl,
+      );
+    } in
+    let l = quotes-grow x y x.quotes y.quotes c (λ z. script_fed_next (value_between x z) n r c b) (λ z. script_fed_next (value_between y z) m r c b)
+    (begun-valid x.quotes v) leads h.quotes k.1 in (
+      causes-none (quoted_error script_feeding x.quotes n r c b) (value_error x c) (quoted-takes scripts-beside x.quotes y.quotes r c b n m h.quotes i h.scan d.0)
           (both-none (body_error x.body) (quotes_error x.tag x.quotes c) w l.0),
       l.1,
     )
@@ -651,7 +710,7 @@ place-grows (place.Rcdata e) (place.Rcdata f) c b v h n = same-grows (At (place.
 place-grows (place.Rcdata e) y c b v h n = absurd (none_some y h)
 place-grows (place.Tag x) (place.Tag y) c b v h n = let g = tag-grows x y c b v (below-tag x y h) (none-at-hand (tag_error y c) n) in (hand-none (tag_error x c) g.0, g.1)
 place-grows (place.Tag x) y c b v h n = absurd (none_some y h)
-place-grows (place.Value x) (place.Value y) c b v h n = value-grows x y NoTriple Closed c b v.0 tt (below-value x y h) n
+place-grows (place.Value x) (place.Value y) c b v h n = value-grows x y NoTriple Closed c b v.0 v.1 tt (below-value x y h) n
 place-grows (place.Value x) y c b v h n = absurd (none_some y h)
 place-grows x (place.Script j) c b v h n = absurd (some _ n)
 place-grows (place.Script i) y c b v h n = absurd (none_some y h)
@@ -695,14 +754,18 @@ attribute-grows t u x y m n c b e h f o =
     subst (λ (v : TagOf). scan_error (InAttributeName v y n) c b ≡ None → Grows (InAttributeName t x m) (InAttributeName v y n) c b) e
     (λ o. subst (λ (l : List ℕ). scan_error (InAttributeName t y l) c b ≡ None → Grows (InAttributeName t x m) (InAttributeName t y l) c b) f (λ o. name-grows t x y (kind_of (element_on t) m) m c b h o) o) o
 
+within-body : (b : Body) → UrlWithin b → IsValidBody b
+within-body (body.Url s) w = w
+within-body _ w = absurd w
+
 -- in a URL
-url-grows : (x y : ValuePlace) (t u : Triple) (r z : Reference) (c : Class) (b : ℕ) → HasBegun x.quotes → ValueBelow x y → t ≡ u → r ≡ z
+url-grows : (x y : ValuePlace) (t u : Triple) (r z : Reference) (c : Class) (b : ℕ) → HasBegun x.quotes → IsValidBody x.body → ValueBelow x y → t ≡ u → r ≡ z
     → scan_error (InUrl y u z) c b ≡ None
     → Grows (InUrl x t r) (InUrl y u z) c b
-url-grows x y t u r z c b v h e f n =
+url-grows x y t u r z c b v w h e f n =
     subst (λ (k : Triple). Grows (InUrl x t r) (InUrl y k z) c b) e
     (subst (λ (k : Reference). scan_error (InUrl y u k) c b ≡ None → Grows (InUrl x t r) (InUrl y t k) c b) f
-    (λ n. value-grows x y t r c b (begun-valid x.quotes v) (begun-open r x.quotes v) h n) n)
+    (λ n. value-grows x y t r c b (begun-valid x.quotes v) w (begun-open r x.quotes v) h n) n)
 
 -- in a style
 abbrev pub HasCss : Body → Css → Type 0
@@ -761,6 +824,16 @@ under-place-grows x n r (place.Script d) c b v w h e k = absurd h
 under-place-grows x n r (place.Style d) c b v w h e k = absurd h
 under-place-grows x n r (place.Block d) c b v w h e k = absurd h
 
+-- in a script behind a byte of the text
+within-js : (x : ValuePlace) → x.body ≡ body.Js empty_js → body_error x.body ≡ None
+within-js x e = ap body_error e
+
+script-by : (x y : ValuePlace) (n m : ScriptScan) (r z : Reference) (c : Class) (b : ℕ) → HasBegun x.quotes → x.body ≡ body.Js empty_js
+    → ScriptValueBelow x y n m → r ≡ z → scan_error (InScript y m z) c b ≡ None → Grows (InScript x n r) (InScript y m z) c b
+script-by x y n m r z c b v w h e k =
+    subst (λ (o : Reference). scan_error (InScript y m o) c b ≡ None → Grows (InScript x n r) (InScript y m o) c b) e
+    (λ k. script-byte x y n m r c b v (within-js x w) h k) k
+
 -- in the element, from what is below
 element-grows-to : (s : StyleScan) (x : Pending) (g : Scan) (c : Class) (b : ℕ) → ElementUnder s x g → scan_error g c b ≡ None → Grows (InStyleElement s x) g c b
 element-grows-to s x g c b u n =
@@ -781,6 +854,7 @@ scan-grows (At x) (InStyleElement e y) c b v h n = absurd h
 scan-grows (At x) (BeforeType t) c b v h n = absurd h
 scan-grows (At x) (InType t q w r) c b v h n = absurd h
 scan-grows (At x) (InStyle w s r) c b v h n = absurd h
+scan-grows (At x) (InScript w s r) c b v h n = absurd h
 scan-grows (InAttributeName t x m) (InAttributeName u y l) c b v h n = attribute-grows t u x y m l c b h.0 h.1 h.2 n
 scan-grows (InAttributeName t x m) (At y) c b v h n = absurd h
 scan-grows (InAttributeName t x m) AfterLess c b v h n = absurd h
@@ -793,9 +867,10 @@ scan-grows (InAttributeName t x m) (InStyleElement e y) c b v h n = absurd h
 scan-grows (InAttributeName t x m) (BeforeType u) c b v h n = absurd h
 scan-grows (InAttributeName t x m) (InType u q w r) c b v h n = absurd h
 scan-grows (InAttributeName t x m) (InStyle w s r) c b v h n = absurd h
+scan-grows (InAttributeName t x m) (InScript w s r) c b v h n = absurd h
 scan-grows (At x) (InUrl y t r) c b v h n = absurd h
 scan-grows (InAttributeName t x m) (InUrl y u r) c b v h n = absurd h
-scan-grows (InUrl x t r) (InUrl y u z) c b v h n = url-grows x y t u r z c b v.0 h.0 h.1 h.2 n
+scan-grows (InUrl x t r) (InUrl y u z) c b v h n = url-grows x y t u r z c b v.0 (within-body x.body v.1) h.0 h.1 h.2 n
 scan-grows (InUrl x t r) (At y) c b v h n = absurd h
 scan-grows (InUrl x t r) AfterLess c b v h n = absurd h
 scan-grows (InUrl x t r) AfterLessSolidus c b v h n = absurd h
@@ -808,6 +883,7 @@ scan-grows (InUrl x t r) (InStyleElement e y) c b v h n = absurd h
 scan-grows (InUrl x t r) (BeforeType u) c b v h n = absurd h
 scan-grows (InUrl x t r) (InType u q w z) c b v h n = absurd h
 scan-grows (InUrl x t r) (InStyle w s z) c b v h n = absurd h
+scan-grows (InUrl x t r) (InScript w s z) c b v h n = absurd h
 scan-grows (InStyle x s r) (InStyle y m z) c b v h n = style-by x y s m r z c b v.0 v.1 h.0 h.1 n
 scan-grows (InStyle x s r) (At p) c b v h n = under-place-grows x s r p c b v.0 v.1 h.0 h.1 n
 scan-grows (InStyle x s r) AfterLess c b v h n = absurd h
@@ -821,6 +897,21 @@ scan-grows (InStyle x s r) (InStyleElement d e) c b v h n = absurd h
 scan-grows (InStyle x s r) (BeforeType d) c b v h n = absurd h
 scan-grows (InStyle x s r) (InType d e k l) c b v h n = absurd h
 scan-grows (InStyle x s r) (InUrl d e k) c b v h n = absurd h
+scan-grows (InStyle x s r) (InScript d e k) c b v h n = absurd h
+scan-grows (InScript x s r) (InScript y m z) c b v h n = script-by x y s m r z c b v.0 v.1 h.0 h.1 n
+scan-grows (InScript x s r) (At p) c b v h n = absurd h
+scan-grows (InScript x s r) AfterLess c b v h n = absurd h
+scan-grows (InScript x s r) AfterLessSolidus c b v h n = absurd h
+scan-grows (InScript x s r) (InDeclaration d) c b v h n = absurd h
+scan-grows (InScript x s r) (InTagName d e) c b v h n = absurd h
+scan-grows (InScript x s r) (InAttributeName d e k) c b v h n = absurd h
+scan-grows (InScript x s r) (InCommentEnd d) c b v h n = absurd h
+scan-grows (InScript x s r) (InContentEnd d e) c b v h n = absurd h
+scan-grows (InScript x s r) (InStyleElement d e) c b v h n = absurd h
+scan-grows (InScript x s r) (BeforeType d) c b v h n = absurd h
+scan-grows (InScript x s r) (InType d e k l) c b v h n = absurd h
+scan-grows (InScript x s r) (InUrl d e k) c b v h n = absurd h
+scan-grows (InScript x s r) (InStyle d e k) c b v h n = absurd h
 scan-grows AfterLess g c b v h n = same-grows AfterLess g c b h n
 scan-grows AfterLessSolidus g c b v h n = same-grows AfterLessSolidus g c b h n
 scan-grows (InDeclaration pending) g c b v h n = same-grows (InDeclaration pending) g c b h n
@@ -833,17 +924,22 @@ scan-grows (InType t q w r) g c b v h n = same-grows (InType t q w r) g c b h n
 
 -- The end of a text.
 
-abbrev Ends : Scan → Scan → Type 0
-Ends f g = (scan_cut_error f ≡ None) × (scan_lexeme_error f ≡ None) × Below (scan_place f) (scan_place g)
+-- what a script refuses there
+abbrev pub script_cut : Scan → Option Cause
+script_cut (InScript v n r) = script_scan_cut_error (feed_bytes script_feeding n (as_it_stands r))
+script_cut f = None
 
-same-ends : (f g : Scan) → f ≡ g → scan_cut_error g ≡ None → scan_lexeme_error g ≡ None → Ends f g
-same-ends f g e n m =
-    (ap scan_cut_error e ∙ n, ap scan_lexeme_error e ∙ m, subst (λ (h : Scan). Below (scan_place f) (scan_place h)) e (places_same (scan_place f)))
+abbrev Ends : Scan → Scan → Type 0
+Ends f g = (scan_cut_error f ≡ None) × (scan_lexeme_error f ≡ None) × Below (scan_place f) (scan_place g) × (script_cut f ≡ None)
+
+same-ends : (f g : Scan) → f ≡ g → scan_cut_error g ≡ None → scan_lexeme_error g ≡ None → script_cut f ≡ None → Ends f g
+same-ends f g e n m o =
+    (ap scan_cut_error e ∙ n, ap scan_lexeme_error e ∙ m, subst (λ (h : Scan). Below (scan_place f) (scan_place h)) e (places_same (scan_place f)), o)
 
 name-ends : (t : TagOf) (x y : Bool) (m : List ℕ) → Under x y → scan_cut_error (InAttributeName t y m) ≡ None → Ends (InAttributeName t x m) (InAttributeName t y m)
 name-ends t x y m u n =
     let k = kind_of (element_on t) m in
-    (unless-grows x y (length m) None k u n, refl, one-spot t t (typed_with t x k) (typed_with t y k) only_inside (Some k) refl (typed-under t x y k u))
+    (unless-grows x y (length m) None k u n, refl, one-spot t t (typed_with t x k) (typed_with t y k) only_inside (Some k) refl (typed-under t x y k u), refl)
 
 attribute-ends : (t u : TagOf) (x y : Bool) (m l : List ℕ) → t ≡ u → Under x y → m ≡ l → scan_cut_error (InAttributeName u y l) ≡ None → Ends (InAttributeName t x m) (InAttributeName u y l)
 attribute-ends t u x y m l e h f n =
@@ -868,7 +964,7 @@ url-ends : (x y : ValuePlace) (t u : Triple) (r z : Reference) → ValueBelow x 
 url-ends x y t u r z h e f n m =
     subst (λ (k : Triple). scan_lexeme_error (InUrl y k z) ≡ None → Ends (InUrl x t r) (InUrl y k z)) e
     (subst (λ (k : Reference). scan_cut_error (InUrl y u k) ≡ None → scan_lexeme_error (InUrl y t k) ≡ None → Ends (InUrl x t r) (InUrl y t k)) f
-    (λ n m. let d = body-ends x.body y.body (as_it_stands r) h.body n in (d.0, m, url-place x y (as_it_stands r) h d.1)) n) m
+    (λ n m. let d = body-ends x.body y.body (as_it_stands r) h.body n in (d.0, m, url-place x y (as_it_stands r) h d.1, refl)) n) m
 
 -- a style in which a text ends
 style-place : (x y : ValuePlace) (n : StyleScan) (d : Css) → HasCss y.body d → StyleValueBelow x y n (style_scan_start d) → Below (with_style x n) (place.Value y)
@@ -884,7 +980,7 @@ style-at-ends : (x y : ValuePlace) (n : StyleScan) (r : Reference) → StyleUnde
 style-at-ends x y n r h e =
     let d = under-body x n y y.body h in
     subst (λ (o : Reference). Ends (InStyle x n o) (At (place.Value y))) (sym e)
-    (refl, unfinished-none n (scan-below-start n d.0 d.2.scan).0, style-place x y n d.0 d.1 d.2)
+    (refl, unfinished-none n (scan-below-start n d.0 d.2.scan).0, style-place x y n d.0 d.1 d.2, refl)
 
 under-place-ends : (x : ValuePlace) (n : StyleScan) (r : Reference) (p : Place) → StyleUnderPlace x n p → r ≡ Closed → Ends (InStyle x n r) (At p)
 under-place-ends x n r (place.Value y) h e = style-at-ends x y n r h e
@@ -908,6 +1004,7 @@ style-ends x y n m r h e f =
       g.0,
       unfinished-none a ((styles-grow.scans a d g.1).cut_error ∙ k),
       style-places x y a d (record { tag = h.tag; typed = h.typed; quotes = h.quotes; scan = g.1 }),
+      refl,
     )
 
 style-ends-by : (x y : ValuePlace) (n m : StyleScan) (r z : Reference) → StyleValueBelow x y n m → r ≡ z → scan_cut_error (InStyle y m z) ≡ None
@@ -956,12 +1053,13 @@ element-cut-grows h n m l e f =
       ap (λ (o : Option PathCause). first_cause o (split_error style_less_cause n h)) g.0 ∙ split-grows h n m l p.1,
       unfinished-none a ((styles-grow.scans a d g.1).cut_error ∙ k),
       style-place-below (style_scan_place a) (style_scan_place d) (styles-grow.scans a d g.1).place,
+      refl,
     )
 
 element-start-ends : (n : StyleScan) (d : Css) → StyleScanBelow n (style_scan_start d) → Ends (InStyleElement n Nothing) (At (place.Style d))
 element-start-ends n d l =
     let g = scan-below-start n d l in
-    (refl, unfinished-none n g.0, style-place-below (style_scan_place n) d g.1)
+    (refl, unfinished-none n g.0, style-place-below (style_scan_place n) d g.1, refl)
 
 element-ends-to : (s : StyleScan) (x : Pending) (g : Scan) → ElementUnder s x g → scan_cut_error g ≡ None → scan_lexeme_error g ≡ None → Ends (InStyleElement s x) g
 element-ends-to s x g u n o =
@@ -969,65 +1067,106 @@ element-ends-to s x g u n o =
     (λ m l e k. element-cut-grows x s m l e k)
     (λ d i l e k. subst (λ (z : Pending). Ends (InStyleElement s z) (At (place.Style d))) (sym i) (element-start-ends s d l)) n o
 
-pub end-grows : (f g : Scan) → ScanBelow f g → scan_cut_error g ≡ None → scan_lexeme_error g ≡ None → Ends f g
-end-grows (At x) (At y) h n m = (refl, refl, h)
-end-grows (InUrl x t r) (InUrl y u z) h n m = url-ends x y t u r z h.0 h.1 h.2 n m
-end-grows (InAttributeName t x m) (InAttributeName u y l) h n e = attribute-ends t u x y m l h.0 h.1 h.2 n
-end-grows (At x) (InUrl y u z) h n m = absurd h
-end-grows (At x) AfterLess h n m = absurd h
-end-grows (At x) AfterLessSolidus h n m = absurd h
-end-grows (At x) (InDeclaration pending) h n m = absurd h
-end-grows (At x) (InTagName ends name) h n m = absurd h
-end-grows (At x) (InAttributeName w y l) h n m = absurd h
-end-grows (At x) (InCommentEnd s) h n m = absurd h
-end-grows (At x) (InContentEnd e y) h n m = absurd h
-end-grows (At x) (InStyleElement e y) h n m = absurd h
-end-grows (At x) (BeforeType w) h n m = absurd h
-end-grows (At x) (InType w q v k) h n m = absurd h
-end-grows (At x) (InStyle w s k) h n m = absurd h
-end-grows (InUrl x t r) (At y) h n m = absurd h
-end-grows (InUrl x t r) AfterLess h n m = absurd h
-end-grows (InUrl x t r) AfterLessSolidus h n m = absurd h
-end-grows (InUrl x t r) (InDeclaration pending) h n m = absurd h
-end-grows (InUrl x t r) (InTagName ends name) h n m = absurd h
-end-grows (InUrl x t r) (InAttributeName w y l) h n m = absurd h
-end-grows (InUrl x t r) (InCommentEnd s) h n m = absurd h
-end-grows (InUrl x t r) (InContentEnd e y) h n m = absurd h
-end-grows (InUrl x t r) (InStyleElement e y) h n m = absurd h
-end-grows (InUrl x t r) (BeforeType w) h n m = absurd h
-end-grows (InUrl x t r) (InType w q v k) h n m = absurd h
-end-grows (InUrl x t r) (InStyle w s k) h n m = absurd h
-end-grows (InAttributeName t x o) (At y) h n m = absurd h
-end-grows (InAttributeName t x o) (InUrl y u z) h n m = absurd h
-end-grows (InAttributeName t x o) AfterLess h n m = absurd h
-end-grows (InAttributeName t x o) AfterLessSolidus h n m = absurd h
-end-grows (InAttributeName t x o) (InDeclaration pending) h n m = absurd h
-end-grows (InAttributeName t x o) (InTagName ends name) h n m = absurd h
-end-grows (InAttributeName t x o) (InCommentEnd s) h n m = absurd h
-end-grows (InAttributeName t x o) (InContentEnd e y) h n m = absurd h
-end-grows (InAttributeName t x o) (InStyleElement e y) h n m = absurd h
-end-grows (InAttributeName t x o) (BeforeType w) h n m = absurd h
-end-grows (InAttributeName t x o) (InType w q v k) h n m = absurd h
-end-grows (InAttributeName t x o) (InStyle w s k) h n m = absurd h
-end-grows (InStyle x s r) (InStyle y m z) h n o = style-ends-by x y s m r z h.0 h.1 n o
-end-grows (InStyle x s r) (At p) h n o = under-place-ends x s r p h.0 h.1
-end-grows (InStyle x s r) AfterLess h n o = absurd h
-end-grows (InStyle x s r) AfterLessSolidus h n o = absurd h
-end-grows (InStyle x s r) (InDeclaration d) h n o = absurd h
-end-grows (InStyle x s r) (InTagName d e) h n o = absurd h
-end-grows (InStyle x s r) (InAttributeName d e k) h n o = absurd h
-end-grows (InStyle x s r) (InCommentEnd d) h n o = absurd h
-end-grows (InStyle x s r) (InContentEnd d e) h n o = absurd h
-end-grows (InStyle x s r) (InStyleElement d e) h n o = absurd h
-end-grows (InStyle x s r) (BeforeType d) h n o = absurd h
-end-grows (InStyle x s r) (InType d e k l) h n o = absurd h
-end-grows (InStyle x s r) (InUrl d e k) h n o = absurd h
-end-grows AfterLess g h n m = same-ends AfterLess g h n m
-end-grows AfterLessSolidus g h n m = same-ends AfterLessSolidus g h n m
-end-grows (InDeclaration pending) g h n m = same-ends (InDeclaration pending) g h n m
-end-grows (InTagName ends name) g h n m = same-ends (InTagName ends name) g h n m
-end-grows (InCommentEnd s) g h n m = same-ends (InCommentEnd s) g h n m
-end-grows (InContentEnd e x) g h n m = same-ends (InContentEnd e x) g h n m
-end-grows (InStyleElement s x) g h n m = element-ends-to s x g h n m
-end-grows (BeforeType t) g h n m = same-ends (BeforeType t) g h n m
-end-grows (InType t q w r) g h n m = same-ends (InType t q w r) g h n m
+-- a script in which a text ends
+script-places : (v w : ValuePlace) (n m : ScriptScan) → ScriptValueBelow v w n m → ScriptBelow (script_scan_place n) (script_scan_place m)
+    → Below (with_script v n) (with_script w m)
+script-places v w n m h l =
+    value-from v.tag w.tag v.typed w.typed v.quotes w.quotes (body.Js (script_scan_place n)) (body.Js (script_scan_place m)) h.tag h.typed h.quotes
+    (below-js (script_scan_place n) (script_scan_place m) l)
+
+script-ends : (x y : ValuePlace) (n m : ScriptScan) (r z : Reference) → ScriptValueBelow x y n m → r ≡ z
+    → scan_cut_error (InScript y m z) ≡ None → script_cut (InScript y m z) ≡ None → Ends (InScript x n r) (InScript y m z)
+script-ends x y n m r z h e f g =
+    subst (λ (o : Reference). scan_cut_error (InScript y m o) ≡ None → script_cut (InScript y m o) ≡ None → Ends (InScript x n r) (InScript y m o)) e
+    (λ f g.
+    let bytes = as_it_stands r in
+    let a = feed_bytes script_feeding n bytes in
+    let d = feed_bytes script_feeding m bytes in
+    let u = fed-beside scripts-beside bytes true (length bytes) n m h.scan f in
+    let grows = script-grows a d u.1 in (
+      u.0,
+      refl,
+      script-places x y a d (record { tag = h.tag; typed = h.typed; quotes = h.quotes; scan = u.1 }) (grows.place g),
+      grows.cut_error g,
+    )) f g
+
+pub end-grows : (f g : Scan) → ScanBelow f g → scan_cut_error g ≡ None → scan_lexeme_error g ≡ None → script_cut g ≡ None → Ends f g
+end-grows (At x) (At y) h n m cut = (refl, refl, h, refl)
+end-grows (InUrl x t r) (InUrl y u z) h n m cut = url-ends x y t u r z h.0 h.1 h.2 n m
+end-grows (InAttributeName t x m) (InAttributeName u y l) h n e cut = attribute-ends t u x y m l h.0 h.1 h.2 n
+end-grows (At x) (InUrl y u z) h n m cut = absurd h
+end-grows (At x) AfterLess h n m cut = absurd h
+end-grows (At x) AfterLessSolidus h n m cut = absurd h
+end-grows (At x) (InDeclaration pending) h n m cut = absurd h
+end-grows (At x) (InTagName ends name) h n m cut = absurd h
+end-grows (At x) (InAttributeName w y l) h n m cut = absurd h
+end-grows (At x) (InCommentEnd s) h n m cut = absurd h
+end-grows (At x) (InContentEnd e y) h n m cut = absurd h
+end-grows (At x) (InStyleElement e y) h n m cut = absurd h
+end-grows (At x) (BeforeType w) h n m cut = absurd h
+end-grows (At x) (InType w q v k) h n m cut = absurd h
+end-grows (At x) (InStyle w s k) h n m cut = absurd h
+end-grows (At x) (InScript w s k) h n m cut = absurd h
+end-grows (InUrl x t r) (At y) h n m cut = absurd h
+end-grows (InUrl x t r) AfterLess h n m cut = absurd h
+end-grows (InUrl x t r) AfterLessSolidus h n m cut = absurd h
+end-grows (InUrl x t r) (InDeclaration pending) h n m cut = absurd h
+end-grows (InUrl x t r) (InTagName ends name) h n m cut = absurd h
+end-grows (InUrl x t r) (InAttributeName w y l) h n m cut = absurd h
+end-grows (InUrl x t r) (InCommentEnd s) h n m cut = absurd h
+end-grows (InUrl x t r) (InContentEnd e y) h n m cut = absurd h
+end-grows (InUrl x t r) (InStyleElement e y) h n m cut = absurd h
+end-grows (InUrl x t r) (BeforeType w) h n m cut = absurd h
+end-grows (InUrl x t r) (InType w q v k) h n m cut = absurd h
+end-grows (InUrl x t r) (InStyle w s k) h n m cut = absurd h
+end-grows (InUrl x t r) (InScript w s k) h n m cut = absurd h
+end-grows (InAttributeName t x o) (At y) h n m cut = absurd h
+end-grows (InAttributeName t x o) (InUrl y u z) h n m cut = absurd h
+end-grows (InAttributeName t x o) AfterLess h n m cut = absurd h
+end-grows (InAttributeName t x o) AfterLessSolidus h n m cut = absurd h
+end-grows (InAttributeName t x o) (InDeclaration pending) h n m cut = absurd h
+end-grows (InAttributeName t x o) (InTagName ends name) h n m cut = absurd h
+end-grows (InAttributeName t x o) (InCommentEnd s) h n m cut = absurd h
+end-grows (InAttributeName t x o) (InContentEnd e y) h n m cut = absurd h
+end-grows (InAttributeName t x o) (InStyleElement e y) h n m cut = absurd h
+end-grows (InAttributeName t x o) (BeforeType w) h n m cut = absurd h
+end-grows (InAttributeName t x o) (InType w q v k) h n m cut = absurd h
+end-grows (InAttributeName t x o) (InStyle w s k) h n m cut = absurd h
+end-grows (InAttributeName t x o) (InScript w s k) h n m cut = absurd h
+end-grows (InStyle x s r) (InStyle y m z) h n o cut = style-ends-by x y s m r z h.0 h.1 n o
+end-grows (InStyle x s r) (At p) h n o cut = under-place-ends x s r p h.0 h.1
+end-grows (InStyle x s r) AfterLess h n o cut = absurd h
+end-grows (InStyle x s r) AfterLessSolidus h n o cut = absurd h
+end-grows (InStyle x s r) (InDeclaration d) h n o cut = absurd h
+end-grows (InStyle x s r) (InTagName d e) h n o cut = absurd h
+end-grows (InStyle x s r) (InAttributeName d e k) h n o cut = absurd h
+end-grows (InStyle x s r) (InCommentEnd d) h n o cut = absurd h
+end-grows (InStyle x s r) (InContentEnd d e) h n o cut = absurd h
+end-grows (InStyle x s r) (InStyleElement d e) h n o cut = absurd h
+end-grows (InStyle x s r) (BeforeType d) h n o cut = absurd h
+end-grows (InStyle x s r) (InType d e k l) h n o cut = absurd h
+end-grows (InStyle x s r) (InUrl d e k) h n o cut = absurd h
+end-grows (InStyle x s r) (InScript d e k) h n o cut = absurd h
+end-grows (InScript x s r) (InScript y m z) h n o cut = script-ends x y s m r z h.0 h.1 n cut
+end-grows (InScript x s r) (At p) h n m cut = absurd h
+end-grows (InScript x s r) AfterLess h n m cut = absurd h
+end-grows (InScript x s r) AfterLessSolidus h n m cut = absurd h
+end-grows (InScript x s r) (InDeclaration d) h n m cut = absurd h
+end-grows (InScript x s r) (InTagName d e) h n m cut = absurd h
+end-grows (InScript x s r) (InAttributeName d e k) h n m cut = absurd h
+end-grows (InScript x s r) (InCommentEnd d) h n m cut = absurd h
+end-grows (InScript x s r) (InContentEnd d e) h n m cut = absurd h
+end-grows (InScript x s r) (InStyleElement d e) h n m cut = absurd h
+end-grows (InScript x s r) (BeforeType d) h n m cut = absurd h
+end-grows (InScript x s r) (InType d e k l) h n m cut = absurd h
+end-grows (InScript x s r) (InUrl d e k) h n m cut = absurd h
+end-grows (InScript x s r) (InStyle d e k) h n m cut = absurd h
+end-grows AfterLess g h n m cut = same-ends AfterLess g h n m refl
+end-grows AfterLessSolidus g h n m cut = same-ends AfterLessSolidus g h n m refl
+end-grows (InDeclaration pending) g h n m cut = same-ends (InDeclaration pending) g h n m refl
+end-grows (InTagName ends name) g h n m cut = same-ends (InTagName ends name) g h n m refl
+end-grows (InCommentEnd s) g h n m cut = same-ends (InCommentEnd s) g h n m refl
+end-grows (InContentEnd e x) g h n m cut = same-ends (InContentEnd e x) g h n m refl
+end-grows (InStyleElement s x) g h n m cut = element-ends-to s x g h n m
+end-grows (BeforeType t) g h n m cut = same-ends (BeforeType t) g h n m refl
+end-grows (InType t q w r) g h n m cut = same-ends (InType t q w r) g h n m refl

@@ -3,9 +3,9 @@ use Rattle.std.proofs.Common.{◌≡◌, ◌≤◌, ℕ, Bool, true, false, ◌|
 use Rattle.place_core.specs.page.Classes.{Class, White, QuotationMark, Apostrophe, Solidus, LessThan, EqualsSign, GreaterThan, GraveAccent, class_of, is_equals_sign}
 use Rattle.place_core.specs.page.References.{Form, Reference, Closed, Open, Breaks, as_it_stands, flushed, turn, undone_byte}
 use Rattle.place_core.specs.page.Tags.{feed_bytes}
-use Rattle.place_core.specs.place.Errors.{PathCause, at_hand, bare_error, body_error, comment_error, content_error, equals_error, first_cause, first_error, quotes_error, tag_error, value_error, block_error}
-use Rattle.place_core.specs.place.LanguagePlaces.{css_has, parts_have}
-use Rattle.place_core.specs.place.Places.{Below, Has, IsValid, IsValidQuotes, IsValidTag, body_has, joined_bodies, joined_kinds, joined_quotes, quotes_have}
+use Rattle.place_core.specs.place.Errors.{PathCause, at_hand, bare_error, body_error, comment_error, content_error, equals_error, first_cause, first_error, quotes_error, tag_error, value_error, block_error, pending_error, split_error}
+use Rattle.place_core.specs.place.LanguagePlaces.{css_has, parts_have, js_has}
+use Rattle.place_core.specs.place.Places.{Below, Has, IsValid, IsValidQuotes, IsValidTag, body_has, joined_bodies, joined_kinds, joined_quotes, quotes_have, IsValidBody}
 use Rattle.place_core.specs.declared.bare.Bare.{Bare}
 use Rattle.place_core.specs.declared.body.Body.{Body}
 use Rattle.place_core.specs.declared.body.Body.TheVariants as body
@@ -26,18 +26,28 @@ use Rattle.place_core.specs.declared.tag_of.TagOf.TheVariants as tag
 use Rattle.place_core.proofs.Joins.{places_same}
 use Rattle.place_core.specs.declared.tag_place.TagPlace.{TagPlace}
 use Rattle.place_core.specs.declared.value_place.ValuePlace.{ValuePlace}
-use Rattle.place_core.proofs.Semilattices.{none_some, one_value}
-use Rattle.html_scan.specs.Scans.{Scan, At, AfterLess, AfterLessSolidus, InDeclaration, InTagName, InAttributeName, InUrl, InStyle, InStyleElement, InCommentEnd, InContentEnd, open_cut_error, body_cause, parts_feeding, place_cause, quoted_error, scan_cut_error, scan_error, scan_lexeme_error, value_cause, BeforeType, InType, parts_with, triple_behind, url_scan}
+use Rattle.place_core.proofs.Semilattices.{none_some, one_value, no_map}
+use Rattle.html_scan.specs.Scans.{Scan, At, AfterLess, AfterLessSolidus, InDeclaration, InTagName, InAttributeName, InUrl, InStyle, InStyleElement, InCommentEnd, InContentEnd, open_cut_error, body_cause, parts_feeding, place_cause, quoted_error, scan_cut_error, scan_error, scan_lexeme_error, value_cause, BeforeType, InType, parts_with, triple_behind, url_scan, InScript, script_cause, script_feeding, style_feeding, style_less_cause, written_error}
+use Rattle.js_step.specs.ScriptScans.{ScriptScan, script_scan_cut_error}
+use Rattle.place_core.specs.page.Contents.{pending_bytes}
+use Rattle.html_step.proofs.FedAlike.{first-caused}
+use Rattle.html_step.proofs.StyleFedShown.{none-fed}
+use Rattle.html_step.proofs.ScriptPaths.{empty_js}
+use Rattle.html_step.proofs.ScriptFrom.{IsScriptMember, js-is}
+use Rattle.html_step.proofs.ScriptValues as scripts
+use Rattle.html_step.proofs.ScriptTold.{below-same}
+use Rattle.html_step.proofs.ScriptAlike.{told-none}
+use Rattle.html_step.proofs.ScriptQuiet.{begun-quiet, script-errors, taken-error}
 use Rattle.html_step.specs.Laws.{EvidenceData, apart, one, two}
-use Rattle.html_step.specs.Origins.{bare_shows, body_or_quotes, body_parts, body_refusal_shows, byte_shows, colon_shows, end_shows, is_apart, name_origin, place_shows, quotes_show, scan_parts, tag_shows, url_shows, value_shows}
-use Rattle.html_step.proofs.BelowScans.{IsRigid, below-at, below-at-comment, below-at-tag, below-at-unstyled, below-attribute, below-url, tag-name-rigid, whole-in, below-at-block, before-type-rigid, content-end-rigid, type-rigid}
+use Rattle.html_step.specs.Origins.{bare_shows, body_or_quotes, body_parts, body_refusal_shows, byte_shows, colon_shows, end_shows, is_apart, name_origin, place_shows, quotes_show, scan_parts, tag_shows, url_shows, value_shows, begun_script_shows, name_or_quotes, script_back, script_end_shown, script_shown, script_shows, script_step_shows, script_told_shown, script_value_shows, shown_member}
+use Rattle.html_step.proofs.BelowScans.{IsRigid, below-at, below-at-comment, below-at-tag, below-at-unstyled, below-attribute, below-url, tag-name-rigid, whole-in, below-at-block, before-type-rigid, content-end-rigid, type-rigid, below-at-value, below-script}
 use Rattle.html_step.proofs.ApartParts.{IsAmbiguous, apart-inside, bytes-stay, hole-before, hole-bytes, no-colon-fed, or-not}
 use Rattle.html_step.proofs.Characters.{ReferencePlain, stands-no-colon}
 use Rattle.html_step.proofs.ElementShown.{element-cut, element-lexeme, element-place-shown, element-shown}
 use Rattle.html_step.proofs.FromParts.{or-behind, or-either, or-first}
 use Rattle.html_step.proofs.FromSteps.{no, or-false, untyped-rigid}
 use Rattle.html_step.proofs.FromValues.{in-body, out-part, value_has}
-use Rattle.html_step.proofs.ScanOrder.{HasBegun, BegunWhereOpen, ScanHas, ScanValid, Unstyled, bare-parts, begun-open, begun-valid, cause-accepts, kind-of-some, parts-below, parts-of-below, some-none, within-unstyled}
+use Rattle.html_step.proofs.ScanOrder.{HasBegun, BegunWhereOpen, ScanHas, ScanValid, Unstyled, bare-parts, begun-open, begun-valid, cause-accepts, kind-of-some, parts-below, parts-of-below, some-none, within-unstyled, UrlWithin}
 use Rattle.html_step.proofs.ShownBytes.{ApartShown, ShownByte, ShownCut, ShownLexeme, TwoShown, by_colon, by_white}
 use Rattle.html_step.proofs.StyleShownSteps.{cut-style, lexeme-shown, lexeme-style, place-shown}
 use Rattle.html_step.proofs.ReadScans.{Behind, Broken, quoted-read, read_turn, read_value}
@@ -47,6 +57,10 @@ use Rattle.html_step.proofs.PathScans.{some}
 use Rattle.html_step.proofs.PlaceParts.{Under, TagBelow, ValueBelow, same-kinds, below-value, under-none}
 use Rattle.url_lexer.specs.Triples.{Triple, NoTriple, AfterPercent, AfterDigit}
 use Rattle.url_step.specs.PartSets.{PartsBelow, spells_apart}
+
+url-valid : (b : Body) → UrlWithin b → IsValidBody b
+url-valid (body.Url s) w = w
+url-valid _ w = absurd w
 
 one-cause : (x y : PathCause) → Some x ≡ Some y → x ≡ y
 one-cause x y e = one_value x y e
@@ -121,7 +135,7 @@ evidence-tag-byte t _ byte e v h = evidence-goes t _ byte e t.spots.name t.spots
 -- In a value, at a place and in a URL in a triple or a reference.
 abbrev pub ValueOne : ValuePlace → Reference → Class → ℕ → PathCause → Member → Type 0
 ValueOne v r c b e x = Has (place.Value v) x
-    × ((u : ValuePlace) → IsValidQuotes u.quotes → BegunWhereOpen r u.quotes → ValueBelow u v → Has (place.Value u) x → value_cause u r c b ≡ Some e)
+    × ((u : ValuePlace) → IsValidQuotes u.quotes → IsValidBody u.body → BegunWhereOpen r u.quotes → ValueBelow u v → Has (place.Value u) x → value_cause u r c b ≡ Some e)
 
 pub record ValueApart (v : ValuePlace) (r : Reference) (c : Class) (b : ℕ) (e : PathCause) : Type 0 where
   pub there : is_apart (body_parts v.body) ≡ true
@@ -153,18 +167,18 @@ one-by : (v : ValuePlace) (r : Reference) (c : Class) (b : ℕ) (e : PathCause) 
     → ((u : ValuePlace) → ValueBelow u v → Has (place.Value u) x → at_hand (value_error u c) ≡ Some e) → ValueOne v r c b e x
 one-by v r c b e x m h f = (
   h,
-  λ u w i l o. ap (λ (p : Option PathCause). first_cause p (at_hand (value_error u c)))
-      (cause-accepts u.body v.body u.quotes v.quotes r c b l.body l.quotes i m) ∙ f u l o,
+  λ u w z i l o. ap (λ (p : Option PathCause). first_cause p (at_hand (value_error u c)))
+      (cause-accepts u.body v.body u.quotes v.quotes r c b z l.body l.quotes i m) ∙ f u l o,
 )
 
 -- in a value that is built a member of its quotes is one of them
 pub quotes-only : (b : Body) (q : Quotes) (m : Member) → body_error b ≡ None → ((s : Parts) → parts_have s m ≡ true → ⊥) → ((p : Css) → css_has p m ≡ true → ⊥)
-    → (quotes_have q m || body_has b m) ≡ true → quotes_have q m ≡ true
-quotes-only body.Plain q m n f g h = or-false (quotes_have q m) h
-quotes-only body.NoHole q m n f g h = or-false (quotes_have q m) h
-quotes-only (body.Url p) q m n f g h = or-either (quotes_have q m ≡ true) (quotes_have q m) (parts_have p m) h (λ k. k) (λ k. absurd (f p k))
-quotes-only (body.Js p) q m n f g h = absurd (some _ n)
-quotes-only (body.Css p) q m n f g h = or-either (quotes_have q m ≡ true) (quotes_have q m) (css_has p m) h (λ k. k) (λ k. absurd (g p k))
+    → (IsScriptMember m → ⊥) → (quotes_have q m || body_has b m) ≡ true → quotes_have q m ≡ true
+quotes-only body.Plain q m n f g j h = or-false (quotes_have q m) h
+quotes-only body.NoHole q m n f g j h = or-false (quotes_have q m) h
+quotes-only (body.Url p) q m n f g j h = or-either (quotes_have q m ≡ true) (quotes_have q m) (parts_have p m) h (λ k. k) (λ k. absurd (f p k))
+quotes-only (body.Js p) q m n f g j h = or-either (quotes_have q m ≡ true) (quotes_have q m) (js_has p m) h (λ k. k) (λ k. absurd (j (js-is p m k)))
+quotes-only (body.Css p) q m n f g j h = or-either (quotes_have q m ≡ true) (quotes_have q m) (css_has p m) h (λ k. k) (λ k. absurd (g p k))
 
 css-unquoted : (p : Css) → css_has p member.UnquotedValue ≡ true → ⊥
 css-unquoted (css.Code x) h = no h
@@ -213,7 +227,7 @@ evidence-uq t p r c b e m q n uq h same =
     same-if-built u (Some e) c built
     (bare-below (λ (z : Quotes). quotes_have z member.UnquotedValue ≡ true → at_hand (quotes_error u.tag z c) ≡ Some e) p
     (λ s a d there. ap at_hand (same u.tag s ∙ ap (λ (x : Bool). if x then Some code.BadHTML else None) (there ∙ sym uq) ∙ sym (same t.tag p)) ∙ h)
-    u.quotes (subst (λ (z : Quotes). joined_quotes u.quotes z ≡ Some z) q l.quotes) (quotes-only u.body u.quotes member.UnquotedValue built (λ a k. no k) css-unquoted o)))
+    u.quotes (subst (λ (z : Quotes). joined_quotes u.quotes z ≡ Some z) q l.quotes) (quotes-only u.body u.quotes member.UnquotedValue built (λ a k. no k) css-unquoted (λ i. i) o)))
 
 if-some : (b : Bool) (e : Code) (x : PathCause) → at_hand (if b then Some e else None) ≡ Some x → b ≡ true
 if-some true e x h = refl
@@ -299,7 +313,7 @@ one-hole : (v : ValuePlace) (s : Parts) (r : Reference) (c : Class) (b : ℕ) (e
     → ((t : Parts) → PartsBelow t s → t.openhole ≡ true → quoted_error parts_feeding v.quotes t r c b ≡ Some e) → ValueOne v r c b e member.PartOpenhole
 one-hole v s r c b e k d h refuses = (
   hole-there v s d h,
-  λ u q a l o. each-below (λ (t : Parts). t.openhole ≡ true) v s r c b e k d refuses u a l (λ t m. hole-in s t u h o m),
+  λ u q w a l o. each-below (λ (t : Parts). t.openhole ≡ true) v s r c b e k d refuses u a l (λ t m. hole-in s t u h o m),
 )
 
 behind-hole : (xs : List ℕ) (s t : Parts) → IsAmbiguous (feed_bytes parts_feeding s xs) → t.openhole ≡ true → IsAmbiguous (feed_bytes parts_feeding t xs)
@@ -370,7 +384,7 @@ colon-by : (v : ValuePlace) (f : Scan) (s : Parts) (r : Reference) (c : Class) (
 colon-by v f s r c b e x y hx hy into k d (on_each i refuses) =
     subst (λ (z : Bool). ValueShown v f r c b e (if z then one member.Whole else
     (if x then one member.PartOpenhole else (if y then apart else two member.PartStart member.PartOpen)))) (sym (ap code_is_html i))
-    (refl, λ u q a l o. each-below (λ (t : Parts). Unit {0}) v s r c b e k d (λ t m n. refuses t) u a l (λ t m. tt))
+    (refl, λ u q w a l o. each-below (λ (t : Parts). Unit {0}) v s r c b e k d (λ t m n. refuses t) u a l (λ t m. tt))
 colon-by v f s r c b e true y hx hy into k d (on_first back i l there refuses) =
     subst (λ (z : Bool). ValueShown v f r c b e (if z then one member.Whole else one member.PartOpenhole)) (sym (ap (λ (z : PathCause). code_is_html z.code) i))
     (one-hole v s r c b e k d hx (λ t m n. refuses t (or-first t.openhole (spells_apart t.opened) n)))
@@ -403,6 +417,7 @@ evidence-url v f (body.Url s) r c b e into g a n z d h =
     subst (ValueShown v f r c b e) (shows-code s e.code)
     (colon-by v f s r c b e s.openhole (spells_apart s.opened) refl refl into g d (quoted-shown v.quotes r s c b e a n h))
 evidence-url v f (body.Css s) r c b e into g a n z d h = absurd z
+evidence-url v f (body.Js s) r c b e into g a n z d h = absurd z
 evidence-url v f _ r c b e into g a n z d h = absurd (none_some e h)
 
 by-cause : (v : ValuePlace) (f : Scan) (r : Reference) (c : Class) (b : ℕ) (e : PathCause) (o : Option PathCause)
@@ -424,7 +439,7 @@ evidence-value-byte v f r c b e has into g a n z h = by-cause v f r c b e (body_
 at-value : (v : ValuePlace) (c : Class) (b : ℕ) (e : PathCause) (y : EvidenceData) → Unstyled v.body → ValueShown v (At (place.Value v)) Closed c b e y
     → ShownByte (At (place.Value v)) c b e y
 at-value v c b e (one x) z h =
-    (h.0, λ g w l o i. below-at-unstyled (λ (g : Scan). ScanValid g → ScanHas g x → scan_error g c b ≡ Some e) v z (λ u l w o. h.1 u w.0 tt l o) g l w o)
+    (h.0, λ g w l o i. below-at-unstyled (λ (g : Scan). ScanValid g → ScanHas g x → scan_error g c b ≡ Some e) v z (λ u l w o. h.1 u w.0 w.1 tt l o) g l w o)
 at-value v c b e (two x y) z h = h
 at-value v c b e apart z h = record {
   there = h.there;
@@ -439,7 +454,7 @@ in-url : (v : ValuePlace) (t : Triple) (r : Reference) (c : Class) (b : ℕ) (e 
 in-url v t r c b e (one x) h = (
   h.0,
   λ g w l o i. below-url (λ (g : Scan). ScanValid g → ScanHas g x → scan_error g c b ≡ Some e) v t r
-      (λ u l w o. h.1 u (begun-valid u.quotes w.0) (begun-open r u.quotes w.0) l o) g l w o,
+      (λ u l w o. h.1 u (begun-valid u.quotes w.0) (url-valid u.body w.1) (begun-open r u.quotes w.0) l o) g l w o,
 )
 in-url v t r c b e (two x y) h = h
 in-url v t r c b e apart h = record {
@@ -481,25 +496,86 @@ evidence-unbuilt : (j : _) (c : Class) (b : ℕ) (e : PathCause) → at_hand (So
 evidence-unbuilt j c b e h =
     (refl, λ g v l o i. below-at (λ (g : Scan). scan_error g c b ≡ Some e) (place.Script j) (λ a l. script-error j c b a l ∙ h) (λ u n z. absurd z) (λ n z. absurd z) g l)
 
+-- In a value that is a script, where the script refuses nothing.
+js-not-style : (j : _) (s : Css) → body.Js j ≡ body.Css s → ⊥
+js-not-style j s e = cc
+
+at-js : (v : ValuePlace) (c : Class) (b : ℕ) (e : PathCause) (y : EvidenceData) (j : _) → v.body ≡ body.Js j → ValueShown v (At (place.Value v)) Closed c b e y
+    → ShownByte (At (place.Value v)) c b e y
+at-js v c b e (one x) j d h = (
+  h.0,
+  λ g w l o i. below-at-value (λ (g : Scan). ScanValid g → ScanHas g x → scan_error g c b ≡ Some e) v (λ u l w o. h.1 u w.0 w.1 tt l o)
+      (λ u n s i l. absurd (js-not-style j s (sym d ∙ i))) g l w o,
+)
+at-js v c b e (two x y) j d h = h
+at-js v c b e apart j d h = absurd (no (ap (λ (z : Body). is_apart (body_parts z)) (sym d) ∙ h.there))
+
+js-value : (v : ValuePlace) (c : Class) (b : ℕ) (e : PathCause) (j : _) → v.body ≡ body.Js j → begun_script_shows v.body v.quotes c b ≡ None
+    → value_cause v Closed c b ≡ Some e → ShownByte (At (place.Value v)) c b e (value_shows v Closed c b)
+js-value v c b e j d q h =
+    let m = begun-quiet v.body v.quotes c b j d q in
+    let n : body_error v.body ≡ None = ap body_error d in
+    let shows : value_shows v Closed c b ≡ quotes_show None v.quotes c =
+    ap (λ (o : Option PathCause). body_or_quotes o v.body (undone_byte true Closed c b) (quotes_show (body_error v.body) v.quotes c)) m
+    ∙ ap (λ (o : Option Code). quotes_show o v.quotes c) n in
+    subst (ShownByte (At (place.Value v)) c b e) (sym shows)
+    (at-js v c b e (quotes_show None v.quotes c) j d
+    (evidence-in-quotes v (At (place.Value v)) Closed c b e None (λ y o. o) m n
+    (sym (ap (λ (o : Option PathCause). first_cause o (at_hand (value_error v c))) m) ∙ h)))
+
+-- within it
+script-quotes-by : (v : ValuePlace) (n : ScriptScan) (r : Reference) (c : Class) (b : ℕ) (e : PathCause) (q : Quotes) → v.quotes ≡ q → HasBegun q
+    → ((y : Member) → ScanHas (InScript v n r) y → ShownByte (InScript v n r) c b e (one y)) → at_hand (quotes_error v.tag q c) ≡ Some e
+    → ShownByte (InScript v n r) c b e (quotes_show None q c)
+script-quotes-by v n r c b e quotes.Dq d g f h = f member.Whole refl
+script-quotes-by v n r c b e quotes.Sq d g f h = f member.Whole refl
+script-quotes-by v n r White b e (quotes.Bare p) d g f h =
+    absurd (no (sym g.1 ∙ (both-true p.uq p.unbegun (if-some (p.uq && p.unbegun) code.AmbigContext e h)).1))
+script-quotes-by v n r QuotationMark b e (quotes.Bare p) d g f h =
+    f member.UnquotedValue (scripts.in-quotes v.typed v.quotes n member.UnquotedValue (ap (λ (z : Quotes). quotes_have z member.UnquotedValue) d ∙ g.0))
+script-quotes-by v n r Apostrophe b e (quotes.Bare p) d g f h =
+    f member.UnquotedValue (scripts.in-quotes v.typed v.quotes n member.UnquotedValue (ap (λ (z : Quotes). quotes_have z member.UnquotedValue) d ∙ g.0))
+script-quotes-by v n r c b e (quotes.Bare p) d g f h = f member.Whole refl
+
+script-byte-by : (v : ValuePlace) (n : ScriptScan) (r : Reference) (c : Class) (b : ℕ) (e : PathCause) (o : Option PathCause) → HasBegun v.quotes
+    → v.body ≡ body.Js empty_js → ((y : Member) → ScanHas (InScript v n r) y → ShownByte (InScript v n r) c b e (one y))
+    → first_cause o (at_hand (value_error v c)) ≡ Some e
+    → ShownByte (InScript v n r) c b e (name_or_quotes o (quotes_show None v.quotes c))
+script-byte-by v n r c b e (Some x) g d f h = f member.Whole refl
+script-byte-by v n r c b e None g d f h =
+    script-quotes-by v n r c b e v.quotes refl g f
+    (sym (ap (λ (z : Body). at_hand (first_error (body_error z) (quotes_error v.tag v.quotes c))) d) ∙ h)
+
+script-byte : (v : ValuePlace) (n : ScriptScan) (r : Reference) (c : Class) (b : ℕ) (e : PathCause) → ScanValid (InScript v n r)
+    → script_step_shows v.quotes n r c b ≡ None → script_cause v n r c b ≡ Some e → ShownByte (InScript v n r) c b e (script_value_shows v n r c b)
+script-byte v n r c b e w q h =
+    script-byte-by v n r c b e (quoted_error script_feeding v.quotes n r c b) w.0 w.1
+    (λ y o. (
+      o,
+      λ g z l p i. below-script (λ (g : Scan). ScanValid g → scan_error g c b ≡ Some e) v n r
+          (λ u m j k. script-errors u v m n r c b (below-same u v m n r k w j) j.scan q ∙ h) g l z,
+    )) h
+
 -- In a value.
 evidence-value : (v : ValuePlace) (c : Class) (b : ℕ) (e : PathCause) (x : Body) → c ≡ class_of b → v.body ≡ x
-    → place_cause (place.Value v) c b ≡ Some e → ShownByte (At (place.Value v)) c b e (value_shows v Closed c b)
-evidence-value v c b e (body.Css s) k d h = place-shown v c b e s k d h
-evidence-value v c b e x k d h =
+    → begun_script_shows v.body v.quotes c b ≡ None → place_cause (place.Value v) c b ≡ Some e → ShownByte (At (place.Value v)) c b e (value_shows v Closed c b)
+evidence-value v c b e (body.Css s) k d q h = place-shown v c b e s k d h
+evidence-value v c b e (body.Js j) k d q h = js-value v c b e j d q h
+evidence-value v c b e x k d q h =
     at-value v c b e (value_shows v Closed c b) (subst Unstyled (sym d) tt)
     (evidence-value-byte v (At (place.Value v)) Closed c b e (λ y o. o) (λ z bytes h. not-open z bytes h) k tt tt (subst Unstyled (sym d) tt) h)
 
-evidence-place : (p : Place) (c : Class) (b : ℕ) (e : PathCause) → c ≡ class_of b → IsValid p → place_cause p c b ≡ Some e
+evidence-place : (p : Place) (c : Class) (b : ℕ) (e : PathCause) → c ≡ class_of b → IsValid p → script_shown (At p) c b ≡ None → place_cause p c b ≡ Some e
     → ShownByte (At p) c b e (place_shows p c b)
-evidence-place place.Text c b e k v h = absurd (none_some e h)
-evidence-place place.Doctype c b e k v h = absurd (none_some e h)
-evidence-place (place.Comment dash) c b e k v h = evidence-comment dash c b e h
-evidence-place (place.Rcdata x) c b e k v h = absurd (none_some e h)
-evidence-place (place.Tag t) c b e k v h = evidence-tag-byte t c b e v h
-evidence-place (place.Value x) c b e k v h = evidence-value x c b e x.body k refl h
-evidence-place (place.Script j) c b e k v h = evidence-unbuilt j c b e h
-evidence-place (place.Style j) c b e k v h = element-place-shown j c b e h
-evidence-place (place.Block less) c b e k v h = evidence-block less c b e h
+evidence-place place.Text c b e k v q h = absurd (none_some e h)
+evidence-place place.Doctype c b e k v q h = absurd (none_some e h)
+evidence-place (place.Comment dash) c b e k v q h = evidence-comment dash c b e h
+evidence-place (place.Rcdata x) c b e k v q h = absurd (none_some e h)
+evidence-place (place.Tag t) c b e k v q h = evidence-tag-byte t c b e v h
+evidence-place (place.Value x) c b e k v q h = evidence-value x c b e x.body k refl q h
+evidence-place (place.Script j) c b e k v q h = evidence-unbuilt j c b e h
+evidence-place (place.Style j) c b e k v q h = element-place-shown j c b e h
+evidence-place (place.Block less) c b e k v q h = evidence-block less c b e h
 
 evidence-attribute : (t : TagOf) (typed : Bool) (name : List ℕ) (c : Class) (b : ℕ) (e : PathCause)
     → scan_error (InAttributeName t typed name) c b ≡ Some e → ShownByte (InAttributeName t typed name) c b e (one (name_origin typed))
@@ -510,23 +586,24 @@ evidence-attribute t true name c b e h = (
       (λ x u o. subst (λ (z : Bool). scan_error (InAttributeName t z name) c b ≡ Some e) (sym o) h) g l o,
 )
 
-pub evidence-byte : (f : Scan) (c : Class) (b : ℕ) (e : PathCause) → c ≡ class_of b → ScanValid f → ScanPlain f → scan_error f c b ≡ Some e
+pub evidence-byte : (f : Scan) (c : Class) (b : ℕ) (e : PathCause) → c ≡ class_of b → ScanValid f → ScanPlain f → script_shown f c b ≡ None → scan_error f c b ≡ Some e
     → ShownByte f c b e (byte_shows f c b)
-evidence-byte (At p) c b e k v n h = evidence-place p c b e k v h
-evidence-byte AfterLess c b e k v n h = absurd (none_some e h)
-evidence-byte AfterLessSolidus c b e k v n h = absurd (none_some e h)
-evidence-byte (InDeclaration pending) c b e k v n h = absurd (none_some e h)
-evidence-byte (InTagName end name) c b e k v n h = evidence-rigid (InTagName end name) c b e (tag-name-rigid end name) h
-evidence-byte (InAttributeName t typed name) c b e k v n h = evidence-attribute t typed name c b e h
-evidence-byte (InUrl w t r) c b e k v n h =
+evidence-byte (At p) c b e k v n q h = evidence-place p c b e k v q h
+evidence-byte AfterLess c b e k v n q h = absurd (none_some e h)
+evidence-byte AfterLessSolidus c b e k v n q h = absurd (none_some e h)
+evidence-byte (InDeclaration pending) c b e k v n q h = absurd (none_some e h)
+evidence-byte (InTagName end name) c b e k v n q h = evidence-rigid (InTagName end name) c b e (tag-name-rigid end name) h
+evidence-byte (InAttributeName t typed name) c b e k v n q h = evidence-attribute t typed name c b e h
+evidence-byte (InUrl w t r) c b e k v n q h =
     in-url w t r c b e (value_shows w r c b)
     (evidence-value-byte w (InUrl w t r) r c b e (λ y o. o) (λ z bytes i. (t, ap (InUrl w t) i)) k (begun-open r w.quotes v.0) n (within-unstyled w.body v.1) h)
-evidence-byte (InStyle w s r) c b e k v n h = lexeme-shown w s r c b e k v.0 v.1 n h
-evidence-byte (InStyleElement s x) c b e k v n h = element-shown s x c b e v.1 h
-evidence-byte (InCommentEnd s) c b e k v n h = absurd (none_some e h)
-evidence-byte (InContentEnd x y) c b e k v n h = evidence-rigid (InContentEnd x y) c b e (content-end-rigid x y) h
-evidence-byte (BeforeType t) c b e k v n h = evidence-rigid (BeforeType t) c b e (before-type-rigid t) h
-evidence-byte (InType t q w r) c b e k v n h = evidence-rigid (InType t q w r) c b e (type-rigid t q w r) h
+evidence-byte (InStyle w s r) c b e k v n q h = lexeme-shown w s r c b e k v.0 v.1 n h
+evidence-byte (InScript w s r) c b e k v n q h = script-byte w s r c b e v q h
+evidence-byte (InStyleElement s x) c b e k v n q h = element-shown s x c b e v.1 h
+evidence-byte (InCommentEnd s) c b e k v n q h = absurd (none_some e h)
+evidence-byte (InContentEnd x y) c b e k v n q h = evidence-rigid (InContentEnd x y) c b e (content-end-rigid x y) h
+evidence-byte (BeforeType t) c b e k v n q h = evidence-rigid (BeforeType t) c b e (before-type-rigid t) h
+evidence-byte (InType t z w r) c b e k v n q h = evidence-rigid (InType t z w r) c b e (type-rigid t z w r) h
 
 -- a `:` behind a reference that it breaks, in which they come apart, where this has been read
 read-apart : (v : ValuePlace) (s : Parts) (c : Class) (b : ℕ) (e : PathCause) → c ≡ class_of b → v.body ≡ body.Url s → spells_apart s.opened ≡ true
@@ -574,20 +651,40 @@ cut-url : (b : Body) (r : Reference) → ReferencePlain r → open_cut_error b (
 cut-url (body.Url s) r n = no-colon-fed (as_it_stands r) s true (length (as_it_stands r)) (stands-no-colon r n)
 cut-url _ r n = refl
 
-pub evidence-cut : (f : Scan) (e : PathCause) → ScanValid f → ScanPlain f → scan_cut_error f ≡ Some e → ShownCut f e (end_shows f)
-evidence-cut (InAttributeName t typed name) e v n h = cut-attribute t typed name e h
-evidence-cut (InUrl w t r) e v n h = absurd (none_some e (sym (cut-url w.body r n) ∙ h))
-evidence-cut (At p) e v n h = absurd (none_some e h)
-evidence-cut AfterLess e v n h = absurd (none_some e h)
-evidence-cut AfterLessSolidus e v n h = absurd (none_some e h)
-evidence-cut (InDeclaration pending) e v n h = absurd (none_some e h)
-evidence-cut (InTagName end name) e v n h = absurd (none_some e h)
-evidence-cut (InCommentEnd s) e v n h = absurd (none_some e h)
-evidence-cut (InContentEnd x y) e v n h = cut-rigid (InContentEnd x y) e (content-end-rigid x y) h
-evidence-cut (BeforeType t) e v n h = cut-rigid (BeforeType t) e (before-type-rigid t) h
-evidence-cut (InStyle w s r) e v n h = cut-style w s r e n h
-evidence-cut (InStyleElement s x) e v n h = element-cut s x e v.1 h
-evidence-cut (InType t q w r) e v n h = cut-rigid (InType t q w r) e (type-rigid t q w r) h
+-- a script that shows nothing refuses nothing at the end
+pub cut-quiet : (s : ScriptScan) (r : Reference) → script_shows script_scan_cut_error (as_it_stands r) s ≡ None → written_error script_feeding s (as_it_stands r) ≡ None
+cut-quiet s r q =
+    let d = told-none (as_it_stands r) script_scan_cut_error s (no_map (script_back s) (script_told_shown script_scan_cut_error (as_it_stands r) s) q) in
+    taken-error (as_it_stands r) true (length (as_it_stands r)) s d.0
+
+pub evidence-cut : (f : Scan) (e : PathCause) → ScanValid f → ScanPlain f → script_end_shown f ≡ None → scan_cut_error f ≡ Some e → ShownCut f e (end_shows f)
+evidence-cut (InAttributeName t typed name) e v n q h = cut-attribute t typed name e h
+evidence-cut (InUrl w t r) e v n q h = absurd (none_some e (sym (cut-url w.body r n) ∙ h))
+evidence-cut (At p) e v n q h = absurd (none_some e h)
+evidence-cut AfterLess e v n q h = absurd (none_some e h)
+evidence-cut AfterLessSolidus e v n q h = absurd (none_some e h)
+evidence-cut (InDeclaration pending) e v n q h = absurd (none_some e h)
+evidence-cut (InTagName end name) e v n q h = absurd (none_some e h)
+evidence-cut (InCommentEnd s) e v n q h = absurd (none_some e h)
+evidence-cut (InContentEnd x y) e v n q h = cut-rigid (InContentEnd x y) e (content-end-rigid x y) h
+evidence-cut (BeforeType t) e v n q h = cut-rigid (BeforeType t) e (before-type-rigid t) h
+evidence-cut (InStyle w s r) e v n q h = cut-style w s r e n h
+evidence-cut (InStyleElement s x) e v n q h = element-cut s x e v.1 h
+evidence-cut (InScript v s r) e w n q h = absurd (none_some e (sym (cut-quiet s r q) ∙ h))
+evidence-cut (InType t z w r) e v n q h = cut-rigid (InType t z w r) e (type-rigid t z w r) h
+
+-- where neither refuses it, the member is there too
+pub end-there : (f : Scan) → scan_cut_error f ≡ None → ScanHas f (end_shows f)
+end-there (InAttributeName t true name) n = refl
+end-there (InAttributeName t false name) n = refl
+end-there (InStyle v s r) n =
+    subst (ScanHas (InStyle v s r)) (sym (ap shown_member (none-fed (as_it_stands r) s true (length (as_it_stands r)) n))) refl
+end-there (InStyleElement s h) n =
+    (let p = first-caused (pending_error style_feeding s (pending_bytes h)) (split_error style_less_cause s h) n in
+    subst (ScanHas (InStyleElement s h)) (sym (ap shown_member (none-fed (pending_bytes h) s true (length (pending_bytes h)) p.0))) refl)
+end-there (At p) n = whole-in (At p) member.Whole refl
+end-there (InUrl v t r) n = refl
+end-there _ n = refl
 
 pub evidence-lexeme : (f : Scan) (e : Code) → ScanPlain f → scan_cut_error f ≡ None → scan_lexeme_error f ≡ Some e → ShownLexeme f e (end_shows f)
 evidence-lexeme (InUrl v t r) e n m h = record {
@@ -597,6 +694,7 @@ evidence-lexeme (InUrl v t r) e n m h = record {
 evidence-lexeme (InStyle v s r) e n m h = lexeme-style v s r e m h
 evidence-lexeme (InStyleElement s x) e n m h = element-lexeme s x e m h
 evidence-lexeme (InAttributeName t typed name) e n m h = absurd (none_some e h)
+evidence-lexeme (InScript v s r) e n m h = absurd (none_some e h)
 evidence-lexeme (At p) e n m h = absurd (none_some e h)
 evidence-lexeme AfterLess e n m h = absurd (none_some e h)
 evidence-lexeme AfterLessSolidus e n m h = absurd (none_some e h)

@@ -19,7 +19,7 @@ use Rattle.place_core.proofs.Semilattices.{no_map, one_value}
 use Rattle.place_core.specs.page.Classes.{Class, White, QuotationMark, Apostrophe, GreaterThan, is_equals_sign}
 use Rattle.place_core.specs.page.Html.{ends_value}
 use Rattle.place_core.specs.page.References.{Form, Reference, Closed, Open, ReferenceStep, Breaks, turn, flushed, plain_bytes, as_it_stands}
-use Rattle.place_core.specs.page.Tags.{Tag, Value, ValueOf, Deciding, ValueState, OfKind, OfUrl, OfStyle, Feeding, feeding, feed_bytes, languages, refusal_code, style_code, Quoting, DoubleQuoted, SingleQuoted, Unquoted}
+use Rattle.place_core.specs.page.Tags.{Tag, Value, ValueOf, Deciding, ValueState, OfKind, OfUrl, OfStyle, OfScript, Feeding, feeding, feed_bytes, languages, refusal_code, style_code, Quoting, DoubleQuoted, SingleQuoted, Unquoted}
 use Rattle.place_core.specs.place.Errors.{PathCause, at_hand, cause_back, css_hole_error, fed_error, first_cause, flushed_error, is_written, language_error, quotes_error, turned_error, url_hole_error}
 use Rattle.place_core.specs.place.StatePlaces.{quotes_at}
 use Rattle.place_core.specs.place.StyleParts.{style_body, style_place, style_quoted_place, style_string_place, style_tails}
@@ -49,12 +49,14 @@ abbrev pub IsUrlAt : Value ValueState → Parts → Type 0
 IsUrlAt (ValueOf (OfUrl u)) s = parts_of u.part ≡ s
 IsUrlAt (ValueOf (OfKind k)) s = ⊥
 IsUrlAt (ValueOf (OfStyle v)) s = ⊥
+IsUrlAt (ValueOf (OfScript v)) s = ⊥
 IsUrlAt (Deciding k before) s = ⊥
 
 abbrev pub IsStyleAt : Value ValueState → StyleScan → Type 0
 IsStyleAt (ValueOf (OfStyle v)) n = IsStyleScan v n
 IsStyleAt (ValueOf (OfKind k)) n = ⊥
 IsStyleAt (ValueOf (OfUrl u)) n = ⊥
+IsStyleAt (ValueOf (OfScript v)) n = ⊥
 IsStyleAt (Deciding k before) n = ⊥
 
 url-errors : (z : Value ValueState) (s : Parts) (b : ℕ) → IsUrlAt z s → (feeding languages).refuses z b ≡ parts_feeding.refuses s b
@@ -63,18 +65,21 @@ url-errors (ValueOf (OfUrl u)) s b e =
     ∙ ap (λ (z : Parts). option_map refusal_code (parts_error z (url_class_of b))) e
 url-errors (ValueOf (OfKind k)) s b e = absurd e
 url-errors (ValueOf (OfStyle v)) s b e = absurd e
+url-errors (ValueOf (OfScript v)) s b e = absurd e
 url-errors (Deciding k before) s b e = absurd e
 
 url-goes : (z : Value ValueState) (s : Parts) (b : ℕ) → IsUrlAt z s → IsUrlAt ((feeding languages).feed z b) (parts_feeding.feed s b)
 url-goes (ValueOf (OfUrl u)) s b e = sym (one-next u.part (url_class_of b) b) ∙ ap (λ (z : Parts). parts_next z (url_class_of b) b) e
 url-goes (ValueOf (OfKind k)) s b e = absurd e
 url-goes (ValueOf (OfStyle v)) s b e = absurd e
+url-goes (ValueOf (OfScript v)) s b e = absurd e
 url-goes (Deciding k before) s b e = absurd e
 
 url-names : (z : Value ValueState) (s : Parts) → IsUrlAt z s → (feeding languages).refuses_names z ≡ parts_feeding.refuses_names s
 url-names (ValueOf (OfUrl u)) s e = refl
 url-names (ValueOf (OfKind k)) s e = absurd e
 url-names (ValueOf (OfStyle v)) s e = absurd e
+url-names (ValueOf (OfScript v)) s e = absurd e
 url-names (Deciding k before) s e = absurd e
 
 pub urls-alike : FedAlike (feeding languages) parts_feeding IsUrlAt
@@ -84,6 +89,7 @@ style-errors : (z : Value ValueState) (n : StyleScan) (b : ℕ) → IsStyleAt z 
 style-errors (ValueOf (OfStyle v)) n b i = ap (option_map style_code) (sym ((one-style v n i).error (style_class b) b))
 style-errors (ValueOf (OfKind k)) n b i = absurd i
 style-errors (ValueOf (OfUrl u)) n b i = absurd i
+style-errors (ValueOf (OfScript v)) n b i = absurd i
 style-errors (Deciding k before) n b i = absurd i
 
 style-goes : (z : Value ValueState) (n : StyleScan) (b : ℕ) → IsStyleAt z n → style_feeding.refuses n b ≡ None → IsStyleAt ((feeding languages).feed z b) (style_feeding.feed n b)
@@ -91,12 +97,14 @@ style-goes (ValueOf (OfStyle v)) n b i e =
     (one-style v n i).next (style_class b) b (sym ((one-style v n i).error (style_class b) b) ∙ no_map style_code (style_scan_error n (style_class b) b) e)
 style-goes (ValueOf (OfKind k)) n b i e = absurd i
 style-goes (ValueOf (OfUrl u)) n b i e = absurd i
+style-goes (ValueOf (OfScript v)) n b i e = absurd i
 style-goes (Deciding k before) n b i e = absurd i
 
 style-names : (z : Value ValueState) (n : StyleScan) → IsStyleAt z n → (feeding languages).refuses_names z ≡ style_feeding.refuses_names n
 style-names (ValueOf (OfStyle v)) n i = refl
 style-names (ValueOf (OfKind k)) n i = absurd i
 style-names (ValueOf (OfUrl u)) n i = absurd i
+style-names (ValueOf (OfScript v)) n i = absurd i
 style-names (Deciding k before) n i = absurd i
 
 pub styles-alike : FedAlike (feeding languages) style_feeding IsStyleAt
@@ -338,13 +346,13 @@ flat-here : {S : Type 0} (m : Feeding S) (bs : List ℕ) (back : ℕ) (s : S) �
 flat-here m [] back s l h = refl
 flat-here m (b ∷ bs) back s l h = here-by (m.refuses s b) back (fed_error m (m.feed s b) bs false back) l (flat-here m bs back (m.feed s b) l) h
 
-written-here : {S : Type 0} (m : Feeding S) (bs : List ℕ) (back : ℕ) (s : S) → length bs ≤ back → StandsHere (fed_error m s bs true back) → fed_error m s bs true back ≡ None
+pub written-here : {S : Type 0} (m : Feeding S) (bs : List ℕ) (back : ℕ) (s : S) → length bs ≤ back → StandsHere (fed_error m s bs true back) → fed_error m s bs true back ≡ None
 written-here m [] back s l h = refl
 written-here m (b ∷ bs) back s l h =
     let more : length (b ∷ bs) ≤ back = l in
     here-by (m.refuses s b) back (fed_error m (m.feed s b) bs true (back - 1)) (omega (arith, more)) (written-here m bs (back - 1) (m.feed s b) (omega (arith, more))) h
 
-written-is : (equals : Bool) (f : Form) (bytes : List ℕ) → is_written equals f bytes ≡ true → flushed true equals f bytes ≡ 38 ∷ bytes
+pub written-is : (equals : Bool) (f : Form) (bytes : List ℕ) → is_written equals f bytes ≡ true → flushed true equals f bytes ≡ 38 ∷ bytes
 unfolding is_written
 written-is equals f bytes h = (bytes_eq-Decides (flushed true equals f bytes) (38 ∷ bytes)).0 h
 
@@ -365,7 +373,7 @@ ends-no-equals Unquoted White h = refl
 ends-no-equals Unquoted GreaterThan h = refl
 ends-no-equals q c h = absurd (no h)
 
-language-here : {S : Type 0} (m : Feeding S) (ends : Bool) (s : S) (f : Form) (bytes : List ℕ) (c : Class) (b : ℕ) → turn c f ≡ Breaks → (ends ≡ true → is_equals_sign c ≡ false)
+pub language-here : {S : Type 0} (m : Feeding S) (ends : Bool) (s : S) (f : Form) (bytes : List ℕ) (c : Class) (b : ℕ) → turn c f ≡ Breaks → (ends ≡ true → is_equals_sign c ≡ false)
     → StandsHere (language_error m ends s (Open f bytes) c b) → flushed_error m s (is_equals_sign c) f bytes ≡ None
 language-here m true s f bytes c b k e h = ap (λ (y : Bool). flushed_error m s y f bytes) (e refl) ∙ flushed-here m s false f bytes h
 language-here m false s f bytes c b k e h =

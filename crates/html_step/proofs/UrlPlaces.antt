@@ -1,4 +1,7 @@
 -- The place of a path in a URL has the part of the path alone.
+use Rattle.js_lexer.specs.States.{ScriptState}
+use Rattle.js_step.proofs.ScriptPaths.{script-paths-are-scanned}
+use Rattle.place_core.specs.place.ScriptParts.{script_body}
 use Rattle.std.proofs.Common.{◌≡◌, Bool, true, false, Option, Some, None, option_map, if◌then◌else◌, refl, sym, ◌∙◌, subst}
 use Rattle.css_lexer.specs.Escapes.{StyleEscape, NoEscape, AfterBackslash, HexDigits, AfterReturn}
 use Rattle.css_lexer.specs.PartSpots.{has_read_nothing}
@@ -12,7 +15,7 @@ use Rattle.place_core.specs.page.References.{Closed, Open}
 use Rattle.place_core.specs.place.StatePlaces.{content_spot, only_after, only_inside, placed, quotes_at, tag_spot, value_spot}
 use Rattle.place_core.specs.place.UrlParts.{parts_of}
 use Rattle.place_core.specs.page.States.{LexState, Text, TagOpen, EndTagOpen, DeclarationOpen, InComment, Started, StartedDash, Inside, Dash, DashDash, Bang, Broken, BogusComment, InDoctype, TagName, WholeTagName, BeforeAttributeName, AttributeName, WholeAttributeName, AfterAttributeName, BeforeAttributeValue, AttributeValue, AfterAttributeValue, SelfClosingStartTag, Content, Characters, Bytes, InLanguage, Pending, Nothing, PendingLess, PendingName, PendingBang, PendingBangDash, InContent, Unread, LessAtCut}
-use Rattle.place_core.specs.page.Tags.{Tag, is_second_type, ValueOf, Deciding, ValueState, OfKind, OfUrl, OfStyle, Quoting, DoubleQuoted}
+use Rattle.place_core.specs.page.Tags.{Tag, is_second_type, ValueOf, Deciding, ValueState, OfKind, OfUrl, OfStyle, OfScript, Quoting, DoubleQuoted}
 use Rattle.place_core.specs.declared.body.Body.{Body}
 use Rattle.place_core.specs.declared.body.Body.TheVariants as body
 use Rattle.place_core.specs.declared.css.Css.{Css}
@@ -103,7 +106,7 @@ before-fits : (t : Tag) (k : Kind) → WhereFits (url_part_at (BeforeAttributeVa
 before-fits t kind.Plain = refl
 before-fits t kind.NoHole = refl
 before-fits t kind.Url = refl
-before-fits t kind.Script = tt
+before-fits t kind.Script = refl
 before-fits t kind.Style = refl
 before-fits t kind.ScriptType = tt
 
@@ -192,10 +195,17 @@ element-fits s =
     element-fits-by o (style_css s) DoubleQuoted t
     (subst (λ (z : Option Body). WhereFits o (value_spot t (quotes_at DoubleQuoted) z)) (body-css s) (style-fits s DoubleQuoted t))
 
+script-fits : (o : Option Body) (s : ScriptState) (q : Quoting) (t : Tag) → script_body s ≡ o → WhereFits None (value_spot t (quotes_at q) o)
+script-fits None s q t e = tt
+script-fits (Some x) s q t e =
+    let j = script-paths-are-scanned.is_script s x e in
+    subst (λ (z : Body). WhereFits None (value_spot t (quotes_at q) (Some z))) (sym j.1) refl
+
 language-fits : (h : Pending) (e : Element) (v : ValueState) → WhereFits (url_part_at (InContent e (InLanguage v) h)) (content_spot h (InLanguage v) e)
 language-fits Nothing element.Style (OfStyle s) = element-fits s
 language-fits Nothing element.Style (OfKind k) = tt
 language-fits Nothing element.Style (OfUrl u) = tt
+language-fits Nothing element.Style (OfScript v) = tt
 language-fits Nothing _ v = tt
 language-fits LessAtCut e v = tt
 language-fits PendingLess e v = tt
@@ -228,6 +238,7 @@ fits (BeforeAttributeValue t k) = before-fits t k
 fits (AttributeValue q t (ValueOf (OfKind k)) Closed) = value-fits q t k
 fits (AttributeValue q t (ValueOf (OfUrl u)) Closed) = url-fits u.triple u.part q t
 fits (AttributeValue q t (ValueOf (OfStyle s)) Closed) = style-fits s q t
+fits (AttributeValue q t (ValueOf (OfScript s)) Closed) = script-fits (script_body s) s q t refl
 fits (AttributeValue q t (Deciding k before) Closed) = tt
 fits (AttributeValue q t v (Open f bytes)) = tt
 fits (AfterAttributeValue t) = tt

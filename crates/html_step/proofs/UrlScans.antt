@@ -28,13 +28,15 @@ use Rattle.place_core.specs.declared.tag_of.TagOf.TheVariants as tag
 use Rattle.place_core.specs.declared.tag_place.TagPlace.{TagPlace}
 use Rattle.place_core.specs.declared.value_place.ValuePlace.{ValuePlace}
 use Rattle.place_core.proofs.Semilattices.{none_some, one_value}
-use Rattle.html_scan.specs.Scans.{Scan, At, AfterLess, AfterLessSolidus, InDeclaration, InTagName, InAttributeName, InUrl, InStyle, InCommentEnd, InContentEnd, BeforeType, InType, InStyleElement, element_less_next, element_name_next, element_next, element_pending_next, element_scan, released_next, after_type, attribute_name_next, bare_white, before_type_next, comment_closed, comment_next, comment_scan, comment_state, content_end_next, content_next, content_scan, declaration_next, end_name_next, ended_type, parts_feeding, pending_less_next, quoted_next, rest_place, scan_error, scan_next, tag_name_next, tag_next, triple_behind, type_begun, type_next, type_tag, url_scan, value_cause, value_fed, value_next, value_scan, with_parts, with_quotes, scan_reference, body_cause, quoted_error, style_cause, bare_begun, empty_style_between, quotes_lead, style_fed, style_feeding, style_scan, style_value_next, value_between, with_style}
+use Rattle.html_scan.specs.Scans.{Scan, At, AfterLess, AfterLessSolidus, InDeclaration, InTagName, InAttributeName, InUrl, InStyle, InScript, InCommentEnd, InContentEnd, BeforeType, InType, InStyleElement, script_fed_next, script_value_next, element_less_next, element_name_next, element_next, element_pending_next, element_scan, released_next, after_type, attribute_name_next, bare_white, before_type_next, comment_closed, comment_next, comment_scan, comment_state, content_end_next, content_next, content_scan, declaration_next, end_name_next, ended_type, parts_feeding, pending_less_next, quoted_next, rest_place, scan_error, scan_next, tag_name_next, tag_next, triple_behind, type_begun, type_next, type_tag, url_scan, value_cause, value_fed, value_next, value_scan, with_parts, with_quotes, scan_reference, body_cause, quoted_error, style_cause, bare_begun, empty_style_between, quotes_lead, style_fed, style_feeding, style_scan, style_value_next, value_between, with_style}
 use Rattle.html_step.proofs.OnePath.{url-reference}
 use Rattle.html_step.specs.Origins.{body_parts, element_fed, end_name_fed, fed_in, is_apart, less_fed, loose_fed, scan_parts}
 use Rattle.html_scan.proofs.UrlsFed.{feed_more}
 use Rattle.html_step.proofs.ElementsBelow.{under-element}
 use Rattle.html_step.proofs.Characters.{ReferencePlain, next-plain}
 use Rattle.html_step.proofs.ScanOrder.{BegunWhereOpen, HasBegun, ScanBelow, ScanValid, StyleUnder, StyleUnderPlace, UrlWithin, bare-parts, begun-open, first-none, if-none, parts-below, starts-in-order, style-below-place, under-body}
+use Rattle.html_step.proofs.ScriptPaths.{empty_js}
+use Rattle.js_step.specs.ScriptScans.{ScriptScan}
 use Rattle.html_step.proofs.StyleOrder.{scan-of-start, start-place}
 use Rattle.html_step.proofs.StylePaths.{empty_css, style-scan-reference}
 use Rattle.html_step.proofs.StyleUrls.{KnownUrl, SameUrl, StaysInUrl, above-in-url, below-in-url, feeds, known-fed, known-unmet, known_none, scan-opened, stays-parts, stays-same, unmet-spells}
@@ -331,6 +333,10 @@ below-parts (InAttributeName t x n) (At y) s l h = absurd l
 below-parts (InAttributeName t x n) (InUrl v y r) s l h = absurd l
 below-parts (InAttributeName t x n) (InStyle v m r) s l h = absurd l
 below-parts (InAttributeName t x n) (InStyleElement m k) s l h = absurd l
+below-parts (InScript u n r) (At x) s l h = absurd l
+below-parts (InScript u n r) (InUrl v y z) s l h = absurd l
+below-parts (InScript u n r) (InStyle v m z) s l h = absurd l
+below-parts (InScript u n r) (InStyleElement m k) s l h = absurd l
 below-parts AfterLess f s l h = absurd (none_some s (ap scan_parts l ∙ h))
 below-parts AfterLessSolidus f s l h = absurd (none_some s (ap scan_parts l ∙ h))
 below-parts (InDeclaration x) f s l h = absurd (none_some s (ap scan_parts l ∙ h))
@@ -406,6 +412,9 @@ below-reference (InContentEnd x y) f l = ap scan_reference l
 below-reference (BeforeType x) f l = ap scan_reference l
 below-reference (InType x y z w) f l = ap scan_reference l
 below-reference (InStyle x y z) f l = under-closed x y z f l
+below-reference (InScript x y z) (InUrl v a r) l = absurd l
+below-reference (InScript x y z) (InStyle v a r) l = absurd l
+below-reference (InScript x y z) _ l = refl
 below-reference (InStyleElement n k) f l = under-element (λ g. Closed ≡ scan_reference g) n k f l (λ m i. refl) (λ d j i. refl)
 
 -- the bytes that a scan state is fed are those that one below is fed
@@ -617,6 +626,9 @@ style-holds : (v : ValuePlace) (n : StyleScan) (r : Reference) (c : Class) (b : 
 style-holds v n r c b =
     lead-holds v v.quotes r c b (λ p. style_fed (value_between v p) n r c b)
     (λ p. inr (style-scan-reference (value_between v p) (feed_bytes style_feeding n (undone_byte true r c b)) (next_reference r c b)))
+
+script-holds : (v : ValuePlace) (n : ScriptScan) (r : Reference) (c : Class) (b : ℕ) → Holds (script_value_next v n r c b) Closed c b
+script-holds v n r c b = lead-holds v v.quotes Closed c b (λ p. script_fed_next (value_between v p) n r c b) (λ p. inl refl)
 
 pub element-closed-by : (n : StyleScan) (x : Bool) → scan_reference (if x then At (place.Style (style_scan_place n)) else InStyleElement n Nothing) ≡ Closed
 element-closed-by n true = refl
@@ -971,6 +983,7 @@ fed-unmet v q (body.Css p) t r c b h k =
     let bytes = undone_byte true r c b in
     let m = feed_bytes style_feeding (style_scan_start p) bytes in
     style-met (empty_style_between v q) m (next_reference r c b) (known-unmet m (known-fed bytes (style_scan_start p) (known_none k)))
+fed-unmet v q (body.Js j) t r c b h k = refl
 fed-unmet v q _ t r c b h k = h
 
 white-unmet : (v : ValuePlace) (uq : Bool) → has_met (At (place.Value v)) ≡ false → has_met (bare_white v uq) ≡ false
@@ -1007,6 +1020,10 @@ style-unmet v n r c b e k =
     let m = feed_bytes style_feeding n bytes in
     lead-unmet v v.quotes c (λ p. style_fed (value_between v p) n r c b) (ap (λ (x : Body). spells_apart (beginning_in_body x)) e)
     (λ p. style-met (value_between v p) m (next_reference r c b) (known-unmet m (known-fed bytes n (known_none k))))
+
+script-unmet : (v : ValuePlace) (n : ScriptScan) (r : Reference) (c : Class) (b : ℕ) → v.body ≡ body.Js empty_js → has_met (script_value_next v n r c b) ≡ false
+script-unmet v n r c b e =
+    lead-unmet v v.quotes c (λ p. script_fed_next (value_between v p) n r c b) (ap (λ (x : Body). spells_apart (beginning_in_body x)) e) (λ p. refl)
 
 closed-fresh : (closed : Bool) → IsFresh (comment_closed closed)
 closed-fresh true = (refl, refl)
@@ -1178,6 +1195,7 @@ pub scan-unmet : (f : Scan) (c : Class) (b : ℕ) → ScanValid f → scan_parts
 scan-unmet (At p) c b v h n = place-unmet p c b h n
 scan-unmet (InUrl w t r) c b v h n = value-unmet w t r c b h
 scan-unmet (InStyle w s r) c b v h n = style-unmet w s r c b v.1 h
+scan-unmet (InScript w s r) c b v h n = script-unmet w s r c b v.1
 scan-unmet (InStyleElement s x) c b v h n = element-unmet s x c b h
 scan-unmet AfterLess c b v h n = (less-fresh c b).0
 scan-unmet AfterLessSolidus c b v h n = (solidus-fresh c b).0
@@ -1194,6 +1212,7 @@ pub next-holds : (f : Scan) (c : Class) (b : ℕ) → Holds (scan_next f c b) (s
 next-holds (At p) c b = place-holds p c b
 next-holds (InUrl w t r) c b = value-holds w t r c b
 next-holds (InStyle w s r) c b = style-holds w s r c b
+next-holds (InScript w s r) c b = script-holds w s r c b
 next-holds (InStyleElement s x) c b = inl (element-closed s x c b)
 next-holds AfterLess c b = inl (less-fresh c b).1
 next-holds AfterLessSolidus c b = inl (solidus-fresh c b).1

@@ -19,9 +19,14 @@ use Rattle.place_core.specs.declared.tag_of.TagOf.{TagOf}
 use Rattle.place_core.specs.declared.tag_of.TagOf.TheVariants as tag
 use Rattle.place_core.specs.declared.tag_place.TagPlace.{TagPlace}
 use Rattle.place_core.specs.declared.value_place.ValuePlace.{ValuePlace}
-use Rattle.html_scan.specs.Scans.{Scan, At, AfterLess, AfterLessSolidus, InDeclaration, InTagName, InAttributeName, InUrl, InStyle, InStyleElement, InCommentEnd, InContentEnd, element_less_next, element_name_next, element_next, element_pending_next, released_next, attribute_name_next, bare_begun, bare_white, comment_closed, comment_scan, comment_next, comment_state, content_end_next, content_scan, content_next, declaration_next, end_name_next, scan_next, scan_place, tag_name_next, tag_next, value_scan, BeforeType, InType, rest_place, content_end_place, pending_less_next, before_type_next, after_type, type_next, type_begun, type_tag, ended_type, parts_feeding, parts_with, triple_behind, url_scan, value_fed, with_parts, place_cause, scan_error, value_next, empty_style_between, quotes_lead, style_fed, style_feeding, style_scan, style_value_next, value_between, with_style}
+use Rattle.html_scan.specs.Scans.{Scan, At, AfterLess, AfterLessSolidus, InDeclaration, InTagName, InAttributeName, InUrl, InStyle, InScript, InStyleElement, InCommentEnd, InContentEnd, element_less_next, element_name_next, element_next, element_pending_next, released_next, attribute_name_next, bare_begun, bare_white, comment_closed, comment_scan, comment_next, comment_state, content_end_next, content_scan, content_next, declaration_next, end_name_next, scan_next, scan_place, tag_name_next, tag_next, value_scan, BeforeType, InType, rest_place, content_end_place, pending_less_next, before_type_next, after_type, type_next, type_begun, type_tag, ended_type, parts_feeding, parts_with, triple_behind, url_scan, value_fed, with_parts, place_cause, scan_error, value_next, empty_style_between, quotes_lead, style_fed, style_feeding, style_scan, style_value_next, value_between, with_style, empty_script_between, script_fed_next, script_feeding, script_value_next}
 use Rattle.html_step.proofs.ScanOrder.{HasBegun, ScanValid, UrlWithin, begun-valid}
+use Rattle.html_step.proofs.ScriptOrder.{script-fed-valid, script-start-valid}
+use Rattle.html_step.proofs.ScriptPaths.{empty_js}
 use Rattle.html_step.proofs.StyleOrder.{start-valid, style-fed-valid}
+use Rattle.js_step.specs.ScriptScans.{ScriptScan, script_scan_start}
+use Rattle.js_step.specs.ScriptValidity.{IsScriptScan}
+use Rattle.js_step.proofs.ValidScripts.{scripts-stay-valid}
 use Rattle.html_step.proofs.StylePaths.{empty_css}
 use Rattle.html_step.proofs.UrlOrder.{fed-valid}
 use Rattle.css_step.specs.StyleScans.{StyleScan, is_style_start, style_scan_place, style_scan_start}
@@ -49,8 +54,8 @@ begins-valid t typed kind.Plain = (refl, tt)
 begins-valid t typed kind.NoHole = (refl, tt)
 begins-valid t typed kind.Url = (refl, (refl, tt))
 begins-valid t typed kind.Style = (refl, tt)
+begins-valid t typed kind.Script = (refl, refl)
 begins-valid t typed kind.ScriptType = tt
-begins-valid t typed _ = tt
 
 equals-valid : (t : TagOf) (typed : Bool) (o : Option Kind) → ScanValid (value_scan t typed o)
 equals-valid t typed (Some k) = begins-valid t typed k
@@ -101,6 +106,7 @@ fed-value-valid v q (body.Css p) t r c b g h k =
     let bytes = undone_byte true r c b in
     style-valid (empty_style_between v q) (feed_bytes style_feeding (style_scan_start p) bytes) (next_reference r c b) g refl
     (style-fed-valid bytes (style_scan_start p) (start-valid p k))
+fed-value-valid v q (body.Js p) t r c b g h k = (g, refl, script-fed-valid (undone_byte true r c b) (script_scan_start p) (script-start-valid p k))
 fed-value-valid v q _ t r c b g h k = (begun-valid q g, h)
 
 -- a byte of a value, by its quotes
@@ -125,6 +131,12 @@ style-next-valid v n r c b e w =
     lead-valid v v.quotes c (λ p. style_fed (value_between v p) n r c b) (subst IsValidBody (sym e) tt)
     (λ p g. let bytes = undone_byte true r c b in
     style-valid (value_between v p) (feed_bytes style_feeding n bytes) (next_reference r c b) g e (style-fed-valid bytes n w))
+
+script-next-valid : (v : ValuePlace) (n : ScriptScan) (r : Reference) (c : Class) (b : ℕ) → v.body ≡ body.Js empty_js → IsScriptScan n
+    → ScanValid (script_value_next v n r c b)
+script-next-valid v n r c b e w =
+    lead-valid v v.quotes c (λ p. script_fed_next (value_between v p) n r c b) (subst IsValidBody (sym e) refl)
+    (λ p g. (g, e, script-fed-valid (undone_byte true r c b) n w))
 
 closed-valid : (closed : Bool) → ScanValid (comment_closed closed)
 closed-valid true = tt
@@ -288,6 +300,7 @@ scan-valid AfterLessSolidus _ b v n = tt
 scan-valid (InDeclaration pending) c b v n = declaration-valid (declared_by (pending ++ b ∷ [])) c b pending
 scan-valid (InUrl x t r) c b v n = value-valid x t r c b (within-valid x.body v.1)
 scan-valid (InStyle x s r) c b v n = style-next-valid x s r c b v.1 v.2
+scan-valid (InScript x s r) c b v n = script-next-valid x s r c b v.1 v.2
 scan-valid (InTagName ends name) c b v n = name-valid c b ends name
 scan-valid (InAttributeName t typed name) c b v n = attribute-valid c b t typed (kind_of (element_on t) name) name
 scan-valid (InCommentEnd s) c b v n = comment-valid s c
@@ -310,6 +323,7 @@ pub end-valid : (f : Scan) → ScanValid f → IsValid (scan_place f)
 end-valid (At p) v = v
 end-valid (InUrl x t r) v = (begun-valid x.quotes v.0, within-valid (parts_with x.body (as_it_stands r)) (with-within x.body (as_it_stands r) v.1))
 end-valid (InStyle x s r) v = (begun-valid x.quotes v.0, style-fed-valid (as_it_stands r) s v.2)
+end-valid (InScript x s r) v = (begun-valid x.quotes v.0, scripts-stay-valid.place (feed_bytes script_feeding s (as_it_stands r)) (script-fed-valid (as_it_stands r) s v.2))
 end-valid AfterLess v = tt
 end-valid AfterLessSolidus v = tt
 end-valid (InDeclaration pending) v = tt

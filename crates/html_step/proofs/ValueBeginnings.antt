@@ -8,7 +8,7 @@ use Rattle.css_lexer.specs.Steps.{feed_style, next_bare, next_bad, next_between,
 use Rattle.css_lexer.specs.Urls.{urls}
 use Rattle.css_lexer.specs.declared.class.StyleClass.{StyleClass}
 use Rattle.css_lexer.specs.declared.class.StyleClass.TheVariants as css
-use Rattle.place_core.specs.page.Tags.{Value, ValueOf, ValueState, OfKind, OfUrl, OfStyle, languages, with_bytes, cut_value, feed_value}
+use Rattle.place_core.specs.page.Tags.{Value, ValueOf, ValueState, OfKind, OfUrl, OfStyle, OfScript, languages, with_bytes, cut_value, feed_value}
 use Rattle.place_core.specs.place.PathPairs.{is_in_open, unknown_part, unknown_style, unknown_url, url_in_style}
 use Rattle.html_step.proofs.Parentheses.{IsNoOpening, NoOpening, OpensAtEnds, OpensFirst, OpensLast, last-behind, last-ends}
 use Rattle.url_lexer.specs.Classes.{url_class_of}
@@ -278,16 +278,19 @@ abbrev pub begins_in : ValueState → Bool
 begins_in (OfKind k) = false
 begins_in (OfUrl u) = is_open u.part
 begins_in (OfStyle s) = is_in_open (url_in_style s)
+begins_in (OfScript v) = false
 
 abbrev pub is_away : ValueState → Bool
 is_away (OfKind k) = true
 is_away (OfUrl u) = is_past u.part
 is_away (OfStyle s) = is_style_away s
+is_away (OfScript v) = true
 
 abbrev pub unknown_value : ValueState → ValueState
 unknown_value (OfKind k) = OfKind k
 unknown_value (OfUrl u) = OfUrl (unknown_url u)
 unknown_value (OfStyle s) = OfStyle (unknown_style s)
+unknown_value (OfScript v) = OfScript v
 
 abbrev pub fed_value : ValueState → List ℕ → ValueState
 fed_value v [] = v
@@ -305,22 +308,26 @@ begins-next : (v : ValueState) (b : ℕ) → begins_in v ≡ true → (begins_in
 begins-next (OfKind k) b h = absurd (no h)
 begins-next (OfUrl u) b h = open-next u.part (url_class_of b) b h
 begins-next (OfStyle s) b h = style-begins-next s (style_class b) b h
+begins-next (OfScript v) b h = absurd (no h)
 
 away-next : (v : ValueState) (b : ℕ) → is_away v ≡ true
     → (is_away (feed_value v b) ≡ true) ⊎ ((style_class b ≡ css.LeftParenthesis) × (begins_in (feed_value v b) ≡ false))
 away-next (OfKind k) b h = inl refl
 away-next (OfUrl u) b h = inl (past-next u.part (url_class_of b) b h)
 away-next (OfStyle s) b h = style-away-next s (style_class b) b h
+away-next (OfScript v) b h = inl refl
 
 not-both : (v : ValueState) → begins_in v ≡ true → is_away v ≡ true → ⊥
 not-both (OfKind k) h a = no h
 not-both (OfUrl u) h a = open-past u.part h a
 not-both (OfStyle s) h a = style-not-both s h a
+not-both (OfScript v) h a = no h
 
 unknown-byte : (v : ValueState) (b : ℕ) → begins_in v ≡ true → begins_in (feed_value v b) ≡ true → feed_value (unknown_value v) b ≡ unknown_value (feed_value v b)
 unknown-byte (OfKind k) b h i = absurd (no h)
 unknown-byte (OfUrl u) b h i = ap OfUrl (unknown-fed u b h i)
 unknown-byte (OfStyle s) b h i = ap OfStyle (style-unknown-next s (style_class b) b h i)
+unknown-byte (OfScript v) b h i = absurd (no h)
 
 -- what is away stays so where no `(` is before the last byte
 pub away-bytes : (bytes : List ℕ) (v : ValueState) → OpensLast bytes → is_away v ≡ true → begins_in (fed_value v bytes) ≡ true → ⊥
@@ -365,6 +372,7 @@ first-or (b ∷ bs) v n h = begins-or bs (feed_value v b) n (begins-next v b h)
 pub cut-begins : (v : ValueState) → begins_in (languages.after_cut v) ≡ begins_in v
 cut-begins (OfKind k) = refl
 cut-begins (OfUrl u) = refl
+cut-begins (OfScript v) = refl
 cut-begins (OfStyle (Out s)) = refl
 cut-begins (OfStyle (InUrl Fresh u)) = refl
 cut-begins (OfStyle (InUrl Bare u)) = refl
@@ -374,6 +382,7 @@ cut-begins (OfStyle (InUrl Ended u)) = refl
 pub cut-unknown : (v : ValueState) → languages.after_cut (unknown_value v) ≡ unknown_value (languages.after_cut v)
 cut-unknown (OfKind k) = refl
 cut-unknown (OfUrl u) = refl
+cut-unknown (OfScript v) = refl
 cut-unknown (OfStyle (Out s)) = refl
 cut-unknown (OfStyle (InUrl Fresh u)) = refl
 cut-unknown (OfStyle (InUrl Bare u)) = refl

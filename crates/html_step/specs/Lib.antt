@@ -8,6 +8,7 @@ pub mod Laws
 pub mod OriginViews
 pub mod Origins
 pub mod PlaceText
+pub mod ScriptShowing
 pub mod Sets
 pub mod StepViews
 pub mod Steps

@@ -5,12 +5,16 @@ use Rattle.css_lexer.specs.declared.class.StyleClass.{StyleClass}
 use Rattle.css_lexer.specs.declared.class.StyleClass.TheVariants as style
 use Rattle.css_step.specs.StyleOrigins.{scan_set_has, style_scan_parts}
 use Rattle.css_step.specs.StyleScans.{StyleScan, ScanCode, ScanSplitEscape, ScanStarBefore, ScanBareUrl, ScanQuotedUrl, style_scan_next, style_scan_start}
+use Rattle.js_lexer.specs.Refusals.{Cause as ScriptCause}
+use Rattle.js_step.specs.ScriptEvidence.{script_shown_by, script_split_shows}
+use Rattle.js_step.specs.ScriptOrigins.{script_set_has}
+use Rattle.js_step.specs.ScriptScans.{ScriptScan, script_scan_cut_error, script_scan_error, script_scan_start}
 use Rattle.place_core.specs.page.Classes.{Class, White, QuotationMark, Apostrophe, Solidus, LessThan, EqualsSign, GreaterThan, Letter, class_of}
 use Rattle.place_core.specs.page.Contents.{is_name_of, may_be_name_of, pending_bytes}
 use Rattle.place_core.specs.page.References.{Reference, Closed, undone_byte, as_it_stands}
 use Rattle.place_core.specs.page.States.{Pending, Nothing, PendingLess, LessAtCut, PendingName, PendingBang, PendingBangDash}
 use Rattle.place_core.specs.page.Tags.{feed_bytes}
-use Rattle.place_core.specs.place.Errors.{PathCause, body_error}
+use Rattle.place_core.specs.place.Errors.{FedByte, PathCause, at_value_end, body_error, value_end_cause}
 use Rattle.place_core.specs.declared.body.Body.{Body}
 use Rattle.place_core.specs.declared.body.Body.TheVariants as body
 use Rattle.place_core.specs.declared.code.Code.{Code}
@@ -25,7 +29,7 @@ use Rattle.place_core.specs.declared.quotes.Quotes.{Quotes}
 use Rattle.place_core.specs.declared.quotes.Quotes.TheVariants as quotes
 use Rattle.place_core.specs.declared.spots.Spots.{Spots}
 use Rattle.place_core.specs.declared.value_place.ValuePlace.{ValuePlace}
-use Rattle.html_scan.specs.Scans.{Scan, At, InAttributeName, InUrl, InStyle, InStyleElement, body_cause, quoted_error, scan_error, scan_next, style_feeding}
+use Rattle.html_scan.specs.Scans.{Scan, At, InAttributeName, InUrl, InStyle, InScript, InStyleElement, all_scripts, body_cause, ends_quoted, quoted_error, quoted_places, scan_error, scan_next, script_fed_byte, script_feeding, style_feeding}
 use Rattle.html_step.specs.Laws.{EvidenceData, one, two, apart}
 use Rattle.url_lexer.specs.Classes.{url_class_of}
 use Rattle.url_lexer.specs.declared.class.UrlClass.{UrlClass}
@@ -91,9 +95,18 @@ abbrev pub style_fed_origin : List ℕ → StyleScan → Member → Member
 style_fed_origin [] n y = y
 style_fed_origin (b ∷ bs) n y = style_byte_origin n b (style_fed_origin bs (style_scan_next n (style_class b) b) y)
 
+-- In a script, the member before the bytes that it is fed: what the scan state has as a set comes from itself, and all else is so on all paths.
+abbrev pub typed_origin : Member → Member
+typed_origin member.Typed = member.Typed
+typed_origin y = member.Whole
+
+abbrev pub script_origin : ScriptScan → Member → Member
+script_origin n y = if script_set_has n y then y else typed_origin y
+
 abbrev pub body_origin : Body → List ℕ → Member → Member
 body_origin (body.Url s) bytes y = fed_origin bytes s y
 body_origin (body.Css c) bytes y = style_fed_origin bytes (style_scan_start c) y
+body_origin (body.Js j) bytes y = script_origin (script_scan_start j) y
 body_origin x bytes y = y
 
 -- White space in a tag leads from a name to before one, and from in a name to after one.
@@ -104,10 +117,6 @@ white_origin s member.AfterSpot = if s.inside then member.InsideSpot else member
 white_origin s y = member.Whole
 
 -- Elsewhere in a tag only that a `type` may have been seen stays as it is; all else holds of each path.
-abbrev pub typed_origin : Member → Member
-typed_origin member.Typed = member.Typed
-typed_origin y = member.Whole
-
 abbrev pub tag_origin : Class → Spots → Member → Member
 tag_origin White s y = white_origin s y
 tag_origin c s y = typed_origin y
@@ -128,6 +137,18 @@ in_value_origin member.CssWord = member.CssWord
 in_value_origin member.CssSlash = member.CssSlash
 in_value_origin member.CssLt = member.CssLt
 in_value_origin member.CssStar = member.CssStar
+in_value_origin member.SenseRe = member.SenseRe
+in_value_origin member.SenseDiv = member.SenseDiv
+in_value_origin member.SenseBrace = member.SenseBrace
+in_value_origin member.JsWord = member.JsWord
+in_value_origin member.JsNum = member.JsNum
+in_value_origin member.JsLt = member.JsLt
+in_value_origin member.JsSlash = member.JsSlash
+in_value_origin member.JsPlus = member.JsPlus
+in_value_origin member.JsMinus = member.JsMinus
+in_value_origin member.JsHash = member.JsHash
+in_value_origin member.RegexpSlash = member.RegexpSlash
+in_value_origin member.JsStar = member.JsStar
 in_value_origin y = typed_origin y
 
 abbrev pub fed_in : Quotes → Reference → Class → ℕ → List ℕ
@@ -190,6 +211,7 @@ behind_origin (At p) c y = place_origin p c y
 behind_origin (InAttributeName t typed name) c y = name_origin typed
 behind_origin (InUrl v t r) c y = in_value_origin y
 behind_origin (InStyle v s r) c y = in_value_origin y
+behind_origin (InScript v n r) c y = in_value_origin y
 behind_origin (InStyleElement s h) c y = element_origin h c y
 behind_origin f c y = member.Whole
 
@@ -202,6 +224,7 @@ abbrev pub scan_fed_origin : Scan → Class → ℕ → Member → Member
 scan_fed_origin (At p) c b y = place_fed_origin p c b y
 scan_fed_origin (InUrl v t r) c b y = body_origin v.body (fed_in v.quotes r c b) y
 scan_fed_origin (InStyle v s r) c b y = style_fed_origin (fed_in v.quotes r c b) s y
+scan_fed_origin (InScript v n r) c b y = script_origin n y
 scan_fed_origin (InStyleElement s h) c b y = style_fed_origin (element_fed h c b) s y
 scan_fed_origin f c b y = y
 
@@ -221,6 +244,7 @@ end_origin (At p) y = y
 end_origin (InAttributeName t typed name) y = name_origin typed
 end_origin (InUrl v t r) y = body_origin v.body (as_it_stands r) y
 end_origin (InStyle v s r) y = style_ends_origin s (as_it_stands r) y
+end_origin (InScript v n r) y = script_origin n y
 end_origin (InStyleElement s h) y = style_ends_origin s (pending_bytes h) y
 end_origin f y = member.Whole
 
@@ -328,6 +352,47 @@ abbrev pub style_shows : StyleScan → List ℕ → Code → EvidenceData
 style_shows n bytes code.BadHTML = one member.Whole
 style_shows n bytes e = fed_shows n bytes
 
+-- What a script refuses of the bytes that it is fed, the first of them, or behind them of its end: by members before all of them. A slash that begins a
+-- regular expression on some paths and divides on others two members show.
+abbrev pub script_evidence : Option Member → EvidenceData
+script_evidence (Some y) = one y
+script_evidence None = two member.SenseDiv member.SenseRe
+
+abbrev pub script_byte_shown : ScriptScan → ℕ → Option EvidenceData
+script_byte_shown n b = option_map (λ e. script_evidence (script_shown_by n (script_split_shows n b) e.refusal)) (script_scan_error false n b)
+
+abbrev pub script_told_shown : (ScriptScan → Option ScriptCause) → List ℕ → ScriptScan → Option EvidenceData
+script_told_shown ends [] n = option_map (λ e. script_evidence (script_shown_by n member.Whole e.refusal)) (ends n)
+script_told_shown ends (b ∷ bs) n = first_shown (script_byte_shown n b) (script_told_shown ends bs (script_fed_byte n b))
+
+abbrev pub script_back : ScriptScan → EvidenceData → EvidenceData
+script_back n (one y) = one (script_origin n y)
+script_back n (two x y) = two (script_origin n x) (script_origin n y)
+script_back n apart = apart
+
+abbrev pub script_shows : (ScriptScan → Option ScriptCause) → List ℕ → ScriptScan → Option EvidenceData
+script_shows ends bytes n = option_map (script_back n) (script_told_shown ends bytes n)
+
+-- at a byte of the text, which may end the value
+abbrev pub bytes_of_places : List FedByte → List ℕ
+bytes_of_places [] = []
+bytes_of_places (x ∷ xs) = x.byte ∷ bytes_of_places xs
+
+abbrev pub script_value_ends : (ends : Bool) → ScriptScan → Option ScriptCause
+script_value_ends ends n = at_value_end (value_end_cause all_scripts ends n)
+
+abbrev pub script_step_shows : Quotes → ScriptScan → Reference → Class → ℕ → Option EvidenceData
+script_step_shows q n r c b = script_shows (script_value_ends (ends_quoted q c)) (bytes_of_places (quoted_places q 0 r c b)) n
+
+abbrev pub begun_script_shows : Body → Quotes → Class → ℕ → Option EvidenceData
+begun_script_shows (body.Js j) q c b = script_step_shows q (script_scan_start j) Closed c b
+begun_script_shows x q c b = None
+
+abbrev pub script_shown : Scan → Class → ℕ → Option EvidenceData
+script_shown (At (place.Value v)) c b = begun_script_shows v.body v.quotes c b
+script_shown (InScript v n r) c b = script_step_shows v.quotes n r c b
+script_shown f c b = None
+
 -- What the language of a value refuses of the bytes that it is fed.
 abbrev pub body_refusal_shows : Body → List ℕ → Code → EvidenceData
 body_refusal_shows (body.Url s) bytes e = url_shows s e
@@ -348,6 +413,14 @@ style_or_quotes None n bytes later = later
 abbrev pub style_value_shows : ValuePlace → StyleScan → Reference → Class → ℕ → EvidenceData
 style_value_shows v n r c b = style_or_quotes (quoted_error style_feeding v.quotes n r c b) n (undone_byte true r c b) (quotes_show None v.quotes c)
 
+-- Where a script refuses none of them, a reference by a name that stands for no character is, or what its quotes refuse.
+abbrev pub name_or_quotes : Option PathCause → EvidenceData → EvidenceData
+name_or_quotes (Some e) later = one member.Whole
+name_or_quotes None later = later
+
+abbrev pub script_value_shows : ValuePlace → ScriptScan → Reference → Class → ℕ → EvidenceData
+script_value_shows v n r c b = name_or_quotes (quoted_error script_feeding v.quotes n r c b) (quotes_show None v.quotes c)
+
 abbrev pub place_shows : Place → Class → ℕ → EvidenceData
 place_shows (place.Comment dash) c b = one member.CommentDash
 place_shows (place.Tag t) c b = one (tag_shows c t.spots)
@@ -361,6 +434,7 @@ byte_shows (At p) c b = place_shows p c b
 byte_shows (InAttributeName t typed name) c b = one (name_origin typed)
 byte_shows (InUrl v t r) c b = value_shows v r c b
 byte_shows (InStyle v s r) c b = style_value_shows v s r c b
+byte_shows (InScript v n r) c b = script_value_shows v n r c b
 byte_shows (InStyleElement s h) c b = fed_shows s (element_fed h c b)
 byte_shows f c b = one member.Whole
 
@@ -387,6 +461,17 @@ abbrev pub unless_shown : Option PathCause → EvidenceData → EvidenceData →
 unless_shown (Some e) here later = here
 unless_shown None here later = later
 
+abbrev pub or_evidence : Option EvidenceData → EvidenceData → EvidenceData
+or_evidence (Some x) later = x
+or_evidence None later = later
+
+-- at the end of a text
+abbrev pub script_end_shown : Scan → Option EvidenceData
+script_end_shown (InScript v n r) = script_shows script_scan_cut_error (as_it_stands r) n
+script_end_shown f = None
+
 abbrev pub shows : List ℕ → Scan → EvidenceData
-shows [] f = one (end_shows f)
-shows (b ∷ bs) f = unless_shown (scan_error f (class_of b) b) (byte_shows f (class_of b) b) (back_by f (class_of b) b (shows bs (scan_next f (class_of b) b)))
+shows [] f = or_evidence (script_end_shown f) (one (end_shows f))
+shows (b ∷ bs) f =
+    or_evidence (script_shown f (class_of b) b)
+    (unless_shown (scan_error f (class_of b) b) (byte_shows f (class_of b) b) (back_by f (class_of b) b (shows bs (scan_next f (class_of b) b))))

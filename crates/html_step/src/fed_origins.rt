@@ -1,4 +1,4 @@
-// Origins before the bytes that a URL is fed at a byte of the text, and where the text ends.
+// Origins before the bytes that a URL, a style or a script is fed at a byte of the text, and where the text ends.
 ghost use Rattle.std.specs.Prelude.{◌≡◌, ◌∷◌, ◌<◌, ◌≤◌, encode_utf8, get_or, length, true};
 ghost use Rattle.place_core.specs.page.References.{Open, as_it_stands, flushed, plain_bytes, undone_byte};
 ghost use Rattle.html_scan.specs.ClassViews.{class_at};
@@ -34,6 +34,7 @@ pub fn behind_byte(origins: Origins, text: &[u8], index: usize, class: Class, sc
             style,
             reference,
         } => { in_style(origins, text, index, class, place.quotes, style, reference) }
+        Scan::InScript { script, .. } => origins.then_script(script),
         Scan::InStyleElement(style) => {
             element_origins::in_element(origins, class, text[index], style)
         }
@@ -83,7 +84,8 @@ fn in_value(
             let style = css_step::start(css);
             in_style(origins, text, index, class, place.quotes, style, reference)
         }
-        Body::Plain | Body::NoHole | Body::Js(_) => origins,
+        Body::Js(js) => origins.then_script(js_step::start(js)),
+        Body::Plain | Body::NoHole => origins,
     }
 }
 
@@ -203,7 +205,8 @@ pub fn behind_end(
             Some(open) => behind_written(origins, parts, pending(text, open.from + 1, text.len())),
         },
         Body::Css(css) => at_style_end(origins, text, css_step::start(css), reference),
-        Body::Plain | Body::NoHole | Body::Js(_) => origins,
+        Body::Js(js) => origins.then_script(js_step::start(js)),
+        Body::Plain | Body::NoHole => origins,
     }
 }
 

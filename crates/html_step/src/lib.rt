@@ -17,6 +17,8 @@ mod origins;
 mod predefined;
 mod printed;
 mod refusal;
+mod script_origins;
+mod script_showing;
 mod sets;
 mod showing;
 mod steps;

@@ -1,5 +1,6 @@
 ghost use Rattle.std.specs.Prelude.{◌≡◌, ◌<◌, ◌≤◌, ℕ, List, Some, get_or, length};
 ghost use Rattle.css_step.specs.StyleScanViews.{style_scan_at};
+ghost use Rattle.js_step.specs.ScriptScanViews.{script_scan_at};
 ghost use Rattle.html_scan.specs.ClassViews.{class_at};
 ghost use Rattle.html_scan.specs.ScanViews.{pending_from, scan_at};
 ghost use Rattle.html_step.specs.Origins.{byte_origin};
@@ -10,10 +11,12 @@ ghost use Rattle.url_lexer.specs.Classes as urls;
 use crate::element_origins;
 use crate::evidence::Evidence;
 use crate::fed_origins::{behind_byte, behind_end};
+use crate::script_origins::script_origin;
 use crate::style_fed_origins::at_style_end;
 use crate::style_origins::{style_end_origin, style_is_apart, style_origin};
 use css_step::StyleScan;
 use html_scan::{Class, Scan, behind_less, behind_name, is_name_of, pending, style_at_cut};
+use js_step::ScriptScan;
 use place_core::{Body, Element, Member, Parts, Place, Prefix, Spots};
 use url_lexer::{UrlClass, url_class_of};
 
@@ -104,6 +107,19 @@ impl Origins {
         Origins { before }
     }
 
+    /// The same with the bytes more that a script is fed.
+    pub fn then_script(self, script: ScriptScan) -> Origins
+        ensures { (y : Member) → origin_at result y
+            ≡ origin_at self (spec.script_origin (script_scan_at script) y) }
+    {
+        let members = members();
+        let mut before = members;
+        for number in 0..32 {
+            before[number] = self.of(script_origin(script, members[number]));
+        }
+        Origins { before }
+    }
+
     /// The member before some bytes and the end of the text that a member after it comes from.
     pub fn of_end(self, text: &[u8], scan: Scan, member: Member) -> Member
         requires pending { pending_from scan ≤ length text.now }
@@ -126,6 +142,7 @@ impl Origins {
                 let end = style_end_origin(style_at_cut(text, style, reference), member);
                 at_style_end(self, text, style, reference).of(end)
             }
+            Scan::InScript { script, .. } => self.of(script_origin(script, member)),
             Scan::InStyleElement(style) => self.of(style_end_origin(style, member)),
             Scan::AfterStyleLess(style) => {
                 let end = style_end_origin(behind_less(style), member);
@@ -269,7 +286,9 @@ fn behind_origin(text: &[u8], index: usize, class: Class, scan: Scan, member: Me
     match scan {
         Scan::At(place) => place_origin(place, class, member),
         Scan::InAttributeName { typed, .. } => name_origin(typed),
-        Scan::InUrl { .. } | Scan::InStyle { .. } => in_value_origin(member),
+        Scan::InUrl { .. } | Scan::InStyle { .. } | Scan::InScript { .. } => in_value_origin(
+            member,
+        ),
         Scan::InStyleElement(_) | Scan::AfterStyleLess(_) => member,
         Scan::InStyleName { from, .. } => {
             let whole = is_name_of(Element::Style, pending(text, from + 2, index));
@@ -314,7 +333,19 @@ pub fn in_value_origin(member: Member) -> Member
         | Member::CssWord
         | Member::CssSlash
         | Member::CssLt
-        | Member::CssStar => member,
+        | Member::CssStar
+        | Member::SenseRe
+        | Member::SenseDiv
+        | Member::SenseBrace
+        | Member::JsWord
+        | Member::JsNum
+        | Member::JsLt
+        | Member::JsSlash
+        | Member::JsPlus
+        | Member::JsMinus
+        | Member::JsHash
+        | Member::RegexpSlash
+        | Member::JsStar => member,
         _ => typed_origin(member),
     }
 }

@@ -2,23 +2,27 @@ ghost use Rattle.std.specs.Prelude.{◌≡◌, ◌<◌, ◌≤◌, ◌^◌, ℕ,
 ghost use Rattle.place_core.specs.place.Places.{Has, IsValid};
 ghost use Rattle.place_core.specs.declared.step_err.StepErr.{StepErr};
 ghost use Rattle.css_step.specs.StyleScanViews.{style_scan_at};
+ghost use Rattle.js_step.specs.ScriptScanViews.{script_scan_at};
 ghost use Rattle.html_scan.specs.ClassViews.{class_at};
-ghost use Rattle.html_scan.specs.ScanViews.{open_reference_at, pending_from, reference_from, scan_at};
+ghost use Rattle.html_scan.specs.ScanViews.{open_reference_at, pending_from, reference_from, scan_at, script_count, script_from};
 ghost use Rattle.html_scan.specs.Scans.{At};
 ghost use Rattle.html_step.specs.Laws.{IsOrigin, IsEvidence};
 ghost use Rattle.html_step.specs.OriginViews.{evidence_at};
-ghost use Rattle.html_step.specs.Origins.{quotes_show, shows, style_value_shows, url_shows, value_shows};
+ghost use Rattle.html_step.specs.Origins.{quotes_show, script_value_shows, shows, style_value_shows, url_shows, value_shows};
 ghost use Rattle.html_step.specs.Origins as spec;
 ghost use Rattle.html_step.specs.Steps as steps;
 
 use crate::element_showing;
 use crate::evidence::Evidence;
 use crate::origins::{Origins, name_origin, spells_apart};
+use crate::script_showing::{script_shown, shown_at_cut};
 use crate::style_showing::{shown_at_end, shown_in_style};
 use css_step::StyleScan;
 use html_scan::{
-    Class, OpenReference, Scan, at_byte, class_of, next, pending, refused_in_style, refused_in_url,
+    Class, OpenReference, Scan, at_byte, begun_script, class_of, next, pending, refused_in_script,
+    refused_in_style, refused_in_url,
 };
+use js_step::ScriptScan;
 use place_core::{Body, Code, Member, Parts, Place, Quotes, Spots, ValuePlace};
 
 /// A member of a place that a member of the place after a text comes from: every path that bears the one comes to bear the other.
@@ -64,6 +68,9 @@ fn evidence(text: &[u8], place: Place) -> Evidence
     let mut apart = Evidence::Apart;
     for index in 0..text.len() {
         let class = class_of(text[index]);
+        if let Some(shown) = script_shown(text, index, class, scan) {
+            return origins.of_evidence(shown, apart);
+        }
         if at_byte(text, index, class, scan).is_some() {
             return origins.of_evidence(byte_shows(text, index, class, scan), apart);
         }
@@ -71,7 +78,10 @@ fn evidence(text: &[u8], place: Place) -> Evidence
         origins = origins.then(text, index, class, scan);
         scan = next(text, index, class, scan);
     }
-    Evidence::One(origins.of(end_shows(text, scan)))
+    match shown_at_cut(text, scan) {
+        Some(shown) => origins.of_evidence(shown, apart),
+        None => Evidence::One(origins.of(end_shows(text, scan))),
+    }
 }
 
 // What shows that a byte is refused.
@@ -94,6 +104,11 @@ fn byte_shows(text: &[u8], index: usize, class: Class, scan: Scan) -> Evidence
             style,
             reference,
         } => in_style(text, index, class, place.quotes, style, reference),
+        Scan::InScript {
+            place,
+            script,
+            reference,
+        } => in_script(text, index, class, place.quotes, script, reference),
         Scan::InStyleElement(style) => element_showing::in_element(class, text[index], style),
         Scan::AfterStyleLess(style) => element_showing::after_less(class, text[index], style),
         Scan::InStyleName { style, from } => {
@@ -145,7 +160,13 @@ fn in_value(
             let style = css_step::start(css);
             in_style(text, index, class, place.quotes, style, reference)
         }
-        Body::Js(_) => Evidence::One(Member::Whole),
+        Body::Js(js) => {
+            let script = begun_script(js);
+            match refused_in_script(text, index, class, place.quotes, script, reference) {
+                Some(_) => Evidence::One(Member::Whole),
+                None => in_quotes(place.quotes, class),
+            }
+        }
     }
 }
 
@@ -166,6 +187,27 @@ fn in_style(
 {
     match refused_in_style(text, index, class, quotes, style, reference) {
         Some(cause) => shown_in_style(text, index, class, style, reference, cause.code),
+        None => in_quotes(quotes, class),
+    }
+}
+
+// In a script, which has been scanned so and refuses none of the bytes that it is fed.
+fn in_script(
+    text: &[u8],
+    index: usize,
+    class: Class,
+    quotes: Quotes,
+    script: ScriptScan,
+    reference: Option<OpenReference>,
+) -> Evidence
+    requires inside { index < length text.now }
+    requires pending { script_from (script_count script) reference ≤ index }
+    ensures { (v : ValuePlace) → v.quotes ≡ quotes → evidence_at result ≡ script_value_shows v
+        (script_scan_at script) (open_reference_at text.now index reference) (class_at class)
+        (get_or text.now index 0) }
+{
+    match refused_in_script(text, index, class, quotes, script, reference) {
+        Some(_) => Evidence::One(Member::Whole),
         None => in_quotes(quotes, class),
     }
 }

@@ -4,7 +4,7 @@ use Rattle.js_lexer.specs.Alike.{ScriptsAlike, IsSame, IsPassed}
 use Rattle.js_lexer.specs.Classes.{class_of}
 use Rattle.js_lexer.specs.Events.{ScriptEvent}
 use Rattle.js_lexer.specs.Feeding.{points, tells_all, tells_white_apart, read_at, held_at, tells_held_slash, tells_end, feed_script, script_emits, feed_class, script_emits_class, script_ends, released_point, emits_released}
-use Rattle.js_lexer.specs.Holes.{paged, as_page, settled_at, script_settled, script_emits_settled, hole_at, script_after_hole, script_behind, script_after_cut, LeadsPlainAt, ScriptLeadsPlain}
+use Rattle.js_lexer.specs.Holes.{paged, as_page, settled_at, script_settled, script_emits_settled, script_has_mark, script_has_mark_at, hole_at, script_after_hole, script_behind, script_after_cut, LeadsPlainAt, ScriptLeadsPlain}
 use Rattle.js_lexer.specs.Laws.{ScriptLaws}
 use Rattle.js_lexer.specs.Refusals.{Cause, cause, first_script_cause, splits_first, SplitToken, script_refuses, script_refuses_class, refusal_outside}
 use Rattle.js_lexer.specs.States.{NoEscape, At, Code, Word, Number, Pluses, Minuses, Slash, LineComment, BlockComment, InString, InRegexp, InTemplate, TooDeep, ScriptPoint, point, ScriptState}
@@ -13,7 +13,7 @@ use Rattle.js_lexer.specs.declared.class.ScriptClass.{ScriptClass}
 use Rattle.js_lexer.specs.declared.class.ScriptClass.TheVariants as class
 use Rattle.js_lexer.specs.declared.sense.Sense.{Sense}
 use Rattle.js_lexer.specs.declared.sense.Sense.TheVariants as sense
-use Rattle.js_lexer.proofs.Paged.{as_page_point, points-paged, tells_all-paged, apart-paged, slash_held-paged, end-paged, splits-paged, settled-paged, hole-paged, block-tells}
+use Rattle.js_lexer.proofs.Paged.{as_page_point, points-paged, tells_all-paged, apart-paged, slash_held-paged, end-paged, splits-paged, settled-paged, hole-paged, mark-paged, block-tells}
 
 -- The reading from three components of a state.
 abbrev pub point_after : List ℕ → List ℕ → At → ScriptClass → ℕ → ScriptPoint
@@ -283,6 +283,13 @@ alike-settles : (v w : ScriptState) (t : List ScriptEvent) → ScriptsAlike v w 
 alike-settles v w t (inl s) = same-settles v w t s
 alike-settles v w t (inr s) = passed-settles v w t s
 
+mark-of : (a d : At) → as_page d ≡ as_page a → script_has_mark_at d ≡ script_has_mark_at a
+mark-of a d e = mark-paged d ∙ ap script_has_mark_at e ∙ sym (mark-paged a)
+
+alike-marks : (v w : ScriptState) → ScriptsAlike v w → script_has_mark w ≡ script_has_mark v
+alike-marks v w (inl s) = mark-of v.at w.at s.at
+alike-marks v w (inr s) = mark-paged w.at ∙ ap script_has_mark_at s.page ∙ sym (ap script_has_mark_at s.path) ∙ sym (mark-paged v.at)
+
 alike-hole : (v w after : ScriptState) → ScriptsAlike v w → ScriptLeadsPlain (script_settled w) after → ScriptsAlike (script_after_hole v) (script_behind (script_settled w) after)
 alike-hole v w after (inl s) h = same-hole v w after s h
 alike-hole v w after (inr s) h = passed-hole v w after s h
@@ -295,5 +302,6 @@ scripts-keep = record {
   ends = alike-ends;
   after_cut = cut-alike;
   settles = alike-settles;
+  marks = alike-marks;
   hole = alike-hole;
 }

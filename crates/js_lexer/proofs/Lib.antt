@@ -4,7 +4,7 @@ mod ElementExamples
 mod Examples
 mod HoleExamples
 mod JsonText
-mod Keeps
+pub mod Keeps
 mod LimitExamples
 mod Literals
 mod NotPlain

@@ -3,7 +3,7 @@ use Rattle.std.proofs.Common.{◌≡◌, ℕ, Bool, true, false, List, [], ◌�
 use Rattle.js_lexer.specs.Emits.{tells}
 use Rattle.js_lexer.specs.Events.{ScriptEvent}
 use Rattle.js_lexer.specs.Feeding.{points, tells_all, tells_white_apart, tells_held_slash, tells_end}
-use Rattle.js_lexer.specs.Holes.{as_page, settled_at, hole_at}
+use Rattle.js_lexer.specs.Holes.{as_page, settled_at, script_has_mark_at, hole_at}
 use Rattle.js_lexer.specs.Refusals.{splits}
 use Rattle.js_lexer.specs.States.{At, Code, Word, Number, Pluses, Minuses, Slash, LineComment, BlockComment, InString, InRegexp, InTemplate, TooDeep, ScriptPoint, point}
 use Rattle.js_lexer.specs.Steps.{script_next, next_code, next_slash, next_line, next_block}
@@ -176,3 +176,10 @@ hole-paged (Slash s) = refl
 hole-paged (LineComment s) = paged-twice (LineComment s)
 hole-paged (BlockComment s star) = paged-twice (BlockComment s star)
 hole-paged a = refl
+
+pub mark-paged : (a : At) → script_has_mark_at a ≡ script_has_mark_at (as_page a)
+mark-paged (Code s) = refl
+mark-paged (Slash s) = refl
+mark-paged (LineComment s) = refl
+mark-paged (BlockComment s star) = refl
+mark-paged a = refl

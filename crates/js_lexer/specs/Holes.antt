@@ -1,5 +1,5 @@
 -- A hole in a script, and the end of a node of a template.
-use Rattle.std.specs.Prelude.{◌≡◌, ◌⊎◌, true, false, List, []}
+use Rattle.std.specs.Prelude.{◌≡◌, ◌⊎◌, Bool, true, false, List, []}
 use Rattle.js_lexer.specs.Events.{ScriptEvent}
 use Rattle.js_lexer.specs.Feeding.{tells_held_slash, released_point, emits_released}
 use Rattle.js_lexer.specs.States.{NoEscape, At, Code, Slash, LineComment, BlockComment, InString, InRegexp, InTemplate, TooDeep, Trail, ScriptState}
@@ -18,6 +18,15 @@ script_settled s = (let p = released_point s in record { literals = p.literals; 
 
 abbrev pub script_emits_settled : ScriptState → List ScriptEvent → List ScriptEvent
 script_emits_settled s t = (let p = released_point s in tells_held_slash p.literals p.at (emits_released s t))
+
+-- Whether a hole there has a mark: in a comment it has none, since nothing of a comment is told.
+abbrev pub script_has_mark_at : At → Bool
+script_has_mark_at (LineComment s) = false
+script_has_mark_at (BlockComment s star) = false
+script_has_mark_at a = true
+
+abbrev pub script_has_mark : ScriptState → Bool
+script_has_mark s = script_has_mark_at s.at
 
 -- On a path a hole in code is one value, after which a slash divides. In a string, a regular expression and a comment the reading stays where
 -- it is.

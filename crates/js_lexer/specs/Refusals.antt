@@ -1,12 +1,11 @@
 -- Where the text of a template is refused in a script. A page refuses nothing.
 use Rattle.std.specs.Prelude.{ℕ, ◌||◌, ◌&&◌, nat_lt, nat_eq, not, Bool, true, false, bytes_eq, codes, List, [], ◌∷◌, length, Option, Some, None, if◌then◌else◌}
-use Rattle.std.specs.Char.{to_ascii_lowercase}
 use Rattle.std.specs.List.{list_any, starts_with}
 use Rattle.js_lexer.specs.Classes.{class_of}
 use Rattle.js_lexer.specs.Feeding.{tells_white_apart, read_at}
 use Rattle.js_lexer.specs.States.{At, Code, Word, Number, Pluses, Minuses, Slash, BlockComment, InString, InRegexp, TooDeep, Trail, ScriptState}
 use Rattle.js_lexer.specs.Steps.{is_word, is_number, is_taken_in_string}
-use Rattle.js_lexer.specs.Trails.{is_empty, is_markup_code, next_markup}
+use Rattle.js_lexer.specs.Trails.{is_empty, markup_after}
 use Rattle.js_lexer.specs.WhiteSpace.{ClassedByte}
 use Rattle.js_lexer.specs.declared.class.ScriptClass.{ScriptClass}
 use Rattle.js_lexer.specs.declared.class.ScriptClass.TheVariants as class
@@ -89,21 +88,21 @@ is_one_of words bytes = list_any (bytes_eq bytes) words
 
 abbrev pub markup_refusal : ScriptState → ℕ → Option Cause
 markup_refusal s b =
-    if is_one_of (codes "<!--" ∷ codes "-->" ∷ codes "#!" ∷ []) (next_markup (is_markup_code false s.at) s.trail.markup b)
+    if is_one_of (codes "<!--" ∷ codes "-->" ∷ codes "#!" ∷ []) (markup_after false s.at s.trail.markup b)
     then cause HtmlInScript (length s.trail.markup) (length s.trail.markup)
     else None
 
 abbrev pub inner_markup_refusal : Bool → ScriptState → ℕ → Option Cause
 inner_markup_refusal element s b =
-    if element && is_one_of (codes "<!--" ∷ codes "<script" ∷ codes "</script" ∷ []) (next_markup (is_markup_code true s.at) s.trail.markup b)
+    if element && is_one_of (codes "<!--" ∷ codes "<script" ∷ codes "</script" ∷ []) (markup_after true s.at s.trail.markup b)
     then cause HtmlInScript (length s.trail.markup) s.trail.literal
     else None
 
 -- Inside a template literal nothing else is refused at a byte.
 abbrev pub refusal_outside : List ℕ → Bool → ScriptState → ScriptClass → ℕ → Option Cause
 refusal_outside [] element s c b =
-    first_script_cause (slash_refusal s.at c) (first_script_cause (line_refusal s.at c b) (markup_refusal s (to_ascii_lowercase b)))
-refusal_outside (n ∷ fs) element s c b = inner_markup_refusal element s (to_ascii_lowercase b)
+    first_script_cause (slash_refusal s.at c) (first_script_cause (line_refusal s.at c b) (markup_refusal s b))
+refusal_outside (n ∷ fs) element s c b = inner_markup_refusal element s b
 
 -- A byte in a state. The first argument says whether the script is an element's (true) or a value's (false).
 abbrev pub script_refuses_class : Bool → ScriptState → ScriptClass → ℕ → Option Cause
@@ -136,8 +135,16 @@ cut_refusal_at (InRegexp true e) t = cause PartialCharset 0 t.bracket
 cut_refusal_at (InRegexp false e) t = first_script_cause (escape_refusal t) (cut_markup_refusal t)
 cut_refusal_at a t = cut_markup_refusal t
 
+abbrev pub whole_cut_refusal : List ℕ → At → Trail → Option Cause
+whole_cut_refusal fs a t = if is_empty fs then cut_refusal_at a t else cause JSTemplate 0 t.literal
+
+-- No node in UTF-8 ends where bytes are held back, so one that does is refused.
+abbrev pub unless_in_character : List ℕ → Option Cause → Option Cause
+unless_in_character [] o = o
+unless_in_character (b ∷ bs) o = cause SplitToken 0 (length (b ∷ bs))
+
 abbrev pub script_refuses_cut : ScriptState → Option Cause
-script_refuses_cut s = if is_empty s.literals then cut_refusal_at s.at s.trail else cause JSTemplate 0 s.trail.literal
+script_refuses_cut s = unless_in_character s.held (whole_cut_refusal s.literals s.at s.trail)
 
 -- The end of a value that ends in its node: a slash after `}`, outside of literals, and literals that nest too deep. The latter is refused at the
 -- node's end.

@@ -1,6 +1,5 @@
 -- The place of a path in a script, where a node ends (`spot`); and the place before a byte, which a refusal shows (`spot_before`).
 use Rattle.std.specs.Prelude.{ℕ, ◌||◌, ◌&&◌, Bool, true, false, bytes_eq, codes, List, Option, Some, None, if◌then◌else◌}
-use Rattle.js_lexer.specs.Feeding.{released_point}
 use Rattle.js_lexer.specs.Refusals.{within_escape, is_cut_markup}
 use Rattle.js_lexer.specs.States.{At, Code, Word, Number, Pluses, Minuses, Slash, LineComment, BlockComment, InString, InRegexp, InTemplate, TooDeep, Trail, ScriptState}
 use Rattle.js_lexer.specs.Steps.{sense_if_odd}
@@ -61,8 +60,8 @@ abbrev pub script_spot : ScriptState → Option Spot
 script_spot s = if is_empty s.literals && is_empty s.held then spot_at s.at s.trail else None
 
 -- Where a refusal shows the place, no node need be able to end: within an escape, a `[ ]`, and what may become `<!--` or `</script` in code, the place
--- is that of the string, the regular expression or the code. Bytes of a character that is not whole count as letters, as they do before a hole. In a
--- template literal no place is shown, but the one before it; nor behind a slash after `}`, which is refused itself.
+-- is that of the string, the regular expression or the code. Bytes of a character that is not whole do not count. In a template literal no place is
+-- shown, but the one before it; nor behind a slash after `}`, which is refused itself.
 abbrev pub shown_at : At → Trail → Option Spot
 shown_at (Code s) t = Some (CodeSpot s (tail_of t.markup))
 shown_at (Minuses odd) t = Some (CodeSpot (sense_if_odd odd) MinusTail)
@@ -72,4 +71,4 @@ shown_at (InRegexp k e) t = Some (RegexpSpot false)
 shown_at a t = spot_at a t
 
 abbrev pub spot_before : ScriptState → Option Spot
-spot_before s = (let p = released_point s in if is_empty p.literals then shown_at p.at s.trail else None)
+spot_before s = if is_empty s.literals then shown_at s.at s.trail else None

@@ -39,7 +39,8 @@ pub data At : Type 0 where
 -- What the refusals of a template's text need besides. The reading of tokens does not depend on it, and two readings with different trails
 -- tell the same.
 -- - The node begins here, on a path.
--- - The bytes since a `<`, a `#` or a `-` of code, in lower case, as long as they begin `<!--`, `</script`, `<script`, `#!` or `-->`.
+-- - The bytes since a `<`, a `#` or a `-` of code, in lower case, as long as they begin `<!--`, `</script`, `#!` or `-->`; in a template literal
+--   `<script` too.
 -- - The bytes of an escape that has begun, in a string or a regular expression.
 -- - How many bytes have been read since these began, with the first: a `\u{` that is not closed, a `[`, the outermost template literal.
 pub record Trail : Type 0 where

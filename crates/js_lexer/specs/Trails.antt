@@ -9,15 +9,17 @@ abbrev pub is_empty : {A : Type 0} → List A → Bool
 is_empty [] = true
 is_empty (x ∷ xs) = false
 
--- What HTML and old browsers read in a script (HTML Standard, sections 13.2.5.15 to 13.2.5.31; ECMA-262, sections 12.5 and B.1.1).
-abbrev pub markup_words : List (List ℕ)
-markup_words = codes "<!--" ∷ codes "</script" ∷ codes "<script" ∷ codes "#!" ∷ codes "-->" ∷ []
+-- What HTML and old browsers read in a script (HTML Standard, sections 13.2.5.15 to 13.2.5.31; ECMA-262, sections 12.5 and B.1.1). The first argument
+-- says that it is in a template literal (true): outside of literals `<script` is nothing, as no `<!--` stands before it.
+abbrev pub markup_words : Bool → List (List ℕ)
+markup_words true = codes "<!--" ∷ codes "</script" ∷ codes "<script" ∷ codes "#!" ∷ codes "-->" ∷ []
+markup_words false = codes "<!--" ∷ codes "</script" ∷ codes "#!" ∷ codes "-->" ∷ []
 
-abbrev pub begins_markup : List ℕ → Bool
-begins_markup bytes = list_any (λ word. starts_with nat_eq word bytes) markup_words
+abbrev pub begins_markup : Bool → List ℕ → Bool
+begins_markup inside bytes = list_any (λ word. starts_with nat_eq word bytes) (markup_words inside)
 
--- A state in which a `<`, a `#` or a `-` is punctuation of code. The first argument says that the code is a template literal's (true): there comments
--- count too, and outside of literals (false) they do not.
+-- A state in which a `<`, a `#` or a `-` is punctuation of code. In the code of a template literal comments count too, and outside of literals they do
+-- not.
 abbrev pub is_markup_code : Bool → At → Bool
 is_markup_code inside (Code s) = true
 is_markup_code inside (Word w) = true
@@ -38,9 +40,13 @@ abbrev pub longer_markup : Bool → Bool → List ℕ → ℕ → List ℕ
 longer_markup true in_code bytes b = bytes ++ b ∷ []
 longer_markup false in_code bytes b = if bytes_eq bytes (codes "--") && b == 45 then bytes else begun_markup in_code b
 
-abbrev pub next_markup : Bool → List ℕ → ℕ → List ℕ
-next_markup in_code [] b = begun_markup in_code b
-next_markup in_code (c ∷ bytes) b = longer_markup (begins_markup (c ∷ (bytes ++ b ∷ []))) in_code (c ∷ bytes) b
+abbrev pub next_markup : (inside in_code : Bool) → List ℕ → ℕ → List ℕ
+next_markup inside in_code [] b = begun_markup in_code b
+next_markup inside in_code (c ∷ bytes) b = longer_markup (begins_markup inside (c ∷ (bytes ++ b ∷ []))) in_code (c ∷ bytes) b
+
+-- by where the byte is read
+abbrev pub markup_after : (inside : Bool) → At → List ℕ → ℕ → List ℕ
+markup_after inside a bytes b = next_markup inside (is_markup_code inside a) bytes (to_ascii_lowercase b)
 
 -- Escapes of strings and regular expressions (ECMA-262, sections 12.9.4 and 22.2.1) that more bytes may go on with: `\`, `\x` and at most one
 -- hexadecimal digit, `\u` and at most three, `\` and one or two digits; in a string `\` and a carriage return, in a regular expression `\c`.
@@ -97,7 +103,7 @@ literal_after (m ∷ fs) n = suc n
 abbrev pub next_trail : Bool → Trail → ScriptPoint → ScriptPoint → ℕ → Trail
 next_trail some t from to b = record {
   fresh = t.fresh && not some;
-  markup = next_markup (is_markup_code (not (is_empty from.literals)) from.at) t.markup (to_ascii_lowercase b);
+  markup = markup_after (not (is_empty from.literals)) from.at t.markup b;
   escape = escape_after to.at t.escape b;
   brace = brace_after to.at t.escape t.brace b;
   bracket = bracket_after to.at t.bracket;

@@ -3,8 +3,8 @@ ghost use Rattle.js_lexer.specs.Laws.{ScriptLaws};
 ghost use Rattle.js_lexer.specs.WrittenLaws.{ScriptWrittenLaws};
 
 /// A page and a path of which the states of a script are alike read the texts of the path alike: they tell the same of each byte that the path
-/// does not refuse, of the end of the script and before a hole, and stay alike; so they do over a hole with bytes that are plain. A theorem; the
-/// call does nothing at run time.
+/// does not refuse, of the end of the script and before a hole, and stay alike; so they do over a hole with bytes that are plain,
+/// which has a mark in both or in neither. A theorem; the call does nothing at run time.
 pub fn scripts_read_alike()
     ensures { ScriptLaws }
 {}

@@ -6,11 +6,11 @@ use Rattle.std.specs.Char.{to_ascii_lowercase}
 use Rattle.js_lexer.specs.Classes.{class_of}
 use Rattle.js_lexer.specs.Feeding.{tells_white_apart, read_at, held_at, points, feed_script}
 use Rattle.js_lexer.specs.Holes.{script_after_cut, script_after_hole}
-use Rattle.js_lexer.specs.Refusals.{Cause, cause, SplitToken, HtmlInScript, first_script_cause, refusal_outside, splits, splits_first, slash_refusal, line_refusal, is_one_of, markup_refusal, script_refuses, script_refuses_cut, refuses_end}
+use Rattle.js_lexer.specs.Refusals.{Cause, cause, SplitToken, HtmlInScript, first_script_cause, refusal_outside, splits, splits_first, slash_refusal, line_refusal, is_one_of, markup_refusal, unless_in_character, script_refuses, script_refuses_cut, refuses_end}
 use Rattle.js_lexer.specs.Spots.{Spot, script_spot}
 use Rattle.js_lexer.specs.States.{NoEscape, At, Code, Word, Number, Pluses, Minuses, Slash, LineComment, BlockComment, InString, InRegexp, ScriptPoint, point, ScriptState}
 use Rattle.js_lexer.specs.Steps.{is_word, is_number, script_next}
-use Rattle.js_lexer.specs.Trails.{is_empty, is_markup_code, next_markup, begun_markup, longer_markup, begins_markup, escape_after, brace_after, bracket_after, literal_after}
+use Rattle.js_lexer.specs.Trails.{is_empty, is_markup_code, next_markup, begun_markup, markup_after, escape_after, brace_after, bracket_after, literal_after}
 use Rattle.js_lexer.specs.WhiteSpace.{ClassedByte, released, released_by, held_after}
 use Rattle.js_lexer.specs.declared.class.ScriptClass.{ScriptClass}
 use Rattle.js_lexer.specs.declared.class.ScriptClass.TheVariants as class
@@ -19,9 +19,10 @@ use Rattle.js_lexer.specs.declared.sense.Sense.TheVariants as sense
 use Rattle.place_core.specs.declared.js.Js.{Js}
 use Rattle.place_core.specs.declared.js_tails.JsTails.{JsTails}
 use Rattle.place_core.specs.declared.senses.Senses.{Senses}
-use Rattle.js_step.specs.ScriptScans.{ScriptScan, script_scan, script_begun_trail, script_senses, script_tails, script_no_tails, script_shared, script_sense_at, script_tail_at, script_star_at, script_senses_next, script_tails_next, script_scan_next, script_goes_on, script_first_goes_on, script_two_senses, script_senses_differ, script_scan_error, script_scan_place, script_scan_start, script_at_hole}
+use Rattle.js_step.specs.ScriptScans.{ScriptScan, script_scan, script_shared, script_sense_at, script_tail_at, script_star_at, script_senses_next, script_tails_next, script_scan_next, script_goes_on, script_first_goes_on, script_two_senses, script_senses_differ, script_scan_error, script_scan_place, script_scan_start, script_at_hole}
 use Rattle.js_step.specs.ScriptScanLaws.{script_alone, script_begun_at, script_alone_before, EndsBefore, ends_code, ends_less, ends_hash, ends_word, ends_number, ends_pluses, ends_minuses, ends_minus, ends_two_minuses, ends_regexp_slash, ends_slash, ends_line, ends_block, ends_string, ends_regexp, script_before, IsBeforeText, before_text, OneScriptBefore, ScriptsBeginAsOne}
-use Rattle.js_step.proofs.OneScriptPath.{given, own, senses-alone, own-sense, two-senses, alone-differ, slash-error, own-place, place-at, start-at, hole-at, own-spot, own-held}
+use Rattle.js_step.proofs.OneScriptPath.{given, own, cut-of, senses-alone, own-sense, two-senses, alone-differ, slash-error, own-place, place-at, start-at, hole-at, own-spot, own-held}
+use Rattle.place_core.specs.place.ScriptParts.{script_tails, script_no_tails, script_senses}
 
 no : true ≡ false → ⊥
 no e = cc
@@ -182,11 +183,22 @@ lower-33 b = grind (arith, nat_tests)
 lower-45 : (b : ℕ) → (to_ascii_lowercase b == 45) ≡ (b == 45)
 lower-45 b = grind (arith, nat_tests)
 
+lower-47 : (b : ℕ) → (to_ascii_lowercase b == 47) ≡ (b == 47)
+lower-47 b = grind (arith, nat_tests)
+
 lower-62 : (b : ℕ) → (to_ascii_lowercase b == 62) ≡ (b == 62)
 lower-62 b = grind (arith, nat_tests)
 
 abbrev first-of : At → List ℕ → ℕ → Bool
 first-of a m b = splits_first a m (read_at (tells_white_apart a) [] (class_of b) b)
+
+less-33 : (s : Sense) → first-of (Code s) (codes "<") 33 ≡ true
+unfolding class_of released
+less-33 s = refl
+
+less-47 : (s : Sense) → first-of (Code s) (codes "<") 47 ≡ true
+unfolding class_of released
+less-47 s = refl
 
 hash-33 : (s : Sense) → first-of (Code s) (codes "#") 33 ≡ true
 unfolding class_of released
@@ -204,28 +216,30 @@ apart-from : (k : ℕ) (a : At) (m : List ℕ) (b : ℕ) → first-of a m k ≡ 
 apart-from k a m b t f true e = absurd (no (sym t ∙ (ap (first-of a m) (sym (eqb-true b k e)) ∙ f)))
 apart-from k a m b t f false e = refl
 
-hash-marks : (l : ℕ) → (l == 33) ≡ false → next_markup true (codes "#") l ≡ begun_markup true l
+hash-marks : (l : ℕ) → (l == 33) ≡ false → next_markup false true (codes "#") l ≡ begun_markup true l
 hash-marks l h = rw h refl
 
 no-minus : (l : ℕ) → (l == 45) ≡ false → begun_markup true l ≡ (if l == 60 || (l == 35 || false) then l ∷ [] else [])
 no-minus l h = ap (λ (x : Bool). if l == 60 || (l == 35 || x) then l ∷ [] else []) h
 
-minus-marks : (l : ℕ) → (l == 45) ≡ false → next_markup true (codes "-") l ≡ begun_markup true l
+minus-marks : (l : ℕ) → (l == 45) ≡ false → next_markup false true (codes "-") l ≡ begun_markup true l
 minus-marks l h = rw h (no-minus l h)
 
-minuses-marks : (l : ℕ) → (l == 45) ≡ false → (l == 62) ≡ false → next_markup true (codes "--") l ≡ begun_markup true l
+minuses-marks : (l : ℕ) → (l == 45) ≡ false → (l == 62) ≡ false → next_markup false true (codes "--") l ≡ begun_markup true l
 minuses-marks l h g = rw (h, g) (ap (λ (x : Bool). if x then codes "--" else begun_markup true l) h ∙ no-minus l h)
 
-abbrev marked : At → List ℕ → ℕ → List ℕ
-marked a m b = next_markup (is_markup_code false a) m (to_ascii_lowercase b)
+less-marks : (l : ℕ) → (l == 33) ≡ false → (l == 47) ≡ false → next_markup false true (codes "<") l ≡ begun_markup true l
+less-marks l f g = rw (f, g) refl
 
-abbrev lt-of : At → List ℕ → Bool
-lt-of a m = (script_tails (script_tail_at a m)).lt
+abbrev marked : At → List ℕ → ℕ → List ℕ
+marked a m b = markup_after false a m b
 
 same-marks : (a : At) (h m : List ℕ) → EndsBefore a h m → (b : ℕ) → splits_first a m (read_at (tells_white_apart a) h (class_of b) b) ≡ false
-    → marked a m b ≡ marked (script_begun_at a) (script_begun_trail (lt-of a m)).markup b
+    → marked a m b ≡ marked (script_begun_at a) [] b
 same-marks _ _ _ (ends_code s h) b n = refl
-same-marks _ _ _ (ends_less s) b n = refl
+same-marks _ _ _ (ends_less s) b n =
+    less-marks (to_ascii_lowercase b) (lower-33 b ∙ apart-from 33 (Code s) (codes "<") b (less-33 s) n (b == 33) refl)
+    (lower-47 b ∙ apart-from 47 (Code s) (codes "<") b (less-47 s) n (b == 47) refl)
 same-marks _ _ _ (ends_hash s) b n = hash-marks (to_ascii_lowercase b) (lower-33 b ∙ apart-from 33 (Code s) (codes "#") b (hash-33 s) n (b == 33) refl)
 same-marks _ _ _ (ends_word w h) b n = refl
 same-marks _ _ _ (ends_number h) b n = refl
@@ -293,20 +307,12 @@ short false false false = refl
 one-byte : (l : ℕ) → is_one_of words (l ∷ []) ≡ false
 one-byte l = short (l == 60) (l == 45) (l == 35)
 
-two-bytes : (l : ℕ) → is_one_of words (60 ∷ l ∷ []) ≡ false
-two-bytes l = short (l == 33) false false
-
 begun-short : (x : Bool) (l : ℕ) → is_one_of words (if x then l ∷ [] else []) ≡ false
 begun-short true l = one-byte l
 begun-short false l = refl
 
-less-short : (x in_code : Bool) (l : ℕ) → is_one_of words (longer_markup x in_code (codes "<") l) ≡ false
-less-short true in_code l = two-bytes l
-less-short false in_code l = begun-short (in_code && (l == 60 || (l == 35 || l == 45))) l
-
-first-short : (lt in_code : Bool) (l : ℕ) → is_one_of words (next_markup in_code (script_begun_trail lt).markup l) ≡ false
-first-short true in_code l = less-short (begins_markup (codes "<" ++ l ∷ [])) in_code l
-first-short false in_code l = begun-short (in_code && (l == 60 || (l == 35 || l == 45))) l
+first-short : (in_code : Bool) (l : ℕ) → is_one_of words (begun_markup in_code l) ≡ false
+first-short in_code l = begun-short (in_code && (l == 60 || (l == 35 || l == 45))) l
 
 abbrev html-if : Bool → List ℕ → Option Cause
 html-if x m = if x then cause HtmlInScript (length m) (length m) else None
@@ -315,22 +321,22 @@ html-none : (x : Bool) (m : List ℕ) → x ≡ false → html-if x m ≡ None
 html-none true m e = absurd (no e)
 html-none false m e = refl
 
-abbrev begun-state : At → (h m : List ℕ) → ScriptState
+abbrev pub begun-state : At → (h m : List ℕ) → ScriptState
 begun-state a h m = (script_alone_before (script_before a h m)).state
 
-begun-html : (a : At) (h m : List ℕ) (b : ℕ) → markup_refusal (begun-state a h m) (to_ascii_lowercase b) ≡ None
-begun-html a h m b = html-none _ (begun-state a h m).trail.markup (first-short (lt-of a m) (is_markup_code false (script_begun_at a)) (to_ascii_lowercase b))
+begun-html : (a : At) (h m : List ℕ) (b : ℕ) → markup_refusal (begun-state a h m) b ≡ None
+begun-html a h m b = html-none _ (begun-state a h m).trail.markup (first-short (is_markup_code false (script_begun_at a)) (to_ascii_lowercase b))
 
 own-html : (a : At) (h m : List ℕ) → EndsBefore a h m → (b : ℕ) → splits_first a m (read_at (tells_white_apart a) h (class_of b) b) ≡ false
-    → markup_refusal (script_before a h m) (to_ascii_lowercase b) ≡ None
+    → markup_refusal (script_before a h m) b ≡ None
 own-html a h m e b n =
-    html-none _ m (ap (is_one_of words) (same-marks a h m e b n) ∙ first-short (lt-of a m) (is_markup_code false (script_begun_at a)) (to_ascii_lowercase b))
+    html-none _ m (ap (is_one_of words) (same-marks a h m e b n) ∙ first-short (is_markup_code false (script_begun_at a)) (to_ascii_lowercase b))
 
 same-outside : (a : At) (h m : List ℕ) → EndsBefore a h m → (element : Bool) (b : ℕ) → splits_first a m (read_at (tells_white_apart a) h (class_of b) b) ≡ false
     → refusal_outside [] element (begun-state a h m) (class_of b) b ≡ refusal_outside [] element (script_before a h m) (class_of b) b
 same-outside a h m e element b n =
-    ap (λ (o : Option Cause). first_script_cause o (first_script_cause (line_refusal (script_begun_at a) (class_of b) b) (markup_refusal (begun-state a h m) (to_ascii_lowercase b)))) (same-slash a h m e (class_of b))
-    ∙ (ap (λ (o : Option Cause). first_script_cause (slash_refusal a (class_of b)) (first_script_cause o (markup_refusal (begun-state a h m) (to_ascii_lowercase b)))) (same-line a h m e (class_of b) b)
+    ap (λ (o : Option Cause). first_script_cause o (first_script_cause (line_refusal (script_begun_at a) (class_of b) b) (markup_refusal (begun-state a h m) b))) (same-slash a h m e (class_of b))
+    ∙ (ap (λ (o : Option Cause). first_script_cause (slash_refusal a (class_of b)) (first_script_cause o (markup_refusal (begun-state a h m) b))) (same-line a h m e (class_of b) b)
     ∙ ap (λ (o : Option Cause). first_script_cause (slash_refusal a (class_of b)) (first_script_cause (line_refusal a (class_of b) b) o)) (begun-html a h m b ∙ sym (own-html a h m e b n)))
 
 abbrev split-if : Bool → List ℕ → Option Cause
@@ -383,7 +389,7 @@ led-by t a h m b = led (not (is_empty (read_at t h (class_of b) b))) m (points (
 first-fed : (a : At) (h m : List ℕ) → EndsBefore a h m → (b : ℕ) → is_empty (read_at (tells_white_apart a) h (class_of b) b) ≡ false
     → splits_first a m (read_at (tells_white_apart a) h (class_of b) b) ≡ false → feed_script (begun-state a h m) b ≡ feed_script (script_before a h m) b
 first-fed a h m e b k n =
-    ap (λ (t : Bool). led-by t (script_begun_at a) h (marked (script_begun_at a) (script_begun_trail (lt-of a m)).markup b) b) (same-white a h m e)
+    ap (λ (t : Bool). led-by t (script_begun_at a) h (marked (script_begun_at a) [] b) b) (same-white a h m e)
     ∙ (ap (λ (z : List ℕ). led-by (tells_white_apart a) (script_begun_at a) h z b) (sym (same-marks a h m e b n))
     ∙ ap (λ (p : ScriptPoint). led (not (is_empty (read_at (tells_white_apart a) h (class_of b) b))) (marked a m b) p (held_at (tells_white_apart a) h b) b)
     (first-steps a h m e (read_at (tells_white_apart a) h (class_of b) b) k n))
@@ -416,6 +422,19 @@ first-next a h m e element b r f =
     ∙ (ap (λ (w : ScriptState). into a m (script_senses (script_sense_at w.at)) w) (first-fed a h m e b k n)
     ∙ within _ (own-tails a m) (script_star_at a) _ (feed_script (script_before a h m) b) f)))
 
+unsplit : (x : Bool) (h : List ℕ) (o : Option Cause) → first_script_cause (split-if x h) o ≡ None → o ≡ None
+unsplit true h o e = absurd (given _ e)
+unsplit false h o e = e
+
+-- the state in which the paths share the text refuses nothing else, and is led where the path is
+pub begun-fed : (a : At) (h m : List ℕ) → EndsBefore a h m → (element : Bool) (b : ℕ) → script_refuses element (script_before a h m) b ≡ None
+    → (feed_script (script_before a h m) b).trail.fresh ≡ false
+    → (refusal_outside [] element (begun-state a h m) (class_of b) b ≡ None) × (feed_script (begun-state a h m) b ≡ feed_script (script_before a h m) b)
+begun-fed a h m e element b r f =
+    let n : splits_first a m (read_at (tells_white_apart a) h (class_of b) b) ≡ false = not-split _ h (refusal_outside [] element (script_before a h m) (class_of b) b) r in
+    let k : is_empty (read_at (tells_white_apart a) h (class_of b) b) ≡ false = some-read _ f in
+    (same-outside a h m e element b n ∙ unsplit _ h (refusal_outside [] element (script_before a h m) (class_of b) b) r, first-fed a h m e b k n)
+
 -- a byte that is held back is past ASCII, and no byte of HTML
 past-ascii : (x : Bool) (h : List ℕ) (b : ℕ) → is_empty (released_by x h b) ≡ true → x ≡ false
 past-ascii true [] b e = absurd (no (sym e))
@@ -432,12 +451,9 @@ high-other b k h g = grind (h, g, arith, nat_tests)
 high-begun : (b : ℕ) → nat_lt b 128 ≡ false → begun_markup true (to_ascii_lowercase b) ≡ []
 high-begun b h = rw (high-other b 60 h refl, high-other b 35 h refl, high-other b 45 h refl) refl
 
-less-marks : (l : ℕ) → (l == 33) ≡ false → (l == 47) ≡ false → (l == 115) ≡ false → next_markup true (codes "<") l ≡ begun_markup true l
-less-marks l f g k = rw (f, g, k) refl
-
 high-marks : (a : At) (h m : List ℕ) → EndsBefore a h m → (b : ℕ) → nat_lt b 128 ≡ false → marked a m b ≡ []
 high-marks _ _ _ (ends_code s h) b g = high-begun b g
-high-marks _ _ _ (ends_less s) b g = less-marks (to_ascii_lowercase b) (high-other b 33 g refl) (high-other b 47 g refl) (high-other b 115 g refl) ∙ high-begun b g
+high-marks _ _ _ (ends_less s) b g = less-marks (to_ascii_lowercase b) (high-other b 33 g refl) (high-other b 47 g refl) ∙ high-begun b g
 high-marks _ _ _ (ends_hash s) b g = hash-marks (to_ascii_lowercase b) (high-other b 33 g refl) ∙ high-begun b g
 high-marks _ _ _ (ends_word w h) b g = high-begun b g
 high-marks _ _ _ (ends_number h) b g = high-begun b g
@@ -452,9 +468,9 @@ high-marks _ _ _ (ends_block s star) b g = refl
 high-marks _ _ _ (ends_string q) b g = refl
 high-marks _ _ _ ends_regexp b g = refl
 
-high-begun-marks : (a : At) (h m : List ℕ) → EndsBefore a h m → (b : ℕ) → nat_lt b 128 ≡ false → marked (script_begun_at a) (script_begun_trail (lt-of a m)).markup b ≡ []
+high-begun-marks : (a : At) (h m : List ℕ) → EndsBefore a h m → (b : ℕ) → nat_lt b 128 ≡ false → marked (script_begun_at a) [] b ≡ []
 high-begun-marks _ _ _ (ends_code s h) b g = high-begun b g
-high-begun-marks _ _ _ (ends_less s) b g = high-marks (Code s) [] (codes "<") (ends_less s) b g
+high-begun-marks _ _ _ (ends_less s) b g = high-begun b g
 high-begun-marks _ _ _ (ends_hash s) b g = high-begun b g
 high-begun-marks _ _ _ (ends_word w h) b g = high-begun b g
 high-begun-marks _ _ _ (ends_number h) b g = high-begun b g
@@ -492,8 +508,8 @@ hold a h m e b k g p q t z = record {
       ap (quiet a (marked a m b) (held_at (tells_white_apart a) h b) b) (none-read (read_at (tells_white_apart a) h (class_of b) b) k)
       ∙ (ap (λ (y : List ℕ). led false y (point [] a) (held_at (tells_white_apart a) h b) b) (high-marks a h m e b g) ∙ p);
   begun =
-      ap (λ (y : Bool). led-by y (script_begun_at a) h (marked (script_begun_at a) (script_begun_trail (lt-of a m)).markup b) b) (same-white a h m e)
-      ∙ (ap (quiet (script_begun_at a) (marked (script_begun_at a) (script_begun_trail (lt-of a m)).markup b) (held_at (tells_white_apart a) h b) b)
+      ap (λ (y : Bool). led-by y (script_begun_at a) h (marked (script_begun_at a) [] b) b) (same-white a h m e)
+      ∙ (ap (quiet (script_begun_at a) (marked (script_begun_at a) [] b) (held_at (tells_white_apart a) h b) b)
       (none-read (read_at (tells_white_apart a) h (class_of b) b) k)
       ∙ (ap (λ (y : List ℕ). led false y (point [] (script_begun_at a)) (held_at (tells_white_apart a) h b) b) (high-begun-marks a h m e b g) ∙ q));
   tails = t;
@@ -558,7 +574,7 @@ same-ends _ _ _ (ends_string q) = (refl, refl)
 same-ends _ _ _ ends_regexp = (refl, refl)
 
 -- the place, where nothing is held back
-abbrev begun-place : At → List ℕ → Js
+abbrev pub begun-place : At → List ℕ → Js
 begun-place a m = script_scan_place (script_alone_before (script_before a [] m))
 
 same-place : (a : At) (h m : List ℕ) → EndsBefore a h m → own-place a (script_before a h m).trail ≡ begun-place a m
@@ -591,7 +607,7 @@ held-after-hole a h m e p k =
     ∙ (hole-at [] a (script_before a h m).trail p (own-spot (script_before a h m) p k) ∙ ap (λ (c : Js). script_scan_start (script_at_hole c)) (same-place a h m e))
 
 abbrev cut-in : At → (h m : List ℕ) → Option Cause → Option Cause
-cut-in a h m o = first_script_cause o (script_refuses_cut (script_shared (script_alone_before (script_before a h m))))
+cut-in a h m o = unless_in_character h (first_script_cause o (cut-of (script_shared (script_alone_before (script_before a h m)))))
 
 abbrev end-in : At → (h m : List ℕ) → Option Cause → Option Cause
 end-in a h m o = first_script_cause o (refuses_end (script_shared (script_alone_before (script_before a h m))))
@@ -604,7 +620,7 @@ before-as-one a h m e = record {
   held = λ b f. subst IsBeforeText (sym (first-held a h m e b f).fed) (before_text a (held_after h b) [] (first-held a h m e b f).ends);
   cut_error =
       ap (cut-in a h m) (slash-error _ [] (script_begun_at a) (alone-differ (script_sense_at (script_begun_at a))))
-      ∙ (ap script_refuses_cut (own (begun-state a h m)) ∙ (same-ends a h m e).0);
+      ∙ (ap (λ (w : ScriptState). unless_in_character h (cut-of w)) (own (begun-state a h m)) ∙ (same-ends a h m e).0);
   end_error =
       ap (end-in a h m) (slash-error _ [] (script_begun_at a) (alone-differ (script_sense_at (script_begun_at a))))
       ∙ (ap refuses_end (own (begun-state a h m)) ∙ (same-ends a h m e).1);

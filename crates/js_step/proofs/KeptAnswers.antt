@@ -13,9 +13,10 @@ use Rattle.js_lexer.specs.declared.sense.Sense.TheVariants as sense
 use Rattle.place_core.specs.place.LanguagePlaces.{both_senses}
 use Rattle.js_step.specs.KeptWordLaws.{KeptWordsSuffice}
 use Rattle.js_step.specs.KeptWords.{kept_word, kept_at, kept_point, kept_state, kept_scan}
-use Rattle.js_step.specs.ScriptScans.{ScriptScan, script_scan, script_one_sense, script_at_in, script_in_sense, script_sense_at, script_senses, script_sense_next, script_tails_next, script_scan_next, script_two_senses, script_senses_differ, script_tails_error, script_scan_error, script_slash_error, script_scan_cut_error, script_scan_end_error, script_scan_place}
+use Rattle.js_step.specs.ScriptScans.{ScriptScan, script_scan, script_one_sense, script_at_in, script_in_sense, script_sense_at, script_sense_next, script_tails_next, script_scan_next, script_two_senses, script_senses_differ, script_tails_error, script_scan_error, script_slash_error, script_scan_cut_error, script_scan_end_error, script_scan_place, script_scan_shown}
 use Rattle.js_step.proofs.KeptScans.{of-kept, sense-at-kept, trail-kept}
 use Rattle.js_step.proofs.KeptWordSteps.{next-along, take-again-same}
+use Rattle.place_core.specs.place.ScriptParts.{script_senses}
 
 abbrev with-at : ScriptScan → At → ScriptScan
 with-at n a = script_scan n.senses n.before n.star (record { literals = n.state.literals; at = a; held = n.state.held; trail = n.state.trail })
@@ -61,6 +62,9 @@ end-kept n =
 
 place-kept : (n : ScriptScan) → script_scan_place (kept_scan n) ≡ script_scan_place n
 place-kept n = of-kept (λ (a : At). script_scan_place (with-at n a)) (λ w. refl) n.state.at
+
+shown-kept : (n : ScriptScan) → script_scan_shown (kept_scan n) ≡ script_scan_shown n
+shown-kept n = of-kept (λ (a : At). script_scan_shown (with-at n a)) (λ w. refl) n.state.at
 
 -- where a byte leads
 points-along : (xs : List ClassedByte) (p q : ScriptPoint) → kept_point p ≡ kept_point q → kept_point (points xs p) ≡ kept_point (points xs q)
@@ -124,4 +128,5 @@ kept-words-suffice n = record {
   cut_error = cut-kept n;
   end_error = end-kept n;
   place = place-kept n;
+  shown = shown-kept n;
 }

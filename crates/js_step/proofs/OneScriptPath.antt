@@ -3,7 +3,7 @@ use Rattle.std.proofs.Common.{◌≡◌, ◌∙◌, ℕ, Bool, true, false, ◌&
 use Rattle.js_lexer.specs.Classes.{class_of}
 use Rattle.js_lexer.specs.Feeding.{feed_script}
 use Rattle.js_lexer.specs.Holes.{script_after_cut, script_after_hole}
-use Rattle.js_lexer.specs.Refusals.{Cause, first_script_cause, refusal_outside, split_refusal, script_refuses, script_refuses_cut, refuses_end}
+use Rattle.js_lexer.specs.Refusals.{Cause, first_script_cause, refusal_outside, split_refusal, whole_cut_refusal, unless_in_character, script_refuses, refuses_end}
 use Rattle.js_lexer.specs.Spots.{Spot, unless_within, spot_at, script_spot}
 use Rattle.js_lexer.specs.States.{At, Code, Word, Number, Pluses, Minuses, Slash, LineComment, BlockComment, InString, InRegexp, InTemplate, TooDeep, Trail, ScriptState}
 use Rattle.js_lexer.specs.Trails.{is_empty}
@@ -14,16 +14,17 @@ use Rattle.place_core.specs.declared.js.Js.{Js}
 use Rattle.place_core.specs.declared.js_tails.JsTails.{JsTails}
 use Rattle.place_core.specs.declared.senses.Senses.{Senses}
 use Rattle.place_core.specs.place.LanguagePlaces.{both_senses}
-use Rattle.js_step.specs.ScriptScans.{ScriptScan, script_scan, script_begun, script_senses, script_no_senses, script_tails, script_no_tails, script_one_sense, script_at_in, script_in_sense, script_shared, script_sense_at, script_tail_at, script_star_at, script_senses_next, script_tails_next, script_scan_next, script_tails_error, script_senses_differ, script_two_senses, script_slash_error, script_scan_start, script_scan_error, script_place_at, script_scan_place, script_at_hole}
-use Rattle.js_step.specs.ScriptScanLaws.{script_place, script_alone, script_begun_at, script_alone_before, OneScript, IsExactOnOneScript}
+use Rattle.js_step.specs.ScriptScans.{ScriptScan, script_scan, script_begun, script_no_senses, script_one_sense, script_at_in, script_in_sense, script_shared, script_sense_at, script_tail_at, script_star_at, script_senses_next, script_tails_next, script_scan_next, script_tails_error, script_senses_differ, script_two_senses, script_slash_error, script_scan_start, script_scan_error, script_place_at, script_scan_place, script_at_hole}
+use Rattle.js_step.specs.ScriptScanLaws.{script_alone, script_begun_at, script_alone_before, OneScript, IsExactOnOneScript}
+use Rattle.place_core.specs.place.ScriptParts.{script_tails, script_no_tails, script_senses, script_place}
 
 pub given : {A : Type 0} (a : A) → Some a ≡ None → ⊥
 given a e = cc
 
-none-given : {A : Type 0} (a : A) → None ≡ Some a → ⊥
+pub none-given : {A : Type 0} (a : A) → None ≡ Some a → ⊥
 none-given a e = cc
 
-some-same : {A : Type 0} (x y : A) → Some x ≡ Some y → x ≡ y
+pub some-same : {A : Type 0} (x y : A) → Some x ≡ Some y → x ≡ y
 some-same x y e = cc
 
 -- one sense
@@ -114,10 +115,13 @@ alone-error element v b h =
     ∙ (ap (λ (w : ScriptState). refusal_outside v.literals element w (class_of b) b) (own v)
     ∙ sym (ap (λ (o : Option Cause). first_script_cause o (refusal_outside v.literals element v (class_of b) b)) (split-error v (class_of b) b h))))
 
-alone-cut-error : (v : ScriptState) → first_script_cause (script_slash_error (script_senses_differ (script_senses (script_sense_at v.at))) v.literals v.at) (script_refuses_cut (script_shared (script_alone v))) ≡ script_refuses_cut v
+abbrev pub cut-of : ScriptState → Option Cause
+cut-of v = whole_cut_refusal v.literals v.at v.trail
+
+alone-cut-error : (v : ScriptState) → first_script_cause (script_slash_error (script_senses_differ (script_senses (script_sense_at v.at))) v.literals v.at) (cut-of (script_shared (script_alone v))) ≡ cut-of v
 alone-cut-error v =
-    ap (λ (o : Option Cause). first_script_cause o (script_refuses_cut (script_shared (script_alone v)))) (slash-error _ v.literals v.at (alone-differ (script_sense_at v.at)))
-    ∙ ap script_refuses_cut (own v)
+    ap (λ (o : Option Cause). first_script_cause o (cut-of (script_shared (script_alone v)))) (slash-error _ v.literals v.at (alone-differ (script_sense_at v.at)))
+    ∙ ap cut-of (own v)
 
 alone-end-error : (v : ScriptState) → first_script_cause (script_slash_error (script_senses_differ (script_senses (script_sense_at v.at))) v.literals v.at) (refuses_end (script_shared (script_alone v))) ≡ refuses_end v
 alone-end-error v =
@@ -238,7 +242,7 @@ one-script v f = record {
   error = λ element b. alone-error element v b f;
   next = λ b. alone-next v b;
   within = λ b. within-text v b f;
-  cut_error = alone-cut-error v;
+  cut_error = ap (unless_in_character v.held) (alone-cut-error v);
   end_error = alone-end-error v;
   place = λ p h. place-at v.at v.trail p (own-spot v p h) ∙ sym (placed v f);
   after_cut = λ p h. alone-after-cut v p f h;

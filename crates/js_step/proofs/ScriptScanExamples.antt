@@ -9,7 +9,8 @@ use Rattle.place_core.specs.declared.js.Js.{Js}
 use Rattle.place_core.specs.declared.js.Js.TheVariants as js
 use Rattle.place_core.specs.declared.member.Member.TheVariants as member
 use Rattle.place_core.specs.place.LanguagePlaces.{both_senses, both_js_tails, joined_js, js_has}
-use Rattle.js_step.specs.ScriptScans.{ScriptScan, script_senses, script_tails, script_no_tails, script_scan_start, script_scan_next, script_scan_error, script_scan_place, script_scan_cut_error, script_at_hole}
+use Rattle.js_step.specs.ScriptScans.{ScriptScan, script_scan_start, script_scan_next, script_scan_error, script_scan_place, script_scan_cut_error, script_at_hole}
+use Rattle.place_core.specs.place.ScriptParts.{script_tails, script_no_tails, script_senses}
 
 -- where a text leads from a place; what its last byte, and its end, are refused for
 abbrev behind : ScriptScan → List ℕ → ScriptScan

@@ -14,17 +14,18 @@ use Rattle.place_core.specs.declared.js.Js.TheVariants as js
 use Rattle.place_core.specs.declared.js_tails.JsTails.{JsTails}
 use Rattle.place_core.specs.declared.senses.Senses.{Senses}
 use Rattle.place_core.specs.place.LanguagePlaces.{both_senses, both_js_tails}
-use Rattle.js_step.specs.ScriptScans.{ScriptScan, script_scan, script_senses, script_tails, script_no_tails, script_shared, script_tail_at, script_star_at, script_senses_next, script_tails_held, script_tails_next, script_scan_next, script_goes_on, script_first_goes_on, script_two_senses, script_senses_differ, script_slash_place, script_place_at, script_at_hole}
+use Rattle.js_step.specs.ScriptScans.{ScriptScan, script_scan, script_shared, script_tail_at, script_star_at, script_senses_next, script_tails_held, script_tails_next, script_scan_next, script_goes_on, script_first_goes_on, script_two_senses, script_senses_differ, script_slash_place, script_place_at, script_at_hole}
 use Rattle.js_step.specs.ScriptScanLaws.{script_alone_before, IsBeforeText, OneScriptBefore}
 use Rattle.js_step.specs.ScriptSetLaws.{ScriptBelow, ScriptTailsBelow, tails_below, GrowsScriptTails, CoversScriptTails, ScriptTailsGrow}
 use Rattle.js_step.proofs.FirstCharacter.{scripts-begin-as-one}
 use Rattle.js_step.proofs.OneScriptPath.{given}
+use Rattle.place_core.specs.place.ScriptParts.{script_tails, script_no_tails, script_senses}
 
 no : true ≡ false → ⊥
 no e = cc
 
 -- sets
-member : (x y : Bool) → (x || y) ≡ y → y ≡ false → x ≡ false
+pub member : (x y : Bool) → (x || y) ≡ y → y ≡ false → x ≡ false
 member true y e f = absurd (no (e ∙ f))
 member false y e f = refl
 
@@ -36,14 +37,14 @@ right-none : (x y : Bool) → (x || y) ≡ false → y ≡ false
 right-none true y e = absurd (no e)
 right-none false y e = e
 
-none-of : (x y : Bool) → x ≡ false → y ≡ false → (x || y) ≡ false
+pub none-of : (x y : Bool) → x ≡ false → y ≡ false → (x || y) ≡ false
 none-of true y e f = absurd (no e)
 none-of false y e f = f
 
 two-grow : (x z y w : Bool) → (x || y) ≡ y → (z || w) ≡ w → (y || w) ≡ false → (x || z) ≡ false
 two-grow x z y w e f g = none-of x z (member x y e (left-none y w g)) (member z w f (right-none y w g))
 
-or-same : (x : Bool) → (x || x) ≡ x
+pub or-same : (x : Bool) → (x || x) ≡ x
 or-same true = refl
 or-same false = refl
 
@@ -57,17 +58,17 @@ senses-by false true false = refl
 senses-by false false true = refl
 senses-by false false false = refl
 
-senses-same : (s : Senses) → both_senses s s ≡ s
+pub senses-same : (s : Senses) → both_senses s s ≡ s
 senses-same s = senses-by s.re s.div s.brace
 
 code-tails : (x y : JsTails) (s : Senses) → Some (js.Code s x) ≡ Some (js.Code s y) → x ≡ y
 code-tails x y s e = cc
 
-tails-by : (t : JsTails) → both_js_tails t t ≡ t
+pub tails-by : (t : JsTails) → both_js_tails t t ≡ t
 tails-by t = code-tails (both_js_tails t t) t (script_senses sense.Re) (js_partial.same (js.Code (script_senses sense.Re) t))
 
 -- what goes on with more, goes on with less
-goes-grows : (x y : JsTails) (k l : Bool) → both_js_tails x y ≡ y → (k || l) ≡ l → (c : ScriptClass) → script_goes_on y l c ≡ false → script_goes_on x k c ≡ false
+pub goes-grows : (x y : JsTails) (k l : Bool) → both_js_tails x y ≡ y → (k || l) ≡ l → (c : ScriptClass) → script_goes_on y l c ≡ false → script_goes_on x k c ≡ false
 goes-grows x y k l h e class.Letter n = two-grow x.word x.num y.word y.num (ap (λ (z : JsTails). z.word) h) (ap (λ (z : JsTails). z.num) h) n
 goes-grows x y k l h e class.Digit n = two-grow x.word x.num y.word y.num (ap (λ (z : JsTails). z.word) h) (ap (λ (z : JsTails). z.num) h) n
 goes-grows x y k l h e class.Dollar n = two-grow x.word x.num y.word y.num (ap (λ (z : JsTails). z.word) h) (ap (λ (z : JsTails). z.num) h) n
@@ -83,14 +84,14 @@ goes-grows x y k l h e class.Asterisk n = member x.slash y.slash (ap (λ (z : Js
 goes-grows x y k l h e class.ExclamationMark n = two-grow x.lt x.hash y.lt y.hash (ap (λ (z : JsTails). z.lt) h) (ap (λ (z : JsTails). z.hash) h) n
 goes-grows x y k l h e _ n = refl
 
-first-grows : (x y : JsTails) (k l : Bool) → both_js_tails x y ≡ y → (k || l) ≡ l → (xs : List ClassedByte) → script_first_goes_on y l xs ≡ false → script_first_goes_on x k xs ≡ false
+pub first-grows : (x y : JsTails) (k l : Bool) → both_js_tails x y ≡ y → (k || l) ≡ l → (xs : List ClassedByte) → script_first_goes_on y l xs ≡ false → script_first_goes_on x k xs ≡ false
 first-grows x y k l h e [] n = refl
 first-grows x y k l h e (z ∷ zs) n = goes-grows x y k l h e z.class n
 
-abbrev split-if : Bool → List ℕ → Option Cause
+abbrev pub split-if : Bool → List ℕ → Option Cause
 split-if x held = if x then cause SplitToken (length held) (length held) else None
 
-error-grows : (fresh p q : Bool) → (q ≡ false → p ≡ false) → (held : List ℕ) (o : Option Cause) → first_script_cause (split-if (fresh && q) held) o ≡ None → first_script_cause (split-if (fresh && p) held) o ≡ None
+pub error-grows : (fresh p q : Bool) → (q ≡ false → p ≡ false) → (held : List ℕ) (o : Option Cause) → first_script_cause (split-if (fresh && q) held) o ≡ None → first_script_cause (split-if (fresh && p) held) o ≡ None
 error-grows false p q f held o n = n
 error-grows true p true f held o n = absurd (given _ n)
 error-grows true true false f held o n = absurd (no (f refl))
@@ -102,11 +103,11 @@ rest-error s v element b =
     (refusal_outside v.literals element (script_shared (script_scan s script_no_tails false v)) (class_of b) b)
 
 -- behind a byte
-next-tails : (fresh : Bool) (x y : JsTails) → both_js_tails x y ≡ y → both_js_tails (script_tails_next fresh x) (script_tails_next fresh y) ≡ script_tails_next fresh y
+pub next-tails : (fresh : Bool) (x y : JsTails) → both_js_tails x y ≡ y → both_js_tails (script_tails_next fresh x) (script_tails_next fresh y) ≡ script_tails_next fresh y
 next-tails true x y h = ap script_tails_held h
 next-tails false x y h = refl
 
-next-star : (fresh k l : Bool) → (k || l) ≡ l → ((fresh && k) || (fresh && l)) ≡ (fresh && l)
+pub next-star : (fresh k l : Bool) → (k || l) ≡ l → ((fresh && k) || (fresh && l)) ≡ (fresh && l)
 next-star true k l h = h
 next-star false k l h = refl
 
@@ -115,7 +116,7 @@ slash-below : (re : Bool) (x y : JsTails) → both_js_tails x y ≡ y → Script
 slash-below true x y h = ap (λ (z : JsTails). Some (js.Regexp z.slash)) h
 slash-below false x y h = ap (λ (z : JsTails). Some (js.Code (script_senses sense.Re) z)) h
 
-place-below : (s : Senses) (x y : JsTails) (k l : Bool) (a : At) → both_js_tails x y ≡ y → (k || l) ≡ l → ScriptBelow (script_place_at s x k a) (script_place_at s y l a)
+pub place-below : (s : Senses) (x y : JsTails) (k l : Bool) (a : At) → both_js_tails x y ≡ y → (k || l) ≡ l → ScriptBelow (script_place_at s x k a) (script_place_at s y l a)
 place-below s x y k l (Slash t) h e = slash-below s.re x y h
 place-below s x y k l (LineComment t) h e = ap (λ (z : Senses). Some (js.Line z)) (senses-same s)
 place-below s x y k l (BlockComment t z) h e = ap₂ (λ (z : Senses) (w : Bool). Some (js.Block z w)) (senses-same s) e
@@ -130,15 +131,15 @@ place-below s x y k l (Minuses odd) h e = ap₂ (λ (z : Senses) (w : JsTails). 
 place-below s x y k l (InTemplate z d) h e = ap₂ (λ (z : Senses) (w : JsTails). Some (js.Code z w)) (senses-same s) h
 place-below s x y k l TooDeep h e = ap₂ (λ (z : Senses) (w : JsTails). Some (js.Code z w)) (senses-same s) h
 
-end-tails : (fresh : Bool) (x y t : JsTails) → both_js_tails x y ≡ y → both_js_tails (if fresh then x else t) (if fresh then y else t) ≡ (if fresh then y else t)
+pub end-tails : (fresh : Bool) (x y t : JsTails) → both_js_tails x y ≡ y → both_js_tails (if fresh then x else t) (if fresh then y else t) ≡ (if fresh then y else t)
 end-tails true x y t h = h
 end-tails false x y t h = tails-by t
 
-end-star : (fresh k l t : Bool) → (k || l) ≡ l → ((if fresh then k else t) || (if fresh then l else t)) ≡ (if fresh then l else t)
+pub end-star : (fresh k l t : Bool) → (k || l) ≡ l → ((if fresh then k else t) || (if fresh then l else t)) ≡ (if fresh then l else t)
 end-star true k l t h = h
 end-star false k l t h = or-same t
 
-tails-grow : (n m : ScriptScan) → ScriptTailsBelow n m → GrowsScriptTails n m
+pub tails-grow : (n m : ScriptScan) → ScriptTailsBelow n m → GrowsScriptTails n m
 tails-grow _ _ (tails_below s x y k l v h e) =
     let own : JsTails = script_tails (script_tail_at v.at v.trail.markup) in
     record {
@@ -165,7 +166,7 @@ tails-cover m v i h =
     }
 
 -- a hole
-hole-below : (c d : Js) → ScriptBelow c d → ScriptBelow (script_at_hole c) (script_at_hole d)
+pub hole-below : (c d : Js) → ScriptBelow c d → ScriptBelow (script_at_hole c) (script_at_hole d)
 hole-below (js.Code s x) (js.Code t y) h = refl
 hole-below js.Dq js.Dq h = h
 hole-below js.Sq js.Sq h = h

@@ -9,10 +9,11 @@ use Rattle.js_lexer.specs.declared.sense.Sense.{Sense}
 use Rattle.js_lexer.specs.declared.sense.Sense.TheVariants as sense
 use Rattle.place_core.specs.declared.senses.Senses.{Senses}
 use Rattle.place_core.specs.place.LanguagePlaces.{both_senses}
-use Rattle.js_step.specs.ScriptScans.{ScriptScan, script_senses, script_one_sense, script_at_in, script_in_sense, script_sense_at, script_sense_next, script_senses_next, script_two_senses, script_senses_differ, script_tails_error, script_scan_error}
+use Rattle.js_step.specs.ScriptScans.{ScriptScan, script_one_sense, script_at_in, script_in_sense, script_sense_at, script_sense_next, script_senses_next, script_two_senses, script_senses_differ, script_tails_error, script_scan_error}
 use Rattle.js_step.specs.ScriptSetLaws.{KeepsSense, keeps_code, keeps_line, keeps_block, script_has_sense, script_of_sense, ScriptSensesUnite}
 use Rattle.js_step.proofs.OneScriptPath.{senses-alone}
 use Rattle.js_step.proofs.SharedStates.{script-senses-share}
+use Rattle.place_core.specs.place.ScriptParts.{script_senses}
 
 no-sense : false ≡ true → ⊥
 no-sense e = cc
@@ -33,7 +34,7 @@ or-third true false true = refl
 or-third true false false = refl
 or-third false x y = refl
 
-set-of : (s t : Senses) → s.re ≡ t.re → s.div ≡ t.div → s.brace ≡ t.brace → s ≡ t
+pub set-of : (s t : Senses) → s.re ≡ t.re → s.div ≡ t.div → s.brace ≡ t.brace → s ≡ t
 set-of s t e f g =
     ap (λ (z : Bool). record { re = z; div = s.div; brace = s.brace }) e
     ∙ (ap (λ (z : Bool). record { re = t.re; div = z; brace = s.brace }) f
@@ -64,19 +65,19 @@ sense-in re div true sense.Brace v b h = third-in (sense-next sense.Brace v b) (
 sense-in re div false sense.Brace v b h = absurd (no-sense h)
 
 -- what is refused does not depend on the sense
-white-in : (a : At) → KeepsSense a → (s r : Sense) → tells_white_apart (script_at_in s a) ≡ tells_white_apart (script_at_in r a)
+pub white-in : (a : At) → KeepsSense a → (s r : Sense) → tells_white_apart (script_at_in s a) ≡ tells_white_apart (script_at_in r a)
 white-in _ (keeps_code z) s r = refl
 white-in _ (keeps_line z) s r = refl
 white-in _ (keeps_block z star) s r = refl
 
-no-two : (k : Bool) (fs : List ℕ) (a : At) → KeepsSense a → (c : ScriptClass) → script_two_senses k fs a c ≡ None
+pub no-two : (k : Bool) (fs : List ℕ) (a : At) → KeepsSense a → (c : ScriptClass) → script_two_senses k fs a c ≡ None
 no-two true [] _ (keeps_code z) c = refl
 no-two true [] _ (keeps_line z) c = refl
 no-two true [] _ (keeps_block z star) c = refl
 no-two true (n ∷ fs) a i c = refl
 no-two false fs a i c = refl
 
-outside-in : (fs : List ℕ) (a : At) (h : List ℕ) (t : Trail) → KeepsSense a → (s r : Sense) (element : Bool) (c : ScriptClass) (b : ℕ)
+pub outside-in : (fs : List ℕ) (a : At) (h : List ℕ) (t : Trail) → KeepsSense a → (s r : Sense) (element : Bool) (c : ScriptClass) (b : ℕ)
     → refusal_outside fs element (script_in_sense s (record { literals = fs; at = a; held = h; trail = t })) c b
     ≡ refusal_outside fs element (script_in_sense r (record { literals = fs; at = a; held = h; trail = t })) c b
 outside-in [] _ h t (keeps_code z) s r element c b = refl
@@ -86,7 +87,7 @@ outside-in (n ∷ fs) _ h t (keeps_code z) s r element c b = refl
 outside-in (n ∷ fs) _ h t (keeps_line z) s r element c b = refl
 outside-in (n ∷ fs) _ h t (keeps_block z star) s r element c b = refl
 
-tails-in : (m : ScriptScan) → KeepsSense m.state.at → (r : Sense) (c : ScriptClass) (b : ℕ) → script_tails_error (script_of_sense m r) c b ≡ script_tails_error m c b
+pub tails-in : (m : ScriptScan) → KeepsSense m.state.at → (r : Sense) (c : ScriptClass) (b : ℕ) → script_tails_error (script_of_sense m r) c b ≡ script_tails_error m c b
 tails-in m i r c b = rw (white-in m.state.at i (script_one_sense (script_senses r)) (script_one_sense m.senses)) refl
 
 same-error : (m : ScriptScan) (r : Sense) → KeepsSense m.state.at → (element : Bool) (b : ℕ) → script_scan_error element (script_of_sense m r) b ≡ script_scan_error element m b

@@ -10,9 +10,10 @@ use Rattle.place_core.specs.declared.js.Js.TheVariants as js
 use Rattle.place_core.specs.declared.js_tails.JsTails.{JsTails}
 use Rattle.place_core.specs.declared.senses.Senses.{Senses}
 use Rattle.place_core.specs.place.LanguagePlaces.{IsValidJs, some_sense, both_senses}
-use Rattle.js_step.specs.ScriptScans.{script_senses, script_no_senses, script_in_sense, script_sense_at, script_sense_next, script_slash_place, script_quote_place, script_place_at, script_scan_start, script_before_end, script_star_end, script_at_hole, script_one_sense, script_begun_trail, script_senses_differ, script_slash_error}
+use Rattle.js_step.specs.ScriptScans.{script_no_senses, script_in_sense, script_sense_at, script_sense_next, script_slash_place, script_place_at, script_scan_start, script_before_end, script_star_end, script_at_hole, script_one_sense, script_begun_trail, script_senses_differ, script_slash_error}
 use Rattle.js_step.specs.ScriptSetLaws.{KeepsScript, EmptyTextsKeepScripts}
 use Rattle.js_step.specs.ScriptValidity.{IsScriptScan, ScriptsStayValid}
+use Rattle.place_core.specs.place.ScriptParts.{script_senses, script_quote_place}
 
 start-valid : (c : Js) → IsValidJs c → IsScriptScan (script_scan_start c)
 start-valid (js.Code s x) h = h
@@ -44,7 +45,7 @@ grouped false false true false true f = refl
 grouped false false true false false f = refl
 grouped false false false d e f = refl
 
-both-some-left : (s t : Senses) → some_sense s ≡ true → some_sense (both_senses s t) ≡ true
+pub both-some-left : (s t : Senses) → some_sense s ≡ true → some_sense (both_senses s t) ≡ true
 both-some-left s t h = rw (grouped s.re s.div s.brace t.re t.div t.brace) (or-first (some_sense s) (some_sense t) h)
 
 both-some-right : (s t : Senses) → some_sense t ≡ true → some_sense (both_senses s t) ≡ true
@@ -110,11 +111,9 @@ scripts-stay-valid = record {
 }
 
 -- a text of no bytes
-cut-kept : (differ lt : Bool) (s : Sense) → first_script_cause (script_slash_error differ [] (Code s)) (cut_refusal_at (Code s) (script_begun_trail lt)) ≡ None
-cut-kept true true s = refl
-cut-kept true false s = refl
-cut-kept false true s = refl
-cut-kept false false s = refl
+cut-kept : (differ : Bool) (s : Sense) → first_script_cause (script_slash_error differ [] (Code s)) (cut_refusal_at (Code s) script_begun_trail) ≡ None
+cut-kept true s = refl
+cut-kept false s = refl
 
 code-slash : (differ : Bool) (s : Sense) → script_slash_error differ [] (Code s) ≡ None
 code-slash true s = refl
@@ -139,7 +138,7 @@ regexp-kept false = record { place = refl; cut_error = refl; end_error = refl }
 pub empty-texts-keep-scripts : EmptyTextsKeepScripts
 empty-texts-keep-scripts (js.Code s x) = record {
   place = refl;
-  cut_error = cut-kept (script_senses_differ s) x.lt (script_one_sense s);
+  cut_error = cut-kept (script_senses_differ s) (script_one_sense s);
   end_error = behind-none _ _ (code-slash (script_senses_differ s) (script_one_sense s)) refl;
 }
 empty-texts-keep-scripts js.Dq = record { place = refl; cut_error = refl; end_error = refl }

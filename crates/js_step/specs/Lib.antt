@@ -1,6 +1,10 @@
 pub mod KeptWordLaws
 pub mod KeptWords
+pub mod ScriptEvidence
+pub mod ScriptOrigins
+pub mod ScriptPaths
 pub mod ScriptScanLaws
+pub mod ScriptScanOrder
 pub mod ScriptScanViews
 pub mod ScriptScans
 pub mod ScriptSetLaws

@@ -3,7 +3,7 @@ use Rattle.std.specs.Prelude.{◌≡◌, ℕ, Bool, true, false, codes, List, []
 use Rattle.js_lexer.specs.Feeding.{feed_script}
 use Rattle.js_lexer.specs.Holes.{script_after_cut, script_after_hole}
 use Rattle.js_lexer.specs.Refusals.{script_refuses, script_refuses_cut, refuses_end}
-use Rattle.js_lexer.specs.Spots.{Spot, CodeSpot, StringSpot, RegexpSpot, LineSpot, BlockSpot, script_spot}
+use Rattle.js_lexer.specs.Spots.{Spot, script_spot}
 use Rattle.js_lexer.specs.States.{NoEscape, At, Code, Word, Number, Pluses, Minuses, Slash, LineComment, BlockComment, InString, InRegexp, ScriptState, script_start}
 use Rattle.js_lexer.specs.Steps.{sense_if_odd}
 use Rattle.js_lexer.specs.Words.{sense_after}
@@ -11,15 +11,8 @@ use Rattle.js_lexer.specs.declared.sense.Sense.{Sense}
 use Rattle.js_lexer.specs.declared.sense.Sense.TheVariants as sense
 use Rattle.place_core.specs.declared.js.Js.{Js}
 use Rattle.place_core.specs.declared.js.Js.TheVariants as js
-use Rattle.js_step.specs.ScriptScans.{ScriptScan, script_scan, script_begun, script_senses, script_tails, script_no_tails, script_sense_at, script_tail_at, script_star_at, script_quote_place, script_scan_start, script_scan_next, script_scan_error, script_scan_place, script_scan_cut_error, script_scan_end_error, script_at_hole}
-
--- The place of one path, from where it is shown: the sets are those of that path alone.
-abbrev pub script_place : Spot → Js
-script_place (CodeSpot s x) = js.Code (script_senses s) (script_tails x)
-script_place (StringSpot q) = script_quote_place q
-script_place (RegexpSpot slash) = js.Regexp slash
-script_place (LineSpot s) = js.Line (script_senses s)
-script_place (BlockSpot s star) = js.Block (script_senses s) star
+use Rattle.js_step.specs.ScriptScans.{ScriptScan, script_scan, script_begun, script_sense_at, script_tail_at, script_star_at, script_scan_start, script_scan_next, script_scan_error, script_scan_place, script_scan_cut_error, script_scan_end_error, script_at_hole}
+use Rattle.place_core.specs.place.ScriptParts.{script_tails, script_no_tails, script_senses, script_place}
 
 -- A path alone, within a text: in its own state.
 abbrev pub script_alone : ScriptState → ScriptScan

@@ -1,6 +1,6 @@
 -- The scan states of the code, and its answers.
 use Rattle.std.specs.Prelude.{ℕ, ◌+◌, ◌-◌, ◌^◌, ◌≤◌, Bool, true, false, codes, get_or, not, List, [], ◌∷◌, Option, Some, None, ⊤, take, drop}
-use Rattle.js_lexer.specs.Refusals.{Refusal, PartialCharset, PartialEscape, SlashAmbig, JSTemplate, SplitToken, BadString, HtmlInScript, Cause, is_one_of}
+use Rattle.js_lexer.specs.Refusals.{Cause, is_one_of}
 use Rattle.js_lexer.specs.States.{ScriptEscape, NoEscape, AfterBackslash, AfterX, AfterX3, AfterCarriageReturn, At, Code, Word, Number, Pluses, Minuses, Slash, LineComment, BlockComment, InString, InRegexp, InTemplate, TooDeep, Trail, ScriptPoint, point}
 use Rattle.js_lexer.specs.Trails.{is_empty}
 use Rattle.js_lexer.specs.WhiteSpace.{ClassedByte, PastAscii, IsSpace, IsSeparator, BeginsWhite, IsOther}
@@ -27,8 +27,7 @@ use Rattle.js_step.specs.declared.scan.ScriptUnfinished.TheVariants as unfinishe
 use Rattle.js_step.specs.declared.scan.ScriptWord.{ScriptWord}
 use Rattle.js_step.specs.declared.white.PastAscii.{PastAscii as ReadPast}
 use Rattle.js_step.specs.declared.white.PastAscii.TheVariants as past
-use Rattle.place_core.specs.declared.code.Code.{Code as PlaceCode}
-use Rattle.place_core.specs.declared.code.Code.TheVariants as code
+use Rattle.place_core.specs.page.Tags.{script_code}
 
 abbrev pub script_escape_at : ReadEscape → ScriptEscape
 script_escape_at escape.None = NoEscape
@@ -118,16 +117,6 @@ script_scan_at n =
       trail = script_trail_at n.trail;
     })
 
--- by the codes of errors
-abbrev pub script_code : Refusal → PlaceCode
-script_code PartialCharset = code.PartialCharset
-script_code PartialEscape = code.PartialEscape
-script_code SlashAmbig = code.SlashAmbig
-script_code JSTemplate = code.JSTemplate
-script_code SplitToken = code.SplitToken
-script_code BadString = code.BadString
-script_code HtmlInScript = code.HtmlInScript
-
 abbrev pub script_cause_at : Cause → ScriptCause
 script_cause_at e = record { code = script_code e.refusal; back = e.back; shown = e.shown }
 
@@ -153,7 +142,7 @@ script_point_at p = point (script_literals_at p.literals) (script_lexeme_at p.at
 
 -- so many bytes may have been read before one that is stepped
 abbrev pub most_bytes : ℕ
-most_bytes = 2 ^ 64 - 4
+most_bytes = 2 ^ 128 - 4
 
 -- How far the counts of a state go when that many bytes have been read: of the braces that are open in a literal; and of the bytes since a
 -- `\u{`, which is three bytes when it begins, since a `[` and since the outermost literal.

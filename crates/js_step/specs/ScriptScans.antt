@@ -1,13 +1,14 @@
 -- How a text of a script is stepped, byte by byte, for all the paths that stand at a place together. They read the same bytes, so that
 -- within the text they are in the same lexeme. What a place keeps as a set is kept so: what a slash would be, as the sense of each path
 -- decides no more than that; and what some path ended in before the text, until the first character.
-use Rattle.std.specs.Prelude.{ℕ, ◌||◌, ◌&&◌, Bool, true, false, codes, List, [], ◌∷◌, Option, None, length, if◌then◌else◌}
+use Rattle.std.specs.Prelude.{ℕ, ◌||◌, ◌&&◌, Bool, true, false, List, [], ◌∷◌, Option, Some, None, length, if◌then◌else◌}
 use Rattle.js_lexer.specs.Classes.{class_of}
 use Rattle.js_lexer.specs.Feeding.{tells_white_apart, read_at, feed_script}
-use Rattle.js_lexer.specs.Refusals.{Cause, cause, SplitToken, SlashAmbig, first_script_cause, refusal_outside, script_refuses_cut, refuses_end}
+use Rattle.js_lexer.specs.Refusals.{Cause, cause, SplitToken, SlashAmbig, first_script_cause, refusal_outside, whole_cut_refusal, unless_in_character, refuses_end}
 use Rattle.js_lexer.specs.Spots.{Tail, NoTail, WordTail, NumberTail, LessTail, SlashTail, PlusTail, MinusTail, HashTail, tail_of}
-use Rattle.js_lexer.specs.States.{NoEscape, At, Code, Word, Number, Pluses, Minuses, Slash, LineComment, BlockComment, InString, InRegexp, Trail, ScriptState}
+use Rattle.js_lexer.specs.States.{NoEscape, At, Code, Word, Number, Pluses, Minuses, Slash, LineComment, BlockComment, InString, InRegexp, InTemplate, TooDeep, Trail, ScriptState}
 use Rattle.js_lexer.specs.Steps.{sense_if_odd}
+use Rattle.js_lexer.specs.Trails.{is_empty}
 use Rattle.js_lexer.specs.WhiteSpace.{ClassedByte}
 use Rattle.js_lexer.specs.Words.{sense_after}
 use Rattle.js_lexer.specs.declared.class.ScriptClass.{ScriptClass}
@@ -19,6 +20,7 @@ use Rattle.place_core.specs.declared.js.Js.TheVariants as js
 use Rattle.place_core.specs.declared.js_tails.JsTails.{JsTails}
 use Rattle.place_core.specs.declared.senses.Senses.{Senses}
 use Rattle.place_core.specs.place.LanguagePlaces.{both_senses}
+use Rattle.place_core.specs.place.ScriptParts.{script_tails, script_no_tails, script_senses, script_quote_place}
 
 -- Where a text has been read to, on all paths together: what a slash would be; what some path ended in before the text, and whether one
 -- ended in the `*` of a comment, until the first character (`fresh` of the trail); and the state that they share. What that says of a slash
@@ -32,29 +34,10 @@ pub record ScriptScan : Type 0 where
 abbrev pub script_scan : Senses → JsTails → Bool → ScriptState → ScriptScan
 script_scan s x star v = record { senses = s; before = x; star = star; state = v }
 
--- Sets of tails and of senses: none, and one.
-abbrev pub script_no_tails : JsTails
-script_no_tails = record { word = false; num = false; lt = false; slash = false; plus = false; minus = false; hash = false }
-
-abbrev pub script_tails : Tail → JsTails
-script_tails NoTail = script_no_tails
-script_tails WordTail = record { word = true; num = false; lt = false; slash = false; plus = false; minus = false; hash = false }
-script_tails NumberTail = record { word = false; num = true; lt = false; slash = false; plus = false; minus = false; hash = false }
-script_tails LessTail = record { word = false; num = false; lt = true; slash = false; plus = false; minus = false; hash = false }
-script_tails SlashTail = record { word = false; num = false; lt = false; slash = true; plus = false; minus = false; hash = false }
-script_tails PlusTail = record { word = false; num = false; lt = false; slash = false; plus = true; minus = false; hash = false }
-script_tails MinusTail = record { word = false; num = false; lt = false; slash = false; plus = false; minus = true; hash = false }
-script_tails HashTail = record { word = false; num = false; lt = false; slash = false; plus = false; minus = false; hash = true }
-
+-- no sense; one sense of a set, for the shared state; a state in a sense
 abbrev pub script_no_senses : Senses
 script_no_senses = record { re = false; div = false; brace = false }
 
-abbrev pub script_senses : Sense → Senses
-script_senses sense.Re = record { re = true; div = false; brace = false }
-script_senses sense.Div = record { re = false; div = true; brace = false }
-script_senses sense.Brace = record { re = false; div = false; brace = true }
-
--- one sense of a set, for the shared state; a state in a sense
 abbrev pub script_one_sense : Senses → Sense
 script_one_sense s = if s.brace then sense.Brace else (if s.div then sense.Div else sense.Re)
 
@@ -97,12 +80,12 @@ abbrev pub script_star_at : At → Bool
 script_star_at (BlockComment s star) = star
 script_star_at a = false
 
--- Where a text begins at a place. Behind a `<` it is kept that `<script` may begin, though no page has that: a path alone keeps it.
-abbrev pub script_begun_trail : (lt : Bool) → Trail
-script_begun_trail lt = record { fresh = true; markup = if lt then codes "<" else []; escape = []; brace = 0; bracket = 0; literal = 0 }
+-- Where a text begins at a place. Of what paths have ended in the shared state keeps nothing, as no text goes on with it.
+abbrev pub script_begun_trail : Trail
+script_begun_trail = record { fresh = true; markup = []; escape = []; brace = 0; bracket = 0; literal = 0 }
 
 abbrev pub script_begun : Senses → JsTails → Bool → At → List ℕ → ScriptScan
-script_begun s x star a held = script_scan s x star (record { literals = []; at = a; held = held; trail = script_begun_trail x.lt })
+script_begun s x star a held = script_scan s x star (record { literals = []; at = a; held = held; trail = script_begun_trail })
 
 -- `regexp slash`: the first character may make a comment of its slash, as it may of a slash that divides
 abbrev pub script_slash_tail : Bool → JsTails
@@ -196,10 +179,6 @@ abbrev pub script_slash_place : (re : Bool) → JsTails → Js
 script_slash_place true x = js.Regexp x.slash
 script_slash_place false x = js.Code (script_senses sense.Re) x
 
-abbrev pub script_quote_place : Bool → Js
-script_quote_place true = js.Dq
-script_quote_place false = js.Sq
-
 abbrev pub script_place_at : Senses → JsTails → (star : Bool) → At → Js
 script_place_at s x star (Slash t) = script_slash_place s.re x
 script_place_at s x star (LineComment t) = js.Line s
@@ -211,16 +190,29 @@ script_place_at s x star a = js.Code s x
 abbrev pub script_scan_place : ScriptScan → Js
 script_scan_place n = script_place_at n.senses (script_before_end n) (script_star_end n) n.state.at
 
+-- The place that is shown before a byte, as `spot_before` is on one path: within an escape, a `[ ]` and what may become markup it is that
+-- of the string, the regular expression or the code. In a template literal there is none, nor behind a slash after `}`, which is refused
+-- itself.
+abbrev pub script_shown_at : Senses → JsTails → (star : Bool) → At → Option Js
+script_shown_at s x star (Slash t) = if s.brace then None else Some (script_slash_place s.re x)
+script_shown_at s x star (InTemplate e d) = None
+script_shown_at s x star TooDeep = None
+script_shown_at s x star a = Some (script_place_at s x star a)
+
+abbrev pub script_scan_shown : ScriptScan → Option Js
+script_scan_shown n =
+    if is_empty n.state.literals then script_shown_at n.senses (script_before_end n) (script_star_end n) n.state.at else None
+
 -- Why the end of a node is refused, and the end of a value: a slash that is held back is one thing or the other; or as the shared state
--- says.
+-- says. A node that ends within a character is refused for that.
 abbrev pub script_slash_error : (differ : Bool) → List ℕ → At → Option Cause
 script_slash_error true [] (Slash s) = cause SlashAmbig 1 1
 script_slash_error differ fs a = None
 
 abbrev pub script_scan_cut_error : ScriptScan → Option Cause
 script_scan_cut_error n =
-    first_script_cause (script_slash_error (script_senses_differ n.senses) n.state.literals n.state.at)
-    (script_refuses_cut (script_shared n))
+    unless_in_character n.state.held (first_script_cause (script_slash_error (script_senses_differ n.senses) n.state.literals n.state.at)
+    (whole_cut_refusal n.state.literals (script_shared n).at n.state.trail))
 
 abbrev pub script_scan_end_error : ScriptScan → Option Cause
 script_scan_end_error n =

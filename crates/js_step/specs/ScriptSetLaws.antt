@@ -10,8 +10,9 @@ use Rattle.place_core.specs.declared.js.Js.{Js}
 use Rattle.place_core.specs.declared.js_tails.JsTails.{JsTails}
 use Rattle.place_core.specs.declared.senses.Senses.{Senses}
 use Rattle.place_core.specs.place.LanguagePlaces.{joined_js, both_js_tails, both_senses}
-use Rattle.js_step.specs.ScriptScans.{ScriptScan, script_scan, script_scan_start, script_scan_next, script_scan_error, script_scan_place, script_scan_cut_error, script_scan_end_error, script_at_hole, script_in_sense, script_senses}
+use Rattle.js_step.specs.ScriptScans.{ScriptScan, script_scan, script_scan_start, script_scan_next, script_scan_error, script_scan_place, script_scan_cut_error, script_scan_end_error, script_at_hole, script_in_sense}
 use Rattle.js_step.specs.ScriptScanLaws.{script_alone, script_alone_before, IsBeforeText}
+use Rattle.place_core.specs.place.ScriptParts.{script_senses}
 
 pub record KeepsScript (c : Js) : Type 0 where
   pub place : script_scan_place (script_scan_start c) ≡ c

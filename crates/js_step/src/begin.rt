@@ -4,24 +4,20 @@ ghost use Rattle.js_step.specs.ScriptScanViews.{script_lexeme_at, script_scan_at
 ghost use Rattle.js_step.specs.ScriptScans.{script_begun, script_begun_trail, script_scan_start};
 
 use crate::scan::{
-    NO_TAILS, ScriptAt, ScriptEscape, ScriptHeld, ScriptLetters, ScriptLiterals, ScriptMarkup,
-    ScriptScan, ScriptTrail, ScriptUnfinished,
+    NO_TAILS, ScriptAt, ScriptEscape, ScriptHeld, ScriptLiterals, ScriptMarkup, ScriptScan,
+    ScriptTrail, ScriptUnfinished,
 };
 use crate::senses::one_sense;
 use place_core::{Js, JsTails, Senses};
 
 // The trail at the beginning of a text.
-fn begun_trail(less: bool) -> ScriptTrail
+fn begun_trail() -> ScriptTrail
     ensures fits { ScriptTrailFits 0 result }
-    ensures trail { script_trail_at result ≡ script_begun_trail less }
+    ensures trail { script_trail_at result ≡ script_begun_trail }
 {
     ScriptTrail {
         fresh: true,
-        markup: if less {
-            ScriptMarkup::Tag(false, ScriptLetters::None)
-        } else {
-            ScriptMarkup::None
-        },
+        markup: ScriptMarkup::None,
         escape: ScriptUnfinished::None,
         brace: 0,
         bracket: 0,
@@ -45,7 +41,7 @@ fn begun(senses: Senses, before: JsTails, star: bool, at: ScriptAt) -> ScriptSca
             free: 16,
         },
         held: ScriptHeld::None,
-        trail: begun_trail(before.lt),
+        trail: begun_trail(),
     }
 }
 

@@ -7,12 +7,12 @@ use place_core::Code;
 #[derive(Clone, Copy)]
 pub struct ScriptCause {
     pub code: Code,
-    pub back: usize,
-    pub shown: usize,
+    pub back: u128,
+    pub shown: u128,
 }
 
 // A cause, where something is refused.
-pub fn caused(code: Code, back: usize, shown: usize) -> Option<ScriptCause>
+pub fn caused(code: Code, back: u128, shown: u128) -> Option<ScriptCause>
     ensures { result ≡ Some (record { code = code; back = back; shown = shown }) }
 {
     Some(ScriptCause { code, back, shown })

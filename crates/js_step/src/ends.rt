@@ -1,15 +1,15 @@
 ghost use Rattle.std.specs.Prelude.{◌≡◌, None, if◌then◌else◌, option_map};
 ghost use Rattle.js_lexer.specs.Refusals as refusals;
-ghost use Rattle.js_lexer.specs.Refusals.{SlashAmbig, cause};
+ghost use Rattle.js_lexer.specs.Refusals.{SlashAmbig, cause, first_script_cause};
 ghost use Rattle.js_step.specs.ScriptScanViews.{script_cause_at, script_lexeme_at};
 ghost use Rattle.js_step.specs.ScriptScanViews.{script_literals_at, script_scan_at};
 ghost use Rattle.js_step.specs.ScriptScanViews.{script_trail_at};
 ghost use Rattle.js_step.specs.ScriptScans.{script_scan_cut_error, script_scan_end_error};
-ghost use Rattle.js_step.specs.ScriptScans.{script_slash_error};
+ghost use Rattle.js_step.specs.ScriptScans.{script_senses_differ, script_shared, script_slash_error};
 
 use crate::cause::{ScriptCause, caused};
 use crate::literals::is_outside;
-use crate::scan::{ScriptAt, ScriptLiterals, ScriptScan, ScriptTrail};
+use crate::scan::{ScriptAt, ScriptHeld, ScriptLiterals, ScriptScan, ScriptTrail};
 use crate::senses::{in_sense, one_sense, senses_differ};
 use crate::{escapes, markup};
 use js_lexer::Sense;
@@ -69,9 +69,13 @@ fn on_two_senses(differ: bool, literals: ScriptLiterals, at: ScriptAt) -> bool
     }
 }
 
-/// Why the end of a node is refused, where it is.
-pub fn refused_at_cut(scan: ScriptScan) -> Option<ScriptCause>
-    ensures { result ≡ option_map script_cause_at (script_scan_cut_error (script_scan_at scan)) }
+// Between characters.
+fn in_whole_text(scan: ScriptScan) -> Option<ScriptCause>
+    ensures { result ≡ option_map script_cause_at (first_script_cause
+        (script_slash_error (script_senses_differ scan.senses)
+        (script_literals_at scan.literals) (script_lexeme_at scan.at))
+        (refusals.whole_cut_refusal (script_literals_at scan.literals)
+        (script_shared (script_scan_at scan)).at (script_trail_at scan.trail))) }
 {
     if on_two_senses(senses_differ(scan.senses), scan.literals, scan.at) {
         return caused(Code::SlashAmbig, 1, 1);
@@ -80,6 +84,17 @@ pub fn refused_at_cut(scan: ScriptScan) -> Option<ScriptCause>
         in_lexeme(in_sense(one_sense(scan.senses), scan.at), scan.trail)
     } else {
         caused(Code::JSTemplate, 0, scan.trail.literal)
+    }
+}
+
+/// Why the end of a node is refused, where it is.
+pub fn refused_at_cut(scan: ScriptScan) -> Option<ScriptCause>
+    ensures { result ≡ option_map script_cause_at (script_scan_cut_error (script_scan_at scan)) }
+{
+    match scan.held {
+        ScriptHeld::None => in_whole_text(scan),
+        ScriptHeld::One(_) => caused(Code::SplitToken, 0, 1),
+        ScriptHeld::Two(_, _) => caused(Code::SplitToken, 0, 2),
     }
 }
 

@@ -6,7 +6,7 @@ ghost use Rattle.js_step.specs.ScriptScanViews.{script_lexeme_at, script_unfinis
 use crate::scan::{ScriptAt, ScriptUnfinished};
 
 // How many bytes.
-pub fn bytes(escape: ScriptUnfinished) -> usize
+pub fn bytes(escape: ScriptUnfinished) -> u128
     ensures { result ≡ length (script_unfinished_at escape) }
 {
     match escape {
@@ -132,7 +132,7 @@ pub fn next_escape(at: ScriptAt, escape: ScriptUnfinished, byte: u8) -> ScriptUn
 }
 
 // How many bytes have been read of a `\u{` that is not closed.
-fn next_open_brace(escape: ScriptUnfinished, brace: usize, byte: u8) -> usize
+fn next_open_brace(escape: ScriptUnfinished, brace: u128, byte: u8) -> u128
     requires { brace ≤ most_bytes + 2 }
     ensures most { result ≤ max 3 (brace + 1) }
     ensures brace { result ≡ trails.next_brace (script_unfinished_at escape) brace byte }
@@ -147,7 +147,7 @@ fn next_open_brace(escape: ScriptUnfinished, brace: usize, byte: u8) -> usize
 }
 
 // The same by the lexeme to which the byte has led.
-pub fn next_brace(at: ScriptAt, escape: ScriptUnfinished, brace: usize, byte: u8) -> usize
+pub fn next_brace(at: ScriptAt, escape: ScriptUnfinished, brace: u128, byte: u8) -> u128
     requires { brace ≤ most_bytes + 2 }
     ensures most { result ≤ max 3 (brace + 1) }
     ensures brace { result

@@ -1,4 +1,5 @@
 ghost use Rattle.js_step.specs.KeptWordLaws.{KeptWordsSuffice};
+ghost use Rattle.js_step.specs.ScriptPaths.{ScriptPathsAreScanned};
 ghost use Rattle.js_step.specs.ScriptScanLaws.{IsExactOnOneScript, ScriptsBeginAsOne};
 ghost use Rattle.js_step.specs.ScriptSetLaws.{EmptyTextsKeepScripts, ScriptSensesShare};
 ghost use Rattle.js_step.specs.ScriptSetLaws.{ScriptSensesUnite, ScriptTailsGrow};
@@ -45,7 +46,14 @@ pub fn script_senses_unite()
     ensures { ScriptSensesUnite }
 {}
 
-/// No answer depends on more of a word than the code keeps of it: what is refused at a byte and at the ends, the place, and what is kept behind
+/// Where a path has a place in a script it has a scan state, which is stepped as the path, refuses what the path refuses and shows what the
+/// path shows; and where the end of a node is not refused, the path has a place behind it, and so it has behind a hole. A theorem; the
+/// call does nothing at run time.
+pub fn script_paths_are_scanned()
+    ensures { ScriptPathsAreScanned }
+{}
+
+/// No answer depends on more of a word than the code keeps of it: what is refused at a byte and at the ends, the places, and what is kept behind
 /// a byte. A theorem; the call does nothing at run time.
 pub fn kept_words_suffice()
     ensures { KeptWordsSuffice }

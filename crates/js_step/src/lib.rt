@@ -5,11 +5,13 @@ mod begin;
 mod cause;
 mod ends;
 mod escapes;
+mod evidence;
 mod feeding;
 mod hole;
 mod laws;
 mod literals;
 mod markup;
+mod order;
 mod places;
 mod point;
 mod refusals;
@@ -23,12 +25,17 @@ mod word;
 pub use begin::start;
 pub use cause::ScriptCause;
 pub use ends::{refused_at_cut, refused_at_end};
+pub use evidence::{
+    ScriptShown, scripts_clash, scripts_shown, shown_at_byte, shown_by, split_shows,
+};
 pub use hole::at_hole;
 pub use laws::{
-    empty_texts_keep_scripts, is_exact_on_one_script, kept_words_suffice, script_senses_share,
-    script_senses_unite, script_tails_grow, scripts_begin_as_one, scripts_stay_valid,
+    empty_texts_keep_scripts, is_exact_on_one_script, kept_words_suffice, script_paths_are_scanned,
+    script_senses_share, script_senses_unite, script_tails_grow, scripts_begin_as_one,
+    scripts_stay_valid,
 };
-pub use places::place;
+pub use order::{scripts_come_from, scripts_grow};
+pub use places::{place, shown};
 pub use refusals::refused;
 pub use scan::{
     ScriptAt, ScriptEscape, ScriptHeld, ScriptLetters, ScriptLiterals, ScriptMarkup, ScriptScan,

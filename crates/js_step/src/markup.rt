@@ -1,4 +1,4 @@
-ghost use Rattle.std.specs.Prelude.{◌≡◌, length};
+ghost use Rattle.std.specs.Prelude.{◌≡◌, false, length, true};
 ghost use Rattle.js_lexer.specs.Refusals as refusals;
 ghost use Rattle.js_lexer.specs.Trails as trails;
 ghost use Rattle.js_step.specs.ScriptScanViews.{script_letters_at, script_lexeme_at};
@@ -10,7 +10,7 @@ use crate::scan::{ScriptAt, ScriptLetters, ScriptMarkup};
 use js_lexer::Sense;
 
 // Whether a `<`, a `#` or a `-` is punctuation of code there. In the code of a template literal (`inside`) comments count too.
-pub fn is_code(inside: bool, at: ScriptAt) -> bool
+fn is_code(inside: bool, at: ScriptAt) -> bool
     ensures { result ≡ trails.is_markup_code inside (script_lexeme_at at) }
 {
     match at {
@@ -37,10 +37,22 @@ fn begun(code: bool, byte: u8) -> ScriptMarkup
     }
 }
 
-// Behind `<` or `</`, and letters.
+// Behind `<` outside of template literals, where `<script` is no word.
+fn behind_less(code: bool, letters: ScriptLetters, byte: u8) -> ScriptMarkup
+    ensures { script_markup_at result
+        ≡ trails.next_markup false code (script_markup_at (markup.Tag false letters)) byte }
+{
+    match (letters, byte) {
+        (ScriptLetters::None, b'/') => ScriptMarkup::Tag(true, ScriptLetters::None),
+        (ScriptLetters::None, b'!') => ScriptMarkup::LessBang,
+        _ => begun(code, byte),
+    }
+}
+
+// Behind `<` or `</`, and letters, in a template literal.
 fn behind_letters(code: bool, solidus: bool, letters: ScriptLetters, byte: u8) -> ScriptMarkup
     ensures { script_markup_at result
-        ≡ trails.next_markup code (script_markup_at (markup.Tag solidus letters)) byte }
+        ≡ trails.next_markup true code (script_markup_at (markup.Tag solidus letters)) byte }
 {
     match (solidus, letters, byte) {
         (_, ScriptLetters::None, b's') => ScriptMarkup::Tag(solidus, ScriptLetters::S),
@@ -55,12 +67,33 @@ fn behind_letters(code: bool, solidus: bool, letters: ScriptLetters, byte: u8) -
     }
 }
 
+// Behind `<` or `</`, and letters.
+fn behind_tag(
+    inside: bool,
+    code: bool,
+    solidus: bool,
+    letters: ScriptLetters,
+    byte: u8,
+) -> ScriptMarkup
+    ensures { script_markup_at result
+        ≡ trails.next_markup inside code (script_markup_at (markup.Tag solidus letters)) byte }
+{
+    match (inside, solidus) {
+        (false, false) => behind_less(code, letters, byte),
+        (false, true) => behind_letters(code, true, letters, byte),
+        (true, _) => behind_letters(code, solidus, letters, byte),
+    }
+}
+
 // The bytes go on with the word, or the byte, in lower case, begins one.
-pub fn next_markup(code: bool, markup: ScriptMarkup, byte: u8) -> ScriptMarkup
-    ensures { script_markup_at result ≡ trails.next_markup code (script_markup_at markup) byte }
+fn next_markup(inside: bool, code: bool, markup: ScriptMarkup, byte: u8) -> ScriptMarkup
+    ensures { script_markup_at result
+        ≡ trails.next_markup inside code (script_markup_at markup) byte }
 {
     match (markup, byte) {
-        (ScriptMarkup::Tag(solidus, letters), _) => behind_letters(code, solidus, letters, byte),
+        (ScriptMarkup::Tag(solidus, letters), _) => {
+            behind_tag(inside, code, solidus, letters, byte)
+        }
         (ScriptMarkup::LessBang, b'-') => ScriptMarkup::LessBangMinus,
         (ScriptMarkup::LessBangMinus, b'-') => ScriptMarkup::Opened,
         (ScriptMarkup::Hash, b'!') => ScriptMarkup::HashBang,
@@ -70,8 +103,17 @@ pub fn next_markup(code: bool, markup: ScriptMarkup, byte: u8) -> ScriptMarkup
     }
 }
 
+// What a byte makes of them, by where it is read: in a template literal (`inside`), or not.
+pub fn markup_after(inside: bool, at: ScriptAt, markup: ScriptMarkup, byte: u8) -> ScriptMarkup
+    ensures { script_markup_at result
+        ≡ trails.markup_after inside (script_lexeme_at at) (script_markup_at markup) byte }
+{
+    let code = is_code(inside, at);
+    next_markup(inside, code, markup, byte.to_ascii_lowercase())
+}
+
 // How many letters.
-fn letters(letters: ScriptLetters) -> usize
+fn letters(letters: ScriptLetters) -> u128
     ensures { result ≡ length (script_letters_at letters) }
 {
     match letters {
@@ -86,7 +128,7 @@ fn letters(letters: ScriptLetters) -> usize
 }
 
 // How many bytes.
-pub fn bytes(markup: ScriptMarkup) -> usize
+pub fn bytes(markup: ScriptMarkup) -> u128
     ensures { result ≡ length (script_markup_at markup) }
 {
     match markup {

@@ -1,9 +1,11 @@
 ghost use Rattle.std.specs.Prelude.{◌≡◌};
 ghost use Rattle.js_step.specs.ScriptScanViews.{script_lexeme_at, script_markup_at, script_scan_at};
-ghost use Rattle.js_step.specs.ScriptScans.{script_before_end, script_quote_place};
+ghost use Rattle.js_step.specs.ScriptScans.{script_before_end, script_scan_shown};
 ghost use Rattle.js_step.specs.ScriptScans.{script_scan_place, script_slash_place, script_star_end};
-ghost use Rattle.js_step.specs.ScriptScans.{script_tail_at, script_tails};
+ghost use Rattle.js_step.specs.ScriptScans.{script_tail_at};
+ghost use Rattle.place_core.specs.place.ScriptParts.{script_tails, script_quote_place};
 
+use crate::literals::is_outside;
 use crate::scan::{NO_TAILS, ScriptAt, ScriptLetters, ScriptMarkup, ScriptScan};
 use place_core::{Js, JsTails, Senses};
 
@@ -108,5 +110,19 @@ pub fn place(scan: ScriptScan) -> Js
         ScriptAt::InString(double, _) => quote_place(double),
         ScriptAt::InRegexp(_, _) => Js::Regexp(tails.slash),
         _ => Js::Code(scan.senses, tails),
+    }
+}
+
+/// The place that is shown before a byte; none within a template literal, nor behind a slash after `}`.
+pub fn shown(scan: ScriptScan) -> Option<Js>
+    ensures { result ≡ script_scan_shown (script_scan_at scan) }
+{
+    if !is_outside(scan.literals) {
+        return None;
+    }
+    match scan.at {
+        ScriptAt::Slash(_) if scan.senses.brace => None,
+        ScriptAt::InTemplate(_, _) | ScriptAt::TooDeep => None,
+        _ => Some(place(scan)),
     }
 }

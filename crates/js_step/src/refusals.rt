@@ -1,4 +1,3 @@
-ghost use Rattle.std.specs.Char.{to_ascii_lowercase};
 ghost use Rattle.std.specs.Prelude.{◌≡◌, option_map};
 ghost use Rattle.js_lexer.specs.Classes as classes;
 ghost use Rattle.js_lexer.specs.Feeding as feeding;
@@ -134,10 +133,9 @@ fn at_line_end(at: ScriptAt, class: ScriptClass, byte: u8) -> Option<ScriptCause
 // What HTML or an old browser reads in code.
 fn in_markup(scan: ScriptScan, byte: u8) -> Option<ScriptCause>
     ensures { result ≡ option_map script_cause_at
-        (refusals.markup_refusal (script_scan_at scan).state (to_ascii_lowercase byte)) }
+        (refusals.markup_refusal (script_scan_at scan).state byte) }
 {
-    let code = markup::is_code(false, scan.at);
-    let next = markup::next_markup(code, scan.trail.markup, byte.to_ascii_lowercase());
+    let next = markup::markup_after(false, scan.at, scan.trail.markup, byte);
     if markup::is_refused(next) {
         let read = markup::bytes(scan.trail.markup);
         return caused(Code::HtmlInScript, read, read);
@@ -148,10 +146,9 @@ fn in_markup(scan: ScriptScan, byte: u8) -> Option<ScriptCause>
 // What HTML reads in the code of a template literal of an element.
 fn in_inner_markup(element: bool, scan: ScriptScan, byte: u8) -> Option<ScriptCause>
     ensures { result ≡ option_map script_cause_at (refusals.inner_markup_refusal element
-        (script_scan_at scan).state (to_ascii_lowercase byte)) }
+        (script_scan_at scan).state byte) }
 {
-    let code = markup::is_code(true, scan.at);
-    let next = markup::next_markup(code, scan.trail.markup, byte.to_ascii_lowercase());
+    let next = markup::markup_after(true, scan.at, scan.trail.markup, byte);
     if element && markup::is_refused_inside(next) {
         return caused(
             Code::HtmlInScript,
@@ -166,7 +163,7 @@ fn in_inner_markup(element: bool, scan: ScriptScan, byte: u8) -> Option<ScriptCa
 fn in_line_or_markup(scan: ScriptScan, class: ScriptClass, byte: u8) -> Option<ScriptCause>
     ensures { result ≡ option_map script_cause_at (first_script_cause
         (refusals.line_refusal (script_lexeme_at scan.at) class byte)
-        (refusals.markup_refusal (script_scan_at scan).state (to_ascii_lowercase byte))) }
+        (refusals.markup_refusal (script_scan_at scan).state byte)) }
 {
     match at_line_end(scan.at, class, byte) {
         None => in_markup(scan, byte),
@@ -179,7 +176,7 @@ fn in_token(scan: ScriptScan, class: ScriptClass, byte: u8) -> Option<ScriptCaus
     ensures { result ≡ option_map script_cause_at (first_script_cause
         (refusals.slash_refusal (script_lexeme_at scan.at) class) (first_script_cause
         (refusals.line_refusal (script_lexeme_at scan.at) class byte)
-        (refusals.markup_refusal (script_scan_at scan).state (to_ascii_lowercase byte)))) }
+        (refusals.markup_refusal (script_scan_at scan).state byte))) }
 {
     match behind_slash(scan.at, class) {
         None => in_line_or_markup(scan, class, byte),

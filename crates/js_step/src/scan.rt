@@ -64,7 +64,7 @@ pub enum ScriptAt {
 /// behind so many that are free.
 #[derive(Clone, Copy)]
 pub struct ScriptLiterals {
-    pub braces: [usize; 16],
+    pub braces: [u128; 16],
     pub free: usize,
 }
 
@@ -130,9 +130,9 @@ pub struct ScriptTrail {
     pub fresh: bool,
     pub markup: ScriptMarkup,
     pub escape: ScriptUnfinished,
-    pub brace: usize,
-    pub bracket: usize,
-    pub literal: usize,
+    pub brace: u128,
+    pub bracket: u128,
+    pub literal: u128,
 }
 
 /// Where a text of a script has been read to, on all paths together: what a slash would be; what some path ended in before the text, and

@@ -2,8 +2,9 @@ ghost use Rattle.std.specs.Prelude.{◌≡◌};
 ghost use Rattle.js_step.specs.KeptWords.{kept_at};
 ghost use Rattle.js_step.specs.ScriptScanViews.{script_lexeme_at, script_scan_at};
 ghost use Rattle.js_step.specs.ScriptScans.{script_at_in, script_one_sense, script_sense_at};
-ghost use Rattle.js_step.specs.ScriptScans.{script_senses, script_senses_differ, script_shared};
+ghost use Rattle.js_step.specs.ScriptScans.{script_senses_differ, script_shared};
 ghost use Rattle.place_core.specs.place.LanguagePlaces.{both_senses};
+ghost use Rattle.place_core.specs.place.ScriptParts.{script_senses};
 
 use crate::scan::{ScriptAt, ScriptScan};
 use crate::steps::sense_if_odd;

@@ -23,7 +23,7 @@ use js_lexer::Sense;
 use place_core::{JsTails, Senses};
 
 // How many bytes have been read since a `[` that is not closed.
-fn next_bracket(at: ScriptAt, bracket: usize) -> usize
+fn next_bracket(at: ScriptAt, bracket: u128) -> u128
     requires { bracket ≤ most_bytes }
     ensures most { result ≤ bracket + 1 }
     ensures bracket { result ≡ trails.bracket_after (script_lexeme_at at) bracket }
@@ -35,7 +35,7 @@ fn next_bracket(at: ScriptAt, bracket: usize) -> usize
 }
 
 // How many since the outermost template literal.
-fn next_literal(literals: ScriptLiterals, literal: usize) -> usize
+fn next_literal(literals: ScriptLiterals, literal: u128) -> u128
     requires { literal ≤ most_bytes }
     ensures most { result ≤ literal + 1 }
     ensures literal { result ≡ trails.literal_after (script_literals_at literals) literal }
@@ -56,10 +56,10 @@ fn next_trail(
     ensures trail { script_trail_at result ≡ trails.next_trail some (script_trail_at trail)
         (script_point_at from) (script_point_at to) byte }
 {
-    let code = markup::is_code(!is_outside(from.literals), from.at);
+    let inside = !is_outside(from.literals);
     ScriptTrail {
         fresh: trail.fresh && !some,
-        markup: markup::next_markup(code, trail.markup, byte.to_ascii_lowercase()),
+        markup: markup::markup_after(inside, from.at, trail.markup, byte),
         escape: escapes::next_escape(to.at, trail.escape, byte),
         brace: escapes::next_brace(to.at, trail.escape, trail.brace, byte),
         bracket: next_bracket(to.at, trail.bracket),

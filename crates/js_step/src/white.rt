@@ -288,7 +288,7 @@ pub fn releases(apart: bool, held: ScriptHeld, byte: u8) -> bool
 }
 
 /// How many bytes are held back.
-pub fn bytes(held: ScriptHeld) -> usize
+pub fn bytes(held: ScriptHeld) -> u128
     ensures { result ≡ length (script_held_at held) }
 {
     match held {

@@ -15,7 +15,7 @@ use Rattle.place_core.specs.page.Contents.{pending_bytes}
 use Rattle.place_core.specs.page.Events.{LexEvent}
 use Rattle.place_core.specs.page.Plain.{settled_state}
 use Rattle.place_core.specs.page.States.{Config, InContent, InLanguage, LexState, Nothing}
-use Rattle.place_core.specs.page.Tags.{OfKind, OfStyle, OfUrl, StatesAlike, ValueState, fed_state, languages}
+use Rattle.place_core.specs.page.Tags.{OfKind, OfStyle, OfUrl, StatesAlike, ValueState, fed_state, languages, OfScript}
 use Rattle.place_core.specs.declared.element.Element.{Element}
 use Rattle.place_core.specs.declared.element.Element.TheVariants as element
 use Rattle.san_css.proofs.WrittenText.{string-no-less, value-no-less}
@@ -56,6 +56,7 @@ in-element-by : (e : Element) (v : Style Url) (w : ValueState) (text bytes : Lis
 in-element-by e v (OfStyle w) text bytes d a at b = record { style = style_settled w; there = at; reads = style-reads v w text bytes a b }
 in-element-by e v (OfKind k) text bytes d a at b = absurd a
 in-element-by e v (OfUrl u) text bytes d a at b = absurd a
+in-element-by e v (OfScript s) text bytes d a at b = absurd a
 
 in-element : (e : Element) (v : Style Url) (text bytes : List ℕ) (t : List LexEvent) (d : Config ValueState)
     → StandsInStyleElement languages e v Nothing t d → ReadsBackInStyle v text bytes → IsInElement e text bytes d

@@ -3,6 +3,8 @@ use Rattle.std.proofs.Common.{◌≡◌, ℕ, List, [], Bool, true, false, Optio
 use Rattle.std.proofs.lemmas.Bool.{and_parts}
 use Rattle.html_step.proofs.HoleOrder.{covers-hole}
 use Rattle.html_step.specs.Holes.{Holed, after_hole, all_of, both_of, last_of, only}
+use Rattle.js_lexer.specs.Spots.{Spot, script_spot}
+use Rattle.js_lexer.specs.States.{ScriptState}
 use Rattle.page_datum.specs.Data.{Data}
 use Rattle.page_datum.specs.Printed.{printed}
 use Rattle.page_path.specs.Pages.{chain_bytes}
@@ -18,6 +20,7 @@ use Rattle.place_core.specs.place.Membership.{IsIn}
 use Rattle.place_core.specs.page.Plain.{settled_state}
 use Rattle.place_core.specs.place.Places.{IsValid}
 use Rattle.place_core.specs.page.References.{Closed, Reference}
+use Rattle.place_core.specs.place.ScriptParts.{script_may_begin_text, script_place}
 use Rattle.place_core.specs.place.StatePlaces.{content_spot, language_place, only_after, only_inside, placed, tag_spot, quotes_at, value_body, value_spot, where_closed}
 use Rattle.place_core.specs.place.StyleParts.{style_body, style_css, style_place}
 use Rattle.place_core.specs.place.UrlParts.{parts_of}
@@ -26,8 +29,8 @@ use Rattle.css_lexer.specs.PartSpots.{has_read_nothing, is_at_start}
 use Rattle.css_lexer.specs.Sanitizers.{css_value}
 use Rattle.css_lexer.specs.Spots.{QuotedUrlSpot, UrlSpot}
 use Rattle.css_lexer.specs.States.{Quote, DoubleQuote, SingleQuote, Outside, Between, AfterLessThan, Word, AfterSolidus, Comment, InString, BadUrl, BehindHole, SplitWord, SolidusAtCut, LessThanAtCut, StarAtCut, UrlForm, Fresh, Bare, Quoted, Ended, Style, Out, InUrl}
-use Rattle.place_core.specs.page.States.{AfterAttributeName, AfterAttributeValue, AttributeValue, BeforeAttributeName, BeforeAttributeValue, Broken, Bytes, Characters, CommentState, Config, Content, Pending, InComment, InContent, InLanguage, Inside, LessAtCut, Nothing, SelfClosingStartTag, LexState, Text, WholeAttributeName}
-use Rattle.place_core.specs.page.Tags.{DoubleQuoted, Quoting, SingleQuoted, Tag, Unquoted, Value, ValueOf, ValueState, OfKind, OfStyle, OfUrl, is_second_type, languages, without_value}
+use Rattle.place_core.specs.page.States.{AfterAttributeName, AfterAttributeValue, AttributeValue, BeforeAttributeName, BeforeAttributeValue, Broken, Bytes, Characters, Config, Content, Pending, InComment, InContent, InLanguage, Inside, LessAtCut, Nothing, SelfClosingStartTag, LexState, Text, WholeAttributeName}
+use Rattle.place_core.specs.page.Tags.{DoubleQuoted, Quoting, SingleQuoted, Tag, Unquoted, Value, ValueOf, ValueState, OfKind, OfStyle, OfUrl, is_second_type, languages, without_value, OfScript}
 use Rattle.place_core.specs.declared.body.Body.{Body}
 use Rattle.place_core.specs.declared.body.Body.TheVariants as body
 use Rattle.place_core.specs.declared.chain.Chain.{Chain}
@@ -364,6 +367,13 @@ before-style tag = record {
   back = λ laws datum utf8. same-back (BeforeAttributeValue tag kind.Style) datum _ refl (unbegun-style-back tag (printed datum) utf8);
 }
 
+-- in a script, where no place takes a value yet
+script-safe : (begins : Bool) (o : Option Spot) (q : Quoting) (tag : Tag) (s : ScriptState)
+    → SafeAt (in_value q tag (ValueOf (OfScript s))) (value_spot tag (quotes_at q) (if begins then option_map (λ p. body.Js (script_place p)) o else None))
+script-safe true (Some p) q tag s = tt
+script-safe true None q tag s = tt
+script-safe false o q tag s = tt
+
 value-safe : (r : Reference) (v : Value ValueState) (q : Quoting) (tag : Tag)
     → SafeAt (AttributeValue q tag v r) (where_closed r (value_spot tag (quotes_at q) (value_body v)))
 value-safe Closed (ValueOf (OfKind kind.Plain)) DoubleQuoted tag = in-double tag
@@ -371,6 +381,7 @@ value-safe Closed (ValueOf (OfKind kind.Plain)) SingleQuoted tag = in-single tag
 value-safe Closed (ValueOf (OfKind kind.Plain)) Unquoted tag = in-unquoted tag
 value-safe Closed (ValueOf (OfUrl u)) q tag = url-safe u.triple u.part q tag u refl
 value-safe Closed (ValueOf (OfStyle v)) q tag = style-safe v q tag
+value-safe Closed (ValueOf (OfScript s)) q tag = script-safe (script_may_begin_text s) (script_spot s) q tag s
 value-safe _ _ _ tag = tt
 
 -- In the element of a style: in code, in a string, and in a URL, by its part.

@@ -16,7 +16,7 @@ use Rattle.page_path.specs.Soundness.{IsBack, IsStyleBack, ReadsBackInStyle, Rea
 use Rattle.place_core.specs.page.Events.{LexEvent}
 use Rattle.place_core.specs.page.Plain.{settled_state}
 use Rattle.place_core.specs.page.States.{BeforeAttributeValue, Config, LexState, config}
-use Rattle.place_core.specs.page.Tags.{OfKind, OfStyle, OfUrl, Quoting, StatesAlike, Tag, Unquoted, Value, ValueOf, ValueState, languages}
+use Rattle.place_core.specs.page.Tags.{OfKind, OfStyle, OfUrl, Quoting, StatesAlike, Tag, Unquoted, Value, ValueOf, ValueState, languages, OfScript}
 use Rattle.place_core.specs.place.StatePlaces.{quotes_at}
 use Rattle.place_core.specs.declared.kind.Kind.TheVariants as kind
 use Rattle.san_css.proofs.WrittenText.{HaveNoNul, string-no-nul, string-utf8, value-no-nul, value-utf8}
@@ -120,6 +120,7 @@ in-style-by q tag v (OfStyle r) text characters t d a e b =
     record { style = r; there = ap (λ (c : Config ValueState). c.at) e; reads = style-reads v r text characters a b }
 in-style-by q tag v (OfKind k) text characters t d a e b = absurd a
 in-style-by q tag v (OfUrl u) text characters t d a e b = absurd a
+in-style-by q tag v (OfScript r) text characters t d a e b = absurd a
 
 in-style : (q : Quoting) (tag : Tag) (v : Style Url) (text characters : List ℕ) (t : List LexEvent) (d : Config ValueState)
     → TextStands languages (in_style q tag v) t d → ReadsBackInStyle v text characters → IsInStyle q tag text characters d

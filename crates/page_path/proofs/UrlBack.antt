@@ -13,7 +13,7 @@ use Rattle.place_core.specs.page.Events.{LexEvent}
 use Rattle.place_core.specs.page.Html.{read}
 use Rattle.place_core.specs.page.Plain.{settled_state}
 use Rattle.place_core.specs.page.States.{BeforeAttributeValue, Config, LexState, Page, config}
-use Rattle.place_core.specs.page.Tags.{DoubleQuoted, OfKind, OfStyle, OfUrl, Quoting, SingleQuoted, StatesAlike, Tag, Unquoted, Value, ValueOf, ValueState, languages}
+use Rattle.place_core.specs.page.Tags.{DoubleQuoted, OfKind, OfStyle, OfUrl, Quoting, SingleQuoted, StatesAlike, Tag, Unquoted, Value, ValueOf, ValueState, languages, OfScript}
 use Rattle.place_core.specs.place.StatePlaces.{quotes_at}
 use Rattle.place_core.specs.declared.kind.Kind.TheVariants as kind
 use Rattle.san_html.proofs.EscapedText.{back-in-quoted}
@@ -99,6 +99,7 @@ in-part-by : (q : Quoting) (tag : Tag) (u : Url) (v : ValueState) (t : List LexE
 in-part-by q tag u (OfUrl w) t d a e = record { url = w; there = ap (λ (c : Config ValueState). c.at) e; part = a.part }
 in-part-by q tag u (OfKind k) t d a e = absurd a
 in-part-by q tag u (OfStyle s) t d a e = absurd a
+in-part-by q tag u (OfScript s) t d a e = absurd a
 
 in-part : (q : Quoting) (tag : Tag) (u : Url) (t : List LexEvent) (d : Config ValueState)
     → TextStands languages (in_value q tag (ValueOf (OfUrl u))) t d → IsInPart q tag u.part d

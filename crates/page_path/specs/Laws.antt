@@ -47,8 +47,8 @@ SoundPagesHaveTheShapeOfTheirPath = (forest : ForestData) (root : List ℕ) (dat
     → PageReads (page_parts (pieces_of forest root datum)) start end
     → shape_of end ≡ shape_of (path_read sound.takes.path)
 
--- A page that is sound reads as its path does with the text of each value in its hole, where no hole of the path is in a data block, a URL or a
--- style.
+-- A page that is sound reads as its path does with the text of each value in its hole, where no hole of the path is in a data block, a URL, a
+-- style or a script.
 abbrev pub SoundPagesReadWithTheirTexts : Type 0
 SoundPagesReadWithTheirTexts = (forest : ForestData) (root : List ℕ) (datum : Data) (page : List ℕ)
     → (sound : IsSound forest root datum page)

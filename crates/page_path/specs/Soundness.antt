@@ -4,6 +4,11 @@ use Rattle.std.specs.Prelude.{◌≡◌, ℕ, false, List, [], ◌∷◌, ⊤}
 use Rattle.css_lexer.specs.Sanitizers.{style_as_text, unless_unsafe}
 use Rattle.css_lexer.specs.States.{Comment, InString, InUrl, Out, Outside, StarAtCut, Style}
 use Rattle.css_lexer.specs.Unescaping.{style_escapes_undone}
+use Rattle.js_lexer.specs.Events.{ScriptEvent}
+use Rattle.js_lexer.specs.Feeding.{read_on, script_reading}
+use Rattle.js_lexer.specs.Plain.{IsDataBack, IsRegexpBack, IsStringBack}
+use Rattle.js_lexer.specs.States as script
+use Rattle.js_lexer.specs.States.{At, ScriptState}
 use Rattle.page_datum.specs.Data.{Data}
 use Rattle.page_datum.specs.Printed.{printed}
 use Rattle.page_path.specs.Pages.{PagePiece, page_bytes, page_parts, pieces_of, value, words}
@@ -14,7 +19,7 @@ use Rattle.place_core.specs.page.Plain.{IsPlain, settled_config}
 use Rattle.place_core.specs.page.References.{Closed, undone}
 use Rattle.place_core.specs.page.Shape.{PageReads, ShapePart, marked}
 use Rattle.place_core.specs.page.States.{AfterAttributeName, AfterAttributeValue, AttributeName, AttributeValue, BeforeAttributeName, BeforeAttributeValue, Bytes, Characters, Config, InContent, InLanguage, Nothing, Page, SelfClosingStartTag, LexState, Text, config}
-use Rattle.place_core.specs.page.Tags.{Deciding, OfKind, OfStyle, OfUrl, Quoting, Tag, Unquoted, Value, ValueOf, ValueState, emits_fed, fed_state, languages, attribute_value_of, without_value}
+use Rattle.place_core.specs.page.Tags.{Deciding, OfKind, OfScript, OfStyle, OfUrl, Quoting, Tag, Unquoted, Value, ValueOf, ValueState, emits_fed, fed_state, languages, attribute_value_of, without_value}
 use Rattle.place_core.specs.declared.element.Element.{Element}
 use Rattle.san_html.specs.ReadBack.{read_value, as_name, read_as_text}
 use Rattle.text_norm.specs.FilledReadings.{value_text}
@@ -48,8 +53,10 @@ path_symbols (back ∷ ms) = path_symbols ms
 -- undone, as its part says, and without quotes, where there are none, with `ZgotmplZ`. In a style they read as such bytes do: in a string of it
 -- as bytes that are the text, with NUL as U+FFFD, where their escapes are undone; in a URL of it as in any URL; in a comment of it as none, of which
 -- a style tells nothing; and elsewhere as the text, of which the escapes are undone, or as `ZgotmplZ`, where that may not stand there: but how long
--- white space is, a style does not tell. In the element `style` the bytes themselves are read so, all of them by the style. In a tag they are
--- the name of an attribute: the text in lower case, or `ZgotmplZ`, where data may not make that name.
+-- white space is, a style does not tell. In the element `style` the bytes themselves are read so, all of them by the style. In a script they read as
+-- bytes that in a string are the text, where their escapes are undone; in a regular expression likewise, or `(?:)` for the empty text; in a comment
+-- none; and in code JSON that stands for the value, read as the tokens of its literal. In a tag they are the name of an attribute: the text in lower
+-- case, or `ZgotmplZ`, where data may not make that name.
 abbrev pub IsNameBack : Tag → LexState ValueState → List ℕ → List ℕ → Type 0
 IsNameBack tag s text bytes =
     read Page bytes (config s []) ≡ config (AttributeName tag (as_name text)) (attribute_name_bytes (as_name text) (AttributeBegins ∷ []))
@@ -81,14 +88,28 @@ pub record IsElementBack (e : Element) (style : Style Url) (text bytes : List �
       ≡ config (InContent e (InLanguage (fed_state languages (OfStyle style) bytes)) Nothing) (emits_fed languages (OfStyle style) bytes [])
   pub reads : ReadsBackInStyle style text bytes
 
+-- in a script, by where the page is in it when nothing is pending
+abbrev pub ReadsBackAt : At → Data → (characters : List ℕ) → List ScriptEvent → Type 0
+ReadsBackAt (script.InString q e) datum characters told = IsStringBack (printed datum) characters
+ReadsBackAt (script.InRegexp k e) datum characters told = IsRegexpBack (printed datum) characters
+ReadsBackAt (script.LineComment s) datum characters told = characters ≡ []
+ReadsBackAt (script.BlockComment s star) datum characters told = characters ≡ []
+ReadsBackAt a datum characters told = IsDataBack datum characters told
+
+pub record IsScriptBack (q : Quoting) (tag : Tag) (script : ScriptState) (s : LexState ValueState) (datum : Data) (bytes : List ℕ) : Type 0 where
+  pub characters : List ℕ
+  pub goes_on : read Page bytes (config s []) ≡ read_value q tag (ValueOf (OfScript script)) (url_bytes q characters) []
+  pub reads : ReadsBackAt script.at datum characters (read_on characters (script_reading script [])).told
+
 -- in a value of an attribute, by how it is read
-abbrev pub IsValueBack : Quoting → Tag → Value ValueState → LexState ValueState → List ℕ → List ℕ → Type 0
-IsValueBack q tag (ValueOf (OfKind k)) s text bytes =
-    read Page bytes (config s []) ≡ read_value q tag (ValueOf (OfKind k)) (value_text q text) []
-IsValueBack q tag (ValueOf (OfUrl u)) s text bytes = IsUrlBack q tag u s text bytes
-IsValueBack q tag (ValueOf (OfStyle style)) s text bytes = IsStyleBack q tag style s text bytes
-IsValueBack q tag (Deciding k before) s text bytes =
-    read Page bytes (config s []) ≡ read_value q tag (Deciding k before) (value_text q text) []
+abbrev pub IsValueBack : Quoting → Tag → Value ValueState → LexState ValueState → Data → List ℕ → Type 0
+IsValueBack q tag (ValueOf (OfKind k)) s datum bytes =
+    read Page bytes (config s []) ≡ read_value q tag (ValueOf (OfKind k)) (value_text q (printed datum)) []
+IsValueBack q tag (ValueOf (OfUrl u)) s datum bytes = IsUrlBack q tag u s (printed datum) bytes
+IsValueBack q tag (ValueOf (OfStyle style)) s datum bytes = IsStyleBack q tag style s (printed datum) bytes
+IsValueBack q tag (ValueOf (OfScript script)) s datum bytes = IsScriptBack q tag script s datum bytes
+IsValueBack q tag (Deciding k before) s datum bytes =
+    read Page bytes (config s []) ≡ read_value q tag (Deciding k before) (value_text q (printed datum)) []
 
 abbrev pub IsBack : LexState ValueState → Data → List ℕ → Type 0
 IsBack (Text r) datum bytes = read Page bytes (config (Text r) []) ≡ config (Text Closed) (event_text_bytes (read_as_text (printed datum)) [])
@@ -97,9 +118,9 @@ IsBack (InContent e (Characters r) Nothing) datum bytes =
     ≡ config (InContent e (Characters Closed) Nothing) (event_text_bytes (read_as_text (printed datum)) [])
 IsBack (InContent e Bytes Nothing) datum bytes = undone false Closed bytes ≡ read_as_text (printed datum)
 IsBack (InContent e (InLanguage (OfStyle style)) Nothing) datum bytes = IsElementBack e style (printed datum) bytes
-IsBack (AttributeValue q tag v r) datum bytes = IsValueBack q tag v (AttributeValue q tag v r) (printed datum) bytes
+IsBack (AttributeValue q tag v r) datum bytes = IsValueBack q tag v (AttributeValue q tag v r) datum bytes
 IsBack (BeforeAttributeValue tag k) datum bytes =
-    IsValueBack Unquoted tag (attribute_value_of languages k) (BeforeAttributeValue tag k) (printed datum) bytes
+    IsValueBack Unquoted tag (attribute_value_of languages k) (BeforeAttributeValue tag k) datum bytes
 IsBack (BeforeAttributeName tag) datum bytes = IsNameBack tag (BeforeAttributeName tag) (printed datum) bytes
 IsBack (AfterAttributeName tag k) datum bytes = IsNameBack (without_value tag k) (AfterAttributeName tag k) (printed datum) bytes
 IsBack (AfterAttributeValue tag) datum bytes = IsNameBack tag (AfterAttributeValue tag) (printed datum) bytes

@@ -21,7 +21,7 @@ pub fn sound_pages_have_the_shape_of_their_path()
 {}
 
 /// A sound page reads, as bytes alone, as its path does with the text of each value in its hole, where no hole of the path is in a data
-/// block, a URL or a style. A theorem; the call does nothing at run time.
+/// block, a URL, a style or a script. A theorem; the call does nothing at run time.
 pub fn sound_pages_read_with_their_texts()
     ensures { SoundPagesReadWithTheirTexts }
 {}

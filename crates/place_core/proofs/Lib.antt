@@ -10,6 +10,7 @@ pub mod LanguageContents
 pub mod NotPlain
 pub mod PathExamples
 pub mod PlaceExamples
+pub mod ScriptPathExamples
 pub mod StyleElementExamples
 pub mod StylePathExamples
 pub mod UrlPathExamples

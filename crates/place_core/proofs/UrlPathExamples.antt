@@ -1,9 +1,11 @@
 -- Worked examples of how paths are read in URLs: references, percent triples, schemes, and what is refused, by computing.
 use Rattle.std.proofs.Common.{◌≡◌, ℕ, zero, suc, true, false, not, [], ◌∷◌, List, codes, Option, Some, None, inl, inr, refl, sym, ap, ◌∙◌}
+use Rattle.js_lexer.specs.declared.sense.Sense.{Sense}
+use Rattle.js_lexer.specs.declared.sense.Sense.TheVariants as sense
 use Rattle.place_core.specs.page.Classes.{Class, class_of}
 use Rattle.place_core.specs.place.ApartPlaces.{opened_apart, beginning_at}
 use Rattle.place_core.specs.place.Errors.{is_unknown_name, is_written, node, path_refusal}
-use Rattle.place_core.specs.place.PathPairs.{ApartBefore, Clashes, byte_clash}
+use Rattle.place_core.specs.place.PathPairs.{ApartBefore, Clashes, ClashesInText, ClashesSlash, byte_clash, senses_part, slash_sense}
 use Rattle.place_core.specs.page.Html.{next}
 use Rattle.place_core.specs.page.References.{Closed, meaning, flushed}
 use Rattle.place_core.specs.page.States.{AttributeValue, BeforeAttributeValue, LexState, Template, Text}
@@ -72,7 +74,7 @@ behind_letter = node (codes "<a href=\"x") (Text Closed)
 -- Behind the first letter of `data:` the two are apart, and so they are refused together at its `:`.
 apart_clash : Clashes (codes "data:") before_url behind_letter code.AmbigContext 4
 unfolding before_url behind_letter in_quotes opening class_of meaning flushed is_unknown_name is_written url_class_of lib.Utf8.encode
-apart_clash = (
+apart_clash = inl (
   refl,
   refl,
   inl (
@@ -115,13 +117,26 @@ own_byte (AttributeValue Unquoted t (Deciding k before) r) c = refl
 own_byte (AttributeValue _ t v r) c = refl
 own_byte _ c = refl
 
-own_clash : (bytes : List ℕ) (s : LexState ValueState) (e : Code) (at : ℕ) → Clashes bytes s s e at → ⊥
-own_clash [] s e at h = h
-own_clash (b ∷ bs) s e zero h = none_some e (sym (own_byte s (class_of b)) ∙ h)
-own_clash (b ∷ bs) s e (suc at) h = elim h.2 [
+own_clash_in_text : (bytes : List ℕ) (s : LexState ValueState) (e : Code) (at : ℕ) → ClashesInText bytes s s e at → ⊥
+own_clash_in_text [] s e at h = h
+own_clash_in_text (b ∷ bs) s e zero h = none_some e (sym (own_byte s (class_of b)) ∙ h)
+own_clash_in_text (b ∷ bs) s e (suc at) h = elim h.2 [
   | inl x ↦ own_apart bs (next languages Template s (class_of b) b) x.0
-  | inr x ↦ own_clash bs (next languages Template s (class_of b) b) e at x
+  | inr x ↦ own_clash_in_text bs (next languages Template s (class_of b) b) e at x
 ]
+
+own_sense : (o : Option Sense) → senses_part o o ≡ false
+own_sense None = refl
+own_sense (Some sense.Re) = refl
+own_sense (Some sense.Div) = refl
+own_sense (Some sense.Brace) = refl
+
+own_slash : (bytes : List ℕ) (s : LexState ValueState) (e : Code) (at : ℕ) → ClashesSlash bytes s s e at → ⊥
+own_slash bytes s e at h = false_true (sym (own_sense (slash_sense s)) ∙ h.part)
+
+own_clash : (bytes : List ℕ) (s : LexState ValueState) (e : Code) (at : ℕ) → Clashes bytes s s e at → ⊥
+own_clash bytes s e at (inl h) = own_clash_in_text bytes s e at h
+own_clash bytes s e at (inr h) = own_slash bytes s e at h
 
 same_letter : (e : Code) (at : ℕ) → Clashes (codes "data:") behind_letter behind_letter e at → ⊥
 same_letter = own_clash (codes "data:") behind_letter

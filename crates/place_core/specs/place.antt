@@ -7,6 +7,7 @@ pub mod PathPairs
 pub mod LanguagePlaces
 pub mod LastLexeme
 pub mod Places
+pub mod ScriptParts
 pub mod StatePlaces
 pub mod StyleParts
 pub mod UrlParts

@@ -1,6 +1,8 @@
 -- No path is apart from itself.
 use Rattle.std.proofs.Common.{◌≡◌, ℕ, zero, suc, true, false, not, List, [], ◌∷◌, Option, Some, None, sym, ap, ◌∙◌, subst, ◌⊎◌, inl, inr}
 use Rattle.html_step.proofs.OwnClash.{no-own-clash}
+use Rattle.js_lexer.specs.declared.sense.Sense.{Sense}
+use Rattle.js_lexer.specs.declared.sense.Sense.TheVariants as sense
 use Rattle.place_core.proofs.JoinParts.{prefix_itself}
 use Rattle.place_core.proofs.Semilattices.{one_value}
 use Rattle.place_core.specs.page.Classes.{class_of}
@@ -9,7 +11,7 @@ use Rattle.place_core.specs.page.States.{LexState, Template}
 use Rattle.place_core.specs.page.Tags.{ValueState, languages}
 use Rattle.place_core.specs.place.ApartPlaces.{ArePlacesApart, opened_apart, beginning_at, spell_apart}
 use Rattle.place_core.specs.place.LanguagePlaces.{same_prefix}
-use Rattle.place_core.specs.place.PathPairs.{ApartBefore, Clashes, ClashesApart, PartWithin, state_before}
+use Rattle.place_core.specs.place.PathPairs.{ApartBefore, Clashes, ClashesApart, ClashesInText, PartWithin, senses_part, slash_sense, state_before}
 use Rattle.place_core.specs.declared.code.Code.{Code}
 use Rattle.place_core.specs.declared.place.Place.{Place}
 use Rattle.place_core.specs.declared.prefix.Prefix.{Prefix}
@@ -44,13 +46,24 @@ own-parts (b ∷ bs) s (inl h) = own-apart bs (next languages Template s (class_
 own-parts (b ∷ bs) s (inr h) = own-parts bs (next languages Template s (class_of b) b) h
 
 -- no path clashes with itself, also behind bytes behind which it does not
-not-later : (bytes : List ℕ) (s : LexState ValueState) (e : Code) (at : ℕ) → (Clashes bytes s s e at → ⊥)
-    → (ApartBefore bytes s s × ClashesApart bytes (state_before s bytes) (state_before s bytes) e at) ⊎ Clashes bytes s s e at → ⊥
+not-later : (bytes : List ℕ) (s : LexState ValueState) (e : Code) (at : ℕ) → (ClashesInText bytes s s e at → ⊥)
+    → (ApartBefore bytes s s × ClashesApart bytes (state_before s bytes) (state_before s bytes) e at) ⊎ ClashesInText bytes s s e at → ⊥
 not-later bytes s e at none (inl h) = own-apart bytes s h.0
 not-later bytes s e at none (inr h) = none h
 
+not-within : (bytes : List ℕ) (s : LexState ValueState) (e : Code) (at : ℕ) → ClashesInText bytes s s e at → ⊥
+not-within [] s e at c = c
+not-within (b ∷ bs) s e zero c = no-own-clash s (class_of b) e c
+not-within (b ∷ bs) s e (suc at) c =
+    not-later bs (next languages Template s (class_of b) b) e at (not-within bs (next languages Template s (class_of b) b) e at) c.2
+
+-- on one path a slash would be one thing
+one-sense : (o : Option Sense) → senses_part o o ≡ true → ⊥
+one-sense None h = no h
+one-sense (Some sense.Re) h = no h
+one-sense (Some sense.Div) h = no h
+one-sense (Some sense.Brace) h = no h
+
 pub not-twice : (bytes : List ℕ) (s : LexState ValueState) (e : Code) (at : ℕ) → Clashes bytes s s e at → ⊥
-not-twice [] s e at c = c
-not-twice (b ∷ bs) s e zero c = no-own-clash s (class_of b) e c
-not-twice (b ∷ bs) s e (suc at) c =
-    not-later bs (next languages Template s (class_of b) b) e at (not-twice bs (next languages Template s (class_of b) b) e at) c.2
+not-twice bytes s e at (inl c) = not-within bytes s e at c
+not-twice bytes s e at (inr c) = one-sense (slash_sense s) c.part

@@ -11,7 +11,7 @@ use Rattle.place_core.specs.page.Html.{read}
 use Rattle.place_core.specs.page.Plain.{only_text, only_block, HasBytes, IsPlain, IsPlainInState}
 use Rattle.place_core.specs.page.References.{Closed, meaning, flushed, undone}
 use Rattle.place_core.specs.page.States.{Page, Text, Config, config}
-use Rattle.place_core.specs.page.Tags.{Tag, Value, ValueOf, Deciding, ValueState, OfKind, OfUrl, OfStyle, feed_value, languages, with_byte, with_bytes, emitted_bytes, Quoting, DoubleQuoted, SingleQuoted, Unquoted}
+use Rattle.place_core.specs.page.Tags.{Tag, Value, ValueOf, Deciding, ValueState, OfKind, OfUrl, OfStyle, OfScript, feed_value, languages, with_byte, with_bytes, emitted_bytes, Quoting, DoubleQuoted, SingleQuoted, Unquoted}
 use Rattle.place_core.specs.declared.element.Element.{Element}
 use Rattle.place_core.specs.declared.element.Element.TheVariants as element
 use Rattle.place_core.specs.declared.kind.Kind.{Kind}
@@ -79,13 +79,15 @@ pub same-kind : (k : Kind) (bs : List ℕ) → with_bytes languages (ValueOf (Of
 same-kind k [] = refl
 same-kind k (b ∷ bs) = same-kind k bs
 
--- Bytes of a value are told as they are. Of a style nothing is said: it tells what it reads, and not its bytes.
+-- Bytes of a value are told as they are. Of a style and a script nothing is said: they tell what they read, and not their bytes.
 abbrev pub AreTold : Value ValueState → List ℕ → List LexEvent → Type 0
 AreTold (ValueOf (OfStyle s)) bs t = Unit {0}
+AreTold (ValueOf (OfScript s)) bs t = Unit {0}
 AreTold v bs t = emitted_bytes languages v bs t ≡ value_bytes bs t
 
 pub value-told : (bs : List ℕ) (v : Value ValueState) (t : List LexEvent) → AreTold v bs t
 value-told bs (ValueOf (OfStyle s)) t = tt
+value-told bs (ValueOf (OfScript s)) t = tt
 value-told [] (ValueOf (OfKind k)) t = refl
 value-told [] (ValueOf (OfUrl u)) t = refl
 value-told [] (Deciding k before) t = refl

@@ -8,6 +8,7 @@ use Rattle.css_lexer.proofs.WrittenKeeps.{solidus-byte}
 use Rattle.css_lexer.specs.Classes.{style_class}
 use Rattle.css_lexer.specs.declared.class.StyleClass.{StyleClass}
 use Rattle.css_lexer.specs.declared.class.StyleClass.TheVariants as class
+use Rattle.js_step.specs.ScriptScans.{ScriptScan}
 use Rattle.place_core.specs.page.Classes.{Class, White, ExclamationMark, QuotationMark, NumberSign, Ampersand, Apostrophe, HyphenMinus, Solidus, Digit, Semicolon, LessThan, EqualsSign, GreaterThan, QuestionMark, GraveAccent, Letter, OtherByte}
 use Rattle.place_core.specs.page.Comments.{Declaration, OpensComment, OpensDoctype, Undecided, OpensNothing, declared_by, next_comment, closes_comment}
 use Rattle.place_core.specs.page.Contents.{may_be_name_of, is_name_of, pending_bytes}
@@ -35,13 +36,13 @@ use Rattle.place_core.specs.declared.tag_place.TagPlace.{TagPlace}
 use Rattle.place_core.specs.declared.value_place.ValuePlace.{ValuePlace}
 use Rattle.std.proofs.Common.{Option, Some, None}
 use Rattle.std.specs.Prelude.{if◌then◌else◌}
-use Rattle.css_step.specs.StyleScans.{StyleScan, ScanCode, ScanSolidus, ScanComment, ScanStarBefore, ScanString, ScanQuotedUrl, is_style_start, style_comment_next, style_scan_next, style_scan_place, style_scan_start}
+use Rattle.css_step.specs.StyleScans.{StyleScan, ScanSolidus, ScanComment, ScanStarBefore, ScanString, ScanQuotedUrl, is_style_start, style_comment_next, style_scan_next, style_scan_place, style_scan_start}
 use Rattle.css_lexer.specs.States.{DoubleQuote, SingleQuote}
-use Rattle.html_scan.specs.Scans.{bare_leads, empty_style_between, quotes_lead, style_fed, style_feeding, style_scan, value_between, with_style, Scan, At, AfterLess, AfterLessSolidus, InDeclaration, InTagName, InAttributeName, InCommentEnd, InContentEnd, InStyleElement, InUrl, InStyle, BeforeType, InType, after_type, attribute_name_next, bare_begun, bare_next, before_type_next, bare_white, comment_closed, comment_scan, comment_next, comment_state, content_end_next, content_scan, content_next, declaration_next, doctype_next, element_less_next, element_name_next, element_next, element_pending_next, element_scan, end_name_next, ended_type, in_tag, in_type, pending_less_next, bang_next, scan_next, quoted_next, tag_name_next, tag_next, text_scan, type_next, type_tag, value_scan, type_begun, parts_feeding, triple_behind, url_scan, value_fed, with_parts}
+use Rattle.html_scan.specs.Scans.{bare_leads, empty_style_between, quotes_lead, style_fed, style_feeding, style_scan, value_between, with_style, Scan, At, AfterLess, AfterLessSolidus, InDeclaration, InTagName, InAttributeName, InCommentEnd, InContentEnd, InStyleElement, InUrl, InStyle, InScript, BeforeType, InType, after_type, attribute_name_next, bare_begun, bare_next, before_type_next, bare_white, comment_closed, comment_scan, comment_next, comment_state, content_end_next, content_scan, content_next, declaration_next, doctype_next, element_less_next, element_name_next, element_next, element_scan, end_name_next, ended_type, in_tag, in_type, pending_less_next, bang_next, scan_next, quoted_next, tag_name_next, tag_next, text_scan, type_next, type_tag, value_scan, type_begun, parts_feeding, triple_behind, url_scan, value_fed, with_parts, script_fed_next}
 use Rattle.url_lexer.specs.Triples.{Triple, NoTriple, AfterPercent, AfterDigit}
 use Rattle.text_norm.specs.Scanned.{comment_scan_out, declaration_open, scan_open, scan_out, scan_writing, style_scan_cut_out, style_scan_out}
 use Rattle.text_norm.specs.Kept.{bears, change_of, comment_change, is_style_comment, end_letters, end_tag_change, in_style_comment, scan_kept, hides, less_kept, reference_kept, solidus_kept, stays, style_change, style_place_comment}
-use Rattle.text_norm.specs.Written.{declaration_out, end_name_out, language_content_out, language_less_out, language_loose_out, language_name_out, text_escaped, loose_out, reference_out, text_out, turn_out}
+use Rattle.text_norm.specs.Written.{declaration_out, end_name_out, language_less_out, language_loose_out, language_name_out, text_escaped, loose_out, reference_out, text_out, turn_out}
 use Rattle.text_norm.proofs.StyleScanBytes.{FedBytes, MayEnd, comment-cut, comment-keeps-nothing, cut-writes, fed, fed-pending, kept-or-not, no-comment-behind, written-behind, wrote}
 use Rattle.text_norm.proofs.StyleScanWaits.{ScanOpens, scan-opens-or-not, scan-waits}
 use Rattle.text_norm.specs.declared.pending.Change.{Change}
@@ -417,6 +418,19 @@ in_style : (q : Quotes) (f : Scan) → ReadsValue f → (c : Class) (b : ℕ) (v
 in_style quotes.Dq f i c b v s z r p = in_double_style f i c b v (λ p. style_fed (value_between v p) s z c b) r p (style-fed (value_between v quotes.Dq) s z c b)
 in_style quotes.Sq f i c b v s z r p = in_single_style f i c b v (λ p. style_fed (value_between v p) s z c b) r p (style-fed (value_between v quotes.Sq) s z c b)
 in_style (quotes.Bare u) f i c b v s z r p = in_bare_style f i c b v u.uq (style_fed (value_between v bare_begun) s z c b) r p (style-fed (value_between v bare_begun) s z c b)
+
+-- in a script, likewise
+in_script : (q : Quotes) (f : Scan) → ReadsValue f → (c : Class) (b : ℕ) (v : ValuePlace) (n : ScriptScan) (z r : Reference) → Spelled c b
+    → KeepsBytes f (quotes_lead v q c (λ p. script_fed_next (value_between v p) n z c b)) r (next_reference r c b) c b (reference_out r c b)
+in_script quotes.Dq f i c b v n z r p =
+    in_double_style f i c b v (λ p. script_fed_next (value_between v p) n z c b) r p (record { less = refl; bears = refl; shown = refl })
+in_script quotes.Sq f i c b v n z r p =
+    in_single_style f i c b v (λ p. script_fed_next (value_between v p) n z c b) r p (record { less = refl; bears = refl; shown = refl })
+in_script (quotes.Bare u) f i c b v n z r p =
+    in_bare_style f i c b v u.uq (script_fed_next (value_between v bare_begun) n z c b) r p (record { less = refl; bears = refl; shown = refl })
+
+reads-script : (v : ValuePlace) (n : ScriptScan) (z : Reference) → ReadsValue (InScript v n z)
+reads-script v n z = record { less = refl; shown = refl; moves = λ g. refl; kept = λ c b r. refl }
 
 reads-style : (v : ValuePlace) (s : StyleScan) (z : Reference) → ReadsValue (InStyle v s z)
 reads-style v s z = record { less = refl; shown = refl; moves = λ g. refl; kept = λ c b r. refl }
@@ -1286,5 +1300,6 @@ law (InContentEnd e h) c b r i p closed = at_end e h c b r i p closed
 law (InStyleElement s h) c b r i p closed = at_style h s c b r i p closed
 law (InUrl v t z) c b r i p closed = in_quotes (InUrl v t z) (reads-url v t z) v.quotes c b v t z r p
 law (InStyle v s z) c b r i p closed = in_style v.quotes (InStyle v s z) (reads-style v s z) c b v s z r p
+law (InScript v n z) c b r i p closed = in_script v.quotes (InScript v n z) (reads-script v n z) c b v n z r p
 law (BeforeType t) c b r i p closed = before_type c b t r p
 law (InType t q v z) c b r i p closed = within_type (ends_value q c) q c b t v z r refl p

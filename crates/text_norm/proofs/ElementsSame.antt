@@ -1,22 +1,21 @@
 -- What is written in the element `style`: by a path and by its scan state the same, and by a scan state and one above it.
-use Rattle.std.proofs.Common.{◌≡◌, ℕ, Bool, true, false, List, [], ◌++◌, ◌∷◌, Option, Some, None, if◌then◌else◌, refl, sym, ap, ◌∙◌, subst}
+use Rattle.std.proofs.Common.{◌≡◌, ℕ, Bool, true, false, [], None, if◌then◌else◌, refl, ap}
 use Rattle.css_lexer.specs.Classes.{style_class}
 use Rattle.css_lexer.specs.Escapes.{StyleEscape, NoEscape, AfterBackslash, HexDigits, AfterReturn}
-use Rattle.css_lexer.specs.RefusalCodes.{RefusalCode}
 use Rattle.css_lexer.specs.Refusals.{refuses_solidus}
-use Rattle.css_lexer.specs.States.{Style, Out, Comment, StarAtCut}
+use Rattle.css_lexer.specs.States.{Style}
 use Rattle.css_lexer.specs.Steps.{next_style_comment}
 use Rattle.css_lexer.specs.Urls.{urls}
-use Rattle.css_lexer.specs.Written.{style_written, style_written_at_cut, written_class, written_in_comment, written_in_word}
+use Rattle.css_lexer.specs.Written.{style_written, style_written_at_cut, written_in_comment, written_in_word}
 use Rattle.css_lexer.specs.declared.class.StyleClass.{StyleClass}
 use Rattle.css_lexer.specs.declared.class.StyleClass.TheVariants as class
 use Rattle.css_step.specs.StyleScanLaws.{IsStyleScan, scans_between, scans_less_than, scans_word, scans_solidus, scans_comment, scans_string, scans_behind_hole, scans_split_word, scans_solidus_before, scans_less_than_before, scans_star_before, scans_fresh, scans_bare, scans_quoted, scans_ended}
-use Rattle.css_step.specs.StyleScans.{StyleScan, ScanComment, ScanStarBefore, is_style_start, style_scan_place, style_scan_start, style_split_word}
+use Rattle.css_step.specs.StyleScans.{StyleScan, ScanStarBefore, is_style_start, style_scan_place, style_split_word}
 use Rattle.css_step.specs.StyleSetLaws.{StyleScanBelow, below_itself, below_tails, below_split_word, below_star, below_bare, below_quoted}
 use Rattle.place_core.specs.page.Classes.{Class}
 use Rattle.place_core.specs.page.References.{Reference}
-use Rattle.place_core.specs.page.States.{Nothing, Pending}
-use Rattle.place_core.specs.page.Tags.{ValueState, OfKind, OfStyle, OfUrl, languages}
+use Rattle.place_core.specs.page.States.{Nothing}
+use Rattle.place_core.specs.page.Tags.{ValueState, OfKind, OfStyle, OfUrl, languages, OfScript}
 use Rattle.place_core.specs.declared.place.Place.TheVariants as place
 use Rattle.url_lexer.specs.States.{Url}
 use Rattle.html_scan.specs.Scans.{At, InStyleElement, element_scan, style_feeding}
@@ -111,11 +110,13 @@ state-written : (v : ValueState) (n : StyleScan) (b : ℕ) → IsStyleState v n 
 state-written (OfStyle s) n b i = path-written s n b i
 state-written (OfKind k) n b i = absurd i
 state-written (OfUrl u) n b i = absurd i
+state-written (OfScript s) n b i = absurd i
 
 state-cut : (v : ValueState) (n : StyleScan) → IsStyleState v n → language_cut_out v ≡ style_scan_cut_out n
 state-cut (OfStyle s) n i = path-cut s n i
 state-cut (OfKind k) n i = absurd i
 state-cut (OfUrl u) n i = absurd i
+state-cut (OfScript s) n i = absurd i
 
 pub paths-write : WritesAlike (path_writing languages) scan_writing IsStyleState
 paths-write = record { fed = beside states-alike; bytes = λ v n b i e. state-written v n b i; cuts = state-cut }

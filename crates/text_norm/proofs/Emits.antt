@@ -7,7 +7,7 @@ use Rattle.place_core.specs.place.Places.{Below}
 use Rattle.place_core.specs.page.References.{Reference, Closed, Open}
 use Rattle.place_core.specs.place.StatePlaces.{block_place, comment_place, content_place, content_spot, placed, quotes_at, unbegun, value_body, only_after, only_inside, tag_spot, value_spot, where_closed}
 use Rattle.place_core.specs.page.States.{LexState, Text, TagOpen, EndTagOpen, DeclarationOpen, CommentState, Inside, Broken, InComment, BogusComment, InDoctype, TagName, WholeTagName, BeforeAttributeName, AttributeName, WholeAttributeName, AfterAttributeName, BeforeAttributeValue, AttributeValue, AfterAttributeValue, SelfClosingStartTag, Characters, Bytes, InLanguage, Pending, Nothing, PendingLess, LessAtCut, PendingName, PendingBang, PendingBangDash, InContent, Unread, Config, config}
-use Rattle.place_core.specs.page.Tags.{Tag, is_second_type, ValueOf, Deciding, ValueState, OfKind, OfUrl, OfStyle, languages, attribute_value_of}
+use Rattle.place_core.specs.page.Tags.{Tag, is_second_type, ValueOf, Deciding, ValueState, OfKind, OfUrl, OfStyle, OfScript, languages, attribute_value_of}
 use Rattle.place_core.specs.declared.body.Body.{Body}
 use Rattle.place_core.specs.declared.element.Element.{Element}
 use Rattle.place_core.specs.declared.element.Element.TheVariants as element
@@ -50,6 +50,7 @@ language-same e (OfStyle s) PendingBang t d o l = absurd o
 language-same e (OfStyle s) PendingBangDash t d o l = absurd o
 language-same e (OfKind k) h t d o l = absurd l
 language-same e (OfUrl u) h t d o l = absurd l
+language-same e (OfScript s) h t d o l = absurd l
 
 -- elsewhere, by where the page is
 by-state : (s : LexState ValueState) (t : List LexEvent) (d : Config ValueState) → d ≡ config s t → told_there (config s t) s ≡ t → told_there d d.at ≡ t
@@ -115,6 +116,7 @@ same-state (AttributeValue q tag (ValueOf (OfKind k)) Closed) t d h l = l.stands
 same-state (AttributeValue q tag (ValueOf (OfKind k)) (Open f b)) t d h l = absurd (no h)
 same-state (AttributeValue q tag (ValueOf (OfUrl u)) r) t d h l = absurd (no h)
 same-state (AttributeValue q tag (ValueOf (OfStyle s)) r) t d h l = absurd (no h)
+same-state (AttributeValue q tag (ValueOf (OfScript s)) r) t d h l = absurd (no h)
 same-state (AttributeValue q tag (Deciding k before) Closed) t d h l = l
 same-state (AttributeValue q tag (Deciding k before) (Open f b)) t d h l = absurd (no h)
 same-state (AfterAttributeValue tag) t d h l = l
@@ -172,6 +174,8 @@ no-style Nothing (OfKind k) element.Style h = h
 no-style Nothing (OfKind k) _ h = h
 no-style Nothing (OfUrl u) element.Style h = h
 no-style Nothing (OfUrl u) _ h = h
+no-style Nothing (OfScript s) element.Style h = h
+no-style Nothing (OfScript s) _ h = h
 no-style PendingLess v e h = h
 no-style (PendingName letters) v e h = h
 no-style LessAtCut v e h = h

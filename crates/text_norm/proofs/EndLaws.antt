@@ -9,7 +9,7 @@ use Rattle.place_core.specs.declared.css.Css.{Css}
 use Rattle.place_core.specs.declared.css.Css.TheVariants as css
 use Rattle.place_core.specs.declared.element.Element.TheVariants as element
 use Rattle.place_core.specs.declared.place.Place.TheVariants as place
-use Rattle.html_scan.specs.Scans.{Scan, At, AfterLess, AfterLessSolidus, InDeclaration, InTagName, InAttributeName, InCommentEnd, InContentEnd, InStyleElement, InUrl, InStyle, BeforeType, InType}
+use Rattle.html_scan.specs.Scans.{Scan, At, AfterLess, AfterLessSolidus, InDeclaration, InTagName, InAttributeName, InCommentEnd, InContentEnd, InStyleElement, InUrl, InStyle, InScript, BeforeType, InType}
 use Rattle.text_norm.specs.Scanned.{scan_cut_out}
 use Rattle.text_norm.specs.Kept.{IsProgressKept, bears, is_style_comment, ending_of, in_style_comment, scan_of, hides, less_kept, reference_of, style_ending}
 use Rattle.text_norm.specs.Written.{text_escaped}
@@ -86,6 +86,7 @@ end_law (InContentEnd e PendingBangDash) r i h = absurd i
 end_law (InStyleElement s p) r i h = element_end (is_style_comment s) s p r refl (fed-pending p (is_style_comment s) s i refl) (h refl)
 end_law (InUrl v t z) r i h = record { out = refl; less = refl; shown = refl }
 end_law (InStyle v s z) r i h = record { out = refl; less = refl; shown = refl }
+end_law (InScript v n z) r i h = record { out = refl; less = refl; shown = refl }
 end_law (BeforeType t) r i h = record { out = refl; less = refl; shown = refl }
 end_law (InType t q v z) r i h = record { out = refl; less = refl; shown = refl }
 

@@ -3,6 +3,7 @@ use Rattle.std.proofs.Common.{◌≡◌, ℕ, Bool, true, false, List, [], ◌�
 use Rattle.css_lexer.specs.Classes.{style_class}
 use Rattle.css_lexer.specs.Events.{RunByte}
 use Rattle.css_lexer.specs.States.{Between, AfterLessThan, AfterSolidus, BehindHole, Style, Out}
+use Rattle.js_lexer.specs.Feeding.{script_emits, script_ends}
 use Rattle.page_datum.specs.Data.{Data}
 use Rattle.page_datum.specs.Printed.{printed}
 use Rattle.place_core.specs.page.Events.{AttributeBegins, AttributeNameByte, BlockByte, InsideStyle, LexEvent, Mark, TextByte, ValueByte, attribute_name_bytes, block_bytes, event_text_bytes, value_bytes}
@@ -16,7 +17,7 @@ use Rattle.place_core.specs.page.Shape.{marked, state_past_hole}
 use Rattle.place_core.specs.page.Plain.{settled_state}
 use Rattle.place_core.specs.page.States.{AfterAttributeName, AfterAttributeValue, AttributeName, AttributeValue, BeforeAttributeName, BeforeAttributeValue, Bytes, Characters, Config, InContent, InLanguage, LexState, Nothing, Page, Pending, PendingLess, SelfClosingStartTag, Template, Text, config}
 use Rattle.place_core.specs.page.References.{Closed}
-use Rattle.place_core.specs.page.Tags.{DoubleQuoted, Quoting, SingleQuoted, Tag, Unquoted, Value, ValueOf, ValueState, OfKind, OfUrl, OfStyle, emits_state, emitted_bytes, ends_state, feed_value, languages, value_start}
+use Rattle.place_core.specs.page.Tags.{DoubleQuoted, Quoting, SingleQuoted, Tag, Unquoted, Value, ValueOf, ValueState, OfKind, OfUrl, OfStyle, OfScript, emits_state, emitted_bytes, ends_state, feed_value, languages, value_start}
 use Rattle.place_core.specs.declared.element.Element.{Element}
 use Rattle.place_core.specs.declared.kind.Kind.{Kind}
 use Rattle.place_core.specs.declared.kind.Kind.TheVariants as kind
@@ -30,6 +31,7 @@ use Rattle.text_norm.proofs.ReadBeside.{Beside, ReadsBeside, read-beside}
 use Rattle.text_norm.proofs.StatesBeside.{IsOutside}
 use Rattle.text_norm.proofs.StyleElementKeeps.{IsPending}
 use Rattle.text_norm.proofs.StyleRaw.{StyleBeside, style-end, style-fills, style-next}
+use Rattle.text_norm.proofs.SureStates.{script-told}
 use Rattle.text_norm.proofs.UrlHoles.{IsUrlHole, url-begun, url-hole}
 use Rattle.text_norm.specs.Fillings.{BlockSite, Filling, Fills, FitsAt, NameSite, TextSite, UnquotedSite, UrlSite, filling, fillings_at, quoted_site, url_bytes}
 use Rattle.text_norm.specs.HoleLaws.{IsBackBy}
@@ -43,13 +45,15 @@ use Rattle.url_lexer.specs.States.{Url, feed_all, url_start}
 use Rattle.url_lexer.specs.Triples.{NoTriple}
 use Rattle.url_lexer.proofs.Language.{language-laws}
 
--- The state of a value in the reading with marks, and in that of bytes alone, which has told `u`. A style is said apart.
+-- The state of a value in the reading with marks, and in that of bytes alone, which has told `u`. A style is said apart. A script is the same in both:
+-- behind a hole the reading with marks is where the bytes of that have led it.
 abbrev pub RawBeside : List Filling → ValueState → ValueState → List LexEvent → Type 0
 RawBeside vs (OfKind k) w u = w ≡ OfKind k
 RawBeside vs (OfUrl z) (OfUrl y) u = SchemesSame z y
 RawBeside vs (OfUrl z) w u = ⊥
 RawBeside vs (OfStyle s) (OfStyle r) u = StyleBeside vs s r u
 RawBeside vs (OfStyle s) w u = ⊥
+RawBeside vs (OfScript s) w u = w ≡ OfScript s
 
 abbrev pub Filled : List Filling → List LexEvent → List LexEvent → Type 0
 Filled vs t u = Fills t vs u
@@ -70,18 +74,28 @@ raw-feeds vs (OfKind k) w b t u a =
 raw-feeds vs (OfUrl z) (OfUrl y) b t u a = (fed-same (b ∷ []) z y a.0, fills-keep vs (ValueByte b) t u tt a.1)
 raw-feeds vs (OfUrl z) (OfKind k) b t u a = absurd a.0
 raw-feeds vs (OfUrl z) (OfStyle r) b t u a = absurd a.0
+raw-feeds vs (OfUrl z) (OfScript r) b t u a = absurd a.0
 raw-feeds vs (OfStyle s) (OfStyle r) b t u a = (style-next vs s r (style_class b) b u a.0, style-fills vs s r (style_class b) b t u a.0 a.1)
 raw-feeds vs (OfStyle s) (OfKind k) b t u a = absurd a.0
 raw-feeds vs (OfStyle s) (OfUrl z) b t u a = absurd a.0
+raw-feeds vs (OfStyle s) (OfScript r) b t u a = absurd a.0
+raw-feeds vs (OfScript s) w b t u a =
+    subst (λ (z : ValueState). RawFilled vs (feed_value (OfScript s) b) (feed_value z b) (emits_state (OfScript s) b t) (emits_state z b u)) (sym a.0)
+    (refl, script-told (Filled vs) (fills-keep vs) (script_emits s b []) t u a.1)
 
 raw-ends : (vs : List Filling) (v w : ValueState) (t u : List LexEvent) → RawFilled vs v w t u → Fills (ends_state v t) vs (ends_state w u)
 raw-ends vs (OfKind k) w t u a = subst (λ (z : ValueState). Fills t vs (ends_state z u)) (sym a.0) a.1
 raw-ends vs (OfUrl z) (OfUrl y) t u a = fills-scheme vs z y t u a.0 a.1
 raw-ends vs (OfUrl z) (OfKind k) t u a = absurd a.0
 raw-ends vs (OfUrl z) (OfStyle r) t u a = absurd a.0
+raw-ends vs (OfUrl z) (OfScript r) t u a = absurd a.0
 raw-ends vs (OfStyle s) (OfStyle r) t u a = style-end vs s r t u a.0 a.1
 raw-ends vs (OfStyle s) (OfKind k) t u a = absurd a.0
 raw-ends vs (OfStyle s) (OfUrl z) t u a = absurd a.0
+raw-ends vs (OfStyle s) (OfScript r) t u a = absurd a.0
+raw-ends vs (OfScript s) w t u a =
+    subst (λ (z : ValueState). Fills (ends_state (OfScript s) t) vs (ends_state z u)) (sym a.0)
+    (script-told (Filled vs) (fills-keep vs) (script_ends s []) t u a.1)
 
 pub raw-reads : (vs : List Filling) → ReadsBeside ValueState languages (Filled vs) (RawFilled vs)
 raw-reads vs = record { keeps = fills-keep vs; starts = raw-starts vs; feeds = raw-feeds vs; ends = raw-ends vs }
@@ -405,6 +419,7 @@ url-led : (q : Quoting) (tag : Tag) (u w : Url) (z : ValueState) (text bytes : L
     → RawStands (filling (UrlSite q u.part) text ∷ vs) (marked bytes (config (in_url q tag w) t)) (read Page bytes d)
 url-led q tag u w (OfKind k) text bytes h vs t d a e b f = absurd b
 url-led q tag u w (OfStyle s) text bytes h vs t d a e b f = absurd b
+url-led q tag u w (OfScript s) text bytes h vs t d a e b f = absurd b
 url-led q tag u w (OfUrl y) text bytes h vs t d a e b f =
     let bs = url_bytes q h.characters in
     let run = value_bytes bs [] in
@@ -425,6 +440,7 @@ url-raw : (q : Quoting) (tag : Tag) (u : Url) (v : ValueState) (text bytes : Lis
     → RawStands (filling (UrlSite q u.part) text ∷ vs) (marked bytes m) (read Page bytes d)
 url-raw q tag u (OfKind k) text bytes h vs t m d a e r = absurd a
 url-raw q tag u (OfStyle s) text bytes h vs t m d a e r = absurd a
+url-raw q tag u (OfScript s) text bytes h vs t m d a e r = absurd a
 url-raw q tag u (OfUrl w) text bytes h vs t m d a e r =
     let p = subst (λ (z : Config ValueState). RawStands vs z d) e r in
     subst (λ (z : Config ValueState). RawStands (filling (UrlSite q u.part) text ∷ vs) (marked bytes z) (read Page bytes d)) (sym e)

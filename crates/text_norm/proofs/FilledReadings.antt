@@ -4,12 +4,15 @@ use Rattle.css_lexer.specs.Classes.{style_class}
 use Rattle.css_lexer.specs.Events.{StyleEvent, RunBlank, InsideUrl}
 use Rattle.css_lexer.specs.Steps.{style_emits, style_ends}
 use Rattle.css_lexer.specs.Urls.{urls}
-use Rattle.place_core.specs.page.Events.{AttributeBegins, InsideStyle, LexEvent, Mark, ValueScheme, attribute_name_bytes, event_text_bytes, told_in_style, value_bytes}
+use Rattle.js_lexer.specs.Events.{ScriptEvent}
+use Rattle.js_lexer.specs.Feeding.{script_emits, script_ends}
+use Rattle.js_lexer.specs.Holes.{script_emits_settled}
+use Rattle.place_core.specs.page.Events.{AttributeBegins, InsideStyle, LexEvent, Mark, ValueScheme, attribute_name_bytes, event_text_bytes, told_in_script, told_in_style, value_bytes}
 use Rattle.place_core.specs.page.Html.{read, start}
 use Rattle.place_core.specs.page.Paths.{Hole, Symbol, Written, at_hole, mark_in, read_node, read_path}
 use Rattle.place_core.specs.page.References.{Closed, Open, Reference}
 use Rattle.place_core.specs.page.States.{AfterAttributeName, AfterAttributeValue, AttributeValue, BeforeAttributeName, BeforeAttributeValue, Bytes, Characters, Config, Content, InContent, InLanguage, LexState, Nothing, Page, Pending, SelfClosingStartTag, Text, config}
-use Rattle.place_core.specs.page.Tags.{DoubleQuoted, Quoting, SingleQuoted, Tag, Deciding, Unquoted, Value, ValueOf, ValueState, OfKind, OfUrl, OfStyle, attribute_value_of, emits_state, emits_value_settled, emitted_hole, emitted_settled, ends_state, has_mark_in, holed_value, languages, mark_if, with_bytes}
+use Rattle.place_core.specs.page.Tags.{DoubleQuoted, Quoting, SingleQuoted, Tag, Deciding, Unquoted, Value, ValueOf, ValueState, OfKind, OfUrl, OfStyle, OfScript, attribute_value_of, emits_state, emits_value_settled, emitted_hole, emitted_settled, ends_state, has_mark_in, holed_value, languages, mark_if, with_bytes}
 use Rattle.place_core.specs.place.Errors.{node}
 use Rattle.place_core.specs.declared.element.Element.{Element}
 use Rattle.place_core.specs.declared.kind.Kind.{Kind}
@@ -21,9 +24,9 @@ use Rattle.text_norm.proofs.FilledEvents.{SchemesSame, fills-keep, fills-mark, s
 use Rattle.text_norm.proofs.FilledMarks.{name-run, text-run, value-run, node-state}
 use Rattle.text_norm.proofs.StatesBeside.{StandBeside}
 use Rattle.text_norm.proofs.StyleTells.{settled-tells}
-use Rattle.text_norm.proofs.SureStates.{SureBeside, nodes-fill, style-byte, style-end, sure-fed}
+use Rattle.text_norm.proofs.SureStates.{SureBeside, nodes-fill, script-told, style-byte, style-end, sure-fed}
 use Rattle.text_norm.specs.FilledReadings.{FilledPathsAreReadings, HolesTake, IsSaidByText, IsSaidInValue, AreSaidByTexts, ReadingsAreFilledPaths, TakesContent, TakesHole, TakesValue, holes_filled, holes_in, read_filled}
-use Rattle.text_norm.specs.Fillings.{BlankIsTold, BlockSite, CodeSite, Filling, Fills, FitsAt, IsCodeSite, MarkSite, NameSite, QuotedSite, StringSite, StyleUrlSite, TextSite, UnquotedSite, UrlSite, filling, fillings_along, fillings_at}
+use Rattle.text_norm.specs.Fillings.{BlankIsTold, BlockSite, CodeSite, Filling, Fills, FitsAt, IsCodeSite, MarkSite, NameSite, QuotedSite, ScriptCodeSite, ScriptRegexpSite, ScriptStringSite, StringSite, StyleUrlSite, TextSite, UnquotedSite, UrlSite, filling, fillings_along, fillings_at}
 use Rattle.url_lexer.specs.Events.{Free, Named, NoScheme, ToldScheme, UrlEnds, UrlEvent, scheme_at_end, told_scheme}
 use Rattle.url_lexer.specs.Schemes.{UrlScheme, SchemeAhead, SchemeSoFar, SchemeIs, SchemeAbsent, SchemeUnknown}
 use Rattle.url_lexer.specs.States.{Url}
@@ -35,6 +38,9 @@ IsOneRun (UrlSite q part) = ⊥
 IsOneRun (CodeSite q) = ⊥
 IsOneRun (StringSite q quote) = ⊥
 IsOneRun (StyleUrlSite q part) = ⊥
+IsOneRun ScriptCodeSite = ⊥
+IsOneRun (ScriptStringSite q quote) = ⊥
+IsOneRun ScriptRegexpSite = ⊥
 IsOneRun _ = Unit {0}
 
 abbrev pub HaveOneRun : List Filling → Type 0
@@ -55,6 +61,9 @@ one-run (UrlSite s part) text t u r q n f g = absurd n
 one-run (CodeSite s) text t u r q n f g = absurd n
 one-run (StringSite s quote) text t u r q n f g = absurd n
 one-run (StyleUrlSite s part) text t u r q n f g = absurd n
+one-run ScriptCodeSite text t u r q n f g = absurd n
+one-run (ScriptStringSite s quote) text t u r q n f g = absurd n
+one-run ScriptRegexpSite text t u r q n f g = absurd n
 one-run TextSite text t u r q n f g = f ∙ sym g
 one-run QuotedSite text t u r q n f g = f ∙ sym g
 one-run UnquotedSite text t u r q n f g = f ∙ sym g
@@ -84,6 +93,9 @@ no-code NameSite n c = absurd c
 no-code (UrlSite q part) n c = absurd c
 no-code (StringSite q quote) n c = absurd c
 no-code (StyleUrlSite q part) n c = absurd c
+no-code ScriptCodeSite n c = absurd c
+no-code (ScriptStringSite q quote) n c = absurd c
+no-code ScriptRegexpSite n c = absurd c
 
 none-told : {A : Type 0} (vs : List Filling) (u : List LexEvent) → HaveOneRun vs → BlankIsTold vs u → A
 none-told [] u h b = absurd b
@@ -163,6 +175,8 @@ sure-ends (OfUrl z) (OfUrl w) t u a f = subst (λ (b : Bool). AreSure (ValueSche
 sure-ends (OfUrl z) _ t u a f = absurd a
 sure-ends (OfStyle s) w t u a f =
     subst (λ (z : ValueState). AreSure (ends_state z u)) (sym a.0) (style-end Sure keeps-sure sure-in-style s t u a.1 f)
+sure-ends (OfScript s) w t u a f =
+    subst (λ (z : ValueState). AreSure (ends_state z u)) (sym a) (script-told Sure keeps-sure (script_ends s []) t u f)
 
 sure-byte : (v w : ValueState) (b : ℕ) (t u : List LexEvent) → SureBeside v w → AreSure u → AreSure (emits_state w b u)
 sure-byte (OfKind k) w b t u a f = subst (λ (z : ValueState). AreSure (emits_state z b u)) (sym a) f
@@ -170,6 +184,8 @@ sure-byte (OfUrl z) (OfUrl w) b t u a f = f
 sure-byte (OfUrl z) _ b t u a f = absurd a
 sure-byte (OfStyle s) w b t u a f =
     subst (λ (z : ValueState). AreSure (emits_state z b u)) (sym a.0) (style-byte Sure keeps-sure sure-in-style s (style_class b) b t u a.1 f)
+sure-byte (OfScript s) w b t u a f =
+    subst (λ (z : ValueState). AreSure (emits_state z b u)) (sym a) (script-told Sure keeps-sure (script_emits s b []) t u f)
 
 sure-emits : EmitsAlike ValueState languages SureBeside Sure
 sure-emits = record { fed = sure-fed; emits = sure-byte; ends = sure-ends }
@@ -181,6 +197,7 @@ sure-pending : (v : ValueState) (t : List LexEvent) → AreSure t → AreSure (e
 sure-pending (OfKind k) t f = f
 sure-pending (OfUrl u) t f = f
 sure-pending (OfStyle s) t f = settled-tells Sure keeps-sure sure-in-style s t t f
+sure-pending (OfScript s) t f = script-told Sure keeps-sure (script_emits_settled s []) t t f
 
 sure-settled : (v : Value ValueState) (t : List LexEvent) → AreSure t → AreSure (emitted_settled languages v t)
 sure-settled (ValueOf v) t f = sure-pending v t f
@@ -261,6 +278,7 @@ before-hole : (tag : Tag) (k : Kind) (text : List ℕ) (vs : List Filling) (t u 
 before-hole tag kind.ScriptType text vs t u h f = absurd h
 before-hole tag kind.Url text vs t u h f = absurd h
 before-hole tag kind.Style text vs t u h f = absurd h
+before-hole tag kind.Script text vs t u h f = absurd h
 before-hole tag k text vs t u h f = record {
   at = in-kind Unquoted tag k (as_unquoted text);
   fills = by-run UnquotedSite text vs (value_bytes (as_unquoted text) []) t u _ refl
@@ -361,6 +379,7 @@ before-run : (k : Kind) (tag : Tag) (text : List ℕ) (vs : List Filling) → Ta
 before-run kind.ScriptType tag text vs h o = absurd h
 before-run kind.Url tag text vs h o = absurd h
 before-run kind.Style tag text vs h o = absurd h
+before-run kind.Script tag text vs h o = absurd h
 before-run k tag text vs h o = (tt, o)
 
 content-run : (y : Content ValueState) (p : Pending) (e : Element) (text : List ℕ) (vs : List Filling) → TakesContent y p
@@ -409,15 +428,21 @@ told-marks : (es : List (StyleEvent UrlEvent)) (t : List LexEvent) → marks (to
 told-marks [] t = refl
 told-marks (e ∷ es) t = told-marks es t
 
+script-marks : (es : List ScriptEvent) (t : List LexEvent) → marks (told_in_script es t) ≡ marks t
+script-marks [] t = refl
+script-marks (e ∷ es) t = script-marks es t
+
 same-marks : (v : ValueState) (t : List LexEvent) → marks (ends_state v t) ≡ marks t
 same-marks (OfKind k) t = refl
 same-marks (OfUrl u) t = refl
 same-marks (OfStyle s) t = told-marks (style_ends urls s []) t
+same-marks (OfScript s) t = script-marks (script_ends s []) t
 
 byte-marks : (v : ValueState) (b : ℕ) (t : List LexEvent) → marks (emits_state v b t) ≡ marks t
 byte-marks (OfKind k) b t = refl
 byte-marks (OfUrl u) b t = refl
 byte-marks (OfStyle s) b t = told-marks (style_emits urls s b []) t
+byte-marks (OfScript s) b t = script-marks (script_emits s b []) t
 
 marks-emits : (n : ℕ) → EmitsAlike ValueState languages (λ v w. Unit {0}) (λ t u. marks t ≡ n)
 marks-emits n = record {
@@ -461,6 +486,7 @@ attribute-count : (v : Value ValueState) (r : Reference) (q : Quoting) (tag : Ta
 attribute-count (ValueOf (OfKind k)) Closed q tag text vs t n = inl (tt, one-mark (marks t) (length vs))
 attribute-count (ValueOf (OfUrl u)) r q tag text vs t n = absurd n
 attribute-count (ValueOf (OfStyle s)) r q tag text vs t n = absurd n
+attribute-count (ValueOf (OfScript s)) r q tag text vs t n = absurd n
 attribute-count (ValueOf (OfKind k)) (Open f h) q tag text vs t n = inr (no-filling (marks t) (length vs))
 attribute-count (Deciding k before) Closed q tag text vs t n = inr (no-filling (marks t) (length vs))
 attribute-count (Deciding k before) (Open f h) q tag text vs t n = inr (no-filling (marks t) (length vs))
@@ -471,6 +497,7 @@ before-count : (k : Kind) (tag : Tag) (text : List ℕ) (vs : List Filling) (t :
 before-count kind.ScriptType tag text vs t n = inr (no-filling (marks t) (length vs))
 before-count kind.Url tag text vs t n = absurd n
 before-count kind.Style tag text vs t n = absurd n
+before-count kind.Script tag text vs t n = absurd n
 before-count k tag text vs t n = inl (tt, one-mark (marks t) (length vs))
 
 hole-count : (s : LexState ValueState) (text : List ℕ) (vs : List Filling) (t : List LexEvent) → IsSaidByText s

@@ -1,5 +1,7 @@
 -- Small pages that fill their paths, and pages that do not.
 use Rattle.std.proofs.Common.{◌≡◌, ◌+◌, ℕ, true, codes, List, [], ◌∷◌, length, refl, sym, ap, ◌∙◌, subst, arith}
+use Rattle.js_lexer.specs.Classes as scripts
+use Rattle.js_lexer.specs.WhiteSpace.{released, held_after}
 use Rattle.place_core.specs.page.Classes.{class_of}
 use Rattle.place_core.specs.page.Events.{AttributeBegins, LexEvent, Mark, TextByte, ValueScheme}
 use Rattle.place_core.specs.page.Html.{read, start}
@@ -139,7 +141,7 @@ not_a_comment h =
 
 -- <a {{.}}=c> with `aB`, and a page that has another attribute behind it
 not_two_names : FillsAround (codes "<a ") (codes "aB") (codes "=c>") (codes "<a aB onclick=c>") → ⊥
-unfolding class_of meaning lib.Utf8.encode
+unfolding class_of scripts.class_of released held_after meaning lib.Utf8.encode
 not_two_names h =
     let page = page_events (codes "<a aB onclick=c>") in
     let own = page_events (codes "<a aB=c>") in

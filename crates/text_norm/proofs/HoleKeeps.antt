@@ -1,5 +1,6 @@
 -- The bytes of a hole lead the page's reading where the hole leads the path.
 use Rattle.std.proofs.Common.{◌≡◌, ℕ, Bool, true, false, List, [], ◌∷◌, Option, Some, None, option_map, if◌then◌else◌, Ok, Err, inl, refl, sym, ap, ◌∙◌, subst}
+use Rattle.js_lexer.specs.Spots.{Spot, script_spot}
 use Rattle.page_datum.specs.Data.{Data}
 use Rattle.page_datum.specs.Printed.{printed}
 use Rattle.place_core.specs.page.Events.{LexEvent, Mark, AttributeBegins}
@@ -10,6 +11,7 @@ use Rattle.place_core.specs.page.Plain.{IsPlain, IsPlainName}
 use Rattle.html_scan.proofs.Lowered.{kind_lowered}
 use Rattle.place_core.specs.page.References.{Closed, Open}
 use Rattle.place_core.specs.page.Shape.{HolePart, PageReads, state_past_hole, marked}
+use Rattle.place_core.specs.place.ScriptParts.{script_may_begin_text, script_place}
 use Rattle.place_core.specs.place.StatePlaces.{content_spot, only_after, only_inside, placed, quotes_at, tag_spot, value_spot}
 use Rattle.place_core.specs.place.StyleParts.{style_css, style_place, style_tails}
 use Rattle.place_core.specs.place.UrlParts.{parts_of}
@@ -21,7 +23,7 @@ use Rattle.css_step.specs.StyleChains.{style_hole_with_chain}
 use Rattle.css_step.specs.StyleScans.{style_at_hole, style_hole_error}
 use Rattle.css_step.specs.StyleScanViews.{style_or_refusal}
 use Rattle.place_core.specs.page.States.{Started, StartedDash, Inside, Dash, DashDash, Bang, Broken, Page, LexState, Text, TagOpen, EndTagOpen, DeclarationOpen, InComment, BogusComment, InDoctype, TagName, WholeTagName, BeforeAttributeName, AttributeName, WholeAttributeName, AfterAttributeName, BeforeAttributeValue, AttributeValue, AfterAttributeValue, SelfClosingStartTag, Characters, Bytes, InLanguage, Pending, Nothing, PendingLess, LessAtCut, PendingName, PendingBang, PendingBangDash, InContent, Unread, Config, config}
-use Rattle.place_core.specs.page.Tags.{Tag, ValueOf, Deciding, ValueState, OfKind, OfUrl, OfStyle, languages, emitted_hole, value_settled, is_second_type, Quoting, DoubleQuoted, SingleQuoted, Unquoted, element_on, without_value}
+use Rattle.place_core.specs.page.Tags.{Tag, ValueOf, Deciding, ValueState, OfKind, OfUrl, OfStyle, languages, emitted_hole, value_settled, is_second_type, Quoting, DoubleQuoted, SingleQuoted, Unquoted, element_on, without_value, OfScript}
 use Rattle.place_core.specs.declared.body.Body.TheVariants as body
 use Rattle.place_core.specs.declared.chain.Chain.{Chain}
 use Rattle.place_core.specs.declared.css.Css.{Css}
@@ -210,6 +212,7 @@ url-keeps-there : (q : Quoting) (tag : Tag) (u : Url) (v : ValueState) (datum : 
     → Kept (url_chain (parts_of u.part) (last_of (quotes_at q))) (in_url q tag u) bytes t d
 url-keeps-there q tag u (OfKind k) datum bytes t d e n b a l = absurd a
 url-keeps-there q tag u (OfStyle s) datum bytes t d e n b a l = absurd a
+url-keeps-there q tag u (OfScript s) datum bytes t d e n b a l = absurd a
 url-keeps-there q tag u (OfUrl w) datum bytes t d e n b a l =
     let x = url_chain (parts_of u.part) (last_of (quotes_at q)) in
     let s = in_url q tag u in
@@ -278,6 +281,7 @@ style-keeps-there : (q : Quoting) (tag : Tag) (s : Style Url) (v : ValueState) (
     → IsStyleHole q s bytes → languages.AreAlike (OfStyle s) v → d ≡ config (in_value q tag (ValueOf v)) t → Kept x (in_style q tag s) bytes t d
 style-keeps-there q tag s (OfKind k) x bytes t d e h a l = absurd a
 style-keeps-there q tag s (OfUrl u) x bytes t d e h a l = absurd a
+style-keeps-there q tag s (OfScript r) x bytes t d e h a l = absurd a
 style-keeps-there q tag s (OfStyle w) x bytes t d e h a l =
     let z = in_style q tag s in
     let m = config (in_style q tag w) t in
@@ -356,11 +360,20 @@ in-language-keeps Nothing (OfKind j) element.Style x datum bytes t d h k l = abs
 in-language-keeps Nothing (OfKind j) _ x datum bytes t d h k l = absurd h
 in-language-keeps Nothing (OfUrl u) element.Style x datum bytes t d h k l = absurd h
 in-language-keeps Nothing (OfUrl u) _ x datum bytes t d h k l = absurd h
+in-language-keeps Nothing (OfScript s) element.Style x datum bytes t d h k l = absurd h
+in-language-keeps Nothing (OfScript s) _ x datum bytes t d h k l = absurd h
 in-language-keeps PendingLess v e x datum bytes t d h k l = absurd h
 in-language-keeps (PendingName letters) v e x datum bytes t d h k l = absurd h
 in-language-keeps LessAtCut v e x datum bytes t d h k l = absurd h
 in-language-keeps PendingBang v e x datum bytes t d h k l = absurd h
 in-language-keeps PendingBangDash v e x datum bytes t d h k l = absurd h
+
+-- no place in a script takes a value yet
+no-script-hole : (begins : Bool) (o : Option Spot) (q : Quotes) (tag : Tag) (x : Chain)
+    → HoleOf (value_spot tag q (if begins then option_map (λ p. body.Js (script_place p)) o else None)) x → ⊥
+no-script-hole true (Some p) q tag x h = refused _ _ h.1
+no-script-hole true None q tag x h = h
+no-script-hole false o q tag x h = h
 
 hole-keeps : (s : LexState ValueState) (x : Chain) (datum : Data) (bytes : List ℕ) (t : List LexEvent) (d : Config ValueState)
     → HoleOf (placed s) x → IsBackBy x datum bytes → TextStands languages s t d → Kept x s bytes t d
@@ -397,7 +410,7 @@ hole-keeps (SelfClosingStartTag tag) x datum bytes t d h k l =
 hole-keeps (BeforeAttributeValue tag kind.Plain) x datum bytes t d h k l = unbegun-keeps tag x datum bytes t d (its-of (placed (BeforeAttributeValue tag kind.Plain)) x h) k l
 hole-keeps (BeforeAttributeValue tag kind.NoHole) x datum bytes t d h k l = absurd (refused _ _ h.1)
 hole-keeps (BeforeAttributeValue tag kind.Url) x datum bytes t d h k l = url-begun-keeps tag x datum bytes t d (its-of (placed (url_unbegun tag)) x h) k l
-hole-keeps (BeforeAttributeValue tag kind.Script) x datum bytes t d h k l = absurd h
+hole-keeps (BeforeAttributeValue tag kind.Script) x datum bytes t d h k l = absurd (refused _ _ h.1)
 hole-keeps (BeforeAttributeValue tag kind.Style) x datum bytes t d h k l = style-begun-keeps tag x datum bytes t d (its-of (placed (style_unbegun tag)) x h) k l
 hole-keeps (BeforeAttributeValue tag kind.ScriptType) x datum bytes t d h k l = absurd h
 hole-keeps (AttributeValue DoubleQuoted tag (ValueOf (OfKind kind.Plain)) Closed) x datum bytes t d h k l =
@@ -414,6 +427,8 @@ hole-keeps (AttributeValue q tag (ValueOf (OfKind kind.ScriptType)) Closed) x da
 hole-keeps (AttributeValue q tag (ValueOf (OfUrl u)) Closed) x datum bytes t d h k l = url-keeps q tag u x datum bytes t d (url-accepted u.triple u.part (quotes_at q) tag x h) k l
 hole-keeps (AttributeValue q tag (ValueOf (OfStyle s)) Closed) x datum bytes t d h k l =
     style-keeps (css_of s) q tag s x datum bytes t d (style-accepted (may_begin_text s) (part_spot s) (quotes_at q) tag x h) (style-holes s q datum bytes) k l
+hole-keeps (AttributeValue q tag (ValueOf (OfScript s)) Closed) x datum bytes t d h k l =
+    absurd (no-script-hole (script_may_begin_text s) (script_spot s) (quotes_at q) tag x h)
 hole-keeps (AttributeValue q tag (Deciding j before) Closed) x datum bytes t d h k l = absurd h
 hole-keeps (AttributeValue q tag v (Open f b)) x datum bytes t d h k l = absurd h
 hole-keeps (InContent element.Title (Characters Closed) Nothing) x datum bytes t d h k l = content-keeps element.Title x datum bytes t d (its (place.Rcdata element.Title) x h) k l

@@ -1,8 +1,10 @@
 -- Wherever a hole may stand on a path, what its sanitizer promises leads the page on.
-use Rattle.std.proofs.Common.{◌≡◌, ℕ, Bool, true, false, List, [], Option, Some, None, option_map, if◌then◌else◌, Ok, Err, refl, sym, subst, true≢false}
+use Rattle.std.proofs.Common.{◌≡◌, ℕ, Bool, true, false, List, [], Option, Some, None, option_map, if◌then◌else◌, Ok, Err, refl, sym, subst}
 use Rattle.std.proofs.lemmas.Bool.{and_parts}
 use Rattle.html_step.proofs.HoleOrder.{covers-hole}
 use Rattle.html_step.specs.Holes.{Holed, after_hole, last_of, url_chain}
+use Rattle.js_lexer.specs.Spots.{Spot, script_spot}
+use Rattle.js_lexer.specs.States.{ScriptState}
 use Rattle.page_datum.specs.Data.{Data}
 use Rattle.page_datum.specs.Printed.{printed}
 use Rattle.place_core.specs.page.Events.{LexEvent}
@@ -10,9 +12,10 @@ use Rattle.place_core.specs.place.Membership.{IsIn}
 use Rattle.place_core.specs.page.Paths.{at_hole}
 use Rattle.place_core.specs.place.Places.{IsValid}
 use Rattle.place_core.specs.page.References.{Closed, Reference}
+use Rattle.place_core.specs.place.ScriptParts.{script_may_begin_text, script_place}
 use Rattle.place_core.specs.place.StatePlaces.{content_spot, only_after, only_inside, placed, tag_spot, quotes_at, value_body, value_spot, where_closed}
 use Rattle.place_core.specs.page.States.{AfterAttributeName, AfterAttributeValue, AttributeName, AttributeValue, BeforeAttributeName, BeforeAttributeValue, Broken, Bytes, Characters, Config, Content, InLanguage, Pending, InComment, InContent, Inside, LessAtCut, Nothing, SelfClosingStartTag, LexState, Text, WholeAttributeName}
-use Rattle.place_core.specs.page.Tags.{DoubleQuoted, Quoting, SingleQuoted, Tag, Unquoted, Value, ValueOf, ValueState, OfKind, OfStyle, OfUrl, is_second_type, languages, without_value}
+use Rattle.place_core.specs.page.Tags.{DoubleQuoted, Quoting, SingleQuoted, Tag, Unquoted, Value, ValueOf, ValueState, OfKind, OfStyle, OfUrl, is_second_type, languages, without_value, OfScript}
 use Rattle.place_core.specs.place.StyleParts.{style_body, style_css}
 use Rattle.place_core.specs.place.UrlParts.{parts_of}
 use Rattle.css_lexer.specs.Escapes.{NoEscape, AfterBackslash, HexDigits, AfterReturn}
@@ -23,7 +26,6 @@ use Rattle.css_lexer.specs.States.{Quote, DoubleQuote, SingleQuote, Outside, Bet
 use Rattle.css_lexer.specs.Urls.{urls}
 use Rattle.place_core.specs.declared.body.Body.TheVariants as body
 use Rattle.place_core.specs.declared.chain.Chain.{Chain}
-use Rattle.place_core.specs.declared.css.Css.{Css}
 use Rattle.place_core.specs.declared.css.Css.TheVariants as css
 use Rattle.place_core.specs.declared.element.Element.{Element}
 use Rattle.place_core.specs.declared.element.Element.TheVariants as element
@@ -31,7 +33,7 @@ use Rattle.place_core.specs.declared.kind.Kind.{Kind}
 use Rattle.place_core.specs.declared.kind.Kind.TheVariants as kind
 use Rattle.place_core.specs.declared.place.Place.{Place}
 use Rattle.place_core.specs.declared.place.Place.TheVariants as place
-use Rattle.san_html.specs.ReadBack.{as_name, in_block, in_rcdata}
+use Rattle.san_html.specs.ReadBack.{as_name, in_block, in_rcdata, in_value}
 use Rattle.url_lexer.specs.Parts.{UrlPart, UrlStart, UrlOpen, UrlOpenhole, UrlPrequery, UrlQuery, UrlBad}
 use Rattle.url_lexer.specs.Refusals.{refuses_hole_in}
 use Rattle.url_lexer.specs.Schemes.{UrlScheme}
@@ -155,6 +157,7 @@ content-safe : (h : Pending) (x : Content ValueState) (e : Element) → SafeAt (
 content-safe Nothing (InLanguage (OfStyle s)) element.Style = element-safe s
 content-safe Nothing (InLanguage (OfKind k)) element.Style = tt
 content-safe Nothing (InLanguage (OfUrl u)) element.Style = tt
+content-safe Nothing (InLanguage (OfScript s)) element.Style = tt
 content-safe Nothing (Characters Closed) element.Title = λ datum bytes k. leads-on (in_rcdata element.Title) (printed datum) bytes tt
     (content-leads element.Title (printed datum) bytes k.1)
 content-safe Nothing (Characters Closed) element.Textarea = λ datum bytes k. leads-on (in_rcdata element.Textarea) (printed datum) bytes tt
@@ -275,6 +278,13 @@ style-safe (InUrl (Quoted j (HexDigits n)) u) q tag = tt
 style-safe (InUrl (Quoted j AfterReturn) u) q tag = tt
 style-safe (InUrl Ended u) q tag = tt
 
+-- in a script, where no place takes a value yet
+script-safe : (begins : Bool) (o : Option Spot) (q : Quoting) (tag : Tag) (s : ScriptState)
+    → SafeAt (in_value q tag (ValueOf (OfScript s))) (value_spot tag (quotes_at q) (if begins then option_map (λ p. body.Js (script_place p)) o else None))
+script-safe true (Some p) q tag s = tt
+script-safe true None q tag s = tt
+script-safe false o q tag s = tt
+
 value-safe : (r : Reference) (v : Value ValueState) (q : Quoting) (tag : Tag)
     → SafeAt (AttributeValue q tag v r) (where_closed r (value_spot tag (quotes_at q) (value_body v)))
 value-safe Closed (ValueOf (OfKind kind.Plain)) DoubleQuoted tag = λ datum bytes k. leads-on (in_plain DoubleQuoted tag) (printed datum) bytes tt
@@ -285,6 +295,7 @@ value-safe Closed (ValueOf (OfKind kind.Plain)) Unquoted tag = λ datum bytes k.
     (unquoted-leads tag (printed datum) bytes k)
 value-safe Closed (ValueOf (OfUrl u)) q tag = url-safe q tag u.part u.scheme u.free u.triple
 value-safe Closed (ValueOf (OfStyle s)) q tag = style-safe s q tag
+value-safe Closed (ValueOf (OfScript s)) q tag = script-safe (script_may_begin_text s) (script_spot s) q tag s
 value-safe _ _ _ tag = tt
 
 -- after a name, unless it is a second `type`, where a path is at no place

@@ -2,8 +2,7 @@
 use Rattle.std.proofs.Common.{◌≡◌, ℕ, ◌+◌, Bool, true, false, codes, List, [], ◌∷◌, ◌++◌, length, Option, Some, None, refl, sym, ap, ◌∙◌, subst}
 use Rattle.place_core.specs.page.Classes.{Class, GreaterThan, class_of}
 use Rattle.place_core.specs.page.Comments.{closes_comment, comment_ended, next_in_comment}
-use Rattle.place_core.specs.place.Errors.{PathCause, PathRefusal, at_hand, broken_off, byte_error, content_error, cut_error, ending_tag, first_byte_error, first_error, kind_error, language_error, lexeme_error, quotes_error, refusal_from, standing_at, states, tag_error}
-use Rattle.place_core.specs.place.LastLexeme.{last_lexeme_start, language_reference}
+use Rattle.place_core.specs.place.Errors.{PathCause, PathRefusal, at_hand, broken_off, byte_error, content_error, cut_error, ending_tag, first_byte_error, language_error, lexeme_error, quotes_error, refusal_from, standing_at, states, tag_error, TextRead, first_path_refusal, nests_too_deep, nothing_read, read_behind, script_byte_refusal, script_cut_refusal, unless_in_script}
 use Rattle.place_core.specs.page.Events.{LexEvent, event_text_bytes}
 use Rattle.place_core.specs.page.Html.{ends_value, next, read_over, emits}
 use Rattle.place_core.specs.place.Membership.{IsIn}
@@ -49,16 +48,12 @@ bare-built q tag v r c n e f =
     let end = (ending_tag languages tag v r).tag in
     none-at-hand _ (subst (λ (z : Class). at_hand (quotes_error end (quotes_at Unquoted) z) ≡ None) f (subst (λ (z : Quoting). at_hand (quotes_error end (quotes_at z) c) ≡ None) e n))
 
-first-second : (a b : Option Code) → at_hand (first_error a b) ≡ None → at_hand b ≡ None
-first-second None b n = n
-first-second (Some e) b n = absurd (some _ n)
-
 -- what a language and what the rest refuse of a value
 value-taken : (tag : Tag) (k : Kind) (c : Class) (b : ℕ) → byte_error (BeforeAttributeValue tag k) c b ≡ None → first_byte_error (feeding languages) (attribute_value_of languages k) c b ≡ None
 value-taken tag k c b n = (both-none (first_byte_error (feeding languages) (attribute_value_of languages k) c b) _ n).0
 
 value-built : (tag : Tag) (k : Kind) (c : Class) (b : ℕ) → byte_error (BeforeAttributeValue tag k) c b ≡ None → c ≡ GreaterThan → content_error tag.tag ≡ None
-value-built tag k c b n e = none-at-hand _ (first-second (kind_error k) (content_error tag.tag) (subst (λ (z : Class). byte_error (BeforeAttributeValue tag k) z b ≡ None) e n))
+value-built tag k c b n e = none-at-hand _ (subst (λ (z : Class). byte_error (BeforeAttributeValue tag k) z b ≡ None) e n)
 
 -- a comment writes nothing
 in-comment : (x : ValueLanguage ValueState) (ended : Bool) (t : List LexEvent) (d : Config ValueState) → d ≡ config (Text Closed) t → TextStands x (comment_ended ended) t d
@@ -143,20 +138,31 @@ pub goes : (k : ℕ) (o : Option PathCause) (rest : Option PathRefusal) → stan
 goes k None rest n = (refl, n)
 goes k (Some e) rest n = absurd (some _ n)
 
+-- nor by what a script is told later
+in-script : (k : ℕ) (x : Option PathRefusal) (o : Option PathCause) (rest : Option PathRefusal) → unless_in_script k x o rest ≡ None
+    → (o ≡ None) × (rest ≡ None)
+in-script k None o rest n = goes k o rest n
+in-script k (Some x) o rest n = absurd (some _ n)
+
 -- nor at the node's end
+first : (x o : Option PathRefusal) → first_path_refusal x o ≡ None → o ≡ None
+first None o n = n
+first (Some x) o n = absurd (some _ n)
+
 whole : (k since : ℕ) (o : Option Code) → broken_off k since o ≡ None → o ≡ None
 whole k since None n = refl
 whole k since (Some e) n = absurd (some _ n)
 
-pub keeps-from : (bytes : List ℕ) (k since : ℕ) (s : LexState ValueState) (t : List LexEvent) (d : Config ValueState) → refusal_from k since bytes s ≡ None → TextStands languages s t d
+pub keeps-from : (bytes : List ℕ) (k : ℕ) (since : TextRead) (s : LexState ValueState) (t : List LexEvent) (d : Config ValueState) → refusal_from k since bytes s ≡ None → TextStands languages s t d
     → (let c = read_node languages bytes (config s t) in TextStands languages c.at c.emitted (page languages (written languages bytes s) d))
 keeps-from [] k since s t d n h =
-    let m = goes k (cut_error s) (broken_off k since (lexeme_error s)) n in
-    cut-follows s t d m.0 (whole k since (lexeme_error s) m.1) h
+    let broken = broken_off k since.last (lexeme_error s) in
+    let m = in-script k (script_cut_refusal k since.fed s) (cut_error s) (first_path_refusal (nests_too_deep k since.deep) broken) n in
+    cut-follows s t d m.0 (whole k since.last (lexeme_error s) (first (nests_too_deep k since.deep) broken m.1)) h
 keeps-from (b ∷ bs) k since s t d n h =
     let z = next languages Template s (class_of b) b in
-    let later = last_lexeme_start k since (language_reference s) (class_of b) b in
-    let m = goes k (byte_error s (class_of b) b) (refusal_from (k + 1) later bs z) n in
+    let later = read_behind k since s (class_of b) b in
+    let m = in-script k (script_byte_refusal k since.fed s (class_of b) b) (byte_error s (class_of b) b) (refusal_from (k + 1) later bs z) n in
     let u = emits languages Template s (class_of b) b t in
     let o = out languages s (class_of b) b in
     rw (over-append languages Page o (written languages bs z) d) (keeps-from bs (k + 1) later z u (page languages o d) m.1 (follows s (class_of b) b t d refl m.0 h))
@@ -172,5 +178,5 @@ keeps-shape bytes p q s t d v i e h =
     let n = ((one-text bytes i.own s i.stands).0 g.0 g.1).0 in
     let c = read_node languages bytes (config s t) in (
       subst (IsIn q) (sym (ap (at_cut languages) (same-states bytes s t))) (covers-text bytes p q s v i e),
-      subst (λ (z : List ℕ). TextStands languages c.at c.emitted (page languages z d)) (written-on-paths bytes p q s v i e) (keeps-from bytes 0 0 s t d n h),
+      subst (λ (z : List ℕ). TextStands languages c.at c.emitted (page languages z d)) (written-on-paths bytes p q s v i e) (keeps-from bytes 0 nothing_read s t d n h),
     )

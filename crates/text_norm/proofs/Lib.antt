@@ -24,6 +24,8 @@ mod ReadBeside
 mod Rests
 pub mod Runs
 pub mod Same
+mod ScriptFillingExamples
+mod ScriptValuesKeep
 pub mod SlashReads
 mod Slices
 mod Spelled

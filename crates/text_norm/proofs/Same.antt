@@ -1,15 +1,18 @@
 -- What is written by a state and by its scan state is the same, and so it is by a scan state and one above it.
 use Rattle.std.proofs.Common.{◌≡◌, ℕ, ◌+◌, Bool, true, false, codes, List, [], ◌∷◌, ◌++◌, Option, Some, None, if◌then◌else◌, Ok, refl, sym, ap, ap₂, ◌∙◌, subst}
+use Rattle.html_step.proofs.ScriptPaths.{kept_script_scanned, script_value}
+use Rattle.js_lexer.specs.States.{ScriptState}
+use Rattle.js_step.specs.ScriptScans.{ScriptScan}
+use Rattle.place_core.specs.declared.body.Body.{Body}
 use Rattle.place_core.specs.page.Classes.{Class, White, ExclamationMark, QuotationMark, Apostrophe, HyphenMinus, Solidus, LessThan, EqualsSign, GreaterThan, QuestionMark, Letter, class_of}
 use Rattle.place_core.specs.page.Comments.{Declaration, OpensComment, OpensDoctype, Undecided, OpensNothing, closes_comment, comment_ended, declared_by, next_in_comment, next_in_doctype}
 use Rattle.place_core.specs.page.Contents.{may_be_name_of, is_name_of, pending_bytes, next_bang, next_end_name, next_in_content, next_less, next_loose}
 use Rattle.place_core.specs.page.Html.{after_tag, ends_value, next, next_after_name, next_after_value, next_before_name, next_before_value, next_declaration, next_end_tag_open, next_name, next_tag_name, next_tag_open, next_text, next_value}
-use Rattle.place_core.specs.place.Errors.{pending_error, split_error}
-use Rattle.place_core.specs.place.LastLexeme.{last_lexeme_start}
+use Rattle.place_core.specs.place.Errors.{pending_error, split_error, TextRead, nothing_read}
 use Rattle.place_core.specs.place.Places.{Below}
 use Rattle.place_core.specs.page.References.{Reference, Closed, Open, as_it_stands, begin_reference, next_reference, settled}
 use Rattle.place_core.specs.page.States.{CommentState, Started, StartedDash, Inside, Dash, DashDash, Bang, Broken, Template, LexState, Text, TagOpen, EndTagOpen, DeclarationOpen, InComment, BogusComment, InDoctype, TagName, WholeTagName, BeforeAttributeName, AttributeName, WholeAttributeName, AfterAttributeName, BeforeAttributeValue, AttributeValue, AfterAttributeValue, SelfClosingStartTag, Characters, Bytes, InLanguage, Pending, Nothing, PendingLess, LessAtCut, PendingName, PendingBang, PendingBangDash, InContent, Unread}
-use Rattle.place_core.specs.page.Tags.{Tag, ValueState, OfKind, OfUrl, OfStyle, fed_state, languages, Quoting, DoubleQuoted, SingleQuoted, Unquoted, Value, ValueOf, Deciding, element_on, is_second_type, tag_of_name, with_bytes, tag_with_value, without_value}
+use Rattle.place_core.specs.page.Tags.{Tag, ValueState, OfKind, OfUrl, OfStyle, fed_state, languages, Quoting, DoubleQuoted, SingleQuoted, Unquoted, Value, ValueOf, Deciding, element_on, is_second_type, tag_of_name, with_bytes, tag_with_value, without_value, OfScript}
 use Rattle.place_core.specs.declared.element.Element.{Element}
 use Rattle.place_core.specs.declared.element.Element.TheVariants as element
 use Rattle.place_core.specs.page.Words.{kind_of}
@@ -21,12 +24,13 @@ use Rattle.place_core.specs.declared.tag_of.TagOf.{TagOf}
 use Rattle.place_core.specs.declared.tag_of.TagOf.TheVariants as which
 use Rattle.place_core.specs.declared.value_place.ValuePlace.{ValuePlace}
 use Rattle.place_core.proofs.Semilattices.{none_some, one_value}
-use Rattle.html_scan.specs.Scans.{Scan, At, AfterLess, AfterLessSolidus, InDeclaration, InTagName, InAttributeName, InCommentEnd, InContentEnd, InStyleElement, InUrl, InStyle, BeforeType, InType, element_scan, scan_cut_error, scan_error, scan_next, style_feeding, style_less_cause, style_scan, url_scan, scan_reference, with_style}
+use Rattle.html_scan.specs.Scans.{Scan, At, AfterLess, AfterLessSolidus, InDeclaration, InTagName, InAttributeName, InCommentEnd, InContentEnd, InStyleElement, InUrl, InStyle, InScript, BeforeType, InType, element_scan, scan_cut_error, scan_error, scan_next, style_feeding, style_less_cause, style_scan, url_scan, with_style}
 use Rattle.css_lexer.specs.States.{Style}
 use Rattle.css_step.proofs.OneStylePath.{exact-on-one-style}
 use Rattle.css_step.proofs.StyleGrowth.{styles-grow}
 use Rattle.css_step.specs.StyleScanLaws.{IsStyleScan, style_scanned}
 use Rattle.css_step.specs.StyleScans.{StyleScan, is_style_start, style_scan_start}
+use Rattle.place_core.specs.place.ScriptParts.{script_body}
 use Rattle.url_lexer.specs.States.{Url}
 use Rattle.html_step.proofs.PlaceParts.{below-rcdata}
 use Rattle.html_step.proofs.ScanOrder.{ScanBelow, ScanValid, StyleUnder, scan-grows, style-below-place}
@@ -34,11 +38,11 @@ use Rattle.html_step.proofs.StylePaths.{style_value}
 use Rattle.html_step.proofs.ElementSteps.{element-scan-error}
 use Rattle.html_step.proofs.ElementsBelow.{ElementUnder, under-element}
 use Rattle.html_step.proofs.FedAlike.{first-caused}
-use Rattle.html_step.proofs.PathScans.{WhereScanned, content_scanned, element_scanned, scanned, style_element_scanned, style_value_scanned, url_scanned}
+use Rattle.html_step.proofs.PathScans.{WhereScanned, content_scanned, element_scanned, scanned, style_element_scanned, style_value_scanned, url_scanned, script_there, script_unless_placed, script_value_scanned}
 use Rattle.html_step.proofs.OneTexts.{agrees-at, at-place}
 use Rattle.html_step.proofs.ValidSteps.{scan-valid}
-use Rattle.html_step.proofs.WholeTexts.{end-ok, grows-text, not-refused, text-steps}
-use Rattle.html_step.specs.Steps.{stepped}
+use Rattle.html_step.proofs.WholeTexts.{end-ok, grows-text, step-ok, text-steps}
+use Rattle.html_step.specs.Steps.{scan_read_behind, stepped}
 use Rattle.url_lexer.specs.Triples.{Triple, NoTriple, AfterPercent, AfterDigit}
 use Rattle.text_norm.proofs.ElementsSame.{below-cut, element-cut, element-open, element-out, paths-write, scans-write}
 use Rattle.text_norm.proofs.WritingsAlike.{content-cut-same, content-same}
@@ -101,6 +105,7 @@ scan-same (At a) (InTagName ends name) c b r h taken = absurd h
 scan-same (At a) (InAttributeName t x n) c b r h taken = absurd h
 scan-same (At a) (InCommentEnd s) c b r h taken = absurd h
 scan-same (At a) (InStyle w y u) c b r h taken = absurd h
+scan-same (At a) (InScript w y u) c b r h taken = absurd h
 scan-same (At a) (InContentEnd e k) c b r h taken = absurd h
 scan-same (At a) (InUrl v t z) c b r h taken = absurd h
 scan-same (At a) (InStyleElement s k) c b r h taken = absurd h
@@ -114,6 +119,7 @@ scan-same (InAttributeName t x n) (InDeclaration pending) c b r h taken = absurd
 scan-same (InAttributeName t x n) (InTagName ends name) c b r h taken = absurd h
 scan-same (InAttributeName t x n) (InCommentEnd s) c b r h taken = absurd h
 scan-same (InAttributeName t x n) (InStyle w y u) c b r h taken = absurd h
+scan-same (InAttributeName t x n) (InScript w y u) c b r h taken = absurd h
 scan-same (InAttributeName t x n) (InContentEnd e k) c b r h taken = absurd h
 scan-same (InAttributeName t x n) (InUrl v u z) c b r h taken = absurd h
 scan-same (InAttributeName t x n) (InStyleElement s k) c b r h taken = absurd h
@@ -128,11 +134,14 @@ scan-same (InUrl v t z) (InTagName ends name) c b r h taken = absurd h
 scan-same (InUrl v t z) (InAttributeName u x n) c b r h taken = absurd h
 scan-same (InUrl v t z) (InCommentEnd s) c b r h taken = absurd h
 scan-same (InUrl v t z) (InStyle w y u) c b r h taken = absurd h
+scan-same (InUrl v t z) (InScript w y u) c b r h taken = absurd h
 scan-same (InUrl v t z) (InStyleElement s k) c b r h taken = absurd h
 scan-same (InUrl v t z) (InContentEnd e k) c b r h taken = absurd h
 scan-same (InUrl v t z) (BeforeType u) c b r h taken = absurd h
 scan-same (InUrl v t z) (InType u q x y) c b r h taken = absurd h
 scan-same (InStyle v s z) g c b r h taken = style-same v s z g c b r h
+scan-same (InScript v n z) (InScript w m y) c b r h taken = record { outs = refl; opens = refl }
+scan-same (InScript v n z) g c b r h taken = absurd h
 scan-same (InStyleElement s k) g c b r h taken = element-same s k g c b r h taken
 scan-same AfterLess g c b r h taken = rigid AfterLess g c b r h
 scan-same AfterLessSolidus g c b r h taken = rigid AfterLessSolidus g c b r h
@@ -185,6 +194,7 @@ cut-same (At a) (InTagName ends name) r h taken = absurd h
 cut-same (At a) (InAttributeName t x n) r h taken = absurd h
 cut-same (At a) (InCommentEnd s) r h taken = absurd h
 cut-same (At a) (InStyle w y u) r h taken = absurd h
+cut-same (At a) (InScript w y u) r h taken = absurd h
 cut-same (At a) (InContentEnd e k) r h taken = absurd h
 cut-same (At a) (InUrl v t z) r h taken = absurd h
 cut-same (At a) (InStyleElement s k) r h taken = absurd h
@@ -198,6 +208,7 @@ cut-same (InAttributeName t x n) (InDeclaration pending) r h taken = absurd h
 cut-same (InAttributeName t x n) (InTagName ends name) r h taken = absurd h
 cut-same (InAttributeName t x n) (InCommentEnd s) r h taken = absurd h
 cut-same (InAttributeName t x n) (InStyle w y u) r h taken = absurd h
+cut-same (InAttributeName t x n) (InScript w y u) r h taken = absurd h
 cut-same (InAttributeName t x n) (InContentEnd e k) r h taken = absurd h
 cut-same (InAttributeName t x n) (InUrl v u z) r h taken = absurd h
 cut-same (InAttributeName t x n) (InStyleElement s k) r h taken = absurd h
@@ -212,11 +223,14 @@ cut-same (InUrl v t z) (InTagName ends name) r h taken = absurd h
 cut-same (InUrl v t z) (InAttributeName u x n) r h taken = absurd h
 cut-same (InUrl v t z) (InCommentEnd s) r h taken = absurd h
 cut-same (InUrl v t z) (InStyle w y u) r h taken = absurd h
+cut-same (InUrl v t z) (InScript w y u) r h taken = absurd h
 cut-same (InUrl v t z) (InStyleElement s k) r h taken = absurd h
 cut-same (InUrl v t z) (InContentEnd e k) r h taken = absurd h
 cut-same (InUrl v t z) (BeforeType u) r h taken = absurd h
 cut-same (InUrl v t z) (InType u q x y) r h taken = absurd h
 cut-same (InStyle v s w) g r h taken = style-cut-same v s w g r h
+cut-same (InScript v n z) (InScript w m y) r h taken = refl
+cut-same (InScript v n z) g r h taken = absurd h
 cut-same (InStyleElement s k) g r h taken = element-cut-same s k g r h taken
 cut-same AfterLess g r h taken = ap (λ (z : Scan). scan_cut_out z r) h
 cut-same AfterLessSolidus g r h taken = ap (λ (z : Scan). scan_cut_out z r) h
@@ -430,7 +444,8 @@ before-value-writes tag kind.Plain c b = λ r e taken. at-one (BeforeAttributeVa
 before-value-writes tag kind.NoHole c b = λ r e taken. at-one (BeforeAttributeValue tag kind.NoHole) _ c b Closed r e (record { outs = refl; opens = before-value-opens c b tag kind.NoHole })
 before-value-writes tag kind.Url c b =
     λ r e taken. at-one (BeforeAttributeValue tag kind.Url) _ c b Closed r e (record { outs = refl; opens = before-value-opens c b tag kind.Url })
-before-value-writes tag kind.Script c b = tt
+before-value-writes tag kind.Script c b =
+    λ r e taken. at-one (BeforeAttributeValue tag kind.Script) _ c b Closed r e (record { outs = refl; opens = before-value-opens c b tag kind.Script })
 before-value-writes tag kind.Style c b =
     λ r e taken. at-one (BeforeAttributeValue tag kind.Style) _ c b Closed r e (record { outs = refl; opens = before-value-opens c b tag kind.Style })
 before-value-writes tag kind.ScriptType c b =
@@ -474,6 +489,28 @@ style-scan-writes q tag s None a c b = tt
 style-scan-writes q tag s (Some n) a c b =
     λ r e taken. at-one (AttributeValue q tag (ValueOf (OfStyle s)) a) _ c b a r e (style-writes q tag (OfStyle s) a _ n a c b)
 
+-- a script, at a place, or behind a byte of the text
+script-writes-at : (q : Quoting) (tag : Tag) (k : ValueState) (a : Reference) (v : ValuePlace) (n : ScriptScan) (z : Reference) (c : Class) (b : ℕ)
+    → Writes (AttributeValue q tag (ValueOf k) a) (InScript v n z) c b a
+script-writes-at q tag k a v n z c b = (let w = value-writes (ends_value q c) q tag (ValueOf k) a c b refl in record { outs = w.0; opens = w.1 })
+
+script-there-writes : (q : Quoting) (tag : Tag) (s : ScriptState) (o : Option ScriptScan) (a : Reference) (c : Class) (b : ℕ)
+    → WhereScanned (script_there q tag o a) (WritesFrom (AttributeValue q tag (ValueOf (OfScript s)) a) c b)
+script-there-writes q tag s None a c b = tt
+script-there-writes q tag s (Some n) a c b =
+    λ r e taken. at-one (AttributeValue q tag (ValueOf (OfScript s)) a) _ c b a r e (script-writes-at q tag (OfScript s) a _ n a c b)
+
+script-placed-writes : (q : Quoting) (tag : Tag) (s : ScriptState) (x : Option Body) (o : Option ScriptScan) (c : Class) (b : ℕ)
+    → WhereScanned (script_unless_placed q tag x o) (WritesFrom (AttributeValue q tag (ValueOf (OfScript s)) Closed) c b)
+script-placed-writes q tag s (Some x) o c b =
+    λ r e taken. at-one (AttributeValue q tag (ValueOf (OfScript s)) Closed) _ c b Closed r e (value-writes-at q tag (OfScript s) Closed _ c b)
+script-placed-writes q tag s None o c b = script-there-writes q tag s o Closed c b
+
+script-scan-writes : (q : Quoting) (tag : Tag) (s : ScriptState) (a : Reference) (c : Class) (b : ℕ)
+    → WhereScanned (script_value_scanned q tag s a) (WritesFrom (AttributeValue q tag (ValueOf (OfScript s)) a) c b)
+script-scan-writes q tag s Closed c b = script-placed-writes q tag s (script_body s) (kept_script_scanned s) c b
+script-scan-writes q tag s (Open f bytes) c b = script-there-writes q tag s (kept_script_scanned s) (Open f bytes) c b
+
 in-value-writes : (q : Quoting) (tag : Tag) (v : Value ValueState) (a : Reference) (c : Class) (b : ℕ) → WritesAt (AttributeValue q tag v a) c b
 in-value-writes q tag (ValueOf (OfKind kind.Plain)) a c b =
     λ r e taken. at-one (AttributeValue q tag (ValueOf (OfKind kind.Plain)) a) _ c b a r e (value-writes-at q tag (OfKind kind.Plain) a _ c b)
@@ -486,6 +523,7 @@ in-value-writes q tag (ValueOf (OfKind kind.ScriptType)) a c b = tt
 in-value-writes q tag (ValueOf (OfUrl u)) a c b =
     λ r e taken. at-one (AttributeValue q tag (ValueOf (OfUrl u)) a) (url_scanned q tag u a) c b a r e (url-writes q tag (OfUrl u) a _ u.triple a c b)
 in-value-writes q tag (ValueOf (OfStyle s)) a c b = style-scan-writes q tag s (style_scanned s) a c b
+in-value-writes q tag (ValueOf (OfScript s)) a c b = script-scan-writes q tag s a c b
 in-value-writes q tag (Deciding kind.ScriptType before) a c b =
     let s = AttributeValue q tag (Deciding kind.ScriptType before) a in
     let f = InType tag.tag q (Deciding kind.ScriptType before) a in
@@ -705,6 +743,21 @@ style-scan-cuts : (q : Quoting) (tag : Tag) (s : Style Url) (o : Option StyleSca
 style-scan-cuts q tag s None a = tt
 style-scan-cuts q tag s (Some n) a = λ r e taken. by-one (style_scan (style_value tag (quotes_at q)) n a) a r (text_escaped a) e (style-cuts _ n a a)
 
+script-there-cuts : (q : Quoting) (tag : Tag) (s : ScriptState) (o : Option ScriptScan) (a : Reference)
+    → WhereScanned (script_there q tag o a) (CutFrom (AttributeValue q tag (ValueOf (OfScript s)) a))
+script-there-cuts q tag s None a = tt
+script-there-cuts q tag s (Some n) a = λ r e taken. by-one (InScript (script_value tag (quotes_at q)) n a) a r (text_escaped a) e refl
+
+script-placed-cuts : (q : Quoting) (tag : Tag) (s : ScriptState) (x : Option Body) (o : Option ScriptScan)
+    → WhereScanned (script_unless_placed q tag x o) (CutFrom (AttributeValue q tag (ValueOf (OfScript s)) Closed))
+script-placed-cuts q tag s (Some x) o = λ r e taken. by-one (At place.Text) Closed r _ e refl
+script-placed-cuts q tag s None o = script-there-cuts q tag s o Closed
+
+script-scan-cuts : (q : Quoting) (tag : Tag) (s : ScriptState) (a : Reference)
+    → WhereScanned (script_value_scanned q tag s a) (CutFrom (AttributeValue q tag (ValueOf (OfScript s)) a))
+script-scan-cuts q tag s Closed = script-placed-cuts q tag s (script_body s) (kept_script_scanned s)
+script-scan-cuts q tag s (Open f bytes) = script-there-cuts q tag s (kept_script_scanned s) (Open f bytes)
+
 value-cuts : (q : Quoting) (tag : Tag) (v : Value ValueState) (a : Reference) → CutAt (AttributeValue q tag v a)
 value-cuts q tag (ValueOf (OfKind kind.Plain)) a = λ r e taken. by-one (At place.Text) a r _ e refl
 value-cuts q tag (ValueOf (OfKind kind.NoHole)) a = λ r e taken. by-one (At place.Text) a r _ e refl
@@ -714,6 +767,7 @@ value-cuts q tag (ValueOf (OfKind kind.Style)) a = tt
 value-cuts q tag (ValueOf (OfKind kind.ScriptType)) a = tt
 value-cuts q tag (ValueOf (OfUrl u)) a = λ r e taken. by-one (url_scanned q tag u a) a r (text_escaped a) e (url-cuts _ u.triple a a)
 value-cuts q tag (ValueOf (OfStyle s)) a = style-scan-cuts q tag s (style_scanned s) a
+value-cuts q tag (ValueOf (OfScript s)) a = script-scan-cuts q tag s a
 value-cuts q tag (Deciding kind.ScriptType before) a =
     let s = AttributeValue q tag (Deciding kind.ScriptType before) a in
     where-first (is_second_type tag.typed kind.ScriptType) (InType tag.tag q (Deciding kind.ScriptType before) a) (CutFrom s) (λ r e taken. by-one (At place.Text) a r _ e refl)
@@ -723,7 +777,7 @@ before-cuts : (tag : Tag) (k : Kind) → CutAt (BeforeAttributeValue tag k)
 before-cuts tag kind.Plain = λ r e taken. by-one (At place.Text) Closed r _ e refl
 before-cuts tag kind.NoHole = λ r e taken. by-one (At place.Text) Closed r _ e refl
 before-cuts tag kind.Url = λ r e taken. by-one (At place.Text) Closed r _ e refl
-before-cuts tag kind.Script = tt
+before-cuts tag kind.Script = λ r e taken. by-one (At place.Text) Closed r _ e refl
 before-cuts tag kind.Style = λ r e taken. by-one (At place.Text) Closed r _ e refl
 before-cuts tag kind.ScriptType =
     where-first (is_second_type tag.typed kind.ScriptType) (BeforeType tag.tag) (CutFrom (BeforeAttributeValue tag kind.ScriptType)) (λ r e taken. by-one (At place.Text) Closed r _ e refl)
@@ -795,21 +849,21 @@ writes-at s f b r e o taken = subst (λ (z : Option Scan). WhereScanned z (Write
 cuts-at : (s : LexState ValueState) (f : Scan) (r : Reference) → scanned s ≡ Some f → opened s ≡ Some r → scan_cut_error f ≡ None → cut_out languages s ≡ scan_cut_out f r
 cuts-at s f r e o taken = subst (λ (z : Option Scan). WhereScanned z (CutFrom s)) e (cuts s) r o taken
 
-same-from : (bytes : List ℕ) (k since : ℕ) (s : LexState ValueState) (f : Scan) (r : Reference) (q : Place) → scanned s ≡ Some f → opened s ≡ Some r → stepped k since bytes f ≡ Ok q
+same-from : (bytes : List ℕ) (k : ℕ) (since : TextRead) (s : LexState ValueState) (f : Scan) (r : Reference) (q : Place) → scanned s ≡ Some f → opened s ≡ Some r → stepped k since bytes f ≡ Ok q
     → written languages bytes s ≡ written_from bytes f r
 same-from [] k since s f r q e o h = cuts-at s f r e o (end-ok k since f q h).cut
 same-from (b ∷ bs) k since s f r q e o h =
-    let later = last_lexeme_start k since (scan_reference f) (class_of b) b in
-    let n = not-refused k (scan_error f (class_of b) b) (stepped (k + 1) later bs (scan_next f (class_of b) b)) q h in
+    let later = scan_read_behind k since f (class_of b) b in
+    let n = step-ok k since b bs f q h in
     let w = writes-at s f b r e o n.0 in
     ap₂ (λ (x y : List ℕ). x ++ y) w.outs
     (same-from bs (k + 1) later (next languages Template s (class_of b) b) (scan_next f (class_of b) b) (scan_open f (class_of b) b r) q ((agrees-at s f b e).steps n.0) w.opens n.1)
 
-above-from : (bytes : List ℕ) (k since : ℕ) (f g : Scan) (r : Reference) (q : Place) → ScanValid f → ScanBelow f g → stepped k since bytes g ≡ Ok q → written_from bytes f r ≡ written_from bytes g r
+above-from : (bytes : List ℕ) (k : ℕ) (since : TextRead) (f g : Scan) (r : Reference) (q : Place) → ScanValid f → ScanBelow f g → stepped k since bytes g ≡ Ok q → written_from bytes f r ≡ written_from bytes g r
 above-from [] k since f g r q v h e = cut-same f g r h (end-ok k since g q e).cut
 above-from (b ∷ bs) k since f g r q v h e =
-    let later = last_lexeme_start k since (scan_reference g) (class_of b) b in
-    let n = not-refused k (scan_error g (class_of b) b) (stepped (k + 1) later bs (scan_next g (class_of b) b)) q e in
+    let later = scan_read_behind k since g (class_of b) b in
+    let n = step-ok k since b bs g q e in
     let m = scan-grows f g (class_of b) b v h n.0 in
     let w = scan-same f g (class_of b) b r h n.0 in
     ap₂ (λ (x y : List ℕ). x ++ y) w.outs
@@ -819,5 +873,5 @@ above-from (b ∷ bs) k since f g r q v h e =
 pub written-on-paths : WrittenOnPaths
 written-on-paths bytes p q s v i e =
     let g = grows-text bytes i.own p q i.valid v i.below e in
-    same-from bytes 0 0 s (At i.own) Closed g.0 (at-place s i.own i.stands) (closed-at s i.own i.stands) (text-steps bytes i.own g.0 g.1)
-    ∙ above-from bytes 0 0 (At i.own) (At p) Closed q i.valid i.below (text-steps bytes p q e)
+    same-from bytes 0 nothing_read s (At i.own) Closed g.0 (at-place s i.own i.stands) (closed-at s i.own i.stands) (text-steps bytes i.own g.0 g.1)
+    ∙ above-from bytes 0 nothing_read (At i.own) (At p) Closed q i.valid i.below (text-steps bytes p q e)

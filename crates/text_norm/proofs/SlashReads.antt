@@ -15,8 +15,7 @@ use Rattle.place_core.specs.page.Html.{emits_after_value, emits_value, ends_valu
 use Rattle.place_core.specs.page.References.{Reference, Closed, Open, as_it_stands, next_reference, settled, undone_byte}
 use Rattle.place_core.specs.page.States.{AttributeValue, Config, InContent, InLanguage, LexState, Nothing, Page, config}
 use Rattle.place_core.specs.page.Tags.{Quoting, Tag, Value, ValueOf, ValueState, OfStyle, emits_state, emitted_bytes, emitted_end, feed_value, feeding, languages, refuses_in_value, style_code, with_bytes}
-use Rattle.place_core.specs.place.Errors.{byte_error, cut_error, language_error, node, refusal_from}
-use Rattle.place_core.specs.place.LastLexeme.{last_lexeme_start, language_reference}
+use Rattle.place_core.specs.place.Errors.{byte_error, cut_error, language_error, node, refusal_from, TextRead, nothing_read, read_behind}
 use Rattle.place_core.specs.place.Membership.{IsIn}
 use Rattle.place_core.specs.place.Places.{IsValid}
 use Rattle.place_core.specs.declared.place.Place.{Place}
@@ -146,12 +145,12 @@ SlashReads q tag less blank u bytes s d e =
 
 abbrev SlashGoesOn : Quoting → Tag → Bool → Bool → List LexEvent → List ℕ → Type 0
 SlashGoesOn q tag less blank u bs =
-    (k since : ℕ) (r : Reference) (d e : Config ValueState) → refusal_from k since bs (AttributeValue q tag (path_value less) r) ≡ None
+    (k : ℕ) (since : TextRead) (r : Reference) (d e : Config ValueState) → refusal_from k since bs (AttributeValue q tag (path_value less) r) ≡ None
     → StandsAt q tag (raw_value blank) u r d → StandsAt q tag told_value (with_solidus u) r e
     → SlashReads q tag less blank u bs (AttributeValue q tag (path_value less) r) d e
 
 -- bytes that the value has been fed, and the rest
-slash-fed : (fed bs : List ℕ) (q : Quoting) (tag : Tag) (less blank : Bool) (u : List LexEvent) (k since : ℕ) (r : Reference)
+slash-fed : (fed bs : List ℕ) (q : Quoting) (tag : Tag) (less blank : Bool) (u : List LexEvent) (k : ℕ) (since : TextRead) (r : Reference)
     (d e : Config ValueState) → TakesAll less fed
     → refusal_from k since bs (AttributeValue q tag (with_bytes languages (path_value less) fed) r) ≡ None
     → StandsAt q tag (with_bytes languages (raw_value blank) fed) (emitted_bytes languages (raw_value blank) fed u) r d
@@ -178,7 +177,7 @@ slash-behind out bs q tag less blank u s d e (inl h) = inl (first-behind out (wr
 slash-behind out bs q tag less blank u s d e (inr h) =
     inr (h.0, on languages out (written languages bs s) d _ refl ∙ h.1, on languages out (written languages bs s) e _ refl ∙ h.2)
 
-slash-by : (ends : Bool) (bs : List ℕ) (q : Quoting) (tag : Tag) (less blank : Bool) (u : List LexEvent) (k since : ℕ) (r : Reference) (c : Class)
+slash-by : (ends : Bool) (bs : List ℕ) (q : Quoting) (tag : Tag) (less blank : Bool) (u : List LexEvent) (k : ℕ) (since : TextRead) (r : Reference) (c : Class)
     (b : ℕ) (d e : Config ValueState)
     → class_of b ≡ c → ends_value q c ≡ ends → language_error (feeding languages) ends (path_value less) r c b ≡ None
     → refusal_from k since bs (next_value languages ends q c b tag (path_value less) r) ≡ None
@@ -223,7 +222,7 @@ slash-read (b ∷ bs) q tag less blank u k since r d e n h g =
     let c = class_of b in
     let m = goes k (byte_error s c b) _ n in
     let own = both-none (language_error (feeding languages) (ends_value q c) (path_value less) r c b) _ m.0 in
-    slash-by (ends_value q c) bs q tag less blank u (k + 1) (last_lexeme_start k since (language_reference s) c b) r c b d e refl refl own.0 m.1 h g
+    slash-by (ends_value q c) bs q tag less blank u (k + 1) (read_behind k since s c b) r c b d e refl refl own.0 m.1 h g
     (slash-read bs q tag less blank u)
 
 -- So the text of a node that is accepted leads both readings of the page on.
@@ -242,7 +241,7 @@ slash-text bytes q tag less blank u vs m d e r (inr h) =
           (record { blank = blank; told = u; raw = h.1; is_settled = h.2 })));
     }
 
-node-by : (bytes : List ℕ) (s : LexState ValueState) (vs : List Filling) (m d e : Config ValueState) → refusal_from 0 0 bytes s ≡ None
+node-by : (bytes : List ℕ) (s : LexState ValueState) (vs : List Filling) (m d e : Config ValueState) → refusal_from 0 nothing_read bytes s ≡ None
     → RawStands vs m e
     → AreRaw s d e → StandsRaw (node bytes s) vs (page languages (written languages bytes s) m)
     (page languages (written languages bytes s) d)
@@ -250,7 +249,7 @@ node-by bytes s vs m d e n r (inl h) =
     let out = written languages bytes s in
     record { settled = page languages out e; beside = raw-text vs out m e r; pending = inl (ap (page languages out) h) }
 node-by bytes (AttributeValue q tag (ValueOf (OfStyle (Out (BehindHole true less)))) Closed) vs m d e n r (inr (inl h)) =
-    slash-text bytes q tag less h.blank h.told vs m d e r (slash-read bytes q tag less h.blank h.told 0 0 Closed d e n h.raw h.is_settled)
+    slash-text bytes q tag less h.blank h.told vs m d e r (slash-read bytes q tag less h.blank h.told 0 nothing_read Closed d e n h.raw h.is_settled)
 node-by bytes (InContent i (InLanguage (OfStyle (Out (BehindHole solidus less)))) Nothing) vs m d e n r (inr (inr (inl h))) =
     element-text bytes solidus less i vs m d e n r h
 node-by bytes s vs m d e n r (inr (inr (inr h))) = held-text bytes s vs m d e r h

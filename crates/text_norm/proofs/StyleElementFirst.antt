@@ -17,7 +17,7 @@ use Rattle.place_core.specs.page.Classes.{Class, White, Solidus, LessThan, Great
 use Rattle.place_core.specs.page.Contents.{is_name_of, may_be_name_of, next_end_name, next_in_content, next_less, next_loose, pending_bytes}
 use Rattle.place_core.specs.page.States.{InLanguage, LessAtCut, LexState, Nothing, Pending, PendingBang, PendingBangDash, PendingLess, PendingName}
 use Rattle.place_core.specs.page.Tags.{OfStyle, ValueState, fed_state, language_feeding, languages}
-use Rattle.place_core.specs.place.Errors.{at_hand, byte_error, loose_byte_error, refusal_from}
+use Rattle.place_core.specs.place.Errors.{at_hand, byte_error, loose_byte_error, refusal_from, TextRead}
 use Rattle.place_core.specs.declared.element.Element.{Element}
 use Rattle.text_norm.proofs.Keeps.{goes}
 use Rattle.text_norm.proofs.StyleElementKeeps.{IsPending, at-hand-none, own-none}
@@ -270,7 +270,7 @@ hole-writes solidus less e LessThan b n = inr (refl, (Out (BehindHole solidus le
 hole-writes solidus less e c b n =
     byte-writes solidus less e (style_class b) b refl (own-none (style_refuses urls (Out (BehindHole solidus less)) b) (at-hand-none _ n))
 
-pub hole-begins : (solidus less : Bool) (e : Element) (b : ℕ) (bs : List ℕ) (k since : ℕ)
+pub hole-begins : (solidus less : Bool) (e : Element) (b : ℕ) (bs : List ℕ) (k : ℕ) (since : TextRead)
     → (let s = in_element e (OfStyle (Out (BehindHole solidus less))) Nothing in
     refusal_from k since (b ∷ bs) s ≡ None → BeginsWell solidus less (written languages (b ∷ bs) s))
 hole-begins solidus less e b bs k since n =

@@ -16,7 +16,7 @@ use Rattle.place_core.specs.page.Paths.{at_hole, mark_in}
 use Rattle.place_core.specs.page.Plain.{IsPlain, IsPlainInContent, begins_with_solidus, is_behind_less}
 use Rattle.place_core.specs.page.Shape.{marked, state_past_hole}
 use Rattle.place_core.specs.page.States.{Config, LessAtCut, Nothing, Page, Pending, PendingBang, PendingBangDash, PendingLess, PendingName, config}
-use Rattle.place_core.specs.page.Tags.{OfKind, OfStyle, OfUrl, StatesAlike, ValueState, emits_fed, fed_state, languages, mark_if}
+use Rattle.place_core.specs.page.Tags.{OfKind, OfStyle, OfUrl, StatesAlike, ValueState, emits_fed, fed_state, languages, mark_if, OfScript}
 use Rattle.place_core.specs.declared.element.Element.{Element}
 use Rattle.text_norm.proofs.LanguagesKeep.{languages-keep}
 use Rattle.text_norm.proofs.Places.{is_less}
@@ -193,6 +193,7 @@ kept-by : (e : Element) (s : Style Url) (bytes : List ℕ) (t : List LexEvent) (
     → (l : StandsInStyleElement languages e s Nothing t d) (v : ValueState) → behind l.there l.held ≡ v → StatesAlike (OfStyle s) v → HoleKept e s bytes t d
 kept-by e s bytes t d n g h l (OfKind k) q a = absurd a
 kept-by e s bytes t d n g h l (OfUrl u) q a = absurd a
+kept-by e s bytes t d n g h l (OfScript r) q a = absurd a
 kept-by e s bytes t d n g h l (OfStyle w) q a =
     let r = OfStyle (style_settled w) in
     let f = fed_state languages r bytes in

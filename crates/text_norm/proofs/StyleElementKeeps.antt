@@ -1,6 +1,6 @@
 -- What is written of a style in its element leads the page's reading where the path's leads. The style reads the same bytes in both, but that a comment
 -- of the path is a space of the page; and HTML holds the same back in both, but where a node has ended in a `<`.
-use Rattle.std.proofs.Common.{◌≡◌, ℕ, ◌-◌, ◌&&◌, Bool, true, false, codes, length, List, [], ◌∷◌, ◌++◌, Option, Some, None, option_map, if◌then◌else◌, ◌⊎◌, inl, inr, refl, sym, ap, ap₂, ◌∙◌, subst, true≢false}
+use Rattle.std.proofs.Common.{◌≡◌, ℕ, ◌-◌, ◌&&◌, Bool, true, false, codes, length, List, [], ◌∷◌, ◌++◌, Option, Some, None, option_map, inl, inr, refl, sym, ap, ap₂, ◌∙◌, subst, true≢false}
 use Rattle.std.proofs.lemmas.List.{append-nil, append_assoc}
 use Rattle.std.proofs.lemmas.List.Folds.{list_all-append}
 use Rattle.std.specs.Char.{is_ascii_alphabetic}
@@ -22,23 +22,23 @@ use Rattle.css_lexer.specs.declared.class.StyleClass.{StyleClass}
 use Rattle.css_lexer.specs.declared.class.StyleClass.TheVariants as class
 use Rattle.place_core.proofs.Readings.{over-append}
 use Rattle.place_core.specs.page.Classes.{Class, White, Solidus, LessThan, GreaterThan, Letter, class_of}
-use Rattle.place_core.specs.page.Contents.{content_at_cut, content_ends, emits_content_cut, emits_end_name, emits_in_content, emits_less, emits_loose, is_name_of, may_be_name_of, next_end_name, next_in_content, next_less, next_loose, pending_at_cut, pending_bytes}
+use Rattle.place_core.specs.page.Contents.{content_at_cut, emits_content_cut, emits_end_name, emits_in_content, emits_less, emits_loose, is_name_of, may_be_name_of, next_end_name, next_in_content, next_less, next_loose, pending_at_cut, pending_bytes}
 use Rattle.place_core.specs.page.Events.{LexEvent, EndTagBegins, TagEnds, tag_name_bytes, told_in_style}
 use Rattle.place_core.specs.page.Html.{byte_over}
 use Rattle.place_core.specs.page.References.{Closed}
 use Rattle.place_core.specs.page.States.{BeforeAttributeName, Config, InContent, InLanguage, LessAtCut, Nothing, Page, Pending, PendingBang, PendingBangDash, PendingLess, PendingName, SelfClosingStartTag, Text, config}
-use Rattle.place_core.specs.page.Tags.{CutRefusal, OfKind, OfStyle, OfUrl, StatesAlike, ValueState, emits_fed, end_tag, fed_state, feed_bytes, language_feeding, languages, refuses_in_value, style_code, style_cut}
-use Rattle.place_core.specs.place.Errors.{PathCause, at_hand, cause_back, content_byte_error, content_end_cut_error, cut_cause, end_name_error, fed_error, first_cause, less_error, loose_byte_error, pending_error, split_error}
+use Rattle.place_core.specs.page.Tags.{OfKind, OfStyle, OfUrl, StatesAlike, ValueState, emits_fed, end_tag, fed_state, language_feeding, languages, refuses_in_value, style_code, style_cut, OfScript}
+use Rattle.place_core.specs.place.Errors.{at_hand, cause_back, content_byte_error, content_end_cut_error, cut_cause, end_name_error, fed_error, first_cause, less_error, loose_byte_error, pending_error}
 use Rattle.place_core.specs.declared.code.Code.{Code}
 use Rattle.place_core.specs.declared.element.Element.{Element}
 use Rattle.text_norm.proofs.LanguagesKeep.{languages-keep}
 use Rattle.text_norm.proofs.Places.{is_less, no}
 use Rattle.text_norm.proofs.Runs.{on}
-use Rattle.text_norm.proofs.StyleWaits.{NoStars, OpensOrNot, MayOpen, comment-bytes, comment-tells, end-tag-no-stars, fed-style, is_bad, is_comment, is_star, less-behind, less-class, letter-alphabetic, letters-behind, no-comment, no-comments, opens-or-not, solidus-class, html-solidus, solidus-out, space-behind, stays-sound, style_behind_bytes, style_writing, waits, waits-byte, waits-bytes, word-behind-letter}
+use Rattle.text_norm.proofs.StyleWaits.{NoStars, OpensOrNot, MayOpen, comment-bytes, comment-tells, end-tag-no-stars, fed-style, is_bad, is_comment, is_star, less-behind, less-class, letter-alphabetic, no-comment, no-comments, opens-or-not, solidus-class, html-solidus, solidus-out, space-behind, stays-sound, style_behind_bytes, style_writing, waits, waits-byte, waits-bytes, word-behind-letter}
 use Rattle.text_norm.proofs.TextKeeps.{class_less, class_solidus}
 use Rattle.text_norm.proofs.ValuesKeep.{both-none}
-use Rattle.text_norm.specs.Standing.{ComesToNothing, EndTagBegun, MayGoOn, PendingSolidus, StandsAtStyle, StandsInLanguage, StandsInStyleElement, TextStands, behind_space, in_element, page}
-use Rattle.text_norm.specs.Written.{cut_out, end_tag_out, language_content_out, language_cut_out, language_less_out, language_loose_out, language_name_out, language_out, released_out}
+use Rattle.text_norm.specs.Standing.{ComesToNothing, EndTagBegun, MayGoOn, StandsAtStyle, StandsInLanguage, StandsInStyleElement, TextStands, behind_space, in_element, page}
+use Rattle.text_norm.specs.Written.{cut_out, end_tag_out, language_content_out, language_cut_out, language_less_out, language_loose_out, language_name_out, released_out}
 use Rattle.url_lexer.specs.States.{Url}
 
 abbrev pub element_at : Element → ValueState → Pending → List LexEvent → Config ValueState
@@ -176,6 +176,7 @@ spaced-by : (e : Element) (s : Style Url) (v : ValueState) (u : List LexEvent) (
     → element_at e (languages.feed v 32) Nothing (languages.emits v 32 u) ≡ behind_space e (told_in_style (blank_once k []) (told_in_style (style_emits urls s 47 []) t))
 spaced-by e s (OfKind k) u j t a q n f = absurd a
 spaced-by e s (OfUrl z) u j t a q n f = absurd a
+spaced-by e s (OfScript z) u j t a q n f = absurd a
 spaced-by e s (OfStyle r) u j t a q n f =
     let p = space-behind s r j t a n f in
     ap₂ (λ (z : Style Url) (y : List LexEvent). element_at e (OfStyle z) Nothing y) p.0 (ap (λ (y : List LexEvent). told_in_style (style_emits urls r 32 []) y) q ∙ p.1)
@@ -672,6 +673,7 @@ in-language e (OfStyle s) PendingBang c b t d k x l = absurd l.0
 in-language e (OfStyle s) PendingBangDash c b t d k x l = absurd l.0
 in-language e (OfKind j) h c b t d k x l = absurd l
 in-language e (OfUrl u) h c b t d k x l = absurd l
+in-language e (OfScript s) h c b t d k x l = absurd l
 
 -- The end of a node.
 nothing-cut : (held : Pending) (s : Style Url) → ComesToNothing Nothing held s → ComesToNothing Nothing held (style_after_cut urls s)
@@ -810,6 +812,7 @@ cut-language e (OfStyle s) PendingBang t d x m l = absurd l.0
 cut-language e (OfStyle s) PendingBangDash t d x m l = absurd l.0
 cut-language e (OfKind j) h t d x m l = absurd l
 cut-language e (OfUrl u) h t d x m l = absurd l
+cut-language e (OfScript s) h t d x m l = absurd l
 
 -- Where a style begins.
 pub style-begins : (e : Element) (t : List LexEvent) (d : Config ValueState) → d ≡ config (in_element e (OfStyle (Out (Between false))) Nothing) t → StandsInLanguage languages e (OfStyle (Out (Between false))) Nothing t d

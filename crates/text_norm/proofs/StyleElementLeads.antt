@@ -1,8 +1,7 @@
 -- What a chain promises in the element of a style leads the page's reading of bytes alone beside its reading with marks, and tells what fills the mark.
-use Rattle.std.proofs.Common.{◌≡◌, ℕ, ◌==◌, Bool, true, false, List, [], ◌∷◌, None, ◌⊎◌, inl, inr, refl, sym, ap, ap₂, ◌∙◌, subst, true≢false}
+use Rattle.std.proofs.Common.{◌≡◌, ℕ, ◌==◌, Bool, true, false, List, [], ◌∷◌, None, ◌⊎◌, inl, inr, refl, sym, ap, ap₂, ◌∙◌, subst}
 use Rattle.std.specs.List.{list_any}
 use Rattle.css_lexer.specs.Alike.{StylesAlike}
-use Rattle.css_lexer.specs.Classes.{style_class}
 use Rattle.css_lexer.specs.Escapes.{NoEscape}
 use Rattle.css_lexer.specs.Paths.{has_mark, style_after_hole, style_behind, style_emits_settled, style_settled}
 use Rattle.css_lexer.specs.Plain.{BeginsApart}
@@ -17,11 +16,9 @@ use Rattle.place_core.specs.page.Classes.{class_of}
 use Rattle.place_core.specs.page.Contents.{pending_bytes}
 use Rattle.place_core.specs.page.Events.{LexEvent, told_in_style}
 use Rattle.place_core.specs.page.Html.{read}
-use Rattle.place_core.specs.page.Plain.{begins_with_solidus}
 use Rattle.place_core.specs.page.Shape.{marked}
-use Rattle.place_core.specs.page.States.{Config, Content, InContent, InLanguage, LessAtCut, LexState, Nothing, Page, Pending, PendingBang, PendingBangDash, PendingLess, PendingName, config}
-use Rattle.place_core.specs.page.Tags.{DoubleQuoted, OfKind, OfStyle, OfUrl, StatesAlike, ValueOf, ValueState, fed_state, languages, mark_if}
-use Rattle.place_core.specs.place.UrlParts.{parts_of}
+use Rattle.place_core.specs.page.States.{Config, InContent, InLanguage, LessAtCut, LexState, Nothing, Page, Pending, PendingBang, PendingBangDash, PendingLess, PendingName, config}
+use Rattle.place_core.specs.page.Tags.{DoubleQuoted, OfKind, OfStyle, OfUrl, StatesAlike, ValueOf, ValueState, fed_state, languages, mark_if, OfScript}
 use Rattle.place_core.specs.declared.element.Element.{Element}
 use Rattle.place_core.specs.declared.element.Element.TheVariants as element
 use Rattle.place_core.specs.declared.kind.Kind.TheVariants as kind
@@ -35,8 +32,8 @@ use Rattle.text_norm.proofs.StyleHoles.{IsCode}
 use Rattle.text_norm.proofs.StyleLeads.{CodeFills, IsCodeState, IsStyleFilled, code-filled, not-cut, solidus-path, string-filled, url-filled}
 use Rattle.text_norm.proofs.StyleRaw.{IsJoined, OutBeside, StyleBeside, read-fed, read-told, style_fed, style_told}
 use Rattle.text_norm.specs.Fillings.{Filling, Fills, value_fillings}
-use Rattle.text_norm.specs.HoleLaws.{IsBackBy, IsBackInElement, IsBackInElementUrl, is_less_than}
-use Rattle.text_norm.specs.Standing.{ComesToNothing, StandsInStyleElement, TextStands, in_element}
+use Rattle.text_norm.specs.HoleLaws.{IsBackBy, IsBackInElement, is_less_than}
+use Rattle.text_norm.specs.Standing.{ComesToNothing, StandsInStyleElement, in_element}
 use Rattle.url_lexer.specs.Events.{UrlEvent}
 use Rattle.url_lexer.specs.Refusals.{refuses_hole_in}
 use Rattle.url_lexer.specs.States.{Url}
@@ -339,8 +336,10 @@ lead-by : (e : Element) (v : Style Url) (text bytes : List ℕ) → IsStyleFille
     → StandsRaw (in_style_element e (style_after_hole urls v)) (value_fillings (ValueOf (OfStyle v)) DoubleQuoted text vs) (marked bytes m) (read Page bytes d)
 lead-by e v text bytes k h vs t m d settled l y at p (OfKind j) z i q a f = absurd a
 lead-by e v text bytes k h vs t m d settled l y at p (OfUrl o) z i q a f = absurd a
+lead-by e v text bytes k h vs t m d settled l y at p (OfScript o) z i q a f = absurd a
 lead-by e v text bytes k h vs t m d settled l y at p (OfStyle w) (OfKind j) i q a f = absurd f.0
 lead-by e v text bytes k h vs t m d settled l y at p (OfStyle w) (OfUrl o) i q a f = absurd f.0
+lead-by e v text bytes k h vs t m d settled l y at p (OfStyle w) (OfScript o) i q a f = absurd f.0
 lead-by e v text bytes k h vs t m d settled l y at p (OfStyle w) (OfStyle r) i q a f =
     let u = told y l.held settled.emitted in
     let own = value_fillings (ValueOf (OfStyle v)) DoubleQuoted text vs in

@@ -1,6 +1,6 @@
 -- In the element of a style: a page that is read as bytes alone, where it holds back what its reading with marks has told. It comes to the same as soon as
 -- what it holds back comes to nothing, and behind the end tag.
-use Rattle.std.proofs.Common.{◌≡◌, ℕ, ◌==◌, Bool, true, false, codes, List, [], ◌∷◌, ◌++◌, None, ◌⊎◌, inl, inr, refl, sym, ap, ap₂, ◌∙◌, subst, true≢false}
+use Rattle.std.proofs.Common.{◌≡◌, ℕ, ◌==◌, Bool, true, false, List, [], ◌∷◌, ◌++◌, None, ◌⊎◌, inl, inr, refl, sym, ap, ap₂, ◌∙◌, subst, true≢false}
 use Rattle.css_lexer.specs.Classes.{style_class}
 use Rattle.css_lexer.specs.Events.{RunByte}
 use Rattle.css_lexer.specs.States.{AfterSolidus, BehindHole, Between, Style, Out}
@@ -13,7 +13,7 @@ use Rattle.place_core.specs.page.Events.{InsideStyle, LexEvent, told_in_style}
 use Rattle.place_core.specs.page.Html.{byte_over, read}
 use Rattle.place_core.specs.page.States.{Config, InLanguage, LessAtCut, LexState, Nothing, Page, Pending, PendingBang, PendingBangDash, PendingLess, PendingName, config}
 use Rattle.place_core.specs.page.Tags.{OfStyle, ValueState, emits_fed, fed_state, languages}
-use Rattle.place_core.specs.place.Errors.{node, refusal_from}
+use Rattle.place_core.specs.place.Errors.{node, refusal_from, nothing_read}
 use Rattle.place_core.specs.declared.element.Element.{Element}
 use Rattle.text_norm.proofs.FilledMarks.{AreRaw, IsElementPending, LessIf, LessPending, RawStands, SolidusHeld, SolidusIf, SolidusPending, StandsRaw, raw-text}
 use Rattle.text_norm.proofs.StyleElementFirst.{BeginsWell, MayFollow, hole-begins, is_star_class}
@@ -182,7 +182,7 @@ held-text bytes s vs m d e r h =
 
 pub element-text : (bytes : List ℕ) (solidus less : Bool) (e : Element) (vs : List Filling) (m d to : Config ValueState)
     → (let s = in_element e (OfStyle (Out (BehindHole solidus less))) Nothing in
-    refusal_from 0 0 bytes s ≡ None → RawStands vs m to → IsElementPending s d to
+    refusal_from 0 nothing_read bytes s ≡ None → RawStands vs m to → IsElementPending s d to
     → StandsRaw (node bytes s) vs (page languages (written languages bytes s) m) (page languages (written languages bytes s) d))
 element-text [] solidus less e vs m d to n r h = record { settled = to; beside = r; pending = inr (inr (inl h)) }
 element-text (b ∷ bs) solidus less e vs m d to n r h =
@@ -192,5 +192,5 @@ element-text (b ∷ bs) solidus less e vs m d to n r h =
       settled = page languages out to;
       beside = raw-text vs out m to r;
       pending = raw-at (node (b ∷ bs) s) (page languages out d) (page languages out to)
-          (some-bytes solidus less e out d to (hole-begins solidus less e b bs 0 0 n) h);
+          (some-bytes solidus less e out d to (hole-begins solidus less e b bs 0 nothing_read n) h);
     }

@@ -17,19 +17,19 @@ use Rattle.css_lexer.specs.States.{Quote, DoubleQuote, SingleQuote, UrlWord, Spe
 use Rattle.css_lexer.specs.StaysInUrl.{StaysInUrl, UrlTakesHole, fed, form_behind}
 use Rattle.css_lexer.specs.Steps.{StyleReading, feed_style, read_style, style_emits, style_reading}
 use Rattle.css_lexer.specs.Urls.{url_refusal, urls}
-use Rattle.css_lexer.specs.declared.class.StyleClass.TheVariants as class
 use Rattle.css_lexer.proofs.RawReading.{failsafe-stays}
 use Rattle.css_step.specs.StyleScans.{style_hole_error}
 use Rattle.html_step.specs.Holes.{css_chain, last_of}
+use Rattle.js_lexer.specs.Events.{ScriptEvent}
 use Rattle.page_datum.specs.Data.{Data}
 use Rattle.page_datum.specs.Printed.{printed}
 use Rattle.place_core.specs.page.Classes.{Class, Ampersand, class_of, is_equals_sign}
-use Rattle.place_core.specs.page.Events.{LexEvent, InsideStyle, ValueByte, told_in_style, value_bytes}
+use Rattle.place_core.specs.page.Events.{LexEvent, InsideStyle, ValueByte, told_in_style, value_bytes, InsideScript, told_in_script}
 use Rattle.place_core.specs.page.Html.{emits_value, ends_value, next_value, read}
 use Rattle.place_core.specs.page.Plain.{HasBytes, IsPlain, IsPlainInState, in_plain_value}
 use Rattle.place_core.specs.page.References.{Form, Begun, Named, Hashed, Decimal, HexMark, Hexadecimal, Reference, Closed, Open, ReferenceRow, ReferenceStep, Grows, Closes, Breaks, flushed, flushed_name, meaning, plain_bytes, reference_turned, settled, short_names, turn, turn_bytes, whole_in}
 use Rattle.place_core.specs.page.States.{AttributeValue, BeforeAttributeValue, Config, InContent, InLanguage, LexState, Page, config}
-use Rattle.place_core.specs.page.Tags.{DoubleQuoted, LeadsPlainInStyle, OfKind, OfStyle, OfUrl, Quoting, SingleQuoted, Tag, Unquoted, Value, ValueOf, ValueState, emitted_bytes, emitted_end, emits_state, end_tag, ends_state, languages, with_bytes}
+use Rattle.place_core.specs.page.Tags.{DoubleQuoted, LeadsPlainInStyle, OfKind, OfStyle, OfUrl, Quoting, SingleQuoted, Tag, Unquoted, Value, ValueOf, ValueState, emitted_bytes, emitted_end, emits_state, end_tag, ends_state, languages, with_bytes, OfScript}
 use Rattle.place_core.specs.place.StatePlaces.{quotes_at}
 use Rattle.place_core.specs.place.StyleParts.{style_place}
 use Rattle.place_core.specs.place.UrlParts.{parts_of}
@@ -84,15 +84,21 @@ style-told : (es : List (StyleEvent UrlEvent)) (t : List LexEvent) → t ≢ [] 
 style-told [] t n = n
 style-told (e ∷ es) t n = cons-some (InsideStyle e) (told_in_style es t)
 
+script-told : (es : List ScriptEvent) (t : List LexEvent) → t ≢ [] → told_in_script es t ≢ []
+script-told [] t n = n
+script-told (e ∷ es) t n = cons-some (InsideScript e) (told_in_script es t)
+
 state-told : (v : ValueState) (b : ℕ) (t : List LexEvent) → t ≢ [] → emits_state v b t ≢ []
 state-told (OfKind k) b t n = cons-some _ t
 state-told (OfUrl u) b t n = cons-some _ t
 state-told (OfStyle s) b t n = style-told _ t n
+state-told (OfScript s) b t n = script-told _ t n
 
 end-told : (v : ValueState) (t : List LexEvent) → t ≢ [] → ends_state v t ≢ []
 end-told (OfKind k) t n = n
 end-told (OfUrl u) t n = cons-some _ t
 end-told (OfStyle s) t n = style-told _ t n
+end-told (OfScript s) t n = script-told _ t n
 
 told-emits : EmitsAlike ValueState languages Any Told
 told-emits = record {

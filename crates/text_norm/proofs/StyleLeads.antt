@@ -21,7 +21,7 @@ use Rattle.place_core.specs.page.Events.{InsideStyle, LexEvent, Mark, told_in_st
 use Rattle.place_core.specs.page.Html.{read}
 use Rattle.place_core.specs.page.Shape.{marked}
 use Rattle.place_core.specs.page.States.{AttributeValue, BeforeAttributeValue, Config, LexState, Page, config}
-use Rattle.place_core.specs.page.Tags.{DoubleQuoted, OfKind, OfStyle, OfUrl, Quoting, SingleQuoted, Tag, Unquoted, Value, ValueOf, ValueState, languages, mark_if}
+use Rattle.place_core.specs.page.Tags.{DoubleQuoted, OfKind, OfStyle, OfUrl, Quoting, SingleQuoted, Tag, Unquoted, Value, ValueOf, ValueState, languages, mark_if, OfScript}
 use Rattle.place_core.specs.place.StatePlaces.{quotes_at}
 use Rattle.place_core.specs.place.UrlParts.{parts_of}
 use Rattle.place_core.specs.declared.kind.Kind.TheVariants as kind
@@ -710,6 +710,7 @@ style-raw : (q : Quoting) (tag : Tag) (v : Style Url) (text bytes bs : List ℕ)
     (marked bytes (config (in_style q tag w) t)) (read Page bytes d)
 style-raw q tag v text bytes bs reads k vs t w (OfKind j) d e a i b p = absurd b.0
 style-raw q tag v text bytes bs reads k vs t w (OfUrl u) d e a i b p = absurd b.0
+style-raw q tag v text bytes bs reads k vs t w (OfScript r) d e a i b p = absurd b.0
 style-raw q tag v text bytes bs reads k vs t w (OfStyle r) d e a i b p =
     style-led q tag v text bytes bs reads k vs t w r e.emitted d a b.0 b.1 (stands-there q tag v r e.emitted d e i p)
 
@@ -720,6 +721,7 @@ style-stands : (q : Quoting) (tag : Tag) (v : Style Url) (text bytes bs : List �
     → StandsRaw (in_style q tag (style_after_hole urls v)) (value_fillings (ValueOf (OfStyle v)) q text vs) (marked bytes m) (read Page bytes d)
 style-stands q tag v text bytes bs reads k vs t (OfKind j) m d a e r = absurd a
 style-stands q tag v text bytes bs reads k vs t (OfUrl u) m d a e r = absurd a
+style-stands q tag v text bytes bs reads k vs t (OfScript w) m d a e r = absurd a
 style-stands q tag v text bytes bs reads k vs t (OfStyle w) m d a e r =
     let own = value_fillings (ValueOf (OfStyle v)) q text vs in
     let h = subst (λ (z : Config ValueState). RawStands vs z r.settled) e r.beside in

@@ -15,10 +15,10 @@ use Rattle.css_lexer.specs.Escapes.{StyleEscape, NoEscape, AfterBackslash, HexDi
 use Rattle.css_lexer.specs.Events.{StyleEvent}
 use Rattle.css_lexer.specs.Laws.{StyleLaws}
 use Rattle.css_lexer.specs.Refusals.{refuses_bare, refuses_ended, refuses_fresh, refuses_in_url, refuses_quoted, style_refuses, style_refuses_class}
-use Rattle.css_lexer.specs.States.{Quote, DoubleQuote, SingleQuote, UrlWord, SpellsUrl, Outside, Between, AfterLessThan, Word, AfterSolidus, Comment, InString, BadUrl, BehindHole, SplitWord, SolidusAtCut, LessThanAtCut, StarAtCut, UrlForm, Fresh, Bare, Quoted, Ended, Style, Out, InUrl}
+use Rattle.css_lexer.specs.States.{Quote, DoubleQuote, SingleQuote, UrlWord, SpellsUrl, Between, AfterLessThan, Word, AfterSolidus, Comment, InString, BadUrl, BehindHole, SplitWord, SolidusAtCut, LessThanAtCut, StarAtCut, UrlForm, Fresh, Bare, Quoted, Ended, Style, Out, InUrl}
 use Rattle.css_lexer.specs.Steps.{blank_once, feed_style, next_bad, next_bare, next_between, next_ended, next_fresh, next_in_url, next_quoted, next_solidus, next_split, next_style_comment, next_style_string, next_style_word, style_emits, style_next, StyleReading, style_reading}
 use Rattle.css_lexer.specs.Urls.{urls}
-use Rattle.css_lexer.specs.Written.{style_written, written_behind_solidus, written_byte, written_class, written_in_word}
+use Rattle.css_lexer.specs.Written.{style_written, written_behind_solidus, written_byte, written_in_word}
 use Rattle.css_lexer.specs.WrittenLaws.{Stands, StyleWrittenLaws}
 use Rattle.css_lexer.specs.declared.class.StyleClass.{StyleClass}
 use Rattle.css_lexer.specs.declared.class.StyleClass.TheVariants as class

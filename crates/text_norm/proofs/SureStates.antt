@@ -1,4 +1,4 @@
--- A path whose values have met no hole in a URL or a style, read in two ways: what its texts tell stays filled.
+-- A path whose values have met no hole in a URL, a style or a script, read in two ways: what its texts tell stays filled.
 use Rattle.std.proofs.Common.{◌≡◌, ℕ, Bool, true, false, List, [], ◌∷◌, refl, sym, ap, subst}
 use Rattle.css_lexer.specs.Classes.{style_class}
 use Rattle.css_lexer.specs.Escapes.{StyleEscape, NoEscape, AfterBackslash, HexDigits, AfterReturn, is_taken_in_style}
@@ -8,10 +8,12 @@ use Rattle.css_lexer.specs.Steps.{next_bad, next_bare, next_between, next_ended,
 use Rattle.css_lexer.specs.Urls.{urls}
 use Rattle.css_lexer.specs.declared.class.StyleClass.{StyleClass}
 use Rattle.css_lexer.specs.declared.class.StyleClass.TheVariants as class
-use Rattle.place_core.specs.page.Events.{LexEvent, ValueByte, told_in_style}
+use Rattle.js_lexer.specs.Events.{ScriptEvent}
+use Rattle.js_lexer.specs.Feeding.{script_emits, script_ends}
+use Rattle.place_core.specs.page.Events.{InsideScript, LexEvent, ValueByte, told_in_script, told_in_style}
 use Rattle.place_core.specs.page.Paths.{read_node}
 use Rattle.place_core.specs.page.States.{Config, LexState, config}
-use Rattle.place_core.specs.page.Tags.{ValueState, OfKind, OfUrl, OfStyle, emits_state, ends_state, feed_value, languages, value_after_cut, value_start}
+use Rattle.place_core.specs.page.Tags.{ValueState, OfKind, OfUrl, OfStyle, OfScript, emits_state, ends_state, feed_value, languages, value_after_cut, value_start}
 use Rattle.place_core.specs.declared.kind.Kind.{Kind}
 use Rattle.place_core.specs.declared.kind.Kind.TheVariants as kind
 use Rattle.text_norm.proofs.EmittedAlike.{EmitsAlike, IsOwn, node-alike}
@@ -31,6 +33,7 @@ SureBeside (OfKind k) w = w ≡ OfKind k
 SureBeside (OfUrl u) (OfUrl w) = SchemesSame u w
 SureBeside (OfUrl u) w = ⊥
 SureBeside (OfStyle s) w = (w ≡ OfStyle s) × IsBound s
+SureBeside (OfScript s) w = w ≡ OfScript s
 
 pub bound-same : (z : Url) → z.free ≡ false → SchemesSame z z
 bound-same z h = record { scheme = refl; bound = h }
@@ -156,12 +159,14 @@ sure-feeds : (v w : ValueState) (b : ℕ) → SureBeside v w → SureBeside (fee
 sure-feeds (OfKind k) w b a = ap (λ (z : ValueState). feed_value z b) a
 sure-feeds (OfUrl u) (OfUrl w) b a = fed-same (b ∷ []) u w a
 sure-feeds (OfUrl u) _ b a = absurd a
+sure-feeds (OfScript s) w b a = ap (λ (z : ValueState). feed_value z b) a
 sure-feeds (OfStyle s) w b a = (ap (λ (z : ValueState). feed_value z b) a.0, bound-next s (style_class b) b a.1)
 
 sure-cuts : (v w : ValueState) → SureBeside v w → SureBeside (value_after_cut v) (value_after_cut w)
 sure-cuts (OfKind k) w a = ap value_after_cut a
 sure-cuts (OfUrl u) (OfUrl w) a = record { scheme = a.scheme; bound = a.bound }
 sure-cuts (OfUrl u) _ a = absurd a
+sure-cuts (OfScript s) w a = ap value_after_cut a
 sure-cuts (OfStyle s) w a = (ap value_after_cut a.0, bound-cut s a.1)
 
 pub sure-fed : IsFedAlike ValueState languages SureBeside
@@ -180,6 +185,12 @@ module _ (F : List LexEvent → List LexEvent → Type 0) (keep : (e : LexEvent)
   style-end (Out s) t u h f = out-ends F keep ends s t u f
   style-end (InUrl g z) t u h f = ends z z t u (bound-same z h) f
 
+-- what a script tells, likewise
+module _ (F : List LexEvent → List LexEvent → Type 0) (keep : (e : LexEvent) (t u : List LexEvent) → IsOwn e → F t u → F (e ∷ t) (e ∷ u)) where
+  pub script-told : (es : List ScriptEvent) (t u : List LexEvent) → F t u → F (told_in_script es t) (told_in_script es u)
+  script-told [] t u f = f
+  script-told (e ∷ es) t u f = keep (InsideScript e) (told_in_script es t) (told_in_script es u) tt (script-told es t u f)
+
 sure-ends : (vs : List Filling) (v w : ValueState) (t u : List LexEvent) → SureBeside v w → Fills t vs u → Fills (ends_state v t) vs (ends_state w u)
 sure-ends vs (OfKind k) w t u a f = subst (λ (z : ValueState). Fills t vs (ends_state z u)) (sym a) f
 sure-ends vs (OfUrl z) (OfUrl w) t u a f = fills-scheme vs z w t u a f
@@ -187,6 +198,9 @@ sure-ends vs (OfUrl z) _ t u a f = absurd a
 sure-ends vs (OfStyle s) w t u a f =
     subst (λ (z : ValueState). Fills (ends_state (OfStyle s) t) vs (ends_state z u)) (sym a.0)
     (style-end (λ t u. Fills t vs u) (fills-keep vs) (fills-style-scheme vs) s t u a.1 f)
+sure-ends vs (OfScript s) w t u a f =
+    subst (λ (z : ValueState). Fills (ends_state (OfScript s) t) vs (ends_state z u)) (sym a)
+    (script-told (λ t u. Fills t vs u) (fills-keep vs) (script_ends s []) t u f)
 
 sure-byte : (vs : List Filling) (v w : ValueState) (b : ℕ) (t u : List LexEvent) → SureBeside v w → Fills t vs u
     → Fills (emits_state v b t) vs (emits_state w b u)
@@ -197,6 +211,9 @@ sure-byte vs (OfUrl z) _ b t u a f = absurd a
 sure-byte vs (OfStyle s) w b t u a f =
     subst (λ (z : ValueState). Fills (emits_state (OfStyle s) b t) vs (emits_state z b u)) (sym a.0)
     (style-byte (λ t u. Fills t vs u) (fills-keep vs) (fills-style-scheme vs) s (style_class b) b t u a.1 f)
+sure-byte vs (OfScript s) w b t u a f =
+    subst (λ (z : ValueState). Fills (emits_state (OfScript s) b t) vs (emits_state z b u)) (sym a)
+    (script-told (λ t u. Fills t vs u) (fills-keep vs) (script_emits s b []) t u f)
 
 sure-emits : (vs : List Filling) → EmitsAlike ValueState languages SureBeside (λ t u. Fills t vs u)
 sure-emits vs = record { fed = sure-fed; emits = sure-byte vs; ends = sure-ends vs }

@@ -5,7 +5,7 @@ use Rattle.place_core.specs.page.Classes.{Class, White, Solidus, LessThan, Great
 use Rattle.place_core.specs.page.Contents.{is_name_of, may_be_name_of, pending_bytes}
 use Rattle.place_core.specs.page.States.{Pending, Nothing, PendingLess, LessAtCut, PendingName, PendingBang, PendingBangDash}
 use Rattle.place_core.specs.page.Tags.{feed_bytes}
-use Rattle.place_core.specs.place.Errors.{at_hand, cause_back, content_byte_error, end_name_error, fed_error, less_error, loose_byte_error, pending_error, released_error}
+use Rattle.place_core.specs.place.Errors.{cause_back, content_byte_error, end_name_error, fed_error, less_error, loose_byte_error, pending_error, released_error}
 use Rattle.place_core.specs.declared.element.Element.{Element}
 use Rattle.html_step.proofs.ContentsAlike.{pending-behind, released-beside}
 use Rattle.html_step.proofs.FedAlike.{FedBeside, cause-none, first-caused}

@@ -6,7 +6,7 @@ use Rattle.place_core.specs.page.Html.{read, start}
 use Rattle.place_core.specs.page.Paths.{Hole, Symbol, Written, at_hole, read_node}
 use Rattle.place_core.specs.page.References.{Closed, Reference}
 use Rattle.place_core.specs.page.States.{AfterAttributeName, AfterAttributeValue, AttributeValue, BeforeAttributeName, BeforeAttributeValue, Bytes, Characters, Config, Content, InContent, InLanguage, LexState, Nothing, Page, Pending, SelfClosingStartTag, Text, WholeAttributeName, config}
-use Rattle.place_core.specs.page.Tags.{Quoting, Tag, Deciding, Unquoted, Value, ValueOf, ValueState, OfKind, OfUrl, OfStyle, attribute_value_of, languages, without_value}
+use Rattle.place_core.specs.page.Tags.{Quoting, Tag, Deciding, Unquoted, Value, ValueOf, ValueState, OfKind, OfUrl, OfStyle, OfScript, attribute_value_of, languages, without_value}
 use Rattle.place_core.specs.place.Errors.{node}
 use Rattle.place_core.specs.declared.kind.Kind.TheVariants as kind
 use Rattle.san_html.specs.ReadBack.{as_name, as_unquoted, read_as_text, read_value}
@@ -17,8 +17,8 @@ abbrev pub value_text : Quoting → List ℕ → List ℕ
 value_text Unquoted text = as_unquoted text
 value_text q text = read_as_text text
 
--- A hole emits its text in the place of a mark. A hole in a comment emits nothing. In a data block, in a URL and in a style the text does not
--- say which bytes stand there: of a path with a hole in one no law below speaks.
+-- A hole emits its text in the place of a mark. A hole in a comment emits nothing. In a data block, in a URL, in a style and in a script the
+-- text does not say which bytes stand there: of a path with a hole in one no law below speaks.
 abbrev pub name_filled : Tag → List ℕ → List LexEvent → Config ValueState
 name_filled tag text t = config (WholeAttributeName tag kind.Plain) (attribute_name_bytes (as_name text) (AttributeBegins ∷ t))
 
@@ -46,11 +46,12 @@ holes_in (Written bytes ∷ symbols) = holes_in symbols
 holes_in (Hole ∷ symbols) = suc (holes_in symbols)
 
 -- The text of a value says which bytes stand in its hole: it stands neither in a data block, where references may be written otherwise, nor in a URL,
--- where percent triples may, nor in a style, of a value or of an element, where escapes may.
+-- where percent triples may, nor in a style, of a value or of an element, nor in a script, where escapes may.
 abbrev pub IsSaidInValue : Value ValueState → Type 0
 IsSaidInValue (ValueOf (OfKind k)) = ⊤
 IsSaidInValue (ValueOf (OfUrl u)) = ⊥
 IsSaidInValue (ValueOf (OfStyle s)) = ⊥
+IsSaidInValue (ValueOf (OfScript s)) = ⊥
 IsSaidInValue (Deciding k before) = ⊤
 
 abbrev pub IsSaidByText : LexState ValueState → Type 0
@@ -71,7 +72,7 @@ abbrev pub FilledPathsAreReadings : Type 0
 FilledPathsAreReadings = (symbols : List Symbol) (texts : List (List ℕ)) (page : List ℕ) → holes_in symbols ≡ length texts
     → AreSaidByTexts symbols start.at → FillsPath symbols texts page → read Page page start ≡ read_filled symbols texts start
 
--- where a mark is filled, and by one run: neither in a data block, a URL or a style, nor where nothing fills it
+-- where a mark is filled, and by one run: neither in a data block, a URL, a style or a script, nor where nothing fills it
 abbrev pub TakesContent : Content ValueState → Pending → Type 0
 TakesContent (Characters r) Nothing = ⊤
 TakesContent y h = ⊥

@@ -1,7 +1,7 @@
 -- The page read as bytes alone, beside its path read with a mark for each value. The page emits what the path emits, but in the place of
 -- each mark it emits a run of events that fits the mark. Which runs fit depends on where the mark stands, and each language of values says
 -- it. And where a hole is the first of a URL, the page tells at the URL's end which scheme data has chosen; and in a style a blank of the
--- path may be the one in which the value before it ended.
+-- path may be the one in which the value before it ended. A script tells all that is not a value's as on the path.
 use Rattle.std.specs.Prelude.{⊤, ◌≡◌, ◌⊎◌, ℕ, Bool, true, false, List, [], ◌∷◌, ◌++◌, if◌then◌else◌}
 use Rattle.css_lexer.specs.Escapes.{NoEscape}
 use Rattle.css_lexer.specs.Events.{RunBlank, InsideUrl}
@@ -11,12 +11,19 @@ use Rattle.css_lexer.specs.Sanitizers.{style_as_text, unless_unsafe}
 use Rattle.css_lexer.specs.States.{Quote, Between, InString, Style, Out, InUrl}
 use Rattle.css_lexer.specs.Unescaping.{style_escapes_undone}
 use Rattle.css_lexer.specs.Urls.{urls}
-use Rattle.place_core.specs.page.Events.{LexEvent, InsideStyle, Mark, ValueScheme, attribute_name_bytes, block_bytes, event_text_bytes, value_bytes}
+use Rattle.js_lexer.specs.Holes.{settled_at, script_has_mark}
+use Rattle.js_lexer.specs.BackLaws.{in_string, in_regexp}
+use Rattle.js_lexer.specs.Plain.{literal_events, IsPlainInScript, IsRegexpBack, IsStringBack}
+use Rattle.js_lexer.specs.States.{At, ScriptState, no_trail}
+use Rattle.js_lexer.specs.States as script
+use Rattle.page_datum.specs.Data.{Data}
+use Rattle.page_datum.specs.Printed.{printed}
+use Rattle.place_core.specs.page.Events.{LexEvent, InsideStyle, Mark, ValueScheme, attribute_name_bytes, block_bytes, event_text_bytes, told_in_script, value_bytes}
 use Rattle.place_core.specs.page.Html.{read, start}
 use Rattle.place_core.specs.page.Paths.{Hole, Symbol, Written, at_hole, read_path}
 use Rattle.place_core.specs.page.References.{Closed, undone}
 use Rattle.place_core.specs.page.States.{AfterAttributeName, AfterAttributeValue, AttributeValue, BeforeAttributeName, BeforeAttributeValue, Bytes, Characters, InContent, InLanguage, LexState, Nothing, Page, SelfClosingStartTag, Text}
-use Rattle.place_core.specs.page.Tags.{Quoting, Deciding, DoubleQuoted, Unquoted, Value, ValueOf, ValueState, OfKind, OfUrl, OfStyle, attribute_value_of, emitted_bytes, languages}
+use Rattle.place_core.specs.page.Tags.{Quoting, Deciding, DoubleQuoted, Unquoted, Value, ValueOf, ValueState, OfKind, OfUrl, OfStyle, OfScript, attribute_value_of, emitted_bytes, languages}
 use Rattle.place_core.specs.place.Errors.{node}
 use Rattle.san_html.specs.ReadBack.{as_name, as_unquoted, read_as_text}
 use Rattle.san_html.specs.Sanitizers.{failsafe}
@@ -28,8 +35,9 @@ use Rattle.url_lexer.specs.Schemes.{is_safe_scheme}
 use Rattle.url_lexer.specs.States.{Url}
 
 -- where a mark stands: in text, a title or a textarea; in a data block; in a value between quotes, or without them; as the name of an
--- attribute; in a value that is a URL, by how it is written and the part of the URL; or in a value that is a style: in words and plain text, in
--- a string of it, by its quotes, or in a URL of it. In the element of a style a value stands as in a style between quotes: it may be empty.
+-- attribute; in a value that is a URL, by how it is written and the part of the URL; in a value that is a style: in words and plain text, in
+-- a string of it, by its quotes, or in a URL of it; or in a value that is a script: in its code, in a string of it, between quotation marks (true)
+-- or apostrophes (false), or in a regular expression of it. In the element of a style a value stands as in a style between quotes: it may be empty.
 pub data MarkSite : Type 0 where
   TextSite : MarkSite
   BlockSite : MarkSite
@@ -40,6 +48,9 @@ pub data MarkSite : Type 0 where
   CodeSite : Quoting → MarkSite
   StringSite : Quoting → Quote → MarkSite
   StyleUrlSite : Quoting → UrlPart → MarkSite
+  ScriptCodeSite : MarkSite
+  ScriptStringSite : Quoting → Bool → MarkSite
+  ScriptRegexpSite : MarkSite
 
 -- what fills a mark: the text of a value, and where the mark stands
 pub record Filling : Type 0 where
@@ -126,8 +137,32 @@ pub record IsStyleUrlRun (q : Quoting) (part : UrlPart) (text : List ℕ) (run :
   pub allowed : ArePlainBytes part (url_bytes q bytes)
   pub reads : ReadsBack part text bytes
 
+-- In a script: what it tells of bytes, from this state.
+abbrev pub script_run : ScriptState → List ℕ → List LexEvent
+script_run s bytes = emitted_bytes languages (ValueOf (OfScript s)) bytes []
+
+-- In code it tells the tokens of one literal, of a datum that is printed as the text.
+pub record IsLiteralRun (text : List ℕ) (run : List LexEvent) : Type 0 where
+  pub datum : Data
+  pub prints : printed datum ≡ text
+  pub emitted : run ≡ told_in_script (literal_events datum []) []
+
+-- In a string and in a regular expression, bytes that are plain there, and are the text with escapes undone. The regular expression of no text is
+-- `(?:)`, and no value in a regular expression is empty.
+pub record IsScriptStringRun (q : Quoting) (quote : Bool) (text : List ℕ) (run : List LexEvent) : Type 0 where
+  pub bytes : List ℕ
+  pub emitted : run ≡ script_run (in_string quote no_trail) (url_bytes q bytes)
+  pub plain : IsPlainInScript (url_bytes q bytes) (in_string quote no_trail)
+  pub reads : IsStringBack text bytes
+
+pub record IsRegexpRun (text : List ℕ) (run : List LexEvent) : Type 0 where
+  pub bytes : List ℕ
+  pub emitted : run ≡ script_run (in_regexp no_trail) bytes
+  pub plain : IsPlainInScript bytes (in_regexp no_trail)
+  pub reads : IsRegexpBack text bytes
+
 -- Elsewhere the run is the text of the value, as bytes of the very token in which the mark stands: of a value without quotes the failsafe,
--- where the text is empty; of a name the whole name. Only in code does it matter what the page has told before it.
+-- where the text is empty; of a name the whole name. Only in the code of a style does it matter what the page has told before it.
 abbrev pub FitsAt : MarkSite → List ℕ → (before run : List LexEvent) → Type 0
 FitsAt TextSite text before run = run ≡ event_text_bytes (read_as_text text) []
 FitsAt BlockSite text before run = IsBlockRun text run
@@ -138,6 +173,9 @@ FitsAt (UrlSite q part) text before run = IsUrlRun q part text run
 FitsAt (CodeSite q) text before run = IsCodeRun q text before run
 FitsAt (StringSite q quote) text before run = IsStringRun q quote text run
 FitsAt (StyleUrlSite q part) text before run = IsStyleUrlRun q part text run
+FitsAt ScriptCodeSite text before run = IsLiteralRun text run
+FitsAt (ScriptStringSite q quote) text before run = IsScriptStringRun q quote text run
+FitsAt ScriptRegexpSite text before run = IsRegexpRun text run
 
 -- The scheme that a URL tells at its end. One that data chooses on the path is none on the page, or one that data may choose.
 abbrev pub IsChosen : ToldScheme → Type 0
@@ -162,7 +200,8 @@ HtmlAlike e f = f ≡ e
 abbrev pub Fills : List LexEvent → List Filling → List LexEvent → Type 0
 Fills path vs page = FillsBy HtmlFits HtmlAlike path vs page
 
--- The fillings along a path, the last first, by the path's own states. A hole in a comment has no mark, and so no filling, of a style too.
+-- The fillings along a path, the last first, by the path's own states. A hole in a comment has no mark, and so no filling, of a style and a
+-- script too.
 -- A mark in the type of a script, in a reference of a value, or in a title where something is pending has none either, since no value may
 -- stand there: no page fills a path with such a mark. Nor does one with a mark in a URL behind a scheme that is code, since there no run
 -- fits.
@@ -175,10 +214,20 @@ style_site q (Out (InString quote e)) = StringSite q quote
 style_site q (Out s) = CodeSite q
 style_site q (InUrl f u) = StyleUrlSite q u.part
 
+-- A slash behind which a hole stands begins a regular expression or is a token.
+abbrev pub script_site_at : Quoting → At → MarkSite
+script_site_at q (script.InString quote e) = ScriptStringSite q quote
+script_site_at q (script.InRegexp k e) = ScriptRegexpSite
+script_site_at q a = ScriptCodeSite
+
+abbrev pub script_site : Quoting → ScriptState → MarkSite
+script_site q s = script_site_at q (settled_at s.at)
+
 abbrev pub value_fillings : Value ValueState → Quoting → List ℕ → List Filling → List Filling
 value_fillings (ValueOf (OfKind k)) q text vs = filling (quoted_site q) text ∷ vs
 value_fillings (ValueOf (OfUrl u)) q text vs = filling (UrlSite q u.part) text ∷ vs
 value_fillings (ValueOf (OfStyle s)) q text vs = if styles.has_mark s then filling (style_site q s) text ∷ vs else vs
+value_fillings (ValueOf (OfScript s)) q text vs = if script_has_mark s then filling (script_site q s) text ∷ vs else vs
 value_fillings (Deciding k before) q text vs = vs
 
 abbrev pub fillings_at : LexState ValueState → List ℕ → List Filling → List Filling

@@ -13,7 +13,7 @@ use Rattle.place_core.specs.declared.element.Element.{Element}
 use Rattle.place_core.specs.declared.element.Element.TheVariants as element
 use Rattle.place_core.specs.declared.place.Place.{Place}
 use Rattle.place_core.specs.declared.place.Place.TheVariants as place
-use Rattle.html_scan.specs.Scans.{Scan, At, AfterLess, AfterLessSolidus, InDeclaration, InTagName, InAttributeName, InCommentEnd, InContentEnd, InStyleElement, InUrl, InStyle, BeforeType, InType, scan_next}
+use Rattle.html_scan.specs.Scans.{Scan, At, AfterLess, AfterLessSolidus, InDeclaration, InTagName, InAttributeName, InCommentEnd, InContentEnd, InStyleElement, InUrl, InStyle, InScript, BeforeType, InType, scan_next}
 use Rattle.html_scan.specs.ScanViews.{scan_at, pending_from}
 use Rattle.html_scan.specs.Slices.{pending}
 use Rattle.text_norm.specs.Scanned.{rcdata_open, scan_open, scan_out}
@@ -53,6 +53,7 @@ less_kept (InContentEnd e h) = content_less e h
 less_kept (InStyleElement s h) = solidus_kept s ++ pending_bytes h
 less_kept (InUrl v t z) = []
 less_kept (InStyle v s z) = []
+less_kept (InScript v n z) = []
 less_kept (BeforeType t) = []
 less_kept (InType t q v z) = []
 
@@ -74,6 +75,7 @@ bears AfterLessSolidus = true
 bears (InDeclaration pending) = true
 bears (InUrl v t z) = true
 bears (InStyle v s z) = true
+bears (InScript v n z) = true
 bears (BeforeType t) = true
 bears (InType t q v z) = true
 bears f = false
@@ -218,6 +220,7 @@ abbrev pub scan_kept : Scan → Class → ℕ → Reference → Reference
 scan_kept (At p) c b r = place_kept p c b r
 scan_kept (InUrl v t z) c b r = next_reference r c b
 scan_kept (InStyle v s z) c b r = next_reference r c b
+scan_kept (InScript v n z) c b r = next_reference r c b
 scan_kept (BeforeType t) c b r = next_reference r c b
 scan_kept (InType t q v z) c b r = next_reference r c b
 scan_kept f c b r = Closed

@@ -13,7 +13,7 @@ use Rattle.place_core.specs.declared.element.Element.{Element}
 use Rattle.place_core.specs.declared.element.Element.TheVariants as element
 use Rattle.place_core.specs.declared.place.Place.{Place}
 use Rattle.place_core.specs.declared.place.Place.TheVariants as place
-use Rattle.html_scan.specs.Scans.{Scan, At, AfterLess, AfterLessSolidus, InDeclaration, InTagName, InAttributeName, InCommentEnd, InContentEnd, InStyleElement, InUrl, InStyle, BeforeType, InType, scan_next, style_feeding}
+use Rattle.html_scan.specs.Scans.{Scan, At, AfterLess, AfterLessSolidus, InDeclaration, InTagName, InAttributeName, InCommentEnd, InContentEnd, InStyleElement, InUrl, InStyle, InScript, BeforeType, InType, scan_next, style_feeding}
 use Rattle.text_norm.specs.Written.{ContentWriting, content_cut_out, content_out, declaration_out, language_content_cut_out, language_content_out, language_loose_out, text_escaped, less_out, loose_out, reference_out, solidus_out, text_out}
 
 -- the reference that is open after a byte
@@ -58,6 +58,7 @@ scan_open (InContentEnd e h) c b r = content_end_open e c
 scan_open (InStyleElement s h) c b r = Closed
 scan_open (InUrl v t z) c b r = next_reference r c b
 scan_open (InStyle v s z) c b r = next_reference r c b
+scan_open (InScript v n z) c b r = next_reference r c b
 scan_open (BeforeType t) c b r = next_reference r c b
 scan_open (InType t q v z) c b r = next_reference r c b
 
@@ -114,6 +115,7 @@ scan_out (InContentEnd e h) c b r = content_end_out e h c b r
 scan_out (InStyleElement s h) c b r = language_content_out scan_writing h c b element.Style s
 scan_out (InUrl v t z) c b r = reference_out r c b
 scan_out (InStyle v s z) c b r = reference_out r c b
+scan_out (InScript v n z) c b r = reference_out r c b
 scan_out (BeforeType t) c b r = reference_out r c b
 scan_out (InType t q v z) c b r = reference_out r c b
 
@@ -137,6 +139,7 @@ scan_cut_out (InContentEnd e h) r = content_end_cut_out e h r
 scan_cut_out (InStyleElement s h) r = language_content_cut_out scan_writing h s
 scan_cut_out (InUrl v t z) r = text_escaped r
 scan_cut_out (InStyle v s z) r = text_escaped r
+scan_cut_out (InScript v n z) r = text_escaped r
 scan_cut_out (BeforeType t) r = text_escaped r
 scan_cut_out (InType t q v z) r = text_escaped r
 

@@ -11,7 +11,7 @@ use Rattle.place_core.specs.place.Places.{IsValid}
 use Rattle.place_core.specs.page.References.{Reference, Closed, Open}
 use Rattle.place_core.specs.page.Shape.{PageReads, shape_of}
 use Rattle.place_core.specs.page.States.{LexState, Text, TagOpen, EndTagOpen, DeclarationOpen, InComment, WholeTagName, WholeAttributeName, AttributeValue, Content, Characters, Bytes, InLanguage, Pending, Nothing, LessAtCut, InContent, Config, config}
-use Rattle.place_core.specs.page.Tags.{Value, ValueOf, Deciding, ValueState, OfKind, OfUrl, OfStyle, languages, emits_fed}
+use Rattle.place_core.specs.page.Tags.{Value, ValueOf, Deciding, ValueState, OfKind, OfUrl, OfStyle, OfScript, languages, emits_fed}
 use Rattle.place_core.specs.declared.place.Place.{Place}
 use Rattle.place_core.specs.declared.place.Place.TheVariants as place
 use Rattle.text_norm.specs.Pieces.{TextPiece, AreAccepted, ArePlainIn, page_of, path_of}
@@ -61,8 +61,8 @@ EmitsTheSame = (p : Place) (s : LexState ValueState) (t : List LexEvent) (d : Co
 
 -- Whether nothing is pending back from the page at a state. Pending back are a reference, a `<`, a comment, and that a name is at its end: where the end
 -- of a text has ended it, or it is a hole, the page is in that name still. In a data block nothing is; but where a text has ended in `<`, the page's
--- state is another one than the path's. In a URL and in a style, in a value or in its element, the page's state need not be the path's either: it is one that
--- is alike.
+-- state is another one than the path's. In a URL, in a style, in a value or in its element, and in a script, the page's state need not be the path's either: it
+-- is one that is alike.
 abbrev pub is_closed : Reference → Bool
 is_closed Closed = true
 is_closed (Open f bytes) = false
@@ -71,6 +71,7 @@ abbrev pub value_holds_nothing : Value ValueState → Reference → Bool
 value_holds_nothing (ValueOf (OfKind k)) r = is_closed r
 value_holds_nothing (ValueOf (OfUrl u)) r = false
 value_holds_nothing (ValueOf (OfStyle s)) r = false
+value_holds_nothing (ValueOf (OfScript s)) r = false
 value_holds_nothing (Deciding k before) r = is_closed r
 
 abbrev pub holds_nothing : LexState ValueState → Bool

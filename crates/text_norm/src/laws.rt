@@ -72,7 +72,7 @@ pub fn pages_fill_paths()
 {}
 
 /// A page that fills its path with texts reads, as bytes alone, as the path does with these texts in its holes, where none of them is in a
-/// data block, a URL or a style. A theorem; the call does nothing at run time.
+/// data block, a URL, a style or a script. A theorem; the call does nothing at run time.
 pub fn filled_paths_are_readings()
     ensures { FilledPathsAreReadings }
 {}

@@ -100,6 +100,7 @@ fn moved(before: Scan, class: Class, reference: Option<Opened>, index: usize) ->
     match before {
         Scan::At(place) => moved_at(place, class, reference, index),
         Scan::InUrl { .. } | Scan::InStyle { .. } => after_byte(reference, class, index),
+        Scan::InScript { .. } => after_byte(reference, class, index),
         Scan::BeforeType(_) => after_byte(reference, class, index),
         Scan::InType { .. } => after_byte(reference, class, index),
         _ => None,

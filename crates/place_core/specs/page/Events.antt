@@ -2,6 +2,7 @@
 use Rattle.std.specs.Prelude.{ℕ, Bool, List, [], ◌∷◌, ◌++◌, map}
 use Rattle.std.specs.Char.{to_ascii_lowercase}
 use Rattle.css_lexer.specs.Events.{StyleEvent}
+use Rattle.js_lexer.specs.Events.{ScriptEvent}
 use Rattle.place_core.specs.declared.kind.Kind.{Kind}
 use Rattle.url_lexer.specs.Events.{ToldScheme, UrlEvent}
 
@@ -26,6 +27,8 @@ pub data LexEvent : Type 0 where
   ValueScheme : ToldScheme → LexEvent
   -- what a style tells, in place of its bytes
   InsideStyle : StyleEvent UrlEvent → LexEvent
+  -- what a script in a value tells, in place of its bytes
+  InsideScript : ScriptEvent → LexEvent
   -- the tag ends, and closes itself or not
   TagEnds : Bool → LexEvent
   -- a comment begins; its bytes are not told. The texts of a template tell none, since no comment of theirs is written
@@ -34,7 +37,7 @@ pub data LexEvent : Type 0 where
   DoctypeBegins : LexEvent
   DoctypeByte : ℕ → LexEvent
   DoctypeEnds : LexEvent
-  -- a byte of what is not read yet: the content of scripts
+  -- a byte of what is not read yet: the content of script elements
   UnreadByte : ℕ → LexEvent
 
 -- Events are told the last first: of two such calls, one in the other, the inner one is told before.
@@ -53,6 +56,9 @@ value_bytes (b ∷ bs) t = value_bytes bs (ValueByte b ∷ t)
 
 abbrev pub told_in_style : List (StyleEvent UrlEvent) → List LexEvent → List LexEvent
 told_in_style es t = map InsideStyle es ++ t
+
+abbrev pub told_in_script : List ScriptEvent → List LexEvent → List LexEvent
+told_in_script es t = map InsideScript es ++ t
 
 abbrev pub attribute_name_bytes : List ℕ → List LexEvent → List LexEvent
 attribute_name_bytes [] t = t

@@ -9,7 +9,7 @@ use Rattle.place_core.specs.page.Events.{LexEvent, TextByte, BlockByte, Attribut
 use Rattle.place_core.specs.page.Html.{read}
 use Rattle.place_core.specs.page.References.{Reference, Closed}
 use Rattle.place_core.specs.page.States.{Page, LexState, Text, BeforeAttributeName, AfterAttributeName, AfterAttributeValue, SelfClosingStartTag, AttributeName, BeforeAttributeValue, AttributeValue, Content, Characters, Bytes, InLanguage, Pending, Nothing, InContent, Config, config}
-use Rattle.place_core.specs.page.Tags.{Tag, Value, ValueOf, Deciding, Quoting, Unquoted, attribute_value_of, without_value, ValueLanguage, settled_value, emitted_settled, fed_state, emits_fed, languages, ValueState, OfKind, OfUrl, OfStyle}
+use Rattle.place_core.specs.page.Tags.{Tag, Value, ValueOf, Deciding, Quoting, Unquoted, attribute_value_of, without_value, ValueLanguage, settled_value, emitted_settled, fed_state, emits_fed, languages, ValueState, OfKind, OfUrl, OfStyle, OfScript}
 use Rattle.place_core.specs.page.Words.{is_special}
 use Rattle.place_core.specs.declared.element.Element.{Element}
 use Rattle.place_core.specs.declared.kind.Kind.{Kind}
@@ -40,8 +40,8 @@ abbrev pub HasBytes : Quoting → List ℕ → Type 0
 HasBytes Unquoted bytes = bytes ≢ []
 HasBytes q bytes = ⊤
 
--- These bytes, with references undone, are the bytes `value`. A style does not tell each of its bytes: there it is what a value of kind Plain tells of
--- the same bytes.
+-- These bytes, with references undone, are the bytes `value`. A style and a script do not tell each of their bytes: there it is what a value of kind
+-- Plain tells of the same bytes.
 abbrev pub in_plain_value : Quoting → Tag → LexState ValueState
 in_plain_value q tag = AttributeValue q tag (ValueOf (OfKind kind.Plain)) Closed
 
@@ -49,6 +49,8 @@ abbrev pub AreRead : ValueState → Quoting → Tag → (bytes value : List ℕ)
 AreRead (OfKind k) q tag bytes value d = d.emitted ≡ value_bytes value []
 AreRead (OfUrl u) q tag bytes value d = d.emitted ≡ value_bytes value []
 AreRead (OfStyle s) q tag bytes value d =
+    read Page bytes (config (in_plain_value q tag) []) ≡ config (in_plain_value q tag) (value_bytes value [])
+AreRead (OfScript s) q tag bytes value d =
     read Page bytes (config (in_plain_value q tag) []) ≡ config (in_plain_value q tag) (value_bytes value [])
 
 -- The bytes lie in a value, which reads these bytes of them, with their references undone, and in its language they are plain.

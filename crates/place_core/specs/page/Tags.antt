@@ -11,13 +11,20 @@ use Rattle.css_lexer.specs.Refusals.{style_refuses, style_refuses_cut}
 use Rattle.css_lexer.specs.States.{Style, style_start}
 use Rattle.css_lexer.specs.Steps.{feed_style, style_emits, style_ends, read_style, style_reading}
 use Rattle.css_lexer.specs.Urls.{urls}
+use Rattle.js_lexer.specs.Alike.{ScriptsAlike}
+use Rattle.js_lexer.specs.Feeding.{feed_script, script_emits, script_ends, script_reading, read_on}
+use Rattle.js_lexer.specs.Holes.{script_after_cut, script_settled, script_emits_settled, script_has_mark, script_after_hole, script_behind, ScriptLeadsPlain}
+use Rattle.js_lexer.specs.Plain.{TellsPlain, HasPlainBytes}
+use Rattle.js_lexer.specs.Refusals as script
+use Rattle.js_lexer.specs.Refusals.{script_refuses, script_refuses_cut}
+use Rattle.js_lexer.specs.States.{ScriptState, script_start}
 use Rattle.url_lexer.specs.Alike.{UrlsAlike}
 use Rattle.url_lexer.specs.Events.{told_scheme}
 use Rattle.url_lexer.specs.Holes.{url_after_cut, url_after_hole, url_behind}
 use Rattle.url_lexer.specs.Plain.{UrlLeadsPlain, ArePlainBytes}
 use Rattle.url_lexer.specs.Refusals.{UrlRefusal, AmbigContext, BadHTML, PartialEscape, url_refuses, url_refuses_cut}
 use Rattle.url_lexer.specs.States.{Url, url_start, feed_url}
-use Rattle.place_core.specs.page.Events.{LexEvent, Mark, ValueByte, ValueScheme, told_in_style}
+use Rattle.place_core.specs.page.Events.{LexEvent, Mark, ValueByte, ValueScheme, told_in_style, told_in_script}
 use Rattle.place_core.specs.page.Words.{is_script_type}
 use Rattle.place_core.specs.declared.code.Code.{Code}
 use Rattle.place_core.specs.declared.code.Code.TheVariants as code
@@ -96,29 +103,34 @@ pub record ValueLanguage (B : Type 0) : Type 1 where
   pub LeadsPlain : B → List ℕ → B → Type 0
   pub AreAlike : B → B → Type 0
 
--- A value of which the bytes are told and nothing else is read, by its kind; a URL; and a style, with the URLs in it.
+-- A value of which the bytes are told and nothing else is read, by its kind; a URL; a style, with the URLs in it; and a script.
 pub data ValueState : Type 0 where
   OfKind : Kind → ValueState
   OfUrl : Url → ValueState
   OfStyle : Style Url → ValueState
+  OfScript : ScriptState → ValueState
 
+-- A script begins as a text of it does: in code, where nothing stands before that it could go on with.
 abbrev pub value_start : Kind → ValueState
 value_start kind.Url = OfUrl url_start
 value_start kind.Style = OfStyle style_start
+value_start kind.Script = OfScript (script_after_cut script_start)
 value_start k = OfKind k
 
 abbrev pub feed_value : ValueState → ℕ → ValueState
 feed_value (OfKind k) b = OfKind k
 feed_value (OfUrl u) b = OfUrl (feed_url u b)
 feed_value (OfStyle s) b = OfStyle (feed_style urls s b)
+feed_value (OfScript s) b = OfScript (feed_script s b)
 
--- a style tells what it reads, and not its bytes
+-- a style and a script tell what they read, and not their bytes
 abbrev pub emits_state : ValueState → ℕ → List LexEvent → List LexEvent
 emits_state (OfKind k) b t = ValueByte b ∷ t
 emits_state (OfUrl u) b t = ValueByte b ∷ t
 emits_state (OfStyle s) b t = told_in_style (style_emits urls s b []) t
+emits_state (OfScript s) b t = told_in_script (script_emits s b []) t
 
--- the code of what is refused in a URL, and in a style
+-- the code of what is refused in a URL, in a style, and in a script
 abbrev pub refusal_code : UrlRefusal → Code
 refusal_code AmbigContext = code.AmbigContext
 refusal_code BadHTML = code.BadHTML
@@ -131,34 +143,49 @@ style_code style.PartialEscape = code.PartialEscape
 style_code style.SplitToken = code.SplitToken
 style_code style.BadString = code.BadString
 
+abbrev pub script_code : script.Refusal → Code
+script_code script.PartialCharset = code.PartialCharset
+script_code script.PartialEscape = code.PartialEscape
+script_code script.SlashAmbig = code.SlashAmbig
+script_code script.JSTemplate = code.JSTemplate
+script_code script.SplitToken = code.SplitToken
+script_code script.BadString = code.BadString
+script_code script.HtmlInScript = code.HtmlInScript
+
+-- A script that is no element's. The byte at hand is the one at which the cause is known; where it stands, `Errors.antt` says.
 abbrev pub refuses_in_value : ValueState → ℕ → Option Code
 refuses_in_value (OfKind k) b = None
 refuses_in_value (OfUrl u) b = option_map refusal_code (url_refuses u b)
 refuses_in_value (OfStyle s) b = option_map style_code (style_refuses urls s b)
+refuses_in_value (OfScript s) b = option_map (λ e. script_code e.refusal) (script_refuses false s b)
 
 abbrev pub refuses_value_names : ValueState → Bool
 refuses_value_names (OfKind k) = false
 refuses_value_names (OfUrl u) = true
 refuses_value_names (OfStyle s) = true
+refuses_value_names (OfScript s) = true
 
--- the end of a URL tells its scheme, and that of a style what is pending
+-- the end of a URL tells its scheme, and that of a style or a script what is pending
 abbrev pub ends_state : ValueState → List LexEvent → List LexEvent
 ends_state (OfKind k) t = t
 ends_state (OfUrl u) t = ValueScheme (told_scheme u.free u.scheme) ∷ t
 ends_state (OfStyle s) t = told_in_style (style_ends urls s []) t
+ends_state (OfScript s) t = told_in_script (script_ends s []) t
 
 abbrev pub value_after_cut : ValueState → ValueState
 value_after_cut (OfKind k) = OfKind k
 value_after_cut (OfUrl u) = OfUrl (url_after_cut u)
 value_after_cut (OfStyle s) = OfStyle (style_after_cut urls s)
+value_after_cut (OfScript s) = OfScript (script_after_cut s)
 
--- in a URL a percent triple that has begun, and in a style an escape or such a triple of its URL
+-- in a URL a percent triple that has begun, in a style an escape or such a triple of its URL, and in a script what no node may end in
 abbrev pub refuses_value_cut : ValueState → Option Code
 refuses_value_cut (OfKind k) = None
 refuses_value_cut (OfUrl u) = option_map (λ e. refusal_code e.refusal) (url_refuses_cut u)
 refuses_value_cut (OfStyle s) = option_map (λ e. style_code e.code) (style_refuses_cut urls s)
+refuses_value_cut (OfScript s) = option_map (λ e. script_code e.refusal) (script_refuses_cut s)
 
--- A `<` that ends a node in the element: a style says where it may not. Of what is no style no element consists.
+-- A `<` that ends a node in the element: a style says where it may not. Of what is no style no element consists that is built yet.
 abbrev pub style_cut : StyleCutRefusal → CutRefusal
 style_cut e = record { code = style_code e.code; back = e.back; shown = e.shown }
 
@@ -166,28 +193,34 @@ abbrev pub refuses_value_less : ValueState → Option CutRefusal
 refuses_value_less (OfKind k) = None
 refuses_value_less (OfUrl u) = None
 refuses_value_less (OfStyle s) = option_map style_cut (refuses_less_than_cut urls s)
+refuses_value_less (OfScript s) = None
 
--- where a hole begins, a style tells a `/` that is pending; in a comment of a style a hole has no mark
+-- where a hole begins, a style or a script tells a `/` that is pending; in a comment of these a hole has no mark
 abbrev pub value_settled : ValueState → ValueState
 value_settled (OfStyle s) = OfStyle (style_settled s)
+value_settled (OfScript s) = OfScript (script_settled s)
 value_settled v = v
 
 abbrev pub emits_value_settled : ValueState → List LexEvent → List LexEvent
 emits_value_settled (OfStyle s) t = told_in_style (style_emits_settled s []) t
+emits_value_settled (OfScript s) t = told_in_script (script_emits_settled s []) t
 emits_value_settled v t = t
 
 abbrev pub value_has_mark : ValueState → Bool
 value_has_mark (OfStyle s) = styles.has_mark s
+value_has_mark (OfScript s) = script_has_mark s
 value_has_mark v = true
 
 abbrev pub value_after_hole : ValueState → ValueState
 value_after_hole (OfKind k) = OfKind k
 value_after_hole (OfUrl u) = OfUrl (url_after_hole u)
 value_after_hole (OfStyle s) = OfStyle (style_after_hole urls s)
+value_after_hole (OfScript s) = OfScript (script_after_hole s)
 
 abbrev pub value_state_behind : ValueState → ValueState → ValueState
 value_state_behind (OfUrl u) (OfUrl w) = OfUrl (url_behind u w)
 value_state_behind (OfStyle s) (OfStyle r) = OfStyle (style_behind urls s r)
+value_state_behind (OfScript s) (OfScript r) = OfScript (script_behind s r)
 value_state_behind before after = after
 
 -- In a style bytes lead to a state behind which the path's is alike, are allowed there, and tell nothing but what is inside one token.
@@ -196,18 +229,26 @@ pub record LeadsPlainInStyle (s : Style Url) (bytes : List ℕ) (r : Style Url) 
   pub allowed : MayBePlain urls bytes s
   pub tells : IsTrue (tells_plain s (read_style urls bytes (style_reading s [])).told)
 
--- Of a value that is text all bytes are plain, and of a URL and a style those that `url_lexer` and `css_lexer` say. Of the other kinds none are, since
--- no hole may stand there, or they are not built yet.
+-- In a script, where what was pending has been told: bytes lead to such a state, tell what is plain there, and are written so (`js_lexer`).
+pub record LeadsPlainInScript (s : ScriptState) (bytes : List ℕ) (r : ScriptState) : Type 0 where
+  pub leads : ScriptLeadsPlain s r
+  pub tells : TellsPlain s.at (read_on bytes (script_reading s [])).told
+  pub written : HasPlainBytes s.at bytes
+
+-- Of a value that is text all bytes are plain, and of a URL, a style and a script those that `url_lexer`, `css_lexer` and `js_lexer` say. Of the other
+-- kinds none are, since no hole may stand there.
 abbrev pub LeadsPlainState : ValueState → List ℕ → ValueState → Type 0
 LeadsPlainState (OfKind kind.Plain) bytes after = after ≡ OfKind kind.Plain
 LeadsPlainState (OfUrl u) bytes (OfUrl w) = UrlLeadsPlain u w × ArePlainBytes u.part bytes
 LeadsPlainState (OfStyle s) bytes (OfStyle r) = LeadsPlainInStyle s bytes r
+LeadsPlainState (OfScript s) bytes (OfScript r) = LeadsPlainInScript s bytes r
 LeadsPlainState before bytes after = ⊥
 
 abbrev pub StatesAlike : ValueState → ValueState → Type 0
 StatesAlike (OfKind k) after = after ≡ OfKind k
 StatesAlike (OfUrl u) (OfUrl w) = UrlsAlike u w
 StatesAlike (OfStyle s) (OfStyle r) = StylesAlike urls s r
+StatesAlike (OfScript s) (OfScript r) = ScriptsAlike s r
 StatesAlike before after = ⊥
 
 -- the languages that are read so far

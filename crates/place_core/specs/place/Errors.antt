@@ -1,15 +1,20 @@
 -- Where a text of a template is refused, and by which code: the conditions that stand on the places of paths, byte by byte, at the end of a
 -- node and at a hole. The checks of a byte have one order, whether one path stands at a place or several do.
-use Rattle.std.specs.Prelude.{◌≡◌, ℕ, zero, suc, ◌+◌, ◌-◌, ◌==◌, bytes_eq, encode_utf8, Bool, true, false, ◌&&◌, ◌||◌, codes, List, [], ◌∷◌, ◌++◌, length, Option, Some, None, option_map, if◌then◌else◌}
+use Rattle.std.specs.Prelude.{◌≡◌, ℕ, zero, suc, ◌+◌, ◌-◌, ◌==◌, nat_lt, bytes_eq, encode_utf8, Bool, true, false, ◌&&◌, ◌||◌, codes, List, [], ◌∷◌, ◌++◌, length, Option, Some, None, option_map, if◌then◌else◌}
+use Rattle.js_lexer.specs.Feeding.{feed_script}
+use Rattle.js_lexer.specs.Holes.{script_after_cut}
+use Rattle.js_lexer.specs.Refusals as script
+use Rattle.js_lexer.specs.Refusals.{Cause, refuses_end, script_refuses, script_refuses_cut}
+use Rattle.js_lexer.specs.States.{ScriptState, script_start}
 use Rattle.place_core.specs.page.Classes.{Class, White, ExclamationMark, QuotationMark, Apostrophe, HyphenMinus, Solidus, LessThan, EqualsSign, GreaterThan, GraveAccent, Letter, is_equals_sign, class_of}
 use Rattle.place_core.specs.page.Contents.{is_name_of, may_be_name_of, pending_bytes}
 use Rattle.place_core.specs.page.Html.{next, ends_value}
 use Rattle.place_core.specs.page.Paths.{at_cut}
 use Rattle.place_core.specs.page.References.{Form, Named, Reference, Closed, Open, ReferenceStep, Grows, Closes, Breaks, turn, names, named_in, replacement, meaning, flushed, plain_bytes, settled, as_it_stands}
 use Rattle.place_core.specs.place.LastLexeme.{last_lexeme_start, language_reference}
-use Rattle.place_core.specs.place.StatePlaces.{placed, value_spot, value_body, tag_spot, only_name, only_before, only_inside, only_after, quotes_at}
+use Rattle.place_core.specs.place.StatePlaces.{placed, value_spot, value_body_before, tag_spot, only_name, only_before, only_inside, only_after, quotes_at}
 use Rattle.place_core.specs.page.States.{Template, LexState, Text, TagOpen, EndTagOpen, DeclarationOpen, InComment, Broken, CommentState, BogusComment, InDoctype, TagName, WholeTagName, BeforeAttributeName, AttributeName, WholeAttributeName, AfterAttributeName, BeforeAttributeValue, AttributeValue, AfterAttributeValue, SelfClosingStartTag, Characters, Bytes, InLanguage, Pending, Nothing, PendingLess, LessAtCut, PendingName, PendingBang, PendingBangDash, InContent, Unread}
-use Rattle.place_core.specs.page.Tags.{Tag, is_second_type, Value, attribute_value_of, ValueOf, Deciding, ValueLanguage, CutRefusal, with_bytes, Feeding, feeding, language_feeding, feed_bytes, fed_state, refuses_cut_of, cut_value, tag_with_value, ValueState, languages, tag_of_name, element_on}
+use Rattle.place_core.specs.page.Tags.{Tag, is_second_type, Value, attribute_value_of, ValueOf, Deciding, ValueLanguage, CutRefusal, with_bytes, Feeding, feeding, language_feeding, feed_bytes, fed_state, refuses_cut_of, tag_with_value, ValueState, OfScript, languages, script_code, tag_of_name, element_on}
 use Rattle.place_core.specs.page.Words.{kind_of}
 use Rattle.place_core.specs.declared.bare.Bare.{Bare}
 use Rattle.place_core.specs.declared.body.Body.{Body}
@@ -32,7 +37,8 @@ use Rattle.place_core.specs.declared.tag_of.TagOf.TheVariants as tag
 use Rattle.place_core.specs.declared.tag_place.TagPlace.{TagPlace}
 use Rattle.place_core.specs.declared.value_place.ValuePlace.{ValuePlace}
 
--- What is not built yet: a tag that ends and enters the content of a script, and values that are scripts.
+-- What is not built yet: a tag that ends and enters the content of a script, and values that are scripts, which are refused before they
+-- begin.
 abbrev pub content_error : TagOf → Option Code
 content_error tag.End = None
 content_error (tag.Start element.Title) = None
@@ -54,7 +60,7 @@ abbrev pub body_error : Body → Option Code
 body_error body.Plain = None
 body_error body.NoHole = None
 body_error (body.Url parts) = None
-body_error (body.Js js) = Some code.NotBuilt
+body_error (body.Js j) = None
 body_error (body.Css c) = None
 
 -- A byte in a tag, by the spots at which paths stand. An equals sign begins a value after a name alone. A quotation mark, an apostrophe or a `<`
@@ -294,7 +300,7 @@ byte_error (AttributeName t name) c b = attribute_name_error t.tag t.typed (kind
 byte_error (WholeAttributeName t k) c b = at_hand (tag_error (tag_spot t only_inside (Some k)) c)
 byte_error (AfterAttributeName t k) c b = at_hand (tag_error (tag_spot t only_after (Some k)) c)
 byte_error (BeforeAttributeValue t k) c b =
-    first_cause (first_byte_error (feeding languages) (attribute_value_of languages k) c b) (at_hand (first_error (kind_error k) (bare_error t.tag (record { uq = false; unbegun = true }) c)))
+    first_cause (first_byte_error (feeding languages) (attribute_value_of languages k) c b) (at_hand (bare_error t.tag (record { uq = false; unbegun = true }) c))
 byte_error (AttributeValue q t v r) c b =
     first_cause (language_error (feeding languages) (ends_value q c) v r c b) (at_hand (quotes_error (ending_tag languages t v r).tag (quotes_at q) c))
 byte_error (AfterAttributeValue t) c b = at_hand (tag_error (tag_spot t only_before None) c)
@@ -386,24 +392,195 @@ pub record PathRefusal : Type 0 where
   pub at : ℕ
   pub shown : ℕ
 
+abbrev pub first_path_refusal : Option PathRefusal → Option PathRefusal → Option PathRefusal
+first_path_refusal (Some e) o = Some e
+first_path_refusal None o = o
+
+-- A script counts the bytes that it is fed, with references undone, so of each it is kept where it stands in the text. The bytes that the byte at `k`
+-- feeds a value: those of a reference that is written as a character stand at its `&`.
+pub record FedByte : Type 0 where
+  pub byte : ℕ
+  pub place : ℕ
+
+abbrev pub placed_bytes : (written : Bool) → ℕ → List ℕ → List FedByte
+placed_bytes written k [] = []
+placed_bytes written k (b ∷ bs) = record { byte = b; place = k } ∷ placed_bytes written (if written then k + 1 else k) bs
+
+abbrev pub flushed_places : ℕ → (equals : Bool) → Form → List ℕ → List FedByte
+flushed_places k equals f bytes = placed_bytes (is_written equals f bytes) (k - (length bytes + 1)) (flushed true equals f bytes)
+
+abbrev pub turned_places : ℕ → ReferenceStep → Form → List ℕ → Class → ℕ → List FedByte
+turned_places k (Grows g) f bytes c b = []
+turned_places k Closes f bytes c b = placed_bytes false (k - (length bytes + 1)) (encode_utf8 (meaning f bytes))
+turned_places k Breaks f bytes c b = flushed_places k (is_equals_sign c) f bytes ++ placed_bytes false k (plain_bytes c b)
+
+-- the first argument says whether the byte ends the value
+abbrev pub fed_places : (ends : Bool) → ℕ → Reference → Class → ℕ → List FedByte
+fed_places true k Closed c b = []
+fed_places true k (Open f bytes) c b = flushed_places k false f bytes
+fed_places false k Closed c b = placed_bytes false k (plain_bytes c b)
+fed_places false k (Open f bytes) c b = turned_places k (turn c f) f bytes c b
+
+-- where a value is to begin, the byte that begins it without quotes
+abbrev pub first_places : ℕ → Class → ℕ → List FedByte
+first_places k White b = []
+first_places k QuotationMark b = []
+first_places k Apostrophe b = []
+first_places k GreaterThan b = []
+first_places k c b = placed_bytes false k (plain_bytes c b)
+
+-- at the end of the node, the bytes of a reference that is open there
+abbrev pub cut_places : ℕ → Reference → List FedByte
+cut_places k r = placed_bytes true (k - length (as_it_stands r)) (as_it_stands r)
+
+-- the places so far, the last one first
+abbrev pub places_with : List FedByte → List ℕ → List ℕ
+places_with [] before = before
+places_with (x ∷ xs) before = places_with xs (x.place ∷ before)
+
+-- How a script is read, as `Feeding` is of any language: the causes of what is refused at a byte, where the node ends in it, and where its value ends.
+-- The script of one path is read so, and the scripts of all paths at a place together.
+pub record ScriptFeeding (S : Type 0) : Type 0 where
+  pub feed : S → ℕ → S
+  pub refuses : S → ℕ → Option Cause
+  pub refuses_cut : S → Option Cause
+  pub refuses_end : S → Option Cause
+
+abbrev pub one_script : ScriptFeeding ScriptState
+one_script = record { feed = feed_script; refuses = script_refuses false; refuses_cut = script_refuses_cut; refuses_end = refuses_end }
+
+abbrev pub script_fed : {S : Type 0} → ScriptFeeding S → S → List FedByte → S
+script_fed m s [] = s
+script_fed m s (x ∷ xs) = script_fed m (m.feed s x.byte) xs
+
+-- the place of the byte so many before the last one; of what begins before the text the first one is shown
+abbrev pub place_back : ℕ → List ℕ → ℕ
+place_back n [] = 0
+place_back n (p ∷ []) = p
+place_back zero (p ∷ q ∷ ps) = p
+place_back (suc n) (p ∷ q ∷ ps) = place_back n (q ∷ ps)
+
+-- What is refused of a script stands in the text where the bytes do that it is told by: at a byte, and at an end, which stands as a byte does.
+abbrev pub script_refusal_at : List ℕ → Option Cause → Option PathRefusal
+script_refusal_at places None = None
+script_refusal_at places (Some e) =
+    Some (record { code = script_code e.refusal; at = place_back e.back places; shown = place_back e.shown places })
+
+abbrev pub script_fed_refusal : {S : Type 0} → ScriptFeeding S → List ℕ → S → List FedByte → Option PathRefusal
+script_fed_refusal m places s [] = None
+script_fed_refusal m places s (x ∷ xs) =
+    first_path_refusal (script_refusal_at (x.place ∷ places) (m.refuses s x.byte)) (script_fed_refusal m (x.place ∷ places) (m.feed s x.byte) xs)
+
+-- Where a value ends: a slash after `}` is refused there. Literals that nest too deep are refused where the node ends.
+abbrev pub is_told_at_node_end : script.Refusal → Bool
+is_told_at_node_end script.JSTemplate = true
+is_told_at_node_end r = false
+
+abbrev pub at_value_end : Option Cause → Option Cause
+at_value_end None = None
+at_value_end (Some e) = if is_told_at_node_end e.refusal then None else Some e
+
+abbrev pub deep_at : List ℕ → Option Cause → Option ℕ
+deep_at places None = None
+deep_at places (Some e) = if is_told_at_node_end e.refusal then Some (place_back e.shown places) else None
+
+abbrev pub value_end_cause : {S : Type 0} → ScriptFeeding S → (ends : Bool) → S → Option Cause
+value_end_cause m true s = m.refuses_end s
+value_end_cause m false s = None
+
+-- of the bytes that the byte at `k` feeds the script, and then of its end, if the byte ends the value
+abbrev pub script_places_refusal : {S : Type 0} → ScriptFeeding S → (ends : Bool) → ℕ → List ℕ → S → List FedByte → Option PathRefusal
+script_places_refusal m ends k places s xs =
+    first_path_refusal (script_fed_refusal m places s xs)
+    (script_refusal_at (k ∷ places_with xs places) (at_value_end (value_end_cause m ends (script_fed m s xs))))
+
+-- of the end of the node, at `k`, with the bytes of a reference that is open there
+abbrev pub script_ending_refusal : {S : Type 0} → ScriptFeeding S → ℕ → List ℕ → S → List FedByte → Option PathRefusal
+script_ending_refusal m k places s xs =
+    first_path_refusal (script_fed_refusal m places s xs) (script_refusal_at (k ∷ places_with xs places) (m.refuses_cut (script_fed m s xs)))
+
+-- where the value ends in literals that nest too deep, the place before the outermost one
+abbrev pub deep_place : {S : Type 0} → ScriptFeeding S → (ends : Bool) → ℕ → List ℕ → S → List FedByte → Option ℕ
+deep_place m ends k places s xs = deep_at (k ∷ places_with xs places) (value_end_cause m ends (script_fed m s xs))
+
+-- on one path
+abbrev pub script_byte_refusal : ℕ → List ℕ → LexState ValueState → Class → ℕ → Option PathRefusal
+script_byte_refusal k places (AttributeValue q t (ValueOf (OfScript s)) r) c b =
+    script_places_refusal one_script (ends_value q c) k places s (fed_places (ends_value q c) k r c b)
+script_byte_refusal k places (BeforeAttributeValue t kind.Script) c b =
+    script_places_refusal one_script false k [] (script_after_cut script_start) (first_places k c b)
+script_byte_refusal k places s c b = None
+
+abbrev pub script_cut_refusal : ℕ → List ℕ → LexState ValueState → Option PathRefusal
+script_cut_refusal k places (AttributeValue q t (ValueOf (OfScript s)) r) = script_ending_refusal one_script k places s (cut_places k r)
+script_cut_refusal k places s = None
+
+-- What is kept of the bytes of a text that have been read, since it says where what is refused later stands: the place of the last `%` or `\`; the
+-- places of the bytes that the script of the open value was fed, the last one first; and where a value has ended in literals that nest too deep, the
+-- place before the outermost one.
+pub record TextRead : Type 0 where
+  pub last : ℕ
+  pub fed : List ℕ
+  pub deep : Option ℕ
+
+abbrev pub nothing_read : TextRead
+nothing_read = record { last = 0; fed = []; deep = None }
+
+abbrev pub fed_behind : ℕ → List ℕ → LexState ValueState → Class → ℕ → List ℕ
+fed_behind k places (AttributeValue q t (ValueOf (OfScript s)) r) c b = places_with (fed_places (ends_value q c) k r c b) places
+fed_behind k places (BeforeAttributeValue t kind.Script) c b = places_with (first_places k c b) []
+fed_behind k places s c b = []
+
+abbrev pub or_deep : Option ℕ → Option ℕ → Option ℕ
+or_deep (Some shown) o = Some shown
+or_deep None o = o
+
+abbrev pub deep_behind : ℕ → List ℕ → LexState ValueState → Class → ℕ → Option ℕ
+deep_behind k places (AttributeValue q t (ValueOf (OfScript s)) r) c b =
+    deep_place one_script (ends_value q c) k places s (fed_places (ends_value q c) k r c b)
+deep_behind k places s c b = None
+
+abbrev pub read_behind : ℕ → TextRead → LexState ValueState → Class → ℕ → TextRead
+read_behind k since s c b = record {
+  last = last_lexeme_start k since.last (language_reference s) c b;
+  fed = fed_behind k since.fed s c b;
+  deep = or_deep since.deep (deep_behind k since.fed s c b);
+}
+
 abbrev pub standing_at : ℕ → Option PathCause → Option PathRefusal → Option PathRefusal
 standing_at k None rest = rest
 standing_at k (Some e) rest = Some (record { code = e.code; at = k - e.back; shown = k - e.shown })
+
+-- A script may refuse a byte that stands before the one by which that is known: then it comes first.
+abbrev pub before_cause : ℕ → PathRefusal → Option PathCause → PathRefusal
+before_cause k x None = x
+before_cause k x (Some e) = if nat_lt x.at (k - e.back) then x else record { code = e.code; at = k - e.back; shown = k - e.shown }
+
+abbrev pub unless_in_script : ℕ → Option PathRefusal → Option PathCause → Option PathRefusal → Option PathRefusal
+unless_in_script k None o rest = standing_at k o rest
+unless_in_script k (Some x) o rest = Some (before_cause k x o)
 
 -- a lexeme that is refused at the end of a text, and where it begins
 abbrev pub broken_off : ℕ → ℕ → Option Code → Option PathRefusal
 broken_off k since None = None
 broken_off k since (Some e) = Some (record { code = e; at = k; shown = since })
 
--- of bytes that stand at `k` in their text, where `since` is the place of the last `%` or `\` before
-abbrev pub refusal_from : ℕ → ℕ → List ℕ → LexState ValueState → Option PathRefusal
-refusal_from k since [] s = standing_at k (cut_error s) (broken_off k since (lexeme_error s))
+-- literals of a value that nest too deep
+abbrev pub nests_too_deep : ℕ → Option ℕ → Option PathRefusal
+nests_too_deep k None = None
+nests_too_deep k (Some shown) = Some (record { code = code.JSTemplate; at = k; shown = shown })
+
+-- of bytes that stand at `k` in their text, where `since` is what is kept of those before
+abbrev pub refusal_from : ℕ → TextRead → List ℕ → LexState ValueState → Option PathRefusal
+refusal_from k since [] s =
+    unless_in_script k (script_cut_refusal k since.fed s) (cut_error s)
+    (first_path_refusal (nests_too_deep k since.deep) (broken_off k since.last (lexeme_error s)))
 refusal_from k since (b ∷ bs) s =
-    standing_at k (byte_error s (class_of b) b)
-    (refusal_from (k + 1) (last_lexeme_start k since (language_reference s) (class_of b) b) bs (next languages Template s (class_of b) b))
+    unless_in_script k (script_byte_refusal k since.fed s (class_of b) b) (byte_error s (class_of b) b)
+    (refusal_from (k + 1) (read_behind k since s (class_of b) b) bs (next languages Template s (class_of b) b))
 
 abbrev pub path_refusal : List ℕ → LexState ValueState → Option PathRefusal
-path_refusal bytes s = refusal_from 0 0 bytes s
+path_refusal bytes s = refusal_from 0 nothing_read bytes s
 
 -- the state that a text leads to, byte by byte, and as a whole node
 abbrev pub states : List ℕ → LexState ValueState → LexState ValueState
@@ -439,7 +616,8 @@ pending_before e h c b = h
 
 abbrev pub place_before_bytes : LexState ValueState → List ℕ → Option Place
 place_before_bytes (AttributeValue q t v (Open f bytes)) (b ∷ bs) =
-    value_spot t (quotes_at q) (value_body (cut_value languages (value_before (turn (class_of b) f) v (class_of b) f bytes)))
+    value_spot t (quotes_at q) (value_body_before (value_before (turn (class_of b) f) v (class_of b) f bytes))
+place_before_bytes (AttributeValue q t v r) bs = value_spot t (quotes_at q) (value_body_before (with_bytes languages v (as_it_stands r)))
 place_before_bytes (InContent e (InLanguage v) h) (b ∷ bs) =
     placed (at_cut languages (InContent e (InLanguage v) (pending_before e h (class_of b) b)))
 place_before_bytes (AttributeName t name) bs = Some (place.Tag (tag_spot t only_inside (Some (kind_of (element_on t.tag) name))))

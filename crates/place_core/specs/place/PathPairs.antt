@@ -2,11 +2,16 @@
 -- beginning of a URL.
 use Rattle.std.specs.Prelude.{◌≡◌, ℕ, zero, suc, Bool, true, false, not, List, [], ◌∷◌, Option, Some, None, option_map, ◌⊎◌}
 use Rattle.css_lexer.specs.States.{Bare, Quoted, Style, InUrl}
+use Rattle.js_lexer.specs.States as script
+use Rattle.js_lexer.specs.Steps.{sense_if_odd}
+use Rattle.js_lexer.specs.Words.{sense_after}
+use Rattle.js_lexer.specs.declared.sense.Sense.{Sense}
+use Rattle.js_lexer.specs.declared.sense.Sense.TheVariants as sense
 use Rattle.place_core.specs.page.Classes.{Class, White, class_of}
 use Rattle.place_core.specs.page.Html.{next}
 use Rattle.place_core.specs.page.References.{Closed, Open, ReferenceStep, Breaks, turn}
 use Rattle.place_core.specs.page.States.{Template, LexState, BeforeAttributeValue, AttributeValue, InLanguage, InContent}
-use Rattle.place_core.specs.page.Tags.{ValueOf, ValueState, OfUrl, OfStyle, Unquoted, languages, refusal_code}
+use Rattle.place_core.specs.page.Tags.{ValueOf, ValueState, OfUrl, OfStyle, OfScript, Unquoted, languages, refusal_code}
 use Rattle.place_core.specs.place.ApartPlaces.{ArePlacesApart, side}
 use Rattle.place_core.specs.place.Errors.{byte_error, node, path_refusal, place_before_bytes, value_before}
 use Rattle.place_core.specs.place.Membership.{Bears}
@@ -130,14 +135,77 @@ pub record ClashesApart (bytes : List ℕ) (s r : LexState ValueState) (e : Code
 
 -- Two paths, of which neither is refused before this byte of a text, are refused together there: for white space, or at a `:` behind a byte of
 -- the text behind which they were apart.
-abbrev pub Clashes : List ℕ → LexState ValueState → LexState ValueState → Code → ℕ → Type 0
-Clashes [] s r e at = ⊥
-Clashes (b ∷ bs) s r e zero = byte_clash s r (class_of b) ≡ Some e
-Clashes (b ∷ bs) s r e (suc at) =
+abbrev pub ClashesInText : List ℕ → LexState ValueState → LexState ValueState → Code → ℕ → Type 0
+ClashesInText [] s r e at = ⊥
+ClashesInText (b ∷ bs) s r e zero = byte_clash s r (class_of b) ≡ Some e
+ClashesInText (b ∷ bs) s r e (suc at) =
     (byte_error s (class_of b) b ≡ None) × (byte_error r (class_of b) b ≡ None)
     × ((ApartBefore bs (next languages Template s (class_of b) b) (next languages Template r (class_of b) b)
     × ClashesApart bs (state_before (next languages Template s (class_of b) b) bs) (state_before (next languages Template r (class_of b) b) bs) e at)
-    ⊎ Clashes bs (next languages Template s (class_of b) b) (next languages Template r (class_of b) b) e at)
+    ⊎ ClashesInText bs (next languages Template s (class_of b) b) (next languages Template r (class_of b) b) e at)
+
+-- What a slash would be on a path in a script where a text begins, unless that goes on with what stands before; inside a string or a regular expression
+-- it is a part of it.
+abbrev pub sense_at_text : script.At → Option Sense
+sense_at_text (script.Code s) = Some s
+sense_at_text (script.Word w) = Some (sense_after w)
+sense_at_text script.Number = Some sense.Div
+sense_at_text (script.Pluses odd) = Some (sense_if_odd odd)
+sense_at_text (script.Minuses odd) = Some (sense_if_odd odd)
+sense_at_text (script.Slash sense.Re) = None
+sense_at_text (script.Slash s) = Some sense.Re
+sense_at_text (script.LineComment s) = Some s
+sense_at_text (script.BlockComment s star) = Some s
+sense_at_text a = None
+
+abbrev pub slash_sense : LexState ValueState → Option Sense
+slash_sense (BeforeAttributeValue t kind.Script) = Some sense.Re
+slash_sense (AttributeValue q t (ValueOf (OfScript s)) r) = sense_at_text s.at
+slash_sense s = None
+
+abbrev pub senses_part : Option Sense → Option Sense → Bool
+senses_part (Some sense.Re) (Some sense.Div) = true
+senses_part (Some sense.Div) (Some sense.Re) = true
+senses_part o p = false
+
+-- The path on which it is not known what a slash would be: as behind a `}`, one that begins no comment is refused.
+abbrev pub with_either_slash : script.At → script.At
+with_either_slash (script.LineComment s) = script.LineComment sense.Brace
+with_either_slash (script.BlockComment s star) = script.BlockComment sense.Brace star
+with_either_slash a = script.Code sense.Brace
+
+-- No minus stands before its text, so nothing is kept of what one would begin.
+abbrev pub either_slash_markup : script.At → List ℕ → List ℕ
+either_slash_markup (script.Minuses odd) m = []
+either_slash_markup a m = m
+
+abbrev pub either_slash_trail : script.At → script.Trail → script.Trail
+either_slash_trail a t = record {
+  fresh = t.fresh;
+  markup = either_slash_markup a t.markup;
+  escape = t.escape;
+  brace = t.brace;
+  bracket = t.bracket;
+  literal = t.literal;
+}
+
+abbrev pub either_slash_script : script.ScriptState → script.ScriptState
+either_slash_script s = record { literals = s.literals; at = with_either_slash s.at; held = s.held; trail = either_slash_trail s.at s.trail }
+
+abbrev pub either_slash : LexState ValueState → LexState ValueState
+either_slash (AttributeValue q t (ValueOf (OfScript s)) r) = AttributeValue q t (ValueOf (OfScript (either_slash_script s))) r
+either_slash s = s
+
+-- Two paths at which a slash would be one thing and the other where a text begins are refused together at such a slash of it.
+pub record ClashesSlash (bytes : List ℕ) (s r : LexState ValueState) (e : Code) (at : ℕ) : Type 0 where
+  pub is : e ≡ code.SlashAmbig
+  pub part : senses_part (slash_sense s) (slash_sense r) ≡ true
+  pub shown : ℕ
+  pub refused : path_refusal bytes (either_slash s) ≡ Some (record { code = code.SlashAmbig; at = at; shown = shown })
+
+-- What two paths that meet before a text are refused for in it, together.
+abbrev pub Clashes : List ℕ → LexState ValueState → LexState ValueState → Code → ℕ → Type 0
+Clashes bytes s r e at = ClashesInText bytes s r e at ⊎ ClashesSlash bytes s r e at
 
 -- Two paths at one hole are refused together there where both are in one URL, in different parts of it: no one chain of sanitizers fits both.
 abbrev pub url_part_at : LexState ValueState → Option UrlPart

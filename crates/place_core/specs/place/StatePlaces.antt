@@ -2,7 +2,8 @@
 use Rattle.std.specs.Prelude.{Bool, true, false, Option, Some, None, option_map, if◌then◌else◌}
 use Rattle.place_core.specs.page.References.{Reference, Closed, Open}
 use Rattle.place_core.specs.page.States.{LexState, Text, TagOpen, EndTagOpen, DeclarationOpen, CommentState, Started, StartedDash, Inside, Dash, DashDash, Bang, Broken, InComment, BogusComment, InDoctype, TagName, WholeTagName, BeforeAttributeName, AttributeName, WholeAttributeName, AfterAttributeName, BeforeAttributeValue, AttributeValue, AfterAttributeValue, SelfClosingStartTag, Content, Characters, Bytes, InLanguage, Pending, Nothing, LessAtCut, InContent, Unread}
-use Rattle.place_core.specs.page.Tags.{Tag, is_second_type, Value, ValueOf, Deciding, ValueState, OfKind, OfUrl, OfStyle, languages, attribute_value_of, without_value, Quoting, DoubleQuoted, SingleQuoted, Unquoted}
+use Rattle.place_core.specs.page.Tags.{Tag, is_second_type, Value, ValueOf, Deciding, ValueState, OfKind, OfUrl, OfStyle, OfScript, languages, attribute_value_of, without_value, Quoting, DoubleQuoted, SingleQuoted, Unquoted}
+use Rattle.place_core.specs.place.ScriptParts.{script_body, script_body_before}
 use Rattle.place_core.specs.place.StyleParts.{style_body, style_css}
 use Rattle.place_core.specs.place.UrlParts.{parts_of}
 use Rattle.url_lexer.specs.Spots.{url_spot}
@@ -44,8 +45,8 @@ tag_spot t spots k = record { tag = t.tag; typed = is_typed_after t k; spots = s
 abbrev pub unless_second_type : Tag → Kind → Place → Option Place
 unless_second_type t k p = if is_second_type t.typed k then None else Some p
 
--- The body of a value, by the state of its language. In a URL it is the part, and in a style what is kept where a
--- node ends; inside a percent triple, and inside a lexeme of a style, there is none.
+-- The body of a value, by the state of its language. In a URL it is the part, and in a style or a script what is kept
+-- where a node ends; inside a percent triple, and inside a lexeme of a style or a script, there is none.
 abbrev pub body_at : ValueState → Option Body
 body_at (OfKind kind.Plain) = Some body.Plain
 body_at (OfKind kind.NoHole) = Some body.NoHole
@@ -55,10 +56,20 @@ body_at (OfKind kind.Style) = None
 body_at (OfKind kind.ScriptType) = None
 body_at (OfUrl u) = option_map (λ p. body.Url (parts_of p)) (url_spot u)
 body_at (OfStyle s) = style_body s
+body_at (OfScript s) = script_body s
+
+-- The body that is shown before a byte of a text: where the text would end there. In a script it is shown within more lexemes.
+abbrev pub body_before : ValueState → Option Body
+body_before (OfScript s) = script_body_before s
+body_before v = body_at (languages.after_cut v)
 
 abbrev pub value_body : Value ValueState → Option Body
 value_body (ValueOf v) = body_at v
 value_body (Deciding k before) = None
+
+abbrev pub value_body_before : Value ValueState → Option Body
+value_body_before (ValueOf v) = body_before v
+value_body_before (Deciding k before) = None
 
 abbrev pub value_spot : Tag → Quotes → Option Body → Option Place
 value_spot t q None = None

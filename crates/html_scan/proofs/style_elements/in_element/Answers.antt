@@ -1,4 +1,4 @@
-use Rattle.std.proofs.Common.{◌∙◌, ◌≤◌, ◌+◌, ℕ, arith}
+use Rattle.std.proofs.Common.{◌∙◌, arith}
 use Rattle.css_step.specs.StyleScanViews.{style_scan_at}
 use Rattle.html_scan.proofs.StyleElements.{loose_byte}
 use Rattle.html_scan.proofs.style_elements.in_element.Goals as goal

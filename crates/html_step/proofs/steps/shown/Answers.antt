@@ -26,13 +26,13 @@ loop-index-preserved c =
     c.next-scan.ensures.scan in
     elim c.if-is_shown.branch [
       | then-is_shown w ↦ rw (w.last-is, w.end-is) (
-        more (scan_shown f left) (shown-here (scan_shown f left) before (sym w.if-is_shown.true ∙ c.is_shown.ensures text i left)) c.loop-index.invariant.0,
+        more (scan_shown f left) (shown-here (scan_shown f left) before (sym w.if-is_shown.true ∙ c.is_shown.ensures)) c.loop-index.invariant.0,
         c.next-scan.ensures.pending,
         c.loop-index.invariant.1,
         omega arith,
       )
       | else-is_shown w ↦ rw (w.last-is, w.end-is) (
-        more before (shown-before (scan_shown f left) before (sym w.if-is_shown.false ∙ c.is_shown.ensures text i left)) c.loop-index.invariant.0,
+        more before (shown-before (scan_shown f left) before (sym w.if-is_shown.false ∙ c.is_shown.ensures)) c.loop-index.invariant.0,
         c.next-scan.ensures.pending,
         c.loop-index.invariant.2,
         omega (arith, c.loop-index.invariant.3),
@@ -50,7 +50,7 @@ returns-in-Some c =
     let last =
     λ (after : Option Place). shown-at c.args.at c.loop-index.index text f before after z
     (omega (arith, c.loop-index-test.false, c.loop-index.auto.index-end)) in
-    let tells = c.is_shown-2.ensures text c.args.at (drop c.args.at text) in
+    let tells = c.is_shown-2.ensures in
     let is : shown ≡ z =
     elim c.if-is_shown-2.branch [
       | then-is_shown-2 w ↦ rw (w.last-is, w.end-is) (last here (shown-here here before (sym w.if-is_shown-2.true ∙ tells)) c.loop-index.invariant.0)
@@ -69,7 +69,7 @@ returns-in-None c =
     let last =
     λ (after : Option Place). shown-at c.args.at c.loop-index.index text f before after z
     (omega (arith, c.loop-index-test.false, c.loop-index.auto.index-end)) in
-    let tells = c.is_shown-2.ensures text c.args.at (drop c.args.at text) in
+    let tells = c.is_shown-2.ensures in
     let is : shown ≡ z =
     elim c.if-is_shown-2.branch [
       | then-is_shown-2 w ↦ rw (w.last-is, w.end-is) (last here (shown-here here before (sym w.if-is_shown-2.true ∙ tells)) c.loop-index.invariant.0)

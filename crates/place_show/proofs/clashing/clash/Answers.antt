@@ -1,8 +1,8 @@
-use Rattle.std.proofs.Common.{refl, sym, subst, ℕ, List}
+use Rattle.std.proofs.Common.{refl, sym, subst, ℕ, ◌≤◌, length, List}
 use Rattle.place_show.proofs.Clash.{clash-shown}
 use Rattle.place_show.proofs.Makings.{made-two-as}
 use Rattle.place_show.proofs.Mapped.{if-shown}
-use Rattle.place_show.proofs.Within.{at-text, refused-within, taken-text}
+use Rattle.place_show.proofs.Within.{at-text, taken-text}
 use Rattle.place_show.specs.AtNodes.{ShowsTwoAt}
 use Rattle.place_show.specs.LastApart.{AreShownBy}
 use Rattle.place_show.specs.Made.{IsMadeTwo}
@@ -11,8 +11,7 @@ use Rattle.place_show.proofs.clashing.clash.Goals as goal
 
 pub text_mark-mark-requires-clause-within : goal.text_mark-mark-requires-clause-within
 text_mark-mark-requires-clause-within c =
-    let both = c.in-Some.both in
-    refused-within c.args.text.now both c.in-Err.refused (at-text c.as_str-bytes.result.now c.args.text.now both c.in-Err.refused c.as_str-bytes.ensures c.in-Err.ensures)
+    subst (λ (b : List ℕ). c.in-Err.refused.at ≤ length b) c.as_str-bytes.ensures c.in-Err.ensures.bound
 
 pub returns-in-Some-shown_places : goal.returns-in-Some-shown_places
 returns-in-Some-shown_places c =
@@ -31,7 +30,7 @@ returns-in-Some-shown_places c =
     let line = text_line text (head_line (nodes_from nodes n)) (head_seams (nodes_from nodes n)) e.at in
     let at = c.in-Some-shown_places.at in
     let other_at = c.in-Some-shown_places.other_at in
-    let refused = at-text bytes text both e same c.in-Err.ensures in
+    let refused = at-text bytes text both e same c.in-Err.ensures.place in
     let takes = c.if-not-takes.ensures refl in
     let other_takes = c.if-not-takes-2.ensures refl in
     let taken = taken-text bytes text w.place e.at same takes in

@@ -1,0 +1,120 @@
+-- Small pages with scripts that fill their paths: a value in code, in a string, in a regular expression and in a comment.
+use Rattle.std.proofs.Common.{ℕ, false, true, codes, List, [], ◌∷◌, refl}
+use Rattle.js_lexer.specs.Classes.{class_of}
+use Rattle.js_lexer.specs.Events.{RegexpBegins, ScriptByte}
+use Rattle.js_lexer.specs.BackLaws.{in_string, in_regexp}
+use Rattle.js_lexer.specs.Plain.{IsPlainInScript, literal_events}
+use Rattle.js_lexer.specs.States.{no_trail}
+use Rattle.js_lexer.specs.WhiteSpace.{released, held_after}
+use Rattle.page_datum.specs.Data.{truth}
+use Rattle.place_core.specs.page.Classes as html
+use Rattle.place_core.specs.page.Events.{InsideScript, LexEvent, told_in_script}
+use Rattle.place_core.specs.page.Html.{read, start}
+use Rattle.place_core.specs.page.Paths.{Hole, Written, read_path}
+use Rattle.place_core.specs.page.References.{Closed, meaning}
+use Rattle.place_core.specs.page.States.{Page, Text}
+use Rattle.place_core.specs.page.Tags.{DoubleQuoted, languages}
+use Rattle.text_norm.proofs.FilledEvents.{fills-mark}
+use Rattle.text_norm.proofs.SureStates.{fills-node}
+use Rattle.text_norm.specs.Fillings.{Fills, FillsPath, IsLiteralRun, IsRegexpRun, IsScriptStringRun, ScriptCodeSite, ScriptRegexpSite, ScriptStringSite, filling, script_run}
+
+-- a text, a hole, another text
+abbrev FillsAround : List ℕ → List ℕ → List ℕ → List ℕ → Type 0
+FillsAround before text behind page = FillsPath (Written before ∷ Hole ∷ Written behind ∷ []) (text ∷ []) page
+
+abbrev page_events : List ℕ → List LexEvent
+page_events page = (read Page page start).emitted
+
+begun : (before : List ℕ) → Fills (read_path languages (Written before ∷ []) start).emitted []
+    (read_path languages (Written before ∷ []) start).emitted
+begun before = fills-node [] before (Text Closed) [] [] refl (refl, refl)
+
+-- <a onclick="f({{.}})"> with true: the tokens of its literal
+abbrev call : List ℕ
+call = codes "<a onclick=\"f("
+
+in_code : FillsAround call (codes "true") (codes ")\">") (codes "<a onclick=\"f( true )\">")
+unfolding html.class_of class_of released held_after meaning lib.Utf8.encode
+in_code =
+    let t = page_events call in
+    let v = filling ScriptCodeSite (codes "true") in
+    let run = told_in_script (literal_events (truth true) []) [] in
+    let fits : IsLiteralRun (codes "true") run = record { datum = truth true; prints = refl; emitted = refl } in
+    record { ends = refl; events = (_, _, refl, refl, (_, _, refl, refl, (_, _, refl, refl, fills-mark v [] run t t fits (begun call)))) }
+
+-- <a onclick="f('{{.}}')"> with `a'`: bytes of the string
+abbrev string : List ℕ
+string = codes "<a onclick=\"f('"
+
+abbrev in_string_bytes : List ℕ
+in_string_bytes = codes "a\\u0027"
+
+plain_in_string : IsPlainInScript in_string_bytes (in_string false no_trail)
+unfolding class_of released held_after
+plain_in_string = record {
+  apart = refl;
+  leads = record {
+    at = refl;
+    outside = refl;
+    within = refl;
+    whole_before = record { none = refl; closed = refl };
+    whole_after = record { none = refl; closed = refl };
+    settled = refl;
+    released = refl;
+  };
+  tells = refl;
+  written = tt;
+}
+
+in_a_string : FillsAround string (codes "a'") (codes "')\">") (codes "<a onclick=\"f('a\\u0027')\">")
+unfolding html.class_of class_of released held_after meaning lib.Utf8.encode
+in_a_string =
+    let t = page_events string in
+    let v = filling (ScriptStringSite DoubleQuoted false) (codes "a'") in
+    let run = script_run (in_string false no_trail) in_string_bytes in
+    let fits : IsScriptStringRun DoubleQuoted false (codes "a'") run = record { bytes = in_string_bytes; emitted = refl; plain = plain_in_string; reads = refl } in
+    record {
+      ends = refl;
+      events = (_, _, refl, refl, (_, _, refl, refl, (_, _, refl, refl, (_, _, refl, refl, fills-mark v [] run t t fits (begun string)))));
+    }
+
+-- <a onclick="/{{.}}/"> with no text: the slash before it begins a regular expression
+abbrev regexp : List ℕ
+regexp = codes "<a onclick=\"/"
+
+plain_in_regexp : IsPlainInScript (codes "(?:)") (in_regexp no_trail)
+unfolding class_of released held_after
+plain_in_regexp = record {
+  apart = refl;
+  leads = record {
+    at = refl;
+    outside = refl;
+    within = refl;
+    whole_before = record { none = refl; closed = refl };
+    whole_after = record { none = refl; closed = refl };
+    settled = refl;
+    released = refl;
+  };
+  tells = refl;
+  written = tt;
+}
+
+empty_regexp : FillsAround regexp [] (codes "/\">") (codes "<a onclick=\"/(?:)/\">")
+unfolding html.class_of class_of released held_after meaning lib.Utf8.encode
+empty_regexp =
+    let t = page_events (codes "<a onclick=\"") in
+    let v = filling ScriptRegexpSite [] in
+    let run = script_run (in_regexp no_trail) (codes "(?:)") in
+    let fits : IsRegexpRun [] run = record { bytes = codes "(?:)"; emitted = refl; plain = plain_in_regexp; reads = refl } in
+    let slash : List LexEvent = InsideScript (ScriptByte 47) ∷ InsideScript RegexpBegins ∷ t in
+    let told : Fills slash [] slash = (_, _, refl, refl, (_, _, refl, refl, begun (codes "<a onclick=\""))) in
+    let ends = fills-mark v [] run slash slash fits told in
+    record { ends = refl; events = (_, _, refl, refl, (_, _, refl, refl, ends)) }
+
+-- <a onclick="//{{.}}">: in a comment no value has a filling
+abbrev comment : List ℕ
+comment = codes "<a onclick=\"//"
+
+in_a_comment : FillsAround comment (codes "a") (codes "\">") (codes "<a onclick=\"//\">")
+unfolding html.class_of class_of released held_after meaning lib.Utf8.encode
+in_a_comment = record { ends = refl; events = (_, _, refl, refl, begun comment) }
