@@ -8,7 +8,8 @@ import html
 MARK = "q"  # begins each harmless text, and stands in no URL that a template writes
 
 # What texts of templates say, by the kind of context: each leads from a context of the kind to one of it, as does a hole. `open` is
-# behind a value at the beginning of a URL, and `note` is in a comment.
+# behind a value at the beginning of a URL, and `note` is in a comment. In an event handler `script` is between statements, where a hole has
+# a statement around it, `quoted` in a string, `pattern` in a regular expression and `aside` in a comment.
 WORDS = ["a b ", "x &amp; y", "R&", "&am", "&lt", "&#106;ava", "&#x", "1 < 2 > 1 ", "javascript", "vbscript:", " data", "%3",
          "\u00e9\u2028", "\n"]
 TEXTS = {
@@ -24,14 +25,28 @@ TEXTS = {
               " @media ", " url(/a.png) ", "\u00e9", " \\41 ", "+", "/ ", "&lt; ", " calc(1px + "],
     "string": ["a ", "b\\41 ", "\\;", "&lt;", ";", "(", "/*", "url(", "\u00e9", "x:y", "}"],
     "remark": ["a", " ", ";", "&#39;", "url(", "* ", "(", "\u00e9"],
+    "script": ["f();", " ", "a = b / 2;", "i++;", "x = /[&#39;/]/.test(y);", "s = `a${b}c`;", "if (a &lt; b) { f(); };", "/* c */",
+               "// d\n", "\u00e9 = 1;", "a &amp;&amp; b();", "return /a/;", "&#102;();", "y = a &lt; /b/;", "n-- > 0;", "s = `${`}`}/`;",
+               "\n", "x = [1.5, .5e3, 0x1f];", "f(&#39;&lt;!--&#39;);", "({}) / 2;"],
+    "quoted": ["a ", "\\n", "&lt;", "&lt;!--", "&lt;/script>", "$", "//", "/*", "\u00e9", "\u2028", "\\u0041", "\\&#39;",
+               "\\&#34;", "&amp;", ";", "`"],
+    "pattern": ["a", "[/]", "\\/", "(b|c)", "\\d+", ".", "\u00e9", "&amp;", "[^a]", "&#39;", "`", "(?:d)"],
+    "aside": ["a", " ", "* ", "&#39;", "/ ", "`", "&lt;/script>", "\u00e9", "&lt;!--"],
 }
+# Statements with holes, which are where each `@` is.
+STATEMENTS = ["f(@);", "f(@);", "x = @;", "x = [@, 1];", "x = {a: @};", "if (@) { f(); };", "x = a - @;", "x = a / @ / b;", "x = @ / 2;",
+              "x = typeof@;", "a&lt;@;", "x = y ? @ : @;", "x = a[@];", "x = @.length;", "f(@, &#39;@&#39;, /@/);", "return @;",
+              "f(a, &#34;@&#34;);", "x = (@);", "switch (a) { case@: f(); };", "for (x in @) { f(x); };", "x = !@;", "x = @ + @;",
+              "x = a+@+b;", "x = a &amp;&amp; @;", "\nf(@) // a\n;", "x = /@/.test(@);", "x = f in@;", "throw@;"]
 # Kinds of templates that others call.
-KINDS = ["text", "text", "plain", "plain", "note", "attributes", "open", "path", "query", "style", "string"]
+KINDS = ["text", "text", "plain", "plain", "note", "attributes", "open", "path", "query", "style", "string", "script", "script", "quoted",
+         "pattern"]
 
 ELEMENTS = ["p", "a", "b", "td", "LI", "form", "object", "x-y", "svg", "img", "blockquote", "h1"]
 PLAIN_NAMES = ["title", "class", "alt", "Value", "data-x", "content", "type", "hidden", "aria-label"]
 URL_NAMES = ["href", "src", "action", "formaction", "cite", "poster", "data", "background", "manifest", "icon", "longdesc", "usemap",
              "profile", "classid", "codebase", "archive"]
+SCRIPT_NAMES = ["onclick", "onload", "ONINPUT", "data-onx", "x:onfocus"]
 MORE_URL_NAMES = ["HREF", "data-href", "xlink:href", "xmlns:x", "my-url", "imgsrc", "x-uri"]
 
 # Whole URLs without a hole, texts that lead past any scheme, and texts in which one may still end.
@@ -42,7 +57,7 @@ LETTERS = ["java", "javascript", "vbscript", "d", "data", "x", "&#106;ava", "jav
 
 # What may be refused, by the kind of context. In a template `$` is what it is called with, and so always has all the keys.
 MAY_BE_REFUSED = {
-    "text": ['<p {{if $.t}}class="x{{end}}>', "<script>{{$.a}}</script>", '<p onclick="f({{$.a}})">', '<p style="x:{{$.a}}(">',
+    "text": ['<p {{if $.t}}class="x{{end}}>', "<script>{{$.a}}</script>", '<p onclick="f(`{{$.a}}`)">', '<p style="x:{{$.a}}(">',
              "<h{{$.n}}>",
              "<!--{{$.a}}-->", '<a href="javascript:{{$.a}}">', '<a href="{{$.a}}:x">', "<a href=x{{$.a}}&#58;y>", '<a href="/%4{{$.a}}">',
              '<a href="/a{{if $.t}}?{{end}}{{$.b}}">', '{{template "none" .}}', '<iframe srcdoc="{{$.a}}"></iframe>', "<b x={{$.a}}=1>",
@@ -63,6 +78,15 @@ MAY_BE_REFUSED = {
               " url({{$.a}}:x)", " url({{if $.t}}/{{end}}{{$.a}})"],
     "string": ["&#10;", "\\", "\\26", "&#34;", "&copy;", "{{html $.a}}"],
     "remark": ["*", "/", "*/", "{{html $.a}}"],
+    "script": ["f(`{{$.a}}`);", "f(&#39;\\{{$.a}}&#39;);", "x = /[{{$.a}}]/;", "x = {} / {{$.a}};", "f({{html $.a}});", "a&lt;/{{$.a}}/;",
+               "x = {{if $.t}}{{$.a}}{{end}}/b/.c;", "/* *{{$.a}}/ */", "{{$.a}}&lt;!--b;",
+               "f({{if $.t}}&#39;{{$.a}}{{else}}a{{end}}&#39;);",
+               "{} / 2;", "x = {{if $.t}}a{{end}}/b/.c;", "f{{if $.t}}oo{{end}}();",
+               "f(`{{if $.t}}a{{end}}`);", "n-->0;", "a &lt;!--b;", "x = /[{{if $.t}}a{{end}}b]/;", "a&copy;;",
+               "a &lt;/{{if $.t}}b{{end}}/;", "{{if $.t}}&#39;{{end}}"],
+    "quoted": ["\\{{$.a}}", "\\x4{{$.a}}", "{{html $.a}}", "&#10;", "\\{{if $.t}}n{{end}}", "\\u00{{if $.t}}41{{end}}", "&copy;"],
+    "aside": ["*", "*/", "{{html $.a}}"],
+    "pattern": ["\\{{$.a}}", "[{{$.a}}]", "{{urlquery $.a}}", "&#10;", "\\{{if $.t}}d{{end}}", "[a{{if $.t}}b{{end}}]", "&copy;"],
 }
 
 # Texts of the element `style` that are nearly its end tag, a comment of HTML, or a reference.
@@ -160,8 +184,10 @@ class SetMaker:
         if not is_record and self.source.random() < 0.5:
             return self.written(".", kind)
         field = top + self.source.choice("aaaabbbbccccenztfuvld")
+        if self.source.random() < 0.55:
+            return self.written(field, kind)
         text = top + self.source.choice("abc")
-        return self.written(self.source.choice([field] * 14 + [
+        return self.written(self.source.choice([
             f"print {field} {text}", f'print {text} ":"', f'printf "%s" {text}', f'printf "%v|%5d" {field} {top}n', f"len {text}",
             f"index {top}l 0", f"print (index {top}l 0) {field}", f"slice {text} 0 1", f"len {top}l | print {text}", '"javascript:"',
             f"or {field} {text}"]), kind)
@@ -169,14 +195,15 @@ class SetMaker:
     def written(self, value, kind):
         escaper = {"text": "html", "plain": "html", "query": "urlquery"}.get(kind)
         named = f" | {escaper}" if escaper and self.source.random() < 0.05 else ""
-        return f"{{{{{value}{named}}}}}" + (" " if kind == "attributes" else "")
+        hole = f"{{{{{value}{named}}}}}" + (" " if kind == "attributes" else "")
+        return self.source.choice(STATEMENTS).replace("@", hole) if kind == "script" else hole
 
     def element(self, depth, is_record):
         plain = lambda kind="plain": self.pieces(kind, depth, is_record)
         name = self.source.choice(ELEMENTS)
-        tag = f"<{name} {self.pieces('attributes', depth, is_record)}>"
+        tag = lambda: f"<{name} {self.pieces('attributes', depth, is_record)}>"
         return self.source.choice([
-            lambda: tag, lambda: f"{tag}{plain('text')}</{name}>", lambda: f"{tag}{plain()}</{name}>",
+            tag, lambda: f"{tag()}{plain('text')}</{name}>", lambda: f"{tag()}{plain()}</{name}>",
             lambda: f"<{name} {self.attribute(depth, is_record)}/>", lambda: f"<p>{plain()}</p >",
             lambda: f"<title>{plain()}</title>", lambda: f"<title><b>{plain()}</b></title>",
             lambda: f"<textarea {self.attribute(depth, is_record)}>{plain()}</p></textarea>",
@@ -189,14 +216,34 @@ class SetMaker:
     def attribute(self, depth, is_record):
         plain_name, url_name = self.source.choice(PLAIN_NAMES), self.source.choice(URL_NAMES * 2 + MORE_URL_NAMES)
         quote = self.source.choice(['"', '"', "'", ""])
-        value = self.pieces("plain", depth, is_record) if quote else self.begun(depth, is_record)
+        value = lambda: self.pieces("plain", depth, is_record) if quote else self.begun(depth, is_record)
         url = lambda: f"{url_name}={quote}{self.url(quote, depth, is_record)}{quote} "
         return self.source.choice([
-            url, url, url, url, lambda: f"{plain_name}={quote}{value}{quote} ", lambda: f"{plain_name} ",
+            url, url, url, url, lambda: f"{plain_name}={quote}{value()}{quote} ", lambda: f"{plain_name} ",
             lambda: f"style={quote}{self.style(quote, depth, is_record)}{quote} ", lambda: f'style="{self.style(1, depth, is_record)}" ',
-            lambda: self.hole("attributes", is_record), lambda: f"{self.hole('attributes', is_record)}={quote}{value}{quote} ",
+            lambda: f"{self.source.choice(SCRIPT_NAMES)}={quote}{self.script(quote, depth, is_record)}{quote} ",
+            lambda: self.hole("attributes", is_record), lambda: f"{self.hole('attributes', is_record)}={quote}{value()}{quote} ",
             lambda: "{{range $k, $w := $.d}}{{$k}}=" + f"{quote}{{{{$w}}}}{quote} {{{{end}}}}",
         ])()
+
+    def script(self, quote, depth, is_record):
+        """An event handler."""
+        more = lambda kind: self.pieces(kind, depth, is_record)
+        condition = self.condition("." if is_record else "$.")
+        if not quote:
+            hole = self.hole("word", is_record)
+            return self.source.choice([
+                f"f({{{{if {condition}}}}}{self.source.choice(['1', 'a.b', '/&#61;/', hole])}{{{{end}}}})", hole, f"f({hole})",
+                f"f(&#39;{hole}&#39;)", f"x&#61;/{hole}/", f"/*{hole}*/f({hole})", f"f(a,&#34;{hole}&#34;,{hole})", f"f({hole})//{hole}"])
+        mark = self.source.choice(["&#39;", "&#34;", "&quot;"])
+        parts = [
+            lambda: more("script"), lambda: f"f({mark}{more('quoted')}{mark});", lambda: f" x = /a{more('pattern')}/.test(y);",
+            lambda: " /* // ' */", lambda: f"g({{{{if {condition}}}}}1{{{{else}}}}a{{{{end}}}}, 2);",
+            lambda: f" /* {more('aside')} */", lambda: f" // {more('aside')}\n", lambda: self.hole("script", is_record),
+            lambda: f" x = [{{{{range $.l}}}}{{{{.}}}}, {{{{end}}}}1]; ", lambda: f"f({mark}{self.hole('quoted', is_record)}{mark});",
+            lambda: f" x = /{self.hole('pattern', is_record)}/.test(y);",
+        ]
+        return "".join(self.source.choice(parts)() for _ in range(self.source.randint(1, 3))).replace("'", "&#39;")
 
     def style(self, quote, depth, is_record):
         more = lambda kind: self.pieces(kind, depth, is_record)
@@ -265,6 +312,15 @@ HOSTILE_STYLES = [
 ]
 
 
+HOSTILE_SCRIPTS = [
+    "'", '"', "`", "\\", "\\'", '\\"', "');alert(1)//", '");alert(1)//', "${alert(1)}", "*/", "/*", "//", "/", "/g", "]", "[", "(", ")",
+    "(?:", "|", "^", "$", "\n", "\r", "\u2028", "\u2029", "a\nalert(1)", "</script>", "<!--", "-->", "--", "++", "+", "-", ".", "{", "}",
+    ";", ",", "=", "=>", "x41", "u0041", "\\u0027", "\\x27", "\\u{27}", "&#39;", "&quot;", "&apos;", "&#34", "&Tab;", "0", "1e3", "null",
+    "true", "NaN", "__proto__", "constructor", "use strict", "\0", "\b", "\f", "\x0b", "\x7f", "\ufeff", "\u00a0", "\U0001f600", "#",
+    "#!", "@", "a b", "*", "?", "{2}", "\\d", "\\b", "cA",
+]
+
+
 class DataMaker:
     """Makes data of one random shape. A shape is data whose texts, numbers and entries are still to be filled."""
 
@@ -301,5 +357,5 @@ class DataMaker:
     def text(self, is_hostile):
         if not is_hostile:
             return MARK + "".join(self.source.choices("abcdefgh", k=self.source.randint(1, 6)))
-        lists = [HOSTILE_URLS, HOSTILE_TEXTS, HOSTILE_STYLES]
+        lists = [HOSTILE_URLS, HOSTILE_TEXTS, HOSTILE_STYLES, HOSTILE_SCRIPTS]
         return "".join(self.source.choices(self.source.choice(lists), k=self.source.choice([1, 1, 1, 2, 3])))

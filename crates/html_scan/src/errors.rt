@@ -1,6 +1,6 @@
 ghost use Rattle.std.specs.Prelude.{◌≡◌, ◌<◌, ◌≤◌, IfSome, get_or, length, if◌then◌else◌};
 ghost use Rattle.place_core.specs.declared.code.Code.TheVariants as code;
-ghost use Rattle.place_core.specs.place.Errors.{attribute_name_error, bare_error, block_byte_error, block_error, comment_error, content_error, equals_error, kind_error, quotes_error, tag_error, tag_name_error, unless_second, value_error};
+ghost use Rattle.place_core.specs.place.Errors.{attribute_name_error, bare_error, block_byte_error, block_error, comment_error, content_error, equals_error, quotes_error, tag_error, tag_name_error, unless_second, value_error};
 ghost use Rattle.std.specs.Str.{str_to_ascii_lowercase as lower};
 ghost use Rattle.place_core.specs.page.Tags.{element_on, is_second_type};
 ghost use Rattle.place_core.specs.page.States.{PendingBangDash};
@@ -67,12 +67,10 @@ pub fn in_attribute_name(tag: TagOf, typed: bool, name: &[u8], class: Class) -> 
         (cause.back ≤ length name.now) × (cause.shown ≤ length name.now)) }
 {
     match class {
-        Class::White | Class::Solidus => name_ends(typed, kind_on(tag, name), name.len(), None),
-        Class::GreaterThan => name_ends(typed, kind_on(tag, name), name.len(), entering(tag)),
-        Class::EqualsSign => {
-            let kind = kind_on(tag, name);
-            name_ends(typed, kind, name.len(), of_kind(kind))
+        Class::White | Class::Solidus | Class::EqualsSign => {
+            name_ends(typed, kind_on(tag, name), name.len(), None)
         }
+        Class::GreaterThan => name_ends(typed, kind_on(tag, name), name.len(), entering(tag)),
         Class::QuotationMark | Class::Apostrophe | Class::LessThan => at_hand(Some(Code::BadHTML)),
         _ => None,
     }
@@ -100,7 +98,7 @@ fn in_tag(place: TagPlace, class: Class) -> Option<Code>
     match class {
         Class::White | Class::Solidus => None,
         Class::GreaterThan => entering(place.tag),
-        Class::EqualsSign => equals_sign(place.spots.name, place.spots.before, place.kind),
+        Class::EqualsSign => equals_sign(place.spots.name, place.spots.before),
         Class::QuotationMark | Class::Apostrophe | Class::LessThan => Some(no_name(
             place.spots.name,
         )),
@@ -126,18 +124,15 @@ fn no_name(name: bool) -> Code
 }
 
 // An equals sign begins a value after a name alone.
-fn equals_sign(name: bool, before: bool, kind: Option<Kind>) -> Option<Code>
-    ensures { result ≡ equals_error name before kind }
+fn equals_sign(name: bool, before: bool) -> Option<Code>
+    ensures { result ≡ equals_error name before }
 {
     if name {
-        return Some(Code::SplitToken);
-    }
-    if before {
-        return Some(Code::BadHTML);
-    }
-    match kind {
-        Some(kind) => of_kind(kind),
-        None => None,
+        Some(Code::SplitToken)
+    } else if before {
+        Some(Code::BadHTML)
+    } else {
+        None
     }
 }
 
@@ -317,16 +312,6 @@ fn entering(tag: TagOf) -> Option<Code>
     match tag {
         TagOf::Start(Element::Script) => Some(Code::NotBuilt),
         _ => None,
-    }
-}
-
-// The value of an attribute of this kind.
-fn of_kind(kind: Kind) -> Option<Code>
-    ensures { result ≡ kind_error kind }
-{
-    match kind {
-        Kind::Plain | Kind::NoHole | Kind::Url | Kind::Style | Kind::ScriptType => None,
-        Kind::Script => Some(Code::NotBuilt),
     }
 }
 

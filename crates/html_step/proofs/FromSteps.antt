@@ -2,7 +2,7 @@
 use Rattle.std.proofs.Common.{◌≡◌, ℕ, Bool, true, false, ◌||◌, List, [], ◌∷◌, if◌then◌else◌, Option, Some, None, refl, sym, ap, ◌∙◌, subst}
 use Rattle.std.specs.Char.{to_ascii_lowercase}
 use Rattle.place_core.specs.page.Classes.{Class, White, QuotationMark, Apostrophe, HyphenMinus, Solidus, LessThan, EqualsSign, GreaterThan}
-use Rattle.place_core.specs.place.Errors.{kind_error, tag_error}
+use Rattle.place_core.specs.place.Errors.{tag_error}
 use Rattle.place_core.specs.place.Places.{Has, IsValid, IsValidTag, dash_has, is_whole, typed_has}
 use Rattle.place_core.specs.place.StatePlaces.{unbegun}
 use Rattle.place_core.specs.place.UrlParts.{parts_of}
@@ -96,13 +96,13 @@ from-solidus t b member.BeforeSpot h = from-tag t Solidus b member.BeforeSpot me
 from-solidus t b _ h = absurd (no h)
 
 -- a value that begins
-begins-typed : (t : TagOf) (x : Bool) (k : Kind) → kind_error k ≡ None → ScanHas (value_scan t x (Some k)) member.Typed → (x || false) ≡ true
-begins-typed t x kind.Plain n h = h
-begins-typed t x kind.NoHole n h = h
-begins-typed t x kind.Url n h = h
-begins-typed t x kind.Script n h = h
-begins-typed t x kind.Style n h = h
-begins-typed t x kind.ScriptType n h = absurd (no h)
+begins-typed : (t : TagOf) (x : Bool) (k : Kind) → ScanHas (value_scan t x (Some k)) member.Typed → (x || false) ≡ true
+begins-typed t x kind.Plain h = h
+begins-typed t x kind.NoHole h = h
+begins-typed t x kind.Url h = h
+begins-typed t x kind.Script h = h
+begins-typed t x kind.Style h = h
+begins-typed t x kind.ScriptType h = absurd (no h)
 
 -- whether a `type` may have been seen is a member of its own, the others do not depend on it
 value-typed : (x z : Bool) (q : Quotes) (b : Body) (y : Member) → value_has x q b y ≡ true → (typed_has true y ≡ true → z ≡ true) → value_has z q b y ≡ true
@@ -110,29 +110,29 @@ value-typed x z q b member.Typed h f = rw (f refl) refl
 value-typed x z q b _ h f = h
 
 -- what one value of a kind has, another one has
-begins-alike : (t u : TagOf) (x z : Bool) (k : Kind) (y : Member) → kind_error k ≡ None → ScanHas (value_scan t x (Some k)) y
+begins-alike : (t u : TagOf) (x z : Bool) (k : Kind) (y : Member) → ScanHas (value_scan t x (Some k)) y
     → (typed_has true y ≡ true → z ≡ true)
     → ScanHas (value_scan u z (Some k)) y
-begins-alike t u x z kind.Plain y n h f = value-typed x z unbegun body.Plain y h f
-begins-alike t u x z kind.NoHole y n h f = value-typed x z unbegun body.NoHole y h f
-begins-alike t u x z kind.Url y n h f = value-typed x z unbegun (body.Url (parts_of UrlStart)) y h f
-begins-alike t u x z kind.Script y n h f = value-typed x z unbegun (body.Js empty_js) y h f
-begins-alike t u x z kind.Style y n h f = value-typed x z unbegun (body.Css empty_css) y h f
-begins-alike t u x z kind.ScriptType y n h f = h
+begins-alike t u x z kind.Plain y h f = value-typed x z unbegun body.Plain y h f
+begins-alike t u x z kind.NoHole y h f = value-typed x z unbegun body.NoHole y h f
+begins-alike t u x z kind.Url y h f = value-typed x z unbegun (body.Url (parts_of UrlStart)) y h f
+begins-alike t u x z kind.Script y h f = value-typed x z unbegun (body.Js empty_js) y h f
+begins-alike t u x z kind.Style y h f = value-typed x z unbegun (body.Css empty_css) y h f
+begins-alike t u x z kind.ScriptType y h f = h
 
 begins-below : (t u : TagPlace) (b : ℕ) (y : Member) → IsValidTag u → TagBelow u t → tag_error t EqualsSign ≡ None → ScanHas (tag_next t EqualsSign b) y
     → (typed_has true y ≡ true → u.typed ≡ true) → ScanHas (tag_next u EqualsSign b) y
 begins-below t u b y w l n h f =
     let j = has-kind u t w l n in
     subst (λ (o : Option Kind). ScanHas (value_scan u.tag u.typed o) y) (sym j.there)
-    (begins-alike t.tag u.tag t.typed u.typed j.kind y j.built (subst (λ (o : Option Kind). ScanHas (value_scan t.tag t.typed o) y) j.too h) f)
+    (begins-alike t.tag u.tag t.typed u.typed j.kind y (subst (λ (o : Option Kind). ScanHas (value_scan t.tag t.typed o) y) j.too h) f)
 
 pub from-equals : (t : TagPlace) (b : ℕ) (y : Member) → IsValidTag t → tag_error t EqualsSign ≡ None → ScanHas (tag_next t EqualsSign b) y
     → From (At (place.Tag t)) EqualsSign b y (typed_origin y)
 from-equals t b member.Typed v n h =
     let k = has-kind t t v (below-tag t t (places_same (place.Tag t))) n in
     from-tag t EqualsSign b member.Typed member.Typed
-    (begins-typed t.tag t.typed k.kind k.built (subst (λ (o : Option Kind). ScanHas (value_scan t.tag t.typed o) member.Typed) k.there h))
+    (begins-typed t.tag t.typed k.kind (subst (λ (o : Option Kind). ScanHas (value_scan t.tag t.typed o) member.Typed) k.there h))
     (λ u w l o. begins-below t u b member.Typed w l n h (λ e. or-false u.typed o))
 from-equals t b y v n h = from-tag t EqualsSign b y member.Whole refl (λ u w l o. begins-below t u b y w l n h (λ e. absurd (no e)))
 

@@ -5,7 +5,7 @@ use Rattle.place_core.specs.page.Tags.{ValueState, refusal_code}
 use Rattle.place_core.specs.place.Errors.{hole_error}
 use Rattle.place_core.specs.place.PathPairs.{parts_clash, url_part_at}
 use Rattle.place_core.specs.place.Membership.{IsIn}
-use Rattle.place_core.specs.place.LanguagePlaces.{IsValidCss, IsValidParts, both_parts}
+use Rattle.place_core.specs.place.LanguagePlaces.{IsValidCss, IsValidJs, IsValidParts, both_parts}
 use Rattle.place_core.specs.place.Places.{Below, IsValid, IsValidBody, IsValidQuotes, joined_bodies, joined_quotes}
 use Rattle.place_core.specs.place.StatePlaces.{only_inside}
 use Rattle.place_core.specs.place.UrlParts.{parts_of}
@@ -15,6 +15,8 @@ use Rattle.place_core.specs.declared.chain.Chain.{Chain}
 use Rattle.place_core.specs.declared.code.Code.{Code}
 use Rattle.place_core.specs.declared.css.Css.{Css}
 use Rattle.place_core.specs.declared.css.Css.TheVariants as css
+use Rattle.place_core.specs.declared.js.Js.{Js}
+use Rattle.place_core.specs.declared.js.Js.TheVariants as js
 use Rattle.place_core.specs.declared.kind.Kind.TheVariants as kind
 use Rattle.place_core.specs.declared.parts.Parts.{Parts}
 use Rattle.place_core.specs.declared.place.Place.{Place}
@@ -28,7 +30,7 @@ use Rattle.place_core.specs.declared.value_place.ValuePlace.{ValuePlace}
 use Rattle.place_core.proofs.Semilattices.{none_some, one_value}
 use Rattle.html_scan.specs.Scans.{bare_begun}
 use Rattle.html_step.specs.HoleLaws.{AcceptsHole, CoversHole, GrowsHole, OneHole, ValidHole}
-use Rattle.html_step.specs.Holes.{Holed, after_hole, css_chain, css_holed, element_holed, holed_quotes, last_of, named_by_data, only, plain_hole, url_chain, url_holed, value_hole, block_hole}
+use Rattle.html_step.specs.Holes.{Holed, after_hole, both_of, css_chain, css_holed, element_holed, holed_quotes, js_holed, last_of, named_by_data, only, plain_hole, url_chain, url_holed, value_hole, block_hole}
 use Rattle.css_lexer.specs.RefusalCodes.{RefusalCode}
 use Rattle.css_step.specs.StyleChains.{style_hole_with_chain, style_sans}
 use Rattle.css_step.specs.StyleScans.{style_at_hole, style_hole_error}
@@ -37,7 +39,13 @@ use Rattle.css_step.specs.StyleSetLaws.{StyleBelow}
 use Rattle.css_step.proofs.StyleGrowth.{styles-grow, url-none}
 use Rattle.css_step.proofs.StyleParts.{styles-stay-valid}
 use Rattle.html_step.proofs.EscapeOrder.{css-dq-one, css-sq-one, css-url-one}
+use Rattle.html_step.proofs.ScriptOrder.{below-js, js-below}
 use Rattle.html_step.proofs.StyleOrder.{below-css, css-below}
+use Rattle.js_step.specs.ScriptSanitizers.{script_sanitizer}
+use Rattle.js_step.specs.ScriptScans.{script_at_hole}
+use Rattle.js_step.specs.ScriptSetLaws.{ScriptBelow}
+use Rattle.js_step.proofs.ScriptGrowth.{scripts-grow}
+use Rattle.js_step.proofs.ValidScripts.{scripts-stay-valid}
 use Rattle.url_step.specs.Chains.{chain_of}
 use Rattle.html_step.proofs.ScanOrder.{one-spot, parts-below, value-from, block-below, plain-same, style-below-place, style-place-below}
 use Rattle.html_step.proofs.HoleSteps.{OwnHole, own-at}
@@ -182,6 +190,45 @@ css-of-below body.NoHole d h = absurd (none_some (body.Css d) h)
 css-of-below (body.Js j) d h = absurd (none_some (body.Css d) h)
 css-of-below (body.Url s) d h = absurd (none_some (body.Css d) h)
 
+-- in a script
+same-sanitizer : (c d : Js) → ScriptBelow c d → script_sanitizer c ≡ script_sanitizer d
+same-sanitizer (js.Code s x) (js.Code t y) h = refl
+same-sanitizer js.Dq js.Dq h = refl
+same-sanitizer js.Sq js.Sq h = refl
+same-sanitizer (js.Regexp x) (js.Regexp y) h = refl
+same-sanitizer (js.Line s) (js.Line t) h = refl
+same-sanitizer (js.Block s x) (js.Block t y) h = refl
+same-sanitizer (js.Code s x) d h = absurd (none_some d h)
+same-sanitizer js.Dq d h = absurd (none_some d h)
+same-sanitizer js.Sq d h = absurd (none_some d h)
+same-sanitizer (js.Regexp x) d h = absurd (none_some d h)
+same-sanitizer (js.Line s) d h = absurd (none_some d h)
+same-sanitizer (js.Block s x) d h = absurd (none_some d h)
+
+same-js-chain : (c d : Js) (x y : San) → x ≡ y → ScriptBelow c d → both_of (script_sanitizer c) x ≡ both_of (script_sanitizer d) y
+same-js-chain c d x y e h = ap (both_of (script_sanitizer c)) e ∙ ap (λ (z : San). both_of z y) (same-sanitizer c d h)
+
+js-after : ValuePlace → Js → Place
+js-after x c = place.Value (record { tag = x.tag; typed = x.typed; quotes = holed_quotes x.quotes; body = body.Js (script_at_hole c) })
+
+js-grows : (x y : ValuePlace) (c d : Js) → ValueBelow x y → x.body ≡ body.Js c → ScriptBelow c d → GrowsTo (js_holed y d) (place.Value x)
+unfolding js-after
+js-grows x y c d h b l = (
+  js-after x c,
+  ap (λ (z : Body). value_hole z x) b
+      ∙ ap (λ (z : Chain). Ok (js-after x c, z)) (same-js-chain c d (last_of x.quotes) (last_of y.quotes) (same-last x.quotes y.quotes h.quotes) l),
+  value-from x.tag y.tag x.typed y.typed (holed_quotes x.quotes) (holed_quotes y.quotes) (body.Js (script_at_hole c)) (body.Js (script_at_hole d))
+      h.tag h.typed (holed-below x.quotes y.quotes h.quotes) (below-js (script_at_hole c) (script_at_hole d) (scripts-grow.at_hole c d l)),
+)
+
+-- below a script is one
+pub js-of-below : (b : Body) (d : Js) → joined_bodies b (body.Js d) ≡ Some (body.Js d) → (c : Js) × (b ≡ body.Js c) × ScriptBelow c d
+js-of-below (body.Js c) d h = (c, refl, js-below c d h)
+js-of-below body.Plain d h = absurd (none_some (body.Js d) h)
+js-of-below body.NoHole d h = absurd (none_some (body.Js d) h)
+js-of-below (body.Css c) d h = absurd (none_some (body.Js d) h)
+js-of-below (body.Url s) d h = absurd (none_some (body.Js d) h)
+
 value-grows : (x y : ValuePlace) (b : Body) → ValueBelow x y → IsValid (place.Value x) → y.body ≡ b → GrowsTo (value_hole b y) (place.Value x)
 value-grows x y body.Plain h v e =
     let same : x.body ≡ body.Plain = plain-same x.body (subst (λ (z : Body). joined_bodies x.body z ≡ Some z) e h.body) in
@@ -190,7 +237,9 @@ value-grows x y body.NoHole h v e = tt
 value-grows x y (body.Url p) h v e =
     let w = parts-of-below x.body p (subst (λ (z : Body). joined_bodies x.body z ≡ Some z) e h.body) in
     url-grows x y w.0 p (parts_hole_error p) h (subst IsValidBody w.1 v.1) w.1 w.2 refl
-value-grows x y (body.Js p) h v e = tt
+value-grows x y (body.Js p) h v e =
+    let w = js-of-below x.body p (subst (λ (z : Body). joined_bodies x.body z ≡ Some z) e h.body) in
+    js-grows x y w.0 p h w.1 w.2
 value-grows x y (body.Css d) h v e =
     let w = css-of-below x.body d (subst (λ (z : Body). joined_bodies x.body z ≡ Some z) e h.body) in
     css-grows x y w.0 d (style_hole_error d) h (subst IsValidBody w.1 v.1) w.1 w.2 refl
@@ -250,11 +299,14 @@ css-valid : (x : ValuePlace) (c : Css) (o : Option RefusalCode) → IsValidCss c
 css-valid x c (Some e) v = tt
 css-valid x c None v = (holed-valid x.quotes, styles-stay-valid.at_hole c v)
 
+js-valid : (x : ValuePlace) (j : Js) → IsValidJs j → ValidTo (js_holed x j)
+js-valid x j v = (holed-valid x.quotes, scripts-stay-valid.at_hole j v)
+
 value-valid : (x : ValuePlace) (b : Body) → IsValid (place.Value x) → x.body ≡ b → ValidTo (value_hole b x)
 value-valid x body.Plain v e = plain-valid x x.quotes v
 value-valid x body.NoHole v e = tt
 value-valid x (body.Url s) v e = url-valid x s (parts_hole_error s) (subst IsValidBody e v.1)
-value-valid x (body.Js j) v e = tt
+value-valid x (body.Js j) v e = js-valid x j (subst IsValidBody e v.1)
 value-valid x (body.Css c) v e = css-valid x c (style_hole_error c) (subst IsValidBody e v.1)
 
 element-hole-valid : (c : Css) (o : Option RefusalCode) → IsValidCss c → ValidTo (element_holed (style_hole_with_chain c (style_or_refusal o (style_at_hole c))))
@@ -309,6 +361,13 @@ not-plain body.NoHole p i e = none_some body.Plain i
 not-plain (body.Url s) p i e = none_some body.Plain i
 not-plain (body.Js j) p i e = none_some body.Plain i
 not-plain (body.Css c) p i e = none_some body.Plain i
+
+not-script : (b : Body) (d : Js) (p : Parts) → joined_bodies b (body.Js d) ≡ Some (body.Js d) → body_url b ≡ Some p → ⊥
+not-script (body.Js c) d p i e = none_some p e
+not-script body.Plain d p i e = none_some (body.Js d) i
+not-script body.NoHole d p i e = none_some (body.Js d) i
+not-script (body.Url s) d p i e = none_some (body.Js d) i
+not-script (body.Css c) d p i e = none_some (body.Js d) i
 
 no-hole : (c : Code) (h : Place × Chain) → Err c ≡ Ok h → ⊥
 no-hole c h e = cc
@@ -375,7 +434,7 @@ two-in-body t (body.Url s) h x y e i j =
     (taken-url t s (parts_hole_error s) h refl e)
 two-in-body t body.Plain h x y e i j = absurd (not-plain i.own (parts_of x) i.below i.parts)
 two-in-body t body.NoHole h x y e i j = absurd (no-hole _ h e)
-two-in-body t (body.Js s) h x y e i j = absurd (no-hole _ h e)
+two-in-body t (body.Js s) h x y e i j = absurd (not-script i.own s (parts_of x) i.below i.parts)
 two-in-body t (body.Css d) h x y e i j = two-in-css d x y (taken-style t d (style_hole_error d) h refl e) i j
 
 url-below : (t : ValuePlace) (a : Place) (x : UrlPart) → InUrl a x → Below a (place.Value t) → PartBelow x t.body

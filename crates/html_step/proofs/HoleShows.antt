@@ -5,7 +5,7 @@ use Rattle.place_core.specs.page.Tags.{ValueState, refusal_code, style_code}
 use Rattle.place_core.specs.place.Errors.{body_error, body_hole_error, css_hole_error, hole_error, url_hole_error}
 use Rattle.place_core.specs.place.PathPairs.{ClashesHole, parts_clash, url_part_at}
 use Rattle.place_core.specs.place.Membership.{IsIn, Bears}
-use Rattle.place_core.specs.place.LanguagePlaces.{css_has, css_star_has, css_tails_have, parts_have}
+use Rattle.place_core.specs.place.LanguagePlaces.{css_has, css_star_has, css_tails_have, js_has, parts_have}
 use Rattle.place_core.specs.place.Places.{Below, Has, IsValid, body_has, is_whole, joined_bodies, joined_quotes, quotes_have, typed_has}
 use Rattle.place_core.specs.place.StatePlaces.{only_inside, placed}
 use Rattle.place_core.specs.declared.body.Body.{Body}
@@ -26,19 +26,20 @@ use Rattle.place_core.specs.declared.value_place.ValuePlace.{ValuePlace}
 use Rattle.place_core.proofs.Semilattices.{none_some}
 use Rattle.html_scan.specs.Scans.{Scan, bare_begun, scan_place, At}
 use Rattle.html_step.specs.Laws.{EvidenceData, apart, one, two}
-use Rattle.html_step.specs.HoleOrigins.{body_hole_origin, css_hole_origin, css_hole_shows, fresh_hole_origin, hole_origin, hole_shows, part_hole_origin, quotes_origin, url_hole_shows, value_hole_shows, word_hole_origin}
+use Rattle.html_step.specs.HoleOrigins.{body_hole_origin, css_hole_origin, css_hole_shows, fresh_hole_origin, hole_origin, hole_shows, js_hole_origin, part_hole_origin, quotes_origin, slash_hole_origin, url_hole_shows, value_hole_shows, word_hole_origin}
 use Rattle.html_step.specs.Origins.{in_value_origin, typed_origin}
 use Rattle.html_step.specs.HoleLaws.{IsHoleOrigin, IsHoleEvidence, FromHole, HoleEvidence}
-use Rattle.html_step.specs.Holes.{Holed, after_hole, css_holed, element_holed, holed_quotes, named_by_data, plain_hole, url_holed, value_hole, block_hole}
+use Rattle.html_step.specs.Holes.{Holed, after_hole, css_holed, element_holed, holed_quotes, js_holed, named_by_data, plain_hole, url_holed, value_hole, block_hole}
 use Rattle.html_step.proofs.BelowScans.{tag-place, value-place, below-at-block, element-place}
 use Rattle.html_step.proofs.FromParts.{or-either, or-first}
 use Rattle.html_step.proofs.FromSteps.{false-or, no, or-false, or-last}
 use Rattle.html_step.proofs.FromValues.{in-body, in-quotes, in-typed, in-whole, out-part, part-kept, typed-more, typed-only, value-cases, value_has}
 use Rattle.html_step.proofs.FromTexts.{own-has}
 use Rattle.html_step.proofs.ScanOrder.{block-below, plain-same, style-below-place}
-use Rattle.html_step.proofs.HoleOrder.{css-of-below, grows-hole, one-hole}
+use Rattle.html_step.proofs.HoleOrder.{css-of-below, grows-hole, js-of-below, one-hole}
 use Rattle.html_step.proofs.HoleMembers.{part-behind}
 use Rattle.html_step.proofs.HolesShown.{HoleShown, ShownWhere, hole-where, on_bad, on_two}
+use Rattle.html_step.proofs.ScriptFrom.{IsScriptMember, js-is, kept-member}
 use Rattle.html_step.proofs.PlaceParts.{TagBelow, Under, ValueBelow, below-value}
 use Rattle.html_step.proofs.ScanOrder.{parts-of-below}
 use Rattle.html_step.proofs.UrlPlaces.{AtPart, body_url, css_url, element-url-part, place_url, url-part}
@@ -50,9 +51,15 @@ use Rattle.css_step.specs.StyleChains.{style_hole_with_chain}
 use Rattle.css_step.specs.StyleScans.{style_at_hole, style_hole_error}
 use Rattle.css_step.specs.StyleScanViews.{style_or_refusal}
 use Rattle.css_step.specs.StyleSetLaws.{StyleBelow}
+use Rattle.js_step.specs.ScriptScans.{script_at_hole}
+use Rattle.js_step.specs.ScriptSetLaws.{ScriptBelow}
 use Rattle.place_core.specs.declared.css.Css.{Css}
 use Rattle.place_core.specs.declared.css.Css.TheVariants as css
 use Rattle.place_core.specs.declared.css_tails.CssTails.{CssTails}
+use Rattle.place_core.specs.declared.js.Js.{Js}
+use Rattle.place_core.specs.declared.js.Js.TheVariants as js
+use Rattle.place_core.specs.declared.js_tails.JsTails.{JsTails}
+use Rattle.place_core.specs.declared.senses.Senses.{Senses}
 use Rattle.url_lexer.specs.TwoPaths.{refuses_hole_on_two}
 use Rattle.url_step.specs.PartOrigins.{PartBears}
 use Rattle.url_step.specs.PartSets.{parts_at_hole, parts_hole_error, parts_or_refusal}
@@ -439,11 +446,115 @@ css-from t p None y b =
     (from-css-by t p y x b (css-there t p x b n.there)
     (λ u c l m o. in-body u.typed (holed_quotes u.quotes) (body.Css (style_at_hole c)) y (n.leads c m (λ i. css-out p c u.typed u.quotes x i o)))))
 
+-- in a script
+record JsBehind (p : Js) (y x : Member) : Type 0 where
+  there : (x ≡ member.Whole) ⊎ (js_has p x ≡ true)
+  leads : (c : Js) → ScriptBelow c p → (js_has p x ≡ true → js_has c x ≡ true) → js_has (script_at_hole c) y ≡ true
+
+code-divides : (s : Senses) (x : JsTails) (c : Js) → ScriptBelow c (js.Code s x) → js_has (script_at_hole c) member.SenseDiv ≡ true
+code-divides s x (js.Code t z) l = refl
+code-divides s x c l = absurd (none_some (js.Code s x) l)
+
+js-code-behind : (s : Senses) (x : JsTails) (y : Member) → js_has (script_at_hole (js.Code s x)) y ≡ true
+    → JsBehind (js.Code s x) y (slash_hole_origin y)
+js-code-behind s x member.SenseDiv h = record { there = inl refl; leads = λ c l k. code-divides s x c l }
+js-code-behind s x _ h = absurd (no h)
+
+line-stays : (s : Senses) (y : Member) (c : Js) → ScriptBelow c (js.Line s) → js_has c y ≡ true → js_has (script_at_hole c) y ≡ true
+line-stays s y (js.Line t) l k = k
+line-stays s y c l k = absurd (none_some (js.Line s) l)
+
+block-comment-stays : (s : Senses) (x : Bool) (y : Member) (c : Js) → ScriptBelow c (js.Block s x) → js_has c y ≡ true
+    → js_has (script_at_hole c) y ≡ true
+block-comment-stays s x y (js.Block t z) l k = k
+block-comment-stays s x y c l k = absurd (none_some (js.Block s x) l)
+
+no-slash-behind : (x : Bool) (y : Member) → js_has (script_at_hole (js.Regexp x)) y ≡ true → ⊥
+no-slash-behind x member.RegexpSlash h = no h
+no-slash-behind x _ h = no h
+
+js-behind : (p : Js) (y : Member) → js_has (script_at_hole p) y ≡ true → JsBehind p y (js_hole_origin p y)
+js-behind (js.Code s x) y h = js-code-behind s x y h
+js-behind (js.Line s) y h = record { there = inr h; leads = λ c l k. line-stays s y c l (k h) }
+js-behind (js.Block s x) y h = record { there = inr h; leads = λ c l k. block-comment-stays s x y c l (k h) }
+js-behind (js.Regexp x) y h = absurd (no-slash-behind x y h)
+js-behind js.Dq y h = absurd (no h)
+js-behind js.Sq y h = absurd (no h)
+
+-- a member of a script is none of the others
+whole-no-script : (y : Member) → is_whole y ≡ true → IsScriptMember y → ⊥
+whole-no-script member.Whole h i = i
+whole-no-script _ h i = no h
+
+typed-no-script : (x : Bool) (y : Member) → typed_has x y ≡ true → IsScriptMember y → ⊥
+typed-no-script x member.Typed h i = i
+typed-no-script x _ h i = no h
+
+quotes-no-script : (q : Quotes) (y : Member) → quotes_have q y ≡ true → IsScriptMember y → ⊥
+quotes-no-script (quotes.Bare b) member.UnquotedValue h i = i
+quotes-no-script (quotes.Bare b) member.UnbegunValue h i = i
+quotes-no-script (quotes.Bare b) _ h i = no h
+quotes-no-script quotes.Dq y h i = no h
+quotes-no-script quotes.Sq y h i = no h
+
+js-out : (p c : Js) (z : Bool) (w : Quotes) (y : Member) → js_has p y ≡ true → value_has z w (body.Js c) y ≡ true → js_has c y ≡ true
+js-out p c z w y h k =
+    value-cases (js_has c y ≡ true) z w (body.Js c) y k (λ e. absurd (whole-no-script y e (js-is p y h)))
+    (λ e. absurd (typed-no-script z y e (js-is p y h))) (λ e. absurd (quotes-no-script w y e (js-is p y h))) (λ e. e)
+
+js-whole-origin : (p : Js) → js_hole_origin p member.Whole ≡ member.Whole
+js-whole-origin (js.Code s x) = refl
+js-whole-origin _ = refl
+
+js-typed-origin : (p : Js) → js_hole_origin p member.Typed ≡ member.Typed
+js-typed-origin (js.Code s x) = refl
+js-typed-origin _ = refl
+
+script-by-quotes : (q : Quotes) (y : Member) → IsScriptMember y → quotes_origin q y ≡ y
+script-by-quotes quotes.Dq y h = refl
+script-by-quotes quotes.Sq y h = refl
+script-by-quotes (quotes.Bare b) y h = kept-member y h
+
+from-js-by : (t : ValuePlace) (p : Js) (y x : Member) → t.body ≡ body.Js p → Has (place.Value t) x
+    → ((u : ValuePlace) (c : Js) → ValueBelow u t → ScriptBelow c p → value_has u.typed u.quotes (body.Js c) x ≡ true
+    → value_has u.typed (holed_quotes u.quotes) (body.Js (script_at_hole c)) y ≡ true)
+    → FromPlace (place.Value t) y x
+from-js-by t p y x b h f =
+    from-value t y x h
+    (λ u l o. let w = js-of-below u.body p (subst (λ (z : Body). joined_bodies u.body z ≡ Some z) b l.body) in
+    subst (λ (z : Body). HasAfter (value_hole z u) y) (sym w.1)
+    (f u w.0 l w.2 (subst (λ (z : Body). value_has u.typed u.quotes z x ≡ true) w.1 o)))
+
+js-there : (t : ValuePlace) (p : Js) (x : Member) → t.body ≡ body.Js p → (x ≡ member.Whole) ⊎ (js_has p x ≡ true) → Has (place.Value t) x
+js-there t p x b (inl e) = subst (Has (place.Value t)) (sym e) refl
+js-there t p x b (inr h) = subst (λ (z : Body). value_has t.typed t.quotes z x ≡ true) (sym b) (in-body t.typed t.quotes (body.Js p) x h)
+
+js-from : (t : ValuePlace) (p : Js) (y : Member) → t.body ≡ body.Js p
+    → FromTo (js_holed t p) (place.Value t) y (js_hole_origin p (quotes_origin t.quotes y))
+js-from t p y b =
+    let From : Member → Type 0 = FromPlace (place.Value t) y in
+    λ h. value-cases (From (js_hole_origin p (quotes_origin t.quotes y))) t.typed (holed_quotes t.quotes) (body.Js (script_at_hole p)) y h
+    (λ k. subst From (sym (ap (js_hole_origin p) (whole-by-quotes t.quotes y k) ∙ js-whole-origin p))
+    (from-js-by t p y member.Whole b refl (λ u c l m o. in-whole u.typed (holed_quotes u.quotes) (body.Js (script_at_hole c)) y k)))
+    (λ k. let e = typed-by-quotes t.quotes t.typed y k in
+    subst From (sym (ap (js_hole_origin p) e.0 ∙ js-typed-origin p))
+    (from-js-by t p y member.Typed b (in-typed t.typed t.quotes t.body member.Typed e.1)
+    (λ u c l m o. in-typed u.typed (holed_quotes u.quotes) (body.Js (script_at_hole c)) y
+    (typed-more t.typed u.typed y k (typed-only u.typed u.quotes (body.Js c) refl o)))))
+    (λ k. subst From (sym (ap (js_hole_origin p) (begun-by-quotes t.quotes y k) ∙ js-whole-origin p))
+    (from-js-by t p y member.Whole b refl
+    (λ u c l m o. in-quotes u.typed (holed_quotes u.quotes) (body.Js (script_at_hole c)) y (holed-has u.quotes t.quotes y l.quotes k))))
+    (λ k. let n = js-behind p y k in
+    let x = js_hole_origin p y in
+    subst (λ (z : Member). From (js_hole_origin p z)) (sym (script-by-quotes t.quotes y (js-is (script_at_hole p) y k)))
+    (from-js-by t p y x b (js-there t p x b n.there)
+    (λ u c l m o. in-body u.typed (holed_quotes u.quotes) (body.Js (script_at_hole c)) y (n.leads c m (λ i. js-out p c u.typed u.quotes x i o)))))
+
 value-from-to : (t : ValuePlace) (b : Body) (y : Member) → t.body ≡ b → FromTo (value_hole b t) (place.Value t) y (body_hole_origin b (quotes_origin t.quotes y))
 value-from-to t body.Plain y e = plain-from t t.quotes y refl e
 value-from-to t body.NoHole y e = tt
 value-from-to t (body.Url p) y e = url-from t p (parts_hole_error p) y e
-value-from-to t (body.Js p) y e = tt
+value-from-to t (body.Js p) y e = js-from t p y e
 value-from-to t (body.Css p) y e = css-from t p (style_hole_error p) y e
 
 -- in the element `style`
@@ -772,7 +883,7 @@ value-evidence : (t : ValuePlace) (b : Body) → t.body ≡ b → ShownTo (value
 value-evidence t body.Plain e = plain-evidence t t.quotes (one member.Whole)
 value-evidence t body.NoHole e = evidence-body t body.NoHole code.BadHTML e tt refl
 value-evidence t (body.Url p) e = url-evidence t p (parts_hole_error p) e (hole-where p)
-value-evidence t (body.Js p) e = evidence-body t (body.Js p) code.NotBuilt e tt refl
+value-evidence t (body.Js p) e = tt
 value-evidence t (body.Css p) e = value-answer t p (style_hole_error p) (css_hole_shows p) (css-evidence (place.Value t) p refl (value-in-style t p e))
 
 doctype-refuses : (a : Place) → Below a place.Doctype → hole_error a ≡ Some code.BadHTML

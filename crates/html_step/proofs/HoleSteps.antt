@@ -15,6 +15,7 @@ use Rattle.css_step.specs.StyleChains.{style_hole_with_chain}
 use Rattle.css_step.specs.StyleScans.{style_at_hole, style_hole_error, style_scan_place}
 use Rattle.css_step.specs.StyleScanViews.{style_or_refusal}
 use Rattle.js_lexer.specs.States.{ScriptState}
+use Rattle.js_step.specs.ScriptScans.{script_at_hole}
 use Rattle.js_step.proofs.ScriptPaths.{script-paths-are-scanned}
 use Rattle.place_core.specs.place.ScriptParts.{script_body}
 use Rattle.html_step.proofs.StylePaths.{StyleHole, style-at-place, style-hole}
@@ -22,6 +23,7 @@ use Rattle.place_core.specs.place.StyleParts.{style_body, style_css}
 use Rattle.place_core.specs.declared.body.Body.{Body}
 use Rattle.place_core.specs.declared.body.Body.TheVariants as body
 use Rattle.place_core.specs.declared.css.Css.{Css}
+use Rattle.place_core.specs.declared.js.Js.{Js}
 use Rattle.place_core.specs.declared.value_place.ValuePlace.{ValuePlace}
 use Rattle.place_core.specs.declared.element.Element.TheVariants as element
 use Rattle.place_core.specs.declared.kind.Kind.{Kind}
@@ -29,7 +31,7 @@ use Rattle.place_core.specs.declared.kind.Kind.TheVariants as kind
 use Rattle.place_core.specs.declared.place.Place.{Place}
 use Rattle.place_core.specs.declared.place.Place.TheVariants as place
 use Rattle.place_core.specs.declared.quotes.Quotes.{Quotes}
-use Rattle.html_step.specs.Holes.{Holed, after_hole, css_holed, element_holed, holed_quotes}
+use Rattle.html_step.specs.Holes.{Holed, after_hole, css_holed, element_holed, holed_quotes, js_holed}
 use Rattle.html_step.proofs.ElementSteps.{body-css, css-is}
 use Rattle.html_step.proofs.PathScans.{same-tag}
 use Rattle.url_lexer.specs.Parts.{UrlPart, UrlStart, UrlOpen, UrlOpenhole, UrlPrequery, UrlQuery, UrlBad, part_at_hole}
@@ -100,12 +102,26 @@ style-own (Some b) v q t e =
     (css-own (style_hole_error c) v c q t refl (style-hole v c (e ∙ ap Some a.place)))
 
 -- in a script
+in-script : Tag → Quotes → Js → ValuePlace
+in-script t q j = record { tag = t.tag; typed = t.typed; quotes = q; body = body.Js j }
+
+js-own : (v : ScriptState) (j : Js) (q : Quoting) (t : Tag) → script_body v ≡ Some (body.Js j)
+    → OwnHole (js_holed (in-script t (quotes_at q) j) j) (place.Value (in-script t (quotes_at q) j)) (AttributeValue q t (ValueOf (OfScript v)) Closed)
+unfolding in-script
+js-own v j q t e = (
+  refl,
+  ap (value_spot t (quotes_at q)) (script-paths-are-scanned.stands v j e).behind_hole
+      ∙ ap (λ (z : Quotes). Some (place.Value (in-script t z (script_at_hole j)))) (sym (holed-same q)),
+)
+
 script-own : (o : Option Body) (v : ScriptState) (q : Quoting) (t : Tag) → script_body v ≡ o
     → WherePlaced (value_spot t (quotes_at q) o) (AttributeValue q t (ValueOf (OfScript v)) Closed)
+unfolding in-script
 script-own None v q t e = tt
 script-own (Some x) v q t e =
     let j = script-paths-are-scanned.is_script v x e in
-    subst (λ (z : Body). WherePlaced (value_spot t (quotes_at q) (Some z)) (AttributeValue q t (ValueOf (OfScript v)) Closed)) (sym j.1) refl
+    subst (λ (z : Body). WherePlaced (value_spot t (quotes_at q) (Some z)) (AttributeValue q t (ValueOf (OfScript v)) Closed)) (sym j.1)
+    (js-own v j.0 q t (e ∙ ap Some j.1))
 
 -- and in the element
 element-hole : (o : Option RefusalCode) (v : Style Url) (c : Css) → style_hole_error c ≡ o → StyleHole v c
@@ -137,7 +153,7 @@ before-own : (t : Tag) (k : Kind) → WherePlaced (placed (BeforeAttributeValue 
 before-own t kind.Plain = (refl, refl)
 before-own t kind.NoHole = refl
 before-own t kind.Url = (refl, refl)
-before-own t kind.Script = refl
+before-own t kind.Script = (refl, refl)
 before-own t kind.Style = (refl, refl)
 before-own t kind.ScriptType = tt
 

@@ -89,5 +89,6 @@ pub mod UrlScans
 pub mod ValidSteps
 pub mod ValueBeginnings
 pub mod WholeTexts
+pub mod WorkedScripts
 pub mod WorkedSteps
 pub mod WorkedStyles

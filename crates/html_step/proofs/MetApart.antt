@@ -83,7 +83,7 @@ value-clear : (b : Body) (t : ValuePlace) → t.body ≡ b → IsClear (value_ho
 value-clear body.Plain t e = plain-clear t.quotes t e
 value-clear body.NoHole t e = tt
 value-clear (body.Url s) t e = url-clear t s (parts_hole_error s)
-value-clear (body.Js j) t e = tt
+value-clear (body.Js j) t e = refl
 value-clear (body.Css c) t e = css-clear t c (style_hole_error c)
 
 tag-clear : (x : Bool) (t : TagPlace) → IsClear (named_by_data x t)

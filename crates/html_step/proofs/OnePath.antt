@@ -6,7 +6,7 @@ use Rattle.css_step.specs.StyleScanLaws.{style_scanned}
 use Rattle.place_core.specs.page.Classes.{Class, White, QuotationMark, Ampersand, Apostrophe, HyphenMinus, Solidus, LessThan, EqualsSign, GreaterThan, GraveAccent, Letter, ExclamationMark, class_of, is_equals_sign}
 use Rattle.place_core.specs.page.Comments.{OpensComment, OpensDoctype, Undecided, OpensNothing, Declaration, declared_by}
 use Rattle.place_core.specs.page.Contents.{may_be_name_of, is_name_of, next_loose, next_less, next_end_name, next_bang}
-use Rattle.place_core.specs.place.Errors.{byte_error, at_hand, content_error, kind_error, tag_error, bare_error, quotes_error, attribute_name_error, PathCause, fed_error, turned_error, language_error, first_byte_error, is_written, first_cause, first_error, place_before_bytes, value_before, flushed_error, name_error, is_unknown_name}
+use Rattle.place_core.specs.place.Errors.{byte_error, at_hand, content_error, tag_error, bare_error, quotes_error, attribute_name_error, PathCause, fed_error, turned_error, language_error, first_byte_error, is_written, first_cause, first_error, place_before_bytes, value_before, flushed_error, name_error, is_unknown_name}
 use Rattle.place_core.specs.page.Html.{next, after_tag, next_declaration, next_before_name, next_name, next_after_name, next_before_value, ends_value}
 use Rattle.place_core.specs.page.Paths.{at_cut}
 use Rattle.place_core.specs.page.References.{Reference, settled, undone_byte, as_it_stands, Closed, Open, Form, ReferenceStep, Grows, Closes, Breaks, turn, meaning, flushed, plain_bytes, next_reference}
@@ -142,22 +142,22 @@ only-hand o p e = rw e refl
 tag-ends-with : (t : Tag) (k : Kind) → content_error t.tag ≡ None → scanned (after_tag languages (without_value t k).tag) ≡ Some (content_scan t.tag)
 tag-ends-with t k n = rw (same-tag t k) (tag-ends t.tag n)
 
-value-begins : (t : Tag) (typed : Bool) (k : Kind) → kind_error k ≡ None → is_second_type t.typed k ≡ false → typed ≡ (without_value t k).typed
+value-begins : (t : Tag) (typed : Bool) (k : Kind) → is_second_type t.typed k ≡ false → typed ≡ (without_value t k).typed
     → scanned (BeforeAttributeValue t k) ≡ Some (value_scan t.tag typed (Some k))
-value-begins t typed kind.Plain n f e = rw e refl
-value-begins t typed kind.NoHole n f e = rw e refl
-value-begins t typed kind.Url n f e = rw e refl
-value-begins t typed kind.Script n f e = rw e refl
-value-begins t typed kind.Style n f e = rw e refl
-value-begins t typed kind.ScriptType n f e = not-second t kind.ScriptType (BeforeType t.tag) f
+value-begins t typed kind.Plain f e = rw e refl
+value-begins t typed kind.NoHole f e = rw e refl
+value-begins t typed kind.Url f e = rw e refl
+value-begins t typed kind.Script f e = rw e refl
+value-begins t typed kind.Style f e = rw e refl
+value-begins t typed kind.ScriptType f e = not-second t kind.ScriptType (BeforeType t.tag) f
 
-value-begins-here : (t : Tag) (k : Kind) → kind_error k ≡ None → is_second_type t.typed k ≡ false → scanned (BeforeAttributeValue t k) ≡ Some (value_scan t.tag t.typed (Some k))
-value-begins-here t kind.Plain n f = refl
-value-begins-here t kind.NoHole n f = refl
-value-begins-here t kind.Url n f = refl
-value-begins-here t kind.Script n f = refl
-value-begins-here t kind.Style n f = refl
-value-begins-here t kind.ScriptType n f = not-second t kind.ScriptType (BeforeType t.tag) f
+value-begins-here : (t : Tag) (k : Kind) → is_second_type t.typed k ≡ false → scanned (BeforeAttributeValue t k) ≡ Some (value_scan t.tag t.typed (Some k))
+value-begins-here t kind.Plain f = refl
+value-begins-here t kind.NoHole f = refl
+value-begins-here t kind.Url f = refl
+value-begins-here t kind.Script f = refl
+value-begins-here t kind.Style f = refl
+value-begins-here t kind.ScriptType f = not-second t kind.ScriptType (BeforeType t.tag) f
 
 -- state by state
 text-steps : (r : Reference) (c : Class) (b : ℕ) → Agrees (Text r) (At place.Text) c b
@@ -231,7 +231,7 @@ attribute-next t k name White b n = rw (same-typed t k) (not-second t k _ (unles
 attribute-next t k name Solidus b n = rw (same-tag t k, same-typed t k) refl
 attribute-next t k name GreaterThan b n = tag-ends-with t k (none-unless (is_second_type t.typed k) (length name) (content_error t.tag) n)
 attribute-next t k name EqualsSign b n =
-    value-begins-here t k (none-unless (is_second_type t.typed k) (length name) (kind_error k) n) (unless-first (is_second_type t.typed k) (length name) (kind_error k) n)
+    value-begins-here t k (unless-first (is_second_type t.typed k) (length name) None n)
 attribute-next t k name QuotationMark b n = absurd (some _ n)
 attribute-next t k name Apostrophe b n = absurd (some _ n)
 attribute-next t k name LessThan b n = absurd (some _ n)
@@ -245,7 +245,7 @@ whole-name-next : (t : Tag) (k : Kind) (c : Class) (b : ℕ) → is_second_type 
 whole-name-next t k White b f n = not-second t k _ f
 whole-name-next t k Solidus b f n = rw (same-tag t k) refl
 whole-name-next t k GreaterThan b f n = tag-ends-with t k (none-at-hand _ n)
-whole-name-next t k EqualsSign b f n = value-begins t ((without_value t k).typed) k (none-at-hand _ n) f refl
+whole-name-next t k EqualsSign b f n = value-begins t ((without_value t k).typed) k f refl
 whole-name-next t k _ b f n = absurd (some _ n)
 
 after-name-next : (t : Tag) (k : Kind) (c : Class) (b : ℕ) → is_second_type t.typed k ≡ false → at_hand (tag_error (tag_spot t only_after (Some k)) c) ≡ None
@@ -253,7 +253,7 @@ after-name-next : (t : Tag) (k : Kind) (c : Class) (b : ℕ) → is_second_type 
 after-name-next t k White b f n = not-second t k _ f
 after-name-next t k Solidus b f n = rw (same-tag t k) refl
 after-name-next t k GreaterThan b f n = tag-ends-with t k (none-at-hand _ n)
-after-name-next t k EqualsSign b f n = value-begins t ((without_value t k).typed) k (none-at-hand _ n) f refl
+after-name-next t k EqualsSign b f n = value-begins t ((without_value t k).typed) k f refl
 after-name-next t k QuotationMark b f n = absurd (some _ n)
 after-name-next t k Apostrophe b f n = absurd (some _ n)
 after-name-next t k LessThan b f n = absurd (some _ n)

@@ -4,7 +4,7 @@ use Rattle.std.specs.Option.{is_some}
 use Rattle.place_core.specs.page.Classes.{Class, White, ExclamationMark, QuotationMark, Apostrophe, HyphenMinus, Solidus, LessThan, EqualsSign, GreaterThan, GraveAccent, Letter}
 use Rattle.place_core.specs.page.Contents.{is_name_of, may_be_name_of, pending_bytes}
 use Rattle.place_core.specs.page.States.{Pending, Nothing, PendingLess, LessAtCut, PendingName, PendingBang, PendingBangDash}
-use Rattle.place_core.specs.place.Errors.{PathCause, at_hand, attribute_name_error, bare_error, body_error, comment_error, content_error, equals_error, first_cause, first_error, kind_error, quotes_error, language_error, tag_error, unless_second, value_error, block_error, cut_cause, end_name_error, less_error, loose_byte_error, pending_error, released_error, split_error}
+use Rattle.place_core.specs.place.Errors.{PathCause, at_hand, attribute_name_error, bare_error, body_error, comment_error, content_error, equals_error, first_cause, first_error, quotes_error, language_error, tag_error, unless_second, value_error, block_error, cut_cause, end_name_error, less_error, loose_byte_error, pending_error, released_error, split_error}
 use Rattle.place_core.specs.place.Places.{Below, Has, IsValid, IsValidBody, IsValidQuotes, IsValidTag, both_bare, is_whole, joined_kinds, joined_quotes, joined_bodies, quotes_have, some_bare, typed_has}
 use Rattle.place_core.specs.place.StatePlaces.{only_after, only_before, only_inside, unbegun}
 use Rattle.place_core.specs.page.Words.{kind_of}
@@ -194,31 +194,30 @@ pub value-from : (t u : TagOf) (x y : Bool) (q r : Quotes) (b c : Body) → t �
 value-from t u x y q r b c e f g h = value-below (record { tag = t; typed = x; quotes = q; body = b }) (record { tag = u; typed = y; quotes = r; body = c }) (record { tag = e; typed = f; quotes = g; body = h })
 
 -- a value that begins
-begins-same : (t u : TagOf) (x y : Bool) (k : Kind) → kind_error k ≡ None → t ≡ u → Under x y → ScanBelow (value_scan t x (Some k)) (value_scan u y (Some k))
-begins-same t u x y kind.Plain n e f = value-from t u x y unbegun unbegun body.Plain body.Plain e f refl refl
-begins-same t u x y kind.NoHole n e f = value-from t u x y unbegun unbegun body.NoHole body.NoHole e f refl refl
-begins-same t u x y kind.Url n e f = value-from t u x y unbegun unbegun (body.Url (parts_of UrlStart)) (body.Url (parts_of UrlStart)) e f refl refl
-begins-same t u x y kind.Script n e f = value-from t u x y unbegun unbegun (body.Js empty_js) (body.Js empty_js) e f refl refl
-begins-same t u x y kind.Style n e f = value-from t u x y unbegun unbegun (body.Css empty_css) (body.Css empty_css) e f refl refl
-begins-same t u x y kind.ScriptType n e f = ap BeforeType e
+begins-same : (t u : TagOf) (x y : Bool) (k : Kind) → t ≡ u → Under x y → ScanBelow (value_scan t x (Some k)) (value_scan u y (Some k))
+begins-same t u x y kind.Plain e f = value-from t u x y unbegun unbegun body.Plain body.Plain e f refl refl
+begins-same t u x y kind.NoHole e f = value-from t u x y unbegun unbegun body.NoHole body.NoHole e f refl refl
+begins-same t u x y kind.Url e f = value-from t u x y unbegun unbegun (body.Url (parts_of UrlStart)) (body.Url (parts_of UrlStart)) e f refl refl
+begins-same t u x y kind.Script e f = value-from t u x y unbegun unbegun (body.Js empty_js) (body.Js empty_js) e f refl refl
+begins-same t u x y kind.Style e f = value-from t u x y unbegun unbegun (body.Css empty_css) (body.Css empty_css) e f refl refl
+begins-same t u x y kind.ScriptType e f = ap BeforeType e
 
-begins-with : (t u : TagOf) (x y : Bool) (o p : Option Kind) (k : Kind) → o ≡ Some k → p ≡ Some k → kind_error k ≡ None → t ≡ u → Under x y → ScanBelow (value_scan t x o) (value_scan u y p)
-begins-with t u x y o p k i j n e f = rw (i, j) (begins-same t u x y k n e f)
+begins-with : (t u : TagOf) (x y : Bool) (o p : Option Kind) (k : Kind) → o ≡ Some k → p ≡ Some k → t ≡ u → Under x y → ScanBelow (value_scan t x o) (value_scan u y p)
+begins-with t u x y o p k i j e f = rw (i, j) (begins-same t u x y k e f)
 
 ends-same : (t u : TagOf) → t ≡ u → ScanBelow (content_scan t) (content_scan u)
 ends-same t u e = subst (λ (v : TagOf). ScanBelow (content_scan t) (content_scan v)) e (scan-same (content_scan t))
 
 -- before an equals sign no path stands before a name, so each has a kind
-pub equals-none : (name before : Bool) (o : Option Kind) → equals_error name before o ≡ None → (name ≡ false) × (before ≡ false)
-equals-none true before o n = absurd (some _ n)
-equals-none false true o n = absurd (some _ n)
-equals-none false false o n = (refl, refl)
+pub equals-none : (name before : Bool) → equals_error name before ≡ None → (name ≡ false) × (before ≡ false)
+equals-none true before n = absurd (some _ n)
+equals-none false true n = absurd (some _ n)
+equals-none false false n = (refl, refl)
 
 pub record HasKind (x y : TagPlace) : Type 0 where
   pub kind : Kind
   pub there : x.kind ≡ Some kind
   pub too : y.kind ≡ Some kind
-  pub built : kind_error kind ≡ None
   pub name : x.spots.name ≡ false
   pub before : x.spots.before ≡ false
 
@@ -231,17 +230,14 @@ some-none true b i a h e f = cc
 some-none false true i a h e f = cc
 some-none false false i a h e f = h
 
-rest-of : (name before : Bool) (o : Option Kind) (k : Kind) → equals_error name before o ≡ None → name ≡ false → before ≡ false → o ≡ Some k → kind_error k ≡ None
-rest-of name before o k n e f g = sym (rw (e, f, g) refl) ∙ n
-
-pub has-kind : (x y : TagPlace) → IsValidTag x → TagBelow x y → equals_error y.spots.name y.spots.before y.kind ≡ None → HasKind x y
+pub has-kind : (x y : TagPlace) → IsValidTag x → TagBelow x y → equals_error y.spots.name y.spots.before ≡ None → HasKind x y
 has-kind x y v h n =
-    let e = equals-none y.spots.name y.spots.before y.kind n in
+    let e = equals-none y.spots.name y.spots.before n in
     let name : x.spots.name ≡ false = under-false x.spots.name (subst (Under x.spots.name) e.0 h.name) in
     let before : x.spots.before ≡ false = under-false x.spots.before (subst (Under x.spots.before) e.1 h.before) in
     let k = kind-of-some x.kind (v.1 ∙ some-none x.spots.name x.spots.before x.spots.inside x.spots.after v.0 name before) in
     let too : y.kind ≡ Some k.0 = same-kinds k.0 y.kind (subst (λ (o : Option Kind). joined_kinds o y.kind ≡ Some y.kind) k.1 h.kind) in
-    record { kind = k.0; there = k.1; too = too; built = rest-of y.spots.name y.spots.before y.kind k.0 n e.0 e.1 too; name = name; before = before }
+    record { kind = k.0; there = k.1; too = too; name = name; before = before }
 
 pub if-none : (b : Bool) (e : Code) → (if b then Some e else None) ≡ None → b ≡ false
 if-none true e h = absurd (some _ h)
@@ -256,7 +252,7 @@ tag-grows x y Solidus b v h n = (refl, one-spot x.tag y.tag x.typed y.typed only
 tag-grows x y GreaterThan b v h n = (ap content_error h.tag ∙ n, ends-same x.tag y.tag h.tag)
 tag-grows x y EqualsSign b v h n =
     let k = has-kind x y v h n in
-    (rw (k.name, k.before, k.there) k.built, begins-with x.tag y.tag x.typed y.typed x.kind y.kind k.kind k.there k.too k.built h.tag h.typed)
+    (rw (k.name, k.before) refl, begins-with x.tag y.tag x.typed y.typed x.kind y.kind k.kind k.there k.too h.tag h.typed)
 tag-grows x y QuotationMark b v h n = absurd (some _ n)
 tag-grows x y Apostrophe b v h n = absurd (some _ n)
 tag-grows x y LessThan b v h n = absurd (some _ n)
@@ -743,7 +739,7 @@ name-grows : (t : TagOf) (x y : Bool) (k : Kind) (name : List ℕ) (c : Class) (
 name-grows t x y k name White b u n = (unless-grows x y (length name) None k u n, one-spot t t (typed_with t x k) (typed_with t y k) only_after (Some k) refl (typed-under t x y k u))
 name-grows t x y k name Solidus b u n = (unless-grows x y (length name) None k u n, one-spot t t (typed_with t x k) (typed_with t y k) only_before None refl (typed-under t x y k u))
 name-grows t x y k name GreaterThan b u n = (unless-grows x y (length name) (content_error t) k u n, ends-same t t refl)
-name-grows t x y k name EqualsSign b u n = (unless-grows x y (length name) (kind_error k) k u n, begins-same t t x y k (none-unless (is_second_type y k) (length name) (kind_error k) n) refl u)
+name-grows t x y k name EqualsSign b u n = (unless-grows x y (length name) None k u n, begins-same t t x y k refl u)
 name-grows t x y k name QuotationMark b u n = absurd (some _ n)
 name-grows t x y k name Apostrophe b u n = absurd (some _ n)
 name-grows t x y k name LessThan b u n = absurd (some _ n)

@@ -93,7 +93,7 @@ not-true true f = absurd (f refl)
 not-true false f = refl
 
 -- a member of a set is kept, and is neither the whole nor that a `type` may have been seen, nor in quotes
-kept-member : (y : Member) → IsScriptMember y → in_value_origin y ≡ y
+pub kept-member : (y : Member) → IsScriptMember y → in_value_origin y ≡ y
 kept-member member.SenseRe h = refl
 kept-member member.SenseDiv h = refl
 kept-member member.SenseBrace h = refl

@@ -79,22 +79,15 @@ evidence-equals : (t : TagPlace) (byte : ℕ) (e : PathCause) (n b : Bool) → I
     → at_hand (tag_error t EqualsSign) ≡ Some e
     → ShownByte (At (place.Tag t)) EqualsSign byte e (one (if n then member.NameSpot else (if b then member.BeforeSpot else member.Whole)))
 evidence-equals t byte e true b v n m h = evidence-tag t EqualsSign byte e member.NameSpot n
-    (λ u w l o. rw o (subst (λ (x : Bool). at_hand (equals_error x t.spots.before t.kind) ≡ Some e) n h))
+    (λ u w l o. rw o (subst (λ (x : Bool). at_hand (equals_error x t.spots.before) ≡ Some e) n h))
 evidence-equals t byte e false true v n m h =
     evidence-tag t EqualsSign byte e member.BeforeSpot m
     (λ u w l o. rw (under-none u.spots.name t.spots.name l.name n, o)
-    (subst (λ (x : Bool). at_hand (equals_error false x t.kind) ≡ Some e) m
-    (subst (λ (x : Bool). at_hand (equals_error x t.spots.before t.kind) ≡ Some e) n h)))
+    (subst (λ (x : Bool). at_hand (equals_error false x) ≡ Some e) m
+    (subst (λ (x : Bool). at_hand (equals_error x t.spots.before) ≡ Some e) n h)))
 evidence-equals t byte e false false v n m h =
-    evidence-tag t EqualsSign byte e member.Whole refl
-    (λ u w l o.
-    let name : u.spots.name ≡ false = under-none u.spots.name t.spots.name l.name n in
-    let before : u.spots.before ≡ false = under-none u.spots.before t.spots.before l.before m in
-    let k = kind-of-some u.kind (w.1 ∙ some-none u.spots.name u.spots.before u.spots.inside u.spots.after w.0 name before) in
-    let same : t.kind ≡ Some k.0 = same-kinds k.0 t.kind (subst (λ (o : Option Kind). joined_kinds o t.kind ≡ Some t.kind) k.1 l.kind) in
-    rw (name, before) (ap (λ (o : Option Kind). at_hand (equals_error false false o)) (k.1 ∙ sym same)
-    ∙ subst (λ (x : Bool). at_hand (equals_error false x t.kind) ≡ Some e) m
-    (subst (λ (x : Bool). at_hand (equals_error x t.spots.before t.kind) ≡ Some e) n h)))
+    absurd (none_some e (subst (λ (x : Bool). at_hand (equals_error false x) ≡ Some e) m
+    (subst (λ (x : Bool). at_hand (equals_error x t.spots.before) ≡ Some e) n h)))
 
 abbrev quote_error : Bool → Option PathCause
 quote_error name = at_hand (Some (if name then code.SplitToken else code.BadHTML))

@@ -6,6 +6,8 @@ use Rattle.place_core.specs.declared.code.Code.{Code}
 use Rattle.place_core.specs.declared.code.Code.TheVariants as code
 use Rattle.place_core.specs.declared.css.Css.{Css}
 use Rattle.place_core.specs.declared.css.Css.TheVariants as css
+use Rattle.place_core.specs.declared.js.Js.{Js}
+use Rattle.place_core.specs.declared.js.Js.TheVariants as js
 use Rattle.place_core.specs.declared.member.Member.{Member}
 use Rattle.place_core.specs.declared.member.Member.TheVariants as member
 use Rattle.place_core.specs.declared.parts.Parts.{Parts}
@@ -42,9 +44,19 @@ css_hole_origin (css.UrlDq s) y = part_hole_origin s y
 css_hole_origin (css.UrlSq s) y = part_hole_origin s y
 css_hole_origin c y = y
 
+-- In the code of a script a slash divides on all paths behind a hole; the rest stays as it is.
+abbrev pub slash_hole_origin : Member → Member
+slash_hole_origin member.SenseDiv = member.Whole
+slash_hole_origin y = y
+
+abbrev pub js_hole_origin : Js → Member → Member
+js_hole_origin (js.Code s x) y = slash_hole_origin y
+js_hole_origin j y = y
+
 abbrev pub body_hole_origin : Body → Member → Member
 body_hole_origin (body.Url s) y = part_hole_origin s y
 body_hole_origin (body.Css c) y = css_hole_origin c y
+body_hole_origin (body.Js j) y = js_hole_origin j y
 body_hole_origin b y = y
 
 -- a value without quotes has begun after the hole, and else the place stays as it is

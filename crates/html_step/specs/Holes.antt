@@ -8,6 +8,7 @@ use Rattle.place_core.specs.declared.code.Code.{Code}
 use Rattle.place_core.specs.declared.code.Code.TheVariants as code
 use Rattle.place_core.specs.declared.css.Css.{Css}
 use Rattle.place_core.specs.declared.css.Css.TheVariants as css
+use Rattle.place_core.specs.declared.js.Js.{Js}
 use Rattle.place_core.specs.declared.kind.Kind.TheVariants as kind
 use Rattle.place_core.specs.declared.parts.Parts.{Parts}
 use Rattle.place_core.specs.declared.place.Place.{Place}
@@ -21,6 +22,8 @@ use Rattle.place_core.specs.declared.value_place.ValuePlace.{ValuePlace}
 use Rattle.html_scan.specs.Scans.{bare_begun}
 use Rattle.css_step.specs.StyleChains.{style_hole_with_chain, style_sans}
 use Rattle.css_step.specs.StyleScanViews.{style_hole_answer}
+use Rattle.js_step.specs.ScriptSanitizers.{script_sanitizer}
+use Rattle.js_step.specs.ScriptScans.{script_at_hole}
 use Rattle.url_step.specs.Chains.{chain_of}
 use Rattle.url_step.specs.PartSets.{hole_answer, part_sans}
 use Rattle.html_step.specs.declared.escaper.Escaper.{Escaper}
@@ -79,11 +82,19 @@ css_holed v before (Ok after) =
     Ok (place.Value (record { tag = v.tag; typed = v.typed; quotes = holed_quotes v.quotes; body = body.Css after }), css_chain before (last_of v.quotes))
 css_holed v before (Err e) = Err e
 
+-- In a script each hole is accepted. Its last sanitizer is that of the value's quotes.
+abbrev pub js_holed : ValuePlace → Js → Holed
+js_holed v j =
+    Ok (
+      place.Value (record { tag = v.tag; typed = v.typed; quotes = holed_quotes v.quotes; body = body.Js (script_at_hole j) }),
+      both_of (script_sanitizer j) (last_of v.quotes),
+    )
+
 abbrev pub value_hole : Body → ValuePlace → Holed
 value_hole body.Plain v = plain_hole v.quotes v
 value_hole body.NoHole v = Err code.BadHTML
 value_hole (body.Url parts) v = url_holed v parts (hole_answer parts)
-value_hole (body.Js js) v = Err code.NotBuilt
+value_hole (body.Js j) v = js_holed v j
 value_hole (body.Css css) v = css_holed v css (style_hole_answer css)
 
 -- In the element `style` no quotes stand around the style: its chain is the whole one.

@@ -5,7 +5,9 @@ ghost use Rattle.url_step.specs.PartSets.{hole_answer};
 ghost use Rattle.html_step.specs.Holes as spec;
 
 use html_scan::{BEGUN, INSIDE};
-use place_core::{Body, Chain, Code, Css, Kind, Parts, Place, Quotes, San, TagPlace, ValuePlace};
+use place_core::{
+    Body, Chain, Code, Css, Js, Kind, Parts, Place, Quotes, San, TagPlace, ValuePlace,
+};
 use url_step::at_hole;
 
 /// What is done to a value of data at a place, and the place after it; or why no value may stand there. (HTML Standard, section
@@ -18,7 +20,7 @@ use url_step::at_hole;
 /// - `AmbigContext`: in a URL where some paths are in one part of it and some in another, as before a `?` and behind one: no one
 ///   chain of sanitizers fits all.
 /// - `BadString`: in a style, behind the URL of a `url(`.
-/// - `NotBuilt`: in a script, and a value that is a script.
+/// - `NotBuilt`: in the element `script`.
 ///
 /// Does not allocate.
 pub fn after_hole(place: Place) -> Result<(Place, Chain), Code>
@@ -78,7 +80,7 @@ fn in_value(place: ValuePlace) -> Result<(Place, Chain), Code>
         Body::NoHole => Err(Code::BadHTML),
         Body::Url(parts) => in_url(place, parts),
         Body::Css(css) => in_style(place, css),
-        Body::Js(_) => Err(Code::NotBuilt),
+        Body::Js(js) => Ok(in_script(place, js)),
     }
 }
 
@@ -106,6 +108,21 @@ fn in_style(place: ValuePlace, css: Css) -> Result<(Place, Chain), Code>
         ..place
     });
     Ok((holed, css_chain(css, last_of(place.quotes))))
+}
+
+// In a script; without quotes, the value has begun.
+fn in_script(place: ValuePlace, js: Js) -> (Place, Chain)
+    ensures { Ok result ≡ spec.js_holed place js }
+{
+    let holed = Place::Value(ValuePlace {
+        quotes: holed_quotes(place.quotes),
+        body: Body::Js(js_step::at_hole(js)),
+        ..place
+    });
+    (
+        holed,
+        both_of(js_step::sanitizer(js), last_of(place.quotes)),
+    )
 }
 
 fn css_chain(css: Css, last: San) -> Chain

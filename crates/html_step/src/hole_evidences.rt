@@ -2,14 +2,14 @@ ghost use Rattle.std.specs.Prelude.{◌≡◌, Ok, Err};
 ghost use Rattle.place_core.specs.place.Places.{Has, IsValid};
 ghost use Rattle.html_step.specs.HoleLaws.{IsHoleOrigin, IsHoleEvidence};
 ghost use Rattle.url_step.specs.PartSets.{hole_answer};
-ghost use Rattle.html_step.specs.HoleOrigins.{body_hole_origin, css_hole_origin, css_hole_shows, hole_origin, hole_shows, part_hole_origin, url_hole_shows, value_hole_shows};
+ghost use Rattle.html_step.specs.HoleOrigins.{body_hole_origin, css_hole_origin, css_hole_shows, hole_origin, hole_shows, js_hole_origin, part_hole_origin, url_hole_shows, value_hole_shows};
 ghost use Rattle.html_step.specs.OriginViews.{evidence_at};
 ghost use Rattle.html_step.specs.HoleOrigins as spec;
 ghost use Rattle.html_step.specs.Holes as holes;
 
 use crate::evidence::Evidence;
 use crate::origins::{in_value_origin, typed_origin};
-use place_core::{Body, Chain, Code, Css, Member, Parts, Place, Quotes};
+use place_core::{Body, Chain, Code, Css, Js, Member, Parts, Place, Quotes};
 use url_step::at_hole;
 
 /// A member of a place that a member of the place after a hole comes from: every path that bears the one comes to bear the other.
@@ -59,6 +59,17 @@ fn body_origin(body: Body, member: Member) -> Member
     match body {
         Body::Url(parts) => part_origin(parts, member),
         Body::Css(css) => in_style_origin(css, member),
+        Body::Js(js) => in_script_origin(js, member),
+        _ => member,
+    }
+}
+
+// In the code of a script a slash divides on all paths behind a hole.
+fn in_script_origin(js: Js, member: Member) -> Member
+    ensures { result ≡ js_hole_origin js member }
+{
+    match (js, member) {
+        (Js::Code(_, _), Member::SenseDiv) => Member::Whole,
         _ => member,
     }
 }

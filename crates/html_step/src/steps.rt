@@ -32,7 +32,7 @@ use place_core::{Code, Place, StepErr};
 /// - In a value that is a script, read as one: `SplitToken`, `SlashAmbig`, `BadString`, `HtmlInScript` and `PartialEscape` as `js_lexer` says
 ///   of scripts; `PartialCharset`: a text that ends in a `[ ]` of a regular expression; `JSTemplate`: one that ends in a template literal, or
 ///   where literals of a value nest too deep.
-/// - `NotBuilt`: the `>` before the content of a script, and each byte there; the `=` before a value that is a script.
+/// - `NotBuilt`: the `>` before the content of a script, and each byte there.
 ///
 /// Takes no memory, and time in proportion to the length of the text.
 pub fn after_text(place: Place, text: &str) -> Result<Place, StepErr<Place>>

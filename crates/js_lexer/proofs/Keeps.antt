@@ -1,6 +1,6 @@
 -- The laws of the reading of scripts.
 use Rattle.std.proofs.Common.{◌≡◌, ◌⊎◌, inl, inr, ℕ, Bool, true, false, ◌&&◌, List, [], ◌∷◌, Option, None, length, if◌then◌else◌, refl, sym, ap, ◌∙◌}
-use Rattle.js_lexer.specs.Alike.{ScriptsAlike, IsSame, IsPassed}
+use Rattle.js_lexer.specs.Alike.{HaveSameEscape, IsPassed, IsSame, ScriptsAlike}
 use Rattle.js_lexer.specs.Classes.{class_of}
 use Rattle.js_lexer.specs.Events.{ScriptEvent}
 use Rattle.js_lexer.specs.Feeding.{points, tells_all, tells_white_apart, read_at, held_at, tells_held_slash, tells_end, feed_script, script_emits, feed_class, script_emits_class, script_ends, released_point, emits_released}
@@ -8,6 +8,7 @@ use Rattle.js_lexer.specs.Holes.{paged, as_page, settled_at, script_settled, scr
 use Rattle.js_lexer.specs.Laws.{ScriptLaws}
 use Rattle.js_lexer.specs.Refusals.{Cause, cause, first_script_cause, splits_first, SplitToken, script_refuses, script_refuses_class, refusal_outside}
 use Rattle.js_lexer.specs.States.{NoEscape, At, Code, Word, Number, Pluses, Minuses, Slash, LineComment, BlockComment, InString, InRegexp, InTemplate, TooDeep, ScriptPoint, point, ScriptState}
+use Rattle.js_lexer.specs.Trails.{brace_after, escape_after}
 use Rattle.js_lexer.specs.WhiteSpace.{ClassedByte, classed_as}
 use Rattle.js_lexer.specs.declared.class.ScriptClass.{ScriptClass}
 use Rattle.js_lexer.specs.declared.class.ScriptClass.TheVariants as class
@@ -217,7 +218,10 @@ holed-of a d e =
     ∙ sym (ap (λ (x : At). as_page (hole_at x)) (settled-paged a))
     ∙ sym (hole-paged (settled_at a))
 
-same-hole : (v w after : ScriptState) → IsSame v w → ScriptLeadsPlain (script_settled w) after → ScriptsAlike (script_after_hole v) after
+abbrev SameOrPassed : ScriptState → ScriptState → Type 0
+SameOrPassed v w = IsSame v w ⊎ IsPassed v w
+
+same-hole : (v w after : ScriptState) → IsSame v w → ScriptLeadsPlain (script_settled w) after → SameOrPassed (script_after_hole v) after
 same-hole v w after s h =
     let p = same-released v.literals w.literals v.held w.held v.at w.at s.literals s.held s.at in
     let fs = h.within ∙ sym h.outside ∙ ap (λ (q : ScriptPoint). q.literals) p in
@@ -246,7 +250,7 @@ holed-comment fs held a r x e f =
 same-literals : (fs held : List ℕ) (a : At) → held ≡ [] → (points (classed_as class.Letter held) (point fs a)).literals ≡ fs
 same-literals fs held a e = rw e refl
 
-passed-hole : (v w after : ScriptState) → IsPassed v w → ScriptLeadsPlain (script_settled w) after → ScriptsAlike (script_after_hole v) after
+passed-hole : (v w after : ScriptState) → IsPassed v w → ScriptLeadsPlain (script_settled w) after → SameOrPassed (script_after_hole v) after
 passed-hole v w after s h =
     let here = holed-comment w.literals w.held w.at s.sense false s.page_held s.page in
     let fs = h.within ∙ sym h.outside ∙ same-literals w.literals w.held w.at s.page_held ∙ s.literals ∙ sym (same-literals v.literals v.held v.at s.path_held) in
@@ -263,40 +267,82 @@ passed-hole v w after s h =
       | inr x ↦ absurd (block-differs (paged s.sense) x.0 (sym here ∙ x.1))
     ]
 
+-- The escape that is open: it is by where a byte has led, and by the escape before.
+escape-paged : (a : At) (m : List ℕ) (b : ℕ) → escape_after a m b ≡ escape_after (as_page a) m b
+escape-paged (InString q e) m b = refl
+escape-paged (InRegexp k e) m b = refl
+escape-paged a m b = refl
+
+brace-paged : (a : At) (m : List ℕ) (n b : ℕ) → brace_after a m n b ≡ brace_after (as_page a) m n b
+brace-paged (InString q e) m n b = refl
+brace-paged (InRegexp k e) m n b = refl
+brace-paged a m n b = refl
+
+same-escape : (a d : At) (m k : List ℕ) (b : ℕ) → k ≡ m → as_page d ≡ as_page a → escape_after d k b ≡ escape_after a m b
+same-escape a d m k b e f = escape-paged d k b ∙ rw (e, f) refl ∙ sym (escape-paged a m b)
+
+same-brace : (a d : At) (m k : List ℕ) (n l b : ℕ) → k ≡ m → l ≡ n → as_page d ≡ as_page a → brace_after d k l b ≡ brace_after a m n b
+same-brace a d m k n l b e g f = brace-paged d k l b ∙ rw (e, g, f) refl ∙ sym (brace-paged a m n b)
+
+escape-feeds : (v w : ScriptState) (c : ScriptClass) (b : ℕ) → HaveSameEscape v w → IsSame (feed_class v c b) (feed_class w c b) → HaveSameEscape (feed_class v c b) (feed_class w c b)
+escape-feeds v w c b h s =
+    let p = feed_class v c b in
+    let q = feed_class w c b in
+    record {
+      escape = same-escape p.at q.at v.trail.escape w.trail.escape b h.escape s.at;
+      brace = same-brace p.at q.at v.trail.escape w.trail.escape v.trail.brace w.trail.brace b h.escape h.brace s.at;
+    }
+
+escape-hole : (v w after : ScriptState) → ScriptLeadsPlain (script_settled w) after → HaveSameEscape (script_after_hole v) after
+escape-hole v w after h = record { escape = h.whole_after.none; brace = h.whole_after.closed }
+
 cut-alike : (v w : ScriptState) → ScriptsAlike v w → ScriptsAlike (script_after_cut v) w
-cut-alike v w (inl s) = inl (record { literals = s.literals; held = s.held; at = s.at })
-cut-alike v w (inr s) = inr (record { sense = s.sense; literals = s.literals; fresh = refl; path = s.path; page = s.page; path_held = s.path_held; page_held = s.page_held })
+cut-alike v w (h, o) = (
+  record { escape = h.escape; brace = h.brace },
+  elim o [
+    | inl s ↦ inl (record { literals = s.literals; held = s.held; at = s.at })
+    | inr s ↦ inr (record { sense = s.sense; literals = s.literals; fresh = refl; path = s.path; page = s.page; path_held = s.path_held; page_held = s.page_held })
+  ],
+)
 
 alike-emits : (element : Bool) (v w : ScriptState) (b : ℕ) (t : List ScriptEvent) → ScriptsAlike v w → script_refuses element v b ≡ None → script_emits w b t ≡ script_emits v b t
-alike-emits element v w b t (inl s) h = same-told v.literals w.literals v.held w.held v.at w.at (class_of b) b t s.literals s.held s.at
-alike-emits element v w b t (inr s) h = passed-emits v w (class_of b) b t s
+alike-emits element v w b t (i, inl s) h = same-told v.literals w.literals v.held w.held v.at w.at (class_of b) b t s.literals s.held s.at
+alike-emits element v w b t (i, inr s) h = passed-emits v w (class_of b) b t s
+
+fed-same : (element : Bool) (v w : ScriptState) (b : ℕ) → SameOrPassed v w → script_refuses element v b ≡ None → IsSame (feed_script v b) (feed_script w b)
+fed-same element v w b (inl s) h = same-feeds v w (class_of b) b s
+fed-same element v w b (inr s) h = passed-feeds element v w (class_of b) b s h
 
 alike-feeds : (element : Bool) (v w : ScriptState) (b : ℕ) → ScriptsAlike v w → script_refuses element v b ≡ None → ScriptsAlike (feed_script v b) (feed_script w b)
-alike-feeds element v w b (inl s) h = inl (same-feeds v w (class_of b) b s)
-alike-feeds element v w b (inr s) h = inl (passed-feeds element v w (class_of b) b s h)
+alike-feeds element v w b (i, o) h =
+    let s = fed-same element v w b o h in
+    (escape-feeds v w (class_of b) b i s, inl s)
 
 alike-ends : (v w : ScriptState) (t : List ScriptEvent) → ScriptsAlike v w → script_ends w t ≡ script_ends v t
-alike-ends v w t (inl s) = same-ends v w t s
-alike-ends v w t (inr s) = passed-ends v w t s
+alike-ends v w t (i, inl s) = same-ends v w t s
+alike-ends v w t (i, inr s) = passed-ends v w t s
 
 alike-settles : (v w : ScriptState) (t : List ScriptEvent) → ScriptsAlike v w → script_emits_settled w t ≡ script_emits_settled v t
-alike-settles v w t (inl s) = same-settles v w t s
-alike-settles v w t (inr s) = passed-settles v w t s
+alike-settles v w t (i, inl s) = same-settles v w t s
+alike-settles v w t (i, inr s) = passed-settles v w t s
 
 mark-of : (a d : At) → as_page d ≡ as_page a → script_has_mark_at d ≡ script_has_mark_at a
 mark-of a d e = mark-paged d ∙ ap script_has_mark_at e ∙ sym (mark-paged a)
 
 alike-marks : (v w : ScriptState) → ScriptsAlike v w → script_has_mark w ≡ script_has_mark v
-alike-marks v w (inl s) = mark-of v.at w.at s.at
-alike-marks v w (inr s) = mark-paged w.at ∙ ap script_has_mark_at s.page ∙ sym (ap script_has_mark_at s.path) ∙ sym (mark-paged v.at)
+alike-marks v w (i, inl s) = mark-of v.at w.at s.at
+alike-marks v w (i, inr s) = mark-paged w.at ∙ ap script_has_mark_at s.page ∙ sym (ap script_has_mark_at s.path) ∙ sym (mark-paged v.at)
 
 alike-hole : (v w after : ScriptState) → ScriptsAlike v w → ScriptLeadsPlain (script_settled w) after → ScriptsAlike (script_after_hole v) (script_behind (script_settled w) after)
-alike-hole v w after (inl s) h = same-hole v w after s h
-alike-hole v w after (inr s) h = passed-hole v w after s h
+alike-hole v w after (i, inl s) h = (escape-hole v w after h, same-hole v w after s h)
+alike-hole v w after (i, inr s) h = (escape-hole v w after h, passed-hole v w after s h)
 
 pub scripts-keep : ScriptLaws
 scripts-keep = record {
-  begins = inl (record { literals = refl; held = refl; at = refl });
+  begins = (
+    record { escape = refl; brace = refl },
+    inl (record { literals = refl; held = refl; at = refl }),
+  );
   emits = alike-emits;
   feeds = alike-feeds;
   ends = alike-ends;

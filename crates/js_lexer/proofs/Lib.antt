@@ -1,23 +1,23 @@
-mod DataPlain
-mod DataRead
+pub mod DataPlain
+pub mod DataRead
 mod ElementExamples
 mod Examples
 mod HoleExamples
-mod JsonText
+pub mod JsonText
 pub mod Keeps
 mod LimitExamples
 mod Literals
 mod NotPlain
-mod OpenBytes
+pub mod OpenBytes
 mod Paged
 mod PlainExamples
-mod ReadBack
+pub mod ReadBack
 mod RefusalExamples
-mod RegexpBytes
+pub mod RegexpBytes
 mod SanitizerExamples
 mod ShownPlaces
 pub mod Spaces
-mod StringBytes
-mod Told
+pub mod StringBytes
+pub mod Told
 mod ValueBytes
 mod WrittenKeeps

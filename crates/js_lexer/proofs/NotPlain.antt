@@ -92,7 +92,7 @@ line_end_in_string : NotPlain (codes "s='") (codes "\n")
 unfolding class_of released held_after lib.Utf8.encode
 line_end_in_string p = code-string _ _ _ p.leads.at
 
--- In a regular expression a slash, a bracket, and nothing behind the slash that begins it: it would begin a comment.
+-- In a regular expression a slash, a bracket, and no bytes: behind the slash that begins it, the next one would begin a comment.
 slash_in_regexp : NotPlain (codes "=/a") (codes "/")
 unfolding class_of released held_after lib.Utf8.encode
 slash_in_regexp p = code-regexp _ _ _ p.leads.at
@@ -104,6 +104,10 @@ bracket_in_regexp p = brackets-regexp _ p.leads.at
 whole_brackets : NotPlain (codes "=/a") (codes "[a]")
 unfolding class_of released held_after lib.Utf8.encode
 whole_brackets p = no-true p.tells
+
+nothing_in_regexp : NotPlain (codes "=/a") []
+unfolding class_of released held_after lib.Utf8.encode
+nothing_in_regexp p = p.written refl
 
 in_brackets : NotPlain (codes "=/[") (codes "a")
 unfolding class_of released held_after lib.Utf8.encode
@@ -180,18 +184,18 @@ NotAlike one other = ScriptsAlike (script_state_after one script_start) (script_
 
 another_slash : NotAlike (codes "x") (codes "x=")
 unfolding class_of released held_after lib.Utf8.encode
-another_slash (inl s) = code-word _ _ s.at
-another_slash (inr s) = no-true s.fresh
+another_slash (h, inl s) = code-word _ _ s.at
+another_slash (h, inr s) = no-true s.fresh
 
 another_string : NotAlike (codes "x='") (codes "x=\"")
 unfolding class_of released held_after lib.Utf8.encode
-another_string (inl s) = other-string s.at
-another_string (inr s) = no-true s.fresh
+another_string (h, inl s) = other-string s.at
+another_string (h, inr s) = no-true s.fresh
 
 star_that_is_open : NotAlike (codes "/* *") (codes "/* ")
 unfolding class_of released held_after lib.Utf8.encode
-star_that_is_open (inl s) = star-or-none s.at
-star_that_is_open (inr s) = no-true s.fresh
+star_that_is_open (h, inl s) = star-or-none s.at
+star_that_is_open (h, inr s) = no-true s.fresh
 
 -- Scripts that tell other things: data that ends its string; a slash and a minus that join what stands before; runs of another length.
 abbrev ends_in_run : List ScriptEvent → Bool

@@ -1,5 +1,5 @@
 -- Worked examples of bytes that are plain where a hole stands in a script: those that the sanitizers write.
-use Rattle.std.proofs.Common.{inl, inr, pos, negsuc, true, false, codes, [], ◌∷◌, refl}
+use Rattle.std.proofs.Common.{◌≢◌, ℕ, inl, inr, pos, negsuc, true, false, codes, List, [], ◌∷◌, refl}
 use Rattle.std.specs.Fmt.{digits}
 use Rattle.page_datum.specs.Data.{null, truth, int, text, list, dict, no_items, item, no_entries, entry}
 use Rattle.js_lexer.specs.Classes.{class_of}
@@ -95,6 +95,9 @@ separator_in_string = record {
   written = tt;
 }
 
+not-empty : (b : ℕ) (bs : List ℕ) → b ∷ bs ≢ []
+not-empty b bs h = cc
+
 -- In a regular expression: nothing, behind the slash that begins it; its syntax.
 empty_regexp : IsPlainInScript (js_regexp []) (standing (Slash sense.Re))
 unfolding class_of released held_after digits lib.Utf8.encode
@@ -102,7 +105,7 @@ empty_regexp = record {
   apart = refl;
   leads = record { at = refl; outside = refl; within = refl; whole_before = record { none = refl; closed = refl }; whole_after = record { none = refl; closed = refl }; settled = refl; released = refl };
   tells = refl;
-  written = tt;
+  written = not-empty _ _;
 }
 
 syntax_in_regexp : IsPlainInScript (js_regexp (codes "[a/](")) (standing (InRegexp false NoEscape))
@@ -111,7 +114,7 @@ syntax_in_regexp = record {
   apart = refl;
   leads = record { at = refl; outside = refl; within = refl; whole_before = record { none = refl; closed = refl }; whole_after = record { none = refl; closed = refl }; settled = refl; released = refl };
   tells = refl;
-  written = tt;
+  written = not-empty _ _;
 }
 
 -- In a comment: nothing, and in a value without quotes a word.

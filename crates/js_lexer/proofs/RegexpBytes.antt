@@ -1,5 +1,5 @@
 -- The bytes that are written of a text in a regular expression are plain there.
-use Rattle.std.proofs.Common.{◌≡◌, ◌&&◌, ◌==◌, ℕ, Bool, true, false, List, [], ◌∷◌, ◌++◌, refl, ap}
+use Rattle.std.proofs.Common.{◌≡◌, ◌≢◌, ◌&&◌, ◌==◌, ℕ, Bool, true, false, List, [], ◌∷◌, ◌++◌, refl, ap, subst}
 use Rattle.js_lexer.specs.BackLaws.{in_regexp, behind_slash}
 use Rattle.js_lexer.specs.Classes.{class_of}
 use Rattle.js_lexer.specs.Events.{ScriptEvent, RegexpBegins, ScriptByte}
@@ -170,27 +170,6 @@ written-stays : (value : List ℕ) → Stays regexp_at (js_regexp value)
 written-stays [] = empty-stays
 written-stays (b ∷ bs) = escaped-stays regexp_at regexp_rows (both-stay string_rows syntax_rows rows-stay syntax-stays) byte-stays 0 (b ∷ bs)
 
-plain-here : (f : Bool) (m : List ℕ) (k l : ℕ) (value : List ℕ) → IsPlainInScript (js_regexp value) (in_regexp (between_escapes f m k l))
-plain-here f m k l value =
-    let is = written-stays value f m k l [] refl in
-    record {
-      apart = refl;
-      leads = record {
-        at = ap (λ (s : ScriptState). s.at) is.stands;
-        outside = refl;
-        within = ap (λ (s : ScriptState). s.literals) is.stands;
-        whole_before = record { none = refl; closed = refl };
-        whole_after = record { none = ap (λ (s : ScriptState). s.trail.escape) is.stands; closed = ap (λ (s : ScriptState). s.trail.brace) is.stands };
-        settled = refl;
-        released = ap (λ (s : ScriptState). s.held) is.stands;
-      };
-      tells = is.told;
-      written = tt;
-    }
-
-pub regexp-plain : (t : Trail) (value : List ℕ) → IsBetweenEscapes t → IsPlainInScript (js_regexp value) (in_regexp t)
-regexp-plain t value is = between (λ (u : Trail). IsPlainInScript (js_regexp value) (in_regexp u)) (λ f m k l. plain-here f m k l value) t is
-
 -- Behind the slash: the first byte makes no comment of it.
 class-apart : (t : Trail) (told : List ScriptEvent) (c : ScriptClass) (b : ℕ) → is_fine c true ≡ true
     → script_reading (feed_class (behind_slash t) c b) (script_emits_class (behind_slash t) c b told)
@@ -242,6 +221,31 @@ written-fine [] = empty-fine
 written-fine (b ∷ bs) =
     longer-fine (escaped_at regexp_rows (b ∷ bs)) (escaped_from regexp_rows (taken_at regexp_rows (b ∷ bs)) bs)
     (written-at BeginsFine regexp_rows b bs (each-fine regexp_rows rows-fine) (left-fine b bs))
+
+-- so something is written
+some-written : (value : List ℕ) → js_regexp value ≢ []
+some-written value e = no-true (subst BeginsFine e (written-fine value))
+
+plain-here : (f : Bool) (m : List ℕ) (k l : ℕ) (value : List ℕ) → IsPlainInScript (js_regexp value) (in_regexp (between_escapes f m k l))
+plain-here f m k l value =
+    let is = written-stays value f m k l [] refl in
+    record {
+      apart = refl;
+      leads = record {
+        at = ap (λ (s : ScriptState). s.at) is.stands;
+        outside = refl;
+        within = ap (λ (s : ScriptState). s.literals) is.stands;
+        whole_before = record { none = refl; closed = refl };
+        whole_after = record { none = ap (λ (s : ScriptState). s.trail.escape) is.stands; closed = ap (λ (s : ScriptState). s.trail.brace) is.stands };
+        settled = refl;
+        released = ap (λ (s : ScriptState). s.held) is.stands;
+      };
+      tells = is.told;
+      written = some-written value;
+    }
+
+pub regexp-plain : (t : Trail) (value : List ℕ) → IsBetweenEscapes t → IsPlainInScript (js_regexp value) (in_regexp t)
+regexp-plain t value is = between (λ (u : Trail). IsPlainInScript (js_regexp value) (in_regexp u)) (λ f m k l. plain-here f m k l value) t is
 
 fine-apart : (t : Trail) (bytes : List ℕ) → BeginsFine bytes
     → read_on bytes (script_reading (behind_slash t) []) ≡ read_on bytes (script_reading (in_regexp t) (ScriptByte 47 ∷ RegexpBegins ∷ []))

@@ -73,14 +73,14 @@ dot = refl
 negative_back : IsDataBack (int (negsuc 4)) (js_value (int (negsuc 4))) (read_on (js_value (int (negsuc 4))) (script_reading script_start [])).told
 unfolding class_of released held_after digits lib.Utf8.encode number_of lex punctuate items members value content word after_number code_unit short_escape scan
 negative_back = record {
-  json = (json.number (json.negative (negsuc 4)), record { utf8 = (codes " -5 ", (refl, refl)); reads = refl }, refl);
+  json = record { depth = 0; value = json.number (json.negative (negsuc 4)); utf8 = (codes " -5 ", (refl, refl)); reads = refl; stands = refl };
   tokens = refl;
 }
 
 object_back : IsDataBack (dict (entry (codes "<") (list (item null (item (truth true) no_items))) no_entries)) (codes "{\"\\u003c\":[null,true]}") (read_on (codes "{\"\\u003c\":[null,true]}") (script_reading script_start [])).told
 unfolding class_of released held_after digits lib.Utf8.encode number_of lex punctuate items members value content word after_number code_unit short_escape scan
 object_back = record {
-  json = (json.object (json.member (codes "<") (json.array (json.item json.null (json.item (json.boolean true) json.no_items))) json.no_members), record { utf8 = (codes "{\"\\u003c\":[null,true]}", (refl, refl)); reads = refl }, refl);
+  json = record { depth = 2; value = json.object (json.member (codes "<") (json.array (json.item json.null (json.item (json.boolean true) json.no_items))) json.no_members); utf8 = (codes "{\"\\u003c\":[null,true]}", (refl, refl)); reads = refl; stands = refl };
   tokens = refl;
 }
 

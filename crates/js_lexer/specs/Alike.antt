@@ -4,7 +4,8 @@ use Rattle.js_lexer.specs.Holes.{as_page}
 use Rattle.js_lexer.specs.States.{BlockComment, ScriptState}
 use Rattle.js_lexer.specs.declared.sense.Sense.{Sense}
 
--- `v` is the state of the path, and `w` that of the page. The trails do not matter, nor whether a slash would divide after a value or after `}`.
+-- `v` is the state of the path, and `w` that of the page. Whether a slash would divide after a value or after `}` does not matter. Nor do the trails,
+-- but for `HaveSameEscape`.
 pub record IsSame (v w : ScriptState) : Type 0 where
   pub literals : w.literals ≡ v.literals
   pub held : w.held ≡ v.held
@@ -20,5 +21,10 @@ pub record IsPassed (v w : ScriptState) : Type 0 where
   pub path_held : v.held ≡ []
   pub page_held : w.held ≡ []
 
+-- Of the trails this matters: the escape that is open in a string or a regular expression, with which the bytes of no hole may go on.
+pub record HaveSameEscape (v w : ScriptState) : Type 0 where
+  pub escape : w.trail.escape ≡ v.trail.escape
+  pub brace : w.trail.brace ≡ v.trail.brace
+
 abbrev pub ScriptsAlike : ScriptState → ScriptState → Type 0
-ScriptsAlike v w = IsSame v w ⊎ IsPassed v w
+ScriptsAlike v w = HaveSameEscape v w × (IsSame v w ⊎ IsPassed v w)

@@ -11,6 +11,7 @@ pub mod Nodes
 pub mod Plain
 pub mod Refusals
 pub mod Sanitizers
+pub mod ScriptBack
 pub mod Spots
 pub mod States
 pub mod Steps

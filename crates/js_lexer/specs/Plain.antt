@@ -1,9 +1,13 @@
 -- When the bytes of a hole in a script are plain in their place, and what they read back as.
-use Rattle.std.specs.Prelude.{◌≡◌, ◌⊎◌, ⊤, ℕ, ℤ, suc, pos, negsuc, Bool, true, false, IsTrue, bytes_eq, codes, List, [], ◌∷◌, Ok}
+use Rattle.std.specs.Prelude.{◌≡◌, ◌≢◌, ◌⊎◌, ⊤, ℕ, ℤ, suc, pos, negsuc, Bool, true, false, IsTrue, bytes_eq, codes, List, [], ◌∷◌, Option, Some, option_and_then, Ok}
 use Rattle.std.specs.Fmt.{decimal}
+use Rattle.std.specs.Str.{IsUtf8}
 use Rattle.page_datum.specs.Data.{Data, null, truth, int, text, list, dict, DataList, no_items, item, DataDict, no_entries, entry}
-use Rattle.page_datum.specs.Reading.{IsJson, data_of}
+use Rattle.page_datum.specs.Reading.{data_of}
+use Rattle.json.specs.Json as grammar
+use Rattle.json.specs.Lex.{tokens}
 use Rattle.serde_json.specs.Data as json
+use Rattle.serde_json.specs.Read.{of_json}
 use Rattle.js_lexer.specs.Events.{ScriptEvent, WordBegins, NumberBegins, PunctuatorBegins, StringBegins, ScriptByte, script_bytes}
 use Rattle.js_lexer.specs.Feeding.{read_on, script_reading}
 use Rattle.js_lexer.specs.Holes.{script_settled, script_emits_settled, ScriptLeadsPlain}
@@ -68,10 +72,11 @@ TellsPlain a t = (d : Data) × (t ≡ literal_events d [])
 
 -- Blanks and comments tell nothing, so what a hole tells does not say that its bytes stay where they are: `*/ /*` leaves a comment and begins another.
 -- Therefore the bytes themselves: in a comment none, or the failsafe; in code what is written of a datum, in which there is no blank and no comment
--- besides, and no `-` apart from its digits. In a string and a regular expression no byte is silent.
+-- besides, and no `-` apart from its digits. In a string and a regular expression no byte is silent; and in the latter there is one at least, since `//`
+-- would begin a comment.
 abbrev pub HasPlainBytes : At → List ℕ → Type 0
 HasPlainBytes (InString q e) bytes = ⊤
-HasPlainBytes (InRegexp k e) bytes = ⊤
+HasPlainBytes (InRegexp k e) bytes = bytes ≢ []
 HasPlainBytes (LineComment s) bytes = (bytes ≡ []) ⊎ (bytes ≡ script_failsafe)
 HasPlainBytes (BlockComment s star) bytes = (bytes ≡ []) ⊎ (bytes ≡ script_failsafe)
 HasPlainBytes a bytes = (d : Data) × (bytes ≡ js_value d)
@@ -83,10 +88,18 @@ pub record IsPlainInScript (bytes : List ℕ) (s : ScriptState) : Type 0 where
   pub tells : TellsPlain (script_settled s).at (read_on bytes (script_reading (script_settled s) [])).told
   pub written : HasPlainBytes (script_settled s).at bytes
 
+-- The value that bytes are as JSON, in which lists and dictionaries nest no deeper than that.
+abbrev pub json_value : ℕ → List ℕ → Option json.Data
+json_value depth bytes = option_and_then of_json (option_and_then (λ p. grammar.if_last p.0 p.1) (grammar.value depth (tokens bytes)))
+
 -- The bytes are JSON that stands for this datum. How long they are and how deep they nest does not matter, unlike in `IsDatum`: what is written of a
--- datum may be longer than the text that it was read from.
-abbrev pub StandsFor : List ℕ → Data → Type 0
-StandsFor bytes d = (value : json.Data) × IsJson bytes value × (data_of value ≡ Ok d)
+-- datum may be longer than the text that it was read from, and data may be built that nest deeper than any text that is read.
+pub record StandsFor (bytes : List ℕ) (d : Data) : Type 0 where
+  pub depth : ℕ
+  pub value : json.Data
+  pub utf8 : IsUtf8 bytes
+  pub reads : json_value depth bytes ≡ Some value
+  pub stands : data_of value ≡ Ok d
 
 -- Read back: in code as JSON, and as the tokens of this very datum's literal; in a string and a regular expression with escapes undone. The expression
 -- `(?:)` is the empty text, and no other bytes are.

@@ -3,6 +3,7 @@ pub mod KeptWords
 pub mod ScriptEvidence
 pub mod ScriptOrigins
 pub mod ScriptPaths
+pub mod ScriptSanitizers
 pub mod ScriptScanLaws
 pub mod ScriptScanOrder
 pub mod ScriptScanViews

@@ -1,7 +1,8 @@
 ghost use Rattle.std.specs.Prelude.{◌≡◌};
+ghost use Rattle.js_step.specs.ScriptSanitizers.{script_sanitizer};
 ghost use Rattle.js_step.specs.ScriptScans.{script_at_hole};
 
-use place_core::{Js, JsTails, Senses};
+use place_core::{Js, JsTails, San, Senses};
 
 /// The place behind a hole. None is refused in a script.
 pub fn at_hole(place: Js) -> Js
@@ -29,5 +30,18 @@ pub fn at_hole(place: Js) -> Js
         Js::Regexp(_) => Js::Regexp(false),
         Js::Line(senses) => Js::Line(senses),
         Js::Block(senses, star) => Js::Block(senses, star),
+    }
+}
+
+/// The sanitizer of a value of data: in code it is written as a literal of its own, in a string or a regular expression as a part of
+/// it; in a comment it is left out. HTML adds the sanitizer of the value's quotes.
+pub fn sanitizer(place: Js) -> San
+    ensures { result ≡ script_sanitizer place }
+{
+    match place {
+        Js::Code(_, _) => San::JsValue,
+        Js::Dq | Js::Sq => San::JsString,
+        Js::Regexp(_) => San::JsRegexp,
+        Js::Line(_) | Js::Block(_, _) => San::Drop,
     }
 }

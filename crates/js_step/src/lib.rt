@@ -28,7 +28,7 @@ pub use ends::{refused_at_cut, refused_at_end};
 pub use evidence::{
     ScriptShown, scripts_clash, scripts_shown, shown_at_byte, shown_by, split_shows,
 };
-pub use hole::at_hole;
+pub use hole::{at_hole, sanitizer};
 pub use laws::{
     empty_texts_keep_scripts, is_exact_on_one_script, kept_words_suffice, script_paths_are_scanned,
     script_senses_share, script_senses_unite, script_tails_grow, scripts_begin_as_one,

@@ -31,6 +31,7 @@ pub fn input_of(alloc: Global, input: Input, size: usize) -> Result<String, Allo
         Input::Links => repeated(alloc, "", LINK, "", size),
         Input::Styles => repeated(alloc, "", STYLE, "", size),
         Input::StyleElements => repeated(alloc, "", STYLE_ELEMENT, "", size),
+        Input::Scripts => repeated(alloc, "", SCRIPT, "", size),
         Input::Chain => chain(alloc, size),
         Input::Pairs => pairs(alloc, size),
         Input::Nests => nests(alloc, TAGS, size),
@@ -53,6 +54,9 @@ const STYLE: &str = "<p style=\"color: {{.v}}; width: {{.w}}px\">{{.v}}</p>\n";
 
 // An element `style`, of which one property has a value.
 const STYLE_ELEMENT: &str = "<style>p{width:{{.w}}px}</style>\n";
+
+// A tag with three values in a script: a number in its code, and a text in a string and in a regular expression.
+const SCRIPT: &str = "<p onclick=\"f({{.w}}, '{{.v}}', /{{.v}}/)\">{{.v}}</p>\n";
 
 // A section of a page with a hole.
 const PAGE_HOLE: &str = "<p>{{.v}}</p>\n";

@@ -69,6 +69,7 @@ fn main(rt: HostRuntime) -> ExitCode {
             let _ = eprintln!(&rt;
                 "      page-style-elements pages-styles pages-style-elements pages-text"
             );
+            let _ = eprintln!(&rt; "      page-scripts pages-scripts");
             let _ = eprintln!(&rt; "      page-variables page-dropped page-names page-slices");
             let _ = eprintln!(&rt; "      looks-1 looks-4 locks-1 locks-4");
             return ExitCode::from(2);

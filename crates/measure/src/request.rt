@@ -90,6 +90,9 @@ pub enum Input {
     Styles,
     /// Elements `style`, of which one property has a value of data, again and again.
     StyleElements,
+    /// Tags with a script as the value of an attribute, which has a value of data in its code, one in a string and one in a regular
+    /// expression, again and again.
+    Scripts,
     /// Variables; after each one the one with half its number is used.
     Variables,
     /// Templates, each of which calls the next one in eight places.
@@ -160,6 +163,7 @@ pub fn words_named(word: &str) -> Option<(Measured, Input)> {
         "page-links" => Some((Measured::Page, Input::Links)),
         "page-styles" => Some((Measured::Page, Input::Styles)),
         "page-style-elements" => Some((Measured::Page, Input::StyleElements)),
+        "page-scripts" => Some((Measured::Page, Input::Scripts)),
         "page-text" => Some((Measured::Page, Input::Text)),
         "page-variables" => Some((Measured::Page, Input::Variables)),
         "page-dropped" => Some((Measured::Dropped, Input::Numbers)),
@@ -169,6 +173,7 @@ pub fn words_named(word: &str) -> Option<(Measured, Input)> {
         "pages-links" => Some((Measured::Pages, Input::Links)),
         "pages-styles" => Some((Measured::Pages, Input::Styles)),
         "pages-style-elements" => Some((Measured::Pages, Input::StyleElements)),
+        "pages-scripts" => Some((Measured::Pages, Input::Scripts)),
         "pages-text" => Some((Measured::Pages, Input::Text)),
         "looks-1" => Some((Measured::Looks, Input::One)),
         "looks-4" => Some((Measured::Looks, Input::Four)),

@@ -8,7 +8,7 @@ use Rattle.css_lexer.specs.States.{Out, Outside, InUrl, UrlForm, Style}
 use Rattle.css_lexer.specs.Urls.{urls}
 use Rattle.page_datum.specs.Data.{Data}
 use Rattle.page_datum.specs.Printed.{printed}
-use Rattle.page_path.proofs.StyleBack.{WrittenInStyles, style-reads}
+use Rattle.page_path.proofs.StyleBack.{WrittenInLanguages, style-reads}
 use Rattle.page_path.proofs.UrlBack.{all-bytes, own-apart, part-back}
 use Rattle.page_path.specs.Soundness.{IsBack, IsElementBack, ReadsBackInStyle, ReadsBackOutside}
 use Rattle.place_core.specs.page.Contents.{pending_bytes}
@@ -30,13 +30,13 @@ use Rattle.url_lexer.specs.Sanitizers.{written_in}
 use Rattle.url_lexer.specs.States.{Url}
 
 -- what is promised, in code, in a string and in a URL
-pub in-code : WrittenInStyles → (text : List ℕ) → IsBackInElement (IsBackInCode urls text) (css_value text)
+pub in-code : WrittenInLanguages → (text : List ℕ) → IsBackInElement (IsBackInCode urls text) (css_value text)
 in-code laws text = record { there = laws.code text; apart = value-no-less text }
 
-pub in-string : WrittenInStyles → (text : List ℕ) → IsBackInElement (IsBackInString urls text) (css_string text)
+pub in-string : WrittenInLanguages → (text : List ℕ) → IsBackInElement (IsBackInString urls text) (css_string text)
 in-string laws text = record { there = laws.strings text; apart = string-no-less text }
 
-pub in-url : WrittenInStyles → (p : UrlPart) (Back : List ℕ → Type 0) (text : List ℕ) → IsUtf8 text → Back (written_in p text)
+pub in-url : WrittenInLanguages → (p : UrlPart) (Back : List ℕ → Type 0) (text : List ℕ) → IsUtf8 text → Back (written_in p text)
     → IsBackInElementUrl Back (written_in p text)
 in-url laws p Back text u back = record {
   there = back;

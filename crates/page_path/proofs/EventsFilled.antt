@@ -2,7 +2,7 @@
 use Rattle.std.proofs.Common.{ℕ, List, [], ◌∷◌, ◌++◌, Option, ap, ◌∙◌}
 use Rattle.html_step.specs.Steps.{after_text}
 use Rattle.page_path.proofs.Finding.{AllFind, Finds, event_symbols, symbols_from}
-use Rattle.page_path.proofs.StyleBack.{WrittenInStyles}
+use Rattle.page_path.proofs.StyleBack.{WrittenInLanguages}
 use Rattle.page_path.proofs.OwnPieces.{text-at-place}
 use Rattle.page_path.proofs.PiecesFilled.{IsFilled, hole-filled, text-filled}
 use Rattle.page_path.specs.Pages.{bytes_in, event_pieces, kind_in, open_behind, page_bytes, pieces_from, state_behind}
@@ -24,7 +24,7 @@ use Rattle.page_path.specs.Taken.{move_sign}
 use Rattle.tpl_tree.specs.Forests.{ForestData}
 use Rattle.tpl_tree.specs.declared.node_kind.NodeKind.{NodeKind}
 
-module _ (laws : WrittenInStyles) (forest : ForestData) (chart : ChartByName Place) where
+module _ (laws : WrittenInLanguages) (forest : ForestData) (chart : ChartByName Place) where
   -- the bytes of events, and the symbols and the texts of their path
   abbrev FilledFrom : List Emission → List (List ℕ) → LexState ValueState → List Filling → List LexEvent → Config ValueState → Type 0
   FilledFrom gs ts s vs t d = IsFilled (symbols_from forest gs ts) (texts_of gs) (page_bytes (pieces_from forest gs ts s)) s vs t d

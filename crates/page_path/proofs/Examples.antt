@@ -1,12 +1,15 @@
 -- Small pages, by the definition alone, and pages that are none.
-use Rattle.std.proofs.Common.{◌≡◌, ℕ, false, true, codes, List, [], ◌∷◌, ◌++◌, Some, length, refl, ap, ◌∙◌, arith, IsUtf8}
+use Rattle.std.proofs.Common.{◌≡◌, ℕ, pos, false, true, codes, List, [], ◌∷◌, ◌++◌, Some, length, refl, ap, ◌∙◌, arith, IsUtf8}
 use Rattle.std.proofs.lemmas.Bool.{false≢true}
 use Rattle.std.proofs.lemmas.Str.{is_utf8-from_IsUtf8}
 use Rattle.std.specs.Str.{chars, is_utf8}
 use Rattle.css_lexer.specs.Classes.{style_class}
 use Rattle.esc_table.proofs.Runs.{replaced-encodes}
 use Rattle.html_step.specs.Holes.{only}
-use Rattle.page_datum.specs.Data.{dict, entry, no_entries, null, text}
+use Rattle.js_lexer.specs.Classes as script
+use Rattle.js_lexer.specs.Sanitizers.{js_value}
+use Rattle.js_lexer.specs.WhiteSpace.{held_after, released}
+use Rattle.page_datum.specs.Data.{Data, dict, entry, int, no_entries, null, text, truth}
 use Rattle.page_path.specs.Pages.{PagePiece, page_bytes, pieces_of, value, value_pieces, words}
 use Rattle.page_path.specs.Soundness.{AreValuesBack, IsSound}
 use Rattle.page_path.specs.Textual.{AreTextual, IsTextBy}
@@ -116,6 +119,46 @@ in_a_comment_of_an_element : pieces (codes "<style>a/*") (codes "red") (codes "*
 unfolding class_of style_class
 in_a_comment_of_an_element = refl
 
+-- in a script: a text in code is a string of JSON, in which a `<` is an escape, and the quotation marks are references of HTML; in a string and
+-- in a regular expression they are escapes; and in a comment none of the value
+datum_in_quotes : html (codes "\"\\u003ca\"") ≡ codes "&#34;\\u003ca&#34;"
+unfolding lib.Utf8.encode
+datum_in_quotes = replaced-encodes html_rows (codes "\"\\u003ca\"") refl
+
+escapes_in_quotes : html (codes "\\u0022\\u003c\\/") ≡ codes "\\u0022\\u003c\\/"
+unfolding lib.Utf8.encode
+escapes_in_quotes = replaced-encodes html_rows (codes "\\u0022\\u003c\\/") refl
+
+expression_in_quotes : html (codes "(?:)") ≡ codes "(?:)"
+unfolding lib.Utf8.encode
+expression_in_quotes = replaced-encodes html_rows (codes "(?:)") refl
+
+truth_in_quotes : html (codes " true ") ≡ codes " true "
+unfolding lib.Utf8.encode
+truth_in_quotes = replaced-encodes html_rows (codes " true ") refl
+
+in_a_script : page_bytes (pieces (codes "<b onclick='f(") (codes "<a") (codes ")'>")) ≡ codes "<b onclick='f(&#34;\\u003ca&#34;)'>"
+unfolding class_of script.class_of released held_after lib.Utf8.encode
+in_a_script = ap (λ (bytes : List ℕ). codes "<b onclick='f(" ++ bytes ++ codes ")'>") datum_in_quotes
+
+a_truth_in_a_script : page_bytes (pieces_of (around (codes "<b onclick='f(") (codes ")'>")) name (truth true))
+    ≡ codes "<b onclick='f( true )'>"
+unfolding class_of script.class_of released held_after lib.Utf8.encode
+a_truth_in_a_script = ap (λ (bytes : List ℕ). codes "<b onclick='f(" ++ bytes ++ codes ")'>") truth_in_quotes
+
+in_a_string_of_a_script : page_bytes (pieces (codes "<b onclick='f(\"") (codes "\"</") (codes "\")'>"))
+    ≡ codes "<b onclick='f(\"\\u0022\\u003c\\/\")'>"
+unfolding class_of script.class_of released held_after lib.Utf8.encode
+in_a_string_of_a_script = ap (λ (bytes : List ℕ). codes "<b onclick='f(\"" ++ bytes ++ codes "\")'>") escapes_in_quotes
+
+in_a_regular_expression : page_bytes (pieces (codes "<b onclick='f(/") [] (codes "/)'>")) ≡ codes "<b onclick='f(/(?:)/)'>"
+unfolding class_of script.class_of released held_after lib.Utf8.encode
+in_a_regular_expression = ap (λ (bytes : List ℕ). codes "<b onclick='f(/" ++ bytes ++ codes "/)'>") expression_in_quotes
+
+in_a_comment_of_a_script : page_bytes (pieces (codes "<b onclick=a/*") (codes "b") (codes "*/>")) ≡ codes "<b onclick=a/*ZgotmplZ*/>"
+unfolding class_of script.class_of released held_after lib.Utf8.encode
+in_a_comment_of_a_script = refl
+
 -- with another sanitizer after Drop the value is not left out
 dropped_first : value_pieces (record { count = 2; sans = san.Drop ∷ san.AttrNospace ∷ san.AttrNospace ∷ [] }) (text (codes "a"))
     ≡ value (text (codes "a")) (codes "ZgotmplZ") ∷ []
@@ -179,9 +222,19 @@ as_a_name = tt
 as_a_text : IsTextBy (only san.Html) (text broken) → ⊥
 as_a_text u = not_utf8 u
 
--- one that reads the datum itself asks about its texts and keys, and not about what is printed of it
-as_a_script_value : IsTextBy (only san.JsValue) (dict (entry broken null no_entries)) → ⊥
-as_a_script_value u = not_utf8 u.0
+-- one that reads the datum itself asks about what it writes of that, in which a key stands too, and for a number that JSON data have
+abbrev broken_key : Data
+broken_key = dict (entry broken null no_entries)
+
+not_utf8_key : IsUtf8 (js_value broken_key) → ⊥
+unfolding is_utf8 chars lib.Utf8.encode
+not_utf8_key u = (let is : false ≡ true = is_utf8-from_IsUtf8 (js_value broken_key) u in false≢true is)
+
+as_a_script_value : IsTextBy (only san.JsValue) broken_key → ⊥
+as_a_script_value u = not_utf8_key u.0
+
+as_a_large_number : IsTextBy (only san.JsValue) (int (pos 9223372036854775808)) → ⊥
+as_a_large_number u = omega (arith, u.1)
 
 -- a hole with that text, wherever the chart has this place
 abbrev AreTextsAt : Place → Type 0

@@ -3,7 +3,7 @@ use Rattle.std.proofs.Common.{◌≡◌, ℕ, List, [], Bool, true, false, Optio
 use Rattle.std.proofs.lemmas.Bool.{and_parts}
 use Rattle.html_step.proofs.HoleOrder.{covers-hole}
 use Rattle.html_step.specs.Holes.{Holed, after_hole, all_of, both_of, last_of, only}
-use Rattle.js_lexer.specs.Spots.{Spot, script_spot}
+use Rattle.js_lexer.specs.Spots.{BlockSpot, CodeSpot, LineSpot, RegexpSpot, Spot, StringSpot, script_spot}
 use Rattle.js_lexer.specs.States.{ScriptState}
 use Rattle.page_datum.specs.Data.{Data}
 use Rattle.page_datum.specs.Printed.{printed}
@@ -12,8 +12,10 @@ use Rattle.page_path.specs.Soundness.{IsBack, IsNameBack, ReadsBackOutside}
 use Rattle.page_path.specs.Textual.{IsTextBy}
 use Rattle.page_path.proofs.ElementBack.{in_style_element}
 use Rattle.page_path.proofs.ElementBack as elements
-use Rattle.page_path.proofs.StyleBack.{WrittenInStyles, code-back, comment-back, dropped-back, in_style, string-back, style-url-back, unbegun-style-back}
+use Rattle.page_path.proofs.StyleBack.{WrittenInLanguages, code-back, comment-back, dropped-back, in_style, string-back, style-url-back, unbegun-style-back}
 use Rattle.page_path.proofs.StyleBack as styles
+use Rattle.page_path.proofs.ScriptBack.{IsHere, in_script, spot-here}
+use Rattle.page_path.proofs.ScriptBack as scripts
 use Rattle.page_path.proofs.UrlBack.{in-url, part-back, quoted-back, unbegun-back, url-back}
 use Rattle.place_core.specs.page.Events.{LexEvent}
 use Rattle.place_core.specs.place.Membership.{IsIn}
@@ -78,10 +80,10 @@ same-back s datum bytes free back t d l =
 abbrev pub BackIn : Chain → LexState ValueState → Data → List ℕ → Type 0
 BackIn c s datum bytes = BackUnless (leaves_out c) s datum bytes
 
--- a chain keeps what it promises, and what it writes reads back, by the laws of styles
+-- a chain keeps what it promises, and what it writes reads back, by the laws of styles and of scripts
 pub record IsSafe (c : Chain) (s : LexState ValueState) : Type 0 where
-  pub promised : WrittenInStyles → (datum : Data) → IsTextBy c datum → IsBackBy c datum (chain_bytes c datum)
-  pub back : WrittenInStyles → (datum : Data) → IsTextBy c datum → BackIn c s datum (chain_bytes c datum)
+  pub promised : WrittenInLanguages → (datum : Data) → IsTextBy c datum → IsBackBy c datum (chain_bytes c datum)
+  pub back : WrittenInLanguages → (datum : Data) → IsTextBy c datum → BackIn c s datum (chain_bytes c datum)
 
 abbrev SafeBy : LexState ValueState → Holed → Type 0
 SafeBy s (Ok h) = IsSafe h.1 s
@@ -367,12 +369,55 @@ before-style tag = record {
   back = λ laws datum utf8. same-back (BeforeAttributeValue tag kind.Style) datum _ refl (unbegun-style-back tag (printed datum) utf8);
 }
 
--- in a script, where no place takes a value yet
-script-safe : (begins : Bool) (o : Option Spot) (q : Quoting) (tag : Tag) (s : ScriptState)
-    → SafeAt (in_value q tag (ValueOf (OfScript s))) (value_spot tag (quotes_at q) (if begins then option_map (λ p. body.Js (script_place p)) o else None))
-script-safe true (Some p) q tag s = tt
-script-safe true None q tag s = tt
-script-safe false o q tag s = tt
+-- In a script: in code, in a string, in a regular expression, and in a comment, where the value is dropped as in one of a style.
+in-script-code : (q : Quoting) (tag : Tag) (s : ScriptState) → IsHere san.JsValue s
+    → IsSafe (both_of san.JsValue (last_of (quotes_at q))) (in_script q tag s)
+in-script-code q tag s here = record {
+  promised = λ laws datum u. scripts.in-code laws.scripts q datum u;
+  back = λ laws datum u t d l. scripts.code-back laws.scripts q tag s here datum u t d l;
+}
+
+in-script-string : (q : Quoting) (tag : Tag) (s : ScriptState) → IsHere san.JsString s
+    → IsSafe (both_of san.JsString (last_of (quotes_at q))) (in_script q tag s)
+in-script-string q tag s here = record {
+  promised = λ laws datum utf8. scripts.in-string laws.scripts q (printed datum) utf8;
+  back = λ laws datum utf8 t d l. scripts.string-back laws.scripts q tag s here datum utf8 t d l;
+}
+
+in-script-regexp : (q : Quoting) (tag : Tag) (s : ScriptState) → IsHere san.JsRegexp s
+    → IsSafe (both_of san.JsRegexp (last_of (quotes_at q))) (in_script q tag s)
+in-script-regexp q tag s here = record {
+  promised = λ laws datum utf8. scripts.in-regexp laws.scripts q (printed datum) utf8;
+  back = λ laws datum utf8 t d l. scripts.regexp-back laws.scripts q tag s here datum utf8 t d l;
+}
+
+in-script-comment : (q : Quoting) (tag : Tag) (s : ScriptState) → IsHere san.Drop s
+    → IsSafe (both_of san.Drop (last_of (quotes_at q))) (in_script q tag s)
+in-script-comment q tag s here = record {
+  promised = λ laws datum u. dropped-back q;
+  back = λ laws datum u t d l. scripts.comment-back laws.scripts q tag s here datum t d l;
+}
+
+script-spot-safe : (p : Spot) (q : Quoting) (tag : Tag) (s : ScriptState) → script_spot s ≡ Some p
+    → SafeAt (in_script q tag s) (value_spot tag (quotes_at q) (Some (body.Js (script_place p))))
+script-spot-safe (CodeSpot x tail) q tag s e = in-script-code q tag s (spot-here s (CodeSpot x tail) e)
+script-spot-safe (StringSpot true) q tag s e = in-script-string q tag s (spot-here s (StringSpot true) e)
+script-spot-safe (StringSpot false) q tag s e = in-script-string q tag s (spot-here s (StringSpot false) e)
+script-spot-safe (RegexpSpot slash) q tag s e = in-script-regexp q tag s (spot-here s (RegexpSpot slash) e)
+script-spot-safe (LineSpot x) q tag s e = in-script-comment q tag s (spot-here s (LineSpot x) e)
+script-spot-safe (BlockSpot x star) q tag s e = in-script-comment q tag s (spot-here s (BlockSpot x star) e)
+
+script-safe : (begins : Bool) (o : Option Spot) (q : Quoting) (tag : Tag) (s : ScriptState) → script_spot s ≡ o
+    → SafeAt (in_script q tag s) (value_spot tag (quotes_at q) (if begins then option_map (λ p. body.Js (script_place p)) o else None))
+script-safe true (Some p) q tag s e = script-spot-safe p q tag s e
+script-safe true None q tag s e = tt
+script-safe false o q tag s e = tt
+
+before-script : (tag : Tag) → IsSafe (both_of san.JsValue san.AttrNospace) (BeforeAttributeValue tag kind.Script)
+before-script tag = record {
+  promised = λ laws datum u. scripts.in-code laws.scripts Unquoted datum u;
+  back = λ laws datum u. same-back (BeforeAttributeValue tag kind.Script) datum _ refl (scripts.unbegun-script-back laws.scripts tag datum u);
+}
 
 value-safe : (r : Reference) (v : Value ValueState) (q : Quoting) (tag : Tag)
     → SafeAt (AttributeValue q tag v r) (where_closed r (value_spot tag (quotes_at q) (value_body v)))
@@ -381,7 +426,7 @@ value-safe Closed (ValueOf (OfKind kind.Plain)) SingleQuoted tag = in-single tag
 value-safe Closed (ValueOf (OfKind kind.Plain)) Unquoted tag = in-unquoted tag
 value-safe Closed (ValueOf (OfUrl u)) q tag = url-safe u.triple u.part q tag u refl
 value-safe Closed (ValueOf (OfStyle v)) q tag = style-safe v q tag
-value-safe Closed (ValueOf (OfScript s)) q tag = script-safe (script_may_begin_text s) (script_spot s) q tag s
+value-safe Closed (ValueOf (OfScript s)) q tag = script-safe (script_may_begin_text s) (script_spot s) q tag s refl
 value-safe _ _ _ tag = tt
 
 -- In the element of a style: in code, in a string, and in a URL, by its part.
@@ -535,6 +580,7 @@ safe-at (SelfClosingStartTag tag) = before-name (SelfClosingStartTag tag) tag re
 safe-at (BeforeAttributeValue tag kind.Plain) = before-value tag
 safe-at (BeforeAttributeValue tag kind.Url) = before-url tag
 safe-at (BeforeAttributeValue tag kind.Style) = before-style tag
+safe-at (BeforeAttributeValue tag kind.Script) = before-script tag
 safe-at (AttributeValue q tag v r) = value-safe r v q tag
 safe-at (InContent e x h) = content-safe h x e
 safe-at _ = tt

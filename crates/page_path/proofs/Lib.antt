@@ -9,6 +9,7 @@ pub mod Paths
 pub mod PiecesFilled
 pub mod PiecesRead
 pub mod Runs
+pub mod ScriptBack
 pub mod Signs
 pub mod Sound
 pub mod StyleBack

@@ -5,7 +5,7 @@ use Rattle.std.specs.Prelude.{if◌then◌else◌}
 use Rattle.html_step.specs.Holes.{after_hole}
 use Rattle.html_step.specs.Steps.{after_text}
 use Rattle.page_path.proofs.HolesBack.{is-safe}
-use Rattle.page_path.proofs.StyleBack.{WrittenInStyles}
+use Rattle.page_path.proofs.StyleBack.{WrittenInLanguages}
 use Rattle.page_path.proofs.OwnPieces.{on-path}
 use Rattle.page_path.proofs.PiecesRead.{StandsFor, node-state}
 use Rattle.page_datum.specs.Data.{Data}
@@ -76,7 +76,7 @@ hole-bytes true datum bytes d more p = ap (λ (z : List ℕ). z ++ page_bytes mo
 hole-bytes false datum bytes d more p = refl
 
 -- a hole
-pub hole-filled : WrittenInStyles → (p q : Place) (c : Chain) (datum : Data) (s : LexState ValueState) (vs : List Filling) (t : List LexEvent)
+pub hole-filled : WrittenInLanguages → (p q : Place) (c : Chain) (datum : Data) (s : LexState ValueState) (vs : List Filling) (t : List LexEvent)
     (m d : Config ValueState) (symbols : List Symbol) (texts : List (List ℕ)) (more : List PagePiece)
     → IsValid p → IsIn p s → after_hole p ≡ Ok (q, c) → IsTextBy c datum → TextStands languages s t m → StandsRaw s vs m d
     → ((vs : List Filling) (t : List LexEvent) (m d : Config ValueState) → TextStands languages (at_hole languages s) t m

@@ -4,7 +4,7 @@ use Rattle.std.specs.Prelude.{if◌then◌else◌}
 use Rattle.html_step.specs.Holes.{after_hole}
 use Rattle.html_step.specs.Steps.{after_text}
 use Rattle.page_path.proofs.HolesBack.{BackUnless, is-safe}
-use Rattle.page_path.proofs.StyleBack.{WrittenInStyles}
+use Rattle.page_path.proofs.StyleBack.{WrittenInLanguages}
 use Rattle.page_path.proofs.OwnPieces.{on-path}
 use Rattle.page_datum.specs.Data.{Data}
 use Rattle.page_path.specs.Pages.{PagePiece, chain_bytes, hole_pieces, page_parts, value, words}
@@ -85,7 +85,7 @@ plain-read false datum bytes s t d e end pieces p (inl r) b l h =
 plain-read false datum bytes s t d e end pieces p (inr r) b l h = absurd (r.0 p)
 
 -- a hole
-pub hole-read : WrittenInStyles → (p q : Place) (c : Chain) (datum : Data) (s : LexState ValueState) (t : List LexEvent) (d : Config ValueState)
+pub hole-read : WrittenInLanguages → (p q : Place) (c : Chain) (datum : Data) (s : LexState ValueState) (t : List LexEvent) (d : Config ValueState)
     (pieces : List PagePiece) (symbols : List Symbol)
     → IsValid p → IsIn p s → after_hole p ≡ Ok (q, c) → IsTextBy c datum → TextStands languages s t d
     → ((u : List LexEvent)

@@ -4,7 +4,7 @@ use Rattle.std.proofs.lemmas.List.Elements.{All-contains}
 use Rattle.html_step.specs.Steps.{after_text}
 use Rattle.page_path.proofs.EventsFilled.{events-filled}
 use Rattle.page_path.proofs.Finding.{AllFind, Finds, event_symbols, symbols_from}
-use Rattle.page_path.proofs.StyleBack.{WrittenInStyles}
+use Rattle.page_path.proofs.StyleBack.{WrittenInLanguages}
 use Rattle.page_path.proofs.OwnPieces.{text-at-place}
 use Rattle.page_path.proofs.PiecesFilled.{IsFilled}
 use Rattle.page_path.proofs.PiecesRead.{IsReadTo, StandsFor, hole-read, node-state, one-end, text-read}
@@ -49,7 +49,7 @@ use Rattle.page_path.specs.Textual.{AreTextual, IsTextual}
 use Rattle.tpl_tree.specs.Forests.{ForestData}
 use Rattle.tpl_tree.specs.declared.node_kind.NodeKind.{NodeKind}
 
-module _ (laws : WrittenInStyles) (forest : ForestData) (chart : ChartByName Place) where
+module _ (laws : WrittenInLanguages) (forest : ForestData) (chart : ChartByName Place) where
   -- the pieces of events, and the symbols of their path
   abbrev ReadFrom : List Emission → List (List ℕ) → LexState ValueState → List LexEvent → Config ValueState → Type 0
   ReadFrom gs ts s t d = IsReadTo (pieces_from forest gs ts s) (symbols_from forest gs ts) s t d
@@ -156,7 +156,7 @@ raw-read symbols texts bytes own f =
     let there = in-text-filled c f.end (read Page bytes start) (fillings_along symbols texts start.at []) is_in f.stands f.beside in
     record { ends = there.0; events = there.1 }
 
-pub pages-are-sound : WrittenInStyles → PagesAreSound
+pub pages-are-sound : WrittenInLanguages → PagesAreSound
 pages-are-sound laws forest names chart root datum r done textual =
     let run = meaning forest root datum in
     let v = along-root forest names chart root datum r in

@@ -11,6 +11,7 @@ use Rattle.css_lexer.specs.Urls.{urls}
 use Rattle.html_step.specs.Holes.{last_of}
 use Rattle.page_datum.specs.Data.{Data}
 use Rattle.page_datum.specs.Printed.{printed}
+use Rattle.page_path.proofs.ScriptBack.{WrittenInScripts}
 use Rattle.page_path.proofs.UrlBack.{by-last, last-reads, last_bytes, own-text, part-back, url-text}
 use Rattle.page_path.specs.Soundness.{IsBack, IsStyleBack, ReadsBackInStyle, ReadsBackOutside}
 use Rattle.place_core.specs.page.Events.{LexEvent}
@@ -23,7 +24,7 @@ use Rattle.san_css.proofs.WrittenText.{HaveNoNul, string-no-nul, string-utf8, va
 use Rattle.san_html.proofs.UnquotedValues.{unquoted-back}
 use Rattle.san_html.specs.ReadBack.{in_value, read_as_text, read_value}
 use Rattle.san_url.proofs.WrittenAscii.{utf8-bytes, written-own, written-utf8}
-use Rattle.text_norm.specs.HoleLaws.{IsBackByLast, IsBackInStyle}
+use Rattle.text_norm.specs.HoleLaws.{IsBackByLast, IsBackInLanguage}
 use Rattle.text_norm.specs.Standing.{TextStands}
 use Rattle.url_lexer.specs.Back.{ReadsBack}
 use Rattle.url_lexer.specs.Parts.{UrlPart}
@@ -31,11 +32,12 @@ use Rattle.url_lexer.specs.Refusals.{refuses_hole_in}
 use Rattle.url_lexer.specs.Sanitizers.{written_in}
 use Rattle.url_lexer.specs.States.{Url}
 
--- the laws of styles on what is written of a value there
-pub record WrittenInStyles : Type 0 where
+-- the laws of styles and of scripts on what is written of a value there
+pub record WrittenInLanguages : Type 0 where
   pub code : ValuesReadBackInCode urls
   pub strings : StringsReadBack urls
   pub stay : ValuesStayInUrls urls
+  pub scripts : WrittenInScripts
 
 -- characters without NUL are read as they are
 as-they-are : (bs : List ℕ) → HaveNoNul bs → read_as_text bs ≡ bs
@@ -43,8 +45,8 @@ as-they-are [] h = refl
 as-they-are (b ∷ bs) h = rw (h.0, as-they-are bs h.1) refl
 
 -- what is promised: in code, in a string, and of a value in a comment, which is dropped
-pub in-code : WrittenInStyles → (q : Quoting) (text : List ℕ) → IsUtf8 text
-    → IsBackInStyle (IsBackInCode urls text) (last_of (quotes_at q)) (last_bytes q (css_value text))
+pub in-code : WrittenInLanguages → (q : Quoting) (text : List ℕ) → IsUtf8 text
+    → IsBackInLanguage (IsBackInCode urls text) (last_of (quotes_at q)) (last_bytes q (css_value text))
 in-code laws q text u = record {
   characters = css_value text;
   there = laws.code text;
@@ -52,8 +54,8 @@ in-code laws q text u = record {
   written = by-last q (css_value text) (value-utf8 text u);
 }
 
-pub in-string : WrittenInStyles → (q : Quoting) (text : List ℕ) → IsUtf8 text
-    → IsBackInStyle (IsBackInString urls text) (last_of (quotes_at q)) (last_bytes q (css_string text))
+pub in-string : WrittenInLanguages → (q : Quoting) (text : List ℕ) → IsUtf8 text
+    → IsBackInLanguage (IsBackInString urls text) (last_of (quotes_at q)) (last_bytes q (css_string text))
 in-string laws q text u = record {
   characters = css_string text;
   there = laws.strings text;

@@ -29,7 +29,8 @@ pub record IsRootOf (forest : ForestData) (names : List (List ℕ)) (chart : Cha
   pub number : ℕ
   pub numbered : number_named root forest ≡ Some number
 
--- where a value is written, by the root's chart, what is written of its texts is UTF-8, as all texts of data are
+-- Where a value is written, by the root's chart, what is written of its texts is UTF-8, as all texts of data are; and one that is written as a datum
+-- is one that JSON has, as all data are.
 abbrev pub AreRootTexts : ForestData → ChartData → List ℕ → Data → Type 0
 AreRootTexts forest chart root datum =
     AreTextual forest (places_of forest chart.summaries) (meaning forest root datum).events (pair root place.Text ∷ [])

@@ -17,6 +17,7 @@ use Rattle.place_core.specs.declared.san.San.{San}
 use Rattle.place_core.specs.declared.san.San.TheVariants as san
 use Rattle.css_lexer.specs.Sanitizers.{css_string, css_value}
 use Rattle.html_step.specs.Holes.{Holed, after_hole}
+use Rattle.js_lexer.specs.Sanitizers.{js_regexp, js_string, js_value}
 use Rattle.san_html.specs.Sanitizers.{html, attr_nospace, attr_name}
 use Rattle.text_norm.specs.HoleLaws.{leaves_out, sanitizers}
 use Rattle.text_norm.specs.Written.{written}
@@ -29,8 +30,7 @@ use Rattle.tpl_tree.specs.declared.node_kind.NodeKind.{NodeKind}
 use Rattle.tpl_tree.specs.declared.node_kind.NodeKind.TheVariants as kind
 use Rattle.url_lexer.specs.Sanitizers.{url_filter, url_norm, url_open, url_query}
 
--- What a sanitizer gives for the bytes of the one before it. Those of scripts are not built: a place where they would stand is refused, so none
--- of them is reached.
+-- What a sanitizer gives for the bytes of the one before it. That of a script's values reads data, so none is before it.
 abbrev pub san_bytes : San → List ℕ → List ℕ
 san_bytes san.Html bytes = html bytes
 san_bytes san.Attr bytes = html bytes
@@ -43,10 +43,9 @@ san_bytes san.UrlNorm bytes = url_norm bytes
 san_bytes san.UrlQuery bytes = url_query bytes
 san_bytes san.CssValue bytes = css_value bytes
 san_bytes san.CssString bytes = css_string bytes
--- those of scripts, which no context has yet
+san_bytes san.JsString bytes = js_string bytes
+san_bytes san.JsRegexp bytes = js_regexp bytes
 san_bytes san.JsValue bytes = []
-san_bytes san.JsString bytes = []
-san_bytes san.JsRegexp bytes = []
 
 -- What a sanitizer gives for a datum, where it is the first of its chain: what it gives for the datum's printed text. That of a script's
 -- values reads the datum itself, whose text does not tell a number from a text of digits.
@@ -62,8 +61,7 @@ datum_bytes san.UrlNorm datum = san_bytes san.UrlNorm (printed datum)
 datum_bytes san.UrlQuery datum = san_bytes san.UrlQuery (printed datum)
 datum_bytes san.CssValue datum = san_bytes san.CssValue (printed datum)
 datum_bytes san.CssString datum = san_bytes san.CssString (printed datum)
--- likewise, not built
-datum_bytes san.JsValue datum = []
+datum_bytes san.JsValue datum = js_value datum
 datum_bytes san.JsString datum = san_bytes san.JsString (printed datum)
 datum_bytes san.JsRegexp datum = san_bytes san.JsRegexp (printed datum)
 
@@ -127,7 +125,7 @@ state_behind forest (enters n) ts s = s
 state_behind forest leaves ts s = s
 
 -- what is written for a value of data: by the chain of the path's place. In a comment nothing is, which is no piece; but in one of a style
--- in an attribute what its quotes ask for.
+-- or a script in an attribute what its quotes ask for.
 abbrev pub value_pieces : Chain → Data → List PagePiece
 value_pieces c datum = if leaves_out c then [] else value datum (chain_bytes c datum) ∷ []
 

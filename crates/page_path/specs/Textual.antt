@@ -1,9 +1,11 @@
--- Which texts of data have to be UTF-8: those that are written. In a comment, of the page or of a style, nothing is written of a value, and as
--- the name of an attribute only letters and digits of ASCII are, so there nothing is asked of its text.
+-- Which texts of data have to be UTF-8: those that are written. In a comment, of the page, of a style or of a script, nothing is written of a
+-- value, and as the name of an attribute only letters and digits of ASCII are, so there nothing is asked of its text.
 use Rattle.std.specs.Prelude.{List, [], ◌∷◌, Option, Some, None, Ok, Err, ⊤}
 use Rattle.std.specs.Str.{IsUtf8}
 use Rattle.html_step.specs.Holes.{Holed, after_hole}
-use Rattle.page_datum.specs.Data.{Data, null, truth, int, text, list, dict, DataList, no_items, item, DataDict, no_entries, entry}
+use Rattle.js_lexer.specs.Sanitizers.{js_value}
+use Rattle.js_lexer.specs.ScriptBack.{IsJsonData}
+use Rattle.page_datum.specs.Data.{Data}
 use Rattle.page_datum.specs.Printed.{printed}
 use Rattle.page_path.specs.Taken.{move_sign}
 use Rattle.place_core.specs.declared.chain.Chain.{Chain}
@@ -16,26 +18,8 @@ use Rattle.tpl_events.specs.Events.{Emission, ExecEvent, enters, gives_hole, giv
 use Rattle.tpl_paths.specs.Edges.{before}
 use Rattle.tpl_tree.specs.Forests.{ForestData}
 
--- all texts and keys of a datum are UTF-8
-abbrev mutual
-  pub AreTexts : Data → Type 0
-  AreTexts null = ⊤
-  AreTexts (truth b) = ⊤
-  AreTexts (int n) = ⊤
-  AreTexts (text t) = IsUtf8 t
-  AreTexts (list items) = AreItemTexts items
-  AreTexts (dict entries) = AreEntryTexts entries
-
-  pub AreItemTexts : DataList → Type 0
-  AreItemTexts no_items = ⊤
-  AreItemTexts (item d rest) = AreTexts d × AreItemTexts rest
-
-  pub AreEntryTexts : DataDict → Type 0
-  AreEntryTexts no_entries = ⊤
-  AreEntryTexts (entry key d rest) = IsUtf8 key × AreTexts d × AreEntryTexts rest
-
 -- What of a datum has to be UTF-8 for its first sanitizer: the printed text for one that may write more of it than ASCII, or writes triples for its
--- bytes, and all texts and keys for that of a script's values, which reads the datum itself.
+-- bytes. That of a script's values reads the datum itself: what it writes is UTF-8, and the datum is one that JSON has.
 abbrev pub IsTextFor : San → Data → Type 0
 IsTextFor san.Html datum = IsUtf8 (printed datum)
 IsTextFor san.Attr datum = IsUtf8 (printed datum)
@@ -48,8 +32,7 @@ IsTextFor san.UrlNorm datum = IsUtf8 (printed datum)
 IsTextFor san.UrlQuery datum = IsUtf8 (printed datum)
 IsTextFor san.CssValue datum = IsUtf8 (printed datum)
 IsTextFor san.CssString datum = IsUtf8 (printed datum)
--- those of scripts, which no context has yet
-IsTextFor san.JsValue datum = AreTexts datum
+IsTextFor san.JsValue datum = IsUtf8 (js_value datum) × IsJsonData datum
 IsTextFor san.JsString datum = IsUtf8 (printed datum)
 IsTextFor san.JsRegexp datum = IsUtf8 (printed datum)
 

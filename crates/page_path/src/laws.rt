@@ -2,6 +2,7 @@ ghost use Rattle.page_path.specs.Laws.{PagesAreSound, PagesGoByTheChart, PagesOf
 ghost use Rattle.page_path.specs.Laws.{SoundPagesHaveTheShapeOfTheirPath, SoundPagesReadWithTheirTexts};
 
 use css_lexer::{strings_read_back, values_read_back_in_code, values_stay_in_urls};
+use js_lexer::{data_are_plain, texts_read_back};
 
 /// The page of a root of a set that has a chart is sound, whatever the datum, whose written texts are UTF-8, where the execution comes to
 /// its end: it has the shape of the path whose choices the execution took, each value is plain in its place and reads back there, and the
@@ -12,6 +13,8 @@ pub fn pages_are_sound()
     values_read_back_in_code();
     strings_read_back();
     values_stay_in_urls();
+    data_are_plain();
+    texts_read_back();
 }
 
 /// A sound page has the shape of the path that its execution takes, however it is read with a mark in the place of each value. A theorem;

@@ -4,7 +4,7 @@ use Rattle.std.specs.Prelude.{if◌then◌else◌}
 use Rattle.std.specs.Str.{str_to_ascii_lowercase}
 use Rattle.page_datum.specs.Data.{Data, DataDict, DataList, dict, list, text}
 use Rattle.page_datum.specs.Printed.{printed}
-use Rattle.page_writer.specs.Writing.{IsBuilt, IsWrittenAlike}
+use Rattle.page_writer.specs.Writing.{IsWrittenAlike, ReadsText}
 use Rattle.place_core.specs.declared.san.San.{San}
 use Rattle.place_core.specs.declared.san.San.TheVariants as san
 use Rattle.san_html.specs.Sanitizers.{attr_name, failsafe, is_attribute_name}
@@ -13,8 +13,8 @@ use Rattle.san_html.specs.Sanitizers.{attr_name, failsafe, is_attribute_name}
 pub dropped : (other : List ℕ) (datum : Data) → IsWrittenAlike san.Drop other datum
 dropped other datum = record { same = refl; textual = λ u. tt }
 
--- the printed text of a datum, of which each built sanitizer writes
-pub printed-alike : (x : San) (datum : Data) → IsBuilt x → IsWrittenAlike x (printed datum) datum
+-- the printed text of a datum, of which each sanitizer writes that reads a text
+pub printed-alike : (x : San) (datum : Data) → ReadsText x → IsWrittenAlike x (printed datum) datum
 printed-alike san.Html datum b = record { same = refl; textual = λ u. u }
 printed-alike san.Attr datum b = record { same = refl; textual = λ u. u }
 printed-alike san.AttrNospace datum b = record { same = refl; textual = λ u. u }
@@ -26,10 +26,12 @@ printed-alike san.UrlNorm datum b = record { same = refl; textual = λ u. u }
 printed-alike san.UrlQuery datum b = record { same = refl; textual = λ u. u }
 printed-alike san.CssValue datum b = record { same = refl; textual = λ u. u }
 printed-alike san.CssString datum b = record { same = refl; textual = λ u. u }
+printed-alike san.JsString datum b = record { same = refl; textual = λ u. u }
+printed-alike san.JsRegexp datum b = record { same = refl; textual = λ u. u }
 printed-alike _ datum b = absurd b
 
 -- what is printed of a text is the text
-pub text-alike : (x : San) (bytes : List ℕ) → IsBuilt x → IsWrittenAlike x bytes (text bytes)
+pub text-alike : (x : San) (bytes : List ℕ) → ReadsText x → IsWrittenAlike x bytes (text bytes)
 text-alike x bytes b = printed-alike x (text bytes) b
 
 -- what is printed for a list or a dictionary has a bracket in it, so it is no name

@@ -4,7 +4,7 @@ use Rattle.std.specs.Prelude.{if◌then◌else◌, slice_index_or}
 use Rattle.page_datum.specs.Data.{Data}
 use Rattle.page_datum.specs.Printed.{printed}
 use Rattle.page_path.specs.Pages.{chain_bytes, datum_bytes, list_bytes, page_bytes, value}
-use Rattle.page_writer.specs.Writing.{AreBuilt, IsBuilt, IsBuiltBehind, value_written}
+use Rattle.page_writer.specs.Writing.{AreInOrder, MayFollow, ReadsText, value_written}
 use Rattle.place_core.specs.declared.chain.Chain.{Chain}
 use Rattle.place_core.specs.declared.san.San.{San}
 use Rattle.place_core.specs.declared.san.San.TheVariants as san
@@ -25,31 +25,31 @@ written-bytes (x ∷ y ∷ xs) datum = append-nil (list_bytes (x ∷ y ∷ xs) d
 pub value-bytes : (c : Chain) (datum : Data) → value_written c datum ≡ chain_bytes c datum
 value-bytes c datum = written-bytes (sanitizers c) datum
 
--- a sanitizer that may be behind another one is built
-behind-built : (x : San) → IsBuiltBehind x → IsBuilt x
-behind-built san.Attr b = tt
-behind-built san.AttrNospace b = tt
-behind-built san.UrlNorm b = tt
-behind-built _ b = absurd b
+-- a sanitizer that may be behind another one reads a text
+follower-reads : (x : San) → MayFollow x → ReadsText x
+follower-reads san.Attr b = tt
+follower-reads san.AttrNospace b = tt
+follower-reads san.UrlNorm b = tt
+follower-reads _ b = absurd b
 
 -- a chain that has neither one nor two sanitizers has three
 pub record IsThree (n : ℕ) (sans : List San) : Type 0 where
-  pub second : IsBuilt (slice_index_or sans 1 san.Html)
-  pub third : IsBuilt (slice_index_or sans 2 san.Html)
+  pub second : ReadsText (slice_index_or sans 1 san.Html)
+  pub third : ReadsText (slice_index_or sans 2 san.Html)
   pub are : take n sans ≡ slice_index_or sans 0 san.Html ∷ slice_index_or sans 1 san.Html ∷ slice_index_or sans 2 san.Html ∷ []
 
 none : (n : ℕ) (x y z : San) → take (suc (suc (suc n))) (x ∷ y ∷ z ∷ []) ≡ x ∷ y ∷ z ∷ []
 none zero x y z = refl
 none (suc n) x y z = refl
 
-three-of : (n : ℕ) (sans : List San) → length sans ≡ 3 → AreBuilt (take (suc (suc (suc n))) sans) → IsThree (suc (suc (suc n))) sans
+three-of : (n : ℕ) (sans : List San) → length sans ≡ 3 → AreInOrder (take (suc (suc (suc n))) sans) → IsThree (suc (suc (suc n))) sans
 three-of n [] e b = absurd (omega (arith, e))
 three-of n (x ∷ []) e b = absurd (omega (arith, e))
 three-of n (x ∷ y ∷ []) e b = absurd (omega (arith, e))
-three-of n (x ∷ y ∷ z ∷ []) e b = record { second = behind-built y b.1.0; third = behind-built z b.1.1.0; are = none n x y z }
+three-of n (x ∷ y ∷ z ∷ []) e b = record { second = follower-reads y b.0; third = follower-reads z b.1.0; are = none n x y z }
 three-of n (x ∷ y ∷ z ∷ w ∷ sans) e b = absurd (omega (arith, e))
 
-pub three : (n : ℕ) (sans : List San) → length sans ≡ 3 → (1 ≤ n → 3 ≤ n) → AreBuilt (take n sans) → IsThree n sans
+pub three : (n : ℕ) (sans : List San) → length sans ≡ 3 → (1 ≤ n → 3 ≤ n) → AreInOrder (take n sans) → IsThree n sans
 three zero sans e p b = absurd b
 three (suc zero) sans e p b = (let le = p (omega arith) in absurd (omega (arith, le)))
 three (suc (suc zero)) sans e p b = (let le = p (omega arith) in absurd (omega (arith, le)))

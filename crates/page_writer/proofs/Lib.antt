@@ -1,5 +1,6 @@
 pub mod Alike
 pub mod ChainBytes
+pub mod DataWritten
 pub mod KeptOutputs
 pub mod OpenPairs
 pub mod PairOutputs

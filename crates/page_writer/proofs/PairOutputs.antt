@@ -10,7 +10,7 @@ use Rattle.page_path.specs.Pages.{bytes_in, hole_pieces, holed_pieces}
 use Rattle.page_path.specs.Textual.{IsTextAt, IsTextHeld, IsTextual}
 use Rattle.page_writer.proofs.OpenPairs.{AreNumbers, number_at, row_at}
 use Rattle.page_writer.specs.Outputs.{AreOutputs, by_call, by_chain, output_at, output_in}
-use Rattle.page_writer.specs.Writing.{IsBuiltBehind, IsBuiltChain, IsCallNode, IsGivenText, IsTextNode, IsTextOutput, IsValue, MayGive, page_open_after, output_pieces, text_output, value_output}
+use Rattle.page_writer.specs.Writing.{IsCallNode, IsGivenText, IsOrderedChain, IsTextNode, IsTextOutput, IsValue, MayFollow, MayGive, page_open_after, output_pieces, text_output, value_output}
 use Rattle.page_writer.specs.declared.output.Output.{Output}
 use Rattle.page_writer.specs.declared.output.Output.TheVariants as output
 use Rattle.place_flow.specs.Covering.{Pair, sign_pairs}
@@ -40,103 +40,103 @@ use Rattle.tpl_tree.specs.Forests.{ForestData, number_named}
 use Rattle.tpl_tree.specs.declared.node_kind.NodeKind.{NodeKind}
 use Rattle.tpl_tree.specs.declared.node_kind.NodeKind.TheVariants as kind
 
--- the sanitizers of the chain of a place are built
-abbrev pub HasBuiltChain : Holed → Type 0
-HasBuiltChain (Ok h) = IsBuiltChain h.1
-HasBuiltChain (Err e) = Unit {0}
+-- the sanitizers of the chain of a place are in order
+abbrev pub HasOrderedChain : Holed → Type 0
+HasOrderedChain (Ok h) = IsOrderedChain h.1
+HasOrderedChain (Err e) = Unit {0}
 
-named_built : (b : Bool) (t : TagPlace) → HasBuiltChain (named_by_data b t)
-named_built true t = tt
-named_built false t = (tt, tt)
+named_ordered : (b : Bool) (t : TagPlace) → HasOrderedChain (named_by_data b t)
+named_ordered true t = tt
+named_ordered false t = tt
 
-plain_built : (q : Quotes) (v : ValuePlace) → HasBuiltChain (plain_hole q v)
-plain_built quotes.Dq v = (tt, tt)
-plain_built quotes.Sq v = (tt, tt)
-plain_built (quotes.Bare b) v = (tt, tt)
+plain_ordered : (q : Quotes) (v : ValuePlace) → HasOrderedChain (plain_hole q v)
+plain_ordered quotes.Dq v = tt
+plain_ordered quotes.Sq v = tt
+plain_ordered (quotes.Bare b) v = tt
 
-last_built : (q : Quotes) → IsBuiltBehind (last_of q)
-last_built quotes.Dq = tt
-last_built quotes.Sq = tt
-last_built (quotes.Bare b) = tt
+last_follows : (q : Quotes) → MayFollow (last_of q)
+last_follows quotes.Dq = tt
+last_follows quotes.Sq = tt
+last_follows (quotes.Bare b) = tt
 
-url_built_by : (start prequery query : Bool) (last : San) → IsBuiltBehind last
-    → IsBuiltChain (chain_of ((if start then san.UrlFilter ∷ san.UrlNorm ∷ [] else (if prequery then san.UrlNorm ∷ []
+url_ordered_by : (start prequery query : Bool) (last : San) → MayFollow last
+    → IsOrderedChain (chain_of ((if start then san.UrlFilter ∷ san.UrlNorm ∷ [] else (if prequery then san.UrlNorm ∷ []
     else (if query then san.UrlQuery ∷ [] else san.UrlOpen ∷ []))) ++ last ∷ []))
-url_built_by true prequery query last b = (tt, (tt, (b, tt)))
-url_built_by false true query last b = (tt, (b, tt))
-url_built_by false false true last b = (tt, (b, tt))
-url_built_by false false false last b = (tt, (b, tt))
+url_ordered_by true prequery query last f = (tt, (f, tt))
+url_ordered_by false true query last f = (f, tt)
+url_ordered_by false false true last f = (f, tt)
+url_ordered_by false false false last f = (f, tt)
 
-url_built : (v : ValuePlace) (parts : Parts) (o : Result Parts Code) → HasBuiltChain (url_holed v parts o)
-url_built v parts (Ok after) = url_built_by parts.start parts.prequery parts.query (last_of v.quotes) (last_built v.quotes)
-url_built v parts (Err e) = tt
+url_ordered : (v : ValuePlace) (parts : Parts) (o : Result Parts Code) → HasOrderedChain (url_holed v parts o)
+url_ordered v parts (Ok after) = url_ordered_by parts.start parts.prequery parts.query (last_of v.quotes) (last_follows v.quotes)
+url_ordered v parts (Err e) = tt
 
 -- in a style, by its place; in a URL of it by the part; behind a URL no hole is accepted
-style_url_built : (v : ValuePlace) (c : Css) (parts : Parts) (o : Result Css Code)
-    → css_chain c (last_of v.quotes) ≡ url_chain parts (last_of v.quotes) → HasBuiltChain (css_holed v c o)
-style_url_built v c parts (Ok after) same =
-    subst IsBuiltChain (sym same) (url_built_by parts.start parts.prequery parts.query (last_of v.quotes) (last_built v.quotes))
-style_url_built v c parts (Err e) same = tt
+style_url_ordered : (v : ValuePlace) (c : Css) (parts : Parts) (o : Result Css Code)
+    → css_chain c (last_of v.quotes) ≡ url_chain parts (last_of v.quotes) → HasOrderedChain (css_holed v c o)
+style_url_ordered v c parts (Ok after) same =
+    subst IsOrderedChain (sym same) (url_ordered_by parts.start parts.prequery parts.query (last_of v.quotes) (last_follows v.quotes))
+style_url_ordered v c parts (Err e) same = tt
 
-style_built : (c : Css) (v : ValuePlace) → HasBuiltChain (css_holed v c (style_hole_answer c))
-style_built (css.Code tails) v = (tt, (last_built v.quotes, tt))
-style_built css.Dq v = (tt, (last_built v.quotes, tt))
-style_built css.Sq v = (tt, (last_built v.quotes, tt))
-style_built css.UrlFresh v = (tt, (tt, (last_built v.quotes, tt)))
-style_built (css.Url parts) v = style_url_built v (css.Url parts) parts (style_hole_answer (css.Url parts)) refl
-style_built (css.UrlDq parts) v = style_url_built v (css.UrlDq parts) parts (style_hole_answer (css.UrlDq parts)) refl
-style_built (css.UrlSq parts) v = style_url_built v (css.UrlSq parts) parts (style_hole_answer (css.UrlSq parts)) refl
-style_built css.UrlEnd v = tt
-style_built (css.Comment star) v = (tt, (last_built v.quotes, tt))
+style_ordered : (c : Css) (v : ValuePlace) → HasOrderedChain (css_holed v c (style_hole_answer c))
+style_ordered (css.Code tails) v = (last_follows v.quotes, tt)
+style_ordered css.Dq v = (last_follows v.quotes, tt)
+style_ordered css.Sq v = (last_follows v.quotes, tt)
+style_ordered css.UrlFresh v = (tt, (last_follows v.quotes, tt))
+style_ordered (css.Url parts) v = style_url_ordered v (css.Url parts) parts (style_hole_answer (css.Url parts)) refl
+style_ordered (css.UrlDq parts) v = style_url_ordered v (css.UrlDq parts) parts (style_hole_answer (css.UrlDq parts)) refl
+style_ordered (css.UrlSq parts) v = style_url_ordered v (css.UrlSq parts) parts (style_hole_answer (css.UrlSq parts)) refl
+style_ordered css.UrlEnd v = tt
+style_ordered (css.Comment star) v = (last_follows v.quotes, tt)
 
 -- in the element of a style nothing is behind them
-part_built_by : (start prequery query : Bool)
-    → IsBuiltChain (chain_of (if start then san.UrlFilter ∷ san.UrlNorm ∷ [] else (if prequery then san.UrlNorm ∷ []
+part_ordered_by : (start prequery query : Bool)
+    → IsOrderedChain (chain_of (if start then san.UrlFilter ∷ san.UrlNorm ∷ [] else (if prequery then san.UrlNorm ∷ []
     else (if query then san.UrlQuery ∷ [] else san.UrlOpen ∷ []))))
-part_built_by true prequery query = (tt, (tt, tt))
-part_built_by false true query = (tt, tt)
-part_built_by false false true = (tt, tt)
-part_built_by false false false = (tt, tt)
+part_ordered_by true prequery query = (tt, tt)
+part_ordered_by false true query = tt
+part_ordered_by false false true = tt
+part_ordered_by false false false = tt
 
-part_built : (parts : Parts) → IsBuiltChain (chain_of (part_sans parts))
-part_built parts = part_built_by parts.start parts.prequery parts.query
+part_ordered : (parts : Parts) → IsOrderedChain (chain_of (part_sans parts))
+part_ordered parts = part_ordered_by parts.start parts.prequery parts.query
 
-sans_built : (c : Css) → IsBuiltChain (chain_of (style_sans c))
-sans_built (css.Code tails) = (tt, tt)
-sans_built css.Dq = (tt, tt)
-sans_built css.Sq = (tt, tt)
-sans_built css.UrlFresh = (tt, (tt, tt))
-sans_built (css.Url parts) = part_built parts
-sans_built (css.UrlDq parts) = part_built parts
-sans_built (css.UrlSq parts) = part_built parts
-sans_built css.UrlEnd = (tt, tt)
-sans_built (css.Comment star) = (tt, tt)
+sans_ordered : (c : Css) → IsOrderedChain (chain_of (style_sans c))
+sans_ordered (css.Code tails) = tt
+sans_ordered css.Dq = tt
+sans_ordered css.Sq = tt
+sans_ordered css.UrlFresh = (tt, tt)
+sans_ordered (css.Url parts) = part_ordered parts
+sans_ordered (css.UrlDq parts) = part_ordered parts
+sans_ordered (css.UrlSq parts) = part_ordered parts
+sans_ordered css.UrlEnd = tt
+sans_ordered (css.Comment star) = tt
 
-element_built : (c : Css) (o : Result Css Code) → HasBuiltChain (element_holed (style_hole_with_chain c o))
-element_built c (Ok after) = sans_built c
-element_built c (Err e) = tt
+element_ordered : (c : Css) (o : Result Css Code) → HasOrderedChain (element_holed (style_hole_with_chain c o))
+element_ordered c (Ok after) = sans_ordered c
+element_ordered c (Err e) = tt
 
-value_built : (b : Body) (v : ValuePlace) → HasBuiltChain (value_hole b v)
-value_built body.Plain v = plain_built v.quotes v
-value_built body.NoHole v = tt
-value_built (body.Url parts) v = url_built v parts (hole_answer parts)
-value_built (body.Js js) v = tt
-value_built (body.Css c) v = style_built c v
+value_ordered : (b : Body) (v : ValuePlace) → HasOrderedChain (value_hole b v)
+value_ordered body.Plain v = plain_ordered v.quotes v
+value_ordered body.NoHole v = tt
+value_ordered (body.Url parts) v = url_ordered v parts (hole_answer parts)
+value_ordered (body.Js j) v = (last_follows v.quotes, tt)
+value_ordered (body.Css c) v = style_ordered c v
 
-block_built : (lt : Bool) → HasBuiltChain (block_hole lt)
-block_built true = tt
-block_built false = (tt, tt)
+block_ordered : (lt : Bool) → HasOrderedChain (block_hole lt)
+block_ordered true = tt
+block_ordered false = tt
 
-place_built : (p : Place) → HasBuiltChain (after_hole p)
-place_built place.Text = (tt, tt)
-place_built place.Doctype = tt
-place_built (place.Comment dash) = (tt, tt)
-place_built (place.Rcdata e) = (tt, tt)
-place_built (place.Tag t) = named_built (t.spots.name || t.spots.inside) t
-place_built (place.Value v) = value_built v.body v
-place_built (place.Script js) = tt
-place_built (place.Style css) = element_built css (style_hole_answer css)
-place_built (place.Block lt) = block_built lt
+place_ordered : (p : Place) → HasOrderedChain (after_hole p)
+place_ordered place.Text = tt
+place_ordered place.Doctype = tt
+place_ordered (place.Comment dash) = tt
+place_ordered (place.Rcdata e) = tt
+place_ordered (place.Tag t) = named_ordered (t.spots.name || t.spots.inside) t
+place_ordered (place.Value v) = value_ordered v.body v
+place_ordered (place.Script js) = tt
+place_ordered (place.Style css) = element_ordered css (style_hole_answer css)
+place_ordered (place.Block lt) = block_ordered lt
 
 module _ (forest : ForestData) (chart : ChartData) (outputs : List (List Output)) where
   -- Where these pairs are open, by their numbers, an event may be given to the writer, which writes what the pair gives, of a text that is
@@ -184,7 +184,7 @@ module _ (forest : ForestData) (chart : ChartData) (outputs : List (List Output)
         output_named p m n (kind.Action may.pipe) may.place nu.0 may.is may.there
         ∙ ap (λ (h : Holed). by_chain (holed_chain h)) may.accepted in
         record {
-          may = subst IsValue (sym out) (subst HasBuiltChain may.accepted (place_built may.place));
+          may = subst IsValue (sym out) (subst HasOrderedChain may.accepted (place_ordered may.place));
           same = ap (λ (o : Output). value_output o datum) out
               ∙ sym (ap (λ (o : Option Place). hole_pieces o datum) may.there
               ∙ ap (λ (h : Holed). holed_pieces h datum) may.accepted);

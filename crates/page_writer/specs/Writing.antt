@@ -26,62 +26,62 @@ abbrev pub IsTextNode : Output → Type 0
 IsTextNode (output.Text bytes) = ⊤
 IsTextNode _ = ⊥
 
--- a sanitizer that is built and may be the first of its chain. Those of scripts are not built.
-abbrev pub IsBuilt : San → Type 0
-IsBuilt san.Html = ⊤
-IsBuilt san.Attr = ⊤
-IsBuilt san.AttrNospace = ⊤
-IsBuilt san.AttrName = ⊤
-IsBuilt san.Drop = ⊤
-IsBuilt san.UrlFilter = ⊤
-IsBuilt san.UrlOpen = ⊤
-IsBuilt san.UrlNorm = ⊤
-IsBuilt san.UrlQuery = ⊤
-IsBuilt san.CssValue = ⊤
-IsBuilt san.CssString = ⊤
-IsBuilt san.JsValue = ⊥
-IsBuilt san.JsString = ⊥
-IsBuilt san.JsRegexp = ⊥
+-- A sanitizer that reads a text. That of a script's values reads the datum itself.
+abbrev pub ReadsText : San → Type 0
+ReadsText san.Html = ⊤
+ReadsText san.Attr = ⊤
+ReadsText san.AttrNospace = ⊤
+ReadsText san.AttrName = ⊤
+ReadsText san.Drop = ⊤
+ReadsText san.UrlFilter = ⊤
+ReadsText san.UrlOpen = ⊤
+ReadsText san.UrlNorm = ⊤
+ReadsText san.UrlQuery = ⊤
+ReadsText san.CssValue = ⊤
+ReadsText san.CssString = ⊤
+ReadsText san.JsValue = ⊥
+ReadsText san.JsString = ⊤
+ReadsText san.JsRegexp = ⊤
 
--- A sanitizer that is built and may be behind another one, as those of values are, and in a URL that which keeps what may stand there. It writes
+-- A sanitizer that may be behind another one, as those of values are, and in a URL that which keeps what may stand there. It writes
 -- at least as many bytes as it reads, so what is kept between two sanitizers is never more than what the page gets.
-abbrev pub IsBuiltBehind : San → Type 0
-IsBuiltBehind san.Attr = ⊤
-IsBuiltBehind san.AttrNospace = ⊤
-IsBuiltBehind san.UrlNorm = ⊤
-IsBuiltBehind san.Html = ⊥
-IsBuiltBehind san.AttrName = ⊥
-IsBuiltBehind san.Drop = ⊥
-IsBuiltBehind san.JsValue = ⊥
-IsBuiltBehind san.JsString = ⊥
-IsBuiltBehind san.JsRegexp = ⊥
-IsBuiltBehind san.CssValue = ⊥
-IsBuiltBehind san.CssString = ⊥
-IsBuiltBehind san.UrlFilter = ⊥
-IsBuiltBehind san.UrlOpen = ⊥
-IsBuiltBehind san.UrlQuery = ⊥
+abbrev pub MayFollow : San → Type 0
+MayFollow san.Attr = ⊤
+MayFollow san.AttrNospace = ⊤
+MayFollow san.UrlNorm = ⊤
+MayFollow san.Html = ⊥
+MayFollow san.AttrName = ⊥
+MayFollow san.Drop = ⊥
+MayFollow san.JsValue = ⊥
+MayFollow san.JsString = ⊥
+MayFollow san.JsRegexp = ⊥
+MayFollow san.CssValue = ⊥
+MayFollow san.CssString = ⊥
+MayFollow san.UrlFilter = ⊥
+MayFollow san.UrlOpen = ⊥
+MayFollow san.UrlQuery = ⊥
 
-abbrev pub AreBuiltBehind : List San → Type 0
-AreBuiltBehind [] = ⊤
-AreBuiltBehind (x ∷ xs) = IsBuiltBehind x × AreBuiltBehind xs
+abbrev pub MayAllFollow : List San → Type 0
+MayAllFollow [] = ⊤
+MayAllFollow (x ∷ xs) = MayFollow x × MayAllFollow xs
 
--- a chain whose sanitizers are built, one at least
-abbrev pub AreBuilt : List San → Type 0
-AreBuilt [] = ⊥
-AreBuilt (x ∷ xs) = IsBuilt x × AreBuiltBehind xs
+-- a chain of one sanitizer at least, in which each may stand where it does
+abbrev pub AreInOrder : List San → Type 0
+AreInOrder [] = ⊥
+AreInOrder (x ∷ xs) = MayAllFollow xs
 
-abbrev pub IsBuiltChain : Chain → Type 0
-IsBuiltChain c = AreBuilt (sanitizers c)
+abbrev pub IsOrderedChain : Chain → Type 0
+IsOrderedChain c = AreInOrder (sanitizers c)
 
 abbrev pub IsValue : Output → Type 0
-IsValue (output.Value c) = IsBuiltChain c
+IsValue (output.Value c) = IsOrderedChain c
 IsValue _ = ⊥
 
 abbrev pub IsCallNode : Output → Type 0
 IsCallNode (output.Call m) = ⊤
 IsCallNode _ = ⊥
 
--- what may be given where these pairs are open: a text, a value or a call where that is the node's output, a value by a chain that is built
+-- what may be given where these pairs are open: a text, a value or a call where that is the node's output, a value by such a chain
 abbrev pub MayGive : List (List Output) → List ℕ → ExecEvent → Type 0
 MayGive outputs ns (gives_text n) = IsTextNode (open_output outputs ns n)
 MayGive outputs ns (gives_hole n datum) = IsValue (open_output outputs ns n)

@@ -3,13 +3,14 @@ ghost use Rattle.page_datum.specs.Data.{int};
 ghost use Rattle.page_datum.specs.View.{ref_view};
 ghost use Rattle.page_path.specs.Pages.{datum_bytes, san_bytes};
 ghost use Rattle.page_path.specs.Textual.{IsTextBy, IsTextFor};
-ghost use Rattle.page_writer.specs.Writing.{IsBuilt, IsBuiltChain, IsWrittenAlike, value_written};
+ghost use Rattle.page_writer.specs.Writing.{IsOrderedChain, IsWrittenAlike, ReadsText, value_written};
 
 use page_datum::{DatumRef, print_datum};
 use page_io::Memory;
 use place_core::{Chain, San};
 use san_css::{push_css_string, push_css_value};
 use san_html::{push_attr_name, push_attr_nospace, push_html};
+use san_js::{push_js_regexp, push_js_string, push_js_value};
 use san_url::{push_url_norm, push_url_open, push_url_query, url_filter};
 use std::alloc::Global;
 
@@ -41,7 +42,7 @@ pub fn push_chain(
     chain: Chain,
     datum: DatumRef<'_>,
 ) -> Result<(), Memory>
-    requires { IsBuiltChain chain }
+    requires { IsOrderedChain chain }
     ensures bytes { OnOk result (string_bytes out.new
         ≡ string_bytes out.old ++ value_written chain (ref_view datum.entry)) }
     ensures textual { OnOk result (IsTextBy chain (ref_view datum.entry)) }
@@ -59,19 +60,21 @@ pub fn push_chain(
     push_sanitized(out, chain.sans[2], buffer.second.as_str())
 }
 
-// Appends what the first sanitizer of a chain gives for a value, which is printed only where its text is needed. Fails only if allocation
-// fails, and then a part of it may be there.
+// Appends what the first sanitizer of a chain gives for a value. That of a script's values reads the value itself; for another one it is
+// printed only where its text is needed. Fails only if allocation fails, and then a part of it may be there.
 fn push_first(
     out: &mut String,
     digits: &mut String,
     san: San,
     datum: DatumRef<'_>,
 ) -> Result<(), Memory>
-    requires { IsBuilt san }
     ensures bytes { OnOk result (string_bytes out.new
         ≡ string_bytes out.old ++ datum_bytes san (ref_view datum.entry)) }
     ensures textual { OnOk result (IsTextFor san (ref_view datum.entry)) }
 {
+    if san == San::JsValue {
+        return push_js_value(out, datum);
+    }
     if let DatumRef::Int(number) = datum {
         return push_number(out, digits, san, number);
     }
@@ -86,7 +89,7 @@ fn push_first(
 
 // The same of a number, whose digits take the place of what was in that buffer.
 fn push_number(out: &mut String, digits: &mut String, san: San, number: i64) -> Result<(), Memory>
-    requires { IsBuilt san }
+    requires { ReadsText san }
     ensures bytes { OnOk result (string_bytes out.new
         ≡ string_bytes out.old ++ datum_bytes san (int number)) }
     ensures textual { OnOk result (IsTextFor san (int number)) }
@@ -99,7 +102,7 @@ fn push_number(out: &mut String, digits: &mut String, san: San, number: i64) -> 
 // The text to sanitize in place of a printed value, where the value need not be printed: a text itself; of a list or a dictionary nothing
 // where it is dropped, and `[` as a name, since neither that nor what is printed of them is a name.
 fn unprinted<'d>(san: San, datum: DatumRef<'d>) -> Option<&'d str>
-    requires { IsBuilt san }
+    requires { ReadsText san }
     ensures { IfSome result (λ text. IsWrittenAlike san text.now (ref_view datum.entry)) }
 {
     match datum {
@@ -116,7 +119,7 @@ fn unprinted<'d>(san: San, datum: DatumRef<'d>) -> Option<&'d str>
 // Appends what a sanitizer gives for a text; a copy is made only of a name, and of a text with a backslash in a style. Fails only if
 // allocation fails, and then a part of it may be there.
 fn push_sanitized(out: &mut String, san: San, text: &str) -> Result<(), Memory>
-    requires { IsBuilt san }
+    requires { ReadsText san }
     ensures { OnOk result (string_bytes out.new
         ≡ string_bytes out.old ++ san_bytes san text.now) }
 {
@@ -131,6 +134,8 @@ fn push_sanitized(out: &mut String, san: San, text: &str) -> Result<(), Memory>
         San::UrlQuery => push_url_query(out, text),
         San::CssValue => push_css_value(out, text),
         San::CssString => push_css_string(out, text),
-        San::JsValue | San::JsString | San::JsRegexp => unreachable!(),
+        San::JsString => push_js_string(out, text),
+        San::JsRegexp => push_js_regexp(out, text),
+        San::JsValue => unreachable!(),
     }
 }

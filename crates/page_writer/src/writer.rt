@@ -3,7 +3,7 @@ ghost use Rattle.std.specs.Prelude.{length, map, string_bytes};
 ghost use Rattle.page_datum.specs.View.{ref_view};
 ghost use Rattle.page_path.specs.Pages.{max_page};
 ghost use Rattle.page_path.specs.Textual.{IsTextBy};
-ghost use Rattle.page_writer.specs.Writing.{IsAppended, IsBuiltChain, IsTooLong, IsUnfit};
+ghost use Rattle.page_writer.specs.Writing.{IsAppended, IsOrderedChain, IsTooLong, IsUnfit};
 ghost use Rattle.page_writer.specs.Writing.{value_written};
 ghost use Rattle.page_writer.specs.declared.output.Output.TheVariants.{Nothing};
 ghost use Rattle.page_writer.specs.Writing as spec;
@@ -142,7 +142,7 @@ fn push_value(
     chain: Chain,
     datum: DatumRef<'_>,
 ) -> Result<(), HoleStop>
-    requires { IsBuiltChain chain }
+    requires { IsOrderedChain chain }
     ensures ok { let bytes = value_written chain (ref_view datum.entry) in
         OnOk result (IsAppended page.old bytes page.new) }
     ensures err { let bytes = value_written chain (ref_view datum.entry) in

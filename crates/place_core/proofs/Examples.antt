@@ -39,7 +39,7 @@ block : (read Page (codes "<script type=text/plain>a&lt;<!--</b></script>") star
 unfolding class_of meaning flushed lib.Utf8.encode
 block = refl
 
--- scripts are not read yet
+-- the content of scripts is not read yet
 script : (read Page (codes "<ScRiPt>") start).at ≡ Unread
 unfolding class_of meaning flushed lib.Utf8.encode
 script = refl

@@ -93,10 +93,6 @@ second_type_cut : path_refusal (codes "<script type Type") (Text Closed) ≡ Som
 unfolding class_of meaning flushed lib.Utf8.encode
 second_type_cut = refl
 
-handler_not_built : path_refusal (codes "<a onclick =") (Text Closed) ≡ Some (record { code = code.NotBuilt; at = 11; shown = 11 })
-unfolding class_of meaning flushed lib.Utf8.encode
-handler_not_built = refl
-
 script_not_built : path_refusal (codes "<script/>") (Text Closed) ≡ Some (record { code = code.NotBuilt; at = 8; shown = 8 })
 unfolding class_of meaning flushed lib.Utf8.encode
 script_not_built = refl

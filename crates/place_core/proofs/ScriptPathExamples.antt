@@ -17,7 +17,7 @@ use Rattle.place_core.specs.page.Tags.{DoubleQuoted, ValueOf, ValueState, OfScri
 use Rattle.place_core.specs.place.Errors.{PathRefuses, is_unknown_name, is_written, node, path_refusal}
 use Rattle.place_core.specs.place.PathPairs.{Clashes, ClashesSlash}
 use Rattle.place_core.specs.place.ScriptParts.{script_senses, script_tails}
-use Rattle.place_core.specs.place.StatePlaces.{placed, quotes_at, only_inside, tag_spot}
+use Rattle.place_core.specs.place.StatePlaces.{placed, quotes_at}
 use Rattle.place_core.specs.declared.body.Body.TheVariants as body
 use Rattle.place_core.specs.declared.code.Code.{Code}
 use Rattle.place_core.specs.declared.code.Code.TheVariants as code
@@ -173,11 +173,10 @@ behind_star = refl
 
 -- What is refused, and what is not.
 
--- no script is accepted yet: it is refused at the `=`
-not_built : PathRefuses (codes "<p onclick=\"\">") (Text Closed)
-    (record { code = code.NotBuilt; at = 10; before = place.Tag (tag_spot (tag_named false (codes "p")) only_inside (Some kind.Script)) })
+-- a script is accepted
+handler_of_template : path_refusal (codes "<p onclick=\"f(1)\">") (Text Closed) ≡ None
 unfolding class_of released held_after html.class_of meaning flushed is_unknown_name is_written lib.Utf8.encode
-not_built = record { shown = 10; stands = refl; before = refl }
+handler_of_template = refl
 
 -- SlashAmbig: a slash behind `}`, and behind a word that is a name in some places, stands where it is written, though what follows tells it: at
 -- the `&` of its reference, before a name that stands for nothing, and where the value or the node ends.

@@ -1,4 +1,9 @@
 mod Appended
 mod Characters
+mod JsonNumbers
+pub mod JsonReads
+mod JsonStrings
+mod JsonTokens
 mod Left
 mod Once
+pub mod WrittenScripts

@@ -1,2 +1,1 @@
-pub mod ScriptBack
 pub mod ScriptRows

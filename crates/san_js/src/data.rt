@@ -2,6 +2,7 @@
 ghost use Rattle.std.specs.Prelude.{◌≡◌, ◌++◌, OnOk, string_bytes};
 ghost use Rattle.std.specs.Fmt.{signed_decimal};
 ghost use Rattle.js_lexer.specs.Sanitizers.{json};
+ghost use Rattle.js_lexer.specs.ScriptBack.{IsWholeNumber, IsJsonData, AreJsonItems};
 ghost use Rattle.page_datum.specs.Data.{dict, list};
 ghost use Rattle.page_datum.specs.View.{items_view, view};
 
@@ -11,7 +12,8 @@ use page_io::Memory;
 
 /// Appends a number in decimal.
 pub(crate) fn push_number(out: &mut String, number: i64) -> Result<(), Memory>
-    ensures { OnOk result (string_bytes out.new ≡ string_bytes out.old ++ signed_decimal number) }
+    ensures bytes { OnOk result (string_bytes out.new ≡ string_bytes out.old ++ signed_decimal number) }
+    ensures whole { OnOk result (IsWholeNumber number) }
 {
     let alloc = *out.allocator();
     let digits = format!(in alloc; "{number}")?;
@@ -21,7 +23,8 @@ pub(crate) fn push_number(out: &mut String, number: i64) -> Result<(), Memory>
 
 #[cycle(push)]
 fn push_datum(out: &mut String, datum: &Datum) -> Result<(), Memory>
-    ensures { OnOk result (string_bytes out.new ≡ string_bytes out.old ++ json (view datum.now)) }
+    ensures bytes { OnOk result (string_bytes out.new ≡ string_bytes out.old ++ json (view datum.now)) }
+    ensures whole { OnOk result (IsJsonData (view datum.now)) }
 {
     match datum {
         Datum::Null => out.push_str("null")?,
@@ -38,8 +41,9 @@ fn push_datum(out: &mut String, datum: &Datum) -> Result<(), Memory>
 /// Appends a list: values with a comma between two.
 #[cycle(push)]
 pub(crate) fn push_list(out: &mut String, values: &[Datum]) -> Result<(), Memory>
-    ensures { OnOk result (string_bytes out.new
+    ensures bytes { OnOk result (string_bytes out.new
         ≡ string_bytes out.old ++ json (list (items_view values.now))) }
+    ensures whole { OnOk result (AreJsonItems (items_view values.now)) }
 {
     out.push_str("[")?;
     let mut first = true;
@@ -57,7 +61,8 @@ pub(crate) fn push_list(out: &mut String, values: &[Datum]) -> Result<(), Memory
 /// Appends a dictionary: keys as strings with their values, with a comma between two.
 #[cycle(push)]
 pub(crate) fn push_dict(out: &mut String, entries: &Entries) -> Result<(), Memory>
-    ensures { OnOk result (string_bytes out.new ≡ string_bytes out.old ++ json (dict entries.now)) }
+    ensures bytes { OnOk result (string_bytes out.new ≡ string_bytes out.old ++ json (dict entries.now)) }
+    ensures whole { OnOk result (IsJsonData (dict entries.now)) }
 {
     out.push_str("{")?;
     let mut first = true;

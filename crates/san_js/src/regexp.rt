@@ -1,7 +1,7 @@
 ghost use Rattle.std.specs.Prelude.{◌≡◌, ◌++◌, IfOk, OnOk, string_bytes};
 ghost use Rattle.esc_table.specs.Replaced.{replaced};
 ghost use Rattle.js_lexer.specs.Sanitizers as spec;
-ghost use Rattle.san_js.specs.ScriptBack.{IsBackInScriptRegexp};
+ghost use Rattle.js_lexer.specs.ScriptBack.{IsBackInScriptRegexp};
 ghost use Rattle.san_js.specs.ScriptRows.{escape_rows_of};
 
 use esc_table::{push_replaced, table};

@@ -2,7 +2,7 @@ ghost use Rattle.std.specs.Prelude.{◌≡◌, ◌++◌, IfOk, OnOk, string_byte
 ghost use Rattle.js_lexer.specs.Sanitizers as spec;
 ghost use Rattle.page_datum.specs.Data.{int};
 ghost use Rattle.page_datum.specs.View.{ref_view};
-ghost use Rattle.san_js.specs.ScriptBack.{IsPlainScriptValue};
+ghost use Rattle.js_lexer.specs.ScriptBack.{IsBackInScriptCode, IsJsonData, IsWholeNumber};
 
 use crate::data::{push_dict, push_list, push_number};
 use crate::quoted::push_quoted;
@@ -14,11 +14,11 @@ use std::alloc::Global;
 /// What is written for a datum in the code of a script: JSON without blanks, in which `<`, `>`, `&`, U+2028 and U+2029
 /// are escapes besides those that JSON asks for. A space stands on both sides of null, of a truth value and of a
 /// number, so that it joins nothing beside it. In code, in no template literal, it is plain, whatever the datum: behind a
-/// token, a word, a number or a run that is open, and a slash that divides; and it is read there as the tokens of the
-/// datum's literal. Fails only if allocation fails. (RFC 8259; ECMA-262, section 12.3.)
+/// token, a word, a number or a run that is open, and a slash that divides; it is read there as the tokens of the
+/// datum's literal, and as JSON it stands for the datum. Fails only if allocation fails. (RFC 8259; ECMA-262, section 12.3.)
 pub fn js_value(alloc: Global, datum: DatumRef<'_>) -> Result<Text, Memory>
     ensures written { IfOk result (λ bytes. bytes ≡ spec.js_value (ref_view datum.entry)) }
-    ensures in_code { IfOk result (λ bytes. IsPlainScriptValue (ref_view datum.entry) bytes) }
+    ensures in_code { IfOk result (λ bytes. IsBackInScriptCode (ref_view datum.entry) bytes) }
 {
     data_are_plain();
     let mut out = String::new(alloc);
@@ -26,10 +26,11 @@ pub fn js_value(alloc: Global, datum: DatumRef<'_>) -> Result<Text, Memory>
     Ok(Text::from(out))
 }
 
-/// Appends what `js_value` gives. Fails only if allocation fails, and then a part of it may be there.
+/// Appends what `js_value` gives; JSON has each datum. Fails only if allocation fails, and then a part of it may be there.
 pub fn push_js_value(out: &mut String, datum: DatumRef<'_>) -> Result<(), Memory>
-    ensures { OnOk result (string_bytes out.new
+    ensures bytes { OnOk result (string_bytes out.new
         ≡ string_bytes out.old ++ spec.js_value (ref_view datum.entry)) }
+    ensures whole { OnOk result (IsJsonData (ref_view datum.entry)) }
 {
     match datum {
         DatumRef::Null => out.push_str(" null ")?,
@@ -44,8 +45,9 @@ pub fn push_js_value(out: &mut String, datum: DatumRef<'_>) -> Result<(), Memory
 }
 
 fn push_spaced_number(out: &mut String, number: i64) -> Result<(), Memory>
-    ensures { OnOk result (string_bytes out.new
+    ensures bytes { OnOk result (string_bytes out.new
         ≡ string_bytes out.old ++ spec.js_value (int number)) }
+    ensures whole { OnOk result (IsWholeNumber number) }
 {
     out.push_str(" ")?;
     push_number(out, number)?;

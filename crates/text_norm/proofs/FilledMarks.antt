@@ -3,10 +3,12 @@ use Rattle.std.proofs.Common.{◌≡◌, ℕ, Bool, true, false, List, [], ◌�
 use Rattle.css_lexer.specs.Classes.{style_class}
 use Rattle.css_lexer.specs.Events.{RunByte}
 use Rattle.css_lexer.specs.States.{Between, AfterLessThan, AfterSolidus, BehindHole, Style, Out}
+use Rattle.js_lexer.specs.Alike.{IsSame}
+use Rattle.js_lexer.specs.Events.{ScriptEvent}
 use Rattle.js_lexer.specs.Feeding.{script_emits, script_ends}
 use Rattle.page_datum.specs.Data.{Data}
 use Rattle.page_datum.specs.Printed.{printed}
-use Rattle.place_core.specs.page.Events.{AttributeBegins, AttributeNameByte, BlockByte, InsideStyle, LexEvent, Mark, TextByte, ValueByte, attribute_name_bytes, block_bytes, event_text_bytes, value_bytes}
+use Rattle.place_core.specs.page.Events.{AttributeBegins, AttributeNameByte, BlockByte, InsideStyle, LexEvent, Mark, TextByte, ValueByte, attribute_name_bytes, block_bytes, event_text_bytes, told_in_script, value_bytes}
 use Rattle.place_core.specs.page.Classes.{class_of}
 use Rattle.place_core.specs.page.Html.{emits, next, read, read_over}
 use Rattle.place_core.specs.place.Errors.{node, states}
@@ -28,6 +30,7 @@ use Rattle.san_html.specs.ReadBack.{BeginsName, IsBackInBlock, IsBackInQuoted, I
 use Rattle.text_norm.proofs.Emits.{same-state}
 use Rattle.text_norm.proofs.FilledEvents.{SchemesSame, fed-same, fills-keep, fills-mark, fills-scheme}
 use Rattle.text_norm.proofs.ReadBeside.{Beside, ReadsBeside, read-beside}
+use Rattle.text_norm.proofs.ScriptLeadsTells.{same-emits, same-ends, same-next}
 use Rattle.text_norm.proofs.StatesBeside.{IsOutside}
 use Rattle.text_norm.proofs.StyleElementKeeps.{IsPending}
 use Rattle.text_norm.proofs.StyleRaw.{StyleBeside, style-end, style-fills, style-next}
@@ -45,15 +48,16 @@ use Rattle.url_lexer.specs.States.{Url, feed_all, url_start}
 use Rattle.url_lexer.specs.Triples.{NoTriple}
 use Rattle.url_lexer.proofs.Language.{language-laws}
 
--- The state of a value in the reading with marks, and in that of bytes alone, which has told `u`. A style is said apart. A script is the same in both:
--- behind a hole the reading with marks is where the bytes of that have led it.
+-- The state of a value in the reading with marks, and in that of bytes alone, which has told `u`. A style is said apart. A script is the same in both,
+-- but for its trail: behind a hole the reading with marks is where the bytes of that have led it.
 abbrev pub RawBeside : List Filling → ValueState → ValueState → List LexEvent → Type 0
 RawBeside vs (OfKind k) w u = w ≡ OfKind k
 RawBeside vs (OfUrl z) (OfUrl y) u = SchemesSame z y
 RawBeside vs (OfUrl z) w u = ⊥
 RawBeside vs (OfStyle s) (OfStyle r) u = StyleBeside vs s r u
 RawBeside vs (OfStyle s) w u = ⊥
-RawBeside vs (OfScript s) w u = w ≡ OfScript s
+RawBeside vs (OfScript s) (OfScript r) u = IsSame s r
+RawBeside vs (OfScript s) w u = ⊥
 
 abbrev pub Filled : List Filling → List LexEvent → List LexEvent → Type 0
 Filled vs t u = Fills t vs u
@@ -64,6 +68,7 @@ RawFilled vs v w t u = RawBeside vs v w u × Fills t vs u
 raw-starts : (vs : List Filling) (k : Kind) (t u : List LexEvent) → Fills t vs u → RawFilled vs (value_start k) (value_start k) t u
 raw-starts vs kind.Url t u f = (record { scheme = refl; bound = refl }, f)
 raw-starts vs kind.Style t u f = (inl (refl, tt), f)
+raw-starts vs kind.Script t u f = (record { literals = refl; held = refl; at = refl }, f)
 raw-starts vs _ t u f = (refl, f)
 
 raw-feeds : (vs : List Filling) (v w : ValueState) (b : ℕ) (t u : List LexEvent) → RawFilled vs v w t u
@@ -79,9 +84,14 @@ raw-feeds vs (OfStyle s) (OfStyle r) b t u a = (style-next vs s r (style_class b
 raw-feeds vs (OfStyle s) (OfKind k) b t u a = absurd a.0
 raw-feeds vs (OfStyle s) (OfUrl z) b t u a = absurd a.0
 raw-feeds vs (OfStyle s) (OfScript r) b t u a = absurd a.0
-raw-feeds vs (OfScript s) w b t u a =
-    subst (λ (z : ValueState). RawFilled vs (feed_value (OfScript s) b) (feed_value z b) (emits_state (OfScript s) b t) (emits_state z b u)) (sym a.0)
-    (refl, script-told (Filled vs) (fills-keep vs) (script_emits s b []) t u a.1)
+raw-feeds vs (OfScript s) (OfScript r) b t u a = (
+  same-next s r b a.0,
+  subst (λ (es : List ScriptEvent). Fills (emits_state (OfScript s) b t) vs (told_in_script es u)) (sym (same-emits s r b [] a.0))
+      (script-told (Filled vs) (fills-keep vs) (script_emits s b []) t u a.1),
+)
+raw-feeds vs (OfScript s) (OfKind k) b t u a = absurd a.0
+raw-feeds vs (OfScript s) (OfUrl z) b t u a = absurd a.0
+raw-feeds vs (OfScript s) (OfStyle r) b t u a = absurd a.0
 
 raw-ends : (vs : List Filling) (v w : ValueState) (t u : List LexEvent) → RawFilled vs v w t u → Fills (ends_state v t) vs (ends_state w u)
 raw-ends vs (OfKind k) w t u a = subst (λ (z : ValueState). Fills t vs (ends_state z u)) (sym a.0) a.1
@@ -93,9 +103,12 @@ raw-ends vs (OfStyle s) (OfStyle r) t u a = style-end vs s r t u a.0 a.1
 raw-ends vs (OfStyle s) (OfKind k) t u a = absurd a.0
 raw-ends vs (OfStyle s) (OfUrl z) t u a = absurd a.0
 raw-ends vs (OfStyle s) (OfScript r) t u a = absurd a.0
-raw-ends vs (OfScript s) w t u a =
-    subst (λ (z : ValueState). Fills (ends_state (OfScript s) t) vs (ends_state z u)) (sym a.0)
+raw-ends vs (OfScript s) (OfScript r) t u a =
+    subst (λ (es : List ScriptEvent). Fills (ends_state (OfScript s) t) vs (told_in_script es u)) (sym (same-ends s r [] a.0))
     (script-told (Filled vs) (fills-keep vs) (script_ends s []) t u a.1)
+raw-ends vs (OfScript s) (OfKind k) t u a = absurd a.0
+raw-ends vs (OfScript s) (OfUrl z) t u a = absurd a.0
+raw-ends vs (OfScript s) (OfStyle r) t u a = absurd a.0
 
 pub raw-reads : (vs : List Filling) → ReadsBeside ValueState languages (Filled vs) (RawFilled vs)
 raw-reads vs = record { keeps = fills-keep vs; starts = raw-starts vs; feeds = raw-feeds vs; ends = raw-ends vs }
@@ -177,6 +190,7 @@ IsNoStyle (AfterAttributeName tag k) = Unit {0}
 IsNoStyle (BeforeAttributeValue tag k) = Unit {0}
 IsNoStyle (AttributeValue q tag (ValueOf (OfKind k)) Closed) = Unit {0}
 IsNoStyle (AttributeValue q tag (ValueOf (OfUrl u)) Closed) = Unit {0}
+IsNoStyle (AttributeValue q tag (ValueOf (OfScript s)) Closed) = Unit {0}
 IsNoStyle (AfterAttributeValue tag) = Unit {0}
 IsNoStyle (SelfClosingStartTag tag) = Unit {0}
 IsNoStyle (InContent e (Characters Closed) Nothing) = Unit {0}
@@ -202,6 +216,7 @@ stands-outside (AfterAttributeName tag k) t m n l = ap (λ (c : Config ValueStat
 stands-outside (BeforeAttributeValue tag k) t m n l = ap (λ (c : Config ValueState). is_in_language c.at) l
 stands-outside (AttributeValue q tag (ValueOf (OfKind k)) Closed) t m n l = ap (λ (c : Config ValueState). is_in_language c.at) l.stands
 stands-outside (AttributeValue q tag (ValueOf (OfUrl u)) Closed) t m n l = ap (λ (c : Config ValueState). is_in_language c.at) l.stands
+stands-outside (AttributeValue q tag (ValueOf (OfScript s)) Closed) t m n l = ap (λ (c : Config ValueState). is_in_language c.at) l.stands
 stands-outside (AfterAttributeValue tag) t m n l = ap (λ (c : Config ValueState). is_in_language c.at) l
 stands-outside (SelfClosingStartTag tag) t m n l = ap (λ (c : Config ValueState). is_in_language c.at) l
 stands-outside (InContent e (Characters Closed) Nothing) t m n l = ap (λ (c : Config ValueState). is_in_language c.at) l

@@ -1,6 +1,8 @@
 -- The bytes of a hole lead the page's reading where the hole leads the path.
 use Rattle.std.proofs.Common.{◌≡◌, ℕ, Bool, true, false, List, [], ◌∷◌, Option, Some, None, option_map, if◌then◌else◌, Ok, Err, inl, refl, sym, ap, ◌∙◌, subst}
 use Rattle.js_lexer.specs.Spots.{Spot, script_spot}
+use Rattle.js_lexer.specs.States.{ScriptState}
+use Rattle.js_step.specs.ScriptSanitizers.{script_sanitizer}
 use Rattle.page_datum.specs.Data.{Data}
 use Rattle.page_datum.specs.Printed.{printed}
 use Rattle.place_core.specs.page.Events.{LexEvent, Mark, AttributeBegins}
@@ -43,13 +45,14 @@ use Rattle.url_lexer.specs.States.{Url, url_start}
 use Rattle.url_lexer.specs.Triples.{Triple, NoTriple, AfterPercent, AfterDigit}
 use Rattle.url_lexer.proofs.Language.{language-laws}
 use Rattle.san_html.specs.ReadBack.{IsBackInQuoted, IsBackInUnquoted, IsBackInTag, BeginsName, in_block, in_value, reads_quoted}
-use Rattle.html_step.specs.Holes.{Holed, after_hole, css_chain, css_holed, element_holed, last_of, only, url_chain}
+use Rattle.html_step.specs.Holes.{Holed, after_hole, both_of, css_chain, css_holed, element_holed, last_of, only, url_chain}
 use Rattle.html_step.proofs.HoleOrder.{covers-hole}
 use Rattle.text_norm.specs.HoleLaws.{ArePlain, ArePlainUnless, IsBackBy, KeepsHole, hole_parts, leaves_out, parts_unless}
 use Rattle.text_norm.specs.Standing.{StandsAtStyle, TextStands, WholeAttribute, in_element}
 use Rattle.text_norm.proofs.Emits.{same-state}
 use Rattle.text_norm.proofs.HarmlessNames.{harmless-kind}
 use Rattle.text_norm.proofs.LanguagesKeep.{languages-keep}
+use Rattle.text_norm.proofs.ScriptHoles.{IsScriptHole, begun, begun-alike, script-begun-plain, script-hole, script-plain}
 use Rattle.text_norm.proofs.StyleElementHoles.{comment-hole-stands, element-hole}
 use Rattle.text_norm.proofs.StyleElementPromises.{ElementHolesAt, IsHoleUnless, element-holes, element_chain}
 use Rattle.text_norm.proofs.StyleHoles.{HolesAt, IsStyleHole, are-pages, css_of, style-begun-plain, style-holes, style-plain}
@@ -368,12 +371,63 @@ in-language-keeps LessAtCut v e x datum bytes t d h k l = absurd h
 in-language-keeps PendingBang v e x datum bytes t d h k l = absurd h
 in-language-keeps PendingBangDash v e x datum bytes t d h k l = absurd h
 
--- no place in a script takes a value yet
-no-script-hole : (begins : Bool) (o : Option Spot) (q : Quotes) (tag : Tag) (x : Chain)
-    → HoleOf (value_spot tag q (if begins then option_map (λ p. body.Js (script_place p)) o else None)) x → ⊥
-no-script-hole true (Some p) q tag x h = refused _ _ h.1
-no-script-hole true None q tag x h = h
-no-script-hole false o q tag x h = h
+-- In a script each place takes a value: which it is, and its chain.
+record IsScriptAccepted (begins : Bool) (o : Option Spot) (q : Quotes) (x : Chain) : Type 0 where
+  begun : begins ≡ true
+  spot : Spot
+  there : o ≡ Some spot
+  chain : both_of (script_sanitizer (script_place spot)) (last_of q) ≡ x
+
+script-accepted : (begins : Bool) (o : Option Spot) (q : Quotes) (tag : Tag) (x : Chain)
+    → HoleOf (value_spot tag q (if begins then option_map (λ p. body.Js (script_place p)) o else None)) x → IsScriptAccepted begins o q x
+script-accepted true (Some p) q tag x h = record { begun = refl; spot = p; there = refl; chain = ap chain_in h.1 }
+script-accepted true None q tag x h = absurd h
+script-accepted false o q tag x h = absurd h
+
+abbrev in_script : Quoting → Tag → ScriptState → LexState ValueState
+in_script q tag s = in_value q tag (ValueOf (OfScript s))
+
+script-keeps-there : (q : Quoting) (tag : Tag) (s : ScriptState) (v : ValueState) (x : Chain) (bytes : List ℕ) (t : List LexEvent)
+    (d : Config ValueState) → leaves_out x ≡ false
+    → IsScriptHole q s bytes → languages.AreAlike (OfScript s) v → d ≡ config (in_value q tag (ValueOf v)) t → Kept x (in_script q tag s) bytes t d
+script-keeps-there q tag s (OfKind k) x bytes t d e h a l = absurd a
+script-keeps-there q tag s (OfUrl u) x bytes t d e h a l = absurd a
+script-keeps-there q tag s (OfStyle r) x bytes t d e h a l = absurd a
+script-keeps-there q tag s (OfScript w) x bytes t d e h a l =
+    let z = in_script q tag s in
+    let m = config (in_script q tag w) t in
+    let plain : IsPlain bytes m = script-plain q tag s w bytes t h a in
+    subst (Kept x z bytes t) (sym l) (kept-by (leaves_out x) z bytes t m e plain (value-leads q tag (OfScript s) (OfScript w) bytes t a plain))
+
+script-keeps : (q : Quoting) (tag : Tag) (s : ScriptState) (x : Chain) (datum : Data) (bytes : List ℕ) (t : List LexEvent) (d : Config ValueState)
+    → IsScriptAccepted (script_may_begin_text s) (script_spot s) (quotes_at q) x → IsBackBy x datum bytes
+    → TextStands languages (in_script q tag s) t d
+    → Kept x (in_script q tag s) bytes t d
+script-keeps q tag s x datum bytes t d h k l =
+    let own = script-hole s h.spot h.begun h.there q datum bytes (subst (λ (z : Chain). IsBackBy z datum bytes) (sym h.chain) k) in
+    script-keeps-there q tag s l.there x bytes t d (subst (λ (z : Chain). leaves_out z ≡ false) h.chain own.0) own.1 l.alike l.stands
+
+-- likewise where one without quotes is to begin
+abbrev script_unbegun : Tag → LexState ValueState
+script_unbegun tag = BeforeAttributeValue tag kind.Script
+
+abbrev script_begun_chain : Chain
+script_begun_chain = both_of san.JsValue san.AttrNospace
+
+script-begun-leads : (tag : Tag) (bytes : List ℕ) (t : List LexEvent) → IsPlain bytes (config (script_unbegun tag) t)
+    → TextStands languages (at_hole languages (script_unbegun tag)) (mark_in languages (script_unbegun tag) t) (marked bytes (config (script_unbegun tag) t))
+script-begun-leads tag bytes t p =
+    subst (TextStands languages (at_hole languages (script_unbegun tag)) (Mark ∷ t)) (sym (ap (behind (script_unbegun tag) (Mark ∷ t)) p.1.1.within))
+    (hole-alike languages-keep Unquoted tag (OfScript begun) (OfScript begun) p.1.1.after p.1.1.value t begun-alike p.1.1.leads)
+
+script-begun-keeps : (tag : Tag) (x : Chain) (datum : Data) (bytes : List ℕ) (t : List LexEvent) (d : Config ValueState) → script_begun_chain ≡ x
+    → IsBackBy x datum bytes → d ≡ config (script_unbegun tag) t → Kept x (script_unbegun tag) bytes t d
+script-begun-keeps tag x datum bytes t d e k l =
+    subst (λ (z : Chain). IsBackBy z datum bytes → Kept z (script_unbegun tag) bytes t d) e
+    (λ b.
+    let plain = script-begun-plain tag datum bytes t b in
+    subst (Kept script_begun_chain (script_unbegun tag) bytes t) (sym l)
+    (kept (script_unbegun tag) bytes t (config (script_unbegun tag) t) plain (script-begun-leads tag bytes t plain))) k
 
 hole-keeps : (s : LexState ValueState) (x : Chain) (datum : Data) (bytes : List ℕ) (t : List LexEvent) (d : Config ValueState)
     → HoleOf (placed s) x → IsBackBy x datum bytes → TextStands languages s t d → Kept x s bytes t d
@@ -410,7 +464,8 @@ hole-keeps (SelfClosingStartTag tag) x datum bytes t d h k l =
 hole-keeps (BeforeAttributeValue tag kind.Plain) x datum bytes t d h k l = unbegun-keeps tag x datum bytes t d (its-of (placed (BeforeAttributeValue tag kind.Plain)) x h) k l
 hole-keeps (BeforeAttributeValue tag kind.NoHole) x datum bytes t d h k l = absurd (refused _ _ h.1)
 hole-keeps (BeforeAttributeValue tag kind.Url) x datum bytes t d h k l = url-begun-keeps tag x datum bytes t d (its-of (placed (url_unbegun tag)) x h) k l
-hole-keeps (BeforeAttributeValue tag kind.Script) x datum bytes t d h k l = absurd (refused _ _ h.1)
+hole-keeps (BeforeAttributeValue tag kind.Script) x datum bytes t d h k l =
+    script-begun-keeps tag x datum bytes t d (its-of (placed (script_unbegun tag)) x h) k l
 hole-keeps (BeforeAttributeValue tag kind.Style) x datum bytes t d h k l = style-begun-keeps tag x datum bytes t d (its-of (placed (style_unbegun tag)) x h) k l
 hole-keeps (BeforeAttributeValue tag kind.ScriptType) x datum bytes t d h k l = absurd h
 hole-keeps (AttributeValue DoubleQuoted tag (ValueOf (OfKind kind.Plain)) Closed) x datum bytes t d h k l =
@@ -428,7 +483,7 @@ hole-keeps (AttributeValue q tag (ValueOf (OfUrl u)) Closed) x datum bytes t d h
 hole-keeps (AttributeValue q tag (ValueOf (OfStyle s)) Closed) x datum bytes t d h k l =
     style-keeps (css_of s) q tag s x datum bytes t d (style-accepted (may_begin_text s) (part_spot s) (quotes_at q) tag x h) (style-holes s q datum bytes) k l
 hole-keeps (AttributeValue q tag (ValueOf (OfScript s)) Closed) x datum bytes t d h k l =
-    absurd (no-script-hole (script_may_begin_text s) (script_spot s) (quotes_at q) tag x h)
+    script-keeps q tag s x datum bytes t d (script-accepted (script_may_begin_text s) (script_spot s) (quotes_at q) tag x h) k l
 hole-keeps (AttributeValue q tag (Deciding j before) Closed) x datum bytes t d h k l = absurd h
 hole-keeps (AttributeValue q tag v (Open f b)) x datum bytes t d h k l = absurd h
 hole-keeps (InContent element.Title (Characters Closed) Nothing) x datum bytes t d h k l = content-keeps element.Title x datum bytes t d (its (place.Rcdata element.Title) x h) k l

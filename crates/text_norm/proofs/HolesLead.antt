@@ -1,10 +1,19 @@
 -- Wherever a hole may stand on a path, what its sanitizer promises leads the page on.
-use Rattle.std.proofs.Common.{◌≡◌, ℕ, Bool, true, false, List, [], Option, Some, None, option_map, if◌then◌else◌, Ok, Err, refl, sym, subst}
+use Rattle.std.proofs.Common.{◌≡◌, ℕ, Bool, true, false, List, [], ◌∷◌, Option, Some, None, option_map, if◌then◌else◌, Ok, Err, refl, sym, subst, true≢false, ◌||◌}
 use Rattle.std.proofs.lemmas.Bool.{and_parts}
 use Rattle.html_step.proofs.HoleOrder.{covers-hole}
-use Rattle.html_step.specs.Holes.{Holed, after_hole, last_of, url_chain}
-use Rattle.js_lexer.specs.Spots.{Spot, script_spot}
-use Rattle.js_lexer.specs.States.{ScriptState}
+use Rattle.html_step.specs.Holes.{Holed, after_hole, both_of, last_of, url_chain}
+use Rattle.js_lexer.specs.BackLaws.{TakesData, behind_slash, in_code, in_regexp, in_string}
+use Rattle.js_lexer.specs.Holes.{script_has_mark_at}
+use Rattle.js_lexer.specs.Refusals.{is_cut_markup, within_escape}
+use Rattle.js_lexer.specs.Spots.{CodeSpot, MinusTail, NumberTail, PlusTail, SlashTail, Spot, StringSpot, Tail, WordTail, script_spot, spot_at, tail_of, unless_within}
+use Rattle.js_lexer.specs.States.{At, BlockComment, Code, InRegexp, InTemplate, LineComment, Minuses, Number, Pluses, ScriptState, Slash, TooDeep, Trail}
+use Rattle.js_lexer.specs.States as script
+use Rattle.js_lexer.specs.Steps.{sense_if_odd}
+use Rattle.js_lexer.specs.Words.{sense_after}
+use Rattle.js_lexer.specs.declared.sense.Sense.{Sense}
+use Rattle.js_lexer.specs.declared.sense.Sense.TheVariants as sense
+use Rattle.js_step.specs.ScriptSanitizers.{script_sanitizer}
 use Rattle.page_datum.specs.Data.{Data}
 use Rattle.page_datum.specs.Printed.{printed}
 use Rattle.place_core.specs.page.Events.{LexEvent}
@@ -12,7 +21,7 @@ use Rattle.place_core.specs.place.Membership.{IsIn}
 use Rattle.place_core.specs.page.Paths.{at_hole}
 use Rattle.place_core.specs.place.Places.{IsValid}
 use Rattle.place_core.specs.page.References.{Closed, Reference}
-use Rattle.place_core.specs.place.ScriptParts.{script_may_begin_text, script_place}
+use Rattle.place_core.specs.place.ScriptParts.{is_trail_of_cut, may_begin_text_at, script_may_begin_text, script_place}
 use Rattle.place_core.specs.place.StatePlaces.{content_spot, only_after, only_inside, placed, tag_spot, quotes_at, value_body, value_spot, where_closed}
 use Rattle.place_core.specs.page.States.{AfterAttributeName, AfterAttributeValue, AttributeName, AttributeValue, BeforeAttributeName, BeforeAttributeValue, Broken, Bytes, Characters, Config, Content, InLanguage, Pending, InComment, InContent, Inside, LessAtCut, Nothing, SelfClosingStartTag, LexState, Text, WholeAttributeName}
 use Rattle.place_core.specs.page.Tags.{DoubleQuoted, Quoting, SingleQuoted, Tag, Unquoted, Value, ValueOf, ValueState, OfKind, OfStyle, OfUrl, is_second_type, languages, without_value, OfScript}
@@ -41,13 +50,15 @@ use Rattle.url_lexer.specs.Spots.{where_whole}
 use Rattle.url_lexer.specs.States.{Url, url_at}
 use Rattle.url_lexer.specs.Triples.{Triple, NoTriple, AfterPercent, AfterDigit}
 use Rattle.text_norm.proofs.FilledMarks.{Leads, StandsRaw, block-leads, content-leads, double-leads, in_plain, in_style, in_url, leads-on, marked-is, name-leads, single-leads, text-leads, unbegun-leads, unquoted-leads, url-begun-leads, url-leads}
+use Rattle.text_norm.proofs.ScriptLeads as scripts
+use Rattle.text_norm.proofs.ScriptLeads.{SiteFills, in_script, plain-first, plain-within, regexp-leads, script-begun-leads}
 use Rattle.text_norm.proofs.StyleElementHoles.{IsLoose}
 use Rattle.text_norm.proofs.StyleElementLeads.{element-code-leads, element-string-leads, element-url-leads}
 use Rattle.text_norm.proofs.StyleElementPromises.{part_chain}
 use Rattle.text_norm.proofs.StyleHoles.{IsCode, at-start, no-triple}
 use Rattle.text_norm.proofs.StyleLeads.{CodeFills, IsCodeState, code-leads, comment-leads, string-leads, style-begun-leads, url-style-leads}
-use Rattle.text_norm.specs.Fillings.{Filling, fillings_at}
-use Rattle.text_norm.specs.HoleLaws.{IsBackBy, IsBackInElement, IsBackInStyle, leaves_out}
+use Rattle.text_norm.specs.Fillings.{Filling, ScriptCodeSite, fillings_at}
+use Rattle.text_norm.specs.HoleLaws.{IsBackBy, IsBackInElement, IsBackInLanguage, leaves_out}
 use Rattle.text_norm.specs.Standing.{TextStands, in_element}
 
 -- What the chain promises leads the page on. A value that is left out has no part: the reading with marks stays where it is, and so does that of
@@ -188,7 +199,7 @@ SafeInStyle q tag v = SafeAt (in_style q tag v) (value_spot tag (quotes_at q) (s
 
 code-safe : (v : Outside) → IsCodeState v → CodeFills v → has_mark {U = Url} (Out v) ≡ true
     → (q : Quoting) (tag : Tag) (datum : Data) (bytes : List ℕ)
-    → IsBackInStyle (IsBackInCode urls (printed datum)) (last_of (quotes_at q)) bytes → Leads (in_style q tag (Out v)) (printed datum) bytes
+    → IsBackInLanguage (IsBackInCode urls (printed datum)) (last_of (quotes_at q)) bytes → Leads (in_style q tag (Out v)) (printed datum) bytes
 code-safe v c own m q tag datum bytes k = code-leads v c own m q tag (printed datum) bytes k
 
 -- before a URL, of which nothing has been read
@@ -278,12 +289,79 @@ style-safe (InUrl (Quoted j (HexDigits n)) u) q tag = tt
 style-safe (InUrl (Quoted j AfterReturn) u) q tag = tt
 style-safe (InUrl Ended u) q tag = tt
 
--- in a script, where no place takes a value yet
-script-safe : (begins : Bool) (o : Option Spot) (q : Quoting) (tag : Tag) (s : ScriptState)
-    → SafeAt (in_value q tag (ValueOf (OfScript s))) (value_spot tag (quotes_at q) (if begins then option_map (λ p. body.Js (script_place p)) o else None))
-script-safe true (Some p) q tag s = tt
-script-safe true None q tag s = tt
-script-safe false o q tag s = tt
+-- In a script, by where its path is: each place takes a value.
+abbrev SafeAtSpot : Quoting → Tag → ScriptState → Spot → Type 0
+SafeAtSpot q tag s p = LeadsBy (both_of (script_sanitizer (script_place p)) (last_of (quotes_at q))) (in_script q tag s)
+
+some-spot : (x p : Spot) → Some x ≡ Some p → p ≡ x
+some-spot x p e = cc
+
+spot-within : (within : Bool) (x p : Spot) → unless_within within x ≡ Some p → p ≡ x
+spot-within true x p e = cc
+spot-within false x p e = some-spot x p e
+
+no-spot : (p : Spot) → None ≡ Some p → ⊥
+no-spot p e = cc
+
+no-true : false ≡ true → ⊥
+no-true e = true≢false (sym e)
+
+code-spot-safe : (a : At) (t : Trail) → TakesData a → script_has_mark_at a ≡ true → (q : Quoting) → SiteFills a q ScriptCodeSite
+    → (tag : Tag) (s : Sense) (x : Tail) (p : Spot) → p ≡ CodeSpot s x → SafeAtSpot q tag (in_code a t) p
+code-spot-safe a t h m q own tag s x p e =
+    subst (SafeAtSpot q tag (in_code a t)) (sym e) (λ datum bytes k. scripts.code-leads a t h m q own tag datum bytes k)
+
+string-spot-safe : (j : Bool) (t : Trail) (q : Quoting) (tag : Tag) (p : Spot) → p ≡ StringSpot j → SafeAtSpot q tag (in_string j t) p
+string-spot-safe true t q tag p e =
+    subst (SafeAtSpot q tag (in_string true t)) (sym e) (λ datum bytes k. scripts.string-leads true t q (λ t text vs. refl) tag (printed datum) bytes k)
+string-spot-safe false t q tag p e =
+    subst (SafeAtSpot q tag (in_string false t)) (sym e) (λ datum bytes k. scripts.string-leads false t q (λ t text vs. refl) tag (printed datum) bytes k)
+
+spot-safe : (a : At) (t : Trail) (q : Quoting) (tag : Tag) (p : Spot) → may_begin_text_at a t.markup ≡ true → spot_at a t ≡ Some p
+    → SafeAtSpot q tag (in_code a t) p
+spot-safe (Code s) t q tag p b e =
+    code-spot-safe (Code s) t tt refl q (λ t text vs. refl) tag s (tail_of t.markup) p (spot-within (is_cut_markup t.markup) _ p e)
+spot-safe (script.Word w) t q tag p b e = code-spot-safe (script.Word w) t tt refl q (λ t text vs. refl) tag (sense_after w) WordTail p (some-spot _ p e)
+spot-safe Number t q tag p b e = code-spot-safe Number t tt refl q (λ t text vs. refl) tag sense.Div NumberTail p (some-spot _ p e)
+spot-safe (Pluses odd) t q tag p b e =
+    code-spot-safe (Pluses odd) t tt refl q (λ t text vs. refl) tag (sense_if_odd odd) PlusTail p (some-spot _ p e)
+spot-safe (Minuses odd) t q tag p b e =
+    code-spot-safe (Minuses odd) t tt refl q (λ t text vs. refl) tag (sense_if_odd odd) MinusTail p (spot-within (is_cut_markup t.markup) _ p e)
+spot-safe (Slash sense.Re) t q tag p b e =
+    subst (SafeAtSpot q tag (behind_slash t)) (sym (spot-within (is_cut_markup t.markup) _ p e))
+    (λ datum bytes k. regexp-leads (Slash sense.Re) t refl refl q (λ t text vs. refl) plain-first tag (printed datum) bytes k)
+spot-safe (Slash sense.Div) t q tag p b e =
+    code-spot-safe (Slash sense.Div) t tt refl q (λ t text vs. refl) tag sense.Re SlashTail p (some-spot _ p e)
+spot-safe (Slash sense.Brace) t q tag p b e = absurd (no-spot p e)
+spot-safe (LineComment s) t q tag p b e =
+    subst (SafeAtSpot q tag (in_code (LineComment s) t)) (sym (some-spot _ p e)) (λ datum bytes k. scripts.line-leads s t q tag (printed datum) bytes k)
+spot-safe (BlockComment s star) t q tag p b e =
+    subst (SafeAtSpot q tag (in_code (BlockComment s star) t)) (sym (some-spot _ p e))
+    (λ datum bytes k. scripts.block-leads s star t q tag (printed datum) bytes k)
+spot-safe (script.InString j script.NoEscape) t q tag p b e = string-spot-safe j t q tag p (spot-within (within_escape t) _ p e)
+spot-safe (InRegexp false script.NoEscape) t q tag p b e =
+    subst (SafeAtSpot q tag (in_regexp t)) (sym (spot-within (within_escape t || is_cut_markup t.markup) _ p e))
+    (λ datum bytes k. regexp-leads (InRegexp false script.NoEscape) t refl refl q (λ t text vs. refl) plain-within tag (printed datum) bytes k)
+spot-safe (script.InString j _) t q tag p b e = absurd (no-true b)
+spot-safe (InRegexp true _) t q tag p b e = absurd (no-true b)
+spot-safe (InRegexp false _) t q tag p b e = absurd (no-true b)
+spot-safe (InTemplate x d) t q tag p b e = absurd (no-true b)
+spot-safe TooDeep t q tag p b e = absurd (no-true b)
+
+-- in no template literal, and between characters
+place-safe : (fs held : List ℕ) (a : At) (t : Trail) (q : Quoting) (tag : Tag) (p : Spot) (s : ScriptState)
+    → s ≡ record { literals = fs; at = a; held = held; trail = t }
+    → may_begin_text_at a t.markup ≡ true → script_spot (record { literals = fs; at = a; held = held; trail = t }) ≡ Some p → SafeAtSpot q tag s p
+place-safe [] [] a t q tag p s i b e = subst (λ (z : ScriptState). SafeAtSpot q tag z p) (sym i) (spot-safe a t q tag p b e)
+place-safe [] (c ∷ held) a t q tag p s i b e = absurd (no-spot p e)
+place-safe (n ∷ fs) held a t q tag p s i b e = absurd (no-spot p e)
+
+script-safe : (begins : Bool) (o : Option Spot) (q : Quoting) (tag : Tag) (s : ScriptState) → script_may_begin_text s ≡ begins → script_spot s ≡ o
+    → SafeAt (in_script q tag s) (value_spot tag (quotes_at q) (if begins then option_map (λ p. body.Js (script_place p)) o else None))
+script-safe true (Some p) q tag s b e =
+    place-safe s.literals s.held s.at s.trail q tag p s refl (and_parts (is_trail_of_cut s.trail) (may_begin_text_at s.at s.trail.markup) b).1 e
+script-safe true None q tag s b e = tt
+script-safe false o q tag s b e = tt
 
 value-safe : (r : Reference) (v : Value ValueState) (q : Quoting) (tag : Tag)
     → SafeAt (AttributeValue q tag v r) (where_closed r (value_spot tag (quotes_at q) (value_body v)))
@@ -295,7 +373,7 @@ value-safe Closed (ValueOf (OfKind kind.Plain)) Unquoted tag = λ datum bytes k.
     (unquoted-leads tag (printed datum) bytes k)
 value-safe Closed (ValueOf (OfUrl u)) q tag = url-safe q tag u.part u.scheme u.free u.triple
 value-safe Closed (ValueOf (OfStyle s)) q tag = style-safe s q tag
-value-safe Closed (ValueOf (OfScript s)) q tag = script-safe (script_may_begin_text s) (script_spot s) q tag s
+value-safe Closed (ValueOf (OfScript s)) q tag = script-safe (script_may_begin_text s) (script_spot s) q tag s refl refl
 value-safe _ _ _ tag = tt
 
 -- after a name, unless it is a second `type`, where a path is at no place
@@ -340,6 +418,8 @@ safe-at (BeforeAttributeValue tag kind.Url) = λ datum bytes k. leads-on (Before
     (url-begun-leads tag datum bytes k)
 safe-at (BeforeAttributeValue tag kind.Style) = λ datum bytes k. leads-on (BeforeAttributeValue tag kind.Style) (printed datum) bytes tt
     (style-begun-leads tag (printed datum) bytes k)
+safe-at (BeforeAttributeValue tag kind.Script) = λ datum bytes k. leads-on (BeforeAttributeValue tag kind.Script) (printed datum) bytes tt
+    (script-begun-leads tag datum bytes k)
 safe-at (AttributeValue q tag v r) = value-safe r v q tag
 safe-at (InContent e x h) = content-safe h x e
 safe-at _ = tt

@@ -37,7 +37,7 @@ same-scheme u z a = ap scheme_in (language-laws.ends u z [] a)
 begins : (k : Kind) → StatesAlike (value_start k) (value_start k)
 begins kind.Url = language-laws.begins
 begins kind.Style = style-laws.begins
-begins kind.Script = inl (record { literals = refl; held = refl; at = refl })
+begins kind.Script = (record { escape = refl; brace = refl }, inl (record { literals = refl; held = refl; at = refl }))
 begins k = refl
 
 -- a byte

@@ -25,6 +25,10 @@ mod Rests
 pub mod Runs
 pub mod Same
 mod ScriptFillingExamples
+mod ScriptHoles
+mod ScriptHolesTold
+mod ScriptLeads
+mod ScriptLeadsTells
 mod ScriptValuesKeep
 pub mod SlashReads
 mod Slices

@@ -1,5 +1,5 @@
 -- Small pages with scripts that fill their paths: a value in code, in a string, in a regular expression and in a comment.
-use Rattle.std.proofs.Common.{ℕ, false, true, codes, List, [], ◌∷◌, refl}
+use Rattle.std.proofs.Common.{◌≢◌, ℕ, false, true, codes, List, [], ◌∷◌, refl}
 use Rattle.js_lexer.specs.Classes.{class_of}
 use Rattle.js_lexer.specs.Events.{RegexpBegins, ScriptByte}
 use Rattle.js_lexer.specs.BackLaws.{in_string, in_regexp}
@@ -82,6 +82,9 @@ in_a_string =
 abbrev regexp : List ℕ
 regexp = codes "<a onclick=\"/"
 
+expression_some : codes "(?:)" ≢ []
+expression_some e = cc
+
 plain_in_regexp : IsPlainInScript (codes "(?:)") (in_regexp no_trail)
 unfolding class_of released held_after
 plain_in_regexp = record {
@@ -96,7 +99,7 @@ plain_in_regexp = record {
     released = refl;
   };
   tells = refl;
-  written = tt;
+  written = expression_some;
 }
 
 empty_regexp : FillsAround regexp [] (codes "/\">") (codes "<a onclick=\"/(?:)/\">")

@@ -50,7 +50,7 @@ use Rattle.url_lexer.specs.States.{Url, feed_all, feed_url, url_start}
 use Rattle.url_lexer.specs.Triples.{Triple, NoTriple, AfterPercent, AfterDigit}
 use Rattle.url_step.specs.PartSets.{parts_hole_error}
 use Rattle.text_norm.specs.Fillings.{url_bytes}
-use Rattle.text_norm.specs.HoleLaws.{IsBackBy, IsBackByLast, IsBackInStyle, leaves_out}
+use Rattle.text_norm.specs.HoleLaws.{IsBackBy, IsBackByLast, IsBackInLanguage, leaves_out}
 use Rattle.text_norm.proofs.EmittedAlike.{EmitsAlike, IsOwn, after-value, over-alike}
 use Rattle.text_norm.proofs.StatesBeside.{StandBeside}
 use Rattle.text_norm.proofs.StyleRaw.{byte-told}
@@ -452,12 +452,12 @@ hole-by q s chars bytes e k p f = record {
   reads = λ tag v t. last-read q chars bytes e k tag v t;
 }
 
-code-hole : (s : Outside) → IsCode s → (q : Quoting) (text bytes : List ℕ) → IsBackInStyle (IsBackInCode urls text) (last_of (quotes_at q)) bytes
+code-hole : (s : Outside) → IsCode s → (q : Quoting) (text bytes : List ℕ) → IsBackInLanguage (IsBackInCode urls text) (last_of (quotes_at q)) bytes
     → IsStyleHole q (Out s) bytes
 code-hole s c q text bytes k =
     hole-by q (Out s) k.characters bytes k.as_they_are k.written (in-code k.characters s c k.there.plain) (in-code failsafe s c code-failsafe)
 
-string-hole : (j : Quote) (q : Quoting) (text bytes : List ℕ) → IsBackInStyle (IsBackInString urls text) (last_of (quotes_at q)) bytes
+string-hole : (j : Quote) (q : Quoting) (text bytes : List ℕ) → IsBackInLanguage (IsBackInString urls text) (last_of (quotes_at q)) bytes
     → IsStyleHole q (Out (InString j NoEscape)) bytes
 string-hole j q text bytes k =
     hole-by q (Out (InString j NoEscape)) k.characters bytes k.as_they_are k.written
@@ -625,7 +625,7 @@ pub style-begun-plain : (tag : Tag) (datum : Data) (bytes : List ℕ) (t : List 
     → StylesAlike urls style_start style_start → IsPlain bytes (config (BeforeAttributeValue tag kind.Style) t)
 unfolding code-hole hole-by
 style-begun-plain tag datum bytes t k a =
-    let b : IsBackInStyle (IsBackInCode urls (printed datum)) san.AttrNospace bytes = k in
+    let b : IsBackInLanguage (IsBackInCode urls (printed datum)) san.AttrNospace bytes = k in
     let h = code-hole (Between false) tt Unquoted (printed datum) bytes b in
     let c = read Page bytes (config (BeforeAttributeValue tag kind.Style) []) in (
       λ some. refl,

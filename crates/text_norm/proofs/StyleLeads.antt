@@ -45,7 +45,7 @@ use Rattle.text_norm.proofs.StyleRaw.{HasTold, IsJoined, OutBeside, StyleBeside,
 use Rattle.text_norm.proofs.StyleValuesKeep.{style-laws}
 use Rattle.text_norm.proofs.UrlHoles.{failsafe-plain, last-read, url-promise, url-value}
 use Rattle.text_norm.specs.Fillings.{CodeSite, Filling, Fills, IsCodeSite, IsCodeRun, IsStringRun, IsStyleUrlRun, StringSite, StyleUrlSite, filling, style_run, style_url_bytes, url_bytes, value_fillings}
-use Rattle.text_norm.specs.HoleLaws.{IsBackBy, IsBackByLast, IsBackInStyle}
+use Rattle.text_norm.specs.HoleLaws.{IsBackBy, IsBackByLast, IsBackInLanguage}
 
 -- The bytes of the page are read in a style as these characters.
 abbrev pub AreReadAs : Quoting → (bytes characters : List ℕ) → Type 0
@@ -742,7 +742,7 @@ either Unquoted (b ∷ bs) P p f = p
 
 -- in code
 abbrev ReadsInCode : Quoting → List ℕ → List ℕ → Type 0
-ReadsInCode q text bytes = IsBackInStyle (IsBackInCode urls text) (last_of (quotes_at q)) bytes
+ReadsInCode q text bytes = IsBackInLanguage (IsBackInCode urls text) (last_of (quotes_at q)) bytes
 
 code-values : (v : Outside) → IsCodeState v → CodeFills v → has_mark {U = Url} (Out v) ≡ true
     → (q : Quoting) (text bytes : List ℕ) (k : ReadsInCode q text bytes)
@@ -760,7 +760,7 @@ code-leads v c own m q tag text bytes k =
 
 -- in a string
 pub string-leads : (j : Quote) (q : Quoting) (tag : Tag) (text bytes : List ℕ)
-    → IsBackInStyle (IsBackInString urls text) (last_of (quotes_at q)) bytes
+    → IsBackInLanguage (IsBackInString urls text) (last_of (quotes_at q)) bytes
     → Leads (in_style q tag (Out (InString j NoEscape))) text bytes
 string-leads j q tag text bytes k =
     style-leads q tag (Out (InString j NoEscape)) text bytes (url_bytes q k.characters) (read-as q k.characters bytes k.as_they_are k.written)
@@ -792,7 +792,7 @@ begun-read tag chars bytes e k t =
     k.reads_unbegun tag kind.Style t ∙ ap (λ (z : List ℕ). read_value Unquoted tag (ValueOf (OfStyle style_start)) z t) (url-value chars e)
     ∙ style-value Unquoted tag style_start (url_bytes Unquoted chars) t
 
-pub style-begun-leads : (tag : Tag) (text bytes : List ℕ) → IsBackInStyle (IsBackInCode urls text) san.AttrNospace bytes
+pub style-begun-leads : (tag : Tag) (text bytes : List ℕ) → IsBackInLanguage (IsBackInCode urls text) san.AttrNospace bytes
     → LeadsOn (BeforeAttributeValue tag kind.Style) text bytes
 style-begun-leads tag text bytes k vs t m d l r =
     let s : LexState ValueState = BeforeAttributeValue tag kind.Style in

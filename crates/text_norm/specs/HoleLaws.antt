@@ -14,6 +14,7 @@ use Rattle.place_core.specs.page.Tags.{ValueState, languages}
 use Rattle.css_lexer.specs.ReadBack.{IsBackInCode, IsBackInString}
 use Rattle.css_lexer.specs.StaysInUrl.{StaysInUrl}
 use Rattle.css_lexer.specs.Urls.{urls}
+use Rattle.js_lexer.specs.ScriptBack.{IsBackInScriptCode, IsBackInScriptRegexp, IsBackInScriptString}
 use Rattle.place_core.specs.declared.chain.Chain.{Chain}
 use Rattle.place_core.specs.declared.place.Place.{Place}
 use Rattle.place_core.specs.declared.san.San.{San}
@@ -64,8 +65,8 @@ pub record IsBackInUrl (IsBackThere : List ℕ → Type 0) (last : San) (bytes :
   pub as_they_are : read_as_text characters ≡ characters
   pub written : IsBackByLast last characters bytes
 
--- In a style outside its URLs: the characters that its sanitizer gives are plain wherever a hole has it, and read back there.
-pub record IsBackInStyle (IsBackThere : List ℕ → Type 0) (last : San) (bytes : List ℕ) : Type 0 where
+-- In a style outside its URLs, and in a script: the characters that its sanitizer gives are plain wherever a hole has it, and read back there.
+pub record IsBackInLanguage (IsBackThere : List ℕ → Type 0) (last : San) (bytes : List ℕ) : Type 0 where
   pub characters : List ℕ
   pub there : IsBackThere characters
   pub as_they_are : read_as_text characters ≡ characters
@@ -110,13 +111,13 @@ IsBackByFirst san.UrlNorm behind datum bytes =
 IsBackByFirst san.UrlQuery behind datum bytes =
     BeforeLast behind (IsBackInElementUrl (IsBackInPart UrlQuery (printed datum)) bytes) (λ last. IsBackInUrl (IsBackInPart UrlQuery (printed datum)) last bytes)
 IsBackByFirst san.CssValue behind datum bytes =
-    BeforeLast behind (IsBackInElement (IsBackInCode urls (printed datum)) bytes) (λ last. IsBackInStyle (IsBackInCode urls (printed datum)) last bytes)
+    BeforeLast behind (IsBackInElement (IsBackInCode urls (printed datum)) bytes) (λ last. IsBackInLanguage (IsBackInCode urls (printed datum)) last bytes)
 IsBackByFirst san.CssString behind datum bytes =
-    BeforeLast behind (IsBackInElement (IsBackInString urls (printed datum)) bytes) (λ last. IsBackInStyle (IsBackInString urls (printed datum)) last bytes)
--- those of scripts, whatever is behind them, which no context has yet
-IsBackByFirst san.JsValue behind datum bytes = ⊥
-IsBackByFirst san.JsString behind datum bytes = ⊥
-IsBackByFirst san.JsRegexp behind datum bytes = ⊥
+    BeforeLast behind (IsBackInElement (IsBackInString urls (printed datum)) bytes) (λ last. IsBackInLanguage (IsBackInString urls (printed datum)) last bytes)
+-- in a script, where a value of an attribute is one
+IsBackByFirst san.JsValue behind datum bytes = BeforeLast behind ⊥ (λ last. IsBackInLanguage (IsBackInScriptCode datum) last bytes)
+IsBackByFirst san.JsString behind datum bytes = BeforeLast behind ⊥ (λ last. IsBackInLanguage (IsBackInScriptString (printed datum)) last bytes)
+IsBackByFirst san.JsRegexp behind datum bytes = BeforeLast behind ⊥ (λ last. IsBackInLanguage (IsBackInScriptRegexp (printed datum)) last bytes)
 
 abbrev pub IsBackByList : List San → Data → List ℕ → Type 0
 IsBackByList [] datum bytes = ⊥

@@ -37,8 +37,7 @@ use Rattle.place_core.specs.declared.tag_of.TagOf.TheVariants as tag
 use Rattle.place_core.specs.declared.tag_place.TagPlace.{TagPlace}
 use Rattle.place_core.specs.declared.value_place.ValuePlace.{ValuePlace}
 
--- What is not built yet: a tag that ends and enters the content of a script, and values that are scripts, which are refused before they
--- begin.
+-- What is not built yet: a tag that ends and enters the content of a script.
 abbrev pub content_error : TagOf → Option Code
 content_error tag.End = None
 content_error (tag.Start element.Title) = None
@@ -47,14 +46,6 @@ content_error (tag.Start element.Style) = None
 content_error (tag.Start element.Script) = Some code.NotBuilt
 content_error (tag.Start element.DataBlock) = None
 content_error (tag.Start element.Other) = None
-
-abbrev pub kind_error : Kind → Option Code
-kind_error kind.Plain = None
-kind_error kind.NoHole = None
-kind_error kind.Url = None
-kind_error kind.Script = Some code.NotBuilt
-kind_error kind.Style = None
-kind_error kind.ScriptType = None
 
 abbrev pub body_error : Body → Option Code
 body_error body.Plain = None
@@ -65,17 +56,16 @@ body_error (body.Css c) = None
 
 -- A byte in a tag, by the spots at which paths stand. An equals sign begins a value after a name alone. A quotation mark, an apostrophe or a `<`
 -- is part of no name. A byte that begins a name goes on with none that has ended.
-abbrev pub equals_error : Bool → Bool → Option Kind → Option Code
-equals_error true before k = Some code.SplitToken
-equals_error false true k = Some code.BadHTML
-equals_error false false (Some k) = kind_error k
-equals_error false false None = None
+abbrev pub equals_error : Bool → Bool → Option Code
+equals_error true before = Some code.SplitToken
+equals_error false true = Some code.BadHTML
+equals_error false false = None
 
 abbrev pub tag_error : TagPlace → Class → Option Code
 tag_error t White = None
 tag_error t Solidus = None
 tag_error t GreaterThan = content_error t.tag
-tag_error t EqualsSign = equals_error t.spots.name t.spots.before t.kind
+tag_error t EqualsSign = equals_error t.spots.name t.spots.before
 tag_error t QuotationMark = Some (if t.spots.name then code.SplitToken else code.BadHTML)
 tag_error t Apostrophe = Some (if t.spots.name then code.SplitToken else code.BadHTML)
 tag_error t LessThan = Some (if t.spots.name then code.SplitToken else code.BadHTML)
@@ -181,7 +171,7 @@ abbrev pub attribute_name_error : TagOf → Bool → Kind → ℕ → Class → 
 attribute_name_error t typed k len White = unless_second (is_second_type typed k) len None
 attribute_name_error t typed k len Solidus = unless_second (is_second_type typed k) len None
 attribute_name_error t typed k len GreaterThan = unless_second (is_second_type typed k) len (content_error t)
-attribute_name_error t typed k len EqualsSign = unless_second (is_second_type typed k) len (kind_error k)
+attribute_name_error t typed k len EqualsSign = unless_second (is_second_type typed k) len None
 attribute_name_error t typed k len QuotationMark = at_hand (Some code.BadHTML)
 attribute_name_error t typed k len Apostrophe = at_hand (Some code.BadHTML)
 attribute_name_error t typed k len LessThan = at_hand (Some code.BadHTML)
@@ -371,7 +361,7 @@ abbrev pub body_hole_error : Body → Option Code
 body_hole_error body.Plain = None
 body_hole_error body.NoHole = Some code.BadHTML
 body_hole_error (body.Url parts) = url_hole_error parts.bad
-body_hole_error (body.Js js) = Some code.NotBuilt
+body_hole_error (body.Js js) = None
 body_hole_error (body.Css c) = css_hole_error c
 
 abbrev pub hole_error : Place → Option Code

@@ -1,4 +1,4 @@
--- The parts of places in URLs, scripts and styles. They join, have members and are valid as the others; see Places. No page reaches scripts yet.
+-- The parts of places in URLs, scripts and styles. They join, have members and are valid as the others; see Places. No page reaches the content of a script yet.
 use Rattle.std.specs.Prelude.{Bool, true, false, ◌≡◌, ◌≤◌, ◌||◌, ◌==◌, Option, Some, None, is_some, if◌then◌else◌, ⊤}
 use Rattle.place_core.specs.declared.css.Css.{Css}
 use Rattle.place_core.specs.declared.css.Css.TheVariants as css
