@@ -5,5 +5,6 @@ pub mod JsonReads
 mod JsonStrings
 mod JsonTokens
 mod Left
+mod NotBack
 mod Once
 pub mod WrittenScripts

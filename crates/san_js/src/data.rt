@@ -12,7 +12,8 @@ use page_io::Memory;
 
 /// Appends a number in decimal.
 pub(crate) fn push_number(out: &mut String, number: i64) -> Result<(), Memory>
-    ensures bytes { OnOk result (string_bytes out.new ≡ string_bytes out.old ++ signed_decimal number) }
+    ensures bytes { OnOk result (string_bytes out.new
+        ≡ string_bytes out.old ++ signed_decimal number) }
     ensures whole { OnOk result (IsWholeNumber number) }
 {
     let alloc = *out.allocator();
@@ -23,7 +24,8 @@ pub(crate) fn push_number(out: &mut String, number: i64) -> Result<(), Memory>
 
 #[cycle(push)]
 fn push_datum(out: &mut String, datum: &Datum) -> Result<(), Memory>
-    ensures bytes { OnOk result (string_bytes out.new ≡ string_bytes out.old ++ json (view datum.now)) }
+    ensures bytes { OnOk result (string_bytes out.new
+        ≡ string_bytes out.old ++ json (view datum.now)) }
     ensures whole { OnOk result (IsJsonData (view datum.now)) }
 {
     match datum {
@@ -61,7 +63,8 @@ pub(crate) fn push_list(out: &mut String, values: &[Datum]) -> Result<(), Memory
 /// Appends a dictionary: keys as strings with their values, with a comma between two.
 #[cycle(push)]
 pub(crate) fn push_dict(out: &mut String, entries: &Entries) -> Result<(), Memory>
-    ensures bytes { OnOk result (string_bytes out.new ≡ string_bytes out.old ++ json (dict entries.now)) }
+    ensures bytes { OnOk result (string_bytes out.new
+        ≡ string_bytes out.old ++ json (dict entries.now)) }
     ensures whole { OnOk result (IsJsonData (dict entries.now)) }
 {
     out.push_str("{")?;
